@@ -1,0 +1,32 @@
+-- The sizes of a board.
+use Rattle.std.specs.Prelude.{ℕ, ◌+◌, ◌-◌, ◌*◌, ◌<◌, ◌≤◌, ◌==◌, ◌||◌, nat_lt, Result, Ok, Err, if◌then◌else◌}
+use Rattle.envy_base.specs.declared.shape.Shape.{Shape}
+use Rattle.envy_base.specs.declared.shape.ShapeFault.{ShapeFault}
+use Rattle.envy_base.specs.declared.shape.ShapeFault.TheVariants.{Segments, Rows, Pages, Frames, Entries, Share, Total}
+
+-- the first rule that fails
+unfoldable pub checked : Shape → Result Unit ShapeFault
+checked sh =
+    if nat_lt sh.segments 4 || nat_lt 4096 sh.segments then Err Segments
+    else (if nat_lt sh.rows 2 || nat_lt 65536 sh.rows then Err Rows
+    else (if sh.pages == 0 then Err Pages
+    else (if nat_lt sh.frames 2 || nat_lt 65536 sh.frames then Err Frames
+    else (if sh.entries == 0 || nat_lt 65536 sh.entries then Err Entries
+    else (if nat_lt ((sh.segments - 2) * sh.rows) (sh.pages + sh.shadows) then Err Share
+    else (if nat_lt 1048576 (sh.segments * sh.rows) then Err Total
+    else Ok tt))))))
+
+-- the sizes of a shape that checks
+pub record IsShape (sh : Shape) : Type 0 where
+  pub segments : 4 ≤ sh.segments
+  pub few_segments : sh.segments ≤ 4096
+  pub rows : 2 ≤ sh.rows
+  pub few_rows : sh.rows ≤ 65536
+  pub pages : 1 ≤ sh.pages
+  pub frames : 2 ≤ sh.frames
+  pub few_frames : sh.frames ≤ 65536
+  pub entries : 1 ≤ sh.entries
+  pub few_entries : sh.entries ≤ 65536
+  pub share : sh.pages + sh.shadows ≤ (sh.segments - 2) * sh.rows
+  pub few : sh.segments * sh.rows ≤ 1048576
+  pub few_pages : sh.pages + sh.shadows ≤ 1048576

@@ -1,0 +1,23 @@
+//! What the whole of eNVy stands on: the sizes of a board, the traits of the device, and the plain
+//! array of words that a memory stands for.
+//!
+//! A board is flash in rows of one page, battery-backed SRAM in words of 64 bits, and power that may
+//! fail inside any device operation. After Wu and Zwaenepoel, "eNVy: A Non-Volatile, Main Memory
+//! Storage System", ASPLOS 1994.
+#![tactic(auto)]
+
+mod area;
+mod bench;
+mod board;
+mod counts;
+mod fields;
+mod laws;
+mod shape;
+
+pub use area::Area;
+pub use bench::{Bench, Maker, NoMemory};
+pub use board::{Board, Off, Trouble};
+pub use counts::Counts;
+pub use fields::{Job, Place, Slot, Undo};
+pub use laws::step_gives_one_answer;
+pub use shape::{Shape, ShapeFault};

@@ -1,0 +1,73 @@
+ghost use Rattle.std.specs.Prelude.{◌≡◌, OnOk};
+ghost use Rattle.envy_base.specs.Shape.{IsShape, checked};
+
+/// The sizes of a board.
+#[derive(Clone, Copy, Debug, PartialEq, Eq)]
+pub struct Shape {
+    /// Segments of flash, each of which is erased as one: 4 to 4,096.
+    pub segments: u32,
+    /// Rows of a segment, each of one page: 2 to 65,536.
+    pub rows: u32,
+    /// Pages of the array, each of 32 words: at least 1.
+    pub pages: u32,
+    /// Pages that open transactions may own together.
+    pub shadows: u32,
+    /// Frames of SRAM, each of one page: 2 to 65,536.
+    pub frames: u32,
+    /// Entries of the translation cache: 1 to 65,536.
+    pub entries: u32,
+}
+
+/// The first rule that a shape breaks.
+#[derive(Clone, Copy, Debug, PartialEq, Eq)]
+pub enum ShapeFault {
+    /// Fewer than 4 segments, or more than 4,096.
+    Segments,
+    /// Fewer than 2 rows to a segment, or more than 65,536.
+    Rows,
+    /// No pages.
+    Pages,
+    /// Fewer than 2 frames, or more than 65,536.
+    Frames,
+    /// No cache entries, or more than 65,536.
+    Entries,
+    /// Pages and shadows exceed the rows of all segments but two.
+    Share,
+    /// More than 1,048,576 rows.
+    Total,
+}
+
+impl Shape {
+    /// Answers the first rule that fails, in the order in which `ShapeFault` lists them.
+    #[tactic(auto, unfolding(crate::specs::Shape::checked))]
+    pub fn check(&self) -> Result<(), ShapeFault>
+        ensures table { result ≡ checked self.now }
+        ensures sizes { OnOk result (IsShape self.now) }
+    {
+        let shape = *self;
+        if shape.segments < 4 || shape.segments > 4096 {
+            return Err(ShapeFault::Segments);
+        }
+        if shape.rows < 2 || shape.rows > 65536 {
+            return Err(ShapeFault::Rows);
+        }
+        if shape.pages == 0 {
+            return Err(ShapeFault::Pages);
+        }
+        if shape.frames < 2 || shape.frames > 65536 {
+            return Err(ShapeFault::Frames);
+        }
+        if shape.entries == 0 || shape.entries > 65536 {
+            return Err(ShapeFault::Entries);
+        }
+        if shape.pages as u64 + shape.shadows as u64
+            > (shape.segments - 2) as u64 * shape.rows as u64
+        {
+            return Err(ShapeFault::Share);
+        }
+        if shape.segments * shape.rows > 1048576 {
+            return Err(ShapeFault::Total);
+        }
+        Ok(())
+    }
+}
