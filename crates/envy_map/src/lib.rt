@@ -1,0 +1,2 @@
+//! The SRAM map: where each field lies, its readers and writers.
+#![tactic(auto)]
