@@ -1,3 +1,4 @@
+pub mod Formatting
 pub mod Same
 pub mod Sound
 pub mod Stands
