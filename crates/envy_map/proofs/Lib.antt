@@ -1,0 +1,4 @@
+pub mod Regions
+pub mod CodeLemmas
+pub mod Changes
+pub mod OnePut
