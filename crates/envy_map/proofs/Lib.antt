@@ -2,3 +2,4 @@ pub mod Regions
 pub mod CodeLemmas
 pub mod Changes
 pub mod OnePut
+pub mod Readings
