@@ -3,3 +3,5 @@ pub mod CodeLemmas
 pub mod Changes
 pub mod OnePut
 pub mod Readings
+pub mod Going
+pub mod Sizes
