@@ -1,6 +1,6 @@
 -- Lists whose first numbers are written one after another, and boards that a part of formatting left.
 use Rattle.std.proofs.Common.{◌≡◌, ◌⊎◌, inl, inr, ℕ, zero, suc, ◌+◌, ◌-◌, ◌*◌, ◌<◌, ◌≤◌, Bool, true, false, List, [], ◌∷◌, length, get_or, set, refl, sym, ◌∙◌, ap, subst, arith, add-one, add-zero}
-use Rattle.std.specs.Prelude.{IsTrue, Result, Ok, Err}
+use Rattle.std.specs.Prelude.{IsTrue, Result, Ok, Err, OnErr}
 use Rattle.envy_base.specs.declared.board.Off.{Off}
 use Rattle.envy_base.specs.Counting.{up}
 use Rattle.envy_base.proofs.Counting.{up-least}
@@ -9,9 +9,13 @@ use Rattle.envy_map.specs.Writes.{Writes}
 use Rattle.envy_layout.specs.Formatting.{filled, numbered, IsStopped}
 use Rattle.envy_layout.specs.Same.{Counted, Grows}
 
+pub filled-zero : {A : Type 0} (xs : List A) (x : A) → filled xs x 0 ≡ xs
+filled-zero [] x = refl
+filled-zero (y ∷ ys) x = refl
+
 filled-suc : {A : Type 0} (xs : List A) (x : A) (n : ℕ) → set (filled xs x n) n x ≡ filled xs x (suc n)
 filled-suc [] x n = refl
-filled-suc (y ∷ ys) x zero = refl
+filled-suc (y ∷ ys) x zero = ap (λ (r : List _). x ∷ r) (sym (filled-zero ys x))
 filled-suc (y ∷ ys) x (suc n) = ap (λ (r : List _). x ∷ r) (filled-suc ys x n)
 
 pub filled-step : {A : Type 0} (xs : List A) (x : A) (n : ℕ) → set (filled xs x n) n x ≡ filled xs x (n + 1)
@@ -41,9 +45,13 @@ filled-past (y ∷ ys) x zero m le less = absurd (omega arith)
 filled-past (y ∷ ys) x (suc n) zero le less = absurd (omega arith)
 filled-past (y ∷ ys) x (suc n) (suc m) le less = ap (λ (r : List _). x ∷ r) (filled-past ys x n m (omega arith) (omega arith))
 
+pub numbered-zero : (xs : List ℕ) (k : ℕ) → numbered xs k 0 ≡ xs
+numbered-zero [] k = refl
+numbered-zero (y ∷ ys) k = refl
+
 numbered-suc : (xs : List ℕ) (k n : ℕ) → set (numbered xs k n) n (k + n) ≡ numbered xs k (suc n)
 numbered-suc [] k n = refl
-numbered-suc (y ∷ ys) k zero = rw add-zero refl
+numbered-suc (y ∷ ys) k zero = rw add-zero (ap (λ (r : List ℕ). k ∷ r) (sym (numbered-zero ys (k + 1))))
 numbered-suc (y ∷ ys) k (suc n) =
     let e : k + suc n ≡ (k + 1) + n = omega arith in
     rw e (ap (λ (r : List ℕ). k ∷ r) (numbered-suc ys (k + 1) n))
@@ -91,3 +99,12 @@ Lays-stops old mid new f change off on was magic changed (inr (lit, g, either, i
     at : (g ≡ mid.fields) ⊎ (g ≡ change mid.fields) → g.magic ≡ old.fields.magic
     at (inl e) = ap (λ (h : Fields). h.magic) (e ∙ ap (λ (c : Chart). c.fields) was) ∙ magic
     at (inr e) = ap (λ (h : Fields). h.magic) (e ∙ ap (λ (c : Chart). change c.fields) was) ∙ changed
+
+-- the fields are these, in the middle of a part of formatting
+pub record IsLaidSo (old now : Chart) (f : Fields) : Type 0 where
+  pub is : now ≡ with_fields old f
+  pub on : IsTrue old.on
+
+pub OnErr-any : {T E : Type 0} {P : Type 0} (r : Result T E) → P → OnErr r P
+OnErr-any (Ok x) p = tt
+OnErr-any (Err e) p = p

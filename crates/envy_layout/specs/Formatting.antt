@@ -1,7 +1,6 @@
 -- What formatting does: the map of an empty array over erased flash, the first word written last.
 use Rattle.std.specs.Prelude.{◌≡◌, ◌⊎◌, ℕ, zero, suc, ◌+◌, ◌-◌, ◌*◌, ◌/◌, ◌^◌, ◌<◌, ◌≤◌, false, IsTrue, List, [], ◌∷◌, length, replicate, Some, slice_index, slice_index_or, Result, Ok, Err}
 use Rattle.envy_base.specs.State.{State, Only, IsOnes, ones}
-use Rattle.envy_base.specs.declared.board.Off.{Off}
 use Rattle.envy_base.specs.declared.board.Trouble.{Trouble}
 use Rattle.envy_base.specs.declared.board.Trouble.TheVariants.{Off as TroubleOff, Bad}
 use Rattle.envy_base.specs.declared.fields.Job.TheVariants.{Idle}
@@ -81,11 +80,6 @@ pub record IsStopped (n : ℕ) (old new : Chart) : Type 0 where
   pub magic : new.fields.magic ≡ old.fields.magic
   pub counted : Counted 0 n old new
 
--- a part of formatting that writes SRAM, power being on at entry
-abbrev pub Lays : (Fields → Fields) → Chart → Result Unit Off → Chart → Type 0
-Lays change old (Ok done) new = new ≡ with_fields old (change old.fields)
-Lays change old (Err off) new = IsStopped 0 old new
-
 -- the first n segments are erased, worn once and empty
 pub record Cleared (n : ℕ) (old new : Chart) : Type 0 where
   pub shape : new.shape ≡ old.shape
@@ -102,11 +96,6 @@ pub record IsSpoilt (n : ℕ) (old new : Chart) : Type 0 where
   pub magic : new.fields.magic ≡ old.fields.magic
   pub counted : Counted 0 n old new
   pub bads : old.bads < 2 ^ 64 - 1 → old.bads < new.bads
-
-abbrev pub Ends : Type 0 → ℕ → Chart → Result Unit Trouble → Chart → Type 0
-Ends Done n old (Ok done) new = Done
-Ends Done n old (Err TroubleOff) new = IsStopped n old new
-Ends Done n old (Err Bad) new = IsSpoilt n old new
 
 -- the next segment is erased
 pub record ClearedOne (s : ℕ) (old new : Chart) : Type 0 where
