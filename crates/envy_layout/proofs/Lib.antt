@@ -1,0 +1,4 @@
+pub mod ArrayLemmas
+pub mod Composition
+pub mod Standing
+pub mod WordLists
