@@ -1,2 +1,11 @@
+pub mod ArrayLemmas
+pub mod Composition
+pub mod FrameLaw
+pub mod KeptLemmas
 pub mod Laying
+pub mod PlaceLaw
+pub mod References
 pub mod Regions
+pub mod Standing
+pub mod WordLists
+pub mod WordPuts

@@ -1,4 +1,5 @@
 pub mod Formatting
+pub mod May
 pub mod Same
 pub mod Sound
 pub mod Stands
