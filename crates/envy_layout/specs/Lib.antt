@@ -1,3 +1,4 @@
+pub mod May
 pub mod Same
 pub mod Sound
 pub mod Stands

@@ -69,6 +69,27 @@ pub record Kept (old new : Chart) : Type 0 where
   pub counted : Counted 0 0 old new
   pub worn : Wears old new
 
+-- the words of both kinds are as they were; pages may have other owners, and slots other states
+pub record SameWords (k j : ℕ) (old new : Chart) : Type 0 where
+  pub shape : new.shape ≡ old.shape
+  pub magic : new.fields.magic ≡ old.fields.magic
+  pub version : new.fields.version ≡ old.fields.version
+  pub sound : IsSound new
+  pub live : live new ≡ live old
+  pub durable : durable new ≡ durable old
+  pub counted : Counted k j old new
+  pub worn : Wears old new
+
+-- what a restart leaves is as it was; loads may read other words
+pub record SameDurable (k j : ℕ) (old new : Chart) : Type 0 where
+  pub shape : new.shape ≡ old.shape
+  pub magic : new.fields.magic ≡ old.fields.magic
+  pub version : new.fields.version ≡ old.fields.version
+  pub sound : IsSound new
+  pub durable : durable new ≡ durable old
+  pub counted : Counted k j old new
+  pub worn : Wears old new
+
 -- one word changed, of what loads read and of what a restart leaves
 pub record Stored (k j : ℕ) (old new : Chart) (a w : ℕ) : Type 0 where
   pub on : IsTrue new.on
@@ -85,5 +106,24 @@ pub record Interrupted (k j : ℕ) (old new : Chart) (a w : ℕ) : Type 0 where
   pub framed : Framed old new
   pub sound : IsSound new
   pub durable : (durable new ≡ durable old) ⊎ (durable new ≡ slice_set (durable old) a w)
+  pub counted : Counted k j old new
+  pub worn : Wears old new
+
+-- one word changed, of what loads read alone: a restart takes it back
+pub record Shadowed (k j : ℕ) (old new : Chart) (a w : ℕ) : Type 0 where
+  pub on : IsTrue new.on
+  pub framed : Framed old new
+  pub sound : IsSound new
+  pub live : live new ≡ slice_set (live old) a w
+  pub durable : durable new ≡ durable old
+  pub counted : Counted k j old new
+  pub worn : Wears old new
+
+-- power was off, or failed in such a change: a restart leaves what it would have left before
+pub record Dropped (k j : ℕ) (old new : Chart) : Type 0 where
+  pub off : new.on ≡ false
+  pub framed : Framed old new
+  pub sound : IsSound new
+  pub durable : durable new ≡ durable old
   pub counted : Counted k j old new
   pub worn : Wears old new

@@ -1,5 +1,5 @@
 -- The fields of the SRAM map, and a board read by them.
-use Rattle.std.specs.Prelude.{Bool, false, ℕ, ◌+◌, ◌-◌, ◌*◌, ◌/◌, ◌%◌, ◌^◌, List, [], ◌∷◌, map, take, drop, Option, None, Some, slice_index, slice_index_or}
+use Rattle.std.specs.Prelude.{◌≡◌, ◌⊎◌, Bool, false, ℕ, ◌+◌, ◌-◌, ◌*◌, ◌/◌, ◌%◌, ◌^◌, List, [], ◌∷◌, map, take, drop, Option, None, Some, slice_index, slice_index_or}
 use Rattle.envy_base.specs.declared.shape.Shape.{Shape}
 use Rattle.envy_base.specs.declared.fields.Job.{Job}
 use Rattle.envy_base.specs.declared.fields.Place.{Place}
@@ -8,7 +8,7 @@ use Rattle.envy_base.specs.declared.fields.Undo.{Undo}
 use Rattle.envy_base.specs.Counting.{up}
 use Rattle.envy_base.specs.Map.{slots_at, wear_at, fill_at, position_at, table_at, undo_at, back_at, origin_at, frames_at}
 use Rattle.envy_base.specs.State.{State}
-use Rattle.envy_map.specs.Codes.{job_of, slot_of, place_of, undo_of, halves}
+use Rattle.envy_map.specs.Codes.{the_magic, job_of, slot_of, place_of, undo_of, halves}
 
 -- `None` stands where no encoding gives the number
 pub record Fields : Type 0 where
@@ -67,6 +67,10 @@ shape_of sizes = record {
   frames = slice_index sizes 2 / 2 ^ 32;
   entries = slice_index sizes 2 % 2 ^ 32;
 }
+
+-- the map of a formatted board, of either version
+abbrev pub IsFormatted : Fields → Type 0
+IsFormatted f = (f.magic ≡ the_magic) × ((f.version ≡ 1) ⊎ (f.version ≡ 2))
 
 -- A board read by its map. The layers above speak of this alone.
 pub record Chart : Type 0 where

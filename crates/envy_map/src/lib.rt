@@ -1,2 +1,26 @@
-//! The SRAM map: where each field lies, its readers and writers.
+//! The SRAM map: which word of a board's SRAM holds which field, and a reader and a writer of each.
+//!
+//! A writer is exactly one `put`, which changes its field alone.
 #![tactic(auto)]
+
+mod code;
+mod forming;
+mod frame;
+mod half;
+mod header;
+mod page;
+mod region;
+mod row;
+mod segment;
+mod transaction;
+
+pub use code::{decode_job, decode_place, decode_slot, decode_undo};
+pub use forming::{clear_places, clear_undos, set_magic, set_size, set_version};
+pub use frame::{frame_word, set_frame_word, write_frame};
+pub use header::{is_formatted, kept_shape, version, MAGIC};
+pub use page::{place, set_place, set_undo, undo};
+pub use region::words;
+pub use row::{back, origin, set_back, set_origin};
+pub use segment::{fill, segment_at, set_fill, set_segment_at, set_wear, wear};
+pub use transaction::{job, set_job, set_slot, slot};
+

@@ -1,0 +1,9 @@
+pub mod ArrayLemmas
+pub mod Composition
+pub mod FrameLaw
+pub mod KeptLemmas
+pub mod PlaceLaw
+pub mod References
+pub mod Standing
+pub mod WordLists
+pub mod WordPuts

@@ -1,0 +1,9 @@
+use Rattle.envy_map.specs.Fields.{chart}
+use Rattle.envy_layout.proofs.FrameLaw.{Stored-word, Shadowed-word}
+use Rattle.envy_layout.proofs.frame.change_frame_word.Goals as goal
+
+pub returns-clause-free : goal.returns-clause-free
+returns-clause-free g c = λ free. Stored-word (chart (g.B.Board.state c.args.board.now)) (chart (g.B.Board.state c.set_frame_word.new.board)) c.args.page c.args.frame c.args.i c.args.word c.set_frame_word.result c.requires.sound c.requires.place c.requires.here free c.set_frame_word.ensures.writes
+
+pub returns-clause-owned : goal.returns-clause-owned
+returns-clause-owned g c = λ owned. Shadowed-word (chart (g.B.Board.state c.args.board.now)) (chart (g.B.Board.state c.set_frame_word.new.board)) c.args.page c.args.frame c.args.i c.args.word c.set_frame_word.result c.requires.sound c.requires.place c.requires.here owned c.set_frame_word.ensures.writes

@@ -1,0 +1,9 @@
+use Rattle.envy_map.specs.Fields.{chart}
+use Rattle.envy_layout.proofs.PlaceLaw.{Stored-framed, Shadowed-framed}
+use Rattle.envy_layout.proofs.frame.move_to_frame.Goals as goal
+
+pub returns-clause-free : goal.returns-clause-free
+returns-clause-free g c = λ free. Stored-framed (chart (g.B.Board.state c.args.board.now)) (chart (g.B.Board.state c.set_place.new.board)) c.args.page c.args.frame c.args.i c.args.word c.set_place.result c.requires.sound c.requires.page c.requires.frame c.requires.place c.requires.unnamed c.requires.copy free c.set_place.ensures.writes
+
+pub returns-clause-owned : goal.returns-clause-owned
+returns-clause-owned g c = λ owned. Shadowed-framed (chart (g.B.Board.state c.args.board.now)) (chart (g.B.Board.state c.set_place.new.board)) c.args.page c.args.frame c.args.i c.args.word c.set_place.result c.requires.sound c.requires.page c.requires.frame c.requires.place c.requires.unnamed c.requires.copy owned c.set_place.ensures.writes

@@ -1,0 +1,6 @@
+use Rattle.envy_map.specs.Fields.{chart}
+use Rattle.envy_map.specs.Writes.{Going, with_frame}
+use Rattle.envy_map.proofs.frame.write_frame.Given as goal
+
+abbrev pub invariant-loop-i : goal.invariant-loop-i
+invariant-loop-i g l = Going (chart (g.B.Board.state l.initial.board)) (chart (g.B.Board.state l.board)) (with_frame l.frame l.page l.i (chart (g.B.Board.state l.initial.board)).fields) l.i

@@ -1,0 +1,6 @@
+use Rattle.std.proofs.Common.{arith}
+use Rattle.envy_map.proofs.OnePut.{Writes-wear}
+use Rattle.envy_map.proofs.segment.set_wear.Goals as goal
+
+pub returns-clause-writes : goal.returns-clause-writes
+returns-clause-writes g c = Writes-wear _ _ _ _ _ _ (g.met.B.Board.lawful c.args.board.now) c.requires (grind arith) c.put.ensures

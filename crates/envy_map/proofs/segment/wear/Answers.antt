@@ -1,0 +1,6 @@
+use Rattle.std.proofs.Common.{arith, ◌+◌, ◌*◌}
+use Rattle.envy_map.proofs.Readings.{Reads-at, wear-is}
+use Rattle.envy_map.proofs.segment.wear.Goals as goal
+
+pub returns : goal.returns
+returns g c = Reads-at (g.B.Board.state c.args.board.now) _ _ _ (wear-is (g.B.Board.state c.args.board.now) _ c.args.segment c.requires (grind arith)) c.get.ensures

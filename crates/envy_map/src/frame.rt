@@ -1,0 +1,41 @@
+ghost use Rattle.std.specs.Prelude.{◌≡◌, ℕ, ◌+◌, ◌*◌, ◌<◌, ◌≤◌, IsTrue, OnOk, OnErr, slice_index};
+ghost use Rattle.envy_base.specs.Map.{frames_at};
+ghost use Rattle.envy_base.specs.State.{Puts, Reads};
+ghost use Rattle.envy_map.specs.Fields.{chart, with_fields};
+ghost use Rattle.envy_map.specs.Writes.{Stopped, Writes, with_frame, with_frame_word};
+
+use crate::region::frame_start;
+use envy_base::{Board, Off};
+
+/// Word `i`, of 32, of a frame.
+pub fn frame_word<B: Board>(board: &B, frame: u32, i: u32) -> Result<u64, Off>
+    requires frame { frame < (B.state board.now).shape.frames }
+    requires place { i < 32 }
+    ensures { Reads (B.state board.now) (slice_index (chart (B.state board.now)).fields.frames (32 * frame + i)) result }
+{
+    board.get(frame_start(&board.shape()) + 32 * frame + i)
+}
+
+/// Writes word `i`, of 32, of a frame.
+pub fn set_frame_word<B: Board>(board: &mut B, frame: u32, i: u32, word: u64) -> Result<(), Off>
+    requires frame { frame < (B.state board.old).shape.frames }
+    requires place { i < 32 }
+    ensures writes { Writes (with_frame_word frame i word) (chart (B.state board.old)) result (chart (B.state board.new)) }
+    ensures put { Puts (B.state board.old) (frames_at (B.state board.old).shape + (32 * frame + i)) word result (B.state board.new) }
+{
+    let at = frame_start(&board.shape());
+    board.put(at + 32 * frame + i, word)
+}
+
+/// Writes the 32 words of a frame, from the first. Where power fails some of them are written.
+pub fn write_frame<B: Board>(board: &mut B, frame: u32, page: &[u64; 32]) -> Result<(), Off>
+    requires { frame < (B.state board.old).shape.frames }
+    ensures ok { OnOk result (chart (B.state board.new) ≡ with_fields (chart (B.state board.old)) (with_frame frame page.now 32 (chart (B.state board.old)).fields)) }
+    ensures on { OnOk result (IsTrue (B.state board.old).on) }
+    ensures off { OnErr result (Stopped (λ f. (n : ℕ) × (n ≤ 32) × (f ≡ with_frame frame page.now n (chart (B.state board.old)).fields)) (chart (B.state board.old)) (chart (B.state board.new))) }
+{
+    for i in 0..32u32 {
+        set_frame_word(board, frame, i, page[i as usize])?;
+    }
+    Ok(())
+}

@@ -1,0 +1,75 @@
+ghost use Rattle.std.specs.Prelude.{◌≡◌};
+ghost use Rattle.envy_base.specs.Map.{fill_at, position_at, table_at, undo_at, back_at, origin_at, frames_at, words_of};
+ghost use Rattle.envy_base.specs.Shape.{IsShape};
+
+use envy_base::Shape;
+
+/// The first word of the slots.
+pub const SLOTS: u32 = 8;
+
+/// The first word of the wear of segments.
+pub const WEAR: u32 = 72;
+
+/// The first word of the fills of segments.
+pub fn fill_start(shape: &Shape) -> u32
+    requires { IsShape shape.now }
+    ensures { result ≡ fill_at shape.now }
+{
+    72 + shape.segments
+}
+
+/// The first word of the segments at positions.
+pub fn position_start(shape: &Shape) -> u32
+    requires { IsShape shape.now }
+    ensures { result ≡ position_at shape.now }
+{
+    72 + 2 * shape.segments
+}
+
+/// The first word of the places of pages.
+pub fn table_start(shape: &Shape) -> u32
+    requires { IsShape shape.now }
+    ensures { result ≡ table_at shape.now }
+{
+    71 + 3 * shape.segments
+}
+
+/// The first word of the undos of pages.
+pub fn undo_start(shape: &Shape) -> u32
+    requires { IsShape shape.now }
+    ensures { result ≡ undo_at shape.now }
+{
+    table_start(shape) + (shape.pages + 1) / 2
+}
+
+/// The first word of the pages that rows were claimed for.
+pub fn back_start(shape: &Shape) -> u32
+    requires { IsShape shape.now }
+    ensures { result ≡ back_at shape.now }
+{
+    undo_start(shape) + (shape.pages + 1) / 2
+}
+
+/// The first word of the rows that the target's rows were copied from.
+pub fn origin_start(shape: &Shape) -> u32
+    requires { IsShape shape.now }
+    ensures { result ≡ origin_at shape.now }
+{
+    back_start(shape) + shape.segments * shape.rows
+}
+
+/// The first word of the frames.
+pub fn frame_start(shape: &Shape) -> u32
+    requires { IsShape shape.now }
+    ensures { result ≡ frames_at shape.now }
+{
+    origin_start(shape) + shape.rows
+}
+
+/// The number of SRAM words that the map of a board takes.
+pub fn words(shape: &Shape) -> u32
+    requires { IsShape shape.now }
+    ensures { result ≡ words_of shape.now }
+{
+    frame_start(shape) + 32 * shape.frames
+}
