@@ -5,10 +5,8 @@
 #![tactic(auto)]
 
 mod bench;
-mod format;
 mod memory;
 mod page;
 
 pub use bench::ReviveFault;
-pub use format::FormatFault;
 pub use memory::{LoadFault, Memory, StoreFault};

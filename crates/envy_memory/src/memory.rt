@@ -6,9 +6,9 @@ ghost use Rattle.envy_memory.specs.Calls.{Loads, Looks, Stores, Works};
 ghost use Rattle.envy_memory.specs.declared.memory.LoadFault.TheVariants.{Off as LoadOff};
 ghost use Rattle.envy_memory.specs.declared.memory.StoreFault.TheVariants.{Off as StoreOff};
 
-use crate::page::{bring, word};
-use envy_base::{Board, Off, Place};
-use envy_layout::{change_frame_word, place};
+use crate::page::{keep, word};
+use envy_base::{Board, Off};
+use envy_map::place;
 use std::marker::Model;
 
 /// Why a load or a look has no word.
@@ -115,10 +115,7 @@ impl<B: Board> Memory<B> {
         if page >= self.board.shape().pages {
             return Err(StoreFault::Range);
         }
-        match place(&self.board, page)? {
-            Place::Frame(frame) => change_frame_word(&mut self.board, page, frame, a % 32, value)?,
-            _ => bring(&mut self.board, page, a % 32, value)?,
-        }
+        keep(&mut self.board, page, a % 32, value)?;
         Ok(())
     }
 

@@ -1,2 +1,0 @@
-pub mod Licence
-pub mod Turns
