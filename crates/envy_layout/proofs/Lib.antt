@@ -5,5 +5,6 @@ pub mod KeptLemmas
 pub mod PlaceLaw
 pub mod References
 pub mod Standing
+pub mod UndoLaw
 pub mod WordLists
 pub mod WordPuts
