@@ -1,6 +1,7 @@
 -- A place goes to what the page's active undo names.
-use Rattle.std.proofs.Common.{◌≡◌, ◌≢◌, ◌⊎◌, inl, inr, ℕ, ◌*◌, ◌/◌, ◌%◌, ◌<◌, true, List, length, get_or, Option, None, Some, refl, sym, ◌∙◌, ap}
+use Rattle.std.proofs.Common.{◌≡◌, ◌≢◌, ◌⊎◌, inl, inr, ℕ, ◌*◌, ◌/◌, ◌%◌, ◌<◌, true, false, List, length, get_or, Option, None, Some, refl, sym, ◌∙◌, ap}
 use Rattle.std.specs.Prelude.{IsTrue, Result, Ok, Err, OnOk}
+use Rattle.std.proofs.lemmas.List.{get_or-set_same}
 use Rattle.envy_base.specs.declared.board.Off.{Off}
 use Rattle.envy_base.specs.declared.shape.Shape.{Shape}
 use Rattle.envy_base.specs.declared.fields.Place.{Place}
@@ -9,9 +10,9 @@ use Rattle.envy_map.specs.Fields.{Fields, Chart, with_fields, place, undo}
 use Rattle.envy_map.specs.Writes.{Writes, with_place}
 use Rattle.envy_layout.specs.Words.{kept, word_at, live_word, durable_word, live, durable}
 use Rattle.envy_layout.specs.Sound.{IsSound, owned_by}
-use Rattle.envy_layout.specs.May.{MayTake}
+use Rattle.envy_layout.specs.May.{MayTake, IsSettled}
 use Rattle.envy_layout.specs.Same.{SameDurable, Restored}
-use Rattle.envy_layout.proofs.KeptLemmas.{kept_by-no_frame}
+use Rattle.envy_layout.proofs.KeptLemmas.{kept_by-free, kept_by-owned, kept_by-no_frame}
 use Rattle.envy_layout.proofs.PlaceLaw.{PlaceCases, place-cases, Sound-taken, room-page, durable-owned}
 use Rattle.envy_layout.proofs.WordLists.{words-at}
 use Rattle.envy_layout.proofs.Composition.{KeepsDurable, SameDurable-put}
@@ -33,6 +34,14 @@ KeepsDurable-restored c p x sound page owned names = record {
 
 pub SameDurable-restored : (c new : Chart) (p : ℕ) (x : Place) (r : Result Unit Off) → IsSound c → p < c.shape.pages → (IsTrue c.on → owned_by c.fields.slots (undo c.fields p) ≡ true) → (IsTrue c.on → kept c.fields p ≡ Some x) → Writes (with_place p (Some x)) c r new → SameDurable 0 0 c new
 SameDurable-restored c new p x r sound page owned names writes = SameDurable-put c new (with_place p (Some x)) r sound (λ on. KeepsDurable-restored c p x sound page (owned on) (names on)) writes
+
+-- the undo may then be cleared
+pub settled-restored : (f : Fields) (p : ℕ) (x : Place) → p < length f.places → owned_by f.slots (undo f p) ≡ true → kept f p ≡ Some x → IsSettled (with_place p (Some x) f) p
+settled-restored f p x room owned names = kept_by-owned f.slots (undo f p) (place f p) (place (with_place p (Some x) f) p) owned ∙ names ∙ sym (get_or-set_same f.places p (Some x) None room)
+
+-- as that of a page which no transaction owns
+pub settled-free : (f : Fields) (p : ℕ) → owned_by f.slots (undo f p) ≡ false → IsSettled f p
+settled-free f p free = kept_by-free f.slots (undo f p) (place f p) free
 
 -- loads then read what a restart leaves
 restored : (c : Chart) (p : ℕ) (x : Place) → p < length c.fields.places → kept c.fields p ≡ Some x → Restored p c (with_fields c (with_place p (Some x) c.fields))

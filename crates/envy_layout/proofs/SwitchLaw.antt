@@ -91,8 +91,8 @@ Keeps-switched c e i p sound b =
     same : HasPage c.fields c.flash p (Row (e * c.shape.rows + i))
     same j lt = ap (λ (row : List ℕ). get_or row j 0) (copy-same c.shape c.fields c.flash e i p sound b.copied (inl b.here)) ∙ ap (λ (x : Option Place). word_at c.fields.frames c.flash x j) (sym b.here)
 
-pub Same-switched : (c new : Chart) (e i p : ℕ) (r : Result Unit Off) → IsSound c → p < c.shape.pages → (IsTrue c.on → IsCopied c.shape c.fields e i) → (IsTrue c.on → place c.fields p ≡ Some (Row (origin_of c.fields i))) → (IsTrue c.on → (t : ℕ) → undo c.fields p ≡ Some (Shadow t (origin_of c.fields i)) → slot c.fields t ≢ Some Active) → Writes (with_place p (Some (Row (e * c.shape.rows + i)))) c r new → Same 0 0 c new
-Same-switched c new e i p r sound page copied here alone writes = Same-put c new (with_place p (Some (Row (e * c.shape.rows + i)))) r sound (λ on. Keeps-switched c e i p sound (record { page = page; copied = copied on; here = here on; alone = alone on })) refl writes
+pub Same-switched : (c new : Chart) (e i p q : ℕ) (r : Result Unit Off) → q ≡ e * c.shape.rows + i → IsSound c → p < c.shape.pages → (IsTrue c.on → IsCopied c.shape c.fields e i) → (IsTrue c.on → place c.fields p ≡ Some (Row (origin_of c.fields i))) → (IsTrue c.on → (t : ℕ) → undo c.fields p ≡ Some (Shadow t (origin_of c.fields i)) → slot c.fields t ≢ Some Active) → Writes (with_place p (Some (Row q))) c r new → Same 0 0 c new
+Same-switched c new e i p q r is sound page copied here alone writes = Same-put c new (with_place p (Some (Row q))) r sound (λ on. subst (λ (x : ℕ). Keeps c (with_place p (Some (Row x)) c.fields)) (sym is) (Keeps-switched c e i p sound (record { page = page; copied = copied on; here = here on; alone = alone on }))) refl writes
 
 -- an active undo of the page names the row, and its place doesn't
 pub record IsUndoBehind (sh : Shape) (f : Fields) (e i p t : ℕ) : Type 0 where
@@ -141,5 +141,5 @@ Keeps-undo_switched c e i p t sound b =
     same : HasKept c.fields c.flash p (Some (Row (e * c.shape.rows + i)))
     same j lt = ap (λ (row : List ℕ). get_or row j 0) (copy-same c.shape c.fields c.flash e i p sound b.copied (inr (named-behind c.shape c.fields e i p t b))) ∙ ap (λ (x : Option Place). word_at c.fields.frames c.flash x j) (sym (named-behind c.shape c.fields e i p t b))
 
-pub Same-undo_switched : (c new : Chart) (e i p t : ℕ) (r : Result Unit Off) → IsSound c → p < c.shape.pages → (IsTrue c.on → IsCopied c.shape c.fields e i) → (IsTrue c.on → undo c.fields p ≡ Some (Shadow t (origin_of c.fields i))) → (IsTrue c.on → slot c.fields t ≡ Some Active) → (IsTrue c.on → place c.fields p ≢ Some (Row (origin_of c.fields i))) → Writes (with_undo p (Some (Shadow t (e * c.shape.rows + i)))) c r new → Same 0 0 c new
-Same-undo_switched c new e i p t r sound page copied here active alone writes = Same-put c new (with_undo p (Some (Shadow t (e * c.shape.rows + i)))) r sound (λ on. Keeps-undo_switched c e i p t sound (record { page = page; copied = copied on; here = here on; active = active on; alone = alone on })) refl writes
+pub Same-undo_switched : (c new : Chart) (e i p t q : ℕ) (r : Result Unit Off) → q ≡ e * c.shape.rows + i → IsSound c → p < c.shape.pages → (IsTrue c.on → IsCopied c.shape c.fields e i) → (IsTrue c.on → undo c.fields p ≡ Some (Shadow t (origin_of c.fields i))) → (IsTrue c.on → slot c.fields t ≡ Some Active) → (IsTrue c.on → place c.fields p ≢ Some (Row (origin_of c.fields i))) → Writes (with_undo p (Some (Shadow t q))) c r new → Same 0 0 c new
+Same-undo_switched c new e i p t q r is sound page copied here active alone writes = Same-put c new (with_undo p (Some (Shadow t q))) r sound (λ on. subst (λ (x : ℕ). Keeps c (with_undo p (Some (Shadow t x)) c.fields)) (sym is) (Keeps-undo_switched c e i p t sound (record { page = page; copied = copied on; here = here on; active = active on; alone = alone on }))) refl writes
