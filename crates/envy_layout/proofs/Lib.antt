@@ -4,6 +4,10 @@ pub mod FrameLaw
 pub mod KeptLemmas
 pub mod PlaceLaw
 pub mod References
+pub mod RestoreLaw
+pub mod SlotLaw
 pub mod Standing
+pub mod SwitchLaw
+pub mod UndoLaw
 pub mod WordLists
 pub mod WordPuts
