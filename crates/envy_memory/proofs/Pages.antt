@@ -1,8 +1,8 @@
 -- What a page that is absent or stands in its own frame becomes.
 use Rattle.std.proofs.Common.{◌≡◌, ◌≢◌, ◌⊎◌, inl, inr, Bool, false, ℕ, ◌+◌, ◌-◌, ◌*◌, ◌<◌, ◌≤◌, List, ◌++◌, length, get_or, set, take, drop, Option, None, Some, refl, sym, ◌∙◌, ap, subst, arith}
-use Rattle.std.specs.Prelude.{◌==◌, if◌then◌else◌, Result, Ok, Err, IsErrAnd}
-use Rattle.std.proofs.lemmas.List.{get_or_append_left, get_or-append_right, get_or-take, length-take, length-append, get_or_past, get_or-set_same, get_or-set_other, length-set}
-use Rattle.std.proofs.lemmas.Bool.{cases_eq, cases_lt}
+use Rattle.std.specs.Prelude.{◌==◌, if◌then◌else◌, replicate, Result, Ok, Err, IsErrAnd}
+use Rattle.std.proofs.lemmas.List.{get_or_append_left, get_or-append_right, get_or-take, length-take, length-append, get_or_past, get_or-replicate, length-replicate, get_or-set_same, get_or-set_other, length-set}
+use Rattle.std.proofs.lemmas.Bool.{cases_eq, cases_lt, eq-eqb, ne_eqb}
 use Rattle.envy_base.specs.declared.fields.Place.{Place}
 use Rattle.envy_base.specs.declared.fields.Place.TheVariants.{Absent, Row, Frame}
 use Rattle.envy_base.specs.declared.fields.Undo.{Undo}
@@ -79,3 +79,13 @@ unnamed-direct c p sound d absent r e = at (cases_lt r c.shape.pages)
 
 pub unowned-direct : (c : Chart) (p : ℕ) → IsDirect c → p < c.shape.pages → owned_by c.fields.slots (undo c.fields p) ≡ false
 unowned-direct c p d lt = ap (owned_by c.fields.slots) (d.undos p lt)
+
+-- zeros, with one word stored
+pub zeros-but : (i j v : ℕ) → i < 32 → j < 32 → get_or (set (replicate 32 0) i v) j 0 ≡ (if j == i then v else 0)
+zeros-but i j v room lt = at (cases_eq j i)
+  where
+    long : length {A = ℕ} (replicate 32 0) ≡ 32
+    long = length-replicate {A = ℕ} 32 0
+    at : (j ≡ i) ⊎ (j ≡ i → ⊥) → get_or (set (replicate 32 0) i v) j 0 ≡ (if j == i then v else 0)
+    at (inl same) = let inside : i < length {A = ℕ} (replicate 32 0) = rw long room in rw (same, eq-eqb i i refl) (get_or-set_same {A = ℕ} (replicate 32 0) i v 0 inside)
+    at (inr other) = rw (ne_eqb j i other) (get_or-set_other {A = ℕ} (replicate 32 0) i j v 0 other ∙ get_or-replicate {A = ℕ} 32 j 0 0 lt)
