@@ -1,2 +1,5 @@
 pub mod Counting
+pub mod Keeping
+pub mod Owning
 pub mod Total
+pub mod Undoing

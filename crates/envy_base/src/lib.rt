@@ -19,5 +19,7 @@ pub use bench::{Bench, Maker, NoMemory};
 pub use board::{Board, Off, Trouble};
 pub use counts::Counts;
 pub use fields::{Job, Place, Slot, Undo};
-pub use laws::step_gives_one_answer;
+pub use laws::{
+    restart_keeps_the_array, step_gives_one_answer, step_keeps_the_array, zeros_are_an_array,
+};
 pub use shape::{Shape, ShapeFault};

@@ -15,7 +15,7 @@ use Rattle.envy_layout.specs.Words.{kept, kept_by, word_at, live_word, durable_w
 use Rattle.envy_layout.specs.Sound.{Sound, Numbers, Places, IsSound, owned_by}
 use Rattle.envy_layout.specs.May.{IsUnnamed}
 use Rattle.envy_layout.specs.Same.{Same, Stored, Interrupted, Shadowed, Dropped}
-use Rattle.envy_layout.proofs.KeptLemmas.{kept_by-free, kept_by-frame, kept_by-owned}
+use Rattle.envy_layout.proofs.KeptLemmas.{kept_by-free, kept_by-frame, kept_by-no_frame}
 use Rattle.envy_layout.proofs.WordLists.{words-same, words-set}
 use Rattle.envy_layout.proofs.Composition.{Keeps, Keeps-refl, Same-refl, Stays-kept, Stays-failed, Wears-fields, Wears-failed}
 use Rattle.envy_layout.proofs.WordPuts.{Changes, Shadows, Stored-put, Shadowed-put}
@@ -182,9 +182,7 @@ kept-elsewhere : (c : Chart) (p k i r : ℕ) → IsHere c p k i → owned_by c.f
 kept-elsewhere c p k i r at owned is =
     let there : place c.fields r ≡ Some (Frame k) = kept_by-frame c.fields.slots (undo c.fields r) (place c.fields r) k is in
     let same : r ≡ p = Places.apart (Sound.places at.sound) r p k there at.here in
-    let owned_here : owned_by c.fields.slots (undo c.fields r) ≡ true = rw same owned in
-    let none : None ≡ Some (Frame k) = kept_by-frame c.fields.slots (undo c.fields r) None k (kept_by-owned c.fields.slots (undo c.fields r) (place c.fields r) None owned_here ∙ is) in
-    cc
+    kept_by-no_frame c.fields.slots (undo c.fields r) (place c.fields r) k (rw same owned) is
 
 -- that word of what loads read alone, where one does
 pub Shadows-word : (c : Chart) (p k i w : ℕ) → IsHere c p k i → owned_by c.fields.slots (undo c.fields p) ≡ true → Shadows c (with_frame_word k i w c.fields) (32 * p + i) w

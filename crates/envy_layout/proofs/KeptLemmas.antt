@@ -87,6 +87,21 @@ kept_by-row slots (Some (Shadow t r)) now q e = at (is_active (get_or slots t No
     at true active = let is = if_active-is (get_or slots t None) (Some (Row r)) now active in let same : Some (Row r) ≡ Some (Row q) = sym is ∙ e in inr (t, let one : r ≡ q = cc in ap (λ (n : ℕ). Some (Shadow t n)) one)
     at false idle = inl (sym (if_active-not (get_or slots t None) (Some (Row r)) now idle) ∙ e)
 
+-- what a transaction owns goes back to a row where its undo names the row
+pub kept_by-shadow : (slots : List (Option Slot)) (u : Option Undo) (now : Option Place) (q : ℕ) → owned_by slots u ≡ true → kept_by slots u now ≡ Some (Row q) → (t : ℕ) × (u ≡ Some (Shadow t q)) × (get_or slots t None ≡ Some Active)
+kept_by-shadow slots None now q owned e = cc
+kept_by-shadow slots (Some Clear) now q owned e = cc
+kept_by-shadow slots (Some (Blank t)) now q owned e = let is = if_active-is (get_or slots t None) (Some Absent) now owned in absurd (let no : Some Absent ≡ Some (Row q) = sym is ∙ e in cc)
+kept_by-shadow slots (Some (Shadow t r)) now q owned e =
+    let is = if_active-is (get_or slots t None) (Some (Row r)) now owned in
+    let same : Some (Row r) ≡ Some (Row q) = sym is ∙ e in
+    let one : r ≡ q = cc in
+    (t, ap (λ (n : ℕ). Some (Shadow t n)) one, active-is (get_or slots t None) owned)
+
+-- and goes back to no frame
+pub kept_by-no_frame : (slots : List (Option Slot)) (u : Option Undo) (now : Option Place) (k : ℕ) → owned_by slots u ≡ true → kept_by slots u now ≢ Some (Frame k)
+kept_by-no_frame slots u now k owned is = let none : None ≡ Some (Frame k) = kept_by-frame slots u None k (kept_by-owned slots u now None owned ∙ is) in cc
+
 -- rows that pages name are rows of the board
 pub Names-range : (sh : Shape) (f : Fields) (flash : List (List ℕ)) (p q : ℕ) → Sound sh f flash → Names f p q → q < sh.segments * sh.rows
 Names-range sh f flash p q s (inl e) = Places.rows s.places p q e

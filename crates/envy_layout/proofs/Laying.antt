@@ -1,13 +1,15 @@
 -- Lists whose first numbers are written one after another, and boards that a part of formatting left.
-use Rattle.std.proofs.Common.{◌≡◌, ◌⊎◌, inl, inr, ℕ, zero, suc, ◌+◌, ◌-◌, ◌*◌, ◌<◌, ◌≤◌, Bool, true, false, List, [], ◌∷◌, length, get_or, set, refl, sym, ◌∙◌, ap, subst, arith, add-one, add-zero}
-use Rattle.std.specs.Prelude.{IsTrue, Result, Ok, Err, OnErr}
+use Rattle.std.proofs.Common.{◌≡◌, ◌⊎◌, inl, inr, ℕ, zero, suc, ◌+◌, ◌-◌, ◌*◌, ◌^◌, ◌<◌, ◌≤◌, Bool, true, false, List, [], ◌∷◌, length, get_or, set, refl, sym, ◌∙◌, ap, subst, arith, add-one, add-zero}
+use Rattle.std.specs.Prelude.{IsTrue, Result, Ok, Err, OnErr, Some}
+use Rattle.std.proofs.lemmas.Bool.{cases_lt}
 use Rattle.envy_base.specs.declared.board.Off.{Off}
-use Rattle.envy_base.specs.Counting.{up}
-use Rattle.envy_base.proofs.Counting.{up-least}
+use Rattle.envy_base.specs.declared.shape.Shape.{Shape}
+use Rattle.envy_base.specs.declared.fields.Job.TheVariants.{Idle}
 use Rattle.envy_map.specs.Fields.{Fields, Chart, failed, with_fields}
-use Rattle.envy_map.specs.Writes.{Writes}
-use Rattle.envy_layout.specs.Formatting.{filled, numbered, IsStopped}
-use Rattle.envy_layout.specs.Same.{Counted, Grows}
+use Rattle.envy_map.specs.Writes.{Writes, with_size, with_version, with_job}
+use Rattle.envy_layout.specs.Formatting.{filled, numbered, with_head, IsStopped, IsSpoilt, Reached}
+use Rattle.envy_layout.specs.Same.{Counted}
+use Rattle.envy_layout.proofs.Composition.{Counted-refl, Counted-trans, Counted-more, Counted-fields, Counted-failed}
 
 pub filled-zero : {A : Type 0} (xs : List A) (x : A) → filled xs x 0 ≡ xs
 filled-zero [] x = refl
@@ -70,21 +72,6 @@ get_or-numbered (y ∷ ys) k zero i lt room = absurd (omega arith)
 get_or-numbered (y ∷ ys) k (suc n) zero lt room = omega arith
 get_or-numbered (y ∷ ys) k (suc n) (suc i) lt room = get_or-numbered ys (k + 1) n i (omega arith) (omega arith) ∙ omega arith
 
--- no count changed but that of power's failures
-pub Counted-failed : (c : Chart) (f : Fields) → IsTrue c.on → Counted 0 0 c (failed (with_fields c f))
-Counted-failed c f on = record {
-  power = inr (on, refl, refl);
-  cuts = up-least c.cuts;
-  bads = omega arith;
-  begun = omega arith;
-  few = omega arith;
-  erases = record { long = refl; each = λ s. omega arith; least = omega arith; few = omega arith };
-  pulled = refl;
-  plans = refl;
-  lives = refl;
-  given = refl;
-}
-
 -- one more put of a part of formatting
 pub Lays-more : (old mid new : Chart) (f g : Fields) (change : Fields → Fields) → mid ≡ with_fields old f → change f ≡ g → Writes change mid (Ok tt) new → new ≡ with_fields old g
 Lays-more old mid new f g change was is (on, put) =
@@ -108,3 +95,46 @@ pub record IsLaidSo (old now : Chart) (f : Fields) : Type 0 where
 pub OnErr-any : {T E : Type 0} {P : Type 0} (r : Result T E) → P → OnErr r P
 OnErr-any (Ok x) p = tt
 OnErr-any (Err e) p = p
+
+-- set_size for each of the three words that keep a shape
+pub head-same : (f : Fields) (sh : Shape) (version a b c : ℕ) → a ≡ sh.segments * 2 ^ 32 + sh.rows → b ≡ sh.pages * 2 ^ 32 + sh.shadows → c ≡ sh.frames * 2 ^ 32 + sh.entries → with_job (Some Idle) (with_version version (with_size 2 c (with_size 1 b (with_size 0 a f)))) ≡ with_head sh version f
+head-same f sh version a b c ea eb ec = rw (ea, eb, ec) refl
+
+pub Stops-put : (c new : Chart) (change : Fields → Fields) (off : Off) → IsTrue c.on → (change c.fields).magic ≡ c.fields.magic → Writes change c (Err off) new → IsStopped 0 c new
+Stops-put c new change off on magic writes = Lays-stops c c new c.fields change off on refl refl magic writes
+
+pub Reached-refl : (c : Chart) → IsTrue c.on → Reached 0 c c
+Reached-refl c on = record { on = on; shape = refl; magic = refl; counted = Counted-refl c }
+
+pub Reached-more : (n k : ℕ) (old new : Chart) → n ≤ k → Reached n old new → Reached k old new
+Reached-more n k old new le r = record { on = r.on; shape = r.shape; magic = r.magic; counted = Counted-more 0 n 0 k old new (omega arith) le r.counted }
+
+pub Reached-fields : (n : ℕ) (old c new : Chart) (f : Fields) → f.magic ≡ c.fields.magic → new ≡ with_fields c f → Reached n old c → Reached n old new
+Reached-fields n old c new f magic is r = subst (λ (x : Chart). Reached n old x) (sym is) (record {
+  on = r.on;
+  shape = r.shape;
+  magic = magic ∙ r.magic;
+  counted = Counted-more 0 (n + 0) 0 n old (with_fields c f) (omega arith) (omega arith) (Counted-trans 0 n 0 0 old c (with_fields c f) r.counted (Counted-fields c f));
+})
+
+pub Reached-stops : (n k : ℕ) (old c new : Chart) → Reached n old c → IsStopped k c new → IsStopped (n + k) old new
+Reached-stops n k old c new r s = record { off = s.off; shape = s.shape ∙ r.shape; magic = s.magic ∙ r.magic; counted = Counted-trans 0 n 0 k old c new r.counted s.counted }
+
+pub Reached-spoils : (n k : ℕ) (old c new : Chart) → Reached n old c → IsSpoilt k c new → IsSpoilt (n + k) old new
+Reached-spoils n k old c new r s = record { on = s.on; shape = s.shape ∙ r.shape; magic = s.magic ∙ r.magic; counted = Counted-trans 0 n 0 k old c new r.counted s.counted; bads = λ low. let up = Counted.bads r.counted in let x = s.bads in by_top low }
+  where
+    by_top : old.bads < 2 ^ 64 - 1 → old.bads < new.bads
+    by_top low = at (cases_lt c.bads (2 ^ 64 - 1))
+      where
+        at : (c.bads < 2 ^ 64 - 1) ⊎ (2 ^ 64 - 1 ≤ c.bads) → old.bads < new.bads
+        at (inl below) = let a = Counted.bads r.counted in let b = s.bads below in omega arith
+        at (inr top) = let b = Counted.bads s.counted in omega arith
+
+pub Stopped-more : (n k : ℕ) (old new : Chart) → n ≤ k → IsStopped n old new → IsStopped k old new
+Stopped-more n k old new le s = record { off = s.off; shape = s.shape; magic = s.magic; counted = Counted-more 0 n 0 k old new (omega arith) le s.counted }
+
+pub Spoilt-more : (n k : ℕ) (old new : Chart) → n ≤ k → IsSpoilt n old new → IsSpoilt k old new
+Spoilt-more n k old new le s = record { on = s.on; shape = s.shape; magic = s.magic; counted = Counted-more 0 n 0 k old new (omega arith) le s.counted; bads = s.bads }
+
+pub Reached-trans : (n k : ℕ) (old c new : Chart) → Reached n old c → Reached k c new → Reached (n + k) old new
+Reached-trans n k old c new r s = record { on = s.on; shape = s.shape ∙ r.shape; magic = s.magic ∙ r.magic; counted = Counted-trans 0 n 0 k old c new r.counted s.counted }

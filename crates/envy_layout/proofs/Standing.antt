@@ -6,9 +6,9 @@ use Rattle.envy_base.specs.Step.{Command, Store, Answer, Done, Step, Accepts, Lo
 use Rattle.envy_map.specs.Fields.{Chart}
 use Rattle.envy_layout.specs.Sound.{IsSound}
 use Rattle.envy_layout.specs.Words.{live, durable}
-use Rattle.envy_layout.specs.Same.{Framed, Stays, Same, SameDurable, Stored, Interrupted, Dropped}
+use Rattle.envy_layout.specs.Same.{Framed, Stays, Same, SameWords, SameDurable, Stored, Interrupted, Dropped}
 use Rattle.envy_layout.specs.Stands.{Holds, Stands, IsLost}
-use Rattle.envy_layout.proofs.Composition.{SameDurable-same, SameDurable-dropped}
+use Rattle.envy_layout.proofs.Composition.{SameDurable-same, SameDurable-words, SameDurable-dropped}
 use Rattle.envy_layout.proofs.WordLists.{length-live}
 use Rattle.envy_layout.proofs.ArrayLemmas.{undone-stored, IsArray-stored}
 
@@ -37,7 +37,6 @@ Stands-same k j c new m s same on = record { on = on; holds = Holds-same k j c n
 pub length-stands : (c : Chart) (m : Array) → Stands c m → length m.words ≡ 32 * c.shape.pages
 length-stands c m s = ap length (sym (Holds.live s.holds)) ∙ length-live c
 
--- the slot that owns a page, or none
 pub Holds-stored : (k j : ℕ) (c new : Chart) (m : Array) (a w : ℕ) → Holds c m → owner m (a / 32) ≡ None → Stored k j c new a w → Holds new (stored m a w)
 Holds-stored k j c new m a w h free done =
     let framed = done.framed in
@@ -70,6 +69,9 @@ IsLost-durable k j c new m command n s accepts same off =
 
 pub IsLost-same : (k j : ℕ) (c new : Chart) (m : Array) (command : Command) (n : Array) → Stands c m → Accepts m command n → Same k j c new → new.on ≡ false → IsLost m command new
 IsLost-same k j c new m command n s accepts same off = IsLost-durable k j c new m command n s accepts (SameDurable-same k j c new same) off
+
+pub IsLost-words : (k j : ℕ) (c new : Chart) (m : Array) (command : Command) (n : Array) → Stands c m → Accepts m command n → SameWords k j c new → new.on ≡ false → IsLost m command new
+IsLost-words k j c new m command n s accepts same off = IsLost-durable k j c new m command n s accepts (SameDurable-words k j c new same) off
 
 pub IsLost-dropped : (k j : ℕ) (c new : Chart) (m : Array) (command : Command) (n : Array) → Stands c m → Accepts m command n → Dropped k j c new → IsLost m command new
 IsLost-dropped k j c new m command n s accepts same = IsLost-durable k j c new m command n s accepts (SameDurable-dropped k j c new same) same.off

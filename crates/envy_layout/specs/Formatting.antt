@@ -105,27 +105,38 @@ pub record ClearedOne (s : ℕ) (old new : Chart) : Type 0 where
   pub flash : Only old.shape.rows s IsOnes old.flash new.flash
   pub counted : Counted 0 1 old new
 
--- the whole map of an empty array, but for the first word, over erased flash
-pub record IsLaid (version : ℕ) (c : Chart) : Type 0 where
-  pub on : IsTrue c.on
-  pub version_is : c.fields.version ≡ version
-  pub sizes : c.fields.sizes ≡ sizes_of c.shape
-  pub job : c.fields.job ≡ Some Idle
-  pub slots_long : length c.fields.slots ≡ 64
-  pub slots : (t : ℕ) → t < slots_of version → slot c.fields t ≡ Some Vacant
-  pub wears_long : length c.fields.wears ≡ c.shape.segments
-  pub wears : (s : ℕ) → s < c.shape.segments → slice_index c.fields.wears s ≡ 1
-  pub fills_long : length c.fields.fills ≡ c.shape.segments
-  pub fills : (s : ℕ) → s < c.shape.segments → slice_index c.fields.fills s ≡ 0
-  pub positions_long : length c.fields.positions ≡ c.shape.segments - 1
-  pub positions : (k : ℕ) → k < c.shape.segments - 1 → slice_index c.fields.positions k ≡ k
-  pub places_long : length c.fields.places ≡ c.shape.pages
-  pub places : (p : ℕ) → p < c.shape.pages → place c.fields p ≡ Some Absent
-  pub undos_long : length c.fields.undos ≡ c.shape.pages
-  pub undos : (p : ℕ) → p < c.shape.pages → undo c.fields p ≡ Some Clear
-  pub backs_long : length c.fields.backs ≡ c.shape.segments * c.shape.rows
-  pub backs : (q : ℕ) → q < c.shape.segments * c.shape.rows → slice_index c.fields.backs q ≡ 0
-  pub origins_long : length c.fields.origins ≡ c.shape.rows
-  pub origins : (i : ℕ) → i < c.shape.rows → slice_index c.fields.origins i ≡ 0
-  pub frames_long : length c.fields.frames ≡ 32 * c.shape.frames
-  pub erased : (q : ℕ) → q < c.shape.segments * c.shape.rows → slice_index_or c.flash q [] ≡ ones
+-- a part of formatting succeeded, in which at most n segments were erased and the first word stayed
+pub record Reached (n : ℕ) (old new : Chart) : Type 0 where
+  pub on : IsTrue new.on
+  pub shape : new.shape ≡ old.shape
+  pub magic : new.fields.magic ≡ old.fields.magic
+  pub counted : Counted 0 n old new
+
+-- all regions of a new map but its head
+abbrev pub with_regions_laid : Shape → ℕ → Fields → Fields
+with_regions_laid sh slots f =
+    with_origins_laid sh.rows (with_backs_laid (sh.segments * sh.rows) (with_undos_laid (2 * ((sh.pages + 1) / 2)) (with_places_laid (2 * ((sh.pages + 1) / 2)) (with_positions_laid (sh.segments - 1) (with_slots_laid slots f)))))
+
+-- the whole map of an empty array, but for its first word, over erased flash
+pub record IsLaid (sh : Shape) (version : ℕ) (f : Fields) (flash : List (List ℕ)) : Type 0 where
+  pub version_is : f.version ≡ version
+  pub sizes : f.sizes ≡ sizes_of sh
+  pub job : f.job ≡ Some Idle
+  pub slots_long : length f.slots ≡ 64
+  pub slots : (t : ℕ) → t < slots_of version → slot f t ≡ Some Vacant
+  pub wears_long : length f.wears ≡ sh.segments
+  pub wears : (s : ℕ) → s < sh.segments → slice_index f.wears s ≡ 1
+  pub fills_long : length f.fills ≡ sh.segments
+  pub fills : (s : ℕ) → s < sh.segments → slice_index f.fills s ≡ 0
+  pub positions_long : length f.positions ≡ sh.segments - 1
+  pub positions : (k : ℕ) → k < sh.segments - 1 → slice_index f.positions k ≡ k
+  pub places_long : length f.places ≡ sh.pages
+  pub places : (p : ℕ) → p < sh.pages → place f p ≡ Some Absent
+  pub undos_long : length f.undos ≡ sh.pages
+  pub undos : (p : ℕ) → p < sh.pages → undo f p ≡ Some Clear
+  pub backs_long : length f.backs ≡ sh.segments * sh.rows
+  pub backs : (q : ℕ) → q < sh.segments * sh.rows → slice_index f.backs q ≡ 0
+  pub origins_long : length f.origins ≡ sh.rows
+  pub origins : (i : ℕ) → i < sh.rows → slice_index f.origins i ≡ 0
+  pub frames_long : length f.frames ≡ 32 * sh.frames
+  pub erased : (q : ℕ) → q < sh.segments * sh.rows → slice_index_or flash q [] ≡ ones

@@ -1,5 +1,5 @@
 -- What leaves the array as it is, and what happened to power and counts meanwhile.
-use Rattle.std.specs.Prelude.{◌≡◌, ◌⊎◌, ℕ, ◌+◌, ◌-◌, ◌^◌, ◌<◌, ◌≤◌, Bool, false, IsTrue, List, sum, length, slice_index, slice_set}
+use Rattle.std.specs.Prelude.{◌≡◌, ◌≢◌, ◌⊎◌, ℕ, ◌+◌, ◌-◌, ◌/◌, ◌^◌, ◌<◌, ◌≤◌, Bool, false, IsTrue, List, sum, length, Some, slice_index, slice_set}
 use Rattle.envy_base.specs.Counting.{up}
 use Rattle.envy_map.specs.Fields.{Chart, undo}
 use Rattle.envy_layout.specs.Sound.{IsSound, slot_named}
@@ -127,3 +127,20 @@ pub record Dropped (k j : ℕ) (old new : Chart) : Type 0 where
   pub durable : durable new ≡ durable old
   pub counted : Counted k j old new
   pub worn : Wears old new
+
+-- Slot t is done with: what a restart leaves of its pages is what loads read of them.
+pub record Commits (k j t : ℕ) (old new : Chart) : Type 0 where
+  pub shape : new.shape ≡ old.shape
+  pub magic : new.fields.magic ≡ old.fields.magic
+  pub version : new.fields.version ≡ old.fields.version
+  pub sound : IsSound new
+  pub own : (a : ℕ) → slot_named (undo old.fields (a / 32)) ≡ Some t → slice_index (durable new) a ≡ slice_index (live old) a
+  pub others : (a : ℕ) → slot_named (undo old.fields (a / 32)) ≢ Some t → slice_index (durable new) a ≡ slice_index (durable old) a
+  pub live : live new ≡ live old
+  pub counted : Counted k j old new
+  pub worn : Wears old new
+
+-- loads read of page p what a restart leaves of it, and of the other pages what they read
+pub record Restored (p : ℕ) (old new : Chart) : Type 0 where
+  pub own : (a : ℕ) → a / 32 ≡ p → slice_index (live new) a ≡ slice_index (durable old) a
+  pub others : (a : ℕ) → a / 32 ≢ p → slice_index (live new) a ≡ slice_index (live old) a

@@ -1,6 +1,6 @@
 ghost use Rattle.std.specs.Prelude.{◌≡◌, ◌+◌, ◌*◌, ◌<◌, true, false, IsTrue, Some, OnOk, OnErr, MatchResult};
 ghost use Rattle.envy_map.specs.Fields.{chart, with_fields, place, undo};
-ghost use Rattle.envy_map.specs.Writes.{with_frame, with_frame_word, with_place};
+ghost use Rattle.envy_map.specs.Writes.{Writes, with_frame, with_frame_word, with_place};
 ghost use Rattle.envy_layout.specs.Sound.{IsSound, owned_by};
 ghost use Rattle.envy_layout.specs.May.{IsUnnamed, HasChanged};
 ghost use Rattle.envy_layout.specs.Same.{Same, Stored, Interrupted, Shadowed, Dropped};
@@ -15,6 +15,7 @@ pub fn write_free_frame<B: Board>(board: &mut B, frame: u32, page: &[u64; 32]) -
     requires unnamed { IsTrue (B.state board.old).on → IsUnnamed (chart (B.state board.old)).fields frame }
     ensures same { Same 0 0 (chart (B.state board.old)) (chart (B.state board.new)) }
     ensures fields { OnOk result (chart (B.state board.new) ≡ with_fields (chart (B.state board.old)) (with_frame frame page.now 32 (chart (B.state board.old)).fields)) }
+    ensures places { (chart (B.state board.new)).fields.places ≡ (chart (B.state board.old)).fields.places }
     ensures on { OnOk result (IsTrue (B.state board.new).on) }
     ensures off { OnErr result ((B.state board.new).on ≡ false) }
 {
@@ -42,7 +43,7 @@ pub fn change_frame_word<B: Board>(
         let new = chart (B.state board.new) in
         (IsTrue old.on → owned_by old.fields.slots (undo old.fields page) ≡ true)
         → MatchResult result (λ _. Shadowed 0 0 old new (32 * page + i) word) (λ _. Dropped 0 0 old new) }
-    ensures fields { OnOk result (chart (B.state board.new) ≡ with_fields (chart (B.state board.old)) (with_frame_word frame i word (chart (B.state board.old)).fields)) }
+    ensures writes { Writes (with_frame_word frame i word) (chart (B.state board.old)) result (chart (B.state board.new)) }
     ensures on { OnOk result (IsTrue (B.state board.new).on) }
     ensures off { OnErr result ((B.state board.new).on ≡ false) }
 {
@@ -73,7 +74,7 @@ pub fn move_to_frame<B: Board>(
         let new = chart (B.state board.new) in
         (IsTrue old.on → owned_by old.fields.slots (undo old.fields page) ≡ true)
         → MatchResult result (λ _. Shadowed 0 0 old new (32 * page + i) word) (λ _. Dropped 0 0 old new) }
-    ensures fields { OnOk result (chart (B.state board.new) ≡ with_fields (chart (B.state board.old)) (with_place page (Some (Place.Frame frame)) (chart (B.state board.old)).fields)) }
+    ensures writes { Writes (with_place page (Some (Place.Frame frame))) (chart (B.state board.old)) result (chart (B.state board.new)) }
     ensures on { OnOk result (IsTrue (B.state board.new).on) }
     ensures off { OnErr result ((B.state board.new).on ≡ false) }
 {

@@ -4,10 +4,19 @@
 //! Power fails only inside a device operation, so it is enough to know one thing of each kind of write:
 //! from a sound board on which its condition holds it leaves a sound board, and changes no words but
 //! those that its contract names, wherever power fails. Each call makes one kind of write and has
-//! its law as its contract.
+//! its law as its contract. A condition that may be known only of a board with power is asked for only
+//! where there is power.
 #![tactic(auto)]
 
 mod frame;
+mod format;
 mod lay;
+mod page_place;
+mod page_undo;
+mod slots;
 
+pub use format::{format_board, format_board_1};
 pub use frame::{change_frame_word, move_to_frame, write_free_frame};
+pub use page_place::{move_place, restore_place, switch_place};
+pub use page_undo::{clear_settled_undo, move_undo, own_page, switch_undo};
+pub use slots::{commit_slot, set_unused_slot};

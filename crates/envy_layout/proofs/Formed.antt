@@ -1,0 +1,77 @@
+-- What each exit of formatting leaves.
+use Rattle.std.proofs.Common.{◌≡◌, ◌⊎◌, inl, inr, ℕ, ◌+◌, ◌-◌, ◌*◌, ◌^◌, ◌<◌, ◌≤◌, Bool, true, false, List, refl, sym, ◌∙◌, ap, subst, arith}
+use Rattle.std.specs.Prelude.{IsTrue, Result, Ok, Err, IsErrOf, IsErrAnd, slice_index, ◌==◌, if◌then◌else◌}
+use Rattle.std.proofs.lemmas.Result.{err_from_is_err_and}
+use Rattle.envy_base.specs.Shape.{IsShape}
+use Rattle.envy_base.specs.State.{State, IsBoard}
+use Rattle.envy_base.specs.declared.shape.Shape.{Shape}
+use Rattle.envy_base.specs.declared.board.Off.{Off}
+use Rattle.envy_base.specs.declared.board.Trouble.{Trouble}
+use Rattle.envy_base.specs.declared.board.Trouble.TheVariants.{Off as TroubleOff, Bad}
+use Rattle.envy_map.specs.Codes.{the_magic}
+use Rattle.envy_map.specs.Fields.{Fields, Chart, chart, map_fields, failed, with_fields}
+use Rattle.envy_map.specs.Writes.{Writes, with_magic}
+use Rattle.envy_map.proofs.Sizes.{length-sizes, length-slots, length-wears, length-fills, length-positions, length-places, length-undos, length-backs, length-origins, length-frames}
+use Rattle.envy_layout.specs.Formatting.{Formats, IsEmpty, IsLaid, IsStopped, IsSpoilt}
+use Rattle.envy_layout.specs.Same.{Counted}
+use Rattle.envy_layout.specs.Sound.{slots_of}
+use Rattle.envy_layout.proofs.Composition.{Counted-refl, Counted-trans, Counted-more, Counted-fields, Counted-failed}
+use Rattle.envy_layout.proofs.Empty.{Lengths, IsEmpty-laid, IsEmpty-failed}
+
+pub Lengths-board : (s : State) → IsBoard s → Lengths s.shape (chart s).fields
+Lengths-board s b = record {
+  sizes = length-sizes s b;
+  slots = length-slots s b;
+  wears = length-wears s b;
+  fills = length-fills s b;
+  positions = length-positions s b;
+  places = length-places s b;
+  undos = length-undos s b;
+  backs = length-backs s b;
+  origins = length-origins s b;
+  frames = length-frames s b;
+}
+
+pub magic-is : (s : State) → (chart s).fields.magic ≡ slice_index s.sram 0
+unfolding map_fields
+magic-is s = refl
+
+pub Counted-put : (c new : Chart) (change : Fields → Fields) (r : Result Unit Off) → Writes change c r new → Counted 0 0 c new
+Counted-put c new change (Ok done) (on, is) = subst (λ (x : Chart). Counted 0 0 c x) (sym is) (Counted-fields c (change c.fields))
+Counted-put c new change (Err off) (inl (dark, is)) = subst (λ (x : Chart). Counted 0 0 c x) (sym is) (Counted-refl c)
+Counted-put c new change (Err off) (inr (on, f, either, is)) = subst (λ (x : Chart). Counted 0 0 c x) (sym is) (Counted-failed c f on)
+
+pub Counts-first : (n : ℕ) (c new : Chart) (change : Fields → Fields) (r : Result Unit Off) → Writes change c r new → Counted 0 n c new
+Counts-first n c new change r writes = Counted-more 0 0 0 n c new (omega arith) (omega arith) (Counted-put c new change r writes)
+
+pub Counts-last : (n : ℕ) (a b c : Chart) (change : Fields → Fields) (r : Result Unit Off) → Counted 0 n a b → Writes change b r c → Counted 0 n a c
+Counts-last n a b c change r counted writes = Counted-more 0 (n + 0) 0 n a c (omega arith) (omega arith) (Counted-trans 0 n 0 0 a b c counted (Counted-put b c change r writes))
+
+pub Formats-fails : (version n : ℕ) (old a b : State) (t : Trouble) → (chart a).fields.magic ≡ 0 → a.bads ≡ old.bads → (IsErrOf {T = Unit {0}} (Err t) TroubleOff → IsStopped n (chart a) (chart b)) → (IsErrOf {T = Unit {0}} (Err t) Bad → IsSpoilt n (chart a) (chart b)) → Formats version old (Err t) b
+Formats-fails version n old a b TroubleOff zero_word bads stopped spoilt = let s = stopped refl in (s.off, inl (sym (magic-is b) ∙ s.magic ∙ zero_word))
+Formats-fails version n old a b Bad zero_word bads stopped spoilt = let s = spoilt refl in (s.on, sym (magic-is b) ∙ s.magic ∙ zero_word, rw (← bads) s.bads)
+
+-- the board whose map is laid, once its first word is written
+pub Completed : (version : ℕ) (old b : State) → IsBoard b → (version ≡ 1) ⊎ (version ≡ 2) → b.shape ≡ old.shape → IsLaid old.shape version (chart b).fields b.flash → IsEmpty version (with_fields (chart b) (with_magic the_magic (chart b).fields))
+Completed version old b board versions shape laid =
+    IsEmpty-laid (chart b) version board.shape versions (subst (λ (sh : Shape). IsLaid sh version (chart b).fields b.flash) (sym shape) laid)
+
+pub Formats-done : (version : ℕ) (old b c : State) → IsEmpty version (with_fields (chart b) (with_magic the_magic (chart b).fields)) → Writes (with_magic the_magic) (chart b) (Ok tt) (chart c) → Formats version old (Ok tt) c
+Formats-done version old b c empty (on, is) = (subst (λ (x : Bool). IsTrue x) (sym (ap (λ (x : Chart). x.on) is)) on, subst (λ (x : Chart). IsEmpty version x) (sym is) empty)
+
+pub Formats-cut : (version : ℕ) (old b c : State) (r : Result Unit Trouble) (off : Off) → IsErrAnd r (λ e. e ≡ TroubleOff) → IsTrue b.on → (chart b).fields.magic ≡ 0 → IsEmpty version (with_fields (chart b) (with_magic the_magic (chart b).fields)) → Writes (with_magic the_magic) (chart b) (Err off) (chart c) → Formats version old r c
+Formats-cut version old b c r off is on zero_word empty writes = let p = err_from_is_err_and r is in rw (p.1, p.2) (at writes)
+  where
+    at : Writes (with_magic the_magic) (chart b) (Err off) (chart c) → Formats version old (Err TroubleOff) c
+    at (inl (dark, same)) = absurd (let no = on in cc)
+    at (inr (was, f, inl e, same)) = (ap (λ (x : Chart). x.on) same, inl (sym (magic-is c) ∙ ap (λ (x : Chart). x.fields.magic) same ∙ ap (λ (g : Fields). g.magic) e ∙ zero_word))
+    at (inr (was, f, inr e, same)) = (ap (λ (x : Chart). x.on) same, inr (inr (subst (λ (x : Chart). IsEmpty version x) (sym (same ∙ ap (λ (g : Fields). failed (with_fields (chart b) g)) e)) (IsEmpty-failed (with_fields (chart b) (with_magic the_magic (chart b).fields)) version empty))))
+
+pub slots-few : (version : ℕ) → slots_of version ≤ 64
+slots-few version = elim (version == 1) as (λ (b : Bool). (if b then 16 else 64) ≤ 64) [ true ↦ omega arith | false ↦ omega arith ]
+
+-- the counts over a first word cleared, all segments erased, and a last put
+pub Counts-middle : (old a b c : Chart) (change : Fields → Fields) (r : Result Unit Off) → Writes (with_magic 0) old (Ok tt) a → Counted 0 a.shape.segments a b → Writes change b r c → Counted 0 old.shape.segments old c
+Counts-middle old a b c change r first counted last =
+    let segments : a.shape.segments ≡ old.shape.segments = ap (λ (x : Chart). x.shape.segments) first.1 in
+    Counted-more 0 (0 + a.shape.segments) 0 old.shape.segments old c (omega arith) (omega arith) (Counted-trans 0 0 0 a.shape.segments old a c (Counted-put old a (with_magic 0) (Ok tt) first) (Counts-last a.shape.segments a b c change r counted last))

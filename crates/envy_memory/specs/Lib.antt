@@ -1,0 +1,17 @@
+pub mod Calls
+pub mod Pages
+pub mod Picture
+pub use Rattle.envy_base.specs.Array
+pub use Rattle.envy_base.specs.Counting
+pub use Rattle.envy_base.specs.Map
+pub use Rattle.envy_base.specs.Shape
+pub use Rattle.envy_base.specs.State
+pub use Rattle.envy_base.specs.Step
+pub use Rattle.envy_map.specs.Codes
+pub use Rattle.envy_map.specs.Fields
+pub use Rattle.envy_map.specs.Writes
+pub use Rattle.envy_layout.specs.May
+pub use Rattle.envy_layout.specs.Same
+pub use Rattle.envy_layout.specs.Sound
+pub use Rattle.envy_layout.specs.Stands
+pub use Rattle.envy_layout.specs.Words
