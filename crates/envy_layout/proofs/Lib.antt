@@ -1,5 +1,6 @@
 pub mod ArrayLemmas
 pub mod Composition
+pub mod Filling
 pub mod FrameLaw
 pub mod KeptLemmas
 pub mod PlaceLaw
