@@ -1,5 +1,5 @@
 -- One put, by what it changes of the fields.
-use Rattle.std.proofs.Common.{◌≡◌, inl, inr, ℕ, ◌+◌, ◌-◌, ◌*◌, ◌/◌, ◌^◌, ◌<◌, List, set, refl, sym, ◌∙◌, ap, subst, arith}
+use Rattle.std.proofs.Common.{◌≡◌, inl, inr, ℕ, ◌+◌, ◌-◌, ◌*◌, ◌/◌, ◌^◌, ◌<◌, set, refl, ◌∙◌, ap, subst, arith}
 use Rattle.std.specs.Prelude.{Some, Result, Ok, Err, slice_index}
 use Rattle.envy_base.specs.declared.board.Off.{Off}
 use Rattle.envy_base.specs.declared.fields.Job.{Job}

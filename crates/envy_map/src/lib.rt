@@ -17,10 +17,12 @@ mod transaction;
 pub use code::{decode_job, decode_place, decode_slot, decode_undo};
 pub use forming::{clear_places, clear_undos, set_magic, set_size, set_version};
 pub use frame::{frame_word, set_frame_word, write_frame};
-pub use header::{is_formatted, kept_shape, version, MAGIC};
+pub use header::{MAGIC, is_formatted, kept_shape, version};
 pub use page::{place, set_place, set_undo, undo};
 pub use region::words;
 pub use row::{back, origin, set_back, set_origin};
 pub use segment::{fill, segment_at, set_fill, set_segment_at, set_wear, wear};
 pub use transaction::{job, set_job, set_slot, slot};
 
+#[cfg(test)]
+mod tests;

@@ -1,4 +1,3 @@
-use Rattle.std.proofs.Common.{arith}
 use Rattle.envy_map.proofs.OnePut.{Writes-job}
 use Rattle.envy_map.proofs.transaction.set_job.Goals as goal
 
