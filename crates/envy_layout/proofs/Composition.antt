@@ -1,12 +1,12 @@
 -- What a step says of power, counts and words composes, and each single put says it where its law does.
-use Rattle.std.proofs.Common.{◌≡◌, ◌⊎◌, inl, inr, ℕ, ◌+◌, ◌-◌, ◌^◌, ◌<◌, ◌≤◌, Bool, false, List, refl, sym, ◌∙◌, ap, subst, arith}
+use Rattle.std.proofs.Common.{◌≡◌, inl, inr, ℕ, ◌+◌, ◌-◌, ◌^◌, ◌<◌, ◌≤◌, Bool, false, List, refl, sym, ◌∙◌, ap, subst, arith}
 use Rattle.std.specs.Prelude.{IsTrue, Result, Ok, Err, MatchResult}
 use Rattle.envy_base.specs.declared.board.Off.{Off}
 use Rattle.envy_base.specs.Counting.{up}
-use Rattle.envy_base.proofs.Counting.{up-least, up-most, up-rises}
-use Rattle.envy_map.specs.Fields.{Fields, Chart, failed, with_fields, undo}
+use Rattle.envy_base.proofs.Counting.{up-least, up-rises}
+use Rattle.envy_map.specs.Fields.{Fields, Chart, failed, with_fields}
 use Rattle.envy_map.specs.Writes.{Writes}
-use Rattle.envy_layout.specs.Sound.{IsSound, slot_named}
+use Rattle.envy_layout.specs.Sound.{IsSound}
 use Rattle.envy_layout.specs.Words.{live, durable}
 use Rattle.envy_layout.specs.Same.{Powers, Grows, Counted, Worn, Wears, Framed, Stays, Same, Kept, SameWords, SameDurable, Dropped}
 

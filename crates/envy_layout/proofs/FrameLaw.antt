@@ -8,16 +8,15 @@ use Rattle.envy_base.specs.declared.board.Off.{Off}
 use Rattle.envy_base.specs.declared.shape.Shape.{Shape}
 use Rattle.envy_base.specs.declared.fields.Place.{Place}
 use Rattle.envy_base.specs.declared.fields.Place.TheVariants.{Absent, Row, Frame}
-use Rattle.envy_base.specs.declared.fields.Undo.{Undo}
 use Rattle.envy_map.specs.Fields.{Fields, Chart, failed, with_fields, place, undo}
 use Rattle.envy_map.specs.Writes.{Stopped, Writes, pasted, with_frame, with_frame_word}
-use Rattle.envy_layout.specs.Words.{kept, kept_by, word_at, live_word, durable_word, live, durable}
+use Rattle.envy_layout.specs.Words.{kept, word_at, live}
 use Rattle.envy_layout.specs.Sound.{Sound, Numbers, Places, IsSound, owned_by}
 use Rattle.envy_layout.specs.May.{IsUnnamed}
 use Rattle.envy_layout.specs.Same.{Same, Stored, Interrupted, Shadowed, Dropped}
 use Rattle.envy_layout.proofs.KeptLemmas.{kept_by-free, kept_by-frame, kept_by-no_frame}
 use Rattle.envy_layout.proofs.WordLists.{words-same, words-set}
-use Rattle.envy_layout.proofs.Composition.{Keeps, Keeps-refl, Same-refl, Stays-kept, Stays-failed, Wears-fields, Wears-failed}
+use Rattle.envy_layout.proofs.Composition.{Keeps, Same-refl, Stays-kept, Stays-failed, Wears-fields, Wears-failed}
 use Rattle.envy_layout.proofs.WordPuts.{Changes, Shadows, Stored-put, Shadowed-put}
 
 -- no word but those of frame k differs
@@ -65,7 +64,7 @@ Sound-frames sh f flash fs long s =
       job = s.job;
     }
 
-word_at-frame_other : (k : ℕ) (old new : List ℕ) (flash : List (List ℕ)) (x : Option Place) (j : ℕ) → j < 32 → FrameOnly k old new → x ≢ Some (Frame k) → word_at new flash x j ≡ word_at old flash x j
+pub word_at-frame_other : (k : ℕ) (old new : List ℕ) (flash : List (List ℕ)) (x : Option Place) (j : ℕ) → j < 32 → FrameOnly k old new → x ≢ Some (Frame k) → word_at new flash x j ≡ word_at old flash x j
 word_at-frame_other k old new flash None j lt only other = refl
 word_at-frame_other k old new flash (Some Absent) j lt only other = refl
 word_at-frame_other k old new flash (Some (Row q)) j lt only other = refl

@@ -8,9 +8,9 @@ use Rattle.envy_base.specs.declared.fields.Slot.TheVariants.{Vacant, Active, Com
 use Rattle.envy_base.specs.declared.fields.Undo.{Undo}
 use Rattle.envy_base.specs.declared.fields.Undo.TheVariants.{Clear, Blank, Shadow}
 use Rattle.envy_map.specs.Fields.{Fields, place, undo}
-use Rattle.envy_layout.specs.Words.{kept, kept_by, if_active}
+use Rattle.envy_layout.specs.Words.{kept_by, if_active, word_at}
 use Rattle.envy_layout.specs.Sound.{Sound, Slots, Places, Names, is_active, slot_named, owned_by}
-use Rattle.envy_layout.specs.May.{named_by}
+use Rattle.envy_layout.specs.May.{HasKept, named_by}
 
 -- nothing that is active: the place
 if_active-not : (s : Option Slot) (back now : Option Place) → is_active s ≡ false → if_active s back now ≡ now
@@ -56,6 +56,13 @@ owned_by-active slots None t e active = cc
 owned_by-active slots (Some Clear) t e active = cc
 owned_by-active slots (Some (Blank s)) t e active = let same : s ≡ t = cc in rw (same, active) refl
 owned_by-active slots (Some (Shadow s q)) t e active = let same : s ≡ t = cc in rw (same, active) refl
+
+-- an undo that names no slot
+pub owned_by-none : (slots : List (Option Slot)) (u : Option Undo) → slot_named u ≡ None → owned_by slots u ≡ false
+owned_by-none slots None e = refl
+owned_by-none slots (Some Clear) e = refl
+owned_by-none slots (Some (Blank t)) e = cc
+owned_by-none slots (Some (Shadow t q)) e = cc
 
 -- a frame is read only where the place names it
 pub kept_by-frame : (slots : List (Option Slot)) (u : Option Undo) (now : Option Place) (k : ℕ) → kept_by slots u now ≡ Some (Frame k) → now ≡ Some (Frame k)
@@ -110,3 +117,7 @@ Names-range sh f flash p q s (inr e) = at (kept_by-row f.slots (undo f p) (place
     at : (place f p ≡ Some (Row q)) ⊎ ((t : ℕ) × (undo f p ≡ Some (Shadow t q))) → q < sh.segments * sh.rows
     at (inl here) = Places.rows s.places p q here
     at (inr (t, named)) = Slots.rows s.slots p t q named
+
+-- a restart reads a page that no transaction owns where its place is
+pub HasKept-free : (f : Fields) (flash : List (List ℕ)) (p : ℕ) (x : Option Place) → owned_by f.slots (undo f p) ≡ false → place f p ≡ x → HasKept f flash p x
+HasKept-free f flash p x free here j lt = ap (λ (y : Option Place). word_at f.frames flash y j) (sym here ∙ sym (kept_by-free f.slots (undo f p) (place f p) free))

@@ -3,6 +3,7 @@ pub mod Clearing
 pub mod Composition
 pub mod Empty
 pub mod Formed
+pub mod Filling
 pub mod FrameLaw
 pub mod KeptLemmas
 pub mod Laying

@@ -1,5 +1,5 @@
 -- Writes of a place.
-use Rattle.std.proofs.Common.{◌≡◌, ◌≢◌, ◌⊎◌, inl, inr, ℕ, ◌+◌, ◌*◌, ◌/◌, ◌<◌, ◌≤◌, Bool, true, false, cond, List, length, get_or, set, Option, None, Some, refl, sym, ◌∙◌, ap, subst, arith}
+use Rattle.std.proofs.Common.{◌≡◌, ◌≢◌, ◌⊎◌, inl, inr, ℕ, ◌+◌, ◌*◌, ◌<◌, Bool, true, false, cond, List, length, set, Option, None, Some, refl, sym, ◌∙◌, ap, subst, arith}
 use Rattle.std.specs.Prelude.{◌==◌, ◌&&◌, IsTrue, Result, MatchResult}
 use Rattle.std.proofs.lemmas.List.{get_or-set_same, get_or-set_other, length-set}
 use Rattle.std.proofs.lemmas.Bool.{cases_eq, eq-eqb, ne_eqb}
@@ -7,12 +7,11 @@ use Rattle.envy_base.specs.declared.board.Off.{Off}
 use Rattle.envy_base.specs.declared.shape.Shape.{Shape}
 use Rattle.envy_base.specs.declared.fields.Place.{Place}
 use Rattle.envy_base.specs.declared.fields.Place.TheVariants.{Absent, Row, Frame}
-use Rattle.envy_base.specs.declared.fields.Undo.{Undo}
 use Rattle.envy_map.specs.Fields.{Fields, Chart, with_fields, place, undo}
 use Rattle.envy_map.specs.Writes.{Writes, with_place}
 use Rattle.envy_layout.specs.Words.{kept, kept_by, word_at, live_word, durable_word, live, durable}
 use Rattle.envy_layout.specs.Sound.{Sound, Places, IsSound, Names, owned_by}
-use Rattle.envy_layout.specs.May.{IsUnnamed, MayName, MayRefer, MayTake, HasPage, HasChanged}
+use Rattle.envy_layout.specs.May.{IsUnnamed, MayRefer, MayTake, HasPage, HasChanged}
 use Rattle.envy_layout.specs.Same.{Same, Stored, Interrupted, Shadowed, Dropped, Framed}
 use Rattle.envy_layout.proofs.KeptLemmas.{kept_by-free, kept_by-owned, Names-range}
 use Rattle.envy_layout.proofs.References.{References, References-fewer, References-more}

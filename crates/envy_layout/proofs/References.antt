@@ -1,8 +1,7 @@
 -- What is said of references, where a write leaves fewer of them, adds one, or switches one to a copy.
-use Rattle.std.proofs.Common.{◌≡◌, ◌≢◌, ◌⊎◌, inl, inr, ℕ, ◌+◌, ◌*◌, ◌/◌, ◌%◌, ◌<◌, ◌≤◌, List, [], get_or, Option, Some, refl, sym, ◌∙◌, ap, subst, arith}
-use Rattle.std.proofs.lemmas.Nat.{div-mul-add, mod-mul-add, mul-add-lt}
+use Rattle.std.proofs.Common.{◌≡◌, ◌≢◌, ◌⊎◌, inl, inr, ℕ, ◌+◌, ◌*◌, ◌/◌, ◌%◌, ◌<◌, List, get_or, Option, Some, sym, ◌∙◌, ap, subst, arith}
+use Rattle.std.proofs.lemmas.Nat.{div-mul-add, mod-mul-add}
 use Rattle.envy_base.specs.declared.shape.Shape.{Shape}
-use Rattle.envy_base.specs.declared.fields.Job.{Job}
 use Rattle.envy_base.specs.declared.fields.Job.TheVariants.{Switch}
 use Rattle.envy_base.specs.declared.fields.Place.{Place}
 use Rattle.envy_base.specs.declared.fields.Slot.{Slot}

@@ -1,5 +1,5 @@
 -- A place goes to what the page's active undo names.
-use Rattle.std.proofs.Common.{◌≡◌, ◌≢◌, ◌⊎◌, inl, inr, ℕ, ◌*◌, ◌/◌, ◌%◌, ◌<◌, true, false, List, length, get_or, Option, None, Some, refl, sym, ◌∙◌, ap}
+use Rattle.std.proofs.Common.{◌≡◌, ◌≢◌, inl, inr, ℕ, ◌/◌, ◌%◌, ◌<◌, true, false, length, Option, None, Some, refl, sym, ◌∙◌, ap}
 use Rattle.std.specs.Prelude.{IsTrue, Result, Ok, Err, OnOk}
 use Rattle.std.proofs.lemmas.List.{get_or-set_same}
 use Rattle.envy_base.specs.declared.board.Off.{Off}
@@ -8,7 +8,7 @@ use Rattle.envy_base.specs.declared.fields.Place.{Place}
 use Rattle.envy_base.specs.declared.fields.Place.TheVariants.{Absent, Row, Frame}
 use Rattle.envy_map.specs.Fields.{Fields, Chart, with_fields, place, undo}
 use Rattle.envy_map.specs.Writes.{Writes, with_place}
-use Rattle.envy_layout.specs.Words.{kept, word_at, live_word, durable_word, live, durable}
+use Rattle.envy_layout.specs.Words.{kept, word_at, live_word, durable_word}
 use Rattle.envy_layout.specs.Sound.{IsSound, owned_by}
 use Rattle.envy_layout.specs.May.{MayTake, IsSettled}
 use Rattle.envy_layout.specs.Same.{SameDurable, Restored}

@@ -1,5 +1,5 @@
 -- Writes of a slot.
-use Rattle.std.proofs.Common.{◌≡◌, ◌≢◌, ◌⊎◌, inl, inr, ℕ, zero, suc, ◌+◌, ◌*◌, ◌/◌, ◌%◌, ◌<◌, ◌≤◌, Bool, true, false, cond, List, [], ◌∷◌, length, get_or, set, Option, None, Some, refl, sym, ◌∙◌, ap, arith}
+use Rattle.std.proofs.Common.{◌≡◌, ◌≢◌, ◌⊎◌, inl, inr, ℕ, zero, suc, ◌/◌, ◌%◌, ◌<◌, ◌≤◌, Bool, true, false, cond, List, [], ◌∷◌, length, get_or, set, Option, None, Some, refl, sym, ◌∙◌, ap, arith}
 use Rattle.std.specs.Prelude.{IsTrue, Result, MatchResult, count_by}
 use Rattle.std.proofs.lemmas.List.{get_or-set_same, get_or-set_other, length-set}
 use Rattle.std.proofs.lemmas.List.Sums.{sum_by-cons}
@@ -7,20 +7,19 @@ use Rattle.std.proofs.lemmas.Bool.{cases_eq}
 use Rattle.envy_base.specs.declared.board.Off.{Off}
 use Rattle.envy_base.specs.declared.shape.Shape.{Shape}
 use Rattle.envy_base.specs.declared.fields.Place.{Place}
-use Rattle.envy_base.specs.declared.fields.Place.TheVariants.{Absent, Row}
 use Rattle.envy_base.specs.declared.fields.Slot.{Slot}
 use Rattle.envy_base.specs.declared.fields.Slot.TheVariants.{Vacant, Committed}
 use Rattle.envy_base.specs.declared.fields.Undo.{Undo}
 use Rattle.envy_base.specs.declared.fields.Undo.TheVariants.{Clear, Blank, Shadow}
-use Rattle.envy_map.specs.Fields.{Fields, Chart, failed, with_fields, place, undo}
+use Rattle.envy_map.specs.Fields.{Fields, Chart, with_fields, place, undo}
 use Rattle.envy_map.specs.Writes.{Writes, with_slot}
-use Rattle.envy_layout.specs.Words.{kept, kept_by, if_active, word_at, live_word, durable_word, live, durable}
-use Rattle.envy_layout.specs.Sound.{Sound, Slots, IsSound, Names, owned_by, is_active, slot_named, slots_of}
+use Rattle.envy_layout.specs.Words.{kept, kept_by, word_at, live_word, durable_word, live, durable}
+use Rattle.envy_layout.specs.Sound.{Sound, Slots, IsSound, Names, owned_by, slot_named, slots_of}
 use Rattle.envy_layout.specs.May.{IsUnused}
 use Rattle.envy_layout.specs.Same.{Same, SameWords, Commits}
-use Rattle.envy_layout.proofs.References.{References, References-fewer}
+use Rattle.envy_layout.proofs.References.{References-fewer}
 use Rattle.envy_layout.proofs.WordLists.{words-same, words-at}
-use Rattle.envy_layout.proofs.Composition.{Keeps, Keeps-refl, KeepsWords, SameWords-put, Same-refl, Stays-failed, Counted-fields, Counted-failed, Wears-fields, Wears-failed, exits}
+use Rattle.envy_layout.proofs.Composition.{Keeps-refl, KeepsWords, SameWords-put, Same-refl, Stays-failed, Counted-fields, Counted-failed, Wears-fields, Wears-failed, exits}
 
 -- where a test passes less at each place, it counts less
 count_by-le_at : {X : Type 0} (p q : X → Bool) (d : X) (xs : List X) → ((k : ℕ) → k < length xs → p (get_or xs k d) ≡ true → q (get_or xs k d) ≡ true) → count_by p xs ≤ count_by q xs

@@ -1,14 +1,17 @@
 -- What a board stands for after a step, and what a failure of power leaves.
 use Rattle.std.proofs.Common.{◌≡◌, ◌⊎◌, inl, inr, ℕ, ◌*◌, ◌/◌, ◌<◌, List, length, set, None, Some, refl, sym, ◌∙◌, ap, arith}
-use Rattle.std.specs.Prelude.{IsTrue, false}
-use Rattle.envy_base.specs.Array.{Array, owner, stored, undone, restarted}
-use Rattle.envy_base.specs.Step.{Command, Store, Answer, Done, Step, Accepts, Lost}
-use Rattle.envy_map.specs.Fields.{Chart}
-use Rattle.envy_layout.specs.Sound.{IsSound}
-use Rattle.envy_layout.specs.Words.{live, durable}
-use Rattle.envy_layout.specs.Same.{Framed, Stays, Same, SameWords, SameDurable, Stored, Interrupted, Dropped}
-use Rattle.envy_layout.specs.Stands.{Holds, Stands, IsLost}
+use Rattle.std.specs.Prelude.{IsTrue, true, false, Option}
+use Rattle.std.proofs.lemmas.List.Quantifiers.{position-Some}
+use Rattle.envy_base.specs.Array.{Array, Saved, IsArray, owner, owns, slot_of, stored, restarted}
+use Rattle.envy_base.specs.Step.{Command, Store, Done, Accepts, Lost}
+use Rattle.envy_base.specs.declared.fields.Slot.TheVariants.{Active}
+use Rattle.envy_map.specs.Fields.{Chart, undo}
+use Rattle.envy_layout.specs.Sound.{owned_by}
+use Rattle.envy_layout.specs.Words.{durable}
+use Rattle.envy_layout.specs.Same.{Stays, Same, SameWords, SameDurable, Stored, Interrupted, Dropped}
+use Rattle.envy_layout.specs.Stands.{Holds, Stands, IsLost, slot_word}
 use Rattle.envy_layout.proofs.Composition.{SameDurable-same, SameDurable-words, SameDurable-dropped}
+use Rattle.envy_layout.proofs.KeptLemmas.{owned_by-none, owned_by-active}
 use Rattle.envy_layout.proofs.WordLists.{length-live}
 use Rattle.envy_layout.proofs.ArrayLemmas.{undone-stored, IsArray-stored}
 
@@ -54,6 +57,20 @@ Holds-stored k j c new m a w h free done =
 
 pub Stands-stored : (k j : ℕ) (c new : Chart) (m : Array) (a w : ℕ) → Stands c m → owner m (a / 32) ≡ None → Stored k j c new a w → Stands new (stored m a w)
 Stands-stored k j c new m a w s free done = record { on = done.on; holds = Holds-stored k j c new m a w s.holds free done }
+
+-- whether a transaction owns a page
+pub free-holds : (c : Chart) (m : Array) (p : ℕ) → Holds c m → p < c.shape.pages → owner m p ≡ None → owned_by c.fields.slots (undo c.fields p) ≡ false
+free-holds c m p h lt none = owned_by-none c.fields.slots (undo c.fields p) (h.owners p lt ∙ none)
+
+pub owned-holds : (c : Chart) (m : Array) (p t : ℕ) → Holds c m → p < c.shape.pages → owner m p ≡ Some t → owned_by c.fields.slots (undo c.fields p) ≡ true
+owned-holds c m p t h lt own =
+    let found = position-Some (owns p) m.slots t None own in
+    let low : t < 64 = let size = IsArray.slots h.array in let inside = found.0 in omega arith in
+    owned_by-active c.fields.slots (undo c.fields p) t (h.owners p lt ∙ own) (h.slots t low ∙ at (slot_of m t) found.1)
+  where
+    at : (s : Option Saved) → owns p s ≡ true → Some (slot_word s) ≡ Some Active
+    at None e = cc
+    at (Some saved) e = refl
 
 -- power is off, and a restart would leave what it would have left before: the command was not done
 pub IsLost-durable : (k j : ℕ) (c new : Chart) (m : Array) (command : Command) (n : Array) → Stands c m → Accepts m command n → SameDurable k j c new → new.on ≡ false → IsLost m command new

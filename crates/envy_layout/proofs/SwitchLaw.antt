@@ -1,5 +1,5 @@
 -- A reference goes from a row of the segment that is being switched to its copy in the spare.
-use Rattle.std.proofs.Common.{◌≡◌, ◌≢◌, ◌⊎◌, inl, inr, ℕ, ◌+◌, ◌*◌, ◌/◌, ◌%◌, ◌<◌, ◌≤◌, Bool, true, false, List, [], length, get_or, set, Option, None, Some, refl, sym, ◌∙◌, ap, subst, arith}
+use Rattle.std.proofs.Common.{◌≡◌, ◌≢◌, ◌⊎◌, inl, inr, ℕ, ◌+◌, ◌*◌, ◌/◌, ◌<◌, Bool, true, false, List, [], length, get_or, set, Option, Some, refl, sym, ◌∙◌, ap, subst, arith}
 use Rattle.std.specs.Prelude.{IsTrue, Result}
 use Rattle.std.proofs.lemmas.Nat.{mul-add-lt}
 use Rattle.envy_base.specs.declared.board.Off.{Off}
@@ -10,16 +10,16 @@ use Rattle.envy_base.specs.declared.fields.Place.TheVariants.{Row}
 use Rattle.envy_base.specs.declared.fields.Slot.TheVariants.{Active}
 use Rattle.envy_base.specs.declared.fields.Undo.{Undo}
 use Rattle.envy_base.specs.declared.fields.Undo.TheVariants.{Shadow}
-use Rattle.envy_map.specs.Fields.{Fields, Chart, with_fields, place, undo, slot}
+use Rattle.envy_map.specs.Fields.{Fields, Chart, place, undo, slot}
 use Rattle.envy_map.specs.Writes.{Writes, with_place, with_undo}
 use Rattle.envy_layout.specs.Words.{kept, kept_by, word_at}
 use Rattle.envy_layout.specs.Sound.{Sound, Rows, Jobs, Copies, Slots, IsSound, Names, IsPlaced, IsSpare, owned_by, slot_named}
-use Rattle.envy_layout.specs.May.{IsCopied, IsOpen, HasPage, HasKept}
+use Rattle.envy_layout.specs.May.{IsCopied, HasPage, HasKept}
 use Rattle.envy_layout.specs.Same.{Same}
-use Rattle.envy_layout.proofs.KeptLemmas.{kept_by-free, kept_by-owned, kept_by-shadow, kept_by-active}
+use Rattle.envy_layout.proofs.KeptLemmas.{kept_by-free, kept_by-shadow, kept_by-active}
 use Rattle.envy_layout.proofs.References.{Added, References-switched, apart-spare, copy-low, copy-segment}
 use Rattle.envy_layout.proofs.PlaceLaw.{PlaceCases, place-cases, Names-placed, Sound-placed, room-page, Keeps-copied}
-use Rattle.envy_layout.proofs.UndoLaw.{KeptCases, kept-cases, Sound-undone, Undoes, IsOwned, open-owned, few-owned, room-undo, Keeps-shadowed}
+use Rattle.envy_layout.proofs.UndoLaw.{KeptCases, kept-cases, Sound-undone, IsOwned, open-owned, few-owned, room-undo, Keeps-shadowed}
 use Rattle.envy_layout.proofs.Composition.{Keeps, Same-put}
 
 -- the row that row i of the spare was copied from

@@ -14,7 +14,7 @@ use Rattle.envy_base.specs.declared.fields.Undo.{Undo}
 use Rattle.envy_base.specs.declared.fields.Undo.TheVariants.{Clear, Blank, Shadow}
 use Rattle.envy_map.specs.Fields.{Fields, Chart, with_fields, place, undo, slot}
 use Rattle.envy_map.specs.Writes.{Writes, with_undo}
-use Rattle.envy_layout.specs.Words.{kept, kept_by, word_at, durable_word, live, durable}
+use Rattle.envy_layout.specs.Words.{kept, kept_by, word_at, durable_word, durable}
 use Rattle.envy_layout.specs.Sound.{Sound, Slots, IsSound, Names, owned_by, slot_named, slots_of}
 use Rattle.envy_layout.specs.May.{MayRefer, MayUndo, IsOpen, HasKept, IsSettled, named_by}
 use Rattle.envy_layout.specs.Same.{Same, SameWords, Framed}

@@ -1,8 +1,8 @@
 -- A put that changes one word, at every exit.
-use Rattle.std.proofs.Common.{◌≡◌, inl, inr, ℕ, false, set, refl}
+use Rattle.std.proofs.Common.{◌≡◌, inl, inr, ℕ, set, refl}
 use Rattle.std.specs.Prelude.{IsTrue, Result, MatchResult}
 use Rattle.envy_base.specs.declared.board.Off.{Off}
-use Rattle.envy_map.specs.Fields.{Fields, Chart, failed, with_fields}
+use Rattle.envy_map.specs.Fields.{Fields, Chart, with_fields}
 use Rattle.envy_map.specs.Writes.{Writes}
 use Rattle.envy_layout.specs.Sound.{IsSound}
 use Rattle.envy_layout.specs.Words.{live, durable}

@@ -1,11 +1,11 @@
 -- When a board stands for a plain array: the only sentence that ties the array to flash.
-use Rattle.std.specs.Prelude.{◌≡◌, ◌⊎◌, ℕ, ◌<◌, false, IsTrue, Option, None, Some}
+use Rattle.std.specs.Prelude.{◌≡◌, ℕ, ◌<◌, false, IsTrue, Option, None, Some}
 use Rattle.envy_base.specs.declared.fields.Slot.{Slot}
 use Rattle.envy_base.specs.declared.fields.Slot.TheVariants.{Vacant, Active}
-use Rattle.envy_base.specs.Array.{Array, Saved, IsArray, slot_of, owner, undone, zeros}
+use Rattle.envy_base.specs.Array.{Array, Saved, IsArray, slot_of, owner, undone}
 use Rattle.envy_base.specs.Step.{Command, Answer, Step, Accepts, Lost}
 use Rattle.envy_map.specs.Codes.{the_magic}
-use Rattle.envy_map.specs.Fields.{Fields, Chart, slot, undo}
+use Rattle.envy_map.specs.Fields.{Chart, slot, undo}
 use Rattle.envy_layout.specs.Sound.{IsSound, slot_named}
 use Rattle.envy_layout.specs.Words.{live, durable}
 

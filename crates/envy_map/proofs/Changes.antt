@@ -1,14 +1,12 @@
 -- The fields after a write of one word.
-use Rattle.std.proofs.Common.{◌≡◌, ◌⊎◌, inl, inr, ℕ, ◌+◌, ◌-◌, ◌*◌, ◌/◌, ◌^◌, ◌<◌, ◌≤◌, List, length, get_or, set, refl, arith}
+use Rattle.std.proofs.Common.{◌≡◌, inl, inr, ℕ, ◌+◌, ◌-◌, ◌*◌, ◌/◌, ◌^◌, ◌<◌, ◌≤◌, List, length, set, refl, arith}
 use Rattle.std.proofs.lemmas.List.{map-set, get_or-set_same, get_or-set_other}
-use Rattle.std.specs.Prelude.{Some, slice_index}
+use Rattle.std.specs.Prelude.{slice_index}
 use Rattle.envy_base.specs.declared.shape.Shape.{Shape}
-use Rattle.envy_base.specs.declared.fields.Place.TheVariants.{Absent}
-use Rattle.envy_base.specs.declared.fields.Undo.TheVariants.{Clear}
 use Rattle.envy_base.specs.Map.{slots_at, wear_at, fill_at, position_at, table_at, undo_at, back_at, origin_at, frames_at, words_of}
 use Rattle.envy_base.specs.Shape.{IsShape}
 use Rattle.envy_map.specs.Codes.{job_of, slot_of, place_of, undo_of, with_half}
-use Rattle.envy_map.specs.Fields.{Fields, map_fields, region, packed}
+use Rattle.envy_map.specs.Fields.{map_fields, region, packed}
 use Rattle.envy_map.specs.Writes.{with_magic, with_version, with_size, with_wear, with_fill, with_position, with_places_clear, with_undos_clear, with_back, with_origin}
 use Rattle.envy_map.proofs.Regions.{region_other, region_here, packed-other, packed-set, packed-clear}
 

@@ -1,6 +1,7 @@
 -- One put, by what it changes of the fields.
-use Rattle.std.proofs.Common.{◌≡◌, inl, inr, ℕ, ◌+◌, ◌-◌, ◌*◌, ◌/◌, ◌^◌, ◌<◌, List, set, refl, sym, ◌∙◌, ap, subst, arith}
-use Rattle.std.specs.Prelude.{Some, Result, Ok, Err, slice_index}
+use Rattle.std.proofs.Common.{◌≡◌, inl, inr, ℕ, ◌+◌, ◌-◌, ◌*◌, ◌/◌, ◌^◌, ◌<◌, set, refl, ◌∙◌, ap, subst, arith}
+use Rattle.std.proofs.lemmas.List.{get_or-set_other}
+use Rattle.std.specs.Prelude.{◌≢◌, Some, Result, Ok, Err, slice_index}
 use Rattle.envy_base.specs.declared.board.Off.{Off}
 use Rattle.envy_base.specs.declared.fields.Job.{Job}
 use Rattle.envy_base.specs.declared.fields.Place.{Place}
@@ -19,6 +20,21 @@ Writes-puts s w v change (Ok done) new is (on, same) = (on, ap chart same ∙ ap
 Writes-puts s w v change (Err off) new is (inl (off_then, same)) = inl (off_then, ap chart same)
 Writes-puts s w v change (Err off) new is (inr (on, inl same)) = inr (on, map_fields s.shape s.sram, inl refl, ap chart same)
 Writes-puts s w v change (Err off) new is (inr (on, inr same)) = inr (on, change (map_fields s.shape s.sram), inr refl, ap chart same ∙ ap (λ (f : Fields). failed (with_fields (chart s) f)) is)
+
+Puts-other : (s : State) (w v : ℕ) (r : Result Unit Off) (new : State) → Puts s w v r new → (x : ℕ) → x ≢ w → slice_index new.sram x ≡ slice_index s.sram x
+Puts-other s w v (Ok done) new (on, same) x other = ap (λ (t : State). slice_index t.sram x) same ∙ get_or-set_other s.sram w x v 0 other
+Puts-other s w v (Err off) new (inl (off_then, same)) x other = ap (λ (t : State). slice_index t.sram x) same
+Puts-other s w v (Err off) new (inr (on, inl same)) x other = ap (λ (t : State). slice_index t.sram x) same
+Puts-other s w v (Err off) new (inr (on, inr same)) x other = ap (λ (t : State). slice_index t.sram x) same ∙ get_or-set_other s.sram w x v 0 other
+
+abbrev pub SameBelowFrames : State → State → Type 0
+SameBelowFrames old new = (w : ℕ) → w < frames_at old.shape → slice_index new.sram w ≡ slice_index old.sram w
+
+-- a put among the frames leaves the words below them
+pub below_frames-more : (old mid : State) (k v : ℕ) (r : Result Unit Off) (new : State) → mid.shape ≡ old.shape → SameBelowFrames old mid → Puts mid (frames_at mid.shape + k) v r new → SameBelowFrames old new
+below_frames-more old mid k v r new shape same puts w lt =
+    let below : w < frames_at mid.shape = rw shape lt in
+    Puts-other mid (frames_at mid.shape + k) v r new puts w (omega arith) ∙ same w lt
 
 Puts-at : (s : State) (u w v : ℕ) (r : Result Unit Off) (new : State) → u ≡ w → Puts s u v r new → Puts s w v r new
 Puts-at s u w v r new e puts = subst (λ (n : ℕ). Puts s n v r new) e puts

@@ -1,12 +1,12 @@
 -- The word that holds a field.
-use Rattle.std.proofs.Common.{◌≡◌, ℕ, ◌+◌, ◌-◌, ◌*◌, ◌/◌, ◌^◌, ◌<◌, ◌≤◌, List, length, get_or, refl, sym, ◌∙◌, ap, subst, arith}
+use Rattle.std.proofs.Common.{◌≡◌, ℕ, ◌+◌, ◌-◌, ◌*◌, ◌/◌, ◌<◌, ◌≤◌, length, get_or, refl, sym, ◌∙◌, ap, subst, arith}
 use Rattle.std.specs.Prelude.{None, Result, slice_index}
 use Rattle.std.proofs.lemmas.List.{get_or-map}
 use Rattle.envy_base.specs.declared.board.Off.{Off}
 use Rattle.envy_base.specs.Map.{slots_at, wear_at, fill_at, position_at, table_at, undo_at, back_at, origin_at, frames_at}
 use Rattle.envy_base.specs.State.{State, Reads, IsBoard}
 use Rattle.envy_map.specs.Codes.{slot_of, place_of, undo_of, half_of}
-use Rattle.envy_map.specs.Fields.{map_fields, region, packed, shape_of}
+use Rattle.envy_map.specs.Fields.{map_fields, region, packed}
 use Rattle.envy_map.proofs.Regions.{get_or-region, get_or-packed, length-region, length-packed}
 
 pub Reads-at : (s : State) (x y : ℕ) (r : Result ℕ Off) → x ≡ y → Reads s x r → Reads s y r

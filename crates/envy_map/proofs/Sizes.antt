@@ -1,6 +1,5 @@
 -- How long the lists of a board's fields are, and that what they hold are words.
 use Rattle.std.proofs.Common.{◌≡◌, ◌⊎◌, inl, inr, ℕ, ◌+◌, ◌-◌, ◌*◌, ◌/◌, ◌%◌, ◌^◌, ◌<◌, ◌≤◌, List, length, get_or, refl, ◌∙◌, arith}
-use Rattle.std.specs.Prelude.{slice_index}
 use Rattle.std.proofs.lemmas.List.{length-map, length-take, get_or_past}
 use Rattle.std.proofs.lemmas.Bool.{cases_lt}
 use Rattle.envy_base.specs.declared.shape.Shape.{Shape}
@@ -8,7 +7,7 @@ use Rattle.envy_base.specs.Map.{slots_at, wear_at, fill_at, position_at, table_a
 use Rattle.envy_base.specs.Shape.{IsShape}
 use Rattle.envy_base.specs.State.{State, IsBoard, AreWords}
 use Rattle.envy_map.specs.Codes.{slot_of, place_of, undo_of}
-use Rattle.envy_map.specs.Fields.{Fields, chart, map_fields, region, packed, sizes_of, shape_of}
+use Rattle.envy_map.specs.Fields.{chart, map_fields, region, packed, sizes_of, shape_of}
 use Rattle.envy_map.proofs.Regions.{length-region, length-packed, get_or-region}
 
 pub length-sizes : (s : State) → IsBoard s → length (chart s).fields.sizes ≡ 3

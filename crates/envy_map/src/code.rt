@@ -114,7 +114,9 @@ pub fn decode_undo(number: u64) -> Option<Undo>
     if number == 0 {
         Some(Undo::Clear)
     } else if number % 4 == 1 && number / 4 < 64 {
-        Some(Undo::Blank { slot: (number / 4) as u8 })
+        Some(Undo::Blank {
+            slot: (number / 4) as u8,
+        })
     } else if number % 4 == 2 && number / 256 < 1_048_576 {
         Some(Undo::Shadow {
             slot: (number % 256 / 4) as u8,

@@ -28,11 +28,13 @@ pub fn set_frame_word<B: Board>(board: &mut B, frame: u32, i: u32, word: u64) ->
 }
 
 /// Writes the 32 words of a frame, from the first. Where power fails some of them are written.
+/// The words below the frames stay.
 pub fn write_frame<B: Board>(board: &mut B, frame: u32, page: &[u64; 32]) -> Result<(), Off>
     requires { frame < (B.state board.old).shape.frames }
     ensures ok { OnOk result (chart (B.state board.new) ≡ with_fields (chart (B.state board.old)) (with_frame frame page.now 32 (chart (B.state board.old)).fields)) }
     ensures on { OnOk result (IsTrue (B.state board.old).on) }
     ensures off { OnErr result (Stopped (λ f. (n : ℕ) × (n ≤ 32) × (f ≡ with_frame frame page.now n (chart (B.state board.old)).fields)) (chart (B.state board.old)) (chart (B.state board.new))) }
+    ensures below { (w : ℕ) → w < frames_at (B.state board.old).shape → slice_index (B.state board.new).sram w ≡ slice_index (B.state board.old).sram w }
 {
     for i in 0..32u32 {
         set_frame_word(board, frame, i, page[i as usize])?;

@@ -1,26 +1,31 @@
 //! The SRAM map: which word of a board's SRAM holds which field, and a reader and a writer of each.
 //!
-//! A writer is exactly one `put`, which changes its field alone.
+//! A writer is exactly one `put`, which changes its field alone. Where power fails in it, the field is
+//! as before or as written.
 #![tactic(auto)]
 
 mod code;
-mod forming;
+mod formatting;
 mod frame;
 mod half;
 mod header;
+mod jobs;
 mod page;
 mod region;
 mod row;
 mod segment;
-mod transaction;
+mod slots;
 
 pub use code::{decode_job, decode_place, decode_slot, decode_undo};
-pub use forming::{clear_places, clear_undos, set_magic, set_size, set_version};
+pub use formatting::{clear_places, clear_undos, set_magic, set_size, set_version};
 pub use frame::{frame_word, set_frame_word, write_frame};
-pub use header::{is_formatted, kept_shape, version, MAGIC};
+pub use header::{MAGIC, is_formatted, kept_shape, version};
+pub use jobs::{job, set_job};
 pub use page::{place, set_place, set_undo, undo};
 pub use region::words;
 pub use row::{back, origin, set_back, set_origin};
 pub use segment::{fill, segment_at, set_fill, set_segment_at, set_wear, wear};
-pub use transaction::{job, set_job, set_slot, slot};
+pub use slots::{set_slot, slot};
 
+#[cfg(test)]
+mod tests;

@@ -4,7 +4,7 @@ ghost use Rattle.envy_base.specs.State.{Puts, Reads};
 ghost use Rattle.envy_map.specs.Fields.{chart};
 ghost use Rattle.envy_map.specs.Writes.{Writes, with_wear, with_fill, with_position};
 
-use crate::region::{fill_start, position_start, WEAR};
+use crate::region::{WEAR, fill_start, position_start};
 use envy_base::{Board, Off};
 
 /// The wear of a segment: how often it was erased, as the map counts it.

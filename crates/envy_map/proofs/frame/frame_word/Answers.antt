@@ -1,4 +1,4 @@
-use Rattle.std.proofs.Common.{arith, ◌+◌, ◌*◌}
+use Rattle.std.proofs.Common.{arith}
 use Rattle.envy_map.proofs.Readings.{Reads-at, frame_word-is}
 use Rattle.envy_map.proofs.frame.frame_word.Goals as goal
 

@@ -1,4 +1,4 @@
-use Rattle.std.proofs.Common.{arith, ◌+◌, ◌*◌}
+use Rattle.std.proofs.Common.{arith}
 use Rattle.envy_map.proofs.Readings.{Reads-at, wear-is}
 use Rattle.envy_map.proofs.segment.wear.Goals as goal
 

@@ -1,7 +1,7 @@
 use Rattle.std.proofs.Common.{◌∙◌, sym, ap}
 use Rattle.envy_map.specs.Codes.{job_of}
 use Rattle.envy_map.specs.Fields.{map_fields}
-use Rattle.envy_map.proofs.transaction.job.Goals as goal
+use Rattle.envy_map.proofs.jobs.job.Goals as goal
 
 pub unreachable-requires : goal.unreachable-requires
 unfolding map_fields
