@@ -1,3 +1,4 @@
 pub mod Pages
 pub mod Standing
 pub mod Restarting
+pub mod Formatting

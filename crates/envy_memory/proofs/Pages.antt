@@ -45,7 +45,7 @@ pub IsDirect-placed : (c new : Chart) (p : ℕ) → IsDirect c → IsSound new �
 IsDirect-placed c new p d sound framed either = record {
   frames = rw framed.shape d.frames;
   places = λ r lt. by_write r (rw (← framed.shape) lt) either (cases_eq r p);
-  undos = λ r lt. clear r (rw (← framed.shape) lt) (undo_cases (undo new.fields r)) ;
+  undos = λ r lt. clear r (rw (← framed.shape) lt) (undo_cases (undo new.fields r));
   slots = λ t lt. ap (λ (s : List (Option Slot)). get_or s t None) framed.slots ∙ d.slots t lt;
 }
   where
@@ -73,6 +73,7 @@ unnamed-direct c p sound d absent r e = at (cases_lt r c.shape.pages)
     by_place : (place c.fields r ≡ Some Absent) ⊎ (place c.fields r ≡ Some (Frame r)) → ⊥
     by_place (inl none) = cc
     by_place (inr own) = let same : r ≡ p = cc in let there : place c.fields p ≡ Some (Frame p) = ap (λ (x : ℕ). place c.fields x) (sym same) ∙ e in cc
+
     at : (r < c.shape.pages) ⊎ (c.shape.pages ≤ r) → ⊥
     at (inl lt) = by_place (d.places r lt)
     at (inr past) = let long : length c.fields.places ≤ r = rw (Places.long (Sound.places sound)) past in let none = get_or_past c.fields.places r None long in cc
@@ -86,6 +87,7 @@ zeros-but i j v room lt = at (cases_eq j i)
   where
     long : length {A = ℕ} (replicate 32 0) ≡ 32
     long = length-replicate {A = ℕ} 32 0
+
     at : (j ≡ i) ⊎ (j ≡ i → ⊥) → get_or (set (replicate 32 0) i v) j 0 ≡ (if j == i then v else 0)
     at (inl same) = let inside : i < length {A = ℕ} (replicate 32 0) = rw long room in rw (same, eq-eqb i i refl) (get_or-set_same {A = ℕ} (replicate 32 0) i v 0 inside)
     at (inr other) = rw (ne_eqb j i other) (get_or-set_other {A = ℕ} (replicate 32 0) i j v 0 other ∙ get_or-replicate {A = ℕ} 32 j 0 0 lt)

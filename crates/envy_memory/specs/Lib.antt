@@ -1,4 +1,5 @@
 pub mod Calls
+pub mod Formats
 pub mod Pages
 pub mod Picture
 pub use Rattle.envy_base.specs.Array
@@ -10,8 +11,10 @@ pub use Rattle.envy_base.specs.Step
 pub use Rattle.envy_map.specs.Codes
 pub use Rattle.envy_map.specs.Fields
 pub use Rattle.envy_map.specs.Writes
+pub use Rattle.envy_layout.specs.Formatting
 pub use Rattle.envy_layout.specs.May
 pub use Rattle.envy_layout.specs.Same
 pub use Rattle.envy_layout.specs.Sound
 pub use Rattle.envy_layout.specs.Stands
 pub use Rattle.envy_layout.specs.Words
+pub use Rattle.envy_policy.specs.Setup

@@ -5,8 +5,10 @@
 #![tactic(auto)]
 
 mod bench;
+mod format;
 mod memory;
 mod page;
 
 pub use bench::ReviveFault;
+pub use format::FormatFault;
 pub use memory::{LoadFault, Memory, StoreFault};
