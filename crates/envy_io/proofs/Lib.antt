@@ -1,0 +1,7 @@
+pub mod Counts
+pub mod FillsLemmas
+pub mod FrontLemmas
+pub mod LinesLemmas
+pub mod ReadsLemmas
+pub mod TakesLemmas
+pub mod WritesLemmas
