@@ -1,0 +1,281 @@
+-- What a line does, from the answer of its call and from how power returned.
+use Rattle.std.proofs.Common.{◌≡◌, ◌⊎◌, inl, inr, ℕ, ◌+◌, ◌-◌, ◌^◌, ◌<◌, ◌≤◌, Bool, true, false, List, [], ◌∷◌, ◌++◌, length, take, replicate, None, Some, refl, sym, ◌∙◌, ap, subst, arith}
+use Rattle.std.specs.Prelude.{IsTrue, Result, Ok, Err, IsOk, IsErr}
+use Rattle.std.proofs.lemmas.Bool.{cases_lt}
+use Rattle.std.proofs.Math.Seq.{take-append-add}
+use Rattle.std.proofs.lemmas.List.{append-nil, take-append-le}
+use Rattle.envy_base.specs.Array.{Array, undone, restarted}
+use Rattle.envy_base.specs.Counting.{up}
+use Rattle.envy_base.proofs.Counting.{up-least, up-below}
+use Rattle.envy_base.specs.Step.{Command, Answer, Step, Accepts, Lost as LostAs, Load, Look, Store, Begin, Put, Commit, Abort, Tick, Word as IsWord, Done as IsDone, Started as IsStarted, Range as IsRange, Held as IsHeld, Closed as IsClosed, Full as IsFull, Busy as IsBusy}
+use Rattle.envy_base.specs.declared.shape.Shape.{Shape}
+use Rattle.envy_io.specs.declared.source.Failed.{Failed}
+use Rattle.envy_io.specs.Lines.{newline}
+use Rattle.envy_io.specs.Streams.{Drain, Rises, WritesAll, with_end}
+use Rattle.envy_io.proofs.WritesLemmas.{with_end-with_end, with_end-nil}
+use Rattle.envy_map.specs.Fields.{Chart}
+use Rattle.envy_layout.specs.Sound.{IsSound}
+use Rattle.envy_layout.specs.Stands.{Holds, Stands, IsLost as LostIn}
+use Rattle.envy_layout.specs.Words.{durable}
+use Rattle.envy_memory.specs.Calls.{fresh, pulled}
+use Rattle.envy_trace.specs.declared.line.Line.{Line}
+use Rattle.envy_trace.specs.declared.line.Line.TheVariants.{Empty as EmptyLine, Load as LoadLine, Look as LookLine, Store as StoreLine, Begin as BeginLine, Put as PutLine, Commit as CommitLine, Abort as AbortLine, Tick as TickLine, Power as PowerLine, Cut as CutLine, Bad as BadLine, Stat as StatLine}
+use Rattle.envy_trace.specs.declared.reply.Reply.{Reply}
+use Rattle.envy_trace.specs.declared.reply.Reply.TheVariants.{Word, Done as Said, Started, Range, Held, Closed, Full, Busy, Fault, Lost, Restarted, Armed, Stat}
+use Rattle.envy_trace.specs.Replies.{reply_bytes}
+use Rattle.envy_run.specs.declared.restart.Obeyed.{Obeyed}
+use Rattle.envy_run.specs.declared.restart.Obeyed.TheVariants.{Done, WriteFault, Dead}
+use Rattle.envy_run.specs.Answers.{IsCall, AnswersTo, AnswerLicence, LosesIn}
+use Rattle.envy_run.specs.Licence.{Licence, RoseBy, RoseOver}
+use Rattle.envy_run.specs.Obeys.{Obeys, Licensed, LineDone, LineDead, before_restart}
+use Rattle.envy_run.specs.Restarts.{Recovers, IsStillOff, IsBack, Written, FrontWritten}
+use Rattle.envy_run.specs.Turns.{Replies, Loses, texts, is_power, is_plan, is_lost, is_fault, one_if, count_of}
+use Rattle.envy_run.proofs.Recovering.{Licence-trans}
+
+-- a licence under equal numbers
+pub Licence-as : (a b c d i j k l : ℕ) (p q : Chart) → a ≡ i → b ≡ j → c ≡ k → d ≡ l → Licence a b c d p q → Licence i j k l p q
+Licence-as a b c d i j k l p q ea eb ec ed x = record {
+  given = x.given;
+  pulled = record { kept = RoseBy.kept x.pulled; rise = λ lt. let e = RoseBy.rise x.pulled lt in omega arith };
+  plans_made = record { kept = RoseBy.kept x.plans_made; rise = λ lt. let e = RoseBy.rise x.plans_made lt in omega arith };
+  cuts = record { kept = RoseOver.kept x.cuts; rise = λ lt. let e = RoseOver.rise x.cuts lt in omega arith };
+  bads = record { kept = RoseOver.kept x.bads; rise = λ lt. let e = RoseOver.rise x.bads lt in omega arith };
+}
+
+-- a call is no line `power`
+no-power : (line : Line) → IsCall line → (is_power line ≡ false) × (before_restart line ≡ Lost ∷ [])
+no-power EmptyLine call = absurd call
+no-power (LoadLine a) call = (refl, refl)
+no-power (LookLine a) call = (refl, refl)
+no-power (StoreLine a w) call = (refl, refl)
+no-power BeginLine call = absurd call
+no-power (PutLine t a w) call = absurd call
+no-power (CommitLine t) call = absurd call
+no-power (AbortLine t) call = absurd call
+no-power TickLine call = absurd call
+no-power PowerLine call = absurd call
+no-power (CutLine k g) call = (refl, refl)
+no-power (BadLine k g) call = (refl, refl)
+no-power StatLine call = absurd call
+
+-- where power is on, the answer isn't `lost`
+answered : (m : Array) (line : Line) (reply : Reply) (c : Chart) → IsTrue c.on → AnswersTo m line reply c → (n : Array) × Replies m line reply n × Stands c n
+answered m line (Word w) c on a = a
+answered m line Said c on a = a
+answered m line (Started t) c on a = a
+answered m line Range c on a = a
+answered m line (Held t) c on a = a
+answered m line Closed c on a = a
+answered m line Full c on a = a
+answered m line Busy c on a = a
+answered m line Fault c on a = a
+answered m line Lost c on a = absurd (let off = LostIn.off (LosesIn.lost a) in cc)
+answered m line Restarted c on a = a
+answered m line Armed c on a = a
+answered m line (Stat counts) c on a = a
+
+texts-one : (reply : Reply) → texts (reply ∷ []) ≡ reply_bytes reply ++ newline ∷ []
+texts-one reply = append-nil (reply_bytes reply ++ newline ∷ [])
+
+one-more : (x : ℕ) → x ≡ x + 0
+one-more x = omega arith
+
+done-so : (m : Array) (line : Line) (reply : Reply) (old c : Chart) → IsCall line → IsTrue c.on → AnswersTo m line reply c → AnswerLicence line reply old c → (left : Array) × LineDone m line (reply ∷ []) left old c
+done-so m line reply old c call on a licence =
+    let (left, replies, stands) = answered m line reply c on a in
+    (left, record {
+      does = inr (inl (reply, refl, replies));
+      stands = stands;
+      licensed = Licence-as 0 (one_if (is_plan line)) (one_if (is_lost reply)) (one_if (is_fault reply)) (one_if (is_power line)) (one_if (is_plan line)) (one_if (is_lost reply) + 0) (one_if (is_fault reply) + 0) old c (sym (ap one_if (no-power line call).0)) refl (one-more (one_if (is_lost reply))) (one-more (one_if (is_fault reply))) licence;
+    })
+
+pub call-done : (m : Array) (line : Line) (reply : Reply) (old c : Chart) (sink then_sink : Drain) → IsCall line → IsTrue c.on → AnswersTo m line reply c → AnswerLicence line reply old c → WritesAll sink (reply_bytes reply ++ newline ∷ []) (Ok tt) then_sink → Obeys m line Done old c sink then_sink
+call-done m line reply old c sink then_sink call on a licence (whole, faults, after) =
+    let (left, done) = done-so m line reply old c call on a licence in
+    (reply ∷ [], left, done, record { whole = whole ∙ ap (with_end sink.written) (sym (texts-one reply)); faults = faults })
+
+pub call-failed : (m : Array) (line : Line) (reply : Reply) (old c : Chart) (sink then_sink : Drain) (failed : Failed) → IsCall line → IsTrue c.on → AnswersTo m line reply c → AnswerLicence line reply old c → WritesAll sink (reply_bytes reply ++ newline ∷ []) (Err failed) then_sink → Obeys m line WriteFault old c sink then_sink
+call-failed m line reply old c sink then_sink failed call on a licence (n, lt, front, faults) =
+    let (left, done) = done-so m line reply old c call on a licence in
+    (reply ∷ [], left, done, record { count = n; front = front ∙ ap (λ (t : List ℕ). with_end sink.written (take n t)) (sym (texts-one reply)); faults = faults })
+
+-- no command changes how many pages may be owned
+step-shadows : (m : Array) (command : Command) (answer : Answer) (n : Array) → Step m command answer n → n.shadows ≡ m.shadows
+step-shadows m (Load a) (IsWord v) n (lt, w_is, e) = ap (λ (x : Array). x.shadows) e
+step-shadows m (Load a) IsRange n (le, e) = ap (λ (x : Array). x.shadows) e
+step-shadows m (Look a) (IsWord v) n (lt, w_is, e) = ap (λ (x : Array). x.shadows) e
+step-shadows m (Look a) IsRange n (le, e) = ap (λ (x : Array). x.shadows) e
+step-shadows m (Store a w) IsRange n (le, e) = ap (λ (x : Array). x.shadows) e
+step-shadows m (Store a w) (IsHeld u) n (lt, own, e) = ap (λ (x : Array). x.shadows) e
+step-shadows m (Store a w) IsDone n (lt, own, e) = ap (λ (x : Array). x.shadows) e
+step-shadows m Begin IsBusy n (none, e) = ap (λ (x : Array). x.shadows) e
+step-shadows m Begin (IsStarted t) n (some, e) = ap (λ (x : Array). x.shadows) e
+step-shadows m (Put t a w) IsRange n (le, e) = ap (λ (x : Array). x.shadows) e
+step-shadows m (Put t a w) IsClosed n (lt, none, e) = ap (λ (x : Array). x.shadows) e
+step-shadows m (Put t a w) (IsHeld u) n (lt, some, own, ne, e) = ap (λ (x : Array). x.shadows) e
+step-shadows m (Put t a w) IsFull n (lt, some, own, full, e) = ap (λ (x : Array). x.shadows) e
+step-shadows m (Put t a w) IsDone n (lt, may, saved, some, e) = ap (λ (x : Array). x.shadows) e
+step-shadows m (Commit t) IsClosed n (none, e) = ap (λ (x : Array). x.shadows) e
+step-shadows m (Commit t) IsDone n (some, e) = ap (λ (x : Array). x.shadows) e
+step-shadows m (Abort t) IsClosed n (none, e) = ap (λ (x : Array). x.shadows) e
+step-shadows m (Abort t) IsDone n (saved, some, e) = ap (λ (x : Array). x.shadows) e
+step-shadows m Tick IsDone n e = ap (λ (x : Array). x.shadows) e
+step-shadows m (Load a) IsDone n never = absurd never
+step-shadows m (Load a) (IsStarted u) n never = absurd never
+step-shadows m (Load a) (IsHeld u) n never = absurd never
+step-shadows m (Load a) IsClosed n never = absurd never
+step-shadows m (Load a) IsFull n never = absurd never
+step-shadows m (Load a) IsBusy n never = absurd never
+step-shadows m (Look a) IsDone n never = absurd never
+step-shadows m (Look a) (IsStarted u) n never = absurd never
+step-shadows m (Look a) (IsHeld u) n never = absurd never
+step-shadows m (Look a) IsClosed n never = absurd never
+step-shadows m (Look a) IsFull n never = absurd never
+step-shadows m (Look a) IsBusy n never = absurd never
+step-shadows m (Store a w) (IsWord v) n never = absurd never
+step-shadows m (Store a w) (IsStarted u) n never = absurd never
+step-shadows m (Store a w) IsClosed n never = absurd never
+step-shadows m (Store a w) IsFull n never = absurd never
+step-shadows m (Store a w) IsBusy n never = absurd never
+step-shadows m Begin (IsWord v) n never = absurd never
+step-shadows m Begin IsDone n never = absurd never
+step-shadows m Begin IsRange n never = absurd never
+step-shadows m Begin (IsHeld u) n never = absurd never
+step-shadows m Begin IsClosed n never = absurd never
+step-shadows m Begin IsFull n never = absurd never
+step-shadows m (Put t a w) (IsWord v) n never = absurd never
+step-shadows m (Put t a w) (IsStarted u) n never = absurd never
+step-shadows m (Put t a w) IsBusy n never = absurd never
+step-shadows m (Commit t) (IsWord v) n never = absurd never
+step-shadows m (Commit t) (IsStarted u) n never = absurd never
+step-shadows m (Commit t) IsRange n never = absurd never
+step-shadows m (Commit t) (IsHeld u) n never = absurd never
+step-shadows m (Commit t) IsFull n never = absurd never
+step-shadows m (Commit t) IsBusy n never = absurd never
+step-shadows m (Abort t) (IsWord v) n never = absurd never
+step-shadows m (Abort t) (IsStarted u) n never = absurd never
+step-shadows m (Abort t) IsRange n never = absurd never
+step-shadows m (Abort t) (IsHeld u) n never = absurd never
+step-shadows m (Abort t) IsFull n never = absurd never
+step-shadows m (Abort t) IsBusy n never = absurd never
+step-shadows m Tick (IsWord v) n never = absurd never
+step-shadows m Tick (IsStarted u) n never = absurd never
+step-shadows m Tick IsRange n never = absurd never
+step-shadows m Tick (IsHeld u) n never = absurd never
+step-shadows m Tick IsClosed n never = absurd never
+step-shadows m Tick IsFull n never = absurd never
+step-shadows m Tick IsBusy n never = absurd never
+
+-- after a failure of power the array is what a restart makes of its words
+lost-fresh : (m : Array) (command : Command) (n : Array) → LostAs m command n → fresh m.shadows n.words ≡ n
+lost-fresh m command n (k, (answer, step, accepted), inl is) = subst (λ (x : Array). fresh m.shadows x.words ≡ x) (sym is) refl
+lost-fresh m command n (k, (answer, step, accepted), inr is) =
+    subst (λ (x : Array). fresh m.shadows x.words ≡ x) (sym is) (ap (λ (s : ℕ). fresh s (undone k)) (sym (step-shadows m command answer k step)))
+
+-- two texts one after the other, of which the second has a front written
+front-after : (a b c : Drain) (first second : List ℕ) → b.written ≡ with_end a.written first → a.faults ≤ b.faults → FrontWritten second b c → FrontWritten (first ++ second) a c
+front-after a b c first second whole faults part = record {
+  count = length first + part.count;
+  front = part.front ∙ ap (λ (w : _). with_end w (take part.count second)) whole ∙ with_end-with_end a.written first (take part.count second) ∙ ap (with_end a.written) (sym (take-append-add first second part.count));
+  faults = let later = part.faults in record { kept = omega (arith, Rises.kept later); more = λ lt. rises lt };
+}
+  where
+    rises : a.faults < 2 ^ 64 - 1 → a.faults < c.faults
+    rises lt = at (cases_lt b.faults (2 ^ 64 - 1))
+      where
+        at : (b.faults < 2 ^ 64 - 1) ⊎ (2 ^ 64 - 1 ≤ b.faults) → a.faults < c.faults
+        at (inl below) = let more = Rises.more part.faults below in omega arith
+        at (inr top) = let kept = Rises.kept part.faults in omega arith
+
+-- a front of the first text is one of both
+front-before : (a c : Drain) (first second : List ℕ) (n : ℕ) → n < length first → c.written ≡ with_end a.written (take n first) → Rises a.faults c.faults → FrontWritten (first ++ second) a c
+front-before a c first second n lt front faults = record {
+  count = n;
+  front = front ∙ ap (with_end a.written) (sym (take-append-le n first second (omega arith)));
+  faults = faults;
+}
+
+pub call-recovers : (m : Array) (line : Line) (reply : Reply) (old c new : Chart) (sink mid_sink then_sink : Drain) (wrote : Result Unit Failed) (obeyed : Obeyed) → IsCall line → Stands old m → c.shape ≡ old.shape → reply ≡ Lost → AnswersTo m line reply c → AnswerLicence line reply old c → WritesAll sink (reply_bytes reply ++ newline ∷ []) wrote mid_sink → Recovers wrote obeyed c new mid_sink then_sink → Obeys m line obeyed old new sink then_sink
+call-recovers m line reply old c new sink mid_sink then_sink wrote obeyed call stood shape is a licence writes recovers =
+    lost-so (subst (λ (r : Reply). AnswersTo m line r c) is a) (subst (λ (r : Reply). AnswerLicence line r old c) is licence) wrote obeyed (subst (λ (r : Reply). WritesAll sink (reply_bytes r ++ newline ∷ []) wrote mid_sink) is writes) recovers
+  where
+    first : List ℕ
+    first = reply_bytes Lost ++ newline ∷ []
+
+    shadows : m.shadows ≡ c.shape.shadows
+    shadows = Holds.shadows stood.holds ∙ ap (λ (sh : Shape). sh.shadows) (sym shape)
+
+    back-so : (loses : LosesIn m line c) → IsBack c new → (left : Array) × LostAs m (LosesIn.command loses) left × Stands new left
+    back-so loses back =
+        let (left, lost, words) = LostIn.words (LosesIn.lost loses) in
+        (left, lost, subst (λ (x : Array). Stands new x) (lost-fresh m (LosesIn.command loses) left lost) (subst (λ (s : ℕ). Stands new (fresh s left.words)) (sym shadows) (subst (λ (ws : List ℕ). Stands new (fresh c.shape.shadows ws)) words back.stands)))
+
+    licensed-both : AnswerLicence line Lost old c → Licence 0 0 0 0 c new → Licensed line (Lost ∷ Restarted ∷ []) old new
+    licensed-both x y = Licence-as 0 (one_if (is_plan line) + 0) 1 0 (one_if (is_power line)) (one_if (is_plan line)) 1 0 old new (sym (ap one_if (no-power line call).0)) (sym (one-more (one_if (is_plan line)))) refl refl (Licence-trans 0 (one_if (is_plan line)) 1 0 0 0 0 0 old c new x y)
+
+    licensed-one : AnswerLicence line Lost old c → Licence 0 0 0 0 c new → Licensed line (Lost ∷ []) old new
+    licensed-one x y = Licence-as 0 (one_if (is_plan line) + 0) 1 0 (one_if (is_power line)) (one_if (is_plan line)) 1 0 old new (sym (ap one_if (no-power line call).0)) (sym (one-more (one_if (is_plan line)))) refl refl (Licence-trans 0 (one_if (is_plan line)) 1 0 0 0 0 0 old c new x y)
+
+    done-both : AnswerLicence line Lost old c → (loses : LosesIn m line c) → IsBack c new → (left : Array) × LineDone m line (Lost ∷ Restarted ∷ []) left old new
+    done-both x loses back =
+        let (left, lost, stands) = back-so loses back in
+        (left, record { does = inr (inr (inl (refl, record { command = loses.command; is = loses.is; lost = lost }))); stands = stands; licensed = licensed-both x back.licence })
+
+    dead-so : AnswerLicence line Lost old c → (loses : LosesIn m line c) → IsStillOff c new → new.lives ≡ 0 → LineDead m line old new
+    dead-so x loses still dead =
+        let (left, lost, words) = LostIn.words (LosesIn.lost loses) in
+        record {
+          off = still.off;
+          sound = still.sound (LostIn.sound loses.lost);
+          dead = dead;
+          found = (left, inl (record { command = loses.command; is = loses.is; lost = lost }), still.durable ∙ words);
+          licensed = subst (λ (rs : List Reply). Licensed line rs old new) (sym (no-power line call).1) (licensed-one x still.licence);
+        }
+
+    lost-so : LosesIn m line c → AnswerLicence line Lost old c → (wrote : Result Unit Failed) (obeyed : Obeyed) → WritesAll sink first wrote mid_sink → Recovers wrote obeyed c new mid_sink then_sink → Obeys m line obeyed old new sink then_sink
+    lost-so loses x (Ok done) Done (whole, faults, after) (ok, back, told) =
+        let (left, done_both) = done-both x loses back in
+        (Lost ∷ Restarted ∷ [], left, done_both, record { whole = told.whole ∙ ap (λ (w : _). with_end w (texts (Restarted ∷ []))) whole ∙ with_end-with_end sink.written first (texts (Restarted ∷ [])); faults = let later = told.faults in omega arith })
+    lost-so loses x (Err failed) Done writes (ok, back, told) = absurd (let never = ok in cc)
+    lost-so loses x (Ok done) WriteFault (whole, faults, after) (back, inl (err, same)) = absurd (let never = err in cc)
+    lost-so loses x (Ok done) WriteFault (whole, faults, after) (back, inr (ok, part)) =
+        let (left, done_both) = done-both x loses back in
+        (Lost ∷ Restarted ∷ [], left, done_both, front-after sink mid_sink then_sink first (texts (Restarted ∷ [])) whole faults part)
+    lost-so loses x (Err failed) WriteFault (n, lt, front, faults) (back, inl (err, same)) =
+        let (left, done_both) = done-both x loses back in
+        (Lost ∷ Restarted ∷ [], left, done_both, front-before sink then_sink first (texts (Restarted ∷ [])) n lt (ap (λ (d : Drain). d.written) same ∙ front) (subst (λ (d : Drain). Rises sink.faults d.faults) (sym same) faults))
+    lost-so loses x (Err failed) WriteFault writes (back, inr (ok, part)) = absurd (let never = ok in cc)
+    lost-so loses x (Ok done) Dead (whole, faults, after) (still, dead, same) =
+        (dead-so x loses still dead, inl (subst (λ (rs : List Reply). Written (texts rs) sink then_sink) (sym (no-power line call).1) (subst (λ (d : Drain). Written (texts (Lost ∷ [])) sink d) (sym same) (record { whole = whole ∙ ap (with_end sink.written) (sym (texts-one Lost)); faults = faults }))))
+    lost-so loses x (Err failed) Dead (n, lt, front, faults) (still, dead, same) =
+        (dead-so x loses still dead, inr (subst (λ (rs : List Reply). FrontWritten (texts rs) sink then_sink) (sym (no-power line call).1) (subst (λ (d : Drain). FrontWritten (texts (Lost ∷ [])) sink d) (sym same) (record { count = n; front = front ∙ ap (λ (t : List ℕ). with_end sink.written (take n t)) (sym (texts-one Lost)); faults = faults }))))
+
+pub power-recovers : (m : Array) (old c new : Chart) (sink then_sink : Drain) (obeyed : Obeyed) → Stands old m → c ≡ pulled old → IsSound c × (durable c ≡ undone m) → Recovers (Ok tt) obeyed c new sink then_sink → Obeys m PowerLine obeyed old new sink then_sink
+power-recovers m old c new sink then_sink obeyed stood is (sound, words) recovers = at obeyed recovers
+  where
+    shadows : m.shadows ≡ c.shape.shadows
+    shadows = Holds.shadows stood.holds ∙ ap (λ (x : Chart). x.shape.shadows) (sym is)
+
+    cut : Licence 1 0 0 0 old c
+    cut = subst (λ (x : Chart). Licence 1 0 0 0 old x) (sym is) (record {
+      given = refl;
+      pulled = record { kept = up-least old.pulled; rise = λ lt. up-below old.pulled lt };
+      plans_made = record { kept = omega arith; rise = λ lt. omega arith };
+      cuts = record { kept = up-least old.cuts; rise = λ lt. let e = up-below old.cuts lt in omega arith };
+      bads = record { kept = omega arith; rise = λ lt. omega arith };
+    })
+
+    done-so_power : IsBack c new → LineDone m PowerLine (Restarted ∷ []) (restarted m) old new
+    done-so_power back = record {
+      does = inr (inr (inr (refl, refl, refl)));
+      stands = subst (λ (s : ℕ). Stands new (fresh s (undone m))) (sym shadows) (subst (λ (ws : List ℕ). Stands new (fresh c.shape.shadows ws)) words back.stands);
+      licensed = Licence-trans 1 0 0 0 0 0 0 0 old c new cut back.licence;
+    }
+
+    at : (obeyed : Obeyed) → Recovers (Ok tt) obeyed c new sink then_sink → Obeys m PowerLine obeyed old new sink then_sink
+    at Done (ok, back, told) = (Restarted ∷ [], restarted m, done-so_power back, told)
+    at WriteFault (back, inl (err, same)) = absurd (let never = err in cc)
+    at WriteFault (back, inr (ok, part)) = (Restarted ∷ [], restarted m, done-so_power back, part)
+    at Dead (still, dead, same) =
+        (record { off = still.off; sound = still.sound sound; dead = dead; found = (restarted m, inr (refl, refl), still.durable ∙ words); licensed = Licence-trans 1 0 0 0 0 0 0 0 old c new cut still.licence },
+        inl (subst (λ (d : Drain). Written [] sink d) (sym same) (record { whole = sym (with_end-nil sink.written); faults = omega arith })))

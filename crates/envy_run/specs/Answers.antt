@@ -1,0 +1,40 @@
+-- What answering a line does, power being on at entry.
+use Rattle.std.specs.Prelude.{◌≡◌, ℕ, ◌≤◌, false, ⊤, Some}
+use Rattle.envy_base.specs.Array.{Array}
+use Rattle.envy_base.specs.Step.{Command}
+use Rattle.envy_map.specs.Fields.{Chart}
+use Rattle.envy_layout.specs.Stands.{Stands, IsLost as LostIn}
+use Rattle.envy_trace.specs.declared.line.Line.{Line}
+use Rattle.envy_trace.specs.declared.line.Line.TheVariants.{Empty, Load, Look, Store, Power, Cut, Bad}
+use Rattle.envy_trace.specs.declared.reply.Reply.{Reply}
+use Rattle.envy_trace.specs.declared.reply.Reply.TheVariants.{Lost}
+use Rattle.envy_run.specs.Licence.{Licence}
+use Rattle.envy_run.specs.Turns.{Replies, losable, is_plan, is_fault, is_lost, one_if}
+
+-- the line is one call of the memory, of those that are built
+abbrev pub IsCall : Line → Type 0
+IsCall (Load a) = ⊤
+IsCall (Look a) = ⊤
+IsCall (Store a w) = ⊤
+IsCall (Cut k g) = 1 ≤ k
+IsCall (Bad k g) = 1 ≤ k
+IsCall line = ⊥
+
+-- or it says that power is cut, or nothing
+abbrev pub IsServed : Line → Type 0
+IsServed Empty = ⊤
+IsServed Power = ⊤
+IsServed line = IsCall line
+
+-- power failed in the line
+pub record LosesIn (m : Array) (line : Line) (new : Chart) : Type 0 where
+  pub command : Command
+  pub is : losable line ≡ Some command
+  pub lost : LostIn m command new
+
+abbrev pub AnswersTo : Array → Line → Reply → Chart → Type 0
+AnswersTo m line Lost new = LosesIn m line new
+AnswersTo m line reply new = (n : Array) × Replies m line reply n × Stands new n
+
+abbrev pub AnswerLicence : Line → Reply → Chart → Chart → Type 0
+AnswerLicence line reply old new = Licence 0 (one_if (is_plan line)) (one_if (is_lost reply)) (one_if (is_fault reply)) old new

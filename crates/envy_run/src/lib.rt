@@ -1,0 +1,9 @@
+//! The top of eNVy: a trace of loads, stores and failures of power, answered over a board, with the
+//! theorem that its answers are those of a plain array of words.
+#![tactic(auto)]
+
+mod answering;
+mod obey;
+mod restart;
+
+pub use answering::answer;
