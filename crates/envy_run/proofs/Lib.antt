@@ -1,3 +1,4 @@
+pub mod Advancing
 pub mod Obeying
 pub mod Recovering
 pub mod Replying

@@ -25,12 +25,14 @@ use Rattle.envy_trace.specs.declared.reply.Reply.TheVariants.{Word, Done as Said
 use Rattle.envy_trace.specs.Replies.{reply_bytes}
 use Rattle.envy_run.specs.declared.restart.Obeyed.{Obeyed}
 use Rattle.envy_run.specs.declared.restart.Obeyed.TheVariants.{Done, WriteFault, Dead}
-use Rattle.envy_run.specs.Answers.{IsCall, AnswersTo, AnswerLicence, LosesIn}
+use Rattle.envy_trace.specs.Spelling.{Reads}
+use Rattle.envy_run.specs.Answers.{IsCall, IsServed, AnswersTo, AnswerLicence, LosesIn}
 use Rattle.envy_run.specs.Licence.{Licence, RoseBy, RoseOver}
 use Rattle.envy_run.specs.Obeys.{Obeys, Licensed, LineDone, LineDead, before_restart}
 use Rattle.envy_run.specs.Restarts.{Recovers, IsStillOff, IsBack, Written, FrontWritten}
-use Rattle.envy_run.specs.Turns.{Replies, Loses, texts, is_power, is_plan, is_lost, is_fault, one_if, count_of}
+use Rattle.envy_run.specs.Turns.{Replies, Loses, texts, is_power, is_plan, is_lost, is_fault, one_if, count_of, is_built}
 use Rattle.envy_run.proofs.Recovering.{Licence-trans}
+use Rattle.envy_run.proofs.Replying.{Licence-refl}
 
 -- a licence under equal numbers
 pub Licence-as : (a b c d i j k l : ℕ) (p q : Chart) → a ≡ i → b ≡ j → c ≡ k → d ≡ l → Licence a b c d p q → Licence i j k l p q
@@ -279,3 +281,24 @@ power-recovers m old c new sink then_sink obeyed stood is (sound, words) recover
     at Dead (still, dead, same) =
         (record { off = still.off; sound = still.sound sound; dead = dead; found = (restarted m, inr (refl, refl), still.durable ∙ words); licensed = Licence-trans 1 0 0 0 0 0 0 0 old c new cut still.licence },
         inl (subst (λ (d : Drain). Written [] sink d) (sym same) (record { whole = sym (with_end-nil sink.written); faults = omega arith })))
+
+-- an empty line does nothing
+pub empty-done : (m : Array) (line : Line) (c : Chart) (sink : Drain) → line ≡ EmptyLine → Stands c m → Obeys m line Done c c sink sink
+empty-done m line c sink is stood = subst (λ (l : Line). Obeys m l Done c c sink sink) (sym is)
+    ([], m, record { does = inl (refl, refl, refl); stands = stood; licensed = Licence-refl c }, record { whole = sym (with_end-nil sink.written); faults = omega arith })
+
+-- what the grammar reads as a built command may be served
+pub served : (bytes : List ℕ) (line : Line) → Reads bytes line → is_built line ≡ true → IsServed line
+served bytes EmptyLine reads built = tt
+served bytes (LoadLine a) reads built = tt
+served bytes (LookLine a) reads built = tt
+served bytes (StoreLine a w) reads built = tt
+served bytes BeginLine reads built = absurd (let never = built in cc)
+served bytes (PutLine t a w) reads built = absurd (let never = built in cc)
+served bytes (CommitLine t) reads built = absurd (let never = built in cc)
+served bytes (AbortLine t) reads built = absurd (let never = built in cc)
+served bytes TickLine reads built = absurd (let never = built in cc)
+served bytes PowerLine reads built = tt
+served bytes (CutLine k g) reads built = (Reads.ranges reads).0
+served bytes (BadLine k g) reads built = (Reads.ranges reads).0
+served bytes StatLine reads built = absurd (let never = built in cc)

@@ -2,6 +2,7 @@
 //! theorem that its answers are those of a plain array of words.
 #![tactic(auto)]
 
+mod advance;
 mod answering;
 mod obey;
 mod restart;
