@@ -1,4 +1,4 @@
-ghost use Rattle.std.specs.Prelude.{◌≡◌, ℕ, IsTrue, IfOk};
+ghost use Rattle.std.specs.Prelude.{◌≡◌, ◌≤◌, ℕ, IsTrue, IfOk};
 ghost use Rattle.envy_base.specs.Array.{Array};
 ghost use Rattle.envy_io.specs.Streams.{Feed, Drain};
 ghost use Rattle.envy_layout.specs.Stands.{Stands};
@@ -73,9 +73,11 @@ fn obey<K: Sink, B: Bench>(memory: &mut Memory<B>, sink: &mut K, line: &Line) ->
 /// Reads the next line and does it. Answers how the run ends, where it does.
 pub fn advance<S: Source, K: Sink, B: Bench>(memory: &mut Memory<B>, source: &mut S, sink: &mut K, reader: &mut Lines) -> Option<End>
     requires { IsTrue memory.old.chart.on }
-    ensures { (from : Feed) (to : Drain) (first : Chart) (n : ℕ)
+    ensures goes { (from : Feed) (to : Drain) (first : Chart) (n : ℕ)
         → Progress from to first n (S.feed source.old) (K.drain sink.old) reader.old memory.old.chart
         → Advances result from to first n (S.feed source.new) (K.drain sink.new) reader.new memory.new.chart }
+    ensures cap { reader.new.cap ≡ reader.old.cap }
+    ensures within { reader.new.taken ≤ reader.new.cap }
 {
     let mut text = ArrayVec::<u8, 120>::new();
     match reader.next_line(source, &mut text) {

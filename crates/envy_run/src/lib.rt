@@ -5,6 +5,8 @@
 mod advance;
 mod answering;
 mod obey;
+mod prepare;
 mod restart;
+mod serve;
 
 pub use answering::answer;
