@@ -1,16 +1,15 @@
 -- From one line to the next.
-use Rattle.std.proofs.Common.{◌≡◌, ◌⊎◌, inl, inr, ℕ, ◌+◌, ◌-◌, ◌^◌, ◌<◌, ◌≤◌, Bool, true, false, List, [], ◌∷◌, ◌++◌, length, take, map, None, Some, refl, sym, ◌∙◌, ap, subst, arith, add-one, append_assoc}
-use Rattle.std.specs.Prelude.{IsTrue, Result, Ok, Err, nat_lt}
+use Rattle.std.proofs.Common.{◌≡◌, ◌⊎◌, inl, inr, ℕ, ◌+◌, ◌-◌, ◌^◌, ◌<◌, ◌≤◌, true, List, [], ◌∷◌, ◌++◌, length, map, refl, sym, ◌∙◌, ap, arith, append_assoc}
+use Rattle.std.specs.Prelude.{IsTrue, Ok, Err, nat_lt}
 use Rattle.std.proofs.lemmas.Bool.{cases_lt, lt-ltb}
-use Rattle.std.proofs.lemmas.List.{map-append, append-nil}
-use Rattle.envy_base.specs.Array.{Array, zeros}
+use Rattle.std.proofs.lemmas.List.{map-append}
+use Rattle.envy_base.specs.Array.{Array}
 use Rattle.envy_map.specs.Fields.{Chart}
 use Rattle.envy_io.specs.declared.lines.Next.{Next}
 use Rattle.envy_io.specs.declared.lines.Next.TheVariants.{Line as NextIsLine, End as NextIsEnd, Long, Failed as NextFailed, Spent}
-use Rattle.envy_io.specs.declared.source.Failed.{Failed}
-use Rattle.envy_io.specs.Lines.{NoNewline, lines_of, spelled}
-use Rattle.envy_io.specs.Streams.{Feed, Drain, Flushes, Rises, IsDry, with_front, with_end}
-use Rattle.envy_io.specs.Taking.{Taking, Takes, HasGiven, NextLine, Reads}
+use Rattle.envy_io.specs.Lines.{lines_of, spelled}
+use Rattle.envy_io.specs.Streams.{Feed, Drain, Rises, IsDry, with_front, with_end}
+use Rattle.envy_io.specs.Taking.{Taking, HasGiven, NextLine, Reads}
 use Rattle.envy_io.proofs.LinesLemmas.{lines_of-spelled}
 use Rattle.envy_io.proofs.TakesLemmas.{with_front-with_front}
 use Rattle.envy_io.proofs.WritesLemmas.{with_end-with_end}
@@ -20,13 +19,11 @@ use Rattle.envy_trace.specs.declared.fault.LineFault.TheVariants.{Long as TooLon
 use Rattle.envy_trace.specs.declared.line.Line.{Line}
 use Rattle.envy_trace.specs.Grammar.{line_of}
 use Rattle.envy_trace.specs.declared.reply.Reply.{Reply}
-use Rattle.envy_run.specs.declared.advance.End.TheVariants.{Done, ReadFault, WriteFault, FlushFault, Refused, Dead, TooLong}
 use Rattle.envy_run.specs.declared.restart.Obeyed.TheVariants.{Done as ObeyedDone, WriteFault as ObeyedWriteFault, Dead as ObeyedDead}
-use Rattle.envy_run.specs.Licence.{Licence}
-use Rattle.envy_run.specs.Obeys.{Obeys, Licensed, LineDone, LineDead, before_restart}
-use Rattle.envy_run.specs.Progress.{HasRead, HasDone, Progress, Finished, Between, Stuck, Untold, Dark, LicensedTurns}
-use Rattle.envy_run.specs.Restarts.{Written, FrontWritten}
-use Rattle.envy_run.specs.Turns.{Turn, Run, run_line, lines_done, written, texts, count_lines, count_replies, is_power, is_plan, is_lost, is_fault}
+use Rattle.envy_run.specs.Obeys.{Obeys, LineDone, before_restart}
+use Rattle.envy_run.specs.Progress.{HasRead, HasDone, Progress, Finished, Between, Stuck, Untold, Dark}
+use Rattle.envy_run.specs.Restarts.{Written}
+use Rattle.envy_run.specs.Turns.{Turn, run_line, lines_done, written, texts, count_lines, count_replies, is_power, is_plan, is_lost, is_fault}
 use Rattle.envy_run.proofs.Recovering.{Licence-trans}
 
 -- a line of more than 120 bytes is refused before all else

@@ -1,13 +1,12 @@
 -- What a line does, from the answer of its call and from how power returned.
-use Rattle.std.proofs.Common.{◌≡◌, ◌⊎◌, inl, inr, ℕ, ◌+◌, ◌-◌, ◌^◌, ◌<◌, ◌≤◌, Bool, true, false, List, [], ◌∷◌, ◌++◌, length, take, replicate, None, Some, refl, sym, ◌∙◌, ap, subst, arith}
-use Rattle.std.specs.Prelude.{IsTrue, Result, Ok, Err, IsOk, IsErr}
+use Rattle.std.proofs.Common.{◌≡◌, ◌⊎◌, inl, inr, ℕ, ◌+◌, ◌-◌, ◌^◌, ◌<◌, ◌≤◌, true, false, List, [], ◌∷◌, ◌++◌, length, take, refl, sym, ◌∙◌, ap, subst, arith}
+use Rattle.std.specs.Prelude.{IsTrue, Result, Ok, Err}
 use Rattle.std.proofs.lemmas.Bool.{cases_lt}
 use Rattle.std.proofs.Math.Seq.{take-append-add}
 use Rattle.std.proofs.lemmas.List.{append-nil, take-append-le}
 use Rattle.envy_base.specs.Array.{Array, undone, restarted}
-use Rattle.envy_base.specs.Counting.{up}
 use Rattle.envy_base.proofs.Counting.{up-least, up-below}
-use Rattle.envy_base.specs.Step.{Command, Answer, Step, Accepts, Lost as LostAs, Load, Look, Store, Begin, Put, Commit, Abort, Tick, Word as IsWord, Done as IsDone, Started as IsStarted, Range as IsRange, Held as IsHeld, Closed as IsClosed, Full as IsFull, Busy as IsBusy}
+use Rattle.envy_base.specs.Step.{Command, Answer, Step, Lost as LostAs, Load, Look, Store, Begin, Put, Commit, Abort, Tick, Word as IsWord, Done as IsDone, Started as IsStarted, Range as IsRange, Held as IsHeld, Closed as IsClosed, Full as IsFull, Busy as IsBusy}
 use Rattle.envy_base.specs.declared.shape.Shape.{Shape}
 use Rattle.envy_io.specs.declared.source.Failed.{Failed}
 use Rattle.envy_io.specs.Lines.{newline}
@@ -30,7 +29,7 @@ use Rattle.envy_run.specs.Answers.{IsCall, IsServed, AnswersTo, AnswerLicence, L
 use Rattle.envy_run.specs.Licence.{Licence, RoseBy, RoseOver}
 use Rattle.envy_run.specs.Obeys.{Obeys, Licensed, LineDone, LineDead, before_restart}
 use Rattle.envy_run.specs.Restarts.{Recovers, IsStillOff, IsBack, Written, FrontWritten}
-use Rattle.envy_run.specs.Turns.{Replies, Loses, texts, is_power, is_plan, is_lost, is_fault, one_if, count_of, is_built}
+use Rattle.envy_run.specs.Turns.{Replies, texts, is_power, is_plan, is_lost, is_fault, one_if, is_built}
 use Rattle.envy_run.proofs.Recovering.{Licence-trans}
 use Rattle.envy_run.proofs.Replying.{Licence-refl}
 

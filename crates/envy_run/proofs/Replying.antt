@@ -1,17 +1,14 @@
 -- The reply of a line, from what the call of the memory answered.
-use Rattle.std.proofs.Common.{◌≡◌, ◌⊎◌, inl, inr, ℕ, ◌+◌, ◌-◌, ◌^◌, ◌<◌, ◌≤◌, Some, refl, sym, ap, subst, arith}
-use Rattle.std.specs.Prelude.{IsTrue}
+use Rattle.std.proofs.Common.{◌≡◌, ◌⊎◌, inl, inr, ℕ, ◌+◌, ◌-◌, ◌^◌, ◌<◌, ◌≤◌, refl, sym, subst, arith}
 use Rattle.envy_base.specs.Array.{Array}
-use Rattle.envy_base.specs.Counting.{up}
 use Rattle.envy_base.proofs.Counting.{up-least, up-below}
-use Rattle.envy_base.specs.Step.{Command, Answer, Step, Accepts}
+use Rattle.envy_base.specs.Step.{Command, Answer}
 use Rattle.envy_map.specs.Fields.{Chart}
 use Rattle.envy_layout.specs.Same.{Counted}
 use Rattle.envy_layout.specs.Stands.{Stands, Steps, Fails}
 use Rattle.envy_memory.specs.Calls.{planned}
-use Rattle.envy_trace.specs.declared.reply.Reply.{Reply}
 use Rattle.envy_trace.specs.declared.reply.Reply.TheVariants.{Fault}
-use Rattle.envy_run.specs.Licence.{Licence, RoseBy, RoseOver}
+use Rattle.envy_run.specs.Licence.{Licence}
 use Rattle.envy_run.specs.Turns.{Says, Faults, said}
 
 pub says-steps : (m : Array) (command : Command) (answer : Answer) (c : Chart) → Steps m command answer c → (n : Array) × Says m command (said answer) n × Stands c n

@@ -1,10 +1,10 @@
 -- The whole of a trace.
-use Rattle.std.proofs.Common.{◌≡◌, ◌⊎◌, inl, inr, ℕ, zero, suc, ◌+◌, ◌-◌, ◌*◌, ◌<◌, ◌≤◌, Bool, true, false, List, [], ◌∷◌, ◌++◌, length, map, refl, sym, ◌∙◌, ap, subst, arith}
+use Rattle.std.proofs.Common.{◌≡◌, ◌⊎◌, inl, inr, ℕ, suc, ◌≤◌, Bool, true, false, List, [], ◌∷◌, ◌++◌, length, refl, sym, ◌∙◌, ap, subst, arith}
 use Rattle.std.specs.Prelude.{IsTrue, Ok, ◌==◌, if◌then◌else◌}
 use Rattle.std.proofs.lemmas.List.{length-map, length-append}
 use Rattle.envy_base.specs.Array.{zeros}
 use Rattle.envy_map.specs.Fields.{Chart}
-use Rattle.envy_io.specs.Lines.{newline, NoNewline, lines_of, onto_first, spelled}
+use Rattle.envy_io.specs.Lines.{newline, lines_of, onto_first, spelled}
 use Rattle.envy_io.specs.Streams.{Feed, Drain}
 use Rattle.envy_io.specs.Taking.{Taking, HasGiven}
 use Rattle.envy_io.proofs.TakesLemmas.{with_front-nil}

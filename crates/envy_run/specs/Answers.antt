@@ -1,5 +1,5 @@
 -- What answering a line does, power being on at entry.
-use Rattle.std.specs.Prelude.{◌≡◌, ℕ, ◌≤◌, false, ⊤, Some}
+use Rattle.std.specs.Prelude.{◌≡◌, ◌≤◌, ⊤, Some}
 use Rattle.envy_base.specs.Array.{Array}
 use Rattle.envy_base.specs.Step.{Command}
 use Rattle.envy_map.specs.Fields.{Chart}

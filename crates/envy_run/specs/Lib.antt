@@ -1,3 +1,4 @@
+pub mod Headline
 pub mod Answers
 pub mod Licence
 pub mod Obeys
@@ -6,3 +7,4 @@ pub mod Progress
 pub mod Restarts
 pub mod Serves
 pub mod Turns
+pub mod Texts

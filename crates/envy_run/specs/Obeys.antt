@@ -1,5 +1,5 @@
 -- What doing one line does to the board and to what is written, from a board that stood for the array m.
-use Rattle.std.specs.Prelude.{◌≡◌, ◌⊎◌, ℕ, false, List, [], ◌∷◌}
+use Rattle.std.specs.Prelude.{◌≡◌, ◌⊎◌, false, List, [], ◌∷◌}
 use Rattle.envy_base.specs.Array.{Array, restarted}
 use Rattle.envy_map.specs.Fields.{Chart}
 use Rattle.envy_io.specs.Streams.{Drain}

@@ -1,9 +1,9 @@
 -- How far a run of a trace has come, and how it ends.
-use Rattle.std.specs.Prelude.{◌≡◌, ◌⊎◌, ℕ, ◌+◌, ◌≤◌, true, IsTrue, List, [], ◌∷◌, ◌++◌, map, length, take, Option, None, Some, Result, Ok, Err}
+use Rattle.std.specs.Prelude.{◌≡◌, ◌⊎◌, ℕ, ◌+◌, ◌≤◌, true, IsTrue, List, ◌∷◌, ◌++◌, map, length, Option, None, Some, Ok, Err}
 use Rattle.envy_base.specs.Array.{Array, zeros}
 use Rattle.envy_map.specs.Fields.{Chart}
 use Rattle.envy_io.specs.Lines.{NoNewline, lines_of, spelled}
-use Rattle.envy_io.specs.Streams.{Feed, Drain, Rises, IsDry, with_front, with_end}
+use Rattle.envy_io.specs.Streams.{Feed, Drain, Rises, IsDry, with_front}
 use Rattle.envy_io.specs.Taking.{Taking, HasGiven}
 use Rattle.envy_layout.specs.Stands.{Stands}
 use Rattle.envy_trace.specs.declared.fault.LineFault.{LineFault}

@@ -1,5 +1,5 @@
 -- What serving a whole trace answers.
-use Rattle.std.specs.Prelude.{◌≡◌, ℕ, ◌+◌, List}
+use Rattle.std.specs.Prelude.{◌≡◌, ℕ, ◌+◌}
 use Rattle.envy_map.specs.Fields.{Chart}
 use Rattle.envy_io.specs.Streams.{Feed, Drain}
 use Rattle.envy_io.specs.Taking.{Taking}

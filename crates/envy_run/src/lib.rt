@@ -4,9 +4,13 @@
 
 mod advance;
 mod answering;
+mod ended;
 mod obey;
 mod prepare;
 mod restart;
+mod running;
 mod serve;
 
 pub use answering::answer;
+pub use ended::{Ended, end_text};
+pub use running::run;

@@ -12,6 +12,7 @@ use envy_memory::Memory;
 const MOST_BYTES: u64 = 1_099_511_627_776;
 
 /// How a trace was served.
+#[derive(Drop)]
 pub struct Served {
     /// How it ended.
     pub end: End,

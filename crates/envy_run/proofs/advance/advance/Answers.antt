@@ -1,5 +1,5 @@
-use Rattle.std.proofs.Common.{◌≡◌, ◌∙◌, sym, ap, refl, subst}
-use Rattle.envy_io.specs.Streams.{Drain, Rises}
+use Rattle.std.proofs.Common.{◌∙◌, sym, ap, refl}
+use Rattle.envy_io.specs.Streams.{Rises}
 use Rattle.envy_io.specs.declared.lines.Next.TheVariants.{Line as NextLine, End as NextEnd, Long as NextLong, Failed as NextFailed, Spent as NextSpent}
 use Rattle.envy_run.specs.Progress.{Progress, HasRead}
 use Rattle.envy_run.specs.Restarts.{Written}

@@ -1,4 +1,4 @@
-use Rattle.std.proofs.Common.{◌≡◌, sym, ◌∙◌}
+use Rattle.std.proofs.Common.{sym, ◌∙◌}
 use Rattle.envy_run.proofs.Obeying.{served}
 use Rattle.envy_run.proofs.advance.read.Goals as goal
 

@@ -1,6 +1,4 @@
-use Rattle.std.proofs.Common.{◌≡◌, sym, subst, rules}
-use Rattle.envy_trace.specs.declared.reply.Reply.{Reply}
-use Rattle.envy_trace.specs.declared.reply.Reply.TheVariants.{Lost}
+use Rattle.std.proofs.Common.{rules}
 use Rattle.envy_run.proofs.Obeying.{call-done, call-failed, call-recovers}
 use Rattle.envy_run.proofs.obey.obey_call.Goals as goal
 

@@ -1,4 +1,3 @@
-use Rattle.std.proofs.Common.{◌≡◌, ◌≤◌}
 use Rattle.envy_run.proofs.Serving.{IsServing}
 use Rattle.envy_run.proofs.serve.serve.Given as goal
 
