@@ -1,19 +1,14 @@
 -- What happens to the rows where each chip does its part.
-use Rattle.std.proofs.Common.{◌≡◌, ◌≢◌, ◌∙◌, ◌⊎◌, ◌↔◌, inl, inr, ℕ, zero, suc, ◌+◌, ◌-◌, ◌*◌, ◌/◌, ◌%◌, ◌^◌, ◌<◌, ◌≤◌, List, [], ◌∷◌, ◌++◌, length, take, drop, get_or, set, map, replicate, refl, sym, ap, subst, arith, rules}
-use Rattle.std.specs.Prelude.{bit_and, false}
-use Rattle.std.specs.List.{range_with_len, All}
-use Rattle.std.specs.Int.{w64, to_le_bytes, from_le_bytes, bytes_low_first, byte_at}
+use Rattle.std.proofs.Common.{◌≡◌, ◌≢◌, ◌∙◌, ◌↔◌, inl, inr, ℕ, ◌*◌, ◌<◌, ◌≤◌, List, [], length, get_or, set, sym, ap, subst, arith}
+use Rattle.std.specs.List.{All}
 use Rattle.std.proofs.lemmas.Bool.{cases_lt, cases_eq}
-use Rattle.std.proofs.lemmas.List.{ext_get_or, get_or-take, get_or-drop, get_or_past, get_or-map, get_or-set_same, get_or-set_other, get_or_default, get_or-replicate, set_past, length-set, length-map, length-replicate}
+use Rattle.std.proofs.lemmas.List.{ext_get_or, get_or_past, get_or-map, get_or-set_same, get_or-set_other, set_past, length-set, length-map}
 use Rattle.std.proofs.lemmas.List.FromFn.{get_or-map-range_with_len, length-map-range_with_len}
-use Rattle.std.proofs.lemmas.List.Elements.{All-replicate}
-use Rattle.std.proofs.lemmas.Nat.{and_le_l}
-use Rattle.envy_chip.specs.declared.chip.Mode.TheVariants.{Array}
-use Rattle.envy_chip.specs.Commands.{ChipState, erased_chip, upset_at, with_erased_block}
-use Rattle.envy_bank.specs.Lanes.{lane_of, row_from, lanes_at, rows_from, IsReady, AreLanes, AreChips, anded, blanked, EachLane, LanesHold}
-use Rattle.envy_bank.specs.Rows.{BankState, IsPage, IsBank, ErasesRows, ands, ones}
+use Rattle.envy_chip.specs.Commands.{ChipState, erased_chip}
+use Rattle.envy_bank.specs.Lanes.{row_from, lanes_at, rows_from, IsReady, AreLanes, AreChips, EachLane, LanesHold}
+use Rattle.envy_bank.specs.Rows.{IsPage, IsBank}
 use Rattle.envy_bank.proofs.Words.{AreBytes}
-use Rattle.envy_bank.proofs.LaneLaws.{lanes_of, length-lanes_of, get_or-lanes_of, lane_of-row_from, row_from-lanes_of, row_from-ands, IsPage-row_from}
+use Rattle.envy_bank.proofs.LaneLaws.{lanes_of, length-lanes_of, get_or-lanes_of, lane_of-row_from, row_from-lanes_of, IsPage-row_from}
 
 -- an element for indices past the end
 abbrev pub none : ChipState

@@ -1,17 +1,16 @@
 -- An erase of one block, and chips that are all erased.
-use Rattle.std.proofs.Common.{◌≡◌, ◌≢◌, ◌∙◌, ◌⊎◌, inl, inr, ℕ, zero, suc, ◌+◌, ◌-◌, ◌*◌, ◌/◌, ◌%◌, ◌^◌, ◌<◌, ◌≤◌, List, [], ◌∷◌, ◌++◌, length, take, drop, get_or, set, replicate, refl, sym, ap, arith}
-use Rattle.std.specs.List.{All}
+use Rattle.std.proofs.Common.{◌≡◌, ◌≢◌, ◌∙◌, inl, inr, ℕ, ◌+◌, ◌-◌, ◌*◌, ◌/◌, ◌%◌, ◌^◌, ◌<◌, ◌≤◌, List, [], ◌++◌, length, take, drop, get_or, replicate, refl, sym, ap, arith}
 use Rattle.std.proofs.lemmas.Bool.{cases_lt}
 use Rattle.std.proofs.lemmas.List.{ext_get_or, get_or_past, get_or-take, get_or-drop, get_or-replicate, get_or_append_left, get_or-append_right, length-append, length-take, length-take-le, length-drop, length-replicate}
 use Rattle.std.proofs.lemmas.List.Elements.{All-replicate}
 use Rattle.std.proofs.lemmas.Nat.{div-mul-add, div-add-mod', mod_below}
 use Rattle.std.proofs.Math.Nat.{add-zero}
 use Rattle.envy_chip.specs.Commands.{ChipState, erased_chip, with_erased_block}
-use Rattle.envy_bank.specs.Lanes.{row_from, lanes_at, rows_from, IsReady, AreLanes, AreChips, blanked, EachLane}
+use Rattle.envy_bank.specs.Lanes.{row_from, lanes_at, rows_from, IsReady, AreLanes, blanked, EachLane}
 use Rattle.envy_bank.specs.Rows.{ErasesRows, ones}
 use Rattle.envy_bank.proofs.Words.{AreBytes}
 use Rattle.envy_bank.proofs.LaneLaws.{length-row_from, from_le-eight}
-use Rattle.envy_bank.proofs.BankLaws.{none, length-lanes_at, get_or-lanes_at, get_or-rows_from, length-rows_from, AreBytes-lanes_at, IsLane, lane_at, AreLanes-kept, get_or-lanes_at-each, lanes_at-same}
+use Rattle.envy_bank.proofs.BankLaws.{none, length-lanes_at, get_or-lanes_at, get_or-rows_from, length-rows_from, IsLane, lane_at, AreLanes-kept, get_or-lanes_at-each, lanes_at-same}
 
 -- a byte before, in and after the block that is erased
 erased_before : (rows block : ℕ) (bs : List ℕ) (k : ℕ) → block * rows ≤ length bs → k < block * rows → get_or (with_erased_block rows block bs) k 0 ≡ get_or bs k 0

@@ -1,5 +1,5 @@
 -- 256 bytes and one row of 32 words are the same thing in two forms.
-use Rattle.std.proofs.Common.{◌≡◌, ◌∙◌, ◌⊎◌, inl, inr, ℕ, zero, suc, ◌+◌, ◌-◌, ◌*◌, ◌/◌, ◌%◌, ◌^◌, ◌<◌, ◌≤◌, List, [], ◌∷◌, length, take, drop, get_or, map, refl, sym, ap, arith, rules}
+use Rattle.std.proofs.Common.{◌≡◌, ◌∙◌, inl, inr, ℕ, zero, suc, ◌+◌, ◌*◌, ◌/◌, ◌%◌, ◌<◌, ◌≤◌, List, [], ◌∷◌, length, take, drop, get_or, map, refl, sym, ap, arith}
 use Rattle.std.specs.Prelude.{bit_and}
 use Rattle.std.specs.List.{range_with_len}
 use Rattle.std.specs.Int.{w64, to_le_bytes, from_le_bytes}

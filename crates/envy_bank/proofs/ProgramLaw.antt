@@ -1,16 +1,16 @@
 -- A program and an upset of one row.
-use Rattle.std.proofs.Common.{◌≡◌, ◌≢◌, ◌∙◌, ◌⊎◌, inl, inr, ℕ, zero, suc, ◌+◌, ◌*◌, ◌/◌, ◌%◌, ◌<◌, ◌≤◌, List, [], ◌∷◌, length, get_or, set, refl, sym, ap, arith}
+use Rattle.std.proofs.Common.{◌≡◌, ◌∙◌, inl, inr, ℕ, zero, suc, ◌/◌, ◌%◌, ◌<◌, List, [], length, get_or, set, refl, sym, ap, arith}
 use Rattle.std.specs.Prelude.{bit_and}
-use Rattle.std.specs.Int.{w64, to_le_bytes, bytes_low_first, byte_at}
+use Rattle.std.specs.Int.{bytes_low_first, byte_at}
 use Rattle.std.proofs.lemmas.Bool.{cases_lt}
 use Rattle.std.proofs.lemmas.List.{ext_get_or, get_or_past, get_or-set_same, get_or-set_other, length-set}
 use Rattle.std.proofs.lemmas.Nat.{and_le_l}
 use Rattle.envy_chip.specs.Commands.{ChipState, upset_at}
-use Rattle.envy_bank.specs.Lanes.{lane_of, row_from, lanes_at, rows_from, IsReady, AreLanes, AreChips, anded, EachLane}
+use Rattle.envy_bank.specs.Lanes.{lane_of, row_from, lanes_at, rows_from, AreLanes, anded, EachLane}
 use Rattle.envy_bank.specs.Rows.{IsPage, ands}
 use Rattle.envy_bank.proofs.Words.{AreBytes}
 use Rattle.envy_bank.proofs.LaneLaws.{lanes_of, length-lanes_of, get_or-lanes_of, row_from-lanes_of, row_from-ands}
-use Rattle.envy_bank.proofs.BankLaws.{none, length-lanes_at, get_or-lanes_at, get_or-rows_from, AreBytes-lanes_at, IsLane, lane_at, AreLanes-kept, get_or-lanes_at-each, lanes_at-same, rows_from-set, bytes-set}
+use Rattle.envy_bank.proofs.BankLaws.{none, length-lanes_at, get_or-lanes_at, get_or-rows_from, AreBytes-lanes_at, IsLane, AreLanes-kept, get_or-lanes_at-each, lanes_at-same, rows_from-set, bytes-set}
 
 byte_at-below : (i n : ℕ) → byte_at i n < 256
 byte_at-below zero n = omega arith

@@ -1,8 +1,8 @@
 -- Words of eight bytes: the AND of two words is the word of the ANDs of their bytes.
-use Rattle.std.proofs.Common.{◌≡◌, ◌∙◌, ℕ, zero, suc, ◌+◌, ◌*◌, ◌/◌, ◌%◌, ◌^◌, ◌<◌, ◌≤◌, List, [], ◌∷◌, length, take, drop, get_or, map, refl, sym, ap, arith, rules}
+use Rattle.std.proofs.Common.{◌≡◌, ◌∙◌, ℕ, zero, suc, ◌+◌, ◌*◌, ◌^◌, ◌<◌, List, get_or, refl, sym, ap, arith}
 use Rattle.std.proofs.Math.Nat.{pow-suc, add_comm}
 use Rattle.std.specs.Prelude.{bit_and}
-use Rattle.std.specs.Int.{w64, to_le_bytes, from_le_bytes, sum_through, byte_worth}
+use Rattle.std.specs.Int.{w64, from_le_bytes, sum_through, byte_worth}
 use Rattle.std.proofs.lemmas.Nat.{and_block, pow-add, mul-add-lt}
 
 -- AND goes part by part, where the low parts are below 2 ^ k

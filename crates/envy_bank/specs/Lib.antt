@@ -1,3 +1,2 @@
 pub mod Lanes
 pub mod Rows
-pub use Rattle.envy_chip.specs.Commands

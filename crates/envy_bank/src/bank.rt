@@ -29,6 +29,7 @@ impl Model for Bank {
     ghost invariant = { λ a. AreChips (length a.erases.items) a.rows a.chips.items };
 }
 
+// One more, up to the type's end.
 #[tactic(auto, unfolding(crate::specs::Rows::up))]
 fn more(count: u64) -> u64
     ensures { result ≡ up count }
@@ -99,5 +100,35 @@ impl Bank {
         ensures whole { IsBank self.new }
     {
         upset_lanes(&mut self.chips, row, page);
+    }
+}
+
+#[cfg(test)]
+mod tests {
+    use super::*;
+    use std::test::Fail;
+
+    #[test]
+    fn a_new_bank_is_erased(rt: HostRuntime) -> Result<(), Fail> {
+        let bank = Bank::new(rt.alloc(), 1, 2)?;
+        assert_eq!(rt; bank.erases(0), 0);
+        for row in 0..2 {
+            for i in 0..32 {
+                assert_eq!(rt; bank.read_word(row, i), 0xFFFF_FFFF_FFFF_FFFF);
+            }
+        }
+        Ok(())
+    }
+
+    #[test]
+    fn the_lowest_byte_of_a_word_is_in_its_first_lane(rt: HostRuntime) -> Result<(), Fail> {
+        let mut bank = Bank::new(rt.alloc(), 1, 2)?;
+        let mut page = [0; 32];
+        page[0] = 72623859790382856;
+        bank.program_row(0, &page);
+        for (lane, byte) in [8, 7, 6, 5, 4, 3, 2, 1].iter().enumerate() {
+            assert_eq!(rt; bank.chips[lane].read(0), *byte);
+        }
+        Ok(())
     }
 }

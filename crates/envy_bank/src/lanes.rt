@@ -1,14 +1,14 @@
-ghost use Rattle.std.specs.Prelude.{◌≡◌, ◌+◌, ◌*◌, ◌/◌, ◌<◌, ◌≤◌, ◌↔◌, ℕ, IsTrue, length, slice_index, IfOk, replicate};
+ghost use Rattle.std.specs.Prelude.{◌≡◌, ◌*◌, ◌<◌, ◌≤◌, ◌↔◌, IsTrue, length, slice_index, IfOk, replicate};
 ghost use Rattle.std.specs.List.{All};
 ghost use Rattle.envy_chip.specs.Commands.{erased_chip, upset_at};
 ghost use Rattle.envy_bank.specs.Lanes.{lane_of, IsReady, anded, blanked, EachLane, LanesHold, lanes_at, row_from};
 
-use envy_chip::{CLEAR_STATUS, Chip, ERASE_CONFIRM, ERASE_SETUP, PROGRAM_SETUP, READ_ARRAY};
+use envy_chip::{
+    CLEAR_STATUS, Chip, ERASE_CONFIRM, ERASE_SETUP, PROGRAM_ERROR, PROGRAM_SETUP, READ_ARRAY,
+};
 use std::alloc::{AllocError, Global};
 
 pub const LANES: usize = 256;
-
-const PROGRAM_ERROR: u8 = 0x10;
 
 // The byte of a row that the chip `lane` holds.
 #[tactic(auto, unfolding(crate::specs::Lanes::lane_of))]

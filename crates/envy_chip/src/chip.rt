@@ -20,20 +20,25 @@ pub const CLEAR_STATUS: u8 = 0x50;
 /// The command after which reads give the array.
 pub const READ_ARRAY: u8 = 0xFF;
 
+/// The bit of the status byte that is set while no operation runs, which is always.
+pub const READY: u8 = 0x80;
+/// The bit of the status byte that tells of an erase that was not confirmed.
+pub const ERASE_ERROR: u8 = 0x20;
+/// The bit of the status byte that tells of a program that did not give its byte.
+pub const PROGRAM_ERROR: u8 = 0x10;
+
 const ERASED: u8 = 0xFF;
-
-const READY_BIT: u8 = 0x80;
-
-const ERASE_ERROR_BIT: u8 = 0x20;
-
-const PROGRAM_ERROR_BIT: u8 = 0x10;
 
 /// What a chip makes of the next write and the next read.
 #[derive(Clone, Copy, PartialEq, Eq, Debug)]
 pub enum Mode {
+    /// A write is a command, and a read gives the byte at the address.
     Array,
+    /// A write is a command, and a read gives the status byte.
     Status,
+    /// A write programs its byte at its address, and a read gives the status byte.
     ProgramSetup,
+    /// A write confirms or cancels an erase, and a read gives the status byte.
     EraseSetup,
 }
 
@@ -75,9 +80,11 @@ impl Chip {
     }
 
     /// Writes a byte: a command, the byte of a program, or what confirms an erase, as the mode says.
+    #[inline]
     pub fn write(&mut self, addr: u32, byte: u8)
         requires { addr < length self.old.bytes }
-        ensures { self.new ≡ written self.old addr byte }
+        ensures state { self.new ≡ written self.old addr byte }
+        ensures size { length self.new.bytes ≡ length self.old.bytes }
     {
         match self.mode {
             Mode::Array | Mode::Status => self.command(byte),
@@ -87,6 +94,7 @@ impl Chip {
     }
 
     /// The byte at the address in array mode, else the status byte.
+    #[inline]
     pub fn read(&self, addr: u32) -> u8
         requires { addr < length self.now.bytes }
         ensures { result ≡ read_of self.now addr }
@@ -98,15 +106,16 @@ impl Chip {
     }
 
     /// The status byte: bit 7 is always set, bit 5 is the erase error, bit 4 the program error.
+    #[inline]
     pub fn status(&self) -> u8
         ensures { result ≡ status_of self.now }
     {
-        let mut status = READY_BIT;
+        let mut status = READY;
         if self.erase_error {
-            status += ERASE_ERROR_BIT;
+            status += ERASE_ERROR;
         }
         if self.program_error {
-            status += PROGRAM_ERROR_BIT;
+            status += PROGRAM_ERROR;
         }
         status
     }
@@ -119,6 +128,7 @@ impl Chip {
         self.array[addr as usize] = byte;
     }
 
+    #[inline]
     fn command(&mut self, byte: u8)
         ensures { self.new ≡ commanded self.old byte }
     {
@@ -136,6 +146,7 @@ impl Chip {
     }
 
     // A program can clear bits, and set none.
+    #[inline]
     fn program(&mut self, addr: u32, byte: u8)
         requires { addr < length self.old.bytes }
         ensures { self.new ≡ programmed self.old addr byte }
@@ -159,5 +170,62 @@ impl Chip {
             self.erase_error = true;
         }
         self.mode = Mode::Status;
+    }
+}
+
+#[cfg(test)]
+mod tests {
+    use super::*;
+    use std::test::Fail;
+
+    // A write of whose effect the proof knows the size alone.
+    fn put(chip: &mut Chip, addr: u32, byte: u8)
+        requires { addr < length chip.old.bytes }
+        ensures { length chip.new.bytes ≡ length chip.old.bytes }
+    {
+        chip.write(addr, byte);
+    }
+
+    #[test]
+    fn a_new_chip_is_erased_and_ready(rt: HostRuntime) -> Result<(), Fail> {
+        let chip = Chip::new(rt.alloc(), 1, 2)?;
+        assert_eq!(rt; chip.status(), 0x80);
+        assert_eq!(rt; chip.read(0), 0xFF);
+        assert_eq!(rt; chip.read(1), 0xFF);
+        Ok(())
+    }
+
+    #[test]
+    fn each_command_leaves_the_status_and_bytes_of_the_data_sheet(
+        rt: HostRuntime,
+    ) -> Result<(), Fail> {
+        let mut chip = Chip::new(rt.alloc(), 1, 2)?;
+
+        put(&mut chip, 0, 0x40);
+        put(&mut chip, 0, 0x0F);
+        assert_eq!(rt; chip.status(), 0x80);
+        assert_eq!(rt; chip.array.as_slice(), [0x0F, 0xFF].as_slice());
+
+        put(&mut chip, 0, 0x40);
+        put(&mut chip, 0, 0xF0);
+        assert_eq!(rt; chip.status(), 0x90);
+        assert_eq!(rt; chip.array.as_slice(), [0x00, 0xFF].as_slice());
+
+        put(&mut chip, 0, 0x50);
+        put(&mut chip, 1, 0x20);
+        put(&mut chip, 1, 0xD0);
+        assert_eq!(rt; chip.status(), 0x80);
+        assert_eq!(rt; chip.array.as_slice(), [0xFF, 0xFF].as_slice());
+
+        put(&mut chip, 0, 0x20);
+        put(&mut chip, 0, 0x40);
+        assert_eq!(rt; chip.status(), 0xA0);
+        assert_eq!(rt; chip.array.as_slice(), [0xFF, 0xFF].as_slice());
+
+        put(&mut chip, 0, 0x50);
+        put(&mut chip, 0, 0xFF);
+        assert_eq!(rt; chip.status(), 0x80);
+        assert_eq!(rt; chip.array.as_slice(), [0xFF, 0xFF].as_slice());
+        Ok(())
     }
 }
