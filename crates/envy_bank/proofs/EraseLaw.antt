@@ -54,7 +54,7 @@ block_of rows block k le lt =
     let at : k ≡ block * rows + (k - block * rows) = omega arith in
     ap (λ n. n / rows) at ∙ div-mul-add block rows (k - block * rows) rest
 
--- so a byte outside the block stays, and a byte inside is FF
+-- so a byte outside the block stays, and a byte inside is 0xFF
 erased_outside : (rows block : ℕ) (bs : List ℕ) (k : ℕ) → 1 ≤ rows → block * rows ≤ length bs → k / rows ≢ block → get_or (with_erased_block rows block bs) k 0 ≡ get_or bs k 0
 erased_outside rows block bs k some fits apart =
     elim (cases_lt k (block * rows)) [

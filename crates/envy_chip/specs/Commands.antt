@@ -15,7 +15,7 @@ pub record ChipState : Type 0 where
 abbrev pub erased_chip : ℕ → ℕ → ChipState
 erased_chip blocks rows = record { bytes = replicate (blocks * rows) 0xFF; rows = rows; mode = Array; erase_error = false; program_error = false }
 
--- every byte of the block is FF
+-- every byte of the block is 0xFF
 abbrev pub with_erased_block : ℕ → ℕ → List ℕ → List ℕ
 with_erased_block rows block bytes = take (block * rows) bytes ++ (replicate rows 0xFF ++ drop (block * rows + rows) bytes)
 
@@ -35,12 +35,13 @@ programmed s addr byte =
     let cleared = bit_and (slice_index s.bytes addr) byte in
     record s { bytes = slice_set s.bytes addr cleared; program_error = if cleared == byte then s.program_error else true; mode = Status }
 
--- a byte in erase setup confirms the erase of the address's block by D0, and is an error else
+-- a byte in erase setup is 0xD0, which erases the address's block, or an error
 abbrev pub confirmed : ChipState → ℕ → ℕ → ChipState
 confirmed s addr byte =
     if byte == 0xD0 then record s { bytes = with_erased_block s.rows (addr / s.rows) s.bytes; mode = Status }
     else record s { erase_error = true; mode = Status }
 
+-- the command table, by the mode in which the byte comes
 abbrev written_in : Mode → ChipState → ℕ → ℕ → ChipState
 written_in Array s addr byte = commanded s byte
 written_in Status s addr byte = commanded s byte
@@ -55,6 +56,7 @@ written s addr byte = written_in s.mode s addr byte
 abbrev pub status_of : ChipState → ℕ
 status_of s = 0x80 + (if s.erase_error then 0x20 else 0) + (if s.program_error then 0x10 else 0)
 
+-- a read, by the mode in which it comes
 abbrev read_in : Mode → ChipState → ℕ → ℕ
 read_in Array s addr = slice_index s.bytes addr
 read_in Status s addr = status_of s
