@@ -1,4 +1,5 @@
 pub mod ArrayLemmas
+pub mod Committing
 pub mod Composition
 pub mod Filling
 pub mod FrameLaw
