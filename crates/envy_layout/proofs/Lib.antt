@@ -1,5 +1,6 @@
 pub mod ArrayLemmas
 pub mod Clearing
+pub mod Committing
 pub mod Composition
 pub mod Empty
 pub mod Formed

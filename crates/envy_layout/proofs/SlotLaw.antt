@@ -68,7 +68,7 @@ owned_by-committed slots t (Some (Blank s)) room named = let same : s ≡ t = cc
 owned_by-committed slots t (Some (Shadow s q)) room named = let same : s ≡ t = cc in rw (same, get_or-set_same slots t (Some Committed) None room) refl
 
 -- whether an undo names the slot
-names-slot : (u : Option Undo) (t : ℕ) → (slot_named u ≡ Some t) ⊎ (slot_named u ≢ Some t)
+pub names-slot : (u : Option Undo) (t : ℕ) → (slot_named u ≡ Some t) ⊎ (slot_named u ≢ Some t)
 names-slot None t = inr (λ e. cc)
 names-slot (Some Clear) t = inr (λ e. cc)
 names-slot (Some (Blank s)) t = at (cases_eq s t)
