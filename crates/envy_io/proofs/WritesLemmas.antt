@@ -1,10 +1,10 @@
 -- A piece that is written in several parts.
-use Rattle.std.proofs.Common.{◌≡◌, ℕ, ◌+◌, ◌-◌, ◌<◌, ◌≤◌, List, [], ◌∷◌, ◌++◌, length, take, drop, Option, Some, None, refl, Bool, false, ◌==◌, ap, sym, ◌∙◌, arith, length-append, Result, Ok, Err}
+use Rattle.std.proofs.Common.{◌≡◌, ℕ, ◌<◌, ◌≤◌, List, [], ◌∷◌, ◌++◌, length, take, drop, Option, Some, None, refl, Bool, false, ◌==◌, ap, sym, ◌∙◌, arith, length-append, Ok, Err}
 use Rattle.std.proofs.lemmas.Bool.{false≢true}
-use Rattle.std.proofs.lemmas.List.{append_assoc, append-nil, take-append-drop, length-take, length-drop, take_at, drop_at}
+use Rattle.std.proofs.lemmas.List.{append_assoc, append-nil, take-append-drop, length-take, take_at}
 use Rattle.envy_io.proofs.Counts.{Rises-after}
 use Rattle.envy_io.specs.declared.source.Failed.{Failed}
-use Rattle.envy_io.specs.Streams.{Drain, Rises, Writes, WritesAll, AfterPiece, with_end}
+use Rattle.envy_io.specs.Streams.{Drain, Writes, WritesAll, AfterPiece, with_end}
 
 pub with_end-with_end : (written : Option (List ℕ)) (a b : List ℕ) → with_end (with_end written a) b ≡ with_end written (a ++ b)
 with_end-with_end None a b = refl

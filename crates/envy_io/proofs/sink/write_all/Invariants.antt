@@ -1,4 +1,4 @@
-use Rattle.std.proofs.Common.{◌≡◌, ℕ, ◌-◌, ◌≤◌, length, take, drop}
+use Rattle.std.proofs.Common.{length}
 use Rattle.envy_io.proofs.WritesLemmas.{Written}
 use Rattle.envy_io.proofs.sink.write_all.Given as goal
 
