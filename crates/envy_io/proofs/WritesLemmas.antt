@@ -67,3 +67,7 @@ Written-failed old mid new piece rest failed w some (same, rises) =
       same ∙ (w.written ∙ ap (with_end old.written) (sym front)),
       Rises-after old.faults mid.faults new.faults w.faults rises,
     )
+
+-- where something is left to write, the piece isn't empty
+pub Written-some : {P : Type 0} (old : Drain) (piece rest : List ℕ) (new : Drain) → Written old piece rest new → 0 < length rest → piece ≡ [] → P
+Written-some old piece rest new w some empty = absurd (omega (arith, ap length w.split, ap length empty, length-append w.done rest))

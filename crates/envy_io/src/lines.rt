@@ -1,8 +1,8 @@
-ghost use Rattle.std.specs.Prelude.{◌≡◌, ◌==◌, ◌↔◌, ◌≤◌, ◌+◌, ℕ, List, [], ◌++◌, length, take, drop, false, IsTrue, OnErr, OnOk};
+ghost use Rattle.std.specs.Prelude.{◌≡◌, ◌==◌, ◌↔◌, ◌≤◌, ◌+◌, ℕ, List, [], ◌++◌, length, drop, false, IsTrue, OnErr, OnOk};
 ghost use Rattle.std.specs.List.{position};
 ghost use Rattle.arrayvec.specs.ArrayVec.{array_vec_len};
 ghost use Rattle.envy_io.specs.Lines.{newline};
-ghost use Rattle.envy_io.specs.Streams.{Feed, Rises, with_front};
+ghost use Rattle.envy_io.specs.Streams.{Feed, Rises};
 ghost use Rattle.envy_io.specs.Asking.{BeginsWith};
 
 use crate::{Failed, Source};
