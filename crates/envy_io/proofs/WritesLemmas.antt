@@ -27,15 +27,6 @@ pub record Written (old : Drain) (piece rest : List ℕ) (new : Drain) : Type 0 
   pub faults : old.faults ≤ new.faults
   pub after : AfterPiece done old new
 
-pub Written-none : (old : Drain) (piece : List ℕ) → Written old piece piece old
-Written-none old piece = record {
-  done = [];
-  split = refl;
-  written = sym (with_end-nil old.written);
-  faults = omega arith;
-  after = refl;
-}
-
 -- a piece that isn't empty leaves the sink unflushed, whatever was written before
 AfterPiece-some : (old new : Drain) (done piece : List ℕ) → 0 < length piece → new.flushed ≡ false → AfterPiece (done ++ piece) old new
 AfterPiece-some old new [] [] some is = absurd (omega arith)
@@ -52,12 +43,6 @@ Written-more old mid new piece rest n w (some, fits, written, flushed, faults) =
       faults = omega (arith, w.faults);
       after = AfterPiece-some old new w.done (take n rest) long flushed;
     }
-
-pub Written-all : (old new : Drain) (piece rest : List ℕ) → Written old piece rest new → length rest ≡ 0 → WritesAll old piece (Ok tt) new
-Written-all old new piece [] w empty =
-    let whole : piece ≡ w.done = w.split ∙ append-nil w.done in
-    rw whole (w.written, w.faults, w.after)
-Written-all old new piece (b ∷ rest) w empty = absurd (omega arith)
 
 pub Written-failed : (old mid new : Drain) (piece rest : List ℕ) (failed : Failed) → Written old piece rest mid → 0 < length rest → Writes mid rest (Err failed) new → WritesAll old piece (Err failed) new
 Written-failed old mid new piece rest failed w some (same, rises) =
