@@ -1,14 +1,13 @@
 -- A search for a newline, and what it tells of the front of the bytes.
-use Rattle.std.proofs.Common.{◌≡◌, ◌≢◌, ℕ, ◌+◌, ◌<◌, ◌≤◌, min, false, ◌==◌, List, [], ◌∷◌, ◌++◌, length, take, drop, get_or, Some, None, ap, sym, ◌∙◌, arith, subst}
+use Rattle.std.proofs.Common.{◌≡◌, ◌≢◌, ℕ, ◌+◌, ◌<◌, ◌≤◌, min, false, ◌==◌, List, ◌∷◌, ◌++◌, length, take, drop, get_or, Some, None, ap, sym, ◌∙◌, arith, subst}
 use Rattle.std.proofs.lemmas.Bool.Decides.{nat_tests}
 use Rattle.std.proofs.lemmas.List.{take-append-drop, drop_more, get_or-take, take-take, take_all, length-take}
 use Rattle.std.proofs.lemmas.List.Elements.{recursion_from_All, All-from_get_or}
 use Rattle.std.proofs.lemmas.List.Quantifiers.{position-Some}
 use Rattle.std.proofs.lemmas.List.Sums.{fails_before_first}
-use Rattle.std.specs.List.{AllByRecursion, position, position_or_len}
+use Rattle.std.specs.List.{position, position_or_len}
 use Rattle.envy_io.specs.declared.lines.Front.TheVariants.{Line, Long, Open}
 use Rattle.envy_io.specs.Lines.{NoNewline, newline}
-use Rattle.envy_io.specs.Taking.{IsOpen}
 use Rattle.envy_io.specs.Asking.{BeginsWith}
 
 other : (b : ℕ) → (b == newline) ≡ false → b ≢ newline

@@ -1,13 +1,13 @@
 -- What the lines given and the bytes held say of all lines of the bytes taken.
-use Rattle.std.proofs.Common.{◌≡◌, ◌⊎◌, ℕ, ◌+◌, ◌<◌, ◌≤◌, Bool, true, false, IsTrue, List, [], ◌∷◌, ◌++◌, length, take, drop, refl, ap, sym, ◌∙◌, inl, inr, arith, length-append, subst}
+use Rattle.std.proofs.Common.{◌≡◌, ◌⊎◌, ℕ, ◌<◌, ◌≤◌, false, IsTrue, List, [], ◌∷◌, ◌++◌, length, take, refl, ap, sym, ◌∙◌, inl, inr, arith, length-append, subst}
 use Rattle.std.proofs.lemmas.Bool.{false≢true}
 use Rattle.std.proofs.lemmas.List.{append_assoc, append-nil}
-use Rattle.std.specs.List.{AllByRecursion, flat_map}
+use Rattle.std.specs.List.{AllByRecursion}
 use Rattle.envy_io.specs.declared.lines.Next.{Next}
 use Rattle.envy_io.specs.declared.lines.Next.TheVariants.{Line, End, Long, Failed, Spent}
-use Rattle.envy_io.specs.Streams.{Feed, with_front}
+use Rattle.envy_io.specs.Streams.{Feed}
 use Rattle.envy_io.specs.Lines.{NoNewline, newline, lines_of, spelled}
-use Rattle.envy_io.specs.Taking.{Taking, Takes, Wants, Answers, HasGiven, Reads, IsWhole, IsLast, Keeps}
+use Rattle.envy_io.specs.Taking.{Taking, Takes, Answers, HasGiven, Reads, NextLine, IsWhole, IsLast, Keeps}
 use Rattle.envy_io.specs.Asking.{Gathers}
 use Rattle.envy_io.proofs.LinesLemmas.{lines_of-nil, lines_of-spelled, lines_of-last, lines_of-long}
 
@@ -22,9 +22,6 @@ spelled-push (first ∷ lines) line rest =
     append_assoc head (spelled (lines ++ line ∷ [])) rest ∙ (ap (λ (bytes : List ℕ). head ++ bytes) (spelled-push lines line rest) ∙ sym (append_assoc head (spelled lines) (line ++ newline ∷ rest)))
 
 module _ (old new : Taking) (from to : Feed) (got bytes line : List ℕ) (lines : List (List ℕ)) (takes : Takes old from got new to) (given : HasGiven bytes lines old) where
-  longer : new.taken ≡ length (bytes ++ got)
-  longer = omega (arith, takes.taken, given.taken, length-append bytes got)
-
   -- what is held stands behind the lines given
   abbrev Behind : Type 0
   Behind = bytes ++ got ≡ spelled lines ++ (old.held ++ got)
@@ -55,17 +52,15 @@ module _ (old new : Taking) (from to : Feed) (got bytes line : List ℕ) (lines 
   all-lines is = ap lines_of is ∙ lines_of-spelled lines (old.held ++ got) given.each
 
   after-keep : Keeps (old.held ++ got) line new → Behind ⊎ Over → HasGiven (bytes ++ got) lines new
-  after-keep keeps (inl is) = record { taken = longer; each = given.each; split = inl (is ∙ ap (λ (held : List ℕ). spelled lines ++ held) (sym keeps.held)) }
-  after-keep keeps (inr over) = record { taken = longer; each = given.each; split = inr (over.ended, keeps.held ∙ over.none, over.no_more) }
+  after-keep keeps (inl is) = record { each = given.each; split = inl (is ∙ ap (λ (held : List ℕ). spelled lines ++ held) (sym keeps.held)) }
+  after-keep keeps (inr over) = record { each = given.each; split = inr (over.ended, keeps.held ∙ over.none, over.no_more) }
 
   after-line : NoNewline line → IsWhole (old.held ++ got) line new ⊎ IsLast (old.held ++ got) line new → Behind ⊎ Over → HasGiven (bytes ++ got) (lines ++ line ∷ []) new
   after-line plain (inl whole) (inl is) = record {
-    taken = longer;
     each = each-push lines line given.each plain;
     split = inl (is ∙ (ap (λ (all : List ℕ). spelled lines ++ all) whole.split ∙ sym (spelled-push lines line new.held)));
   }
   after-line plain (inr last) (inl is) = record {
-    taken = longer;
     each = each-push lines line given.each plain;
     split = inr (last.ended, last.none_held, all-lines is ∙ ap (λ (rest : List (List ℕ)). lines ++ rest) (ap lines_of last.all_bytes ∙ lines_of-last line plain last.some));
   }
@@ -94,9 +89,12 @@ module _ (old new : Taking) (from to : Feed) (got bytes line : List ℕ) (lines 
   reads Spent (keeps, line_open, going, full) =
       (after-keep keeps either, after-stop keeps going either, subst NoNewline (sym keeps.held) line_open.unbroken)
 
--- the same, of a call that gathered bytes and then gave a line of them
-pub given-lines : (old mid new : Taking) (from to : Feed) (line : List ℕ) (answer : Next) → Gathers old from mid to → (new.cap ≡ mid.cap) × (new.taken ≡ mid.taken) × (new.ended ≡ mid.ended) → Answers answer mid.held line new from to → (bytes : List ℕ) (lines : List (List ℕ)) → HasGiven bytes lines old → (got : List ℕ) × (from.left ≡ with_front got to.left) × Reads answer (bytes ++ got) lines line new
-given-lines old mid new from to line answer g (cap, taken, ended) answers bytes lines given =
+-- a call that gathered bytes and then gave a line of them
+pub NextLine-given : (old mid new : Taking) (from to : Feed) (line : List ℕ) (answer : Next) → Gathers old from mid to → new ≡ record mid { held = new.held } → Answers answer mid.held line new from to → NextLine old from answer line new to
+NextLine-given old mid new from to line answer g same given =
+    let taken : new.taken ≡ mid.taken = ap (λ (t : Taking). t.taken) same in
+    let cap : new.cap ≡ mid.cap = ap (λ (t : Taking). t.cap) same in
+    let ended : new.ended ≡ mid.ended = ap (λ (t : Taking). t.ended) same in
     let takes : Takes old from g.got new to = record {
       cap = cap ∙ g.takes.cap;
       taken = taken ∙ g.takes.taken;
@@ -108,4 +106,14 @@ given-lines old mid new from to line answer g (cap, taken, ended) answers bytes 
       below = λ is. omega (arith, g.takes.below (sym ended ∙ is));
       needed = g.takes.needed;
     } in
-    (g.got, g.takes.left, reads old new from to g.got bytes line lines takes given answer (subst (λ (all : List ℕ). Answers answer all line new from to) g.held answers))
+    let answers : Answers answer (old.held ++ g.got) line new from to = subst (λ (all : List ℕ). Answers answer all line new from to) g.held given in
+    record {
+      got = g.got;
+      takes = takes;
+      answers = answers;
+      reads = λ bytes lines so_far. reads old new from to g.got bytes line lines takes so_far answer answers;
+    }
+
+-- before the first call
+pub HasGiven-none : (t : Taking) → t.held ≡ [] → HasGiven [] [] t
+HasGiven-none t none = record { each = tt; split = inl (sym none) }

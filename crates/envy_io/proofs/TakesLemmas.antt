@@ -1,9 +1,10 @@
 -- What several askings take together.
-use Rattle.std.proofs.Common.{◌≡◌, ◌⊎◌, ℕ, ◌+◌, ◌-◌, ◌<◌, ◌≤◌, Bool, true, false, cond, IsTrue, List, [], ◌∷◌, ◌++◌, length, Option, Some, None, refl, ap, sym, ◌∙◌, inl, inr, arith, length-append, subst}
+use Rattle.std.proofs.Common.{◌≡◌, ◌⊎◌, ℕ, ◌+◌, ◌-◌, ◌<◌, Bool, true, false, cond, IsTrue, List, [], ◌++◌, length, take, drop, Option, Some, None, Ok, refl, ap, sym, ◌∙◌, inl, inr, arith, length-append, subst}
 use Rattle.std.proofs.lemmas.Bool.{false≢true}
-use Rattle.std.proofs.lemmas.List.{append_assoc, append-nil}
-use Rattle.envy_io.specs.Streams.{Feed, IsDry, with_front}
-use Rattle.envy_io.specs.Taking.{Taking, Takes, Wants, IsOpen}
+use Rattle.std.proofs.lemmas.List.{append_assoc, take_at, drop_at, length-take}
+use Rattle.std.proofs.lemmas.Option.{none-some, same_Some}
+use Rattle.envy_io.specs.Streams.{Feed, Fills, with_front}
+use Rattle.envy_io.specs.Taking.{Taking, Wants, IsOpen}
 use Rattle.envy_io.specs.Asking.{Asks, Gathers}
 
 pub with_front-nil : (left : Option (List ℕ)) → with_front [] left ≡ left
@@ -17,23 +18,6 @@ with_front-with_front a b (Some bytes) = ap Some (sym (append_assoc a b bytes))
 -- a measure of how often the source may still be asked
 pub askings : Taking → ℕ
 askings t = t.cap - t.taken + cond t.ended 0 1
-
-pub Gathers-none : (t : Taking) (f : Feed) → t.taken ≤ t.cap → (IsTrue t.ended → t.taken < t.cap) → Gathers t f t f
-Gathers-none t f within below = record {
-  got = [];
-  takes = record {
-    cap = refl;
-    taken = omega arith;
-    within = within;
-    left = sym (with_front-nil f.left);
-    faults = omega arith;
-    ended = λ ended. (ended, refl);
-    dry = λ dry. dry;
-    below = below;
-    needed = inl refl;
-  };
-  held = sym (append-nil t.held);
-}
 
 pub Gathers-more : (old mid new : Taking) (from feed to : Feed) (piece : List ℕ) → Gathers old from mid feed → Wants mid → Asks mid feed piece new to → Gathers old from new to
 Gathers-more old mid new from feed to piece g wants asks =
@@ -54,24 +38,6 @@ Gathers-more old mid new from feed to piece g wants asks =
       held = asks.held ∙ (ap (λ (bytes : List ℕ). bytes ++ piece) g.held ∙ append_assoc old.held g.got piece);
     }
 
--- a failed asking takes nothing
-pub Gathers-failed : (old mid : Taking) (from feed to : Feed) → Gathers old from mid feed → to.left ≡ feed.left → feed.faults ≤ to.faults → Gathers old from mid to
-Gathers-failed old mid from feed to g same more = record {
-  got = g.got;
-  takes = record {
-    cap = g.takes.cap;
-    taken = g.takes.taken;
-    within = g.takes.within;
-    left = g.takes.left ∙ ap (with_front g.got) (sym same);
-    faults = omega (arith, g.takes.faults);
-    ended = g.takes.ended;
-    dry = λ dry ended. subst IsDry (sym same) (g.takes.dry dry ended);
-    below = g.takes.below;
-    needed = g.takes.needed;
-  };
-  held = g.held;
-}
-
 fewer : (cap new_cap taken new_taken n : ℕ) (ended new_ended : Bool) → ended ≡ false → taken < cap → new_cap ≡ cap → new_taken ≡ taken + n → IsTrue new_ended ⊎ (0 < n) → new_cap - new_taken + cond new_ended 0 1 < cap - taken + cond ended 0 1
 fewer cap new_cap taken new_taken n true new_ended going below caps more goes = absurd (false≢true (sym going))
 fewer cap new_cap taken new_taken n false true going below caps more goes = omega arith
@@ -82,3 +48,16 @@ pub askings-fewer : (old new : Taking) (from to : Feed) (piece : List ℕ) → W
 unfolding askings
 askings-fewer old new from to piece wants asks =
     fewer old.cap new.cap old.taken new.taken (length piece) old.ended new.ended wants.going wants.below asks.cap asks.taken asks.goes
+
+-- what a source gives that tells its bytes
+pub with_front-told : (bytes got : List ℕ) (left : Option (List ℕ)) → Some bytes ≡ with_front got left → (take (length got) bytes ≡ got) × (left ≡ Some (drop (length got) bytes))
+with_front-told bytes got None is = absurd (none-some bytes (sym is))
+with_front-told bytes got (Some rest) is =
+    let split : bytes ≡ got ++ rest = same_Some bytes (got ++ rest) is in
+    (ap (take (length got)) split ∙ take_at got rest (length got) refl, ap Some (sym (ap (drop (length got)) split ∙ drop_at got rest (length got) refl)))
+
+-- 0 comes also wherever nothing is left
+pub count-dry : (old new : Feed) (slice : List ℕ) (n : ℕ) → Fills old slice (Ok n) new → old.left ≡ Some [] → n ≡ 0
+count-dry old new slice n (fits, left, dry, faults) is =
+    let front : take (length (take n slice)) [] ≡ take n slice = (with_front-told [] (take n slice) new.left (sym is ∙ left)).0 in
+    omega (arith, length-take n slice, ap length front, length-take {A = ℕ} (length (take n slice)) [])

@@ -1,10 +1,10 @@
 -- A piece that is written in several parts.
-use Rattle.std.proofs.Common.{◌≡◌, ℕ, ◌+◌, ◌-◌, ◌<◌, ◌≤◌, List, [], ◌∷◌, ◌++◌, length, take, drop, Option, Some, None, refl, Bool, false, ◌==◌, ap, sym, ◌∙◌, arith, length-append, Result, Ok, Err}
+use Rattle.std.proofs.Common.{◌≡◌, ℕ, ◌<◌, ◌≤◌, List, [], ◌∷◌, ◌++◌, length, take, drop, Option, Some, None, refl, Bool, false, ◌==◌, ap, sym, ◌∙◌, arith, length-append, Ok, Err}
 use Rattle.std.proofs.lemmas.Bool.{false≢true}
-use Rattle.std.proofs.lemmas.List.{append_assoc, append-nil, take-append-drop, length-take, length-drop, take_at, drop_at}
+use Rattle.std.proofs.lemmas.List.{append_assoc, append-nil, take-append-drop, length-take, take_at}
 use Rattle.envy_io.proofs.Counts.{Rises-after}
 use Rattle.envy_io.specs.declared.source.Failed.{Failed}
-use Rattle.envy_io.specs.Streams.{Drain, Rises, Writes, WritesAll, AfterPiece, with_end}
+use Rattle.envy_io.specs.Streams.{Drain, Writes, WritesAll, AfterPiece, with_end}
 
 pub with_end-with_end : (written : Option (List ℕ)) (a b : List ℕ) → with_end (with_end written a) b ≡ with_end written (a ++ b)
 with_end-with_end None a b = refl
@@ -27,15 +27,6 @@ pub record Written (old : Drain) (piece rest : List ℕ) (new : Drain) : Type 0 
   pub faults : old.faults ≤ new.faults
   pub after : AfterPiece done old new
 
-pub Written-none : (old : Drain) (piece : List ℕ) → Written old piece piece old
-Written-none old piece = record {
-  done = [];
-  split = refl;
-  written = sym (with_end-nil old.written);
-  faults = omega arith;
-  after = refl;
-}
-
 -- a piece that isn't empty leaves the sink unflushed, whatever was written before
 AfterPiece-some : (old new : Drain) (done piece : List ℕ) → 0 < length piece → new.flushed ≡ false → AfterPiece (done ++ piece) old new
 AfterPiece-some old new [] [] some is = absurd (omega arith)
@@ -53,12 +44,6 @@ Written-more old mid new piece rest n w (some, fits, written, flushed, faults) =
       after = AfterPiece-some old new w.done (take n rest) long flushed;
     }
 
-pub Written-all : (old new : Drain) (piece rest : List ℕ) → Written old piece rest new → length rest ≡ 0 → WritesAll old piece (Ok tt) new
-Written-all old new piece [] w empty =
-    let whole : piece ≡ w.done = w.split ∙ append-nil w.done in
-    rw whole (w.written, w.faults, w.after)
-Written-all old new piece (b ∷ rest) w empty = absurd (omega arith)
-
 pub Written-failed : (old mid new : Drain) (piece rest : List ℕ) (failed : Failed) → Written old piece rest mid → 0 < length rest → Writes mid rest (Err failed) new → WritesAll old piece (Err failed) new
 Written-failed old mid new piece rest failed w some (same, rises) =
     let front : take (length w.done) piece ≡ w.done = ap (take (length w.done)) w.split ∙ take_at w.done rest (length w.done) refl in (
@@ -67,3 +52,7 @@ Written-failed old mid new piece rest failed w some (same, rises) =
       same ∙ (w.written ∙ ap (with_end old.written) (sym front)),
       Rises-after old.faults mid.faults new.faults w.faults rises,
     )
+
+-- where something is left to write, the piece isn't empty
+pub Written-some : {P : Type 0} (old : Drain) (piece rest : List ℕ) (new : Drain) → Written old piece rest new → 0 < length rest → piece ≡ [] → P
+Written-some old piece rest new w some empty = absurd (omega (arith, ap length w.split, ap length empty, length-append w.done rest))

@@ -1,5 +1,5 @@
 -- What the parts of a call of `next_line` do.
-use Rattle.std.specs.Prelude.{◌≡◌, ◌⊎◌, ℕ, ◌+◌, ◌<◌, ◌≤◌, IsTrue, List, [], ◌∷◌, ◌++◌, length, take, drop}
+use Rattle.std.specs.Prelude.{◌≡◌, ◌⊎◌, ℕ, ◌+◌, ◌<◌, ◌≤◌, IsTrue, List, ◌∷◌, ◌++◌, length, take, drop}
 use Rattle.envy_io.specs.declared.lines.Front.{Front}
 use Rattle.envy_io.specs.declared.lines.Front.TheVariants.{Line, Long, Open}
 use Rattle.envy_io.specs.Streams.{Feed, IsDry, with_front}

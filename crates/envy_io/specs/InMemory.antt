@@ -1,5 +1,5 @@
 -- What a source and a sink in memory mean: beside their bytes, which calls fail and how many bytes a call moves.
-use Rattle.std.specs.Prelude.{◌≡◌, ◌⊎◌, ℕ, ◌-◌, ◌<◌, ◌≤◌, min, Bool, true, false, List, ◌++◌, length, take, drop, Some, Result, Ok, Err}
+use Rattle.std.specs.Prelude.{◌≡◌, ◌⊎◌, ℕ, ◌-◌, ◌<◌, min, Bool, true, false, List, ◌++◌, length, take, drop, Some, Result, Ok, Err}
 use Rattle.std.specs.List.{Contains}
 use Rattle.envy_io.specs.declared.source.Failed.{Failed}
 use Rattle.envy_io.specs.Streams.{Feed, Drain, up}

@@ -42,7 +42,7 @@ abbrev pub IsDry : Option (List ℕ) → Type 0
 IsDry left = IfSome left (λ bytes. bytes ≡ [])
 
 -- What one `fill` of a slice does; the slice is seen as it is after the call. The answer n says that its
--- first n bytes are the next n that were left, and 0 that none was left.
+-- first n bytes are the next n that were left. So 0 comes exactly where none is left.
 abbrev pub Fills : Feed → List ℕ → Result ℕ Failed → Feed → Type 0
 Fills old slice (Ok n) new =
     (n ≤ length slice) × (old.left ≡ with_front (take n slice) new.left) × (n ≡ 0 → IsDry old.left) × (old.faults ≤ new.faults)

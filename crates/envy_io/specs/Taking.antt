@@ -1,5 +1,5 @@
 -- What `Lines` means, and what a call of `next_line` takes and answers.
-use Rattle.std.specs.Prelude.{◌≡◌, ◌⊎◌, ℕ, ◌+◌, ◌<◌, ◌≤◌, Bool, false, IsTrue, List, [], ◌∷◌, ◌++◌, length, take, drop}
+use Rattle.std.specs.Prelude.{◌≡◌, ◌⊎◌, ℕ, ◌+◌, ◌<◌, ◌≤◌, Bool, false, IsTrue, List, [], ◌∷◌, ◌++◌, length, take}
 use Rattle.std.specs.List.{AllByRecursion}
 use Rattle.envy_io.specs.declared.lines.Next.{Next}
 use Rattle.envy_io.specs.declared.lines.Next.TheVariants.{Line, End, Long, Failed, Spent}
@@ -28,7 +28,7 @@ pub record Wants (t : Taking) : Type 0 where
   pub going : t.ended ≡ false
   pub below : t.taken < t.cap
 
--- What a call takes from the source, which are the next bytes that it had.
+-- What a call takes from the source: the bytes `got`, which are the next that the source had.
 pub record Takes (old : Taking) (from : Feed) (got : List ℕ) (new : Taking) (to : Feed) : Type 0 where
   pub cap : new.cap ≡ old.cap
   pub taken : new.taken ≡ old.taken + length got
@@ -40,7 +40,7 @@ pub record Takes (old : Taking) (from : Feed) (got : List ℕ) (new : Taking) (t
   -- where the end is met nothing is left, and the cap isn't reached
   pub dry : (IsTrue old.ended → IsDry from.left) → IsTrue new.ended → IsDry to.left
   pub below : IsTrue new.ended → new.taken < new.cap
-  -- the source was asked in turn for pieces of at most 128 bytes, also for the last one only while no line was whole
+  -- where anything was taken, the last piece of it, of at most 128 bytes, was asked for while no line was whole
   pub needed : (got ≡ []) ⊎ ((before piece : List ℕ) × (got ≡ before ++ piece) × IsOpen (old.held ++ before) × (length piece ≤ 128))
 
 -- The line stood whole in front of all bytes, and what is held now stood behind it.
@@ -67,15 +67,9 @@ Answers Long all line new from to = Keeps all line new × (121 ≤ length all) �
 Answers Failed all line new from to = Keeps all line new × Wants new × Rises from.faults to.faults
 Answers Spent all line new from to = Keeps all line new × IsOpen all × (new.ended ≡ false) × (new.taken ≡ new.cap)
 
--- one call of `next_line`
-abbrev pub NextLine : Taking → Feed → Next → List ℕ → Taking → Feed → Type 0
-NextLine old from answer line new to =
-    (got : List ℕ) × Takes old from got new to × Answers answer (old.held ++ got) line new from to
-
--- Of the bytes taken so far these lines were given, and the rest is held. After a last line without a newline
--- nothing is held, and the lines are all that there are.
+-- Of these bytes, taken in calls one after another, these lines were given, and the rest is held. After a last
+-- line without a newline nothing is held, and the lines are all that there are.
 pub record HasGiven (bytes : List ℕ) (lines : List (List ℕ)) (t : Taking) : Type 0 where
-  pub taken : t.taken ≡ length bytes
   pub each : AllByRecursion NoNewline lines
   pub split : (bytes ≡ spelled lines ++ t.held) ⊎ (IsTrue t.ended × (t.held ≡ []) × (lines_of bytes ≡ lines))
 
@@ -87,3 +81,12 @@ Reads Long bytes lines line new =
     HasGiven bytes lines new × ((long : List ℕ) × (more : List (List ℕ)) × (lines_of bytes ≡ lines ++ long ∷ more) × (120 < length long))
 Reads Failed bytes lines line new = HasGiven bytes lines new × (bytes ≡ spelled lines ++ new.held) × NoNewline new.held
 Reads Spent bytes lines line new = HasGiven bytes lines new × (bytes ≡ spelled lines ++ new.held) × NoNewline new.held
+
+-- One call of `next_line`.
+pub record NextLine (old : Taking) (from : Feed) (answer : Next) (line : List ℕ) (new : Taking) (to : Feed) : Type 0 where
+  -- the bytes that it took
+  pub got : List ℕ
+  pub takes : Takes old from got new to
+  pub answers : Answers answer (old.held ++ got) line new from to
+  -- the lines given are the lines of the bytes taken, in whatever pieces these came
+  pub reads : (bytes : List ℕ) (lines : List (List ℕ)) → HasGiven bytes lines old → Reads answer (bytes ++ got) lines line new

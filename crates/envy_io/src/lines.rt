@@ -1,8 +1,8 @@
-ghost use Rattle.std.specs.Prelude.{◌≡◌, ◌==◌, ◌↔◌, ◌≤◌, ◌+◌, ℕ, List, [], ◌++◌, length, take, drop, false, IsTrue, OnErr, OnOk};
+ghost use Rattle.std.specs.Prelude.{◌≡◌, ◌==◌, ◌↔◌, ◌≤◌, ◌+◌, ℕ, List, [], ◌++◌, length, drop, false, IsTrue, OnErr, OnOk};
 ghost use Rattle.std.specs.List.{position};
 ghost use Rattle.arrayvec.specs.ArrayVec.{array_vec_len};
 ghost use Rattle.envy_io.specs.Lines.{newline};
-ghost use Rattle.envy_io.specs.Streams.{Feed, Rises, with_front};
+ghost use Rattle.envy_io.specs.Streams.{Feed, Rises};
 ghost use Rattle.envy_io.specs.Asking.{BeginsWith};
 
 use crate::{Failed, Source};
@@ -33,24 +33,25 @@ pub enum Next {
     Spent,
 }
 
-/// What the bytes held begin with.
+// What the bytes held begin with.
 #[derive(Clone, Copy)]
 enum Front {
-    /// A whole line of this many bytes, and its newline.
+    // A whole line of this many bytes, and its newline.
     Line(usize),
-    /// A line of more than 120 bytes.
+    // A line of more than 120 bytes.
     Long,
-    /// Less than a line.
+    // Less than a line.
     Open,
 }
 
-/// Where the first newline stands.
+// Where the first newline stands.
 fn newline_in(bytes: &[u8]) -> Option<usize>
     ensures { result ≡ position (λ b. b == newline) bytes.now }
 {
     bytes.iter().position(|b| *b == b'\n')
 }
 
+// What the bytes begin with.
 fn front_of(held: &[u8]) -> Front
     ensures { BeginsWith held.now result }
 {
@@ -101,13 +102,19 @@ impl Model for Lines {
 
     ghost Value = { Taking };
 
-    ghost view = { λ l. record { cap = l.cap; taken = l.taken; held = drop l.given l.buffer.items; ended = l.ended } };
+    ghost view = { λ l. record {
+      cap = l.cap;
+      taken = l.taken;
+      held = drop l.given l.buffer.items;
+      ended = l.ended;
+    } };
 
-    ghost invariant = { λ l. (l.given ≤ array_vec_len l.buffer) × (array_vec_len l.buffer ≤ 248) × (l.taken ≤ l.cap) × (IsTrue l.ended → l.taken < l.cap) };
+    ghost invariant = { λ l. (l.given ≤ array_vec_len l.buffer) × (array_vec_len l.buffer ≤ 248)
+        × (l.taken ≤ l.cap) × (IsTrue l.ended → l.taken < l.cap) };
 }
 
 impl Lines {
-    ghost use Rattle.envy_io.specs.Taking.{Taking, Wants, Answers, NextLine, HasGiven, Reads};
+    ghost use Rattle.envy_io.specs.Taking.{Taking, Wants, Answers, NextLine};
     ghost use Rattle.envy_io.specs.Asking.{Asks, Gathers};
 
     /// The lines of a source, of which at most `cap` bytes are taken.
@@ -131,6 +138,7 @@ impl Lines {
         self.taken
     }
 
+    // The bytes taken that no line has given yet.
     fn held(&self) -> &[u8]
         ensures { result.now ≡ self.now.held }
     {
@@ -147,8 +155,11 @@ impl Lines {
     // Asks the source once.
     fn ask<S: Source>(&mut self, source: &mut S) -> Result<(), Failed>
         requires { Wants self.old }
-        ensures ok { OnOk result ((piece : List ℕ) × Asks self.old (S.feed source.old) piece self.new (S.feed source.new)) }
-        ensures err { OnErr result ((self.new ≡ self.old) × ((S.feed source.new).left ≡ (S.feed source.old).left) × Rises (S.feed source.old).faults (S.feed source.new).faults) }
+        ensures ok { OnOk result ((piece : List ℕ)
+            × Asks self.old (S.feed source.old) piece self.new (S.feed source.new)) }
+        ensures kept { OnErr result (self.new ≡ self.old) }
+        ensures left { OnErr result ((S.feed source.new).left ≡ (S.feed source.old).left) }
+        ensures failed { OnErr result (Rises (S.feed source.old).faults (S.feed source.new).faults) }
     {
         let mut piece = [0; PIECE];
         let room = (self.cap - self.taken).min(PIECE as u64) as usize;
@@ -165,9 +176,11 @@ impl Lines {
     fn gather<S: Source>(&mut self, source: &mut S) -> Result<(), Failed>
         ensures gathers { Gathers self.old (S.feed source.old) self.new (S.feed source.new) }
         ensures ok { OnOk result (¬ Wants self.new) }
-        ensures err { OnErr result (Wants self.new × Rises (S.feed source.old).faults (S.feed source.new).faults) }
+        ensures err { OnErr result (Wants self.new) }
+        ensures failed { OnErr result (Rises (S.feed source.old).faults (S.feed source.new).faults) }
         ensures unasked { ¬ Wants self.old → (self.new ≡ self.old) × (source.new ≡ source.old) }
     {
+        // The loop keeps what holds of the fields, so they are looked at first.
         let _ = &self.cap;
         while self.wants() {
             self.ask(source)?;
@@ -179,7 +192,7 @@ impl Lines {
     fn give(&mut self, line: &mut ArrayVec<u8, 120>) -> Next
         requires done { ¬ Wants self.old }
         requires empty { line.old.items ≡ [] }
-        ensures same { (self.new.cap ≡ self.old.cap) × (self.new.taken ≡ self.old.taken) × (self.new.ended ≡ self.old.ended) }
+        ensures same { self.new ≡ record self.old { held = self.new.held } }
         ensures answers { (from to : Feed) → Answers result self.old.held line.new.items self.new from to }
     {
         match front_of(self.held()) {
@@ -202,9 +215,9 @@ impl Lines {
     /// Puts the next line of the source into `line`, without its newline. `line` is empty after every
     /// answer but `Line`.
     pub fn next_line<S: Source>(&mut self, source: &mut S, line: &mut ArrayVec<u8, 120>) -> Next
-        ensures next { NextLine self.old (S.feed source.old) result line.new.items self.new (S.feed source.new) }
+        ensures next { NextLine self.old (S.feed source.old) result line.new.items
+            self.new (S.feed source.new) }
         ensures unasked { ¬ Wants self.old → source.new ≡ source.old }
-        ensures lines { (bytes : List ℕ) (lines : List (List ℕ)) → HasGiven bytes lines self.old → (got : List ℕ) × ((S.feed source.old).left ≡ with_front got (S.feed source.new).left) × Reads result (bytes ++ got) lines line.new.items self.new }
     {
         line.clear();
         match self.gather(source) {

@@ -28,8 +28,10 @@ impl Plan {
     #[tactic(auto, unfolding(crate::specs::Streams::up))]
     pub fn call(&mut self) -> Result<(), Failed>
         ensures { MatchResult result
-            (λ _. ¬ IsToFail self.old.fails.items self.old.calls × (self.new ≡ record self.old { calls = up self.old.calls }))
-            (λ _. IsToFail self.old.fails.items self.old.calls × (self.new ≡ record self.old { calls = up self.old.calls; faults = up self.old.faults })) }
+            (λ _. ¬ IsToFail self.old.fails.items self.old.calls
+            × (self.new ≡ record self.old { calls = up self.old.calls }))
+            (λ _. IsToFail self.old.fails.items self.old.calls
+            × (self.new ≡ record self.old { calls = up self.old.calls; faults = up self.old.faults })) }
     {
         self.calls = self.calls.saturating_add(1);
         if self.fails.contains(&self.calls) {

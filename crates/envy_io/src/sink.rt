@@ -38,7 +38,8 @@ pub trait Sink {
 ///
 /// `Failed` where the sink failed, which it counts. A proper prefix of the piece was written then.
 pub fn write_all<K: Sink>(sink: &mut K, piece: &[u8]) -> Result<(), Failed>
-    ensures { WritesAll (K.drain sink.old) piece.now result (K.drain sink.new) }
+    ensures writes { WritesAll (K.drain sink.old) piece.now result (K.drain sink.new) }
+    ensures uncalled { piece.now ≡ [] → sink.new ≡ sink.old }
 {
     let mut rest = piece;
     while !rest.is_empty() {
@@ -83,7 +84,14 @@ impl MemSink {
     ///
     /// `NoMemory` where the room can't be had.
     pub fn new(alloc: Global, room: usize, fails: Vec<u64>) -> Result<MemSink, NoMemory>
-        ensures { IfOk result (λ sink. sink ≡ record { written = []; room = room; fails = fails.items; calls = 0; faults = 0; flushed = false }) }
+        ensures { IfOk result (λ sink. sink ≡ record {
+          written = [];
+          room = room;
+          fails = fails.items;
+          calls = 0;
+          faults = 0;
+          flushed = false;
+        }) }
     {
         Ok(MemSink {
             written: Vec::with_capacity(alloc, room)?,

@@ -55,7 +55,13 @@ impl MemSource {
     /// calls that fail, where the first call is number 1.
     pub fn new(bytes: Vec<u8>, piece: usize, fails: Vec<u64>) -> MemSource
         requires { 1 ≤ piece }
-        ensures { result ≡ record { left = bytes.items; piece = piece; fails = fails.items; calls = 0; faults = 0 } }
+        ensures { result ≡ record {
+          left = bytes.items;
+          piece = piece;
+          fails = fails.items;
+          calls = 0;
+          faults = 0;
+        } }
     {
         MemSource {
             bytes,

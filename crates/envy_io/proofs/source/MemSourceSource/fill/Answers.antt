@@ -1,7 +1,6 @@
 use Rattle.std.proofs.Common.{◌≡◌, ◌-◌, ◌∙◌, length, take, drop, Some, ap, sym, arith}
 use Rattle.std.proofs.lemmas.List.{take_rest, length-take-le}
 use Rattle.std.proofs.lemmas.Result.{err_from_is_err_and}
-use Rattle.std.proofs.lemmas.Grind.{common_steps}
 use Rattle.envy_io.specs.InMemory.{MemFeed}
 use Rattle.envy_io.specs.declared.plan.Plan.{Plan}
 use Rattle.envy_io.proofs.Counts.{Rises-by}
