@@ -1,0 +1,18 @@
+use Rattle.std.proofs.Common.{◌+◌, ◌/◌, ◌%◌, [], ◌∷◌, ◌++◌, length, decimal, sym, ap, arith, append_assoc, length-append, lit<}
+use Rattle.envy_report.proofs.Digits.{few_wide, wide_step}
+use Rattle.envy_report.proofs.stat.+push_wide.Goals as goal
+
+pub push-requires : goal.push-requires
+push-requires t c =
+    let n = c.args.number in
+    let all = few_wide n c.ranges.number.fits in
+    let step = ap length (wide_step n (omega arith) c.ranges.number.fits) in
+    let front = ap length c.push_wide.ensures in (
+      lit< tt,
+      omega (arith, c.requires, length-append c.args.out.now.items (decimal (n / 10)), length-append (decimal (n / 10)) ((48 + n % 10) ∷ [])),
+    )
+
+pub returns-else-number : goal.returns-else-number
+returns-else-number t c =
+    rw (c.push.ensures.items, c.push_wide.ensures, append_assoc)
+    (ap (λ ds. c.args.out.now.items ++ ds) (sym (wide_step c.args.number (omega arith) c.ranges.number.fits)))

@@ -1,0 +1,20 @@
+use Rattle.envy_report.specs.Stat.{stat_bytes}
+use Rattle.envy_report.proofs.stat.stat_text.Goals as goal
+
+pub returns : goal.returns
+unfolding stat_bytes
+returns c =
+    rw (
+      c.push_wide.ensures,
+      c.push_text-2.ensures,
+      c.push_count-7.ensures.text,
+      c.push_count-6.ensures.text,
+      c.push_count-5.ensures.text,
+      c.push_count-4.ensures.text,
+      c.push_count-3.ensures.text,
+      c.push_count-2.ensures.text,
+      c.push_count.ensures.text,
+      c.push_text.ensures,
+      c.requires,
+      c.cost.ensures,
+    )
