@@ -1,0 +1,7 @@
+pub mod Counts
+pub mod Digits
+pub mod Lines
+pub mod Numerals
+pub mod Pieces
+pub mod Readings
+pub mod Written

@@ -1,0 +1,29 @@
+//! The trace of a memory: its lines, the replies to them, and their texts.
+//!
+//! A line is a command word and numbers, with blanks between them. What a line says is defined in
+//! `specs/Grammar.antt`, how it is written in `specs/Spelling.antt`. Nothing here takes memory.
+#![tactic(auto)]
+
+mod bounds;
+mod command;
+mod fault;
+mod fields;
+mod laws;
+mod line;
+mod numbers;
+mod read;
+mod reply;
+mod write;
+
+pub use bounds::Bounds;
+pub use fault::LineFault;
+pub use fields::{next_field, split_command};
+pub use laws::grammar_holds_both_ways;
+pub use line::Line;
+pub use numbers::{no_number, one_number, read_number, three_numbers, two_numbers};
+pub use read::read_line;
+pub use reply::Reply;
+pub use write::{line_text, reply_text};
+
+#[cfg(test)]
+mod tests;

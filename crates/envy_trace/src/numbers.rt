@@ -1,0 +1,98 @@
+ghost use Rattle.std.specs.Prelude.{◌≡◌, ◌^◌, ◌<◌, ◌≤◌, [], ◌∷◌, IsTrue, IfOk, MatchResult};
+ghost use Rattle.std.specs.Option.{SomeIff};
+ghost use Rattle.std.specs.Str.{all_ascii_digits};
+ghost use Rattle.std.specs.Str.Parse.{digits_value};
+ghost use Rattle.envy_trace.specs.Grammar.{pieces, number_in, none, one, two, three};
+
+use crate::bounds::Bounds;
+use crate::fault::LineFault;
+use crate::fields::next_field;
+
+/// Reads a number: one decimal digit or more, of a value within the bounds. Leading zeros make no
+/// difference. The fault is `Number`.
+pub fn read_number(field: &[u8], bounds: Bounds) -> Result<u64, LineFault>
+    ensures { result ≡ number_in bounds field.now }
+{
+    match value(field) {
+        Some(n) if !field.is_empty() && bounds.least <= n && n <= bounds.greatest => Ok(n),
+        _ => Err(LineFault::Number),
+    }
+}
+
+// What decimal digits come to, within 64 bits.
+fn value(field: &[u8]) -> Option<u64>
+    ensures { SomeIff result
+        (IsTrue (all_ascii_digits field.now) × (digits_value 10 field.now < 2 ^ 64))
+        (digits_value 10 field.now) }
+{
+    let mut value: u64 = 0;
+    for byte in field {
+        if !byte.is_ascii_digit() {
+            return None;
+        }
+        value = value.checked_mul(10)?.checked_add(u64::from(*byte - b'0'))?;
+    }
+    Some(value)
+}
+
+// The first field, and the bytes after it.
+fn need_field(rest: &[u8]) -> Result<(&[u8], &[u8]), LineFault>
+    ensures { MatchResult result
+        (λ found. pieces rest.now ≡ found.0.now ∷ pieces found.1.now)
+        (λ fault. (fault ≡ LineFault.Count) × (pieces rest.now ≡ [])) }
+{
+    next_field(rest).ok_or(LineFault::Count)
+}
+
+/// Nothing is left. The fault is `Count`.
+pub fn no_number(rest: &[u8]) -> Result<(), LineFault>
+    ensures { result ≡ none tt (pieces rest.now) }
+{
+    match next_field(rest) {
+        None => Ok(()),
+        Some(_) => Err(LineFault::Count),
+    }
+}
+
+/// The one number that is left. The fault is `Count` or `Number`.
+pub fn one_number(rest: &[u8], bounds: Bounds) -> Result<u64, LineFault>
+    ensures value { result ≡ one bounds (λ x. x) (pieces rest.now) }
+    ensures within { IfOk result (λ x. x ≤ bounds.greatest) }
+{
+    let (first, rest) = need_field(rest)?;
+    no_number(rest)?;
+    read_number(first, bounds)
+}
+
+/// The two numbers that are left. The fault is `Count` or `Number`.
+pub fn two_numbers(rest: &[u8], first: Bounds, second: Bounds) -> Result<(u64, u64), LineFault>
+    ensures value { result ≡ two first second (λ x y. (x, y)) (pieces rest.now) }
+    ensures within { IfOk result (λ p. (p.0 ≤ first.greatest) × (p.1 ≤ second.greatest)) }
+{
+    let (x, rest) = need_field(rest)?;
+    let (y, rest) = need_field(rest)?;
+    no_number(rest)?;
+    Ok((read_number(x, first)?, read_number(y, second)?))
+}
+
+/// The three numbers that are left. The fault is `Count` or `Number`.
+pub fn three_numbers(
+    rest: &[u8],
+    first: Bounds,
+    second: Bounds,
+    third: Bounds,
+) -> Result<(u64, u64, u64), LineFault>
+    ensures value { result ≡ three first second third (λ x y z. (x, y, z)) (pieces rest.now) }
+    ensures within { IfOk result
+        (λ p. (p.0 ≤ first.greatest) × (p.1 ≤ second.greatest) × (p.2 ≤ third.greatest)) }
+{
+    let (x, rest) = need_field(rest)?;
+    let (y, rest) = need_field(rest)?;
+    let (z, rest) = need_field(rest)?;
+    no_number(rest)?;
+    Ok((
+        read_number(x, first)?,
+        read_number(y, second)?,
+        read_number(z, third)?,
+    ))
+}
