@@ -1,5 +1,6 @@
 pub mod Counts
 pub mod Digits
+pub mod Faults
 pub mod Lines
 pub mod Numerals
 pub mod Pieces
