@@ -206,7 +206,7 @@ owns-after m t p a w saved is =
     rw (e, is) (saves_in-saving p a (slice_index m.words a) saved)
 
 -- who may own the page is the only one that does
-may_own-only : (m : Array) (t p u : ℕ) → AreApart m → MayOwn m t p → IsTrue (owns p (slot_of m u)) → u ≡ t
+pub may_own-only : (m : Array) (t p u : ℕ) → AreApart m → MayOwn m t p → IsTrue (owns p (slot_of m u)) → u ≡ t
 may_own-only m t p u apart (inl mine) own = apart u t p own (owner-Some m p t mine).1
 may_own-only m t p u apart (inr (free, room)) own = let no = owner-None m p free u in cc
 
