@@ -1,19 +1,18 @@
 -- What each change of the fields makes of the array, and that the fields still fit together.
-use Rattle.std.proofs.Common.{◌≡◌, ◌≢◌, ◌⊎◌, inl, inr, ℕ, zero, suc, ◌+◌, ◌-◌, ◌*◌, ◌/◌, ◌<◌, ◌≤◌, Bool, true, false, cond, not, List, [], ◌∷◌, ◌++◌, length, get_or, set, map, filter, Option, None, Some, is_some, count_by, IsTrue, All, AllPairs, refl, sym, ◌∙◌, ap, subst, le_trans, arith}
-use Rattle.std.specs.Prelude.{◌==◌, slice_index}
-use Rattle.std.specs.List.{range_with_len}
-use Rattle.std.proofs.lemmas.List.{get_or-set_same, get_or-set_other, length-set, set-get_or, ext_get_or, get_or_past}
+use Rattle.std.proofs.Common.{◌≡◌, ◌≢◌, ◌⊎◌, inl, inr, ℕ, ◌+◌, ◌-◌, ◌<◌, ◌≤◌, Bool, true, false, cond, not, List, [], ◌∷◌, ◌++◌, length, get_or, set, filter, Option, None, Some, is_some, count_by, IsTrue, All, refl, sym, ◌∙◌, ap, subst, le_trans, arith}
+use Rattle.std.specs.Prelude.{◌==◌}
+use Rattle.std.proofs.lemmas.List.{get_or-set_other, length-set, set-get_or, ext_get_or, get_or_past}
 use Rattle.std.proofs.lemmas.List.Elements.{All-push, All-filter, filter_passes}
 use Rattle.std.proofs.lemmas.List.Kept.{AllPairs-filter}
 use Rattle.std.proofs.lemmas.List.Quantifiers.{all_pairs_push}
-use Rattle.std.proofs.lemmas.Bool.{cases_eq, cases_lt, cases_Bool, eqb-true, eqb-false, eq-eqb, ne_eqb}
-use Rattle.envy_base.specs.Array.{Array, Saved, page_of, pages, slot_of, saves_in, owns, owner, owned, saving, with_slot, stored, put, IsArray}
+use Rattle.std.proofs.lemmas.Bool.{cases_eq, cases_lt, cases_Bool, eq-eqb}
+use Rattle.envy_base.specs.Array.{Array, Saved, page_of, pages, slot_of, saves_in, owns, owner, owned, saving, with_slot, put, IsArray}
 use Rattle.envy_base.specs.Step.{MayOwn}
-use Rattle.envy_base.proofs.Owning.{owners, length-owners, owners-at, owned-counts, owners-same, owner-begun, owner-closed, owners-put, owned-put, page-within}
+use Rattle.envy_base.proofs.Owning.{owners, length-owners, owners-at, owned-counts, owners-same, owner-begun, owner-closed, owners-put, owned-put}
 use Rattle.envy_base.proofs.Undoing.{saves}
 use Rattle.envy_base.proofs.Keeping.{IsArray-begun, IsArray-closed, IsArray-put}
 use Rattle.envy_plain.specs.declared.saved_word.SavedWord.{SavedWord}
-use Rattle.envy_plain.specs.Fields.{saved_by, slot_in, slots_in, array_in, IsPlain}
+use Rattle.envy_plain.specs.Fields.{saved_by, slots_in, array_in, IsPlain}
 use Rattle.envy_plain.proofs.Parts.{is_other, saved_by-none, length-slots_in, slots_in-at, slot_in-open, slot_in-closed, slots_in-begun, slots_in-push, slots_in-closed}
 use Rattle.envy_plain.proofs.Turns.{IsUnsaved, saves-unsaved}
 

@@ -1,12 +1,12 @@
 -- A new machine.
-use Rattle.std.proofs.Common.{◌≡◌, ◌⊎◌, inl, inr, ℕ, ◌*◌, ◌<◌, ◌≤◌, Bool, true, false, List, [], ◌∷◌, length, get_or, replicate, Option, None, Some, is_some, count_by, refl, sym, ◌∙◌, ap, subst, arith}
+use Rattle.std.proofs.Common.{◌≡◌, ◌⊎◌, inl, inr, ℕ, ◌*◌, ◌<◌, ◌≤◌, Bool, false, List, [], length, get_or, replicate, Option, None, refl, sym, ◌∙◌, ap, subst, arith}
 use Rattle.std.proofs.lemmas.List.{length-replicate, get_or-replicate, get_or_past, ext_get_or}
 use Rattle.std.proofs.lemmas.Bool.{cases_lt}
-use Rattle.envy_base.specs.Array.{Array, Saved, slot_of, pages, owner, owned, owns, zeros, IsArray}
+use Rattle.envy_base.specs.Array.{Array, Saved, pages, owner, owned, owns, zeros, IsArray}
 use Rattle.envy_base.proofs.Owning.{owners, length-owners, owners-at, owned-none, owner-nobody}
 use Rattle.envy_base.proofs.Keeping.{IsArray-zeros}
 use Rattle.envy_plain.specs.declared.saved_word.SavedWord.{SavedWord}
-use Rattle.envy_plain.specs.Fields.{slots_in, slot_in, array_in, IsPlain}
+use Rattle.envy_plain.specs.Fields.{slots_in, array_in, IsPlain}
 use Rattle.envy_plain.proofs.Parts.{slots_in-is, slot_in-closed}
 
 pub all-false : (n t : ℕ) → get_or (replicate n false) t false ≡ false

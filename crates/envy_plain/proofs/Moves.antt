@@ -1,16 +1,15 @@
 -- From what the machine's parts do to what a call does to the array.
-use Rattle.std.proofs.Common.{◌≡◌, ◌≢◌, ◌⊎◌, inl, inr, ℕ, zero, suc, ◌+◌, ◌-◌, ◌*◌, ◌/◌, ◌<◌, ◌≤◌, Bool, true, false, cond, not, List, [], ◌∷◌, length, get_or, set, take, filter, count_by, replicate, Option, None, Some, is_some, Result, Ok, Err, MatchResult, MatchOption, IsTrue, All, Any, Contains, AllPairs, refl, sym, ◌∙◌, ap, subst, subst₂, arith}
-use Rattle.std.specs.Prelude.{◌==◌, slice_index, position, unwrap_or}
-use Rattle.std.proofs.lemmas.List.{get_or-set_same, get_or-set_other, length-set, length-replicate, set-get_or, ext_get_or, get_or_past, get_or_default, get_or-replicate}
-use Rattle.std.proofs.lemmas.Bool.{cases_eq, cases_lt, cases_Bool}
-use Rattle.envy_base.specs.Array.{Array, Saved, page_of, pages, slot_of, saves_in, owns, owner, owned, is_closed, put_back, undone, saving, with_slot, stored, put, aborted, restarted, IsArray}
-use Rattle.envy_base.specs.Step.{Step, MayOwn, Answer, Abort, Done}
+use Rattle.std.proofs.Common.{◌≡◌, inl, inr, ℕ, ◌+◌, ◌-◌, ◌/◌, ◌<◌, Bool, true, false, cond, not, List, length, get_or, set, filter, count_by, Option, None, Some, is_some, MatchOption, IsTrue, All, Any, Contains, refl, sym, ◌∙◌, ap, subst, subst₂}
+use Rattle.std.specs.Prelude.{slice_index, position, unwrap_or}
+use Rattle.std.proofs.lemmas.List.{set-get_or}
+use Rattle.envy_base.specs.Array.{Array, Saved, page_of, pages, slot_of, saves_in, owns, owner, owned, is_closed, put_back, undone, saving, with_slot, stored, put, aborted}
+use Rattle.envy_base.specs.Step.{MayOwn}
 use Rattle.std.proofs.lemmas.List.Quantifiers.{position-Some}
 use Rattle.envy_base.proofs.Owning.{length-owners, page-within, position-None, position-first, position-nowhere, may_own-only}
-use Rattle.envy_base.proofs.Undoing.{saves, saves-owns, has, undone-aborted, undone-unsaved, undone-saved, undo_all-closed}
+use Rattle.envy_base.proofs.Undoing.{saves, saves-owns, has, undone-unsaved, undone-saved}
 use Rattle.envy_plain.specs.declared.saved_word.SavedWord.{SavedWord}
 use Rattle.envy_plain.specs.Fields.{saved_by, slot_in, slots_in, array_in, IsPlain}
-use Rattle.envy_plain.proofs.Machine.{slot-open, slot-closed, slot-is, marked-within, array-closed, IsPlain-closed}
+use Rattle.envy_plain.proofs.Machine.{slot-open, slot-is, marked-within, array-closed, IsPlain-closed}
 use Rattle.envy_plain.proofs.Members.{saved_by-member, saves-member, has-unsaved}
 use Rattle.envy_plain.proofs.Parts.{is_other, length-slots_in, slots_in-at}
 use Rattle.envy_plain.proofs.Turns.{IsUnsaved}

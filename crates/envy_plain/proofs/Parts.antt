@@ -1,16 +1,13 @@
 -- Each slot's part of the list of saved words.
-use Rattle.std.proofs.Common.{◌≡◌, ◌≢◌, ◌⊎◌, inl, inr, ℕ, zero, suc, ◌+◌, ◌*◌, ◌/◌, ◌<◌, ◌≤◌, Bool, true, false, cond, not, ◌&&◌, ◌||◌, List, [], ◌∷◌, ◌++◌, length, get_or, set, map, filter, Option, None, Some, IsTrue, All, AllPairs, refl, sym, ◌∙◌, ap, subst, append-nil, append_assoc, zero-add, arith}
-use Rattle.std.specs.Prelude.{◌==◌, sum_by, unwrap_or}
-use Rattle.std.specs.List.{list_any, range_with_len}
-use Rattle.std.proofs.lemmas.List.{get_or-set_same, get_or-set_other, length-set, get_or_past, ext_get_or, get_or_default}
+use Rattle.std.proofs.Common.{◌≡◌, ◌≢◌, ◌⊎◌, inl, inr, ℕ, suc, ◌<◌, ◌≤◌, Bool, true, false, cond, not, List, [], ◌∷◌, ◌++◌, length, get_or, set, map, filter, Option, None, Some, IsTrue, All, refl, sym, ◌∙◌, ap, append-nil, append_assoc, arith}
+use Rattle.std.specs.Prelude.{◌==◌}
+use Rattle.std.specs.List.{range_with_len}
+use Rattle.std.proofs.lemmas.List.{get_or-set_same, get_or-set_other, length-set, get_or_past, ext_get_or}
 use Rattle.std.proofs.lemmas.List.FromFn.{get_or-map-range_with_len, length-map-range_with_len}
-use Rattle.std.proofs.lemmas.List.Folds.{list_any-append}
-use Rattle.std.proofs.lemmas.List.Sums.{sum_by-set}
-use Rattle.std.proofs.lemmas.Bool.{cases_eq, cases_lt, cases_Bool, or_left, or_right, eqb-true, eqb-false, eq-eqb, ne_eqb}
-use Rattle.envy_base.specs.Array.{Array, Saved, page_of, slot_of, saves_in, owns, with_slot}
-use Rattle.envy_base.proofs.Undoing.{saves, has}
+use Rattle.std.proofs.lemmas.Bool.{cases_eq, cases_lt, eq-eqb, ne_eqb}
+use Rattle.envy_base.specs.Array.{Saved}
 use Rattle.envy_plain.specs.declared.saved_word.SavedWord.{SavedWord}
-use Rattle.envy_plain.specs.Fields.{saved_by, slot_in, slots_in, array_in}
+use Rattle.envy_plain.specs.Fields.{saved_by, slot_in, slots_in}
 
 -- ---- the pairs of a slot
 

@@ -1,9 +1,9 @@
 -- All slots aborted one by one leave what a failure of power leaves.
-use Rattle.std.proofs.Common.{◌≡◌, ◌≢◌, ◌⊎◌, inl, inr, ℕ, ◌+◌, ◌*◌, ◌<◌, ◌≤◌, List, [], ◌∷◌, length, get_or, set, replicate, Option, None, Some, Result, Ok, Err, MatchResult, refl, sym, ◌∙◌, ap, subst, arith}
-use Rattle.std.proofs.lemmas.List.{get_or-set_same, get_or-set_other, length-replicate, ext_get_or, get_or-replicate}
+use Rattle.std.proofs.Common.{◌≡◌, ◌≢◌, ◌⊎◌, inl, inr, ℕ, ◌+◌, ◌<◌, ◌≤◌, List, length, replicate, Option, None, Some, Result, Ok, Err, MatchResult, refl, sym, ◌∙◌, ap, subst, arith}
+use Rattle.std.proofs.lemmas.List.{length-replicate, ext_get_or, get_or-replicate}
 use Rattle.std.proofs.lemmas.Bool.{cases_eq}
 use Rattle.envy_base.specs.Array.{Array, Saved, slot_of, undone, undo_all, aborted, restarted, IsArray}
-use Rattle.envy_base.specs.Step.{Step, Abort, Done, Closed as ClosedAnswer}
+use Rattle.envy_base.specs.Step.{Step, Abort, Done}
 use Rattle.envy_base.proofs.Keeping.{step-keeps}
 use Rattle.envy_base.proofs.Owning.{slot_cases, slot-within}
 use Rattle.envy_base.proofs.Undoing.{undone-aborted, undo_all-closed}

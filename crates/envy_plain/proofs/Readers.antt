@@ -1,16 +1,14 @@
 -- What a call of `get` answers, and what the machine's readers make of it.
-use Rattle.std.proofs.Common.{◌≡◌, ◌≢◌, ◌⊎◌, inl, inr, ℕ, ◌+◌, ◌*◌, ◌/◌, ◌<◌, ◌≤◌, Bool, true, false, List, length, get_or, Option, None, Some, is_some, Result, Ok, Err, MatchResult, MatchBool, Bor, refl, sym, ◌∙◌, ap, subst, arith}
+use Rattle.std.proofs.Common.{◌≡◌, ◌⊎◌, inl, inr, ℕ, ◌*◌, ◌/◌, ◌<◌, ◌≤◌, Bool, true, false, List, length, get_or, Option, None, Some, MatchResult, MatchBool, Bor, refl, sym, ◌∙◌, ap, arith}
 use Rattle.std.specs.Option.{option_copied, ok_or, unwrap_or}
 use Rattle.std.specs.Slice.{IsGetResult}
-use Rattle.std.specs.Prelude.{nat_lt}
 use Rattle.std.proofs.lemmas.List.{get_or_past}
-use Rattle.std.proofs.lemmas.Bool.{cases_lt, cases_Bool, lt-ltb, ltb-true, ltb-false}
+use Rattle.std.proofs.lemmas.Bool.{ltb-true, ltb-false}
 use Rattle.envy_base.specs.Array.{Array, Saved, page_of, pages, slot_of, owner}
-use Rattle.envy_base.proofs.Owning.{owners, length-owners, owners-at, page-within}
+use Rattle.envy_base.proofs.Owning.{owners, length-owners, owners-at}
 use Rattle.envy_plain.specs.declared.saved_word.SavedWord.{SavedWord}
-use Rattle.envy_plain.specs.declared.refusal.Refusal.{Refusal}
 use Rattle.envy_plain.specs.declared.refusal.Refusal.TheVariants.{Range}
-use Rattle.envy_plain.specs.Fields.{saved_by, array_in, IsPlain}
+use Rattle.envy_plain.specs.Fields.{saved_by, array_in}
 use Rattle.envy_plain.proofs.Machine.{slot-open, slot-closed}
 
 -- the element, where there is one

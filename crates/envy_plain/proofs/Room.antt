@@ -1,17 +1,17 @@
 -- The saved words are never more than the pages that may be owned have.
-use Rattle.std.proofs.Common.{◌≡◌, ◌≢◌, ◌⊎◌, inl, inr, ℕ, zero, suc, ◌+◌, ◌-◌, ◌*◌, ◌/◌, ◌%◌, ◌<◌, ◌≤◌, Bool, true, false, cond, List, [], ◌∷◌, ◌++◌, length, get_or, set, map, take, Option, None, Some, is_some, count_by, sum_by, IsTrue, All, AllPairs, refl, sym, ◌∙◌, ap, subst, append-nil, arith}
-use Rattle.std.specs.Prelude.{◌==◌, eqb, unwrap_or}
+use Rattle.std.proofs.Common.{◌≡◌, ◌≢◌, ◌⊎◌, inl, inr, ℕ, suc, ◌+◌, ◌*◌, ◌%◌, ◌<◌, ◌≤◌, Bool, true, false, cond, List, [], ◌∷◌, ◌++◌, length, get_or, set, map, take, Option, None, Some, is_some, count_by, sum_by, IsTrue, All, AllPairs, sym, ◌∙◌, ap, subst, append-nil, arith}
+use Rattle.std.specs.Prelude.{eqb, unwrap_or}
 use Rattle.std.specs.List.{list_any}
 use Rattle.std.proofs.lemmas.List.{get_or-set_same, get_or-set_other, get_or-take, take-take, length-take, length-set, length-map, length-append, get_or-map, get_or_default}
 use Rattle.std.proofs.lemmas.List.Sums.{sum_by-set, sum_by-le, sum_by_more_le}
-use Rattle.std.proofs.lemmas.List.Folds.{Any-from_list_any, list_any-append}
+use Rattle.std.proofs.lemmas.List.Folds.{Any-from_list_any}
 use Rattle.std.proofs.lemmas.Map.Keys.{IsDistinct-from_apart}
 use Rattle.std.proofs.lemmas.Map.Steps.{length-le_from_distinct_below}
-use Rattle.std.proofs.lemmas.Bool.{cases_eq, cases_lt, cases_order, cases_Bool, or_left, or_right, eqb-true, eqb-false, eq-eqb, ne_eqb}
-use Rattle.envy_base.specs.Array.{Array, Saved, page_of, pages, slot_of, saves_in, owns, owner, owned, IsArray}
-use Rattle.envy_base.proofs.Owning.{owners, length-owners, owners-at, owned-counts, owner-is, page-within}
+use Rattle.std.proofs.lemmas.Bool.{cases_eq, cases_order, eqb-true, ne_eqb}
+use Rattle.envy_base.specs.Array.{Array, Saved, page_of, pages, slot_of, saves_in, owns, owned}
+use Rattle.envy_base.proofs.Owning.{length-owners, owners-at, owned-counts, owner-is, page-within}
 use Rattle.envy_plain.specs.declared.saved_word.SavedWord.{SavedWord}
-use Rattle.envy_plain.specs.Fields.{saved_by, slot_in, slots_in, array_in, saved_words, IsPlain}
+use Rattle.envy_plain.specs.Fields.{saved_by, slot_in, slots_in, array_in, IsPlain}
 use Rattle.envy_plain.proofs.Parts.{part, part-own, part-other, length-slots_in, slots_in-at, slots_in-is, slot_in-open}
 use Rattle.envy_plain.proofs.Machine.{slot-open, marked-within}
 use Rattle.envy_plain.proofs.Members.{saves_in-member}

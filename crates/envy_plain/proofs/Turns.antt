@@ -1,11 +1,10 @@
 -- One turn of a loop over the saved words.
-use Rattle.std.proofs.Common.{◌≡◌, ◌≢◌, ◌⊎◌, inl, inr, ℕ, zero, suc, ◌+◌, ◌*◌, ◌/◌, ◌<◌, ◌≤◌, min, Bool, true, false, cond, ◌||◌, List, [], ◌∷◌, ◌++◌, length, get_or, set, take, Option, None, Some, is_some, count_by, IsTrue, All, AllPairs, refl, sym, ◌∙◌, ap, subst, subst₂, length-take, length-set, arith}
+use Rattle.std.proofs.Common.{◌≡◌, ◌≢◌, ◌⊎◌, inl, inr, ℕ, suc, ◌+◌, ◌<◌, true, false, cond, List, [], ◌∷◌, ◌++◌, length, get_or, set, take, Option, None, Some, is_some, count_by, All, AllPairs, refl, sym, ◌∙◌, ap, subst, subst₂, length-take, arith}
 use Rattle.std.specs.Prelude.{◌==◌}
-use Rattle.std.specs.List.{list_any}
 use Rattle.std.proofs.lemmas.List.{get_or-set_same, get_or-set_other, get_or-take, take_more, get_or_default}
 use Rattle.std.proofs.lemmas.List.Folds.{list_any-append}
 use Rattle.std.proofs.lemmas.List.Sums.{sum_by-set}
-use Rattle.std.proofs.lemmas.Bool.{cases_eq, cases_Bool, or_from, or_left, or_right, eqb-true, eqb-false, eq-eqb, ne_eqb}
+use Rattle.std.proofs.lemmas.Bool.{cases_eq, or_from, or_left, eq-eqb, ne_eqb}
 use Rattle.envy_base.specs.Array.{Saved, page_of, saves_in, put_back}
 use Rattle.envy_base.proofs.Undoing.{saves, put_back-set}
 use Rattle.envy_plain.specs.declared.saved_word.SavedWord.{SavedWord}

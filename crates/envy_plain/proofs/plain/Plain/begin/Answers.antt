@@ -1,4 +1,4 @@
-use Rattle.std.proofs.Common.{◌≡◌, ◌∙◌, sym, ap, refl, None, Some, []}
+use Rattle.std.proofs.Common.{◌∙◌, sym, ap, refl, Some, []}
 use Rattle.std.specs.Prelude.{position}
 use Rattle.envy_base.specs.Array.{Array, is_closed, with_slot}
 use Rattle.envy_plain.proofs.Machine.{array-begun, saved_by-closed, IsPlain-begun}

@@ -1,4 +1,4 @@
-use Rattle.std.proofs.Common.{◌≡◌, ◌∙◌, refl}
+use Rattle.std.proofs.Common.{◌∙◌, refl}
 use Rattle.envy_plain.proofs.Moves.{looks}
 use Rattle.envy_plain.proofs.plain.Plain.look.Goals as goal
 

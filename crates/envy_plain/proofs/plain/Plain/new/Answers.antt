@@ -1,4 +1,4 @@
-use Rattle.std.proofs.Common.{◌≡◌, ◌∙◌, ◌*◌, sym, ap, refl, replicate, [], None, rules}
+use Rattle.std.proofs.Common.{◌≡◌, ◌*◌, refl, replicate, rules}
 use Rattle.envy_plain.proofs.Making.{all-false, array-new, IsPlain-new}
 use Rattle.envy_plain.proofs.plain.Plain.new.Goals as goal
 

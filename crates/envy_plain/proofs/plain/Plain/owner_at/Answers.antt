@@ -1,4 +1,4 @@
-use Rattle.std.proofs.Common.{◌∙◌, subst, sym, ap, Result, MatchResult, ◌≡◌, ◌<◌, ◌≤◌, length, ◌*◌}
+use Rattle.std.proofs.Common.{◌∙◌, subst, ap, ◌≡◌, length, ◌*◌}
 use Rattle.envy_base.specs.Array.{Array, pages}
 use Rattle.envy_base.proofs.Owning.{owners}
 use Rattle.envy_plain.proofs.Readers.{owner-read}

@@ -1,6 +1,5 @@
-use Rattle.std.proofs.Common.{◌≡◌, ◌∙◌, sym, ap, subst, is_some, length, vec_len, vec_capacity, List, arith}
-use Rattle.envy_plain.specs.declared.saved_word.SavedWord.{SavedWord}
-use Rattle.envy_plain.proofs.Saving.{option-none, Finds, saves-again, table-at, pushed-new, pushed-old, array-saved, room-left, count-fits}
+use Rattle.std.proofs.Common.{◌≡◌, sym, subst, length, vec_len, vec_capacity, arith}
+use Rattle.envy_plain.proofs.Saving.{option-none, saves-again, table-at, pushed-new, pushed-old, array-saved, room-left, count-fits}
 use Rattle.envy_plain.proofs.Turns.{IsUnsaved}
 use Rattle.envy_plain.proofs.plain.Plain.save.Goals as goal
 

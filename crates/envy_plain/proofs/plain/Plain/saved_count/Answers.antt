@@ -1,4 +1,4 @@
-use Rattle.std.proofs.Common.{◌≡◌, ◌≤◌, ◌*◌, ◌∙◌, sym, ap, vec_len, length, ℕ, arith}
+use Rattle.std.proofs.Common.{◌≡◌, ◌∙◌, sym, ap, vec_len, length, arith}
 use Rattle.envy_base.specs.Array.{Array}
 use Rattle.envy_plain.specs.Fields.{saved_words}
 use Rattle.envy_plain.proofs.Room.{length-saved, sum_by-slots_in}
