@@ -13,12 +13,8 @@ use Rattle.envy_base.proofs.Undoing.{saves}
 use Rattle.envy_base.proofs.Keeping.{IsArray-begun, IsArray-closed, IsArray-put}
 use Rattle.envy_plain.specs.declared.saved_word.SavedWord.{SavedWord}
 use Rattle.envy_plain.specs.Fields.{saved_by, slots_in, array_in, IsPlain}
-use Rattle.envy_plain.proofs.Parts.{is_other, saved_by-none, length-slots_in, slots_in-at, slot_in-open, slot_in-closed, slots_in-begun, slots_in-push, slots_in-closed}
+use Rattle.envy_plain.proofs.Parts.{array-of, is_other, saved_by-none, length-slots_in, slots_in-at, slot_in-open, slot_in-closed, slots_in-begun, slots_in-push, slots_in-closed}
 use Rattle.envy_plain.proofs.Turns.{IsUnsaved, saves-unsaved}
-
--- the array with other slots
-with-slots : List ℕ → ℕ → List (Option Saved) → Array
-with-slots words shadows slots = record { words = words; slots = slots; shadows = shadows }
 
 -- ---- the slots of the array
 
@@ -46,8 +42,7 @@ marked-within active t is = at (cases_lt t (length active))
 -- ---- a slot opens
 
 pub array-begun : (words : List ℕ) (active : List Bool) (saved : List SavedWord) (shadows t : ℕ) → length active ≡ 64 → t < 64 → saved_by t saved ≡ [] → array_in words (set active t true) saved shadows ≡ with_slot (array_in words active saved shadows) t (Some [])
-unfolding with-slots
-array-begun words active saved shadows t long lt none = ap (with-slots words shadows) (slots_in-begun active saved t long lt none)
+array-begun words active saved shadows t long lt none = ap (λ (slots : List (Option Saved)). array-of words slots shadows) (slots_in-begun active saved t long lt none)
 
 -- a closed slot has saved nothing
 pub saved_by-closed : (active : List Bool) (saved : List SavedWord) (t : ℕ) → All (λ e. IsTrue (get_or active e.slot false)) saved → get_or active t false ≡ false → saved_by t saved ≡ []
@@ -81,12 +76,11 @@ IsPlain-begun words active saved table count shadows room t lt none i =
 -- ---- a word is saved
 
 pub array-pushed : (words : List ℕ) (active : List Bool) (saved : List SavedWord) (shadows t a : ℕ) → length active ≡ 64 → get_or active t false ≡ true → IsUnsaved a saved → array_in words active (saved ++ record { slot = t; address = a; before = get_or words a 0 } ∷ []) shadows ≡ put (array_in words active saved shadows) t (saved_by t saved) a (get_or words a 0)
-unfolding with-slots
 array-pushed words active saved shadows t a long is none =
     let lt : t < 64 = rw (← long) (marked-within active t is) in
-    ap (with-slots words shadows) (slots_in-push active saved (record { slot = t; address = a; before = get_or words a 0 }) long lt is)
-    ∙ ap (λ (list : Saved). with-slots words shadows (set (slots_in active saved) t (Some list))) (sym (new (saves a (saved_by t saved)) refl (saves-unsaved t a saved none)))
-    ∙ ap (λ (ws : List ℕ). with-slots ws shadows (set (slots_in active saved) t (Some (saving a (get_or words a 0) (saved_by t saved))))) (sym (set-get_or words a 0))
+    ap (λ (slots : List (Option Saved)). array-of words slots shadows) (slots_in-push active saved (record { slot = t; address = a; before = get_or words a 0 }) long lt is)
+    ∙ ap (λ (list : Saved). array-of words (set (slots_in active saved) t (Some list)) shadows) (sym (new (saves a (saved_by t saved)) refl (saves-unsaved t a saved none)))
+    ∙ ap (λ (ws : List ℕ). array-of ws (set (slots_in active saved) t (Some (saving a (get_or words a 0) (saved_by t saved)))) shadows) (sym (set-get_or words a 0))
   where
     new : (b : Bool) → saves a (saved_by t saved) ≡ b → b ≡ false → saving a (get_or words a 0) (saved_by t saved) ≡ (a, get_or words a 0) ∷ saved_by t saved
     new true e none = cc
@@ -122,8 +116,7 @@ IsPlain-pushed words active saved table now count next shadows room more t a lt 
 -- ---- a slot closes
 
 pub array-closed : (words : List ℕ) (active : List Bool) (saved : List SavedWord) (shadows t : ℕ) → length active ≡ 64 → t < 64 → array_in words (set active t false) (filter (is_other t) saved) shadows ≡ with_slot (array_in words active saved shadows) t None
-unfolding with-slots
-array-closed words active saved shadows t long lt = ap (with-slots words shadows) (slots_in-closed active saved t long lt)
+array-closed words active saved shadows t long lt = ap (λ (slots : List (Option Saved)). array-of words slots shadows) (slots_in-closed active saved t long lt)
 
 pub IsPlain-closed : (words : List ℕ) (active : List Bool) (saved : List SavedWord) (table now : List (Option ℕ)) (count shadows room taken t : ℕ) → get_or active t false ≡ true → length now ≡ length table → taken + count_by is_some now ≡ count_by is_some table → ((p : ℕ) → get_or now p None ≡ cond (saves_in p (saved_by t saved)) None (get_or table p None)) → IsPlain words active saved table count shadows room → IsPlain words (set active t false) (filter (is_other t) saved) now (count - taken) shadows room
 IsPlain-closed words active saved table now count shadows room taken t is same_length sum each i =

@@ -2,12 +2,12 @@
 use Rattle.std.proofs.Common.{◌≡◌, ◌⊎◌, inl, inr, ℕ, ◌*◌, ◌<◌, ◌≤◌, Bool, false, List, [], length, get_or, replicate, Option, None, refl, sym, ◌∙◌, ap, subst, arith}
 use Rattle.std.proofs.lemmas.List.{length-replicate, get_or-replicate, get_or_past, ext_get_or}
 use Rattle.std.proofs.lemmas.Bool.{cases_lt}
-use Rattle.envy_base.specs.Array.{Array, Saved, pages, owner, owned, owns, zeros, IsArray}
+use Rattle.envy_base.specs.Array.{Saved, pages, owner, owned, owns, zeros, IsArray}
 use Rattle.envy_base.proofs.Owning.{owners, length-owners, owners-at, owned-none, owner-nobody}
 use Rattle.envy_base.proofs.Keeping.{IsArray-zeros}
 use Rattle.envy_plain.specs.declared.saved_word.SavedWord.{SavedWord}
 use Rattle.envy_plain.specs.Fields.{slots_in, array_in, IsPlain}
-use Rattle.envy_plain.proofs.Parts.{slots_in-is, slot_in-closed}
+use Rattle.envy_plain.proofs.Parts.{array-of, slots_in-is, slot_in-closed}
 
 pub all-false : (n t : ℕ) → get_or (replicate n false) t false ≡ false
 all-false n t = at (cases_lt t n)
@@ -23,15 +23,11 @@ all-none n t = at (cases_lt t n)
     at (inl lt) = get_or-replicate n t None None lt
     at (inr le) = get_or_past (replicate n None) t None (rw length-replicate le)
 
-as-array : List ℕ → List (Option Saved) → ℕ → Array
-as-array words slots shadows = record { words = words; slots = slots; shadows = shadows }
-
 pub array-new : (words : List ℕ) (active : List Bool) (saved : List SavedWord) (count shadows : ℕ) → words ≡ replicate (32 * count) 0 → length active ≡ 64 → ((t : ℕ) → get_or active t false ≡ false) → saved ≡ [] → array_in words active saved shadows ≡ zeros count shadows
-unfolding as-array
 array-new words active saved count shadows words_are long closed none =
     ap (λ (xs : List SavedWord). array_in words active xs shadows) none
-    ∙ ap (λ (slots : List (Option Saved)). as-array words slots shadows) (slots 64 refl)
-    ∙ ap (λ (ws : List ℕ). as-array ws (replicate 64 None) shadows) words_are
+    ∙ ap (λ (slots : List (Option Saved)). array-of words slots shadows) (slots 64 refl)
+    ∙ ap (λ (ws : List ℕ). array-of ws (replicate 64 None) shadows) words_are
   where
     slots : (n : ℕ) → n ≡ 64 → slots_in active [] ≡ replicate n None
     slots n is = slots_in-is active [] (replicate n None) long (length-replicate n None ∙ is) (λ t lt. slot_in-closed active [] t (closed t) ∙ sym (all-none n t))

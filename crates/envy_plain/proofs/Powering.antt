@@ -10,6 +10,7 @@ use Rattle.envy_base.proofs.Undoing.{undone-aborted, undo_all-closed}
 use Rattle.envy_plain.specs.declared.refusal.Refusal.{Refusal}
 use Rattle.envy_plain.specs.declared.refusal.Refusal.TheVariants.{Range, Closed, Held, Full, Busy}
 use Rattle.envy_plain.specs.Refusals.{answer_of}
+use Rattle.envy_plain.proofs.Parts.{array-of}
 
 -- the slots below t are closed, and what a restart leaves is the same
 pub record IsClosedBelow (old now : Array) (t : ℕ) : Type 0 where
@@ -48,17 +49,13 @@ IsClosedBelow-more old mid new t (Err (Held u)) below never = absurd never
 IsClosedBelow-more old mid new t (Err Full) below never = absurd never
 IsClosedBelow-more old mid new t (Err Busy) below never = absurd never
 
-as-array : List ℕ → List (Option Saved) → ℕ → Array
-as-array words slots shadows = record { words = words; slots = slots; shadows = shadows }
-
 -- all 64 slots
 pub IsClosedBelow-all : (old now : Array) (t : ℕ) → 64 ≤ t → IsClosedBelow old now t → now ≡ restarted old
-unfolding as-array
 IsClosedBelow-all old now t le below = by 64 refl
   where
-    by : (n : ℕ) → n ≡ 64 → now ≡ as-array (undone old) (replicate n None) old.shadows
+    by : (n : ℕ) → n ≡ 64 → now ≡ array-of (undone old) (replicate n None) old.shadows
     by n is =
         let long : length now.slots ≡ n = below.array.slots ∙ sym is in
         let slots : now.slots ≡ replicate n None = ext_get_or None now.slots (replicate n None) (long ∙ sym (length-replicate n None)) (λ u lt. below.closed u (omega arith) ∙ sym (get_or-replicate n u None None (rw (← long) lt))) in
         let words : now.words ≡ undone old = sym (ap (λ (s : List (Option Saved)). undo_all s now.words) slots ∙ undo_all-closed n now.words) ∙ below.same in
-        ap (λ (s : List (Option Saved)). as-array now.words s now.shadows) slots ∙ ap (λ (ws : List ℕ). as-array ws (replicate n None) now.shadows) words ∙ ap (as-array (undone old) (replicate n None)) below.shadows
+        ap (λ (s : List (Option Saved)). array-of now.words s now.shadows) slots ∙ ap (λ (ws : List ℕ). array-of ws (replicate n None) now.shadows) words ∙ ap (array-of (undone old) (replicate n None)) below.shadows

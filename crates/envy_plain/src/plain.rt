@@ -10,7 +10,10 @@ use envy_base::{NoMemory, Shape};
 use std::alloc::Global;
 use std::marker::Model;
 
-/// An array of words with 64 transaction slots.
+/// An array of words of 64 bits, 32 to a page, with 64 transaction slots. A page is owned by the open
+/// slot that stored into it, until the slot closes.
+///
+/// A refused call leaves the array as it was.
 #[derive(Drop)]
 pub struct Plain {
     words: Vec<u64>,
@@ -33,14 +36,16 @@ impl Model for Plain {
 
     ghost view = { λ a. array_in a.words.items a.active a.saved.items a.shadows };
 
-    ghost invariant = { λ a. IsPlain a.words.items a.active a.saved.items a.owners.items a.owned a.shadows (vec_capacity a.saved) };
+    ghost invariant = { λ a.
+        IsPlain a.words.items a.active a.saved.items a.owners.items a.owned a.shadows (vec_capacity a.saved) };
 }
 
 impl Plain {
     ghost use Rattle.envy_plain.specs.Fields.{saved_words};
 
     /// An array of zeros of the shape's pages, with no slot open. It takes all memory that the machine
-    /// ever needs: beside the words, room to save 32 words for each page that may be owned.
+    /// ever needs: beside the words, room to save 32 words for each page that may be owned. No other
+    /// call takes any.
     pub fn new(alloc: Global, shape: &Shape) -> Result<Plain, NoMemory>
         requires { IsShape shape.now }
         ensures { IfOk result (λ plain. plain ≡ zeros shape.now.pages shape.now.shadows) }
@@ -56,7 +61,7 @@ impl Plain {
         })
     }
 
-    /// The word at an address, with the stores of open slots.
+    /// The word at address `a`, with the stores of open slots. Refused as `Range`.
     pub fn load(&self, a: u32) -> Result<u64, Refusal>
         ensures { MatchResult result
             (λ w. Step self.now (Load a) (Word w) self.now)
@@ -65,7 +70,7 @@ impl Plain {
         self.words.get(a as usize).copied().ok_or(Refusal::Range)
     }
 
-    /// The word at an address, without the stores of open slots.
+    /// The word at address `a`, without the stores of open slots. Refused as `Range`.
     pub fn look(&self, a: u32) -> Result<u64, Refusal>
         ensures { MatchResult result
             (λ w. Step self.now (Look a) (Word w) self.now)
@@ -75,7 +80,8 @@ impl Plain {
         Ok(word_before(&self.saved, a).unwrap_or(word))
     }
 
-    /// Stores a word into a page that no slot owns.
+    /// Stores `w` at address `a`, in a page that no slot owns. Refused as `Range`, or as `Held` by the
+    /// slot that owns the page.
     pub fn store(&mut self, a: u32, w: u64) -> Result<(), Refusal>
         ensures { MatchResult result
             (λ _. Step self.old (Store a w) Done self.new)
@@ -88,7 +94,7 @@ impl Plain {
         Ok(())
     }
 
-    /// Opens the lowest closed slot, and answers it.
+    /// Opens the lowest closed slot, 0 to 63, and answers it. Refused as `Busy`.
     pub fn begin(&mut self) -> Result<u8, Refusal>
         ensures { MatchResult result
             (λ t. Step self.old Begin (Started t) self.new)
@@ -101,7 +107,8 @@ impl Plain {
         Ok(slot as u8)
     }
 
-    /// Stores a word for an open slot, which owns the page from then on.
+    /// Stores `w` at address `a` for the open slot `t`, which owns the page from then on. Refused as
+    /// `Range`, as `Closed`, as `Held` by another slot, or as `Full`, in this order.
     pub fn put(&mut self, t: u8, a: u32, w: u64) -> Result<(), Refusal>
         ensures { MatchResult result
             (λ _. Step self.old (Put t a w) Done self.new)
@@ -121,7 +128,7 @@ impl Plain {
         Ok(())
     }
 
-    /// Closes a slot, whose words stay.
+    /// Closes slot `t`, whose words stay. Refused as `Closed`.
     pub fn commit(&mut self, t: u8) -> Result<(), Refusal>
         ensures { MatchResult result
             (λ _. Step self.old (Commit t) Done self.new)
@@ -134,7 +141,7 @@ impl Plain {
         Ok(())
     }
 
-    /// Puts back the words that a slot has stored over, and closes it.
+    /// Puts back the words that slot `t` has stored over, and closes it. Refused as `Closed`.
     pub fn abort(&mut self, t: u8) -> Result<(), Refusal>
         ensures { MatchResult result
             (λ _. Step self.old (Abort t) Done self.new)
@@ -152,6 +159,7 @@ impl Plain {
     pub fn power(&mut self)
         ensures { self.new ≡ restarted self.old }
     {
+        // the loop begins with the invariant
         let _ = &self.words;
         for t in 0..64 {
             let _ = self.abort(t);
@@ -198,7 +206,8 @@ impl Plain {
         requires in_range { a < length self.old.words }
         requires may { MayOwn self.old t (page_of a) }
         requires opened { (saved : Saved) × (slot_of self.old t ≡ Some saved) }
-        ensures { (saved : Saved) → slot_of self.old t ≡ Some saved → self.new ≡ with_slot self.old t (Some (saving a (slice_index self.old.words a) saved)) }
+        ensures { (saved : Saved) → slot_of self.old t ≡ Some saved
+            → self.new ≡ with_slot self.old t (Some (saving a (slice_index self.old.words a) saved)) }
     {
         if word_before(&self.saved, a).is_some() {
             return;

@@ -42,7 +42,8 @@ pub(crate) fn release(owners: &mut [Option<u8>], saved: &[SavedWord], slot: u8) 
     requires in_range { All (λ e. e.address / 32 < length owners.old) saved.now }
     requires few { count_by is_some owners.old < 2 ^ 32 }
     ensures count { result + count_by is_some owners.new ≡ count_by is_some owners.old }
-    ensures owners { (p : ℕ) → slice_index_or owners.new p None ≡ (if saves_in p (saved_by slot saved.now) then None else slice_index_or owners.old p None) }
+    ensures owners { (p : ℕ) → slice_index_or owners.new p None
+        ≡ (if saves_in p (saved_by slot saved.now) then None else slice_index_or owners.old p None) }
 {
     let mut pages = 0;
     for word in saved {
