@@ -1,14 +1,13 @@
 -- Each step, and a failure of power, leaves an array.
-use Rattle.std.proofs.Common.{◌≡◌, ◌≢◌, ◌⊎◌, inl, inr, ℕ, zero, suc, ◌+◌, ◌*◌, ◌/◌, ◌<◌, ◌≤◌, Bool, true, false, cond, List, [], ◌∷◌, length, get_or, set, replicate, Option, None, Some, is_some, IsTrue, AllPairs, refl, sym, ◌∙◌, ap, subst, le_trans, arith}
+use Rattle.std.proofs.Common.{◌≡◌, ◌≢◌, ◌⊎◌, inl, inr, ℕ, zero, suc, ◌+◌, ◌*◌, ◌/◌, ◌<◌, ◌≤◌, true, false, cond, List, [], ◌∷◌, length, get_or, replicate, Option, None, Some, is_some, IsTrue, refl, sym, ◌∙◌, ap, subst, le_trans, arith}
 use Rattle.std.specs.Prelude.{◌==◌, position, slice_index}
-use Rattle.std.specs.List.{list_any}
 use Rattle.std.proofs.lemmas.List.{length-set, length-replicate, get_or-replicate, get_or_past}
 use Rattle.std.proofs.lemmas.List.Quantifiers.{position-Some}
 use Rattle.std.proofs.lemmas.Bool.{cases_lt, cases_Bool, or_parts, eqb-false}
-use Rattle.envy_base.specs.Array.{Array, Saved, page_of, pages, slot_of, owns, owner, owned, is_closed, put_back, undone, saving, with_slot, stored, put, aborted, restarted, zeros, IsArray}
+use Rattle.envy_base.specs.Array.{Array, Saved, page_of, pages, slot_of, owns, owner, owned, is_closed, put_back, undone, saving, with_slot, stored, put, restarted, zeros, IsArray}
 use Rattle.envy_base.specs.Step.{Command, Answer, Load, Look, Store, Begin, Put, Commit, Abort, Tick, Word, Done, Started, Range, Held, Closed, Full, Busy, MayOwn, Step}
 use Rattle.envy_base.proofs.Total.{option_cases}
-use Rattle.envy_base.proofs.Owning.{owner-Some, owner-begun, owner-closed, owner-nobody, owner-put_here, owned-fewer, owned-none, owned-put, apart-closed, apart-put, slot_cases, slot-within}
+use Rattle.envy_base.proofs.Owning.{owner-begun, owner-closed, owner-nobody, owned-fewer, owned-none, owned-put, apart-closed, apart-put, slot_cases, slot-within}
 use Rattle.envy_base.proofs.Undoing.{AreOnce, saves, length-put_back, length-undone, undo_all-closed}
 
 -- ---- a store

@@ -1,14 +1,14 @@
 -- Which slot owns a page, and how many pages are owned, after each change of the slots.
-use Rattle.std.proofs.Common.{◌≡◌, ◌≢◌, ◌⊎◌, inl, inr, ℕ, zero, suc, ◌+◌, ◌*◌, ◌/◌, ◌<◌, ◌≤◌, Bool, true, false, cond, not, ◌||◌, ltb, eqb, List, [], ◌∷◌, length, get_or, set, map, replicate, Option, None, Some, is_some, IsTrue, refl, sym, ◌∙◌, ap, subst, zero-add, arith}
-use Rattle.std.specs.Prelude.{◌==◌, count_by, position, slice_index, slice_set}
-use Rattle.std.specs.List.{list_any, range_with_len, sum_by, position_or_len}
-use Rattle.std.proofs.lemmas.List.{get_or-set_same, get_or-set_other, length-set, length-replicate, get_or-replicate, get_or_past, set-get_or, ext_get_or}
+use Rattle.std.proofs.Common.{◌≡◌, ◌≢◌, ◌⊎◌, inl, inr, ℕ, ◌+◌, ◌*◌, ◌/◌, ◌<◌, ◌≤◌, Bool, true, false, cond, ◌||◌, ltb, List, [], ◌∷◌, length, get_or, set, map, Option, None, Some, is_some, IsTrue, refl, sym, ◌∙◌, ap, subst, zero-add, arith}
+use Rattle.std.specs.Prelude.{◌==◌, count_by, position, slice_index}
+use Rattle.std.specs.List.{list_any, range_with_len, position_or_len}
+use Rattle.std.proofs.lemmas.List.{get_or-set_same, get_or-set_other, length-set, get_or_past, ext_get_or}
 use Rattle.std.proofs.lemmas.List.FromFn.{get_or-map-range_with_len, length-map-range_with_len}
 use Rattle.std.proofs.lemmas.List.Folds.{fold-map, position_or_len-set}
 use Rattle.std.proofs.lemmas.List.Quantifiers.{position-Some}
 use Rattle.std.proofs.lemmas.List.Sums.{sum_by-cons, sum_by-set, sum_by-le-sum_by, fails_before_first, position_or_len_is}
-use Rattle.std.proofs.lemmas.Bool.{cases_eq, cases_lt, cases_Bool, or_cases, or_left, or_right, eqb-true, eqb-false, eq-eqb, ne_eqb, lt-ltb, le-ltb, ltb-true, ltb-false}
-use Rattle.envy_base.specs.Array.{Array, Saved, page_of, pages, slot_of, saves_in, owns, owner, owned, saving, with_slot, stored, put, IsArray}
+use Rattle.std.proofs.lemmas.Bool.{cases_eq, cases_lt, cases_Bool, or_cases, or_left, or_right, eqb-true, eq-eqb, ne_eqb, lt-ltb, le-ltb, ltb-false}
+use Rattle.envy_base.specs.Array.{Array, Saved, page_of, pages, slot_of, saves_in, owns, owner, owned, saving, with_slot, stored, put}
 use Rattle.envy_base.specs.Step.{MayOwn}
 
 -- ---- first places
@@ -206,7 +206,7 @@ owns-after m t p a w saved is =
     rw (e, is) (saves_in-saving p a (slice_index m.words a) saved)
 
 -- who may own the page is the only one that does
-may_own-only : (m : Array) (t p u : ℕ) → AreApart m → MayOwn m t p → IsTrue (owns p (slot_of m u)) → u ≡ t
+pub may_own-only : (m : Array) (t p u : ℕ) → AreApart m → MayOwn m t p → IsTrue (owns p (slot_of m u)) → u ≡ t
 may_own-only m t p u apart (inl mine) own = apart u t p own (owner-Some m p t mine).1
 may_own-only m t p u apart (inr (free, room)) own = let no = owner-None m p free u in cc
 

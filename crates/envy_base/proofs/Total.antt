@@ -1,9 +1,9 @@
 -- Each command has an answer.
-use Rattle.std.proofs.Common.{◌≡◌, ◌≢◌, ◌⊎◌, inl, inr, ℕ, ◌<◌, ◌≤◌, length, List, [], Option, None, Some, refl, sym, ◌∙◌}
+use Rattle.std.proofs.Common.{◌≡◌, ◌≢◌, ◌⊎◌, inl, inr, ℕ, ◌<◌, ◌≤◌, length, [], Option, None, Some, refl}
 use Rattle.std.specs.Prelude.{slice_index, position}
 use Rattle.std.proofs.lemmas.Bool.{cases_eq, cases_lt}
 use Rattle.envy_base.specs.Array.{Array, Saved, page_of, slot_of, owner, owned, is_closed, undone, with_slot, stored, put, aborted}
-use Rattle.envy_base.specs.Step.{Command, Answer, Load, Look, Store, Begin, Put, Commit, Abort, Tick, Word, Done, Started, Range, Held, Closed, Full, Busy, MayOwn, Step}
+use Rattle.envy_base.specs.Step.{Command, Answer, Load, Look, Store, Begin, Put, Commit, Abort, Tick, Word, Done, Started, Range, Held, Closed, Full, Busy, Step}
 
 -- nothing, or something
 pub option_cases : {T : Type 0} → (x : Option T) → (x ≡ None) ⊎ ((y : T) × (x ≡ Some y))

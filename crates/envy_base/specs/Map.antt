@@ -1,5 +1,5 @@
 -- Where each region of the SRAM map begins, in words. Places and undos stand two to a word.
-use Rattle.std.specs.Prelude.{ℕ, ◌+◌, ◌-◌, ◌*◌, ◌/◌}
+use Rattle.std.specs.Prelude.{ℕ, ◌+◌, ◌*◌, ◌/◌}
 use Rattle.envy_base.specs.declared.shape.Shape.{Shape}
 
 abbrev pub slots_at : ℕ

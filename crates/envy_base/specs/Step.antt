@@ -1,5 +1,5 @@
 -- What the plain array answers to a command, and what becomes of it.
-use Rattle.std.specs.Prelude.{◌≡◌, ◌≢◌, ◌⊎◌, ℕ, ◌<◌, ◌≤◌, Bool, true, false, IsTrue, List, [], length, Option, None, Some, slice_index, position}
+use Rattle.std.specs.Prelude.{◌≡◌, ◌≢◌, ◌⊎◌, ℕ, ◌<◌, ◌≤◌, Bool, true, false, IsTrue, [], length, None, Some, slice_index, position}
 use Rattle.envy_base.specs.Array.{Array, Saved, page_of, slot_of, owner, owned, is_closed, undone, with_slot, stored, put, aborted, restarted}
 
 pub data Command : Type 0 where

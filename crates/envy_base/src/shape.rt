@@ -71,3 +71,74 @@ impl Shape {
         Ok(())
     }
 }
+
+#[cfg(test)]
+mod tests {
+    use super::*;
+
+    fn shape(
+        segments: u32,
+        rows: u32,
+        pages: u32,
+        shadows: u32,
+        frames: u32,
+        entries: u32,
+    ) -> Shape {
+        Shape {
+            segments,
+            rows,
+            pages,
+            shadows,
+            frames,
+            entries,
+        }
+    }
+
+    #[test]
+    fn each_rule_holds_to_its_edge(rt: HostRuntime) {
+        let table = [
+            (shape(8, 16, 64, 16, 8, 4), Ok(())),
+            (shape(3, 16, 1, 0, 8, 4), Err(ShapeFault::Segments)),
+            (shape(4, 16, 16, 16, 8, 4), Ok(())),
+            (shape(4096, 256, 64, 16, 8, 4), Ok(())),
+            (shape(4097, 16, 64, 16, 8, 4), Err(ShapeFault::Segments)),
+            (shape(8, 1, 1, 0, 8, 4), Err(ShapeFault::Rows)),
+            (shape(8, 2, 12, 0, 8, 4), Ok(())),
+            (shape(16, 65536, 64, 16, 8, 4), Ok(())),
+            (shape(8, 65537, 64, 16, 8, 4), Err(ShapeFault::Rows)),
+            (shape(8, 16, 0, 16, 8, 4), Err(ShapeFault::Pages)),
+            (shape(8, 16, 1, 16, 8, 4), Ok(())),
+            (shape(8, 16, 64, 16, 1, 4), Err(ShapeFault::Frames)),
+            (shape(8, 16, 64, 16, 2, 4), Ok(())),
+            (shape(8, 16, 64, 16, 65536, 4), Ok(())),
+            (shape(8, 16, 64, 16, 65537, 4), Err(ShapeFault::Frames)),
+            (shape(8, 16, 64, 16, 8, 0), Err(ShapeFault::Entries)),
+            (shape(8, 16, 64, 16, 8, 1), Ok(())),
+            (shape(8, 16, 64, 16, 8, 65536), Ok(())),
+            (shape(8, 16, 64, 16, 8, 65537), Err(ShapeFault::Entries)),
+            (shape(8, 16, 80, 16, 8, 4), Ok(())),
+            (shape(8, 16, 81, 16, 8, 4), Err(ShapeFault::Share)),
+            (shape(17, 65536, 64, 16, 8, 4), Err(ShapeFault::Total)),
+        ];
+        for (shape, wanted) in table {
+            assert_eq!(rt; shape.check(), wanted, "at {shape:?}");
+        }
+    }
+
+    #[test]
+    fn the_first_rule_that_fails_is_answered(rt: HostRuntime) {
+        let most = u32::MAX;
+        let table = [
+            (shape(0, 0, 0, most, 0, 0), ShapeFault::Segments),
+            (shape(4096, 0, 0, most, 0, 0), ShapeFault::Rows),
+            (shape(4096, 65536, 0, most, 0, 0), ShapeFault::Pages),
+            (shape(4096, 65536, most, most, 0, 0), ShapeFault::Frames),
+            (shape(4096, 65536, most, most, 2, 0), ShapeFault::Entries),
+            (shape(4096, 65536, most, most, 2, 1), ShapeFault::Share),
+            (shape(4096, 65536, 1, 0, 2, 1), ShapeFault::Total),
+        ];
+        for (shape, wanted) in table {
+            assert_eq!(rt; shape.check(), Err(wanted), "at {shape:?}");
+        }
+    }
+}

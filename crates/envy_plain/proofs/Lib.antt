@@ -1,0 +1,10 @@
+pub mod Machine
+pub mod Making
+pub mod Members
+pub mod Moves
+pub mod Parts
+pub mod Powering
+pub mod Readers
+pub mod Room
+pub mod Saving
+pub mod Turns
