@@ -1,0 +1,11 @@
+use Rattle.std.proofs.Common.{◌∙◌, ap}
+use Rattle.envy_policy.specs.Choice.{IsLeast, HasRows, steps}
+use Rattle.envy_policy.specs.History.{History}
+use Rattle.envy_policy.proofs.Choosing.{in-turn}
+use Rattle.envy_policy.proofs.chooser.Chooser.victim.Goals as goal
+
+pub returns : goal.returns
+returns c =
+    let same = ap (λ (h : History). h.policy) c.self.view_is in
+    let next : IsLeast (HasRows c.args.self.now c.args.dead.now c.args.partition) (steps c.args.self.now c.args.partition) c.unwrap.result = rw c.unwrap.ensures at c.next_in_turn.ensures in
+    in-turn c.args.self.now.policy c.args.self.now c.args.dead.now c.args.partition c.unwrap.result (λ e. c.in_default.not-Greedy (same ∙ e)) next

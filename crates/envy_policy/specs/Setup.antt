@@ -1,0 +1,62 @@
+-- The rules of a setup.
+use Rattle.std.specs.Prelude.{ℕ, ◌-◌, ◌≤◌, ◌==◌, ◌||◌, nat_lt, Bool, false, Result, Ok, Err, if◌then◌else◌}
+use Rattle.envy_base.specs.declared.shape.ShapeFault.{ShapeFault}
+use Rattle.envy_base.specs.declared.shape.ShapeFault.TheVariants.{Segments, Rows, Pages, Frames, Entries, Share, Total}
+use Rattle.envy_base.specs.Shape.{IsShape, checked as shape_checked}
+use Rattle.envy_policy.specs.declared.setup.Policy.{Policy}
+use Rattle.envy_policy.specs.declared.setup.Policy.TheVariants.{Greedy, Fifo, Locality, Hybrid}
+use Rattle.envy_policy.specs.declared.setup.Setup.{Setup}
+use Rattle.envy_policy.specs.declared.setup.SetupFault.{SetupFault}
+use Rattle.envy_policy.specs.declared.setup.SetupFault.TheVariants.{Shape as OfShape, Part, Limit, Mark}
+
+-- how many consecutive positions, of n, make a partition
+abbrev pub run_of : Policy → ℕ → ℕ
+run_of Greedy n = n
+run_of Fifo n = n
+run_of Locality n = 1
+run_of (Hybrid part) n = part
+
+-- hybrid partitions of no position, or of more than there are
+abbrev pub fails_part : Policy → ℕ → Bool
+fails_part Greedy n = false
+fails_part Fifo n = false
+fails_part Locality n = false
+fails_part (Hybrid part) n = part == 0 || nat_lt n part
+
+-- the shape's fault, or else what the other rules say
+abbrev pub shape_first : Result Unit ShapeFault → Result Unit SetupFault → Result Unit SetupFault
+shape_first (Err fault) others = Err (OfShape fault)
+shape_first (Ok done) others = others
+
+-- the first rule that fails: those of the shape, and then part, limit and mark
+unfoldable pub checked : Setup → Result Unit SetupFault
+checked setup = shape_first (shape_checked setup.shape)
+    (if fails_part setup.policy (setup.shape.segments - 1) then Err Part
+    else (if setup.limit == 0 then Err Limit
+    else (if setup.mark == 0 || nat_lt setup.shape.frames setup.mark then Err Mark
+    else Ok tt)))
+
+-- a rule's number in the order of asking
+abbrev pub shape_rule : ShapeFault → ℕ
+shape_rule Segments = 1
+shape_rule Rows = 2
+shape_rule Pages = 3
+shape_rule Frames = 4
+shape_rule Entries = 5
+shape_rule Share = 6
+shape_rule Total = 7
+
+abbrev pub rule_of : SetupFault → ℕ
+rule_of (OfShape fault) = shape_rule fault
+rule_of Part = 8
+rule_of Limit = 9
+rule_of Mark = 10
+
+-- the sizes of a setup that checks
+pub record IsSetup (setup : Setup) : Type 0 where
+  pub shape : IsShape setup.shape
+  pub part : 1 ≤ run_of setup.policy (setup.shape.segments - 1)
+  pub few_part : run_of setup.policy (setup.shape.segments - 1) ≤ setup.shape.segments - 1
+  pub limit : 1 ≤ setup.limit
+  pub mark : 1 ≤ setup.mark
+  pub few_mark : setup.mark ≤ setup.shape.frames

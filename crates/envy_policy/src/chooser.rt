@@ -1,0 +1,259 @@
+ghost use Rattle.std.specs.Prelude.{◌≡◌, ◌↔◌, ℕ, ◌+◌, ◌-◌, ◌/◌, ◌<◌, ◌≤◌, length, map, slice_index, IsTrue, IfOk, MatchOption};
+ghost use Rattle.std.specs.List.{range_with_len};
+ghost use Rattle.envy_policy.specs.Setup.{IsSetup};
+ghost use Rattle.envy_policy.specs.History.{IsHistory, run, started, flushed, cleaned, partition_of, first_of, end_of, last_in};
+ghost use Rattle.envy_policy.specs.Choice.{IsChoice, IsLeast, IsNearest, IsUsable, HasRows, IsVictim, IsAside, steps};
+
+use crate::rows::{first_with, most};
+use crate::{Choice, Policy, Setup};
+use envy_base::NoMemory;
+use std::alloc::Global;
+use std::marker::Model;
+
+/// Chooses the position that a page is written to, by heats and turns of the partitions.
+#[derive(Drop)]
+pub struct Chooser {
+    policy: Policy,
+    positions: u32,
+    heats: Vec<u32>,
+    turns: Vec<u32>,
+    flushes: u32,
+}
+
+/// Flushes from one halving of all heats to the next.
+const HALVING: u32 = 1024;
+
+impl Model for Chooser {
+    ghost use Rattle.envy_policy.specs.History.{History, IsHistory};
+
+    ghost Value = { History };
+
+    ghost view = { λ a. record { policy = a.policy; positions = a.positions; heats = a.heats.items; turns = a.turns.items; flushes = a.flushes } };
+
+    ghost invariant = { λ a. IsHistory (record { policy = a.policy; positions = a.positions; heats = a.heats.items; turns = a.turns.items; flushes = a.flushes }) };
+}
+
+impl Chooser {
+    /// No partition is warm, and each turn stands at its partition's last position.
+    pub fn new(alloc: Global, setup: &Setup) -> Result<Chooser, NoMemory>
+        requires { IsSetup setup.now }
+        ensures { IfOk result (λ chooser. chooser ≡ started setup.now.policy (setup.now.shape.segments - 1)) }
+    {
+        let policy = setup.policy;
+        let positions = setup.shape.segments - 1;
+        let run = policy.run(positions);
+        let count = ((positions - 1) / run + 1) as usize;
+        let heats = vec![in alloc; 0; count]?;
+        let mut turns = vec![in alloc; 0; count]?;
+        start_turns(&mut turns, positions, run);
+        Ok(Chooser {
+            policy,
+            positions,
+            heats,
+            turns,
+            flushes: 0,
+        })
+    }
+
+    /// Chooses for a page whose home this is, by the numbers of free and of dead rows at each
+    /// position. It refuses nothing.
+    pub fn choose(&self, free: &[u32], dead: &[u32], home: u32) -> Choice
+        requires free { length free.now ≡ self.now.positions }
+        requires dead { length dead.now ≡ self.now.positions }
+        requires some { (k : ℕ) × (0 < slice_index free.now k + slice_index dead.now k) }
+        requires home { home < self.now.positions }
+        ensures choice { IsChoice self.now free.now dead.now home result }
+        ensures whole { IsHistory self.now }
+    {
+        let partition = self.nearest(free, dead, home);
+        match self.first_in(free, partition) {
+            Some(position) => Choice::Free { position },
+            None => Choice::Clean {
+                position: self.victim(dead, partition),
+                aside: self.aside(partition),
+            },
+        }
+    }
+
+    /// Warms the position's partition, to which a row was claimed for a flush. Each 1,024th such call
+    /// since the start or the last reset halves all heats.
+    pub fn note_flush(&mut self, position: u32)
+        requires { position < self.old.positions }
+        ensures { self.new ≡ flushed self.old position }
+    {
+        let partition = self.partition_of(position);
+        self.heats[partition as usize] += 1;
+        self.flushes += 1;
+        if self.flushes == HALVING {
+            self.flushes = 0;
+            halve(&mut self.heats);
+        }
+    }
+
+    /// Sets the turn of the position's partition to the position, whose cleaning has begun.
+    pub fn note_clean(&mut self, position: u32)
+        requires { position < self.old.positions }
+        ensures { self.new ≡ cleaned self.old position }
+    {
+        let partition = self.partition_of(position);
+        self.turns[partition as usize] = position;
+    }
+
+    /// Makes heats, turns and the count of flushes as they were at the start.
+    pub fn reset(&mut self)
+        ensures { self.new ≡ started self.old.policy self.old.positions }
+    {
+        let run = self.policy.run(self.positions);
+        self.heats.fill(0);
+        self.flushes = 0;
+        start_turns(&mut self.turns, self.positions, run);
+    }
+
+    /// The first position of a partition, and the one after its last.
+    pub fn bounds(&self, partition: u32) -> (u32, u32)
+        requires { partition < length self.now.heats }
+        ensures first { result.0 ≡ first_of self.now partition }
+        ensures end { result.1 ≡ end_of self.now partition }
+        ensures some { result.0 < result.1 }
+        ensures within { result.1 ≤ self.now.positions }
+        ensures whole { IsHistory self.now }
+    {
+        let run = self.policy.run(self.positions);
+        let first = partition * run;
+        (first, self.positions.min(first + run))
+    }
+
+    /// The partition of a position.
+    pub fn partition_of(&self, position: u32) -> u32
+        requires { position < self.now.positions }
+        ensures value { result ≡ partition_of self.now position }
+        ensures counted { result < length self.now.heats }
+    {
+        position / self.policy.run(self.positions)
+    }
+
+    fn count(&self) -> u32
+        ensures value { result ≡ length self.now.heats }
+        ensures whole { IsHistory self.now }
+    {
+        self.heats.len() as u32
+    }
+
+    fn first_in(&self, rows: &[u32], partition: u32) -> Option<u32>
+        requires partition { partition < length self.now.heats }
+        requires rows { length rows.now ≡ self.now.positions }
+        ensures { MatchOption result
+            ((k : ℕ) → HasRows self.now rows.now partition k → ⊥)
+            (IsLeast (HasRows self.now rows.now partition) (λ k. k)) }
+    {
+        let (first, end) = self.bounds(partition);
+        first_with(rows, first, end)
+    }
+
+    fn is_usable(&self, free: &[u32], dead: &[u32], partition: u32) -> bool
+        requires partition { partition < length self.now.heats }
+        requires free { length free.now ≡ self.now.positions }
+        requires dead { length dead.now ≡ self.now.positions }
+        ensures { IsTrue result ↔ IsUsable self.now free.now dead.now partition }
+    {
+        self.first_in(free, partition).is_some() || self.first_in(dead, partition).is_some()
+    }
+
+    fn nearest(&self, free: &[u32], dead: &[u32], home: u32) -> u32
+        requires free { length free.now ≡ self.now.positions }
+        requires dead { length dead.now ≡ self.now.positions }
+        requires some { (k : ℕ) × (0 < slice_index free.now k + slice_index dead.now k) }
+        requires home { home < self.now.positions }
+        ensures nearest { IsNearest self.now free.now dead.now home result }
+        ensures counted { result < length self.now.heats }
+        ensures whole { IsHistory self.now }
+    {
+        let own = self.partition_of(home);
+        let count = self.count();
+        for away in 0..count {
+            if away <= own && self.is_usable(free, dead, own - away) {
+                return own - away;
+            }
+            if own + away < count && self.is_usable(free, dead, own + away) {
+                return own + away;
+            }
+        }
+        unreachable!()
+    }
+
+    fn victim(&self, dead: &[u32], partition: u32) -> u32
+        requires partition { partition < length self.now.heats }
+        requires dead { length dead.now ≡ self.now.positions }
+        requires some { (k : ℕ) × HasRows self.now dead.now partition k }
+        ensures { IsVictim self.now.policy self.now dead.now partition result }
+    {
+        if let Policy::Greedy = self.policy {
+            let (first, end) = self.bounds(partition);
+            return most(dead, first, end);
+        }
+        self.next_in_turn(dead, partition).unwrap()
+    }
+
+    fn next_in_turn(&self, dead: &[u32], partition: u32) -> Option<u32>
+        requires partition { partition < length self.now.heats }
+        requires dead { length dead.now ≡ self.now.positions }
+        ensures { MatchOption result
+            ((k : ℕ) → HasRows self.now dead.now partition k → ⊥)
+            (IsLeast (HasRows self.now dead.now partition) (steps self.now partition)) }
+    {
+        let (first, end) = self.bounds(partition);
+        let after = self.turn(partition) + 1;
+        first_with(dead, after, end).or(first_with(dead, first, after))
+    }
+
+    fn turn(&self, partition: u32) -> u32
+        requires { partition < length self.now.heats }
+        ensures value { result ≡ slice_index self.now.turns partition }
+        ensures below { result < self.now.positions }
+        ensures counted { partition < length self.now.turns }
+    {
+        self.turns[partition as usize]
+    }
+
+    fn aside(&self, partition: u32) -> Option<u32>
+        requires partition { partition < length self.now.heats }
+        ensures { IsAside self.now partition result }
+    {
+        let count = self.heats.len() as u32;
+        let warmth: u32 = self.heats.iter().sum();
+        if count == 1 || self.heats[partition as usize] * count <= warmth {
+            return None;
+        }
+        if partition == 0 {
+            return Some(1);
+        }
+        let below = partition - 1;
+        if partition + 1 == count
+            || self.heats[below as usize] <= self.heats[partition as usize + 1]
+        {
+            return Some(below);
+        }
+        Some(partition + 1)
+    }
+}
+
+/// Sets each turn to its partition's last position, where so many positions stand in such runs.
+fn start_turns(turns: &mut [u32], positions: u32, run: u32)
+    requires few { positions ≤ 4095 }
+    requires some_run { 1 ≤ run }
+    requires few_run { run ≤ positions }
+    requires count { length turns.old ≤ positions }
+    ensures { turns.new ≡ map (last_in positions run) (range_with_len 0 (length turns.old)) }
+{
+    for (g, turn) in turns.iter_mut().enumerate() {
+        *turn = positions.min(g as u32 * run + run) - 1;
+    }
+}
+
+fn halve(heats: &mut [u32])
+    ensures { heats.new ≡ map (λ x. x / 2) heats.old }
+{
+    for heat in heats.iter_mut() {
+        *heat /= 2;
+    }
+}
