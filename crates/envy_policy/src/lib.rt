@@ -6,12 +6,10 @@ mod chooser;
 mod laws;
 mod rows;
 mod setup;
+#[cfg(test)]
+mod tests;
 
 pub use choice::Choice;
 pub use chooser::Chooser;
 pub use laws::{greedy_looks_at_all_positions, heats_count_flushes, rows_leave_one_choice};
-
-#[cfg(test)]
-mod tests;
-
 pub use setup::{Policy, Setup, SetupFault};
