@@ -1,20 +1,20 @@
 -- What a disturbed flash operation leaves in its rows: words drawn from a number, in order.
-use Rattle.std.specs.Prelude.{◌≡◌, ◌≢◌, ℕ, zero, suc, ◌+◌, ◌*◌, ◌/◌, ◌%◌, ◌<◌, List, [], map, length, slice_index_or}
+use Rattle.std.specs.Prelude.{◌≡◌, ◌≢◌, ℕ, zero, suc, ◌*◌, ◌/◌, ◌%◌, ◌<◌, List, [], map, length, slice_index_or}
 use Rattle.std.specs.List.{range_with_len}
 use Rattle.envy_power.specs.Draws.{seeded, next_word}
 
 -- a generator after n steps, each of which gives a word and the generator after it
-abbrev pub after_steps : {G : Type 0} → (G → ℕ × G) → ℕ → G → G
+unfoldable pub after_steps : {G : Type 0} → (G → ℕ × G) → ℕ → G → G
 after_steps step zero generator = generator
 after_steps step (suc n) generator = (step (after_steps step n generator)).1
 
--- word n, from 0, of those that are drawn from g
-unfoldable pub torn_word : ℕ → ℕ → ℕ
-torn_word g n = (next_word (after_steps next_word n (seeded g))).0
+-- the next 32 words, as a row
+unfoldable pub next_words : {G : Type 0} → (G → ℕ × G) → G → List ℕ
+next_words step generator = map (λ i. (step (after_steps step i generator)).0) (range_with_len 0 32)
 
--- row r, from 0, of the rows that are filled with them in order
+-- row r, from 0, of the rows that are filled with the words of g
 abbrev pub torn_row : ℕ → ℕ → List ℕ
-torn_row g r = map (λ i. torn_word g (32 * r + i)) (range_with_len 0 32)
+torn_row g r = next_words next_word (after_steps next_word (32 * r) (seeded g))
 
 -- the rows of segment e are filled in order, and the others are as before
 pub record TearsRows (rows e g : ℕ) (old new : List (List ℕ)) : Type 0 where

@@ -1,13 +1,12 @@
-ghost use Rattle.std.specs.Prelude.{◌≡◌, map, ◌+◌};
-ghost use Rattle.std.specs.List.{range_with_len};
+ghost use Rattle.std.specs.Prelude.{◌≡◌};
 ghost use Rattle.envy_power.specs.Draws.{next_word};
-ghost use Rattle.envy_bench.specs.TornRows.{after_steps};
+ghost use Rattle.envy_bench.specs.TornRows.{after_steps, next_words};
 
 use envy_power::Torn;
 
 /// The next 32 words, which fill a row.
 pub fn next_row(torn: &mut Torn) -> [u64; 32]
-    ensures row { result ≡ map (λ i. (next_word (after_steps next_word i torn.old)).0) (range_with_len 0 32) }
+    ensures row { result ≡ next_words next_word torn.old }
     ensures rest { torn.new ≡ after_steps next_word 32 torn.old }
 {
     let mut row = [0; 32];
