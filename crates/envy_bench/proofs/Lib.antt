@@ -1,2 +1,6 @@
 pub mod Draws
+pub mod Joined
+pub mod Places
+pub mod Segments
+pub mod Steps
 pub mod Tears
