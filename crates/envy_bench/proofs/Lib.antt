@@ -1,5 +1,6 @@
 pub mod Draws
 pub mod Joined
+pub mod Made
 pub mod Places
 pub mod Segments
 pub mod Steps

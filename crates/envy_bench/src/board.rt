@@ -187,6 +187,7 @@ impl Board for MemBoard {
         }
     }
 
+    #[tactic(auto, unfolding(envy_base::specs::Counting::up, envy_power::specs::Power::up))]
     fn put(&mut self, w: u32, v: u64) -> Result<(), Off>
         requires { w < length (board_state self.old).sram }
         ensures state { Puts (board_state self.old) w v result (board_state self.new) }
@@ -239,6 +240,7 @@ impl Bench for MemBoard {
         self.plans = more(self.plans);
     }
 
+    #[tactic(auto, unfolding(envy_base::specs::Counting::up, envy_power::specs::Power::up))]
     fn cut_now(&mut self)
         requires { IsTrue (board_state self.old).on }
         ensures state { board_state self.new ≡ pull (board_state self.old) }
