@@ -131,6 +131,7 @@ impl Board for MemBoard {
         Ok(self.sram.get(w))
     }
 
+    #[tactic(auto, unfolding(envy_base::specs::Counting::up, envy_power::specs::Power::up))]
     fn program(&mut self, row: u32, page: &[u64; 32]) -> Result<(), Trouble>
         requires { row < length (board_state self.old).flash }
         ensures state { Programs (board_state self.old) row page.now result (board_state self.new) }
@@ -160,6 +161,7 @@ impl Board for MemBoard {
         }
     }
 
+    #[tactic(auto, unfolding(envy_base::specs::Counting::up, envy_power::specs::Power::up))]
     fn erase(&mut self, segment: u32) -> Result<(), Trouble>
         requires { segment < (board_state self.old).shape.segments }
         ensures state { Erases (board_state self.old) segment result (board_state self.new) }
