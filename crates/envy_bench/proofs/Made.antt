@@ -40,10 +40,13 @@ joined-fresh segments blocks rows a b c d some is first second third fourth =
     ∙ ap (λ (erases : List ℕ). record { flash = replicate (segments * rows) ones; rows = rows; erases = erases }) (erases_of-fresh segments blocks rows some is))
 
 IsPage-ones : IsPage ones
-IsPage-ones = record { long = refl; words = λ i. elim (cases_lt i 32) [
+IsPage-ones = record {
+  long = refl;
+  words = λ i. elim (cases_lt i 32) [
     | inl lt ↦ rw (get_or-replicate {A = ℕ} 32 i (2 ^ 64 - 1) 0 lt) (lit< tt)
     | inr ge ↦ rw (get_or_past ones i 0 ge) (lit< tt)
-  ] }
+  ];
+}
 
 -- it is whole
 pub IsBank-fresh : (segments rows : ℕ) (s : BankState) → 1 ≤ rows → segments * rows ≤ 1048576 → s ≡ erased_bank segments rows → IsBank s

@@ -79,7 +79,6 @@ block_read segments rows banks s e d is are lt =
 
 -- a segment erased
 pub record EraseStep (segments rows : ℕ) (new : List BankState) (s : BankState) (e : ℕ) : Type 0 where
-  pub wired : AreWired segments rows new
   pub whole : IsBank (joined segments rows new)
   pub erased : ErasesBlock e s (joined segments rows new)
 
@@ -98,7 +97,6 @@ erase_step segments rows banks s e d new is are lt erased whole =
     let flash : ErasesRows rows (e / 4) (BankState.flash (bank_of banks e)) new.flash = subst (λ n. ErasesRows n (e / 4) (BankState.flash (bank_of banks e)) new.flash) has.each there.flash in
     let change = Changes-joined segments rows banks are e new (λ _. ones) (record { long = flash.long; others = flash.others; inside = flash.inside }) in
     record {
-      wired = wired;
       whole = IsBank-joined segments rows (set banks (e % 4) new) wired;
       erased = subst (λ (t : BankState). ErasesBlock e t (joined segments rows (set banks (e % 4) new))) is (record {
         flash = record { long = change.long; others = change.others; inside = change.inside };
@@ -110,7 +108,6 @@ erase_step segments rows banks s e d new is are lt erased whole =
 
 -- a segment filled with torn rows
 pub record TearStep (segments rows : ℕ) (new : List BankState) (s : BankState) (e g : ℕ) : Type 0 where
-  pub wired : AreWired segments rows new
   pub whole : IsBank (joined segments rows new)
   pub torn : TearsRows s.rows e g s.flash (rows_of segments rows new)
   pub same : joined segments rows new ≡ record s { flash = rows_of segments rows new }
@@ -130,7 +127,6 @@ tear_step segments rows banks s e g d new is are torn same whole =
     let flash : TearsRows rows (e / 4) g (BankState.flash (bank_of banks e)) new.flash = subst (λ (b : BankState). TearsRows rows (e / 4) g b.flash new.flash) read torn in
     let change = Changes-joined segments rows banks are e new (λ r. torn_row g r) (record { long = flash.long; others = flash.others; inside = flash.inside }) in
     record {
-      wired = wired;
       whole = IsBank-joined segments rows (set banks (e % 4) new) wired;
       torn = subst (λ (t : BankState). TearsRows t.rows e g t.flash (rows_of segments rows (set banks (e % 4) new))) is (record { long = change.long; others = change.others; inside = change.inside });
       same = subst (λ (t : BankState). joined segments rows (set banks (e % 4) new) ≡ record t { flash = rows_of segments rows (set banks (e % 4) new) }) is

@@ -6,11 +6,6 @@ erase_block-requires c =
     let a = c.self.inside in
     block_read a.segments a.rows a.banks _ c.args.segment c.index-self-segment.result c.self.view_is c.self.invariant c.requires
 
-pub invariant_of-self : goal.invariant_of-self
-invariant_of-self c =
-    let a = c.self.inside in
-    EraseStep.wired (erase_step a.segments a.rows a.banks _ c.args.segment c.index-self-segment.result c.erase_block.new.self c.self.view_is c.self.invariant c.requires c.erase_block.ensures.erased c.erase_block.ensures.whole)
-
 pub returns-clause-erased : goal.returns-clause-erased
 returns-clause-erased c =
     let a = c.self.inside in

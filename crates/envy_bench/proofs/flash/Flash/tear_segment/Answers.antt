@@ -6,11 +6,6 @@ tear_block-requires-clause-block c =
     let a = c.self.inside in
     block_read a.segments a.rows a.banks _ c.args.segment c.index-self-segment.result c.self.view_is c.self.invariant c.requires
 
-pub invariant_of-self : goal.invariant_of-self
-invariant_of-self c =
-    let a = c.self.inside in
-    TearStep.wired (tear_step a.segments a.rows a.banks _ c.args.segment c.args.g c.index-self-segment.result c.tear_block.new.bank c.self.view_is c.self.invariant c.tear_block.ensures.flash c.tear_block.ensures.same c.tear_block.ensures.whole)
-
 pub returns-clause-flash : goal.returns-clause-flash
 returns-clause-flash c =
     let a = c.self.inside in
