@@ -1,10 +1,10 @@
 -- The board before and after a program and an erase, by the event and by its parts.
-use Rattle.std.proofs.Common.{◌≡◌, ◌≢◌, ◌∙◌, ◌⊎◌, inl, inr, ℕ, ◌+◌, ◌*◌, ◌/◌, ◌%◌, ◌<◌, ◌≤◌, Bool, IsTrue, List, [], length, get_or, set, refl, sym, ap, subst, arith, get_or-set_same, length-set, Result, Ok, Err}
+use Rattle.std.proofs.Common.{◌≡◌, ◌≢◌, ◌∙◌, inr, ℕ, ◌/◌, ◌<◌, IsTrue, List, [], length, get_or, set, refl, ap, subst, get_or-set_same, length-set, Result, Ok, Err}
 use Rattle.envy_base.specs.declared.shape.Shape.{Shape}
 use Rattle.envy_base.specs.declared.board.Trouble.{Trouble}
 use Rattle.envy_base.specs.declared.board.Trouble.TheVariants.{Off as TroubleOff, Bad as TroubleBad}
 use Rattle.envy_base.specs.Counting.{up}
-use Rattle.envy_base.specs.State.{State, IsPage, IsOnes, Only, Programs, Erases, ands, row_of, cut, with_row, with_segment}
+use Rattle.envy_base.specs.State.{State, IsPage, IsOnes, Only, Programs, Erases, cut, with_row, with_segment}
 use Rattle.envy_bank.specs.Rows.{BankState, IsBank, ErasesBlock}
 use Rattle.envy_bank.specs.Rows.{with_row as bank_with_row, up as bank_up}
 use Rattle.envy_power.specs.declared.supply.Event.{Event}
@@ -13,7 +13,7 @@ use Rattle.envy_power.specs.Power.{Power, flash_event, flash_counted, struck}
 use Rattle.envy_power.specs.Power.{up as power_up, cut as power_cut}
 use Rattle.envy_bench.specs.Parts.{state_of}
 use Rattle.envy_bench.specs.TornRows.{torn_row, TearsRows}
-use Rattle.envy_bench.specs.Events.{ProgramMeets, EraseMeets}
+use Rattle.envy_bench.specs.Events.{EraseMeets}
 
 power_up-up : (n : ℕ) → power_up n ≡ up n
 unfolding power_up up

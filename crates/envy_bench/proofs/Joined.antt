@@ -1,14 +1,11 @@
 -- Four banks as one: what a change of one bank changes of the board.
-use Rattle.std.proofs.Common.{◌≡◌, ◌≢◌, ◌∙◌, ◌⊎◌, inl, inr, ℕ, ◌+◌, ◌*◌, ◌/◌, ◌%◌, ◌<◌, ◌≤◌, List, [], length, get_or, set, map, replicate, refl, sym, ap, subst, arith, get_or-set_same, get_or-set_other, length-set}
-use Rattle.std.specs.List.{range_with_len}
-use Rattle.std.proofs.lemmas.Bool.{cases_lt, cases_eq}
-use Rattle.std.proofs.lemmas.Nat.{mod_below}
-use Rattle.std.proofs.lemmas.List.{ext_get_or, get_or_past, get_or_default}
+use Rattle.std.proofs.Common.{◌≡◌, ◌≢◌, ◌∙◌, ◌⊎◌, inl, inr, ℕ, ◌+◌, ◌*◌, ◌/◌, ◌%◌, ◌<◌, List, [], length, get_or, set, refl, sym, ap, arith, get_or-set_same, get_or-set_other, length-set}
+use Rattle.std.proofs.lemmas.Bool.{cases_eq}
+use Rattle.std.proofs.lemmas.List.{ext_get_or}
 use Rattle.std.proofs.lemmas.List.FromFn.{get_or-map-range_with_len, length-map-range_with_len}
-use Rattle.envy_bank.specs.Rows.{BankState, IsPage, IsBank, ErasesRows, ErasesBlock, ones, up, row_of, with_row}
+use Rattle.envy_bank.specs.Rows.{BankState, IsBank, with_row}
 use Rattle.envy_bench.specs.Wiring.{no_bank, bank_of, row_in_bank, rows_of, erases_of, joined, HasBlocks, AreWired}
-use Rattle.envy_bench.specs.TornRows.{torn_row, TearsRows}
-use Rattle.envy_bench.proofs.Places.{row_in_bank-div, row_in_bank-mod, same_row, segment_below, block_below, row_below}
+use Rattle.envy_bench.proofs.Places.{same_row, row_below}
 
 -- look-ups
 

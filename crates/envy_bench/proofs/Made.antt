@@ -1,11 +1,11 @@
 -- New flash: four erased banks are one erased bank.
-use Rattle.std.proofs.Common.{◌≡◌, ◌∙◌, ℕ, ◌+◌, ◌*◌, ◌/◌, ◌%◌, ◌<◌, ◌≤◌, List, [], ◌∷◌, length, get_or, replicate, refl, sym, ap, subst, arith, ◌-◌, ◌^◌, ◌⊎◌, inl, inr, lit<}
+use Rattle.std.proofs.Common.{◌≡◌, ◌∙◌, ℕ, ◌+◌, ◌*◌, ◌/◌, ◌%◌, ◌<◌, ◌≤◌, List, [], ◌∷◌, get_or, replicate, refl, sym, ap, subst, arith, ◌-◌, ◌^◌, inl, inr, lit<}
 use Rattle.std.proofs.lemmas.Bool.{cases_lt}
 use Rattle.std.proofs.lemmas.List.{ext_get_or, get_or-replicate, length-replicate, get_or_past}
 use Rattle.envy_bank.specs.Rows.{BankState, IsPage, IsBank, ones, erased_bank}
-use Rattle.envy_bench.specs.Wiring.{no_bank, bank_of, row_in_bank, rows_of, erases_of, joined, HasBlocks, AreWired}
+use Rattle.envy_bench.specs.Wiring.{no_bank, bank_of, row_in_bank, rows_of, erases_of, joined}
 use Rattle.envy_bench.proofs.Places.{row_below, block_below}
-use Rattle.envy_bench.proofs.Joined.{length-rows_of, get_or-rows_of, length-erases_of, get_or-erases_of, IsBank-joined}
+use Rattle.envy_bench.proofs.Joined.{length-rows_of, get_or-rows_of, length-erases_of, get_or-erases_of}
 
 -- four erased banks
 abbrev fresh_banks : ℕ → ℕ → List BankState

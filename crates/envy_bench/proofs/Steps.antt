@@ -1,6 +1,6 @@
 -- The flash before and after each call, by its banks.
-use Rattle.std.proofs.Common.{◌≡◌, ◌≢◌, ◌∙◌, ◌⊎◌, inl, inr, ℕ, ◌+◌, ◌*◌, ◌/◌, ◌%◌, ◌<◌, ◌≤◌, List, [], length, get_or, set, refl, sym, ap, subst, arith}
-use Rattle.std.proofs.lemmas.List.{get_or_default, length-set}
+use Rattle.std.proofs.Common.{◌≡◌, ◌∙◌, ℕ, ◌+◌, ◌*◌, ◌/◌, ◌%◌, ◌<◌, List, length, get_or, set, refl, sym, ap, subst, arith}
+use Rattle.std.proofs.lemmas.List.{get_or_default}
 use Rattle.envy_bank.specs.Rows.{BankState, IsBank, row_of, with_row}
 use Rattle.envy_bench.specs.Wiring.{no_bank, bank_of, row_in_bank, rows_of, erases_of, joined, HasBlocks, AreWired}
 use Rattle.envy_bench.proofs.Joined.{length-rows_of, get_or-rows_of, length-erases_of, AreWired-set, bank_has, row_fits_bank, IsBank-joined, rows_of-set, erases_of-same}

@@ -1,9 +1,8 @@
 -- Rows of a block that are filled one after another.
-use Rattle.std.proofs.Common.{◌≡◌, ◌≢◌, ◌∙◌, ◌⊎◌, inl, inr, ℕ, ◌+◌, ◌*◌, ◌/◌, ◌%◌, ◌<◌, ◌≤◌, List, [], length, get_or, set, refl, sym, ap, subst, arith, below_more, get_or-set_same, get_or-set_other, length-set}
+use Rattle.std.proofs.Common.{◌≡◌, ◌≢◌, ◌∙◌, ℕ, ◌+◌, ◌*◌, ◌/◌, ◌%◌, ◌<◌, ◌≤◌, List, [], length, get_or, set, refl, ap, subst, arith, below_more, get_or-set_same, get_or-set_other, length-set}
 use Rattle.std.proofs.lemmas.Nat.{div-mul-add}
 use Rattle.envy_power.specs.Draws.{seeded, next_word}
-use Rattle.envy_bank.specs.Rows.{BankState, IsBank}
-use Rattle.envy_bench.specs.TornRows.{after_steps, next_words, torn_row, TearsRows}
+use Rattle.envy_bench.specs.TornRows.{after_steps, torn_row, TearsRows}
 use Rattle.envy_bench.proofs.Draws.{after_both}
 
 -- the first n rows of the block are filled

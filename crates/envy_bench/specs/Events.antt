@@ -7,6 +7,7 @@ use Rattle.envy_base.specs.Counting.{up}
 use Rattle.envy_base.specs.State.{State, Only, IsOnes, ands, row_of, cut, with_word, with_row, with_segment}
 use Rattle.envy_power.specs.declared.supply.Event.{Event}
 use Rattle.envy_power.specs.declared.supply.Event.TheVariants.{Pass, Cut, Bad}
+use Rattle.envy_power.specs.Power.{Power, put_event, put_counted, flash_event, flash_counted, struck}
 use Rattle.envy_bench.specs.TornRows.{torn_row, TearsRows}
 
 -- a `put` of v into word w: a cut with an even g keeps the old word, and with an odd g the new one stands
@@ -26,3 +27,10 @@ abbrev pub EraseMeets : Event → State → ℕ → Result Unit Trouble → Stat
 EraseMeets Pass old e r new = (r ≡ Ok tt) × (rows : List (List ℕ)) × Only old.shape.rows e IsOnes old.flash rows × (new ≡ with_segment old e rows)
 EraseMeets (Cut g) old e r new = (r ≡ Err TroubleOff) × (rows : List (List ℕ)) × TearsRows old.shape.rows e g old.flash rows × (new ≡ cut (with_segment old e rows))
 EraseMeets (Bad g) old e r new = (r ≡ Err TroubleBad) × (rows : List (List ℕ)) × TearsRows old.shape.rows e g old.flash rows × (new ≡ record (with_segment old e rows) { bads = up old.bads })
+
+-- the supply of power after a `put`, and after a `program` or an `erase`: without power nothing is counted
+abbrev pub after_put : Power → Power
+after_put p = if p.on then struck (put_event p) (put_counted p) else p
+
+abbrev pub after_flash : Power → Power
+after_flash p = if p.on then struck (flash_event p) (flash_counted p) else p

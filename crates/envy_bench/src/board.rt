@@ -26,7 +26,7 @@ pub struct MemBoard {
     plans: u64,
     given: u32,
     ghost sound: { IsBoard (state_of shape flash sram supply begun pulled plans given) } by { Prim.hlevel props },
-    ghost rows: { flash.rows ≡ shape.rows },
+    ghost same_rows: { flash.rows ≡ shape.rows },
 }
 
 #[tactic(auto, unfolding(envy_base::specs::Counting::up))]
@@ -36,9 +36,9 @@ fn more(count: u64) -> u64
     count.saturating_add(1)
 }
 
-// The number of SRAM words: 72 of the header and the slots, four tables of the segments (of which
-// one has an entry less), places and undos two to a word, a word of each row, a word of each row of
-// a segment, and the frames.
+// The number of SRAM words: 72 of header and slots; the wear, the fill and, but for one, the position
+// of each segment; the places and the undos of the pages, two to a word; a word for each row, and one
+// for each row of a segment; and the frames.
 fn sram_words(shape: &Shape) -> u32
     requires { IsShape shape.now }
     ensures { result ≡ words_of shape.now }
@@ -51,7 +51,6 @@ fn sram_words(shape: &Shape) -> u32
 }
 
 impl MemBoard {
-    ghost use Rattle.envy_base.specs.State.{State};
     ghost use Rattle.envy_power.specs.Power.{fresh};
     ghost use Rattle.envy_bench.specs.Parts.{new_state};
     ghost use Rattle.envy_bench.specs.Board.{board_state, board_power};
@@ -99,11 +98,11 @@ impl MemBoard {
 }
 
 impl Board for MemBoard {
-    ghost use Rattle.std.specs.Prelude.{IsTrue, if◌then◌else◌};
-    ghost use Rattle.envy_base.specs.State.{State, Puts, Programs, Erases};
-    ghost use Rattle.envy_power.specs.Power.{put_event, put_counted, flash_event, flash_counted, struck};
+    ghost use Rattle.std.specs.Prelude.{IsTrue};
+    ghost use Rattle.envy_base.specs.State.{Puts, Programs, Erases};
+    ghost use Rattle.envy_power.specs.Power.{put_event, flash_event};
     ghost use Rattle.envy_bench.specs.Board.{board_state, board_power};
-    ghost use Rattle.envy_bench.specs.Events.{PutMeets, ProgramMeets, EraseMeets};
+    ghost use Rattle.envy_bench.specs.Events.{PutMeets, ProgramMeets, EraseMeets, after_put, after_flash};
 
     ghost state = { board_state };
 
@@ -136,10 +135,9 @@ impl Board for MemBoard {
         requires { row < length (board_state self.old).flash }
         ensures state { Programs (board_state self.old) row page.now result (board_state self.new) }
         ensures exact { IsTrue (board_state self.old).on
-            → ProgramMeets (flash_event (board_power self.old)) (board_state self.old) row page.now result (board_state self.new) }
-        ensures power { board_power self.new ≡ (if (board_power self.old).on
-            then struck (flash_event (board_power self.old)) (flash_counted (board_power self.old))
-            else board_power self.old) }
+            → ProgramMeets (flash_event (board_power self.old)) (board_state self.old) row page.now
+            result (board_state self.new) }
+        ensures power { board_power self.new ≡ after_flash (board_power self.old) }
     {
         if !self.supply.powered() {
             return Err(Trouble::Off);
@@ -166,10 +164,9 @@ impl Board for MemBoard {
         requires { segment < (board_state self.old).shape.segments }
         ensures state { Erases (board_state self.old) segment result (board_state self.new) }
         ensures exact { IsTrue (board_state self.old).on
-            → EraseMeets (flash_event (board_power self.old)) (board_state self.old) segment result (board_state self.new) }
-        ensures power { board_power self.new ≡ (if (board_power self.old).on
-            then struck (flash_event (board_power self.old)) (flash_counted (board_power self.old))
-            else board_power self.old) }
+            → EraseMeets (flash_event (board_power self.old)) (board_state self.old) segment
+            result (board_state self.new) }
+        ensures power { board_power self.new ≡ after_flash (board_power self.old) }
     {
         if !self.supply.powered() {
             return Err(Trouble::Off);
@@ -194,10 +191,9 @@ impl Board for MemBoard {
         requires { w < length (board_state self.old).sram }
         ensures state { Puts (board_state self.old) w v result (board_state self.new) }
         ensures exact { IsTrue (board_state self.old).on
-            → PutMeets (put_event (board_power self.old)) (board_state self.old) w v result (board_state self.new) }
-        ensures power { board_power self.new ≡ (if (board_power self.old).on
-            then struck (put_event (board_power self.old)) (put_counted (board_power self.old))
-            else board_power self.old) }
+            → PutMeets (put_event (board_power self.old)) (board_state self.old) w v
+            result (board_state self.new) }
+        ensures power { board_power self.new ≡ after_put (board_power self.old) }
     {
         if !self.supply.powered() {
             return Err(Off);
@@ -255,8 +251,10 @@ impl Bench for MemBoard {
     fn power_on(&mut self) -> bool
         requires { (board_state self.old).on ≡ false }
         ensures answer { IsTrue result ↔ (0 < (board_state self.old).lives) }
-        ensures state { board_state self.new ≡ (if result then lit (board_state self.old) else board_state self.old) }
-        ensures power { board_power self.new ≡ (if result then power_lit (board_power self.old) else board_power self.old) }
+        ensures state { board_state self.new
+            ≡ (if result then lit (board_state self.old) else board_state self.old) }
+        ensures power { board_power self.new
+            ≡ (if result then power_lit (board_power self.old) else board_power self.old) }
     {
         self.supply.power_on()
     }

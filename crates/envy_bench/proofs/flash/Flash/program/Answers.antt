@@ -1,4 +1,4 @@
-use Rattle.std.proofs.Common.{◌≡◌, ◌∙◌, ap, List, ℕ}
+use Rattle.std.proofs.Common.{◌∙◌, ap, List, ℕ}
 use Rattle.envy_bank.specs.Rows.{with_row, ands}
 use Rattle.envy_bench.proofs.Steps.{RowRead, row_read, RowStep, row_step}
 use Rattle.envy_bench.proofs.flash.Flash.program.Goals as goal

@@ -1,4 +1,4 @@
-use Rattle.std.proofs.Common.{◌≡◌, ◌∙◌, ap, get_or}
+use Rattle.std.proofs.Common.{◌∙◌, ap, get_or}
 use Rattle.envy_bench.proofs.Steps.{RowRead, row_read}
 use Rattle.envy_bench.proofs.flash.Flash.read.Goals as goal
 
