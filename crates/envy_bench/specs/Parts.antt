@@ -1,0 +1,40 @@
+-- What the parts of a board in memory stand for.
+use Rattle.std.specs.Prelude.{ℕ, ◌*◌, true, List, replicate}
+use Rattle.envy_base.specs.declared.shape.Shape.{Shape}
+use Rattle.envy_base.specs.State.{State, ones}
+use Rattle.envy_base.specs.Map.{words_of}
+use Rattle.envy_bank.specs.Rows.{BankState}
+use Rattle.envy_power.specs.Power.{Power}
+
+abbrev pub state_of : Shape → BankState → List ℕ → Power → ℕ → ℕ → ℕ → ℕ → State
+state_of shape flash sram power begun pulled plans given = record {
+  shape = shape;
+  flash = flash.flash;
+  sram = sram;
+  on = power.on;
+  cuts = power.cuts;
+  bads = power.bads;
+  begun = begun;
+  erases = flash.erases;
+  pulled = pulled;
+  plans = plans;
+  lives = power.lives;
+  given = given;
+}
+
+-- a new board: all flash is ones, and all SRAM zeros
+abbrev pub new_state : Shape → ℕ → State
+new_state shape lives = record {
+  shape = shape;
+  flash = replicate (shape.segments * shape.rows) ones;
+  sram = replicate (words_of shape) 0;
+  on = true;
+  cuts = 0;
+  bads = 0;
+  begun = 0;
+  erases = replicate shape.segments 0;
+  pulled = 0;
+  plans = 0;
+  lives = lives;
+  given = lives;
+}

@@ -1,0 +1,137 @@
+ghost use Rattle.std.specs.Prelude.{◌≡◌, ◌+◌, ◌*◌, ◌/◌, ◌%◌, ◌<◌, ◌≤◌, IfOk, length, slice_index};
+ghost use Rattle.envy_bank.specs.Rows.{IsBank, ErasesBlock, ands, erased_bank, row_of, with_row};
+ghost use Rattle.envy_bench.specs.Wiring.{row_in_bank};
+ghost use Rattle.envy_bench.specs.TornRows.{torn_row, TearsRows};
+
+use crate::torn::next_row;
+use envy_bank::{Bank, NoMemory};
+use envy_power::Torn;
+use std::alloc::Global;
+use std::marker::Model;
+
+/// The flash of a board: four banks as one, whose blocks are the segments. Segment `s` is block
+/// `s / 4` of bank `s % 4`.
+#[derive(Drop)]
+pub struct Flash {
+    banks: [Bank; 4],
+    segments: u32,
+    rows: u32,
+}
+
+impl Model for Flash {
+    ghost use Rattle.envy_bank.specs.Rows.{BankState};
+    ghost use Rattle.envy_bench.specs.Wiring.{joined, AreWired};
+
+    ghost Value = { BankState };
+
+    ghost view = { λ a. joined a.segments a.rows a.banks };
+
+    ghost invariant = { λ a. AreWired a.segments a.rows a.banks };
+}
+
+// Where a row of the board stands: the number of its bank, and the row there.
+fn place(row: u32, rows: u32) -> (usize, u32)
+    requires { 1 ≤ rows }
+    ensures bank { result.0 ≡ row / rows % 4 }
+    ensures row { result.1 ≡ row_in_bank rows row }
+{
+    let segment = row / rows;
+    ((segment % 4) as usize, segment / 4 * rows + row % rows)
+}
+
+// Fills the rows of a block in order with the words drawn from `g`.
+fn tear_block(bank: &mut Bank, block: u32, rows: u32, g: u64)
+    requires whole { IsBank bank.old }
+    requires rows { bank.old.rows ≡ rows }
+    requires block { block < length bank.old.erases }
+    ensures flash { TearsRows rows block g bank.old.flash bank.new.flash }
+    ensures same { bank.new ≡ record bank.old { flash = bank.new.flash } }
+    ensures whole { IsBank bank.new }
+{
+    let first = block * rows;
+    let mut torn = Torn::new(g);
+    for row in 0..rows {
+        let words = next_row(&mut torn);
+        bank.upset_row(first + row, &words);
+    }
+}
+
+impl Flash {
+    /// Erased flash, of which no segment was erased yet.
+    pub fn new(alloc: Global, segments: u32, rows: u32) -> Result<Flash, NoMemory>
+        requires segments { 1 ≤ segments }
+        requires rows { 1 ≤ rows }
+        requires size { segments * rows ≤ 1048576 }
+        ensures erased { IfOk result (λ flash. flash ≡ erased_bank segments rows) }
+        ensures whole { IfOk result IsBank }
+    {
+        let blocks = segments.div_ceil(4);
+        let banks = [
+            Bank::new(alloc, blocks, rows)?,
+            Bank::new(alloc, blocks, rows)?,
+            Bank::new(alloc, blocks, rows)?,
+            Bank::new(alloc, blocks, rows)?,
+        ];
+        Ok(Flash {
+            banks,
+            segments,
+            rows,
+        })
+    }
+
+    /// Word `i` of a row.
+    pub fn read(&self, row: u32, i: u32) -> u64
+        requires row { row < length self.now.flash }
+        requires i { i < 32 }
+        ensures { result ≡ slice_index (row_of self.now row) i }
+    {
+        let (bank, at) = place(row, self.rows);
+        self.banks[bank].read_word(at, i)
+    }
+
+    /// Programs a row, which becomes its AND with the page.
+    pub fn program(&mut self, row: u32, page: &[u64; 32])
+        requires { row < length self.old.flash }
+        ensures row { self.new ≡ with_row self.old row (ands (row_of self.old row) page.now) }
+        ensures whole { IsBank self.new }
+    {
+        let (bank, at) = place(row, self.rows);
+        self.banks[bank].program_row(at, page);
+    }
+
+    /// Erases a segment: all its bits become ones.
+    pub fn erase(&mut self, segment: u32)
+        requires { segment < length self.old.erases }
+        ensures erased { ErasesBlock segment self.old self.new }
+        ensures whole { IsBank self.new }
+    {
+        self.banks[(segment % 4) as usize].erase_block(segment / 4);
+    }
+
+    /// Fills a row with the first words drawn from `g`, as a disturbed program does.
+    pub fn tear_row(&mut self, row: u32, g: u64)
+        requires { row < length self.old.flash }
+        ensures row { self.new ≡ with_row self.old row (torn_row g 0) }
+        ensures whole { IsBank self.new }
+    {
+        let (bank, at) = place(row, self.rows);
+        let words = next_row(&mut Torn::new(g));
+        self.banks[bank].upset_row(at, &words);
+    }
+
+    /// Fills the rows of a segment in order with the words drawn from `g`, as a disturbed erase does.
+    pub fn tear_segment(&mut self, segment: u32, g: u64)
+        requires { segment < length self.old.erases }
+        ensures flash { TearsRows self.old.rows segment g self.old.flash self.new.flash }
+        ensures same { self.new ≡ record self.old { flash = self.new.flash } }
+        ensures whole { IsBank self.new }
+    {
+        let rows = self.rows;
+        tear_block(
+            &mut self.banks[(segment % 4) as usize],
+            segment / 4,
+            rows,
+            g,
+        );
+    }
+}

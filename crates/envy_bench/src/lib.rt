@@ -1,0 +1,12 @@
+//! A board in memory, made of flash chips, SRAM and a supply of power that a test may make fail.
+#![tactic(auto)]
+
+mod board;
+mod flash;
+mod maker;
+#[cfg(test)]
+mod tests;
+mod torn;
+
+pub use board::MemBoard;
+pub use maker::MemMaker;
