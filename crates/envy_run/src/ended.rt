@@ -5,6 +5,7 @@ use arrayvec::ArrayVec;
 use envy_report::{push_number, push_text};
 
 /// What a run says at its end.
+#[derive(Drop)]
 pub struct Ended<B> {
     /// 0 done; 2 words refused; 3 read fault; 4 write fault; 5 line refused; 6 power did not return;
     /// 7 bad operation in formatting; 8 want of memory; 9 trace too long.

@@ -1,4 +1,4 @@
-ghost use Rattle.std.specs.Prelude.{◌≡◌, option_map};
+ghost use Rattle.std.specs.Prelude.{◌≡◌, ◌≤◌, option_map};
 ghost use Rattle.envy_map.specs.Fields.{chart};
 ghost use Rattle.envy_run.specs.Headline.{Headline, the_setup, are_run, status_of, why_of};
 
@@ -81,10 +81,11 @@ pub fn run<S: Source, K: Sink, M: Maker>(
     sink: &mut K,
     maker: &mut M,
 ) -> Ended<M::Made>
-    ensures { Headline (are_run words.now)
+    ensures headline { Headline (are_run words.now)
         (record { status = result.status; why = result.why; lines = result.lines; taken = result.taken })
         (option_map (λ board. chart (M.Made.Board.state board)) result.board)
         (S.feed source.old) (S.feed source.new) (K.drain sink.old) (K.drain sink.new) }
+    ensures few { result.lines ≤ 1099511627777 }
 {
     if !is_run(words) {
         return unserved(2, 0, None);

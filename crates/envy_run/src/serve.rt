@@ -25,7 +25,8 @@ pub struct Served {
 /// The lines accepted, where so many were done and their replies written.
 fn lines_accepted(end: End, told: u64) -> u64
     requires { told ≤ 1099511627776 }
-    ensures { result ≡ lines_of_end end told }
+    ensures lines { result ≡ lines_of_end end told }
+    ensures few { result ≤ 1099511627777 }
 {
     match end {
         End::WriteFault | End::Dead => told + 1,
@@ -36,7 +37,8 @@ fn lines_accepted(end: End, told: u64) -> u64
 /// Does the lines of the source one after another, over a memory of zeros.
 pub fn serve<S: Source, K: Sink, B: Bench>(memory: &mut Memory<B>, source: &mut S, sink: &mut K) -> Served
     requires { Stands memory.old.chart (zeros memory.old.chart.shape.pages memory.old.chart.shape.shadows) }
-    ensures { Serves result.end result.lines result.taken (S.feed source.old) (K.drain sink.old) memory.old.chart (S.feed source.new) (K.drain sink.new) memory.new.chart }
+    ensures serves { Serves result.end result.lines result.taken (S.feed source.old) (K.drain sink.old) memory.old.chart (S.feed source.new) (K.drain sink.new) memory.new.chart }
+    ensures few { result.lines ≤ 1099511627777 }
 {
     let mut reader = Lines::new(MOST_BYTES);
     for told in 0..MOST_BYTES + 1 {
