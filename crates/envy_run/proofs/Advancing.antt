@@ -2,14 +2,14 @@
 use Rattle.std.proofs.Common.{◌≡◌, ◌⊎◌, inl, inr, ℕ, ◌+◌, ◌-◌, ◌^◌, ◌<◌, ◌≤◌, true, List, [], ◌∷◌, ◌++◌, length, map, refl, sym, ◌∙◌, ap, arith, append_assoc}
 use Rattle.std.specs.Prelude.{IsTrue, Ok, Err, nat_lt}
 use Rattle.std.proofs.lemmas.Bool.{cases_lt, lt-ltb}
-use Rattle.std.proofs.lemmas.List.{map-append}
+use Rattle.std.proofs.lemmas.List.{map-append, length-append}
 use Rattle.envy_base.specs.Array.{Array}
 use Rattle.envy_map.specs.Fields.{Chart}
 use Rattle.envy_io.specs.declared.lines.Next.{Next}
 use Rattle.envy_io.specs.declared.lines.Next.TheVariants.{Line as NextIsLine, End as NextIsEnd, Long, Failed as NextFailed, Spent}
 use Rattle.envy_io.specs.Lines.{lines_of, spelled}
 use Rattle.envy_io.specs.Streams.{Feed, Drain, Rises, IsDry, with_front, with_end}
-use Rattle.envy_io.specs.Taking.{Taking, HasGiven, NextLine, Reads}
+use Rattle.envy_io.specs.Taking.{Taking, HasGiven, NextLine, Takes, Reads}
 use Rattle.envy_io.proofs.LinesLemmas.{lines_of-spelled}
 use Rattle.envy_io.proofs.TakesLemmas.{with_front-with_front}
 use Rattle.envy_io.proofs.WritesLemmas.{with_end-with_end}
@@ -33,14 +33,10 @@ long-refused piece far = let test : nat_lt 120 (length piece) ≡ true = lt-ltb 
 
 -- what a call of `next_line` says besides the lines
 next-faults : (reader then_reader : Taking) (feed then_feed : Feed) (answer : Next) (line : List ℕ) → NextLine reader feed answer line then_reader then_feed → feed.faults ≤ then_feed.faults
-next-faults reader then_reader feed then_feed answer line (got, takes, answers) = takes.faults
+next-faults reader then_reader feed then_feed answer line next = Takes.faults next.takes
 
 next-dry : (reader then_reader : Taking) (feed then_feed : Feed) (answer : Next) (line : List ℕ) → (IsTrue reader.ended → IsDry feed.left) → NextLine reader feed answer line then_reader then_feed → IsTrue then_reader.ended → IsDry then_feed.left
-next-dry reader then_reader feed then_feed answer line dry (got, takes, answers) = takes.dry dry
-
--- the lines clause of `next_line`
-abbrev pub LinesOf : Taking → Feed → Next → List ℕ → Taking → Feed → Type 0
-LinesOf reader feed answer line then_reader then_feed = (bytes : List ℕ) (lines : List (List ℕ)) → HasGiven bytes lines reader → (got : List ℕ) × (feed.left ≡ with_front got then_feed.left) × Reads answer (bytes ++ got) lines line then_reader
+next-dry reader then_reader feed then_feed answer line dry next = Takes.dry next.takes dry
 
 -- what is known before a line is done
 pub record Before (from : Feed) (to : Drain) (first : Chart) (n : ℕ) (feed : Feed) (sink : Drain) (reader : Taking) (now : Chart) (answer : Next) (line : List ℕ) : Type 0 where
@@ -52,14 +48,17 @@ pub record Before (from : Feed) (to : Drain) (first : Chart) (n : ℕ) (feed : F
   pub source : from.left ≡ with_front bytes feed.left
   pub faults : from.faults ≤ feed.faults
   pub dry : IsTrue reader.ended → IsDry feed.left
+  pub taken : length bytes ≡ reader.taken
   pub reads : Reads answer bytes pieces line reader
   pub says : map run_line pieces ≡ map Ok (lines_done turns)
   pub done : HasDone first now turns array
   pub told : Written (written turns) to sink
 
-pub before-line : (from feed then_feed : Feed) (to sink : Drain) (first now : Chart) (n : ℕ) (reader then_reader : Taking) (answer : Next) (line : List ℕ) → Progress from to first n feed sink reader now → NextLine reader feed answer line then_reader then_feed → LinesOf reader feed answer line then_reader then_feed → Before from to first n then_feed sink then_reader now answer line
-before-line from feed then_feed to sink first now n reader then_reader answer line p next lines =
-    let (got, left, reads) = lines p.bytes p.pieces (HasRead.given p.read) in
+pub before-line : (from feed then_feed : Feed) (to sink : Drain) (first now : Chart) (n : ℕ) (reader then_reader : Taking) (answer : Next) (line : List ℕ) → Progress from to first n feed sink reader now → NextLine reader feed answer line then_reader then_feed → Before from to first n then_feed sink then_reader now answer line
+before-line from feed then_feed to sink first now n reader then_reader answer line p next =
+    let got = next.got in
+    let left = Takes.left next.takes in
+    let reads = next.reads p.bytes p.pieces (HasRead.given p.read) in
     record {
       turns = p.turns;
       array = p.array;
@@ -69,6 +68,7 @@ before-line from feed then_feed to sink first now n reader then_reader answer li
       source = HasRead.source p.read ∙ ap (with_front p.bytes) left ∙ with_front-with_front p.bytes got then_feed.left;
       faults = let before = HasRead.faults p.read in let after = next-faults reader then_reader feed then_feed answer line next in omega arith;
       dry = next-dry reader then_reader feed then_feed answer line (HasRead.dry p.read) next;
+      taken = let before = HasRead.count p.read in let more = Takes.taken next.takes in let both = length-append p.bytes next.got in omega arith;
       reads = reads;
       says = HasRead.says p.read;
       done = p.done;
@@ -85,6 +85,7 @@ turned from feed to sink first old new n reader piece line replies b is = record
   faults = b.faults;
   dry = b.dry;
   given = b.reads;
+  count = b.taken;
   says = says-more b.pieces piece (lines_done b.turns) line b.says is;
 }
 
@@ -151,15 +152,15 @@ lines-given bytes piece pieces reader g = at g.split
     at (inl e) = (lines_of reader.held, ap lines_of e ∙ lines_of-spelled (pieces ++ piece ∷ []) reader.held g.each ∙ append_assoc pieces (piece ∷ []) (lines_of reader.held))
     at (inr (ended, none, all)) = ([], all)
 
-pub advance-refused : (from feed : Feed) (to sink : Drain) (first now : Chart) (n : ℕ) (reader : Taking) (piece : List ℕ) (fault : LineFault) → Before from to first n feed sink reader now NextIsLine piece → run_line piece ≡ Err fault → Stuck fault from to first n feed sink now
+pub advance-refused : (from feed : Feed) (to sink : Drain) (first now : Chart) (n : ℕ) (reader : Taking) (piece : List ℕ) (fault : LineFault) → Before from to first n feed sink reader now NextIsLine piece → run_line piece ≡ Err fault → Stuck fault from to first n feed sink reader now
 advance-refused from feed to sink first now n reader piece fault b is =
     let (more, lines) = lines-given b.bytes piece b.pieces reader b.reads in
-    record { turns = b.turns; array = b.array; bytes = b.bytes; pieces = b.pieces; piece = piece; more = more; count = b.count; source = b.source; lines = lines; says = b.says; refused = is; done = b.done; told = b.told }
+    record { turns = b.turns; array = b.array; bytes = b.bytes; pieces = b.pieces; piece = piece; more = more; count = b.count; source = b.source; taken = b.taken; lines = lines; says = b.says; refused = is; done = b.done; told = b.told }
 
-pub advance-long : (from feed : Feed) (to sink : Drain) (first now : Chart) (n : ℕ) (reader : Taking) (line : List ℕ) → Before from to first n feed sink reader now Long line → Stuck TooLongLine from to first n feed sink now
+pub advance-long : (from feed : Feed) (to sink : Drain) (first now : Chart) (n : ℕ) (reader : Taking) (line : List ℕ) → Before from to first n feed sink reader now Long line → Stuck TooLongLine from to first n feed sink reader now
 advance-long from feed to sink first now n reader line b =
     let (given, (long, more, lines, far)) = b.reads in
-    record { turns = b.turns; array = b.array; bytes = b.bytes; pieces = b.pieces; piece = long; more = more; count = b.count; source = b.source; lines = lines; says = b.says; refused = long-refused long far; done = b.done; told = b.told }
+    record { turns = b.turns; array = b.array; bytes = b.bytes; pieces = b.pieces; piece = long; more = more; count = b.count; source = b.source; taken = b.taken; lines = lines; says = b.says; refused = long-refused long far; done = b.done; told = b.told }
 
 pub advance-end : (from feed : Feed) (to sink then_sink : Drain) (first now : Chart) (n : ℕ) (reader : Taking) (line : List ℕ) → Before from to first n feed sink reader now NextIsEnd line → IsTrue reader.ended → then_sink.written ≡ sink.written → sink.faults ≤ then_sink.faults → IsTrue then_sink.flushed → Finished from to first n feed then_sink reader now
 advance-end from feed to sink then_sink first now n reader line b ended same faults flushed = record {
@@ -169,7 +170,7 @@ advance-end from feed to sink then_sink first now n reader line b ended same fau
     bytes = b.bytes;
     pieces = b.pieces;
     count = b.count;
-    read = record { source = b.source; faults = b.faults; dry = b.dry; given = b.reads.0; says = b.says };
+    read = record { source = b.source; faults = b.faults; dry = b.dry; given = b.reads.0; count = b.taken; says = b.says };
     done = b.done;
     told = record { whole = same ∙ Written.whole b.told; faults = let before = Written.faults b.told in omega arith };
   };
@@ -180,14 +181,14 @@ advance-end from feed to sink then_sink first now n reader line b ended same fau
 
 pub between-failed : (from feed : Feed) (to sink : Drain) (first now : Chart) (n : ℕ) (reader : Taking) (line : List ℕ) → Before from to first n feed sink reader now NextFailed line → Between from to first n feed sink reader now
 between-failed from feed to sink first now n reader line b = record {
-  progress = record { turns = b.turns; array = b.array; bytes = b.bytes; pieces = b.pieces; count = b.count; read = record { source = b.source; faults = b.faults; dry = b.dry; given = b.reads.0; says = b.says }; done = b.done; told = b.told };
+  progress = record { turns = b.turns; array = b.array; bytes = b.bytes; pieces = b.pieces; count = b.count; read = record { source = b.source; faults = b.faults; dry = b.dry; given = b.reads.0; count = b.taken; says = b.says }; done = b.done; told = b.told };
   rest = b.reads.1;
   open_rest = b.reads.2;
 }
 
 pub between-spent : (from feed : Feed) (to sink : Drain) (first now : Chart) (n : ℕ) (reader : Taking) (line : List ℕ) → Before from to first n feed sink reader now Spent line → Between from to first n feed sink reader now
 between-spent from feed to sink first now n reader line b = record {
-  progress = record { turns = b.turns; array = b.array; bytes = b.bytes; pieces = b.pieces; count = b.count; read = record { source = b.source; faults = b.faults; dry = b.dry; given = b.reads.0; says = b.says }; done = b.done; told = b.told };
+  progress = record { turns = b.turns; array = b.array; bytes = b.bytes; pieces = b.pieces; count = b.count; read = record { source = b.source; faults = b.faults; dry = b.dry; given = b.reads.0; count = b.taken; says = b.says }; done = b.done; told = b.told };
   rest = b.reads.1;
   open_rest = b.reads.2;
 }
@@ -207,10 +208,10 @@ rises-told to sink then_sink le r = record { kept = let more = r.kept in omega a
     at lt (inr top) = let more = r.kept in omega arith
 
 pub next-ended : (reader then_reader : Taking) (feed then_feed : Feed) (line : List ℕ) → NextLine reader feed NextIsEnd line then_reader then_feed → IsTrue then_reader.ended
-next-ended reader then_reader feed then_feed line (got, takes, (keeps, none, ended)) = ended
+next-ended reader then_reader feed then_feed line next = let (keeps, none, ended) = next.answers in ended
 
 pub next-rises : (reader then_reader : Taking) (feed then_feed : Feed) (line : List ℕ) → NextLine reader feed NextFailed line then_reader then_feed → Rises feed.faults then_feed.faults
-next-rises reader then_reader feed then_feed line (got, takes, (keeps, wants, rises)) = rises
+next-rises reader then_reader feed then_feed line next = let (keeps, wants, rises) = next.answers in rises
 
 pub next-spent : (reader then_reader : Taking) (feed then_feed : Feed) (line : List ℕ) → NextLine reader feed Spent line then_reader then_feed → then_reader.taken ≡ then_reader.cap
-next-spent reader then_reader feed then_feed line (got, takes, (keeps, rest, going, spent)) = spent
+next-spent reader then_reader feed then_feed line next = let (keeps, rest, going, spent) = next.answers in spent

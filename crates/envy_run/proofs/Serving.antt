@@ -32,7 +32,8 @@ serving-none feed sink first reader stands is = subst (λ (t : Taking). IsServin
       source = sym (with_front-nil feed.left);
       faults = omega arith;
       dry = λ ended. absurd (let never = ended in cc);
-      given = record { taken = refl; each = tt; split = inl refl };
+      given = record { each = tt; split = inl refl };
+      count = refl;
       says = refl;
     };
     done = record { run = refl; stands = stands; licensed = Licence-refl first };
@@ -59,12 +60,12 @@ lines-few (b ∷ bytes) = at (b == newline) (lines-few bytes)
     at true le = omega arith
     at false le = onto_first-few b (lines_of bytes) (length bytes) le
 
-given-few : (bytes : List ℕ) (pieces : List (List ℕ)) (t : Taking) → HasGiven bytes pieces t → length pieces ≤ t.taken
+given-few : (bytes : List ℕ) (pieces : List (List ℕ)) (t : Taking) → HasGiven bytes pieces t → length pieces ≤ length bytes
 given-few bytes pieces t g = at g.split
   where
-    at : (bytes ≡ spelled pieces ++ t.held) ⊎ (IsTrue t.ended × (t.held ≡ []) × (lines_of bytes ≡ pieces)) → length pieces ≤ t.taken
-    at (inl e) = let long = spelled-long pieces in let all = length-append (spelled pieces) t.held in let same = ap length e in let taken = g.taken in omega arith
-    at (inr (ended, none, e)) = let few = lines-few bytes in let same = ap length e in let taken = g.taken in omega arith
+    at : (bytes ≡ spelled pieces ++ t.held) ⊎ (IsTrue t.ended × (t.held ≡ []) × (lines_of bytes ≡ pieces)) → length pieces ≤ length bytes
+    at (inl e) = let long = spelled-long pieces in let all = length-append (spelled pieces) t.held in let same = ap length e in omega arith
+    at (inr (ended, none, e)) = let few = lines-few bytes in let same = ap length e in omega arith
 
 length-done : (turns : List Turn) → length (lines_done turns) ≡ length turns
 length-done [] = refl
@@ -77,6 +78,7 @@ serving-few n from to first feed sink reader now s =
     let few = given-few p.bytes p.pieces reader (HasRead.given p.read) in
     let said = sym (length-map p.pieces run_line) ∙ ap length (HasRead.says p.read) ∙ length-map (lines_done p.turns) Ok ∙ length-done p.turns in
     let count = p.count in
+    let taken = HasRead.count p.read in
     let cap = s.cap in
     let within = s.within in
     omega arith

@@ -21,6 +21,7 @@ pub record HasRead (from feed : Feed) (reader : Taking) (bytes : List ℕ) (piec
   pub faults : from.faults ≤ feed.faults
   pub dry : IsTrue reader.ended → IsDry feed.left
   pub given : HasGiven bytes pieces reader
+  pub count : length bytes ≡ reader.taken
   pub says : map run_line pieces ≡ map Ok (lines_done turns)
 
 -- the counts that license the turns
@@ -58,7 +59,7 @@ pub record Between (from : Feed) (to : Drain) (first : Chart) (n : ℕ) (feed : 
   pub open_rest : NoNewline reader.held
 
 -- the next line is refused
-pub record Stuck (fault : LineFault) (from : Feed) (to : Drain) (first : Chart) (n : ℕ) (feed : Feed) (sink : Drain) (now : Chart) : Type 0 where
+pub record Stuck (fault : LineFault) (from : Feed) (to : Drain) (first : Chart) (n : ℕ) (feed : Feed) (sink : Drain) (reader : Taking) (now : Chart) : Type 0 where
   pub turns : List Turn
   pub array : Array
   pub bytes : List ℕ
@@ -67,6 +68,7 @@ pub record Stuck (fault : LineFault) (from : Feed) (to : Drain) (first : Chart) 
   pub more : List (List ℕ)
   pub count : length turns ≡ n
   pub source : from.left ≡ with_front bytes feed.left
+  pub taken : length bytes ≡ reader.taken
   pub lines : lines_of bytes ≡ pieces ++ piece ∷ more
   pub says : map run_line pieces ≡ map Ok (lines_done turns)
   pub refused : run_line piece ≡ Err fault
@@ -104,7 +106,7 @@ Stops Done from to first n feed sink reader now = Finished from to first n feed 
 Stops ReadFault from to first n feed sink reader now = Between from to first n feed sink reader now × Rises from.faults feed.faults
 Stops WriteFault from to first n feed sink reader now = Untold from to first n feed sink reader now
 Stops FlushFault from to first n feed sink reader now = Finished from to first n feed (record sink { flushed = true }) reader now × Rises to.faults sink.faults
-Stops (Refused fault) from to first n feed sink reader now = Stuck fault from to first n feed sink now
+Stops (Refused fault) from to first n feed sink reader now = Stuck fault from to first n feed sink reader now
 Stops Dead from to first n feed sink reader now = Dark from to first n feed sink reader now
 Stops TooLong from to first n feed sink reader now = Between from to first n feed sink reader now × (reader.taken ≡ reader.cap)
 

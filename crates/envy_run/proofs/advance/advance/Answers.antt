@@ -10,36 +10,36 @@ use Rattle.envy_run.proofs.advance.advance.Goals as goal
 
 pub returns-in-Ok-clause-goes : goal.returns-in-Ok-clause-goes
 returns-in-Ok-clause-goes g c from to first n p =
-    advance-end from (g.S.Source.feed c.next_line.new.source) to (g.K.Sink.drain c.args.sink.now) (g.K.Sink.drain c.flush.new.self) first c.args.memory.now.chart n c.next_line.new.self c.next_line.new.line.items (before-line from (g.S.Source.feed c.args.source.now) (g.S.Source.feed c.next_line.new.source) to (g.K.Sink.drain c.args.sink.now) first c.args.memory.now.chart n c.args.reader.now c.next_line.new.self NextEnd c.next_line.new.line.items p c.in-End.ensures.next c.in-End.ensures.lines) (next-ended c.args.reader.now c.next_line.new.self (g.S.Source.feed c.args.source.now) (g.S.Source.feed c.next_line.new.source) c.next_line.new.line.items c.in-End.ensures.next) c.in-Ok.ensures.0 c.in-Ok.ensures.2 c.in-Ok.ensures.1
+    advance-end from (g.S.Source.feed c.next_line.new.source) to (g.K.Sink.drain c.args.sink.now) (g.K.Sink.drain c.flush.new.self) first c.args.memory.now.chart n c.next_line.new.self c.next_line.new.line.items (before-line from (g.S.Source.feed c.args.source.now) (g.S.Source.feed c.next_line.new.source) to (g.K.Sink.drain c.args.sink.now) first c.args.memory.now.chart n c.args.reader.now c.next_line.new.self NextEnd c.next_line.new.line.items p c.in-End.ensures.next) (next-ended c.args.reader.now c.next_line.new.self (g.S.Source.feed c.args.source.now) (g.S.Source.feed c.next_line.new.source) c.next_line.new.line.items c.in-End.ensures.next) c.in-Ok.ensures.0 c.in-Ok.ensures.2 c.in-Ok.ensures.1
 
 pub returns-in-Err-clause-goes : goal.returns-in-Err-clause-goes
 returns-in-Err-clause-goes g c from to first n p =
-    (advance-end from (g.S.Source.feed c.next_line.new.source) to (g.K.Sink.drain c.args.sink.now) (record (g.K.Sink.drain c.flush.new.self) { flushed = true }) first c.args.memory.now.chart n c.next_line.new.self c.next_line.new.line.items (before-line from (g.S.Source.feed c.args.source.now) (g.S.Source.feed c.next_line.new.source) to (g.K.Sink.drain c.args.sink.now) first c.args.memory.now.chart n c.args.reader.now c.next_line.new.self NextEnd c.next_line.new.line.items p c.in-End.ensures.next c.in-End.ensures.lines) (next-ended c.args.reader.now c.next_line.new.self (g.S.Source.feed c.args.source.now) (g.S.Source.feed c.next_line.new.source) c.next_line.new.line.items c.in-End.ensures.next) c.in-Err.ensures.0 (Rises.kept c.in-Err.ensures.1) refl, rises-told to (g.K.Sink.drain c.args.sink.now) (g.K.Sink.drain c.flush.new.self) (Written.faults (Progress.told p)) c.in-Err.ensures.1)
+    (advance-end from (g.S.Source.feed c.next_line.new.source) to (g.K.Sink.drain c.args.sink.now) (record (g.K.Sink.drain c.flush.new.self) { flushed = true }) first c.args.memory.now.chart n c.next_line.new.self c.next_line.new.line.items (before-line from (g.S.Source.feed c.args.source.now) (g.S.Source.feed c.next_line.new.source) to (g.K.Sink.drain c.args.sink.now) first c.args.memory.now.chart n c.args.reader.now c.next_line.new.self NextEnd c.next_line.new.line.items p c.in-End.ensures.next) (next-ended c.args.reader.now c.next_line.new.self (g.S.Source.feed c.args.source.now) (g.S.Source.feed c.next_line.new.source) c.next_line.new.line.items c.in-End.ensures.next) c.in-Err.ensures.0 (Rises.kept c.in-Err.ensures.1) refl, rises-told to (g.K.Sink.drain c.args.sink.now) (g.K.Sink.drain c.flush.new.self) (Written.faults (Progress.told p)) c.in-Err.ensures.1)
 
 pub returns-in-Long-clause-goes : goal.returns-in-Long-clause-goes
 returns-in-Long-clause-goes g c from to first n p =
-    advance-long from (g.S.Source.feed c.next_line.new.source) to (g.K.Sink.drain c.args.sink.now) first c.args.memory.now.chart n c.next_line.new.self c.next_line.new.line.items (before-line from (g.S.Source.feed c.args.source.now) (g.S.Source.feed c.next_line.new.source) to (g.K.Sink.drain c.args.sink.now) first c.args.memory.now.chart n c.args.reader.now c.next_line.new.self NextLong c.next_line.new.line.items p c.in-Long.ensures.next c.in-Long.ensures.lines)
+    advance-long from (g.S.Source.feed c.next_line.new.source) to (g.K.Sink.drain c.args.sink.now) first c.args.memory.now.chart n c.next_line.new.self c.next_line.new.line.items (before-line from (g.S.Source.feed c.args.source.now) (g.S.Source.feed c.next_line.new.source) to (g.K.Sink.drain c.args.sink.now) first c.args.memory.now.chart n c.args.reader.now c.next_line.new.self NextLong c.next_line.new.line.items p c.in-Long.ensures.next)
 
 pub returns-in-Failed-clause-goes : goal.returns-in-Failed-clause-goes
 returns-in-Failed-clause-goes g c from to first n p =
-    (between-failed from (g.S.Source.feed c.next_line.new.source) to (g.K.Sink.drain c.args.sink.now) first c.args.memory.now.chart n c.next_line.new.self c.next_line.new.line.items (before-line from (g.S.Source.feed c.args.source.now) (g.S.Source.feed c.next_line.new.source) to (g.K.Sink.drain c.args.sink.now) first c.args.memory.now.chart n c.args.reader.now c.next_line.new.self NextFailed c.next_line.new.line.items p c.in-Failed.ensures.next c.in-Failed.ensures.lines), rises-from from (g.S.Source.feed c.args.source.now) (g.S.Source.feed c.next_line.new.source) (HasRead.faults (Progress.read p)) (next-rises c.args.reader.now c.next_line.new.self (g.S.Source.feed c.args.source.now) (g.S.Source.feed c.next_line.new.source) c.next_line.new.line.items c.in-Failed.ensures.next))
+    (between-failed from (g.S.Source.feed c.next_line.new.source) to (g.K.Sink.drain c.args.sink.now) first c.args.memory.now.chart n c.next_line.new.self c.next_line.new.line.items (before-line from (g.S.Source.feed c.args.source.now) (g.S.Source.feed c.next_line.new.source) to (g.K.Sink.drain c.args.sink.now) first c.args.memory.now.chart n c.args.reader.now c.next_line.new.self NextFailed c.next_line.new.line.items p c.in-Failed.ensures.next), rises-from from (g.S.Source.feed c.args.source.now) (g.S.Source.feed c.next_line.new.source) (HasRead.faults (Progress.read p)) (next-rises c.args.reader.now c.next_line.new.self (g.S.Source.feed c.args.source.now) (g.S.Source.feed c.next_line.new.source) c.next_line.new.line.items c.in-Failed.ensures.next))
 
 pub returns-in-Spent-clause-goes : goal.returns-in-Spent-clause-goes
 returns-in-Spent-clause-goes g c from to first n p =
-    (between-spent from (g.S.Source.feed c.next_line.new.source) to (g.K.Sink.drain c.args.sink.now) first c.args.memory.now.chart n c.next_line.new.self c.next_line.new.line.items (before-line from (g.S.Source.feed c.args.source.now) (g.S.Source.feed c.next_line.new.source) to (g.K.Sink.drain c.args.sink.now) first c.args.memory.now.chart n c.args.reader.now c.next_line.new.self NextSpent c.next_line.new.line.items p c.in-Spent.ensures.next c.in-Spent.ensures.lines), next-spent c.args.reader.now c.next_line.new.self (g.S.Source.feed c.args.source.now) (g.S.Source.feed c.next_line.new.source) c.next_line.new.line.items c.in-Spent.ensures.next)
+    (between-spent from (g.S.Source.feed c.next_line.new.source) to (g.K.Sink.drain c.args.sink.now) first c.args.memory.now.chart n c.next_line.new.self c.next_line.new.line.items (before-line from (g.S.Source.feed c.args.source.now) (g.S.Source.feed c.next_line.new.source) to (g.K.Sink.drain c.args.sink.now) first c.args.memory.now.chart n c.args.reader.now c.next_line.new.self NextSpent c.next_line.new.line.items p c.in-Spent.ensures.next), next-spent c.args.reader.now c.next_line.new.self (g.S.Source.feed c.args.source.now) (g.S.Source.feed c.next_line.new.source) c.next_line.new.line.items c.in-Spent.ensures.next)
 
 pub returns-in-Err-read-clause-goes : goal.returns-in-Err-read-clause-goes
 returns-in-Err-read-clause-goes g c from to first n p =
-    advance-refused from (g.S.Source.feed c.next_line.new.source) to (g.K.Sink.drain c.args.sink.now) first c.args.memory.now.chart n c.next_line.new.self c.next_line.new.line.items c.in-Err-read.fault (before-line from (g.S.Source.feed c.args.source.now) (g.S.Source.feed c.next_line.new.source) to (g.K.Sink.drain c.args.sink.now) first c.args.memory.now.chart n c.args.reader.now c.next_line.new.self NextLine c.next_line.new.line.items p c.in-Line.ensures.next c.in-Line.ensures.lines) (ap run_line (sym c.as_slice.ensures.value) ∙ sym c.in-Err-read.ensures.value)
+    advance-refused from (g.S.Source.feed c.next_line.new.source) to (g.K.Sink.drain c.args.sink.now) first c.args.memory.now.chart n c.next_line.new.self c.next_line.new.line.items c.in-Err-read.fault (before-line from (g.S.Source.feed c.args.source.now) (g.S.Source.feed c.next_line.new.source) to (g.K.Sink.drain c.args.sink.now) first c.args.memory.now.chart n c.args.reader.now c.next_line.new.self NextLine c.next_line.new.line.items p c.in-Line.ensures.next) (ap run_line (sym c.as_slice.ensures.value) ∙ sym c.in-Err-read.ensures.value)
 
 pub returns-in-Done-clause-goes : goal.returns-in-Done-clause-goes
 returns-in-Done-clause-goes g c from to first n p =
-    advance-done from (g.S.Source.feed c.next_line.new.source) to (g.K.Sink.drain c.args.sink.now) (g.K.Sink.drain c.obey.new.sink) first c.args.memory.now.chart c.obey.new.memory.chart n c.next_line.new.self c.next_line.new.line.items c.in-Ok-read.line (before-line from (g.S.Source.feed c.args.source.now) (g.S.Source.feed c.next_line.new.source) to (g.K.Sink.drain c.args.sink.now) first c.args.memory.now.chart n c.args.reader.now c.next_line.new.self NextLine c.next_line.new.line.items p c.in-Line.ensures.next c.in-Line.ensures.lines) (ap run_line (sym c.as_slice.ensures.value) ∙ sym c.in-Ok-read.ensures.value) c.in-Done.ensures
+    advance-done from (g.S.Source.feed c.next_line.new.source) to (g.K.Sink.drain c.args.sink.now) (g.K.Sink.drain c.obey.new.sink) first c.args.memory.now.chart c.obey.new.memory.chart n c.next_line.new.self c.next_line.new.line.items c.in-Ok-read.line (before-line from (g.S.Source.feed c.args.source.now) (g.S.Source.feed c.next_line.new.source) to (g.K.Sink.drain c.args.sink.now) first c.args.memory.now.chart n c.args.reader.now c.next_line.new.self NextLine c.next_line.new.line.items p c.in-Line.ensures.next) (ap run_line (sym c.as_slice.ensures.value) ∙ sym c.in-Ok-read.ensures.value) c.in-Done.ensures
 
 pub returns-in-WriteFault-clause-goes : goal.returns-in-WriteFault-clause-goes
 returns-in-WriteFault-clause-goes g c from to first n p =
-    advance-untold from (g.S.Source.feed c.next_line.new.source) to (g.K.Sink.drain c.args.sink.now) (g.K.Sink.drain c.obey.new.sink) first c.args.memory.now.chart c.obey.new.memory.chart n c.next_line.new.self c.next_line.new.line.items c.in-Ok-read.line (before-line from (g.S.Source.feed c.args.source.now) (g.S.Source.feed c.next_line.new.source) to (g.K.Sink.drain c.args.sink.now) first c.args.memory.now.chart n c.args.reader.now c.next_line.new.self NextLine c.next_line.new.line.items p c.in-Line.ensures.next c.in-Line.ensures.lines) (ap run_line (sym c.as_slice.ensures.value) ∙ sym c.in-Ok-read.ensures.value) c.in-WriteFault.ensures
+    advance-untold from (g.S.Source.feed c.next_line.new.source) to (g.K.Sink.drain c.args.sink.now) (g.K.Sink.drain c.obey.new.sink) first c.args.memory.now.chart c.obey.new.memory.chart n c.next_line.new.self c.next_line.new.line.items c.in-Ok-read.line (before-line from (g.S.Source.feed c.args.source.now) (g.S.Source.feed c.next_line.new.source) to (g.K.Sink.drain c.args.sink.now) first c.args.memory.now.chart n c.args.reader.now c.next_line.new.self NextLine c.next_line.new.line.items p c.in-Line.ensures.next) (ap run_line (sym c.as_slice.ensures.value) ∙ sym c.in-Ok-read.ensures.value) c.in-WriteFault.ensures
 
 pub returns-in-Dead-clause-goes : goal.returns-in-Dead-clause-goes
 returns-in-Dead-clause-goes g c from to first n p =
-    advance-dark from (g.S.Source.feed c.next_line.new.source) to (g.K.Sink.drain c.args.sink.now) (g.K.Sink.drain c.obey.new.sink) first c.args.memory.now.chart c.obey.new.memory.chart n c.next_line.new.self c.next_line.new.line.items c.in-Ok-read.line (before-line from (g.S.Source.feed c.args.source.now) (g.S.Source.feed c.next_line.new.source) to (g.K.Sink.drain c.args.sink.now) first c.args.memory.now.chart n c.args.reader.now c.next_line.new.self NextLine c.next_line.new.line.items p c.in-Line.ensures.next c.in-Line.ensures.lines) (ap run_line (sym c.as_slice.ensures.value) ∙ sym c.in-Ok-read.ensures.value) c.in-Dead.ensures
+    advance-dark from (g.S.Source.feed c.next_line.new.source) to (g.K.Sink.drain c.args.sink.now) (g.K.Sink.drain c.obey.new.sink) first c.args.memory.now.chart c.obey.new.memory.chart n c.next_line.new.self c.next_line.new.line.items c.in-Ok-read.line (before-line from (g.S.Source.feed c.args.source.now) (g.S.Source.feed c.next_line.new.source) to (g.K.Sink.drain c.args.sink.now) first c.args.memory.now.chart n c.args.reader.now c.next_line.new.self NextLine c.next_line.new.line.items p c.in-Line.ensures.next) (ap run_line (sym c.as_slice.ensures.value) ∙ sym c.in-Ok-read.ensures.value) c.in-Dead.ensures
