@@ -29,7 +29,13 @@ fn main(rt: HostRuntime) -> ExitCode {
     };
     let mut source = StdSource::new(rt.stdin());
     let mut sink = StdSink::new(rt.stdout());
-    let ended = run(rt.alloc(), &words, &mut source, &mut sink, &mut MemMaker::new());
+    let ended = run(
+        rt.alloc(),
+        &words,
+        &mut source,
+        &mut sink,
+        &mut MemMaker::new(),
+    );
     if ended.status != 0 {
         let mut text = ArrayVec::new();
         end_text(&ended, &mut text);

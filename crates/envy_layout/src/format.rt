@@ -4,7 +4,9 @@ ghost use Rattle.envy_layout.specs.Same.{Counted};
 ghost use Rattle.envy_layout.specs.Sound.{slots_of};
 ghost use Rattle.envy_map.specs.Fields.{chart, with_fields};
 
-use crate::lay::{lay_backs, lay_head, lay_origins, lay_places, lay_positions, lay_slots, lay_undos};
+use crate::lay::{
+    lay_backs, lay_head, lay_origins, lay_places, lay_positions, lay_slots, lay_undos,
+};
 use envy_base::{Board, Off, Trouble};
 use envy_map::{MAGIC, set_fill, set_magic, set_wear};
 

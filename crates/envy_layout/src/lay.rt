@@ -3,7 +3,10 @@ ghost use Rattle.envy_layout.specs.Formatting.{IsStopped, with_head, with_slots_
 ghost use Rattle.envy_map.specs.Fields.{chart, with_fields};
 
 use envy_base::{Board, Job, Off, Slot};
-use envy_map::{clear_places, clear_undos, set_back, set_job, set_origin, set_segment_at, set_size, set_slot, set_version};
+use envy_map::{
+    clear_places, clear_undos, set_back, set_job, set_origin, set_segment_at, set_size, set_slot,
+    set_version,
+};
 
 /// Two numbers in one word, the first in its high half.
 fn pair(high: u32, low: u32) -> u64

@@ -8,8 +8,8 @@
 //! where there is power.
 #![tactic(auto)]
 
-mod frame;
 mod format;
+mod frame;
 mod lay;
 mod page_place;
 mod page_undo;

@@ -83,12 +83,14 @@ one-more x = omega arith
 
 done-so : (m : Array) (line : Line) (reply : Reply) (old c : Chart) → IsCall line → IsTrue c.on → AnswersTo m line reply c → AnswerLicence line reply old c → (left : Array) × LineDone m line (reply ∷ []) left old c
 done-so m line reply old c call on a licence =
-    let (left, replies, stands) = answered m line reply c on a in
-    (left, record {
-      does = inr (inl (reply, refl, replies));
-      stands = stands;
-      licensed = Licence-as 0 (one_if (is_plan line)) (one_if (is_lost reply)) (one_if (is_fault reply)) (one_if (is_power line)) (one_if (is_plan line)) (one_if (is_lost reply) + 0) (one_if (is_fault reply) + 0) old c (sym (ap one_if (no-power line call).0)) refl (one-more (one_if (is_lost reply))) (one-more (one_if (is_fault reply))) licence;
-    })
+    let (left, replies, stands) = answered m line reply c on a in (
+      left,
+      record {
+        does = inr (inl (reply, refl, replies));
+        stands = stands;
+        licensed = Licence-as 0 (one_if (is_plan line)) (one_if (is_lost reply)) (one_if (is_fault reply)) (one_if (is_power line)) (one_if (is_plan line)) (one_if (is_lost reply) + 0) (one_if (is_fault reply) + 0) old c (sym (ap one_if (no-power line call).0)) refl (one-more (one_if (is_lost reply))) (one-more (one_if (is_fault reply))) licence;
+      },
+    )
 
 pub call-done : (m : Array) (line : Line) (reply : Reply) (old c : Chart) (sink then_sink : Drain) → IsCall line → IsTrue c.on → AnswersTo m line reply c → AnswerLicence line reply old c → WritesAll sink (reply_bytes reply ++ newline ∷ []) (Ok tt) then_sink → Obeys m line Done old c sink then_sink
 call-done m line reply old c sink then_sink call on a licence (whole, faults, after) =
@@ -277,9 +279,10 @@ power-recovers m old c new sink then_sink obeyed stood is (sound, words) recover
     at Done (ok, back, told) = (Restarted ∷ [], restarted m, done-so_power back, told)
     at WriteFault (back, inl (err, same)) = absurd (let never = err in cc)
     at WriteFault (back, inr (ok, part)) = (Restarted ∷ [], restarted m, done-so_power back, part)
-    at Dead (still, dead, same) =
-        (record { off = still.off; sound = still.sound sound; dead = dead; found = (restarted m, inr (refl, refl), still.durable ∙ words); licensed = Licence-trans 1 0 0 0 0 0 0 0 old c new cut still.licence },
-        inl (subst (λ (d : Drain). Written [] sink d) (sym same) (record { whole = sym (with_end-nil sink.written); faults = omega arith })))
+    at Dead (still, dead, same) = (
+      record { off = still.off; sound = still.sound sound; dead = dead; found = (restarted m, inr (refl, refl), still.durable ∙ words); licensed = Licence-trans 1 0 0 0 0 0 0 0 old c new cut still.licence },
+      inl (subst (λ (d : Drain). Written [] sink d) (sym same) (record { whole = sym (with_end-nil sink.written); faults = omega arith })),
+    )
 
 -- an empty line does nothing
 pub empty-done : (m : Array) (line : Line) (c : Chart) (sink : Drain) → line ≡ EmptyLine → Stands c m → Obeys m line Done c c sink sink

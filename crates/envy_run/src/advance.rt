@@ -54,7 +54,11 @@ fn read(bytes: &[u8]) -> Result<Line, LineFault>
 {
     grammar_holds_both_ways();
     let line = read_line(bytes)?;
-    if is_built(&line) { Ok(line) } else { Err(LineFault::Word) }
+    if is_built(&line) {
+        Ok(line)
+    } else {
+        Err(LineFault::Word)
+    }
 }
 
 /// Does a line, with its replies.
@@ -71,7 +75,12 @@ fn obey<K: Sink, B: Bench>(memory: &mut Memory<B>, sink: &mut K, line: &Line) ->
 }
 
 /// Reads the next line and does it. Answers how the run ends, where it does.
-pub fn advance<S: Source, K: Sink, B: Bench>(memory: &mut Memory<B>, source: &mut S, sink: &mut K, reader: &mut Lines) -> Option<End>
+pub fn advance<S: Source, K: Sink, B: Bench>(
+    memory: &mut Memory<B>,
+    source: &mut S,
+    sink: &mut K,
+    reader: &mut Lines,
+) -> Option<End>
     requires { IsTrue memory.old.chart.on }
     ensures goes { (from : Feed) (to : Drain) (first : Chart) (n : ℕ)
         → Progress from to first n (S.feed source.old) (K.drain sink.old) reader.old memory.old.chart

@@ -49,7 +49,11 @@ pub fn restart<B: Bench>(memory: &mut Memory<B>) -> bool
 }
 
 /// After a failure of power, whose own reply was written or not: asks for power, and tells its return.
-pub fn recover<K: Sink, B: Bench>(memory: &mut Memory<B>, sink: &mut K, wrote: Result<(), Failed>) -> Obeyed
+pub fn recover<K: Sink, B: Bench>(
+    memory: &mut Memory<B>,
+    sink: &mut K,
+    wrote: Result<(), Failed>,
+) -> Obeyed
     requires { memory.old.chart.on ≡ false }
     ensures { Recovers wrote result memory.old.chart memory.new.chart (K.drain sink.old) (K.drain sink.new) }
 {

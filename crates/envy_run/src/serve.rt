@@ -35,7 +35,11 @@ fn lines_accepted(end: End, told: u64) -> u64
 }
 
 /// Does the lines of the source one after another, over a memory of zeros.
-pub fn serve<S: Source, K: Sink, B: Bench>(memory: &mut Memory<B>, source: &mut S, sink: &mut K) -> Served
+pub fn serve<S: Source, K: Sink, B: Bench>(
+    memory: &mut Memory<B>,
+    source: &mut S,
+    sink: &mut K,
+) -> Served
     requires { Stands memory.old.chart (zeros memory.old.chart.shape.pages memory.old.chart.shape.shadows) }
     ensures serves { Serves result.end result.lines result.taken (S.feed source.old) (K.drain sink.old) memory.old.chart (S.feed source.new) (K.drain sink.new) memory.new.chart }
     ensures few { result.lines ≤ 1099511627777 }
