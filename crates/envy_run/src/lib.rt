@@ -10,6 +10,8 @@ mod prepare;
 mod restart;
 mod running;
 mod serve;
+#[cfg(test)]
+mod tests;
 
 pub use answering::answer;
 pub use ended::{Ended, end_text};

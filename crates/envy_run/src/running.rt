@@ -15,7 +15,7 @@ use std::alloc::Global;
 const LIVES: u32 = 4_294_967_295;
 
 /// The setup of a run: a frame for every page, for now.
-fn setup_of_run() -> Setup
+pub(crate) fn setup_of_run() -> Setup
     ensures { result ≡ the_setup }
 {
     Setup {
