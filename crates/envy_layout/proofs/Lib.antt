@@ -1,4 +1,5 @@
 pub mod ArrayLemmas
+pub mod ClaimLaw
 pub mod Clearing
 pub mod Committing
 pub mod Composition

@@ -8,6 +8,7 @@
 //! where there is power.
 #![tactic(auto)]
 
+mod claiming;
 mod format;
 mod frame;
 mod lay;
@@ -15,6 +16,7 @@ mod page_place;
 mod page_undo;
 mod slots;
 
+pub use claiming::{claim_back, note_origin, raise_fill};
 pub use format::{format_board, format_board_1};
 pub use frame::{change_frame_word, move_to_frame, write_free_frame};
 pub use page_place::{move_place, restore_place, switch_place};
