@@ -14,6 +14,10 @@ use Rattle.envy_layout.specs.Same.{Same}
 use Rattle.envy_layout.proofs.References.{apart-spare, copy-low, row-of}
 use Rattle.envy_layout.proofs.Composition.{Keeps, Same-put}
 
+-- fills, backs and origins say nothing of words and owners
+Keeps-unread : (c : Chart) (fills backs origins : List ℕ) → Sound c.shape (record c.fields { fills = fills; backs = backs; origins = origins }) c.flash → Keeps c (record c.fields { fills = fills; backs = backs; origins = origins })
+Keeps-unread c fills backs origins sound = record { framed = record { shape = refl; magic = refl; version = refl; slots = refl; owners = λ p. refl }; sound = sound; live = refl; durable = refl }
+
 -- no page names a free row
 free-unnamed : (sh : Shape) (f : Fields) (flash : List (List ℕ)) (p q x : ℕ) → Sound sh f flash → IsFree sh f q → Names f p x → x ≢ q
 free-unnamed sh f flash p q x s free names same =
@@ -29,7 +33,7 @@ free-uncopied sh f flash e i q s free lt same =
     let below : q % sh.rows < get_or f.fills (q / sh.rows) 0 = subst (λ (y : ℕ). y % sh.rows < get_or f.fills (y / sh.rows) 0) same low in
     omega arith
 
-pub Sound-backed : (sh : Shape) (f : Fields) (flash : List (List ℕ)) (q p : ℕ) → p < sh.pages → IsFree sh f q → Sound sh f flash → Sound sh (with_back q p f) flash
+Sound-backed : (sh : Shape) (f : Fields) (flash : List (List ℕ)) (q p : ℕ) → p < sh.pages → IsFree sh f q → Sound sh f flash → Sound sh (with_back q p f) flash
 Sound-backed sh f flash q p page free s =
     let n = s.numbers in
     record {
@@ -78,16 +82,8 @@ Sound-backed sh f flash q p page free s =
     fits x lt (inl same) = rw (same, get_or-set_same f.backs q p 0 (rw (Numbers.backs_long s.numbers, ← same) lt)) page
     fits x lt (inr other) = rw (stays x other) (Numbers.backs_fit s.numbers x lt)
 
-pub Keeps-backed : (c : Chart) (q p : ℕ) → IsSound c → p < c.shape.pages → IsFree c.shape c.fields q → Keeps c (with_back q p c.fields)
-Keeps-backed c q p sound page free = record {
-  framed = record { shape = refl; magic = refl; version = refl; slots = refl; owners = λ r. refl };
-  sound = Sound-backed c.shape c.fields c.flash q p page free sound;
-  live = refl;
-  durable = refl;
-}
-
 pub Same-backed : (c new : Chart) (q p : ℕ) (r : Result Unit Off) → IsSound c → p < c.shape.pages → (IsTrue c.on → IsFree c.shape c.fields q) → Writes (with_back q p) c r new → Same 0 0 c new
-Same-backed c new q p r sound page free writes = Same-put c new (with_back q p) r sound (λ on. Keeps-backed c q p sound page (free on)) refl writes
+Same-backed c new q p r sound page free writes = Same-put c new (with_back q p) r sound (λ on. Keeps-unread c c.fields.fills (set c.fields.backs q p) c.fields.origins (Sound-backed c.shape c.fields c.flash q p page (free on) sound)) refl writes
 
 -- a usable segment isn't an idle spare, nor one that is being switched to
 usable-busy : (sh : Shape) (f : Fields) (s e : ℕ) → IsUsable sh f s → f.job ≡ Some Idle → IsSpare sh f.positions e → e ≢ s
@@ -112,7 +108,7 @@ Copies-filled sh f flash fills v e same c = record {
     under : (i : ℕ) → i < get_or fills e 0 → i < get_or f.fills e 0
     under i lt = rw (← same) lt
 
-pub Sound-raised : (sh : Shape) (f : Fields) (flash : List (List ℕ)) (t n : ℕ) → t < sh.segments → n < sh.rows → get_or f.fills t 0 ≡ n → IsUsable sh f t → Sound sh f flash → Sound sh (with_fill t (n + 1) f) flash
+Sound-raised : (sh : Shape) (f : Fields) (flash : List (List ℕ)) (t n : ℕ) → t < sh.segments → n < sh.rows → get_or f.fills t 0 ≡ n → IsUsable sh f t → Sound sh f flash → Sound sh (with_fill t (n + 1) f) flash
 Sound-raised sh f flash t n lt room is usable s =
     let m = s.numbers in
     record {
@@ -164,18 +160,10 @@ Sound-raised sh f flash t n lt room is usable s =
     fits x (inl same) = rw (same, get_or-set_same f.fills t (n + 1) 0 inside) (omega arith)
     fits x (inr other) = rw (stays x other) (Numbers.fills_fit s.numbers x)
 
-pub Keeps-raised : (c : Chart) (t n : ℕ) → IsSound c → t < c.shape.segments → n < c.shape.rows → get_or c.fields.fills t 0 ≡ n → IsUsable c.shape c.fields t → Keeps c (with_fill t (n + 1) c.fields)
-Keeps-raised c t n sound lt room is usable = record {
-  framed = record { shape = refl; magic = refl; version = refl; slots = refl; owners = λ r. refl };
-  sound = Sound-raised c.shape c.fields c.flash t n lt room is usable sound;
-  live = refl;
-  durable = refl;
-}
-
 pub Same-raised : (c new : Chart) (t n : ℕ) (r : Result Unit Off) → IsSound c → t < c.shape.segments → n < c.shape.rows → (IsTrue c.on → get_or c.fields.fills t 0 ≡ n) → (IsTrue c.on → IsUsable c.shape c.fields t) → Writes (with_fill t (n + 1)) c r new → Same 0 0 c new
-Same-raised c new t n r sound lt room is usable writes = Same-put c new (with_fill t (n + 1)) r sound (λ on. Keeps-raised c t n sound lt room (is on) (usable on)) refl writes
+Same-raised c new t n r sound lt room is usable writes = Same-put c new (with_fill t (n + 1)) r sound (λ on. Keeps-unread c (set c.fields.fills t (n + 1)) c.fields.backs c.fields.origins (Sound-raised c.shape c.fields c.flash t n lt room (is on) (usable on) sound)) refl writes
 
-pub Sound-noted : (sh : Shape) (f : Fields) (flash : List (List ℕ)) (i q : ℕ) → q < sh.segments * sh.rows → IsCopying f → Sound sh f flash → Sound sh (with_origin i q f) flash
+Sound-noted : (sh : Shape) (f : Fields) (flash : List (List ℕ)) (i q : ℕ) → q < sh.segments * sh.rows → IsCopying f → Sound sh f flash → Sound sh (with_origin i q f) flash
 Sound-noted sh f flash i q range (v, copy) s =
     let n = s.numbers in
     record {
@@ -210,13 +198,5 @@ Sound-noted sh f flash i q range (v, copy) s =
     fits x lt (inl same) = rw (same, get_or-set_same f.origins i q 0 (rw (Numbers.origins_long s.numbers, ← same) lt)) range
     fits x lt (inr other) = rw (get_or-set_other f.origins i x q 0 other) (Numbers.origins_fit s.numbers x lt)
 
-pub Keeps-noted : (c : Chart) (i q : ℕ) → IsSound c → q < c.shape.segments * c.shape.rows → IsCopying c.fields → Keeps c (with_origin i q c.fields)
-Keeps-noted c i q sound range copying = record {
-  framed = record { shape = refl; magic = refl; version = refl; slots = refl; owners = λ r. refl };
-  sound = Sound-noted c.shape c.fields c.flash i q range copying sound;
-  live = refl;
-  durable = refl;
-}
-
 pub Same-noted : (c new : Chart) (i q : ℕ) (r : Result Unit Off) → IsSound c → q < c.shape.segments * c.shape.rows → (IsTrue c.on → IsCopying c.fields) → Writes (with_origin i q) c r new → Same 0 0 c new
-Same-noted c new i q r sound range copying writes = Same-put c new (with_origin i q) r sound (λ on. Keeps-noted c i q sound range (copying on)) refl writes
+Same-noted c new i q r sound range copying writes = Same-put c new (with_origin i q) r sound (λ on. Keeps-unread c c.fields.fills c.fields.backs (set c.fields.origins i q) (Sound-noted c.shape c.fields c.flash i q range (copying on) sound)) refl writes

@@ -10,6 +10,7 @@ pub mod FrameLaw
 pub mod KeptLemmas
 pub mod Laying
 pub mod PlaceLaw
+pub mod ProgramLaw
 pub mod References
 pub mod Regions
 pub mod RestoreLaw
