@@ -9,10 +9,12 @@ pub mod FrameLaw
 pub mod KeptLemmas
 pub mod Laying
 pub mod PlaceLaw
+pub mod PositionLaw
 pub mod References
 pub mod Regions
 pub mod RestoreLaw
 pub mod SlotLaw
+pub mod SpareLemmas
 pub mod Standing
 pub mod SwitchLaw
 pub mod UndoLaw

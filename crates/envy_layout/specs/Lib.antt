@@ -1,4 +1,5 @@
 pub mod Formatting
+pub mod Jobs
 pub mod May
 pub mod Same
 pub mod RowKinds
