@@ -6,6 +6,7 @@ pub mod Empty
 pub mod Formed
 pub mod Filling
 pub mod FrameLaw
+pub mod JobLaw
 pub mod KeptLemmas
 pub mod Laying
 pub mod PlaceLaw

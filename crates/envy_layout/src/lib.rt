@@ -10,6 +10,7 @@
 
 mod format;
 mod frame;
+mod job;
 mod lay;
 mod page_place;
 mod page_undo;
@@ -18,6 +19,7 @@ mod slots;
 
 pub use format::{format_board, format_board_1};
 pub use frame::{change_frame_word, move_to_frame, write_free_frame};
+pub use job::{begin_copy, begin_erase, begin_switch, change_job, end_job};
 pub use page_place::{move_place, restore_place, switch_place};
 pub use page_undo::{clear_settled_undo, move_undo, own_page, switch_undo};
 pub use position::{change_position, replace_segment};
