@@ -3,6 +3,7 @@ pub mod Clearing
 pub mod Committing
 pub mod Composition
 pub mod Empty
+pub mod EraseLaw
 pub mod Formed
 pub mod Filling
 pub mod FrameLaw

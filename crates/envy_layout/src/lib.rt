@@ -8,6 +8,7 @@
 //! where there is power.
 #![tactic(auto)]
 
+mod erasing;
 mod format;
 mod frame;
 mod job;
@@ -17,6 +18,7 @@ mod page_undo;
 mod position;
 mod slots;
 
+pub use erasing::{empty_spare, erase_spare, raise_wear};
 pub use format::{format_board, format_board_1};
 pub use frame::{change_frame_word, move_to_frame, write_free_frame};
 pub use job::{begin_copy, begin_erase, begin_switch, change_job, end_job};
