@@ -1,11 +1,11 @@
 -- The job Erase: the wear word of the spare, its erase, and its fill that becomes 0.
-use Rattle.std.proofs.Common.{◌≡◌, ◌≢◌, ◌⊎◌, inl, inr, ℕ, ◌+◌, ◌-◌, ◌*◌, ◌/◌, ◌%◌, ◌^◌, ◌<◌, ◌≤◌, Bool, false, List, [], length, get_or, set, Option, None, Some, refl, sym, ◌∙◌, ap, subst, arith}
+use Rattle.std.proofs.Common.{◌≡◌, ◌≢◌, ◌⊎◌, inl, inr, ℕ, ◌*◌, ◌/◌, ◌%◌, ◌<◌, ◌≤◌, false, List, [], length, get_or, set, Option, None, Some, refl, sym, ◌∙◌, ap, subst, arith}
 use Rattle.std.specs.Prelude.{IsTrue, Result, Ok, Err}
 use Rattle.std.proofs.lemmas.List.{get_or-set_same, get_or-set_other, length-set}
 use Rattle.std.proofs.lemmas.Bool.{cases_eq}
 use Rattle.envy_base.specs.Counting.{up}
 use Rattle.envy_base.proofs.Counting.{up-least, up-most, up-below}
-use Rattle.envy_base.specs.State.{State, Only, Erases, with_segment, IsOnes, IsPage, ones, cut}
+use Rattle.envy_base.specs.State.{State, Only, Erases, with_segment, IsOnes, IsPage, ones}
 use Rattle.envy_base.specs.declared.board.Off.{Off}
 use Rattle.envy_base.specs.declared.board.Trouble.{Trouble}
 use Rattle.envy_base.specs.declared.board.Trouble.TheVariants.{Off as TroubleOff, Bad}
@@ -16,11 +16,11 @@ use Rattle.envy_base.specs.declared.fields.Place.TheVariants.{Absent, Row, Frame
 use Rattle.envy_map.specs.Fields.{Fields, Chart, chart, failed, with_fields, place}
 use Rattle.envy_map.specs.Writes.{Writes, with_wear, with_fill}
 use Rattle.envy_layout.specs.Words.{kept, word_at, live, durable}
-use Rattle.envy_layout.specs.Sound.{Sound, IsSound, Numbers, Rows, Blanks, Homes, Jobs, Names, IsPlaced, IsSpare}
+use Rattle.envy_layout.specs.Sound.{Sound, IsSound, Numbers, Rows, Blanks, Homes, Names, IsPlaced, IsSpare}
 use Rattle.envy_layout.specs.Jobs.{IsBlankSpare}
-use Rattle.envy_layout.specs.Same.{Counted, Worn, Wears, Stays, Same}
+use Rattle.envy_layout.specs.Same.{Worn, Wears, Stays, Same}
 use Rattle.envy_layout.proofs.Clearing.{Counted-erased, Counted-erase_cut, Counted-erase_bad}
-use Rattle.envy_layout.proofs.Composition.{Keeps, Keeps-refl, Stays-put, Stays-refl, Stays-more, Stays-trans, Stays-failed, Same-put, Same-refl, Same-more, Wears-failed, Counted-failed}
+use Rattle.envy_layout.proofs.Composition.{Keeps, Stays-put, Stays-refl, Stays-more, Stays-trans, Same-put, Same-refl, Wears-failed}
 use Rattle.envy_layout.proofs.WordLists.{words-same}
 
 -- the spare e is to be erased
@@ -221,21 +221,6 @@ Same-raised c a b e r all =
           (Stays-erase a b e r here (let there = IsSpare.segment (Erasing.spare here) in let long = all.long in omega arith) all.erases);
       worn = Wears-both c (chart b) e (wears-room c e (Erasing.sound all.can) lt) (let long = raised-long c a b e r all in omega arith) (ap (λ (f : Fields). f.wears) done.fields) done.erases done.cuts;
     }
-
-pub fields-raised : (c : Chart) (a b : State) (e : ℕ) (r : Result Unit Trouble) → RaisedFirst c a b e r → (chart b).fields ≡ with_wear e (up (get_or c.fields.wears e 0)) c.fields
-fields-raised c a b e r all = Began.fields (began-raised c a b e r all)
-
-pub erases-raised : (c : Chart) (a b : State) (e : ℕ) (r : Result Unit Trouble) → RaisedFirst c a b e r → b.erases ≡ set c.erases e (up (get_or c.erases e 0))
-erases-raised c a b e r all = Began.erases (began-raised c a b e r all)
-
-pub others-raised : (c : Chart) (a b : State) (e : ℕ) (r : Result Unit Trouble) → RaisedFirst c a b e r → (q : ℕ) → q / c.shape.rows ≢ e → get_or b.flash q [] ≡ get_or c.flash q []
-others-raised c a b e r all = Began.others (began-raised c a b e r all)
-
-pub only-raised : (c : Chart) (a b : State) (e : ℕ) → RaisedFirst c a b e (Ok tt) → Only c.shape.rows e IsOnes c.flash b.flash
-only-raised c a b e all = subst (λ (x : Chart). Only x.shape.rows e IsOnes x.flash b.flash) all.raised (at all.erases)
-  where
-    at : Erases a e (Ok tt) b → Only a.shape.rows e IsOnes a.flash b.flash
-    at (on, rows, only, is) = subst (λ (x : State). Only a.shape.rows e IsOnes a.flash x.flash) (sym is) only
 
 -- the fill of the spare becomes 0, whatever its rows hold
 Keeps-emptied : (c : Chart) (e : ℕ) → Erasing c e → Keeps c (with_fill e 0 c.fields)

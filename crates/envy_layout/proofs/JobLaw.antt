@@ -1,17 +1,18 @@
 -- Writes of the job.
-use Rattle.std.proofs.Common.{◌≡◌, ◌≢◌, ◌⊎◌, inl, inr, ℕ, ◌*◌, ◌/◌, ◌<◌, List, [], get_or, Option, None, Some, refl, sym, ◌∙◌, ap, subst}
+use Rattle.std.proofs.Common.{◌≡◌, ◌≢◌, ◌⊎◌, inl, inr, ℕ, ◌*◌, ◌/◌, ◌<◌, List, [], get_or, Option, Some, refl, ◌∙◌, ap, subst}
 use Rattle.std.specs.Prelude.{IsTrue, Result}
 use Rattle.envy_base.specs.State.{ones}
 use Rattle.envy_base.specs.declared.board.Off.{Off}
 use Rattle.envy_base.specs.declared.shape.Shape.{Shape}
 use Rattle.envy_base.specs.declared.fields.Job.{Job}
 use Rattle.envy_base.specs.declared.fields.Job.TheVariants.{Idle, Copy, Switch, Erase}
-use Rattle.envy_map.specs.Fields.{Fields, Chart, with_fields}
+use Rattle.envy_map.specs.Fields.{Fields, Chart}
 use Rattle.envy_map.specs.Writes.{Writes, with_job}
-use Rattle.envy_layout.specs.Sound.{Sound, IsSound, Blanks, Homes, Jobs, Names, IsPlaced, IsSpare}
+use Rattle.envy_layout.specs.Sound.{Sound, IsSound, Blanks, Homes, Jobs, IsPlaced, IsSpare}
 use Rattle.envy_layout.specs.Jobs.{FitsJob, AreHome, IsCopiedWhole, IsBlankSpare}
 use Rattle.envy_layout.specs.Same.{Same}
 use Rattle.envy_layout.proofs.Composition.{Keeps, Same-put}
+use Rattle.envy_layout.proofs.References.{apart-spare}
 use Rattle.envy_layout.proofs.SpareLemmas.{one-spare}
 
 Keeps-job : (c : Chart) (j : Job) → IsSound c → FitsJob c.shape (with_job (Some j) c.fields) c.flash → Keeps c (with_job (Some j) c.fields)
@@ -34,14 +35,22 @@ Keeps-job c j sound fits = record {
 pub Same-job : (c new : Chart) (j : Job) (r : Result Unit Off) → IsSound c → (IsTrue c.on → FitsJob c.shape (with_job (Some j) c.fields) c.flash) → Writes (with_job (Some j)) c r new → Same 0 0 c new
 Same-job c new j r sound fits writes = Same-put c new (with_job (Some j)) r sound (λ on. Keeps-job c j sound (fits on)) refl writes
 
--- Before a copy or a switch of a segment nothing is being erased, and no kept row lies in the spare.
+-- rows above fills, where no spare is being erased
 blank-still : (sh : Shape) (f : Fields) (flash : List (List ℕ)) (q : ℕ) (j : Option Job) → f.job ≢ Some Erase → (get_or flash q [] ≡ ones) ⊎ ((f.job ≡ Some Erase) × IsSpare sh f.positions (q / sh.rows)) → (get_or flash q [] ≡ ones) ⊎ ((j ≡ Some Erase) × IsSpare sh f.positions (q / sh.rows))
 blank-still sh f flash q j other (inl is) = inl is
 blank-still sh f flash q j other (inr (erase, spare)) = absurd (other erase)
 
-home-still : (sh : Shape) (f : Fields) (s : ℕ) → ((v : ℕ) → f.job ≢ Some (Switch v)) → IsPlaced sh f.positions s ⊎ ((v : ℕ) × (f.job ≡ Some (Switch v)) × IsPlaced sh f.positions v × IsSpare sh f.positions s) → IsPlaced sh f.positions s
-home-still sh f s other (inl placed) = placed
-home-still sh f s other (inr (v, switch, placed, spare)) = absurd (other v switch)
+-- kept rows lie in the spare only while a segment at a position is being switched to it
+pub AreHome-unless : (sh : Shape) (f : Fields) (flash : List (List ℕ)) → Sound sh f flash → ((v : ℕ) → f.job ≡ Some (Switch v) → IsPlaced sh f.positions v → ⊥) → AreHome sh f
+AreHome-unless sh f flash s other p q names = at (Homes.kept s.homes p q names)
+  where
+    at : IsPlaced sh f.positions (q / sh.rows) ⊎ ((v : ℕ) × (f.job ≡ Some (Switch v)) × IsPlaced sh f.positions v × IsSpare sh f.positions (q / sh.rows)) → IsPlaced sh f.positions (q / sh.rows)
+    at (inl placed) = placed
+    at (inr (v, switch, placed, spare)) = absurd (other v switch placed)
+
+-- once the segment that was switched is the spare
+pub AreHome-freed : (sh : Shape) (f : Fields) (flash : List (List ℕ)) (v : ℕ) → Sound sh f flash → f.job ≡ Some (Switch v) → IsSpare sh f.positions v → AreHome sh f
+AreHome-freed sh f flash v s switch spare = AreHome-unless sh f flash s (λ w is placed. let same : w ≡ v = cc in apart-spare sh f.positions v (subst (λ (x : ℕ). IsPlaced sh f.positions x) same placed) spare)
 
 pub FitsJob-copy : (sh : Shape) (f : Fields) (flash : List (List ℕ)) (v : ℕ) → Sound sh f flash → f.job ≡ Some Idle → IsPlaced sh f.positions v → FitsJob sh (with_job (Some (Copy v)) f) flash
 FitsJob-copy sh f flash v s idle placed = record {
@@ -49,7 +58,7 @@ FitsJob-copy sh f flash v s idle placed = record {
     above = λ q lt high. blank-still sh f flash q (Some (Copy v)) (λ erase. cc) (Blanks.above s.blanks q lt high);
     idle = λ e no spare. absurd (let clash : Some (Copy v) ≡ Some Idle = no in cc);
   };
-  homes = record { kept = λ p q names. inl (home-still sh f (q / sh.rows) (λ w switch. cc) (Homes.kept s.homes p q names)) };
+  homes = record { kept = λ p q names. inl (AreHome-unless sh f flash s (λ w switch placed. cc) p q names) };
   job = record {
     decodes = λ none. cc;
     copying = λ w copy. subst (λ (x : ℕ). IsPlaced sh f.positions x) (let same : v ≡ w = cc in same) placed;
@@ -64,7 +73,7 @@ FitsJob-switch sh f flash v s copying copied = record {
     above = λ q lt high. blank-still sh f flash q (Some (Switch v)) (λ erase. cc) (Blanks.above s.blanks q lt high);
     idle = λ e no spare. absurd (let clash : Some (Switch v) ≡ Some Idle = no in cc);
   };
-  homes = record { kept = λ p q names. inl (home-still sh f (q / sh.rows) (λ w switch. cc) (Homes.kept s.homes p q names)) };
+  homes = record { kept = λ p q names. inl (AreHome-unless sh f flash s (λ w switch placed. cc) p q names) };
   job = record {
     decodes = λ none. cc;
     copying = λ w copy. absurd (let clash : Some (Switch v) ≡ Some (Copy w) = copy in cc);
@@ -98,7 +107,7 @@ FitsJob-idle sh f flash e s erasing empty = record {
     above = λ q lt high. inl (blank q lt (Blanks.above s.blanks q lt high));
     idle = λ d is spare. ap (λ (x : ℕ). get_or f.fills x 0) (one-spare sh f flash d e s spare empty.spare) ∙ empty.fill;
   };
-  homes = record { kept = λ p q names. inl (home-still sh f (q / sh.rows) (λ w switch. cc) (Homes.kept s.homes p q names)) };
+  homes = record { kept = λ p q names. inl (AreHome-unless sh f flash s (λ w switch placed. cc) p q names) };
   job = record {
     decodes = λ none. cc;
     copying = λ w copy. absurd (let clash : Some Idle ≡ Some (Copy w) = copy in cc);

@@ -24,5 +24,5 @@ pub use frame::{change_frame_word, move_to_frame, write_free_frame};
 pub use job::{begin_copy, begin_erase, begin_switch, change_job, end_job};
 pub use page_place::{move_place, restore_place, switch_place};
 pub use page_undo::{clear_settled_undo, move_undo, own_page, switch_undo};
-pub use position::{change_position, replace_segment};
+pub use position::{a_board_has_one_spare, change_position, replace_segment};
 pub use slots::{commit_slot, set_unused_slot};

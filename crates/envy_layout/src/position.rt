@@ -1,8 +1,9 @@
-ghost use Rattle.std.specs.Prelude.{◌≡◌, ◌-◌, ◌<◌, false, IsTrue, Some, OnOk, OnErr, slice_index};
+ghost use Rattle.std.specs.Prelude.{◌≡◌, ◌⊎◌, ◌-◌, ◌<◌, ℕ, false, IsTrue, Some, OnOk, OnErr, slice_index};
+ghost use Rattle.envy_base.specs.Shape.{IsShape};
 ghost use Rattle.envy_base.specs.declared.fields.Job.TheVariants.{Switch};
-ghost use Rattle.envy_map.specs.Fields.{chart, with_fields};
+ghost use Rattle.envy_map.specs.Fields.{Chart, chart, with_fields};
 ghost use Rattle.envy_map.specs.Writes.{with_position};
-ghost use Rattle.envy_layout.specs.Sound.{IsSound, IsSpare};
+ghost use Rattle.envy_layout.specs.Sound.{IsSound, IsPlaced, IsSpare};
 ghost use Rattle.envy_layout.specs.Jobs.{FitsPositions, IsClear};
 ghost use Rattle.envy_layout.specs.Same.{Same};
 
@@ -43,3 +44,10 @@ pub fn replace_segment<B: Board>(board: &mut B, position: u32, spare: u32) -> Re
 {
     change_position(board, position, spare)
 }
+
+/// Of the segments of a sound board one is the spare, and each other stands at a position.
+pub fn a_board_has_one_spare()
+    ensures some { (c : Chart) → IsShape c.shape → IsSound c → (e : ℕ) × IsSpare c.shape c.fields.positions e }
+    ensures one { (c : Chart) (d e : ℕ) → IsSound c → IsSpare c.shape c.fields.positions d → IsSpare c.shape c.fields.positions e → d ≡ e }
+    ensures others { (c : Chart) (s : ℕ) → IsSound c → s < c.shape.segments → IsPlaced c.shape c.fields.positions s ⊎ IsSpare c.shape c.fields.positions s }
+{}
