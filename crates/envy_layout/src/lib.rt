@@ -9,8 +9,10 @@
 #![tactic(auto)]
 
 mod claiming;
+mod erasing;
 mod format;
 mod frame;
+mod job;
 mod lay;
 mod page_place;
 mod page_undo;
@@ -18,9 +20,15 @@ mod programming;
 mod slots;
 
 pub use claiming::{claim_back, note_origin, raise_fill};
+mod position;
+mod slots;
+
+pub use erasing::{empty_spare, erase_spare, raise_wear};
 pub use format::{format_board, format_board_1};
 pub use frame::{change_frame_word, move_to_frame, write_free_frame};
+pub use job::{begin_copy, begin_erase, begin_switch, change_job, end_job};
 pub use page_place::{move_place, restore_place, switch_place};
 pub use page_undo::{clear_settled_undo, move_undo, own_page, switch_undo};
 pub use programming::program_row;
+pub use position::{a_board_has_one_spare, change_position, replace_segment};
 pub use slots::{commit_slot, set_unused_slot};

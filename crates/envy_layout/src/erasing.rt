@@ -1,0 +1,80 @@
+ghost use Rattle.std.specs.Prelude.{◌≡◌, ◌≢◌, ◌/◌, ◌<◌, ◌↔◌, ℕ, false, IsTrue, List, [], Some, Ok, Err, OnOk, OnErr, IsErrOf, MatchResult, slice_index, slice_index_or, slice_set};
+ghost use Rattle.envy_base.specs.Counting.{up};
+ghost use Rattle.envy_base.specs.State.{Only, IsOnes};
+ghost use Rattle.envy_base.specs.declared.fields.Job.TheVariants.{Erase};
+ghost use Rattle.envy_map.specs.Fields.{chart, with_fields};
+ghost use Rattle.envy_map.specs.Writes.{Writes, with_wear, with_fill};
+ghost use Rattle.envy_layout.specs.Sound.{IsSound, IsSpare};
+ghost use Rattle.envy_layout.specs.Same.{Same, Stays};
+
+use envy_base::{Board, Off, Trouble};
+use envy_map::{set_fill, set_wear, wear};
+
+/// A count after one more, which stops at the top.
+#[tactic(auto, unfolding(envy_base::specs::Counting::up))]
+fn one_more(count: u64) -> u64
+    ensures { result ≡ up count }
+{
+    count.saturating_add(1)
+}
+
+/// Raises the wear word of a segment by one. At the top it stays. The array stays, but the word is ahead
+/// of the segment's erases until an erase follows.
+pub fn raise_wear<B: Board>(board: &mut B, segment: u32) -> Result<(), Off>
+    requires sound { IsSound (chart (B.state board.old)) }
+    requires segment { segment < (B.state board.old).shape.segments }
+    ensures stays { Stays 0 0 (chart (B.state board.old)) (chart (B.state board.new)) }
+    ensures writes { Writes (with_wear segment (up (slice_index (chart (B.state board.old)).fields.wears segment))) (chart (B.state board.old)) result (chart (B.state board.new)) }
+    ensures on { OnOk result (IsTrue (B.state board.new).on) }
+    ensures off { OnErr result ((B.state board.new).on ≡ false) }
+{
+    let worn = wear(board, segment)?;
+    set_wear(board, segment, one_more(worn))
+}
+
+/// Erases the spare while the job is to erase it, and raises its wear word before. The array stays. The
+/// fill of the spare is left as it is.
+///
+/// # Errors
+///
+/// `Off` where power is off at the end. `Bad` where the erase failed: the rows of the spare hold
+/// anything then.
+pub fn erase_spare<B: Board>(board: &mut B, segment: u32) -> Result<(), Trouble>
+    requires sound { IsSound (chart (B.state board.old)) }
+    requires segment { segment < (B.state board.old).shape.segments }
+    requires erasing { IsTrue (B.state board.old).on → (chart (B.state board.old)).fields.job ≡ Some Erase }
+    requires spare { IsTrue (B.state board.old).on → IsSpare (B.state board.old).shape (chart (B.state board.old)).fields.positions segment }
+    ensures same { Same 0 1 (chart (B.state board.old)) (chart (B.state board.new)) }
+    ensures fields { let old = (chart (B.state board.old)).fields in
+        let new = (chart (B.state board.new)).fields in
+        MatchResult result
+        (λ _. new ≡ with_wear segment (up (slice_index old.wears segment)) old)
+        (λ _. IsTrue (B.state board.new).on → new ≡ with_wear segment (up (slice_index old.wears segment)) old) }
+    ensures erases { let old = (B.state board.old).erases in
+        let new = (B.state board.new).erases in
+        MatchResult result
+        (λ _. new ≡ slice_set old segment (up (slice_index old segment)))
+        (λ _. IsTrue (B.state board.new).on → new ≡ slice_set old segment (up (slice_index old segment))) }
+    ensures erased { OnOk result (Only (B.state board.old).shape.rows segment IsOnes (B.state board.old).flash (B.state board.new).flash) }
+    ensures others { (q : ℕ) → q / (B.state board.old).shape.rows ≢ segment → slice_index_or (B.state board.new).flash q [] ≡ slice_index_or (B.state board.old).flash q [] }
+    ensures on { OnOk result (IsTrue (B.state board.new).on) }
+    ensures off { (result ≡ Err Trouble.Off) ↔ ((B.state board.new).on ≡ false) }
+    ensures bad { IsErrOf result Trouble.Bad → (B.state board.new).bads ≡ up (B.state board.old).bads }
+{
+    raise_wear(board, segment)?;
+    board.erase(segment)
+}
+
+/// Empties the spare while the job is to erase it: its fill becomes 0. The array stays.
+pub fn empty_spare<B: Board>(board: &mut B, segment: u32) -> Result<(), Off>
+    requires sound { IsSound (chart (B.state board.old)) }
+    requires segment { segment < (B.state board.old).shape.segments }
+    requires erasing { IsTrue (B.state board.old).on → (chart (B.state board.old)).fields.job ≡ Some Erase }
+    requires spare { IsTrue (B.state board.old).on → IsSpare (B.state board.old).shape (chart (B.state board.old)).fields.positions segment }
+    ensures same { Same 0 0 (chart (B.state board.old)) (chart (B.state board.new)) }
+    ensures fields { OnOk result (chart (B.state board.new) ≡ with_fields (chart (B.state board.old)) (with_fill segment 0 (chart (B.state board.old)).fields)) }
+    ensures on { OnOk result (IsTrue (B.state board.new).on) }
+    ensures off { OnErr result ((B.state board.new).on ≡ false) }
+{
+    set_fill(board, segment, 0)
+}
