@@ -6,9 +6,11 @@ pub mod Empty
 pub mod Formed
 pub mod Filling
 pub mod FrameLaw
+pub mod KeptCounts
 pub mod KeptLemmas
 pub mod Laying
 pub mod PlaceLaw
+pub mod RangeSums
 pub mod References
 pub mod Regions
 pub mod RestoreLaw

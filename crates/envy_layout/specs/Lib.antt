@@ -1,6 +1,7 @@
 pub mod Formatting
 pub mod May
 pub mod Same
+pub mod PageRows
 pub mod RowKinds
 pub mod Sound
 pub mod Stands

@@ -10,6 +10,7 @@
 
 mod format;
 mod frame;
+mod laws;
 mod lay;
 mod page_place;
 mod page_undo;
@@ -17,6 +18,7 @@ mod slots;
 
 pub use format::{format_board, format_board_1};
 pub use frame::{change_frame_word, move_to_frame, write_free_frame};
+pub use laws::kept_rows_are_filled;
 pub use page_place::{move_place, restore_place, switch_place};
 pub use page_undo::{clear_settled_undo, move_undo, own_page, switch_undo};
 pub use slots::{commit_slot, set_unused_slot};
