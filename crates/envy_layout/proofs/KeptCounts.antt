@@ -244,3 +244,99 @@ kept_in-slot sh slots undos places t s x unused =
     let new = kept_in-pages sh (set slots t x) undos places s in
     let same = range-same (λ p. page_kept_in sh (set slots t x) (get_or undos p None) (get_or places p None) s) (λ p. page_kept_in sh slots (get_or undos p None) (get_or places p None) s) sh.pages (λ p lt. rw (kept_by-other slots t x (get_or undos p None) (get_or places p None) (unused p)) refl) in
     omega arith
+
+-- a page that no transaction owns has the row that it is in, if it is in one
+is_shadow_in-self : (rows s : ℕ) (x : Option Place) → is_shadow_in rows s x x ≡ false
+is_shadow_in-self rows s None = refl
+is_shadow_in-self rows s (Some Absent) = refl
+is_shadow_in-self rows s (Some (Row q)) = and_right (eqb (q / rows) s) (not (eqb q q)) (not_from_true (eqb q q) (eq-eqb q q refl))
+is_shadow_in-self rows s (Some (Frame k)) = refl
+
+shadow-free : (rows s : ℕ) (slots : List (Option Slot)) (u : Option Undo) (now : Option Place) → owned_by slots u ≡ false → is_shadow_in rows s now (kept_by slots u now) ≡ false
+shadow-free rows s slots u now free = rw (kept_by-free slots u now free) (is_shadow_in-self rows s now)
+
+pub page_kept_in-free : (sh : Shape) (slots : List (Option Slot)) (u : Option Undo) (now : Option Place) (s : ℕ) → owned_by slots u ≡ false → page_kept_in sh slots u now s ≡ cond (is_in sh.rows s now) 1 0
+page_kept_in-free sh slots u now s free = let none = none-false (is_shadow_in sh.rows s now (kept_by slots u now)) (shadow-free sh.rows s slots u now free) in omega arith
+
+-- a row is in one segment
+is_in-one : (rows s t : ℕ) (x : Option Place) → is_in rows s x ≡ true → is_in rows t x ≡ true → s ≡ t
+is_in-one rows s t None e f = cc
+is_in-one rows s t (Some Absent) e f = cc
+is_in-one rows s t (Some (Row q)) e f = sym (eqb-true (q / rows) s e) ∙ eqb-true (q / rows) t f
+is_in-one rows s t (Some (Frame k)) e f = cc
+
+shadow-in : (rows s : ℕ) (now x : Option Place) → is_shadow_in rows s now x ≡ true → is_in rows s x ≡ true
+shadow-in rows s now None e = cc
+shadow-in rows s now (Some Absent) e = cc
+shadow-in rows s now (Some (Row q)) e = (and_parts (eqb (q / rows) s) (not (is_row q now)) e).0
+shadow-in rows s now (Some (Frame k)) e = cc
+
+-- a page's kept rows over the positions: one where it is, and one more where it is owned
+page-placed : (sh : Shape) (slots : List (Option Slot)) (positions : List ℕ) (u : Option Undo) (now : Option Place) → ((i j : ℕ) → i < sh.segments - 1 → j < sh.segments - 1 → get_or positions i 0 ≡ get_or positions j 0 → i ≡ j) → sum_by (λ k. page_kept_in sh slots u now (get_or positions k 0)) (range_with_len 0 (sh.segments - 1)) ≤ 1 + cond (owned_by slots u) 1 0
+page-placed sh slots positions u now apart =
+    let both = range-sum (λ k. cond (is_in sh.rows (get_or positions k 0) now) 1 0) (λ k. cond (is_shadow_in sh.rows (get_or positions k 0) now back) 1 0) (sh.segments - 1) in
+    let one = range_lone (λ k. cond (is_in sh.rows (get_or positions k 0) now) 1 0) (sh.segments - 1) (λ k lt. one-at-most (is_in sh.rows (get_or positions k 0) now))
+        (λ j k low lt e f. apart j k low lt (is_in-one sh.rows (get_or positions j 0) (get_or positions k 0) now (one-true (is_in sh.rows (get_or positions j 0) now) e) (one-true (is_in sh.rows (get_or positions k 0) now) f))) in
+    let two = second (cases_Bool (owned_by slots u)) in
+    omega arith
+  where
+    back : Option Place
+    back = kept_by slots u now
+
+    second : (owned_by slots u ≡ true) ⊎ (owned_by slots u ≡ false) → sum_by (λ k. cond (is_shadow_in sh.rows (get_or positions k 0) now back) 1 0) (range_with_len 0 (sh.segments - 1)) ≤ cond (owned_by slots u) 1 0
+    second (inl owned) =
+        let most = range_lone (λ k. cond (is_shadow_in sh.rows (get_or positions k 0) now back) 1 0) (sh.segments - 1) (λ k lt. one-at-most (is_shadow_in sh.rows (get_or positions k 0) now back))
+            (λ j k low lt e f. apart j k low lt (is_in-one sh.rows (get_or positions j 0) (get_or positions k 0) back
+                (shadow-in sh.rows (get_or positions j 0) now back (one-true (is_shadow_in sh.rows (get_or positions j 0) now back) e))
+                (shadow-in sh.rows (get_or positions k 0) now back (one-true (is_shadow_in sh.rows (get_or positions k 0) now back) f)))) in
+        let yes_one = one-yes (owned_by slots u) owned in
+        omega arith
+    second (inr free) =
+        let none = range-le (λ k. cond (is_shadow_in sh.rows (get_or positions k 0) now back) 1 0) (λ k. 0) (sh.segments - 1) (λ k lt. none-false (is_shadow_in sh.rows (get_or positions k 0) now back) (shadow-free sh.rows (get_or positions k 0) slots u now free)) in
+        let zeros = range-constant 0 (sh.segments - 1) in
+        omega arith
+
+-- the kept rows of all positions
+pub kept-placed : (sh : Shape) (slots : List (Option Slot)) (undos : List (Option Undo)) (places : List (Option Place)) (positions : List ℕ) → ((i j : ℕ) → i < sh.segments - 1 → j < sh.segments - 1 → get_or positions i 0 ≡ get_or positions j 0 → i ≡ j) → length undos ≡ sh.pages → count_by (owned_by slots) undos ≤ sh.shadows → sum_by (λ k. kept_in sh slots undos places (get_or positions k 0)) (range_with_len 0 (sh.segments - 1)) ≤ sh.pages + sh.shadows
+kept-placed sh slots undos places positions apart long few =
+    let pages = range-same (λ k. kept_in sh slots undos places (get_or positions k 0)) (λ k. sum_by (λ p. share p k) (range_with_len 0 sh.pages)) (sh.segments - 1) (λ k lt. sym (kept_in-pages sh slots undos places (get_or positions k 0))) in
+    let swapped = range-swap share sh.pages (sh.segments - 1) in
+    let each = range-le (λ p. sum_by (λ k. share p k) (range_with_len 0 (sh.segments - 1))) (λ p. 1 + owned p) sh.pages (λ p lt. page-placed sh slots positions (get_or undos p None) (get_or places p None) apart) in
+    let split = range-sum (λ p. 1) owned sh.pages in
+    let ones = range-constant 1 sh.pages in
+    let counted = sum_by-indexed (λ (u : Option Undo). cond (owned_by slots u) 1 0) None undos in
+    let same : sum_by owned (range_with_len 0 (length undos)) ≡ sum_by owned (range_with_len 0 sh.pages) = ap (λ n. sum_by owned (range_with_len 0 n)) long in
+    omega arith
+  where
+    share : ℕ → ℕ → ℕ
+    share p k = page_kept_in sh slots (get_or undos p None) (get_or places p None) (get_or positions k 0)
+
+    owned : ℕ → ℕ
+    owned p = cond (owned_by slots (get_or undos p None)) 1 0
+
+more-rows : (a b r : ℕ) → b ≡ a + 1 → b * r ≡ a * r + r
+more-rows a b r e = rw e (omega arith)
+
+-- enough rows are free or dead at the positions
+pub rows-left : (sh : Shape) (slots : List (Option Slot)) (undos : List (Option Undo)) (places : List (Option Place)) (wears fills positions backs origins frames : List ℕ) (version : ℕ) → IsShape sh → Slots sh version slots undos → Rows sh slots undos places fills backs → Numbers sh wears fills positions backs origins frames → sh.rows ≤ sum_by (λ k. free_in sh fills (get_or positions k 0) + dead_in sh slots undos places fills (get_or positions k 0)) (range_with_len 0 (sh.segments - 1))
+rows-left sh slots undos places wears fills positions backs origins frames version shape groups rows numbers =
+    let whole = range-sum left kept (sh.segments - 1) in
+    let each = range-same (λ k. left k + kept k) (λ k. sh.rows) (sh.segments - 1) (λ k lt. one k) in
+    let all = range-constant sh.rows (sh.segments - 1) in
+    let few = kept-placed sh slots undos places positions numbers.apart groups.undos_long groups.few in
+    let share = shape.share in
+    let segments = shape.segments in
+    let more = more-rows (sh.segments - 2) (sh.segments - 1) sh.rows (omega arith) in
+    omega arith
+  where
+    left : ℕ → ℕ
+    left k = free_in sh fills (get_or positions k 0) + dead_in sh slots undos places fills (get_or positions k 0)
+
+    kept : ℕ → ℕ
+    kept k = kept_in sh slots undos places (get_or positions k 0)
+
+    one : (k : ℕ) → left k + kept k ≡ sh.rows
+    one k =
+        let filled = kept_in-le-fill sh slots undos places fills backs (get_or positions k 0) rows in
+        let fits = numbers.fills_fit (get_or positions k 0) in
+        omega arith
