@@ -18,5 +18,6 @@ pub mod SlotLaw
 pub mod Standing
 pub mod SwitchLaw
 pub mod UndoLaw
+pub mod UpgradeLaw
 pub mod WordLists
 pub mod WordPuts

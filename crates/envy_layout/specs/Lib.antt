@@ -5,6 +5,7 @@ pub mod PageRows
 pub mod RowKinds
 pub mod Sound
 pub mod Stands
+pub mod Upgrading
 pub mod Words
 pub use Rattle.envy_base.specs.Array
 pub use Rattle.envy_base.specs.Counting

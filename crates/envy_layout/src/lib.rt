@@ -15,6 +15,7 @@ mod lay;
 mod page_place;
 mod page_undo;
 mod slots;
+mod upgrading;
 
 pub use format::{format_board, format_board_1};
 pub use frame::{change_frame_word, move_to_frame, write_free_frame};
@@ -22,3 +23,4 @@ pub use laws::{enough_rows_are_left, kept_rows_are_filled, kept_rows_change_with
 pub use page_place::{move_place, restore_place, switch_place};
 pub use page_undo::{clear_settled_undo, move_undo, own_page, switch_undo};
 pub use slots::{commit_slot, set_unused_slot};
+pub use upgrading::upgrade;
