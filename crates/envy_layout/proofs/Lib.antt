@@ -14,6 +14,11 @@ pub mod Laying
 pub mod PlaceLaw
 pub mod ProgramLaw
 pub mod PositionLaw
+pub mod KeptCounts
+pub mod KeptLemmas
+pub mod Laying
+pub mod PlaceLaw
+pub mod RangeSums
 pub mod References
 pub mod Regions
 pub mod RestoreLaw
@@ -22,5 +27,6 @@ pub mod SpareLemmas
 pub mod Standing
 pub mod SwitchLaw
 pub mod UndoLaw
+pub mod UpgradeLaw
 pub mod WordLists
 pub mod WordPuts

@@ -3,9 +3,11 @@ pub mod Formatting
 pub mod Jobs
 pub mod May
 pub mod Same
+pub mod PageRows
 pub mod RowKinds
 pub mod Sound
 pub mod Stands
+pub mod Upgrading
 pub mod Words
 pub use Rattle.envy_base.specs.Array
 pub use Rattle.envy_base.specs.Counting
