@@ -17,22 +17,23 @@ mod laws;
 mod lay;
 mod page_place;
 mod page_undo;
+mod position;
 mod programming;
 mod slots;
 mod upgrading;
 
 pub use claiming::{claim_back, note_origin, raise_fill};
-mod position;
-mod slots;
-
 pub use erasing::{empty_spare, erase_spare, raise_wear};
 pub use format::{format_board, format_board_1};
 pub use frame::{change_frame_word, move_to_frame, write_free_frame};
 pub use job::{begin_copy, begin_erase, begin_switch, change_job, end_job};
-pub use laws::{enough_rows_are_left, kept_rows_are_filled, kept_rows_change_with_a_page, kept_rows_stay_under_an_unused_slot};
+pub use laws::{
+    enough_rows_are_left, kept_rows_are_filled, kept_rows_change_with_a_page,
+    kept_rows_stay_under_an_unused_slot,
+};
 pub use page_place::{move_place, restore_place, switch_place};
 pub use page_undo::{clear_settled_undo, move_undo, own_page, switch_undo};
-pub use programming::program_row;
 pub use position::{a_board_has_one_spare, change_position, replace_segment};
+pub use programming::program_row;
 pub use slots::{commit_slot, set_unused_slot};
 pub use upgrading::upgrade;
