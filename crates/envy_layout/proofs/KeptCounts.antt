@@ -140,9 +140,9 @@ pub kept_in-le-fill : (sh : Shape) (slots : List (Option Slot)) (undos : List (O
 kept_in-le-fill sh slots undos places fills backs s rows =
     let pages = kept_in-pages sh slots undos places s in
     let each = range-le
-        (λ p. page_kept_in sh slots (get_or undos p None) (get_or places p None) s)
-        (λ p. sum_by (λ i. hit_at p i) (range_with_len 0 (get_or fills s 0)))
-        sh.pages (λ p lt. hit-page sh slots undos places fills backs s p rows) in
+    (λ p. page_kept_in sh slots (get_or undos p None) (get_or places p None) s)
+    (λ p. sum_by (λ i. hit_at p i) (range_with_len 0 (get_or fills s 0)))
+    sh.pages (λ p lt. hit-page sh slots undos places fills backs s p rows) in
     let swapped = range-swap hit_at sh.pages (get_or fills s 0) in
     let lone = range-le (λ i. sum_by (λ p. hit_at p i) (range_with_len 0 sh.pages)) (λ i. 1) (get_or fills s 0) (λ i lt. once i) in
     let all = range-constant 1 (get_or fills s 0) in
@@ -276,7 +276,7 @@ page-placed : (sh : Shape) (slots : List (Option Slot)) (positions : List ℕ) (
 page-placed sh slots positions u now apart =
     let both = range-sum (λ k. cond (is_in sh.rows (get_or positions k 0) now) 1 0) (λ k. cond (is_shadow_in sh.rows (get_or positions k 0) now back) 1 0) (sh.segments - 1) in
     let one = range_lone (λ k. cond (is_in sh.rows (get_or positions k 0) now) 1 0) (sh.segments - 1) (λ k lt. one-at-most (is_in sh.rows (get_or positions k 0) now))
-        (λ j k low lt e f. apart j k low lt (is_in-one sh.rows (get_or positions j 0) (get_or positions k 0) now (one-true (is_in sh.rows (get_or positions j 0) now) e) (one-true (is_in sh.rows (get_or positions k 0) now) f))) in
+    (λ j k low lt e f. apart j k low lt (is_in-one sh.rows (get_or positions j 0) (get_or positions k 0) now (one-true (is_in sh.rows (get_or positions j 0) now) e) (one-true (is_in sh.rows (get_or positions k 0) now) f))) in
     let two = second (cases_Bool (owned_by slots u)) in
     omega arith
   where
@@ -286,9 +286,9 @@ page-placed sh slots positions u now apart =
     second : (owned_by slots u ≡ true) ⊎ (owned_by slots u ≡ false) → sum_by (λ k. cond (is_shadow_in sh.rows (get_or positions k 0) now back) 1 0) (range_with_len 0 (sh.segments - 1)) ≤ cond (owned_by slots u) 1 0
     second (inl owned) =
         let most = range_lone (λ k. cond (is_shadow_in sh.rows (get_or positions k 0) now back) 1 0) (sh.segments - 1) (λ k lt. one-at-most (is_shadow_in sh.rows (get_or positions k 0) now back))
-            (λ j k low lt e f. apart j k low lt (is_in-one sh.rows (get_or positions j 0) (get_or positions k 0) back
-                (shadow-in sh.rows (get_or positions j 0) now back (one-true (is_shadow_in sh.rows (get_or positions j 0) now back) e))
-                (shadow-in sh.rows (get_or positions k 0) now back (one-true (is_shadow_in sh.rows (get_or positions k 0) now back) f)))) in
+        (λ j k low lt e f. apart j k low lt (is_in-one sh.rows (get_or positions j 0) (get_or positions k 0) back
+        (shadow-in sh.rows (get_or positions j 0) now back (one-true (is_shadow_in sh.rows (get_or positions j 0) now back) e))
+        (shadow-in sh.rows (get_or positions k 0) now back (one-true (is_shadow_in sh.rows (get_or positions k 0) now back) f)))) in
         let yes_one = one-yes (owned_by slots u) owned in
         omega arith
     second (inr free) =

@@ -35,7 +35,7 @@ vacated-more f n long low =
     let next : n - 16 + 1 ≡ n + 1 - 16 = omega arith in
     ap (λ (xs : List (Option Slot)). record f { slots = xs })
     (set-append_right (take 16 f.slots) (filled (drop 16 f.slots) (Some Vacant) (n - 16)) 16 n (Some Vacant) (first-slots f long) low
-     ∙ ap (λ (ys : List (Option Slot)). take 16 f.slots ++ ys) (filled-step (drop 16 f.slots) (Some Vacant) (n - 16) ∙ ap (filled (drop 16 f.slots) (Some Vacant)) next))
+    ∙ ap (λ (ys : List (Option Slot)). take 16 f.slots ++ ys) (filled-step (drop 16 f.slots) (Some Vacant) (n - 16) ∙ ap (filled (drop 16 f.slots) (Some Vacant)) next))
 
 filled-all : {A : Type 0} (xs : List A) (x : A) (n : ℕ) → length xs ≤ n → filled xs x n ≡ replicate (length xs) x
 filled-all [] x n le = refl
@@ -125,10 +125,10 @@ pub Upgrades-put : (old mid new : Chart) (r : Result Unit Off) → IsSound old �
 Upgrades-put old mid new r sound one same is writes =
     KeptLive-trans old mid new (KeptLive-words old mid same)
     (KeptLive-versioned mid new r same.sound
-        (λ on. Sound-versioned mid.shape mid.fields mid.flash same.sound
-            (same.version ∙ one (subst IsTrue (ap (λ (c : Chart). c.on) is) on))
-            (λ t high lt. ap (λ (c : Chart). slot c.fields t) is ∙ vacant-new old.fields t (Slots.long (Sound.slots sound)) high lt))
-        writes)
+    (λ on. Sound-versioned mid.shape mid.fields mid.flash same.sound
+    (same.version ∙ one (subst IsTrue (ap (λ (c : Chart). c.on) is) on))
+    (λ t high lt. ap (λ (c : Chart). slot c.fields t) is ∙ vacant-new old.fields t (Slots.long (Sound.slots sound)) high lt))
+    writes)
 
 pub Upgrades-done : (old mid new : Chart) (r : Result Unit Off) → length old.fields.slots ≡ 64 → mid ≡ with_fields old (with_slots_vacated 64 old.fields) → Writes (with_version 2) mid r new → OnOk r (new ≡ with_fields old (upgraded old.fields))
 Upgrades-done old mid new (Ok done) long is (on, put) = put ∙ ap (λ (c : Chart). with_fields c (with_version 2 c.fields)) is ∙ ap (with_fields old) (vacated-all old.fields long)

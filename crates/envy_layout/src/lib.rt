@@ -19,7 +19,10 @@ mod upgrading;
 
 pub use format::{format_board, format_board_1};
 pub use frame::{change_frame_word, move_to_frame, write_free_frame};
-pub use laws::{enough_rows_are_left, kept_rows_are_filled, kept_rows_change_with_a_page, kept_rows_stay_under_an_unused_slot};
+pub use laws::{
+    enough_rows_are_left, kept_rows_are_filled, kept_rows_change_with_a_page,
+    kept_rows_stay_under_an_unused_slot,
+};
 pub use page_place::{move_place, restore_place, switch_place};
 pub use page_undo::{clear_settled_undo, move_undo, own_page, switch_undo};
 pub use slots::{commit_slot, set_unused_slot};
