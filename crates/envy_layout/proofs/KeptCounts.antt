@@ -1,8 +1,8 @@
 -- How many rows of a segment are kept.
-use Rattle.std.proofs.Common.{◌≡◌, ◌≢◌, ◌⊎◌, inl, inr, ℕ, ◌+◌, ◌-◌, ◌*◌, ◌/◌, ◌%◌, ◌<◌, ◌≤◌, Bool, true, false, cond, eqb, List, length, get_or, set, Option, None, Some, refl, sym, ◌∙◌, ap, subst, arith}
+use Rattle.std.proofs.Common.{◌≡◌, ◌≢◌, ◌⊎◌, inl, inr, ℕ, ◌+◌, ◌-◌, ◌*◌, ◌/◌, ◌%◌, ◌<◌, ◌≤◌, Bool, true, false, cond, eqb, List, length, get_or, set, Option, None, Some, refl, sym, ◌∙◌, ap, arith}
 use Rattle.std.specs.Prelude.{◌&&◌, not, count_by, sum_by}
 use Rattle.std.specs.List.{range_with_len}
-use Rattle.std.proofs.lemmas.Bool.{eqb-true, eq-eqb, and_parts, and_from, and_right, cases_Bool, cases_lt, not-true, not_from_true, not_from_false}
+use Rattle.std.proofs.lemmas.Bool.{eqb-true, eq-eqb, and_parts, and_from, and_right, cases_Bool, cases_lt, not-true, not_from_true}
 use Rattle.std.proofs.lemmas.List.{get_or_past, get_or-set_same, get_or-set_other}
 use Rattle.std.proofs.Math.Nat.{div-add-mod}
 use Rattle.envy_base.specs.declared.shape.Shape.{Shape}
@@ -12,12 +12,12 @@ use Rattle.envy_base.specs.declared.fields.Slot.{Slot}
 use Rattle.envy_base.specs.declared.fields.Undo.{Undo}
 use Rattle.envy_layout.specs.Words.{kept_by}
 use Rattle.envy_base.specs.Shape.{IsShape}
-use Rattle.envy_layout.specs.Sound.{Sound, Slots, Places, Rows, Numbers, Refers, owned_by, slot_named}
+use Rattle.envy_layout.specs.Sound.{Slots, Rows, Numbers, Refers, owned_by, slot_named}
 use Rattle.envy_layout.specs.PageRows.{page_kept_in}
 use Rattle.envy_layout.specs.RowKinds.{is_row, is_in, is_shadow_in, kept_in, free_in, dead_in}
 use Rattle.envy_layout.proofs.KeptLemmas.{kept_by-free}
 use Rattle.envy_layout.proofs.SlotLaw.{kept_by-other}
-use Rattle.envy_layout.proofs.RangeSums.{range_more, range-le, range-same, range-constant, range-sum, range_has, range-zero, range-other, range_lone, range-swap, sum_by-indexed}
+use Rattle.envy_layout.proofs.RangeSums.{range-le, range-same, range-constant, range-sum, range_has, range-zero, range-other, range_lone, range-swap, sum_by-indexed}
 
 -- a page that is there stands in the row
 pub is_row-is : (q : ℕ) (x : Option Place) → is_row q x ≡ true → x ≡ Some (Row q)

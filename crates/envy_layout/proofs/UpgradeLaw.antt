@@ -1,8 +1,8 @@
 -- The writes that turn a board of version 1 into one of version 2.
-use Rattle.std.proofs.Common.{◌≡◌, ◌≢◌, ◌⊎◌, inl, inr, ℕ, zero, suc, ◌+◌, ◌-◌, ◌<◌, ◌≤◌, List, [], ◌∷◌, ◌++◌, length, get_or, set, take, drop, Option, None, Some, refl, sym, ◌∙◌, ap, subst, arith}
+use Rattle.std.proofs.Common.{◌≡◌, ◌≢◌, ◌⊎◌, inl, inr, ℕ, zero, suc, ◌+◌, ◌-◌, ◌<◌, ◌≤◌, List, [], ◌∷◌, ◌++◌, length, take, drop, Option, None, Some, refl, ◌∙◌, ap, subst, arith}
 use Rattle.std.specs.Prelude.{IsTrue, Result, Ok, Err, OnOk, replicate}
 use Rattle.std.proofs.lemmas.Bool.{cases_lt}
-use Rattle.std.proofs.lemmas.List.{set-append_right, length-take, length-drop, take-append-drop, get_or-append_right, ext_get_or, length-replicate, get_or-replicate}
+use Rattle.std.proofs.lemmas.List.{set-append_right, length-take, length-drop, take-append-drop, get_or-append_right}
 use Rattle.envy_base.specs.declared.board.Off.{Off}
 use Rattle.envy_base.specs.declared.shape.Shape.{Shape}
 use Rattle.envy_base.specs.declared.fields.Slot.{Slot}
@@ -12,11 +12,11 @@ use Rattle.envy_map.specs.Writes.{Writes, with_slot, with_version}
 use Rattle.envy_layout.specs.Formatting.{filled}
 use Rattle.envy_layout.specs.May.{IsUnused}
 use Rattle.envy_layout.specs.Same.{Kept, SameWords}
-use Rattle.envy_layout.specs.Sound.{Sound, Slots, Head, IsSound, slots_of, slot_named}
+use Rattle.envy_layout.specs.Sound.{Sound, Slots, Head, IsSound}
 use Rattle.envy_layout.specs.Upgrading.{upgraded, with_slots_vacated}
 use Rattle.envy_layout.specs.Words.{live}
 use Rattle.envy_layout.proofs.Composition.{exits, at-each, Kept-refl, Kept-trans, Kept-words, Counted-fields, Counted-failed, Wears-fields, Wears-failed}
-use Rattle.envy_layout.proofs.Laying.{filled-zero, filled-step, length-filled, get_or-filled}
+use Rattle.envy_layout.proofs.Laying.{filled-zero, filled-step, get_or-filled}
 
 -- a board of version 1 has 16 slots, so no undo names another
 pub unused-new : (c : Chart) (t : ℕ) → IsSound c → c.fields.version ≡ 1 → 16 ≤ t → IsUnused c.fields t

@@ -1,4 +1,4 @@
-use Rattle.std.proofs.Common.{◌≤◌, refl, arith}
+use Rattle.std.proofs.Common.{arith}
 use Rattle.envy_layout.specs.Sound.{Sound, Slots, Places}
 use Rattle.envy_layout.proofs.KeptCounts.{kept_in-le-fill, kept_in-none, none-kept_in}
 use Rattle.envy_layout.proofs.laws.kept_rows_are_filled.Goals as goal
