@@ -24,8 +24,8 @@ pub fn enough_rows_are_left()
         (range_with_len 0 (c.shape.segments - 1)) }
 {}
 
-/// Where the place or the undo of one page changes, the kept rows of a segment change by those of the
-/// page. A page that no transaction owns has one where its place is, if that is a row.
+/// Where the place or the undo of one page changes, the kept rows of a segment change by those that the
+/// page has there. A page that no transaction owns has the row that it stands in, if it stands in one.
 pub fn kept_rows_change_with_a_page()
     ensures page { (sh : Shape) (slots : List (Option Slot)) (undos then_undos : List (Option Undo)) (places then_places : List (Option Place)) (p s : ℕ) → p < sh.pages
         → ((r : ℕ) → r ≢ p → slice_index_or then_undos r None ≡ slice_index_or undos r None)
