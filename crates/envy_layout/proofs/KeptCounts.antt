@@ -1,8 +1,8 @@
 -- How many rows of a segment are kept.
-use Rattle.std.proofs.Common.{◌≡◌, ◌≢◌, ◌⊎◌, inl, inr, ℕ, ◌+◌, ◌-◌, ◌*◌, ◌/◌, ◌%◌, ◌<◌, ◌≤◌, Bool, true, false, cond, eqb, List, length, get_or, set, Option, None, Some, refl, sym, ◌∙◌, ap, subst, arith}
+use Rattle.std.proofs.Common.{◌≡◌, ◌≢◌, ◌⊎◌, inl, inr, ℕ, ◌+◌, ◌-◌, ◌*◌, ◌/◌, ◌%◌, ◌<◌, ◌≤◌, Bool, true, false, cond, eqb, List, length, get_or, set, Option, None, Some, refl, sym, ◌∙◌, ap, arith}
 use Rattle.std.specs.Prelude.{◌&&◌, not, count_by, sum_by}
 use Rattle.std.specs.List.{range_with_len}
-use Rattle.std.proofs.lemmas.Bool.{eqb-true, eq-eqb, and_parts, and_from, and_right, cases_Bool, cases_lt, not-true, not_from_true, not_from_false}
+use Rattle.std.proofs.lemmas.Bool.{eqb-true, eq-eqb, and_parts, and_from, and_right, cases_Bool, cases_lt, not-true, not_from_true}
 use Rattle.std.proofs.lemmas.List.{get_or_past, get_or-set_same, get_or-set_other}
 use Rattle.std.proofs.Math.Nat.{div-add-mod}
 use Rattle.envy_base.specs.declared.shape.Shape.{Shape}
@@ -12,12 +12,12 @@ use Rattle.envy_base.specs.declared.fields.Slot.{Slot}
 use Rattle.envy_base.specs.declared.fields.Undo.{Undo}
 use Rattle.envy_layout.specs.Words.{kept_by}
 use Rattle.envy_base.specs.Shape.{IsShape}
-use Rattle.envy_layout.specs.Sound.{Sound, Slots, Places, Rows, Numbers, Refers, owned_by, slot_named}
+use Rattle.envy_layout.specs.Sound.{Slots, Rows, Numbers, Refers, owned_by, slot_named}
 use Rattle.envy_layout.specs.PageRows.{page_kept_in}
 use Rattle.envy_layout.specs.RowKinds.{is_row, is_in, is_shadow_in, kept_in, free_in, dead_in}
 use Rattle.envy_layout.proofs.KeptLemmas.{kept_by-free}
 use Rattle.envy_layout.proofs.SlotLaw.{kept_by-other}
-use Rattle.envy_layout.proofs.RangeSums.{range_more, range-le, range-same, range-constant, range-sum, range_has, range-zero, range-other, range_lone, range-swap, sum_by-indexed}
+use Rattle.envy_layout.proofs.RangeSums.{range-le, range-same, range-constant, range-sum, range_has, range-zero, range-other, range_lone, range-swap, sum_by-indexed}
 
 -- a page that is there stands in the row
 pub is_row-is : (q : ℕ) (x : Option Place) → is_row q x ≡ true → x ≡ Some (Row q)
@@ -140,9 +140,9 @@ pub kept_in-le-fill : (sh : Shape) (slots : List (Option Slot)) (undos : List (O
 kept_in-le-fill sh slots undos places fills backs s rows =
     let pages = kept_in-pages sh slots undos places s in
     let each = range-le
-        (λ p. page_kept_in sh slots (get_or undos p None) (get_or places p None) s)
-        (λ p. sum_by (λ i. hit_at p i) (range_with_len 0 (get_or fills s 0)))
-        sh.pages (λ p lt. hit-page sh slots undos places fills backs s p rows) in
+    (λ p. page_kept_in sh slots (get_or undos p None) (get_or places p None) s)
+    (λ p. sum_by (λ i. hit_at p i) (range_with_len 0 (get_or fills s 0)))
+    sh.pages (λ p lt. hit-page sh slots undos places fills backs s p rows) in
     let swapped = range-swap hit_at sh.pages (get_or fills s 0) in
     let lone = range-le (λ i. sum_by (λ p. hit_at p i) (range_with_len 0 sh.pages)) (λ i. 1) (get_or fills s 0) (λ i lt. once i) in
     let all = range-constant 1 (get_or fills s 0) in
@@ -276,7 +276,7 @@ page-placed : (sh : Shape) (slots : List (Option Slot)) (positions : List ℕ) (
 page-placed sh slots positions u now apart =
     let both = range-sum (λ k. cond (is_in sh.rows (get_or positions k 0) now) 1 0) (λ k. cond (is_shadow_in sh.rows (get_or positions k 0) now back) 1 0) (sh.segments - 1) in
     let one = range_lone (λ k. cond (is_in sh.rows (get_or positions k 0) now) 1 0) (sh.segments - 1) (λ k lt. one-at-most (is_in sh.rows (get_or positions k 0) now))
-        (λ j k low lt e f. apart j k low lt (is_in-one sh.rows (get_or positions j 0) (get_or positions k 0) now (one-true (is_in sh.rows (get_or positions j 0) now) e) (one-true (is_in sh.rows (get_or positions k 0) now) f))) in
+    (λ j k low lt e f. apart j k low lt (is_in-one sh.rows (get_or positions j 0) (get_or positions k 0) now (one-true (is_in sh.rows (get_or positions j 0) now) e) (one-true (is_in sh.rows (get_or positions k 0) now) f))) in
     let two = second (cases_Bool (owned_by slots u)) in
     omega arith
   where
@@ -286,9 +286,9 @@ page-placed sh slots positions u now apart =
     second : (owned_by slots u ≡ true) ⊎ (owned_by slots u ≡ false) → sum_by (λ k. cond (is_shadow_in sh.rows (get_or positions k 0) now back) 1 0) (range_with_len 0 (sh.segments - 1)) ≤ cond (owned_by slots u) 1 0
     second (inl owned) =
         let most = range_lone (λ k. cond (is_shadow_in sh.rows (get_or positions k 0) now back) 1 0) (sh.segments - 1) (λ k lt. one-at-most (is_shadow_in sh.rows (get_or positions k 0) now back))
-            (λ j k low lt e f. apart j k low lt (is_in-one sh.rows (get_or positions j 0) (get_or positions k 0) back
-                (shadow-in sh.rows (get_or positions j 0) now back (one-true (is_shadow_in sh.rows (get_or positions j 0) now back) e))
-                (shadow-in sh.rows (get_or positions k 0) now back (one-true (is_shadow_in sh.rows (get_or positions k 0) now back) f)))) in
+        (λ j k low lt e f. apart j k low lt (is_in-one sh.rows (get_or positions j 0) (get_or positions k 0) back
+        (shadow-in sh.rows (get_or positions j 0) now back (one-true (is_shadow_in sh.rows (get_or positions j 0) now back) e))
+        (shadow-in sh.rows (get_or positions k 0) now back (one-true (is_shadow_in sh.rows (get_or positions k 0) now back) f)))) in
         let yes_one = one-yes (owned_by slots u) owned in
         omega arith
     second (inr free) =

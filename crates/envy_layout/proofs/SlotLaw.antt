@@ -22,7 +22,7 @@ use Rattle.envy_layout.proofs.WordLists.{words-same, words-at}
 use Rattle.envy_layout.proofs.Composition.{Keeps-refl, KeepsWords, SameWords-put, Same-refl, Stays-failed, Counted-fields, Counted-failed, Wears-fields, Wears-failed, exits}
 
 -- where a test passes less at each place, it counts less
-pub count_by-le_at : {X : Type 0} (p q : X → Bool) (d : X) (xs : List X) → ((k : ℕ) → k < length xs → p (get_or xs k d) ≡ true → q (get_or xs k d) ≡ true) → count_by p xs ≤ count_by q xs
+count_by-le_at : {X : Type 0} (p q : X → Bool) (d : X) (xs : List X) → ((k : ℕ) → k < length xs → p (get_or xs k d) ≡ true → q (get_or xs k d) ≡ true) → count_by p xs ≤ count_by q xs
 count_by-le_at {X} p q d [] implies = omega arith
 count_by-le_at {X} p q d (x ∷ xs) implies =
     let rest : count_by p xs ≤ count_by q xs = count_by-le_at p q d xs (λ k lt. implies (suc k) (omega arith)) in

@@ -1,8 +1,8 @@
 -- The writes that turn a board of version 1 into one of version 2.
-use Rattle.std.proofs.Common.{◌≡◌, ◌≢◌, ◌⊎◌, inl, inr, ℕ, zero, suc, ◌+◌, ◌-◌, ◌<◌, ◌≤◌, List, [], ◌∷◌, ◌++◌, length, get_or, set, take, drop, Option, None, Some, refl, sym, ◌∙◌, ap, subst, arith}
+use Rattle.std.proofs.Common.{◌≡◌, ◌≢◌, ◌⊎◌, inl, inr, ℕ, zero, suc, ◌+◌, ◌-◌, ◌<◌, ◌≤◌, List, [], ◌∷◌, ◌++◌, length, take, drop, Option, None, Some, refl, ◌∙◌, ap, subst, arith}
 use Rattle.std.specs.Prelude.{IsTrue, Result, Ok, Err, OnOk, replicate}
 use Rattle.std.proofs.lemmas.Bool.{cases_lt}
-use Rattle.std.proofs.lemmas.List.{set-append_right, length-take, length-drop, take-append-drop, get_or-append_right, ext_get_or, length-replicate, get_or-replicate}
+use Rattle.std.proofs.lemmas.List.{set-append_right, length-take, length-drop, take-append-drop, get_or-append_right}
 use Rattle.envy_base.specs.declared.board.Off.{Off}
 use Rattle.envy_base.specs.declared.shape.Shape.{Shape}
 use Rattle.envy_base.specs.declared.fields.Slot.{Slot}
@@ -12,11 +12,11 @@ use Rattle.envy_map.specs.Writes.{Writes, with_slot, with_version}
 use Rattle.envy_layout.specs.Formatting.{filled}
 use Rattle.envy_layout.specs.May.{IsUnused}
 use Rattle.envy_layout.specs.Same.{Kept, SameWords}
-use Rattle.envy_layout.specs.Sound.{Sound, Slots, Head, IsSound, slots_of, slot_named}
+use Rattle.envy_layout.specs.Sound.{Sound, Slots, Head, IsSound}
 use Rattle.envy_layout.specs.Upgrading.{upgraded, with_slots_vacated}
 use Rattle.envy_layout.specs.Words.{live}
 use Rattle.envy_layout.proofs.Composition.{exits, at-each, Kept-refl, Kept-trans, Kept-words, Counted-fields, Counted-failed, Wears-fields, Wears-failed}
-use Rattle.envy_layout.proofs.Laying.{filled-zero, filled-step, length-filled, get_or-filled}
+use Rattle.envy_layout.proofs.Laying.{filled-zero, filled-step, get_or-filled}
 
 -- a board of version 1 has 16 slots, so no undo names another
 pub unused-new : (c : Chart) (t : ℕ) → IsSound c → c.fields.version ≡ 1 → 16 ≤ t → IsUnused c.fields t
@@ -35,7 +35,7 @@ vacated-more f n long low =
     let next : n - 16 + 1 ≡ n + 1 - 16 = omega arith in
     ap (λ (xs : List (Option Slot)). record f { slots = xs })
     (set-append_right (take 16 f.slots) (filled (drop 16 f.slots) (Some Vacant) (n - 16)) 16 n (Some Vacant) (first-slots f long) low
-     ∙ ap (λ (ys : List (Option Slot)). take 16 f.slots ++ ys) (filled-step (drop 16 f.slots) (Some Vacant) (n - 16) ∙ ap (filled (drop 16 f.slots) (Some Vacant)) next))
+    ∙ ap (λ (ys : List (Option Slot)). take 16 f.slots ++ ys) (filled-step (drop 16 f.slots) (Some Vacant) (n - 16) ∙ ap (filled (drop 16 f.slots) (Some Vacant)) next))
 
 filled-all : {A : Type 0} (xs : List A) (x : A) (n : ℕ) → length xs ≤ n → filled xs x n ≡ replicate (length xs) x
 filled-all [] x n le = refl
@@ -125,10 +125,10 @@ pub Upgrades-put : (old mid new : Chart) (r : Result Unit Off) → IsSound old �
 Upgrades-put old mid new r sound one same is writes =
     KeptLive-trans old mid new (KeptLive-words old mid same)
     (KeptLive-versioned mid new r same.sound
-        (λ on. Sound-versioned mid.shape mid.fields mid.flash same.sound
-            (same.version ∙ one (subst IsTrue (ap (λ (c : Chart). c.on) is) on))
-            (λ t high lt. ap (λ (c : Chart). slot c.fields t) is ∙ vacant-new old.fields t (Slots.long (Sound.slots sound)) high lt))
-        writes)
+    (λ on. Sound-versioned mid.shape mid.fields mid.flash same.sound
+    (same.version ∙ one (subst IsTrue (ap (λ (c : Chart). c.on) is) on))
+    (λ t high lt. ap (λ (c : Chart). slot c.fields t) is ∙ vacant-new old.fields t (Slots.long (Sound.slots sound)) high lt))
+    writes)
 
 pub Upgrades-done : (old mid new : Chart) (r : Result Unit Off) → length old.fields.slots ≡ 64 → mid ≡ with_fields old (with_slots_vacated 64 old.fields) → Writes (with_version 2) mid r new → OnOk r (new ≡ with_fields old (upgraded old.fields))
 Upgrades-done old mid new (Ok done) long is (on, put) = put ∙ ap (λ (c : Chart). with_fields c (with_version 2 c.fields)) is ∙ ap (with_fields old) (vacated-all old.fields long)

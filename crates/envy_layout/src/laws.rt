@@ -24,20 +24,20 @@ pub fn enough_rows_are_left()
         (range_with_len 0 (c.shape.segments - 1)) }
 {}
 
-/// Where the place or the undo of one page changes, the kept rows of a segment change by those of the
-/// page. A page that no transaction owns has one where its place is, if that is a row.
+/// Where the place or the undo of one page changes, the kept rows of a segment change by those that the
+/// page has there. A page that no transaction owns has the row that it stands in, if it stands in one.
 pub fn kept_rows_change_with_a_page()
     ensures page { (sh : Shape) (slots : List (Option Slot)) (undos then_undos : List (Option Undo)) (places then_places : List (Option Place)) (p s : ℕ) → p < sh.pages
         → ((r : ℕ) → r ≢ p → slice_index_or then_undos r None ≡ slice_index_or undos r None)
         → ((r : ℕ) → r ≢ p → slice_index_or then_places r None ≡ slice_index_or places r None)
         → kept_in sh slots then_undos then_places s + page_kept_in sh slots (slice_index_or undos p None) (slice_index_or places p None) s
-            ≡ kept_in sh slots undos places s + page_kept_in sh slots (slice_index_or then_undos p None) (slice_index_or then_places p None) s }
+        ≡ kept_in sh slots undos places s + page_kept_in sh slots (slice_index_or then_undos p None) (slice_index_or then_places p None) s }
     ensures place { (sh : Shape) (slots : List (Option Slot)) (undos : List (Option Undo)) (places : List (Option Place)) (p s : ℕ) (x : Option Place) → length places ≡ sh.pages → p < sh.pages
         → kept_in sh slots undos (slice_set places p x) s + page_kept_in sh slots (slice_index_or undos p None) (slice_index_or places p None) s
-            ≡ kept_in sh slots undos places s + page_kept_in sh slots (slice_index_or undos p None) x s }
+        ≡ kept_in sh slots undos places s + page_kept_in sh slots (slice_index_or undos p None) x s }
     ensures undo { (sh : Shape) (slots : List (Option Slot)) (undos : List (Option Undo)) (places : List (Option Place)) (p s : ℕ) (u : Option Undo) → length undos ≡ sh.pages → p < sh.pages
         → kept_in sh slots (slice_set undos p u) places s + page_kept_in sh slots (slice_index_or undos p None) (slice_index_or places p None) s
-            ≡ kept_in sh slots undos places s + page_kept_in sh slots u (slice_index_or places p None) s }
+        ≡ kept_in sh slots undos places s + page_kept_in sh slots u (slice_index_or places p None) s }
     ensures free { (sh : Shape) (slots : List (Option Slot)) (u : Option Undo) (now : Option Place) (s : ℕ) → owned_by slots u ≡ false → page_kept_in sh slots u now s ≡ (if is_in sh.rows s now then 1 else 0) }
 {}
 

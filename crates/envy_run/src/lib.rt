@@ -5,6 +5,8 @@
 mod advance;
 mod answering;
 mod ended;
+#[cfg(test)]
+mod formatting_tests;
 mod obey;
 mod prepare;
 mod restart;

@@ -1,6 +1,6 @@
 use Rattle.envy_map.specs.Fields.{chart}
 use Rattle.envy_layout.specs.Sound.{Sound, Slots}
-use Rattle.envy_layout.proofs.UpgradeLaw.{KeptLive, Upgrades-put, Upgrades-done}
+use Rattle.envy_layout.proofs.UpgradeLaw.{Upgrades-put, Upgrades-done}
 use Rattle.envy_layout.proofs.upgrading.upgrade.Goals as goal
 
 pub returns-clause-kept : goal.returns-clause-kept

@@ -1,7 +1,6 @@
-use Rattle.std.proofs.Common.{◌≡◌, ◌<◌, ◌+◌, ap, sym, ◌∙◌, subst, arith}
+use Rattle.std.proofs.Common.{ap, sym, ◌∙◌, subst, arith}
 use Rattle.std.specs.Prelude.{IsTrue}
 use Rattle.envy_map.specs.Fields.{Chart, chart, with_fields}
-use Rattle.envy_layout.specs.Same.{SameWords}
 use Rattle.envy_layout.specs.Sound.{Sound, Slots}
 use Rattle.envy_layout.proofs.Composition.{SameWords-refl, SameWords-trans}
 use Rattle.envy_layout.proofs.UpgradeLaw.{vacated-none, vacated-next, unused-new}
