@@ -1,5 +1,6 @@
 -- The order in which frames are held.
 use Rattle.std.specs.Prelude.{◌≡◌, ◌≢◌, ◌+◌, ◌<◌, ◌≤◌, ◌^◌, ◌==◌, ℕ, Bool, not, List, length, All, AllPairs}
+use Rattle.std.specs.List.{filter, list_any, range_with_len}
 use Rattle.envy_frames.specs.declared.held.Held.{Held}
 
 -- the held frames, the oldest first, and how many frames there are
@@ -17,19 +18,27 @@ IsApart h e = h.frame ≢ e.frame
 abbrev pub IsUnheld : List Held → ℕ → Type 0
 IsUnheld held frame = All (λ h. h.frame ≢ frame) held
 
+abbrev pub has_frame : List Held → ℕ → Bool
+has_frame held frame = list_any (λ h. h.frame == frame) held
+
+-- the frames below n that no held item has, in rising order
+abbrev pub others_of : List Held → ℕ → List ℕ
+others_of held n = filter (λ f. not (has_frame held f)) (range_with_len 0 n)
+
 -- the held frames are among the count, each once
 pub record IsOrder (o : Order) : Type 0 where
   pub below : All (λ h. h.frame < o.count) o.held
   pub apart : AllPairs IsApart o.held
   pub few : length o.held ≤ o.count
 
--- the ring and the stack of free frames have each frame once, and the stack has room for all
+-- The ring and the stack of free frames have each frame once. The stack has room for all of them, and
+-- there is a mark for each.
 pub record IsFrames (o : Order) (free : List ℕ) (room : ℕ) (marks : List Bool) : Type 0 where
   pub order : IsOrder o
   pub below : All (λ f. f < o.count) free
   pub unheld : All (IsUnheld o.held) free
   pub once : AllPairs (λ f g. f ≢ g) free
   pub whole : length free + length o.held ≡ o.count
-  pub room : o.count ≤ room
-  pub marks : length marks ≡ o.count
-  pub fits : o.count < 2 ^ 32
+  pub fits : o.count ≤ room
+  pub marked : length marks ≡ o.count
+  pub few : o.count < 2 ^ 32

@@ -7,7 +7,7 @@ ghost use Rattle.envy_frames.specs.Order.{IsOrder, IsUnheld, is_other};
 
 use crate::Held;
 use crate::free::free_others;
-use crate::ring::remove;
+use crate::ring::{item_of, remove};
 use crate::table::hold_named;
 use circular_buffer::HeapCircularBuffer;
 use envy_base::{Board, NoMemory, Off};
@@ -96,7 +96,7 @@ impl Frames {
         ensures value { Any (λ h. (h.frame ≡ frame) × (h.home ≡ result)) self.now.held }
         ensures whole { IsOrder self.now }
     {
-        match self.held.iter().find(|h| h.frame == frame) {
+        match item_of(&self.held, frame) {
             Some(h) => h.home,
             None => unreachable!(),
         }

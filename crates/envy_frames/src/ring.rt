@@ -1,10 +1,17 @@
-ghost use Rattle.std.specs.Prelude.{◌≡◌, ◌≤◌, [], ◌∷◌, ◌++◌, length, drop, IfSome, AllPairs, slice_get, if◌then◌else◌};
-ghost use Rattle.std.specs.List.{filter};
+ghost use Rattle.std.specs.Prelude.{◌≡◌, ◌≤◌, ◌==◌, [], ◌∷◌, ◌++◌, length, drop, IfSome, AllPairs, slice_get, if◌then◌else◌};
+ghost use Rattle.std.specs.List.{filter, find};
 ghost use Rattle.circular_buffer.specs.Buffer.{buffer};
 ghost use Rattle.envy_frames.specs.Order.{is_other, IsApart};
 
 use crate::Held;
 use circular_buffer::HeapCircularBuffer;
+
+// The item that has the frame.
+pub fn item_of(ring: &HeapCircularBuffer<Held>, frame: u32) -> Option<Held>
+    ensures { result ≡ find (λ h. h.frame == frame) ring.now.items }
+{
+    ring.iter().find(|h| h.frame == frame).copied()
+}
 
 // The item that has the frame leaves, and the others keep their order.
 pub fn remove(ring: &mut HeapCircularBuffer<Held>, frame: u32)

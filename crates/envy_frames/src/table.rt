@@ -1,4 +1,4 @@
-ghost use Rattle.std.specs.Prelude.{◌≡◌, ◌≤◌, [], OnOk, IsTrue};
+ghost use Rattle.std.specs.Prelude.{◌≡◌, ◌≤◌, [], IsOk, OnOk, IsTrue};
 ghost use Rattle.circular_buffer.specs.Buffer.{buffer};
 ghost use Rattle.envy_layout.specs.Sound.{IsSound};
 ghost use Rattle.envy_map.specs.Fields.{chart};
@@ -15,7 +15,8 @@ pub fn hold_named<B: Board>(ring: &mut HeapCircularBuffer<Held>, board: &B) -> R
     requires sound { IsSound (chart (B.state board.now)) }
     requires room { ring.old.capacity ≡ (B.state board.now).shape.frames }
     requires empty { ring.old.items ≡ [] }
-    ensures { OnOk result (ring.new ≡ buffer (held_by_default (B.state board.now).shape (chart (B.state board.now)).fields.places) ring.old.capacity) }
+    ensures done { IsOk result }
+    ensures held { OnOk result (ring.new ≡ buffer (held_by_default (B.state board.now).shape (chart (B.state board.now)).fields.places) ring.old.capacity) }
 {
     let shape = board.shape();
     for page in 0..shape.pages {
