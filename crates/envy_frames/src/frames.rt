@@ -1,4 +1,4 @@
-ghost use Rattle.std.specs.Prelude.{◌≡◌, ◌↔◌, ◌<◌, ◌≤◌, false, IsTrue, [], ◌∷◌, ◌++◌, length, IsErr, IsNone, IfNone, IfOk, IfSome, OnOk, Any, slice_get};
+ghost use Rattle.std.specs.Prelude.{◌≡◌, ◌↔◌, ◌<◌, ◌≤◌, false, IsTrue, [], ◌∷◌, ◌++◌, length, IsErr, IsNone, IfNone, IfOk, IfSome, OnErr, OnOk, Any, slice_get};
 ghost use Rattle.std.specs.List.{filter};
 ghost use Rattle.envy_layout.specs.Sound.{IsSound};
 ghost use Rattle.envy_map.specs.Fields.{chart};
@@ -103,7 +103,7 @@ impl Frames {
     }
 
     /// Holds the frames that the map of the board names, in rising order of page, each with its default
-    /// home. `Off` where power is off; which frames are held is left open then.
+    /// home. `Off` where power is off, and nothing changes then.
     pub fn rebuild<B: Board>(&mut self, board: &B) -> Result<(), Off>
         requires sound { IsTrue (B.state board.now).on → IsSound (chart (B.state board.now)) }
         requires count { self.old.count ≡ (B.state board.now).shape.frames }
@@ -111,6 +111,7 @@ impl Frames {
         ensures agrees { OnOk result (AreHeld (B.state board.now).shape (chart (B.state board.now)).fields.places self.new.held) }
         ensures count { self.new.count ≡ self.old.count }
         ensures off { IsErr result ↔ ((B.state board.now).on ≡ false) }
+        ensures kept { OnErr result (self.new ≡ self.old) }
     {
         if !board.powered() {
             return Err(Off);
