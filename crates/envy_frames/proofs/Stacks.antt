@@ -1,7 +1,7 @@
 -- The stack of the frames that no held item has, and what `take` and `give_back` make of it.
-use Rattle.std.proofs.Common.{◌≡◌, ◌≢◌, ◌⊎◌, inl, inr, ℕ, zero, suc, ◌+◌, ◌-◌, ◌^◌, ◌<◌, ◌≤◌, Bool, true, false, cond, not, ◌&&◌, ◌||◌, List, [], ◌∷◌, ◌++◌, length, get_or, zero-add, refl, sym, ◌∙◌, ap, subst, arith, length-append}
+use Rattle.std.proofs.Common.{◌≡◌, ◌≢◌, ◌⊎◌, inl, inr, ℕ, suc, ◌+◌, ◌^◌, ◌<◌, ◌≤◌, Bool, true, false, cond, not, ◌&&◌, ◌||◌, List, [], ◌∷◌, ◌++◌, length, get_or, zero-add, refl, sym, ◌∙◌, ap, subst, arith}
 use Rattle.std.specs.Prelude.{◌==◌}
-use Rattle.std.specs.List.{filter, All, AllPairs, Any, list_any, range_with_len}
+use Rattle.std.specs.List.{filter, All, AllPairs, Any, range_with_len}
 use Rattle.std.proofs.lemmas.List.{length_push, get_or_default}
 use Rattle.std.proofs.lemmas.List.Elements.{All-filter, All-push, filter_passes, filter_agree, filter-append}
 use Rattle.std.proofs.lemmas.List.Sums.{length-filter, count_by-le-length}
@@ -12,7 +12,7 @@ use Rattle.std.proofs.lemmas.List.Quantifiers.{all_pairs_push}
 use Rattle.std.proofs.lemmas.Bool.{both_ways, cases_eq, eq-eqb, ne_eqb, not-true}
 use Rattle.envy_frames.specs.declared.held.Held.{Held}
 use Rattle.envy_frames.specs.Order.{Order, IsApart, IsOrder, IsFrames, IsUnheld, is_other, has_frame, others_of}
-use Rattle.envy_frames.proofs.Lists.{AllPairs-head, AllPairs-tail, All-left, AllPairs-left, AllPairs-last, All-last, Any-filter, Any-and, filter_all, filter-filter, length-without, range_more, range_apart, range_below, range_has}
+use Rattle.envy_frames.proofs.Lists.{AllPairs-head, AllPairs-tail, All-left, AllPairs-left, AllPairs-last, All-last, Any-filter, filter_all, filter-filter, length-without, range_more, range_apart, range_below, range_has}
 
 -- the frame of another item is another
 pub other-frame : (k : ℕ) (h : Held) → is_other k h ≡ true → h.frame ≢ k

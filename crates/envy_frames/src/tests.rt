@@ -55,13 +55,13 @@ fn after_giving_back(alloc: Global, given: u32) -> Result<Vec<u32>, Fail> {
 
 #[test]
 fn the_others_keep_their_order(rt: HostRuntime) -> Result<(), Fail> {
-    for (given, left) in [
-        (10, [11, 12, 13]),
-        (11, [10, 12, 13]),
-        (12, [10, 11, 13]),
-    ] {
+    for (given, left) in [(10, [11, 12, 13]), (11, [10, 12, 13]), (12, [10, 11, 13])] {
         let pages = after_giving_back(rt.alloc(), given)?;
-        assert_eq!(rt; pages.as_slice(), left.as_slice(), "page {given} given back");
+        assert_eq!(rt;
+            pages.as_slice(),
+            left.as_slice(),
+            "page {given} given back"
+        );
     }
     Ok(())
 }

@@ -27,13 +27,13 @@ loop-frame-preserved c =
     let n = c.loop-frame.frame in
     let mark : has_frame ring n ≡ get_or c.deref-held-items.result.now n false = all_marked c.loop-held.marks.items c.deref-held-items.result.now c.loop-held.held-iterator ring c.in-None.ensures.steps.0 c.deref-held-items.ensures.value c.loop-held.invariant.marks n c.loop-frame-test.true in
     elim c.if-not-held.branch [
-      then-not-held w ↦
+      | then-not-held w ↦
           let room : vec_len free < vec_capacity free = omega (arith, free.ok, ap length c.loop-frame.invariant.free, length-others-le ring n, c.loop-frame.invariant.room, c.requires.room, c.loop-frame-test.true, ap length c.deref-held-items.ensures.value, c.loop-held.invariant.long) in
           rw w.free-is (record {
             free = pushed ring n free.items w.push-room.new.self.items (mark ∙ w.if-not-held.true) c.loop-frame.invariant.free (with_pushed free.items w.push-room.new.self.items n w.push-room.result w.push-room.ensures.items (w.push-room.ensures.succeeds room));
             room = omega (arith, c.loop-frame.invariant.room, w.push-room.ensures.capacity);
           })
-    | else-not-held w ↦ rw w.free-is (record {
+      | else-not-held w ↦ rw w.free-is (record {
         free = passed_over ring n free.items (mark ∙ w.if-not-held.false) c.loop-frame.invariant.free;
         room = c.loop-frame.invariant.room;
       })

@@ -20,7 +20,7 @@ loop-page-preserved g c =
     let low : n < s.shape.pages = subst (λ (sh : Shape). n < sh.pages) c.shape-shape.ensures c.loop-page-test.true in
     let here : get_or places n None ≡ Some c.in_ok-frame.field-0 = c.in_ok-frame.ensures.value.1 in
     elim c.match-branch-2.branch [
-      in-Frame w ↦
+      | in-Frame w ↦
           let frame : get_or places n None ≡ Some (Frame w.in-Frame.frame) = here ∙ ap (λ (x : Place). Some x) w.in-Frame.is in
           let before : length c.loop-page.ring.items ≡ length (held_before s.shape places n) = ap length c.loop-page.invariant.items in
           let room : length c.loop-page.ring.items < c.loop-page.ring.capacity = omega (arith, before, c.loop-page.invariant.capacity, c.requires.room, room_before s.shape places shape ok n w.in-Frame.frame low frame) in
@@ -32,7 +32,7 @@ loop-page-preserved g c =
                 ∙ sym (held_before_next s.shape places n w.in-Frame.frame frame);
             capacity = c.loop-page.invariant.capacity;
           })
-    | in_default w ↦ rw w.ring-is (record {
+      | in_default w ↦ rw w.ring-is (record {
         items = c.loop-page.invariant.items ∙ sym (held_before_same s.shape places n (λ k e. w.in_default.not-Frame k (let same : Some c.in_ok-frame.field-0 ≡ Some (Frame k) = sym here ∙ e in cc)));
         capacity = c.loop-page.invariant.capacity;
       })

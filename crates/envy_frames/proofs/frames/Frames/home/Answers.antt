@@ -1,5 +1,5 @@
-use Rattle.std.proofs.Common.{◌≡◌, ℕ, ◌<◌, List, false, Some, None, sym, ap, subst, ◌∙◌}
-use Rattle.std.specs.Prelude.{◌==◌, All, Any, find}
+use Rattle.std.proofs.Common.{◌≡◌, ℕ, List, false, sym, ap, subst, ◌∙◌}
+use Rattle.std.specs.Prelude.{◌==◌, All, Any}
 use Rattle.std.proofs.lemmas.Bool.{both_ways, eqb-true, eq-eqb}
 use Rattle.envy_frames.specs.declared.held.Held.{Held}
 use Rattle.envy_frames.specs.Order.{Order}
@@ -21,4 +21,4 @@ returns-clause-value c =
     let items = c.self.inside.held.items in
     let found = find-Some (λ (h : Held). h.frame == c.args.frame) items c.in-Some.h (sym c.item_of.ensures ∙ c.in-Some.is) in
     subst (λ (o : Order). Any (λ h. (h.frame ≡ c.args.frame) × (h.home ≡ c.in-Some.h.home)) o.held) c.self.view_is
-        (Any-weaker _ (λ h. (h.frame ≡ c.args.frame) × (h.home ≡ c.in-Some.h.home)) items (λ h both. (eqb-true h.frame c.args.frame both.0, ap (λ (e : Held). e.home) both.1)) found)
+    (Any-weaker _ (λ h. (h.frame ≡ c.args.frame) × (h.home ≡ c.in-Some.h.home)) items (λ h both. (eqb-true h.frame c.args.frame both.0, ap (λ (e : Held). e.home) both.1)) found)

@@ -1,4 +1,4 @@
-use Rattle.std.proofs.Common.{◌≡◌, List, [], Option, None, subst, ap, sym, ◌∙◌}
+use Rattle.std.proofs.Common.{◌≡◌, [], Option, subst, ap, sym, ◌∙◌}
 use Rattle.std.specs.Prelude.{◌↔◌, IsNone, slice_get}
 use Rattle.envy_frames.specs.Order.{Order}
 use Rattle.envy_frames.specs.declared.held.Held.{Held}

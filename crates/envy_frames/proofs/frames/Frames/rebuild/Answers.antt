@@ -1,4 +1,4 @@
-use Rattle.std.proofs.Common.{◌≡◌, List, length, sym, ap, subst, arith, ◌∙◌}
+use Rattle.std.proofs.Common.{sym, ap, subst, arith}
 use Rattle.circular_buffer.specs.Buffer.{Buffer}
 use Rattle.envy_map.specs.Fields.{chart}
 use Rattle.envy_layout.specs.Sound.{Sound}
