@@ -1,0 +1,9 @@
+//! Generated traces: lines of a trace that are drawn from a number, so that a long trace need not be kept.
+//!
+//! Which line a draw gives is defined in `specs/Traces.antt`. Nothing here takes memory.
+#![tactic(auto)]
+
+mod draws;
+mod writing;
+
+pub use writing::generate;
