@@ -4,6 +4,11 @@
 #![tactic(auto)]
 
 mod draws;
+mod laws;
 mod writing;
 
+pub use laws::generated_traces_read_back;
 pub use writing::generate;
+
+#[cfg(test)]
+mod tests;
