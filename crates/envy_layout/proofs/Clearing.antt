@@ -1,22 +1,21 @@
 -- Segments that formatting erases, one after another.
-use Rattle.std.proofs.Common.{◌≡◌, ◌≢◌, ◌⊎◌, inl, inr, ℕ, zero, suc, ◌+◌, ◌-◌, ◌*◌, ◌/◌, ◌^◌, ◌<◌, ◌≤◌, Bool, true, false, List, [], ◌∷◌, length, get_or, set, refl, sym, ◌∙◌, ap, subst, arith}
-use Rattle.std.specs.Prelude.{IsTrue, Result, Ok, Err, IsErrOf, sum}
-use Rattle.std.proofs.lemmas.Bool.{cases_eq, cases_lt}
+use Rattle.std.proofs.Common.{◌≡◌, ◌⊎◌, inl, inr, ℕ, ◌+◌, ◌/◌, ◌<◌, ◌≤◌, Bool, List, [], length, get_or, set, refl, sym, ◌∙◌, ap, subst, arith}
+use Rattle.std.specs.Prelude.{IsTrue, Ok, Err, sum}
+use Rattle.std.proofs.lemmas.Bool.{cases_eq}
 use Rattle.std.proofs.lemmas.List.{get_or-set_same, get_or-set_other, length-set}
 use Rattle.std.proofs.lemmas.List.Sums.{sum_by-set}
 use Rattle.envy_base.specs.Counting.{up}
 use Rattle.envy_base.proofs.Counting.{up-least, up-most, up-rises}
-use Rattle.envy_base.specs.State.{State, Only, Erases, with_segment, cut, IsOnes, IsPage, ones}
+use Rattle.envy_base.specs.State.{State, Only, Erases, with_segment, cut, IsOnes, ones}
 use Rattle.envy_base.specs.declared.shape.Shape.{Shape}
-use Rattle.envy_base.specs.declared.board.Off.{Off}
 use Rattle.envy_base.specs.declared.board.Trouble.{Trouble}
 use Rattle.envy_base.specs.declared.board.Trouble.TheVariants.{Off as TroubleOff, Bad}
-use Rattle.envy_map.specs.Fields.{Fields, Chart, chart, with_fields}
+use Rattle.envy_map.specs.Fields.{Fields, Chart, chart}
 use Rattle.envy_map.specs.Writes.{Writes, with_wear, with_fill}
 use Rattle.envy_layout.specs.Formatting.{filled, IsStopped, IsSpoilt, Reached, Cleared, ClearedOne}
 use Rattle.envy_layout.specs.Same.{Counted, Grows}
-use Rattle.envy_layout.proofs.Composition.{Counted-trans, Counted-more, Counted-fields, Grows-refl}
-use Rattle.envy_layout.proofs.Laying.{filled-zero, filled-step, Reached-refl, Reached-fields, Reached-stops, Reached-spoils}
+use Rattle.envy_layout.proofs.Composition.{Counted-trans, Counted-fields}
+use Rattle.envy_layout.proofs.Laying.{filled-zero, filled-step, Reached-refl}
 
 sum-up : (xs : List ℕ) (e : ℕ) → e < length xs → (sum xs ≤ sum (set xs e (up (get_or xs e 0)))) × (sum (set xs e (up (get_or xs e 0))) ≤ sum xs + 1)
 sum-up xs e lt =

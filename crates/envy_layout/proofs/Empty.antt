@@ -1,15 +1,13 @@
 -- The map that formatting lays is that of a sound board of zeros.
-use Rattle.std.proofs.Common.{◌≡◌, ◌≢◌, ◌⊎◌, inl, inr, ℕ, zero, suc, ◌+◌, ◌-◌, ◌*◌, ◌/◌, ◌%◌, ◌^◌, ◌<◌, ◌≤◌, Bool, true, false, List, [], ◌∷◌, length, get_or, set, Option, None, Some, refl, sym, ◌∙◌, ap, subst, arith}
-use Rattle.std.specs.Prelude.{IsTrue, count_by, replicate}
-use Rattle.std.proofs.lemmas.Bool.{cases_eq, cases_lt}
+use Rattle.std.proofs.Common.{◌≡◌, ◌⊎◌, inl, inr, ℕ, suc, ◌+◌, ◌-◌, ◌*◌, ◌/◌, ◌%◌, ◌<◌, ◌≤◌, false, List, [], ◌∷◌, length, get_or, set, Option, None, Some, refl, sym, ◌∙◌, ap, subst, arith}
+use Rattle.std.specs.Prelude.{count_by, replicate}
+use Rattle.std.proofs.lemmas.Bool.{cases_lt}
 use Rattle.std.proofs.lemmas.List.{get_or_past, get_or-replicate, length-replicate, ext_get_or}
 use Rattle.std.proofs.lemmas.List.Sums.{sum_by-cons}
 use Rattle.std.proofs.Math.Nat.{div-lt_iff_lt-mul}
 use Rattle.envy_base.specs.Shape.{IsShape}
 use Rattle.envy_base.specs.State.{ones}
 use Rattle.envy_base.specs.declared.shape.Shape.{Shape}
-use Rattle.envy_base.specs.declared.fields.Job.{Job}
-use Rattle.envy_base.specs.declared.fields.Job.TheVariants.{Idle, Copy, Switch, Erase}
 use Rattle.envy_base.specs.declared.fields.Place.{Place}
 use Rattle.envy_base.specs.declared.fields.Place.TheVariants.{Absent, Row, Frame}
 use Rattle.envy_base.specs.declared.fields.Slot.{Slot}
@@ -17,11 +15,11 @@ use Rattle.envy_base.specs.declared.fields.Slot.TheVariants.{Vacant}
 use Rattle.envy_base.specs.declared.fields.Undo.{Undo}
 use Rattle.envy_base.specs.declared.fields.Undo.TheVariants.{Clear, Shadow}
 use Rattle.envy_map.specs.Codes.{the_magic}
-use Rattle.envy_map.specs.Fields.{Fields, Chart, failed, with_fields, slot, place, undo, sizes_of}
+use Rattle.envy_map.specs.Fields.{Fields, Chart, failed, with_fields, place, undo}
 use Rattle.envy_map.specs.Writes.{with_magic}
-use Rattle.envy_layout.specs.Formatting.{filled, numbered, with_head, with_regions_laid, IsLaid, IsEmpty, Cleared}
-use Rattle.envy_layout.specs.Sound.{Sound, Slots, Places, Rows, Numbers, Blanks, Homes, Jobs, Head, Refers, IsSpare, slot_named, slots_of, owned_by}
-use Rattle.envy_layout.specs.Words.{kept_by, word_at, words, live, durable, live_word, durable_word}
+use Rattle.envy_layout.specs.Formatting.{filled, with_head, with_regions_laid, IsLaid, IsEmpty, Cleared}
+use Rattle.envy_layout.specs.Sound.{Sound, Refers, slot_named, slots_of, owned_by}
+use Rattle.envy_layout.specs.Words.{kept_by, word_at, words, live_word, durable_word}
 use Rattle.envy_layout.proofs.Laying.{length-filled, get_or-filled, length-numbered, get_or-numbered}
 use Rattle.envy_layout.proofs.WordLists.{length-words, get_or-words}
 

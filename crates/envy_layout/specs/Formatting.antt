@@ -1,5 +1,5 @@
 -- What formatting does: the map of an empty array over erased flash, the first word written last.
-use Rattle.std.specs.Prelude.{◌≡◌, ◌⊎◌, ℕ, zero, suc, ◌+◌, ◌-◌, ◌*◌, ◌/◌, ◌^◌, ◌<◌, ◌≤◌, false, IsTrue, List, [], ◌∷◌, length, replicate, Some, slice_index, slice_index_or, Result, Ok, Err}
+use Rattle.std.specs.Prelude.{◌≡◌, ◌⊎◌, ℕ, zero, suc, ◌+◌, ◌-◌, ◌*◌, ◌/◌, ◌^◌, ◌<◌, false, IsTrue, List, [], ◌∷◌, length, replicate, Some, slice_index, slice_index_or, Result, Ok, Err}
 use Rattle.envy_base.specs.State.{State, Only, IsOnes, ones}
 use Rattle.envy_base.specs.declared.board.Trouble.{Trouble}
 use Rattle.envy_base.specs.declared.board.Trouble.TheVariants.{Off as TroubleOff, Bad}
@@ -9,7 +9,7 @@ use Rattle.envy_base.specs.declared.fields.Slot.TheVariants.{Vacant}
 use Rattle.envy_base.specs.declared.fields.Undo.TheVariants.{Clear}
 use Rattle.envy_base.specs.declared.shape.Shape.{Shape}
 use Rattle.envy_map.specs.Codes.{the_magic}
-use Rattle.envy_map.specs.Fields.{Fields, Chart, chart, with_fields, sizes_of, slot, place, undo}
+use Rattle.envy_map.specs.Fields.{Fields, Chart, chart, sizes_of, slot, place, undo}
 use Rattle.envy_map.specs.Writes.{with_size, with_version, with_job, with_fill, with_wear}
 use Rattle.envy_layout.specs.Same.{Counted}
 use Rattle.envy_layout.specs.Sound.{IsSound, slots_of}

@@ -1,5 +1,5 @@
 -- How many rows of a segment are kept, free and dead.
-use Rattle.std.specs.Prelude.{ℕ, ◌+◌, ◌-◌, ◌/◌, ◌==◌, ◌&&◌, not, Bool, true, false, List, Option, None, Some, slice_index, slice_index_or, count_by}
+use Rattle.std.specs.Prelude.{ℕ, ◌+◌, ◌-◌, ◌/◌, ◌==◌, ◌&&◌, not, Bool, false, List, Option, None, Some, slice_index, slice_index_or, count_by}
 use Rattle.std.specs.List.{range_with_len}
 use Rattle.envy_base.specs.declared.shape.Shape.{Shape}
 use Rattle.envy_base.specs.declared.fields.Place.{Place}

@@ -1,4 +1,4 @@
-use Rattle.std.proofs.Common.{◌<◌, ◌*◌, ◌≤◌, ◌≡◌, arith}
+use Rattle.std.proofs.Common.{arith}
 use Rattle.envy_base.specs.State.{IsBoard}
 use Rattle.envy_map.specs.Fields.{chart}
 use Rattle.envy_layout.proofs.Empty.{laid-map}

@@ -2,7 +2,7 @@ use Rattle.std.proofs.Common.{◌≡◌, ◌+◌, ◌*◌, ◌^◌, ◌∙◌, r
 use Rattle.std.specs.Prelude.{Some}
 use Rattle.envy_base.specs.declared.fields.Job.TheVariants.{Idle}
 use Rattle.envy_base.specs.declared.shape.Shape.{Shape}
-use Rattle.envy_map.specs.Fields.{Fields, chart, with_fields}
+use Rattle.envy_map.specs.Fields.{chart, with_fields}
 use Rattle.envy_map.specs.Writes.{with_size, with_version, with_job}
 use Rattle.envy_layout.proofs.Laying.{Lays-more, Lays-stops, OnErr-any, head-same}
 use Rattle.envy_layout.proofs.lay.lay_head.Goals as goal

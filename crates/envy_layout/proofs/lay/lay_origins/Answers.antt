@@ -1,4 +1,4 @@
-use Rattle.std.proofs.Common.{◌*◌, ◌+◌, refl, ap}
+use Rattle.std.proofs.Common.{◌+◌, refl, ap}
 use Rattle.envy_map.specs.Fields.{chart, with_fields}
 use Rattle.envy_map.specs.Writes.{with_origin}
 use Rattle.envy_layout.specs.Formatting.{with_origins_laid}

@@ -1,4 +1,3 @@
-use Rattle.std.proofs.Common.{◌*◌}
 use Rattle.envy_map.specs.Fields.{chart}
 use Rattle.envy_layout.specs.Formatting.{with_origins_laid}
 use Rattle.envy_layout.proofs.Laying.{IsLaidSo}

@@ -1,4 +1,4 @@
-use Rattle.std.proofs.Common.{◌*◌, ◌+◌, refl, ap}
+use Rattle.std.proofs.Common.{◌+◌, refl, ap}
 use Rattle.std.specs.Prelude.{Some}
 use Rattle.envy_base.specs.declared.fields.Slot.TheVariants.{Vacant}
 use Rattle.envy_map.specs.Fields.{chart, with_fields}
