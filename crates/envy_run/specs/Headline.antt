@@ -13,6 +13,8 @@ use Rattle.envy_policy.specs.Setup.{checked, rule_of}
 use Rattle.envy_trace.specs.Faults.{fault_number}
 use Rattle.envy_run.specs.declared.advance.End.{End}
 use Rattle.envy_run.specs.declared.advance.End.TheVariants.{Done, ReadFault, WriteFault, FlushFault, Refused, Dead, TooLong}
+use Rattle.envy_run.specs.declared.fetch.Accepted.TheVariants.{Built}
+use Rattle.envy_run.specs.Done.{HasDone, HasDied}
 use Rattle.envy_run.specs.Serves.{Serves}
 
 -- the setup that `run` takes, with a frame for every page
@@ -98,7 +100,7 @@ pub record IsServed (accepted : Bool) (t : Told) (board : Option Chart) (from fe
   pub now : Chart
   pub board_is : board ≡ Some now
   pub end : End
-  pub serves : Serves end t.lines t.taken from to first feed sink now
+  pub serves : Serves end t.lines t.taken Built (HasDone first now) (HasDied first now) from to feed sink
   pub status : t.status ≡ status_of end
   pub why : t.why ≡ why_of end
 

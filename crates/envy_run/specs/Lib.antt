@@ -1,10 +1,14 @@
-pub mod Headline
 pub mod Answers
+pub mod Calm
+pub mod Concludes
+pub mod Done
+pub mod Headline
 pub mod Licence
 pub mod Obeys
 pub mod Prepares
 pub mod Progress
+pub mod Reading
 pub mod Restarts
 pub mod Serves
-pub mod Turns
 pub mod Texts
+pub mod Turns

@@ -5,7 +5,9 @@
 mod advance;
 mod answering;
 mod ended;
+mod fetch;
 mod obey;
+mod plain_run;
 mod prepare;
 mod restart;
 mod running;
