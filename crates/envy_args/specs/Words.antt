@@ -1,6 +1,6 @@
 -- Which words are understood, and which command they name.
-use Rattle.std.specs.Prelude.{ℕ, ◌+◌, ◌*◌, ◌^◌, ◌==◌, nat_lt, nat_le, Bool, true, ◌&&◌, ◌||◌, not, if◌then◌else◌, List, [], ◌∷◌, length, drop, find, codes, Option, None, Some, is_some, unwrap_or, Result, Ok, Err}
-use Rattle.std.specs.List.{list_any, starts_with, before_first, after_first}
+use Rattle.std.specs.Prelude.{ℕ, ◌+◌, ◌*◌, ◌^◌, ◌==◌, nat_lt, nat_le, Bool, true, ◌&&◌, ◌||◌, not, if◌then◌else◌, List, [], ◌∷◌, ◌++◌, length, drop, find, codes, Option, None, Some, is_some, unwrap_or, Result, Ok, Err}
+use Rattle.std.specs.List.{list_any, list_all, starts_with, before_first, after_first}
 use Rattle.std.specs.Option.{option_map, option_map_or, option_and_then}
 use Rattle.std.specs.Str.{bytes_eq, all_ascii_digits}
 use Rattle.std.specs.Str.Parse.{digits_value}
@@ -83,11 +83,20 @@ is_value name text =
 abbrev pub has : Text → Options → Bool
 has name = list_any (λ option. bytes_eq option.0 name)
 
--- each is one of these, has a value of its own, and is given once
-unfoldable pub are_options : List Text → Options → Bool
-are_options names [] = true
-are_options names (option ∷ others) = list_any (bytes_eq option.0) names
-    && (is_value option.0 option.1 && (not (has option.0 others) && are_options names others))
+-- each is one of these, and is given once
+unfoldable pub are_known : List Text → Options → Bool
+are_known names [] = true
+are_known names (option ∷ others) =
+    list_any (bytes_eq option.0) names && (not (has option.0 others) && are_known names others)
+
+abbrev pub have_values : Options → Bool
+have_values = list_all (λ option. is_value option.0 option.1)
+
+-- the options of the words, where they are in the form
+abbrev pub accepted : List Text → List Text → Option Options
+accepted names words =
+    option_and_then (λ options. if are_known names options && have_values options then Some options else None)
+    (options_in words None)
 
 -- the value that an option is given
 abbrev pub value_of : Options → Text → Option Text
@@ -184,13 +193,14 @@ pub record Entry : Type 0 where
 
 abbrev pub plain_options : List Text
 plain_options = codes "segments" ∷ codes "rows" ∷ codes "pages" ∷ codes "shadows" ∷ codes "frames" ∷ codes "entries"
-    ∷ codes "policy" ∷ codes "part" ∷ codes "limit" ∷ codes "mark" ∷ []
+    ∷ codes "part" ∷ codes "policy" ∷ codes "limit" ∷ codes "mark" ∷ []
 
 abbrev pub run_options : List Text
-run_options = codes "lives" ∷ plain_options
+run_options = plain_options ++ codes "lives" ∷ []
 
 abbrev pub tpca_options : List Text
-tpca_options = codes "start" ∷ codes "branches" ∷ codes "accounts" ∷ codes "transfers" ∷ codes "every" ∷ run_options
+tpca_options = run_options
+    ++ codes "start" ∷ codes "branches" ∷ codes "accounts" ∷ codes "transfers" ∷ codes "every" ∷ []
 
 abbrev pub gen_options : List Text
 gen_options = codes "start" ∷ codes "lines" ∷ codes "pages" ∷ []
@@ -205,15 +215,12 @@ commands =
 
 -- Words
 
--- what the words after the command word make of it
-abbrev pub made_by : Entry → Option Options → Result Command WordsFault
-made_by entry None = Err Form
-made_by entry (Some options) = if are_options entry.options options then entry.make options else Err Form
-
+-- the entry of the command word makes a command of the words after it
 abbrev pub look_up : List Entry → Text → List Text → Result Command WordsFault
 look_up [] name words = Err Form
 look_up (entry ∷ table) name words =
-    if bytes_eq entry.name name then made_by entry (options_in words None) else look_up table name words
+    if bytes_eq entry.name name then option_map_or entry.make (accepted entry.options words) (Err Form)
+    else look_up table name words
 
 -- the command that the words name, or why they are refused
 unfoldable pub command_of : List Text → Result Command WordsFault
