@@ -1,0 +1,45 @@
+use crate::generate;
+use envy_io::{Failed, MemSink};
+use rand_core::{Rng, SeedableRng};
+use rand_pcg::Lcg128Xsl64;
+use std::test::Fail;
+
+// The words were made with an independent program.
+#[test]
+fn words_are_those_of_the_original(rt: HostRuntime) {
+    let mut words = Lcg128Xsl64::seed_from_u64(1);
+    for word in [
+        15492934433077865799,
+        319104231195455319,
+        2101115697694094752,
+    ] {
+        assert_eq!(rt; words.next_u64(), word);
+    }
+}
+
+const FIRST_LINES: &[u8] = b"tick\nload 1602\ntick\nbegin\nstore 1232 146749363665314351\n";
+
+// The lines were drawn by hand from the words of an independent program.
+#[test]
+fn lines_are_drawn_from_three_words_each(rt: HostRuntime) -> Result<(), Fail> {
+    let mut sink = MemSink::new(rt.alloc(), 100, Vec::new(rt.alloc()))?;
+    assert!(&rt; generate(&mut sink, 7, 5, 64) == Ok(()));
+    assert!(&rt; sink.written() == FIRST_LINES);
+    Ok(())
+}
+
+#[test]
+fn a_line_and_its_newline_are_one_piece(rt: HostRuntime) -> Result<(), Fail> {
+    let mut sink = MemSink::new(rt.alloc(), 100, [4].to_vec(rt.alloc())?)?;
+    assert!(&rt; generate(&mut sink, 7, 5, 64) == Err(Failed));
+    assert!(&rt; sink.written() == b"tick\nload 1602\ntick\n".as_slice());
+    Ok(())
+}
+
+#[test]
+fn no_line_makes_no_call(rt: HostRuntime) -> Result<(), Fail> {
+    let mut sink = MemSink::new(rt.alloc(), 0, [1].to_vec(rt.alloc())?)?;
+    assert!(&rt; generate(&mut sink, 7, 0, 64) == Ok(()));
+    assert!(&rt; sink.written() == b"".as_slice());
+    Ok(())
+}

@@ -1,0 +1,46 @@
+ghost use Rattle.std.specs.Prelude.{◌≡◌, ◌≤◌, [], ◌∷◌, ◌++◌};
+ghost use Rattle.envy_io.specs.Lines.{newline};
+ghost use Rattle.envy_io.specs.Streams.{WritesAll};
+ghost use Rattle.envy_trace.specs.Spelling.{HasPlace, line_bytes};
+ghost use Rattle.envy_gen.specs.Traces.{trace_bytes};
+
+use crate::draws::next_line;
+use arrayvec::ArrayVec;
+use envy_io::{Failed, Sink, write_all};
+use envy_report::push_text;
+use envy_trace::{Line, line_text};
+use rand_core::SeedableRng;
+use rand_pcg::Lcg128Xsl64;
+
+// Writes a line and its newline as one piece.
+fn write_line<K: Sink>(sink: &mut K, line: &Line) -> Result<(), Failed>
+    requires { HasPlace line.now }
+    ensures { WritesAll (K.drain sink.old) (line_bytes line.now ++ newline ∷ []) result (K.drain sink.new) }
+{
+    let mut text = ArrayVec::<u8, 120>::new();
+    line_text(line, &mut text);
+    let mut piece = ArrayVec::<u8, 121>::new();
+    push_text(&mut piece, text.as_slice());
+    piece.push(b'\n');
+    write_all(sink, piece.as_slice())
+}
+
+/// Writes `lines` generated lines, each with its newline as one piece. The draws begin with the number
+/// `start`; the addresses are those of an array of `pages` pages.
+///
+/// # Errors
+///
+/// `Failed` where the sink failed, which it counts. A proper prefix of the trace was written then.
+pub fn generate<K: Sink>(sink: &mut K, start: u64, lines: u32, pages: u32) -> Result<(), Failed>
+    requires low { 1 ≤ pages }
+    requires high { pages ≤ 1048576 }
+    ensures writes { WritesAll (K.drain sink.old) (trace_bytes start lines pages) result (K.drain sink.new) }
+    ensures uncalled { lines ≡ 0 → sink.new ≡ sink.old }
+{
+    let mut words = Lcg128Xsl64::seed_from_u64(start);
+    for _line in 0..lines {
+        let line = next_line(&mut words, pages);
+        write_line(sink, &line)?;
+    }
+    Ok(())
+}
