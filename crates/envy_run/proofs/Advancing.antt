@@ -36,7 +36,7 @@ told-still Done to sink then_sink n t same faults = record {
   told = record { whole = same ∙ Written.whole t.told; faults = let before = Written.faults t.told in omega arith };
 }
 
-rises-told : (to sink then_sink : Drain) → to.faults ≤ sink.faults → Rises sink.faults then_sink.faults → Rises to.faults then_sink.faults
+pub rises-told : (to sink then_sink : Drain) → to.faults ≤ sink.faults → Rises sink.faults then_sink.faults → Rises to.faults then_sink.faults
 rises-told to sink then_sink le r = record { kept = let more = r.kept in omega arith; more = λ lt. at lt (cases_lt sink.faults (2 ^ 64 - 1)) }
   where
     at : to.faults < 2 ^ 64 - 1 → (sink.faults < 2 ^ 64 - 1) ⊎ (2 ^ 64 - 1 ≤ sink.faults) → to.faults < then_sink.faults

@@ -1,24 +1,29 @@
 -- What the plain machine did, from what its calls say.
 use Rattle.std.proofs.Common.{◌≡◌, ◌⊎◌, inl, inr, ℕ, ◌+◌, List, [], ◌∷◌, ◌++◌, take, refl, sym, ◌∙◌, ap, subst, arith}
-use Rattle.std.specs.Prelude.{Result, Ok, Err}
+use Rattle.std.specs.Prelude.{None, Result, Ok, Err}
 use Rattle.std.proofs.lemmas.List.{append-nil}
-use Rattle.envy_base.specs.Array.{Array, restarted}
+use Rattle.envy_base.specs.Array.{Array, restarted, zeros}
 use Rattle.envy_base.specs.Step.{Command, Step, Answer, Word as IsWord, Done as IsDone, Started as IsStarted, Range as IsRange, Held as IsHeld, Closed as IsClosed, Full as IsFull, Busy as IsBusy}
 use Rattle.envy_io.specs.declared.source.Failed.{Failed}
 use Rattle.envy_io.specs.Lines.{newline}
 use Rattle.envy_io.specs.Streams.{Feed, Drain, WritesAll, with_end}
 use Rattle.envy_io.specs.Taking.{Taking}
 use Rattle.envy_io.proofs.WritesLemmas.{with_end-nil}
+use Rattle.envy_policy.specs.declared.setup.Setup.{Setup}
 use Rattle.envy_trace.specs.declared.line.Line.{Line}
 use Rattle.envy_trace.specs.declared.line.Line.TheVariants.{Empty, Power}
 use Rattle.envy_trace.specs.declared.reply.Reply.{Reply}
 use Rattle.envy_trace.specs.declared.reply.Reply.TheVariants.{Restarted}
 use Rattle.envy_trace.specs.Replies.{reply_bytes}
-use Rattle.envy_run.specs.Calm.{IsCalmReply, AnswersCalmly, ObeysCalmly, HasDoneCalmly}
+use Rattle.envy_run.specs.Calm.{IsCalmReply, AnswersCalmly, ObeysCalmly, HasDoneCalmly, NeverDies}
+use Rattle.envy_run.specs.declared.advance.End.{End}
 use Rattle.envy_run.specs.declared.fetch.Accepted.{Accepted}
+use Rattle.envy_run.specs.declared.fetch.Accepted.TheVariants.{All}
+use Rattle.envy_run.specs.Headline.{Told, RunsPlain, status_of, why_of}
 use Rattle.envy_run.specs.Progress.{HasTold, Progress, Untold}
 use Rattle.envy_run.specs.Reading.{HasRead}
 use Rattle.envy_run.specs.Restarts.{Written, FrontWritten}
+use Rattle.envy_run.specs.Serves.{Serves}
 use Rattle.envy_run.specs.Turns.{Turn, Says, Replies, Does, said, lines_done, texts}
 use Rattle.envy_run.proofs.Advancing.{turn-told, turn-untold}
 
@@ -73,3 +78,14 @@ plain-told accepted from feed to sink then_sink first old new n reader line t re
 pub plain-untold : (accepted : Accepted) (from feed : Feed) (to sink then_sink : Drain) (first old new : Array) (n : ℕ) (reader : Taking) (line : Line) (failed : Failed) (t : HasTold (HasDoneCalmly first old) to n sink) → HasRead accepted from feed reader (lines_done t.turns ++ line ∷ []) → ObeysCalmly old line (Err failed) new sink then_sink → Untold accepted (HasDoneCalmly first new) from to n feed then_sink reader
 plain-untold accepted from feed to sink then_sink first old new n reader line failed t read (replies, answers, told) =
     turn-untold accepted (HasDoneCalmly first old) (HasDoneCalmly first new) from feed to sink then_sink n reader line replies new t read (calm-more first old new t.turns t.array line replies t.done answers) told
+
+-- a trace served on a machine that was zeros
+pub plain-served : (setup : Setup) (plain machine : Array) (end : End) (t : Told) (from feed : Feed) (to sink : Drain) → plain ≡ zeros setup.shape.pages setup.shape.shadows → Serves end t.lines t.taken All (HasDoneCalmly plain machine) NeverDies from to feed sink → t.status ≡ status_of end → t.why ≡ why_of end → RunsPlain setup t None from feed to sink
+plain-served setup plain machine end t from feed to sink is serves status why = inl (record {
+  board_none = refl;
+  machine = machine;
+  end = end;
+  serves = subst (λ (m : Array). Serves end t.lines t.taken All (HasDoneCalmly m machine) NeverDies from to feed sink) is serves;
+  status = status;
+  why = why;
+})

@@ -1,7 +1,9 @@
 pub mod Advancing
 pub mod Calm
+pub mod Generating
 pub mod Obeying
 pub mod Reading
 pub mod Recovering
 pub mod Replying
 pub mod Serving
+pub mod Words

@@ -6,6 +6,7 @@ mod advance;
 mod answering;
 mod ended;
 mod fetch;
+mod gen_run;
 mod obey;
 mod plain_run;
 mod prepare;

@@ -5,18 +5,24 @@ ghost use Rattle.envy_base.specs.Array.{Array};
 ghost use Rattle.envy_io.specs.Streams.{Feed, Drain};
 ghost use Rattle.envy_plain.specs.Refusals.{answer_of};
 ghost use Rattle.envy_run.specs.Calm.{HasDoneCalmly, NeverDies, IsCommand, IsCalmReply, ObeysCalmly};
+ghost use Rattle.envy_policy.specs.Setup.{checked};
+ghost use Rattle.envy_run.specs.Headline.{RunsPlain, status_of, why_of};
 ghost use Rattle.envy_run.specs.Progress.{Progress, Advances};
 ghost use Rattle.envy_run.specs.Serves.{Serves};
 ghost use Rattle.envy_run.specs.Turns.{Replies, said};
 
 use crate::advance::End;
 use crate::fetch::{Accepted, conclude, fetch};
+use crate::ended::Ended;
 use crate::restart::write_reply;
+use crate::running::{ended_with, unserved};
 use crate::serve::{MOST_BYTES, Served, lines_accepted};
 use envy_base::Counts;
 use envy_io::{Failed, Lines, Sink, Source};
 use envy_plain::{Plain, Refusal};
+use envy_policy::Setup;
 use envy_trace::{Line, Reply};
+use std::alloc::Global;
 
 /// The reply that says why a call was refused.
 fn refused(refusal: Refusal) -> Reply
@@ -31,7 +37,7 @@ fn refused(refusal: Refusal) -> Reply
     }
 }
 
-/// Does one line: the call of the plain machine that it names, and the reply. There is nothing to do in
+/// Does one command: the call of the plain machine that it names, and the reply. There is nothing to do in
 /// the background, no power to cut and no operation to fail, and no work to count.
 fn answer(plain: &mut Plain, line: &Line) -> Result<Reply, Refusal>
     requires { IsCommand line.now }
@@ -120,7 +126,7 @@ fn advance<S: Source, K: Sink>(
 }
 
 /// Does the lines of the source one after another, on a plain machine.
-pub fn serve_plain<S: Source, K: Sink>(plain: &mut Plain, source: &mut S, sink: &mut K) -> Served
+fn serve_plain<S: Source, K: Sink>(plain: &mut Plain, source: &mut S, sink: &mut K) -> Served
     ensures serves { Serves result.end result.lines result.taken Accepted.All (HasDoneCalmly plain.old plain.new) NeverDies (S.feed source.old) (K.drain sink.old) (S.feed source.new) (K.drain sink.new) }
     ensures few { result.lines ≤ 1099511627777 }
 {
@@ -135,4 +141,31 @@ pub fn serve_plain<S: Source, K: Sink>(plain: &mut Plain, source: &mut S, sink: 
         }
     }
     unreachable!()
+}
+
+/// Does the lines of the source in order on a plain machine, with each reply written before the next
+/// line is read. There is no board.
+pub fn run_plain<S: Source, K: Sink, B>(
+    alloc: Global,
+    setup: &Setup,
+    source: &mut S,
+    sink: &mut K,
+) -> Ended<B>
+    requires { checked setup.now ≡ Ok tt }
+    ensures runs { RunsPlain setup.now
+        (record { status = result.status; why = result.why; lines = result.lines; taken = result.taken })
+        None
+        (S.feed source.old) (S.feed source.new) (K.drain sink.old) (K.drain sink.new) }
+    ensures board { result.board ≡ None }
+    ensures few { result.lines ≤ 1099511627777 }
+{
+    // the words were checked
+    if setup.check().is_err() {
+        unreachable!();
+    }
+    let Ok(mut plain) = Plain::new(alloc, &setup.shape) else {
+        return unserved(8, 0, None);
+    };
+    let served = serve_plain(&mut plain, source, sink);
+    ended_with(served, None)
 }
