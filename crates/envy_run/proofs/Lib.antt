@@ -1,5 +1,6 @@
 pub mod Advancing
 pub mod Calm
+pub mod Completing
 pub mod Generating
 pub mod Obeying
 pub mod Reading

@@ -13,13 +13,7 @@ use Rattle.envy_args.specs.Words.{Text, Options, Entry, commands, accepted, look
 use Rattle.envy_policy.specs.declared.setup.Setup.{Setup}
 use Rattle.envy_policy.specs.declared.setup.SetupFault.{SetupFault}
 use Rattle.envy_policy.specs.Setup.{checked}
-
--- the rules hold
-abbrev pub IsAllowed : Command → Type 0
-IsAllowed (Run setup returns) = checked setup ≡ Ok tt
-IsAllowed (Plain setup) = checked setup ≡ Ok tt
-IsAllowed (Gen start count pages) = (1 ≤ pages) × (pages ≤ 1048576)
-IsAllowed (Tpca setup returns start area every) = ⊤
+use Rattle.envy_run.specs.Allowed.{IsAllowed}
 
 allowed-as : (x command : Command) → IsAllowed x → ◌≡◌ {A = Result Command WordsFault} (Ok x) (Ok command) → IsAllowed command
 allowed-as x command allowed e = let same : x ≡ command = cc in subst (λ (c : Command). IsAllowed c) same allowed

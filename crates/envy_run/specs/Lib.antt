@@ -1,5 +1,7 @@
+pub mod Allowed
 pub mod Answers
 pub mod Calm
+pub mod Complete
 pub mod Concludes
 pub mod Done
 pub mod Headline

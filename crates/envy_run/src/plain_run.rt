@@ -12,8 +12,8 @@ ghost use Rattle.envy_run.specs.Serves.{Serves};
 ghost use Rattle.envy_run.specs.Turns.{Replies, said};
 
 use crate::advance::End;
-use crate::fetch::{Accepted, conclude, fetch};
 use crate::ended::Ended;
+use crate::fetch::{Accepted, conclude, fetch};
 use crate::restart::write_reply;
 use crate::running::{ended_with, unserved};
 use crate::serve::{MOST_BYTES, Served, lines_accepted};

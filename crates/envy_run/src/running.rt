@@ -1,5 +1,7 @@
 ghost use Rattle.std.specs.Prelude.{◌≡◌, ◌≤◌, option_map};
 ghost use Rattle.envy_map.specs.Fields.{chart};
+ghost use Rattle.envy_run.specs.Allowed.{IsAllowed};
+ghost use Rattle.envy_run.specs.Complete.{Completes};
 ghost use Rattle.envy_run.specs.Headline.{Headline, RunsTrace, command_in, with_a_frame_for_every_page as with_frames, status_of, why_of};
 
 use crate::advance::End;
@@ -106,6 +108,36 @@ fn run_trace<S: Source, K: Sink, M: Maker>(
     ended_with(served, Some(memory.into_board()))
 }
 
+/// Does a command.
+fn perform<S: Source, K: Sink, M: Maker>(
+    alloc: Global,
+    command: Command,
+    source: &mut S,
+    sink: &mut K,
+    maker: &mut M,
+) -> Ended<M::Made>
+    requires { IsAllowed command }
+    ensures headline { Headline (Ok command)
+        (record { status = result.status; why = result.why; lines = result.lines; taken = result.taken })
+        (option_map (λ board. chart (M.Made.Board.state board)) result.board)
+        (S.feed source.old) (S.feed source.new) (K.drain sink.old) (K.drain sink.new) }
+    ensures few { result.lines ≤ 1099511627777 }
+{
+    match command {
+        Command::Run { setup, lives } => {
+            let setup = with_a_frame_for_every_page(setup);
+            run_trace(alloc, setup, lives, source, sink, maker)
+        }
+        Command::Plain { setup } => run_plain(alloc, &setup, source, sink),
+        Command::Gen {
+            start,
+            lines,
+            pages,
+        } => run_gen(sink, start, lines, pages),
+        Command::Tpca { .. } => unserved(2, 0, None),
+    }
+}
+
 /// Does what the words say: answers the trace of the source over a board of the maker's or on a plain
 /// machine, or writes a generated trace.
 pub fn run<S: Source, K: Sink, M: Maker>(
@@ -119,20 +151,15 @@ pub fn run<S: Source, K: Sink, M: Maker>(
         (record { status = result.status; why = result.why; lines = result.lines; taken = result.taken })
         (option_map (λ board. chart (M.Made.Board.state board)) result.board)
         (S.feed source.old) (S.feed source.new) (K.drain sink.old) (K.drain sink.new) }
+    ensures completes { Completes (command_in words.now)
+        (record { status = result.status; why = result.why; lines = result.lines; taken = result.taken })
+        (option_map (λ board. chart (M.Made.Board.state board)) result.board)
+        (S.feed source.old) (S.feed source.new) (K.drain sink.old) (K.drain sink.new) }
     ensures few { result.lines ≤ 1099511627777 }
 {
     match read_words(alloc, words) {
-        Ok(Command::Run { setup, lives }) => {
-            let setup = with_a_frame_for_every_page(setup);
-            run_trace(alloc, setup, lives, source, sink, maker)
-        }
-        Ok(Command::Plain { setup }) => run_plain(alloc, &setup, source, sink),
-        Ok(Command::Gen {
-            start,
-            lines,
-            pages,
-        }) => run_gen(sink, start, lines, pages),
-        Ok(Command::Tpca { .. }) | Err(WordsFault::Form) => unserved(2, 0, None),
+        Ok(command) => perform(alloc, command, source, sink, maker),
+        Err(WordsFault::Form) => unserved(2, 0, None),
         Err(WordsFault::Setup(rule)) => unserved(2, rule, None),
         Err(WordsFault::Memory) => unserved(8, 0, None),
     }

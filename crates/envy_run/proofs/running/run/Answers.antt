@@ -1,15 +1,14 @@
-use Rattle.std.proofs.Common.{◌∙◌, ap}
-use Rattle.std.specs.Prelude.{map, Ok}
+use Rattle.std.specs.Prelude.{map}
+use Rattle.std.specs.Option.{option_map}
 use Rattle.std.specs.String.{string_bytes}
-use Rattle.envy_args.specs.declared.command.Command.TheVariants.{Plain, Gen}
+use Rattle.envy_map.specs.Fields.{chart}
+use Rattle.envy_run.proofs.Completing.{completes-read}
 use Rattle.envy_run.proofs.Words.{read-allowed}
 use Rattle.envy_run.proofs.running.run.Goals as goal
 
-pub run_plain-requires : goal.run_plain-requires
-run_plain-requires g c = read-allowed (map string_bytes c.args.words.now) c.read_words.result (Plain c.in-Ok-Plain.setup) c.read_words.ensures (c.in-Ok-Plain.is ∙ ap Ok c.in-Ok-Plain.field-0-is)
+pub perform-requires : goal.perform-requires
+perform-requires g c = read-allowed (map string_bytes c.args.words.now) c.read_words.result c.in-Ok.command c.read_words.ensures c.in-Ok.is
 
-pub run_gen-requires-clause-low : goal.run_gen-requires-clause-low
-run_gen-requires-clause-low g c = (read-allowed (map string_bytes c.args.words.now) c.read_words.result (Gen c.in-Ok-Gen.start c.in-Ok-Gen.lines c.in-Ok-Gen.pages) c.read_words.ensures (c.in-Ok-Gen.is ∙ ap Ok c.in-Ok-Gen.field-0-is)).0
-
-pub run_gen-requires-clause-high : goal.run_gen-requires-clause-high
-run_gen-requires-clause-high g c = (read-allowed (map string_bytes c.args.words.now) c.read_words.result (Gen c.in-Ok-Gen.start c.in-Ok-Gen.lines c.in-Ok-Gen.pages) c.read_words.ensures (c.in-Ok-Gen.is ∙ ap Ok c.in-Ok-Gen.field-0-is)).1
+pub returns-in-Ok-clause-completes : goal.returns-in-Ok-clause-completes
+returns-in-Ok-clause-completes g c =
+    completes-read (map string_bytes c.args.words.now) c.read_words.result c.in-Ok.command (record { status = c.perform.result.status; why = c.perform.result.why; lines = c.perform.result.lines; taken = c.perform.result.taken }) (option_map (λ board. chart (g.M.Made.Board.state board)) c.perform.result.board) (g.S.Source.feed c.args.source.now) (g.S.Source.feed c.perform.new.source) (g.K.Sink.drain c.args.sink.now) (g.K.Sink.drain c.perform.new.sink) c.read_words.ensures c.in-Ok.is c.perform.ensures.headline
