@@ -9,12 +9,16 @@ mod fetch;
 mod gen_run;
 mod obey;
 mod plain_run;
+#[cfg(test)]
+mod plain_tests;
 mod prepare;
 mod restart;
 mod running;
 mod serve;
 #[cfg(test)]
 mod tests;
+#[cfg(test)]
+mod words_tests;
 
 pub use answering::answer;
 pub use ended::{Ended, end_text};
