@@ -1,0 +1,5 @@
+mod Accepting
+mod Finds
+mod Forms
+mod Steps
+mod Taking

@@ -46,14 +46,18 @@ value_in word = after_first is_equals (drop 2 word)
 abbrev pub with_option : Text → Text → Option Options → Option Options
 with_option name value = option_map (λ others. (name, value) ∷ others)
 
--- The options of the words. Where an option waits, the first word is its value. Only at the end may
--- `--` stand.
+-- behind `--` no word stands
+abbrev pub no_more : List Text → Option Options
+no_more [] = Some []
+no_more (word ∷ words) = None
+
+-- the options of the words; where an option waits, the first word is its value
 unfoldable pub options_in : List Text → Option Text → Option Options
 options_in [] None = Some []
 options_in [] (Some name) = None
 options_in (word ∷ words) (Some name) = with_option name word (options_in words None)
 options_in (word ∷ words) None =
-    if bytes_eq word (codes "--") then (if length words == 0 then Some [] else None)
+    if bytes_eq word (codes "--") then no_more words
     else (if not (is_option word) then None
     else (if has_value word then with_option (name_in word) (value_in word) (options_in words None)
     else options_in words (Some (name_in word))))
@@ -81,13 +85,13 @@ is_value name text =
     if bytes_eq name (codes "policy") then is_some (policy_named 0 text) else is_number (bits_of name) text
 
 abbrev pub has : Text → Options → Bool
-has name = list_any (λ option. bytes_eq option.0 name)
+has name = list_any (λ option. bytes_eq name option.0)
 
 -- each is one of these, and is given once
 unfoldable pub are_known : List Text → Options → Bool
 are_known names [] = true
 are_known names (option ∷ others) =
-    list_any (bytes_eq option.0) names && (not (has option.0 others) && are_known names others)
+    list_any (λ name. bytes_eq name option.0) names && (not (has option.0 others) && are_known names others)
 
 abbrev pub have_values : Options → Bool
 have_values = list_all (λ option. is_value option.0 option.1)

@@ -1,9 +1,16 @@
+ghost use Rattle.std.specs.Prelude.{◌≡◌, ◌⊎◌, map, None, Some, true, IfOk, MatchResult};
+ghost use Rattle.std.specs.String.{string_bytes};
+ghost use Rattle.clap.specs.Words.{app_of};
+ghost use Rattle.envy_args.specs.Parser.{app_of_names};
+ghost use Rattle.envy_args.specs.Words.{options_in, are_known, accepted};
+
 use crate::command::WordsFault;
 use crate::values::{number, policy};
 use clap::error::ErrorKind;
 use clap::{Arg, ArgMatches, Command, Error};
 use envy_policy::Policy;
 use std::alloc::{AllocError, Global};
+use std::marker::Model;
 
 impl From<AllocError> for WordsFault {
     fn from(_error: AllocError) -> Self {
@@ -26,6 +33,19 @@ pub(crate) struct Options<'a> {
     matches: ArgMatches<'a>,
 }
 
+impl<'a> Model for Options<'a> {
+    ghost use Rattle.std.specs.Prelude.{◌≡◌, map};
+    ghost use Rattle.clap.specs.Words.{found_of, rows_of};
+    ghost use Rattle.envy_args.specs.Parser.{option_of, row_of};
+    ghost use Rattle.envy_args.specs.Words.{Options as Given};
+
+    ghost Value = { Given };
+
+    ghost view = { λ options. map option_of (rows_of (found_of options.matches)) };
+
+    ghost invariant = { λ options. rows_of (found_of options.matches) ≡ map row_of (map option_of (rows_of (found_of options.matches))) };
+}
+
 impl<'a> Options<'a> {
     /// Reads the words behind a command word whose options have these names. The fault is `Form` or
     /// `Memory`.
@@ -33,7 +53,13 @@ impl<'a> Options<'a> {
         alloc: Global,
         names: &'static [&'static str],
         words: &'a [String],
-    ) -> Result<Options<'a>, WordsFault> {
+    ) -> Result<Options<'a>, WordsFault>
+        ensures { MatchResult result
+            (λ options. (options_in (map string_bytes words.now) None ≡ Some options)
+            × (are_known (map (λ name. name.now) names.now) options ≡ true))
+            (λ fault. (fault ≡ WordsFault.Memory) ⊎ (fault ≡ WordsFault.Form)
+            × (accepted (map (λ name. name.now) names.now) (map string_bytes words.now) ≡ None)) }
+    {
         let matches = parser(alloc, names)?.try_get_matches_from(words)?;
         Ok(Options { matches })
     }
@@ -67,7 +93,9 @@ impl<'a> Options<'a> {
 }
 
 /// What reads options of these names.
-fn parser<'a>(alloc: Global, names: &[&'a str]) -> Result<Command<'a>, AllocError> {
+fn parser<'a>(alloc: Global, names: &[&'a str]) -> Result<Command<'a>, AllocError>
+    ensures { IfOk result (λ command. app_of command ≡ app_of_names (map (λ name. name.now) names.now)) }
+{
     let mut parser = Command::new(alloc, "envy")
         .no_binary_name(true)
         .disable_help_flag(true);
