@@ -81,12 +81,12 @@ module _ (names : List Text) where
       goes-on names (at rows p idle false) word words here ∙ ap (λ w. faults names w words) step.1 ∙ ih.from_idle _ None f.others refl f.read_is after values.1
 
   -- the option that waits is the first
-  first_known : (words : List Text) (name : Text) (options : Options) {rows : List Row} → options_in words (Some name) ≡ Some options → IsNew names rows options → is_among name names ≡ true
+  first_known : (words : List Text) (name : Text) (options : Options) (rows : List Row) → options_in words (Some name) ≡ Some options → IsNew names rows options → is_among name names ≡ true
   unfolding options_in
-  first_known [] name options read new = none≢some options read
-  first_known (word ∷ words) name options read new =
+  first_known [] name options rows read new = none≢some options read
+  first_known (word ∷ words) name options rows read new =
       let f = first_of_options name word (options_in words None) options read in
-      (subst (λ (os : Options). IsNew names _ os) (sym f.options_are) new).0
+      (subst (λ (os : Options). IsNew names rows os) (sym f.options_are) new).0
 
   -- an option whose value is the next word
   singles : (rows : List Row) (p : Pending) (word name : Text) (words : List Text) (options : Options) → Accepts words → unsettled names rows p ≡ []
@@ -99,7 +99,7 @@ module _ (names : List Text) where
           let step = idle-single names rows p word name no_dashes long known in
           goes-on names (at rows p idle false) word words (step.0 ∙ none) ∙ ap (λ w. faults names w words) step.1
           ∙ ih.from_waiting (settled_with names rows p) name options known read new valued
-      go false unknown = absurd (true≢false (sym (first_known words name options read new) ∙ unknown))
+      go false unknown = absurd (true≢false (sym (first_known words name options _ read new) ∙ unknown))
 
   idle-more : (word : Text) (words : List Text) → Accepts words → (rows : List Row) (p : Pending) (options : Options) → Form word → unsettled names rows p ≡ []
       → options_in (word ∷ words) None ≡ Some options → IsNew names (settled_with names rows p) options → have_values options ≡ true

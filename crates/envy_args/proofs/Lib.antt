@@ -1,5 +1,7 @@
 mod Accepting
 mod Finds
 mod Forms
+mod Known
+mod Parsing
 mod Steps
 mod Taking

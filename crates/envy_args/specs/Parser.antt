@@ -3,6 +3,10 @@ use Rattle.std.specs.Prelude.{ℕ, true, List, [], ◌∷◌, map, codes, None, 
 use Rattle.clap.specs.Words.{App, Row, Rule, new_rule, new_app}
 use Rattle.clap.specs.Walk.{reading_by}
 use Rattle.clap.specs.declared.parser.matches.ValueSource.TheVariants.{CommandLine}
+use Rattle.clap.specs.declared.error.kind.ErrorKind.{ErrorKind}
+use Rattle.clap.specs.declared.error.kind.ErrorKind.TheVariants.{OutOfMemory}
+use Rattle.envy_args.specs.declared.command.WordsFault.{WordsFault}
+use Rattle.envy_args.specs.declared.command.WordsFault.TheVariants.{Form, Memory}
 use Rattle.envy_args.specs.Words.{Text, Options}
 
 -- an option `--name` that takes a value
@@ -23,3 +27,8 @@ row_of option = record { id = option.0; values = option.1 ∷ []; count = None; 
 -- the option of a row
 abbrev pub option_of : Row → Text × Text
 option_of row = (row.id, unwrap_or (slice_get row.values 0) [])
+
+-- out of memory, or else the words are refused
+abbrev pub fault_of_kind : ErrorKind → WordsFault
+fault_of_kind OutOfMemory = Memory
+fault_of_kind _ = Form

@@ -13,12 +13,23 @@ use std::alloc::{AllocError, Global};
 use std::marker::Model;
 
 impl From<AllocError> for WordsFault {
+    ghost use Rattle.std.specs.Prelude.{◌≡◌};
+    ghost use Rattle.envy_args.specs.declared.command.WordsFault.TheVariants.{Memory};
+
+    ghost from_gives = { λ error fault. fault ≡ Memory };
+
     fn from(_error: AllocError) -> Self {
         WordsFault::Memory
     }
 }
 
 impl From<Error> for WordsFault {
+    ghost use Rattle.std.specs.Prelude.{◌≡◌};
+    ghost use Rattle.clap.specs.Words.{kind_of};
+    ghost use Rattle.envy_args.specs.Parser.{fault_of_kind};
+
+    ghost from_gives = { λ error fault. fault ≡ fault_of_kind (kind_of error) };
+
     fn from(error: Error) -> Self {
         match error.kind() {
             ErrorKind::OutOfMemory => WordsFault::Memory,
