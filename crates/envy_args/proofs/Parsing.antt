@@ -1,18 +1,19 @@
 -- The parser takes the words that give its options.
 use Rattle.std.proofs.Common.{◌≡◌, ◌∙◌, ◌⊎◌, inl, inr, option_and_then, if◌then◌else◌, Bool, true, false, not, ◌&&◌, ◌||◌, refl, sym, ap, subst, List, [], ◌∷◌, ◌++◌, map, fold, ℕ, Option, Some, None, is_some, count_by}
 use Rattle.std.specs.List.{list_any, list_all}
+use Rattle.std.specs.Str.{bytes_eq}
 use Rattle.std.proofs.lemmas.Bool.{and_parts, false_from_ne_true}
 use Rattle.clap.specs.Kinds.{IsAmong, Kinds, or_else}
 use Rattle.clap.specs.Faults.{built_fault, check_fault, defaults_fault, entered_fault, fault_of, is_simple_and_free, level_fault, settle_fault, walk_fault}
 use Rattle.clap.specs.Simple.{App, built, entered, is_simple, matches_of}
-use Rattle.clap.specs.Walk.{Row, Text, finished, idle, is_early_multiple, nothing_held, walk}
+use Rattle.clap.specs.Walk.{Row, Text, finished, first_of, idle, is_early_multiple, nothing_held, walk}
 use Rattle.clap.specs.Takes.{is_given}
 use Rattle.clap.specs.declared.error.kind.ErrorKind.{ErrorKind}
 use Rattle.clap.specs.declared.error.kind.ErrorKind.TheVariants.{OutOfMemory}
 use Rattle.envy_args.specs.declared.command.WordsFault.{WordsFault}
 use Rattle.envy_args.specs.declared.command.WordsFault.TheVariants.{Form, Memory}
 use Rattle.envy_args.specs.Parser.{app_of_names, fault_of_kind, option_of, row_of, rule_named}
-use Rattle.envy_args.specs.Words.{Options, accepted, are_known, have_values, options_in}
+use Rattle.envy_args.specs.Words.{Options, accepted, are_known, have_values, options_in, value_of}
 use Rattle.envy_args.proofs.Finds.{rules, rules-built, no-defaults, no-default-fault, none-required}
 use Rattle.envy_args.proofs.Steps.{at, else-nil, end, faults, parser, rows_at_end}
 use Rattle.envy_args.proofs.Taking.{Taken, takes-words}
@@ -121,3 +122,12 @@ module _ (names : List Text) where
 pub options-of_rows : (options : Options) → map option_of (map row_of options) ≡ options
 options-of_rows [] = refl
 options-of_rows (o ∷ options) = ap (λ os. o ∷ os) (options-of_rows options)
+
+-- the first value that the rows have is the value that the option is given
+pub first-value_of : (name : Text) (options : Options) → first_of name (map row_of options) ≡ value_of options name
+first-value_of name [] = refl
+first-value_of name (o ∷ options) = go (bytes_eq o.0 name) refl (first-value_of name options)
+  where
+    go : (b : Bool) → bytes_eq o.0 name ≡ b → first_of name (map row_of options) ≡ value_of options name → first_of name (map row_of (o ∷ options)) ≡ value_of (o ∷ options) name
+    go true e others = rw e refl
+    go false e others = rw e others

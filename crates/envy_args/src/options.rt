@@ -1,8 +1,10 @@
 ghost use Rattle.std.specs.Prelude.{◌≡◌, ◌⊎◌, map, None, Some, true, IfOk, MatchResult};
+ghost use Rattle.std.specs.Option.{option_map};
 ghost use Rattle.std.specs.String.{string_bytes};
 ghost use Rattle.clap.specs.Words.{app_of};
 ghost use Rattle.envy_args.specs.Parser.{app_of_names};
-ghost use Rattle.envy_args.specs.Words.{options_in, are_known, accepted};
+ghost use Rattle.envy_args.specs.Words.{options_in, are_known, accepted, value_of, number_of, policy_of};
+ghost use Rattle.envy_args.specs.Reading.{GivesIf, has_number, are_readable, policy_options};
 
 use crate::command::WordsFault;
 use crate::values::{number, policy};
@@ -75,12 +77,16 @@ impl<'a> Options<'a> {
         Ok(Options { matches })
     }
 
-    fn value(&self, name: &str) -> Option<&'a str> {
+    fn value(&self, name: &str) -> Option<&'a str>
+        ensures { option_map (λ text. text.now) result ≡ value_of self.now name.now }
+    {
         self.matches.get_str(name)
     }
 
     /// The number within 64 bits that an option is given, or else its default. The fault is `Form`.
-    pub(crate) fn wide_number(&self, name: &str, default: u64) -> Result<u64, WordsFault> {
+    pub(crate) fn wide_number(&self, name: &str, default: u64) -> Result<u64, WordsFault>
+        ensures { GivesIf (has_number 64 self.now name.now) (number_of self.now name.now default) result }
+    {
         match self.value(name) {
             Some(text) => number(text).ok_or(WordsFault::Form),
             None => Ok(default),
@@ -88,13 +94,17 @@ impl<'a> Options<'a> {
     }
 
     /// The number within 32 bits that an option is given, or else its default. The fault is `Form`.
-    pub(crate) fn number(&self, name: &str, default: u32) -> Result<u32, WordsFault> {
+    pub(crate) fn number(&self, name: &str, default: u32) -> Result<u32, WordsFault>
+        ensures { GivesIf (has_number 32 self.now name.now) (number_of self.now name.now default) result }
+    {
         let number = self.wide_number(name, u64::from(default))?;
         u32::try_from(number).map_err(|_| WordsFault::Form)
     }
 
     /// The policy that the options give, or else greedy. The fault is `Form`.
-    pub(crate) fn policy(&self) -> Result<Policy, WordsFault> {
+    pub(crate) fn policy(&self) -> Result<Policy, WordsFault>
+        ensures { GivesIf (are_readable policy_options self.now) (policy_of self.now) result }
+    {
         let part = self.number("part", 2)?;
         match self.value("policy") {
             Some(text) => policy(text, part).ok_or(WordsFault::Form),
