@@ -2,7 +2,9 @@ mod Accepting
 mod Finds
 mod Forms
 mod Known
+mod Loads
 mod Numbers
 mod Parsing
+mod Readable
 mod Steps
 mod Taking

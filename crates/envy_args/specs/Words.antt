@@ -176,12 +176,15 @@ abbrev pub plain_of : Options → Result Command WordsFault
 plain_of options = let setup = setup_of usual options in
     after_check (checked setup) (Ok (Plain setup))
 
-abbrev pub tpca_of : Options → Result Command WordsFault
-tpca_of options = let setup = setup_of usual_of_load options in let area = area_of options in
-    after_check (checked setup)
-    (if not (fits area setup.shape.pages) then Err (Rule 11)
+abbrev pub load_of : Setup → Options → Result Command WordsFault
+load_of setup options =
+    if not (fits (area_of options) setup.shape.pages) then Err (Rule 11)
     else (if nat_lt setup.shape.shadows 5 then Err (Rule 12)
-    else Ok (Tpca setup (lives_of options) (start_of options) area (number_of options (codes "every") 0))))
+    else Ok (Tpca setup (lives_of options) (start_of options) (area_of options) (number_of options (codes "every") 0)))
+
+abbrev pub tpca_of : Options → Result Command WordsFault
+tpca_of options = let setup = setup_of usual_of_load options in
+    after_check (checked setup) (load_of setup options)
 
 abbrev pub gen_of : Options → Result Command WordsFault
 gen_of options = let pages = number_of options (codes "pages") 64 in
