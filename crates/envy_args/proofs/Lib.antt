@@ -7,4 +7,6 @@ mod Numbers
 mod Parsing
 mod Readable
 mod Steps
+mod Tables
 mod Taking
+mod Valued

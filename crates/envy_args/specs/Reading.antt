@@ -5,7 +5,7 @@ use Rattle.std.specs.Option.{option_map_or}
 use Rattle.envy_args.specs.declared.command.Command.{Command}
 use Rattle.envy_args.specs.declared.command.WordsFault.{WordsFault}
 use Rattle.envy_args.specs.declared.command.WordsFault.TheVariants.{Form}
-use Rattle.envy_args.specs.Words.{Text, Options, is_number, is_value, value_of, run_options, plain_options, tpca_options, gen_options}
+use Rattle.envy_args.specs.Words.{Text, Options, is_number, is_value, value_of, run_of, plain_of, tpca_of, gen_of, run_options, plain_options, tpca_options, gen_options}
 use Rattle.envy_args.specs.declared.word.Word.{Word}
 use Rattle.envy_args.specs.declared.word.Word.TheVariants.{Run, Plain, Tpca, Gen}
 
@@ -54,3 +54,10 @@ area_options = codes "branches" ∷ codes "accounts" ∷ codes "transfers" ∷ [
 -- the command that is made of options, where each can be read
 abbrev pub made : List Text → (Options → Result Command WordsFault) → Options → Result Command WordsFault
 made names make options = if are_readable names options then make options else Err Form
+
+-- what makes a command of its options
+abbrev pub make_of : Word → Options → Result Command WordsFault
+make_of Run = run_of
+make_of Plain = plain_of
+make_of Tpca = tpca_of
+make_of Gen = gen_of
