@@ -1,7 +1,7 @@
 ghost use Rattle.std.specs.Prelude.{◌≡◌, ◌⊎◌, map, Err};
 ghost use Rattle.std.specs.String.{string_bytes};
 ghost use Rattle.envy_args.specs.Words.{command_of, run_of, plain_of, tpca_of, gen_of, setup_of, shape_of, area_of, run_options, plain_options, tpca_options, gen_options};
-ghost use Rattle.envy_args.specs.Reading.{GivesIf, are_readable, shape_options, area_options, made};
+ghost use Rattle.envy_args.specs.Reading.{GivesIf, are_readable, shape_options, area_options, made, make_of, options_of};
 
 use crate::command::{Command, WordsFault};
 use crate::options::Options;
@@ -56,14 +56,25 @@ const LOAD_SHADOWS: u32 = 5;
 pub fn read_words(alloc: Global, words: &[String]) -> Result<Command, WordsFault>
     ensures { (result ≡ Err WordsFault.Memory) ⊎ (result ≡ command_of (map string_bytes words.now)) }
 {
-    let (first, others) = words.split_first().ok_or(WordsFault::Form)?;
-    let word = Word::of(first.as_bytes()).ok_or(WordsFault::Form)?;
+    let Some((first, others)) = words.split_first() else {
+        return Err(WordsFault::Form);
+    };
+    let Some(word) = Word::of(first.as_bytes()) else {
+        return Err(WordsFault::Form);
+    };
     let options = Options::read(alloc, word.options(), others)?;
+    make(word, &options)
+}
+
+/// The command of this word and its options. The fault is `Form` or `Setup`.
+fn make(word: Word, options: &Options) -> Result<Command, WordsFault>
+    ensures { result ≡ made (options_of word) (make_of word) options.now }
+{
     match word {
-        Word::Run => run(&options),
-        Word::Plain => plain(&options),
-        Word::Tpca => tpca(&options),
-        Word::Gen => generate(&options),
+        Word::Run => run(options),
+        Word::Plain => plain(options),
+        Word::Tpca => tpca(options),
+        Word::Gen => generate(options),
     }
 }
 
