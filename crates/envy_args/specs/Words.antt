@@ -46,14 +46,18 @@ value_in word = after_first is_equals (drop 2 word)
 abbrev pub with_option : Text → Text → Option Options → Option Options
 with_option name value = option_map (λ others. (name, value) ∷ others)
 
--- The options of the words. Where an option waits, the first word is its value. Only at the end may
--- `--` stand.
+-- behind `--` no word stands
+abbrev pub no_more : List Text → Option Options
+no_more [] = Some []
+no_more (word ∷ words) = None
+
+-- the options of the words; where an option waits, the first word is its value
 unfoldable pub options_in : List Text → Option Text → Option Options
 options_in [] None = Some []
 options_in [] (Some name) = None
 options_in (word ∷ words) (Some name) = with_option name word (options_in words None)
 options_in (word ∷ words) None =
-    if bytes_eq word (codes "--") then (if length words == 0 then Some [] else None)
+    if bytes_eq word (codes "--") then no_more words
     else (if not (is_option word) then None
     else (if has_value word then with_option (name_in word) (value_in word) (options_in words None)
     else options_in words (Some (name_in word))))
@@ -81,13 +85,13 @@ is_value name text =
     if bytes_eq name (codes "policy") then is_some (policy_named 0 text) else is_number (bits_of name) text
 
 abbrev pub has : Text → Options → Bool
-has name = list_any (λ option. bytes_eq option.0 name)
+has name = list_any (λ option. bytes_eq name option.0)
 
 -- each is one of these, and is given once
 unfoldable pub are_known : List Text → Options → Bool
 are_known names [] = true
 are_known names (option ∷ others) =
-    list_any (bytes_eq option.0) names && (not (has option.0 others) && are_known names others)
+    list_any (λ name. bytes_eq name option.0) names && (not (has option.0 others) && are_known names others)
 
 abbrev pub have_values : Options → Bool
 have_values = list_all (λ option. is_value option.0 option.1)
@@ -172,12 +176,15 @@ abbrev pub plain_of : Options → Result Command WordsFault
 plain_of options = let setup = setup_of usual options in
     after_check (checked setup) (Ok (Plain setup))
 
-abbrev pub tpca_of : Options → Result Command WordsFault
-tpca_of options = let setup = setup_of usual_of_load options in let area = area_of options in
-    after_check (checked setup)
-    (if not (fits area setup.shape.pages) then Err (Rule 11)
+abbrev pub load_of : Setup → Options → Result Command WordsFault
+load_of setup options =
+    if not (fits (area_of options) setup.shape.pages) then Err (Rule 11)
     else (if nat_lt setup.shape.shadows 5 then Err (Rule 12)
-    else Ok (Tpca setup (lives_of options) (start_of options) area (number_of options (codes "every") 0))))
+    else Ok (Tpca setup (lives_of options) (start_of options) (area_of options) (number_of options (codes "every") 0)))
+
+abbrev pub tpca_of : Options → Result Command WordsFault
+tpca_of options = let setup = setup_of usual_of_load options in
+    after_check (checked setup) (load_of setup options)
 
 abbrev pub gen_of : Options → Result Command WordsFault
 gen_of options = let pages = number_of options (codes "pages") 64 in
