@@ -1,5 +1,10 @@
 pub mod Advancing
+pub mod Calm
+pub mod Completing
+pub mod Generating
 pub mod Obeying
+pub mod Reading
 pub mod Recovering
 pub mod Replying
 pub mod Serving
+pub mod Words

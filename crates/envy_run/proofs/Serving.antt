@@ -1,8 +1,8 @@
--- The whole of a trace.
-use Rattle.std.proofs.Common.{◌≡◌, ◌⊎◌, inl, inr, ℕ, suc, ◌≤◌, Bool, true, false, List, [], ◌∷◌, ◌++◌, length, refl, sym, ◌∙◌, ap, subst, arith}
-use Rattle.std.specs.Prelude.{IsTrue, Ok, ◌==◌, if◌then◌else◌}
+-- The whole of a trace, whatever machine does its lines.
+use Rattle.std.proofs.Common.{◌≡◌, ◌⊎◌, inl, inr, ℕ, suc, ◌+◌, ◌≤◌, Bool, true, false, List, [], ◌∷◌, ◌++◌, length, refl, sym, ◌∙◌, ap, subst, arith}
+use Rattle.std.specs.Prelude.{IsTrue, Option, None, Some, Ok, ◌==◌, if◌then◌else◌}
 use Rattle.std.proofs.lemmas.List.{length-map, length-append}
-use Rattle.envy_base.specs.Array.{zeros}
+use Rattle.envy_base.specs.Array.{Array, zeros}
 use Rattle.envy_map.specs.Fields.{Chart}
 use Rattle.envy_io.specs.Lines.{newline, lines_of, onto_first, spelled}
 use Rattle.envy_io.specs.Streams.{Feed, Drain}
@@ -10,25 +10,29 @@ use Rattle.envy_io.specs.Taking.{Taking, HasGiven}
 use Rattle.envy_io.proofs.TakesLemmas.{with_front-nil}
 use Rattle.envy_io.proofs.WritesLemmas.{with_end-nil}
 use Rattle.envy_layout.specs.Stands.{Stands}
-use Rattle.envy_run.specs.Progress.{Progress, HasRead}
+use Rattle.envy_trace.specs.declared.line.Line.{Line}
+use Rattle.envy_run.specs.declared.advance.End.{End}
+use Rattle.envy_run.specs.declared.fetch.Accepted.{Accepted}
+use Rattle.envy_run.specs.Calm.{HasDoneCalmly}
+use Rattle.envy_run.specs.Done.{HasDone}
+use Rattle.envy_run.specs.Progress.{HasTold, Progress, Advances}
+use Rattle.envy_run.specs.Reading.{HasRead, accepted_line}
 use Rattle.envy_run.specs.Serves.{most_bytes}
-use Rattle.envy_run.specs.Turns.{Turn, lines_done, run_line}
+use Rattle.envy_run.specs.Turns.{Turn, lines_done}
 use Rattle.envy_run.proofs.Replying.{Licence-refl}
 
-pub record IsServing (n : ℕ) (from : Feed) (to : Drain) (first : Chart) (feed : Feed) (sink : Drain) (reader : Taking) (now : Chart) : Type 0 where
-  pub progress : Progress from to first n feed sink reader now
+pub record IsServing (accepted : Accepted) (Done : List Turn → Array → Type 0) (n : ℕ) (from : Feed) (to : Drain) (feed : Feed) (sink : Drain) (reader : Taking) : Type 0 where
+  pub progress : Progress accepted Done from to n feed sink reader
   pub cap : reader.cap ≡ most_bytes
   pub within : reader.taken ≤ reader.cap
 
-pub serving-none : (feed : Feed) (sink : Drain) (first : Chart) (reader : Taking) → Stands first (zeros first.shape.pages first.shape.shadows) → reader ≡ record { cap = most_bytes; taken = 0; held = []; ended = false } → IsServing 0 feed sink first feed sink reader first
-serving-none feed sink first reader stands is = subst (λ (t : Taking). IsServing 0 feed sink first feed sink t first) (sym is) (record {
+serving-none : (accepted : Accepted) (Done : List Turn → Array → Type 0) (feed : Feed) (sink : Drain) (reader : Taking) (m : Array) → Done [] m → reader ≡ record { cap = most_bytes; taken = 0; held = []; ended = false } → IsServing accepted Done 0 feed sink feed sink reader
+serving-none accepted Done feed sink reader m done is = subst (λ (t : Taking). IsServing accepted Done 0 feed sink feed sink t) (sym is) (record {
   progress = record {
-    turns = [];
-    array = zeros first.shape.pages first.shape.shadows;
-    bytes = [];
-    pieces = [];
-    count = refl;
+    told = record { turns = []; array = m; count = refl; done = done; told = record { whole = sym (with_end-nil sink.written); faults = omega arith } };
     read = record {
+      bytes = [];
+      pieces = [];
       source = sym (with_front-nil feed.left);
       faults = omega arith;
       dry = λ ended. absurd (let never = ended in cc);
@@ -36,12 +40,23 @@ serving-none feed sink first reader stands is = subst (λ (t : Taking). IsServin
       count = refl;
       says = refl;
     };
-    done = record { run = refl; stands = stands; licensed = Licence-refl first };
-    told = record { whole = sym (with_end-nil sink.written); faults = omega arith };
   };
   cap = refl;
   within = omega arith;
 })
+
+-- a memory of zeros
+pub memory-none : (accepted : Accepted) (feed : Feed) (sink : Drain) (first : Chart) (reader : Taking) → Stands first (zeros first.shape.pages first.shape.shadows) → reader ≡ record { cap = most_bytes; taken = 0; held = []; ended = false } → IsServing accepted (HasDone first first) 0 feed sink feed sink reader
+memory-none accepted feed sink first reader stands is = serving-none accepted (HasDone first first) feed sink reader (zeros first.shape.pages first.shape.shadows) (record { run = refl; stands = stands; licensed = Licence-refl first }) is
+
+-- a plain machine
+pub plain-none : (accepted : Accepted) (feed : Feed) (sink : Drain) (first : Array) (reader : Taking) → reader ≡ record { cap = most_bytes; taken = 0; held = []; ended = false } → IsServing accepted (HasDoneCalmly first first) 0 feed sink feed sink reader
+plain-none accepted feed sink first reader is = serving-none accepted (HasDoneCalmly first first) feed sink reader first (record { run = refl; calm = tt; machine = refl }) is
+
+-- one turn of the loop that didn't end it
+pub serving-more : (accepted : Accepted) (Done : List Turn → Array → Type 0) (Dead : List Turn → Line → Type 0) (n : ℕ) (from : Feed) (to : Drain) (feed : Feed) (sink : Drain) (reader then_reader : Taking) (result : Option End) → reader.cap ≡ most_bytes → ((end : End) → result ≡ Some end → ⊥) → Advances result accepted Done Dead from to n feed sink then_reader → then_reader.cap ≡ reader.cap → then_reader.taken ≤ then_reader.cap → IsServing accepted Done (n + 1) from to feed sink then_reader
+serving-more accepted Done Dead n from to feed sink reader then_reader None most going progress cap within = record { progress = progress; cap = cap ∙ most; within = within }
+serving-more accepted Done Dead n from to feed sink reader then_reader (Some end) most going stops cap within = absurd (going end refl)
 
 spelled-long : (pieces : List (List ℕ)) → length pieces ≤ length (spelled pieces)
 spelled-long [] = omega arith
@@ -72,13 +87,14 @@ length-done [] = refl
 length-done (turn ∷ earlier) = length-append (lines_done earlier) (turn.line ∷ []) ∙ (let rest = length-done earlier in omega arith)
 
 -- no more lines are done than bytes are taken
-pub serving-few : (n : ℕ) (from : Feed) (to : Drain) (first : Chart) (feed : Feed) (sink : Drain) (reader : Taking) (now : Chart) → IsServing n from to first feed sink reader now → n ≤ most_bytes
-serving-few n from to first feed sink reader now s =
-    let p = s.progress in
-    let few = given-few p.bytes p.pieces reader (HasRead.given p.read) in
-    let said = sym (length-map p.pieces run_line) ∙ ap length (HasRead.says p.read) ∙ length-map (lines_done p.turns) Ok ∙ length-done p.turns in
-    let count = p.count in
-    let taken = HasRead.count p.read in
+pub serving-few : (accepted : Accepted) (Done : List Turn → Array → Type 0) (n : ℕ) (from : Feed) (to : Drain) (feed : Feed) (sink : Drain) (reader : Taking) → IsServing accepted Done n from to feed sink reader → n ≤ most_bytes
+serving-few accepted Done n from to feed sink reader s =
+    let t = Progress.told s.progress in
+    let r = Progress.read s.progress in
+    let few = given-few (HasRead.bytes r) (HasRead.pieces r) reader (HasRead.given r) in
+    let said = sym (length-map (HasRead.pieces r) (accepted_line accepted)) ∙ ap length (HasRead.says r) ∙ length-map (lines_done (HasTold.turns t)) Ok ∙ length-done (HasTold.turns t) in
+    let count = HasTold.count t in
+    let taken = HasRead.count r in
     let cap = s.cap in
     let within = s.within in
     omega arith

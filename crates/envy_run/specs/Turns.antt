@@ -1,20 +1,21 @@
 -- What the plain array answers to the lines of a trace.
 use Rattle.std.specs.Prelude.{◌≡◌, ◌⊎◌, ℕ, ◌+◌, Bool, true, false, List, [], ◌∷◌, ◌++◌, Option, None, Some, Result, Ok, Err, if◌then◌else◌}
 use Rattle.envy_base.specs.Array.{Array, restarted}
+use Rattle.envy_base.specs.declared.counts.Counts.{Counts}
 use Rattle.envy_base.specs.Step.{Command, Answer, Step, Accepts, Lost}
-use Rattle.envy_base.specs.Step.{Load as DoLoad, Look as DoLook, Store as DoStore}
+use Rattle.envy_base.specs.Step.{Load as DoLoad, Look as DoLook, Store as DoStore, Begin as DoBegin, Put as DoPut, Commit as DoCommit, Abort as DoAbort, Tick as DoTick}
 use Rattle.envy_base.specs.Step.{Word as IsWord, Done as IsDone, Started as IsStarted, Range as IsRange, Held as IsHeld, Closed as IsClosed, Full as IsFull, Busy as IsBusy}
 use Rattle.envy_io.specs.Lines.{newline}
 use Rattle.envy_trace.specs.declared.fault.LineFault.{LineFault}
 use Rattle.envy_trace.specs.declared.fault.LineFault.TheVariants.{Word as UnknownWord}
 use Rattle.envy_trace.specs.declared.line.Line.{Line}
-use Rattle.envy_trace.specs.declared.line.Line.TheVariants.{Empty, Load, Look, Store, Power, Cut, Bad}
+use Rattle.envy_trace.specs.declared.line.Line.TheVariants.{Empty, Load, Look, Store, Begin, Put, Commit, Abort, Tick, Power, Cut, Bad, Stat}
 use Rattle.envy_trace.specs.declared.reply.Reply.{Reply}
-use Rattle.envy_trace.specs.declared.reply.Reply.TheVariants.{Word, Done, Started, Range, Held, Closed, Full, Busy, Fault, Lost as IsLost, Restarted, Armed}
+use Rattle.envy_trace.specs.declared.reply.Reply.TheVariants.{Word, Done, Started, Range, Held, Closed, Full, Busy, Fault, Lost as IsLost, Restarted, Armed, Stat as StatLine}
 use Rattle.envy_trace.specs.Grammar.{line_of, ◌>>=◌}
 use Rattle.envy_trace.specs.Replies.{reply_bytes}
 
--- the commands that are built
+-- the commands that the memory has
 abbrev pub is_built : Line → Bool
 is_built Empty = true
 is_built (Load a) = true
@@ -53,18 +54,33 @@ Says m command reply n = (answer : Answer) × Step m command answer n × (reply 
 abbrev pub Faults : Array → Command → Reply → Array → Type 0
 Faults m command reply n = (k : Array) × Accepts m command k × (reply ≡ Fault) × (n ≡ m)
 
+-- the line of counters: any, so far
+abbrev pub Counted : Array → Reply → Array → Type 0
+Counted m reply n = (counts : Counts) × (reply ≡ StatLine counts) × (n ≡ m)
+
 -- one reply to a line, power staying on
 abbrev pub Replies : Array → Line → Reply → Array → Type 0
 Replies m (Load a) reply n = Says m (DoLoad a) reply n
 Replies m (Look a) reply n = Says m (DoLook a) reply n
 Replies m (Store a w) reply n = Says m (DoStore a w) reply n ⊎ Faults m (DoStore a w) reply n
+Replies m Begin reply n = Says m DoBegin reply n
+Replies m (Put t a w) reply n = Says m (DoPut t a w) reply n ⊎ Faults m (DoPut t a w) reply n
+Replies m (Commit t) reply n = Says m (DoCommit t) reply n
+Replies m (Abort t) reply n = Says m (DoAbort t) reply n
+Replies m Tick reply n = Says m DoTick reply n ⊎ Faults m DoTick reply n
 Replies m (Cut k g) reply n = (reply ≡ Armed) × (n ≡ m)
 Replies m (Bad k g) reply n = (reply ≡ Armed) × (n ≡ m)
+Replies m Stat reply n = Counted m reply n
 Replies m line reply n = ⊥
 
 -- the command of a line in which power may fail
 abbrev pub losable : Line → Option Command
 losable (Store a w) = Some (DoStore a w)
+losable Begin = Some DoBegin
+losable (Put t a w) = Some (DoPut t a w)
+losable (Commit t) = Some (DoCommit t)
+losable (Abort t) = Some (DoAbort t)
+losable Tick = Some DoTick
 losable line = None
 
 -- power failed in the line and returned: the array is as before the line or as after it, open transactions undone

@@ -1,20 +1,20 @@
-ghost use Rattle.std.specs.Prelude.{◌≡◌, ◌≤◌, ℕ, IsTrue, IfOk};
+ghost use Rattle.std.specs.Prelude.{◌≡◌, ◌≤◌, ℕ, IsTrue};
 ghost use Rattle.envy_base.specs.Array.{Array};
 ghost use Rattle.envy_io.specs.Streams.{Feed, Drain};
 ghost use Rattle.envy_layout.specs.Stands.{Stands};
 ghost use Rattle.envy_map.specs.Fields.{Chart};
 ghost use Rattle.envy_run.specs.Answers.{IsServed};
+ghost use Rattle.envy_run.specs.Done.{HasDone, HasDied};
 ghost use Rattle.envy_run.specs.Obeys.{Obeys};
 ghost use Rattle.envy_run.specs.Progress.{Progress, Advances};
-ghost use Rattle.envy_run.specs.Turns.{is_built as built, run_line};
 
+use crate::fetch::{Accepted, conclude, fetch};
 use crate::obey::{obey_call, obey_power};
 use crate::restart::Obeyed;
-use arrayvec::ArrayVec;
 use envy_base::Bench;
-use envy_io::{Failed, Lines, Next, Sink, Source};
+use envy_io::{Lines, Sink, Source};
 use envy_memory::Memory;
-use envy_trace::{Line, LineFault, grammar_holds_both_ways, read_line};
+use envy_trace::{Line, LineFault};
 
 /// How a run of a trace ends.
 #[derive(Clone, Copy, Debug, PartialEq, Eq)]
@@ -33,32 +33,6 @@ pub enum End {
     Dead,
     /// The source has more bytes than a trace may have.
     TooLong,
-}
-
-/// Whether the line's command is built.
-fn is_built(line: &Line) -> bool
-    ensures { result ≡ built line.now }
-{
-    match *line {
-        Line::Empty | Line::Load { .. } | Line::Look { .. } | Line::Store { .. } => true,
-        Line::Power | Line::Cut { .. } | Line::Bad { .. } => true,
-        _ => false,
-    }
-}
-
-/// Reads a line, of those commands that are built.
-#[tactic(auto, unfolding(crate::specs::Turns::run_line))]
-fn read(bytes: &[u8]) -> Result<Line, LineFault>
-    ensures value { result ≡ run_line bytes.now }
-    ensures served { IfOk result IsServed }
-{
-    grammar_holds_both_ways();
-    let line = read_line(bytes)?;
-    if is_built(&line) {
-        Ok(line)
-    } else {
-        Err(LineFault::Word)
-    }
 }
 
 /// Does a line, with its replies.
@@ -83,25 +57,14 @@ pub fn advance<S: Source, K: Sink, B: Bench>(
 ) -> Option<End>
     requires { IsTrue memory.old.chart.on }
     ensures goes { (from : Feed) (to : Drain) (first : Chart) (n : ℕ)
-        → Progress from to first n (S.feed source.old) (K.drain sink.old) reader.old memory.old.chart
-        → Advances result from to first n (S.feed source.new) (K.drain sink.new) reader.new memory.new.chart }
+        → Progress Accepted.Built (HasDone first memory.old.chart) from to n (S.feed source.old) (K.drain sink.old) reader.old
+        → Advances result Accepted.Built (HasDone first memory.new.chart) (HasDied first memory.new.chart) from to n (S.feed source.new) (K.drain sink.new) reader.new }
     ensures cap { reader.new.cap ≡ reader.old.cap }
     ensures within { reader.new.taken ≤ reader.new.cap }
 {
-    let mut text = ArrayVec::<u8, 120>::new();
-    match reader.next_line(source, &mut text) {
-        Next::Line => {}
-        Next::End => match sink.flush() {
-            Ok(()) => return Some(End::Done),
-            Err(Failed) => return Some(End::FlushFault),
-        },
-        Next::Long => return Some(End::Refused(LineFault::Long)),
-        Next::Failed => return Some(End::ReadFault),
-        Next::Spent => return Some(End::TooLong),
-    }
-    let line = match read(text.as_slice()) {
+    let line = match fetch(Accepted::Built, source, reader) {
         Ok(line) => line,
-        Err(fault) => return Some(End::Refused(fault)),
+        Err(stop) => return Some(conclude(stop, sink)),
     };
     match obey(memory, sink, &line) {
         Obeyed::Done => None,

@@ -5,15 +5,22 @@
 mod advance;
 mod answering;
 mod ended;
+mod fetch;
 #[cfg(test)]
 mod formatting_tests;
+mod gen_run;
 mod obey;
+mod plain_run;
+#[cfg(test)]
+mod plain_tests;
 mod prepare;
 mod restart;
 mod running;
 mod serve;
 #[cfg(test)]
 mod tests;
+#[cfg(test)]
+mod words_tests;
 
 pub use answering::answer;
 pub use ended::{Ended, end_text};

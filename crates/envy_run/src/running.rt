@@ -1,45 +1,32 @@
 ghost use Rattle.std.specs.Prelude.{◌≡◌, ◌≤◌, option_map};
 ghost use Rattle.envy_map.specs.Fields.{chart};
-ghost use Rattle.envy_run.specs.Headline.{Headline, the_setup, are_run, status_of, why_of};
+ghost use Rattle.envy_run.specs.Allowed.{IsAllowed};
+ghost use Rattle.envy_run.specs.Complete.{Completes};
+ghost use Rattle.envy_run.specs.Headline.{Headline, RunsTrace, command_in, with_a_frame_for_every_page as with_frames, status_of, why_of};
 
 use crate::advance::End;
 use crate::ended::Ended;
+use crate::gen_run::run_gen;
+use crate::plain_run::run_plain;
 use crate::prepare::{Unready, prepare};
-use crate::serve::serve;
+use crate::serve::{Served, serve};
+use envy_args::{Command, WordsFault, read_words};
 use envy_base::{Maker, Shape};
 use envy_io::{Sink, Source};
-use envy_policy::{Policy, Setup};
+use envy_policy::Setup;
 use std::alloc::Global;
 
-/// How often power can return.
-const LIVES: u32 = 4_294_967_295;
-
-/// The setup of a run: a frame for every page, for now.
-pub(crate) fn setup_of_run() -> Setup
-    ensures { result ≡ the_setup }
+/// The setup with a frame for every page, which each needs until pages go out to flash.
+pub(crate) fn with_a_frame_for_every_page(setup: Setup) -> Setup
+    ensures { result ≡ with_frames setup }
 {
+    let shape = setup.shape;
     Setup {
         shape: Shape {
-            segments: 8,
-            rows: 16,
-            pages: 64,
-            shadows: 16,
-            frames: 64,
-            entries: 4,
+            frames: shape.frames.max(shape.pages),
+            ..shape
         },
-        policy: Policy::Greedy,
-        limit: 100,
-        mark: 64,
-    }
-}
-
-/// Whether the words are the one word `run`.
-fn is_run(words: &[String]) -> bool
-    ensures { result ≡ are_run words.now }
-{
-    match words {
-        [word] => word.as_str() == "run",
-        _ => false,
+        ..setup
     }
 }
 
@@ -59,7 +46,7 @@ fn numbers(end: End) -> (u8, u8)
 }
 
 /// An end with nothing read.
-fn unserved<B>(status: u8, why: u8, board: Option<B>) -> Ended<B>
+pub(crate) fn unserved<B>(status: u8, why: u8, board: Option<B>) -> Ended<B>
     ensures { result ≡ record { status = status; why = why; lines = 0; taken = 0; board = board; second = None } }
 {
     Ended {
@@ -72,30 +59,43 @@ fn unserved<B>(status: u8, why: u8, board: Option<B>) -> Ended<B>
     }
 }
 
-/// Runs a trace: makes a board, formats it, and does the lines of the source in order, with each
-/// reply written before the next line is read.
-pub fn run<S: Source, K: Sink, M: Maker>(
+/// An end of a trace that was served.
+pub(crate) fn ended_with<B>(served: Served, board: Option<B>) -> Ended<B>
+    ensures { result ≡ record { status = status_of served.end; why = why_of served.end; lines = served.lines; taken = served.taken; board = board; second = None } }
+{
+    let (status, why) = numbers(served.end);
+    Ended {
+        status,
+        why,
+        lines: served.lines,
+        taken: served.taken,
+        board,
+        second: None,
+    }
+}
+
+/// Makes a board, formats it, and does the lines of the source in order, with each reply written before
+/// the next line is read.
+fn run_trace<S: Source, K: Sink, M: Maker>(
     alloc: Global,
-    words: &[String],
+    setup: Setup,
+    lives: u32,
     source: &mut S,
     sink: &mut K,
     maker: &mut M,
 ) -> Ended<M::Made>
-    ensures headline { Headline (are_run words.now)
+    requires { setup.shape.pages ≤ setup.shape.frames }
+    ensures runs { RunsTrace setup lives
         (record { status = result.status; why = result.why; lines = result.lines; taken = result.taken })
         (option_map (λ board. chart (M.Made.Board.state board)) result.board)
         (S.feed source.old) (S.feed source.new) (K.drain sink.old) (K.drain sink.new) }
     ensures few { result.lines ≤ 1099511627777 }
 {
-    if !is_run(words) {
-        return unserved(2, 0, None);
-    }
-    let setup = setup_of_run();
     match setup.check() {
         Ok(()) => {}
         Err(fault) => return unserved(2, fault.rule(), None),
     }
-    let Ok(board) = maker.make(alloc, &setup.shape, LIVES) else {
+    let Ok(board) = maker.make(alloc, &setup.shape, lives) else {
         return unserved(8, 0, None);
     };
     let mut memory = match prepare(alloc, board, setup) {
@@ -105,13 +105,62 @@ pub fn run<S: Source, K: Sink, M: Maker>(
         Err((board, Unready::Dead)) => return unserved(6, 0, Some(board)),
     };
     let served = serve(&mut memory, source, sink);
-    let (status, why) = numbers(served.end);
-    Ended {
-        status,
-        why,
-        lines: served.lines,
-        taken: served.taken,
-        board: Some(memory.into_board()),
-        second: None,
+    ended_with(served, Some(memory.into_board()))
+}
+
+/// Does a command.
+fn perform<S: Source, K: Sink, M: Maker>(
+    alloc: Global,
+    command: Command,
+    source: &mut S,
+    sink: &mut K,
+    maker: &mut M,
+) -> Ended<M::Made>
+    requires { IsAllowed command }
+    ensures headline { Headline (Ok command)
+        (record { status = result.status; why = result.why; lines = result.lines; taken = result.taken })
+        (option_map (λ board. chart (M.Made.Board.state board)) result.board)
+        (S.feed source.old) (S.feed source.new) (K.drain sink.old) (K.drain sink.new) }
+    ensures few { result.lines ≤ 1099511627777 }
+{
+    match command {
+        Command::Run { setup, lives } => {
+            let setup = with_a_frame_for_every_page(setup);
+            run_trace(alloc, setup, lives, source, sink, maker)
+        }
+        Command::Plain { setup } => run_plain(alloc, &setup, source, sink),
+        Command::Gen {
+            start,
+            lines,
+            pages,
+        } => run_gen(sink, start, lines, pages),
+        Command::Tpca { .. } => unserved(2, 0, None),
+    }
+}
+
+/// Does what the words say: answers the trace of the source over a board of the maker's or on a plain
+/// machine, or writes a generated trace.
+pub fn run<S: Source, K: Sink, M: Maker>(
+    alloc: Global,
+    words: &[String],
+    source: &mut S,
+    sink: &mut K,
+    maker: &mut M,
+) -> Ended<M::Made>
+    ensures headline { Headline (command_in words.now)
+        (record { status = result.status; why = result.why; lines = result.lines; taken = result.taken })
+        (option_map (λ board. chart (M.Made.Board.state board)) result.board)
+        (S.feed source.old) (S.feed source.new) (K.drain sink.old) (K.drain sink.new) }
+    ensures completes { Completes (command_in words.now)
+        (record { status = result.status; why = result.why; lines = result.lines; taken = result.taken })
+        (option_map (λ board. chart (M.Made.Board.state board)) result.board)
+        (S.feed source.old) (S.feed source.new) (K.drain sink.old) (K.drain sink.new) }
+    ensures few { result.lines ≤ 1099511627777 }
+{
+    match read_words(alloc, words) {
+        Ok(command) => perform(alloc, command, source, sink, maker),
+        Err(WordsFault::Form) => unserved(2, 0, None),
+        Err(WordsFault::Setup(rule)) => unserved(2, rule, None),
+        Err(WordsFault::Memory) => unserved(8, 0, None),
     }
 }

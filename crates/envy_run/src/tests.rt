@@ -1,30 +1,33 @@
+ghost use Rattle.std.specs.Prelude.{◌≤◌};
+
 use crate::advance::End;
 use crate::ended::{Ended, end_text};
 use crate::prepare::prepare;
-use crate::running::{run, setup_of_run};
+use crate::running::run;
 use crate::serve::{Served, serve};
 use arrayvec::ArrayVec;
-use envy_base::{Bench, Board, Maker};
+use envy_base::{Bench, Board, Maker, Shape};
 use envy_bench::{MemBoard, MemMaker};
 use envy_io::{MemSink, MemSource};
 use envy_map::frame_word;
+use envy_policy::{Policy, Setup};
 use std::alloc::{AllocError, Global};
 use std::process::Abort;
 use std::test::Fail;
 
 /// A trace, and what becomes of it.
 #[derive(Drop)]
-struct Row {
-    trace: &'static [u8],
-    replies: &'static [u8],
-    status: u8,
-    why: u8,
-    lines: u64,
-    text: &'static [u8],
+pub(crate) struct Row {
+    pub(crate) trace: &'static [u8],
+    pub(crate) replies: &'static [u8],
+    pub(crate) status: u8,
+    pub(crate) why: u8,
+    pub(crate) lines: u64,
+    pub(crate) text: &'static [u8],
 }
 
 /// A trace that is done to its end.
-const fn done(trace: &'static [u8], replies: &'static [u8], lines: u64) -> Row {
+pub(crate) const fn done(trace: &'static [u8], replies: &'static [u8], lines: u64) -> Row {
     Row {
         trace,
         replies,
@@ -36,7 +39,7 @@ const fn done(trace: &'static [u8], replies: &'static [u8], lines: u64) -> Row {
 }
 
 /// A trace whose first line is refused.
-const fn refused(trace: &'static [u8], why: u8, text: &'static [u8]) -> Row {
+pub(crate) const fn refused(trace: &'static [u8], why: u8, text: &'static [u8]) -> Row {
     Row {
         trace,
         replies: b"",
@@ -47,36 +50,68 @@ const fn refused(trace: &'static [u8], why: u8, text: &'static [u8]) -> Row {
     }
 }
 
-/// Runs a trace whose source gives 64 bytes at a time, where these calls fail.
-fn run_failing(
+/// What a run is given besides its words.
+#[derive(Drop)]
+pub(crate) struct Streams<'a> {
+    pub(crate) trace: &'a [u8],
+    /// How many bytes the source gives at a time.
+    pub(crate) piece: usize,
+    pub(crate) source_fails: &'a [u64],
+    pub(crate) sink_fails: &'a [u64],
+    /// How many bytes the sink takes.
+    pub(crate) room: usize,
+}
+
+/// Streams that don't fail.
+pub(crate) const fn whole(trace: &[u8]) -> Streams<'_> {
+    Streams {
+        trace,
+        piece: 64,
+        source_fails: &[],
+        sink_fails: &[],
+        room: 4096,
+    }
+}
+
+pub(crate) fn run_with(
     alloc: Global,
     words: &[&str],
-    trace: &[u8],
-    source_fails: &[u64],
-    sink_fails: &[u64],
-    room: usize,
+    streams: &Streams<'_>,
 ) -> Result<(Ended<MemBoard>, MemSink), AllocError> {
     let mut owned = Vec::new(alloc);
     for word in words {
         owned.push(String::from_str(alloc, word)?)?;
     }
-    let bytes = trace.to_vec(alloc)?;
-    let mut source = MemSource::new(bytes, 64, source_fails.to_vec(alloc)?);
-    let mut sink = MemSink::new(alloc, room, sink_fails.to_vec(alloc)?)?;
+    let bytes = streams.trace.to_vec(alloc)?;
+    let piece = streams.piece.max(1);
+    let mut source = MemSource::new(bytes, piece, streams.source_fails.to_vec(alloc)?);
+    let mut sink = MemSink::new(alloc, streams.room, streams.sink_fails.to_vec(alloc)?)?;
     let ended = run(alloc, &owned, &mut source, &mut sink, &mut MemMaker::new());
     Ok((ended, sink))
 }
 
-fn check(rt: &(impl Abort + Alloc<A = Global>), row: &Row) -> Result<(), Fail> {
-    let (ended, sink) = run_failing(rt.alloc(), &["run"], row.trace, &[], &[], 4096)?;
+pub(crate) fn check(
+    rt: &(impl Abort + Alloc<A = Global>),
+    words: &[&str],
+    row: &Row,
+) -> Result<(), Fail> {
+    let (ended, sink) = run_with(rt.alloc(), words, &whole(row.trace))?;
     assert_eq!(rt; ended.status, row.status);
     assert_eq!(rt; ended.why, row.why);
     assert_eq!(rt; ended.lines, row.lines);
-    assert!(rt; ended.lines < 1000);
     assert!(rt; sink.written() == row.replies);
+    check_text(rt, &ended, row.text)
+}
+
+pub(crate) fn check_text(
+    rt: &impl Abort,
+    ended: &Ended<MemBoard>,
+    wanted: &[u8],
+) -> Result<(), Fail> {
+    assert!(rt; ended.lines < 1000);
     let mut text = ArrayVec::new();
-    end_text(&ended, &mut text);
-    assert!(rt; text.as_slice() == row.text);
+    end_text(ended, &mut text);
+    assert!(rt; text.as_slice() == wanted);
     Ok(())
 }
 
@@ -94,7 +129,7 @@ fn loads_and_stores_are_answered(rt: HostRuntime) -> Result<(), Fail> {
         done(b"# day one\n\tstore  007 1\r\n\nload 7", b"ok\n1\n", 4),
         done(b"store 5 1\nlook 5\nlook 2048\n", b"ok\n1\nrange\n", 3),
     ] {
-        check(&rt, &row)?;
+        check(&rt, &["run"], &row)?;
     }
     Ok(())
 }
@@ -118,7 +153,7 @@ fn a_cut_store_is_done_or_not(rt: HostRuntime) -> Result<(), Fail> {
             4,
         ),
     ] {
-        check(&rt, &row)?;
+        check(&rt, &["run"], &row)?;
     }
     Ok(())
 }
@@ -133,13 +168,14 @@ fn refused_lines_are_named(rt: HostRuntime) -> Result<(), Fail> {
         refused(b"cut 0 1\n", 2, b"envy: line 1: bad number"),
         refused(b"begin\n", 1, b"envy: line 1: unknown word"),
     ] {
-        check(&rt, &row)?;
+        check(&rt, &["run"], &row)?;
     }
-    let (ended, sink) = run_failing(rt.alloc(), &["run"], &long, &[], &[], 64)?;
+    let (ended, sink) = run_with(rt.alloc(), &["run"], &whole(&long))?;
     assert_eq!(rt; (ended.status, ended.why, ended.lines), (5, 4, 0));
     assert!(rt; sink.written().is_empty());
     check(
         &rt,
+        &["run"],
         &Row {
             trace: b"store 5 1\nload 5\nstore 5\n",
             replies: b"ok\n1\n",
@@ -155,7 +191,11 @@ fn refused_lines_are_named(rt: HostRuntime) -> Result<(), Fail> {
 fn a_sink_that_fails_ends_the_run(rt: HostRuntime) -> Result<(), Fail> {
     let alloc = rt.alloc();
     let trace = b"store 0 1\nstore 1 2\nload 0\n";
-    let (ended, sink) = run_failing(alloc, &["run"], trace, &[], &[2], 4096)?;
+    let second_fails = Streams {
+        sink_fails: &[2],
+        ..whole(trace)
+    };
+    let (ended, sink) = run_with(alloc, &["run"], &second_fails)?;
     assert_eq!(rt; (ended.status, ended.lines), (4, 2));
     assert!(rt; sink.written() == b"ok\n".as_slice());
     let Some(board) = &ended.board else {
@@ -163,7 +203,11 @@ fn a_sink_that_fails_ends_the_run(rt: HostRuntime) -> Result<(), Fail> {
     };
     assert!(rt; board.shape().frames > 0);
     assert!(rt; frame_word(board, 0, 0) == Ok(1) && frame_word(board, 0, 1) == Ok(2));
-    let (ended, sink) = run_failing(alloc, &["run"], trace, &[], &[], 4)?;
+    let small = Streams {
+        room: 4,
+        ..whole(trace)
+    };
+    let (ended, sink) = run_with(alloc, &["run"], &small)?;
     assert_eq!(rt; (ended.status, ended.lines), (4, 2));
     assert!(rt; sink.written() == b"ok\no".as_slice());
     Ok(())
@@ -171,28 +215,30 @@ fn a_sink_that_fails_ends_the_run(rt: HostRuntime) -> Result<(), Fail> {
 
 #[test]
 fn a_source_that_fails_ends_the_run(rt: HostRuntime) -> Result<(), Fail> {
-    let (ended, sink) = run_failing(rt.alloc(), &["run"], b"load 0\n", &[2], &[], 64)?;
+    let second_fails = Streams {
+        source_fails: &[2],
+        ..whole(b"load 0\n")
+    };
+    let (ended, sink) = run_with(rt.alloc(), &["run"], &second_fails)?;
     assert_eq!(rt; (ended.status, ended.lines, ended.taken), (3, 1, 7));
     assert!(rt; sink.written() == b"0\n".as_slice());
     Ok(())
 }
 
-#[test]
-fn other_words_are_refused(rt: HostRuntime) -> Result<(), Fail> {
-    for words in [
-        ["fly", "run"].as_slice(),
-        &["fly"],
-        &[],
-        &["run", "run"],
-        &["--help"],
-    ] {
-        let (ended, sink) = run_failing(rt.alloc(), words, b"load 0\n", &[], &[], 64)?;
-        assert_eq!(rt; (ended.status, ended.why, ended.taken), (2, 0, 0));
-        assert!(rt; ended.board.is_none());
-        assert!(rt; sink.written().is_empty());
-    }
-    Ok(())
-}
+/// The usual setup, with a frame for every page.
+const USUAL: Setup = Setup {
+    shape: Shape {
+        segments: 8,
+        rows: 16,
+        pages: 64,
+        shadows: 16,
+        frames: 64,
+        entries: 4,
+    },
+    policy: Policy::Greedy,
+    limit: 100,
+    mark: 8,
+};
 
 /// Serves a trace over a board with so many lives, on which this cut is planned before it is formatted.
 fn serve_planned(
@@ -203,7 +249,7 @@ fn serve_planned(
 ) -> Result<(Served, MemBoard, MemSink), Fail> {
     let mut source = MemSource::new(trace.to_vec(alloc)?, 64, Vec::new(alloc));
     let mut sink = MemSink::new(alloc, 4096, Vec::new(alloc))?;
-    let setup = setup_of_run();
+    let setup = USUAL;
     if setup.check().is_err() {
         return Err(Fail::new("the setup is refused"));
     }
@@ -216,25 +262,6 @@ fn serve_planned(
     };
     let served = serve(&mut memory, &mut source, &mut sink);
     Ok((served, memory.into_board(), sink))
-}
-
-#[test]
-fn power_that_does_not_return_ends_the_run(rt: HostRuntime) -> Result<(), Fail> {
-    let (served, board, sink) = serve_planned(rt.alloc(), b"store 5 1\npower\n", 0, None)?;
-    assert!(rt; served.end == End::Dead && served.lines == 2);
-    assert!(rt; sink.written() == b"ok\n".as_slice());
-    let ended = Ended {
-        status: 6,
-        why: 0,
-        lines: 2,
-        taken: served.taken,
-        board: Some(board),
-        second: None,
-    };
-    let mut text = ArrayVec::new();
-    end_text(&ended, &mut text);
-    assert!(rt; text.as_slice() == b"envy: power did not return after 2 lines".as_slice());
-    Ok(())
 }
 
 #[test]

@@ -1,0 +1,12 @@
+mod Accepting
+mod Finds
+mod Forms
+mod Known
+mod Loads
+mod Numbers
+mod Parsing
+mod Readable
+mod Steps
+mod Tables
+mod Taking
+mod Valued

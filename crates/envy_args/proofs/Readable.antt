@@ -1,0 +1,64 @@
+-- Options that can be read, list by list.
+use Rattle.std.proofs.Common.{◌≡◌, ◌∙◌, Bool, true, false, ◌&&◌, List, [], ◌∷◌, ◌++◌, codes, refl}
+use Rattle.std.proofs.lemmas.Bool.{and_from, and_left, and_right}
+use Rattle.std.proofs.lemmas.List.Folds.{list_all-append}
+use Rattle.envy_args.specs.Words.{Options, Text, plain_options, run_options, tpca_options}
+use Rattle.envy_args.specs.Reading.{are_readable, area_options, is_readable, policy_options, shape_options}
+
+abbrev after_policy : List Text
+after_policy = codes "limit" ∷ codes "mark" ∷ []
+
+abbrev after_lives : List Text
+after_lives = codes "start" ∷ area_options ++ codes "every" ∷ []
+
+module _ (o : Options) where
+  first : (xs ys : List Text) → are_readable xs o ≡ false → are_readable (xs ++ ys) o ≡ false
+  first xs ys e = list_all-append (is_readable o) xs ys ∙ and_left _ _ e
+
+  second : (xs ys : List Text) → are_readable ys o ≡ false → are_readable (xs ++ ys) o ≡ false
+  second xs ys e = list_all-append (is_readable o) xs ys ∙ and_right (are_readable xs o) _ e
+
+  both : (xs ys : List Text) → are_readable xs o ≡ true → are_readable ys o ≡ true → are_readable (xs ++ ys) o ≡ true
+  both xs ys e d = list_all-append (is_readable o) xs ys ∙ and_from _ _ e d
+
+  -- ---- a setup
+
+  after_shape : are_readable (policy_options ++ after_policy) o ≡ false → are_readable plain_options o ≡ false
+  after_shape = second shape_options (policy_options ++ after_policy)
+
+  pub plain-policy : are_readable policy_options o ≡ false → are_readable plain_options o ≡ false
+  plain-policy e = after_shape (first policy_options after_policy e)
+
+  pub plain-limit : is_readable o (codes "limit") ≡ false → are_readable plain_options o ≡ false
+  plain-limit e = after_shape (second policy_options after_policy (and_left _ _ e))
+
+  pub plain-mark : is_readable o (codes "mark") ≡ false → are_readable plain_options o ≡ false
+  plain-mark e = after_shape (second policy_options after_policy (and_right (is_readable o (codes "limit")) _ (and_left _ _ e)))
+
+  -- ---- a run
+
+  pub run-setup : are_readable plain_options o ≡ false → are_readable run_options o ≡ false
+  run-setup = first plain_options (codes "lives" ∷ [])
+
+  pub run-lives : is_readable o (codes "lives") ≡ false → are_readable run_options o ≡ false
+  run-lives e = second plain_options (codes "lives" ∷ []) (and_left _ _ e)
+
+  pub run-all : are_readable plain_options o ≡ true → is_readable o (codes "lives") ≡ true → are_readable run_options o ≡ true
+  run-all e d = both plain_options (codes "lives" ∷ []) e (and_from _ _ d refl)
+
+  -- ---- a load
+
+  pub tpca-run : are_readable run_options o ≡ false → are_readable tpca_options o ≡ false
+  tpca-run = first run_options after_lives
+
+  pub tpca-start : is_readable o (codes "start") ≡ false → are_readable tpca_options o ≡ false
+  tpca-start e = second run_options after_lives (and_left _ _ e)
+
+  pub tpca-area : are_readable area_options o ≡ false → are_readable tpca_options o ≡ false
+  tpca-area e = second run_options after_lives (and_right (is_readable o (codes "start")) _ (first area_options (codes "every" ∷ []) e))
+
+  pub tpca-every : is_readable o (codes "every") ≡ false → are_readable tpca_options o ≡ false
+  tpca-every e = second run_options after_lives (and_right (is_readable o (codes "start")) _ (second area_options (codes "every" ∷ []) (and_left _ _ e)))
+
+  pub tpca-all : are_readable run_options o ≡ true → is_readable o (codes "start") ≡ true → are_readable area_options o ≡ true → is_readable o (codes "every") ≡ true → are_readable tpca_options o ≡ true
+  tpca-all e start area every = both run_options after_lives e (and_from _ _ start (both area_options (codes "every" ∷ []) area (and_from _ _ every refl)))

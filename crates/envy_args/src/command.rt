@@ -1,0 +1,43 @@
+use envy_base::Area;
+use envy_policy::Setup;
+
+/// What the program is asked to do.
+#[derive(Clone, Copy, Debug, PartialEq, Eq)]
+pub enum Command {
+    /// Answer a trace over a board on which power returns at most so often.
+    Run {
+        setup: Setup,
+        lives: u32,
+    },
+    /// Answer a trace by the plain machine.
+    Plain {
+        setup: Setup,
+    },
+    /// Do the TPC-A load: its transfers drawn from `start`, with a failure of power every so many
+    /// transfers, or none at 0.
+    Tpca {
+        setup: Setup,
+        lives: u32,
+        start: u64,
+        area: Area,
+        every: u32,
+    },
+    /// Write a trace of so many lines over so many pages, drawn from `start`.
+    Gen {
+        start: u64,
+        lines: u32,
+        pages: u32,
+    },
+}
+
+/// Why words are refused.
+#[derive(Clone, Copy, Debug, PartialEq, Eq)]
+pub enum WordsFault {
+    /// They aren't in the form.
+    Form,
+    /// They are, but break a rule. This is the number of the first: 1 to 10 those of a setup, 11 that
+    /// the records of the load fit, 12 that it has shadows enough.
+    Setup(u8),
+    /// Out of memory.
+    Memory,
+}

@@ -1,0 +1,23 @@
+ghost use Rattle.std.specs.Prelude.{◌≡◌, ◌↔◌, ℕ, [], ◌∷◌, codes, Ok, Err, IsTrue};
+ghost use Rattle.envy_base.specs.Area.{Fits};
+ghost use Rattle.envy_base.specs.declared.area.Area.{Area};
+ghost use Rattle.envy_policy.specs.declared.setup.Policy.TheVariants.{Greedy};
+ghost use Rattle.envy_args.specs.declared.command.Command.TheVariants.{Run};
+ghost use Rattle.envy_args.specs.declared.command.WordsFault.TheVariants.{Form, Setup as Rule};
+ghost use Rattle.envy_args.specs.Words.{command_of, fits, usual};
+
+/// The test by which the rule of the area is asked is that the records fit.
+pub fn the_area_is_asked_to_fit()
+    ensures { (area : Area) (pages : ℕ) → IsTrue (fits area pages) ↔ Fits area pages }
+{}
+
+/// Words and the commands that they name.
+pub fn words_name_commands()
+    ensures alone { command_of (codes "run" ∷ []) ≡ Ok (Run (record { shape = usual; policy = Greedy; limit = 100; mark = 8 }) 4294967295) }
+    ensures unknown { command_of (codes "fly" ∷ []) ≡ Err Form }
+    ensures twice { command_of (codes "run" ∷ codes "--rows" ∷ codes "16" ∷ codes "--rows" ∷ codes "16" ∷ []) ≡ Err Form }
+    ensures share { command_of (codes "run" ∷ codes "--pages" ∷ codes "81" ∷ []) ≡ Err (Rule 6) }
+    ensures pages { command_of (codes "run" ∷ codes "--pages=0" ∷ codes "--" ∷ []) ≡ Err (Rule 3) }
+    ensures transfers { command_of (codes "tpca" ∷ codes "--transfers" ∷ codes "1070" ∷ []) ≡ Err (Rule 11) }
+    ensures shadows { command_of (codes "tpca" ∷ codes "--shadows" ∷ codes "4" ∷ []) ≡ Err (Rule 12) }
+{}

@@ -1,0 +1,17 @@
+//! The words of the command line.
+//!
+//! Which words are understood, and which command they name, is defined in `specs/Words.antt`.
+#![tactic(auto)]
+
+mod command;
+mod laws;
+mod options;
+mod read;
+#[cfg(test)]
+mod tests;
+mod values;
+mod word;
+
+pub use command::{Command, WordsFault};
+pub use laws::{the_area_is_asked_to_fit, words_name_commands};
+pub use read::read_words;

@@ -1,0 +1,177 @@
+ghost use Rattle.std.specs.Prelude.{◌≡◌, ◌⊎◌, map, Err};
+ghost use Rattle.std.specs.String.{string_bytes};
+ghost use Rattle.envy_args.specs.Words.{command_of, run_of, plain_of, tpca_of, gen_of, setup_of, shape_of, area_of, run_options, plain_options, tpca_options, gen_options};
+ghost use Rattle.envy_args.specs.Reading.{GivesIf, are_readable, shape_options, area_options, made, make_of, options_of};
+
+use crate::command::{Command, WordsFault};
+use crate::options::Options;
+use crate::word::Word;
+use envy_base::{Area, Shape};
+use envy_policy::{Setup, SetupFault};
+use std::alloc::Global;
+
+impl From<SetupFault> for WordsFault {
+    ghost use Rattle.std.specs.Prelude.{◌≡◌};
+    ghost use Rattle.envy_policy.specs.Setup.{rule_of};
+    ghost use Rattle.envy_args.specs.declared.command.WordsFault.TheVariants.{Setup as Rule};
+
+    ghost from_gives = { λ fault e. e ≡ Rule (rule_of fault) };
+
+    fn from(fault: SetupFault) -> Self {
+        WordsFault::Setup(fault.rule())
+    }
+}
+
+/// The board of a run, where the words don't say otherwise.
+const USUAL: Shape = Shape {
+    segments: 8,
+    rows: 16,
+    pages: 64,
+    shadows: 16,
+    frames: 8,
+    entries: 4,
+};
+
+/// The board of a load.
+const USUAL_OF_LOAD: Shape = Shape {
+    segments: 16,
+    rows: 32,
+    pages: 384,
+    shadows: 16,
+    frames: 16,
+    entries: 16,
+};
+
+/// The most pages that a generated trace goes over.
+const MOST_PAGES: u32 = 1_048_576;
+
+/// The fewest shadows of a load.
+const LOAD_SHADOWS: u32 = 5;
+
+/// Reads the words behind the program's name.
+///
+/// The first is a command: `run`, `plain`, `tpca` or `gen`. Its options follow in any order, each at most
+/// once, as `--name value` or `--name=value`, and behind them may stand one `--`. `Form` where the words
+/// are others, and `Setup` with the number of the first rule that the command breaks.
+pub fn read_words(alloc: Global, words: &[String]) -> Result<Command, WordsFault>
+    ensures { (result ≡ Err WordsFault.Memory) ⊎ (result ≡ command_of (map string_bytes words.now)) }
+{
+    let Some((first, others)) = words.split_first() else {
+        return Err(WordsFault::Form);
+    };
+    let Some(word) = Word::of(first.as_bytes()) else {
+        return Err(WordsFault::Form);
+    };
+    let options = Options::read(alloc, word.options(), others)?;
+    make(word, &options)
+}
+
+/// The command of this word and its options. The fault is `Form` or `Setup`.
+fn make(word: Word, options: &Options) -> Result<Command, WordsFault>
+    ensures { result ≡ made (options_of word) (make_of word) options.now }
+{
+    match word {
+        Word::Run => run(options),
+        Word::Plain => plain(options),
+        Word::Tpca => tpca(options),
+        Word::Gen => generate(options),
+    }
+}
+
+fn run(options: &Options) -> Result<Command, WordsFault>
+    ensures { result ≡ made run_options run_of options.now }
+{
+    let setup = setup(options, &USUAL)?;
+    let lives = options.number("lives", u32::MAX)?;
+    setup.check()?;
+    Ok(Command::Run { setup, lives })
+}
+
+fn plain(options: &Options) -> Result<Command, WordsFault>
+    ensures { result ≡ made plain_options plain_of options.now }
+{
+    let setup = setup(options, &USUAL)?;
+    setup.check()?;
+    Ok(Command::Plain { setup })
+}
+
+fn tpca(options: &Options) -> Result<Command, WordsFault>
+    ensures { result ≡ made tpca_options tpca_of options.now }
+{
+    let setup = setup(options, &USUAL_OF_LOAD)?;
+    let lives = options.number("lives", u32::MAX)?;
+    let start = options.wide_number("start", 1)?;
+    let area = area(options)?;
+    let every = options.number("every", 0)?;
+    setup.check()?;
+    if !area.fits(setup.shape.pages) {
+        return Err(WordsFault::Setup(11));
+    }
+    if setup.shape.shadows < LOAD_SHADOWS {
+        return Err(WordsFault::Setup(12));
+    }
+    Ok(Command::Tpca {
+        setup,
+        lives,
+        start,
+        area,
+        every,
+    })
+}
+
+fn generate(options: &Options) -> Result<Command, WordsFault>
+    ensures { result ≡ made gen_options gen_of options.now }
+{
+    let start = options.wide_number("start", 1)?;
+    let lines = options.number("lines", 1000)?;
+    let pages = options.number("pages", 64)?;
+    if pages == 0 {
+        return Err(WordsFault::Setup(3));
+    }
+    if pages > MOST_PAGES {
+        return Err(WordsFault::Setup(7));
+    }
+    Ok(Command::Gen {
+        start,
+        lines,
+        pages,
+    })
+}
+
+fn setup(options: &Options, default: &Shape) -> Result<Setup, WordsFault>
+    ensures { GivesIf (are_readable plain_options options.now) (setup_of default.now options.now) result }
+{
+    let shape = shape(options, default)?;
+    let policy = options.policy()?;
+    let limit = options.wide_number("limit", 100)?;
+    let mark = options.number("mark", shape.frames)?;
+    Ok(Setup {
+        shape,
+        policy,
+        limit,
+        mark,
+    })
+}
+
+fn shape(options: &Options, default: &Shape) -> Result<Shape, WordsFault>
+    ensures { GivesIf (are_readable shape_options options.now) (shape_of default.now options.now) result }
+{
+    Ok(Shape {
+        segments: options.number("segments", default.segments)?,
+        rows: options.number("rows", default.rows)?,
+        pages: options.number("pages", default.pages)?,
+        shadows: options.number("shadows", default.shadows)?,
+        frames: options.number("frames", default.frames)?,
+        entries: options.number("entries", default.entries)?,
+    })
+}
+
+fn area(options: &Options) -> Result<Area, WordsFault>
+    ensures { GivesIf (are_readable area_options options.now) (area_of options.now) result }
+{
+    Ok(Area {
+        branches: options.number("branches", 1)?,
+        accounts: options.number("accounts", 8000)?,
+        transfers: options.number("transfers", 1000)?,
+    })
+}

@@ -1,0 +1,69 @@
+ghost use Rattle.std.specs.Prelude.{◌≡◌};
+
+/// The command words.
+#[derive(Clone, Copy)]
+pub(crate) enum Word {
+    Run,
+    Plain,
+    Tpca,
+    Gen,
+}
+
+/// The options of the load. The first eleven are those of a run, the first ten those of the plain
+/// machine.
+const OPTIONS: [&str; 16] = [
+    "segments",
+    "rows",
+    "pages",
+    "shadows",
+    "frames",
+    "entries",
+    "part",
+    "policy",
+    "limit",
+    "mark",
+    "lives",
+    "start",
+    "branches",
+    "accounts",
+    "transfers",
+    "every",
+];
+
+impl Word {
+    ghost use Rattle.std.specs.Prelude.{find, map};
+    ghost use Rattle.std.specs.Str.{bytes_eq};
+    ghost use Rattle.envy_args.specs.Reading.{word_of, options_of, all};
+
+    const ALL: [Word; 4] = [Word::Run, Word::Plain, Word::Tpca, Word::Gen];
+
+    pub(crate) fn text(self) -> &'static [u8]
+        ensures { result.now ≡ word_of self }
+    {
+        match self {
+            Word::Run => b"run",
+            Word::Plain => b"plain",
+            Word::Tpca => b"tpca",
+            Word::Gen => b"gen",
+        }
+    }
+
+    /// The command of this word.
+    pub(crate) fn of(text: &[u8]) -> Option<Word>
+        ensures { result ≡ find (λ word. bytes_eq (word_of word) text.now) all }
+    {
+        Word::ALL.iter().find(|word| word.text() == text).copied()
+    }
+
+    /// The names of its options.
+    pub(crate) fn options(self) -> &'static [&'static str]
+        ensures { map (λ name. name.now) result.now ≡ options_of self }
+    {
+        match self {
+            Word::Run => &OPTIONS[..11],
+            Word::Plain => &OPTIONS[..10],
+            Word::Tpca => &OPTIONS,
+            Word::Gen => &["start", "lines", "pages"],
+        }
+    }
+}
