@@ -1,4 +1,5 @@
 pub mod ArrayLemmas
+pub mod ClaimLaw
 pub mod Clearing
 pub mod Committing
 pub mod Composition
@@ -9,6 +10,7 @@ pub mod FrameLaw
 pub mod KeptLemmas
 pub mod Laying
 pub mod PlaceLaw
+pub mod ProgramLaw
 pub mod References
 pub mod Regions
 pub mod RestoreLaw

@@ -1,3 +1,4 @@
+pub mod Claims
 pub mod Formatting
 pub mod May
 pub mod Same
