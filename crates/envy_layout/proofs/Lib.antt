@@ -7,14 +7,17 @@ pub mod Empty
 pub mod Formed
 pub mod Filling
 pub mod FrameLaw
+pub mod JobLaw
 pub mod KeptLemmas
 pub mod Laying
 pub mod PlaceLaw
+pub mod PositionLaw
 pub mod ProgramLaw
 pub mod References
 pub mod Regions
 pub mod RestoreLaw
 pub mod SlotLaw
+pub mod SpareLemmas
 pub mod Standing
 pub mod SwitchLaw
 pub mod UndoLaw

@@ -1,5 +1,6 @@
 pub mod Claims
 pub mod Formatting
+pub mod Jobs
 pub mod May
 pub mod Same
 pub mod RowKinds

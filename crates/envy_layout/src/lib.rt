@@ -11,16 +11,20 @@
 mod claiming;
 mod format;
 mod frame;
+mod job;
 mod lay;
 mod page_place;
 mod page_undo;
+mod position;
 mod programming;
 mod slots;
 
 pub use claiming::{claim_back, note_origin, raise_fill};
 pub use format::{format_board, format_board_1};
 pub use frame::{change_frame_word, move_to_frame, write_free_frame};
+pub use job::{begin_copy, begin_erase, begin_switch, change_job, end_job};
 pub use page_place::{move_place, restore_place, switch_place};
 pub use page_undo::{clear_settled_undo, move_undo, own_page, switch_undo};
+pub use position::{change_position, replace_segment};
 pub use programming::program_row;
 pub use slots::{commit_slot, set_unused_slot};
