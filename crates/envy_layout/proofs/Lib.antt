@@ -8,11 +8,16 @@ pub mod Formed
 pub mod Filling
 pub mod FrameLaw
 pub mod JobLaw
+pub mod KeptCounts
+pub mod KeptLemmas
 pub mod KeptLemmas
 pub mod Laying
+pub mod Laying
+pub mod PlaceLaw
 pub mod PlaceLaw
 pub mod PositionLaw
 pub mod ProgramLaw
+pub mod RangeSums
 pub mod References
 pub mod Regions
 pub mod RestoreLaw

@@ -22,7 +22,7 @@ use Rattle.envy_layout.proofs.WordLists.{words-same, words-at}
 use Rattle.envy_layout.proofs.Composition.{Keeps-refl, KeepsWords, SameWords-put, Same-refl, Stays-failed, Counted-fields, Counted-failed, Wears-fields, Wears-failed, exits}
 
 -- where a test passes less at each place, it counts less
-count_by-le_at : {X : Type 0} (p q : X → Bool) (d : X) (xs : List X) → ((k : ℕ) → k < length xs → p (get_or xs k d) ≡ true → q (get_or xs k d) ≡ true) → count_by p xs ≤ count_by q xs
+pub count_by-le_at : {X : Type 0} (p q : X → Bool) (d : X) (xs : List X) → ((k : ℕ) → k < length xs → p (get_or xs k d) ≡ true → q (get_or xs k d) ≡ true) → count_by p xs ≤ count_by q xs
 count_by-le_at {X} p q d [] implies = omega arith
 count_by-le_at {X} p q d (x ∷ xs) implies =
     let rest : count_by p xs ≤ count_by q xs = count_by-le_at p q d xs (λ k lt. implies (suc k) (omega arith)) in
@@ -42,7 +42,7 @@ slot-other : (slots : List (Option Slot)) (t s : ℕ) (x : Option Slot) → s �
 slot-other slots t s x other = get_or-set_other slots t s x None other
 
 -- an undo that doesn't name the slot means what it did
-kept_by-other : (slots : List (Option Slot)) (t : ℕ) (x : Option Slot) (u : Option Undo) (now : Option Place) → slot_named u ≢ Some t → kept_by (set slots t x) u now ≡ kept_by slots u now
+pub kept_by-other : (slots : List (Option Slot)) (t : ℕ) (x : Option Slot) (u : Option Undo) (now : Option Place) → slot_named u ≢ Some t → kept_by (set slots t x) u now ≡ kept_by slots u now
 kept_by-other slots t x None now other = refl
 kept_by-other slots t x (Some Clear) now other = refl
 kept_by-other slots t x (Some (Blank s)) now other = rw (slot-other slots t s x (λ e. other (ap (λ (n : ℕ). Some n) e))) refl

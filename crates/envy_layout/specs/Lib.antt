@@ -3,6 +3,7 @@ pub mod Formatting
 pub mod Jobs
 pub mod May
 pub mod Same
+pub mod PageRows
 pub mod RowKinds
 pub mod Sound
 pub mod Stands
