@@ -10,10 +10,7 @@ pub mod FrameLaw
 pub mod JobLaw
 pub mod KeptCounts
 pub mod KeptLemmas
-pub mod KeptLemmas
 pub mod Laying
-pub mod Laying
-pub mod PlaceLaw
 pub mod PlaceLaw
 pub mod PositionLaw
 pub mod ProgramLaw

@@ -8,10 +8,10 @@ use Rattle.envy_base.specs.declared.fields.Slot.{Slot}
 use Rattle.envy_base.specs.declared.fields.Undo.{Undo}
 use Rattle.envy_base.specs.Shape.{IsShape}
 use Rattle.envy_base.specs.State.{ones}
-use Rattle.envy_map.specs.Fields.{Fields, Chart, with_fields, place}
+use Rattle.envy_map.specs.Fields.{Fields, Chart, with_fields, place, undo}
 use Rattle.envy_map.specs.Writes.{with_back, with_fill, with_position}
-use Rattle.envy_layout.specs.RowKinds.{is_in, is_shadow_in, kept_in}
-use Rattle.envy_layout.specs.Words.{kept}
+use Rattle.envy_layout.specs.RowKinds.{kept_in}
+use Rattle.envy_layout.specs.PageRows.{page_kept_in}
 use Rattle.envy_layout.specs.Sound.{Names, IsSpare}
 use Rattle.envy_space.specs.Order.{IsOrder}
 
@@ -79,9 +79,7 @@ pub record StandsAt (k s : ℕ) (old new : Pool) : Type 0 where
 
 -- how many kept rows of segment s the first n pages name
 abbrev pub kept_in_first : Shape → Fields → ℕ → ℕ → ℕ
-kept_in_first sh f n s =
-    count_by (λ p. is_in sh.rows s (place f p)) (range_with_len 0 n)
-    + count_by (λ p. is_shadow_in sh.rows s (place f p) (kept f p)) (range_with_len 0 n)
+kept_in_first sh f n s = sum_by (λ p. page_kept_in sh f.slots (undo f p) (place f p) s) (range_with_len 0 n)
 
 -- the pool has counted the kept rows that the first n pages name
 abbrev pub HasCounted : Shape → Fields → ℕ → Pool → Type 0
