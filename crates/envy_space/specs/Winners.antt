@@ -34,6 +34,10 @@ better a b = if nat_lt a.score b.score then b else a
 abbrev pub node : List Entry → ℕ → Entry
 node nodes i = slice_index_or nodes i nobody
 
+-- the score of place k, of n
+abbrev pub score_in : ℕ → List Entry → ℕ → ℕ
+score_in n nodes k = (node nodes (n + k)).score
+
 -- the entry of node i is the better of those of the two nodes below it
 abbrev pub IsRight : List Entry → ℕ → Type 0
 IsRight nodes i = node nodes i ≡ better (node nodes (2 * i)) (node nodes (2 * i + 1))

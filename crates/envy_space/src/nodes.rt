@@ -1,5 +1,5 @@
 ghost use Rattle.std.specs.Prelude.{◌≡◌, ◌≢◌, ◌+◌, ◌-◌, ◌*◌, ◌/◌, ◌^◌, ◌<◌, ◌≤◌, ℕ, length, replicate, map, drop, slice_index};
-ghost use Rattle.envy_space.specs.Winners.{AreNodes, IsTree, IsRight, IsRun, better, node as node_of, scores_of};
+ghost use Rattle.envy_space.specs.Winners.{AreNodes, IsTree, IsRight, IsRun, better, node as node_of, score_in, scores_of};
 
 /// A place and its score.
 #[derive(Clone, Copy)]
@@ -95,7 +95,7 @@ pub fn best_between(nodes: &[Entry], places: u32, first: u32, end: u32) -> Entry
     requires tree { IsTree places nodes.now }
     requires order { first ≤ end }
     requires within { end ≤ places }
-    ensures { IsRun (λ k. (node_of nodes.now (places + k)).score) first end result }
+    ensures { IsRun (score_in places nodes.now) first end result }
 {
     let (mut low, mut high) = (places + first, places + end);
     let (mut left, mut right) = (Entry::NOBODY, Entry::NOBODY);
