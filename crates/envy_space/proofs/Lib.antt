@@ -1,2 +1,5 @@
 pub mod NodeLemmas
+pub mod OrderLemmas
+pub mod PoolLemmas
 pub mod RunLemmas
+pub mod SpaceLemmas

@@ -1,11 +1,11 @@
 -- The best entries of runs of places, and of the run below a node.
-use Rattle.std.proofs.Common.{◌≡◌, ◌⊎◌, inl, inr, ℕ, zero, suc, ◌+◌, ◌-◌, ◌*◌, ◌/◌, ◌%◌, ◌^◌, ◌<◌, ◌≤◌, Bool, true, false, cond, List, refl, sym, ◌∙◌, ap, subst, arith}
+use Rattle.std.proofs.Common.{◌≡◌, ◌⊎◌, inl, inr, Option, None, Some, ℕ, zero, suc, ◌+◌, ◌-◌, ◌*◌, ◌/◌, ◌%◌, ◌^◌, ◌<◌, ◌≤◌, Bool, true, false, cond, List, refl, sym, ◌∙◌, ap, subst, arith}
 use Rattle.std.specs.Prelude.{nat_lt}
 use Rattle.std.proofs.lemmas.Bool.{cases_lt, ltb-true, ltb-false}
 use Rattle.std.proofs.Math.Nat.{two-pow-succ, mul-le-mul_left, mul-le-mul_right}
 use Rattle.std.proofs.lemmas.Nat.{pow_pos}
 use Rattle.envy_space.specs.declared.nodes.Entry.{Entry}
-use Rattle.envy_space.specs.Winners.{AreNodes, IsTree, IsRight, IsRun, nobody, node, better, score_in}
+use Rattle.envy_space.specs.Winners.{AreNodes, IsTree, IsRight, IsRun, IsWinner, Wins, nobody, node, better, score_in}
 
 -- the better of the best of two runs side by side is the best of both
 pub IsRun-better : (score : ℕ → ℕ) (first mid end : ℕ) (a b : Entry) → first ≤ mid → mid ≤ end → IsRun score first mid a → IsRun score mid end b → IsRun score first end (better a b)
@@ -179,3 +179,32 @@ Narrowed-end score n first end low high left right le was =
     let same : low * 2 ^ was.level ≡ high * 2 ^ was.level = ap (λ (i : ℕ). i * 2 ^ was.level) (omega arith) in
     let met : was.b ≡ was.a = omega arith in
     IsRun-better score first was.a end left right was.from (let to = was.to in omega arith) was.before (subst (λ (b : ℕ). IsRun score b end right) met was.after)
+
+-- the best entry of a run tells its winner
+pub Wins-run_none : (score : ℕ → ℕ) (first last : ℕ) (e : Entry) → IsRun score first (last + 1) e → e.score ≡ 0 → Wins score first last None
+Wins-run_none score first last e run none k low high = let most = run.most k low (omega arith) in omega arith
+
+pub IsWinner-run : (score : ℕ → ℕ) (first last : ℕ) (e : Entry) → IsRun score first (last + 1) e → 0 < e.score → IsWinner score first last e.place
+IsWinner-run score first last e run some =
+    let below = run.below some in
+    let is = run.has some in
+    record {
+      above = run.above some;
+      below = omega arith;
+      some = omega arith;
+      most = λ j low high. let most = run.most j low (omega arith) in omega arith;
+      lowest = λ j low high. let less = run.lowest some j low high in omega arith;
+    }
+
+-- where scores are the same
+pub Wins-same : (f g : ℕ → ℕ) (first last : ℕ) (answer : Option ℕ) → ((k : ℕ) → k ≤ last → f k ≡ g k) → Wins f first last answer → Wins g first last answer
+Wins-same f g first last None same wins = λ j low high. let e = same j high in let none = wins j low high in omega arith
+Wins-same f g first last (Some k) same wins =
+    let here = same k wins.below in
+    record {
+      above = wins.above;
+      below = wins.below;
+      some = let some = wins.some in omega arith;
+      most = λ j low high. let most = wins.most j low high in let e = same j high in omega arith;
+      lowest = λ j low high. let less = wins.lowest j low high in let below = wins.below in let e = same j (omega arith) in omega arith;
+    }

@@ -1,5 +1,5 @@
 -- Segments in an order, each once.
-use Rattle.std.specs.Prelude.{◌≡◌, ℕ, ◌<◌, List, length, slice_index}
+use Rattle.std.specs.Prelude.{◌≡◌, ℕ, ◌^◌, ◌<◌, List, length, slice_index}
 
 pub record IsOrder (segments : List ℕ) : Type 0 where
   pub fit : (k : ℕ) → k < length segments → slice_index segments k < length segments
@@ -7,6 +7,7 @@ pub record IsOrder (segments : List ℕ) : Type 0 where
 
 -- each segment stands at the place that is noted for it
 pub record ArePlaces (segments places : List ℕ) : Type 0 where
+  pub few : length segments < 2 ^ 32
   pub long : length places ≡ length segments
   pub fit : (k : ℕ) → k < length segments → slice_index segments k < length segments
   pub noted : (k : ℕ) → k < length segments → slice_index places (slice_index segments k) ≡ k

@@ -93,6 +93,7 @@ impl Space {
         requires last { last < self.now.shape.segments - 1 }
         ensures { result ≡ free_between self.now first last }
     {
+        let _ = &self.shape;
         let mut free = 0;
         for position in first..last + 1 {
             free += self.free(self.segment_at(position));

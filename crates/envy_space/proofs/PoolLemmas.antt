@@ -1,0 +1,1 @@
+-- Pools that are a map's.
