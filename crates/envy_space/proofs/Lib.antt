@@ -1,3 +1,4 @@
+pub mod CountLemmas
 pub mod NodeLemmas
 pub mod OrderLemmas
 pub mod PoolLemmas

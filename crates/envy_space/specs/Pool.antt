@@ -82,8 +82,9 @@ abbrev pub kept_in_first : Shape → Fields → ℕ → ℕ → ℕ
 kept_in_first sh f n s = sum_by (λ p. page_kept_in sh f.slots (undo f p) (place f p) s) (range_with_len 0 n)
 
 -- the pool has counted the kept rows that the first n pages name
-abbrev pub HasCounted : Shape → Fields → ℕ → Pool → Type 0
-HasCounted sh f n p = (s : ℕ) → s < sh.segments → slice_index p.kept s ≡ kept_in_first sh f n s
+pub record HasCounted (sh : Shape) (f : Fields) (n : ℕ) (p : Pool) : Type 0 where
+  pub long : length p.kept ≡ sh.segments
+  pub counted : (s : ℕ) → s < sh.segments → slice_index p.kept s ≡ kept_in_first sh f n s
 
 -- the row that a restart reads a page in, where loads don't read it there
 abbrev pub IsShadow : Option Place → Option Place → Option ℕ → Type 0
