@@ -12,7 +12,8 @@ use Rattle.envy_base.specs.declared.fields.Place.TheVariants.{Absent, Row, Frame
 use Rattle.envy_map.specs.Fields.{Fields, place, undo}
 use Rattle.envy_layout.specs.Words.{kept}
 use Rattle.envy_layout.specs.Sound.{Sound, Places}
-use Rattle.envy_layout.specs.RowKinds.{is_row, is_in, is_shadow_in}
+use Rattle.envy_layout.specs.RowKinds.{is_row, is_in, is_shadow_in, kept_in}
+use Rattle.envy_layout.proofs.KeptCounts.{kept_in-pages, kept_in-le-fill}
 use Rattle.envy_layout.specs.PageRows.{page_kept_in}
 use Rattle.envy_space.specs.Pool.{Pool, HasCounted, IsShadow, kept_in_first, with_kept}
 use Rattle.envy_space.proofs.SpaceLemmas.{sum_by-range_more}
@@ -162,3 +163,11 @@ room-shadow sh f p q fills old placed shadow range fits =
     let one : bit (is_shadow_in sh.rows (q / sh.rows) (place f p) (kept f p)) ≡ 1 = ap bit (shadow_some sh.rows (q / sh.rows) q (place f p) (kept f p) shadow ∙ eq-eqb (q / sh.rows) (q / sh.rows) refl) in
     let fit : kept_in_first sh f (p + 1) (q / sh.rows) ≤ get_or old.fills (q / sh.rows) 0 = rw placed.fills (fits (q / sh.rows)) in
     subst (λ (x : Shape). get_or old.kept (q / x.rows) 0 < get_or old.fills (q / x.rows) 0) (sym placed.shape) (omega arith)
+
+-- what the first pages name is below the fill of a sound board's segment
+pub kept_in_first-le-fill : (sh : Shape) (f : Fields) (flash : List (List ℕ)) (p s : ℕ) → Sound sh f flash → p ≤ sh.pages → kept_in_first sh f p s ≤ get_or f.fills s 0
+kept_in_first-le-fill sh f flash p s sound le =
+    let some = kept_in_first-le sh f p sh.pages s le in
+    let all : kept_in_first sh f sh.pages s ≡ kept_in sh f.slots f.undos f.places s = kept_in-pages sh f.slots f.undos f.places s in
+    let fit = kept_in-le-fill sh f.slots f.undos f.places f.fills f.backs s (Sound.rows sound) in
+    omega arith

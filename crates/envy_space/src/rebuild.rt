@@ -37,7 +37,7 @@ impl Space {
         ensures kept { self.new.kept ≡ self.old.kept }
         ensures off { OnErr result ((B.state board.now).on ≡ false) }
     {
-        for position in 0..board.shape().segments - 1 {
+        for position in 0..self.shape.segments - 1 {
             self.stand(position, segment_at(board, position)?);
         }
         Ok(())
@@ -54,7 +54,7 @@ impl Space {
         ensures positions { self.new.positions ≡ self.old.positions }
         ensures off { OnErr result ((B.state board.now).on ≡ false) }
     {
-        for segment in 0..board.shape().segments {
+        for segment in 0..self.shape.segments {
             self.set_fill(segment, fill(board, segment)?);
         }
         Ok(())
@@ -72,7 +72,7 @@ impl Space {
         ensures positions { self.new.positions ≡ self.old.positions }
         ensures off { OnErr result ((B.state board.now).on ≡ false) }
     {
-        for page in 0..board.shape().pages {
+        for page in 0..self.shape.pages {
             self.count_page(board, page)?;
         }
         Ok(())

@@ -13,7 +13,7 @@ use std::marker::Model;
 /// The pool of erased rows.
 #[derive(Drop)]
 pub struct Space {
-    shape: Shape,
+    pub(crate) shape: Shape,
     fills: Vec<u32>,
     kept: Vec<u32>,
     /// The segments in the order of their positions, and the spare after them.
