@@ -15,7 +15,7 @@ use Rattle.envy_layout.specs.Sound.{Sound, Places}
 use Rattle.envy_layout.specs.RowKinds.{is_row, is_in, is_shadow_in, kept_in}
 use Rattle.envy_layout.proofs.KeptCounts.{kept_in-pages, kept_in-le-fill}
 use Rattle.envy_layout.specs.PageRows.{page_kept_in}
-use Rattle.envy_space.specs.Pool.{Pool, HasCounted, IsShadow, kept_in_first, with_kept}
+use Rattle.envy_space.specs.Pool.{Pool, HasCounted, IsShadow, kept_in_first, with_kept, noted_kept}
 use Rattle.envy_space.proofs.SpaceLemmas.{sum_by-range_more}
 
 -- 1 for yes
@@ -39,7 +39,7 @@ kept_in_first-le sh f p (suc n) s le = at (kept_in_first-le sh f p n s) (cases_e
         subst (λ (m : ℕ). kept_in_first sh f p s ≤ kept_in_first sh f m s) (let e : n + 1 ≡ suc n = omega arith in e) (omega arith)
 
 -- a number that rises by one
-risen : (xs : List ℕ) (s t : ℕ) → s < length xs → get_or (set xs s (get_or xs s 0 + 1)) t 0 ≡ get_or xs t 0 + bit (eqb s t)
+pub risen : (xs : List ℕ) (s t : ℕ) → s < length xs → get_or (set xs s (get_or xs s 0 + 1)) t 0 ≡ get_or xs t 0 + bit (eqb s t)
 risen xs s t lt = at (cases_eq s t)
   where
     at : (s ≡ t) ⊎ (s ≡ t → ⊥) → get_or (set xs s (get_or xs s 0 + 1)) t 0 ≡ get_or xs t 0 + bit (eqb s t)
@@ -48,7 +48,7 @@ risen xs s t lt = at (cases_eq s t)
 
 -- a row was noted in the pool
 abbrev pub Notes : ℕ → Pool → Pool → Type 0
-Notes q old new = new ≡ with_kept (q / old.shape.rows) (get_or old.kept (q / old.shape.rows) 0 + 1) old
+Notes q old new = new ≡ noted_kept q old
 
 -- the pool, which still has its shape and these fills, has counted the first p pages, and the row where page p is
 pub record HasPlaced (sh : Shape) (f : Fields) (p : ℕ) (old_fills : List ℕ) (pool : Pool) : Type 0 where

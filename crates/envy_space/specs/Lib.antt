@@ -1,3 +1,4 @@
+pub mod Noting
 pub mod Order
 pub mod Pool
 pub mod Winners

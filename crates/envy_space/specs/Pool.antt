@@ -65,6 +65,13 @@ with_filled s n p = record p { fills = slice_set p.fills s n }
 abbrev pub with_kept : ℕ → ℕ → Pool → Pool
 with_kept s n p = record p { kept = slice_set p.kept s n }
 
+-- after a note that row q is kept, or that it is dead
+abbrev pub noted_kept : ℕ → Pool → Pool
+noted_kept q p = with_kept (q / p.shape.rows) (slice_index p.kept (q / p.shape.rows) + 1) p
+
+abbrev pub noted_dead : ℕ → Pool → Pool
+noted_dead q p = with_kept (q / p.shape.rows) (slice_index p.kept (q / p.shape.rows) - 1) p
+
 abbrev pub with_segment_at : ℕ → ℕ → Pool → Pool
 with_segment_at k s p = record p { positions = slice_set p.positions k s }
 
@@ -96,6 +103,7 @@ pub record IsPoolOf (sh : Shape) (slots : List (Option Slot)) (undos : List (Opt
   pub shape : p.shape ≡ sh
   pub fills : p.fills ≡ map_fills
   pub positions : p.positions ≡ map_positions
+  pub long : length p.kept ≡ sh.segments
   pub kept : (s : ℕ) → s < sh.segments → slice_index p.kept s ≡ kept_in sh slots undos places s
 
 abbrev pub PoolAgrees : Shape → Fields → Pool → Type 0

@@ -6,10 +6,12 @@
 #![tactic(auto)]
 
 mod claim;
+mod laws;
 mod nodes;
 mod order;
 mod rebuild;
 mod space;
 mod winners;
 
+pub use laws::notes_follow_a_page;
 pub use space::Space;

@@ -1,7 +1,7 @@
 ghost use Rattle.std.specs.Prelude.{◌≡◌, ◌+◌, ◌-◌, ◌*◌, ◌/◌, ◌<◌, ◌≤◌, IfOk, slice_index};
 ghost use Rattle.envy_base.specs.Shape.{IsShape};
 ghost use Rattle.envy_layout.specs.Sound.{IsSpare};
-ghost use Rattle.envy_space.specs.Pool.{Pool, IsPool, empty_pool, free_rows, dead_rows, free_between, dead_at, with_filled, with_kept, StandsAt};
+ghost use Rattle.envy_space.specs.Pool.{Pool, IsPool, empty_pool, free_rows, dead_rows, free_between, dead_at, with_filled, with_kept, noted_kept, noted_dead, StandsAt};
 ghost use Rattle.envy_space.specs.Winners.{Wins};
 
 use crate::order::Order;
@@ -134,8 +134,7 @@ impl Space {
         requires row { row < self.old.shape.segments * self.old.shape.rows }
         requires room { let segment = row / self.old.shape.rows in
             slice_index self.old.kept segment < slice_index self.old.fills segment }
-        ensures { let segment = row / self.old.shape.rows in
-            self.new ≡ with_kept segment (slice_index self.old.kept segment + 1) self.old }
+        ensures { self.new ≡ noted_kept row self.old }
     {
         let segment = row / self.shape.rows;
         self.set_kept(segment, self.kept(segment) + 1);
@@ -145,8 +144,7 @@ impl Space {
     pub fn note_dead(&mut self, row: u32)
         requires row { row < self.old.shape.segments * self.old.shape.rows }
         requires some { 0 < slice_index self.old.kept (row / self.old.shape.rows) }
-        ensures { let segment = row / self.old.shape.rows in
-            self.new ≡ with_kept segment (slice_index self.old.kept segment - 1) self.old }
+        ensures { self.new ≡ noted_dead row self.old }
     {
         let segment = row / self.shape.rows;
         self.set_kept(segment, self.kept(segment) - 1);

@@ -12,6 +12,7 @@ agrees sh f pool (Ok done) shape fills positions counted = record {
   shape = shape;
   fills = fills;
   positions = positions;
+  long = counted.long;
   kept = λ s lt. counted.counted s lt ∙ kept_in-pages sh f.slots f.undos f.places s;
 }
 agrees sh f pool (Err off) shape fills positions counted = tt
