@@ -75,8 +75,8 @@ placed-row sh f p q old new shape counted here range notes =
       fills = refl;
       long = length-set old.kept (q / sh.rows) _ ∙ counted.long;
       counted = λ s lt.
-        let room : q / sh.rows < length old.kept = rw counted.long low in
-        rw here (let was = counted.counted s lt in let rise = risen old.kept (q / sh.rows) s room in omega arith);
+          let room : q / sh.rows < length old.kept = rw counted.long low in
+          rw here (let was = counted.counted s lt in let rise = risen old.kept (q / sh.rows) s room in omega arith);
     })
 
 placed-none : (sh : Shape) (f : Fields) (p : ℕ) (now : Place) (old : Pool) → old.shape ≡ sh → HasCounted sh f p old → place f p ≡ Some now → ((q : ℕ) → now ≡ Row q → ⊥) → HasPlaced sh f p old.fills old
@@ -128,22 +128,22 @@ HasCounted-shadow sh f p q fills old new placed shadow range notes =
     subst (λ (x : Pool). HasCounted sh f (p + 1) x) (sym (in_segment sh q old new placed.shape notes)) (record {
       long = length-set old.kept (q / sh.rows) _ ∙ placed.long;
       counted = λ s lt.
-        let room : q / sh.rows < length old.kept = rw placed.long low in
-        let was = placed.counted s lt in
-        let rise = risen old.kept (q / sh.rows) s room in
-        let more = kept_in_first_more sh f p s in
-        let one : bit (is_shadow_in sh.rows s (place f p) (kept f p)) ≡ bit (eqb (q / sh.rows) s) = ap bit (shadow_some sh.rows s q (place f p) (kept f p) shadow) in
-        omega arith;
+          let room : q / sh.rows < length old.kept = rw placed.long low in
+          let was = placed.counted s lt in
+          let rise = risen old.kept (q / sh.rows) s room in
+          let more = kept_in_first_more sh f p s in
+          let one : bit (is_shadow_in sh.rows s (place f p) (kept f p)) ≡ bit (eqb (q / sh.rows) s) = ap bit (shadow_some sh.rows s q (place f p) (kept f p) shadow) in
+          omega arith;
     })
 
 pub HasCounted-no_shadow : (sh : Shape) (f : Fields) (p : ℕ) (fills : List ℕ) (old : Pool) → HasPlaced sh f p fills old → IsShadow (place f p) (kept f p) None → HasCounted sh f (p + 1) old
 HasCounted-no_shadow sh f p fills old placed shadow = record {
   long = placed.long;
   counted = λ s lt.
-    let was = placed.counted s lt in
-    let more = kept_in_first_more sh f p s in
-    let none : bit (is_shadow_in sh.rows s (place f p) (kept f p)) ≡ 0 = ap bit (shadow_none sh.rows s (place f p) (kept f p) shadow) in
-    omega arith;
+      let was = placed.counted s lt in
+      let more = kept_in_first_more sh f p s in
+      let none : bit (is_shadow_in sh.rows s (place f p) (kept f p)) ≡ 0 = ap bit (shadow_none sh.rows s (place f p) (kept f p) shadow) in
+      omega arith;
 }
 
 -- there is room to count a row that a page names

@@ -48,7 +48,7 @@ fallen sh xs q s lt some = at (cases_eq (q / sh.rows) s)
     at : (q / sh.rows ≡ s) ⊎ (q / sh.rows ≡ s → ⊥) → get_or (set xs (q / sh.rows) (get_or xs (q / sh.rows) 0 - 1)) s 0 + lies_in sh q s ≡ get_or xs s 0
     at (inl same) =
         let here : get_or (set xs (q / sh.rows) (get_or xs (q / sh.rows) 0 - 1)) s 0 ≡ get_or xs (q / sh.rows) 0 - 1 =
-          ap (λ (t : ℕ). get_or (set xs (q / sh.rows) (get_or xs (q / sh.rows) 0 - 1)) t 0) (sym same) ∙ get_or-set_same xs (q / sh.rows) (get_or xs (q / sh.rows) 0 - 1) 0 lt in
+        ap (λ (t : ℕ). get_or (set xs (q / sh.rows) (get_or xs (q / sh.rows) 0 - 1)) t 0) (sym same) ∙ get_or-set_same xs (q / sh.rows) (get_or xs (q / sh.rows) 0 - 1) 0 lt in
         let was : get_or xs s 0 ≡ get_or xs (q / sh.rows) 0 = ap (λ (t : ℕ). get_or xs t 0) (sym same) in
         let one = lies_in-same sh q s same in
         omega arith
@@ -96,10 +96,12 @@ pub PoolAgrees-dead : (sh : Shape) (f g : Fields) (p q : ℕ) (pool : Pool) → 
 PoolAgrees-dead sh f g p q pool changes names =
     let low = segment_fits sh q names.range in
     let long = changes.agrees.long in
-    let some = some-dead sh f g p q pool changes names in
-    (some, subst (λ (x : Pool). PoolAgrees sh g x) (sym (own_rows_dead sh q pool changes.agrees.shape))
-    (PoolAgrees-page sh f g p pool (set pool.kept (q / sh.rows) (get_or pool.kept (q / sh.rows) 0 - 1)) changes (length-set pool.kept (q / sh.rows) _ ∙ long)
-    (λ s lt. let fall = fallen sh pool.kept q s (omega arith) some in let more = names.more s in omega arith)))
+    let some = some-dead sh f g p q pool changes names in (
+      some,
+      subst (λ (x : Pool). PoolAgrees sh g x) (sym (own_rows_dead sh q pool changes.agrees.shape))
+          (PoolAgrees-page sh f g p pool (set pool.kept (q / sh.rows) (get_or pool.kept (q / sh.rows) 0 - 1)) changes (length-set pool.kept (q / sh.rows) _ ∙ long)
+          (λ s lt. let fall = fallen sh pool.kept q s (omega arith) some in let more = names.more s in omega arith)),
+    )
 
 -- a segment has at least the kept rows that one page names in it
 page-le-kept_in : (sh : Shape) (f : Fields) (p s : ℕ) → p < sh.pages → rows_of_page sh f p s ≤ kept_in sh f.slots f.undos f.places s
@@ -110,16 +112,18 @@ page-le-kept_in sh f p s lt =
 
 pub PoolAgrees-moved : (sh : Shape) (f g : Fields) (flash : List (List ℕ)) (p r q : ℕ) (pool : Pool) → ChangesPage sh f g p pool → NamesInPlace sh f g p r q → Sound sh g flash
     → (0 < get_or pool.kept (r / sh.rows) 0) × (get_or (noted_dead r pool).kept (q / sh.rows) 0 < get_or pool.fills (q / sh.rows) 0) × PoolAgrees sh g (noted_kept q (noted_dead r pool))
-PoolAgrees-moved sh f g flash p r q pool changes names sound =
-    (some, subst (λ (x : Pool). get_or x.kept (q / sh.rows) 0 < get_or pool.fills (q / sh.rows) 0) (sym dead_is) room,
-    subst (λ (x : Pool). PoolAgrees sh g x) (sym (ap (noted_kept q) dead_is ∙ own_rows sh q (with_kept (r / sh.rows) (get_or pool.kept (r / sh.rows) 0 - 1) pool) changes.agrees.shape))
-    (PoolAgrees-page sh f g p pool (set fewer (q / sh.rows) (get_or fewer (q / sh.rows) 0 + 1)) changes (length-set fewer (q / sh.rows) _ ∙ long)
-    (λ s lt.
+PoolAgrees-moved sh f g flash p r q pool changes names sound = (
+  some,
+  subst (λ (x : Pool). get_or x.kept (q / sh.rows) 0 < get_or pool.fills (q / sh.rows) 0) (sym dead_is) room,
+  subst (λ (x : Pool). PoolAgrees sh g x) (sym (ap (noted_kept q) dead_is ∙ own_rows sh q (with_kept (r / sh.rows) (get_or pool.kept (r / sh.rows) 0 - 1) pool) changes.agrees.shape))
+      (PoolAgrees-page sh f g p pool (set fewer (q / sh.rows) (get_or fewer (q / sh.rows) 0 + 1)) changes (length-set fewer (q / sh.rows) _ ∙ long)
+      (λ s lt.
       let rise : get_or (set fewer (q / sh.rows) (get_or fewer (q / sh.rows) 0 + 1)) s 0 ≡ get_or fewer s 0 + lies_in sh q s = risen fewer (q / sh.rows) s (rw long low) in
       let fall = falls s in
       let before = names.before s in
       let after = names.after s in
-      omega arith)))
+      omega arith)),
+)
   where
     low : q / sh.rows < sh.segments
     low = segment_fits sh q names.range

@@ -18,7 +18,7 @@ use Rattle.envy_space.specs.Pool.{Pool, IsPool, IsPoolOf, PoolAgrees, Claims, Cl
 pub PoolAgrees-claimed : (c new : Chart) (old pool : Pool) (s q p n : ℕ) → PoolAgrees c.shape c.fields old → new ≡ with_fields c (with_fill s n (with_back q p c.fields)) → pool ≡ with_filled s n old → PoolAgrees new.shape new.fields pool
 PoolAgrees-claimed c new old pool s q p n agrees new_is pool_is =
     let made : PoolAgrees c.shape (with_fill s n (with_back q p c.fields)) (with_filled s n old) =
-      record { shape = agrees.shape; fills = ap (λ (xs : List ℕ). set xs s n) agrees.fills; positions = agrees.positions; long = agrees.long; kept = agrees.kept } in
+    record { shape = agrees.shape; fills = ap (λ (xs : List ℕ). set xs s n) agrees.fills; positions = agrees.positions; long = agrees.long; kept = agrees.kept } in
     subst (λ (x : Chart). PoolAgrees x.shape x.fields pool) (sym new_is)
     (subst (λ (y : Pool). PoolAgrees c.shape (with_fill s n (with_back q p c.fields)) y) (sym pool_is) made)
 
@@ -40,7 +40,7 @@ Claimed-made c new s p n q sound lt room is row usable new_is =
     let place : q % c.shape.rows ≡ n = rw row (mod-mul-add s c.shape.rows n room) in
     let level : get_or c.fields.fills (q / c.shape.rows) 0 ≡ n = ap (λ (t : ℕ). get_or c.fields.fills t 0) segment ∙ is in
     let raised : get_or (set c.fields.fills s (n + 1)) (q / c.shape.rows) 0 ≡ n + 1 =
-      ap (λ (t : ℕ). get_or (set c.fields.fills s (n + 1)) t 0) segment ∙ get_or-set_same c.fields.fills s (n + 1) 0 (rw (Numbers.fills_long (Sound.numbers sound)) lt) in
+    ap (λ (t : ℕ). get_or (set c.fields.fills s (n + 1)) t 0) segment ∙ get_or-set_same c.fields.fills s (n + 1) 0 (rw (Numbers.fills_long (Sound.numbers sound)) lt) in
     subst (λ (x : Chart). Claimed x s p q) (sym new_is) (record {
       range = range;
       segment = segment;
@@ -70,6 +70,6 @@ StandsAt-spare k e old new lt pool spare stands =
 pub PoolAgrees-replaced : (c new : Chart) (old pool : Pool) (k e : ℕ) → PoolAgrees c.shape c.fields old → new ≡ with_fields c (with_position k e c.fields) → pool ≡ with_segment_at k e old → PoolAgrees new.shape new.fields pool
 PoolAgrees-replaced c new old pool k e agrees new_is pool_is =
     let made : PoolAgrees c.shape (with_position k e c.fields) (with_segment_at k e old) =
-      record { shape = agrees.shape; fills = agrees.fills; positions = ap (λ (xs : List ℕ). set xs k e) agrees.positions; long = agrees.long; kept = agrees.kept } in
+    record { shape = agrees.shape; fills = agrees.fills; positions = ap (λ (xs : List ℕ). set xs k e) agrees.positions; long = agrees.long; kept = agrees.kept } in
     subst (λ (x : Chart). PoolAgrees x.shape x.fields pool) (sym new_is)
     (subst (λ (y : Pool). PoolAgrees c.shape (with_position k e c.fields) y) (sym pool_is) made)

@@ -127,7 +127,7 @@ Narrowed-low n first end low high nodes left right tree fits lt was =
       from = omega arith;
       to = was.to;
       before = IsRun-better (score_in n nodes) first was.a (was.a + 2 ^ was.level) left (node nodes low) from (omega arith) was.before
-        (IsRun-node n nodes tree was.level low was.a (was.a + 2 ^ was.level) starts (omega arith) (omega arith));
+          (IsRun-node n nodes tree was.level low was.a (was.a + 2 ^ was.level) starts (omega arith) (omega arith));
       after = was.after;
     }
 
@@ -150,7 +150,7 @@ Narrowed-high n first end low high nodes left right tree fits le was =
       to = omega arith;
       before = was.before;
       after = IsRun-better (score_in n nodes) (was.b - 2 ^ was.level) was.b end (node nodes high) right (omega arith) to
-        (IsRun-node n nodes tree was.level high (was.b - 2 ^ was.level) was.b (omega arith) stops (omega arith)) was.after;
+          (IsRun-node n nodes tree was.level high (was.b - 2 ^ was.level) was.b (omega arith) stops (omega arith)) was.after;
     }
 
 -- a level up

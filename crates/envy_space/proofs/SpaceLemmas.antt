@@ -32,8 +32,8 @@ take-range m n le =
     let short = length-range_with_len 0 m in
     let taken = length-take m (range_with_len 0 n) in
     ext_get_or 0 _ _ (omega arith) (λ k lt.
-      let low : k < m = omega arith in
-      get_or-take m (range_with_len 0 n) k 0 low ∙ get_or-range_with_len 0 n k 0 (omega arith) ∙ sym (get_or-range_with_len 0 m k 0 low))
+    let low : k < m = omega arith in
+    get_or-take m (range_with_len 0 n) k 0 low ∙ get_or-range_with_len 0 n k 0 (omega arith) ∙ sym (get_or-range_with_len 0 m k 0 low))
 
 abbrev pub pool_of : Shape → List ℕ → List ℕ → List ℕ → Pool
 pool_of sh fills kept order = record { shape = sh; fills = fills; kept = kept; positions = take (sh.segments - 1) order }
@@ -72,10 +72,10 @@ IsSpace-swap sh fills kept order dead then_order then_dead i j low lower was ord
   kept_fit = was.kept_fit;
   ordered = ordered;
   scores = λ k lt.
-    let from = swapped sh.segments i j k low lower lt in
-    let order_at : get_or then_order k 0 ≡ get_or order from.0 0 = ap (λ (xs : List ℕ). get_or xs k 0) order_is ∙ from.2 order was.order_long in
-    let dead_at : get_or then_dead k 0 ≡ get_or dead from.0 0 = ap (λ (xs : List ℕ). get_or xs k 0) dead_is ∙ from.2 dead was.dead_long in
-    dead_at ∙ was.scores from.0 from.1 ∙ ap (λ (s : ℕ). get_or fills s 0 - get_or kept s 0) (sym order_at);
+      let from = swapped sh.segments i j k low lower lt in
+      let order_at : get_or then_order k 0 ≡ get_or order from.0 0 = ap (λ (xs : List ℕ). get_or xs k 0) order_is ∙ from.2 order was.order_long in
+      let dead_at : get_or then_dead k 0 ≡ get_or dead from.0 0 = ap (λ (xs : List ℕ). get_or xs k 0) dead_is ∙ from.2 dead was.dead_long in
+      dead_at ∙ was.scores from.0 from.1 ∙ ap (λ (s : ℕ). get_or fills s 0 - get_or kept s 0) (sym order_at);
 }
 
 pub IsPool-space : (sh : Shape) (fills kept order dead : List ℕ) → IsSpace sh fills kept order dead → IsPool (pool_of sh fills kept order)
@@ -103,7 +103,7 @@ StandsAt-swap sh fills kept order dead then_order then_dead i j s low lower here
       kept = refl;
       here = get_or-take (sh.segments - 1) then_order i 0 low ∙ ap (λ (xs : List ℕ). get_or xs i 0) order_is ∙ swapped_first order i j (omega arith) (omega arith) ∙ here;
       others = λ k lt apart other.
-        get_or-take (sh.segments - 1) then_order k 0 lt ∙ ap (λ (xs : List ℕ). get_or xs k 0) order_is
-        ∙ swapped_other order i j k (omega arith) (omega arith) apart (λ same. other (get_or-take (sh.segments - 1) order k 0 lt ∙ ap (λ (p : ℕ). get_or order p 0) same ∙ here))
-        ∙ sym (get_or-take (sh.segments - 1) order k 0 lt);
+          get_or-take (sh.segments - 1) then_order k 0 lt ∙ ap (λ (xs : List ℕ). get_or xs k 0) order_is
+          ∙ swapped_other order i j k (omega arith) (omega arith) apart (λ same. other (get_or-take (sh.segments - 1) order k 0 lt ∙ ap (λ (p : ℕ). get_or order p 0) same ∙ here))
+          ∙ sym (get_or-take (sh.segments - 1) order k 0 lt);
     }

@@ -11,6 +11,8 @@ mod nodes;
 mod order;
 mod rebuild;
 mod space;
+#[cfg(test)]
+mod tests;
 mod winners;
 
 pub use laws::notes_follow_a_page;

@@ -16,7 +16,11 @@ impl Entry {
     fn or_better(self, other: Entry) -> Entry
         ensures { result ≡ better self other }
     {
-        if other.score > self.score { other } else { self }
+        if other.score > self.score {
+            other
+        } else {
+            self
+        }
     }
 }
 

@@ -26,7 +26,7 @@ pub note_kept-requires-in-Some-clause-room : goal.note_kept-requires-in-Some-cla
 note_kept-requires-in-Some-clause-room g c =
     let now = chart (g.B.Board.state c.args.board.now) in
     let noted : ((q : ℕ) × (c.in_ok-now.now ≡ Row q) × Notes q c.args.self.now c.match-now.self) ⊎ (((q : ℕ) → c.in_ok-now.now ≡ Row q → ⊥) × (c.match-now.self ≡ c.args.self.now)) =
-      elim c.match-now.branch [ in-Row w ↦ inl (w.in-Row.row, w.in-Row.is, w.self-is ∙ w.note_kept.ensures) | in_default w ↦ inr (w.in_default.not-Row, w.self-is) ] in
+    elim c.match-now.branch [ in-Row w ↦ inl (w.in-Row.row, w.in-Row.is, w.self-is ∙ w.note_kept.ensures) | in_default w ↦ inr (w.in_default.not-Row, w.self-is) ] in
     let placed = HasPlaced-page now.shape now.fields now.flash c.args.page c.in_ok-now.now c.args.self.now c.match-now.self c.requires.sound c.requires.shape c.requires.counted c.in_ok-now.ensures.value.1 noted in
     let shadow = shadow_at now.fields c.args.page c.in_ok-now.now _ (Some c.in-Some.row) c.in_ok-now.ensures.value.1 c.in-Some.is c.in_ok-shadow.ensures.shadow in
     let range = subst (λ (o : Option ℕ). IfSome o (λ (q : ℕ). q < now.shape.segments * now.shape.rows)) c.in-Some.is c.in_ok-shadow.ensures.range in
@@ -36,7 +36,7 @@ pub returns-in-Some-clause-counted : goal.returns-in-Some-clause-counted
 returns-in-Some-clause-counted g c =
     let now = chart (g.B.Board.state c.args.board.now) in
     let noted : ((q : ℕ) × (c.in_ok-now.now ≡ Row q) × Notes q c.args.self.now c.match-now.self) ⊎ (((q : ℕ) → c.in_ok-now.now ≡ Row q → ⊥) × (c.match-now.self ≡ c.args.self.now)) =
-      elim c.match-now.branch [ in-Row w ↦ inl (w.in-Row.row, w.in-Row.is, w.self-is ∙ w.note_kept.ensures) | in_default w ↦ inr (w.in_default.not-Row, w.self-is) ] in
+    elim c.match-now.branch [ in-Row w ↦ inl (w.in-Row.row, w.in-Row.is, w.self-is ∙ w.note_kept.ensures) | in_default w ↦ inr (w.in_default.not-Row, w.self-is) ] in
     let placed = HasPlaced-page now.shape now.fields now.flash c.args.page c.in_ok-now.now c.args.self.now c.match-now.self c.requires.sound c.requires.shape c.requires.counted c.in_ok-now.ensures.value.1 noted in
     let shadow = shadow_at now.fields c.args.page c.in_ok-now.now _ (Some c.in-Some.row) c.in_ok-now.ensures.value.1 c.in-Some.is c.in_ok-shadow.ensures.shadow in
     let range = subst (λ (o : Option ℕ). IfSome o (λ (q : ℕ). q < now.shape.segments * now.shape.rows)) c.in-Some.is c.in_ok-shadow.ensures.range in
@@ -46,7 +46,7 @@ pub returns-in_default-shadow-clause-counted : goal.returns-in_default-shadow-cl
 returns-in_default-shadow-clause-counted g c =
     let now = chart (g.B.Board.state c.args.board.now) in
     let noted : ((q : ℕ) × (c.in_ok-now.now ≡ Row q) × Notes q c.args.self.now c.match-now.self) ⊎ (((q : ℕ) → c.in_ok-now.now ≡ Row q → ⊥) × (c.match-now.self ≡ c.args.self.now)) =
-      elim c.match-now.branch [ in-Row w ↦ inl (w.in-Row.row, w.in-Row.is, w.self-is ∙ w.note_kept.ensures) | in_default w ↦ inr (w.in_default.not-Row, w.self-is) ] in
+    elim c.match-now.branch [ in-Row w ↦ inl (w.in-Row.row, w.in-Row.is, w.self-is ∙ w.note_kept.ensures) | in_default w ↦ inr (w.in_default.not-Row, w.self-is) ] in
     let placed = HasPlaced-page now.shape now.fields now.flash c.args.page c.in_ok-now.now c.args.self.now c.match-now.self c.requires.sound c.requires.shape c.requires.counted c.in_ok-now.ensures.value.1 noted in
     let shadow = shadow_at now.fields c.args.page c.in_ok-now.now _ None c.in_ok-now.ensures.value.1 (none_left c.in_ok-shadow.shadow c.in_default-shadow.not-Some) c.in_ok-shadow.ensures.shadow in
     HasCounted-no_shadow now.shape now.fields c.args.page c.args.self.now.fills c.match-now.self placed shadow

@@ -20,11 +20,13 @@ returns-clause-replaces g c =
     let before = chart (g.B.Board.state c.args.board.now) in
     let written = c.in_ok-replace_segment.ensures.fields in
     let was_on : IsTrue before.on = sym (ap (λ (x : Chart). x.on) written) ∙ c.in_ok-replace_segment.ensures.on in
-    let agrees = c.requires.agrees was_on in
-    (c.spare-spare.result, record {
-      spare = subst (λ (sh : Shape). IsSpare sh before.fields.positions c.spare-spare.result) c.requires.shape
-        (subst (λ (xs : List ℕ). IsSpare c.args.self.now.shape xs c.spare-spare.result) (IsPoolOf.positions agrees) c.spare-spare.ensures.spare);
-      fields = written;
-      pool = StandsAt-spare c.args.position c.spare-spare.result c.args.self.now c.stand.new.self c.requires.position c.spare-spare.ensures.pool c.spare-spare.ensures.spare c.stand.ensures;
-      freed = c.in_ok-replace_segment.ensures.freed;
-    })
+    let agrees = c.requires.agrees was_on in (
+      c.spare-spare.result,
+      record {
+        spare = subst (λ (sh : Shape). IsSpare sh before.fields.positions c.spare-spare.result) c.requires.shape
+            (subst (λ (xs : List ℕ). IsSpare c.args.self.now.shape xs c.spare-spare.result) (IsPoolOf.positions agrees) c.spare-spare.ensures.spare);
+        fields = written;
+        pool = StandsAt-spare c.args.position c.spare-spare.result c.args.self.now c.stand.new.self c.requires.position c.spare-spare.ensures.pool c.spare-spare.ensures.spare c.stand.ensures;
+        freed = c.in_ok-replace_segment.ensures.freed;
+      },
+    )
