@@ -1,0 +1,210 @@
+-- The best entries of runs of places, and of the run below a node.
+use Rattle.std.proofs.Common.{◌≡◌, ◌⊎◌, inl, inr, Option, None, Some, ℕ, zero, suc, ◌+◌, ◌-◌, ◌*◌, ◌/◌, ◌%◌, ◌^◌, ◌<◌, ◌≤◌, Bool, true, false, cond, List, refl, sym, ◌∙◌, ap, subst, arith}
+use Rattle.std.specs.Prelude.{nat_lt}
+use Rattle.std.proofs.lemmas.Bool.{cases_lt, ltb-true, ltb-false}
+use Rattle.std.proofs.Math.Nat.{two-pow-succ, mul-le-mul_left, mul-le-mul_right}
+use Rattle.std.proofs.lemmas.Nat.{pow_pos}
+use Rattle.envy_space.specs.declared.nodes.Entry.{Entry}
+use Rattle.envy_space.specs.Winners.{AreNodes, IsTree, IsRight, IsRun, IsWinner, Wins, nobody, node, better, score_in}
+
+-- the better of the best of two runs side by side is the best of both
+pub IsRun-better : (score : ℕ → ℕ) (first mid end : ℕ) (a b : Entry) → first ≤ mid → mid ≤ end → IsRun score first mid a → IsRun score mid end b → IsRun score first end (better a b)
+IsRun-better score first mid end a b low high left right = at (nat_lt a.score b.score) refl
+  where
+    in_left : a.score < b.score → (k : ℕ) → first ≤ k → k < end → (k < mid) ⊎ (mid ≤ k) → score k ≤ b.score
+    in_left less k above below (inl lt) = let most = left.most k above lt in omega arith
+    in_left less k above below (inr ge) = right.most k ge below
+
+    lower : a.score < b.score → 0 < b.score → (k : ℕ) → first ≤ k → k < b.place → (k < mid) ⊎ (mid ≤ k) → score k < b.score
+    lower less some k above below (inl lt) = let most = left.most k above lt in omega arith
+    lower less some k above below (inr ge) = right.lowest some k ge below
+
+    in_right : b.score ≤ a.score → (k : ℕ) → first ≤ k → k < end → (k < mid) ⊎ (mid ≤ k) → score k ≤ a.score
+    in_right more k above below (inl lt) = left.most k above lt
+    in_right more k above below (inr ge) = let most = right.most k ge below in omega arith
+
+    at : (t : Bool) → nat_lt a.score b.score ≡ t → IsRun score first end (cond (nat_lt a.score b.score) b a)
+    at true e =
+        let less = ltb-true a.score b.score e in
+        rw e (record {
+          most = λ k above below. in_left less k above below (cases_lt k mid);
+          above = λ some. let more = right.above some in omega arith;
+          below = right.below;
+          has = right.has;
+          lowest = λ some k above below. lower less some k above below (cases_lt k mid);
+        })
+    at false e =
+        let more = ltb-false a.score b.score e in
+        rw e (record {
+          most = λ k above below. in_right more k above below (cases_lt k mid);
+          above = left.above;
+          below = λ some. let less = left.below some in omega arith;
+          has = left.has;
+          lowest = left.lowest;
+        })
+
+-- no place, and one
+pub IsRun-none : (score : ℕ → ℕ) (first : ℕ) → IsRun score first first nobody
+IsRun-none score first = record {
+  most = λ k low high. absurd (omega arith);
+  above = λ some. absurd (omega arith);
+  below = λ some. absurd (omega arith);
+  has = λ some. absurd (omega arith);
+  lowest = λ some. absurd (omega arith);
+}
+
+IsRun-one : (score : ℕ → ℕ) (k end : ℕ) (e : Entry) → end ≡ k + 1 → e.place ≡ k → score k ≡ e.score → IsRun score k end e
+IsRun-one score k end e next here is = record {
+  most = λ j low high. let same : score j ≡ score k = ap score (omega arith) in omega arith;
+  above = λ some. omega arith;
+  below = λ some. omega arith;
+  has = λ some. ap score here ∙ is;
+  lowest = λ some j low high. absurd (omega arith);
+}
+
+-- a node so far above the places stands over a run of them
+pub IsRun-node : (n : ℕ) (nodes : List Entry) → IsTree n nodes → (d i a b : ℕ) → a + n ≡ i * 2 ^ d → b + n ≡ (i + 1) * 2 ^ d → b ≤ n → IsRun (score_in n nodes) a b (node nodes i)
+IsRun-node n nodes tree zero i a b starts stops fits =
+    let place = tree.are.places a (omega arith) in
+    let at : n + a ≡ i = omega arith in
+    IsRun-one (score_in n nodes) a b (node nodes i) (omega arith) (ap (λ (j : ℕ). (node nodes j).place) (sym at) ∙ place) (ap (λ (j : ℕ). (node nodes j).score) at)
+IsRun-node n nodes tree (suc d) zero a b starts stops fits = let some = tree.are.some in absurd (omega arith)
+IsRun-node n nodes tree (suc d) (suc i) a b starts stops fits =
+    let wide = two-pow-succ d in
+    let some : 1 ≤ 2 ^ d = pow_pos d in
+    let start : a + n ≡ 2 * suc i * 2 ^ d = starts ∙ ap (λ (w : ℕ). suc i * w) wide ∙ omega arith in
+    let stop : b + n ≡ (2 * suc i + 1 + 1) * 2 ^ d = stops ∙ ap (λ (w : ℕ). (suc i + 1) * w) wide ∙ omega arith in
+    let few = mul-le-mul_left (suc i + 1) some in
+    let low : suc i < n = omega arith in
+    subst (λ (e : Entry). IsRun (score_in n nodes) a b e) (sym (tree.right (suc i) (omega arith) low))
+    (IsRun-better (score_in n nodes) a (a + 2 ^ d) b (node nodes (2 * suc i)) (node nodes (2 * suc i + 1)) (omega arith) (omega arith)
+    (IsRun-node n nodes tree d (2 * suc i) a (a + 2 ^ d) start (omega arith) (omega arith))
+    (IsRun-node n nodes tree d (2 * suc i + 1) (a + 2 ^ d) b (omega arith) stop fits))
+
+-- What is left of a run lies below the nodes from low to below high, so many levels above the places. The
+-- best of what is done stands in two entries, for the places before it and for those after it.
+pub record Narrowed (score : ℕ → ℕ) (n first end low high : ℕ) (left right : Entry) : Type 0 where
+  pub level : ℕ
+  pub a : ℕ
+  pub b : ℕ
+  pub starts : a + n ≡ low * 2 ^ level
+  pub stops : b + n ≡ high * 2 ^ level
+  pub order : low ≤ high
+  pub from : first ≤ a
+  pub to : b ≤ end
+  pub before : IsRun score first a left
+  pub after : IsRun score b end right
+
+pub Narrowed-start : (score : ℕ → ℕ) (n first end : ℕ) → first ≤ end → Narrowed score n first end (n + first) (n + end) nobody nobody
+Narrowed-start score n first end le = record {
+  level = 0;
+  a = first;
+  b = end;
+  starts = omega arith;
+  stops = omega arith;
+  order = omega arith;
+  from = omega arith;
+  to = omega arith;
+  before = IsRun-none score first;
+  after = IsRun-none score end;
+}
+
+-- the first node is done
+pub Narrowed-low : (n first end low high : ℕ) (nodes : List Entry) (left right : Entry) → IsTree n nodes → end ≤ n → low < high → Narrowed (score_in n nodes) n first end low high left right → Narrowed (score_in n nodes) n first end (low + 1) high (better left (node nodes low)) right
+Narrowed-low n first end low high nodes left right tree fits lt was =
+    let starts = was.starts in
+    let stops = was.stops in
+    let less = mul-le-mul_right (2 ^ was.level) lt in
+    let from = was.from in
+    let to = was.to in
+    record {
+      level = was.level;
+      a = was.a + 2 ^ was.level;
+      b = was.b;
+      starts = omega arith;
+      stops = was.stops;
+      order = omega arith;
+      from = omega arith;
+      to = was.to;
+      before = IsRun-better (score_in n nodes) first was.a (was.a + 2 ^ was.level) left (node nodes low) from (omega arith) was.before
+          (IsRun-node n nodes tree was.level low was.a (was.a + 2 ^ was.level) starts (omega arith) (omega arith));
+      after = was.after;
+    }
+
+-- the last node is done
+pub Narrowed-high : (n first end low high : ℕ) (nodes : List Entry) (left right : Entry) → IsTree n nodes → end ≤ n → low ≤ high → Narrowed (score_in n nodes) n first end low (high + 1) left right → Narrowed (score_in n nodes) n first end low high left (better (node nodes high) right)
+Narrowed-high n first end low high nodes left right tree fits le was =
+    let starts = was.starts in
+    let stops = was.stops in
+    let less = mul-le-mul_right (2 ^ was.level) le in
+    let from = was.from in
+    let to = was.to in
+    record {
+      level = was.level;
+      a = was.a;
+      b = was.b - 2 ^ was.level;
+      starts = was.starts;
+      stops = omega arith;
+      order = le;
+      from = was.from;
+      to = omega arith;
+      before = was.before;
+      after = IsRun-better (score_in n nodes) (was.b - 2 ^ was.level) was.b end (node nodes high) right (omega arith) to
+          (IsRun-node n nodes tree was.level high (was.b - 2 ^ was.level) was.b (omega arith) stops (omega arith)) was.after;
+    }
+
+-- a level up
+pub Narrowed-up : (score : ℕ → ℕ) (n first end low high : ℕ) (left right : Entry) → Narrowed score n first end (2 * low) (2 * high) left right → Narrowed score n first end low high left right
+Narrowed-up score n first end low high left right was =
+    let order = was.order in
+    record {
+      level = suc was.level;
+      a = was.a;
+      b = was.b;
+      starts = was.starts ∙ (omega arith) ∙ ap (λ (w : ℕ). low * w) (sym (two-pow-succ was.level));
+      stops = was.stops ∙ (omega arith) ∙ ap (λ (w : ℕ). high * w) (sym (two-pow-succ was.level));
+      order = omega arith;
+      from = was.from;
+      to = was.to;
+      before = was.before;
+      after = was.after;
+    }
+
+-- nothing is left
+pub Narrowed-end : (score : ℕ → ℕ) (n first end low high : ℕ) (left right : Entry) → high ≤ low → Narrowed score n first end low high left right → IsRun score first end (better left right)
+Narrowed-end score n first end low high left right le was =
+    let starts = was.starts in
+    let stops = was.stops in
+    let order = was.order in
+    let same : low * 2 ^ was.level ≡ high * 2 ^ was.level = ap (λ (i : ℕ). i * 2 ^ was.level) (omega arith) in
+    let met : was.b ≡ was.a = omega arith in
+    IsRun-better score first was.a end left right was.from (let to = was.to in omega arith) was.before (subst (λ (b : ℕ). IsRun score b end right) met was.after)
+
+-- the best entry of a run tells its winner
+pub Wins-run_none : (score : ℕ → ℕ) (first last : ℕ) (e : Entry) → IsRun score first (last + 1) e → e.score ≡ 0 → Wins score first last None
+Wins-run_none score first last e run none k low high = let most = run.most k low (omega arith) in omega arith
+
+pub IsWinner-run : (score : ℕ → ℕ) (first last : ℕ) (e : Entry) → IsRun score first (last + 1) e → 0 < e.score → IsWinner score first last e.place
+IsWinner-run score first last e run some =
+    let below = run.below some in
+    let is = run.has some in
+    record {
+      above = run.above some;
+      below = omega arith;
+      some = omega arith;
+      most = λ j low high. let most = run.most j low (omega arith) in omega arith;
+      lowest = λ j low high. let less = run.lowest some j low high in omega arith;
+    }
+
+-- where scores are the same
+pub Wins-same : (f g : ℕ → ℕ) (first last : ℕ) (answer : Option ℕ) → ((k : ℕ) → k ≤ last → f k ≡ g k) → Wins f first last answer → Wins g first last answer
+Wins-same f g first last None same wins = λ j low high. let e = same j high in let none = wins j low high in omega arith
+Wins-same f g first last (Some k) same wins =
+    let here = same k wins.below in
+    record {
+      above = wins.above;
+      below = wins.below;
+      some = let some = wins.some in omega arith;
+      most = λ j low high. let most = wins.most j low high in let e = same j high in omega arith;
+      lowest = λ j low high. let less = wins.lowest j low high in let below = wins.below in let e = same j (omega arith) in omega arith;
+    }

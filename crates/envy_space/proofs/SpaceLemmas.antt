@@ -1,0 +1,109 @@
+-- What a space keeps, when two segments change places or all is cleared.
+use Rattle.std.proofs.Common.{◌≡◌, ◌≢◌, ◌⊎◌, inl, inr, ℕ, ◌+◌, ◌-◌, ◌<◌, ◌≤◌, List, length, get_or, take, set, replicate, refl, sym, ◌∙◌, ap, subst, arith}
+use Rattle.std.specs.Prelude.{swap, sum_by}
+use Rattle.std.specs.List.{range_with_len}
+use Rattle.std.proofs.lemmas.Bool.{cases_lt}
+use Rattle.std.proofs.lemmas.List.{get_or-replicate, get_or-take, get_or_past, length-replicate, length-take, map-id, ext_get_or}
+use Rattle.std.proofs.lemmas.List.Edits.{length-swap}
+use Rattle.std.proofs.lemmas.List.FromFn.{get_or-range_with_len, length-range_with_len, sum_by-map-range_with_len_more}
+use Rattle.envy_base.specs.declared.shape.Shape.{Shape}
+use Rattle.envy_base.specs.Shape.{IsShape}
+use Rattle.envy_space.specs.Order.{IsOrder, ArePlaces}
+use Rattle.envy_space.specs.Pool.{Pool, IsPool, IsSpace, StandsAt, empty_pool}
+use Rattle.envy_space.proofs.OrderLemmas.{IsOrder-places, ArePlaces-range, swapped, swapped_first, swapped_other}
+
+-- one number more in a sum
+pub sum_by-range_more : (g : ℕ → ℕ) (a n j : ℕ) → a + n ≡ j → sum_by g (range_with_len a (n + 1)) ≡ sum_by g (range_with_len a n) + g j
+sum_by-range_more g a n j e =
+    ap (λ (xs : List ℕ). sum_by g xs) (sym (map-id (range_with_len a (n + 1))))
+    ∙ sum_by-map-range_with_len_more g (λ (x : ℕ). x) a n j e
+    ∙ ap (λ (xs : List ℕ). sum_by g xs + g j) (map-id (range_with_len a n))
+
+zeros_at : (n s : ℕ) → get_or (replicate {A = ℕ} n 0) s 0 ≡ 0
+zeros_at n s = at (cases_lt s n)
+  where
+    at : (s < n) ⊎ (n ≤ s) → get_or (replicate {A = ℕ} n 0) s 0 ≡ 0
+    at (inl lt) = get_or-replicate n s 0 0 lt
+    at (inr ge) = let long : length (replicate {A = ℕ} n 0) ≡ n = length-replicate n 0 in get_or_past (replicate n 0) s 0 (omega arith)
+
+take-range : (m n : ℕ) → m ≤ n → take m (range_with_len 0 n) ≡ range_with_len 0 m
+take-range m n le =
+    let long = length-range_with_len 0 n in
+    let short = length-range_with_len 0 m in
+    let taken = length-take m (range_with_len 0 n) in
+    ext_get_or 0 _ _ (omega arith) (λ k lt.
+    let low : k < m = omega arith in
+    get_or-take m (range_with_len 0 n) k 0 low ∙ get_or-range_with_len 0 n k 0 (omega arith) ∙ sym (get_or-range_with_len 0 m k 0 low))
+
+abbrev pub pool_of : Shape → List ℕ → List ℕ → List ℕ → Pool
+pool_of sh fills kept order = record { shape = sh; fills = fills; kept = kept; positions = take (sh.segments - 1) order }
+
+pub IsSpace-empty : (sh : Shape) → IsShape sh → IsSpace sh (replicate sh.segments 0) (replicate sh.segments 0) (range_with_len 0 sh.segments) (replicate sh.segments 0)
+IsSpace-empty sh shape = record {
+  shape = shape;
+  fills_long = length-replicate sh.segments 0;
+  kept_long = length-replicate sh.segments 0;
+  order_long = length-range_with_len 0 sh.segments;
+  dead_long = length-replicate sh.segments 0;
+  fills_fit = λ s. let none = zeros_at sh.segments s in omega arith;
+  kept_fit = λ s. omega arith;
+  ordered = IsOrder-places _ _ (ArePlaces-range sh.segments (let few = shape.few_segments in omega arith));
+  scores = λ k lt. zeros_at sh.segments k ∙ (let none = zeros_at sh.segments (get_or (range_with_len 0 sh.segments) k 0) in omega arith);
+}
+
+-- a space that was cleared
+pub IsSpace-cleared : (sh : Shape) (fills kept order dead : List ℕ) → IsShape sh → fills ≡ replicate sh.segments 0 → kept ≡ replicate sh.segments 0 → order ≡ range_with_len 0 sh.segments → dead ≡ replicate sh.segments 0 → IsSpace sh fills kept order dead
+IsSpace-cleared sh fills kept order dead shape fills_is kept_is order_is dead_is = rw (fills_is, kept_is, order_is, dead_is) (IsSpace-empty sh shape)
+
+pub pool-cleared : (sh : Shape) (fills kept order : List ℕ) → fills ≡ replicate sh.segments 0 → kept ≡ replicate sh.segments 0 → order ≡ range_with_len 0 sh.segments → pool_of sh fills kept order ≡ empty_pool sh
+pool-cleared sh fills kept order fills_is kept_is order_is =
+    let front : take (sh.segments - 1) order ≡ range_with_len 0 (sh.segments - 1) = ap (take (sh.segments - 1)) order_is ∙ take-range (sh.segments - 1) sh.segments (omega arith) in
+    rw (fills_is, kept_is, front) refl
+
+-- two segments have changed places
+pub IsSpace-swap : (sh : Shape) (fills kept order dead then_order then_dead : List ℕ) (i j : ℕ) → i < sh.segments → j < sh.segments → IsSpace sh fills kept order dead → then_order ≡ swap order i j → IsOrder then_order → then_dead ≡ swap dead i j → IsSpace sh fills kept then_order then_dead
+IsSpace-swap sh fills kept order dead then_order then_dead i j low lower was order_is ordered dead_is = record {
+  shape = was.shape;
+  fills_long = was.fills_long;
+  kept_long = was.kept_long;
+  order_long = ap length order_is ∙ length-swap order i j ∙ was.order_long;
+  dead_long = ap length dead_is ∙ length-swap dead i j ∙ was.dead_long;
+  fills_fit = was.fills_fit;
+  kept_fit = was.kept_fit;
+  ordered = ordered;
+  scores = λ k lt.
+      let from = swapped sh.segments i j k low lower lt in
+      let order_at : get_or then_order k 0 ≡ get_or order from.0 0 = ap (λ (xs : List ℕ). get_or xs k 0) order_is ∙ from.2 order was.order_long in
+      let dead_at : get_or then_dead k 0 ≡ get_or dead from.0 0 = ap (λ (xs : List ℕ). get_or xs k 0) dead_is ∙ from.2 dead was.dead_long in
+      dead_at ∙ was.scores from.0 from.1 ∙ ap (λ (s : ℕ). get_or fills s 0 - get_or kept s 0) (sym order_at);
+}
+
+pub IsPool-space : (sh : Shape) (fills kept order dead : List ℕ) → IsSpace sh fills kept order dead → IsPool (pool_of sh fills kept order)
+IsPool-space sh fills kept order dead are =
+    let long = are.order_long in
+    record {
+      shape = are.shape;
+      fills_long = are.fills_long;
+      kept_long = are.kept_long;
+      positions_long = let e = length-take (sh.segments - 1) order in omega arith;
+      fills_fit = are.fills_fit;
+      kept_fit = are.kept_fit;
+      positions_fit = λ k lt. let e = get_or-take (sh.segments - 1) order k 0 lt in let fit = are.ordered.fit k (omega arith) in omega arith;
+      apart = λ i j low lower same. are.ordered.apart i j (omega arith) (omega arith) (sym (get_or-take (sh.segments - 1) order i 0 low) ∙ same ∙ get_or-take (sh.segments - 1) order j 0 lower);
+    }
+
+-- the segment of place j stands at position i
+pub StandsAt-swap : (sh : Shape) (fills kept order dead then_order then_dead : List ℕ) (i j s : ℕ) → i < sh.segments - 1 → j < sh.segments → get_or order j 0 ≡ s → IsSpace sh fills kept order dead → then_order ≡ swap order i j → IsOrder then_order → then_dead ≡ swap dead i j → StandsAt i s (pool_of sh fills kept order) (pool_of sh fills kept then_order)
+StandsAt-swap sh fills kept order dead then_order then_dead i j s low lower here was order_is ordered dead_is =
+    let long = was.order_long in
+    record {
+      is_pool = IsPool-space sh fills kept then_order then_dead (IsSpace-swap sh fills kept order dead then_order then_dead i j (omega arith) lower was order_is ordered dead_is);
+      shape = refl;
+      fills = refl;
+      kept = refl;
+      here = get_or-take (sh.segments - 1) then_order i 0 low ∙ ap (λ (xs : List ℕ). get_or xs i 0) order_is ∙ swapped_first order i j (omega arith) (omega arith) ∙ here;
+      others = λ k lt apart other.
+          get_or-take (sh.segments - 1) then_order k 0 lt ∙ ap (λ (xs : List ℕ). get_or xs k 0) order_is
+          ∙ swapped_other order i j k (omega arith) (omega arith) apart (λ same. other (get_or-take (sh.segments - 1) order k 0 lt ∙ ap (λ (p : ℕ). get_or order p 0) same ∙ here))
+          ∙ sym (get_or-take (sh.segments - 1) order k 0 lt);
+    }

@@ -1,0 +1,18 @@
+use Rattle.std.proofs.Common.{◌≡◌, ◌∙◌, ℕ, List, length, take, drop, ◌++◌, arith, ap, sym}
+use Rattle.std.specs.List.{range_with_len}
+use Rattle.std.proofs.lemmas.List.{take_at}
+use Rattle.std.proofs.lemmas.List.FromFn.{length-range_with_len}
+use Rattle.envy_space.proofs.OrderLemmas.{ArePlaces-range}
+use Rattle.envy_space.proofs.order.Order.new.Goals as goal
+
+pub invariant_of-result : goal.invariant_of-result
+invariant_of-result c =
+    let n = c.args.count in
+    let first : c.number.new.items ≡ range_with_len 0 n = c.number.ensures ∙ ap (range_with_len 0) (c.deref_mut.ensures.len ∙ c.in_ok-segments.ensures.len) in
+    let second : c.number-2.new.items ≡ range_with_len 0 n = c.number-2.ensures ∙ ap (range_with_len 0) (c.deref_mut-2.ensures.len ∙ c.in_ok-places.ensures.len) in
+    let long = length-range_with_len 0 n in
+    let segments_len = c.in_ok-segments.ensures.len in
+    let places_len = c.in_ok-places.ensures.len in
+    let all = take_at c.number.new.items (drop (length c.number.new.items) c.in_ok-segments.segments.items) c.in_ok-segments.segments.len (ap length first ∙ long ∙ sym segments_len) in
+    let all_places = take_at c.number-2.new.items (drop (length c.number-2.new.items) c.in_ok-places.places.items) c.in_ok-places.places.len (ap length second ∙ long ∙ sym places_len) in
+    rw (all, all_places, first, second) (ArePlaces-range n (omega arith))

@@ -1,0 +1,13 @@
+pub mod Noting
+pub mod Order
+pub mod Pool
+pub mod Winners
+pub use Rattle.envy_base.specs.Array
+pub use Rattle.envy_base.specs.Counting
+pub use Rattle.envy_base.specs.Map
+pub use Rattle.envy_base.specs.Shape
+pub use Rattle.envy_base.specs.State
+pub use Rattle.envy_base.specs.Step
+pub use Rattle.envy_map.specs.Codes
+pub use Rattle.envy_map.specs.Fields
+pub use Rattle.envy_map.specs.Writes

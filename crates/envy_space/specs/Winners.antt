@@ -1,0 +1,58 @@
+-- The place with the highest score among several.
+use Rattle.std.specs.Prelude.{◌≡◌, ℕ, ◌+◌, ◌*◌, ◌^◌, ◌<◌, ◌≤◌, nat_lt, List, length, map, drop, Option, None, Some, slice_index_or, if◌then◌else◌}
+use Rattle.envy_space.specs.declared.nodes.Entry.{Entry}
+
+-- from first to last, place k has the highest score, which isn't 0, and is the lowest of those with as much
+pub record IsWinner (score : ℕ → ℕ) (first last k : ℕ) : Type 0 where
+  pub above : first ≤ k
+  pub below : k ≤ last
+  pub some : 0 < score k
+  pub most : (j : ℕ) → first ≤ j → j ≤ last → score j ≤ score k
+  pub lowest : (j : ℕ) → first ≤ j → j < k → score j < score k
+
+-- the winner from first to last, where some place there has a score
+abbrev pub Wins : (ℕ → ℕ) → ℕ → ℕ → Option ℕ → Type 0
+Wins score first last (Some k) = IsWinner score first last k
+Wins score first last None = (j : ℕ) → first ≤ j → j ≤ last → score j ≡ 0
+
+abbrev pub nobody : Entry
+nobody = record { place = 0; score = 0 }
+
+-- The entry has the highest score from first to below end, and its place is the lowest of those with as
+-- much. Where each score is 0, its score is 0 and its place anything.
+pub record IsRun (score : ℕ → ℕ) (first end : ℕ) (e : Entry) : Type 0 where
+  pub most : (k : ℕ) → first ≤ k → k < end → score k ≤ e.score
+  pub above : 0 < e.score → first ≤ e.place
+  pub below : 0 < e.score → e.place < end
+  pub has : 0 < e.score → score e.place ≡ e.score
+  pub lowest : 0 < e.score → (k : ℕ) → first ≤ k → k < e.place → score k < e.score
+
+-- the second of two entries only where its score is higher
+abbrev pub better : Entry → Entry → Entry
+better a b = if nat_lt a.score b.score then b else a
+
+abbrev pub node : List Entry → ℕ → Entry
+node nodes i = slice_index_or nodes i nobody
+
+-- the score of place k, of n
+abbrev pub score_in : ℕ → List Entry → ℕ → ℕ
+score_in n nodes k = (node nodes (n + k)).score
+
+-- the entry of node i is the better of those of the two nodes below it
+abbrev pub IsRight : List Entry → ℕ → Type 0
+IsRight nodes i = node nodes i ≡ better (node nodes (2 * i)) (node nodes (2 * i + 1))
+
+-- the scores of n places, which are the nodes from n on
+abbrev pub scores_of : ℕ → List Entry → List ℕ
+scores_of n nodes = map (λ (e : Entry). e.score) (drop n nodes)
+
+-- The nodes of n places. Node i stands over the nodes 2 * i and 2 * i + 1.
+pub record AreNodes (n : ℕ) (nodes : List Entry) : Type 0 where
+  pub some : 1 ≤ n
+  pub few : n < 2 ^ 31
+  pub long : length nodes ≡ 2 * n
+  pub places : (k : ℕ) → k < n → (node nodes (n + k)).place ≡ k
+
+pub record IsTree (n : ℕ) (nodes : List Entry) : Type 0 where
+  pub are : AreNodes n nodes
+  pub right : (i : ℕ) → 1 ≤ i → i < n → IsRight nodes i

@@ -1,0 +1,66 @@
+ghost use Rattle.std.specs.Prelude.{◌≡◌, ◌+◌, ◌-◌, ◌<◌, false, ℕ, IsTrue, Some, IfOk, OnOk, OnErr, slice_index};
+ghost use Rattle.envy_base.specs.declared.fields.Job.TheVariants.{Switch};
+ghost use Rattle.envy_map.specs.Fields.{chart};
+ghost use Rattle.envy_layout.specs.Claims.{IsUsable};
+ghost use Rattle.envy_layout.specs.Jobs.{IsClear};
+ghost use Rattle.envy_layout.specs.Same.{Same};
+ghost use Rattle.envy_layout.specs.Sound.{IsSound, IsSpare};
+ghost use Rattle.envy_space.specs.Pool.{PoolAgrees, Claims, Claimed, Replaces, with_filled};
+
+use crate::Space;
+use envy_base::{Board, Off};
+use envy_layout::{claim_back, raise_fill, replace_segment};
+
+impl Space {
+    /// Claims the row at the fill of a segment for a page. The segment stands at a position, or is the
+    /// spare that another is being copied to. The row's page is written first, so that power that fails
+    /// before the fill is raised leaves the row free. The array stays.
+    pub fn claim<B: Board>(&mut self, board: &mut B, segment: u32, page: u32) -> Result<u32, Off>
+        requires sound { IsSound (chart (B.state board.old)) }
+        requires agrees { IsTrue (B.state board.old).on → PoolAgrees (B.state board.old).shape (chart (B.state board.old)).fields self.old }
+        requires shape { self.old.shape ≡ (B.state board.old).shape }
+        requires segment { segment < self.old.shape.segments }
+        requires page { page < self.old.shape.pages }
+        requires room { slice_index self.old.fills segment < self.old.shape.rows }
+        requires usable { IsTrue (B.state board.old).on → IsUsable (B.state board.old).shape (chart (B.state board.old)).fields segment }
+        ensures same { Same 0 0 (chart (B.state board.old)) (chart (B.state board.new)) }
+        ensures agrees { IsTrue (B.state board.new).on → PoolAgrees (B.state board.new).shape (chart (B.state board.new)).fields self.new }
+        ensures shape { self.new.shape ≡ self.old.shape }
+        ensures claims { IfOk result (λ row. Claims (chart (B.state board.old)) segment page row (chart (B.state board.new))) }
+        ensures claimed { IfOk result (λ row. Claimed (chart (B.state board.new)) segment page row) }
+        ensures pool { IfOk result (λ _. self.new ≡ with_filled segment (slice_index self.old.fills segment + 1) self.old) }
+        ensures on { OnOk result (IsTrue (B.state board.new).on) }
+        ensures off { OnErr result ((B.state board.new).on ≡ false) }
+    {
+        let fill = self.fill(segment);
+        let row = segment * board.shape().rows + fill;
+        claim_back(board, row, page)?;
+        raise_fill(board, segment, fill)?;
+        self.set_fill(segment, fill + 1);
+        Ok(row)
+    }
+
+    /// Puts the spare at a position in place of the segment there, which is the spare then. References
+    /// are being switched from that segment, and none is left. The array stays.
+    pub fn replace<B: Board>(&mut self, board: &mut B, position: u32) -> Result<(), Off>
+        requires sound { IsSound (chart (B.state board.old)) }
+        requires agrees { IsTrue (B.state board.old).on → PoolAgrees (B.state board.old).shape (chart (B.state board.old)).fields self.old }
+        requires shape { self.old.shape ≡ (B.state board.old).shape }
+        requires position { position < self.old.shape.segments - 1 }
+        requires switching { let f = (chart (B.state board.old)).fields in
+            IsTrue (B.state board.old).on → f.job ≡ Some (Switch (slice_index f.positions position)) }
+        requires clear { let f = (chart (B.state board.old)).fields in
+            IsTrue (B.state board.old).on → IsClear (B.state board.old).shape f (slice_index f.positions position) }
+        ensures same { Same 0 0 (chart (B.state board.old)) (chart (B.state board.new)) }
+        ensures agrees { IsTrue (B.state board.new).on → PoolAgrees (B.state board.new).shape (chart (B.state board.new)).fields self.new }
+        ensures shape { self.new.shape ≡ self.old.shape }
+        ensures replaces { OnOk result ((e : ℕ) × Replaces (chart (B.state board.old)) self.old position e (chart (B.state board.new)) self.new) }
+        ensures on { OnOk result (IsTrue (B.state board.new).on) }
+        ensures off { OnErr result ((B.state board.new).on ≡ false) }
+    {
+        let spare = self.spare();
+        replace_segment(board, position, spare)?;
+        self.stand(position, spare);
+        Ok(())
+    }
+}

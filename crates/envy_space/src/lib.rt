@@ -1,0 +1,19 @@
+//! The pool of erased flash rows: how far each segment is filled, how many of its rows are kept, and
+//! which segment stands at each position.
+//!
+//! The map in SRAM holds all of it. A `Space` keeps it beside the map, so that rows are claimed and
+//! victims found without a look at the map, and `rebuild` reads it anew after a failure of power.
+#![tactic(auto)]
+
+mod claim;
+mod laws;
+mod nodes;
+mod order;
+mod rebuild;
+mod space;
+#[cfg(test)]
+mod tests;
+mod winners;
+
+pub use laws::notes_follow_a_page;
+pub use space::Space;

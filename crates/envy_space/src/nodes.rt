@@ -1,0 +1,119 @@
+ghost use Rattle.std.specs.Prelude.{◌≡◌, ◌≢◌, ◌+◌, ◌-◌, ◌*◌, ◌/◌, ◌^◌, ◌<◌, ◌≤◌, ℕ, length, replicate, map, drop, slice_index};
+ghost use Rattle.envy_space.specs.Winners.{AreNodes, IsTree, IsRight, IsRun, better, node as node_of, score_in, scores_of};
+
+/// A place and its score.
+#[derive(Clone, Copy)]
+pub struct Entry {
+    pub place: u32,
+    pub score: u32,
+}
+
+impl Entry {
+    /// The best of no places.
+    pub const NOBODY: Entry = Entry { place: 0, score: 0 };
+
+    /// The other entry, if its score is higher.
+    fn or_better(self, other: Entry) -> Entry
+        ensures { result ≡ better self other }
+    {
+        if other.score > self.score {
+            other
+        } else {
+            self
+        }
+    }
+}
+
+fn node(nodes: &[Entry], i: u32) -> Entry
+    requires { i < length nodes.now }
+    ensures { result ≡ node_of nodes.now i }
+{
+    nodes[i as usize]
+}
+
+/// Makes the nodes those of so many places, each with the score 0.
+pub fn lay(nodes: &mut [Entry], places: u32)
+    requires some { 1 ≤ places }
+    requires few { places < 2 ^ 31 }
+    requires long { length nodes.old ≡ 2 * places }
+    ensures tree { IsTree places nodes.new }
+    ensures scores { scores_of places nodes.new ≡ replicate places 0 }
+{
+    lay_places(nodes, places);
+    mend_all(nodes, places);
+}
+
+/// Writes the nodes of the places.
+fn lay_places(nodes: &mut [Entry], places: u32)
+    requires some { 1 ≤ places }
+    requires few { places < 2 ^ 31 }
+    requires long { length nodes.old ≡ 2 * places }
+    ensures nodes { AreNodes places nodes.new }
+    ensures scores { scores_of places nodes.new ≡ replicate places 0 }
+{
+    for place in 0..places {
+        nodes[(places + place) as usize] = Entry { place, score: 0 };
+    }
+}
+
+/// Makes each node below the places the better of its two.
+fn mend_all(nodes: &mut [Entry], places: u32)
+    requires { AreNodes places nodes.old }
+    ensures tree { IsTree places nodes.new }
+    ensures scores { scores_of places nodes.new ≡ scores_of places nodes.old }
+{
+    let mut i = places;
+    while i > 1 {
+        i -= 1;
+        nodes[i as usize] = better_below(nodes, i);
+    }
+}
+
+/// Makes each node on the way from node `at` to node 1 the better of its two, where only the next one
+/// may not be.
+pub fn mend_above(nodes: &mut [Entry], places: u32, mut at: u32)
+    requires nodes { AreNodes places nodes.old }
+    requires some { 1 ≤ at }
+    requires within { at < 2 * places }
+    requires others { (i : ℕ) → 1 ≤ i → i < places → i ≢ at / 2 → IsRight nodes.old i }
+    ensures tree { IsTree places nodes.new }
+    ensures scores { scores_of places nodes.new ≡ scores_of places nodes.old }
+{
+    while at > 1 {
+        at /= 2;
+        nodes[at as usize] = better_below(nodes, at);
+    }
+}
+
+/// The better entry of the two nodes below a node.
+fn better_below(nodes: &[Entry], i: u32) -> Entry
+    requires below { 2 * i + 1 < length nodes.now }
+    requires few { length nodes.now < 2 ^ 32 }
+    ensures { result ≡ better (node_of nodes.now (2 * i)) (node_of nodes.now (2 * i + 1)) }
+{
+    node(nodes, 2 * i).or_better(node(nodes, 2 * i + 1))
+}
+
+/// The entry with the highest score of the places from `first` to below `end`, the lowest of several.
+pub fn best_between(nodes: &[Entry], places: u32, first: u32, end: u32) -> Entry
+    requires tree { IsTree places nodes.now }
+    requires order { first ≤ end }
+    requires within { end ≤ places }
+    ensures { IsRun (score_in places nodes.now) first end result }
+{
+    let (mut low, mut high) = (places + first, places + end);
+    let (mut left, mut right) = (Entry::NOBODY, Entry::NOBODY);
+    while low < high {
+        if low % 2 == 1 {
+            left = left.or_better(node(nodes, low));
+            low += 1;
+        }
+        if high % 2 == 1 {
+            high -= 1;
+            right = node(nodes, high).or_better(right);
+        }
+        low /= 2;
+        high /= 2;
+    }
+    left.or_better(right)
+}
