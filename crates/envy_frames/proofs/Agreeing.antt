@@ -17,7 +17,8 @@ use Rattle.envy_frames.specs.Agreement.{IsHeld, AreHeld, IsElsewhere}
 use Rattle.envy_frames.proofs.Lists.{Any-filter, Any-left, Any-weaker, same-one}
 use Rattle.envy_frames.proofs.Stacks.{other-frame}
 
-place-in : (places : List (Option Place)) (p k : ℕ) → get_or places p None ≡ Some (Frame k) → p < length places
+-- a place that names a frame is one of the list
+pub place-in : (places : List (Option Place)) (p k : ℕ) → get_or places p None ≡ Some (Frame k) → p < length places
 place-in places p k is = at (cases_lt p (length places))
   where
     at : (p < length places) ⊎ (length places ≤ p) → p < length places

@@ -1,10 +1,10 @@
 -- What a restart makes of the places: the frames that they name, in rising order of page.
 use Rattle.std.proofs.Common.{◌≡◌, ◌≢◌, ◌⊎◌, inl, inr, ℕ, zero, suc, add-one, zero-add, ◌+◌, ◌-◌, ◌<◌, ◌≤◌, List, [], ◌∷◌, ◌++◌, map, length, get_or, Option, None, Some, refl, sym, ◌∙◌, ap, subst, arith}
 use Rattle.std.specs.List.{All, AllPairs, Any, filter_map, range_with_len, cons_option}
-use Rattle.std.proofs.lemmas.List.{append-nil, length_push, length-map, get_or_past, get_or-map}
+use Rattle.std.proofs.lemmas.List.{append-nil, length_push, length-map, get_or-map}
 use Rattle.std.proofs.lemmas.List.Elements.{All-map, All-push, All-weaker, filter_map-append}
 use Rattle.std.proofs.lemmas.List.Quantifiers.{all_pairs_push, Any-push}
-use Rattle.std.proofs.lemmas.Bool.{cases_eq, cases_lt}
+use Rattle.std.proofs.lemmas.Bool.{cases_eq}
 use Rattle.envy_base.specs.declared.shape.Shape.{Shape}
 use Rattle.envy_base.specs.declared.fields.Place.{Place}
 use Rattle.envy_base.specs.declared.fields.Place.TheVariants.{Absent, Row, Frame}
@@ -14,6 +14,7 @@ use Rattle.circular_buffer.specs.Buffer.{Buffer, buffer}
 use Rattle.envy_frames.specs.declared.held.Held.{Held}
 use Rattle.envy_frames.specs.Order.{IsApart, IsOrder}
 use Rattle.envy_frames.specs.Agreement.{IsHeld, AreHeld, default_home, held_at, held_by_default}
+use Rattle.envy_frames.proofs.Agreeing.{place-in}
 use Rattle.envy_frames.proofs.Lists.{Any-left, range_more, length-le_apart}
 
 -- the first n pages
@@ -106,14 +107,7 @@ AreBefore-all sh places shape ok (suc n) le =
 pub AreHeld-default : (sh : Shape) (places : List (Option Place)) → IsShape sh → Places sh places → AreHeld sh places (held_by_default sh places)
 AreHeld-default sh places shape ok =
     let all = AreBefore-all sh places shape ok sh.pages (omega arith) in
-    record { each = all.each; apart = all.apart; named = λ p k names. all.named p k (within p k names) names }
-  where
-    within : (p k : ℕ) → get_or places p None ≡ Some (Frame k) → p < sh.pages
-    within p k names = at (cases_lt p (length places))
-      where
-        at : (p < length places) ⊎ (length places ≤ p) → p < sh.pages
-        at (inl lt) = omega (arith, ok.long)
-        at (inr past) = absurd (let none : None ≡ Some (Frame k) = sym (get_or_past places p None past) ∙ names in cc)
+    record { each = all.each; apart = all.apart; named = λ p k names. let lt = place-in places p k names in all.named p k (omega (arith, ok.long)) names }
 
 order_before : (sh : Shape) (places : List (Option Place)) → IsShape sh → Places sh places → (n : ℕ) → n ≤ sh.pages → IsOrder (record { held = held_before sh places n; count = sh.frames })
 order_before sh places shape ok n le = record { below = below; apart = all.apart; few = length-le_apart-frames held sh.frames below all.apart }

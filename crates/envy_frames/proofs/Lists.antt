@@ -19,9 +19,6 @@ module _ {X : Type 0} where
   pub AllPairs-tail : (R : X → X → Type 0) (x : X) (xs : List X) → AllPairs R (x ∷ xs) → AllPairs R xs
   AllPairs-tail R x xs all i j d less lt = all (suc i) (suc j) d (omega arith) (omega arith)
 
-  pub All-tail : (P : X → Type 0) (x : X) (xs : List X) → All P (x ∷ xs) → All P xs
-  All-tail P x xs all k d lt = all (suc k) d (omega arith)
-
   -- what passes is kept
   pub Any-filter : (p : X → Bool) (P : X → Type 0) (xs : List X) → ((x : X) → P x → p x ≡ true) → Any P xs → Any P (filter p xs)
   Any-filter p P [] passes (i, x, lt, is, holds) = absurd (omega arith)
@@ -106,10 +103,6 @@ module _ {X : Type 0} where
       at (inl e) = sym left ∙ ap (λ (n : ℕ). get_or xs n x) e ∙ there
       at (inr (inl before)) = absurd (apart i j x before less (ap number left ∙ same ∙ sym (ap number there)))
       at (inr (inr after)) = absurd (apart j i x after lt (ap number there ∙ sym same ∙ sym (ap number left)))
-
-  -- something holds of an element, and something else of all
-  pub Any-and : (P Q : X → Type 0) (xs : List X) → Any P xs → All Q xs → Any (λ x. P x × Q x) xs
-  Any-and P Q xs (k, x, lt, is, holds) all = (k, x, lt, is, (holds, subst Q is (all k x lt)))
 
   -- without the one of this number
   abbrev pub without : (X → ℕ) → ℕ → List X → List X

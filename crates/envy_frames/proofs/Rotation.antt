@@ -2,7 +2,7 @@
 use Rattle.std.proofs.Common.{◌≡◌, ℕ, ◌+◌, ◌<◌, ◌≤◌, Bool, cond, List, [], ◌∷◌, ◌++◌, length, take, drop, get_or, Some, sym, refl, ◌∙◌, ap, arith, length-append, length-drop}
 use Rattle.std.specs.List.{filter, AllPairs}
 use Rattle.std.specs.Prelude.{slice_get, IfSome}
-use Rattle.std.proofs.lemmas.List.{drop_more, append_assoc, drop_all, take_all, length-take}
+use Rattle.std.proofs.lemmas.List.{drop_more, append_assoc, length-take}
 use Rattle.std.proofs.lemmas.List.Elements.{filter_more}
 use Rattle.std.proofs.lemmas.List.Sums.{length-filter, count_by-le-length}
 use Rattle.envy_frames.specs.declared.held.Held.{Held}
@@ -24,9 +24,6 @@ module _ {X : Type 0} (p : X → Bool) where
 
   pub length-turned : (xs items : List X) (i : ℕ) → i ≤ length xs → items ≡ drop i xs ++ filter p (take i xs) → length items ≤ length xs
   length-turned xs items i le is = omega (arith, ap length is, length-append (drop i xs) (filter p (take i xs)), length-drop i xs, length-filter p (take i xs), count_by-le-length p (take i xs), length-take i xs)
-
-  pub turned_all : (xs items : List X) (i : ℕ) → i ≡ length xs → items ≡ drop i xs ++ filter p (take i xs) → items ≡ filter p xs
-  turned_all xs items i all is = let le : length xs ≤ i = omega arith in is ∙ rw (drop_all i xs le, take_all i xs le) refl
 
 -- without the oldest the others are left
 pub filter-oldest : (held : List Held) (h : Held) → slice_get held 0 ≡ Some h → AllPairs IsApart held → filter (is_other h.frame) held ≡ drop 1 held
