@@ -7,4 +7,5 @@ pub mod Reading
 pub mod Recovering
 pub mod Replying
 pub mod Serving
+pub mod Uncutting
 pub mod Words

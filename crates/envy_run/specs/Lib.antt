@@ -14,3 +14,4 @@ pub mod Restarts
 pub mod Serves
 pub mod Texts
 pub mod Turns
+pub mod Uncut

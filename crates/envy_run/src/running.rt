@@ -2,6 +2,7 @@ ghost use Rattle.std.specs.Prelude.{◌≡◌, ◌≤◌, option_map};
 ghost use Rattle.envy_map.specs.Fields.{chart};
 ghost use Rattle.envy_run.specs.Allowed.{IsAllowed};
 ghost use Rattle.envy_run.specs.Complete.{Completes};
+ghost use Rattle.envy_run.specs.Uncut.{Uncut};
 ghost use Rattle.envy_run.specs.Headline.{Headline, RunsTrace, command_in, with_a_frame_for_every_page as with_frames, status_of, why_of};
 
 use crate::advance::End;
@@ -152,6 +153,10 @@ pub fn run<S: Source, K: Sink, M: Maker>(
         (option_map (λ board. chart (M.Made.Board.state board)) result.board)
         (S.feed source.old) (S.feed source.new) (K.drain sink.old) (K.drain sink.new) }
     ensures completes { Completes (command_in words.now)
+        (record { status = result.status; why = result.why; lines = result.lines; taken = result.taken })
+        (option_map (λ board. chart (M.Made.Board.state board)) result.board)
+        (S.feed source.old) (S.feed source.new) (K.drain sink.old) (K.drain sink.new) }
+    ensures uncut { Uncut (command_in words.now)
         (record { status = result.status; why = result.why; lines = result.lines; taken = result.taken })
         (option_map (λ board. chart (M.Made.Board.state board)) result.board)
         (S.feed source.old) (S.feed source.new) (K.drain sink.old) (K.drain sink.new) }
