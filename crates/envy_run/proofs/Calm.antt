@@ -52,8 +52,8 @@ pub replied-calmly : (m : Array) (line : Line) (reply as_said : Reply) (n : Arra
 replied-calmly m line reply as_said n sink then_sink wrote is (replies, calm) writes =
     told-calmly m line reply n sink then_sink wrote (inr (inl (reply, refl, subst (λ (r : Reply). Replies m line r n) (sym is) replies))) (subst (λ (r : Reply). IsCalmReply r) (sym is) calm) writes
 
-pub restarted-calmly : (m : Array) (line : Line) (n : Array) (sink then_sink : Drain) (wrote : Result Unit Failed) → line ≡ Power → n ≡ restarted m → WritesAll sink (reply_bytes Restarted ++ newline ∷ []) wrote then_sink → ObeysCalmly m line wrote n sink then_sink
-restarted-calmly m line n sink then_sink wrote is left writes = told-calmly m line Restarted n sink then_sink wrote (inr (inr (inr (is, refl, left)))) tt writes
+pub restarted_calmly : (m : Array) (line : Line) (n : Array) (sink then_sink : Drain) (wrote : Result Unit Failed) → line ≡ Power → n ≡ restarted m → WritesAll sink (reply_bytes Restarted ++ newline ∷ []) wrote then_sink → ObeysCalmly m line wrote n sink then_sink
+restarted_calmly m line n sink then_sink wrote is left writes = told-calmly m line Restarted n sink then_sink wrote (inr (inr (inr (is, refl, left)))) tt writes
 
 pub empty-calmly : (m : Array) (line : Line) (sink : Drain) → line ≡ Empty → ObeysCalmly m line (Ok tt) m sink sink
 empty-calmly m line sink is = ([], record { does = inl (is, refl, refl); calm = tt }, record { whole = sym (with_end-nil sink.written); faults = omega arith })

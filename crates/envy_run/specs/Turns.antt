@@ -55,8 +55,8 @@ abbrev pub Faults : Array → Command → Reply → Array → Type 0
 Faults m command reply n = (k : Array) × Accepts m command k × (reply ≡ Fault) × (n ≡ m)
 
 -- the line of counters: any, so far
-abbrev pub Counted : Array → Reply → Array → Type 0
-Counted m reply n = (counts : Counts) × (reply ≡ StatLine counts) × (n ≡ m)
+abbrev pub TellsCounts : Array → Reply → Array → Type 0
+TellsCounts m reply n = (counts : Counts) × (reply ≡ StatLine counts) × (n ≡ m)
 
 -- one reply to a line, power staying on
 abbrev pub Replies : Array → Line → Reply → Array → Type 0
@@ -70,7 +70,7 @@ Replies m (Abort t) reply n = Says m (DoAbort t) reply n
 Replies m Tick reply n = Says m DoTick reply n ⊎ Faults m DoTick reply n
 Replies m (Cut k g) reply n = (reply ≡ Armed) × (n ≡ m)
 Replies m (Bad k g) reply n = (reply ≡ Armed) × (n ≡ m)
-Replies m Stat reply n = Counted m reply n
+Replies m Stat reply n = TellsCounts m reply n
 Replies m line reply n = ⊥
 
 -- the command of a line in which power may fail

@@ -89,6 +89,7 @@ fn obey_command<K: Sink>(plain: &mut Plain, sink: &mut K, line: &Line) -> Result
 }
 
 /// Does a line, and writes its reply.
+#[tactic(auto, using(crate::proofs::Calm::restarted_calmly))]
 fn obey<K: Sink>(plain: &mut Plain, sink: &mut K, line: &Line) -> Result<(), Failed>
     ensures { ObeysCalmly plain.old line.now result plain.new (K.drain sink.old) (K.drain sink.new) }
 {
