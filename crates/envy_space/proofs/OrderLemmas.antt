@@ -1,5 +1,5 @@
 -- Segments in an order, and their places.
-use Rattle.std.proofs.Common.{◌≡◌, ◌≢◌, ◌⊎◌, inl, inr, ℕ, ◌^◌, ◌<◌, List, length, get_or, set, refl, sym, ◌∙◌, ap, subst, arith}
+use Rattle.std.proofs.Common.{◌≡◌, ◌≢◌, ◌⊎◌, inl, inr, ℕ, ◌^◌, ◌<◌, List, length, get_or, set, refl, sym, ◌∙◌, ap, arith}
 use Rattle.std.specs.List.{range_with_len}
 use Rattle.std.specs.Prelude.{swap}
 use Rattle.std.proofs.lemmas.List.Edits.{swap_is}

@@ -1,6 +1,5 @@
 -- Pools that are a map's, when a row is claimed or a position changes.
-use Rattle.std.proofs.Common.{◌≡◌, ◌≢◌, ◌⊎◌, inl, inr, ℕ, ◌+◌, ◌-◌, ◌*◌, ◌/◌, ◌%◌, ◌<◌, ◌≤◌, List, [], length, get_or, set, Some, refl, sym, ◌∙◌, ap, subst, arith}
-use Rattle.std.specs.Prelude.{IsTrue}
+use Rattle.std.proofs.Common.{◌≡◌, ◌⊎◌, inl, inr, ℕ, ◌+◌, ◌-◌, ◌*◌, ◌/◌, ◌%◌, ◌<◌, ◌≤◌, List, [], get_or, set, Some, sym, ◌∙◌, ap, subst, arith}
 use Rattle.std.proofs.lemmas.Bool.{cases_eq}
 use Rattle.std.proofs.lemmas.List.{get_or-set_same, get_or-set_other, length-set, ext_get_or}
 use Rattle.std.proofs.lemmas.Nat.{div-mul-add, mod-mul-add, mul-add-lt}
@@ -10,9 +9,9 @@ use Rattle.envy_base.specs.State.{ones}
 use Rattle.envy_map.specs.Fields.{Fields, Chart, with_fields}
 use Rattle.envy_map.specs.Writes.{with_back, with_fill, with_position}
 use Rattle.envy_layout.specs.Claims.{IsUsable}
-use Rattle.envy_layout.specs.Sound.{Sound, Rows, Numbers, Blanks, IsSound, IsSpare, Names}
+use Rattle.envy_layout.specs.Sound.{Sound, Rows, Numbers, Blanks, IsSound, IsSpare}
 use Rattle.envy_layout.proofs.References.{apart-spare}
-use Rattle.envy_space.specs.Pool.{Pool, IsPool, IsPoolOf, PoolAgrees, Claims, Claimed, Replaces, StandsAt, with_filled, with_segment_at}
+use Rattle.envy_space.specs.Pool.{Pool, IsPool, PoolAgrees, Claimed, StandsAt, with_filled, with_segment_at}
 
 -- the fill of a segment is another
 pub PoolAgrees-claimed : (c new : Chart) (old pool : Pool) (s q p n : ℕ) → PoolAgrees c.shape c.fields old → new ≡ with_fields c (with_fill s n (with_back q p c.fields)) → pool ≡ with_filled s n old → PoolAgrees new.shape new.fields pool

@@ -1,11 +1,11 @@
 -- The best entries of runs of places, and of the run below a node.
-use Rattle.std.proofs.Common.{◌≡◌, ◌⊎◌, inl, inr, Option, None, Some, ℕ, zero, suc, ◌+◌, ◌-◌, ◌*◌, ◌/◌, ◌%◌, ◌^◌, ◌<◌, ◌≤◌, Bool, true, false, cond, List, refl, sym, ◌∙◌, ap, subst, arith}
+use Rattle.std.proofs.Common.{◌≡◌, ◌⊎◌, inl, inr, Option, None, Some, ℕ, zero, suc, ◌+◌, ◌-◌, ◌*◌, ◌^◌, ◌<◌, ◌≤◌, Bool, true, false, cond, List, refl, sym, ◌∙◌, ap, subst, arith}
 use Rattle.std.specs.Prelude.{nat_lt}
 use Rattle.std.proofs.lemmas.Bool.{cases_lt, ltb-true, ltb-false}
 use Rattle.std.proofs.Math.Nat.{two-pow-succ, mul-le-mul_left, mul-le-mul_right}
 use Rattle.std.proofs.lemmas.Nat.{pow_pos}
 use Rattle.envy_space.specs.declared.nodes.Entry.{Entry}
-use Rattle.envy_space.specs.Winners.{AreNodes, IsTree, IsRight, IsRun, IsWinner, Wins, nobody, node, better, score_in}
+use Rattle.envy_space.specs.Winners.{IsTree, IsRun, IsWinner, Wins, nobody, node, better, score_in}
 
 -- the better of the best of two runs side by side is the best of both
 pub IsRun-better : (score : ℕ → ℕ) (first mid end : ℕ) (a b : Entry) → first ≤ mid → mid ≤ end → IsRun score first mid a → IsRun score mid end b → IsRun score first end (better a b)

@@ -1,4 +1,4 @@
-use Rattle.std.proofs.Common.{◌≡◌, ◌∙◌, ◌<◌, length, replicate, sym, ap, arith}
+use Rattle.std.proofs.Common.{◌∙◌, ◌<◌, sym, ap, arith}
 use Rattle.std.proofs.lemmas.List.{ext_get_or, length-replicate, get_or-replicate}
 use Rattle.envy_space.specs.declared.nodes.Entry.{Entry}
 use Rattle.envy_space.proofs.NodeLemmas.{length-scores, score_at}

@@ -1,4 +1,4 @@
-use Rattle.std.proofs.Common.{◌≡◌, ◌∙◌, ap, Some, sym}
+use Rattle.std.proofs.Common.{◌∙◌, ap, Some}
 use Rattle.envy_base.specs.declared.fields.Undo.{Undo}
 use Rattle.envy_layout.specs.Sound.{Sound, Slots, slot_named}
 use Rattle.envy_space.proofs.rebuild.shadow_of.Goals as goal

@@ -1,4 +1,3 @@
-use Rattle.std.proofs.Common.{◌≡◌, ◌∙◌, arith}
 use Rattle.envy_space.proofs.OrderLemmas.{IsOrder-places, ArePlaces-exchange}
 use Rattle.envy_space.proofs.order.Order.exchange.Goals as goal
 

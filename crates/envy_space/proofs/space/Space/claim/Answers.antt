@@ -1,8 +1,8 @@
-use Rattle.std.proofs.Common.{◌≡◌, ◌∙◌, ℕ, ◌+◌, ◌*◌, ◌<◌, List, get_or, sym, ap, arith}
+use Rattle.std.proofs.Common.{◌≡◌, ◌∙◌, ℕ, ◌+◌, ◌*◌, List, get_or, sym, ap, arith}
 use Rattle.std.specs.Prelude.{IsTrue}
 use Rattle.envy_base.specs.declared.shape.Shape.{Shape}
 use Rattle.envy_map.specs.Fields.{Chart, chart, with_fields}
-use Rattle.envy_map.specs.Writes.{with_fill, with_back}
+use Rattle.envy_map.specs.Writes.{with_fill}
 use Rattle.envy_space.specs.Pool.{IsPoolOf}
 use Rattle.envy_space.proofs.PoolLemmas.{PoolAgrees-claimed, Claimed-made}
 use Rattle.envy_space.proofs.space.Space.claim.Goals as goal

@@ -1,4 +1,4 @@
-use Rattle.std.proofs.Common.{◌≡◌, ◌∙◌, ℕ, List, replicate, arith, ap}
+use Rattle.std.proofs.Common.{◌∙◌, ℕ, replicate, arith, ap}
 use Rattle.std.specs.List.{range_with_len}
 use Rattle.envy_space.specs.Pool.{Pool, empty_pool}
 use Rattle.envy_space.proofs.SpaceLemmas.{IsSpace-cleared, pool-cleared}

@@ -1,8 +1,8 @@
-use Rattle.std.proofs.Common.{◌≡◌, ◌∙◌, ℕ, List, sym, ap, arith}
+use Rattle.std.proofs.Common.{◌≡◌, ◌∙◌, ap}
 use Rattle.std.specs.Prelude.{Result, Ok, Err, OnOk}
 use Rattle.envy_base.specs.declared.board.Off.{Off}
 use Rattle.envy_base.specs.declared.shape.Shape.{Shape}
-use Rattle.envy_map.specs.Fields.{Fields, Chart, chart}
+use Rattle.envy_map.specs.Fields.{Fields, chart}
 use Rattle.envy_layout.proofs.KeptCounts.{kept_in-pages}
 use Rattle.envy_space.specs.Pool.{Pool, PoolAgrees, HasCounted}
 use Rattle.envy_space.proofs.space.Space.rebuild.Goals as goal

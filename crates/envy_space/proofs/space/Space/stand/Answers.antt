@@ -1,4 +1,4 @@
-use Rattle.std.proofs.Common.{◌≡◌, ℕ, arith, ap, subst}
+use Rattle.std.proofs.Common.{arith, ap, subst}
 use Rattle.envy_space.specs.Pool.{Pool, StandsAt}
 use Rattle.envy_space.proofs.SpaceLemmas.{IsSpace-swap, StandsAt-swap, pool_of}
 use Rattle.envy_space.proofs.space.Space.stand.Goals as goal

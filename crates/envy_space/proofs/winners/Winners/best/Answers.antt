@@ -1,4 +1,4 @@
-use Rattle.std.proofs.Common.{◌≡◌, ◌∙◌, ◌<◌, ◌≤◌, ℕ, List, slice_index, Some, None, get_or, arith, ap, sym}
+use Rattle.std.proofs.Common.{◌≡◌, ◌∙◌, ℕ, List, slice_index, Some, None, get_or, arith, ap, sym}
 use Rattle.envy_space.specs.declared.nodes.Entry.{Entry}
 use Rattle.envy_space.specs.Winners.{score_in, scores_of}
 use Rattle.envy_space.proofs.NodeLemmas.{score_at}

@@ -1,4 +1,4 @@
-use Rattle.std.proofs.Common.{◌≡◌, ◌∙◌, ◌+◌, ℕ, List, ap, arith, set, length, drop}
+use Rattle.std.proofs.Common.{◌∙◌, ◌+◌, ℕ, List, ap, arith, set, length, drop}
 use Rattle.std.proofs.lemmas.List.{take_at}
 use Rattle.envy_space.specs.declared.nodes.Entry.{Entry}
 use Rattle.envy_space.specs.Winners.{scores_of}
