@@ -1,17 +1,15 @@
 -- Words that give options of the parser, each once and with a value of its own, are words that `clap` takes.
-use Rattle.std.proofs.Common.{◌≡◌, ◌∙◌, ◌⊎◌, inl, inr, ℕ, Bool, true, false, not, ◌&&◌, ◌==◌, nat_lt, refl, sym, ap, subst, List, [], ◌∷◌, ◌++◌, length, append_assoc, append-nil, Option, Some, None, is_some, codes, true≢false, eqb-true, unwrap_or}
-use Rattle.std.specs.List.{list_any, list_all}
-use Rattle.std.specs.Str.{bytes_eq, all_ascii_digits}
-use Rattle.std.proofs.lemmas.Bool.{and_parts, and_from, or_parts, or_from, not-true, not_from_false}
+use Rattle.std.proofs.Common.{◌≡◌, ◌∙◌, Bool, true, false, ◌==◌, nat_lt, refl, sym, ap, subst, List, [], ◌∷◌, length, Option, Some, None, codes, true≢false, eqb-true, unwrap_or}
+use Rattle.std.specs.Str.{bytes_eq}
+use Rattle.std.proofs.lemmas.Bool.{and_parts}
 use Rattle.clap.specs.Lexer.{long_of, short_of}
 use Rattle.clap.specs.Kinds.{or_else}
 use Rattle.clap.specs.Faults.{use_fault}
-use Rattle.clap.specs.Walk.{Row, Text, Walk, has_row, idle, option, used}
-use Rattle.envy_args.specs.Parser.{row_of}
-use Rattle.envy_args.specs.Words.{Options, are_known, bits_of, has, has_value, have_values, is_number, is_option, is_value, name_in, options_in, policy_named, value_in, with_option}
+use Rattle.clap.specs.Walk.{Row, Text, idle, option}
+use Rattle.envy_args.specs.Words.{Options, bits_of, has, have_values, is_number, is_value, name_in, options_in, value_in, with_option}
 use Rattle.envy_args.proofs.Finds.{rule, is_among}
 use Rattle.envy_args.proofs.Forms.{Form, form_of, dashes, pair, single, other}
-use Rattle.envy_args.proofs.Steps.{Pending, Pushes, at, both-none, faults, idle-dashes, idle-pair, idle-single, next, no-words, one-word, rows_at_end, settled-value, settled_with, turn, unsettled, unsettled-value, use-new, used-row, waiting-plain}
+use Rattle.envy_args.proofs.Steps.{Pending, at, faults, idle-dashes, idle-pair, idle-single, no-words, settled-value, settled_with, unsettled, unsettled-value, use-new, used-row, waiting-plain}
 use Rattle.envy_args.proofs.Taking.{IsNew, goes-on, none≢some}
 
 -- ---- a value is no option

@@ -1,15 +1,13 @@
 -- What `clap` finds among the options of a parser.
-use Rattle.std.proofs.Common.{◌≡◌, ◌∙◌, ℕ, Bool, true, false, not, ◌&&◌, ◌||◌, cond, refl, sym, ap, subst, List, [], ◌∷◌, ◌++◌, map, find, Option, Some, None, is_some, true≢false, fold, codes, Decides}
+use Rattle.std.proofs.Common.{◌≡◌, ◌∙◌, ℕ, Bool, true, false, not, ◌&&◌, ◌||◌, cond, refl, sym, ap, List, [], ◌∷◌, ◌++◌, map, Some, None, true≢false, fold}
 use Rattle.std.specs.List.{list_any, list_all}
-use Rattle.std.specs.Option.{option_map_or}
 use Rattle.std.specs.Str.{bytes_eq}
-use Rattle.std.proofs.lemmas.Bool.{or_parts, or_from}
+use Rattle.std.proofs.lemmas.Bool.{or_parts}
 use Rattle.std.proofs.lemmas.Slice.Eq.{bytes_eq-Decides}
-use Rattle.clap.specs.Walk.{Row, Rule, Text, arg_by_id, arg_by_index, arg_by_long, arg_by_short, at_row, has_long, has_row, has_short, with_default}
+use Rattle.clap.specs.Walk.{Row, Rule, Text, arg_by_id, arg_by_index, arg_by_long, arg_by_short, at_row, has_row, with_default}
 use Rattle.clap.specs.Takes.{is_given}
 use Rattle.clap.specs.Simple.{filled, filled_from}
-use Rattle.clap.specs.Faults.{default_fault, defaults_fault}
-use Rattle.clap.specs.Kinds.{Kinds}
+use Rattle.clap.specs.Faults.{defaults_fault}
 use Rattle.envy_args.specs.Parser.{rule_named}
 
 -- the rule of an option, after building
@@ -26,7 +24,8 @@ pub rules-built : (names : List Text) → filled_from 1 (map rule_named names) �
 rules-built [] = refl
 rules-built (n ∷ names) = ap (λ rs. rule n ∷ rs) (rules-built names)
 
-same : (n name : Text) → bytes_eq n name ≡ true → n ≡ name
+-- texts with the same bytes are one
+pub same : (n name : Text) → bytes_eq n name ≡ true → n ≡ name
 same n name e = (bytes_eq-Decides n name).0 e
 
 or_false : (b : Bool) → (b || false) ≡ b

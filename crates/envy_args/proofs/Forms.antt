@@ -1,5 +1,5 @@
 -- The forms that a word has.
-use Rattle.std.proofs.Common.{◌≡◌, ◌∙◌, ◌⊎◌, inl, inr, ℕ, Bool, true, false, ◌&&◌, not, ◌==◌, cond, refl, sym, ap, List, [], ◌∷◌, drop, Option, Some, None, codes, eqb-true, ne_eqb, if◌then◌else◌}
+use Rattle.std.proofs.Common.{◌≡◌, ℕ, Bool, true, false, ◌==◌, refl, sym, ap, [], ◌∷◌, Some, None, codes, eqb-true, ne_eqb, if◌then◌else◌}
 use Rattle.std.specs.Str.{bytes_eq}
 use Rattle.std.proofs.lemmas.Bool.{eqb-false}
 use Rattle.clap.specs.Lexer.{long_of}

@@ -1,24 +1,24 @@
 -- The rules of a load.
-use Rattle.std.proofs.Common.{◌≡◌, ◌∙◌, ◌↔◌, ℕ, ◌<◌, ◌≤◌, Bool, true, false, not, IsTrue, nat_le, nat_lt, codes, Result, Ok, Err, ap, sym, refl, subst, lt-ltb, le-ltb, true≢false, leb-true, le-leb, if◌then◌else◌}
+use Rattle.std.proofs.Common.{◌≡◌, ◌∙◌, ◌↔◌, ℕ, ◌<◌, ◌≤◌, Bool, true, false, IsTrue, nat_le, codes, Ok, Err, ap, sym, refl, lt-ltb, le-ltb, true≢false, leb-true, le-leb, if◌then◌else◌}
 use Rattle.std.proofs.lemmas.Bool.{and_from, and_parts, false_from_ne_true}
 use Rattle.envy_base.specs.Area.{Fits}
 use Rattle.envy_base.specs.declared.area.Area.{Area}
 use Rattle.envy_policy.specs.declared.setup.Setup.{Setup}
 use Rattle.envy_policy.specs.declared.setup.SetupFault.{SetupFault}
 use Rattle.envy_policy.specs.Setup.{checked, rule_of}
-use Rattle.envy_args.specs.declared.command.Command.{Command}
 use Rattle.envy_args.specs.declared.command.Command.TheVariants.{Tpca}
-use Rattle.envy_args.specs.declared.command.WordsFault.{WordsFault}
 use Rattle.envy_args.specs.declared.command.WordsFault.TheVariants.{Form, Setup as Rule}
 use Rattle.envy_args.specs.Words.{Options, after_check, area_of, fits, lives_of, load_of, number_of, setup_of, start_of, tpca_of, tpca_options, usual_of_load}
 use Rattle.envy_args.specs.Reading.{are_readable, made}
 
 pub fits-Fits : (area : Area) (pages : ℕ) → IsTrue (fits area pages) ↔ Fits area pages
-fits-Fits area pages = (λ e.
-    let p = and_parts (nat_le 1 area.branches) _ e in
-    let q = and_parts (nat_le 1 area.accounts) _ p.1 in
-    record { branches = leb-true 1 area.branches p.0; accounts = leb-true 1 area.accounts q.0; room = leb-true _ _ q.1 },
-    λ fit. and_from (nat_le 1 area.branches) _ (le-leb _ _ fit.branches) (and_from (nat_le 1 area.accounts) _ (le-leb _ _ fit.accounts) (le-leb _ _ fit.room)))
+fits-Fits area pages = (
+  λ e.
+      let p = and_parts (nat_le 1 area.branches) _ e in
+      let q = and_parts (nat_le 1 area.accounts) _ p.1 in
+      record { branches = leb-true 1 area.branches p.0; accounts = leb-true 1 area.accounts q.0; room = leb-true _ _ q.1 },
+  λ fit. and_from (nat_le 1 area.branches) _ (le-leb _ _ fit.branches) (and_from (nat_le 1 area.accounts) _ (le-leb _ _ fit.accounts) (le-leb _ _ fit.room)),
+)
 
 module _ (o : Options) (all : are_readable tpca_options o ≡ true) (setup : Setup) (read : setup ≡ setup_of usual_of_load o) where
   made-load : made tpca_options tpca_of o ≡ after_check (checked setup) (load_of setup o)

@@ -1,5 +1,5 @@
 -- Numbers that are read from text.
-use Rattle.std.proofs.Common.{◌≡◌, ◌∙◌, ℕ, ◌^◌, ◌<◌, Bool, true, false, IsTrue, ◌&&◌, List, [], ◌∷◌, length, Result, Ok, Err, Option, Some, None, SomeIff, OkIff, ap, sym, refl, lt-ltb, ltb-true, true≢false, nat_lt}
+use Rattle.std.proofs.Common.{◌≡◌, ℕ, ◌^◌, ◌<◌, true, IsTrue, ◌&&◌, List, [], ◌∷◌, length, Result, Ok, Err, SomeIff, OkIff, ap, refl, lt-ltb, ltb-true, nat_lt}
 use Rattle.std.specs.List.{list_all}
 use Rattle.std.specs.Result.{result_ok}
 use Rattle.std.specs.Char.{is_ascii_digit}

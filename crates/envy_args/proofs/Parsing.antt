@@ -1,22 +1,21 @@
 -- The parser takes the words that give its options.
-use Rattle.std.proofs.Common.{◌≡◌, ◌∙◌, ◌⊎◌, inl, inr, option_and_then, if◌then◌else◌, Bool, true, false, not, ◌&&◌, ◌||◌, refl, sym, ap, subst, List, [], ◌∷◌, ◌++◌, map, fold, ℕ, Option, Some, None, is_some, count_by}
+use Rattle.std.proofs.Common.{◌≡◌, ◌∙◌, ◌⊎◌, inl, inr, option_and_then, if◌then◌else◌, Bool, true, false, ◌&&◌, refl, sym, ap, subst, List, [], ◌∷◌, map, ℕ, Option, Some, None, is_some, count_by}
 use Rattle.std.specs.List.{list_any, list_all}
 use Rattle.std.specs.Str.{bytes_eq}
 use Rattle.std.proofs.lemmas.Bool.{and_parts, false_from_ne_true}
-use Rattle.clap.specs.Kinds.{IsAmong, Kinds, or_else}
-use Rattle.clap.specs.Faults.{built_fault, check_fault, defaults_fault, entered_fault, fault_of, is_simple_and_free, level_fault, settle_fault, walk_fault}
+use Rattle.clap.specs.Kinds.{IsAmong, or_else}
+use Rattle.clap.specs.Faults.{built_fault, check_fault, entered_fault, fault_of, is_simple_and_free, level_fault, settle_fault, walk_fault}
 use Rattle.clap.specs.Simple.{App, built, entered, is_simple, matches_of}
 use Rattle.clap.specs.Walk.{Row, Text, finished, first_of, idle, is_early_multiple, nothing_held, walk}
-use Rattle.clap.specs.Takes.{is_given}
 use Rattle.clap.specs.declared.error.kind.ErrorKind.{ErrorKind}
 use Rattle.clap.specs.declared.error.kind.ErrorKind.TheVariants.{OutOfMemory}
 use Rattle.envy_args.specs.declared.command.WordsFault.{WordsFault}
 use Rattle.envy_args.specs.declared.command.WordsFault.TheVariants.{Form, Memory}
 use Rattle.envy_args.specs.Parser.{app_of_names, fault_of_kind, option_of, row_of, rule_named}
 use Rattle.envy_args.specs.Words.{Options, accepted, are_known, have_values, options_in, value_of}
-use Rattle.envy_args.proofs.Finds.{rules, rules-built, no-defaults, no-default-fault, none-required}
+use Rattle.envy_args.proofs.Finds.{all-free, all-simple, rules, rules-built, no-defaults, no-default-fault, none-required}
 use Rattle.envy_args.proofs.Steps.{at, else-nil, end, faults, parser, rows_at_end}
-use Rattle.envy_args.proofs.Taking.{Taken, takes-words}
+use Rattle.envy_args.proofs.Taking.{takes-words}
 use Rattle.envy_args.proofs.Accepting.{accepts-words}
 use Rattle.envy_args.proofs.Known.{known-new, new-known}
 
@@ -37,19 +36,11 @@ module _ (names : List Text) where
   simple-rules [] = refl
   simple-rules (x ∷ ns) = simple-rules ns
 
-  simple-built : (ns : List Text) → list_all (λ a. a.is_simple) (rules ns) ≡ true
-  simple-built [] = refl
-  simple-built (x ∷ ns) = simple-built ns
-
-  free-built : (ns : List Text) → list_all (λ a. a.is_free) (rules ns) ≡ true
-  free-built [] = refl
-  free-built (x ∷ ns) = free-built ns
-
   pub app-is_simple : is_simple (app_of_names names) ≡ true
-  app-is_simple = rw (rules-built names, simple-rules names, simple-built names, no-early (count_by (λ a. is_some a.index) (rules names)) names) refl
+  app-is_simple = rw (rules-built names, simple-rules names, all-simple names, no-early (count_by (λ a. is_some a.index) (rules names)) names) refl
 
   pub app-simple : is_simple_and_free (app_of_names names) ≡ true
-  app-simple = rw (rules-built names, simple-rules names, simple-built names, free-built names, no-early (count_by (λ a. is_some a.index) (rules names)) names) refl
+  app-simple = rw (rules-built names, simple-rules names, all-simple names, all-free names, no-early (count_by (λ a. is_some a.index) (rules names)) names) refl
 
   -- ---- its faults
 

@@ -1,5 +1,5 @@
 -- What `clap` makes of one more word, where the parser has only options.
-use Rattle.std.proofs.Common.{◌≡◌, ◌∙◌, ◌⊎◌, inl, inr, ℕ, zero, suc, Bool, true, false, refl, sym, ap, List, [], ◌∷◌, ◌++◌, append-nil, length, fold, Option, Some, None, codes, true≢false, arith}
+use Rattle.std.proofs.Common.{◌≡◌, ◌∙◌, ◌⊎◌, inl, inr, ℕ, zero, suc, Bool, true, false, refl, ap, List, [], ◌∷◌, ◌++◌, append-nil, length, fold, Option, Some, None, codes, arith}
 use Rattle.std.specs.Prelude.{slice_get}
 use Rattle.std.specs.Str.{bytes_eq, chars}
 use Rattle.clap.specs.Lexer.{long_of, short_of}
@@ -10,7 +10,7 @@ use Rattle.clap.specs.declared.parser.matches.ValueSource.TheVariants.{CommandLi
 use Rattle.std.proofs.lemmas.Slice.Eq.{bytes_eq-Decides}
 use Rattle.clap.specs.Faults.{flags_fault, settle_fault, step_fault, turn_fault, word_fault, use_fault, walk_fault}
 use Rattle.clap.specs.Simple.{Shape, new_shape}
-use Rattle.clap.specs.Walk.{Held, Row, Rule, Text, Waiting, Walk, arg_by_id, bundle_met, has_row, idle, option, settled, used, walked, plain, refused, value as stray_value, word_met, short_or_plain, without, with_values, more_values, reading_by}
+use Rattle.clap.specs.Walk.{Held, Row, Text, Waiting, Walk, bundle_met, has_row, idle, option, settled, used, walked, plain, refused, value as stray_value, word_met, short_or_plain, without, with_values, more_values, reading_by}
 use Rattle.envy_args.specs.Parser.{row_of}
 use Rattle.envy_args.proofs.Finds.{rule, rules, is_among, long-known, long-unknown, id-known, no-short, no-index, at-end}
 

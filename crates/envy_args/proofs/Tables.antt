@@ -1,5 +1,5 @@
 -- The table of commands.
-use Rattle.std.proofs.Common.{◌≡◌, ◌∙◌, String, Global, string_bytes, length, arith, Bool, true, false, ◌&&◌, ap, sym, refl, List, [], ◌∷◌, find, Option, Some, None, Result, Ok, Err, option_and_then, if◌then◌else◌, true≢false, map}
+use Rattle.std.proofs.Common.{◌≡◌, ◌∙◌, String, Global, string_bytes, length, arith, Bool, true, false, ◌&&◌, ap, sym, refl, List, [], ◌∷◌, find, Option, Some, None, Result, Err, option_and_then, if◌then◌else◌, true≢false, map}
 use Rattle.std.specs.Option.{option_map_or}
 use Rattle.std.specs.Str.{bytes_eq}
 use Rattle.std.proofs.lemmas.Bool.{false_from_ne_true}
@@ -7,7 +7,6 @@ use Rattle.envy_args.specs.declared.command.Command.{Command}
 use Rattle.envy_args.specs.declared.command.WordsFault.{WordsFault}
 use Rattle.envy_args.specs.declared.command.WordsFault.TheVariants.{Form}
 use Rattle.envy_args.specs.declared.word.Word.{Word}
-use Rattle.envy_args.specs.declared.word.Word.TheVariants.{Run}
 use Rattle.envy_args.specs.Words.{Entry, Options, Text, accepted, are_known, command_of, commands, have_values, look_up, options_in}
 use Rattle.envy_args.specs.Reading.{all, are_readable, made, make_of, options_of, word_of}
 use Rattle.envy_args.proofs.Valued.{all-readable, have-values}

@@ -1,18 +1,13 @@
 -- Words that `clap` takes are those that give options of the parser, each once.
-use Rattle.std.proofs.Common.{◌≡◌, ◌∙◌, ◌⊎◌, inl, inr, ℕ, Bool, true, false, not, ◌&&◌, ◌==◌, refl, sym, ap, subst, List, [], ◌∷◌, ◌++◌, map, length, append_assoc, append-nil, Option, Some, None, is_some, codes, true≢false, eqb-true}
-use Rattle.std.specs.List.{list_any, list_all}
-use Rattle.std.specs.Option.{option_map}
+use Rattle.std.proofs.Common.{◌≡◌, ◌∙◌, inl, inr, Bool, true, false, refl, sym, ap, subst, List, [], ◌∷◌, ◌++◌, map, append_assoc, append-nil, Option, Some, None, is_some, codes, true≢false}
 use Rattle.std.specs.Str.{bytes_eq}
-use Rattle.std.proofs.lemmas.Bool.{and_parts, and_from, or_parts, or_from}
-use Rattle.clap.specs.Lexer.{long_of, short_of}
 use Rattle.clap.specs.Kinds.{or_else}
-use Rattle.clap.specs.Faults.{use_fault}
 use Rattle.clap.specs.Walk.{Row, Text, Walk, has_row, idle, option, used}
 use Rattle.envy_args.specs.Parser.{row_of}
-use Rattle.envy_args.specs.Words.{Options, are_known, has, has_value, have_values, is_option, is_value, name_in, options_in, value_in, with_option}
+use Rattle.envy_args.specs.Words.{Options, name_in, options_in, value_in, with_option}
 use Rattle.envy_args.proofs.Finds.{rule, is_among}
 use Rattle.envy_args.proofs.Forms.{Form, form_of, dashes, pair, single, other}
-use Rattle.envy_args.proofs.Steps.{Pending, Pushes, at, both-none, faults, idle-dashes, idle-other, idle-pair, idle-single, idle-unknown, new-used, next, no-words, one-word, rows_at_end, settled-value, settled_with, trailing-fails, turn, unsettled, unsettled-none, unsettled-value, use-new, used-row, waiting-dashes, waiting-long, waiting-other, waiting-plain}
+use Rattle.envy_args.proofs.Steps.{Pending, Pushes, at, both-none, faults, idle-dashes, idle-other, idle-pair, idle-single, idle-unknown, new-used, next, no-words, one-word, rows_at_end, settled-value, settled_with, trailing-fails, turn, unsettled, unsettled-none, unsettled-value, used-row, waiting-dashes, waiting-long, waiting-other}
 
 pub none≢some : {A B : Type 0} (x : A) → None ≡ Some x → B
 none≢some x e = absurd (true≢false (sym (ap is_some e)))

@@ -1,15 +1,12 @@
 -- Options that are known have values of their own where each of the names can be read.
-use Rattle.std.proofs.Common.{◌≡◌, ◌∙◌, ◌⊎◌, inl, inr, Bool, true, false, not, ◌&&◌, ◌||◌, ap, sym, refl, subst, List, [], ◌∷◌, Option, Some, None, true≢false}
+use Rattle.std.proofs.Common.{◌≡◌, ◌∙◌, Bool, true, false, not, ◌||◌, ap, sym, refl, subst, List, [], ◌∷◌, None, true≢false}
 use Rattle.std.specs.Option.{option_map_or}
 use Rattle.std.specs.Str.{bytes_eq}
 use Rattle.std.proofs.lemmas.Bool.{and_from, and_parts, false_from_ne_true, not-true, or_parts}
 use Rattle.std.proofs.lemmas.Slice.Eq.{bytes_eq-Decides}
 use Rattle.envy_args.specs.Words.{Options, Text, are_known, has, have_values, is_value, value_of}
 use Rattle.envy_args.specs.Reading.{are_readable, is_readable}
-use Rattle.envy_args.proofs.Finds.{is_among}
-
-same : (a b : Text) → bytes_eq a b ≡ true → a ≡ b
-same a b e = (bytes_eq-Decides a b).0 e
+use Rattle.envy_args.proofs.Finds.{is_among, same}
 
 other-way : (a b : Text) → bytes_eq a b ≡ false → bytes_eq b a ≡ false
 other-way a b e = false_from_ne_true _ (λ is. true≢false (sym ((bytes_eq-Decides a b).1 (sym (same b a is))) ∙ e))

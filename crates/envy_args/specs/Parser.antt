@@ -1,5 +1,5 @@
 -- The parser of options, and what it finds, in the words of `clap`.
-use Rattle.std.specs.Prelude.{ℕ, true, List, [], ◌∷◌, map, codes, None, Some, unwrap_or, slice_get}
+use Rattle.std.specs.Prelude.{true, List, [], ◌∷◌, map, codes, None, Some, unwrap_or, slice_get}
 use Rattle.clap.specs.Words.{App, Row, Rule, new_rule, new_app}
 use Rattle.clap.specs.Walk.{reading_by}
 use Rattle.clap.specs.declared.parser.matches.ValueSource.TheVariants.{CommandLine}
@@ -7,7 +7,7 @@ use Rattle.clap.specs.declared.error.kind.ErrorKind.{ErrorKind}
 use Rattle.clap.specs.declared.error.kind.ErrorKind.TheVariants.{OutOfMemory}
 use Rattle.envy_args.specs.declared.command.WordsFault.{WordsFault}
 use Rattle.envy_args.specs.declared.command.WordsFault.TheVariants.{Form, Memory}
-use Rattle.envy_args.specs.Words.{Text, Options}
+use Rattle.envy_args.specs.Words.{Text}
 
 -- an option `--name` that takes a value
 abbrev pub rule_named : Text → Rule

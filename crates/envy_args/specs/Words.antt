@@ -30,7 +30,7 @@ Options = List (Text × Text)
 abbrev pub is_equals : ℕ → Bool
 is_equals byte = byte == 61
 
--- `--name` or `--name=value`
+-- `--name` or `--name=value`: the name goes to the first `=`
 abbrev pub is_option : Text → Bool
 is_option word = starts_with ◌==◌ word (codes "--")
 

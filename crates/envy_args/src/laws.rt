@@ -18,6 +18,7 @@ pub fn words_name_commands()
     ensures twice { command_of (codes "run" ∷ codes "--rows" ∷ codes "16" ∷ codes "--rows" ∷ codes "16" ∷ []) ≡ Err Form }
     ensures share { command_of (codes "run" ∷ codes "--pages" ∷ codes "81" ∷ []) ≡ Err (Rule 6) }
     ensures pages { command_of (codes "run" ∷ codes "--pages=0" ∷ codes "--" ∷ []) ≡ Err (Rule 3) }
+    ensures total { command_of (codes "run" ∷ codes "--segments" ∷ codes "17" ∷ codes "--rows=65536" ∷ []) ≡ Err (Rule 7) }
     ensures transfers { command_of (codes "tpca" ∷ codes "--transfers" ∷ codes "1070" ∷ []) ≡ Err (Rule 11) }
     ensures shadows { command_of (codes "tpca" ∷ codes "--shadows" ∷ codes "4" ∷ []) ≡ Err (Rule 12) }
 {}

@@ -42,6 +42,9 @@ const USUAL_OF_LOAD: Shape = Shape {
     entries: 16,
 };
 
+/// How often power returns, where the words don't say otherwise.
+const MOST_LIVES: u32 = u32::MAX;
+
 /// The most pages that a generated trace goes over.
 const MOST_PAGES: u32 = 1_048_576;
 
@@ -82,7 +85,7 @@ fn run(options: &Options) -> Result<Command, WordsFault>
     ensures { result ≡ made run_options run_of options.now }
 {
     let setup = setup(options, &USUAL)?;
-    let lives = options.number("lives", u32::MAX)?;
+    let lives = options.number("lives", MOST_LIVES)?;
     setup.check()?;
     Ok(Command::Run { setup, lives })
 }
@@ -99,7 +102,7 @@ fn tpca(options: &Options) -> Result<Command, WordsFault>
     ensures { result ≡ made tpca_options tpca_of options.now }
 {
     let setup = setup(options, &USUAL_OF_LOAD)?;
-    let lives = options.number("lives", u32::MAX)?;
+    let lives = options.number("lives", MOST_LIVES)?;
     let start = options.wide_number("start", 1)?;
     let area = area(options)?;
     let every = options.number("every", 0)?;

@@ -24,6 +24,10 @@ pub returns-clause-pages : goal.returns-clause-pages
 unfolding command_of options_in are_known checked shape_checked
 returns-clause-pages c = refl
 
+pub returns-clause-total : goal.returns-clause-total
+unfolding command_of options_in are_known checked shape_checked
+returns-clause-total c = refl
+
 pub returns-clause-transfers : goal.returns-clause-transfers
 unfolding command_of options_in are_known checked shape_checked
 returns-clause-transfers c = refl

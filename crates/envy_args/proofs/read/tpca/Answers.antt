@@ -2,7 +2,7 @@ use Rattle.std.proofs.Common.{◌↔◌, IsTrue, refl, subst, sym}
 use Rattle.std.proofs.lemmas.Result.{err_from_is_err_and}
 use Rattle.envy_base.specs.Area.{Fits}
 use Rattle.envy_base.specs.declared.area.Area.{Area}
-use Rattle.envy_args.proofs.Loads.{load-made, load-refused, load-shadows, load-unfit}
+use Rattle.envy_args.proofs.Loads.{load-made, load-refused, load-unfit}
 use Rattle.envy_args.proofs.Readable.{run-all, run-lives, run-setup, tpca-all, tpca-area, tpca-every, tpca-run, tpca-start}
 use Rattle.envy_args.proofs.read.tpca.Goals as goal
 

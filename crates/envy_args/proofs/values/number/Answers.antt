@@ -1,4 +1,4 @@
-use Rattle.std.proofs.Common.{◌≡◌, ◌∙◌, IsTrue, SomeIff, sym, subst, rules, tests, true≢false, ℕ, Option}
+use Rattle.std.proofs.Common.{◌∙◌, IsTrue, SomeIff, sym, subst, rules, tests, true≢false, ℕ, Option}
 use Rattle.std.specs.Char.{is_ascii_digit}
 use Rattle.std.specs.Str.Parse.{digits_value}
 use Rattle.std.proofs.lemmas.Iterator.{YieldsList-from_slice}
