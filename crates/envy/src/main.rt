@@ -1,4 +1,5 @@
-//! The program: `envy run` answers a trace on standard input over a board in memory.
+//! The program: `envy run` answers a trace on standard input over a board in memory, `envy plain` on the
+//! plain machine, and `envy gen` writes one.
 #![tactic(auto)]
 
 mod streams;

@@ -1,6 +1,5 @@
 -- From one turn to the next, whatever machine does it.
-use Rattle.std.proofs.Common.{◌≡◌, ◌⊎◌, inl, inr, ℕ, ◌+◌, ◌-◌, ◌^◌, ◌<◌, ◌≤◌, List, [], ◌∷◌, ◌++◌, length, refl, sym, ◌∙◌, ap, subst, arith}
-use Rattle.std.specs.Prelude.{IsTrue, Ok, Err}
+use Rattle.std.proofs.Common.{◌≡◌, ◌⊎◌, inl, inr, ℕ, ◌+◌, ◌-◌, ◌^◌, ◌<◌, ◌≤◌, List, [], ◌∷◌, ◌++◌, sym, ◌∙◌, ap, subst, arith}
 use Rattle.std.proofs.lemmas.Bool.{cases_lt}
 use Rattle.envy_base.specs.Array.{Array}
 use Rattle.envy_map.specs.Fields.{Chart}
@@ -8,7 +7,6 @@ use Rattle.envy_io.specs.Streams.{Feed, Drain, Rises, with_end}
 use Rattle.envy_io.specs.Taking.{Taking}
 use Rattle.envy_io.proofs.WritesLemmas.{with_end-with_end}
 use Rattle.envy_layout.specs.Stands.{Stands}
-use Rattle.envy_trace.specs.declared.fault.LineFault.{LineFault}
 use Rattle.envy_trace.specs.declared.line.Line.{Line}
 use Rattle.envy_trace.specs.declared.reply.Reply.{Reply}
 use Rattle.envy_run.specs.declared.advance.End.{End}
@@ -20,7 +18,7 @@ use Rattle.envy_run.specs.declared.restart.Obeyed.TheVariants.{Done as ObeyedDon
 use Rattle.envy_run.specs.Concludes.{Concludes}
 use Rattle.envy_run.specs.Done.{HasDone, HasDied}
 use Rattle.envy_run.specs.Obeys.{Obeys, LineDone}
-use Rattle.envy_run.specs.Progress.{HasTold, Progress, Finished, Between, Stuck, Untold, Dark, Stops}
+use Rattle.envy_run.specs.Progress.{HasTold, Progress, Between, Stuck, Untold, Dark, Stops}
 use Rattle.envy_run.specs.Reading.{HasRead, Stopped}
 use Rattle.envy_run.specs.Restarts.{Written, FrontWritten}
 use Rattle.envy_run.specs.Turns.{Turn, lines_done, written, texts, count_lines, count_replies, is_power, is_plan, is_lost, is_fault}

@@ -1,5 +1,5 @@
 -- What the plain machine did, from what its calls say.
-use Rattle.std.proofs.Common.{◌≡◌, ◌⊎◌, inl, inr, ℕ, ◌+◌, List, [], ◌∷◌, ◌++◌, take, refl, sym, ◌∙◌, ap, subst, arith}
+use Rattle.std.proofs.Common.{◌≡◌, inl, inr, ℕ, ◌+◌, List, [], ◌∷◌, ◌++◌, take, refl, sym, ◌∙◌, ap, subst, arith}
 use Rattle.std.specs.Prelude.{None, Result, Ok, Err}
 use Rattle.std.proofs.lemmas.List.{append-nil}
 use Rattle.envy_base.specs.Array.{Array, restarted, zeros}
@@ -22,7 +22,6 @@ use Rattle.envy_run.specs.declared.fetch.Accepted.TheVariants.{All}
 use Rattle.envy_run.specs.Headline.{Told, RunsPlain, status_of, why_of}
 use Rattle.envy_run.specs.Progress.{HasTold, Progress, Untold}
 use Rattle.envy_run.specs.Reading.{HasRead}
-use Rattle.envy_run.specs.Restarts.{Written, FrontWritten}
 use Rattle.envy_run.specs.Serves.{Serves}
 use Rattle.envy_run.specs.Turns.{Turn, Says, Replies, Does, said, lines_done, texts}
 use Rattle.envy_run.proofs.Advancing.{turn-told, turn-untold}

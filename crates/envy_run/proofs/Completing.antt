@@ -1,6 +1,6 @@
 -- Where nothing goes wrong, no end but the good one is left.
-use Rattle.std.proofs.Common.{◌≡◌, ◌⊎◌, inl, inr, ℕ, ◌-◌, ◌^◌, ◌+◌, ◌<◌, ◌≤◌, true, false, List, [], ◌∷◌, ◌++◌, length, take, refl, sym, ◌∙◌, ap, subst, arith}
-use Rattle.std.specs.Prelude.{IsTrue, IsOk, Option, None, Some, Result, Ok, Err}
+use Rattle.std.proofs.Common.{◌≡◌, ◌⊎◌, inl, inr, ℕ, ◌≤◌, List, [], ◌∷◌, ◌++◌, length, take, refl, sym, ◌∙◌, ap, subst, arith}
+use Rattle.std.specs.Prelude.{IsOk, Option, None, Some, Result, Ok, Err}
 use Rattle.std.specs.List.{All as EachOf, AllByRecursion}
 use Rattle.std.proofs.lemmas.List.Elements.{recursion_from_All}
 use Rattle.std.proofs.Math.Seq.{take-append_seam}
@@ -25,12 +25,12 @@ use Rattle.envy_run.specs.declared.fetch.Accepted.TheVariants.{Built, All}
 use Rattle.envy_run.specs.Calm.{HasDoneCalmly, NeverDies}
 use Rattle.envy_run.specs.Complete.{StaysLow, IsGoodTrace, IsWell, IsComplete, Completes}
 use Rattle.envy_run.specs.Done.{HasDone, HasDied}
-use Rattle.envy_run.specs.Headline.{Told, DoesCommand, Headline, RunsTrace, RunsPlain, WritesTrace, IsServed, IsServedCalmly, IsSpoilt, IsDark, IsQuiet, IsOutOfMemory, IsWithoutMemory, Generates, with_a_frame_for_every_page, status_of}
+use Rattle.envy_run.specs.Headline.{Told, Headline, RunsTrace, WritesTrace, IsServedCalmly, IsDark, IsQuiet, IsOutOfMemory, IsWithoutMemory, Generates, with_a_frame_for_every_page, status_of}
 use Rattle.envy_run.specs.Obeys.{LineDead}
-use Rattle.envy_run.specs.Progress.{Stops, Stuck, Untold, Dark}
+use Rattle.envy_run.specs.Progress.{Stuck, Untold, Dark}
 use Rattle.envy_run.specs.Reading.{accepted_line, ReadStuck}
 use Rattle.envy_run.specs.Restarts.{Written, FrontWritten}
-use Rattle.envy_run.specs.Serves.{Serves, most_bytes}
+use Rattle.envy_run.specs.Serves.{Serves}
 use Rattle.envy_run.specs.Turns.{Turn}
 use Rattle.envy_run.proofs.Advancing.{rises-told}
 

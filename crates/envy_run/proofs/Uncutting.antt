@@ -33,12 +33,15 @@ told-as : (Done Other : List Turn → Array → Type 0) (to : Drain) (n : ℕ) (
 told-as Done Other to n sink other t = record { turns = t.turns; array = t.array; count = t.count; done = other t.turns t.array t.done; told = t.told }
 
 finished-as : (accepted : Accepted) (Done Other : List Turn → Array → Type 0) (from : Feed) (to : Drain) (n : ℕ) (feed : Feed) (sink : Drain) (reader : Taking) → ((turns : List Turn) (m : Array) → Done turns m → Other turns m) → Finished accepted Done from to n feed sink reader → Finished accepted Other from to n feed sink reader
+unfolding told-as
 finished-as accepted Done Other from to n feed sink reader other f = record { told = told-as Done Other to n sink other f.told; read = f.read }
 
 between-as : (accepted : Accepted) (Done Other : List Turn → Array → Type 0) (from : Feed) (to : Drain) (n : ℕ) (feed : Feed) (sink : Drain) (reader : Taking) → ((turns : List Turn) (m : Array) → Done turns m → Other turns m) → Between accepted Done from to n feed sink reader → Between accepted Other from to n feed sink reader
+unfolding told-as
 between-as accepted Done Other from to n feed sink reader other b = record { told = told-as Done Other to n sink other b.told; read = b.read }
 
 stops-as : (end : End) (accepted : Accepted) (Done Other : List Turn → Array → Type 0) (Dead : List Turn → Line → Type 0) (from : Feed) (to : Drain) (n : ℕ) (feed : Feed) (sink : Drain) (reader : Taking) → ((turns : List Turn) (m : Array) → Done turns m → Other turns m) → ((turns : List Turn) (line : Line) → Dead turns line → ⊥) → Stops end accepted Done Dead from to n feed sink reader → Stops end accepted Other NeverDies from to n feed sink reader
+unfolding told-as
 stops-as EndDone accepted Done Other Dead from to n feed sink reader other alive (all, flushed) = (finished-as accepted Done Other from to n feed sink reader other all, flushed)
 stops-as ReadFault accepted Done Other Dead from to n feed sink reader other alive (some, rises) = (between-as accepted Done Other from to n feed sink reader other some, rises)
 stops-as WriteFault accepted Done Other Dead from to n feed sink reader other alive u = record { turn = u.turn; earlier = u.earlier; array = u.array; count = u.count; read = u.read; done = other _ u.array u.done; told = u.told }

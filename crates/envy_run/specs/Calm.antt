@@ -1,5 +1,5 @@
 -- What the plain machine answers: it has no power that fails, no flash operations, and no work to count.
-use Rattle.std.specs.Prelude.{◌≡◌, ⊤, List, [], ◌∷◌, Option, None, Some, Result, Ok, Err}
+use Rattle.std.specs.Prelude.{◌≡◌, ⊤, List, [], ◌∷◌, Result, Ok, Err}
 use Rattle.std.specs.List.{AllByRecursion}
 use Rattle.envy_base.specs.Array.{Array}
 use Rattle.envy_base.specs.declared.counts.Counts.{Counts}

@@ -1,8 +1,7 @@
 -- How far a run of a trace has come, and how it ends, whatever machine does the lines. What is said of the
 -- machine is `Done turns m`: it did these turns, and stands for the array m.
-use Rattle.std.specs.Prelude.{◌≡◌, ◌⊎◌, ℕ, ◌+◌, IsTrue, List, [], ◌∷◌, ◌++◌, length, Option, None, Some, Ok, Err}
+use Rattle.std.specs.Prelude.{◌≡◌, ◌⊎◌, ℕ, ◌+◌, IsTrue, List, [], ◌∷◌, ◌++◌, length, Option, None, Some}
 use Rattle.envy_base.specs.Array.{Array}
-use Rattle.envy_io.specs.declared.source.Failed.{Failed}
 use Rattle.envy_io.specs.Streams.{Feed, Drain, Rises}
 use Rattle.envy_io.specs.Taking.{Taking}
 use Rattle.envy_trace.specs.declared.fault.LineFault.{LineFault}

@@ -1,9 +1,5 @@
-use Rattle.std.proofs.Common.{sym, subst, refl, ap}
-use Rattle.envy_base.specs.Array.{Array}
-use Rattle.envy_run.specs.declared.fetch.Accepted.TheVariants.{All}
-use Rattle.envy_run.specs.Calm.{HasDoneCalmly, NeverDies}
+use Rattle.std.proofs.Common.{sym, subst, refl}
 use Rattle.envy_run.specs.Headline.{RunsPlain, status_of, why_of}
-use Rattle.envy_run.specs.Serves.{Serves}
 use Rattle.std.specs.Prelude.{None}
 use Rattle.envy_run.proofs.Calm.{plain-served}
 use Rattle.envy_run.proofs.plain_run.run_plain.Goals as goal
