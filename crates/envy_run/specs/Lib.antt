@@ -7,6 +7,7 @@ pub mod Done
 pub mod Headline
 pub mod Licence
 pub mod Obeys
+pub mod Planned
 pub mod Prepares
 pub mod Progress
 pub mod Reading

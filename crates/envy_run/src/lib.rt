@@ -13,6 +13,8 @@ mod obey;
 mod plain_run;
 #[cfg(test)]
 mod plain_tests;
+#[cfg(test)]
+mod planned_board;
 mod prepare;
 mod restart;
 mod running;
