@@ -14,8 +14,33 @@ use envy_layout::{claim_back, raise_fill, replace_segment};
 impl Space {
     /// Claims the row at the fill of a segment for a page. The segment stands at a position, or is the
     /// spare that another is being copied to. The row's page is written first, so that power that fails
-    /// before the fill is raised leaves the row free. The array stays.
+    /// before the fill is raised leaves the row free. The array stays. Without power nothing changes.
     pub fn claim<B: Board>(&mut self, board: &mut B, segment: u32, page: u32) -> Result<u32, Off>
+        requires sound { IsTrue (B.state board.old).on → IsSound (chart (B.state board.old)) }
+        requires agrees { IsTrue (B.state board.old).on → PoolAgrees (B.state board.old).shape (chart (B.state board.old)).fields self.old }
+        requires shape { self.old.shape ≡ (B.state board.old).shape }
+        requires segment { segment < self.old.shape.segments }
+        requires page { page < self.old.shape.pages }
+        requires room { slice_index self.old.fills segment < self.old.shape.rows }
+        requires usable { IsTrue (B.state board.old).on → IsUsable (B.state board.old).shape (chart (B.state board.old)).fields segment }
+        ensures same { IsSound (chart (B.state board.old)) → Same 0 0 (chart (B.state board.old)) (chart (B.state board.new)) }
+        ensures idle { (B.state board.old).on ≡ false → (B.state board.new ≡ B.state board.old) × (self.new ≡ self.old) }
+        ensures agrees { IsTrue (B.state board.new).on → PoolAgrees (B.state board.new).shape (chart (B.state board.new)).fields self.new }
+        ensures shape { self.new.shape ≡ self.old.shape }
+        ensures claims { IfOk result (λ row. Claims (chart (B.state board.old)) segment page row (chart (B.state board.new))) }
+        ensures claimed { IfOk result (λ row. Claimed (chart (B.state board.new)) segment page row) }
+        ensures pool { IfOk result (λ _. self.new ≡ with_filled segment (slice_index self.old.fills segment + 1) self.old) }
+        ensures on { OnOk result (IsTrue (B.state board.new).on) }
+        ensures off { OnErr result ((B.state board.new).on ≡ false) }
+    {
+        if !board.powered() {
+            return Err(Off);
+        }
+        self.claim_row(board, segment, page)
+    }
+
+    // The same from a sound board.
+    fn claim_row<B: Board>(&mut self, board: &mut B, segment: u32, page: u32) -> Result<u32, Off>
         requires sound { IsSound (chart (B.state board.old)) }
         requires agrees { IsTrue (B.state board.old).on → PoolAgrees (B.state board.old).shape (chart (B.state board.old)).fields self.old }
         requires shape { self.old.shape ≡ (B.state board.old).shape }
@@ -41,8 +66,32 @@ impl Space {
     }
 
     /// Puts the spare at a position in place of the segment there, which is the spare then. References
-    /// are being switched from that segment, and none is left. The array stays.
+    /// are being switched from that segment, and none is left. The array stays. Without power nothing changes.
     pub fn replace<B: Board>(&mut self, board: &mut B, position: u32) -> Result<(), Off>
+        requires sound { IsTrue (B.state board.old).on → IsSound (chart (B.state board.old)) }
+        requires agrees { IsTrue (B.state board.old).on → PoolAgrees (B.state board.old).shape (chart (B.state board.old)).fields self.old }
+        requires shape { self.old.shape ≡ (B.state board.old).shape }
+        requires position { position < self.old.shape.segments - 1 }
+        requires switching { let f = (chart (B.state board.old)).fields in
+            IsTrue (B.state board.old).on → f.job ≡ Some (Switch (slice_index f.positions position)) }
+        requires clear { let f = (chart (B.state board.old)).fields in
+            IsTrue (B.state board.old).on → IsClear (B.state board.old).shape f (slice_index f.positions position) }
+        ensures same { IsSound (chart (B.state board.old)) → Same 0 0 (chart (B.state board.old)) (chart (B.state board.new)) }
+        ensures idle { (B.state board.old).on ≡ false → (B.state board.new ≡ B.state board.old) × (self.new ≡ self.old) }
+        ensures agrees { IsTrue (B.state board.new).on → PoolAgrees (B.state board.new).shape (chart (B.state board.new)).fields self.new }
+        ensures shape { self.new.shape ≡ self.old.shape }
+        ensures replaces { OnOk result ((e : ℕ) × Replaces (chart (B.state board.old)) self.old position e (chart (B.state board.new)) self.new) }
+        ensures on { OnOk result (IsTrue (B.state board.new).on) }
+        ensures off { OnErr result ((B.state board.new).on ≡ false) }
+    {
+        if !board.powered() {
+            return Err(Off);
+        }
+        self.replace_spare(board, position)
+    }
+
+    // The same from a sound board.
+    fn replace_spare<B: Board>(&mut self, board: &mut B, position: u32) -> Result<(), Off>
         requires sound { IsSound (chart (B.state board.old)) }
         requires agrees { IsTrue (B.state board.old).on → PoolAgrees (B.state board.old).shape (chart (B.state board.old)).fields self.old }
         requires shape { self.old.shape ≡ (B.state board.old).shape }

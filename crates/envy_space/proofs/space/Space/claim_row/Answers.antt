@@ -5,7 +5,7 @@ use Rattle.envy_map.specs.Fields.{Chart, chart, with_fields}
 use Rattle.envy_map.specs.Writes.{with_fill}
 use Rattle.envy_space.specs.Pool.{IsPoolOf}
 use Rattle.envy_space.proofs.PoolLemmas.{PoolAgrees-claimed, Claimed-made}
-use Rattle.envy_space.proofs.space.Space.claim.Goals as goal
+use Rattle.envy_space.proofs.space.Space.claim_row.Goals as goal
 
 pub returns-clause-agrees : goal.returns-clause-agrees
 returns-clause-agrees g c on =

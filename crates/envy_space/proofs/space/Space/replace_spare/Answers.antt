@@ -5,7 +5,7 @@ use Rattle.envy_map.specs.Fields.{Chart, chart}
 use Rattle.envy_layout.specs.Sound.{IsSpare}
 use Rattle.envy_space.specs.Pool.{IsPoolOf}
 use Rattle.envy_space.proofs.PoolLemmas.{PoolAgrees-replaced, StandsAt-spare}
-use Rattle.envy_space.proofs.space.Space.replace.Goals as goal
+use Rattle.envy_space.proofs.space.Space.replace_spare.Goals as goal
 
 pub returns-clause-agrees : goal.returns-clause-agrees
 returns-clause-agrees g c on =
