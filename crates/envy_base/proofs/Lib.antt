@@ -3,3 +3,4 @@ pub mod Keeping
 pub mod Owning
 pub mod Total
 pub mod Undoing
+pub mod Working

@@ -5,3 +5,4 @@ pub mod Map
 pub mod Shape
 pub mod State
 pub mod Step
+pub mod Words

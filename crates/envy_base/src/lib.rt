@@ -13,6 +13,7 @@ mod counts;
 mod fields;
 mod laws;
 mod shape;
+mod words;
 
 pub use area::Area;
 pub use bench::{Bench, Maker, NoMemory};
@@ -23,3 +24,4 @@ pub use laws::{
     restart_keeps_the_array, step_gives_one_answer, step_keeps_the_array, zeros_are_an_array,
 };
 pub use shape::{Shape, ShapeFault};
+pub use words::Words;

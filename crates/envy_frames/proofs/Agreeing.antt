@@ -1,5 +1,5 @@
 -- The agreement of the held frames with the map, after a change of a place.
-use Rattle.std.proofs.Common.{◌≡◌, ◌≢◌, ◌⊎◌, inl, inr, ℕ, ◌-◌, ◌<◌, ◌≤◌, not, List, [], ◌∷◌, ◌++◌, length, get_or, set, Option, None, Some, refl, sym, ◌∙◌, ap, subst, arith}
+use Rattle.std.proofs.Common.{◌≡◌, ◌≢◌, ◌⊎◌, ◌↔◌, inl, inr, ℕ, suc, ◌-◌, ◌<◌, ◌≤◌, not, List, [], ◌∷◌, ◌++◌, length, get_or, drop, set, Option, None, Some, refl, sym, ◌∙◌, ap, subst, arith}
 use Rattle.std.specs.Prelude.{slice_get}
 use Rattle.std.specs.List.{Any, filter}
 use Rattle.std.proofs.lemmas.List.{get_or-set_same, get_or-set_other, get_or_past, set_past}
@@ -42,7 +42,7 @@ pub Any-held : (sh : Shape) (places : List (Option Place)) (held : List Held) (p
 Any-held sh places held p k a is = Any-weaker (λ h. (h.page ≡ p) × (h.frame ≡ k)) (λ h. h.frame ≡ k) held (λ h both. both.1) (a.named p k is)
 
 -- two held frames of one number are one
-same-page : (sh : Shape) (places : List (Option Place)) (held : List Held) (p r k : ℕ) → AreHeld sh places held → get_or places p None ≡ Some (Frame k) → get_or places r None ≡ Some (Frame k) → p ≡ r
+pub same-page : (sh : Shape) (places : List (Option Place)) (held : List Held) (p r k : ℕ) → AreHeld sh places held → get_or places p None ≡ Some (Frame k) → get_or places r None ≡ Some (Frame k) → p ≡ r
 same-page sh places held p r k a one two = at (a.named p k one) (a.named r k two)
   where
     at : Any (λ h. (h.page ≡ p) × (h.frame ≡ k)) held → Any (λ h. (h.page ≡ r) × (h.frame ≡ k)) held → p ≡ r
@@ -106,3 +106,31 @@ oldest-held sh places held h a front =
     let some : 0 < length held = slice_get_within held 0 h front in
     let is : get_or held 0 h ≡ h = get_or_from_slice_get held 0 h h front in
     (subst (IsHeld sh places) is (a.each 0 h some), (0, h, some, is, refl))
+
+-- each place is a frame exactly where it was, the same one
+pub AreHeld-stay : (sh : Shape) (places new : List (Option Place)) (held : List Held) → ((p k : ℕ) → (get_or new p None ≡ Some (Frame k)) ↔ (get_or places p None ≡ Some (Frame k))) → AreHeld sh places held → AreHeld sh new held
+AreHeld-stay sh places new held stay a = record {
+  each = λ i d lt. let mine : IsHeld sh places (get_or held i d) = a.each i d lt in record { here = (stay (get_or held i d).page (get_or held i d).frame).1 mine.here; page = mine.page; home = mine.home };
+  apart = a.apart;
+  named = λ p k is. a.named p k ((stay p k).0 is);
+}
+
+-- a frame that isn't held is no page's
+pub unnamed-unheld : (sh : Shape) (places : List (Option Place)) (held : List Held) (k p : ℕ) → AreHeld sh places held → IsUnheld held k → get_or places p None ≢ Some (Frame k)
+unnamed-unheld sh places held k p a unheld is = at (a.named p k is)
+  where
+    at : Any (λ h. (h.page ≡ p) × (h.frame ≡ k)) held → ⊥
+    at (i, h, lt, here, both) = unheld i h lt (ap (λ (x : Held). x.frame) here ∙ both.1)
+
+-- a page that was in no frame isn't in one after the oldest held page left
+pub elsewhere-dropped : (sh sh2 : Shape) (places new : List (Option Place)) (held rest : List Held) (p : ℕ) → AreHeld sh places held → AreHeld sh2 new rest → rest ≡ drop 1 held → IsElsewhere (get_or places p None) → IsElsewhere (get_or new p None)
+elsewhere-dropped sh sh2 places new held rest p a b left elsewhere k is = at held left (λ i d lt. a.each i d lt) (b.named p k is)
+  where
+    at : (hs : List Held) → rest ≡ drop 1 hs → ((i : ℕ) (d : Held) → i < length hs → IsHeld sh places (get_or hs i d)) → Any (λ h. (h.page ≡ p) × (h.frame ≡ k)) rest → ⊥
+    at [] none each (i, h, lt, here, both) = let empty : length rest ≡ 0 = ap length none in omega arith
+    at (first ∷ others) tail each (i, h, lt, here, both) =
+        let less : i < length others = subst (λ (hs : List Held). i < length hs) tail lt in
+        let own = each (suc i) h (omega arith) in
+        let e : get_or others i h ≡ h = ap (λ (hs : List Held). get_or hs i h) (sym tail) ∙ here in
+        let mine : IsHeld sh places h = subst (IsHeld sh places) e own in
+        elsewhere h.frame (ap (λ (n : ℕ). get_or places n None) (sym both.0) ∙ IsHeld.here mine)

@@ -1,4 +1,5 @@
 pub mod Agreeing
+pub mod CountLemmas
 pub mod Defaults
 pub mod Lists
 pub mod Marks

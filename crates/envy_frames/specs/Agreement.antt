@@ -1,5 +1,5 @@
 -- When the held frames are those of the map, and what they are after a restart.
-use Rattle.std.specs.Prelude.{◌≡◌, ◌≢◌, ℕ, ◌-◌, ◌*◌, ◌/◌, ◌<◌, List, Option, None, Some, slice_index_or, All, AllPairs, Any}
+use Rattle.std.specs.Prelude.{◌≡◌, ◌≢◌, ℕ, ◌-◌, ◌*◌, ◌/◌, ◌<◌, Bool, true, false, List, Option, None, Some, slice_index_or, All, AllPairs, Any}
 use Rattle.std.specs.List.{filter_map, range_with_len}
 use Rattle.envy_base.specs.declared.shape.Shape.{Shape}
 use Rattle.envy_base.specs.declared.fields.Place.{Place}
@@ -22,6 +22,13 @@ pub record AreHeld (sh : Shape) (places : List (Option Place)) (held : List Held
 -- the place is no frame
 abbrev pub IsElsewhere : Option Place → Type 0
 IsElsewhere x = (k : ℕ) → x ≢ Some (Frame k)
+
+-- whether a page that is there stands in a frame
+abbrev pub is_framed : Option Place → Bool
+is_framed (Some (Frame k)) = true
+is_framed (Some (Row q)) = false
+is_framed (Some Absent) = false
+is_framed None = false
 
 -- the home of a page that came from no row
 abbrev pub default_home : Shape → ℕ → ℕ

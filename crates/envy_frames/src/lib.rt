@@ -17,4 +17,7 @@ mod tests;
 pub use frames::Frames;
 pub use held::Held;
 pub use home::default_home;
-pub use laws::{giving_back_keeps_the_agreement, taking_keeps_the_agreement};
+pub use laws::{
+    giving_back_keeps_the_agreement, pages_elsewhere_keep_the_agreement,
+    places_tell_the_held_frames, taking_keeps_the_agreement,
+};

@@ -60,9 +60,17 @@ cleared-one old a b c e lt (on, worn) (was, rows, only, erased) (then_on, filled
   fields = ap (λ (x : Chart). x.fields) filled ∙ ap (λ (x : State). with_fill e 0 (chart x).fields) erased ∙ ap (λ (x : Chart). with_fill e 0 x.fields) worn;
   flash = subst (λ (x : List (List ℕ)). Only old.shape.rows e IsOnes old.flash x) (sym (ap (λ (x : Chart). x.flash) filled ∙ ap (λ (x : State). x.flash) erased))
       (subst (λ (x : Chart). Only x.shape.rows e IsOnes x.flash rows) worn only);
+  once = ap (λ (xs : List ℕ). get_or xs e 0) erases ∙ get_or-set_same old.erases e (up (get_or old.erases e 0)) 0 (rw (← before) lt);
+  others = λ r other. ap (λ (xs : List ℕ). get_or xs r 0) erases ∙ get_or-set_other old.erases e r (up (get_or old.erases e 0)) 0 other;
   counted = Counted-trans 0 0 0 1 old (chart a) (chart c) first (Counted-trans 0 1 0 0 (chart a) (chart b) (chart c) second third);
 }
   where
+    before : a.erases ≡ old.erases
+    before = ap (λ (x : Chart). x.erases) worn
+
+    erases : c.erases ≡ set old.erases e (up (get_or old.erases e 0))
+    erases = ap (λ (x : Chart). x.erases) filled ∙ ap (λ (x : State). x.erases) erased ∙ ap (λ (xs : List ℕ). set xs e (up (get_or xs e 0))) before
+
     first : Counted 0 0 old (chart a)
     first = subst (λ (x : Chart). Counted 0 0 old x) (sym worn) (Counted-fields old (with_wear e 1 old.fields))
 
@@ -79,6 +87,8 @@ Cleared-none c on = record {
   fields = ap (λ (ws : List ℕ). record c.fields { wears = ws }) (sym (filled-zero c.fields.wears 1)) ∙ ap (λ (fs : List ℕ). record c.fields { wears = filled c.fields.wears 1 0; fills = fs }) (sym (filled-zero c.fields.fills 0));
   long = refl;
   erased = λ q lt below. absurd (omega arith);
+  once = λ s lt. absurd (omega arith);
+  others = λ s le. refl;
   counted = Reached.counted (Reached-refl c on);
 }
 
@@ -91,11 +101,17 @@ Cleared-more old mid new n all one = record {
       ∙ ap (λ (fs : List ℕ). record old.fields { wears = filled old.fields.wears 1 (n + 1); fills = fs }) (filled-step old.fields.fills 0 n);
   long = Only.long one.flash ∙ all.long;
   erased = λ q lt below. at q lt below (cases_eq (q / old.shape.rows) n);
+  once = λ s lt. once s lt (cases_eq s n);
+  others = λ s le. one.others s (omega arith) ∙ all.others s (omega arith);
   counted = Counted-trans 0 n 0 1 old mid new all.counted one.counted;
 }
   where
     flash : Only old.shape.rows n IsOnes mid.flash new.flash
     flash = subst (λ (r : ℕ). Only r n IsOnes mid.flash new.flash) (ap (λ (sh : Shape). sh.rows) all.shape) one.flash
+
+    once : (s : ℕ) → s < n + 1 → (s ≡ n) ⊎ (s ≡ n → ⊥) → get_or new.erases s 0 ≡ up (get_or old.erases s 0)
+    once s lt (inl same) = rw same (one.once ∙ ap up (all.others n (omega arith)))
+    once s lt (inr other) = one.others s other ∙ all.once s (let o = other in omega arith)
 
     at : (q : ℕ) → q < length old.flash → q / old.shape.rows < n + 1 → (q / old.shape.rows ≡ n) ⊎ (q / old.shape.rows ≡ n → ⊥) → get_or new.flash q [] ≡ ones
     at q lt below (inl same) = Only.inside flash q (rw all.long lt) same

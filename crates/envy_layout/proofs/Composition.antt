@@ -1,5 +1,5 @@
 -- What a step says of power, counts and words composes, and each single put says it where its law does.
-use Rattle.std.proofs.Common.{◌≡◌, inl, inr, ℕ, ◌+◌, ◌-◌, ◌^◌, ◌<◌, ◌≤◌, Bool, false, List, refl, sym, ◌∙◌, ap, subst, arith}
+use Rattle.std.proofs.Common.{◌≡◌, inl, inr, ℕ, ◌+◌, ◌-◌, ◌^◌, ◌<◌, ◌≤◌, Bool, false, List, get_or, refl, sym, ◌∙◌, ap, subst, arith}
 use Rattle.std.specs.Prelude.{IsTrue, Result, Ok, Err, MatchResult}
 use Rattle.envy_base.specs.declared.board.Off.{Off}
 use Rattle.envy_base.specs.Counting.{up}
@@ -8,7 +8,7 @@ use Rattle.envy_map.specs.Fields.{Fields, Chart, failed, with_fields}
 use Rattle.envy_map.specs.Writes.{Writes}
 use Rattle.envy_layout.specs.Sound.{IsSound}
 use Rattle.envy_layout.specs.Words.{live, durable}
-use Rattle.envy_layout.specs.Same.{Powers, Grows, Counted, Worn, Wears, Framed, Stays, Same, Kept, SameWords, SameDurable, Dropped}
+use Rattle.envy_layout.specs.Same.{Powers, Grows, Counted, Worn, Wears, Framed, Stays, Same, Kept, SameWords, SameDurable, Dropped, Commits}
 
 pub Powers-trans : (a b c : Bool) (i j k : ℕ) → Powers a i b j → Powers b j c k → Powers a i c k
 Powers-trans a b c i j k (inl (on, cuts)) (inl (then_on, then_cuts)) = inl (then_on ∙ on, then_cuts ∙ cuts)
@@ -157,6 +157,20 @@ SameDurable-dropped k j a b s =
     let framed = s.framed in
     record { shape = framed.shape; magic = framed.magic; version = framed.version; sound = s.sound; durable = s.durable; counted = s.counted; worn = s.worn }
 
+-- what is committed stays so while no word changes
+pub Commits-after : (i j k l t : ℕ) (a b c : Chart) → Commits i j t a b → SameWords k l b c → Commits (i + k) (j + l) t a c
+Commits-after i j k l t a b c m s = record {
+  shape = s.shape ∙ m.shape;
+  magic = s.magic ∙ m.magic;
+  version = s.version ∙ m.version;
+  sound = s.sound;
+  own = λ n named. ap (λ (ws : List ℕ). get_or ws n 0) s.durable ∙ m.own n named;
+  others = λ n other. ap (λ (ws : List ℕ). get_or ws n 0) s.durable ∙ m.others n other;
+  live = s.live ∙ m.live;
+  counted = Counted-trans i j k l a b c m.counted s.counted;
+  worn = Wears-trans k l a b c m.shape s.counted m.worn s.worn;
+}
+
 pub Kept-refl : (c : Chart) → IsSound c → Kept c c
 Kept-refl c sound = record { shape = refl; magic = refl; sound = sound; durable = refl; counted = Counted-refl c; worn = Wears-refl c }
 
@@ -195,6 +209,15 @@ pub at-each : {T E : Type 0} (r : Result T E) (P : Type 0) → MatchResult r (λ
 at-each (Ok x) P p = p
 at-each (Err e) P p = p
 
+-- what one put does to power, counts and wear, whatever it writes
+pub Counted-put : (c new : Chart) (change : Fields → Fields) (r : Result Unit Off) → Writes change c r new → Counted 0 0 c new
+Counted-put c new change (Ok done) (on, is) = subst (λ (x : Chart). Counted 0 0 c x) (sym is) (Counted-fields c (change c.fields))
+Counted-put c new change (Err off) (inl (dark, is)) = subst (λ (x : Chart). Counted 0 0 c x) (sym is) (Counted-refl c)
+Counted-put c new change (Err off) (inr (on, f, either, is)) = subst (λ (x : Chart). Counted 0 0 c x) (sym is) (Counted-failed c f on)
+
+pub Wears-put : (c new : Chart) (change : Fields → Fields) (r : Result Unit Off) → (change c.fields).wears ≡ c.fields.wears → Writes change c r new → Wears c new
+Wears-put c new change r wears writes = at-each r (Wears c new) (exits c new change r (Wears c) (Wears c) (λ on. Wears-fields c (change c.fields) wears) (λ off. Wears-refl c) (λ on. Wears-failed c c.fields refl) (λ on. Wears-failed c (change c.fields) wears) writes)
+
 -- what a law says of the fields that a put leaves
 pub record Keeps (c : Chart) (f : Fields) : Type 0 where
   pub framed : Framed c (with_fields c f)
@@ -221,7 +244,7 @@ Stays-put c new change r sound law writes = at-each r (Stays 0 0 c new) (exits c
 pub Same-put : (c new : Chart) (change : Fields → Fields) (r : Result Unit Off) → IsSound c → (IsTrue c.on → Keeps c (change c.fields)) → (change c.fields).wears ≡ c.fields.wears → Writes change c r new → Same 0 0 c new
 Same-put c new change r sound law wears writes = record {
   stays = Stays-put c new change r sound law writes;
-  worn = at-each r (Wears c new) (exits c new change r (Wears c) (Wears c) (λ on. Wears-fields c (change c.fields) wears) (λ off. Wears-refl c) (λ on. Wears-failed c c.fields refl) (λ on. Wears-failed c (change c.fields) wears) writes);
+  worn = Wears-put c new change r wears writes;
 }
 
 -- a put after which pages may have other owners, and slots other states

@@ -195,13 +195,15 @@ IsEmpty-laid c version shape versions laid = record {
   places = laid.places;
   undos = laid.undos;
   wears = laid.wears;
+  fills = laid.fills;
+  positions = laid.positions;
 }
   where
     s : Sound c.shape c.fields c.flash
     s = Sound-laid c.shape version c.fields c.flash shape versions laid
 
 pub IsEmpty-failed : (c : Chart) (version : ℕ) → IsEmpty version c → IsEmpty version (failed c)
-IsEmpty-failed c version e = record { magic = e.magic; version_is = e.version_is; sound = e.sound; live_zeros = e.live_zeros; durable_zeros = e.durable_zeros; job = e.job; slots = e.slots; places = e.places; undos = e.undos; wears = e.wears }
+IsEmpty-failed c version e = record { magic = e.magic; version_is = e.version_is; sound = e.sound; live_zeros = e.live_zeros; durable_zeros = e.durable_zeros; job = e.job; slots = e.slots; places = e.places; undos = e.undos; wears = e.wears; fills = e.fills; positions = e.positions }
 
 -- all parts of formatting one after another
 pub laid-map : (old a b c : Chart) (version slots : ℕ) → slots ≡ slots_of version → slots ≤ 64 → Lengths old.shape old.fields → length old.flash ≡ old.shape.segments * old.shape.rows → 0 < old.shape.rows → Cleared old.shape.segments old a → b ≡ with_fields a (with_head a.shape version a.fields) → c ≡ with_fields b (with_regions_laid b.shape slots b.fields) → IsLaid old.shape version c.fields c.flash

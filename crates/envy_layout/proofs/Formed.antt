@@ -14,7 +14,7 @@ use Rattle.envy_map.proofs.Sizes.{length-sizes, length-slots, length-wears, leng
 use Rattle.envy_layout.specs.Formatting.{Formats, IsEmpty, IsLaid, IsStopped, IsSpoilt}
 use Rattle.envy_layout.specs.Same.{Counted}
 use Rattle.envy_layout.specs.Sound.{slots_of}
-use Rattle.envy_layout.proofs.Composition.{Counted-refl, Counted-trans, Counted-more, Counted-fields, Counted-failed}
+use Rattle.envy_layout.proofs.Composition.{Counted-trans, Counted-more, Counted-put}
 use Rattle.envy_layout.proofs.Empty.{Lengths, IsEmpty-laid, IsEmpty-failed}
 
 pub Lengths-board : (s : State) → IsBoard s → Lengths s.shape (chart s).fields
@@ -34,11 +34,6 @@ Lengths-board s b = record {
 pub magic-is : (s : State) → (chart s).fields.magic ≡ slice_index s.sram 0
 unfolding map_fields
 magic-is s = refl
-
-pub Counted-put : (c new : Chart) (change : Fields → Fields) (r : Result Unit Off) → Writes change c r new → Counted 0 0 c new
-Counted-put c new change (Ok done) (on, is) = subst (λ (x : Chart). Counted 0 0 c x) (sym is) (Counted-fields c (change c.fields))
-Counted-put c new change (Err off) (inl (dark, is)) = subst (λ (x : Chart). Counted 0 0 c x) (sym is) (Counted-refl c)
-Counted-put c new change (Err off) (inr (on, f, either, is)) = subst (λ (x : Chart). Counted 0 0 c x) (sym is) (Counted-failed c f on)
 
 pub Counts-first : (n : ℕ) (c new : Chart) (change : Fields → Fields) (r : Result Unit Off) → Writes change c r new → Counted 0 n c new
 Counts-first n c new change r writes = Counted-more 0 0 0 n c new (omega arith) (omega arith) (Counted-put c new change r writes)

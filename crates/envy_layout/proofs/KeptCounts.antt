@@ -49,19 +49,19 @@ is_shadow_in-is rows s now (Some (Frame k)) e = cc
 pub is-is_shadow_in : (rows s q : ℕ) (now x : Option Place) → x ≡ Some (Row q) → q / rows ≡ s → is_row q now ≡ false → is_shadow_in rows s now x ≡ true
 is-is_shadow_in rows s q now x e at apart = rw (e, eq-eqb (q / rows) s at, apart) refl
 
-one-at-most : (b : Bool) → cond b 1 0 ≤ 1
+pub one-at-most : (b : Bool) → cond b 1 0 ≤ 1
 one-at-most true = omega arith
 one-at-most false = omega arith
 
-one-true : (b : Bool) → 0 < cond b 1 0 → b ≡ true
+pub one-true : (b : Bool) → 0 < cond b 1 0 → b ≡ true
 one-true true lt = refl
 one-true false lt = absurd (omega arith)
 
-none-false : (b : Bool) → b ≡ false → cond b 1 0 ≤ 0
+pub none-false : (b : Bool) → b ≡ false → cond b 1 0 ≤ 0
 none-false true e = cc
 none-false false e = omega arith
 
-one-yes : (b : Bool) → b ≡ true → 1 ≤ cond b 1 0
+pub one-yes : (b : Bool) → b ≡ true → 1 ≤ cond b 1 0
 one-yes true e = omega arith
 one-yes false e = cc
 
@@ -73,17 +73,17 @@ kept_in-pages sh slots undos places s =
     sh.pages
 
 -- one of a page's kept rows is row r
-abbrev hit : Option Place → Option Place → ℕ → ℕ
+abbrev pub hit : Option Place → Option Place → ℕ → ℕ
 hit now back r = cond (is_row r now) 1 0 + cond (is_row r back && not (is_row r now)) 1 0
 
-hit-at-most : (now back : Option Place) (r : ℕ) → hit now back r ≤ 1
+pub hit-at-most : (now back : Option Place) (r : ℕ) → hit now back r ≤ 1
 hit-at-most now back r = at (is_row r now) refl
   where
     at : (b : Bool) → is_row r now ≡ b → hit now back r ≤ 1
     at true e = let none : (is_row r back && not (is_row r now)) ≡ false = and_right (is_row r back) (not (is_row r now)) (ap not e) in rw (none, e) (omega arith)
     at false e = let most = one-at-most (is_row r back && not (is_row r now)) in let none = none-false (is_row r now) e in omega arith
 
-hit-refers : (slots : List (Option Slot)) (undos : List (Option Undo)) (places : List (Option Place)) (p r : ℕ) → 0 < hit (get_or places p None) (kept_by slots (get_or undos p None) (get_or places p None)) r → Refers slots undos places p r
+pub hit-refers : (slots : List (Option Slot)) (undos : List (Option Undo)) (places : List (Option Place)) (p r : ℕ) → 0 < hit (get_or places p None) (kept_by slots (get_or undos p None) (get_or places p None)) r → Refers slots undos places p r
 hit-refers slots undos places p r some = at (cases_Bool (is_row r (get_or places p None)))
   where
     at : (is_row r (get_or places p None) ≡ true) ⊎ (is_row r (get_or places p None) ≡ false) → Refers slots undos places p r
@@ -95,9 +95,9 @@ hit-refers slots undos places p r some = at (cases_Bool (is_row r (get_or places
         inr (is_row-is r back (and_parts (is_row r back) (not (is_row r (get_or places p None))) both).0)
 
 -- the rows that one page has
-hit-page : (sh : Shape) (slots : List (Option Slot)) (undos : List (Option Undo)) (places : List (Option Place)) (fills backs : List ℕ) (s p : ℕ) → Rows sh slots undos places fills backs → page_kept_in sh slots (get_or undos p None) (get_or places p None) s ≤ sum_by (λ i. hit (get_or places p None) (kept_by slots (get_or undos p None) (get_or places p None)) (sh.rows * s + i)) (range_with_len 0 (get_or fills s 0))
+pub hit-page : (sh : Shape) (slots : List (Option Slot)) (undos : List (Option Undo)) (places : List (Option Place)) (fills backs : List ℕ) (s p : ℕ) → Rows sh slots undos places fills backs → page_kept_in sh slots (get_or undos p None) (get_or places p None) s ≤ sum_by (λ i. hit (get_or places p None) (kept_by slots (get_or undos p None) (get_or places p None)) (s * sh.rows + i)) (range_with_len 0 (get_or fills s 0))
 hit-page sh slots undos places fills backs s p rows =
-    let both = range-sum (λ i. cond (is_row (sh.rows * s + i) now) 1 0) (λ i. cond (is_row (sh.rows * s + i) back && not (is_row (sh.rows * s + i) now)) 1 0) (get_or fills s 0) in
+    let both = range-sum (λ i. cond (is_row (s * sh.rows + i) now) 1 0) (λ i. cond (is_row (s * sh.rows + i) back && not (is_row (s * sh.rows + i) now)) 1 0) (get_or fills s 0) in
     let one = first (cases_Bool (is_in sh.rows s now)) in
     let two = second (cases_Bool (is_shadow_in sh.rows s now back)) in
     omega arith
@@ -108,29 +108,29 @@ hit-page sh slots undos places fills backs s p rows =
     back : Option Place
     back = kept_by slots (get_or undos p None) (get_or places p None)
 
-    index : (q : ℕ) → Refers slots undos places p q → q / sh.rows ≡ s → (q % sh.rows < get_or fills s 0) × (sh.rows * s + q % sh.rows ≡ q)
-    index q refers at = (rw (← at) (rows.filled p q refers), rw (← at) (div-add-mod q sh.rows))
+    index : (q : ℕ) → Refers slots undos places p q → q / sh.rows ≡ s → (q % sh.rows < get_or fills s 0) × (s * sh.rows + q % sh.rows ≡ q)
+    index q refers at = (rw (← at) (rows.filled p q refers), rw (← at) (let parts = div-add-mod q sh.rows in omega arith))
 
-    first : (is_in sh.rows s now ≡ true) ⊎ (is_in sh.rows s now ≡ false) → cond (is_in sh.rows s now) 1 0 ≤ sum_by (λ i. cond (is_row (sh.rows * s + i) now) 1 0) (range_with_len 0 (get_or fills s 0))
+    first : (is_in sh.rows s now ≡ true) ⊎ (is_in sh.rows s now ≡ false) → cond (is_in sh.rows s now) 1 0 ≤ sum_by (λ i. cond (is_row (s * sh.rows + i) now) 1 0) (range_with_len 0 (get_or fills s 0))
     first (inl e) = has (is_in-is sh.rows s now e)
       where
-        has : (q : ℕ) × (now ≡ Some (Row q)) × (q / sh.rows ≡ s) → cond (is_in sh.rows s now) 1 0 ≤ sum_by (λ i. cond (is_row (sh.rows * s + i) now) 1 0) (range_with_len 0 (get_or fills s 0))
+        has : (q : ℕ) × (now ≡ Some (Row q)) × (q / sh.rows ≡ s) → cond (is_in sh.rows s now) 1 0 ≤ sum_by (λ i. cond (is_row (s * sh.rows + i) now) 1 0) (range_with_len 0 (get_or fills s 0))
         has (q, is, at) =
             let place = index q (inl is) at in
-            let one = range_has (λ i. cond (is_row (sh.rows * s + i) now) 1 0) (get_or fills s 0) (q % sh.rows) place.0 in
-            let here = one-yes (is_row (sh.rows * s + q % sh.rows) now) (is-is_row (sh.rows * s + q % sh.rows) now (is ∙ ap (λ (n : ℕ). Some (Row n)) (sym place.1))) in
+            let one = range_has (λ i. cond (is_row (s * sh.rows + i) now) 1 0) (get_or fills s 0) (q % sh.rows) place.0 in
+            let here = one-yes (is_row (s * sh.rows + q % sh.rows) now) (is-is_row (s * sh.rows + q % sh.rows) now (is ∙ ap (λ (n : ℕ). Some (Row n)) (sym place.1))) in
             let most = one-at-most (is_in sh.rows s now) in
             omega arith
     first (inr e) = let none = none-false (is_in sh.rows s now) e in omega arith
 
-    second : (is_shadow_in sh.rows s now back ≡ true) ⊎ (is_shadow_in sh.rows s now back ≡ false) → cond (is_shadow_in sh.rows s now back) 1 0 ≤ sum_by (λ i. cond (is_row (sh.rows * s + i) back && not (is_row (sh.rows * s + i) now)) 1 0) (range_with_len 0 (get_or fills s 0))
+    second : (is_shadow_in sh.rows s now back ≡ true) ⊎ (is_shadow_in sh.rows s now back ≡ false) → cond (is_shadow_in sh.rows s now back) 1 0 ≤ sum_by (λ i. cond (is_row (s * sh.rows + i) back && not (is_row (s * sh.rows + i) now)) 1 0) (range_with_len 0 (get_or fills s 0))
     second (inl e) = has (is_shadow_in-is sh.rows s now back e)
       where
-        has : (q : ℕ) × (back ≡ Some (Row q)) × (q / sh.rows ≡ s) × (is_row q now ≡ false) → cond (is_shadow_in sh.rows s now back) 1 0 ≤ sum_by (λ i. cond (is_row (sh.rows * s + i) back && not (is_row (sh.rows * s + i) now)) 1 0) (range_with_len 0 (get_or fills s 0))
+        has : (q : ℕ) × (back ≡ Some (Row q)) × (q / sh.rows ≡ s) × (is_row q now ≡ false) → cond (is_shadow_in sh.rows s now back) 1 0 ≤ sum_by (λ i. cond (is_row (s * sh.rows + i) back && not (is_row (s * sh.rows + i) now)) 1 0) (range_with_len 0 (get_or fills s 0))
         has (q, is, at, apart) =
             let place = index q (inr is) at in
-            let one = range_has (λ i. cond (is_row (sh.rows * s + i) back && not (is_row (sh.rows * s + i) now)) 1 0) (get_or fills s 0) (q % sh.rows) place.0 in
-            let here = one-yes (is_row (sh.rows * s + q % sh.rows) back && not (is_row (sh.rows * s + q % sh.rows) now)) (rw place.1 (and_from (is_row q back) (not (is_row q now)) (is-is_row q back is) (ap not apart))) in
+            let one = range_has (λ i. cond (is_row (s * sh.rows + i) back && not (is_row (s * sh.rows + i) now)) 1 0) (get_or fills s 0) (q % sh.rows) place.0 in
+            let here = one-yes (is_row (s * sh.rows + q % sh.rows) back && not (is_row (s * sh.rows + q % sh.rows) now)) (rw place.1 (and_from (is_row q back) (not (is_row q now)) (is-is_row q back is) (ap not apart))) in
             let most = one-at-most (is_shadow_in sh.rows s now back) in
             omega arith
     second (inr e) = let none = none-false (is_shadow_in sh.rows s now back) e in omega arith
@@ -149,12 +149,12 @@ kept_in-le-fill sh slots undos places fills backs s rows =
     omega arith
   where
     hit_at : ℕ → ℕ → ℕ
-    hit_at p i = hit (get_or places p None) (kept_by slots (get_or undos p None) (get_or places p None)) (sh.rows * s + i)
+    hit_at p i = hit (get_or places p None) (kept_by slots (get_or undos p None) (get_or places p None)) (s * sh.rows + i)
 
     once : (i : ℕ) → sum_by (λ p. hit_at p i) (range_with_len 0 sh.pages) ≤ 1
     once i = range_lone (λ p. hit_at p i) sh.pages
-        (λ p lt. hit-at-most (get_or places p None) (kept_by slots (get_or undos p None) (get_or places p None)) (sh.rows * s + i))
-        (λ p r lt low one two. rows.apart p r (sh.rows * s + i) (hit-refers slots undos places p (sh.rows * s + i) one) (hit-refers slots undos places r (sh.rows * s + i) two))
+        (λ p lt. hit-at-most (get_or places p None) (kept_by slots (get_or undos p None) (get_or places p None)) (s * sh.rows + i))
+        (λ p r lt low one two. rows.apart p r (s * sh.rows + i) (hit-refers slots undos places p (s * sh.rows + i) one) (hit-refers slots undos places r (s * sh.rows + i) two))
 
 -- where a page has no row of the segment
 page-none : (sh : Shape) (slots : List (Option Slot)) (undos : List (Option Undo)) (places : List (Option Place)) (p s : ℕ) → ((q : ℕ) → Refers slots undos places p q → q / sh.rows ≡ s → ⊥) → page_kept_in sh slots (get_or undos p None) (get_or places p None) s ≡ 0
@@ -194,7 +194,7 @@ page-some sh slots undos places p q s (inr e) at = by_place (cases_Bool (is_row 
     by_place (inr apart) = let one = one-yes (is_shadow_in sh.rows s now back) (is-is_shadow_in sh.rows s q now back e at apart) in omega arith
 
 -- a page that names a row is one of the pages
-refers-page : (sh : Shape) (slots : List (Option Slot)) (undos : List (Option Undo)) (places : List (Option Place)) (p q : ℕ) → length places ≤ sh.pages → length undos ≤ sh.pages → Refers slots undos places p q → p < sh.pages
+pub refers-page : (sh : Shape) (slots : List (Option Slot)) (undos : List (Option Undo)) (places : List (Option Place)) (p q : ℕ) → length places ≤ sh.pages → length undos ≤ sh.pages → Refers slots undos places p q → p < sh.pages
 refers-page sh slots undos places p q short_places short_undos refers = at (cases_lt p sh.pages) refers
   where
     at : (p < sh.pages) ⊎ (sh.pages ≤ p) → Refers slots undos places p q → p < sh.pages

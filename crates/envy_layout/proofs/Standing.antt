@@ -5,6 +5,8 @@ use Rattle.std.proofs.lemmas.List.Quantifiers.{position-Some}
 use Rattle.envy_base.specs.Array.{Array, Saved, IsArray, owner, owns, slot_of, stored, restarted}
 use Rattle.envy_base.specs.Step.{Command, Store, Done, Accepts, Lost}
 use Rattle.envy_base.specs.declared.fields.Slot.TheVariants.{Active}
+use Rattle.envy_base.proofs.Keeping.{IsArray-stored}
+use Rattle.envy_base.proofs.Undoing.{undone-stored}
 use Rattle.envy_map.specs.Fields.{Chart, undo}
 use Rattle.envy_layout.specs.Sound.{owned_by}
 use Rattle.envy_layout.specs.Words.{durable}
@@ -13,7 +15,6 @@ use Rattle.envy_layout.specs.Stands.{Holds, Stands, IsLost, slot_word}
 use Rattle.envy_layout.proofs.Composition.{SameDurable-same, SameDurable-words, SameDurable-dropped}
 use Rattle.envy_layout.proofs.KeptLemmas.{owned_by-none, owned_by-active}
 use Rattle.envy_layout.proofs.WordLists.{length-live}
-use Rattle.envy_layout.proofs.ArrayLemmas.{undone-stored, IsArray-stored}
 
 pub Holds-stays : (k j : ℕ) (c new : Chart) (m : Array) → Holds c m → Stays k j c new → Holds new m
 Holds-stays k j c new m h s =

@@ -1,5 +1,6 @@
 -- What formatting does: the map of an empty array over erased flash, the first word written last.
-use Rattle.std.specs.Prelude.{◌≡◌, ◌⊎◌, ℕ, zero, suc, ◌+◌, ◌-◌, ◌*◌, ◌/◌, ◌^◌, ◌<◌, false, IsTrue, List, [], ◌∷◌, length, replicate, Some, slice_index, slice_index_or, Result, Ok, Err}
+use Rattle.std.specs.Prelude.{◌≡◌, ◌⊎◌, ℕ, zero, suc, ◌+◌, ◌-◌, ◌*◌, ◌/◌, ◌^◌, ◌<◌, ◌≤◌, ◌≢◌, false, IsTrue, List, [], ◌∷◌, length, replicate, Some, slice_index, slice_index_or, Result, Ok, Err}
+use Rattle.envy_base.specs.Counting.{up}
 use Rattle.envy_base.specs.State.{State, Only, IsOnes, ones}
 use Rattle.envy_base.specs.declared.board.Trouble.{Trouble}
 use Rattle.envy_base.specs.declared.board.Trouble.TheVariants.{Off as TroubleOff, Bad}
@@ -15,7 +16,8 @@ use Rattle.envy_layout.specs.Same.{Counted}
 use Rattle.envy_layout.specs.Sound.{IsSound, slots_of}
 use Rattle.envy_layout.specs.Words.{live, durable}
 
--- the board is sound and stands for zeros, with no slot open and no segment worn, but for power
+-- but for power the board is sound and stands for zeros: no slot is open, each segment is worn once and
+-- empty, and position k names segment k
 pub record IsEmpty (version : ℕ) (c : Chart) : Type 0 where
   pub magic : c.fields.magic ≡ the_magic
   pub version_is : c.fields.version ≡ version
@@ -27,6 +29,12 @@ pub record IsEmpty (version : ℕ) (c : Chart) : Type 0 where
   pub places : (p : ℕ) → p < c.shape.pages → place c.fields p ≡ Some Absent
   pub undos : (p : ℕ) → p < c.shape.pages → undo c.fields p ≡ Some Clear
   pub wears : (s : ℕ) → s < c.shape.segments → slice_index c.fields.wears s ≡ 1
+  pub fills : (s : ℕ) → s < c.shape.segments → slice_index c.fields.fills s ≡ 0
+  pub positions : (k : ℕ) → k < c.shape.segments - 1 → slice_index c.fields.positions k ≡ k
+
+-- one erase of each of the first n segments began
+abbrev pub AreErasedOnce : ℕ → List ℕ → List ℕ → Type 0
+AreErasedOnce n old new = (s : ℕ) → s < n → slice_index new s ≡ up (slice_index old s)
 
 -- formatting that power stopped left a board that isn't formatted, or the board of before, or an empty one
 abbrev pub IsBetween : ℕ → State → State → Type 0
@@ -87,6 +95,8 @@ pub record Cleared (n : ℕ) (old new : Chart) : Type 0 where
   pub fields : new.fields ≡ record old.fields { wears = filled old.fields.wears 1 n; fills = filled old.fields.fills 0 n }
   pub long : length new.flash ≡ length old.flash
   pub erased : (q : ℕ) → q < length old.flash → q / old.shape.rows < n → slice_index_or new.flash q [] ≡ ones
+  pub once : AreErasedOnce n old.erases new.erases
+  pub others : (s : ℕ) → n ≤ s → slice_index new.erases s ≡ slice_index old.erases s
   pub counted : Counted 0 n old new
 
 -- an erase failed in a part of formatting, whose first word stayed
@@ -97,12 +107,14 @@ pub record IsSpoilt (n : ℕ) (old new : Chart) : Type 0 where
   pub counted : Counted 0 n old new
   pub bads : old.bads < 2 ^ 64 - 1 → old.bads < new.bads
 
--- the next segment is erased
+-- segment s is erased
 pub record ClearedOne (s : ℕ) (old new : Chart) : Type 0 where
   pub shape : new.shape ≡ old.shape
   pub on : IsTrue new.on
   pub fields : new.fields ≡ with_fill s 0 (with_wear s 1 old.fields)
   pub flash : Only old.shape.rows s IsOnes old.flash new.flash
+  pub once : slice_index new.erases s ≡ up (slice_index old.erases s)
+  pub others : (r : ℕ) → r ≢ s → slice_index new.erases r ≡ slice_index old.erases r
   pub counted : Counted 0 1 old new
 
 -- a part of formatting succeeded, in which at most n segments were erased and the first word stayed

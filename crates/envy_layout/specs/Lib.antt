@@ -1,12 +1,15 @@
 pub mod Claims
 pub mod Formatting
+pub mod Frames
 pub mod Jobs
 pub mod May
+pub mod Naming
 pub mod Same
 pub mod PageRows
 pub mod RowKinds
 pub mod Sound
 pub mod Stands
+pub mod Transactions
 pub mod Upgrading
 pub mod Words
 pub use Rattle.envy_base.specs.Array

@@ -1,6 +1,6 @@
 -- How many rows of a segment are kept, free and dead.
-use Rattle.std.specs.Prelude.{ℕ, ◌+◌, ◌-◌, ◌/◌, ◌==◌, ◌&&◌, not, Bool, false, List, Option, None, Some, slice_index, slice_index_or, count_by}
-use Rattle.std.specs.List.{range_with_len}
+use Rattle.std.specs.Prelude.{ℕ, ◌+◌, ◌-◌, ◌/◌, ◌==◌, ◌&&◌, ◌||◌, not, Bool, false, List, Option, None, Some, slice_index, slice_index_or, count_by}
+use Rattle.std.specs.List.{list_any, range_with_len}
 use Rattle.envy_base.specs.declared.shape.Shape.{Shape}
 use Rattle.envy_base.specs.declared.fields.Place.{Place}
 use Rattle.envy_base.specs.declared.fields.Place.TheVariants.{Absent, Row, Frame}
@@ -35,6 +35,11 @@ abbrev pub kept_in : Shape → List (Option Slot) → List (Option Undo) → Lis
 kept_in sh slots undos places s =
     count_by (λ p. is_in sh.rows s (slice_index_or places p None)) (range_with_len 0 sh.pages)
     + count_by (λ p. is_shadow_in sh.rows s (slice_index_or places p None) (kept_by slots (slice_index_or undos p None) (slice_index_or places p None))) (range_with_len 0 sh.pages)
+
+-- whether a page names row q
+abbrev pub is_kept : Shape → List (Option Slot) → List (Option Undo) → List (Option Place) → ℕ → Bool
+is_kept sh slots undos places q =
+    list_any (λ p. is_row q (slice_index_or places p None) || is_row q (kept_by slots (slice_index_or undos p None) (slice_index_or places p None))) (range_with_len 0 sh.pages)
 
 abbrev pub free_in : Shape → List ℕ → ℕ → ℕ
 free_in sh fills s = sh.rows - slice_index fills s

@@ -1,5 +1,5 @@
 ghost use Rattle.std.specs.Prelude.{◌≡◌, ◌⊎◌, ◌<◌, ◌≤◌, ◌+◌, ◌-◌, ◌*◌, ◌^◌, IsTrue, OnOk, OnErr, IsErrOf};
-ghost use Rattle.envy_layout.specs.Formatting.{Cleared, ClearedOne, Reached, IsStopped, IsSpoilt, Formats, IsLaid, with_regions_laid};
+ghost use Rattle.envy_layout.specs.Formatting.{AreErasedOnce, Cleared, ClearedOne, Reached, IsStopped, IsSpoilt, Formats, IsLaid, with_regions_laid};
 ghost use Rattle.envy_layout.specs.Same.{Counted};
 ghost use Rattle.envy_layout.specs.Sound.{slots_of};
 ghost use Rattle.envy_map.specs.Fields.{chart, with_fields};
@@ -65,6 +65,7 @@ fn lay_map<B: Board>(board: &mut B, version: u64, slots: u8) -> Result<(), Troub
     requires slots { slots ≡ slots_of version }
     ensures laid { OnOk result (IsLaid (B.state board.old).shape version (chart (B.state board.new)).fields (B.state board.new).flash) }
     ensures done { OnOk result (Reached (B.state board.old).shape.segments (chart (B.state board.old)) (chart (B.state board.new))) }
+    ensures erases { OnOk result (AreErasedOnce (B.state board.old).shape.segments (B.state board.old).erases (B.state board.new).erases) }
     ensures stopped { IsErrOf result Trouble.Off → IsStopped (B.state board.old).shape.segments (chart (B.state board.old)) (chart (B.state board.new)) }
     ensures spoilt { IsErrOf result Trouble.Bad → IsSpoilt (B.state board.old).shape.segments (chart (B.state board.old)) (chart (B.state board.new)) }
 {
@@ -83,6 +84,7 @@ fn format_as<B: Board>(board: &mut B, version: u64, slots: u8) -> Result<(), Tro
     requires slots { slots ≡ slots_of version }
     ensures formats { Formats version (B.state board.old) result (B.state board.new) }
     ensures shape { (B.state board.new).shape ≡ (B.state board.old).shape }
+    ensures erases { OnOk result (AreErasedOnce (B.state board.old).shape.segments (B.state board.old).erases (B.state board.new).erases) }
     ensures counts { Counted 0 (B.state board.old).shape.segments (chart (B.state board.old)) (chart (B.state board.new)) }
 {
     set_magic(board, 0)?;
@@ -94,7 +96,7 @@ fn format_as<B: Board>(board: &mut B, version: u64, slots: u8) -> Result<(), Tro
     Ok(())
 }
 
-/// Formats a board for an empty array. All flash is erased.
+/// Formats a board for an empty array. Each segment is erased once.
 ///
 /// # Errors
 ///
@@ -103,6 +105,7 @@ fn format_as<B: Board>(board: &mut B, version: u64, slots: u8) -> Result<(), Tro
 pub fn format_board<B: Board>(board: &mut B) -> Result<(), Trouble>
     ensures formats { Formats 2 (B.state board.old) result (B.state board.new) }
     ensures shape { (B.state board.new).shape ≡ (B.state board.old).shape }
+    ensures erases { OnOk result (AreErasedOnce (B.state board.old).shape.segments (B.state board.old).erases (B.state board.new).erases) }
     ensures counts { Counted 0 (B.state board.old).shape.segments (chart (B.state board.old)) (chart (B.state board.new)) }
 {
     format_as(board, 2, 64)
@@ -116,6 +119,7 @@ pub fn format_board<B: Board>(board: &mut B) -> Result<(), Trouble>
 pub fn format_board_1<B: Board>(board: &mut B) -> Result<(), Trouble>
     ensures formats { Formats 1 (B.state board.old) result (B.state board.new) }
     ensures shape { (B.state board.new).shape ≡ (B.state board.old).shape }
+    ensures erases { OnOk result (AreErasedOnce (B.state board.old).shape.segments (B.state board.old).erases (B.state board.new).erases) }
     ensures counts { Counted 0 (B.state board.old).shape.segments (chart (B.state board.old)) (chart (B.state board.new)) }
 {
     format_as(board, 1, 16)

@@ -3,7 +3,7 @@ ghost use Rattle.envy_map.specs.Fields.{chart, with_fields, place, undo};
 ghost use Rattle.envy_map.specs.Writes.{Writes, with_frame, with_frame_word, with_place};
 ghost use Rattle.envy_layout.specs.Sound.{IsSound, owned_by};
 ghost use Rattle.envy_layout.specs.May.{IsUnnamed, HasChanged};
-ghost use Rattle.envy_layout.specs.Same.{Same, Stored, Interrupted, Shadowed, Dropped};
+ghost use Rattle.envy_layout.specs.Same.{Counted, Wears, Same, Stored, Interrupted, Shadowed, Dropped};
 
 use envy_base::{Board, Off, Place};
 use envy_map::{set_frame_word, set_place, write_frame};
@@ -43,6 +43,8 @@ pub fn change_frame_word<B: Board>(
         let new = chart (B.state board.new) in
         (IsTrue old.on → owned_by old.fields.slots (undo old.fields page) ≡ true)
         → MatchResult result (λ _. Shadowed 0 0 old new (32 * page + i) word) (λ _. Dropped 0 0 old new) }
+    ensures counted { Counted 0 0 (chart (B.state board.old)) (chart (B.state board.new)) }
+    ensures worn { Wears (chart (B.state board.old)) (chart (B.state board.new)) }
     ensures writes { Writes (with_frame_word frame i word) (chart (B.state board.old)) result (chart (B.state board.new)) }
     ensures on { OnOk result (IsTrue (B.state board.new).on) }
     ensures off { OnErr result ((B.state board.new).on ≡ false) }
@@ -74,6 +76,8 @@ pub fn move_to_frame<B: Board>(
         let new = chart (B.state board.new) in
         (IsTrue old.on → owned_by old.fields.slots (undo old.fields page) ≡ true)
         → MatchResult result (λ _. Shadowed 0 0 old new (32 * page + i) word) (λ _. Dropped 0 0 old new) }
+    ensures counted { Counted 0 0 (chart (B.state board.old)) (chart (B.state board.new)) }
+    ensures worn { Wears (chart (B.state board.old)) (chart (B.state board.new)) }
     ensures writes { Writes (with_place page (Some (Place.Frame frame))) (chart (B.state board.old)) result (chart (B.state board.new)) }
     ensures on { OnOk result (IsTrue (B.state board.new).on) }
     ensures off { OnErr result ((B.state board.new).on ≡ false) }

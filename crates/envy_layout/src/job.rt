@@ -2,7 +2,7 @@ ghost use Rattle.std.specs.Prelude.{◌≡◌, ◌<◌, ℕ, false, IsTrue, Some
 ghost use Rattle.envy_base.specs.declared.fields.Job.TheVariants.{Idle, Copy, Switch, Erase};
 ghost use Rattle.envy_map.specs.Codes.{IsJob};
 ghost use Rattle.envy_map.specs.Fields.{chart, with_fields};
-ghost use Rattle.envy_map.specs.Writes.{with_job};
+ghost use Rattle.envy_map.specs.Writes.{Writes, with_job};
 ghost use Rattle.envy_layout.specs.Sound.{IsSound, IsPlaced};
 ghost use Rattle.envy_layout.specs.Jobs.{FitsJob, AreHome, IsCopiedWhole, IsBlankSpare};
 ghost use Rattle.envy_layout.specs.Same.{Same};
@@ -16,6 +16,7 @@ pub fn change_job<B: Board>(board: &mut B, job: Job) -> Result<(), Off>
     requires job { IsJob job }
     requires fits { IsTrue (B.state board.old).on → FitsJob (B.state board.old).shape (with_job (Some job) (chart (B.state board.old)).fields) (B.state board.old).flash }
     ensures same { Same 0 0 (chart (B.state board.old)) (chart (B.state board.new)) }
+    ensures writes { Writes (with_job (Some job)) (chart (B.state board.old)) result (chart (B.state board.new)) }
     ensures fields { OnOk result (chart (B.state board.new) ≡ with_fields (chart (B.state board.old)) (with_job (Some job) (chart (B.state board.old)).fields)) }
     ensures on { OnOk result (IsTrue (B.state board.new).on) }
     ensures off { OnErr result ((B.state board.new).on ≡ false) }
@@ -57,6 +58,7 @@ pub fn begin_erase<B: Board>(board: &mut B) -> Result<(), Off>
     requires sound { IsSound (chart (B.state board.old)) }
     requires home { IsTrue (B.state board.old).on → AreHome (B.state board.old).shape (chart (B.state board.old)).fields }
     ensures same { Same 0 0 (chart (B.state board.old)) (chart (B.state board.new)) }
+    ensures writes { Writes (with_job (Some Erase)) (chart (B.state board.old)) result (chart (B.state board.new)) }
     ensures fields { OnOk result (chart (B.state board.new) ≡ with_fields (chart (B.state board.old)) (with_job (Some Erase) (chart (B.state board.old)).fields)) }
     ensures on { OnOk result (IsTrue (B.state board.new).on) }
     ensures off { OnErr result ((B.state board.new).on ≡ false) }

@@ -1,4 +1,4 @@
-ghost use Rattle.std.specs.Prelude.{◌≡◌, ◌≢◌, ◌↔◌, ◌<◌, ◌≤◌, ◌+◌, ◌-◌, ◌/◌, ℕ, false, List, Option, None, Some, length, slice_index, slice_index_or, slice_set, sum_by, if◌then◌else◌};
+ghost use Rattle.std.specs.Prelude.{◌≡◌, ◌≢◌, ◌↔◌, ◌<◌, ◌≤◌, ◌+◌, ◌-◌, ◌*◌, ◌/◌, ℕ, true, false, List, Option, None, Some, length, slice_index, slice_index_or, slice_set, sum_by, count_by, if◌then◌else◌};
 ghost use Rattle.std.specs.List.{range_with_len};
 ghost use Rattle.envy_base.specs.Shape.{IsShape};
 ghost use Rattle.envy_base.specs.declared.fields.Place.{Place};
@@ -7,14 +7,24 @@ ghost use Rattle.envy_base.specs.declared.fields.Undo.{Undo};
 ghost use Rattle.envy_base.specs.declared.shape.Shape.{Shape};
 ghost use Rattle.envy_map.specs.Fields.{Chart};
 ghost use Rattle.envy_layout.specs.PageRows.{page_kept_in};
-ghost use Rattle.envy_layout.specs.RowKinds.{kept_in, free_in, dead_in, is_in};
-ghost use Rattle.envy_layout.specs.Sound.{IsSound, Names, owned_by, slot_named};
+ghost use Rattle.envy_layout.specs.RowKinds.{kept_in, is_kept, free_in, dead_in, is_in};
+ghost use Rattle.envy_layout.specs.Sound.{IsSound, IsKept, Names, owned_by, slot_named};
 
 /// A segment of a sound board has no more kept rows than its fill says. It has none exactly where no
 /// page names a row of it.
 pub fn kept_rows_are_filled()
     ensures filled { (c : Chart) (s : ℕ) → IsSound c → kept_in c.shape c.fields.slots c.fields.undos c.fields.places s ≤ slice_index c.fields.fills s }
     ensures none { (c : Chart) (s : ℕ) → IsSound c → (kept_in c.shape c.fields.slots c.fields.undos c.fields.places s ≡ 0) ↔ ((p q : ℕ) → Names c.fields p q → q / c.shape.rows ≢ s) }
+{}
+
+/// The kept rows of a segment of a sound board are those of its rows that pages name, each counted
+/// once. Where they are fewer than its fill it has a dead row.
+pub fn kept_rows_are_those_that_pages_name()
+    ensures kept { (c : Chart) (q : ℕ) → IsSound c → (is_kept c.shape c.fields.slots c.fields.undos c.fields.places q ≡ true) ↔ IsKept c.fields q }
+    ensures rows { (c : Chart) (s : ℕ) → IsSound c → let f = c.fields in
+        kept_in c.shape f.slots f.undos f.places s ≡ count_by (λ i. is_kept c.shape f.slots f.undos f.places (s * c.shape.rows + i)) (range_with_len 0 c.shape.rows) }
+    ensures dead { (c : Chart) (s : ℕ) → IsSound c → let f = c.fields in
+        kept_in c.shape f.slots f.undos f.places s < slice_index f.fills s → (i : ℕ) × (i < slice_index f.fills s) × (IsKept f (s * c.shape.rows + i) → ⊥) }
 {}
 
 /// On a sound board the free and the dead rows of all positions together are those of a segment at least.

@@ -17,23 +17,32 @@ mod laws;
 mod lay;
 mod page_place;
 mod page_undo;
+mod parting;
 mod position;
 mod programming;
+mod rows;
 mod slots;
+mod transactions;
 mod upgrading;
 
 pub use claiming::{claim_back, note_origin, raise_fill};
-pub use erasing::{empty_spare, erase_spare, raise_wear};
+pub use erasing::{empty_spare, erase_counted, raise_wear};
 pub use format::{format_board, format_board_1};
 pub use frame::{change_frame_word, move_to_frame, write_free_frame};
 pub use job::{begin_copy, begin_erase, begin_switch, change_job, end_job};
 pub use laws::{
-    enough_rows_are_left, kept_rows_are_filled, kept_rows_change_with_a_page,
-    kept_rows_stay_under_an_unused_slot,
+    enough_rows_are_left, kept_rows_are_filled, kept_rows_are_those_that_pages_name,
+    kept_rows_change_with_a_page, kept_rows_stay_under_an_unused_slot,
 };
 pub use page_place::{move_place, restore_place, switch_place};
 pub use page_undo::{clear_settled_undo, move_undo, own_page, switch_undo};
+pub use parting::place_and_undo_stay_parted;
 pub use position::{a_board_has_one_spare, change_position, replace_segment};
 pub use programming::program_row;
+pub use rows::{Kept, keeper, program_counted, words_of_row};
 pub use slots::{commit_slot, set_unused_slot};
+pub use transactions::{
+    a_commit_is_that_of_the_array, a_slot_opens_as_in_the_array, an_abort_is_that_of_the_array,
+    owners_are_those_of_the_array, puts_are_those_of_the_array,
+};
 pub use upgrading::upgrade;

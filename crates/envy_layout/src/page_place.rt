@@ -3,7 +3,7 @@ ghost use Rattle.envy_base.specs.declared.fields.Slot.TheVariants.{Active};
 ghost use Rattle.envy_base.specs.declared.fields.Undo.TheVariants.{Shadow};
 ghost use Rattle.envy_map.specs.Codes.{IsPlace};
 ghost use Rattle.envy_map.specs.Fields.{chart, with_fields, place as place_of, undo, slot};
-ghost use Rattle.envy_map.specs.Writes.{with_place};
+ghost use Rattle.envy_map.specs.Writes.{Writes, with_place};
 ghost use Rattle.envy_layout.specs.Words.{kept};
 ghost use Rattle.envy_layout.specs.Sound.{IsSound, owned_by};
 ghost use Rattle.envy_layout.specs.May.{MayTake, HasPage, IsCopied};
@@ -40,6 +40,8 @@ pub fn switch_place<B: Board>(board: &mut B, page: u32, spare: u32, i: u32) -> R
     requires alone { let f = (chart (B.state board.old)).fields in
         IsTrue (B.state board.old).on → (t : ℕ) → undo f page ≡ Some (Shadow t (slice_index f.origins i)) → slot f t ≢ Some Active }
     ensures same { Same 0 0 (chart (B.state board.old)) (chart (B.state board.new)) }
+    ensures writes { let copy = spare * (B.state board.old).shape.rows + i in
+        Writes (with_place page (Some (Place.Row copy))) (chart (B.state board.old)) result (chart (B.state board.new)) }
     ensures fields { let copy = spare * (B.state board.old).shape.rows + i in
         OnOk result (chart (B.state board.new) ≡ with_fields (chart (B.state board.old)) (with_place page (Some (Place.Row copy)) (chart (B.state board.old)).fields)) }
     ensures on { OnOk result (IsTrue (B.state board.new).on) }

@@ -2,7 +2,7 @@ ghost use Rattle.std.specs.Prelude.{◌≡◌, ◌⊎◌, ◌-◌, ◌<◌, ℕ,
 ghost use Rattle.envy_base.specs.Shape.{IsShape};
 ghost use Rattle.envy_base.specs.declared.fields.Job.TheVariants.{Switch};
 ghost use Rattle.envy_map.specs.Fields.{Chart, chart, with_fields};
-ghost use Rattle.envy_map.specs.Writes.{with_position};
+ghost use Rattle.envy_map.specs.Writes.{Writes, with_position};
 ghost use Rattle.envy_layout.specs.Sound.{IsSound, IsPlaced, IsSpare};
 ghost use Rattle.envy_layout.specs.Jobs.{FitsPositions, IsClear};
 ghost use Rattle.envy_layout.specs.Same.{Same};
@@ -18,6 +18,7 @@ pub fn change_position<B: Board>(board: &mut B, position: u32, segment: u32) -> 
     requires segment { segment < (B.state board.old).shape.segments }
     requires fits { IsTrue (B.state board.old).on → FitsPositions (B.state board.old).shape (with_position position segment (chart (B.state board.old)).fields) (B.state board.old).flash }
     ensures same { Same 0 0 (chart (B.state board.old)) (chart (B.state board.new)) }
+    ensures writes { Writes (with_position position segment) (chart (B.state board.old)) result (chart (B.state board.new)) }
     ensures fields { OnOk result (chart (B.state board.new) ≡ with_fields (chart (B.state board.old)) (with_position position segment (chart (B.state board.old)).fields)) }
     ensures on { OnOk result (IsTrue (B.state board.new).on) }
     ensures off { OnErr result ((B.state board.new).on ≡ false) }
@@ -37,6 +38,7 @@ pub fn replace_segment<B: Board>(board: &mut B, position: u32, spare: u32) -> Re
     requires clear { let f = (chart (B.state board.old)).fields in
         IsTrue (B.state board.old).on → IsClear (B.state board.old).shape f (slice_index f.positions position) }
     ensures same { Same 0 0 (chart (B.state board.old)) (chart (B.state board.new)) }
+    ensures writes { Writes (with_position position spare) (chart (B.state board.old)) result (chart (B.state board.new)) }
     ensures fields { OnOk result (chart (B.state board.new) ≡ with_fields (chart (B.state board.old)) (with_position position spare (chart (B.state board.old)).fields)) }
     ensures freed { OnOk result (IsSpare (B.state board.new).shape (chart (B.state board.new)).fields.positions (slice_index (chart (B.state board.old)).fields.positions position)) }
     ensures on { OnOk result (IsTrue (B.state board.new).on) }

@@ -1,7 +1,10 @@
 pub mod CountLemmas
+pub mod FollowLemmas
+pub mod EmptyLemmas
 pub mod NodeLemmas
 pub mod NotingLemmas
 pub mod OrderLemmas
+pub mod PlaceLemmas
 pub mod PoolLemmas
 pub mod RunLemmas
 pub mod SpaceLemmas

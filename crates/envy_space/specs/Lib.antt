@@ -1,3 +1,4 @@
+pub mod Following
 pub mod Noting
 pub mod Order
 pub mod Pool

@@ -1,8 +1,11 @@
 -- How a pool follows the place or the undo of a page.
-use Rattle.std.specs.Prelude.{◌≡◌, ◌≢◌, ℕ, ◌+◌, ◌*◌, ◌/◌, ◌<◌, ◌==◌, if◌then◌else◌}
+use Rattle.std.specs.Prelude.{◌≡◌, ◌≢◌, ℕ, ◌+◌, ◌*◌, ◌/◌, ◌<◌, ◌==◌, true, length, Some, if◌then◌else◌}
+use Rattle.envy_base.specs.declared.fields.Place.TheVariants.{Row}
 use Rattle.envy_base.specs.declared.shape.Shape.{Shape}
 use Rattle.envy_map.specs.Fields.{Fields, place, undo}
 use Rattle.envy_layout.specs.PageRows.{page_kept_in}
+use Rattle.envy_layout.specs.Sound.{Names, owned_by}
+use Rattle.envy_layout.specs.Words.{kept_by}
 use Rattle.envy_space.specs.Pool.{Pool, PoolAgrees}
 
 -- how many kept rows of segment s page p names
@@ -41,3 +44,21 @@ pub record NamesInPlace (sh : Shape) (f g : Fields) (p r q : ℕ) : Type 0 where
   pub others : ℕ → ℕ
   pub before : (s : ℕ) → rows_of_page sh f p s ≡ others s + lies_in sh r s
   pub after : (s : ℕ) → rows_of_page sh g p s ≡ others s + lies_in sh q s
+
+-- the pool agrees with the map f, where page p stands in no row, and may come to row q, which it doesn't name
+pub record Rowed (sh : Shape) (f : Fields) (pool : Pool) (p q : ℕ) : Type 0 where
+  pub agrees : PoolAgrees sh f pool
+  pub page : p < sh.pages
+  pub room : p < length f.places
+  pub range : q < sh.segments * sh.rows
+  pub elsewhere : (r : ℕ) → place f p ≢ Some (Row r)
+  pub fresh : Names f p q → ⊥
+
+-- the pool agrees with the map f, where page p stands in row q, which its active undo doesn't name
+pub record Leaving (sh : Shape) (f : Fields) (pool : Pool) (p q : ℕ) : Type 0 where
+  pub agrees : PoolAgrees sh f pool
+  pub page : p < sh.pages
+  pub room : p < length f.places
+  pub range : q < sh.segments * sh.rows
+  pub here : place f p ≡ Some (Row q)
+  pub apart : owned_by f.slots (undo f p) ≡ true → kept_by f.slots (undo f p) (place f p) ≢ Some (Row q)

@@ -6,6 +6,7 @@
 #![tactic(auto)]
 
 mod claim;
+mod following;
 mod laws;
 mod nodes;
 mod order;
@@ -15,5 +16,6 @@ mod space;
 mod tests;
 mod winners;
 
-pub use laws::notes_follow_a_page;
+pub use following::notes_follow_a_row;
+pub use laws::{notes_follow_a_page, notes_follow_a_place};
 pub use space::Space;

@@ -9,12 +9,13 @@ use envy_base::{Board, Off, Place, Slot, Undo};
 use envy_map::{fill, place, segment_at, slot, undo};
 
 impl Space {
-    /// Reads all numbers from the map.
+    /// Reads all numbers from the map. `Off` where power is off, and nothing changes then.
     pub fn rebuild<B: Board>(&mut self, board: &B) -> Result<(), Off>
         requires sound { IsTrue (B.state board.now).on → IsSound (chart (B.state board.now)) }
         requires shape { self.old.shape ≡ (B.state board.now).shape }
         ensures agrees { OnOk result (PoolAgrees (B.state board.now).shape (chart (B.state board.now)).fields self.new) }
         ensures shape { self.new.shape ≡ self.old.shape }
+        ensures unchanged { OnErr result (self.new ≡ self.old) }
         ensures on { OnOk result (IsTrue (B.state board.now).on) }
         ensures off { OnErr result ((B.state board.now).on ≡ false) }
     {

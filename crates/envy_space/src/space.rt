@@ -1,7 +1,9 @@
-ghost use Rattle.std.specs.Prelude.{◌≡◌, ◌+◌, ◌-◌, ◌*◌, ◌/◌, ◌<◌, ◌≤◌, IfOk, slice_index};
+ghost use Rattle.std.specs.Prelude.{◌≡◌, ℕ, ◌+◌, ◌-◌, ◌*◌, ◌/◌, ◌<◌, ◌≤◌, IfOk, slice_index};
 ghost use Rattle.envy_base.specs.Shape.{IsShape};
-ghost use Rattle.envy_layout.specs.Sound.{IsSpare};
-ghost use Rattle.envy_space.specs.Pool.{Pool, IsPool, empty_pool, free_rows, dead_rows, free_between, dead_at, with_filled, with_kept, noted_kept, noted_dead, StandsAt};
+ghost use Rattle.envy_map.specs.Fields.{Chart};
+ghost use Rattle.envy_layout.specs.Formatting.{IsEmpty};
+ghost use Rattle.envy_layout.specs.Sound.{IsPlaced, IsSpare};
+ghost use Rattle.envy_space.specs.Pool.{Pool, IsPool, PoolAgrees, empty_pool, free_rows, dead_rows, free_between, dead_at, with_filled, with_kept, noted_kept, noted_dead, StandsAt};
 ghost use Rattle.envy_space.specs.Winners.{Wins};
 
 use crate::order::Order;
@@ -34,10 +36,11 @@ impl Model for Space {
 }
 
 impl Space {
-    /// The pool of an empty formatted board.
+    /// The pool of an empty formatted board. It agrees with each board of the shape that was just formatted.
     pub fn new(alloc: Global, shape: &Shape) -> Result<Space, NoMemory>
         requires { IsShape shape.now }
-        ensures { IfOk result (λ space. space ≡ empty_pool shape.now) }
+        ensures empty { IfOk result (λ space. space ≡ empty_pool shape.now) }
+        ensures agrees { IfOk result (λ space. (version : ℕ) (c : Chart) → c.shape ≡ shape.now → IsEmpty version c → PoolAgrees c.shape c.fields space) }
     {
         let shape = *shape;
         let fills = vec![in alloc; 0; shape.segments as usize]?;
@@ -108,6 +111,16 @@ impl Space {
         ensures pool { IsPool self.now }
     {
         self.order.segment_at(position)
+    }
+
+    /// The position at which a segment stands.
+    pub fn position_of(&self, segment: u32) -> u32
+        requires { IsPlaced self.now.shape self.now.positions segment }
+        ensures within { result < self.now.shape.segments - 1 }
+        ensures stands { slice_index self.now.positions result ≡ segment }
+        ensures pool { IsPool self.now }
+    {
+        self.order.place_of(segment)
     }
 
     /// The segment that stands at no position.

@@ -1,0 +1,42 @@
+use Rattle.std.proofs.Common.{◌≡◌, ◌∙◌, ℕ, List, get_or, set, ap}
+use Rattle.envy_base.specs.Counting.{up}
+use Rattle.envy_base.specs.State.{IsBoard}
+use Rattle.envy_map.specs.Fields.{Chart, chart}
+use Rattle.envy_layout.proofs.EraseLaw.{Same-unbegun, Same-raised, Began, began}
+use Rattle.envy_layout.proofs.Tallies.{tally-erased}
+use Rattle.envy_layout.proofs.erasing.erase_counted.Goals as goal
+
+pub returns-in_err-raise_wear-clause-same : goal.returns-in_err-raise_wear-clause-same
+returns-in_err-raise_wear-clause-same g c = Same-unbegun (chart (g.B.Board.state c.args.board.now)) (chart (g.B.Board.state c.raise_wear.new.board)) c.args.segment c.in_err-raise_wear.field-0.0 c.requires.sound c.requires.segment c.in_err-raise_wear.ensures.writes
+
+pub returns-clause-same : goal.returns-clause-same
+returns-clause-same g c =
+    let raised = c.in_ok-raise_wear.ensures.writes in
+    Same-raised (chart (g.B.Board.state c.args.board.now)) (g.B.Board.state c.raise_wear.new.board) (g.B.Board.state c.erase-answer.new.self) c.args.segment c.erase-answer.result
+    (record {
+      can = record { sound = c.requires.sound; job = c.requires.erasing raised.0; spare = c.requires.spare raised.0 };
+      on = raised.0;
+      raised = raised.1;
+      long = IsBoard.erases (g.met.B.Board.lawful c.raise_wear.new.board);
+      erases = c.erase-answer.ensures;
+    })
+
+pub returns-clause-counts : goal.returns-clause-counts
+returns-clause-counts g c =
+    let old = chart (g.B.Board.state c.args.board.now) in
+    let raised = c.in_ok-raise_wear.ensures.writes.1 in
+    let long = IsBoard.erases (g.met.B.Board.lawful c.args.board.now) in
+    let same : (chart (g.B.Board.state c.raise_wear.new.board)).erases ≡ old.erases = ap (λ (x : Chart). x.erases) raised in
+    tally-erased old.erases (chart (g.B.Board.state c.erase-answer.new.self)).erases c.args.segment c.args.count.now c.one_more.result (rw long c.requires.segment)
+    (Began.erases (began (g.B.Board.state c.raise_wear.new.board) (g.B.Board.state c.erase-answer.new.self) c.args.segment c.erase-answer.result c.in_ok-raise_wear.ensures.on c.erase-answer.ensures) ∙ ap (λ (xs : List ℕ). set xs c.args.segment (up (get_or xs c.args.segment 0))) same)
+    c.one_more.ensures
+
+pub returns-clause-counts_since : goal.returns-clause-counts_since
+returns-clause-counts_since g c =
+    let old = chart (g.B.Board.state c.args.board.now) in
+    let raised = c.in_ok-raise_wear.ensures.writes.1 in
+    let long = IsBoard.erases (g.met.B.Board.lawful c.args.board.now) in
+    let same : (chart (g.B.Board.state c.raise_wear.new.board)).erases ≡ old.erases = ap (λ (x : Chart). x.erases) raised in
+    tally-erased old.erases (chart (g.B.Board.state c.erase-answer.new.self)).erases c.args.segment c.args.since.now c.one_more-2.result (rw long c.requires.segment)
+    (Began.erases (began (g.B.Board.state c.raise_wear.new.board) (g.B.Board.state c.erase-answer.new.self) c.args.segment c.erase-answer.result c.in_ok-raise_wear.ensures.on c.erase-answer.ensures) ∙ ap (λ (xs : List ℕ). set xs c.args.segment (up (get_or xs c.args.segment 0))) same)
+    c.one_more-2.ensures
