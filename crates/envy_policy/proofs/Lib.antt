@@ -4,3 +4,4 @@ pub mod HistoryLemmas
 pub mod OneChoice
 pub mod OnePartition
 pub mod Partitions
+pub mod Within

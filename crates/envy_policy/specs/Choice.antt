@@ -67,3 +67,8 @@ IsChoice h free dead home (Free position) =
 IsChoice h free dead home (Clean position aside) =
     let g = partition_of h position in
     IsNearest h free dead home g × ((x : ℕ) → HasRows h free g x → ⊥) × IsVictim h.policy h dead g position × IsAside h g aside
+
+-- the position is one that there is, with rows of the kind; and so is the partition beside it
+abbrev pub IsWithin : History → List ℕ → List ℕ → Choice → Type 0
+IsWithin h free dead (Free position) = (position < h.positions) × (0 < slice_index free position)
+IsWithin h free dead (Clean position aside) = (position < h.positions) × (0 < slice_index dead position) × ((g : ℕ) → aside ≡ Some g → g < length h.heats)

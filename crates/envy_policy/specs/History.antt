@@ -74,3 +74,10 @@ pub record IsHistory (h : History) : Type 0 where
   pub inside : (g : ℕ) → g < length h.turns → slice_index h.turns g < h.positions
   pub flushes : h.flushes < 1024
   pub warmth : sum h.heats ≤ 1024 + h.flushes
+
+-- the policy and the sizes are those of before
+pub record SameSizes (old new : History) : Type 0 where
+  pub policy : new.policy ≡ old.policy
+  pub positions : new.positions ≡ old.positions
+  pub heats : length new.heats ≡ length old.heats
+  pub turns : length new.turns ≡ length old.turns

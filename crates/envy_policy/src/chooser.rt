@@ -2,7 +2,7 @@ ghost use Rattle.std.specs.Prelude.{◌≡◌, ◌↔◌, ℕ, ◌+◌, ◌-◌,
 ghost use Rattle.std.specs.List.{range_with_len};
 ghost use Rattle.envy_policy.specs.Setup.{IsSetup};
 ghost use Rattle.envy_policy.specs.History.{IsHistory, run, started, flushed, cleaned, partition_of, first_of, end_of, last_in};
-ghost use Rattle.envy_policy.specs.Choice.{IsChoice, IsLeast, IsNearest, IsUsable, HasRows, IsVictim, IsAside, steps};
+ghost use Rattle.envy_policy.specs.Choice.{IsChoice, IsWithin, IsLeast, IsNearest, IsUsable, HasRows, IsVictim, IsAside, steps};
 
 use crate::rows::{first_with, most};
 use crate::{Choice, Policy, Setup};
@@ -63,6 +63,7 @@ impl Chooser {
         requires some { (k : ℕ) × (0 < slice_index free.now k + slice_index dead.now k) }
         requires home { home < self.now.positions }
         ensures choice { IsChoice self.now free.now dead.now home result }
+        ensures within { IsWithin self.now free.now dead.now result }
         ensures whole { IsHistory self.now }
     {
         let partition = self.nearest(free, dead, home);

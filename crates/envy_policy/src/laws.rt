@@ -2,8 +2,8 @@ ghost use Rattle.std.specs.Prelude.{◌≡◌, ℕ, ◌+◌, ◌/◌, ◌<◌, �
 ghost use Rattle.envy_policy.specs.declared.choice.Choice.{Choice};
 ghost use Rattle.envy_policy.specs.declared.choice.Choice.TheVariants.{Free, Clean};
 ghost use Rattle.envy_policy.specs.declared.setup.Policy.TheVariants.{Greedy};
-ghost use Rattle.envy_policy.specs.History.{History, IsHistory, partition_of, flushed};
-ghost use Rattle.envy_policy.specs.Choice.{IsChoice, IsLeast, IsMost};
+ghost use Rattle.envy_policy.specs.History.{History, IsHistory, SameSizes, partition_of, flushed, cleaned};
+ghost use Rattle.envy_policy.specs.Choice.{IsChoice, IsLeast, IsMost, IsWithin};
 
 /// Heats, turns, rows and home leave one choice.
 pub fn rows_leave_one_choice()
@@ -33,4 +33,17 @@ pub fn greedy_looks_at_all_positions()
         → ((x : ℕ) → slice_index free x ≡ 0)
         → IsMost (λ x. 0 < slice_index dead x) (slice_index dead) position
         → IsChoice h free dead home (Clean position None) }
+{}
+
+/// A choice is of a position that there is, with a free row or with a dead one, and the partition beside
+/// it is one that there is.
+pub fn a_choice_has_rows()
+    ensures { (h : History) (free dead : List ℕ) (home : ℕ) (choice : Choice)
+        → length free ≡ h.positions → length dead ≡ h.positions → IsChoice h free dead home choice → IsWithin h free dead choice }
+{}
+
+/// A flush or a cleaning that is noted changes heats and turns alone, and not how many there are.
+pub fn notes_keep_the_sizes()
+    ensures flushed { (h : History) (position : ℕ) → SameSizes h (flushed h position) }
+    ensures cleaned { (h : History) (position : ℕ) → SameSizes h (cleaned h position) }
 {}

@@ -11,5 +11,8 @@ mod tests;
 
 pub use choice::Choice;
 pub use chooser::Chooser;
-pub use laws::{greedy_looks_at_all_positions, heats_count_flushes, rows_leave_one_choice};
+pub use laws::{
+    a_choice_has_rows, greedy_looks_at_all_positions, heats_count_flushes, notes_keep_the_sizes,
+    rows_leave_one_choice,
+};
 pub use setup::{Policy, Setup, SetupFault};

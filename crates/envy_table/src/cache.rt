@@ -1,10 +1,11 @@
-ghost use Rattle.std.specs.Prelude.{◌≡◌, ℕ, ◌<◌, ◌≤◌, false, IsTrue, List, length, Option, None, Some, IfOk, IfNone, IfSome, MatchResult, slice_set};
+ghost use Rattle.std.specs.Prelude.{◌≡◌, ℕ, ◌<◌, ◌≤◌, false, IsTrue, List, length, Option, None, Some, IfOk, IfNone, IfSome, OnOk, OnErr, MatchResult, slice_set};
 ghost use Rattle.envy_base.specs.declared.fields.Place.{Place};
 ghost use Rattle.envy_layout.specs.Sound.{IsSound};
 ghost use Rattle.envy_map.specs.Fields.{chart, place as place_of};
 ghost use Rattle.envy_map.specs.Writes.{Gives};
 ghost use Rattle.envy_table.specs.Agreement.{AreCurrent};
 ghost use Rattle.envy_table.specs.Entries.{entry, entry_of, is_hit, counted, filled, retargeted, vacant};
+ghost use Rattle.envy_table.specs.Hits.{Accesses, Rests, Empties};
 
 use envy_base::{Board, NoMemory, Off, Place};
 use envy_map::place;
@@ -57,6 +58,8 @@ impl Cache {
         ensures counts { MatchResult result
             (λ x. self.new ≡ record (counted self.old page) { entries = filled self.old.entries page x })
             (λ _. self.new ≡ self.old) }
+        ensures accesses { OnOk result (Accesses page self.old self.new) }
+        ensures rests { OnErr result (Rests self.old self.new) }
         ensures agrees { IsTrue (B.state board.now).on
             → AreCurrent (B.state board.now).shape.pages (chart (B.state board.now)).fields.places self.new.entries }
         ensures size { length self.new.entries ≡ length self.old.entries }
@@ -77,6 +80,7 @@ impl Cache {
     /// The page has another place in the table now, so its entry keeps that one where it holds the page.
     pub fn retarget(&mut self, page: u32, place: Place)
         ensures becomes { self.new ≡ record self.old { entries = retargeted self.old.entries page place } }
+        ensures rests { Rests self.old self.new }
         ensures agrees { (pages : ℕ) (places : List (Option Place)) → AreCurrent pages places self.old.entries
             → AreCurrent pages (slice_set places page (Some place)) self.new.entries }
         ensures size { length self.new.entries ≡ length self.old.entries }
@@ -89,6 +93,7 @@ impl Cache {
     /// No entry holds a page any more. The counts stay.
     pub fn empty(&mut self)
         ensures becomes { self.new ≡ record self.old { entries = vacant (length self.old.entries) } }
+        ensures empties { Empties self.old self.new }
         ensures agrees { (pages : ℕ) (places : List (Option Place)) → AreCurrent pages places self.new.entries }
         ensures size { length self.new.entries ≡ length self.old.entries }
     {

@@ -1,0 +1,43 @@
+-- A choice is one of positions that there are, with rows.
+use Rattle.std.proofs.Common.{◌≡◌, ℕ, ◌<◌, Bool, true, false, List, length, map, slice_index, Option, None, Some, refl, arith}
+use Rattle.std.specs.Prelude.{◌==◌, ◌/◌, if◌then◌else◌}
+use Rattle.std.proofs.Math.ListN.{length-set, length-map}
+use Rattle.envy_policy.specs.declared.choice.Choice.{Choice}
+use Rattle.envy_policy.specs.declared.choice.Choice.TheVariants.{Free, Clean}
+use Rattle.envy_policy.specs.declared.setup.Policy.{Policy}
+use Rattle.envy_policy.specs.declared.setup.Policy.TheVariants.{Greedy, Fifo, Locality, Hybrid}
+use Rattle.envy_policy.specs.Choice.{IsChoice, IsWithin, IsLeast, IsMost, IsVictim, IsAside}
+use Rattle.envy_policy.specs.History.{History, SameSizes, warmed, flushed, cleaned, partition_of}
+use Rattle.envy_policy.proofs.Choosing.{rows-below}
+
+-- a victim has dead rows
+pub victim-dead : (policy : Policy) (h : History) (dead : List ℕ) (g k : ℕ) → IsVictim policy h dead g k → 0 < slice_index dead k
+victim-dead Greedy h dead g k is = let has = IsMost.holds is in has.1
+victim-dead Fifo h dead g k is = let has = IsLeast.holds is in has.1
+victim-dead Locality h dead g k is = let has = IsLeast.holds is in has.1
+victim-dead (Hybrid part) h dead g k is = let has = IsLeast.holds is in has.1
+
+pub aside-below : (h : History) (g : ℕ) (aside : Option ℕ) → IsAside h g aside → (k : ℕ) → aside ≡ Some k → k < length h.heats
+aside-below h g None is k e = cc
+aside-below h g (Some other) is k e = let same : other ≡ k = cc in let near = IsLeast.holds is.1 in omega (arith, near.0)
+
+pub within-choice : (h : History) (free dead : List ℕ) (home : ℕ) (choice : Choice) → length free ≡ h.positions → length dead ≡ h.positions → IsChoice h free dead home choice → IsWithin h free dead choice
+within-choice h free dead home (Free k) long_free long_dead is =
+    let has = IsLeast.holds is.1 in
+    (rows-below free h.positions k long_free has.1, has.1)
+within-choice h free dead home (Clean k aside) long_free long_dead is =
+    let some = victim-dead h.policy h dead (partition_of h k) k is.2 in
+    (rows-below dead h.positions k long_dead some, some, aside-below h (partition_of h k) aside is.3)
+
+pub flushed-sizes : (h : History) (k : ℕ) → SameSizes h (flushed h k)
+flushed-sizes h k = at ((warmed h k).flushes == 1024)
+  where
+    long : length (warmed h k).heats ≡ length h.heats
+    long = simp length-set
+
+    at : (b : Bool) → SameSizes h (if b then record (warmed h k) { heats = map (λ x. x / 2) (warmed h k).heats; flushes = 0 } else warmed h k)
+    at true = record { policy = refl; positions = refl; heats = simp length-map long; turns = refl }
+    at false = record { policy = refl; positions = refl; heats = long; turns = refl }
+
+pub cleaned-sizes : (h : History) (k : ℕ) → SameSizes h (cleaned h k)
+cleaned-sizes h k = record { policy = refl; positions = refl; heats = refl; turns = simp length-set }
