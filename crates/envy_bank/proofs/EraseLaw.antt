@@ -34,7 +34,7 @@ erased_after rows block bs k fits le =
     ∙ get_or-drop (block * rows + rows) bs (k - block * rows - rows) 0
     ∙ ap (λ i. get_or bs i 0) index
 
-length-erased : (rows block : ℕ) (bs : List ℕ) → block * rows + rows ≤ length bs → length (with_erased_block rows block bs) ≡ length bs
+pub length-erased : (rows block : ℕ) (bs : List ℕ) → block * rows + rows ≤ length bs → length (with_erased_block rows block bs) ≡ length bs
 length-erased rows block bs fits = simp (length-append, length-take, length-replicate, length-drop) (omega arith)
 
 AreBytes-erased : (rows block : ℕ) (bs : List ℕ) → block * rows ≤ length bs → AreBytes bs → AreBytes (with_erased_block rows block bs)
@@ -48,14 +48,28 @@ AreBytes-erased rows block bs fits bytes k =
     ]
 
 -- the number of the block that an index is in
-block_of : (rows block k : ℕ) → block * rows ≤ k → k < block * rows + rows → k / rows ≡ block
+pub block_of : (rows block k : ℕ) → block * rows ≤ k → k < block * rows + rows → k / rows ≡ block
 block_of rows block k le lt =
     let rest : k - block * rows < rows = omega arith in
     let at : k ≡ block * rows + (k - block * rows) = omega arith in
     ap (λ n. n / rows) at ∙ div-mul-add block rows (k - block * rows) rest
 
+-- and where an index of the block stands
+pub before_block : (rows block k : ℕ) → k / rows ≡ block → block * rows ≤ k
+before_block rows block k here =
+    let split : k / rows * rows + k % rows ≡ k = div-add-mod' k rows in
+    let at : block * rows + k % rows ≡ k = rw here at split in
+    omega arith
+
+pub behind_block : (rows block k : ℕ) → 1 ≤ rows → k / rows ≡ block → k < block * rows + rows
+behind_block rows block k some here =
+    let split : k / rows * rows + k % rows ≡ k = div-add-mod' k rows in
+    let rest : k % rows < rows = mod_below k rows some in
+    let at : block * rows + k % rows ≡ k = rw here at split in
+    omega arith
+
 -- so a byte outside the block stays, and a byte inside is 0xFF
-erased_outside : (rows block : ℕ) (bs : List ℕ) (k : ℕ) → 1 ≤ rows → block * rows ≤ length bs → k / rows ≢ block → get_or (with_erased_block rows block bs) k 0 ≡ get_or bs k 0
+pub erased_outside : (rows block : ℕ) (bs : List ℕ) (k : ℕ) → 1 ≤ rows → block * rows ≤ length bs → k / rows ≢ block → get_or (with_erased_block rows block bs) k 0 ≡ get_or bs k 0
 erased_outside rows block bs k some fits apart =
     elim (cases_lt k (block * rows)) [
       | inl lt ↦ erased_before rows block bs k fits lt
@@ -65,7 +79,7 @@ erased_outside rows block bs k some fits apart =
       ]
     ]
 
-erased_inside : (rows block : ℕ) (bs : List ℕ) (k : ℕ) → 1 ≤ rows → block * rows ≤ length bs → k / rows ≡ block → get_or (with_erased_block rows block bs) k 0 ≡ 255
+pub erased_inside : (rows block : ℕ) (bs : List ℕ) (k : ℕ) → 1 ≤ rows → block * rows ≤ length bs → k / rows ≡ block → get_or (with_erased_block rows block bs) k 0 ≡ 255
 erased_inside rows block bs k some fits here =
     let split : k / rows * rows + k % rows ≡ k = div-add-mod' k rows in
     let rest : k % rows < rows = mod_below k rows some in
@@ -93,7 +107,7 @@ AreLanes-erased size rows block chips new some fits are each =
       };
     })
 
-all_ones : (ls : List ℕ) → length ls ≡ 256 → ((j : ℕ) → j < 256 → get_or ls j 0 ≡ 255) → row_from ls ≡ ones
+pub all_ones : (ls : List ℕ) → length ls ≡ 256 → ((j : ℕ) → j < 256 → get_or ls j 0 ≡ 255) → row_from ls ≡ ones
 all_ones ls long each =
     ext_get_or 0 (row_from ls) ones (length-row_from ls) (λ i within.
     let lt : i < 32 = (let all = length-row_from ls in omega arith) in

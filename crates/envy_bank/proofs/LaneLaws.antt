@@ -70,7 +70,7 @@ row_from-lanes_of page is =
     get_or-eight (lanes_of page) i k small ∙ get_or-lanes_of page (8 * i + k) (omega arith) ∙ rw (word, byte) refl) in
     get_or-row_from (lanes_of page) i low ∙ ap (from_le_bytes w64) eight_bytes ∙ from_le_bytes-to_le_bytes_8 (get_or page i 0) (is.words i))
 
-length-ands : (xs ys : List ℕ) → length xs ≡ length ys → length (ands xs ys) ≡ length xs
+pub length-ands : (xs ys : List ℕ) → length xs ≡ length ys → length (ands xs ys) ≡ length xs
 length-ands [] ys e = refl
 length-ands (x ∷ xs) [] e = cc
 length-ands (x ∷ xs) (y ∷ ys) e = ap suc (length-ands xs ys (omega arith))

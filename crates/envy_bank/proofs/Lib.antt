@@ -1,7 +1,10 @@
 pub mod BankLaws
 pub mod BankSteps
+pub mod ChipLaws
 pub mod EraseLaw
+pub mod KeptLaws
 pub mod LaneLaws
 pub mod LaneLoops
 pub mod ProgramLaw
+pub mod RowLaws
 pub mod Words

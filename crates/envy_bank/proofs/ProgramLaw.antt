@@ -21,7 +21,7 @@ AreBytes-low_first i zero n j = omega arith
 AreBytes-low_first i (suc k) n zero = byte_at-below i n
 AreBytes-low_first i (suc k) n (suc j) = AreBytes-low_first (suc i) k n j
 
-lane_of-below : (page : List ℕ) (j : ℕ) → lane_of page j < 256
+pub lane_of-below : (page : List ℕ) (j : ℕ) → lane_of page j < 256
 unfolding lane_of
 lane_of-below page j = AreBytes-low_first 0 8 (get_or page (j / 8) 0) (j % 8)
 

@@ -1,2 +1,4 @@
+pub mod Chips
+pub mod Kept
 pub mod Lanes
 pub mod Rows

@@ -1,40 +1,30 @@
 ghost use Rattle.std.specs.Prelude.{◌≡◌, ◌*◌, ◌<◌, ◌≤◌, ◌↔◌, IsTrue, IfOk, length, slice_index};
-ghost use Rattle.envy_bank.specs.Rows.{IsBank, ErasesBlock, ands, erased_bank, row_of, with_row, up};
+ghost use Rattle.envy_bank.specs.Rows.{IsBank, ErasesBlock, ands, erased_bank, row_of, with_row};
 
-use crate::lanes::{erase_lanes, new_lanes, program_lanes, read_lanes, upset_lanes};
-use envy_chip::Chip;
+use crate::counting::more;
+use crate::kept::KeptRows;
 use std::alloc::{AllocError, Global};
 use std::marker::Model;
 
 /// Want of memory.
 pub type NoMemory = AllocError;
 
-/// 256 chips as rows of 32 words of 64 bits, erased in blocks of `rows` rows.
+/// A bank of rows of 32 words of 64 bits, erased in blocks of `rows` rows.
 #[derive(Drop)]
 pub struct Bank {
-    chips: Vec<Chip>,
+    flash: KeptRows,
     rows: u32,
     erases: Vec<u64>,
 }
 
 impl Model for Bank {
-    ghost use Rattle.std.specs.Prelude.{◌*◌, length};
-    ghost use Rattle.envy_bank.specs.Rows.{BankState};
-    ghost use Rattle.envy_bank.specs.Lanes.{rows_from, AreChips};
+    ghost use Rattle.envy_bank.specs.Rows.{BankState, IsBank};
 
     ghost Value = { BankState };
 
-    ghost view = { λ a. record { flash = rows_from a.chips.items (length a.erases.items * a.rows); rows = a.rows; erases = a.erases.items } };
+    ghost view = { λ a. record { flash = a.flash; rows = a.rows; erases = a.erases.items } };
 
-    ghost invariant = { λ a. AreChips (length a.erases.items) a.rows a.chips.items };
-}
-
-// One more, up to the type's end.
-#[tactic(auto, unfolding(crate::specs::Rows::up))]
-fn more(count: u64) -> u64
-    ensures { result ≡ up count }
-{
-    count.saturating_add(1)
+    ghost invariant = { λ a. IsBank (record { flash = a.flash; rows = a.rows; erases = a.erases.items }) };
 }
 
 impl Bank {
@@ -47,7 +37,7 @@ impl Bank {
         ensures whole { IfOk result IsBank }
     {
         Ok(Bank {
-            chips: new_lanes(alloc, blocks, rows)?,
+            flash: KeptRows::new(alloc, (blocks * rows) as usize)?,
             rows,
             erases: vec![in alloc; 0; blocks as usize]?,
         })
@@ -60,7 +50,7 @@ impl Bank {
         ensures held { IsTrue result ↔ (row_of self.new row ≡ page.now) }
         ensures whole { IsBank self.new }
     {
-        program_lanes(&mut self.chips, row, page)
+        self.flash.program(row as usize, page)
     }
 
     /// Erases a block: all its bits become ones.
@@ -69,7 +59,9 @@ impl Bank {
         ensures erased { ErasesBlock block self.old self.new }
         ensures whole { IsBank self.new }
     {
-        erase_lanes(&mut self.chips, block * self.rows);
+        let first = block * self.rows;
+        self.flash
+            .erase(first as usize, (first + self.rows) as usize);
         let count = &mut self.erases[block as usize];
         *count = more(*count);
     }
@@ -81,7 +73,7 @@ impl Bank {
         ensures word { result ≡ slice_index (row_of self.now row) i }
         ensures whole { IsBank self.now }
     {
-        read_lanes(&self.chips, row, i as usize)
+        self.flash.word(row as usize, i as usize)
     }
 
     /// How often a block was erased.
@@ -99,36 +91,6 @@ impl Bank {
         ensures row { self.new ≡ with_row self.old row page.now }
         ensures whole { IsBank self.new }
     {
-        upset_lanes(&mut self.chips, row, page);
-    }
-}
-
-#[cfg(test)]
-mod tests {
-    use super::*;
-    use std::test::Fail;
-
-    #[test]
-    fn a_new_bank_is_erased(rt: HostRuntime) -> Result<(), Fail> {
-        let bank = Bank::new(rt.alloc(), 1, 2)?;
-        assert_eq!(rt; bank.erases(0), 0);
-        for row in 0..2 {
-            for i in 0..32 {
-                assert_eq!(rt; bank.read_word(row, i), 0xFFFF_FFFF_FFFF_FFFF);
-            }
-        }
-        Ok(())
-    }
-
-    #[test]
-    fn the_lowest_byte_of_a_word_is_in_its_first_lane(rt: HostRuntime) -> Result<(), Fail> {
-        let mut bank = Bank::new(rt.alloc(), 1, 2)?;
-        let mut page = [0; 32];
-        page[0] = 72623859790382856;
-        bank.program_row(0, &page);
-        for (lane, byte) in [8, 7, 6, 5, 4, 3, 2, 1].iter().enumerate() {
-            assert_eq!(rt; bank.chips[lane].read(0), *byte);
-        }
-        Ok(())
+        self.flash.write(row as usize, page);
     }
 }

@@ -3,6 +3,7 @@ use envy_base::{Bench, Board, Maker, Off, Shape, Trouble};
 use envy_power::Torn;
 use std::alloc::Global;
 use std::process::Abort;
+use std::rt::Clock;
 use std::test::Fail;
 use std::time::Instant;
 
@@ -51,6 +52,16 @@ fn read<B: Board>(rt: &impl Abort, board: &B, row: u32, i: u32) -> Result<u64, O
     let shape = board.shape();
     assert!(rt; row < shape.segments * shape.rows && i < 32);
     board.read(row, i)
+}
+
+fn read_row<B: Board>(rt: &impl Abort, board: &B, row: u32) -> Result<[u64; 32], Off> {
+    let shape = board.shape();
+    assert!(rt; row < shape.segments * shape.rows);
+    let mut page = [0; 32];
+    for i in 0..32u32 {
+        page[i as usize] = board.read(row, i)?;
+    }
+    Ok(page)
 }
 
 fn erase<B: Board>(rt: &impl Abort, board: &mut B, segment: u32) -> Result<(), Trouble> {
@@ -201,34 +212,50 @@ fn torn_erase_begins_with_the_first_words_of_its_number(rt: HostRuntime) -> Resu
     Ok(())
 }
 
-// How many rows a second are programmed, read and erased on a board of 4,096 segments of 16 rows.
-#[test]
-fn every_row_is_programmed_read_and_erased(rt: HostRuntime) -> Result<(), Fail> {
+// How many rows a second are programmed, read and erased on a board of that many rows.
+fn time_rows(
+    rt: &(impl Abort + Clock + Eprint + AllocGlobal),
+    segments: u32,
+    rows: u32,
+) -> Result<(), Fail> {
     let shape = Shape {
-        segments: 4096,
-        rows: 16,
+        segments,
+        rows,
         pages: 64,
         shadows: 16,
         frames: 8,
         entries: 4,
     };
-    let mut board = new_board(rt.alloc(), &shape)?;
-    let rows = 65536;
-    let start = Instant::now(&rt)?;
-    for row in 0..rows {
-        assert_eq!(rt; program(&rt, &mut board, row, &marked(row)), Ok(()));
+    shape.check()?;
+    let mut board = MemBoard::new(rt.alloc(), &shape, 0)?;
+    let all = shape.segments * shape.rows;
+    let start = Instant::now(rt)?;
+    for row in 0..all {
+        assert_eq!(rt; program(rt, &mut board, row, &marked(row)), Ok(()));
     }
-    let programmed = start.elapsed(&rt)?;
-    let start = Instant::now(&rt)?;
-    for row in 0..rows {
-        assert_row(&rt, &board, row, &marked(row));
+    let programmed = start.elapsed(rt)?;
+    let start = Instant::now(rt)?;
+    for row in 0..all {
+        assert_eq!(rt; read_row(rt, &board, row), Ok(marked(row)));
     }
-    let read = start.elapsed(&rt)?;
-    let start = Instant::now(&rt)?;
-    for segment in 0..4096 {
-        assert_eq!(rt; erase(&rt, &mut board, segment), Ok(()));
+    let read = start.elapsed(rt)?;
+    let start = Instant::now(rt)?;
+    for segment in 0..segments {
+        assert_eq!(rt; erase(rt, &mut board, segment), Ok(()));
     }
-    let erased = start.elapsed(&rt)?;
-    eprintln!(rt; "{rows} rows: programmed {programmed:?}, read {read:?}, erased {erased:?}")?;
+    let erased = start.elapsed(rt)?;
+    eprintln!(rt; "{all} rows: programmed {programmed:?}, read {read:?}, erased {erased:?}")?;
     Ok(())
+}
+
+#[test]
+fn every_row_of_many_short_segments_is_programmed_read_and_erased(
+    rt: HostRuntime,
+) -> Result<(), Fail> {
+    time_rows(&rt, 4096, 16)
+}
+
+#[test]
+fn every_row_of_a_largest_board_is_programmed_read_and_erased(rt: HostRuntime) -> Result<(), Fail> {
+    time_rows(&rt, 256, 4096)
 }

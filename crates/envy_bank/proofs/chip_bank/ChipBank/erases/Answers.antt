@@ -1,5 +1,5 @@
 use Rattle.envy_bank.proofs.BankSteps.{IsBank-seen}
-use Rattle.envy_bank.proofs.bank.Bank.erases.Goals as goal
+use Rattle.envy_bank.proofs.chip_bank.ChipBank.erases.Goals as goal
 
 pub returns-clause-whole : goal.returns-clause-whole
 returns-clause-whole c =

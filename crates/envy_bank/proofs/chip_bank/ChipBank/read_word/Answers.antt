@@ -1,5 +1,5 @@
 use Rattle.envy_bank.proofs.BankSteps.{IsBank-seen, read_of_word, has_addr, in_range}
-use Rattle.envy_bank.proofs.bank.Bank.read_word.Goals as goal
+use Rattle.envy_bank.proofs.chip_bank.ChipBank.read_word.Goals as goal
 
 pub read_lanes-requires-clause-addr : goal.read_lanes-requires-clause-addr
 read_lanes-requires-clause-addr c =

@@ -1,5 +1,5 @@
 use Rattle.envy_bank.proofs.BankSteps.{UpsetStep, upset_step, has_addr, in_range}
-use Rattle.envy_bank.proofs.bank.Bank.upset_row.Goals as goal
+use Rattle.envy_bank.proofs.chip_bank.ChipBank.upset_row.Goals as goal
 
 pub upset_lanes-requires-clause-addr : goal.upset_lanes-requires-clause-addr
 upset_lanes-requires-clause-addr c =

@@ -1,0 +1,114 @@
+ghost use Rattle.std.specs.Prelude.{◌≡◌, ◌*◌, ◌<◌, ◌≤◌, ◌↔◌, IsTrue, IfOk, length, slice_index};
+ghost use Rattle.envy_bank.specs.Rows.{IsBank, ErasesBlock, ands, erased_bank, row_of, with_row};
+
+use crate::bank::NoMemory;
+use crate::counting::more;
+use crate::lanes::{erase_lanes, new_lanes, program_lanes, read_lanes, upset_lanes};
+use envy_chip::Chip;
+use std::alloc::Global;
+use std::marker::Model;
+
+/// A bank of 256 chips, each driven by the bytes that are written to it. Its calls have the contracts of
+/// `Bank`.
+#[derive(Drop)]
+pub struct ChipBank {
+    chips: Vec<Chip>,
+    rows: u32,
+    erases: Vec<u64>,
+}
+
+impl Model for ChipBank {
+    ghost use Rattle.std.specs.Prelude.{◌*◌, length};
+    ghost use Rattle.envy_bank.specs.Rows.{BankState};
+    ghost use Rattle.envy_bank.specs.Lanes.{rows_from, AreChips};
+
+    ghost Value = { BankState };
+
+    ghost view = { λ a. record { flash = rows_from a.chips.items (length a.erases.items * a.rows); rows = a.rows; erases = a.erases.items } };
+
+    ghost invariant = { λ a. AreChips (length a.erases.items) a.rows a.chips.items };
+}
+
+impl ChipBank {
+    /// An erased bank, of which no block was erased yet.
+    pub fn new(alloc: Global, blocks: u32, rows: u32) -> Result<ChipBank, NoMemory>
+        requires blocks { 1 ≤ blocks }
+        requires rows { 1 ≤ rows }
+        requires size { blocks * rows ≤ 1048576 }
+        ensures erased { IfOk result (λ bank. bank ≡ erased_bank blocks rows) }
+        ensures whole { IfOk result IsBank }
+    {
+        Ok(ChipBank {
+            chips: new_lanes(alloc, blocks, rows)?,
+            rows,
+            erases: vec![in alloc; 0; blocks as usize]?,
+        })
+    }
+
+    /// Programs a row, which becomes its AND with the page. Answers whether it is the page then.
+    pub fn program_row(&mut self, row: u32, page: &[u64; 32]) -> bool
+        requires { row < length self.old.flash }
+        ensures row { self.new ≡ with_row self.old row (ands (row_of self.old row) page.now) }
+        ensures held { IsTrue result ↔ (row_of self.new row ≡ page.now) }
+        ensures whole { IsBank self.new }
+    {
+        program_lanes(&mut self.chips, row, page)
+    }
+
+    /// Erases a block: all its bits become ones.
+    pub fn erase_block(&mut self, block: u32)
+        requires { block < length self.old.erases }
+        ensures erased { ErasesBlock block self.old self.new }
+        ensures whole { IsBank self.new }
+    {
+        erase_lanes(&mut self.chips, block * self.rows);
+        let count = &mut self.erases[block as usize];
+        *count = more(*count);
+    }
+
+    /// The word `i` of a row.
+    pub fn read_word(&self, row: u32, i: u32) -> u64
+        requires row { row < length self.now.flash }
+        requires i { i < 32 }
+        ensures word { result ≡ slice_index (row_of self.now row) i }
+        ensures whole { IsBank self.now }
+    {
+        read_lanes(&self.chips, row, i as usize)
+    }
+
+    /// How often a block was erased.
+    pub fn erases(&self, block: u32) -> u64
+        requires { block < length self.now.erases }
+        ensures count { result ≡ slice_index self.now.erases block }
+        ensures whole { IsBank self.now }
+    {
+        self.erases[block as usize]
+    }
+
+    /// Sets a row to anything, as a disturbed operation may.
+    pub fn upset_row(&mut self, row: u32, page: &[u64; 32])
+        requires { row < length self.old.flash }
+        ensures row { self.new ≡ with_row self.old row page.now }
+        ensures whole { IsBank self.new }
+    {
+        upset_lanes(&mut self.chips, row, page);
+    }
+}
+
+#[cfg(test)]
+mod tests {
+    use super::*;
+    use std::test::Fail;
+
+    #[test]
+    fn the_lowest_byte_of_a_word_is_in_its_first_lane(rt: HostRuntime) -> Result<(), Fail> {
+        let mut bank = ChipBank::new(rt.alloc(), 1, 2)?;
+        let mut page = [0; 32];
+        page[0] = 72623859790382856;
+        bank.program_row(0, &page);
+        for (lane, byte) in [8, 7, 6, 5, 4, 3, 2, 1].iter().enumerate() {
+            assert_eq!(rt; bank.chips[lane].read(0), *byte);
+        }
+        Ok(())
+    }
+}

@@ -1,0 +1,106 @@
+ghost use Rattle.std.specs.Prelude.{◌≡◌, ◌<◌, ◌≤◌, ◌↔◌, IsTrue, IfOk, [], length, replicate, slice_index, slice_index_or, slice_set};
+ghost use Rattle.envy_bank.specs.Rows.{ands, ones};
+ghost use Rattle.envy_bank.specs.Kept.{MarksRange, ErasesRange};
+
+use std::alloc::{AllocError, Global};
+use std::marker::Model;
+
+/// Rows of 32 words, each a page in one run of memory. An erased row is marked, and its page isn't
+/// touched until the row is written.
+#[derive(Drop)]
+pub struct KeptRows {
+    pages: Vec<[u64; 32]>,
+    erased: Vec<bool>,
+}
+
+impl Model for KeptRows {
+    ghost use Rattle.std.specs.Prelude.{◌≡◌, ℕ, List, length};
+    ghost use Rattle.envy_bank.specs.Kept.{kept_rows};
+
+    ghost Value = { List (List ℕ) };
+
+    ghost view = { λ a. kept_rows a.erased.items a.pages.items };
+
+    ghost invariant = { λ a. length a.erased.items ≡ length a.pages.items };
+}
+
+// Clears in the row the bits that are clear in the page. Answers whether it is the page then.
+fn clear_bits(row: &mut [u64; 32], page: &[u64; 32]) -> bool
+    ensures row { row.new ≡ ands row.old page.now }
+    ensures held { IsTrue result ↔ (row.new ≡ page.now) }
+{
+    let mut held = true;
+    for i in 0..32 {
+        let word = row[i] & page[i];
+        held &= word == page[i];
+        row[i] = word;
+    }
+    held
+}
+
+// Marks the rows from `first` on up to the one before `end`.
+fn mark_range(marks: &mut [bool], first: usize, end: usize)
+    requires order { first ≤ end }
+    requires end { end ≤ length marks.old }
+    ensures { MarksRange first end marks.old marks.new }
+{
+    for row in first..end {
+        marks[row] = true;
+    }
+}
+
+impl KeptRows {
+    /// Erased rows, so many.
+    pub fn new(alloc: Global, count: usize) -> Result<KeptRows, AllocError>
+        ensures { IfOk result (λ rows. rows ≡ replicate count ones) }
+    {
+        Ok(KeptRows {
+            pages: vec![in alloc; [0; 32]; count]?,
+            erased: vec![in alloc; true; count]?,
+        })
+    }
+
+    /// The word `i` of a row.
+    #[inline]
+    pub fn word(&self, row: usize, i: usize) -> u64
+        requires row { row < length self.now }
+        requires i { i < 32 }
+        ensures { result ≡ slice_index (slice_index_or self.now row []) i }
+    {
+        if self.erased[row] {
+            return u64::MAX;
+        }
+        self.pages[row][i]
+    }
+
+    /// Sets a row to the page.
+    pub fn write(&mut self, row: usize, page: &[u64; 32])
+        requires { row < length self.old }
+        ensures { self.new ≡ slice_set self.old row page.now }
+    {
+        self.erased[row] = false;
+        self.pages[row] = *page;
+    }
+
+    /// Makes a row its AND with the page. Answers whether it is the page then.
+    pub fn program(&mut self, row: usize, page: &[u64; 32]) -> bool
+        requires { row < length self.old }
+        ensures row { self.new ≡ slice_set self.old row (ands (slice_index_or self.old row []) page.now) }
+        ensures held { IsTrue result ↔ (slice_index_or self.new row [] ≡ page.now) }
+    {
+        if self.erased[row] {
+            self.write(row, page);
+            return true;
+        }
+        clear_bits(&mut self.pages[row], page)
+    }
+
+    /// Erases the rows from `first` on up to the one before `end`.
+    pub fn erase(&mut self, first: usize, end: usize)
+        requires order { first ≤ end }
+        requires end { end ≤ length self.old }
+        ensures { ErasesRange first end self.old self.new }
+    {
+        mark_range(&mut self.erased, first, end);
+    }
+}
