@@ -1,0 +1,11 @@
+pub mod CleanLemmas
+pub mod CopyLemmas
+pub mod Counts
+pub mod EffortLemmas
+pub mod EndLemmas
+pub mod MoveLemmas
+pub mod PlanLemmas
+pub mod SettleLemmas
+pub mod StepLemmas
+pub mod SwitchLemmas
+pub mod WriteLemmas

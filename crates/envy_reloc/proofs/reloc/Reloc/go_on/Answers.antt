@@ -1,0 +1,156 @@
+use Rattle.std.proofs.Common.{◌≡◌, inl, inr, ℕ, List, Option, sym, ap, subst, arith}
+use Rattle.envy_base.specs.Shape.{IsShape}
+use Rattle.envy_base.specs.State.{IsBoard}
+use Rattle.envy_base.specs.declared.shape.Shape.{Shape}
+use Rattle.envy_base.specs.declared.fields.Place.{Place}
+use Rattle.envy_map.specs.Fields.{chart}
+use Rattle.envy_layout.specs.Same.{Same, Stays, Framed}
+use Rattle.envy_layout.specs.Sound.{Sound, IsSpare}
+use Rattle.envy_space.specs.Pool.{IsPoolOf}
+use Rattle.envy_table.specs.Agreement.{AreCurrent}
+use Rattle.envy_reloc.specs.declared.copying.Left.{Left}
+use Rattle.envy_reloc.specs.declared.moving.Move.{Move}
+use Rattle.envy_reloc.specs.Phases.{NextMove}
+use Rattle.envy_reloc.specs.Plan.{Plan, IsPlanOf}
+use Rattle.envy_reloc.specs.Rows.{NextKept, IsLowestRoom}
+use Rattle.envy_reloc.proofs.CopyLemmas.{AllCopied-next, CopiedWhole-made}
+use Rattle.envy_reloc.proofs.StepLemmas.{Found, spare-is, within-move, within-copy, err-of, SpoilsCopy-found, CopiesOne-found, SwitchesSegment-made}
+use Rattle.envy_reloc.proofs.PlanLemmas.{Plan-switched}
+use Rattle.envy_reloc.proofs.reloc.Reloc.go_on.Goals as goal
+
+pub move_next-requires-clause-position : goal.move_next-requires-clause-position
+move_next-requires-clause-position g c =
+    let old = chart (g.B.Board.state c.args.board.now) in
+    let next = subst (λ (m : Option Move). NextMove old.shape old.fields c.args.segment c.args.self.now m c.next_move.new.self) c.in-Some.is c.in_ok-next.ensures.next in
+    let bound = c.requires.plan.prepared.aside c.args.segment next.5 next.6 c.requires.copying next.7 in
+    let last = bound.1 in
+    let low = IsLowestRoom.below next.8 in
+    let segments : c.args.space.now.shape.segments ≡ old.shape.segments = ap (λ (sh : Shape). sh.segments) (IsPoolOf.shape c.requires.pool) in
+    omega arith
+
+pub returns-in_err-copy_left-in-Some-2-clause-cache : goal.returns-in_err-copy_left-in-Some-2-clause-cache
+returns-in_err-copy_left-in-Some-2-clause-cache g c on =
+    let old = chart (g.B.Board.state c.args.board.now) in
+    let new = chart (g.B.Board.state c.copy_left.new.board) in
+    subst (λ (sh : Shape). AreCurrent sh.pages new.fields.places c.args.cache.now.entries) (sym (Framed.shape (Stays.framed (Same.stays c.copy_left.ensures.same))))
+    (subst (λ (ps : List (Option Place)). AreCurrent old.shape.pages ps c.args.cache.now.entries) (sym (c.copy_left.ensures.places on)) c.requires.cache)
+
+pub switch_segment-requires-clause-copied : goal.switch_segment-requires-clause-copied
+switch_segment-requires-clause-copied g c =
+    let old = chart (g.B.Board.state c.args.board.now) in
+    let e = c.spare-spare.result in
+    let plan = c.in_ok-next.ensures.plan in
+    let spare = subst (λ (sh : Shape). IsSpare sh old.fields.positions e) (IsPoolOf.shape c.requires.pool) (subst (λ (xs : List ℕ). IsSpare c.args.space.now.shape xs e) (IsPoolOf.positions c.requires.pool) c.spare-spare.ensures.spare) in
+    let none = subst (λ (l : Option Left). NextKept old.shape old.fields c.args.segment c.next_move.new.self.mark l) c.in-None.is (subst (λ (m : ℕ). NextKept old.shape old.fields c.args.segment m c.in_ok-left.field-0) (ap (λ (p : Plan). p.mark) c.self.view_is) c.in_ok-left.ensures.next) in
+    let all = AllCopied-next old.shape old.fields c.args.segment e c.next_move.new.self.mark c.requires.copying spare plan.marked none in
+    CopiedWhole-made old.shape old.fields old.flash c.args.segment e c.requires.sound c.requires.copying spare (plan.prepared.copies c.args.segment e c.requires.copying spare) all
+
+pub returns-in_ok-switch_segment-in-None-clause-plan : goal.returns-in_ok-switch_segment-in-None-clause-plan
+returns-in_ok-switch_segment-in-None-clause-plan g c on =
+    let old = chart (g.B.Board.state c.args.board.now) in
+    let new = chart (g.B.Board.state c.switch_segment.new.board) in
+    let e = c.spare-spare.result in
+    subst (λ (sh : Shape). IsPlanOf sh new.fields new.flash c.next_move.new.self) (sym (Framed.shape (Stays.framed (Same.stays c.switch_segment.ensures.same))))
+    (Plan-switched old.shape old.fields new.fields new.flash c.args.segment e c.next_move.new.self (subst (λ (fl : List (List ℕ)). Sound old.shape old.fields fl) (sym c.in_ok-switch_segment-in-None.ensures.flash) c.requires.sound) c.requires.copying c.in_ok-switch_segment-in-None.ensures.switches)
+
+pub returns-in_err-move_next-clause-within : goal.returns-in_err-move_next-clause-within
+returns-in_err-move_next-clause-within g c n e s left =
+    let old = chart (g.B.Board.state c.args.board.now) in
+    let new = chart (g.B.Board.state c.move_next.new.board) in
+    let next = subst (λ (m : Option Move). NextMove old.shape old.fields c.args.segment c.args.self.now m c.next_move.new.self) c.in-Some.is c.in_ok-next.ensures.next in
+    within-move old new c.args.self.now c.args.segment c.in-Some.next.row n e s c.next_move.new.self.moves c.requires.copying next.0 c.move_next.ensures.same left
+
+pub returns-in-Some-clause-within : goal.returns-in-Some-clause-within
+returns-in-Some-clause-within g c n e s left =
+    let old = chart (g.B.Board.state c.args.board.now) in
+    let new = chart (g.B.Board.state c.move_next.new.board) in
+    let next = subst (λ (m : Option Move). NextMove old.shape old.fields c.args.segment c.args.self.now m c.next_move.new.self) c.in-Some.is c.in_ok-next.ensures.next in
+    within-move old new c.args.self.now c.args.segment c.in-Some.next.row n e s c.next_move.new.self.moves c.requires.copying next.0 c.move_next.ensures.same left
+
+pub returns-in_err-copy_left-in-Some-2-clause-within : goal.returns-in_err-copy_left-in-Some-2-clause-within
+returns-in_err-copy_left-in-Some-2-clause-within g c n e s left_over =
+    let old = chart (g.B.Board.state c.args.board.now) in
+    let mid = c.next_move.new.self in
+    let none = subst (λ (m : Option Move). NextMove old.shape old.fields c.args.segment c.args.self.now m mid) c.in_default.is c.in_ok-next.ensures.next in
+    let next = subst (λ (l : Option Left). NextKept old.shape old.fields c.args.segment mid.mark l) c.in-Some-2.is (subst (λ (m : ℕ). NextKept old.shape old.fields c.args.segment m c.in_ok-left.field-0) (ap (λ (p : Plan). p.mark) c.self.view_is) c.in_ok-left.ensures.next) in
+    let found : Found old c.args.self.now mid c.args.segment c.spare-spare.result c.in-Some-2.left = record {
+      sound = c.requires.sound;
+      some = (let two = IsShape.rows (IsBoard.shape (g.met.B.Board.lawful c.args.board.now)) in omega arith);
+      copying = c.requires.copying;
+      no_move = none.0;
+      agrees = c.in_ok-next.ensures.plan;
+      none = none.1;
+      becomes = c.next_move.ensures.becomes;
+      spare = spare-is old.shape old.fields c.args.space.now c.spare-spare.result c.requires.pool c.spare-spare.ensures.spare;
+      next = next;
+    } in
+    within-copy old (chart (g.B.Board.state c.copy_left.new.board)) c.args.self.now mid c.args.segment c.spare-spare.result n e s c.in-Some-2.left found c.copy_left.ensures.same left_over
+
+pub returns-in_ok-copy_left-in-Some-2-clause-within : goal.returns-in_ok-copy_left-in-Some-2-clause-within
+returns-in_ok-copy_left-in-Some-2-clause-within g c n e s left_over =
+    let old = chart (g.B.Board.state c.args.board.now) in
+    let mid = c.next_move.new.self in
+    let none = subst (λ (m : Option Move). NextMove old.shape old.fields c.args.segment c.args.self.now m mid) c.in_default.is c.in_ok-next.ensures.next in
+    let next = subst (λ (l : Option Left). NextKept old.shape old.fields c.args.segment mid.mark l) c.in-Some-2.is (subst (λ (m : ℕ). NextKept old.shape old.fields c.args.segment m c.in_ok-left.field-0) (ap (λ (p : Plan). p.mark) c.self.view_is) c.in_ok-left.ensures.next) in
+    let found : Found old c.args.self.now mid c.args.segment c.spare-spare.result c.in-Some-2.left = record {
+      sound = c.requires.sound;
+      some = (let two = IsShape.rows (IsBoard.shape (g.met.B.Board.lawful c.args.board.now)) in omega arith);
+      copying = c.requires.copying;
+      no_move = none.0;
+      agrees = c.in_ok-next.ensures.plan;
+      none = none.1;
+      becomes = c.next_move.ensures.becomes;
+      spare = spare-is old.shape old.fields c.args.space.now c.spare-spare.result c.requires.pool c.spare-spare.ensures.spare;
+      next = next;
+    } in
+    within-copy old (chart (g.B.Board.state c.copy_left.new.board)) c.args.self.now mid c.args.segment c.spare-spare.result n e s c.in-Some-2.left found c.copy_left.ensures.same left_over
+
+pub returns-in_err-copy_left-in-Some-2-clause-spoils : goal.returns-in_err-copy_left-in-Some-2-clause-spoils
+returns-in_err-copy_left-in-Some-2-clause-spoils g c bad =
+    let old = chart (g.B.Board.state c.args.board.now) in
+    let mid = c.next_move.new.self in
+    let none = subst (λ (m : Option Move). NextMove old.shape old.fields c.args.segment c.args.self.now m mid) c.in_default.is c.in_ok-next.ensures.next in
+    let next = subst (λ (l : Option Left). NextKept old.shape old.fields c.args.segment mid.mark l) c.in-Some-2.is (subst (λ (m : ℕ). NextKept old.shape old.fields c.args.segment m c.in_ok-left.field-0) (ap (λ (p : Plan). p.mark) c.self.view_is) c.in_ok-left.ensures.next) in
+    let found : Found old c.args.self.now mid c.args.segment c.spare-spare.result c.in-Some-2.left = record {
+      sound = c.requires.sound;
+      some = (let two = IsShape.rows (IsBoard.shape (g.met.B.Board.lawful c.args.board.now)) in omega arith);
+      copying = c.requires.copying;
+      no_move = none.0;
+      agrees = c.in_ok-next.ensures.plan;
+      none = none.1;
+      becomes = c.next_move.ensures.becomes;
+      spare = spare-is old.shape old.fields c.args.space.now c.spare-spare.result c.requires.pool c.spare-spare.ensures.spare;
+      next = next;
+    } in
+    let was = err-of c.from_residual-in_err-copy_left-in-Some-2.result c.copy_left.result _ c.from_residual-in_err-copy_left-in-Some-2.ensures.1 c.in_err-copy_left-in-Some-2.was bad in
+    inr (inl (SpoilsCopy-found old (chart (g.B.Board.state c.copy_left.new.board)) c.args.self.now mid c.copy_left.new.self c.args.segment c.spare-spare.result c.in-Some-2.left found (c.copy_left.ensures.spoilt was)
+    (c.copy_left.ensures.becomes_bad was)))
+
+pub returns-in_ok-copy_left-in-Some-2-clause-does : goal.returns-in_ok-copy_left-in-Some-2-clause-does
+returns-in_ok-copy_left-in-Some-2-clause-does g c =
+    let old = chart (g.B.Board.state c.args.board.now) in
+    let mid = c.next_move.new.self in
+    let none = subst (λ (m : Option Move). NextMove old.shape old.fields c.args.segment c.args.self.now m mid) c.in_default.is c.in_ok-next.ensures.next in
+    let next = subst (λ (l : Option Left). NextKept old.shape old.fields c.args.segment mid.mark l) c.in-Some-2.is (subst (λ (m : ℕ). NextKept old.shape old.fields c.args.segment m c.in_ok-left.field-0) (ap (λ (p : Plan). p.mark) c.self.view_is) c.in_ok-left.ensures.next) in
+    let found : Found old c.args.self.now mid c.args.segment c.spare-spare.result c.in-Some-2.left = record {
+      sound = c.requires.sound;
+      some = (let two = IsShape.rows (IsBoard.shape (g.met.B.Board.lawful c.args.board.now)) in omega arith);
+      copying = c.requires.copying;
+      no_move = none.0;
+      agrees = c.in_ok-next.ensures.plan;
+      none = none.1;
+      becomes = c.next_move.ensures.becomes;
+      spare = spare-is old.shape old.fields c.args.space.now c.spare-spare.result c.requires.pool c.spare-spare.ensures.spare;
+      next = next;
+    } in
+    CopiesOne-found old (chart (g.B.Board.state c.copy_left.new.board)) c.args.self.now mid c.copy_left.new.self c.args.segment c.spare-spare.result c.in-Some-2.left found c.in_ok-copy_left-in-Some-2.ensures.copied
+    c.in_ok-copy_left-in-Some-2.ensures.becomes
+
+pub returns-in_ok-switch_segment-in-None-clause-does : goal.returns-in_ok-switch_segment-in-None-clause-does
+returns-in_ok-switch_segment-in-None-clause-does g c =
+    let old = chart (g.B.Board.state c.args.board.now) in
+    let mid = c.next_move.new.self in
+    let none = subst (λ (m : Option Move). NextMove old.shape old.fields c.args.segment c.args.self.now m mid) c.in_default.is c.in_ok-next.ensures.next in
+    let next = subst (λ (l : Option Left). NextKept old.shape old.fields c.args.segment mid.mark l) c.in-None.is (subst (λ (m : ℕ). NextKept old.shape old.fields c.args.segment m c.in_ok-left.field-0) (ap (λ (p : Plan). p.mark) c.self.view_is) c.in_ok-left.ensures.next) in
+    SwitchesSegment-made old (chart (g.B.Board.state c.switch_segment.new.board)) c.args.self.now mid c.args.segment c.spare-spare.result c.requires.copying none.0 c.in_ok-next.ensures.plan none.1 c.next_move.ensures.becomes
+    (spare-is old.shape old.fields c.args.space.now c.spare-spare.result c.requires.pool c.spare-spare.ensures.spare) next c.in_ok-switch_segment-in-None.ensures.switches c.in_ok-switch_segment-in-None.ensures.flash

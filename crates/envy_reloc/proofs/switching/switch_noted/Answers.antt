@@ -1,0 +1,56 @@
+use Rattle.std.proofs.Common.{ℕ, ◌+◌, ◌*◌, List, Option, sym, ap, subst}
+use Rattle.envy_base.specs.declared.shape.Shape.{Shape}
+use Rattle.envy_map.specs.Fields.{chart}
+use Rattle.envy_layout.specs.Same.{Same, Stays, Framed}
+use Rattle.envy_layout.specs.Sound.{Sound}
+use Rattle.envy_space.specs.Pool.{Pool, PoolAgrees}
+use Rattle.envy_table.specs.Agreement.{AreCurrent}
+use Rattle.envy_reloc.specs.declared.switching.Switched.{Switched}
+use Rattle.envy_reloc.specs.Switching.{SwitchesRow}
+use Rattle.envy_space.specs.Following.{Followed}
+use Rattle.envy_reloc.proofs.SwitchLemmas.{Followed-switched, AreParted-switched, AreCurrent-switched}
+use Rattle.envy_reloc.proofs.switching.switch_noted.Goals as goal
+
+pub follow-requires-clause-some : goal.follow-requires-clause-some
+follow-requires-clause-some g c =
+    let old = chart (g.B.Board.state c.args.board.now) in
+    let new = chart (g.B.Board.state c.switch_row.new.board) in
+    let shape = Framed.shape (Stays.framed (Same.stays c.switch_row.ensures.same)) in
+    let sound = subst (λ (fl : List (List ℕ)). Sound old.shape new.fields fl) c.in_ok-switched.ensures.flash (subst (λ (sh : Shape). Sound sh new.fields new.flash) shape (Stays.sound (Same.stays c.switch_row.ensures.same))) in
+    let switches = subst (λ (s : Option Switched). SwitchesRow old.shape old.fields c.args.spare c.args.i s new.fields) c.in-Some.is c.in_ok-switched.ensures.switches in
+    Followed.some (Followed-switched old.shape old.fields new.fields old.flash c.args.spare c.args.i (c.args.spare * c.shape.result.rows + c.args.i) c.in-Some.switched c.args.space.now c.requires.sound sound c.requires.parted c.requires.pool c.requires.copied c.requires.spare c.requires.row (ap (λ (sh : Shape). c.args.spare * sh.rows + c.args.i) c.shape.ensures) switches)
+
+pub follow-requires-clause-room : goal.follow-requires-clause-room
+follow-requires-clause-room g c =
+    let old = chart (g.B.Board.state c.args.board.now) in
+    let new = chart (g.B.Board.state c.switch_row.new.board) in
+    let shape = Framed.shape (Stays.framed (Same.stays c.switch_row.ensures.same)) in
+    let sound = subst (λ (fl : List (List ℕ)). Sound old.shape new.fields fl) c.in_ok-switched.ensures.flash (subst (λ (sh : Shape). Sound sh new.fields new.flash) shape (Stays.sound (Same.stays c.switch_row.ensures.same))) in
+    let switches = subst (λ (s : Option Switched). SwitchesRow old.shape old.fields c.args.spare c.args.i s new.fields) c.in-Some.is c.in_ok-switched.ensures.switches in
+    Followed.room (Followed-switched old.shape old.fields new.fields old.flash c.args.spare c.args.i (c.args.spare * c.shape.result.rows + c.args.i) c.in-Some.switched c.args.space.now c.requires.sound sound c.requires.parted c.requires.pool c.requires.copied c.requires.spare c.requires.row (ap (λ (sh : Shape). c.args.spare * sh.rows + c.args.i) c.shape.ensures) switches)
+
+pub returns-clause-pool : goal.returns-clause-pool
+returns-clause-pool g c on =
+    let old = chart (g.B.Board.state c.args.board.now) in
+    let new = chart (g.B.Board.state c.switch_row.new.board) in
+    let shape = Framed.shape (Stays.framed (Same.stays c.switch_row.ensures.same)) in
+    let sound = subst (λ (fl : List (List ℕ)). Sound old.shape new.fields fl) c.in_ok-switched.ensures.flash (subst (λ (sh : Shape). Sound sh new.fields new.flash) shape (Stays.sound (Same.stays c.switch_row.ensures.same))) in
+    let switches = subst (λ (s : Option Switched). SwitchesRow old.shape old.fields c.args.spare c.args.i s new.fields) c.in-Some.is c.in_ok-switched.ensures.switches in
+    let followed = Followed-switched old.shape old.fields new.fields old.flash c.args.spare c.args.i (c.args.spare * c.shape.result.rows + c.args.i) c.in-Some.switched c.args.space.now c.requires.sound sound c.requires.parted c.requires.pool c.requires.copied c.requires.spare c.requires.row (ap (λ (sh : Shape). c.args.spare * sh.rows + c.args.i) c.shape.ensures) switches in
+    subst (λ (sh : Shape). PoolAgrees sh new.fields c.follow.new.space) (sym shape) (subst (λ (p : Pool). PoolAgrees old.shape new.fields p) (sym c.follow.ensures.space) (Followed.agrees followed))
+
+pub returns-clause-cache : goal.returns-clause-cache
+returns-clause-cache g c on =
+    let old = chart (g.B.Board.state c.args.board.now) in
+    let new = chart (g.B.Board.state c.switch_row.new.board) in
+    let shape = Framed.shape (Stays.framed (Same.stays c.switch_row.ensures.same)) in
+    let switches = subst (λ (s : Option Switched). SwitchesRow old.shape old.fields c.args.spare c.args.i s new.fields) c.in-Some.is c.in_ok-switched.ensures.switches in
+    subst (λ (sh : Shape). AreCurrent sh.pages new.fields.places c.follow.new.cache.entries) (sym shape)
+    (AreCurrent-switched old.shape old.fields new.fields c.args.spare c.args.i (c.args.spare * c.shape.result.rows + c.args.i) old.shape.pages c.in-Some.switched c.args.cache.now.entries c.follow.new.cache.entries (ap (λ (sh : Shape). c.args.spare * sh.rows + c.args.i) c.shape.ensures) switches c.requires.cache c.follow.ensures.cache)
+
+pub returns-clause-parted : goal.returns-clause-parted
+returns-clause-parted g c on =
+    let old = chart (g.B.Board.state c.args.board.now) in
+    let new = chart (g.B.Board.state c.switch_row.new.board) in
+    let switches = subst (λ (s : Option Switched). SwitchesRow old.shape old.fields c.args.spare c.args.i s new.fields) c.in-Some.is c.in_ok-switched.ensures.switches in
+    AreParted-switched old.shape old.fields new.fields old.flash c.args.spare c.args.i c.in-Some.switched c.requires.sound c.requires.parted c.requires.copied switches

@@ -1,0 +1,84 @@
+ghost use Rattle.std.specs.Prelude.{◌≡◌, ◌≢◌, ◌↔◌, ◌*◌, ◌/◌, ◌<◌, ◌≤◌, ◌+◌, ◌-◌, ℕ, List, [], false, IsTrue, All, None, Some, Err, OnOk, OnErr, IfOk, IsErrOf, slice_index, slice_index_or};
+ghost use Rattle.envy_base.specs.Counting.{up, Tally};
+ghost use Rattle.envy_base.specs.State.{row_of};
+ghost use Rattle.envy_base.specs.declared.fields.Job.TheVariants.{Copy};
+ghost use Rattle.envy_map.specs.Fields.{chart};
+ghost use Rattle.envy_layout.specs.Same.{Same};
+ghost use Rattle.envy_layout.specs.Sound.{IsSound, IsPlaced, IsSpare};
+ghost use Rattle.envy_space.specs.Pool.{PoolAgrees};
+ghost use Rattle.envy_reloc.specs.Phases.{copied_to};
+ghost use Rattle.envy_reloc.specs.Plan.{AreCopies};
+ghost use Rattle.envy_reloc.specs.Rows.{IsLeft, NextKept};
+
+use envy_base::{Board, Off, Trouble};
+use envy_layout::{keeper, note_origin, program_counted, words_of_row};
+use envy_space::Space;
+
+/// A kept row that the spare has no copy of, and the page that keeps it.
+#[derive(Clone, Copy, Debug, PartialEq, Eq)]
+pub(crate) struct Left {
+    pub(crate) row: u32,
+    pub(crate) page: u32,
+}
+
+/// The lowest kept row of a segment from the mark upward, where so many rows of it are claimed. A row that
+/// a call of a host let go of is passed over.
+pub(crate) fn next_kept<B: Board>(
+    board: &B,
+    segment: u32,
+    claimed: u32,
+    mark: u32,
+) -> Result<Option<Left>, Off>
+    requires sound { IsSound (chart (B.state board.now)) }
+    requires segment { segment < (B.state board.now).shape.segments }
+    requires claimed { slice_index (chart (B.state board.now)).fields.fills segment ≡ claimed }
+    ensures next { IfOk result (λ left. NextKept (B.state board.now).shape (chart (B.state board.now)).fields segment mark left) }
+    ensures off { OnErr result ((B.state board.now).on ≡ false) }
+{
+    let first = segment * board.shape().rows;
+    for row in first.max(mark)..first + claimed {
+        if let Some(kept) = keeper(board, row)? {
+            return Ok(Some(Left {
+                row,
+                page: kept.page,
+            }));
+        }
+    }
+    Ok(None)
+}
+
+#[tactic(auto, using(envy_layout::proofs::Sames::same_then, envy_layout::proofs::Sames::same_within, envy_layout::proofs::Sames::tally_still, envy_layout::proofs::Sames::tally_then))]
+/// Copies a row of the segment that is being copied to the spare.
+pub(crate) fn copy_row<B: Board>(
+    board: &mut B,
+    space: &mut Space,
+    copied: &mut u64,
+    spare: u32,
+    left: Left,
+) -> Result<(), Trouble>
+    requires sound { IsSound (chart (B.state board.old)) }
+    requires on { IsTrue (B.state board.old).on }
+    requires pool { PoolAgrees (B.state board.old).shape (chart (B.state board.old)).fields space.old }
+    requires spare { IsSpare (B.state board.old).shape (chart (B.state board.old)).fields.positions spare }
+    requires copies { (v : ℕ) × ((chart (B.state board.old)).fields.job ≡ Some (Copy v)) × (left.row / (B.state board.old).shape.rows ≡ v)
+        × AreCopies (B.state board.old).shape (chart (B.state board.old)).fields.fills (chart (B.state board.old)).fields.backs (chart (B.state board.old)).fields.origins (B.state board.old).flash v spare }
+    requires left { IsLeft (chart (B.state board.old)).fields (slice_index (chart (B.state board.old)).fields.fills spare) left.row }
+    requires page { slice_index (chart (B.state board.old)).fields.backs left.row ≡ left.page }
+    ensures same { Same 1 0 (chart (B.state board.old)) (chart (B.state board.new)) }
+    ensures pool { IsTrue (B.state board.new).on → PoolAgrees (B.state board.new).shape (chart (B.state board.new)).fields space.new }
+    ensures shape { space.new.shape ≡ space.old.shape }
+    ensures fields { IsTrue (B.state board.new).on → (chart (B.state board.new)).fields ≡ copied_to (B.state board.old).shape spare (slice_index (chart (B.state board.old)).fields.fills spare) left.row (chart (B.state board.old)).fields }
+    ensures copy { let target = spare * (B.state board.old).shape.rows + slice_index (chart (B.state board.old)).fields.fills spare in
+        OnOk result (row_of (B.state board.new) target ≡ row_of (B.state board.old) left.row) }
+    ensures others { IsTrue (B.state board.new).on → (r : ℕ) → r ≢ spare * (B.state board.old).shape.rows + slice_index (chart (B.state board.old)).fields.fills spare → row_of (B.state board.new) r ≡ row_of (B.state board.old) r }
+    ensures counted { IsTrue (B.state board.new).on → copied.new ≡ up copied.old }
+    ensures counts { Tally (B.state board.old).begun copied.old (B.state board.new).begun copied.new }
+    ensures off { (result ≡ Err Trouble.Off) ↔ ((B.state board.new).on ≡ false) }
+    ensures bad { IsErrOf result Trouble.Bad → (B.state board.new).bads ≡ up (B.state board.old).bads }
+{
+    let filled = space.fill(spare);
+    note_origin(board, filled, left.row)?;
+    let target = space.claim(board, spare, left.page)?;
+    let words = words_of_row(board, left.row)?;
+    program_counted(board, target, &words, copied)
+}

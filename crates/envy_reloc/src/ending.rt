@@ -1,0 +1,74 @@
+ghost use Rattle.std.specs.Prelude.{◌≡◌, ◌≢◌, ◌↔◌, ◌*◌, ◌/◌, ◌<◌, ◌+◌, ◌-◌, ℕ, [], false, IsTrue, Some, Err, OnOk, OnErr, IsErrOf, slice_index, sum};
+ghost use Rattle.envy_base.specs.Counting.{up, Tally};
+ghost use Rattle.envy_base.specs.State.{row_of, Only, IsOnes};
+ghost use Rattle.envy_base.specs.declared.fields.Job.TheVariants.{Idle, Copy, Switch, Erase};
+ghost use Rattle.envy_map.specs.Fields.{chart, with_fields};
+ghost use Rattle.envy_map.specs.Writes.{with_fill, with_job, with_position, with_wear};
+ghost use Rattle.envy_layout.specs.Jobs.{IsClear};
+ghost use Rattle.envy_layout.specs.Same.{Same};
+ghost use Rattle.envy_layout.specs.Sound.{IsSound, IsPlaced, IsSpare};
+ghost use Rattle.envy_space.specs.Pool.{PoolAgrees};
+
+use envy_base::{Board, Off, Trouble};
+use envy_layout::{begin_erase, empty_spare, end_job, erase_counted};
+use envy_space::Space;
+
+/// Puts the spare in place of the segment that was switched, which is to be erased then.
+pub(crate) fn place_spare<B: Board>(
+    board: &mut B,
+    space: &mut Space,
+    segment: u32,
+) -> Result<(), Off>
+    requires sound { IsSound (chart (B.state board.old)) }
+    requires on { IsTrue (B.state board.old).on }
+    requires pool { PoolAgrees (B.state board.old).shape (chart (B.state board.old)).fields space.old }
+    requires switching { (chart (B.state board.old)).fields.job ≡ Some (Switch segment) }
+    requires placed { IsPlaced (B.state board.old).shape (chart (B.state board.old)).fields.positions segment }
+    requires clear { IsClear (B.state board.old).shape (chart (B.state board.old)).fields segment }
+    ensures same { Same 0 0 (chart (B.state board.old)) (chart (B.state board.new)) }
+    ensures pool { IsTrue (B.state board.new).on → PoolAgrees (B.state board.new).shape (chart (B.state board.new)).fields space.new }
+    ensures shape { space.new.shape ≡ space.old.shape }
+    ensures places { OnOk result ((k e : ℕ) × (k < (B.state board.old).shape.segments - 1) × (slice_index (chart (B.state board.old)).fields.positions k ≡ segment)
+        × IsSpare (B.state board.old).shape (chart (B.state board.old)).fields.positions e
+        × (chart (B.state board.new) ≡ with_fields (chart (B.state board.old)) (with_job (Some Erase) (with_position k e (chart (B.state board.old)).fields)))) }
+    ensures on { OnOk result (IsTrue (B.state board.new).on) }
+    ensures off { OnErr result ((B.state board.new).on ≡ false) }
+{
+    let position = space.position_of(segment);
+    space.replace(board, position)?;
+    begin_erase(board)
+}
+
+/// Erases the spare, which ends the job.
+pub(crate) fn erase<B: Board>(
+    board: &mut B,
+    space: &mut Space,
+    erased: &mut u64,
+    since: &mut u64,
+) -> Result<(), Trouble>
+    requires sound { IsSound (chart (B.state board.old)) }
+    requires on { IsTrue (B.state board.old).on }
+    requires pool { PoolAgrees (B.state board.old).shape (chart (B.state board.old)).fields space.old }
+    requires erasing { (chart (B.state board.old)).fields.job ≡ Some Erase }
+    ensures same { Same 0 1 (chart (B.state board.old)) (chart (B.state board.new)) }
+    ensures pool { IsTrue (B.state board.new).on → PoolAgrees (B.state board.new).shape (chart (B.state board.new)).fields space.new }
+    ensures counted { IsTrue (B.state board.new).on → (erased.new ≡ up erased.old) × (since.new ≡ up since.old) }
+    ensures counts { Tally (sum (B.state board.old).erases) erased.old (sum (B.state board.new).erases) erased.new }
+    ensures counts_since { Tally (sum (B.state board.old).erases) since.old (sum (B.state board.new).erases) since.new }
+    ensures shape { space.new.shape ≡ space.old.shape }
+    ensures erases { OnOk result ((e : ℕ) × IsSpare (B.state board.old).shape (chart (B.state board.old)).fields.positions e
+        × ((chart (B.state board.new)).fields ≡ with_job (Some Idle) (with_fill e 0 (with_wear e (up (slice_index (chart (B.state board.old)).fields.wears e)) (chart (B.state board.old)).fields))) × Only (B.state board.old).shape.rows e IsOnes (B.state board.old).flash (B.state board.new).flash) }
+    ensures spoilt { IsErrOf result Trouble.Bad → (e : ℕ) × IsSpare (B.state board.old).shape (chart (B.state board.old)).fields.positions e
+        × ((chart (B.state board.new)).fields ≡ with_wear e (up (slice_index (chart (B.state board.old)).fields.wears e)) (chart (B.state board.old)).fields)
+        × ((r : ℕ) → r / (B.state board.old).shape.rows ≢ e → row_of (B.state board.new) r ≡ row_of (B.state board.old) r) }
+    ensures on { OnOk result (IsTrue (B.state board.new).on) }
+    ensures off { (result ≡ Err Trouble.Off) ↔ ((B.state board.new).on ≡ false) }
+    ensures bad { IsErrOf result Trouble.Bad → (B.state board.new).bads ≡ up (B.state board.old).bads }
+{
+    let spare = space.spare();
+    erase_counted(board, spare, erased, since)?;
+    empty_spare(board, spare)?;
+    space.note_erased(spare);
+    end_job(board)?;
+    Ok(())
+}

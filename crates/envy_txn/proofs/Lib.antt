@@ -1,0 +1,11 @@
+pub mod BackLemmas
+pub mod BackLoop
+pub mod BackReady
+pub mod HeldLemmas
+pub mod IndexLemmas
+pub mod OwnerLemmas
+pub mod ReleaseLemmas
+pub mod ReleaseLoop
+pub mod SearchLemmas
+pub mod SettleLemmas
+pub mod TurnLemmas

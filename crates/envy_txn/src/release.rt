@@ -1,0 +1,132 @@
+ghost use Rattle.std.specs.Prelude.{◌≡◌, ◌↔◌, ◌<◌, ℕ, false, IsTrue, List, [], ◌∷◌, ◌++◌, Some, IsErr, AllPairs, OnOk, OnErr};
+ghost use Rattle.envy_base.specs.declared.fields.Slot.TheVariants.{Active, Committed};
+ghost use Rattle.envy_map.specs.Fields.{Chart, chart, with_fields, slot as slot_of, undo as undo_of};
+ghost use Rattle.envy_map.specs.Writes.{with_slot, with_undo};
+ghost use Rattle.envy_layout.specs.May.{IsUnused};
+ghost use Rattle.envy_layout.specs.Naming.{AreParted};
+ghost use Rattle.envy_layout.specs.Same.{SameWords};
+ghost use Rattle.envy_layout.specs.Sound.{IsSound, slot_named};
+ghost use Rattle.envy_space.specs.Pool.{PoolAgrees};
+ghost use Rattle.envy_txn.specs.declared.pair.Pair.{Pair as APair};
+ghost use Rattle.envy_txn.specs.Owners.{AreApart, AreOwned, others_of};
+ghost use Rattle.envy_txn.specs.Ending.{Releases};
+ghost use Rattle.envy_txn.specs.Turns.{Releasing, ReleasedIn, IsDroppable, dropped_pool};
+
+use crate::owned::Owned;
+use crate::pair::Pair;
+use envy_base::{Board, Off, Undo};
+use envy_layout::clear_settled_undo;
+use envy_map::undo;
+use envy_space::Space;
+
+impl Owned {
+    /// Lets a slot that has committed go of all its pages, in the order in which it came to own them: their
+    /// undos become clear, and the rows that these named are dead. No word changes. Without power nothing
+    /// changes.
+    ///
+    /// Owners, rows and references agree with the map as if the slot were still active.
+    pub fn release_all<B: Board>(
+        &mut self,
+        board: &mut B,
+        space: &mut Space,
+        t: u8,
+    ) -> Result<(), Off>
+        requires sound { IsTrue (B.state board.old).on → IsSound (chart (B.state board.old)) }
+        requires slot { t < 64 }
+        requires committed { IsTrue (B.state board.old).on → slot_of (chart (B.state board.old)).fields t ≡ Some Committed }
+        requires owned { let f = with_slot t (Some Active) (chart (B.state board.old)).fields in
+            IsTrue (B.state board.old).on → AreOwned f.slots f.undos self.old.pairs }
+        requires pool { let f = with_slot t (Some Active) (chart (B.state board.old)).fields in
+            IsTrue (B.state board.old).on → PoolAgrees (B.state board.old).shape f space.old }
+        requires parted { let f = with_slot t (Some Active) (chart (B.state board.old)).fields in
+            IsTrue (B.state board.old).on → AreParted f.slots f.undos f.places }
+        requires shape { space.old.shape ≡ (B.state board.old).shape }
+        ensures same { IsSound (chart (B.state board.old)) → SameWords 0 0 (chart (B.state board.old)) (chart (B.state board.new)) }
+        ensures idle { (B.state board.old).on ≡ false → (B.state board.new ≡ B.state board.old) × (self.new ≡ self.old) × (space.new ≡ space.old) }
+        ensures releases { OnOk result (Releases t (chart (B.state board.old)) (chart (B.state board.new))) }
+        ensures unused { OnOk result (IsUnused (chart (B.state board.new)).fields t) }
+        ensures owned { let f = (chart (B.state board.new)).fields in
+            IsTrue (B.state board.new).on → AreOwned f.slots f.undos self.new.pairs }
+        ensures pool { IsTrue (B.state board.new).on → PoolAgrees (B.state board.new).shape (chart (B.state board.new)).fields space.new }
+        ensures parted { let f = (chart (B.state board.new)).fields in
+            IsTrue (B.state board.new).on → AreParted f.slots f.undos f.places }
+        ensures pairs { OnOk result (self.new ≡ record self.old { pairs = others_of t self.old.pairs }) }
+        ensures unchanged { OnErr result (self.new ≡ self.old) }
+        ensures shape { space.new.shape ≡ space.old.shape }
+        ensures off { IsErr result ↔ ((B.state board.new).on ≡ false) }
+    {
+        if !board.powered() {
+            return Err(Off);
+        }
+        release_pairs(board, space, self.pairs(), t)?;
+        self.leave(t);
+        Ok(())
+    }
+}
+
+/// Lets the slot go of its pages among the pairs of all owned pages.
+fn release_pairs<B: Board>(
+    board: &mut B,
+    space: &mut Space,
+    pairs: &[Pair],
+    t: u8,
+) -> Result<(), Off>
+    requires releasing { Releasing (chart (B.state board.old)) space.old t }
+    requires owned { let f = with_slot t (Some Active) (chart (B.state board.old)).fields in AreOwned f.slots f.undos pairs.now }
+    requires apart { AllPairs AreApart pairs.now }
+    ensures same { SameWords 0 0 (chart (B.state board.old)) (chart (B.state board.new)) }
+    ensures releasing { OnOk result (Releasing (chart (B.state board.new)) space.new t) }
+    ensures released { OnOk result (ReleasedIn pairs.now t (chart (B.state board.old)) (chart (B.state board.new))) }
+    ensures shape { space.new.shape ≡ space.old.shape }
+    ensures off { OnErr result ((B.state board.new).on ≡ false) }
+{
+    for pair in pairs {
+        release_pair(board, space, *pair, t)?;
+    }
+    Ok(())
+}
+
+/// Lets the slot go of the page of a pair, where it is the slot's.
+fn release_pair<B: Board>(board: &mut B, space: &mut Space, pair: Pair, t: u8) -> Result<(), Off>
+    requires releasing { Releasing (chart (B.state board.old)) space.old t }
+    requires page { pair.page < (B.state board.old).shape.pages }
+    requires names { pair.slot ≡ t → slot_named (undo_of (chart (B.state board.old)).fields pair.page) ≡ Some t }
+    ensures same { SameWords 0 0 (chart (B.state board.old)) (chart (B.state board.new)) }
+    ensures releasing { OnOk result (Releasing (chart (B.state board.new)) space.new t) }
+    ensures released { OnOk result ((c : Chart) (so_far : List APair) → ReleasedIn so_far t c (chart (B.state board.old)) → ReleasedIn (so_far ++ pair ∷ []) t c (chart (B.state board.new))) }
+    ensures shape { space.new.shape ≡ space.old.shape }
+    ensures off { OnErr result ((B.state board.new).on ≡ false) }
+{
+    if pair.slot == t {
+        release_page(board, space, pair.page, t)?;
+        return Ok(());
+    }
+    Ok(())
+}
+
+/// Clears the undo of a page of the slot, and notes that its row is dead.
+fn release_page<B: Board>(board: &mut B, space: &mut Space, page: u32, t: u8) -> Result<(), Off>
+    requires releasing { Releasing (chart (B.state board.old)) space.old t }
+    requires page { page < (B.state board.old).shape.pages }
+    requires names { slot_named (undo_of (chart (B.state board.old)).fields page) ≡ Some t }
+    ensures same { SameWords 0 0 (chart (B.state board.old)) (chart (B.state board.new)) }
+    ensures fields { OnOk result (chart (B.state board.new) ≡ with_fields (chart (B.state board.old)) (with_undo page (Some Undo.Clear) (chart (B.state board.old)).fields)) }
+    ensures releasing { OnOk result (Releasing (chart (B.state board.new)) space.new t) }
+    ensures shape { space.new.shape ≡ space.old.shape }
+    ensures off { OnErr result ((B.state board.new).on ≡ false) }
+{
+    let undo = undo(board, page)?;
+    clear_settled_undo(board, page)?;
+    note_dropped(space, undo);
+    Ok(())
+}
+
+/// Notes that no page names the row of an undo that was cleared.
+fn note_dropped(space: &mut Space, undo: Undo)
+    requires { IsDroppable space.old undo }
+    ensures { space.new ≡ dropped_pool undo space.old }
+{
+    if let Undo::Shadow { row, .. } = undo {
+        space.note_dead(row);
+    }
+}

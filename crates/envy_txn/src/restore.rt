@@ -1,0 +1,191 @@
+ghost use Rattle.std.specs.Prelude.{◌≡◌, ◌≢◌, ◌↔◌, ◌<◌, ◌==◌, ℕ, not, false, IsTrue, List, [], ◌∷◌, ◌++◌, Some, IsErr, AllPairs, Any, OnOk, OnErr, length};
+ghost use Rattle.std.specs.List.{filter};
+ghost use Rattle.envy_base.specs.declared.fields.Place.{Place as APlace};
+ghost use Rattle.envy_base.specs.declared.fields.Slot.TheVariants.{Active};
+ghost use Rattle.envy_map.specs.Fields.{Chart, chart, with_fields, slot as slot_of, undo as undo_of};
+ghost use Rattle.envy_map.specs.Writes.{with_place, with_undo};
+ghost use Rattle.envy_layout.specs.May.{IsUnused};
+ghost use Rattle.envy_layout.specs.Naming.{AreParted};
+ghost use Rattle.envy_layout.specs.Same.{SameDurable};
+ghost use Rattle.envy_layout.specs.Sound.{IsSound, slot_named};
+ghost use Rattle.envy_layout.specs.Words.{kept};
+ghost use Rattle.envy_frames.specs.Agreement.{AreHeld};
+ghost use Rattle.envy_space.specs.Pool.{PoolAgrees};
+ghost use Rattle.envy_table.specs.Agreement.{AreCurrent};
+ghost use Rattle.envy_table.specs.Hits.{Rests};
+ghost use Rattle.envy_txn.specs.declared.pair.Pair.{Pair as APair};
+ghost use Rattle.envy_txn.specs.Owners.{AreApart, AreOwned, names_slot, others_of};
+ghost use Rattle.envy_txn.specs.Ending.{Restores};
+ghost use Rattle.envy_txn.specs.Turns.{Restoring, RestoredIn, IsLeavable, gives, is_among, left_pool, left_held};
+
+use crate::owned::Owned;
+use crate::pair::Pair;
+use crate::undos::{place_in, put_back};
+use envy_base::{Board, Off, Place, Undo};
+use envy_frames::Frames;
+use envy_map::{place, undo};
+use envy_space::Space;
+use envy_table::Cache;
+
+impl Owned {
+    /// Puts all pages of an open slot back, in the order in which it came to own them: each is again where
+    /// its undo says, its undo becomes clear, its frame is given back or the row that it leaves is dead. A
+    /// restart reads the same words as before at every moment, and loads do afterwards. Without power nothing
+    /// changes.
+    pub fn restore_all<B: Board>(
+        &mut self,
+        board: &mut B,
+        space: &mut Space,
+        frames: &mut Frames,
+        cache: &mut Cache,
+        t: u8,
+    ) -> Result<(), Off>
+        requires sound { IsTrue (B.state board.old).on → IsSound (chart (B.state board.old)) }
+        requires slot { t < 64 }
+        requires active { IsTrue (B.state board.old).on → slot_of (chart (B.state board.old)).fields t ≡ Some Active }
+        requires owned { let f = (chart (B.state board.old)).fields in
+            IsTrue (B.state board.old).on → AreOwned f.slots f.undos self.old.pairs }
+        requires pool { IsTrue (B.state board.old).on → PoolAgrees (B.state board.old).shape (chart (B.state board.old)).fields space.old }
+        requires held { IsTrue (B.state board.old).on → AreHeld (B.state board.old).shape (chart (B.state board.old)).fields.places frames.old.held }
+        requires current { IsTrue (B.state board.old).on → AreCurrent (B.state board.old).shape.pages (chart (B.state board.old)).fields.places cache.old.entries }
+        requires parted { let f = (chart (B.state board.old)).fields in
+            IsTrue (B.state board.old).on → AreParted f.slots f.undos f.places }
+        requires shape { space.old.shape ≡ (B.state board.old).shape }
+        ensures durable { IsSound (chart (B.state board.old)) → SameDurable 0 0 (chart (B.state board.old)) (chart (B.state board.new)) }
+        ensures idle { (B.state board.old).on ≡ false
+            → (B.state board.new ≡ B.state board.old) × (self.new ≡ self.old) × (space.new ≡ space.old) × (frames.new ≡ frames.old) × (cache.new ≡ cache.old) }
+        ensures restores { OnOk result (Restores t (chart (B.state board.old)) (chart (B.state board.new))) }
+        ensures unused { OnOk result (IsUnused (chart (B.state board.new)).fields t) }
+        ensures owned { let f = (chart (B.state board.new)).fields in
+            IsTrue (B.state board.new).on → AreOwned f.slots f.undos self.new.pairs }
+        ensures pool { IsTrue (B.state board.new).on → PoolAgrees (B.state board.new).shape (chart (B.state board.new)).fields space.new }
+        ensures held { IsTrue (B.state board.new).on → AreHeld (B.state board.new).shape (chart (B.state board.new)).fields.places frames.new.held }
+        ensures current { IsTrue (B.state board.new).on → AreCurrent (B.state board.new).shape.pages (chart (B.state board.new)).fields.places cache.new.entries }
+        ensures parted { let f = (chart (B.state board.new)).fields in
+            IsTrue (B.state board.new).on → AreParted f.slots f.undos f.places }
+        ensures pairs { OnOk result (self.new ≡ record self.old { pairs = others_of t self.old.pairs }) }
+        ensures unchanged { OnErr result (self.new ≡ self.old) }
+        ensures left { let f = (chart (B.state board.old)).fields in
+            OnOk result (frames.new.held ≡ filter (λ h. not (names_slot t (undo_of f h.page))) frames.old.held) }
+        ensures count { frames.new.count ≡ frames.old.count }
+        ensures rests { Rests cache.old cache.new }
+        ensures shape { space.new.shape ≡ space.old.shape }
+        ensures off { IsErr result ↔ ((B.state board.new).on ≡ false) }
+    {
+        if !board.powered() {
+            return Err(Off);
+        }
+        restore_pairs(board, space, frames, cache, self.pairs(), t)?;
+        self.leave(t);
+        Ok(())
+    }
+}
+
+/// Puts the pages of the slot back among the pairs of all owned pages.
+fn restore_pairs<B: Board>(
+    board: &mut B,
+    space: &mut Space,
+    frames: &mut Frames,
+    cache: &mut Cache,
+    pairs: &[Pair],
+    t: u8,
+) -> Result<(), Off>
+    requires restoring { Restoring (chart (B.state board.old)) space.old frames.old.held cache.old.entries t }
+    requires owned { let f = (chart (B.state board.old)).fields in AreOwned f.slots f.undos pairs.now }
+    requires apart { AllPairs AreApart pairs.now }
+    ensures durable { SameDurable 0 0 (chart (B.state board.old)) (chart (B.state board.new)) }
+    ensures restoring { OnOk result (Restoring (chart (B.state board.new)) space.new frames.new.held cache.new.entries t) }
+    ensures restored { OnOk result (RestoredIn pairs.now t (chart (B.state board.old)) (chart (B.state board.new))) }
+    ensures left { OnOk result (frames.new.held ≡ filter (λ h. not (is_among pairs.now t h.page)) frames.old.held) }
+    ensures count { frames.new.count ≡ frames.old.count }
+    ensures rests { Rests cache.old cache.new }
+    ensures shape { space.new.shape ≡ space.old.shape }
+    ensures off { OnErr result ((B.state board.new).on ≡ false) }
+{
+    for pair in pairs {
+        restore_pair(board, space, frames, cache, *pair, t)?;
+    }
+    Ok(())
+}
+
+/// Puts the page of a pair back, where it is the slot's.
+fn restore_pair<B: Board>(
+    board: &mut B,
+    space: &mut Space,
+    frames: &mut Frames,
+    cache: &mut Cache,
+    pair: Pair,
+    t: u8,
+) -> Result<(), Off>
+    requires restoring { Restoring (chart (B.state board.old)) space.old frames.old.held cache.old.entries t }
+    requires page { pair.page < (B.state board.old).shape.pages }
+    requires names { pair.slot ≡ t → slot_named (undo_of (chart (B.state board.old)).fields pair.page) ≡ Some t }
+    ensures durable { SameDurable 0 0 (chart (B.state board.old)) (chart (B.state board.new)) }
+    ensures restoring { OnOk result (Restoring (chart (B.state board.new)) space.new frames.new.held cache.new.entries t) }
+    ensures restored { OnOk result ((c : Chart) (so_far : List APair) → is_among so_far t pair.page ≡ false
+        → RestoredIn so_far t c (chart (B.state board.old)) → RestoredIn (so_far ++ pair ∷ []) t c (chart (B.state board.new))) }
+    ensures left { OnOk result (frames.new.held ≡ filter (λ h. not (gives t h.page pair)) frames.old.held) }
+    ensures count { frames.new.count ≡ frames.old.count }
+    ensures rests { Rests cache.old cache.new }
+    ensures shape { space.new.shape ≡ space.old.shape }
+    ensures off { OnErr result ((B.state board.new).on ≡ false) }
+{
+    if pair.slot == t {
+        restore_page(board, space, frames, cache, pair.page, t)?;
+        return Ok(());
+    }
+    Ok(())
+}
+
+/// Puts a page of the slot back: it is where its undo says then, and the undo is clear.
+fn restore_page<B: Board>(
+    board: &mut B,
+    space: &mut Space,
+    frames: &mut Frames,
+    cache: &mut Cache,
+    page: u32,
+    t: u8,
+) -> Result<(), Off>
+    requires restoring { Restoring (chart (B.state board.old)) space.old frames.old.held cache.old.entries t }
+    requires page { page < (B.state board.old).shape.pages }
+    requires names { slot_named (undo_of (chart (B.state board.old)).fields page) ≡ Some t }
+    ensures durable { SameDurable 0 0 (chart (B.state board.old)) (chart (B.state board.new)) }
+    ensures restoring { OnOk result (Restoring (chart (B.state board.new)) space.new frames.new.held cache.new.entries t) }
+    ensures fields { OnOk result ((back : APlace) × (kept (chart (B.state board.old)).fields page ≡ Some back)
+        × (chart (B.state board.new) ≡ with_fields (chart (B.state board.old)) (with_undo page (Some Undo.Clear) (with_place page (Some back) (chart (B.state board.old)).fields)))) }
+    ensures left { OnOk result (frames.new.held ≡ filter (λ h. not (page == h.page)) frames.old.held) }
+    ensures count { frames.new.count ≡ frames.old.count }
+    ensures rests { Rests cache.old cache.new }
+    ensures shape { space.new.shape ≡ space.old.shape }
+    ensures off { OnErr result ((B.state board.new).on ≡ false) }
+{
+    let now = place(board, page)?;
+    let Some(back) = place_in(undo(board, page)?) else {
+        unreachable!();
+    };
+    put_back(board, page, back)?;
+    cache.retarget(page, back);
+    note_left(space, now);
+    leave_frame(frames, now);
+    Ok(())
+}
+
+/// Notes that no page names the row that a page leaves.
+fn note_left(space: &mut Space, from: Place)
+    requires { IsLeavable space.old from }
+    ensures { space.new ≡ left_pool from space.old }
+{
+    if let Place::Row(row) = from {
+        space.note_dead(row);
+    }
+}
+
+/// Gives back the frame that a page leaves.
+fn leave_frame(frames: &mut Frames, from: Place)
+    requires { (k : ℕ) → from ≡ Place.Frame k → Any (λ h. h.frame ≡ k) frames.old.held }
+    ensures { frames.new ≡ record frames.old { held = left_held from frames.old.held } }
+{
+    if let Place::Frame(frame) = from {
+        frames.give_back(frame);
+    }
+}

@@ -1,0 +1,14 @@
+//! Swaps, which let segments wear alike: when one is due, and the relocations that it is made of.
+#![tactic(auto)]
+
+mod laws;
+mod overdue;
+mod stages;
+mod swap;
+#[cfg(test)]
+mod tests;
+
+pub use laws::one_swap_is_due;
+pub use overdue::due;
+pub use stages::Stages;
+pub use swap::Swap;
