@@ -1,4 +1,11 @@
-pub mod Pages
+pub mod AttachLemmas
+pub mod AttachVersion
+pub mod Effects
+pub mod EndLemmas
+pub mod FormatLemmas
+pub mod HitsLemmas
+pub mod LoadLemmas
+pub mod Owning
+pub mod PutLemmas
 pub mod Standing
-pub mod Restarting
-pub mod Formatting
+pub mod TickLemmas

@@ -1,24 +1,44 @@
 -- What a client sees of a memory, and what holds of each.
-use Rattle.std.specs.Prelude.{◌≡◌, ◌⊎◌, ℕ, ◌<◌, ◌≤◌, Some}
-use Rattle.envy_base.specs.declared.fields.Place.TheVariants.{Absent, Frame}
-use Rattle.envy_base.specs.declared.fields.Slot.TheVariants.{Vacant}
-use Rattle.envy_base.specs.declared.fields.Undo.TheVariants.{Clear}
+use Rattle.std.specs.Prelude.{◌≡◌, ◌≢◌, ℕ, ◌≤◌, IsTrue, Some}
+use Rattle.envy_base.specs.declared.counts.Counts.{Counts}
+use Rattle.envy_base.specs.declared.fields.Slot.TheVariants.{Committed}
 use Rattle.envy_map.specs.Codes.{the_magic}
-use Rattle.envy_map.specs.Fields.{Fields, Chart, place, undo, slot}
+use Rattle.envy_map.specs.Fields.{Chart, slot}
 use Rattle.envy_layout.specs.Sound.{IsSound}
+use Rattle.envy_flush.specs.Agreement.{Fits, PartsAgree}
+use Rattle.envy_flush.specs.declared.parts.Parts.{Parts}
+use Rattle.envy_txn.specs.Owners.{Ownership, AreOwned}
 
+-- The board read by its map; the held frames, the pool, the cache's entries, heats and turns, the moves and the
+-- stages that are left, and the counts (`parts`); the owner pairs; the limit of a swap and the mark of a flush.
 pub record Picture : Type 0 where
   pub chart : Chart
+  pub parts : Parts
+  pub owned : Ownership
+  pub limit : ℕ
+  pub mark : ℕ
 
--- until flash is used: page p is absent or stands in frame p, and no transaction is open
-pub record IsDirect (c : Chart) : Type 0 where
-  pub frames : c.shape.pages ≤ c.shape.frames
-  pub places : (p : ℕ) → p < c.shape.pages → (place c.fields p ≡ Some Absent) ⊎ (place c.fields p ≡ Some (Frame p))
-  pub undos : (p : ℕ) → p < c.shape.pages → undo c.fields p ≡ Some Clear
-  pub slots : (t : ℕ) → t < 64 → slot c.fields t ≡ Some Vacant
+-- the seven counters
+abbrev pub counts_of : Parts → Counts
+counts_of x = record {
+  hits = x.cache.hits;
+  misses = x.cache.misses;
+  flushes = x.flushes;
+  copies = x.reloc.copied;
+  moves = x.reloc.moved;
+  erases = x.reloc.erased;
+  swaps = x.swaps;
+}
 
-pub record IsMemory (c : Chart) : Type 0 where
+-- Each memory's board is formatted and sound, and the parts have its sizes. Where power is on, they agree with it.
+pub record IsMemory (c : Chart) (x : Parts) (o : Ownership) (limit mark : ℕ) : Type 0 where
   pub magic : c.fields.magic ≡ the_magic
   pub version : c.fields.version ≡ 2
   pub sound : IsSound c
-  pub direct : IsDirect c
+  pub fits : Fits c.shape x
+  pub shadows : o.limit ≡ c.shape.shadows
+  pub some : 1 ≤ mark
+  pub some_limit : 1 ≤ limit
+  pub agrees : IsTrue c.on → PartsAgree c x
+  pub owned : IsTrue c.on → AreOwned c.fields.slots c.fields.undos o.pairs
+  pub settled : IsTrue c.on → (t : ℕ) → slot c.fields t ≢ Some Committed

@@ -1,37 +1,23 @@
-ghost use Rattle.std.specs.Prelude.{◌≡◌, ◌≢◌, ◌⊎◌, ◌↔◌, ◌-◌, ◌^◌, ◌<◌, ◌≤◌, true, false, IsTrue, OnOk, MatchResult};
-ghost use Rattle.envy_base.specs.Array.{Array, restarted, undone};
+ghost use Rattle.std.specs.Prelude.{◌≡◌, ◌↔◌, ◌-◌, ◌^◌, ◌<◌, ◌≤◌, ◌⊎◌, true, false, IsTrue, OnOk, length, MatchResult, Ok, Err};
+ghost use Rattle.envy_base.specs.Array.{Array, undone};
+ghost use Rattle.envy_layout.specs.Same.{Kept};
 ghost use Rattle.envy_layout.specs.Sound.{IsSound};
 ghost use Rattle.envy_layout.specs.Stands.{Stands};
 ghost use Rattle.envy_layout.specs.Words.{durable};
-ghost use Rattle.envy_layout.specs.Same.{Counted, Kept};
-ghost use Rattle.envy_memory.specs.Calls.{fresh, planned, pulled, lit};
-ghost use Rattle.envy_memory.specs.declared.bench.ReviveFault.TheVariants.{Off as ReviveOff};
+ghost use Rattle.envy_memory.specs.Calls.{fresh, lit, planned, pulled};
+ghost use Rattle.envy_memory.specs.Picture.{counts_of};
+ghost use Rattle.envy_memory.specs.Restarts.{Restarts};
 
+use crate::faults::ReviveFault;
 use crate::memory::Memory;
-use envy_base::{Bench, Off};
-
-/// Why a memory isn't back.
-#[derive(Clone, Copy, Debug, PartialEq, Eq)]
-pub enum ReviveFault {
-    /// Power doesn't return: the board has no lives left.
-    Dead,
-    /// Power returned, and failed again.
-    Off,
-}
-
-impl From<Off> for ReviveFault {
-    ghost from_gives = { λ _ e. e ≡ ReviveOff };
-
-    fn from(_: Off) -> Self {
-        ReviveFault::Off
-    }
-}
+use envy_base::Bench;
+use envy_flush::restart;
 
 impl<B: Bench> Memory<B> {
     /// Plans a cut of power at the `k`-th device operation from now.
     pub fn arm_cut(&mut self, k: u32, g: u64)
         requires { 1 ≤ k }
-        ensures { self.new.chart ≡ planned self.old.chart }
+        ensures { self.new ≡ record self.old { chart = planned self.old.chart } }
     {
         self.board.arm_cut(k, g);
     }
@@ -39,7 +25,7 @@ impl<B: Bench> Memory<B> {
     /// Plans a bad operation at the `k`-th flash operation from now.
     pub fn arm_bad(&mut self, k: u32, g: u64)
         requires { 1 ≤ k }
-        ensures { self.new.chart ≡ planned self.old.chart }
+        ensures { self.new ≡ record self.old { chart = planned self.old.chart } }
     {
         self.board.arm_bad(k, g);
     }
@@ -47,7 +33,7 @@ impl<B: Bench> Memory<B> {
     /// Cuts power between two operations.
     pub fn cut_now(&mut self)
         requires { IsTrue self.old.chart.on }
-        ensures state { self.new.chart ≡ pulled self.old.chart }
+        ensures state { self.new ≡ record self.old { chart = pulled self.old.chart } }
         ensures step { (m : Array) → Stands self.old.chart m → IsSound self.new.chart × (durable self.new.chart ≡ undone m) }
     {
         self.board.cut_now();
@@ -60,17 +46,31 @@ impl<B: Bench> Memory<B> {
         self.board.lives()
     }
 
-    /// Asks for power, and closes what transactions left open.
+    /// Asks for power, puts back what open transactions stored, settles the job, and reads all parts anew. All
+    /// slots are closed then. It takes no memory and begins no flash operation.
+    ///
+    /// # Errors
+    ///
+    /// `Dead`: power doesn't return, and nothing changed. `Off`: power was cut again; the committed words are as
+    /// before, and the call may be made again.
     pub fn revive(&mut self) -> Result<(), ReviveFault>
         requires { self.old.chart.on ≡ false }
         ensures ok { OnOk result (Stands self.new.chart (fresh self.old.chart.shape.shadows (durable self.old.chart))) }
+        ensures restarts { OnOk result (Restarts self.old self.new) }
+        ensures counts { counts_of self.new.parts ≡ counts_of self.old.parts }
         ensures dead { (result ≡ Err ReviveFault.Dead) ↔ (self.old.chart.lives ≡ 0) }
         ensures off { (result ≡ Err ReviveFault.Off) ↔ ((0 < self.old.chart.lives) × (self.new.chart.on ≡ false)) }
+        ensures cut { (result ≡ Err ReviveFault.Off) → self.old.chart.cuts < 2 ^ 64 - 1 → self.old.chart.cuts < self.new.chart.cuts }
         ensures kept { MatchResult result (λ _. Kept (lit self.old.chart) self.new.chart) (λ e. ((e ≡ ReviveFault.Dead) × (self.new ≡ self.old)) ⊎ (Kept (lit self.old.chart) self.new.chart × (self.new.chart.on ≡ false))) }
+        ensures setup { (self.new.limit ≡ self.old.limit) × (self.new.mark ≡ self.old.mark) }
+        ensures version { self.new.chart.fields.version ≡ self.old.chart.fields.version }
+        ensures size { length self.new.parts.cache.entries ≡ length self.old.parts.cache.entries }
     {
         if !self.board.power_on() {
             return Err(ReviveFault::Dead);
         }
+        restart(&mut self.board, &mut self.parts)?;
+        self.owned.forget();
         Ok(())
     }
 }

@@ -1,33 +1,20 @@
-ghost use Rattle.std.specs.Prelude.{◌≡◌, MatchOption, MatchResult};
+ghost use Rattle.std.specs.Prelude.{◌≡◌, IsNone, MatchOption, MatchResult};
 ghost use Rattle.envy_map.specs.Fields.{chart};
-ghost use Rattle.envy_memory.specs.Formats.{IsFresh, MayFormat, CountsFormat, Refuses};
+ghost use Rattle.envy_policy.specs.Setup.{IsSetup};
+ghost use Rattle.envy_memory.specs.Formats.{MayFormat, Makes, CountsFormat, Refuses};
 
+use crate::faults::FormatFault;
+use crate::making::make_parts;
 use crate::memory::Memory;
 use envy_base::{Board, Trouble};
 use envy_layout::format_board;
-use envy_policy::{Setup, SetupFault};
+use envy_policy::Setup;
 use std::alloc::Global;
 
-/// Why a board wasn't formatted.
-#[derive(Clone, Copy, Debug, PartialEq, Eq)]
-pub enum FormatFault {
-    /// Power is off.
-    Off,
-    /// The setup breaks this rule.
-    Setup(SetupFault),
-    /// The board's shape isn't the setup's.
-    OtherShape,
-    /// The board has fewer frames than pages.
-    Few,
-    /// Memory ran out. The board is untouched.
-    Memory,
-    /// An erase failed. The board isn't formatted.
-    Bad,
-}
-
-/// The first reason not to begin to format a board.
+/// The first reason not to begin to format a board, but for want of memory.
 fn refusal<B: Board>(board: &B, setup: &Setup) -> Option<FormatFault>
-    ensures { MatchOption result (MayFormat (B.state board.now) setup.now) (λ fault. Refuses (B.state board.now) setup.now fault (B.state board.now)) }
+    ensures reason { MatchOption result (MayFormat (B.state board.now) setup.now) (λ fault. Refuses (B.state board.now) setup.now fault (B.state board.now)) }
+    ensures sizes { IsNone result → IsSetup setup.now }
 {
     if !board.powered() {
         return Some(FormatFault::Off);
@@ -35,12 +22,8 @@ fn refusal<B: Board>(board: &B, setup: &Setup) -> Option<FormatFault>
     if let Err(fault) = setup.check() {
         return Some(FormatFault::Setup(fault));
     }
-    let shape = board.shape();
-    if shape != setup.shape {
+    if board.shape() != setup.shape {
         return Some(FormatFault::OtherShape);
-    }
-    if shape.frames < shape.pages {
-        return Some(FormatFault::Few);
     }
     None
 }
@@ -51,15 +34,24 @@ impl<B: Board> Memory<B> {
     /// # Errors
     ///
     /// The board comes back with the first reason that holds, in the order of `FormatFault`.
-    pub fn format(_alloc: Global, mut board: B, setup: Setup) -> Result<Memory<B>, (B, FormatFault)>
-        ensures made { MatchResult result (λ memory. MayFormat (B.state board) setup × IsFresh memory.chart) (λ e. Refuses (B.state board) setup e.1 (B.state e.0)) }
+    pub fn format(alloc: Global, mut board: B, setup: Setup) -> Result<Memory<B>, (B, FormatFault)>
+        ensures made { MatchResult result (λ memory. Makes (B.state board) setup memory) (λ e. Refuses (B.state board) setup e.1 (B.state e.0)) }
         ensures counts { MatchResult result (λ memory. CountsFormat (chart (B.state board)) memory.chart) (λ e. CountsFormat (chart (B.state board)) (chart (B.state e.0))) }
     {
         if let Some(fault) = refusal(&board, &setup) {
             return Err((board, fault));
         }
+        let Ok((parts, owned)) = make_parts(alloc, &setup) else {
+            return Err((board, FormatFault::Memory));
+        };
         match format_board(&mut board) {
-            Ok(()) => Ok(Memory { board }),
+            Ok(()) => Ok(Memory {
+                board,
+                parts,
+                owned,
+                limit: setup.limit,
+                mark: setup.mark,
+            }),
             Err(Trouble::Off) => Err((board, FormatFault::Off)),
             Err(Trouble::Bad) => Err((board, FormatFault::Bad)),
         }

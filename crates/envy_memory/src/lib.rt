@@ -1,14 +1,37 @@
-//! The memory: a board of flash and SRAM that is a plain array of words to those who use it.
+//! The memory: a board of flash and SRAM that is a plain array of words to those who use it, with transactions.
 //!
-//! Until flash is used, every page has a frame of its own, and `format` refuses a board with fewer
-//! frames than pages.
+//! Each call says what it does to the array that the board stands for, at every exit, and what it counts. Only
+//! `format` and `attach` take memory.
 #![tactic(auto)]
 
+mod attach;
 mod bench;
+mod ending;
+mod faults;
 mod format;
+mod laws;
+mod looking;
+mod making;
 mod memory;
-mod page;
+mod putting;
+mod storing;
+#[cfg(test)]
+mod tests_attach;
+#[cfg(test)]
+mod tests_cuts;
+#[cfg(test)]
+mod tests_format;
+#[cfg(test)]
+mod tests_random;
+#[cfg(test)]
+mod tests_setup;
+#[cfg(test)]
+mod tests_upgrade;
+mod ticking;
 
-pub use bench::ReviveFault;
-pub use format::FormatFault;
-pub use memory::{LoadFault, Memory, StoreFault};
+pub use envy_flush::Did;
+pub use faults::{
+    AttachFault, BeginFault, EndFault, FormatFault, LoadFault, PutFault, ReviveFault, StoreFault,
+};
+pub use laws::hits_are_those_of_the_accesses;
+pub use memory::Memory;

@@ -1,31 +1,122 @@
-use Rattle.std.proofs.Common.{◌≡◌, refl, sym, subst, ap, ◌<◌, ◌-◌, ◌^◌, false, arith}
+use Rattle.std.proofs.Common.{◌≡◌, ◌∙◌, ◌<◌, ◌*◌, ◌+◌, ◌/◌, ◌%◌, false, refl, sym, subst, ap, arith}
+use Rattle.std.proofs.lemmas.Result.{err_from_is_err_and}
 use Rattle.envy_base.specs.declared.shape.Shape.{Shape}
 use Rattle.envy_map.specs.Fields.{chart}
 use Rattle.envy_layout.specs.Stands.{Stands}
-use Rattle.envy_memory.specs.Picture.{Picture}
-use Rattle.std.specs.Prelude.{IsTrue}
 use Rattle.envy_layout.proofs.Composition.{cause}
-use Rattle.envy_memory.proofs.Standing.{beyond, Steps-stored, Stores-off}
+use Rattle.envy_flush.specs.Storing.{Leaves}
+use Rattle.envy_flush.proofs.StoreLemmas.{Leaves-wrote}
+use Rattle.envy_memory.specs.Calls.{Works, IsCut, Undisturbed}
+use Rattle.envy_memory.specs.Effects.{flushes_after}
+use Rattle.envy_memory.specs.Picture.{Picture}
+use Rattle.envy_memory.proofs.Effects.{flushes-stored}
+use Rattle.envy_memory.proofs.Owning.{IsMemory-left, Works-left, Stores-done, Stores-ended, owner-pairs, free-pairs}
+use Rattle.envy_memory.proofs.Standing.{beyond, inside}
+use Rattle.envy_memory.proofs.TickLemmas.{never-ended}
 use Rattle.envy_memory.proofs.memory.Memory.store.Goals as goal
 
 pub returns-then-page-shape-clause-step : goal.returns-then-page-shape-clause-step
 returns-then-page-shape-clause-step g c m stood =
-    let stands : Stands (chart (g.B.Board.state c.self.inside.board)) m = subst (λ (p : Picture). Stands p.chart m) (sym c.self.view_is) stood in
+    let old = chart (g.B.Board.state c.self.inside.board) in
+    let stands : Stands old m = subst (λ (p : Picture). Stands p.chart m) (sym c.self.view_is) stood in
     let pages = ap (λ (sh : Shape). sh.pages) c.shape.ensures in
-    (m, (beyond _ m c.args.a stands (omega arith), refl), stood)
+    (m, (beyond old m c.args.a stands (omega arith), refl), stood)
+
+pub returns-in-Some-clause-step : goal.returns-in-Some-clause-step
+returns-in-Some-clause-step g c m stood =
+    let old = chart (g.B.Board.state c.self.inside.board) in
+    let stands : Stands old m = subst (λ (p : Picture). Stands p.chart m) (sym c.self.view_is) stood in
+    let pages = ap (λ (sh : Shape). sh.pages) c.shape.ensures in
+    let lt : c.args.a / 32 < old.shape.pages = omega arith in
+    let owned = c.self.invariant.owned (sym c.if-not-powered.ensures) in
+    (m, (inside old m c.args.a stands lt, owner-pairs old m c.self.inside.owned (c.args.a / 32) stands owned lt ∙ sym c.in-Some.ensures.value, refl), stood)
+
+pub invariant_of-self : goal.invariant_of-self
+invariant_of-self g c =
+    let old = chart (g.B.Board.state c.self.inside.board) in
+    let new = chart (g.B.Board.state c.store_word.new.board) in
+    let k = 4 * old.shape.rows + 13 in
+    let e = c.store_word.ensures in
+    let leaves = Leaves-wrote k 6 old new (32 * (c.args.a / 32) + c.args.a % 32) c.args.value (c.args.a / 32) c.store_word.result e.free e.owned in
+    IsMemory-left k 6 c.self.inside.limit c.self.inside.mark old new c.self.inside.parts c.store_word.new.parts c.self.inside.owned (sym c.if-not-powered.ensures) c.self.invariant leaves e.steady
+
+pub returns-in_err-store_word-clause-step : goal.returns-in_err-store_word-clause-step
+returns-in_err-store_word-clause-step g c m stood =
+    let old = chart (g.B.Board.state c.self.inside.board) in
+    let stands : Stands old m = subst (λ (p : Picture). Stands p.chart m) (sym c.self.view_is) stood in
+    let new = chart (g.B.Board.state c.store_word.new.board) in
+    let k = 4 * old.shape.rows + 13 in
+    let pages = ap (λ (sh : Shape). sh.pages) c.shape.ensures in
+    let lt : c.args.a / 32 < old.shape.pages = omega arith in
+    let owned = c.self.invariant.owned (sym c.if-not-powered.ensures) in
+    let none = sym c.in_default.ensures.value in
+    let free = free-pairs old c.self.inside.owned (c.args.a / 32) owned none in
+    let p = err_from_is_err_and c.from_residual.result c.from_residual.ensures.1 in
+    rw (p.1, p.2) (Stores-ended k 6 old new m c.self.inside.owned c.args.a c.args.value c.in_err-store_word.field-0.0 stands owned none lt (c.in_err-store_word.ensures.free free))
+
+pub returns-in_err-store_word-clause-cut : goal.returns-in_err-store_word-clause-cut
+returns-in_err-store_word-clause-cut g c =
+    let old = chart (g.B.Board.state c.self.inside.board) in
+    let new = chart (g.B.Board.state c.store_word.new.board) in
+    let k = 4 * old.shape.rows + 13 in
+    let e = c.store_word.ensures in
+    let leaves = Leaves-wrote k 6 old new (32 * (c.args.a / 32) + c.args.a % 32) c.args.value (c.args.a / 32) c.store_word.result e.free e.owned in
+    subst (λ (p : Picture). IsCut p.chart new) c.self.view_is (cause k 6 old new (Leaves.counted leaves))
+
+pub returns-in_err-store_word-clause-complete : goal.returns-in_err-store_word-clause-complete
+returns-in_err-store_word-clause-complete g c calm =
+    let old = chart (g.B.Board.state c.self.inside.board) in
+    let new = chart (g.B.Board.state c.store_word.new.board) in
+    let k = 4 * old.shape.rows + 13 in
+    let e = c.store_word.ensures in
+    let leaves = Leaves-wrote k 6 old new (32 * (c.args.a / 32) + c.args.a % 32) c.args.value (c.args.a / 32) c.store_word.result e.free e.owned in
+    let quiet = subst (λ (p : Picture). Undisturbed p.chart new) (sym c.self.view_is) calm in
+    let no = never-ended old new c.in_err-store_word.field-0.0 (λ is. c.in_err-store_word.ensures.off.0 is) (λ is. c.in_err-store_word.ensures.bad is) (cause k 6 old new (Leaves.counted leaves)) quiet in
+    ((λ is. no), (λ is. no))
+
+pub returns-in_err-store_word-clause-works : goal.returns-in_err-store_word-clause-works
+returns-in_err-store_word-clause-works g c =
+    let old = chart (g.B.Board.state c.self.inside.board) in
+    let new = chart (g.B.Board.state c.store_word.new.board) in
+    let k = 4 * old.shape.rows + 13 in
+    let e = c.store_word.ensures in
+    let leaves = Leaves-wrote k 6 old new (32 * (c.args.a / 32) + c.args.a % 32) c.args.value (c.args.a / 32) c.store_word.result e.free e.owned in
+    subst (λ (p : Picture). Works (4 * p.chart.shape.rows + 16) 6 p.chart new) c.self.view_is (Works-left k 6 (4 * old.shape.rows + 16) 6 old new (omega arith) (omega arith) (sym c.if-not-powered.ensures) leaves)
+
+pub invariant_of-self-2 : goal.invariant_of-self-2
+invariant_of-self-2 g c =
+    let old = chart (g.B.Board.state c.self.inside.board) in
+    let new = chart (g.B.Board.state c.store_word.new.board) in
+    let k = 4 * old.shape.rows + 13 in
+    let e = c.store_word.ensures in
+    let leaves = Leaves-wrote k 6 old new (32 * (c.args.a / 32) + c.args.a % 32) c.args.value (c.args.a / 32) c.store_word.result e.free e.owned in
+    IsMemory-left k 6 c.self.inside.limit c.self.inside.mark old new c.self.inside.parts c.store_word.new.parts c.self.inside.owned (sym c.if-not-powered.ensures) c.self.invariant leaves e.steady
 
 pub returns-clause-step : goal.returns-clause-step
 returns-clause-step g c m stood =
-    let stands : Stands (chart (g.B.Board.state c.self.inside.board)) m = subst (λ (p : Picture). Stands p.chart m) (sym c.self.view_is) stood in
+    let old = chart (g.B.Board.state c.self.inside.board) in
+    let stands : Stands old m = subst (λ (p : Picture). Stands p.chart m) (sym c.self.view_is) stood in
+    let new = chart (g.B.Board.state c.store_word.new.board) in
+    let k = 4 * old.shape.rows + 13 in
     let pages = ap (λ (sh : Shape). sh.pages) c.shape.ensures in
-    Steps-stored _ _ m c.args.a c.args.value stands c.self.invariant.direct (omega arith) c.in_ok-keep.ensures.stored
+    let lt : c.args.a / 32 < old.shape.pages = omega arith in
+    let owned = c.self.invariant.owned (sym c.if-not-powered.ensures) in
+    let none = sym c.in_default.ensures.value in
+    let free = free-pairs old c.self.inside.owned (c.args.a / 32) owned none in
+    Stores-done k 6 old new m c.self.inside.owned c.args.a c.args.value stands owned none lt (c.in_ok-store_word.ensures.free free)
 
-pub returns-in_err-keep-clause-step : goal.returns-in_err-keep-clause-step
-returns-in_err-keep-clause-step g c m stood =
-    let stands : Stands (chart (g.B.Board.state c.self.inside.board)) m = subst (λ (p : Picture). Stands p.chart m) (sym c.self.view_is) stood in
-    let pages = ap (λ (sh : Shape). sh.pages) c.shape.ensures in
-    Stores-off _ _ m c.args.a c.args.value _ c.from_residual.ensures.1 stands c.self.invariant.direct (omega arith) c.in_err-keep.ensures.stored
+pub returns-clause-works : goal.returns-clause-works
+returns-clause-works g c =
+    let old = chart (g.B.Board.state c.self.inside.board) in
+    let new = chart (g.B.Board.state c.store_word.new.board) in
+    let k = 4 * old.shape.rows + 13 in
+    let e = c.store_word.ensures in
+    let leaves = Leaves-wrote k 6 old new (32 * (c.args.a / 32) + c.args.a % 32) c.args.value (c.args.a / 32) c.store_word.result e.free e.owned in
+    subst (λ (p : Picture). Works (4 * p.chart.shape.rows + 16) 6 p.chart new) c.self.view_is (Works-left k 6 (4 * old.shape.rows + 16) 6 old new (omega arith) (omega arith) (sym c.if-not-powered.ensures) leaves)
 
-pub returns-in_err-keep-clause-cause : goal.returns-in_err-keep-clause-cause
-returns-in_err-keep-clause-cause g c =
-    subst (λ (p : Picture). IsTrue p.chart.on → (g.B.Board.state c.keep.new.board).on ≡ false → p.chart.cuts < 2 ^ 64 - 1 → p.chart.cuts < (g.B.Board.state c.keep.new.board).cuts) c.self.view_is (cause 0 0 _ _ c.in_err-keep.ensures.stored.counted)
+pub returns-clause-flushes : goal.returns-clause-flushes
+returns-clause-flushes g c =
+    let old = chart (g.B.Board.state c.self.inside.board) in
+    let new = chart (g.B.Board.state c.store_word.new.board) in
+    subst (λ (p : Picture). c.store_word.new.parts.flushes ≡ flushes_after false (c.args.a / 32) p) c.self.view_is
+    (flushes-stored (c.args.a / 32) (record { chart = old; parts = c.self.inside.parts; owned = c.self.inside.owned; limit = c.self.inside.limit; mark = c.self.inside.mark }) new c.store_word.new.parts c.self.invariant.fits c.in_ok-store_word.ensures.stores)

@@ -1,0 +1,15 @@
+pub mod AgreeLemmas
+pub mod BudgetLemmas
+pub mod CleanLemmas
+pub mod CountLemmas
+pub mod ElsewhereLemmas
+pub mod EndLemmas
+pub mod FlushLemmas
+pub mod JobLemmas
+pub mod LookLemmas
+pub mod NearLemmas
+pub mod PutLemmas
+pub mod RestartLemmas
+pub mod RowLemmas
+pub mod ShadeLemmas
+pub mod StoreLemmas

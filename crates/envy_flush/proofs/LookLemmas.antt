@@ -1,0 +1,80 @@
+-- What a store or a put says, once the page was looked up, by what came before the look.
+use Rattle.std.proofs.Common.{◌≡◌, ◌≢◌, inl, inr, ℕ, List, Option, None, Some, refl, sym, ◌∙◌, ap, subst}
+use Rattle.std.specs.Prelude.{Result, OnOk, slice_get, Any}
+use Rattle.envy_base.specs.declared.board.Trouble.{Trouble}
+use Rattle.envy_base.specs.declared.fields.Place.{Place}
+use Rattle.envy_base.specs.declared.fields.Place.TheVariants.{Absent, Row, Frame}
+use Rattle.envy_frames.specs.Agreement.{IsElsewhere}
+use Rattle.envy_frames.specs.declared.held.Held.{Held}
+use Rattle.envy_map.specs.Fields.{Chart, place, undo}
+use Rattle.envy_policy.specs.declared.choice.Choice.{Choice}
+use Rattle.envy_policy.specs.declared.choice.Choice.TheVariants.{Free, Clean}
+use Rattle.envy_policy.specs.History.{History, flushed, cleaned}
+use Rattle.envy_space.specs.Pool.{Pool}
+use Rattle.envy_table.specs.Entries.{Translations}
+use Rattle.envy_table.specs.Hits.{Accesses, Rests}
+use Rattle.envy_flush.specs.Choosing.{ChoiceFor}
+use Rattle.envy_flush.specs.Counts.{Counting}
+use Rattle.envy_flush.specs.Flushing.{NotesBad, ChoosesBad, MakesRoom, IsProgrammed, Stops}
+use Rattle.envy_flush.specs.Putting.{undo_for, PutsBy}
+use Rattle.envy_flush.specs.Storing.{Brings, StoresBy}
+use Rattle.envy_flush.specs.declared.parts.Parts.{Parts}
+use Rattle.envy_flush.proofs.FlushLemmas.{on-ok}
+
+NotesBad-same : (choice : Choice) (x y now : Parts) → x.chooser ≡ y.chooser → NotesBad choice x now → NotesBad choice y now
+NotesBad-same (Free k) x y now same noted = subst (λ (h : History). now.chooser ≡ flushed h k) same noted
+NotesBad-same (Clean k aside) x y now same (inl noted) = inl (subst (λ (h : History). now.chooser ≡ cleaned h k) same noted)
+NotesBad-same (Clean k aside) x y now same (inr noted) = inr (subst (λ (h : History). now.chooser ≡ flushed (cleaned h k) k) same noted)
+
+ChoosesBad-same : (home : ℕ) (old : Chart) (x y now : Parts) → x ≡ record y { cache = x.cache } → ChoosesBad home old x now → ChoosesBad home old y now
+ChoosesBad-same home old x y now is noted idle none =
+    let chooser : x.chooser ≡ y.chooser = ap (λ (z : Parts). z.chooser) is in
+    let space : x.space ≡ y.space = ap (λ (z : Parts). z.space) is in
+    let c = noted idle (ap (λ (z : Parts). z.stages) is ∙ none) in
+    (c.0, subst (λ (h : History). ChoiceFor h y.space home c.0) chooser (subst (λ (s : Pool). ChoiceFor x.chooser s home c.0) space c.1), NotesBad-same c.0 x y now chooser c.2)
+
+pub Stops-framed : (p k : ℕ) (old : Chart) (was x now : Parts) → x ≡ record was { cache = x.cache } → place old.fields p ≡ Some (Frame k) → now.frames ≡ x.frames → ((home : ℕ) × Any (λ h. (h.frame ≡ k) × (h.home ≡ home)) x.frames.held × ChoosesBad home old x now) → Stops p old was now
+Stops-framed p k old was x now looked here frames (home, held, noted) = record {
+  frames = frames ∙ ap (λ (z : Parts). z.frames) looked;
+  home = home;
+  programmed = subst (λ (y : Option Place). IsProgrammed y was.frames.held home) (sym here)
+      (subst (λ (hs : List Held). Any (λ h. (h.frame ≡ k) × (h.home ≡ home)) hs) (ap (λ (z : Parts). z.frames.held) looked) held);
+  noted = ChoosesBad-same home old x was now looked noted;
+}
+
+programmed-oldest : (from : Place) (hs : List Held) (h : Held) → IsElsewhere (Some from) → slice_get hs 0 ≡ Some h → IsProgrammed (Some from) hs h.home
+programmed-oldest Absent hs h elsewhere first = (h, first, refl)
+programmed-oldest (Row q) hs h elsewhere first = (h, first, refl)
+programmed-oldest (Frame k) hs h elsewhere first = absurd (elsewhere k refl)
+
+pub Stops-elsewhere : (p : ℕ) (from : Place) (old : Chart) (was x now : Parts) → x ≡ record was { cache = x.cache } → place old.fields p ≡ Some from → IsElsewhere (place old.fields p) → now.frames ≡ x.frames → ((h : Held) × (slice_get x.frames.held 0 ≡ Some h) × ChoosesBad h.home old x now) → Stops p old was now
+Stops-elsewhere p from old was x now looked here elsewhere frames (h, first, noted) = record {
+  frames = frames ∙ ap (λ (z : Parts). z.frames) looked;
+  home = h.home;
+  programmed = subst (λ (y : Option Place). IsProgrammed y was.frames.held h.home) (sym here)
+      (programmed-oldest from was.frames.held h (subst (λ (y : Option Place). IsElsewhere y) here elsewhere) (subst (λ (hs : List Held). slice_get hs 0 ≡ Some h) (ap (λ (z : Parts). z.frames.held) looked) first));
+  noted = ChoosesBad-same h.home old x was now looked noted;
+}
+
+pub Stores-fetched : (p : ℕ) (old : Chart) (was x : Parts) (new : Chart) (now : Parts) (r : Result Unit Trouble) → x ≡ record was { cache = x.cache } → IsElsewhere (place old.fields p) → OnOk r ((mid : Chart) × (between : Parts) × MakesRoom old x mid between × Brings p mid between new now) → OnOk r (StoresBy p old was new now)
+Stores-fetched p old was x new now r looked elsewhere makes =
+    on-ok r _ _ (λ all. inr (record { elsewhere = elsewhere; looked = x; after_look = looked; mid = all.0; between = all.1; room = all.2; brings = all.3 })) makes
+
+pub Puts-fetched : (t p : ℕ) (old : Chart) (was x : Parts) (new : Chart) (now : Parts) (r : Result Unit Trouble) → x ≡ record was { cache = x.cache } → IsElsewhere (place old.fields p) → OnOk r ((mid : Chart) × (between : Parts) × MakesRoom old x mid between × (b : Brings p mid between new now) × (undo new.fields p ≡ undo_for t b.from)) → OnOk r (PutsBy t p old was new now)
+Puts-fetched t p old was x new now r looked elsewhere makes =
+    on-ok r _ _ (λ all. inr (record { fetches = record { elsewhere = elsewhere; looked = x; after_look = looked; mid = all.0; between = all.1; room = all.2; brings = all.3 }; shadow = all.4 })) makes
+
+value : Place → Option Place → Place
+value from None = from
+value from (Some x) = x
+
+pub elsewhere-of : (x : Option Place) (from : Place) → x ≡ Some from → ((k : ℕ) → from ≢ Frame k) → IsElsewhere x
+unfolding value
+elsewhere-of x from is other k at = other k (ap (λ (o : Option Place). value from o) (sym is ∙ at))
+
+pub Accesses-rests : (p : ℕ) (a b c : Translations) → Accesses p a b → Rests b c → Accesses p a c
+Accesses-rests p a b c x r = record { size = r.size ∙ x.size; pages = λ i. r.pages i ∙ x.pages i; hits = r.hits ∙ x.hits; misses = r.misses ∙ x.misses }
+
+-- the entries of the cache are no count of flash work
+pub Counting-looked : (c d : Chart) (y z : Parts) (t : Translations) → Counting c (record y { cache = t }) d z → Counting c y d z
+Counting-looked c d y z t w = record { tallies = record { programs = w.tallies.programs; erases = w.tallies.erases }; since = w.since; swaps = w.swaps }

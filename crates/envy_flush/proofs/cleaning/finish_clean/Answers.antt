@@ -1,0 +1,69 @@
+use Rattle.std.proofs.Common.{◌≡◌, ◌∙◌, ◌+◌, arith, refl, sym, ap, subst}
+use Rattle.envy_base.specs.declared.shape.Shape.{Shape}
+use Rattle.envy_map.specs.Fields.{chart}
+use Rattle.envy_layout.specs.Same.{Same, Stays, Framed}
+use Rattle.envy_flush.specs.Agreement.{Ready, Steady}
+use Rattle.envy_flush.specs.Budgets.{Going, Spends}
+use Rattle.envy_reloc.specs.Cleaning.{Cleans}
+use Rattle.envy_flush.specs.declared.parts.Parts.{Parts}
+use Rattle.envy_flush.proofs.BudgetLemmas.{Going-start, Going-more, Going-stops, Turns-job, step-both}
+use Rattle.envy_flush.proofs.CountLemmas.{Counting-trans, Counting-still}
+use Rattle.envy_layout.proofs.FrameStay.{FramesStay-trans}
+use Rattle.envy_table.proofs.HitLemmas.{Rests-trans, Rests-refl}
+use Rattle.envy_flush.proofs.StoreLemmas.{shape-step}
+use Rattle.envy_layout.proofs.Composition.{Same-more, Same-refl}
+use Rattle.envy_flush.proofs.cleaning.finish_clean.Goals as goal
+
+pub loop-turn-init : goal.loop-turn-init
+loop-turn-init g c =
+    let b = c.requires.budget in
+    let now = chart (g.B.Board.state c.args.board.now) in
+    record {
+      ready = c.requires.ready;
+      going = Going-start _ _ b.0 b.1 b.2 (c.args.rows + 4) 1 (c.args.rows + 7) (Ready.sound c.requires.ready) b.3 b.4 b.5 b.6;
+      counting = Counting-still now now c.args.parts.now c.args.parts.now (Stays.counted (Same.stays (Same-refl now (Ready.sound c.requires.ready)))) refl refl refl;
+      here = λ p k. ((λ h. h), (λ h. h));
+      parts = refl;
+      rests = Rests-refl c.args.parts.now.cache;
+      none = c.requires.none;
+      cleans = λ positions k n a. a;
+    }
+
+pub returns-in_err-tick_job-clause-same : goal.returns-in_err-tick_job-clause-same
+returns-in_err-tick_job-clause-same g c =
+    let k = c.loop-turn.invariant.going in
+    Same-more (c.args.rows + 4 + 1) 2 (c.args.rows + 5) 2 _ _ (omega arith) (omega arith) (Going-stops _ (chart (g.B.Board.state c.loop-turn.board)) _ _ _ _ _ _ k (step-both _ _ c.tick_job.ensures.step))
+
+pub returns-in_err-tick_job-clause-counting : goal.returns-in_err-tick_job-clause-counting
+returns-in_err-tick_job-clause-counting g c = Counting-trans _ (chart (g.B.Board.state c.loop-turn.board)) _ _ c.loop-turn.parts _ c.loop-turn.invariant.counting c.tick_job.ensures.counting
+
+pub returns-in_err-tick_job-clause-here : goal.returns-in_err-tick_job-clause-here
+returns-in_err-tick_job-clause-here g c on =
+    let first = chart (g.B.Board.state c.args.board.now) in
+    let mid = chart (g.B.Board.state c.loop-turn.board) in
+    let new = chart (g.B.Board.state c.tick_job.new.board) in
+    FramesStay-trans first.fields.places mid.fields.places new.fields.places c.loop-turn.invariant.here (c.tick_job.ensures.here on)
+
+pub loop-turn-preserved : goal.loop-turn-preserved
+loop-turn-preserved g c =
+    let i = c.loop-turn.invariant in
+    let k = i.going in
+    let w = Going.work k in
+    let e = c.tick_job.ensures in
+    let o = c.in_ok-tick_job.ensures in
+    let first = chart (g.B.Board.state c.args.board.now) in
+    let mid = chart (g.B.Board.state c.loop-turn.board) in
+    let new = chart (g.B.Board.state c.tick_job.new.board) in
+    let shape = shape-step mid new e.step in
+    let done = Turns-job mid new c.loop-turn.parts c.tick_job.new.parts shape o.stays o.left w.left_n w.left_e w.left_s w.left in
+    let since : mid.shape ≡ first.shape = Framed.shape (Stays.framed (Same.stays w.same)) in
+    record {
+      ready = record { on = o.on; sound = Stays.sound (Same.stays (Spends.same done.0)); fits = Steady.fits e.steady; agrees = Steady.agrees e.steady o.on };
+      going = Going-more _ _ _ _ _ _ _ _ _ k done.0 done.1;
+      counting = Counting-trans first mid new c.args.parts.now c.loop-turn.parts c.tick_job.new.parts i.counting e.counting;
+      here = FramesStay-trans first.fields.places mid.fields.places new.fields.places i.here (e.here o.on);
+      parts = e.parts ∙ ap (λ (z : Parts). record z { space = c.tick_job.new.parts.space; cache = c.tick_job.new.parts.cache; reloc = c.tick_job.new.parts.reloc; stages = c.tick_job.new.parts.stages }) i.parts;
+      rests = Rests-trans _ _ _ i.rests e.rests;
+      none = o.stays ∙ i.none;
+      cleans = λ positions k n a. subst (λ (sh : Shape). Cleans sh positions k n new.fields c.tick_job.new.parts.reloc.erased) since (o.cleans positions k n (subst (λ (sh : Shape). Cleans sh positions k n mid.fields c.loop-turn.parts.reloc.erased) (sym since) (i.cleans positions k n a)));
+    }

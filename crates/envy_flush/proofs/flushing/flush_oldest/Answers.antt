@@ -1,0 +1,69 @@
+use Rattle.std.proofs.Common.{◌≡◌, ◌∙◌, ◌<◌, ◌*◌, ◌+◌, length, None, Some, sym, ap, arith}
+use Rattle.std.specs.List.{filter}
+use Rattle.envy_frames.specs.Order.{Order, is_other}
+use Rattle.std.proofs.lemmas.List.{get_or-set_same}
+use Rattle.envy_base.specs.declared.fields.Place.TheVariants.{Row}
+use Rattle.envy_map.specs.Fields.{place}
+use Rattle.envy_layout.specs.Sound.{Sound, Places}
+use Rattle.envy_frames.specs.Agreement.{AreHeld, IsHeld}
+use Rattle.envy_frames.proofs.Agreeing.{oldest-held}
+use Rattle.envy_frames.proofs.Rotation.{filter-oldest}
+use Rattle.envy_map.specs.Fields.{Fields, chart}
+use Rattle.envy_layout.specs.Same.{Same, Stays, Framed, Counted}
+use Rattle.envy_base.specs.Counting.{up}
+use Rattle.envy_flush.specs.declared.parts.Parts.{Parts}
+use Rattle.envy_flush.proofs.CountLemmas.{Counting-trans, Counting-flushed}
+use Rattle.envy_flush.proofs.FlushLemmas.{on-three, GetsRow-after, ChoosesBad-gets, bad-rises}
+use Rattle.envy_table.proofs.HitLemmas.{Rests-trans}
+use Rattle.envy_flush.proofs.StoreLemmas.{Same-two}
+use Rattle.envy_flush.proofs.flushing.flush_oldest.Goals as goal
+
+pub returns-clause-same : goal.returns-clause-same
+returns-clause-same g c = let p = (g.B.Board.state c.args.board.now).shape.rows in Same-two (4 * p + 12) 6 1 0 (4 * p + 13) 6 _ _ _ (omega arith) (omega arith) c.get_row.ensures.same c.flush_into.ensures.same
+
+pub returns-clause-counting : goal.returns-clause-counting
+returns-clause-counting g c =
+    let e = c.flush_into.ensures in
+    Counting-trans _ (chart (g.B.Board.state c.get_row.new.board)) _ _ c.get_row.new.parts _ c.get_row.ensures.counting
+    (Counting-flushed _ _ _ _ (Stays.counted (Same.stays e.same)) e.tally (ap (λ (z : Parts). z.swaps) e.parts) (ap (λ (z : Parts). z.reloc) e.parts))
+
+pub returns-clause-rests : goal.returns-clause-rests
+returns-clause-rests g c = Rests-trans _ _ _ c.get_row.ensures.rests c.flush_into.ensures.rests
+
+pub returns-clause-bad : goal.returns-clause-bad
+returns-clause-bad g c is low =
+    let rise = Counted.bads (Stays.counted (Same.stays c.get_row.ensures.same)) in
+    rw (c.flush_into.ensures.bad is) (bad-rises _ _ rise low)
+
+pub returns-clause-flushes : goal.returns-clause-flushes
+returns-clause-flushes g c =
+    let old = chart (g.B.Board.state c.args.board.now) in
+    let mid = chart (g.B.Board.state c.get_row.new.board) in
+    let new = chart (g.B.Board.state c.flush_into.new.board) in
+    let x = c.args.parts.now in
+    let y = c.get_row.new.parts in
+    let z = c.flush_into.new.parts in
+    let e = c.flush_into.ensures in
+    let held = c.in-Some.held in
+    let row = c.in_ok-row.row in
+    let r = c.requires.ready in
+    let shape : new.shape ≡ mid.shape = Framed.shape (Stays.framed (Same.stays e.same)) in
+    let before : mid.shape ≡ old.shape = Framed.shape (Stays.framed (Same.stays c.get_row.ensures.same)) in
+    let own = (oldest-held old.shape old.fields.places x.frames.held held r.agrees.held (sym c.in-Some.ensures.first)).0 in
+    let page : held.page < mid.shape.pages = rw before (IsHeld.page own) in
+    let long : length mid.fields.places ≡ mid.shape.pages = Places.long (Sound.places (Stays.sound (Same.stays c.get_row.ensures.same))) in
+    on-three c.flush_into.result _ _ _ _
+    (λ fields erases is. record {
+      oldest = held;
+      first = sym c.in-Some.ensures.first;
+      row = row;
+      gets = GetsRow-after held.home row old x mid y new z shape (ap (λ (f : Fields). f.job) fields) (ap (λ (f : Fields). f.fills) fields) (ap (λ (f : Fields). f.positions) fields) erases (ap (λ (p : Parts). p.chooser) e.parts) (ap (λ (p : Parts). p.reloc) e.parts) (ap (λ (p : Parts). p.stages) e.parts) c.in_ok-row.ensures.gets;
+      here = ap (λ (f : Fields). place f held.page) fields ∙ get_or-set_same mid.fields.places held.page (Some (Row row)) None (rw long page);
+      held = is ∙ ap (λ (o : Order). filter (is_other held.frame) o.held) c.get_row.ensures.frames ∙ filter-oldest x.frames.held held (sym c.in-Some.ensures.first) (AreHeld.apart r.agrees.held);
+      flushes = e.flushes ∙ ap up c.get_row.ensures.flushes;
+    })
+    e.fields e.erases e.frames
+
+pub returns-clause-noted : goal.returns-clause-noted
+returns-clause-noted g c is =
+    (c.in-Some.held, sym c.in-Some.ensures.first, ChoosesBad-gets c.in-Some.held.home c.in_ok-row.row (chart (g.B.Board.state c.args.board.now)) c.args.parts.now (chart (g.B.Board.state c.get_row.new.board)) c.get_row.new.parts _ (ap (λ (p : Parts). p.chooser) c.flush_into.ensures.parts) c.in_ok-row.ensures.gets)

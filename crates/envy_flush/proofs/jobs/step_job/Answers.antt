@@ -1,0 +1,26 @@
+use Rattle.std.proofs.Common.{refl}
+use Rattle.envy_map.specs.Fields.{chart}
+use Rattle.envy_table.specs.Hits.{Rests}
+use Rattle.envy_flush.proofs.AgreeLemmas.{Agrees-stepped, Fits-moved}
+use Rattle.envy_flush.proofs.CountLemmas.{Counting-begun}
+use Rattle.envy_flush.proofs.StoreLemmas.{shape-step, begun-step}
+use Rattle.envy_flush.proofs.jobs.step_job.Goals as goal
+
+pub returns-clause-steady : goal.returns-clause-steady
+returns-clause-steady g c =
+    let old = chart (g.B.Board.state c.args.board.now) in
+    let new = chart (g.B.Board.state c.step.new.board) in
+    let r = c.requires.ready in
+    let e = c.step.ensures in
+    let shape = shape-step old new (e.same r.sound) in
+    record {
+      fits = Fits-moved old.shape new.shape c.args.parts.now _ shape r.fits e.shape refl (Rests.size e.rests) refl refl refl;
+      agrees = λ on. Agrees-stepped old new c.args.parts.now _ r.agrees shape (e.pool on) (e.cache on) (e.plan on) (e.parted on) (e.frames on) refl;
+    }
+
+pub returns-clause-counting : goal.returns-clause-counting
+returns-clause-counting g c =
+    let old = chart (g.B.Board.state c.args.board.now) in
+    let new = chart (g.B.Board.state c.step.new.board) in
+    let e = c.step.ensures in
+    Counting-begun old new c.args.parts.now _ (begun-step old new (e.same c.requires.ready.sound)) e.counts refl refl

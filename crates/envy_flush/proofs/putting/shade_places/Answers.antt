@@ -1,0 +1,81 @@
+use Rattle.std.proofs.Common.{◌≡◌, ◌∙◌, ◌<◌, ◌+◌, ◌*◌, length, Option, Some, sym, ap, subst}
+use Rattle.std.specs.Prelude.{IsTrue}
+use Rattle.std.proofs.lemmas.Result.{err_from_is_err_and}
+use Rattle.envy_base.specs.declared.fields.Place.TheVariants.{Frame}
+use Rattle.envy_base.specs.declared.fields.Undo.{Undo}
+use Rattle.envy_base.specs.State.{IsBoard}
+use Rattle.envy_map.specs.Fields.{Chart, chart, with_fields}
+use Rattle.envy_map.specs.Writes.{with_place, with_undo}
+use Rattle.envy_layout.specs.Sound.{Sound, Slots}
+use Rattle.envy_layout.specs.Transactions.{Owns}
+use Rattle.envy_layout.proofs.Composition.{Same-refl, SameDurable-trans, SameDurable-words, SameDurable-dropped}
+use Rattle.envy_layout.proofs.Owners.{owned_by-owns}
+use Rattle.envy_layout.proofs.Putting.{PutDone-shadowed}
+use Rattle.envy_txn.specs.Owners.{Ownership, AreOwned}
+use Rattle.envy_flush.specs.Putting.{MayGive, undo_for}
+use Rattle.envy_flush.proofs.ElsewhereLemmas.{MayUndo-left, IsUndo-left, slot-left, Owns-left}
+use Rattle.envy_flush.proofs.FlushLemmas.{if-on, ok-any, ok-of, err-of, ok-written, on-ok}
+use Rattle.envy_flush.proofs.putting.shade_places.Goals as goal
+
+pub own-requires-clause-undo : goal.own-requires-clause-undo
+own-requires-clause-undo g c =
+    let old = chart (g.B.Board.state c.args.board.now) in
+    IsUndo-left old c.args.owned.now c.args.slot c.args.page c.args.from c.undo_of_place.result (IsBoard.shape (g.met.B.Board.lawful c.args.board.now)) c.requires.sound c.requires.may c.requires.here c.undo_of_place.ensures
+
+pub own-requires-clause-may : goal.own-requires-clause-may
+own-requires-clause-may g c on =
+    let old = chart (g.B.Board.state c.args.board.now) in
+    MayUndo-left old c.args.owned.now c.args.slot c.args.page c.args.from c.undo_of_place.result c.requires.may c.requires.here c.undo_of_place.ensures
+
+pub returns-in_err-own-clause-durable : goal.returns-in_err-own-clause-durable
+returns-in_err-own-clause-durable g c =
+    let p = err_from_is_err_and c.from_residual.result c.from_residual.ensures.1 in
+    rw p.1 (SameDurable-words 0 0 (chart (g.B.Board.state c.args.board.now)) (chart (g.B.Board.state c.own.new.board)) (c.own.ensures.same c.requires.sound))
+
+pub returns-clause-done : goal.returns-clause-done
+returns-clause-done g c =
+    let old = chart (g.B.Board.state c.args.board.now) in
+    let mid = chart (g.B.Board.state c.own.new.board) in
+    let new = chart (g.B.Board.state c.move_to_frame.new.board) in
+    let words = c.own.ensures.same c.requires.sound in
+    let long = Slots.undos_long (Sound.slots c.requires.sound) in
+    let low : c.args.page < length old.fields.undos = rw long (MayGive.page c.requires.may) in
+    let owns : Owns c.args.slot c.args.page old mid = Owns-left old mid c.args.slot c.args.page c.undo_of_place.result low (slot-left c.args.slot c.args.from c.undo_of_place.result c.undo_of_place.ensures) c.in_ok-own.ensures.fields in
+    let owned = owned_by-owns c.args.slot c.args.page old mid owns (MayGive.opened c.requires.may).1 in
+    ok-of c.move_to_frame.result _ _ _ (λ done. PutDone-shadowed 0 0 0 0 c.args.slot c.args.page old old mid new (32 * c.args.page + c.args.i) c.args.w (Same-refl old c.requires.sound) words owns done) (c.move_to_frame.ensures.owned (λ on. owned))
+
+pub returns-clause-durable : goal.returns-clause-durable
+returns-clause-durable g c =
+    let old = chart (g.B.Board.state c.args.board.now) in
+    let mid = chart (g.B.Board.state c.own.new.board) in
+    let new = chart (g.B.Board.state c.move_to_frame.new.board) in
+    let words = c.own.ensures.same c.requires.sound in
+    let long = Slots.undos_long (Sound.slots c.requires.sound) in
+    let low : c.args.page < length old.fields.undos = rw long (MayGive.page c.requires.may) in
+    let owns : Owns c.args.slot c.args.page old mid = Owns-left old mid c.args.slot c.args.page c.undo_of_place.result low (slot-left c.args.slot c.args.from c.undo_of_place.result c.undo_of_place.ensures) c.in_ok-own.ensures.fields in
+    let owned = owned_by-owns c.args.slot c.args.page old mid owns (MayGive.opened c.requires.may).1 in
+    err-of c.move_to_frame.result _ _ _ (λ dropped. SameDurable-trans 0 0 0 0 old mid new (SameDurable-words 0 0 old mid words) (SameDurable-dropped 0 0 mid new dropped)) (c.move_to_frame.ensures.owned (λ on. owned))
+
+pub returns-clause-fields : goal.returns-clause-fields
+returns-clause-fields g c =
+    let old = chart (g.B.Board.state c.args.board.now) in
+    let mid = chart (g.B.Board.state c.own.new.board) in
+    let new = chart (g.B.Board.state c.move_to_frame.new.board) in
+    let p = c.args.page in
+    let k = c.args.frame in
+    let is : mid ≡ with_fields old (with_undo p (undo_for c.args.slot c.args.from) old.fields) = subst (λ (u : Option Undo). mid ≡ with_fields old (with_undo p u old.fields)) (sym c.undo_of_place.ensures) c.in_ok-own.ensures.fields in
+    on-ok c.move_to_frame.result _ _ (λ moved. subst (λ (z : Chart). new ≡ with_fields z (with_place p (Some (Frame k)) z.fields)) is moved) (ok-written mid new (with_place p (Some (Frame k))) c.move_to_frame.result c.move_to_frame.ensures.writes)
+
+pub returns-clause-gives : goal.returns-clause-gives
+returns-clause-gives g c = ok-any c.move_to_frame.result _ (c.in_ok-own.ensures.newest c.args.slot (slot-left c.args.slot c.args.from c.undo_of_place.result c.undo_of_place.ensures))
+
+pub returns-clause-owners : goal.returns-clause-owners
+returns-clause-owners g c on =
+    let mid = chart (g.B.Board.state c.own.new.board) in
+    let new = chart (g.B.Board.state c.move_to_frame.new.board) in
+    let moved = if-on c.move_to_frame.result new.on _ (ok-written mid new (with_place c.args.page (Some (Frame c.args.frame))) c.move_to_frame.result c.move_to_frame.ensures.writes) c.move_to_frame.ensures.off on in
+    let was : IsTrue mid.on = ap (λ (z : Chart). z.on) (sym moved) ∙ on in
+    subst (λ (z : Chart). AreOwned z.fields.slots z.fields.undos c.own.new.self.pairs) (sym moved) (c.own.ensures.agrees was)
+
+pub returns-clause-limit : goal.returns-clause-limit
+returns-clause-limit g c = ap (λ (o : Ownership). o.limit) (c.in_ok-own.ensures.newest c.args.slot (slot-left c.args.slot c.args.from c.undo_of_place.result c.undo_of_place.ensures))

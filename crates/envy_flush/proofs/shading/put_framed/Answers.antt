@@ -1,0 +1,138 @@
+use Rattle.std.proofs.Common.{◌≡◌, ◌∙◌, ◌<◌, ◌*◌, ◌+◌, length, get_or, None, Some, refl, sym, ap, subst, arith}
+use Rattle.envy_base.specs.declared.shape.Shape.{Shape}
+use Rattle.envy_map.specs.Fields.{chart}
+use Rattle.std.proofs.lemmas.Result.{err_from_is_err_and}
+use Rattle.envy_base.specs.declared.fields.Slot.TheVariants.{Active}
+use Rattle.envy_map.specs.Writes.{with_frame_word}
+use Rattle.envy_map.specs.Fields.{Fields, Chart, place, undo, slot}
+use Rattle.envy_map.specs.Writes.{with_undo}
+use Rattle.envy_base.specs.declared.fields.Undo.TheVariants.{Shadow}
+use Rattle.std.proofs.lemmas.List.{get_or-set_same}
+use Rattle.envy_layout.specs.Sound.{Sound, Slots}
+use Rattle.envy_txn.specs.Owners.{AreOwned}
+use Rattle.envy_layout.specs.Same.{Same, SameWords, Stays, Framed, Counted}
+use Rattle.envy_flush.specs.declared.parts.Parts.{Parts}
+use Rattle.envy_flush.proofs.CountLemmas.{Counting-trans, Counting-still}
+use Rattle.envy_flush.proofs.FlushLemmas.{bad-rises, ChoosesBad-gets, GetsRow-after}
+use Rattle.envy_layout.proofs.Owners.{owned_by-owns}
+use Rattle.envy_layout.proofs.Putting.{PutDone-more, PutDone-shadowed}
+use Rattle.envy_layout.proofs.Composition.{Counted-put}
+use Rattle.envy_flush.proofs.PutLemmas.{MayGive-framed, PutFirst-shadow, PutFirst-dropped, Steady-word}
+use Rattle.envy_flush.proofs.shading.put_framed.Goals as goal
+
+pub shadow-requires-clause-here : goal.shadow-requires-clause-here
+shadow-requires-clause-here g c = (c.get_row.ensures.here c.in_ok-row.ensures.on c.args.page c.args.frame).1 c.requires.here
+
+pub shadow-requires-clause-may : goal.shadow-requires-clause-may
+shadow-requires-clause-may g c = MayGive-framed c.args.slot c.args.page _ _ c.args.owned.now (Stays.framed (Same.stays c.get_row.ensures.same)) c.requires.may
+
+pub returns-in_err-shadow-clause-put : goal.returns-in_err-shadow-clause-put
+returns-in_err-shadow-clause-put g c =
+    let old = chart (g.B.Board.state c.args.board.now) in
+    let mid = chart (g.B.Board.state c.get_row.new.board) in
+    let new = chart (g.B.Board.state c.shadow.new.board) in
+    let n = 4 * old.shape.rows in
+    let p = err_from_is_err_and c.from_residual-in_err-shadow.result c.from_residual-in_err-shadow.ensures.1 in
+    rw (p.1, p.2) (PutFirst-shadow (n + 12) 6 (n + 13) 6 c.args.slot c.args.page old mid new (32 * c.args.page + c.args.i) c.args.w c.in_err-shadow.field-0.0 (omega arith) (omega arith) c.get_row.ensures.same c.in_err-shadow.ensures.shadows)
+
+pub returns-in_err-shadow-clause-counting : goal.returns-in_err-shadow-clause-counting
+returns-in_err-shadow-clause-counting g c = Counting-trans _ (chart (g.B.Board.state c.get_row.new.board)) _ _ c.get_row.new.parts _ c.get_row.ensures.counting c.shadow.ensures.counting
+
+pub returns-in_err-shadow-clause-bad : goal.returns-in_err-shadow-clause-bad
+returns-in_err-shadow-clause-bad g c =
+    let p = err_from_is_err_and c.from_residual-in_err-shadow.result c.from_residual-in_err-shadow.ensures.1 in
+    let rise = Counted.bads (Stays.counted (Same.stays c.get_row.ensures.same)) in
+    rw (p.1, p.2) (λ is low. rw (c.in_err-shadow.ensures.bad is) (bad-rises _ _ rise low))
+
+pub returns-in_err-change_frame_word-clause-put : goal.returns-in_err-change_frame_word-clause-put
+returns-in_err-change_frame_word-clause-put g c =
+    let old = chart (g.B.Board.state c.args.board.now) in
+    let mid = chart (g.B.Board.state c.get_row.new.board) in
+    let next = chart (g.B.Board.state c.shadow.new.board) in
+    let new = chart (g.B.Board.state c.change_frame_word.new.board) in
+    let n = 4 * old.shape.rows in
+    let s = Same.stays c.get_row.ensures.same in
+    let sh = c.in_ok-shadow.ensures.shadows in
+    let active : slot mid.fields c.args.slot ≡ Some Active = ap (λ (xs : _). get_or xs c.args.slot None) (Framed.slots (Stays.framed s)) ∙ c.requires.may.opened.1 in
+    let owned = owned_by-owns c.args.slot c.args.page mid next sh.1 active in
+    let p = err_from_is_err_and c.from_residual-in_err-change_frame_word.result c.from_residual-in_err-change_frame_word.ensures.1 in
+    rw (p.1, p.2) (PutFirst-dropped (n + 12) 6 (n + 13) 6 old mid next new (omega arith) (omega arith) c.get_row.ensures.same sh.0 (c.in_err-change_frame_word.ensures.owned (λ on. owned)))
+
+pub returns-in_err-change_frame_word-clause-steady : goal.returns-in_err-change_frame_word-clause-steady
+returns-in_err-change_frame_word-clause-steady g c =
+    Steady-word (chart (g.B.Board.state c.shadow.new.board)) _ c.shadow.new.parts c.args.frame c.args.i c.args.w c.change_frame_word.result c.in_ok-shadow.ensures.shadows.2 c.shadow.ensures.steady c.change_frame_word.ensures.writes
+
+pub returns-in_err-change_frame_word-clause-counting : goal.returns-in_err-change_frame_word-clause-counting
+returns-in_err-change_frame_word-clause-counting g c =
+    let next = chart (g.B.Board.state c.shadow.new.board) in
+    let new = chart (g.B.Board.state c.change_frame_word.new.board) in
+    Counting-trans _ next _ _ c.shadow.new.parts _
+    (Counting-trans _ (chart (g.B.Board.state c.get_row.new.board)) _ _ c.get_row.new.parts _ c.get_row.ensures.counting c.shadow.ensures.counting)
+    (Counting-still next new _ _ (Counted-put next new (with_frame_word c.args.frame c.args.i c.args.w) c.change_frame_word.result c.change_frame_word.ensures.writes) refl refl refl)
+
+pub returns-clause-put : goal.returns-clause-put
+returns-clause-put g c =
+    let old = chart (g.B.Board.state c.args.board.now) in
+    let mid = chart (g.B.Board.state c.get_row.new.board) in
+    let next = chart (g.B.Board.state c.shadow.new.board) in
+    let new = chart (g.B.Board.state c.change_frame_word.new.board) in
+    let n = 4 * old.shape.rows in
+    let s = Same.stays c.get_row.ensures.same in
+    let sh = c.in_ok-shadow.ensures.shadows in
+    let active : slot mid.fields c.args.slot ≡ Some Active = ap (λ (xs : _). get_or xs c.args.slot None) (Framed.slots (Stays.framed s)) ∙ c.requires.may.opened.1 in
+    let owned = owned_by-owns c.args.slot c.args.page mid next sh.1 active in
+    PutDone-more (n + 12 + 1) 6 (n + 13) 6 c.args.slot c.args.page old new (32 * c.args.page + c.args.i) c.args.w (omega arith) (omega arith) (PutDone-shadowed (n + 12) 6 1 0 c.args.slot c.args.page old mid next new (32 * c.args.page + c.args.i) c.args.w c.get_row.ensures.same sh.0 sh.1 (c.in_ok-change_frame_word.ensures.owned (λ on. owned)))
+
+pub returns-clause-steady : goal.returns-clause-steady
+returns-clause-steady g c =
+    Steady-word (chart (g.B.Board.state c.shadow.new.board)) _ c.shadow.new.parts c.args.frame c.args.i c.args.w c.change_frame_word.result c.in_ok-shadow.ensures.shadows.2 c.shadow.ensures.steady c.change_frame_word.ensures.writes
+
+pub returns-clause-counting : goal.returns-clause-counting
+returns-clause-counting g c =
+    let next = chart (g.B.Board.state c.shadow.new.board) in
+    let new = chart (g.B.Board.state c.change_frame_word.new.board) in
+    Counting-trans _ next _ _ c.shadow.new.parts _
+    (Counting-trans _ (chart (g.B.Board.state c.get_row.new.board)) _ _ c.get_row.new.parts _ c.get_row.ensures.counting c.shadow.ensures.counting)
+    (Counting-still next new _ _ (Counted-put next new (with_frame_word c.args.frame c.args.i c.args.w) c.change_frame_word.result c.change_frame_word.ensures.writes) refl refl refl)
+
+pub returns-in_err-shadow-clause-noted : goal.returns-in_err-shadow-clause-noted
+returns-in_err-shadow-clause-noted g c is =
+    (c.home-home.result, c.home-home.ensures.value, ChoosesBad-gets c.home-home.result c.in_ok-row.row (chart (g.B.Board.state c.args.board.now)) c.args.parts.now (chart (g.B.Board.state c.get_row.new.board)) c.get_row.new.parts _ (ap (λ (z : Parts). z.chooser) c.shadow.ensures.parts) c.in_ok-row.ensures.gets)
+
+pub change_frame_word-requires-clause-here : goal.change_frame_word-requires-clause-here
+change_frame_word-requires-clause-here g c on =
+    ap (λ (f : Fields). place f c.args.page) c.in_ok-shadow.ensures.fields ∙ (c.get_row.ensures.here c.in_ok-row.ensures.on c.args.page c.args.frame).1 c.requires.here
+
+pub returns-clause-puts : goal.returns-clause-puts
+returns-clause-puts g c =
+    let old = chart (g.B.Board.state c.args.board.now) in
+    let mid = chart (g.B.Board.state c.get_row.new.board) in
+    let next = chart (g.B.Board.state c.shadow.new.board) in
+    let new = chart (g.B.Board.state c.change_frame_word.new.board) in
+    let x = c.args.parts.now in
+    let y = c.get_row.new.parts in
+    let z = c.shadow.new.parts in
+    let p = c.args.page in
+    let row = c.in_ok-row.row in
+    let e = c.in_ok-shadow.ensures in
+    let done = c.in_ok-change_frame_word.ensures.writes.1 in
+    let shape : new.shape ≡ mid.shape = ap (λ (w : Chart). w.shape) done ∙ SameWords.shape e.shadows.0 in
+    let fields : new.fields ≡ with_frame_word c.args.frame c.args.i c.args.w (with_undo p (Some (Shadow c.args.slot row)) mid.fields) = ap (λ (w : Chart). w.fields) done ∙ ap (with_frame_word c.args.frame c.args.i c.args.w) e.fields in
+    let s = Same.stays c.get_row.ensures.same in
+    let long : length mid.fields.undos ≡ mid.shape.pages = Slots.undos_long (Sound.slots (Stays.sound s)) in
+    let pages : mid.shape.pages ≡ old.shape.pages = ap (λ (sh : Shape). sh.pages) (Framed.shape (Stays.framed s)) in
+    let low : p < length mid.fields.undos = rw (long, pages) c.requires.may.page in
+    let parts = c.shadow.ensures.parts in (
+      c.home-home.result,
+      row,
+      c.home-home.ensures.value,
+      GetsRow-after c.home-home.result row old x mid y new z shape (ap (λ (f : Fields). f.job) fields) (ap (λ (f : Fields). f.fills) fields) (ap (λ (f : Fields). f.positions) fields) (ap (λ (w : Chart). w.erases) done ∙ e.erases) (ap (λ (w : Parts). w.chooser) parts) (ap (λ (w : Parts). w.reloc) parts) (ap (λ (w : Parts). w.stages) parts) c.in_ok-row.ensures.gets,
+      ap (λ (f : Fields). place f p) fields ∙ (c.get_row.ensures.here c.in_ok-row.ensures.on p c.args.frame).1 c.requires.here,
+      ap (λ (f : Fields). undo f p) fields ∙ get_or-set_same mid.fields.undos p (Some (Shadow c.args.slot row)) None low,
+    )
+
+pub returns-clause-owners : goal.returns-clause-owners
+returns-clause-owners g c on =
+    let next = chart (g.B.Board.state c.shadow.new.board) in
+    let done = c.in_ok-change_frame_word.ensures.writes.1 in
+    subst (λ (w : Chart). AreOwned w.fields.slots w.fields.undos c.shadow.new.owned.pairs) (sym done) (c.shadow.ensures.owners c.in_ok-shadow.ensures.shadows.2)

@@ -1,0 +1,12 @@
+pub mod Agreement
+pub mod Budgets
+pub mod Choosing
+pub mod Counts
+pub mod Ending
+pub mod Flushing
+pub mod Pages
+pub mod Putting
+pub mod Restarts
+pub mod Starting
+pub mod Storing
+pub mod Ticks

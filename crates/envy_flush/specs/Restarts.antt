@@ -1,0 +1,23 @@
+-- A board that was settled after power came.
+use Rattle.std.specs.Prelude.{◌≡◌, ◌⊎◌, ℕ, ◌<◌, Some}
+use Rattle.envy_base.specs.declared.fields.Job.TheVariants.{Idle, Erase}
+use Rattle.envy_base.specs.declared.fields.Slot.TheVariants.{Vacant}
+use Rattle.envy_base.specs.declared.fields.Undo.TheVariants.{Clear}
+use Rattle.envy_map.specs.Fields.{Chart, undo, slot}
+use Rattle.envy_flush.specs.declared.parts.Parts.{Parts}
+
+-- no transaction is open, each undo is clear, and a job is to erase the spare at most
+pub record IsSettled (c : Chart) : Type 0 where
+  pub undos : (p : ℕ) → p < c.shape.pages → undo c.fields p ≡ Some Clear
+  pub slots : (t : ℕ) → t < 64 → slot c.fields t ≡ Some Vacant
+  pub job : (c.fields.job ≡ Some Idle) ⊎ (c.fields.job ≡ Some Erase)
+
+-- no count changed
+pub record SameCounts (was now : Parts) : Type 0 where
+  pub hits : now.cache.hits ≡ was.cache.hits
+  pub misses : now.cache.misses ≡ was.cache.misses
+  pub flushes : now.flushes ≡ was.flushes
+  pub copied : now.reloc.copied ≡ was.reloc.copied
+  pub moved : now.reloc.moved ≡ was.reloc.moved
+  pub erased : now.reloc.erased ≡ was.reloc.erased
+  pub swaps : now.swaps ≡ was.swaps

@@ -1,0 +1,142 @@
+-- What a tick does, by the first rule that applies.
+use Rattle.std.specs.Prelude.{◌≡◌, ◌≢◌, ◌⊎◌, ℕ, ◌+◌, ◌<◌, ◌≤◌, [], ◌∷◌, drop, length, sum, Some, slice_get, slice_index, slice_set}
+use Rattle.envy_base.specs.Counting.{up, Tally}
+use Rattle.envy_base.specs.declared.fields.Job.TheVariants.{Idle as IdleJob, Copy, Erase}
+use Rattle.envy_frames.specs.declared.held.Held.{Held}
+use Rattle.envy_map.specs.Fields.{Chart}
+use Rattle.envy_policy.specs.declared.choice.Choice.{Choice}
+use Rattle.envy_policy.specs.declared.choice.Choice.TheVariants.{Free, Clean}
+use Rattle.envy_policy.specs.History.{flushed, cleaned}
+use Rattle.envy_reloc.specs.Phases.{Does}
+use Rattle.envy_reloc.specs.declared.step.Phase.{Phase}
+use Rattle.envy_reloc.specs.declared.step.Phase.TheVariants.{Moved as MovedPhase, Copied as CopiedPhase, Switched as SwitchedPhase, Placed as PlacedPhase, Erased as ErasedPhase}
+use Rattle.envy_flush.specs.Choosing.{ChoiceFor}
+use Rattle.envy_flush.specs.Counts.{Tallies}
+use Rattle.envy_flush.specs.Flushing.{FlushesOldest}
+use Rattle.envy_flush.specs.declared.parts.Parts.{Parts}
+use Rattle.envy_wear.specs.Swaps.{IsDue}
+use Rattle.envy_wear.specs.declared.swap.Swap.{Swap}
+use Rattle.envy_flush.specs.declared.did.Did.{Did}
+use Rattle.envy_flush.specs.declared.did.Did.TheVariants.{Idle, Flushed, Began, Moved, Copied, Switched, Placed, Erased}
+
+abbrev pub did_of : Phase → Did
+did_of MovedPhase = Moved
+did_of CopiedPhase = Copied
+did_of SwitchedPhase = Switched
+did_of PlacedPhase = Placed
+did_of ErasedPhase = Erased
+
+-- flushes, heats, turns, frames and swaps are as before
+pub record Idles (was now : Parts) : Type 0 where
+  pub flushes : now.flushes ≡ was.flushes
+  pub swaps : now.swaps ≡ was.swaps
+  pub chooser : now.chooser ≡ was.chooser
+  pub frames : now.frames ≡ was.frames
+
+-- nothing is programmed or erased by a relocation
+pub record CountsNone (was now : Parts) : Type 0 where
+  pub copied : now.reloc.copied ≡ was.reloc.copied
+  pub moved : now.reloc.moved ≡ was.reloc.moved
+  pub erased : now.reloc.erased ≡ was.reloc.erased
+
+-- the first rule: a step of the job
+pub record TicksJob (did : Did) (old : Chart) (was : Parts) (new : Chart) (now : Parts) : Type 0 where
+  pub phase : Phase
+  pub named : did ≡ did_of phase
+  pub does : Does old was.reloc phase new now.reloc
+  pub idles : Idles was now
+  pub stages : now.stages ≡ was.stages
+
+-- the job becomes the relocation of position k
+abbrev pub Begins : ℕ → Chart → Chart → Type 0
+Begins k old new = new.fields.job ≡ Some (Copy (slice_index old.fields.positions k))
+
+-- the second rule: the next stage of a swap begins, without moves
+pub record TicksStage (did : Did) (old : Chart) (was : Parts) (new : Chart) (now : Parts) : Type 0 where
+  pub began : did ≡ Began
+  pub position : ℕ
+  pub next : slice_get was.stages 0 ≡ Some position
+  pub begins : Begins position old new
+  pub rest : now.stages ≡ drop 1 was.stages
+  pub moves : now.reloc.moves ≡ []
+  pub none : CountsNone was now
+  pub idles : Idles was now
+
+-- the third rule, by the choice for the oldest held page's home: it is flushed, or a cleaning begins
+abbrev pub TicksChoice : Choice → Did → Chart → Parts → Chart → Parts → Type 0
+TicksChoice (Free k) did old was new now = (did ≡ Flushed) × FlushesOldest old was new now × CountsNone was now × (now.swaps ≡ was.swaps)
+TicksChoice (Clean k aside) did old was new now =
+    (did ≡ Began) × Begins k old new × (now.chooser ≡ cleaned was.chooser k) × (now.flushes ≡ was.flushes) × (now.frames ≡ was.frames) × CountsNone was now × (now.swaps ≡ was.swaps)
+
+pub record TicksFlush (did : Did) (old : Chart) (was : Parts) (new : Chart) (now : Parts) : Type 0 where
+  pub oldest : Held
+  pub first : slice_get was.frames.held 0 ≡ Some oldest
+  pub choice : Choice
+  pub chosen : ChoiceFor was.chooser was.space oldest.home choice
+  pub does : TicksChoice choice did old was new now
+  pub stages : now.stages ≡ was.stages
+
+-- no swap is due
+abbrev pub IsNoneDue : ℕ → Chart → ℕ → Type 0
+IsNoneDue limit c since = (s : Swap) → IsDue c.shape c.fields limit since s → ⊥
+
+-- the fourth rule: a swap begins
+pub record TicksSwap (limit : ℕ) (did : Did) (old : Chart) (was : Parts) (new : Chart) (now : Parts) : Type 0 where
+  pub began : did ≡ Began
+  pub swap : Swap
+  pub due : IsDue old.shape old.fields limit was.reloc.since swap
+  pub begins : Begins swap.worn old new
+  pub stages : now.stages ≡ swap.young ∷ swap.worn ∷ []
+  pub moves : now.reloc.moves ≡ []
+  pub swaps : now.swaps ≡ up was.swaps
+  pub since : now.reloc.since ≡ 0
+  pub none : CountsNone was now
+  pub flushes : now.flushes ≡ was.flushes
+  pub chooser : now.chooser ≡ was.chooser
+  pub frames : now.frames ≡ was.frames
+
+-- nothing is done
+abbrev pub TicksNone : ℕ → Did → Chart → Parts → Chart → Parts → Type 0
+TicksNone limit did old was new now = IsNoneDue limit old was.reloc.since × (did ≡ Idle) × (now ≡ was) × (new ≡ old)
+
+-- the rules in their order: what a tick that answers did
+abbrev pub TicksBy : ℕ → ℕ → Did → Chart → Parts → Chart → Parts → Type 0
+TicksBy limit mark did old was new now =
+    ((old.fields.job ≢ Some IdleJob) × TicksJob did old was new now)
+    ⊎ ((old.fields.job ≡ Some IdleJob) × (((0 < length was.stages) × TicksStage did old was new now)
+    ⊎ ((was.stages ≡ []) × (((mark ≤ length was.frames.held) × TicksFlush did old was new now)
+    ⊎ ((length was.frames.held < mark) × (TicksSwap limit did old was new now ⊎ TicksNone limit did old was new now))))))
+
+-- a step failed: the spare is to be erased, and but for a failed erase the moves and the stages are dropped
+pub record StopsJob (old : Chart) (was : Parts) (new : Chart) (now : Parts) : Type 0 where
+  pub job : new.fields.job ≡ Some Erase
+  pub idles : Idles was now
+  pub kept : old.fields.job ≡ Some Erase → now.stages ≡ was.stages
+  pub dropped : old.fields.job ≢ Some Erase → (now.stages ≡ []) × (now.reloc.moves ≡ [])
+
+-- a flush failed: the row was claimed, and the page is held as before
+pub record StopsFlush (old : Chart) (was : Parts) (new : Chart) (now : Parts) : Type 0 where
+  pub oldest : Held
+  pub first : slice_get was.frames.held 0 ≡ Some oldest
+  pub position : ℕ
+  pub chosen : ChoiceFor was.chooser was.space oldest.home (Free position)
+  pub fills : new.fields.fills ≡ slice_set old.fields.fills (slice_index old.fields.positions position) (slice_index old.fields.fills (slice_index old.fields.positions position) + 1)
+  pub places : new.fields.places ≡ old.fields.places
+  pub job : new.fields.job ≡ old.fields.job
+  pub chooser : now.chooser ≡ flushed was.chooser position
+  pub flushes : now.flushes ≡ up was.flushes
+  pub frames : now.frames ≡ was.frames
+  pub stages : now.stages ≡ was.stages
+  pub swaps : now.swaps ≡ was.swaps
+  pub none : CountsNone was now
+
+-- what a tick that a bad operation ended did
+abbrev pub TicksBad : ℕ → Chart → Parts → Chart → Parts → Type 0
+TicksBad mark old was new now =
+    ((old.fields.job ≢ Some IdleJob) × StopsJob old was new now)
+    ⊎ ((old.fields.job ≡ Some IdleJob) × (was.stages ≡ []) × (mark ≤ length was.frames.held) × StopsFlush old was new now)
+
+-- what a tick counts: the erases since the last swap begin anew where a swap began
+pub record CountsTick (old : Chart) (was : Parts) (new : Chart) (now : Parts) : Type 0 where
+  pub tallies : Tallies old was new now
+  pub since : ((now.swaps ≡ was.swaps) × Tally (sum old.erases) was.reloc.since (sum new.erases) now.reloc.since) ⊎ ((now.swaps ≡ up was.swaps) × (now.reloc.since ≡ 0))

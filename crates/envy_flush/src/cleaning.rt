@@ -1,0 +1,209 @@
+ghost use Rattle.std.specs.Prelude.{List, ◌≡◌, ◌≢◌, ◌↔◌, ◌+◌, ◌-◌, ◌*◌, ◌/◌, ◌^◌, ◌<◌, ◌≤◌, ℕ, false, IsTrue, [], Some, Err, IfOk, IfSome, OnOk, OnErr, IsErrOf, length, slice_index, All};
+ghost use Rattle.envy_base.specs.State.{ones, row_of};
+ghost use Rattle.envy_base.specs.declared.fields.Job.TheVariants.{Idle, Copy};
+ghost use Rattle.envy_map.specs.Fields.{chart, with_fields};
+ghost use Rattle.envy_map.specs.Writes.{with_job};
+ghost use Rattle.envy_layout.specs.Same.{Same};
+ghost use Rattle.envy_layout.specs.Sound.{Names};
+ghost use Rattle.envy_policy.specs.History.{cleaned};
+ghost use Rattle.envy_policy.specs.declared.choice.Choice.TheVariants.{Clean};
+ghost use Rattle.envy_layout.specs.Frames.{FramesStay};
+ghost use Rattle.envy_table.specs.Hits.{Rests};
+ghost use Rattle.envy_flush.specs.Agreement.{Ready, Steady};
+ghost use Rattle.envy_flush.specs.Budgets.{Budget};
+ghost use Rattle.envy_reloc.specs.Cleaning.{Cleans};
+ghost use Rattle.envy_flush.specs.Counts.{Counting};
+ghost use Rattle.envy_flush.specs.Flushing.{Granted, Follows, Ends, NotesBad};
+ghost use Rattle.envy_flush.specs.Ticks.{Begins, CountsNone};
+
+use crate::claiming::claim_at;
+use crate::jobs::{runs, tick_job};
+use crate::parts::Parts;
+use arrayvec::ArrayVec;
+use envy_base::{Board, Off, Trouble};
+use envy_layout::keeper;
+
+/// The rows that are moved to a neighbour: the kept rows of a position with the lowest numbers, four at most.
+fn kept_rows<B: Board>(board: &B, parts: &Parts, position: u32) -> Result<ArrayVec<u32, 4>, Off>
+    requires ready { Ready (chart (B.state board.now)) parts.now }
+    requires position { position < (B.state board.now).shape.segments - 1 }
+    ensures rows { IfOk result (λ rows. All (λ q. q / (B.state board.now).shape.rows ≡ slice_index parts.now.space.positions position) rows.items) }
+    ensures off { OnErr result ((B.state board.now).on ≡ false) }
+{
+    let segment = parts.space.segment_at(position);
+    let first = segment * board.shape().rows;
+    let mut rows = ArrayVec::new();
+    for i in 0..parts.space.fill(segment) {
+        if rows.is_full() {
+            return Ok(rows);
+        }
+        if keeper(board, first + i)?.is_some() {
+            rows.push(first + i);
+        }
+    }
+    Ok(rows)
+}
+
+/// The rows that a cleaning moves, and the first and last position that takes them.
+#[derive(Drop)]
+struct Plan {
+    moves: ArrayVec<u32, 4>,
+    neighbour: Option<(u32, u32)>,
+}
+
+/// What a cleaning moves, where a partition takes rows of it.
+fn planned<B: Board>(
+    board: &B,
+    parts: &Parts,
+    position: u32,
+    aside: Option<u32>,
+) -> Result<Plan, Off>
+    requires ready { Ready (chart (B.state board.now)) parts.now }
+    requires position { position < (B.state board.now).shape.segments - 1 }
+    requires aside { IfSome aside (λ g. g < length parts.now.chooser.heats) }
+    ensures rows { IfOk result (λ plan. All (λ q. q / (B.state board.now).shape.rows ≡ slice_index parts.now.space.positions position) plan.moves.items) }
+    ensures neighbour { IfOk result (λ plan. (first last : ℕ) → plan.neighbour ≡ Some (first, last) → (first ≤ last) × (last < (B.state board.now).shape.segments - 1)) }
+    ensures off { OnErr result ((B.state board.now).on ≡ false) }
+{
+    match aside {
+        None => Ok(Plan {
+            moves: ArrayVec::new(),
+            neighbour: None,
+        }),
+        Some(partition) => {
+            let (first, end) = parts.chooser.bounds(partition);
+            let moves = kept_rows(board, parts, position)?;
+            Ok(Plan {
+                moves,
+                neighbour: Some((first, end - 1)),
+            })
+        }
+    }
+}
+
+/// Begins to clean a position. Of its kept rows some are moved to the partition `aside`.
+pub fn begin_clean<B: Board>(
+    board: &mut B,
+    parts: &mut Parts,
+    position: u32,
+    aside: Option<u32>,
+) -> Result<(), Off>
+    requires ready { Ready (chart (B.state board.old)) parts.old }
+    requires idle { (chart (B.state board.old)).fields.job ≡ Some Idle }
+    requires position { position < (B.state board.old).shape.segments - 1 }
+    requires aside { IfSome aside (λ g. g < length parts.old.chooser.heats) }
+    ensures same { Same 0 0 (chart (B.state board.old)) (chart (B.state board.new)) }
+    ensures steady { Steady (chart (B.state board.new)) parts.new }
+    ensures begins { OnOk result (Begins position (chart (B.state board.old)) (chart (B.state board.new))) }
+    ensures fields { OnOk result (chart (B.state board.new) ≡ with_fields (chart (B.state board.old)) (with_job (Some (Copy (slice_index parts.old.space.positions position))) (chart (B.state board.old)).fields)) }
+    ensures chooser { OnOk result (parts.new.chooser ≡ cleaned parts.old.chooser position) }
+    ensures none { CountsNone parts.old parts.new }
+    ensures since { parts.new.reloc.since ≡ parts.old.reloc.since }
+    ensures parts { parts.new ≡ record parts.old { chooser = parts.new.chooser; reloc = parts.new.reloc } }
+    ensures on { OnOk result (IsTrue (B.state board.new).on) }
+    ensures off { OnErr result ((B.state board.new).on ≡ false) }
+{
+    let plan = planned(board, parts, position, aside)?;
+    parts
+        .reloc
+        .begin(board, &parts.space, position, plan.moves, plan.neighbour)?;
+    parts.chooser.note_clean(position);
+    Ok(())
+}
+
+/// Finishes a cleaning that has just begun at a position.
+fn finish_clean<B: Board>(board: &mut B, parts: &mut Parts, rows: u32) -> Result<(), Trouble>
+    requires ready { Ready (chart (B.state board.old)) parts.old }
+    requires budget { (n e s : ℕ) × Budget (chart (B.state board.old)) parts.old n e s × (n ≤ rows + 4) × (e ≤ 1) × (s ≤ rows + 7) }
+    requires none { parts.old.stages ≡ [] }
+    requires few { rows ≤ 65536 }
+    ensures same { Same (rows + 5) 2 (chart (B.state board.old)) (chart (B.state board.new)) }
+    ensures steady { Steady (chart (B.state board.new)) parts.new }
+    ensures counting { Counting (chart (B.state board.old)) parts.old (chart (B.state board.new)) parts.new }
+    ensures here { IsTrue (B.state board.new).on → FramesStay (chart (B.state board.old)).fields.places (chart (B.state board.new)).fields.places }
+    ensures parts { parts.new ≡ record parts.old { space = parts.new.space; cache = parts.new.cache; reloc = parts.new.reloc; stages = parts.new.stages } }
+    ensures rests { Rests parts.old.cache parts.new.cache }
+    ensures idle { OnOk result ((chart (B.state board.new)).fields.job ≡ Some Idle) }
+    ensures none { OnOk result (parts.new.stages ≡ []) }
+    ensures cleans { OnOk result ((positions : List ℕ) (k n : ℕ) → Cleans (B.state board.old).shape positions k n (chart (B.state board.old)).fields parts.old.reloc.erased → Cleans (B.state board.old).shape positions k n (chart (B.state board.new)).fields parts.new.reloc.erased) }
+    ensures on { OnOk result (IsTrue (B.state board.new).on) }
+    ensures off { (result ≡ Err Trouble.Off) ↔ ((B.state board.new).on ≡ false) }
+    ensures bad { IsErrOf result Trouble.Bad → (B.state board.old).bads < 2 ^ 64 - 1 → (B.state board.old).bads < (B.state board.new).bads }
+{
+    for _turn in 0..rows + 8 {
+        if !runs(board)? {
+            return Ok(());
+        }
+        tick_job(board, parts)?;
+    }
+    unreachable!()
+}
+
+/// Relocates a position, and ends that.
+fn run_clean<B: Board>(
+    board: &mut B,
+    parts: &mut Parts,
+    position: u32,
+    aside: Option<u32>,
+) -> Result<(), Trouble>
+    requires ready { Ready (chart (B.state board.old)) parts.old }
+    requires idle { (chart (B.state board.old)).fields.job ≡ Some Idle }
+    requires stages { parts.old.stages ≡ [] }
+    requires position { position < (B.state board.old).shape.segments - 1 }
+    requires aside { IfSome aside (λ g. g < length parts.old.chooser.heats) }
+    requires dead { (d : ℕ) × (d / (B.state board.old).shape.rows ≡ slice_index (chart (B.state board.old)).fields.positions position) × ((p : ℕ) → Names (chart (B.state board.old)).fields p d → ⊥) }
+    ensures same { Same ((B.state board.old).shape.rows + 5) 2 (chart (B.state board.old)) (chart (B.state board.new)) }
+    ensures steady { Steady (chart (B.state board.new)) parts.new }
+    ensures counting { Counting (chart (B.state board.old)) parts.old (chart (B.state board.new)) parts.new }
+    ensures parts { parts.new ≡ record parts.old { space = parts.new.space; cache = parts.new.cache; reloc = parts.new.reloc; stages = parts.new.stages; chooser = parts.new.chooser } }
+    ensures here { IsTrue (B.state board.new).on → FramesStay (chart (B.state board.old)).fields.places (chart (B.state board.new)).fields.places }
+    ensures rests { Rests parts.old.cache parts.new.cache }
+    ensures idle { OnOk result ((chart (B.state board.new)).fields.job ≡ Some Idle) }
+    ensures none { OnOk result (parts.new.stages ≡ []) }
+    ensures chooser { OnOk result (parts.new.chooser ≡ cleaned parts.old.chooser position) }
+    ensures noted { IsErrOf result Trouble.Bad → parts.new.chooser ≡ cleaned parts.old.chooser position }
+    ensures cleans { OnOk result (Cleans (B.state board.old).shape (chart (B.state board.old)).fields.positions position parts.old.reloc.erased (chart (B.state board.new)).fields parts.new.reloc.erased) }
+    ensures on { OnOk result (IsTrue (B.state board.new).on) }
+    ensures off { (result ≡ Err Trouble.Off) ↔ ((B.state board.new).on ≡ false) }
+    ensures bad { IsErrOf result Trouble.Bad → (B.state board.old).bads < 2 ^ 64 - 1 → (B.state board.old).bads < (B.state board.new).bads }
+{
+    let rows = board.shape().rows;
+    begin_clean(board, parts, position, aside)?;
+    let _few = parts.reloc.left();
+    finish_clean(board, parts, rows)
+}
+
+/// Cleans a position and claims a row there.
+pub fn clean<B: Board>(
+    board: &mut B,
+    parts: &mut Parts,
+    position: u32,
+    aside: Option<u32>,
+    page: u32,
+) -> Result<u32, Trouble>
+    requires ready { Ready (chart (B.state board.old)) parts.old }
+    requires idle { (chart (B.state board.old)).fields.job ≡ Some Idle }
+    requires stages { parts.old.stages ≡ [] }
+    requires position { position < (B.state board.old).shape.segments - 1 }
+    requires aside { IfSome aside (λ g. g < length parts.old.chooser.heats) }
+    requires dead { (d : ℕ) × (d / (B.state board.old).shape.rows ≡ slice_index (chart (B.state board.old)).fields.positions position) × ((p : ℕ) → Names (chart (B.state board.old)).fields p d → ⊥) }
+    requires page { page < (B.state board.old).shape.pages }
+    ensures same { Same ((B.state board.old).shape.rows + 5) 2 (chart (B.state board.old)) (chart (B.state board.new)) }
+    ensures steady { Steady (chart (B.state board.new)) parts.new }
+    ensures granted { IfOk result (λ row. Granted (B.state board.new).shape (chart (B.state board.new)).fields page row) }
+    ensures erased { IfOk result (λ row. row_of (B.state board.new) row ≡ ones) }
+    ensures counting { Counting (chart (B.state board.old)) parts.old (chart (B.state board.new)) parts.new }
+    ensures frames { parts.new.frames ≡ parts.old.frames }
+    ensures here { IsTrue (B.state board.new).on → FramesStay (chart (B.state board.old)).fields.places (chart (B.state board.new)).fields.places }
+    ensures flushes { parts.new.flushes ≡ parts.old.flushes }
+    ensures rests { Rests parts.old.cache parts.new.cache }
+    ensures noted { IsErrOf result Trouble.Bad → NotesBad (Clean position aside) parts.old parts.new }
+    ensures follows { IfOk result (λ row. Follows (Clean position aside) row (chart (B.state board.old)) parts.old (chart (B.state board.new)) parts.new) }
+    ensures ends { OnOk result (Ends (chart (B.state board.old)) parts.old (chart (B.state board.new)) parts.new) }
+    ensures on { OnOk result (IsTrue (B.state board.new).on) }
+    ensures off { (result ≡ Err Trouble.Off) ↔ ((B.state board.new).on ≡ false) }
+    ensures bad { IsErrOf result Trouble.Bad → (B.state board.old).bads < 2 ^ 64 - 1 → (B.state board.old).bads < (B.state board.new).bads }
+{
+    run_clean(board, parts, position, aside)?;
+    Ok(claim_at(board, parts, position, page)?)
+}

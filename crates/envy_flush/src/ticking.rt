@@ -1,0 +1,141 @@
+ghost use Rattle.std.specs.Prelude.{◌≡◌, ◌≢◌, ◌⊎◌, ◌↔◌, ◌-◌, ◌^◌, ◌<◌, ◌≤◌, ℕ, false, IsTrue, [], Some, Err, IfOk, OnOk, OnErr, IsErrOf, slice_get, slice_index, Ok, length};
+ghost use Rattle.envy_base.specs.declared.fields.Job.TheVariants.{Idle};
+ghost use Rattle.envy_map.specs.Fields.{chart};
+ghost use Rattle.envy_layout.specs.Same.{Same};
+ghost use Rattle.envy_policy.specs.declared.choice.Choice.TheVariants.{Free};
+ghost use Rattle.envy_table.specs.Hits.{Rests};
+ghost use Rattle.envy_reloc.specs.Phases.{SameOnce};
+ghost use Rattle.envy_flush.specs.Agreement.{Ready, Steady};
+ghost use Rattle.envy_flush.specs.Counts.{Counting};
+ghost use Rattle.envy_flush.specs.Choosing.{ChoiceFor};
+ghost use Rattle.envy_flush.specs.Ticks.{IsNoneDue, TicksChoice, TicksFlush, TicksSwap, TicksNone, TicksBy, TicksBad, StopsFlush, CountsTick};
+
+use crate::claiming::claim_at;
+use crate::cleaning::begin_clean;
+use crate::did::Did;
+use crate::flushing::flush_into;
+use crate::jobs::{runs, tick_job, tick_stage};
+use crate::parts::Parts;
+use crate::programming::one_more;
+use arrayvec::ArrayVec;
+use envy_base::{Board, Off, Trouble};
+use envy_frames::Held;
+use envy_policy::Choice;
+use envy_wear::due;
+
+/// Programs the oldest held page into the next free row of a position.
+fn flush_at<B: Board>(
+    board: &mut B,
+    parts: &mut Parts,
+    held: Held,
+    position: u32,
+) -> Result<(), Trouble>
+    requires ready { Ready (chart (B.state board.old)) parts.old }
+    requires idle { (chart (B.state board.old)).fields.job ≡ Some Idle }
+    requires oldest { slice_get parts.old.frames.held 0 ≡ Some held }
+    requires position { position < (B.state board.old).shape.segments - 1 }
+    requires room { slice_index parts.old.space.fills (slice_index parts.old.space.positions position) < (B.state board.old).shape.rows }
+    requires chosen { ChoiceFor parts.old.chooser parts.old.space held.home (Free position) }
+    ensures same { Same 1 0 (chart (B.state board.old)) (chart (B.state board.new)) }
+    ensures steady { Steady (chart (B.state board.new)) parts.new }
+    ensures counting { Counting (chart (B.state board.old)) parts.old (chart (B.state board.new)) parts.new }
+    ensures does { OnOk result (TicksChoice (Free position) Did.Flushed (chart (B.state board.old)) parts.old (chart (B.state board.new)) parts.new) }
+    ensures stops { IsErrOf result Trouble.Bad → StopsFlush (chart (B.state board.old)) parts.old (chart (B.state board.new)) parts.new }
+    ensures rests { Rests parts.old.cache parts.new.cache }
+    ensures stages { parts.new.stages ≡ parts.old.stages }
+    ensures off { (result ≡ Err Trouble.Off) ↔ ((B.state board.new).on ≡ false) }
+    ensures bad { IsErrOf result Trouble.Bad → (B.state board.old).bads < 2 ^ 64 - 1 → (B.state board.old).bads < (B.state board.new).bads }
+{
+    let row = claim_at(board, parts, position, held.page)?;
+    flush_into(board, parts, held.page, held.frame, row)
+}
+
+/// The third rule: by the choice for the oldest held page it is flushed, or a cleaning begins.
+pub fn tick_flush<B: Board>(board: &mut B, parts: &mut Parts) -> Result<Did, Trouble>
+    requires ready { Ready (chart (B.state board.old)) parts.old }
+    requires idle { (chart (B.state board.old)).fields.job ≡ Some Idle }
+    requires stages { parts.old.stages ≡ [] }
+    requires some { parts.old.frames.held ≢ [] }
+    ensures same { Same 1 0 (chart (B.state board.old)) (chart (B.state board.new)) }
+    ensures steady { Steady (chart (B.state board.new)) parts.new }
+    ensures counting { Counting (chart (B.state board.old)) parts.old (chart (B.state board.new)) parts.new }
+    ensures does { IfOk result (λ did. TicksFlush did (chart (B.state board.old)) parts.old (chart (B.state board.new)) parts.new) }
+    ensures stops { IsErrOf result Trouble.Bad → StopsFlush (chart (B.state board.old)) parts.old (chart (B.state board.new)) parts.new }
+    ensures rests { Rests parts.old.cache parts.new.cache }
+    ensures off { (result ≡ Err Trouble.Off) ↔ ((B.state board.new).on ≡ false) }
+    ensures bad { IsErrOf result Trouble.Bad → (B.state board.old).bads < 2 ^ 64 - 1 → (B.state board.old).bads < (B.state board.new).bads }
+{
+    let Some(held) = parts.frames.oldest() else {
+        unreachable!();
+    };
+    match parts.survey.choose(&parts.space, &parts.chooser, held.home) {
+        Choice::Free { position } => {
+            flush_at(board, parts, held, position)?;
+            Ok(Did::Flushed)
+        }
+        Choice::Clean { position, aside } => {
+            begin_clean(board, parts, position, aside)?;
+            Ok(Did::Began)
+        }
+    }
+}
+
+/// The fourth rule: a swap begins where one is due. Else nothing is done.
+pub fn tick_swap<B: Board>(board: &mut B, parts: &mut Parts, limit: u64) -> Result<Did, Trouble>
+    requires ready { Ready (chart (B.state board.old)) parts.old }
+    requires idle { (chart (B.state board.old)).fields.job ≡ Some Idle }
+    requires stages { parts.old.stages ≡ [] }
+    ensures same { Same 0 0 (chart (B.state board.old)) (chart (B.state board.new)) }
+    ensures steady { Steady (chart (B.state board.new)) parts.new }
+    ensures does { IfOk result (λ did. TicksSwap limit did (chart (B.state board.old)) parts.old (chart (B.state board.new)) parts.new ⊎ TicksNone limit did (chart (B.state board.old)) parts.old (chart (B.state board.new)) parts.new) }
+    ensures counts { CountsTick (chart (B.state board.old)) parts.old (chart (B.state board.new)) parts.new }
+    ensures idle { IsNoneDue limit (chart (B.state board.old)) parts.old.reloc.since → result ≡ Ok Did.Idle }
+    ensures still { OnErr result (Counting (chart (B.state board.old)) parts.old (chart (B.state board.new)) parts.new) }
+    ensures never { IsErrOf result Trouble.Bad → ⊥ }
+    ensures rests { Rests parts.old.cache parts.new.cache }
+    ensures off { (result ≡ Err Trouble.Off) ↔ ((B.state board.new).on ≡ false) }
+{
+    let Some(swap) = due(board, limit, parts.reloc.since())? else {
+        return Ok(Did::Idle);
+    };
+    parts
+        .reloc
+        .begin(board, &parts.space, swap.worn, ArrayVec::new(), None)?;
+    parts.stages.start(swap);
+    let _begun = parts.stages.next();
+    parts.swaps = one_more(parts.swaps);
+    parts.reloc.count_anew();
+    Ok(Did::Began)
+}
+
+/// The first rule that applies.
+pub fn tick_ruled<B: Board>(
+    board: &mut B,
+    parts: &mut Parts,
+    limit: u64,
+    mark: u32,
+) -> Result<Did, Trouble>
+    requires ready { Ready (chart (B.state board.old)) parts.old }
+    requires some { 1 ≤ mark }
+    ensures step { SameOnce (chart (B.state board.old)) (chart (B.state board.new)) }
+    ensures steady { Steady (chart (B.state board.new)) parts.new }
+    ensures does { IfOk result (λ did. TicksBy limit mark did (chart (B.state board.old)) parts.old (chart (B.state board.new)) parts.new) }
+    ensures stops { IsErrOf result Trouble.Bad → TicksBad mark (chart (B.state board.old)) parts.old (chart (B.state board.new)) parts.new }
+    ensures counts { CountsTick (chart (B.state board.old)) parts.old (chart (B.state board.new)) parts.new }
+    ensures idle { (chart (B.state board.old)).fields.job ≡ Some Idle → parts.old.stages ≡ [] → length parts.old.frames.held < mark → IsNoneDue limit (chart (B.state board.old)) parts.old.reloc.since → result ≡ Ok Did.Idle }
+    ensures still { OnErr result (Counting (chart (B.state board.old)) parts.old (chart (B.state board.new)) parts.new) }
+    ensures rests { Rests parts.old.cache parts.new.cache }
+    ensures off { (result ≡ Err Trouble.Off) ↔ ((B.state board.new).on ≡ false) }
+    ensures bad { IsErrOf result Trouble.Bad → (B.state board.old).bads < 2 ^ 64 - 1 → (B.state board.old).bads < (B.state board.new).bads }
+{
+    if runs(board)? {
+        return tick_job(board, parts);
+    }
+    if parts.stages.pending() {
+        return tick_stage(board, parts);
+    }
+    if parts.frames.used() >= mark {
+        return tick_flush(board, parts);
+    }
+    tick_swap(board, parts, limit)
+}
