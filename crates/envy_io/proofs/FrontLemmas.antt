@@ -1,5 +1,7 @@
 -- A search for a newline, and what it tells of the front of the bytes.
-use Rattle.std.proofs.Common.{◌≡◌, ◌≢◌, ℕ, ◌+◌, ◌<◌, ◌≤◌, min, false, ◌==◌, List, ◌∷◌, ◌++◌, length, take, drop, get_or, Some, None, ap, sym, ◌∙◌, arith, subst}
+use Rattle.std.proofs.Common.{◌≡◌, ◌≢◌, ℕ, ◌+◌, ◌<◌, ◌≤◌, min, false, ◌==◌, List, ◌∷◌, ◌++◌, length, take, drop, get_or, Option, Some, None, inl, inr, refl, ap, sym, ◌∙◌, arith, subst}
+use Rattle.memchr.specs.Find.{IsFirstByte, is_byte}
+use Rattle.std.proofs.lemmas.Bool.{false≢true, cases_lt}
 use Rattle.std.proofs.lemmas.Bool.Decides.{nat_tests}
 use Rattle.std.proofs.lemmas.List.{take-append-drop, drop_more, get_or-take, take-take, take_all, length-take}
 use Rattle.std.proofs.lemmas.List.Elements.{recursion_from_All, All-from_get_or}
@@ -41,6 +43,27 @@ module _ (bytes : List ℕ) where
   none-at-all is =
       let far = past-all is in
       NoNewline-tested bytes (λ k within. fails_before_first (λ b. b == newline) bytes k 0 (omega arith))
+
+-- a first place is where the position is
+first-position : (bytes : List ℕ) (r p : Option ℕ) → position (λ b. b == newline) bytes ≡ p → IsFirstByte (is_byte newline) bytes r → r ≡ p
+first-position bytes None None is nowhere = refl
+first-position bytes None (Some n) is nowhere =
+    absurd (nowhere n (omega arith) (first-within bytes n is) ((position-Some (λ b. b == newline) bytes n 0 is).1))
+first-position bytes (Some k) None is (first, passes) =
+    let far = past-all bytes is in
+    let high = first.high in
+    absurd (false≢true (sym (fails_before_first (λ b. b == newline) bytes k 0 (omega arith)) ∙ passes))
+first-position bytes (Some k) (Some n) is (first, passes) =
+    elim (cases_lt k n) [
+      | inl lt ↦ absurd (false≢true (sym ((position-Some (λ b. b == newline) bytes n 0 is).2 k lt) ∙ passes))
+      | inr ge ↦ elim (cases_lt n k) [
+        | inl less ↦ absurd (first.before n (omega arith) less ((position-Some (λ b. b == newline) bytes n 0 is).1))
+        | inr le ↦ ap Some (omega arith)
+      ]
+    ]
+
+pub found-position : (bytes : List ℕ) (r : Option ℕ) → IsFirstByte (is_byte newline) bytes r → r ≡ position (λ b. b == newline) bytes
+found-position bytes r first = first-position bytes r (position (λ b. b == newline) bytes) refl first
 
 -- the part before an element, the element, and the part behind it
 split-at : (xs : List ℕ) (n x : ℕ) → n < length xs → get_or xs n 0 ≡ x → xs ≡ take n xs ++ x ∷ drop (n + 1) xs

@@ -1,4 +1,5 @@
 pub mod Counts
+pub mod Fetched
 pub mod FillsLemmas
 pub mod FrontLemmas
 pub mod LinesLemmas

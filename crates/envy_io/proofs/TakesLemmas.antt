@@ -16,7 +16,7 @@ with_front-with_front a b None = refl
 with_front-with_front a b (Some bytes) = ap Some (sym (append_assoc a b bytes))
 
 -- a measure of how often the source may still be asked
-pub askings : Taking → ℕ
+unfoldable pub askings : Taking → ℕ
 askings t = t.cap - t.taken + cond t.ended 0 1
 
 pub Gathers-more : (old mid new : Taking) (from feed to : Feed) (piece : List ℕ) → Gathers old from mid feed → Wants mid → Asks mid feed piece new to → Gathers old from new to
@@ -38,7 +38,7 @@ Gathers-more old mid new from feed to piece g wants asks =
       held = asks.held ∙ (ap (λ (bytes : List ℕ). bytes ++ piece) g.held ∙ append_assoc old.held g.got piece);
     }
 
-fewer : (cap new_cap taken new_taken n : ℕ) (ended new_ended : Bool) → ended ≡ false → taken < cap → new_cap ≡ cap → new_taken ≡ taken + n → IsTrue new_ended ⊎ (0 < n) → new_cap - new_taken + cond new_ended 0 1 < cap - taken + cond ended 0 1
+pub fewer : (cap new_cap taken new_taken n : ℕ) (ended new_ended : Bool) → ended ≡ false → taken < cap → new_cap ≡ cap → new_taken ≡ taken + n → IsTrue new_ended ⊎ (0 < n) → new_cap - new_taken + cond new_ended 0 1 < cap - taken + cond ended 0 1
 fewer cap new_cap taken new_taken n true new_ended going below caps more goes = absurd (false≢true (sym going))
 fewer cap new_cap taken new_taken n false true going below caps more goes = omega arith
 fewer cap new_cap taken new_taken n false false going below caps more (inl ended) = absurd (false≢true ended)

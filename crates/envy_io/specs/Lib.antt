@@ -1,4 +1,5 @@
 pub mod Asking
+pub mod Fetching
 pub mod InMemory
 pub mod Lines
 pub mod Streams

@@ -42,10 +42,11 @@ abbrev pub IsDry : Option (List ℕ) → Type 0
 IsDry left = IfSome left (λ bytes. bytes ≡ [])
 
 -- What one `fill` of a slice does; the slice is seen as it is after the call. The answer n says that its
--- first n bytes are the next n that were left. So 0 comes exactly where none is left.
+-- first n bytes are the next n that were left. So 0 comes exactly where none is left. No fault is counted with
+-- such an answer, so that none can be told as the end.
 abbrev pub Fills : Feed → List ℕ → Result ℕ Failed → Feed → Type 0
 Fills old slice (Ok n) new =
-    (n ≤ length slice) × (old.left ≡ with_front (take n slice) new.left) × (n ≡ 0 → IsDry old.left) × (old.faults ≤ new.faults)
+    (n ≤ length slice) × (old.left ≡ with_front (take n slice) new.left) × (n ≡ 0 → IsDry old.left) × (new.faults ≡ old.faults)
 Fills old slice (Err failed) new = (new.left ≡ old.left) × Rises old.faults new.faults
 
 -- What one `write_some` of a piece does. The answer n says that the first n bytes of the piece were taken.

@@ -7,7 +7,7 @@ mod plan;
 mod sink;
 mod source;
 
-pub use lines::{Lines, Next};
+pub use lines::{Got, Lines, Next};
 pub use sink::{MemSink, NoMemory, Sink, write_all};
 pub use source::{Failed, MemSource, Source};
 

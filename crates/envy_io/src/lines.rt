@@ -1,4 +1,4 @@
-ghost use Rattle.std.specs.Prelude.{◌≡◌, ◌==◌, ◌↔◌, ◌≤◌, ◌+◌, ℕ, List, [], ◌++◌, length, drop, false, IsTrue, OnErr, OnOk};
+ghost use Rattle.std.specs.Prelude.{◌≡◌, ◌==◌, ◌↔◌, ◌≤◌, ◌+◌, ℕ, List, [], ◌++◌, length, drop, false, IsTrue, IfOk, OnErr, OnOk};
 ghost use Rattle.std.specs.List.{position};
 ghost use Rattle.arrayvec.specs.ArrayVec.{array_vec_len};
 ghost use Rattle.envy_io.specs.Lines.{newline};
@@ -7,7 +7,12 @@ ghost use Rattle.envy_io.specs.Asking.{BeginsWith};
 
 use crate::{Failed, Source};
 use arrayvec::ArrayVec;
+use memchr::memchr;
 use std::marker::Model;
+
+mod fetching;
+
+pub use fetching::Got;
 
 /// The most bytes that a line has before its newline.
 const LINE: usize = 120;
@@ -45,13 +50,15 @@ enum Front {
 }
 
 // Where the first newline stands.
+#[inline(always)]
 fn newline_in(bytes: &[u8]) -> Option<usize>
     ensures { result ≡ position (λ b. b == newline) bytes.now }
 {
-    bytes.iter().position(|b| *b == b'\n')
+    memchr(b'\n', bytes)
 }
 
 // What the bytes begin with.
+#[inline(always)]
 fn front_of(held: &[u8]) -> Front
     ensures { BeginsWith held.now result }
 {
@@ -69,11 +76,12 @@ fn drop_front<const N: usize>(bytes: &mut ArrayVec<u8, N>, count: usize)
     ensures { bytes.new.items ≡ drop count bytes.old.items }
 {
     let kept = bytes.len() - count;
-    bytes.as_mut_slice().rotate_left(count);
+    bytes.as_mut_slice().copy_within(count.., 0);
     bytes.truncate(kept);
 }
 
 // Puts bytes at the end. There must be room.
+#[inline(always)]
 fn append<const N: usize>(bytes: &mut ArrayVec<u8, N>, more: &[u8])
     requires { array_vec_len bytes.old + length more.now ≤ N }
     ensures { bytes.new.items ≡ bytes.old.items ++ more.now }
@@ -145,11 +153,13 @@ impl Lines {
         &self.buffer[self.given..]
     }
 
-    // Whether the source is to be asked.
-    fn wants(&self) -> bool
+    // Whether the source is to be asked, where the bytes held begin so.
+    #[inline(always)]
+    fn wants(&self, front: Front) -> bool
+        requires { BeginsWith self.now.held front }
         ensures { IsTrue result ↔ Wants self.now }
     {
-        !self.ended && self.taken < self.cap && matches!(front_of(self.held()), Front::Open)
+        !self.ended && self.taken < self.cap && matches!(front, Front::Open)
     }
 
     // Asks the source once.
@@ -172,30 +182,35 @@ impl Lines {
         Ok(())
     }
 
-    // Asks the source for as long as it is to be asked.
-    fn gather<S: Source>(&mut self, source: &mut S) -> Result<(), Failed>
+    // Asks the source for as long as it is to be asked, and answers what the bytes held begin with.
+    fn gather<S: Source>(&mut self, source: &mut S) -> Result<Front, Failed>
         ensures gathers { Gathers self.old (S.feed source.old) self.new (S.feed source.new) }
         ensures ok { OnOk result (¬ Wants self.new) }
+        ensures front { IfOk result (λ front. BeginsWith self.new.held front) }
         ensures err { OnErr result (Wants self.new) }
         ensures failed { OnErr result (Rises (S.feed source.old).faults (S.feed source.new).faults) }
         ensures unasked { ¬ Wants self.old → (self.new ≡ self.old) × (source.new ≡ source.old) }
     {
         // The loop keeps what holds of the fields, so they are looked at first.
         let _ = &self.cap;
-        while self.wants() {
+        let mut front = front_of(self.held());
+        'asking: while self.wants(front) {
             self.ask(source)?;
+            front = front_of(self.held());
         }
-        Ok(())
+        Ok(front)
     }
 
     // Gives the next line of the bytes held, where the source isn't to be asked.
-    fn give(&mut self, line: &mut ArrayVec<u8, 120>) -> Next
+    #[inline(always)]
+    fn give(&mut self, front: Front, line: &mut ArrayVec<u8, 120>) -> Next
+        requires begins { BeginsWith self.old.held front }
         requires done { ¬ Wants self.old }
         requires empty { line.old.items ≡ [] }
         ensures same { self.new ≡ record self.old { held = self.new.held } }
         ensures answers { (from to : Feed) → Answers result self.old.held line.new.items self.new from to }
     {
-        match front_of(self.held()) {
+        match front {
             Front::Line(length) => {
                 append(line, &self.held()[..length]);
                 self.given += length + 1;
@@ -221,7 +236,7 @@ impl Lines {
     {
         line.clear();
         match self.gather(source) {
-            Ok(()) => self.give(line),
+            Ok(front) => self.give(front, line),
             Err(Failed) => Next::Failed,
         }
     }

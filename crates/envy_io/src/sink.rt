@@ -37,6 +37,7 @@ pub trait Sink {
 /// # Errors
 ///
 /// `Failed` where the sink failed, which it counts. A proper prefix of the piece was written then.
+#[inline(always)]
 pub fn write_all<K: Sink>(sink: &mut K, piece: &[u8]) -> Result<(), Failed>
     ensures writes { WritesAll (K.drain sink.old) piece.now result (K.drain sink.new) }
     ensures uncalled { piece.now ≡ [] → sink.new ≡ sink.old }

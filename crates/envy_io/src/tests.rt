@@ -1,4 +1,4 @@
-use crate::{Failed, Lines, MemSink, MemSource, Next, Sink, Source, write_all};
+use crate::{Failed, Got, Lines, MemSink, MemSource, Next, Sink, Source, write_all};
 use arrayvec::ArrayVec;
 use std::alloc::{AllocError, Global};
 use std::process::Abort;
@@ -150,5 +150,47 @@ fn writes_and_flushes_are_counted_together(rt: HostRuntime) -> Result<(), Fail> 
     assert!(&rt; write_all(&mut sink, b"7\n") == Ok(()));
     assert!(&rt; write_all(&mut sink, b"range\n") == Err(Failed));
     assert!(&rt; sink.written() == b"ok\n7\n".as_slice());
+    Ok(())
+}
+
+#[test]
+fn bytes_are_the_same_in_any_pieces(rt: HostRuntime) -> Result<(), Fail> {
+    for piece in 1..12 {
+        let mut source = source_of(rt.alloc(), b"ab\ncdefgh\nij", piece, &[])?;
+        let mut lines = Lines::new(1000);
+        let mut line = ArrayVec::new();
+        let mut bytes = [0; 4];
+        assert!(&rt; lines.next_line(&mut source, &mut line) == Next::Line);
+        assert!(&rt; lines.next_bytes(&mut source, &mut bytes) == Got::Whole);
+        assert!(&rt; bytes.as_slice() == b"cdef".as_slice());
+        assert!(&rt; lines.next_line(&mut source, &mut line) == Next::Line);
+        assert!(&rt; line.as_slice() == b"gh".as_slice());
+        assert!(&rt; lines.next_bytes(&mut source, &mut bytes) == Got::Short);
+        assert!(&rt; lines.next_line(&mut source, &mut line) == Next::End);
+    }
+    Ok(())
+}
+
+#[test]
+fn no_byte_is_taken_beyond_what_is_asked(rt: HostRuntime) -> Result<(), Fail> {
+    let mut source = source_of(rt.alloc(), b"abcdef", 100, &[])?;
+    let mut lines = Lines::new(5);
+    let mut bytes = [0; 4];
+    assert!(&rt; lines.next_bytes(&mut source, &mut bytes) == Got::Whole);
+    assert_eq!(&rt; lines.taken(), 4);
+    assert!(&rt; lines.next_bytes(&mut source, &mut bytes) == Got::Spent);
+    assert_eq!(&rt; lines.taken(), 5);
+    Ok(())
+}
+
+#[test]
+fn bytes_before_a_failed_read_are_used_up(rt: HostRuntime) -> Result<(), Fail> {
+    let mut source = source_of(rt.alloc(), b"abcdefgh", 2, &[2])?;
+    let mut lines = Lines::new(100);
+    let mut bytes = [0; 4];
+    assert!(&rt; lines.next_bytes(&mut source, &mut bytes) == Got::Failed);
+    assert_eq!(&rt; lines.taken(), 2);
+    assert!(&rt; lines.next_bytes(&mut source, &mut bytes) == Got::Whole);
+    assert!(&rt; bytes.as_slice() == b"cdef".as_slice());
     Ok(())
 }

@@ -9,6 +9,7 @@ const MOST_BYTES: usize = 120;
 
 /// Splits the command word off a line: it, and the bytes after it. `None` where the line is empty or a
 /// comment. The fault is `Long`.
+#[inline(always)]
 pub fn split_command(line: &[u8]) -> Result<Option<(&[u8], &[u8])>, LineFault>
     ensures { MatchResult result
         (λ found. (length line.now ≤ 120)
@@ -25,6 +26,7 @@ pub fn split_command(line: &[u8]) -> Result<Option<(&[u8], &[u8])>, LineFault>
 }
 
 // One carriage return at the very end doesn't belong to the line.
+#[inline(always)]
 fn without_return(line: &[u8]) -> &[u8]
     ensures { result.now ≡ without_return line.now }
 {
@@ -32,6 +34,7 @@ fn without_return(line: &[u8]) -> &[u8]
 }
 
 /// Splits off the first field: it, and the bytes after it. `None` where no field is left.
+#[inline(always)]
 pub fn next_field(bytes: &[u8]) -> Option<(&[u8], &[u8])>
     ensures { MatchOption result (pieces bytes.now ≡ [])
         (λ found. pieces bytes.now ≡ found.0.now ∷ pieces found.1.now) }
@@ -42,18 +45,21 @@ pub fn next_field(bytes: &[u8]) -> Option<(&[u8], &[u8])>
     Some(rest.split_at(end))
 }
 
+#[inline(always)]
 fn field_start(bytes: &[u8]) -> Option<usize>
     ensures { result ≡ position (λ byte. not (is_blank byte)) bytes.now }
 {
     bytes.iter().position(|byte| !is_blank(*byte))
 }
 
+#[inline(always)]
 fn field_end(bytes: &[u8]) -> Option<usize>
     ensures { result ≡ position is_blank bytes.now }
 {
     bytes.iter().position(|byte| is_blank(*byte))
 }
 
+#[inline(always)]
 fn is_blank(byte: u8) -> bool
     ensures { result ≡ is_blank byte }
 {

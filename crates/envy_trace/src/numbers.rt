@@ -10,6 +10,7 @@ use crate::fields::next_field;
 
 /// Reads a number: one decimal digit or more, of a value within the bounds. Leading zeros make no
 /// difference. The fault is `Number`.
+#[inline(always)]
 pub fn read_number(field: &[u8], bounds: Bounds) -> Result<u64, LineFault>
     ensures { result ≡ number_in bounds field.now }
 {
@@ -20,6 +21,7 @@ pub fn read_number(field: &[u8], bounds: Bounds) -> Result<u64, LineFault>
 }
 
 // What decimal digits come to, within 64 bits.
+#[inline(always)]
 fn value(field: &[u8]) -> Option<u64>
     ensures { SomeIff result
         (IsTrue (all_ascii_digits field.now) × (digits_value 10 field.now < 2 ^ 64))
@@ -36,6 +38,7 @@ fn value(field: &[u8]) -> Option<u64>
 }
 
 // The first field, and the bytes after it.
+#[inline(always)]
 fn need_field(rest: &[u8]) -> Result<(&[u8], &[u8]), LineFault>
     ensures { MatchResult result
         (λ found. pieces rest.now ≡ found.0.now ∷ pieces found.1.now)
@@ -45,6 +48,7 @@ fn need_field(rest: &[u8]) -> Result<(&[u8], &[u8]), LineFault>
 }
 
 /// Nothing is left. The fault is `Count`.
+#[inline(always)]
 pub fn no_number(rest: &[u8]) -> Result<(), LineFault>
     ensures { result ≡ none tt (pieces rest.now) }
 {
@@ -55,6 +59,7 @@ pub fn no_number(rest: &[u8]) -> Result<(), LineFault>
 }
 
 /// The one number that is left. The fault is `Count` or `Number`.
+#[inline(always)]
 pub fn one_number(rest: &[u8], bounds: Bounds) -> Result<u64, LineFault>
     ensures value { result ≡ one bounds (λ x. x) (pieces rest.now) }
     ensures within { IfOk result (λ x. x ≤ bounds.greatest) }
@@ -65,6 +70,7 @@ pub fn one_number(rest: &[u8], bounds: Bounds) -> Result<u64, LineFault>
 }
 
 /// The two numbers that are left. The fault is `Count` or `Number`.
+#[inline(always)]
 pub fn two_numbers(rest: &[u8], first: Bounds, second: Bounds) -> Result<(u64, u64), LineFault>
     ensures value { result ≡ two first second (λ x y. (x, y)) (pieces rest.now) }
     ensures within { IfOk result (λ p. (p.0 ≤ first.greatest) × (p.1 ≤ second.greatest)) }

@@ -1,18 +1,20 @@
 use Rattle.std.proofs.Common.{subst}
+use Rattle.envy_io.specs.Asking.{BeginsWith}
 use Rattle.envy_io.specs.Taking.{Wants}
 use Rattle.envy_io.proofs.TakesLemmas.{Gathers-more, askings-fewer}
 use Rattle.envy_io.proofs.lines.Lines.gather.Goals as goal
 
-pub loop-self-smaller : goal.loop-self-smaller
-loop-self-smaller g c =
+pub asking-smaller : goal.asking-smaller
+asking-smaller g c =
     let (piece, asks) = c.in_ok-ask.ensures.ok in
-    askings-fewer _ _ _ _ piece (c.wants.ensures.0 c.loop-self-test.true) asks
+    askings-fewer _ _ _ _ piece (c.wants.ensures.0 c.asking-test.true) asks
 
-pub loop-self-preserved : goal.loop-self-preserved
-loop-self-preserved g c =
-    let wants = c.wants.ensures.0 c.loop-self-test.true in
+pub asking-preserved : goal.asking-preserved
+asking-preserved g c =
+    let wants = c.wants.ensures.0 c.asking-test.true in
     let (piece, asks) = c.in_ok-ask.ensures.ok in
     record {
-      gathers = Gathers-more _ c.loop-self.self _ _ (g.S.Source.feed c.loop-self.source) _ piece c.loop-self.invariant.gathers wants asks;
-      unasked = λ refuses. absurd (refuses (subst Wants (c.loop-self.invariant.unasked refuses).0 wants));
+      gathers = Gathers-more _ c.asking.self _ _ (g.S.Source.feed c.asking.source) _ piece c.asking.invariant.gathers wants asks;
+      unasked = λ refuses. absurd (refuses (subst Wants (c.asking.invariant.unasked refuses).0 wants));
+      front = subst (λ bytes. BeginsWith bytes c.front_of-front-in-asking.result) c.held-in-asking.ensures c.front_of-front-in-asking.ensures;
     }
