@@ -1,0 +1,10 @@
+-- Which fault of reading an image a stop of its bytes is.
+use Rattle.envy_image.specs.declared.reading.HeadFault.{HeadFault}
+use Rattle.envy_image.specs.declared.reading.HeadFault.TheVariants.{Short, Failed, Spent}
+use Rattle.envy_image.specs.declared.reading.Stop.{Stop}
+use Rattle.envy_image.specs.declared.reading.Stop.TheVariants.{Short as StopShort, Failed as StopFailed, Spent as StopSpent}
+
+abbrev pub head_fault : Stop → HeadFault
+head_fault StopShort = Short
+head_fault StopFailed = Failed
+head_fault StopSpent = Spent

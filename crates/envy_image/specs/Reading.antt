@@ -1,0 +1,67 @@
+-- What reading bytes of an image does.
+use Rattle.std.specs.Prelude.{◌≡◌, ◌≢◌, ◌⊎◌, ℕ, ◌<◌, false, IsTrue, List, [], ◌++◌, length, Result, Ok, Err}
+use Rattle.envy_base.specs.declared.shape.Shape.{Shape}
+use Rattle.envy_base.specs.Shape.{checked}
+use Rattle.envy_io.specs.Streams.{Feed, Rises}
+use Rattle.envy_io.specs.Taking.{Taking}
+use Rattle.envy_io.specs.Fetching.{Draws}
+use Rattle.envy_image.specs.declared.reading.HeadFault.{HeadFault}
+use Rattle.envy_image.specs.declared.reading.HeadFault.TheVariants.{Short, Mark, Shape as BadShape, Failed, Spent}
+use Rattle.envy_image.specs.declared.reading.Stop.{Stop}
+use Rattle.envy_image.specs.declared.reading.Stop.TheVariants.{Short as StopShort, Failed as StopFailed, Spent as StopSpent}
+use Rattle.envy_image.specs.Image.{mark, head_of, word_bytes, numbers_bytes, numbers_of}
+
+-- These bytes came next. Nothing was taken beyond them where nothing was held before.
+pub record Consumes (old : Taking) (from : Feed) (bytes : List ℕ) (new : Taking) (to : Feed) : Type 0 where
+  pub got : List ℕ
+  pub draws : Draws old from got new to
+  pub all : old.held ++ got ≡ bytes ++ new.held
+  pub nothing_over : old.held ≡ [] → new.held ≡ []
+
+-- why the bytes stopped: the source's end was met, it failed, or as many were taken as may be
+abbrev pub Stops : Stop → Taking → Feed → Feed → Type 0
+Stops StopShort new from to = IsTrue new.ended
+Stops StopFailed new from to = (new.ended ≡ false) × (new.taken < new.cap) × Rises from.faults to.faults
+Stops StopSpent new from to = (new.ended ≡ false) × (new.taken ≡ new.cap)
+
+-- the bytes that came are these, and no more, and they are used up
+pub record Ends (old : Taking) (from : Feed) (bytes : List ℕ) (new : Taking) (to : Feed) : Type 0 where
+  pub got : List ℕ
+  pub draws : Draws old from got new to
+  pub all : old.held ++ got ≡ bytes
+  pub used : new.held ≡ []
+
+-- the bytes of a slice are read, or stop before it is full
+abbrev pub ReadsBytes : Taking → Feed → Result Unit Stop → List ℕ → Taking → Feed → Type 0
+ReadsBytes old from (Ok done) into new to = Consumes old from into new to
+ReadsBytes old from (Err stop) into new to =
+    (bytes : List ℕ) × (length bytes < length into) × Ends old from bytes new to × Stops stop new from to
+
+-- a word is read, or the bytes stop before its end
+abbrev pub ReadsWord : Taking → Feed → Result ℕ Stop → Taking → Feed → Type 0
+ReadsWord old from (Ok w) new to = Consumes old from (word_bytes w) new to
+ReadsWord old from (Err stop) new to =
+    (bytes : List ℕ) × (length bytes < 8) × Ends old from bytes new to × Stops stop new from to
+
+-- a shape's numbers are read, or the bytes stop before their end
+abbrev pub ReadsShape : Taking → Feed → Result Shape Stop → Taking → Feed → Type 0
+ReadsShape old from (Ok sh) new to = Consumes old from (numbers_bytes (numbers_of sh)) new to
+ReadsShape old from (Err stop) new to =
+    (bytes : List ℕ) × (length bytes < 24) × Ends old from bytes new to × Stops stop new from to
+
+-- the bytes stop within the head of an image
+abbrev pub EndsInHead : Stop → Taking → Feed → Taking → Feed → Type 0
+EndsInHead stop old from new to =
+    (bytes : List ℕ) × Ends old from bytes new to × Stops stop new from to
+    × ((length bytes < 8) ⊎ ((rest : List ℕ) × (bytes ≡ mark ++ rest) × (length rest < 24)))
+
+-- The head of an image is read: 8 bytes that are the mark, and 24 that are a shape which checks.
+abbrev pub ReadsHead : Taking → Feed → Result Shape HeadFault → Taking → Feed → Type 0
+ReadsHead old from (Ok sh) new to = Consumes old from (head_of sh) new to × (checked sh ≡ Ok tt)
+ReadsHead old from (Err Mark) new to =
+    (first : List ℕ) × (length first ≡ 8) × (first ≢ mark) × Consumes old from first new to
+ReadsHead old from (Err (BadShape fault)) new to =
+    (sh : Shape) × Consumes old from (head_of sh) new to × (checked sh ≡ Err fault)
+ReadsHead old from (Err Short) new to = EndsInHead StopShort old from new to
+ReadsHead old from (Err Failed) new to = EndsInHead StopFailed old from new to
+ReadsHead old from (Err Spent) new to = EndsInHead StopSpent old from new to

@@ -1,0 +1,9 @@
+//! A board as bytes: its image is written to a sink, and read from a source into another board.
+#![tactic(auto)]
+
+mod reading;
+mod writing;
+
+pub use envy_audit::{Audit, NoMemory, Rule, Verdict};
+pub use reading::{HeadFault, read_head};
+pub use writing::{OutFault, write_image};

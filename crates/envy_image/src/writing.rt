@@ -1,0 +1,143 @@
+ghost use Rattle.std.specs.Prelude.{◌<◌, [], IsTrue, length, slice_index_or};
+ghost use Rattle.envy_io.specs.Streams.{WritesAll};
+ghost use Rattle.envy_image.specs.Image.{image_of, head_of, body_of, rows_bytes, words_bytes, word_bytes, numbers_bytes, number_bytes};
+ghost use Rattle.envy_image.specs.Writing.{WritesOut};
+
+use envy_base::{Board, Off, Shape};
+use envy_io::{Failed, Sink, write_all};
+
+/// The bytes that an image begins with.
+pub(crate) const MARK: [u8; 8] = *b"eNVyIMG1";
+
+/// Why an image wasn't written whole.
+#[derive(Clone, Copy, Debug, PartialEq, Eq)]
+pub enum OutFault {
+    /// Power is off. Nothing was written.
+    Off,
+    /// The sink failed, which it counts. A proper prefix of the image was written.
+    Failed,
+}
+
+impl From<Off> for OutFault {
+    ghost use Rattle.std.specs.Prelude.{◌≡◌};
+    ghost use Rattle.envy_image.specs.declared.writing.OutFault.TheVariants.{Off as PowerOff};
+
+    ghost from_gives = { λ _ fault. fault ≡ PowerOff };
+
+    fn from(_: Off) -> Self {
+        OutFault::Off
+    }
+}
+
+impl From<Failed> for OutFault {
+    ghost use Rattle.std.specs.Prelude.{◌≡◌};
+    ghost use Rattle.envy_image.specs.declared.writing.OutFault.TheVariants.{Failed as NoWrite};
+
+    ghost from_gives = { λ _ fault. fault ≡ NoWrite };
+
+    fn from(_: Failed) -> Self {
+        OutFault::Failed
+    }
+}
+
+// Writes a number of 4 bytes.
+fn write_number<K: Sink>(number: u32, sink: &mut K) -> Result<(), Failed>
+    ensures { WritesAll (K.drain sink.old) (number_bytes number) result (K.drain sink.new) }
+{
+    write_all(sink, &number.to_le_bytes())
+}
+
+// Writes a word.
+fn write_word<K: Sink>(word: u64, sink: &mut K) -> Result<(), Failed>
+    ensures { WritesAll (K.drain sink.old) (word_bytes word) result (K.drain sink.new) }
+{
+    write_all(sink, &word.to_le_bytes())
+}
+
+// Writes numbers of 4 bytes.
+fn write_numbers<K: Sink>(numbers: &[u32], sink: &mut K) -> Result<(), Failed>
+    ensures { WritesAll (K.drain sink.old) (numbers_bytes numbers.now) result (K.drain sink.new) }
+{
+    for number in numbers {
+        write_number(*number, sink)?;
+    }
+    Ok(())
+}
+
+// Writes the mark and the shape.
+fn write_head<K: Sink>(shape: &Shape, sink: &mut K) -> Result<(), Failed>
+    ensures { WritesAll (K.drain sink.old) (head_of shape.now) result (K.drain sink.new) }
+{
+    let numbers = [
+        shape.segments,
+        shape.rows,
+        shape.pages,
+        shape.shadows,
+        shape.frames,
+        shape.entries,
+    ];
+    write_all(sink, &MARK)?;
+    write_numbers(&numbers, sink)
+}
+
+// Writes the words of a row.
+fn write_row<B: Board, K: Sink>(board: &B, row: u32, sink: &mut K) -> Result<(), OutFault>
+    requires on { IsTrue (B.state board.now).on }
+    requires row { row < length (B.state board.now).flash }
+    ensures { WritesOut (B.state board.now).on (K.drain sink.old) (words_bytes (slice_index_or (B.state board.now).flash row [])) result (K.drain sink.new) }
+{
+    for i in 0..32 {
+        let word = board.read(row, i)?;
+        write_word(word, sink)?;
+    }
+    Ok(())
+}
+
+// Writes the words of every row.
+fn write_rows<B: Board, K: Sink>(board: &B, sink: &mut K) -> Result<(), OutFault>
+    requires { IsTrue (B.state board.now).on }
+    ensures { WritesOut (B.state board.now).on (K.drain sink.old) (rows_bytes (B.state board.now).flash) result (K.drain sink.new) }
+{
+    let shape = board.shape();
+    for row in 0..shape.segments * shape.rows {
+        write_row(board, row, sink)?;
+    }
+    Ok(())
+}
+
+// Writes the words of SRAM.
+fn write_words<B: Board, K: Sink>(board: &B, sink: &mut K) -> Result<(), OutFault>
+    requires { IsTrue (B.state board.now).on }
+    ensures { WritesOut (B.state board.now).on (K.drain sink.old) (words_bytes (B.state board.now).sram) result (K.drain sink.new) }
+{
+    for w in 0..envy_map::words(&board.shape()) {
+        let word = board.get(w)?;
+        write_word(word, sink)?;
+    }
+    Ok(())
+}
+
+// Writes what stands behind the head.
+fn write_body<B: Board, K: Sink>(board: &B, sink: &mut K) -> Result<(), OutFault>
+    requires { IsTrue (B.state board.now).on }
+    ensures { let s = B.state board.now in WritesOut s.on (K.drain sink.old) (body_of s.flash s.sram) result (K.drain sink.new) }
+{
+    write_rows(board, sink)?;
+    write_words(board, sink)
+}
+
+/// Writes the image of a board.
+///
+/// # Errors
+///
+/// `Off` exactly where power is off, with nothing written, and `Failed` where the sink failed, with a
+/// proper prefix of the image written.
+pub fn write_image<B: Board, K: Sink>(board: &B, sink: &mut K) -> Result<(), OutFault>
+    ensures { let s = B.state board.now in WritesOut s.on (K.drain sink.old) (image_of s) result (K.drain sink.new) }
+{
+    if !board.powered() {
+        return Err(OutFault::Off);
+    }
+    write_head(&board.shape(), sink)?;
+    write_body(board, sink)
+}
