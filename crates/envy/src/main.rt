@@ -2,15 +2,25 @@
 //! plain machine, and `envy gen` writes one.
 #![tactic(auto)]
 
+ghost use Rattle.std.specs.Prelude.{◌≤◌, IfOk};
+
 mod streams;
 mod words;
 
 use arrayvec::ArrayVec;
-use envy_bench::MemMaker;
-use envy_run::{end_text, run};
+use envy_bench::{MemBoard, MemMaker};
+use envy_io::Sink;
+use envy_run::{Ended, end_text, run};
+use envy_streams::{BufferedSink, BufferedSource, NoMemory};
+use std::cell::RefCell;
 use std::process::ExitCode;
-use streams::{StdSink, StdSource};
+use streams::{AskedSource, HeldSink, StdSink, StdSource};
 use words::words;
+
+/// The status of a run whose sink failed.
+const WRITE_FAULT: u8 = 4;
+/// The status of a run that lacked memory.
+const NO_MEMORY: u8 = 8;
 
 /// Says the text and a newline on standard error. Where even that fails nobody is left to tell.
 fn say(rt: &HostRuntime, text: &[u8]) {
@@ -18,6 +28,28 @@ fn say(rt: &HostRuntime, text: &[u8]) {
     if stderr.write_all(text).is_ok() {
         let _ = stderr.write_all(b"\n");
     }
+}
+
+/// Does what the words say over standard input and output, and hands on every reply, however it ends.
+fn serve(rt: &HostRuntime, words: &[String]) -> Result<Ended<MemBoard>, NoMemory>
+    ensures { IfOk result (λ ended. ended.lines ≤ 1099511627777) }
+{
+    let output = RefCell::new(BufferedSink::new(rt.alloc(), StdSink::new(rt.stdout()))?);
+    let input = AskedSource::new(StdSource::new(rt.stdin()), &output);
+    let mut source = BufferedSource::new(rt.alloc(), input)?;
+    let mut sink = HeldSink::new(&output);
+    let mut ended = run(
+        rt.alloc(),
+        words,
+        &mut source,
+        &mut sink,
+        &mut MemMaker::new(),
+    );
+    if sink.flush().is_err() {
+        ended.status = WRITE_FAULT;
+        ended.why = 0;
+    }
+    Ok(ended)
 }
 
 fn main(rt: HostRuntime) -> ExitCode {
@@ -28,15 +60,10 @@ fn main(rt: HostRuntime) -> ExitCode {
             return ExitCode::FAILURE;
         }
     };
-    let mut source = StdSource::new(rt.stdin());
-    let mut sink = StdSink::new(rt.stdout());
-    let ended = run(
-        rt.alloc(),
-        &words,
-        &mut source,
-        &mut sink,
-        &mut MemMaker::new(),
-    );
+    let Ok(ended) = serve(&rt, &words) else {
+        say(&rt, b"envy: out of memory");
+        return ExitCode::from(NO_MEMORY);
+    };
     if ended.status != 0 {
         let mut text = ArrayVec::new();
         end_text(&ended, &mut text);

@@ -1,11 +1,13 @@
-pub mod Advancing
+pub mod Alike
 pub mod Calm
 pub mod Completing
+pub mod Equating
 pub mod Generating
+pub mod Hitting
+pub mod Noting
 pub mod Obeying
-pub mod Reading
+pub mod Preparing
 pub mod Recovering
 pub mod Replying
-pub mod Serving
-pub mod Uncutting
+pub mod Traced
 pub mod Words

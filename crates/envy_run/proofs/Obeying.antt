@@ -1,6 +1,6 @@
 -- What a line does, from the answer of its call and from how power returned.
-use Rattle.std.proofs.Common.{◌≡◌, ◌⊎◌, inl, inr, ℕ, ◌+◌, ◌-◌, ◌^◌, ◌<◌, ◌≤◌, true, false, List, [], ◌∷◌, ◌++◌, length, take, refl, sym, ◌∙◌, ap, subst, arith}
-use Rattle.std.specs.Prelude.{IsTrue, Result, Ok, Err}
+use Rattle.std.proofs.Common.{◌≡◌, ◌⊎◌, inl, inr, ℕ, ◌+◌, ◌-◌, ◌^◌, ◌<◌, ◌≤◌, false, List, [], ◌∷◌, ◌++◌, length, take, refl, sym, ◌∙◌, ap, subst, arith}
+use Rattle.std.specs.Prelude.{IsTrue, Option, Result, Ok, Err, sum}
 use Rattle.std.proofs.lemmas.Bool.{cases_lt}
 use Rattle.std.proofs.Math.Seq.{take-append-add}
 use Rattle.std.proofs.lemmas.List.{append-nil, take-append-le}
@@ -13,6 +13,7 @@ use Rattle.envy_io.specs.Lines.{newline}
 use Rattle.envy_io.specs.Streams.{Drain, Rises, WritesAll, with_end}
 use Rattle.envy_io.proofs.WritesLemmas.{with_end-with_end, with_end-nil}
 use Rattle.envy_map.specs.Fields.{Chart}
+use Rattle.envy_memory.specs.Picture.{Picture, counts_of}
 use Rattle.envy_layout.specs.Sound.{IsSound}
 use Rattle.envy_layout.specs.Stands.{Holds, Stands, IsLost as LostIn}
 use Rattle.envy_layout.specs.Words.{durable}
@@ -22,23 +23,31 @@ use Rattle.envy_trace.specs.declared.line.Line.TheVariants.{Empty as EmptyLine, 
 use Rattle.envy_trace.specs.declared.reply.Reply.{Reply}
 use Rattle.envy_trace.specs.declared.reply.Reply.TheVariants.{Word, Done as Said, Started, Range, Held, Closed, Full, Busy, Fault, Lost, Restarted, Armed, Stat}
 use Rattle.envy_trace.specs.Replies.{reply_bytes}
-use Rattle.envy_run.specs.declared.restart.Obeyed.{Obeyed}
-use Rattle.envy_run.specs.declared.restart.Obeyed.TheVariants.{Done, WriteFault, Dead}
+use Rattle.envy_serve.specs.declared.service.Obeyed.{Obeyed}
+use Rattle.envy_serve.specs.declared.service.Obeyed.TheVariants.{Done, WriteFault, Dead}
 use Rattle.envy_trace.specs.Spelling.{Reads}
 use Rattle.envy_run.specs.Answers.{IsCall, IsServed, AnswersTo, AnswerLicence, LosesIn}
-use Rattle.envy_run.specs.Licence.{Licence, RoseBy, RoseOver}
-use Rattle.envy_run.specs.Obeys.{Obeys, Licensed, LineDone, LineDead, before_restart}
-use Rattle.envy_run.specs.Restarts.{Recovers, IsStillOff, IsBack, Written, FrontWritten}
-use Rattle.envy_run.specs.Turns.{Replies, texts, is_power, is_plan, is_lost, is_fault, one_if, is_built}
+use Rattle.envy_run.specs.Licence.{Licence, RoseOver}
+use Rattle.envy_run.specs.Obeys.{ObeysLine, Licensed, LineDone, LineDead, before_restart}
+use Rattle.envy_run.specs.Restarts.{Recovers, IsStillOff, IsBack}
+use Rattle.envy_serve.specs.Streams.{Written, FrontWritten}
+use Rattle.envy_serve.specs.Turns.{texts, one_if}
+use Rattle.envy_run.specs.Turns.{Replies, trace_grammar, is_power, is_plan, is_lost, is_fault}
+use Rattle.envy_base.specs.declared.counts.Counts.{Counts}
+use Rattle.envy_run.specs.Counters.{is_empty}
+use Rattle.envy_run.specs.Hits.{accessed}
+use Rattle.envy_run.specs.Tells.{Notes, Translates, hits_after, misses_after}
+use Rattle.envy_run.proofs.Noting.{Tallies-stay, Tallies-trans, notes-empty, swaps-stay}
 use Rattle.envy_run.proofs.Recovering.{Licence-trans}
-use Rattle.envy_run.proofs.Replying.{Licence-refl}
+use Rattle.envy_run.proofs.Replying.{Licence-refl, up-low}
 
 -- a licence under equal numbers
 pub Licence-as : (a b c d i j k l : ℕ) (p q : Chart) → a ≡ i → b ≡ j → c ≡ k → d ≡ l → Licence a b c d p q → Licence i j k l p q
 Licence-as a b c d i j k l p q ea eb ec ed x = record {
+  shape = x.shape;
   given = x.given;
-  pulled = record { kept = RoseBy.kept x.pulled; rise = λ lt. let e = RoseBy.rise x.pulled lt in omega arith };
-  plans_made = record { kept = RoseBy.kept x.plans_made; rise = λ lt. let e = RoseBy.rise x.plans_made lt in omega arith };
+  pulled = λ lt. let e = x.pulled (omega arith) in omega arith;
+  plans_made = λ lt. let e = x.plans_made (omega arith) in omega arith;
   cuts = record { kept = RoseOver.kept x.cuts; rise = λ lt. let e = RoseOver.rise x.cuts lt in omega arith };
   bads = record { kept = RoseOver.kept x.bads; rise = λ lt. let e = RoseOver.rise x.bads lt in omega arith };
 }
@@ -49,57 +58,58 @@ no-power EmptyLine call = absurd call
 no-power (LoadLine a) call = (refl, refl)
 no-power (LookLine a) call = (refl, refl)
 no-power (StoreLine a w) call = (refl, refl)
-no-power BeginLine call = absurd call
-no-power (PutLine t a w) call = absurd call
-no-power (CommitLine t) call = absurd call
-no-power (AbortLine t) call = absurd call
-no-power TickLine call = absurd call
+no-power BeginLine call = (refl, refl)
+no-power (PutLine t a w) call = (refl, refl)
+no-power (CommitLine t) call = (refl, refl)
+no-power (AbortLine t) call = (refl, refl)
+no-power TickLine call = (refl, refl)
 no-power PowerLine call = absurd call
 no-power (CutLine k g) call = (refl, refl)
 no-power (BadLine k g) call = (refl, refl)
-no-power StatLine call = absurd call
+no-power StatLine call = (refl, refl)
 
 -- where power is on, the answer isn't `lost`
-answered : (m : Array) (line : Line) (reply : Reply) (c : Chart) → IsTrue c.on → AnswersTo m line reply c → (n : Array) × Replies m line reply n × Stands c n
-answered m line (Word w) c on a = a
-answered m line Said c on a = a
-answered m line (Started t) c on a = a
-answered m line Range c on a = a
-answered m line (Held t) c on a = a
-answered m line Closed c on a = a
-answered m line Full c on a = a
-answered m line Busy c on a = a
-answered m line Fault c on a = a
-answered m line Lost c on a = absurd (let off = LostIn.off (LosesIn.lost a) in cc)
-answered m line Restarted c on a = a
-answered m line Armed c on a = a
-answered m line (Stat counts) c on a = a
+answered : (May : Counts → Type 0) (m : Array) (line : Line) (reply : Reply) (c : Chart) → IsTrue c.on → AnswersTo May m line reply c → (n : Array) × Replies May m line reply n × Stands c n
+answered May m line (Word w) c on a = a
+answered May m line Said c on a = a
+answered May m line (Started t) c on a = a
+answered May m line Range c on a = a
+answered May m line (Held t) c on a = a
+answered May m line Closed c on a = a
+answered May m line Full c on a = a
+answered May m line Busy c on a = a
+answered May m line Fault c on a = a
+answered May m line Lost c on a = absurd (let off = LostIn.off (LosesIn.lost a) in cc)
+answered May m line Restarted c on a = a
+answered May m line Armed c on a = a
+answered May m line (Stat counts) c on a = a
 
-texts-one : (reply : Reply) → texts (reply ∷ []) ≡ reply_bytes reply ++ newline ∷ []
+texts-one : (reply : Reply) → texts trace_grammar (reply ∷ []) ≡ reply_bytes reply ++ newline ∷ []
 texts-one reply = append-nil (reply_bytes reply ++ newline ∷ [])
 
 one-more : (x : ℕ) → x ≡ x + 0
 one-more x = omega arith
 
-done-so : (m : Array) (line : Line) (reply : Reply) (old c : Chart) → IsCall line → IsTrue c.on → AnswersTo m line reply c → AnswerLicence line reply old c → (left : Array) × LineDone m line (reply ∷ []) left old c
-done-so m line reply old c call on a licence =
-    let (left, replies, stands) = answered m line reply c on a in (
+done-so : (May : Counts → Type 0) (m : Array) (line : Line) (reply : Reply) (old c : Picture) → IsCall line → IsTrue c.chart.on → AnswersTo May m line reply c.chart → AnswerLicence line reply old.chart c.chart → Notes line (reply ∷ []) old c → (left : Array) × LineDone May m line (reply ∷ []) left old c
+done-so May m line reply old c call on a licence notes =
+    let (left, replies, stands) = answered May m line reply c.chart on a in (
       left,
       record {
         does = inr (inl (reply, refl, replies));
         stands = stands;
-        licensed = Licence-as 0 (one_if (is_plan line)) (one_if (is_lost reply)) (one_if (is_fault reply)) (one_if (is_power line)) (one_if (is_plan line)) (one_if (is_lost reply) + 0) (one_if (is_fault reply) + 0) old c (sym (ap one_if (no-power line call).0)) refl (one-more (one_if (is_lost reply))) (one-more (one_if (is_fault reply))) licence;
+        licensed = Licence-as 0 (one_if (is_plan line)) (one_if (is_lost reply)) (one_if (is_fault reply)) (one_if (is_power line)) (one_if (is_plan line)) (one_if (is_lost reply) + 0) (one_if (is_fault reply) + 0) old.chart c.chart (sym (ap one_if (no-power line call).0)) refl (one-more (one_if (is_lost reply))) (one-more (one_if (is_fault reply))) licence;
+        notes = notes;
       },
     )
 
-pub call-done : (m : Array) (line : Line) (reply : Reply) (old c : Chart) (sink then_sink : Drain) → IsCall line → IsTrue c.on → AnswersTo m line reply c → AnswerLicence line reply old c → WritesAll sink (reply_bytes reply ++ newline ∷ []) (Ok tt) then_sink → Obeys m line Done old c sink then_sink
-call-done m line reply old c sink then_sink call on a licence (whole, faults, after) =
-    let (left, done) = done-so m line reply old c call on a licence in
+pub call-done : (May : Counts → Type 0) (m : Array) (line : Line) (reply : Reply) (old c : Picture) (sink then_sink : Drain) → IsCall line → IsTrue c.chart.on → AnswersTo May m line reply c.chart → AnswerLicence line reply old.chart c.chart → Notes line (reply ∷ []) old c → WritesAll sink (reply_bytes reply ++ newline ∷ []) (Ok tt) then_sink → ObeysLine May m line Done old c sink then_sink
+call-done May m line reply old c sink then_sink call on a licence notes (whole, faults, after) =
+    let (left, done) = done-so May m line reply old c call on a licence notes in
     (reply ∷ [], left, done, record { whole = whole ∙ ap (with_end sink.written) (sym (texts-one reply)); faults = faults })
 
-pub call-failed : (m : Array) (line : Line) (reply : Reply) (old c : Chart) (sink then_sink : Drain) (failed : Failed) → IsCall line → IsTrue c.on → AnswersTo m line reply c → AnswerLicence line reply old c → WritesAll sink (reply_bytes reply ++ newline ∷ []) (Err failed) then_sink → Obeys m line WriteFault old c sink then_sink
-call-failed m line reply old c sink then_sink failed call on a licence (n, lt, front, faults) =
-    let (left, done) = done-so m line reply old c call on a licence in
+pub call-failed : (May : Counts → Type 0) (m : Array) (line : Line) (reply : Reply) (old c : Picture) (sink then_sink : Drain) (failed : Failed) → IsCall line → IsTrue c.chart.on → AnswersTo May m line reply c.chart → AnswerLicence line reply old.chart c.chart → Notes line (reply ∷ []) old c → WritesAll sink (reply_bytes reply ++ newline ∷ []) (Err failed) then_sink → ObeysLine May m line WriteFault old c sink then_sink
+call-failed May m line reply old c sink then_sink failed call on a licence notes (n, lt, front, faults) =
+    let (left, done) = done-so May m line reply old c call on a licence notes in
     (reply ∷ [], left, done, record { count = n; front = front ∙ ap (λ (t : List ℕ). with_end sink.written (take n t)) (sym (texts-one reply)); faults = faults })
 
 -- no command changes how many pages may be owned
@@ -198,109 +208,184 @@ front-before a c first second n lt front faults = record {
   faults = faults;
 }
 
-pub call-recovers : (m : Array) (line : Line) (reply : Reply) (old c new : Chart) (sink mid_sink then_sink : Drain) (wrote : Result Unit Failed) (obeyed : Obeyed) → IsCall line → Stands old m → c.shape ≡ old.shape → reply ≡ Lost → AnswersTo m line reply c → AnswerLicence line reply old c → WritesAll sink (reply_bytes reply ++ newline ∷ []) wrote mid_sink → Recovers wrote obeyed c new mid_sink then_sink → Obeys m line obeyed old new sink then_sink
-call-recovers m line reply old c new sink mid_sink then_sink wrote obeyed call stood shape is a licence writes recovers =
-    lost-so (subst (λ (r : Reply). AnswersTo m line r c) is a) (subst (λ (r : Reply). AnswerLicence line r old c) is licence) wrote obeyed (subst (λ (r : Reply). WritesAll sink (reply_bytes r ++ newline ∷ []) wrote mid_sink) is writes) recovers
+not-empty : (line : Line) → IsCall line → is_empty line ≡ false
+not-empty EmptyLine call = absurd call
+not-empty (LoadLine a) call = refl
+not-empty (LookLine a) call = refl
+not-empty (StoreLine a w) call = refl
+not-empty BeginLine call = refl
+not-empty (PutLine t a w) call = refl
+not-empty (CommitLine t) call = refl
+not-empty (AbortLine t) call = refl
+not-empty TickLine call = refl
+not-empty PowerLine call = absurd call
+not-empty (CutLine k g) call = refl
+not-empty (BadLine k g) call = refl
+not-empty StatLine call = refl
+
+-- the access of a line that was lost
+accessed-lost : (line : Line) → accessed line (Lost ∷ []) ≡ accessed line (Lost ∷ Restarted ∷ [])
+accessed-lost EmptyLine = refl
+accessed-lost (LoadLine a) = refl
+accessed-lost (LookLine a) = refl
+accessed-lost (StoreLine a w) = refl
+accessed-lost BeginLine = refl
+accessed-lost (PutLine t a w) = refl
+accessed-lost (CommitLine t) = refl
+accessed-lost (AbortLine t) = refl
+accessed-lost TickLine = refl
+accessed-lost PowerLine = refl
+accessed-lost (CutLine k g) = refl
+accessed-lost (BadLine k g) = refl
+accessed-lost StatLine = refl
+
+-- after a restart the entries are empty, and the counters are those of before
+Notes-restarted : (line : Line) (old c new : Picture) → is_empty line ≡ false → Notes line (Lost ∷ []) old c → IsBack c new → Notes line (Lost ∷ Restarted ∷ []) old new
+Notes-restarted line old c new full notes back =
+    let stay = back.counts in
+    let t = Notes.cache notes in
+    let swapped = Notes.swaps notes in
+    let kept = swaps-stay c new stay.counts in
+    record {
+      cache = record {
+        size = stay.size ∙ Translates.size t;
+        pages = back.vacant;
+        hits = ap (λ (x : Counts). x.hits) stay.counts ∙ Translates.hits t ∙ ap (λ (o : Option ℕ). hits_after o old.parts.cache.entries old.parts.cache.hits) (accessed-lost line);
+        misses = ap (λ (x : Counts). x.misses) stay.counts ∙ Translates.misses t ∙ ap (λ (o : Option ℕ). misses_after o old.parts.cache.entries old.parts.cache.misses) (accessed-lost line);
+      };
+      tallies = Tallies-trans old c new (Notes.tallies notes) (Tallies-stay c new stay.counts stay.begun stay.erases);
+      swaps = omega arith;
+      tells = tt;
+      empty = λ e. absurd (let never = full in cc);
+    }
+
+Notes-power : (old c new : Picture) → c ≡ record old { chart = pulled old.chart } → IsBack c new → Notes PowerLine (Restarted ∷ []) old new
+Notes-power old c new is back =
+    let stay = back.counts in
+    let counts : counts_of new.parts ≡ counts_of old.parts = stay.counts ∙ ap (λ (p : Picture). counts_of p.parts) is in
+    record {
+      cache = record {
+        size = stay.size ∙ ap (λ (p : Picture). length p.parts.cache.entries) is;
+        pages = back.vacant;
+        hits = ap (λ (x : Counts). x.hits) counts;
+        misses = ap (λ (x : Counts). x.misses) counts;
+      };
+      tallies = Tallies-stay old new counts (stay.begun ∙ ap (λ (p : Picture). p.chart.begun) is) (stay.erases ∙ ap (λ (p : Picture). sum p.chart.erases) is);
+      swaps = swaps-stay old new counts;
+      tells = tt;
+      empty = λ e. absurd (let never = e in cc);
+    }
+
+pub call-recovers : (May : Counts → Type 0) (m : Array) (line : Line) (reply : Reply) (old c new : Picture) (sink mid_sink then_sink : Drain) (wrote : Result Unit Failed) (obeyed : Obeyed) → IsCall line → Stands old.chart m → c.chart.shape ≡ old.chart.shape → reply ≡ Lost → AnswersTo May m line reply c.chart → AnswerLicence line reply old.chart c.chart → Notes line (reply ∷ []) old c → WritesAll sink (reply_bytes reply ++ newline ∷ []) wrote mid_sink → Recovers wrote obeyed c new mid_sink then_sink → ObeysLine May m line obeyed old new sink then_sink
+call-recovers May m line reply old c new sink mid_sink then_sink wrote obeyed call stood shape is a licence notes writes recovers =
+    lost-so (subst (λ (r : Reply). AnswersTo May m line r c.chart) is a) (subst (λ (r : Reply). AnswerLicence line r old.chart c.chart) is licence) wrote obeyed (subst (λ (r : Reply). WritesAll sink (reply_bytes r ++ newline ∷ []) wrote mid_sink) is writes) recovers
   where
     first : List ℕ
     first = reply_bytes Lost ++ newline ∷ []
 
-    shadows : m.shadows ≡ c.shape.shadows
+    shadows : m.shadows ≡ c.chart.shape.shadows
     shadows = Holds.shadows stood.holds ∙ ap (λ (sh : Shape). sh.shadows) (sym shape)
 
-    back-so : (loses : LosesIn m line c) → IsBack c new → (left : Array) × LostAs m (LosesIn.command loses) left × Stands new left
+    back-so : (loses : LosesIn m line c.chart) → IsBack c new → (left : Array) × LostAs m (LosesIn.command loses) left × Stands new.chart left
     back-so loses back =
         let (left, lost, words) = LostIn.words (LosesIn.lost loses) in
-        (left, lost, subst (λ (x : Array). Stands new x) (lost-fresh m (LosesIn.command loses) left lost) (subst (λ (s : ℕ). Stands new (fresh s left.words)) (sym shadows) (subst (λ (ws : List ℕ). Stands new (fresh c.shape.shadows ws)) words back.stands)))
+        (left, lost, subst (λ (x : Array). Stands new.chart x) (lost-fresh m (LosesIn.command loses) left lost) (subst (λ (s : ℕ). Stands new.chart (fresh s left.words)) (sym shadows) (subst (λ (ws : List ℕ). Stands new.chart (fresh c.chart.shape.shadows ws)) words back.stands)))
 
-    licensed-both : AnswerLicence line Lost old c → Licence 0 0 0 0 c new → Licensed line (Lost ∷ Restarted ∷ []) old new
-    licensed-both x y = Licence-as 0 (one_if (is_plan line) + 0) 1 0 (one_if (is_power line)) (one_if (is_plan line)) 1 0 old new (sym (ap one_if (no-power line call).0)) (sym (one-more (one_if (is_plan line)))) refl refl (Licence-trans 0 (one_if (is_plan line)) 1 0 0 0 0 0 old c new x y)
+    licensed-both : AnswerLicence line Lost old.chart c.chart → Licence 0 0 0 0 c.chart new.chart → Licensed line (Lost ∷ Restarted ∷ []) old.chart new.chart
+    licensed-both x y = Licence-as 0 (one_if (is_plan line) + 0) 1 0 (one_if (is_power line)) (one_if (is_plan line)) 1 0 old.chart new.chart (sym (ap one_if (no-power line call).0)) (sym (one-more (one_if (is_plan line)))) refl refl (Licence-trans 0 (one_if (is_plan line)) 1 0 0 0 0 0 old.chart c.chart new.chart x y)
 
-    licensed-one : AnswerLicence line Lost old c → Licence 0 0 0 0 c new → Licensed line (Lost ∷ []) old new
-    licensed-one x y = Licence-as 0 (one_if (is_plan line) + 0) 1 0 (one_if (is_power line)) (one_if (is_plan line)) 1 0 old new (sym (ap one_if (no-power line call).0)) (sym (one-more (one_if (is_plan line)))) refl refl (Licence-trans 0 (one_if (is_plan line)) 1 0 0 0 0 0 old c new x y)
+    licensed-one : AnswerLicence line Lost old.chart c.chart → Licence 0 0 0 0 c.chart new.chart → Licensed line (Lost ∷ []) old.chart new.chart
+    licensed-one x y = Licence-as 0 (one_if (is_plan line) + 0) 1 0 (one_if (is_power line)) (one_if (is_plan line)) 1 0 old.chart new.chart (sym (ap one_if (no-power line call).0)) (sym (one-more (one_if (is_plan line)))) refl refl (Licence-trans 0 (one_if (is_plan line)) 1 0 0 0 0 0 old.chart c.chart new.chart x y)
 
-    done-both : AnswerLicence line Lost old c → (loses : LosesIn m line c) → IsBack c new → (left : Array) × LineDone m line (Lost ∷ Restarted ∷ []) left old new
+    notes-back : IsBack c new → Notes line (Lost ∷ Restarted ∷ []) old new
+    notes-back back = Notes-restarted line old c new (not-empty line call) (subst (λ (r : Reply). Notes line (r ∷ []) old c) is notes) back
+
+    done-both : AnswerLicence line Lost old.chart c.chart → (loses : LosesIn m line c.chart) → IsBack c new → (left : Array) × LineDone May m line (Lost ∷ Restarted ∷ []) left old new
     done-both x loses back =
         let (left, lost, stands) = back-so loses back in
-        (left, record { does = inr (inr (inl (refl, record { command = loses.command; is = loses.is; lost = lost }))); stands = stands; licensed = licensed-both x back.licence })
+        (left, record { does = inr (inr (inl (refl, record { command = loses.command; is = loses.is; lost = lost }))); stands = stands; licensed = licensed-both x back.licence; notes = notes-back back })
 
-    dead-so : AnswerLicence line Lost old c → (loses : LosesIn m line c) → IsStillOff c new → new.lives ≡ 0 → LineDead m line old new
+    dead-so : AnswerLicence line Lost old.chart c.chart → (loses : LosesIn m line c.chart) → IsStillOff c new → new.chart.lives ≡ 0 → LineDead m line old.chart new.chart
     dead-so x loses still dead =
         let (left, lost, words) = LostIn.words (LosesIn.lost loses) in
         record {
           off = still.off;
+          magic = still.magic ∙ LostIn.magic loses.lost;
+          version = still.version ∙ LostIn.version loses.lost;
           sound = still.sound (LostIn.sound loses.lost);
           dead = dead;
           found = (left, inl (record { command = loses.command; is = loses.is; lost = lost }), still.durable ∙ words);
-          licensed = subst (λ (rs : List Reply). Licensed line rs old new) (sym (no-power line call).1) (licensed-one x still.licence);
+          licensed = subst (λ (rs : List Reply). Licensed line rs old.chart new.chart) (sym (no-power line call).1) (licensed-one x still.licence);
         }
 
-    lost-so : LosesIn m line c → AnswerLicence line Lost old c → (wrote : Result Unit Failed) (obeyed : Obeyed) → WritesAll sink first wrote mid_sink → Recovers wrote obeyed c new mid_sink then_sink → Obeys m line obeyed old new sink then_sink
+    lost-so : LosesIn m line c.chart → AnswerLicence line Lost old.chart c.chart → (wrote : Result Unit Failed) (obeyed : Obeyed) → WritesAll sink first wrote mid_sink → Recovers wrote obeyed c new mid_sink then_sink → ObeysLine May m line obeyed old new sink then_sink
     lost-so loses x (Ok done) Done (whole, faults, after) (ok, back, told) =
         let (left, done_both) = done-both x loses back in
-        (Lost ∷ Restarted ∷ [], left, done_both, record { whole = told.whole ∙ ap (λ (w : _). with_end w (texts (Restarted ∷ []))) whole ∙ with_end-with_end sink.written first (texts (Restarted ∷ [])); faults = let later = told.faults in omega arith })
+        (Lost ∷ Restarted ∷ [], left, done_both, record { whole = told.whole ∙ ap (λ (w : _). with_end w (texts trace_grammar (Restarted ∷ []))) whole ∙ with_end-with_end sink.written first (texts trace_grammar (Restarted ∷ [])); faults = let later = told.faults in omega arith })
     lost-so loses x (Err failed) Done writes (ok, back, told) = absurd (let never = ok in cc)
     lost-so loses x (Ok done) WriteFault (whole, faults, after) (back, inl (err, same)) = absurd (let never = err in cc)
     lost-so loses x (Ok done) WriteFault (whole, faults, after) (back, inr (ok, part)) =
         let (left, done_both) = done-both x loses back in
-        (Lost ∷ Restarted ∷ [], left, done_both, front-after sink mid_sink then_sink first (texts (Restarted ∷ [])) whole faults part)
+        (Lost ∷ Restarted ∷ [], left, done_both, front-after sink mid_sink then_sink first (texts trace_grammar (Restarted ∷ [])) whole faults part)
     lost-so loses x (Err failed) WriteFault (n, lt, front, faults) (back, inl (err, same)) =
         let (left, done_both) = done-both x loses back in
-        (Lost ∷ Restarted ∷ [], left, done_both, front-before sink then_sink first (texts (Restarted ∷ [])) n lt (ap (λ (d : Drain). d.written) same ∙ front) (subst (λ (d : Drain). Rises sink.faults d.faults) (sym same) faults))
+        (Lost ∷ Restarted ∷ [], left, done_both, front-before sink then_sink first (texts trace_grammar (Restarted ∷ [])) n lt (ap (λ (d : Drain). d.written) same ∙ front) (subst (λ (d : Drain). Rises sink.faults d.faults) (sym same) faults))
     lost-so loses x (Err failed) WriteFault writes (back, inr (ok, part)) = absurd (let never = ok in cc)
     lost-so loses x (Ok done) Dead (whole, faults, after) (still, dead, same) =
-        (dead-so x loses still dead, inl (subst (λ (rs : List Reply). Written (texts rs) sink then_sink) (sym (no-power line call).1) (subst (λ (d : Drain). Written (texts (Lost ∷ [])) sink d) (sym same) (record { whole = whole ∙ ap (with_end sink.written) (sym (texts-one Lost)); faults = faults }))))
+        (dead-so x loses still dead, inl (subst (λ (rs : List Reply). Written (texts trace_grammar rs) sink then_sink) (sym (no-power line call).1) (subst (λ (d : Drain). Written (texts trace_grammar (Lost ∷ [])) sink d) (sym same) (record { whole = whole ∙ ap (with_end sink.written) (sym (texts-one Lost)); faults = faults }))))
     lost-so loses x (Err failed) Dead (n, lt, front, faults) (still, dead, same) =
-        (dead-so x loses still dead, inr (subst (λ (rs : List Reply). FrontWritten (texts rs) sink then_sink) (sym (no-power line call).1) (subst (λ (d : Drain). FrontWritten (texts (Lost ∷ [])) sink d) (sym same) (record { count = n; front = front ∙ ap (λ (t : List ℕ). with_end sink.written (take n t)) (sym (texts-one Lost)); faults = faults }))))
+        (dead-so x loses still dead, inr (subst (λ (rs : List Reply). FrontWritten (texts trace_grammar rs) sink then_sink) (sym (no-power line call).1) (subst (λ (d : Drain). FrontWritten (texts trace_grammar (Lost ∷ [])) sink d) (sym same) (record { count = n; front = front ∙ ap (λ (t : List ℕ). with_end sink.written (take n t)) (sym (texts-one Lost)); faults = faults }))))
 
-pub power-recovers : (m : Array) (old c new : Chart) (sink then_sink : Drain) (obeyed : Obeyed) → Stands old m → c ≡ pulled old → IsSound c × (durable c ≡ undone m) → Recovers (Ok tt) obeyed c new sink then_sink → Obeys m PowerLine obeyed old new sink then_sink
-power-recovers m old c new sink then_sink obeyed stood is (sound, words) recovers = at obeyed recovers
+pub power-recovers : (May : Counts → Type 0) (m : Array) (old c new : Picture) (sink then_sink : Drain) (obeyed : Obeyed) → Stands old.chart m → c ≡ record old { chart = pulled old.chart } → IsSound c.chart × (durable c.chart ≡ undone m) → Recovers (Ok tt) obeyed c new sink then_sink → ObeysLine May m PowerLine obeyed old new sink then_sink
+power-recovers May m old c new sink then_sink obeyed stood is (sound, words) recovers = at obeyed recovers
   where
-    shadows : m.shadows ≡ c.shape.shadows
-    shadows = Holds.shadows stood.holds ∙ ap (λ (x : Chart). x.shape.shadows) (sym is)
+    shadows : m.shadows ≡ c.chart.shape.shadows
+    shadows = Holds.shadows stood.holds ∙ ap (λ (x : Picture). x.chart.shape.shadows) (sym is)
 
-    cut : Licence 1 0 0 0 old c
-    cut = subst (λ (x : Chart). Licence 1 0 0 0 old x) (sym is) (record {
+    cut : Licence 1 0 0 0 old.chart c.chart
+    cut = subst (λ (x : Picture). Licence 1 0 0 0 old.chart x.chart) (sym is) (record {
+      shape = refl;
       given = refl;
-      pulled = record { kept = up-least old.pulled; rise = λ lt. up-below old.pulled lt };
-      plans_made = record { kept = omega arith; rise = λ lt. omega arith };
-      cuts = record { kept = up-least old.cuts; rise = λ lt. let e = up-below old.cuts lt in omega arith };
+      pulled = λ lt. up-low old.chart.pulled lt;
+      plans_made = λ lt. omega arith;
+      cuts = record { kept = up-least old.chart.cuts; rise = λ lt. let e = up-below old.chart.cuts lt in omega arith };
       bads = record { kept = omega arith; rise = λ lt. omega arith };
     })
 
-    done-so_power : IsBack c new → LineDone m PowerLine (Restarted ∷ []) (restarted m) old new
+    done-so_power : IsBack c new → LineDone May m PowerLine (Restarted ∷ []) (restarted m) old new
     done-so_power back = record {
       does = inr (inr (inr (refl, refl, refl)));
-      stands = subst (λ (s : ℕ). Stands new (fresh s (undone m))) (sym shadows) (subst (λ (ws : List ℕ). Stands new (fresh c.shape.shadows ws)) words back.stands);
-      licensed = Licence-trans 1 0 0 0 0 0 0 0 old c new cut back.licence;
+      stands = subst (λ (s : ℕ). Stands new.chart (fresh s (undone m))) (sym shadows) (subst (λ (ws : List ℕ). Stands new.chart (fresh c.chart.shape.shadows ws)) words back.stands);
+      licensed = Licence-trans 1 0 0 0 0 0 0 0 old.chart c.chart new.chart cut back.licence;
+      notes = Notes-power old c new is back;
     }
 
-    at : (obeyed : Obeyed) → Recovers (Ok tt) obeyed c new sink then_sink → Obeys m PowerLine obeyed old new sink then_sink
+    at : (obeyed : Obeyed) → Recovers (Ok tt) obeyed c new sink then_sink → ObeysLine May m PowerLine obeyed old new sink then_sink
     at Done (ok, back, told) = (Restarted ∷ [], restarted m, done-so_power back, told)
     at WriteFault (back, inl (err, same)) = absurd (let never = err in cc)
     at WriteFault (back, inr (ok, part)) = (Restarted ∷ [], restarted m, done-so_power back, part)
     at Dead (still, dead, same) = (
-      record { off = still.off; sound = still.sound sound; dead = dead; found = (restarted m, inr (refl, refl), still.durable ∙ words); licensed = Licence-trans 1 0 0 0 0 0 0 0 old c new cut still.licence },
+      record { off = still.off; magic = still.magic ∙ ap (λ (x : Picture). x.chart.fields.magic) is ∙ Holds.magic stood.holds; version = still.version ∙ ap (λ (x : Picture). x.chart.fields.version) is ∙ Holds.version stood.holds; sound = still.sound sound; dead = dead; found = (restarted m, inr (refl, refl), still.durable ∙ words); licensed = Licence-trans 1 0 0 0 0 0 0 0 old.chart c.chart new.chart cut still.licence },
       inl (subst (λ (d : Drain). Written [] sink d) (sym same) (record { whole = sym (with_end-nil sink.written); faults = omega arith })),
     )
 
 -- an empty line does nothing
-pub empty-done : (m : Array) (line : Line) (c : Chart) (sink : Drain) → line ≡ EmptyLine → Stands c m → Obeys m line Done c c sink sink
-empty-done m line c sink is stood = subst (λ (l : Line). Obeys m l Done c c sink sink) (sym is)
-    ([], m, record { does = inl (refl, refl, refl); stands = stood; licensed = Licence-refl c }, record { whole = sym (with_end-nil sink.written); faults = omega arith })
+pub empty-done : (May : Counts → Type 0) (m : Array) (line : Line) (c : Picture) (sink : Drain) → line ≡ EmptyLine → Stands c.chart m → ObeysLine May m line Done c c sink sink
+empty-done May m line c sink is stood = subst (λ (l : Line). ObeysLine May m l Done c c sink sink) (sym is)
+    ([], m, record { does = inl (refl, refl, refl); stands = stood; licensed = Licence-refl c.chart; notes = notes-empty c }, record { whole = sym (with_end-nil sink.written); faults = omega arith })
 
--- what the grammar reads as a built command may be served
-pub served : (bytes : List ℕ) (line : Line) → Reads bytes line → is_built line ≡ true → IsServed line
-served bytes EmptyLine reads built = tt
-served bytes (LoadLine a) reads built = tt
-served bytes (LookLine a) reads built = tt
-served bytes (StoreLine a w) reads built = tt
-served bytes BeginLine reads built = absurd (let never = built in cc)
-served bytes (PutLine t a w) reads built = absurd (let never = built in cc)
-served bytes (CommitLine t) reads built = absurd (let never = built in cc)
-served bytes (AbortLine t) reads built = absurd (let never = built in cc)
-served bytes TickLine reads built = absurd (let never = built in cc)
-served bytes PowerLine reads built = tt
-served bytes (CutLine k g) reads built = (Reads.ranges reads).0
-served bytes (BadLine k g) reads built = (Reads.ranges reads).0
-served bytes StatLine reads built = absurd (let never = built in cc)
+-- what the grammar reads may be served
+pub served : (bytes : List ℕ) (line : Line) → Reads bytes line → IsServed line
+served bytes EmptyLine reads = tt
+served bytes (LoadLine a) reads = tt
+served bytes (LookLine a) reads = tt
+served bytes (StoreLine a w) reads = tt
+served bytes BeginLine reads = tt
+served bytes (PutLine t a w) reads = tt
+served bytes (CommitLine t) reads = tt
+served bytes (AbortLine t) reads = tt
+served bytes TickLine reads = tt
+served bytes PowerLine reads = tt
+served bytes (CutLine k g) reads = (Reads.ranges reads).0
+served bytes (BadLine k g) reads = (Reads.ranges reads).0
+served bytes StatLine reads = tt

@@ -1,23 +1,27 @@
 -- A board between a failure of power and its return.
-use Rattle.std.proofs.Common.{◌≡◌, ℕ, ◌+◌, ◌<◌, false, List, refl, ◌∙◌, ap, subst, arith}
+use Rattle.std.proofs.Common.{◌≡◌, ◌⊎◌, inl, inr, ℕ, ◌+◌, ◌<◌, false, List, length, refl, sym, ◌∙◌, ap, subst, arith}
 use Rattle.envy_base.specs.declared.shape.Shape.{Shape}
 use Rattle.envy_map.specs.Fields.{Chart}
-use Rattle.envy_layout.specs.Same.{Counted, Kept}
+use Rattle.envy_layout.specs.Same.{Counted, Grows, Kept}
 use Rattle.envy_layout.specs.Stands.{Stands}
 use Rattle.envy_layout.specs.Words.{durable}
 use Rattle.envy_memory.specs.Calls.{fresh, lit}
+use Rattle.envy_memory.specs.Picture.{Picture, counts_of}
+use Rattle.envy_table.specs.Hits.{Empties}
 use Rattle.envy_run.specs.Licence.{Licence, RoseBy, RoseOver}
-use Rattle.envy_run.specs.Restarts.{IsStillOff, IsBack}
+use Rattle.envy_run.specs.Restarts.{IsStillOff, IsBack, Restarts}
+use Rattle.envy_run.specs.Tells.{CountsStay}
 use Rattle.envy_run.proofs.Replying.{Licence-refl, Licence-counted}
 
 RoseBy-trans : (i j a b c : ℕ) → RoseBy i a b → RoseBy j b c → RoseBy (i + j) a c
-RoseBy-trans i j a b c x y = let p = x.kept in let q = y.kept in record { kept = omega arith; rise = λ lt. let later = y.rise lt in let first = x.rise (omega arith) in omega arith }
+RoseBy-trans i j a b c x y = λ lt. let first = x (omega arith) in let later = y (omega arith) in omega arith
 
 RoseOver-trans : (i j a b c : ℕ) → RoseOver i a b → RoseOver j b c → RoseOver (i + j) a c
 RoseOver-trans i j a b c x y = let p = x.kept in let q = y.kept in record { kept = omega arith; rise = λ lt. let later = y.rise lt in let first = x.rise (omega arith) in omega arith }
 
 pub Licence-trans : (a b c d i j k l : ℕ) (p q r : Chart) → Licence a b c d p q → Licence i j k l q r → Licence (a + i) (b + j) (c + k) (d + l) p r
 Licence-trans a b c d i j k l p q r x y = record {
+  shape = y.shape ∙ x.shape;
   given = y.given ∙ x.given;
   pulled = RoseBy-trans a i _ _ _ x.pulled y.pulled;
   plans_made = RoseBy-trans b j _ _ _ x.plans_made y.plans_made;
@@ -27,25 +31,62 @@ Licence-trans a b c d i j k l p q r x y = record {
 
 -- asking for power once
 pub Licence-revived : (c d : Chart) → Kept (lit c) d → Licence 0 0 0 0 c d
-Licence-revived c d kept = let counted = kept.counted in let made = Licence-counted 0 0 0 0 (lit c) d counted (λ lt. let le = counted.cuts in omega arith) (λ lt. let le = counted.bads in omega arith) in
-    record { given = made.given; pulled = made.pulled; plans_made = made.plans_made; cuts = made.cuts; bads = made.bads }
+Licence-revived c d kept = let counted = kept.counted in let made = Licence-counted 0 0 0 0 (lit c) d kept.shape counted (λ lt. let le = counted.cuts in omega arith) (λ lt. let le = counted.bads in omega arith) in
+    record { shape = made.shape; given = made.given; pulled = made.pulled; plans_made = made.plans_made; cuts = made.cuts; bads = made.bads }
 
-pub StillOff-refl : (c : Chart) → c.on ≡ false → IsStillOff c c
-StillOff-refl c off = record { off = off; shape = refl; sound = λ s. s; durable = refl; licence = Licence-refl c }
+-- asking for power once begins nothing
+CountsStay-more : (a b c : Picture) → CountsStay a b → Kept (lit b.chart) c.chart → counts_of c.parts ≡ counts_of b.parts → length c.parts.cache.entries ≡ length b.parts.cache.entries → CountsStay a c
+CountsStay-more a b c stay kept counts size =
+    let few = Counted.few kept.counted in
+    let low = Counted.begun kept.counted in
+    let least = Grows.least (Counted.erases kept.counted) in
+    let most = Grows.few (Counted.erases kept.counted) in
+    let begun = stay.begun in
+    let erases = stay.erases in
+    record { size = size ∙ stay.size; counts = counts ∙ stay.counts; begun = omega arith; erases = omega arith }
 
-pub StillOff-more : (a b c : Chart) → IsStillOff a b → Kept (lit b) c → c.on ≡ false → IsStillOff a c
-StillOff-more a b c still kept off = record {
+pub StillOff-refl : (c : Picture) → c.chart.on ≡ false → IsStillOff c c
+StillOff-refl c off = record {
   off = off;
-  shape = kept.shape ∙ still.shape;
-  sound = λ s. kept.sound;
-  durable = kept.durable ∙ still.durable;
-  licence = Licence-trans 0 0 0 0 0 0 0 0 a b c still.licence (Licence-revived b c kept);
+  shape = refl;
+  magic = refl;
+  version = refl;
+  sound = λ s. s;
+  durable = refl;
+  licence = Licence-refl c.chart;
+  counts = record { size = refl; counts = refl; begun = refl; erases = refl };
 }
 
-pub Back-after : (a b c : Chart) → IsStillOff a b → Kept (lit b) c → Stands c (fresh b.shape.shadows (durable b)) → IsBack a c
-Back-after a b c still kept stands = record {
-  stands = subst (λ (ws : List ℕ). Stands c (fresh a.shape.shadows ws)) still.durable (subst (λ (n : ℕ). Stands c (fresh n (durable b))) (ap (λ (sh : Shape). sh.shadows) still.shape) stands);
-  licence = Licence-trans 0 0 0 0 0 0 0 0 a b c still.licence (Licence-revived b c kept);
+pub StillOff-more : (a b c : Picture) → IsStillOff a b → Kept (lit b.chart) c.chart → c.chart.fields.version ≡ b.chart.fields.version → c.chart.on ≡ false → counts_of c.parts ≡ counts_of b.parts → length c.parts.cache.entries ≡ length b.parts.cache.entries → IsStillOff a c
+StillOff-more a b c still kept version off counts size = record {
+  off = off;
+  shape = kept.shape ∙ still.shape;
+  magic = kept.magic ∙ still.magic;
+  version = version ∙ still.version;
+  sound = λ s. kept.sound;
+  durable = kept.durable ∙ still.durable;
+  licence = Licence-trans 0 0 0 0 0 0 0 0 a.chart b.chart c.chart still.licence (Licence-revived b.chart c.chart kept);
+  counts = CountsStay-more a b c still.counts kept counts size;
+}
+
+-- power was asked for, and is off still
+pub StillOff-again : {E : Type 0} (a b c : Picture) → IsStillOff a b → (E × (c ≡ b)) ⊎ (Kept (lit b.chart) c.chart × (c.chart.on ≡ false)) → c.chart.fields.version ≡ b.chart.fields.version → counts_of c.parts ≡ counts_of b.parts → length c.parts.cache.entries ≡ length b.parts.cache.entries → IsStillOff a c
+StillOff-again a b c still (inl (never, same)) version counts size = subst (λ (x : Picture). IsStillOff a x) (sym same) still
+StillOff-again a b c still (inr (kept, off)) version counts size = StillOff-more a b c still kept version off counts size
+
+lives-none : {E : Type 0} (b c : Picture) → (E × (c ≡ b)) ⊎ (Kept (lit b.chart) c.chart × (c.chart.on ≡ false)) → b.chart.lives ≡ 0 → c.chart.lives ≡ 0
+lives-none b c (inl (never, same)) none = ap (λ (x : Picture). x.chart.lives) same ∙ none
+lives-none b c (inr (kept, off)) none = let e = Counted.lives kept.counted in omega arith
+
+pub StillOff-dead : {E : Type 0} (a b c : Picture) → IsStillOff a b → (E × (c ≡ b)) ⊎ (Kept (lit b.chart) c.chart × (c.chart.on ≡ false)) → c.chart.fields.version ≡ b.chart.fields.version → counts_of c.parts ≡ counts_of b.parts → length c.parts.cache.entries ≡ length b.parts.cache.entries → b.chart.lives ≡ 0 → Restarts false a c
+StillOff-dead a b c still asked version counts size none = (StillOff-again a b c still asked version counts size, lives-none b c asked none)
+
+pub Back-after : (a b c : Picture) → IsStillOff a b → Kept (lit b.chart) c.chart → Stands c.chart (fresh b.chart.shape.shadows (durable b.chart)) → counts_of c.parts ≡ counts_of b.parts → length c.parts.cache.entries ≡ length b.parts.cache.entries → Empties b.parts.cache c.parts.cache → IsBack a c
+Back-after a b c still kept stands counts size empties = record {
+  stands = subst (λ (ws : List ℕ). Stands c.chart (fresh a.chart.shape.shadows ws)) still.durable (subst (λ (n : ℕ). Stands c.chart (fresh n (durable b.chart))) (ap (λ (sh : Shape). sh.shadows) still.shape) stands);
+  licence = Licence-trans 0 0 0 0 0 0 0 0 a.chart b.chart c.chart still.licence (Licence-revived b.chart c.chart kept);
+  counts = CountsStay-more a b c still.counts kept counts size;
+  vacant = empties.pages;
 }
 
 pub lives-fewer : (b c : Chart) → Kept (lit b) c → 0 < b.lives → c.lives < b.lives

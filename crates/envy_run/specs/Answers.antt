@@ -1,24 +1,25 @@
 -- What answering a line does, power being on at entry.
 use Rattle.std.specs.Prelude.{◌≡◌, ◌≤◌, ⊤, Some}
 use Rattle.envy_base.specs.Array.{Array}
+use Rattle.envy_base.specs.declared.counts.Counts.{Counts}
 use Rattle.envy_base.specs.Step.{Command}
 use Rattle.envy_map.specs.Fields.{Chart}
 use Rattle.envy_layout.specs.Stands.{Stands, IsLost as LostIn}
 use Rattle.envy_trace.specs.declared.line.Line.{Line}
-use Rattle.envy_trace.specs.declared.line.Line.TheVariants.{Empty, Load, Look, Store, Power, Cut, Bad}
+use Rattle.envy_trace.specs.declared.line.Line.TheVariants.{Empty, Power, Cut, Bad}
 use Rattle.envy_trace.specs.declared.reply.Reply.{Reply}
 use Rattle.envy_trace.specs.declared.reply.Reply.TheVariants.{Lost}
 use Rattle.envy_run.specs.Licence.{Licence}
-use Rattle.envy_run.specs.Turns.{Replies, losable, is_plan, is_fault, is_lost, one_if}
+use Rattle.envy_run.specs.Turns.{Replies, losable, is_plan, is_fault, is_lost}
+use Rattle.envy_serve.specs.Turns.{one_if}
 
--- the line is one call of the memory, of those that are built
+-- the line is one call of the memory
 abbrev pub IsCall : Line → Type 0
-IsCall (Load a) = ⊤
-IsCall (Look a) = ⊤
-IsCall (Store a w) = ⊤
+IsCall Empty = ⊥
+IsCall Power = ⊥
 IsCall (Cut k g) = 1 ≤ k
 IsCall (Bad k g) = 1 ≤ k
-IsCall line = ⊥
+IsCall line = ⊤
 
 -- or it says that power is cut, or nothing
 abbrev pub IsServed : Line → Type 0
@@ -32,9 +33,13 @@ pub record LosesIn (m : Array) (line : Line) (new : Chart) : Type 0 where
   pub is : losable line ≡ Some command
   pub lost : LostIn m command new
 
-abbrev pub AnswersTo : Array → Line → Reply → Chart → Type 0
-AnswersTo m line Lost new = LosesIn m line new
-AnswersTo m line reply new = (n : Array) × Replies m line reply n × Stands new n
+abbrev pub AnswersTo : (Counts → Type 0) → Array → Line → Reply → Chart → Type 0
+AnswersTo May m line Lost new = LosesIn m line new
+AnswersTo May m line reply new = (n : Array) × Replies May m line reply n × Stands new n
+
+-- the same of a line that isn't one of counters
+abbrev pub Answered : Array → Line → Reply → Chart → Type 0
+Answered m line reply new = AnswersTo (λ counts. ⊥) m line reply new
 
 abbrev pub AnswerLicence : Line → Reply → Chart → Chart → Type 0
 AnswerLicence line reply old new = Licence 0 (one_if (is_plan line)) (one_if (is_lost reply)) (one_if (is_fault reply)) old new

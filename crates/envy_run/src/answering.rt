@@ -1,19 +1,22 @@
-ghost use Rattle.std.specs.Prelude.{◌≡◌, ◌↔◌, ◌≤◌, false, IsTrue};
+ghost use Rattle.std.specs.Prelude.{◌≡◌, ◌↔◌, List, [], ◌∷◌, false, IsTrue};
 ghost use Rattle.envy_base.specs.Array.{Array};
 ghost use Rattle.envy_layout.specs.Stands.{Stands};
-ghost use Rattle.envy_run.specs.Answers.{IsCall, AnswersTo, AnswerLicence};
-ghost use Rattle.envy_trace.specs.declared.line.Line.TheVariants.{Load, Look, Store};
+ghost use Rattle.envy_run.specs.Answers.{Answered, IsCall, AnswersTo, AnswerLicence};
+ghost use Rattle.envy_run.specs.Hits.{MayTell};
+ghost use Rattle.envy_run.specs.Tells.{CanTell, Notes};
+ghost use Rattle.envy_run.specs.Turns.{TraceTurn};
+ghost use Rattle.envy_trace.specs.declared.line.Line.TheVariants.{Load, Look, Store, Begin, Put, Commit, Abort, Tick};
 
-use envy_base::Bench;
-use envy_memory::{LoadFault, Memory, StoreFault};
+use envy_base::{Bench, Trouble};
+use envy_memory::{BeginFault, EndFault, LoadFault, Memory, PutFault, StoreFault};
 use envy_trace::{Line, Reply};
 
 fn load<B: Bench>(memory: &mut Memory<B>, address: u32) -> Reply
-    requires on { IsTrue memory.old.chart.on }
-    ensures step { (m : Array) → Stands memory.old.chart m → AnswersTo m (Load address) result memory.new.chart }
+    requires { IsTrue memory.old.chart.on }
+    ensures step { (m : Array) → Stands memory.old.chart m → Answered m (Load address) result memory.new.chart }
     ensures lost { (result ≡ Reply.Lost) ↔ (memory.new.chart.on ≡ false) }
     ensures licence { AnswerLicence (Load address) result memory.old.chart memory.new.chart }
-    ensures shape { memory.new.chart.shape ≡ memory.old.chart.shape }
+    ensures notes { Notes (Load address) (result ∷ []) memory.old memory.new }
 {
     match memory.load(address) {
         Ok(word) => Reply::Word(word),
@@ -23,10 +26,11 @@ fn load<B: Bench>(memory: &mut Memory<B>, address: u32) -> Reply
 }
 
 fn look<B: Bench>(memory: &Memory<B>, address: u32) -> Reply
-    requires on { IsTrue memory.now.chart.on }
-    ensures step { (m : Array) → Stands memory.now.chart m → AnswersTo m (Look address) result memory.now.chart }
+    requires { IsTrue memory.now.chart.on }
+    ensures step { (m : Array) → Stands memory.now.chart m → Answered m (Look address) result memory.now.chart }
     ensures lost { (result ≡ Reply.Lost) ↔ (memory.now.chart.on ≡ false) }
     ensures licence { AnswerLicence (Look address) result memory.now.chart memory.now.chart }
+    ensures notes { Notes (Look address) (result ∷ []) memory.now memory.now }
 {
     match memory.look(address) {
         Ok(word) => Reply::Word(word),
@@ -36,11 +40,11 @@ fn look<B: Bench>(memory: &Memory<B>, address: u32) -> Reply
 }
 
 fn store<B: Bench>(memory: &mut Memory<B>, address: u32, word: u64) -> Reply
-    requires on { IsTrue memory.old.chart.on }
-    ensures step { (m : Array) → Stands memory.old.chart m → AnswersTo m (Store address word) result memory.new.chart }
+    requires { IsTrue memory.old.chart.on }
+    ensures step { (m : Array) → Stands memory.old.chart m → Answered m (Store address word) result memory.new.chart }
     ensures lost { (result ≡ Reply.Lost) ↔ (memory.new.chart.on ≡ false) }
     ensures licence { AnswerLicence (Store address word) result memory.old.chart memory.new.chart }
-    ensures shape { memory.new.chart.shape ≡ memory.old.chart.shape }
+    ensures notes { Notes (Store address word) (result ∷ []) memory.old memory.new }
 {
     match memory.store(address, word) {
         Ok(()) => Reply::Done,
@@ -51,20 +55,104 @@ fn store<B: Bench>(memory: &mut Memory<B>, address: u32, word: u64) -> Reply
     }
 }
 
+fn begin<B: Bench>(memory: &mut Memory<B>) -> Reply
+    requires { IsTrue memory.old.chart.on }
+    ensures step { (m : Array) → Stands memory.old.chart m → Answered m Begin result memory.new.chart }
+    ensures lost { (result ≡ Reply.Lost) ↔ (memory.new.chart.on ≡ false) }
+    ensures licence { AnswerLicence Begin result memory.old.chart memory.new.chart }
+    ensures notes { Notes Begin (result ∷ []) memory.old memory.new }
+{
+    match memory.begin() {
+        Ok(slot) => Reply::Started(slot),
+        Err(BeginFault::Busy) => Reply::Busy,
+        Err(BeginFault::Off) => Reply::Lost,
+    }
+}
+
+fn put<B: Bench>(memory: &mut Memory<B>, slot: u8, address: u32, word: u64) -> Reply
+    requires { IsTrue memory.old.chart.on }
+    ensures step { (m : Array) → Stands memory.old.chart m → Answered m (Put slot address word) result memory.new.chart }
+    ensures lost { (result ≡ Reply.Lost) ↔ (memory.new.chart.on ≡ false) }
+    ensures licence { AnswerLicence (Put slot address word) result memory.old.chart memory.new.chart }
+    ensures notes { Notes (Put slot address word) (result ∷ []) memory.old memory.new }
+{
+    match memory.put(slot, address, word) {
+        Ok(()) => Reply::Done,
+        Err(PutFault::Range) => Reply::Range,
+        Err(PutFault::Closed) => Reply::Closed,
+        Err(PutFault::Held(owner)) => Reply::Held(owner),
+        Err(PutFault::Full) => Reply::Full,
+        Err(PutFault::Bad) => Reply::Fault,
+        Err(PutFault::Off) => Reply::Lost,
+    }
+}
+
+fn commit<B: Bench>(memory: &mut Memory<B>, slot: u8) -> Reply
+    requires { IsTrue memory.old.chart.on }
+    ensures step { (m : Array) → Stands memory.old.chart m → Answered m (Commit slot) result memory.new.chart }
+    ensures lost { (result ≡ Reply.Lost) ↔ (memory.new.chart.on ≡ false) }
+    ensures licence { AnswerLicence (Commit slot) result memory.old.chart memory.new.chart }
+    ensures notes { Notes (Commit slot) (result ∷ []) memory.old memory.new }
+{
+    match memory.commit(slot) {
+        Ok(()) => Reply::Done,
+        Err(EndFault::Closed) => Reply::Closed,
+        Err(EndFault::Off) => Reply::Lost,
+    }
+}
+
+fn abort<B: Bench>(memory: &mut Memory<B>, slot: u8) -> Reply
+    requires { IsTrue memory.old.chart.on }
+    ensures step { (m : Array) → Stands memory.old.chart m → Answered m (Abort slot) result memory.new.chart }
+    ensures lost { (result ≡ Reply.Lost) ↔ (memory.new.chart.on ≡ false) }
+    ensures licence { AnswerLicence (Abort slot) result memory.old.chart memory.new.chart }
+    ensures notes { Notes (Abort slot) (result ∷ []) memory.old memory.new }
+{
+    match memory.abort(slot) {
+        Ok(()) => Reply::Done,
+        Err(EndFault::Closed) => Reply::Closed,
+        Err(EndFault::Off) => Reply::Lost,
+    }
+}
+
+fn tick<B: Bench>(memory: &mut Memory<B>) -> Reply
+    requires { IsTrue memory.old.chart.on }
+    ensures step { (m : Array) → Stands memory.old.chart m → Answered m Tick result memory.new.chart }
+    ensures lost { (result ≡ Reply.Lost) ↔ (memory.new.chart.on ≡ false) }
+    ensures licence { AnswerLicence Tick result memory.old.chart memory.new.chart }
+    ensures notes { Notes Tick (result ∷ []) memory.old memory.new }
+{
+    match memory.tick() {
+        Ok(_) => Reply::Done,
+        Err(Trouble::Bad) => Reply::Fault,
+        Err(Trouble::Off) => Reply::Lost,
+    }
+}
+
 /// Does one line: the call of the memory that it names, and the reply. `Lost` is the answer exactly
-/// where power failed in this call.
+/// where power failed in this call, `Fault` only where a flash operation failed in it.
 pub fn answer<B: Bench>(memory: &mut Memory<B>, line: &Line) -> Reply
     requires on { IsTrue memory.old.chart.on }
     requires call { IsCall line.now }
-    ensures step { (m : Array) → Stands memory.old.chart m → AnswersTo m line.now result memory.new.chart }
+    ensures step { (earlier : List TraceTurn) (m : Array) → Stands memory.old.chart m → CanTell memory.old.chart.shape.entries earlier memory.old.parts
+        → AnswersTo (MayTell memory.old.chart.shape.entries earlier) m line.now result memory.new.chart }
     ensures lost { (result ≡ Reply.Lost) ↔ (memory.new.chart.on ≡ false) }
     ensures licence { AnswerLicence line.now result memory.old.chart memory.new.chart }
-    ensures shape { memory.new.chart.shape ≡ memory.old.chart.shape }
+    ensures notes { Notes line.now (result ∷ []) memory.old memory.new }
 {
     match *line {
         Line::Load { address } => load(memory, address),
         Line::Look { address } => look(memory, address),
         Line::Store { address, word } => store(memory, address, word),
+        Line::Begin => begin(memory),
+        Line::Put {
+            slot,
+            address,
+            word,
+        } => put(memory, slot, address, word),
+        Line::Commit { slot } => commit(memory, slot),
+        Line::Abort { slot } => abort(memory, slot),
+        Line::Tick => tick(memory),
         Line::Cut { k, g } => {
             memory.arm_cut(k, g);
             Reply::Armed
@@ -73,6 +161,7 @@ pub fn answer<B: Bench>(memory: &mut Memory<B>, line: &Line) -> Reply
             memory.arm_bad(k, g);
             Reply::Armed
         }
-        _ => unreachable!(),
+        Line::Stat => Reply::Stat(memory.counts()),
+        Line::Empty | Line::Power => unreachable!(),
     }
 }

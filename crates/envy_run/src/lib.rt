@@ -2,13 +2,12 @@
 //! theorem that its answers are those of a plain array of words.
 #![tactic(auto)]
 
-mod advance;
 mod answering;
 mod ended;
-mod fetch;
 #[cfg(test)]
 mod formatting_tests;
 mod gen_run;
+mod laws;
 mod obey;
 mod plain_run;
 #[cfg(test)]
@@ -16,14 +15,23 @@ mod plain_tests;
 #[cfg(test)]
 mod planned_board;
 mod prepare;
+#[cfg(test)]
+mod reading_tests;
 mod restart;
 mod running;
-mod serve;
+#[cfg(test)]
+mod script;
 #[cfg(test)]
 mod tests;
+mod tracing;
+#[cfg(test)]
+mod transaction_tests;
 #[cfg(test)]
 mod words_tests;
+#[cfg(test)]
+mod work_tests;
 
 pub use answering::answer;
 pub use ended::{Ended, end_text};
+pub use laws::memory_and_plain_machine_write_alike;
 pub use running::run;

@@ -1,27 +1,25 @@
 //! A trace done on the plain machine, which has no board.
 
-ghost use Rattle.std.specs.Prelude.{◌≡◌, ◌≤◌, ℕ, MatchResult};
-ghost use Rattle.envy_base.specs.Array.{Array};
-ghost use Rattle.envy_io.specs.Streams.{Feed, Drain};
+ghost use Rattle.std.specs.Prelude.{◌≡◌, ◌≤◌, MatchResult, Ok, None};
+ghost use Rattle.envy_base.specs.State.{State};
 ghost use Rattle.envy_plain.specs.Refusals.{answer_of};
-ghost use Rattle.envy_run.specs.Calm.{HasDoneCalmly, NeverDies, IsCommand, IsCalmReply, ObeysCalmly};
 ghost use Rattle.envy_policy.specs.Setup.{checked};
-ghost use Rattle.envy_run.specs.Headline.{RunsPlain, status_of, why_of};
-ghost use Rattle.envy_run.specs.Progress.{Progress, Advances};
-ghost use Rattle.envy_run.specs.Serves.{Serves};
+ghost use Rattle.envy_run.specs.Calm.{IsCommand, IsCalmReply, IsNoWork, ObeysCalmly};
+ghost use Rattle.envy_run.specs.Headline.{plain_task};
+ghost use Rattle.envy_run.specs.Outcome.{outcome};
+ghost use Rattle.envy_run.specs.Task.{DoesTask};
 ghost use Rattle.envy_run.specs.Turns.{Replies, said};
 
-use crate::advance::End;
 use crate::ended::Ended;
-use crate::fetch::{Accepted, conclude, fetch};
-use crate::restart::write_reply;
+use crate::restart::{ReplyBuffer, write_reply};
 use crate::running::{ended_with, unserved};
-use crate::serve::{MOST_BYTES, Served, lines_accepted};
+use crate::tracing::read_any;
 use envy_base::Counts;
 use envy_io::{Failed, Lines, Sink, Source};
 use envy_plain::{Plain, Refusal};
 use envy_policy::Setup;
-use envy_trace::{Line, Reply};
+use envy_serve::{MOST_BYTES, Obeyed, Service, serve};
+use envy_trace::{Line, LineFault, Reply};
 use std::alloc::Global;
 
 /// The reply that says why a call was refused.
@@ -42,8 +40,8 @@ fn refused(refusal: Refusal) -> Reply
 fn answer(plain: &mut Plain, line: &Line) -> Result<Reply, Refusal>
     requires { IsCommand line.now }
     ensures { MatchResult result
-        (λ reply. Replies plain.old line.now reply plain.new × IsCalmReply reply)
-        (λ refusal. Replies plain.old line.now (said (answer_of refusal)) plain.new) }
+        (λ reply. Replies IsNoWork plain.old line.now reply plain.new × IsCalmReply reply)
+        (λ refusal. Replies IsNoWork plain.old line.now (said (answer_of refusal)) plain.new) }
 {
     match *line {
         Line::Load { address } => Ok(Reply::Word(plain.load(address)?)),
@@ -77,7 +75,12 @@ fn answer(plain: &mut Plain, line: &Line) -> Result<Reply, Refusal>
 }
 
 /// Does a line that is a command, and writes its reply.
-fn obey_command<K: Sink>(plain: &mut Plain, sink: &mut K, line: &Line) -> Result<(), Failed>
+fn obey_command<K: Sink>(
+    plain: &mut Plain,
+    sink: &mut K,
+    line: &Line,
+    buffer: &mut ReplyBuffer,
+) -> Result<(), Failed>
     requires { IsCommand line.now }
     ensures { ObeysCalmly plain.old line.now result plain.new (K.drain sink.old) (K.drain sink.new) }
 {
@@ -85,63 +88,77 @@ fn obey_command<K: Sink>(plain: &mut Plain, sink: &mut K, line: &Line) -> Result
         Ok(reply) => reply,
         Err(refusal) => refused(refusal),
     };
-    write_reply(sink, &reply)
+    write_reply(sink, &reply, buffer)
 }
 
 /// Does a line, and writes its reply.
 #[tactic(auto, using(crate::proofs::Calm::restarted_calmly))]
-fn obey<K: Sink>(plain: &mut Plain, sink: &mut K, line: &Line) -> Result<(), Failed>
+fn obey_plain<K: Sink>(
+    plain: &mut Plain,
+    sink: &mut K,
+    line: &Line,
+    buffer: &mut ReplyBuffer,
+) -> Result<(), Failed>
     ensures { ObeysCalmly plain.old line.now result plain.new (K.drain sink.old) (K.drain sink.new) }
 {
     match *line {
         Line::Empty => Ok(()),
         Line::Power => {
             plain.power();
-            write_reply(sink, &Reply::Restarted)
+            write_reply(sink, &Reply::Restarted, buffer)
         }
-        _ => obey_command(plain, sink, line),
+        _ => obey_command(plain, sink, line, buffer),
     }
 }
 
-/// Reads the next line and does it. Answers how the run ends, where it does.
-fn advance<S: Source, K: Sink>(
-    plain: &mut Plain,
-    source: &mut S,
-    sink: &mut K,
-    reader: &mut Lines,
-) -> Option<End>
-    ensures goes { (from : Feed) (to : Drain) (first : Array) (n : ℕ)
-        → Progress Accepted.All (HasDoneCalmly first plain.old) from to n (S.feed source.old) (K.drain sink.old) reader.old
-        → Advances result Accepted.All (HasDoneCalmly first plain.new) NeverDies from to n (S.feed source.new) (K.drain sink.new) reader.new }
-    ensures cap { reader.new.cap ≡ reader.old.cap }
-    ensures within { reader.new.taken ≤ reader.new.cap }
-{
-    let line = match fetch(Accepted::All, source, reader) {
-        Ok(line) => line,
-        Err(stop) => return Some(conclude(stop, sink)),
-    };
-    match obey(plain, sink, &line) {
-        Ok(()) => None,
-        Err(Failed) => Some(End::WriteFault),
-    }
+/// A plain machine that answers the lines of a trace.
+#[derive(Drop)]
+pub(crate) struct Calm {
+    pub(crate) plain: Plain,
+    pub(crate) buffer: ReplyBuffer,
 }
 
-/// Does the lines of the source one after another, on a plain machine.
-fn serve_plain<S: Source, K: Sink>(plain: &mut Plain, source: &mut S, sink: &mut K) -> Served
-    ensures serves { Serves result.end result.lines result.taken Accepted.All (HasDoneCalmly plain.old plain.new) NeverDies (S.feed source.old) (K.drain sink.old) (S.feed source.new) (K.drain sink.new) }
-    ensures few { result.lines ≤ 1099511627777 }
-{
-    let mut reader = Lines::new(MOST_BYTES);
-    for told in 0..MOST_BYTES + 1 {
-        if let Some(end) = advance(plain, source, sink, &mut reader) {
-            return Served {
-                end,
-                lines: lines_accepted(end, told),
-                taken: reader.taken(),
-            };
+impl Service for Calm {
+    ghost use Rattle.std.specs.Prelude.{⊤, []};
+    ghost use Rattle.envy_base.specs.Array.{Array};
+    ghost use Rattle.envy_run.specs.Calm.{HasDoneCalmly, NeverDies};
+    ghost use Rattle.envy_run.specs.Tracing.{long_any};
+    ghost use Rattle.envy_run.specs.Turns.{trace_grammar};
+
+    type Line = Line;
+
+    type Reply = Reply;
+
+    ghost grammar = { trace_grammar };
+
+    ghost Start = { Array };
+
+    ghost Did = { λ start s turns. HasDoneCalmly start s.plain turns };
+
+    ghost Died = { λ start s turns. NeverDies turns };
+
+    ghost IsReady = { λ s. ⊤ };
+
+    ghost tail = { λ s. [] };
+
+    fn read(bytes: &[u8]) -> Result<Line, LineFault> {
+        read_any(bytes)
+    }
+
+    fn obey<K: Sink>(&mut self, line: &Line, sink: &mut K) -> Obeyed {
+        match obey_plain(&mut self.plain, sink, line, &mut self.buffer) {
+            Ok(()) => Obeyed::Done,
+            Err(Failed) => Obeyed::WriteFault,
         }
     }
-    unreachable!()
+
+    fn close<K: Sink>(&self, _sink: &mut K) -> Result<(), Failed> {
+        Ok(())
+    }
+
+    ghost long = { long_any };
+
+    ghost stays_ready = { λ start s turns did. tt };
 }
 
 /// Does the lines of the source in order on a plain machine, with each reply written before the next
@@ -153,20 +170,23 @@ pub fn run_plain<S: Source, K: Sink, B>(
     sink: &mut K,
 ) -> Ended<B>
     requires { checked setup.now ≡ Ok tt }
-    ensures runs { RunsPlain setup.now
-        (record { status = result.status; why = result.why; lines = result.lines; taken = result.taken })
-        None
-        (S.feed source.old) (S.feed source.new) (K.drain sink.old) (K.drain sink.new) }
-    ensures board { result.board ≡ None }
-    ensures few { result.lines ≤ 1099511627777 }
+    ensures runs { (state : B → State) → DoesTask (plain_task setup.now) (outcome state result)
+        (record { from = S.feed source.old; feed = S.feed source.new; to = K.drain sink.old; sink = K.drain sink.new }) }
+    ensures few { result.lines ≤ result.taken }
+    ensures read { result.taken ≤ 1099511627776 }
+    ensures second { result.second ≡ None }
 {
     // the words were checked
     if setup.check().is_err() {
         unreachable!();
     }
-    let Ok(mut plain) = Plain::new(alloc, &setup.shape) else {
+    let Ok(plain) = Plain::new(alloc, &setup.shape) else {
         return unserved(8, 0, None);
     };
-    let served = serve_plain(&mut plain, source, sink);
+    let mut calm = Calm {
+        plain,
+        buffer: ReplyBuffer::new(),
+    };
+    let served = serve(&mut calm, source, sink, Lines::new(MOST_BYTES));
     ended_with(served, None)
 }

@@ -9,27 +9,40 @@ use envy_base::Bench;
 use envy_io::{Failed, Sink, write_all};
 use envy_memory::{Memory, ReviveFault};
 use envy_report::push_text;
+use envy_serve::Obeyed;
 use envy_trace::{Reply, reply_text};
 
-/// How doing a line ended.
-#[derive(Clone, Copy, Debug, PartialEq, Eq)]
-pub enum Obeyed {
-    /// It was done, and its replies were written.
-    Done,
-    /// It was done, and a write failed.
-    WriteFault,
-    /// Power didn't return.
-    Dead,
+/// Where replies are built, one after another, for as long as a run lasts.
+#[derive(Drop)]
+pub struct ReplyBuffer {
+    text: ArrayVec<u8, 512>,
+    piece: ArrayVec<u8, 513>,
+}
+
+impl ReplyBuffer {
+    pub fn new() -> ReplyBuffer {
+        ReplyBuffer {
+            text: ArrayVec::new(),
+            piece: ArrayVec::new(),
+        }
+    }
 }
 
 /// Writes a reply and its newline as one piece.
-pub fn write_reply<K: Sink>(sink: &mut K, reply: &Reply) -> Result<(), Failed>
+#[inline(always)]
+pub fn write_reply<K: Sink>(
+    sink: &mut K,
+    reply: &Reply,
+    buffer: &mut ReplyBuffer,
+) -> Result<(), Failed>
     ensures { WritesAll (K.drain sink.old) (reply_bytes reply.now ++ newline ∷ []) result (K.drain sink.new) }
 {
-    let mut text = ArrayVec::<u8, 512>::new();
-    reply_text(reply, &mut text);
-    let mut piece = ArrayVec::<u8, 513>::new();
-    push_text(&mut piece, text.as_slice());
+    let text = &mut buffer.text;
+    text.clear();
+    reply_text(reply, text);
+    let piece = &mut buffer.piece;
+    piece.clear();
+    push_text(piece, text.as_slice());
     piece.push(b'\n');
     write_all(sink, piece.as_slice())
 }
@@ -37,7 +50,7 @@ pub fn write_reply<K: Sink>(sink: &mut K, reply: &Reply) -> Result<(), Failed>
 /// Asks for power until the memory is back. Answers false where power doesn't return.
 pub fn restart<B: Bench>(memory: &mut Memory<B>) -> bool
     requires { memory.old.chart.on ≡ false }
-    ensures { Restarts result memory.old.chart memory.new.chart }
+    ensures { Restarts result memory.old memory.new }
 {
     loop {
         match memory.revive() {
@@ -53,9 +66,10 @@ pub fn recover<K: Sink, B: Bench>(
     memory: &mut Memory<B>,
     sink: &mut K,
     wrote: Result<(), Failed>,
+    buffer: &mut ReplyBuffer,
 ) -> Obeyed
     requires { memory.old.chart.on ≡ false }
-    ensures { Recovers wrote result memory.old.chart memory.new.chart (K.drain sink.old) (K.drain sink.new) }
+    ensures { Recovers wrote result memory.old memory.new (K.drain sink.old) (K.drain sink.new) }
 {
     if !restart(memory) {
         return Obeyed::Dead;
@@ -64,7 +78,7 @@ pub fn recover<K: Sink, B: Bench>(
         Ok(()) => {}
         Err(Failed) => return Obeyed::WriteFault,
     }
-    match write_reply(sink, &Reply::Restarted) {
+    match write_reply(sink, &Reply::Restarted, buffer) {
         Ok(()) => Obeyed::Done,
         Err(Failed) => Obeyed::WriteFault,
     }

@@ -1,35 +1,23 @@
-ghost use Rattle.std.specs.Prelude.{◌≡◌, ◌≤◌, option_map};
-ghost use Rattle.envy_map.specs.Fields.{chart};
+ghost use Rattle.std.specs.Prelude.{◌≡◌, ◌≤◌, None, Ok};
+ghost use Rattle.envy_policy.specs.Setup.{checked};
 ghost use Rattle.envy_run.specs.Allowed.{IsAllowed};
-ghost use Rattle.envy_run.specs.Complete.{Completes};
-ghost use Rattle.envy_run.specs.Uncut.{Uncut};
-ghost use Rattle.envy_run.specs.Headline.{Headline, RunsTrace, command_in, with_a_frame_for_every_page as with_frames, status_of, why_of};
+ghost use Rattle.envy_run.specs.Headline.{Headline, run_task, command_in};
+ghost use Rattle.envy_run.specs.Runs.{Runs};
+ghost use Rattle.envy_run.specs.Task.{DoesTask};
+ghost use Rattle.envy_run.specs.Outcome.{outcome, status_of, why_of};
 
-use crate::advance::End;
 use crate::ended::Ended;
 use crate::gen_run::run_gen;
 use crate::plain_run::run_plain;
 use crate::prepare::{Unready, prepare};
-use crate::serve::{Served, serve};
+use crate::restart::ReplyBuffer;
+use crate::tracing::Tracing;
 use envy_args::{Command, WordsFault, read_words};
-use envy_base::{Maker, Shape};
-use envy_io::{Sink, Source};
+use envy_base::Maker;
+use envy_io::{Lines, Sink, Source};
 use envy_policy::Setup;
+use envy_serve::{End, MOST_BYTES, Served, serve};
 use std::alloc::Global;
-
-/// The setup with a frame for every page, which each needs until pages go out to flash.
-pub(crate) fn with_a_frame_for_every_page(setup: Setup) -> Setup
-    ensures { result ≡ with_frames setup }
-{
-    let shape = setup.shape;
-    Setup {
-        shape: Shape {
-            frames: shape.frames.max(shape.pages),
-            ..shape
-        },
-        ..setup
-    }
-}
 
 /// The status of an end, and its second number.
 fn numbers(end: End) -> (u8, u8)
@@ -85,27 +73,32 @@ fn run_trace<S: Source, K: Sink, M: Maker>(
     sink: &mut K,
     maker: &mut M,
 ) -> Ended<M::Made>
-    requires { setup.shape.pages ≤ setup.shape.frames }
-    ensures runs { RunsTrace setup lives
-        (record { status = result.status; why = result.why; lines = result.lines; taken = result.taken })
-        (option_map (λ board. chart (M.Made.Board.state board)) result.board)
-        (S.feed source.old) (S.feed source.new) (K.drain sink.old) (K.drain sink.new) }
-    ensures few { result.lines ≤ 1099511627777 }
+    requires { checked setup ≡ Ok tt }
+    ensures runs { DoesTask (run_task setup lives) (outcome M.Made.Board.state result)
+        (record { from = S.feed source.old; feed = S.feed source.new; to = K.drain sink.old; sink = K.drain sink.new }) }
+    ensures few { result.lines ≤ result.taken }
+    ensures read { result.taken ≤ 1099511627776 }
+    ensures second { result.second ≡ None }
 {
-    match setup.check() {
-        Ok(()) => {}
-        Err(fault) => return unserved(2, fault.rule(), None),
+    // the words were checked
+    if setup.check().is_err() {
+        unreachable!();
     }
     let Ok(board) = maker.make(alloc, &setup.shape, lives) else {
         return unserved(8, 0, None);
     };
-    let mut memory = match prepare(alloc, board, setup) {
+    let memory = match prepare(alloc, board, setup) {
         Ok(memory) => memory,
         Err((board, Unready::Memory)) => return unserved(8, 0, Some(board)),
         Err((board, Unready::Bad)) => return unserved(7, 0, Some(board)),
         Err((board, Unready::Dead)) => return unserved(6, 0, Some(board)),
     };
-    let served = serve(&mut memory, source, sink);
+    let mut tracing = Tracing {
+        memory,
+        buffer: ReplyBuffer::new(),
+    };
+    let served = serve(&mut tracing, source, sink, Lines::new(MOST_BYTES));
+    let Tracing { memory, buffer: _ } = tracing;
     ended_with(served, Some(memory.into_board()))
 }
 
@@ -118,17 +111,14 @@ fn perform<S: Source, K: Sink, M: Maker>(
     maker: &mut M,
 ) -> Ended<M::Made>
     requires { IsAllowed command }
-    ensures headline { Headline (Ok command)
-        (record { status = result.status; why = result.why; lines = result.lines; taken = result.taken })
-        (option_map (λ board. chart (M.Made.Board.state board)) result.board)
-        (S.feed source.old) (S.feed source.new) (K.drain sink.old) (K.drain sink.new) }
-    ensures few { result.lines ≤ 1099511627777 }
+    ensures headline { Headline (Ok command) (outcome M.Made.Board.state result)
+        (record { from = S.feed source.old; feed = S.feed source.new; to = K.drain sink.old; sink = K.drain sink.new }) }
+    ensures few { result.lines ≤ result.taken }
+    ensures read { result.taken ≤ 1099511627776 }
+    ensures second { result.second ≡ None }
 {
     match command {
-        Command::Run { setup, lives } => {
-            let setup = with_a_frame_for_every_page(setup);
-            run_trace(alloc, setup, lives, source, sink, maker)
-        }
+        Command::Run { setup, lives } => run_trace(alloc, setup, lives, source, sink, maker),
         Command::Plain { setup } => run_plain(alloc, &setup, source, sink),
         Command::Gen {
             start,
@@ -148,19 +138,8 @@ pub fn run<S: Source, K: Sink, M: Maker>(
     sink: &mut K,
     maker: &mut M,
 ) -> Ended<M::Made>
-    ensures headline { Headline (command_in words.now)
-        (record { status = result.status; why = result.why; lines = result.lines; taken = result.taken })
-        (option_map (λ board. chart (M.Made.Board.state board)) result.board)
-        (S.feed source.old) (S.feed source.new) (K.drain sink.old) (K.drain sink.new) }
-    ensures completes { Completes (command_in words.now)
-        (record { status = result.status; why = result.why; lines = result.lines; taken = result.taken })
-        (option_map (λ board. chart (M.Made.Board.state board)) result.board)
-        (S.feed source.old) (S.feed source.new) (K.drain sink.old) (K.drain sink.new) }
-    ensures uncut { Uncut (command_in words.now)
-        (record { status = result.status; why = result.why; lines = result.lines; taken = result.taken })
-        (option_map (λ board. chart (M.Made.Board.state board)) result.board)
-        (S.feed source.old) (S.feed source.new) (K.drain sink.old) (K.drain sink.new) }
-    ensures few { result.lines ≤ 1099511627777 }
+    ensures { Runs (command_in words.now) (outcome M.Made.Board.state result)
+        (record { from = S.feed source.old; feed = S.feed source.new; to = K.drain sink.old; sink = K.drain sink.new }) }
 {
     match read_words(alloc, words) {
         Ok(command) => perform(alloc, command, source, sink, maker),

@@ -1,11 +1,12 @@
-use Rattle.envy_base.specs.Step.{Load as DoLoad, Word as IsWord, Range as IsRange}
+use Rattle.envy_base.specs.Step.{Load as DoLoad, Range as IsRange, Word as IsWord}
 use Rattle.envy_run.proofs.Replying.{says-steps}
 use Rattle.envy_run.proofs.answering.load.Goals as goal
 
 pub returns-in-Ok-clause-step : goal.returns-in-Ok-clause-step
-returns-in-Ok-clause-step g c m stood = says-steps m (DoLoad c.args.address) (IsWord c.in-Ok.word) _ (c.in-Ok.ensures.step m stood)
+returns-in-Ok-clause-step g c m stood =
+    says-steps m (DoLoad c.args.address) (IsWord c.in-Ok.word) c.load.new.self.chart (c.in-Ok.ensures.step m stood)
 
 pub returns-in-Err-Range-clause-step : goal.returns-in-Err-Range-clause-step
 returns-in-Err-Range-clause-step g c m stood =
     let e = rw c.in-Err-Range.field-0-is at c.in-Err-Range.ensures in
-    says-steps m (DoLoad c.args.address) IsRange _ (e.step m stood)
+    says-steps m (DoLoad c.args.address) (IsRange) c.load.new.self.chart (e.step m stood)

@@ -1,10 +1,35 @@
-use Rattle.std.proofs.Common.{sym, subst, refl}
-use Rattle.envy_run.specs.Headline.{RunsPlain, status_of, why_of}
-use Rattle.std.specs.Prelude.{None}
-use Rattle.envy_run.proofs.Calm.{plain-served}
+use Rattle.std.proofs.Common.{inl, inr, ℕ, [], refl, sym, subst, ap}
+use Rattle.envy_io.specs.Taking.{Taking}
+use Rattle.envy_serve.specs.Streams.{Streams}
+use Rattle.envy_serve.specs.Ends.{Serves}
+use Rattle.envy_serve.proofs.Advancing.{Serves-as}
+use Rattle.envy_run.specs.Calm.{HasDoneCalmly, NeverDies}
+use Rattle.envy_run.specs.Turns.{trace_grammar}
+use Rattle.envy_run.specs.Headline.{plain_task, zeros_of}
+use Rattle.envy_run.specs.Task.{DoesTask}
+use Rattle.envy_run.specs.declared.ended.Ended.{Ended}
+use Rattle.envy_run.specs.Outcome.{outcome}
 use Rattle.envy_run.proofs.plain_run.run_plain.Goals as goal
 
+pub returns-in_default-clause-runs : goal.returns-in_default-clause-runs
+returns-in_default-clause-runs g c state =
+    subst (λ (e : Ended g.row.B.Denot). DoesTask (plain_task c.args.setup.now) (outcome state e) (record { from = g.S.Source.feed c.args.source.now; feed = g.S.Source.feed c.args.source.now; to = g.K.Sink.drain c.args.sink.now; sink = g.K.Sink.drain c.args.sink.now })) (sym c.unserved.ensures)
+    (record { turns = []; answers = inr (refl, (record { lines = refl; taken = refl; source = refl; sink = refl }, record { status = refl; why = refl })); licences = refl })
+
 pub returns-clause-runs : goal.returns-clause-runs
-returns-clause-runs g c =
-    subst (λ (e : _). RunsPlain c.args.setup.now (record { status = e.status; why = e.why; lines = e.lines; taken = e.taken }) None (g.S.Source.feed c.args.source.now) (g.S.Source.feed c.serve_plain-served.new.source) (g.K.Sink.drain c.args.sink.now) (g.K.Sink.drain c.serve_plain-served.new.sink)) (sym c.ended_with.ensures)
-    (plain-served c.args.setup.now c.in-Ok.plain c.serve_plain-served.new.plain c.serve_plain-served.result.end (record { status = status_of c.serve_plain-served.result.end; why = why_of c.serve_plain-served.result.end; lines = c.serve_plain-served.result.lines; taken = c.serve_plain-served.result.taken }) (g.S.Source.feed c.args.source.now) (g.S.Source.feed c.serve_plain-served.new.source) (g.K.Sink.drain c.args.sink.now) (g.K.Sink.drain c.serve_plain-served.new.sink) c.in-Ok.ensures c.serve_plain-served.ensures.serves refl refl)
+returns-clause-runs g c state =
+    let io : Streams = record { from = g.S.Source.feed c.args.source.now; feed = g.S.Source.feed c.serve-served.new.source; to = g.K.Sink.drain c.args.sink.now; sink = g.K.Sink.drain c.serve-served.new.sink } in
+    let first = zeros_of c.args.setup.now in
+    let (turns, serves) = c.serve-served.ensures.serves first c.in-Ok.ensures in
+    let from_start = subst (λ (k : ℕ). Serves c.serve-served.result.end c.serve-served.result.lines c.serve-served.result.taken trace_grammar k (HasDoneCalmly first c.serve-served.new.service.plain) NeverDies [] turns io) (ap (λ (t : Taking). t.taken) c.new-3.ensures) serves in
+    subst (λ (e : Ended g.row.B.Denot). DoesTask (plain_task c.args.setup.now) (outcome state e) io) (sym c.ended_with.ensures)
+    (record {
+      turns = turns;
+      answers = inl (record {
+        end = c.serve-served.result.end;
+        serves = Serves-as c.serve-served.result.end c.serve-served.result.lines c.serve-served.result.taken trace_grammar 0 (HasDoneCalmly first c.serve-served.new.service.plain) NeverDies _ _ [] turns io (λ done. (c.serve-served.new.service.plain, done)) (λ never. never) from_start;
+        status = refl;
+        why = refl;
+      });
+      licences = refl;
+    })

@@ -1,0 +1,120 @@
+-- From what two runs that were done to their end say, to what both wrote.
+use Rattle.std.proofs.Common.{◌≡◌, ◌≢◌, ◌⊎◌, inl, inr, ℕ, List, [], ◌∷◌, ◌++◌, map, refl, sym, ◌∙◌, ap, subst, arith}
+use Rattle.std.specs.Prelude.{Option, Some, IfSome, Result, Ok}
+use Rattle.std.specs.List.{AllByRecursion}
+use Rattle.std.proofs.lemmas.List.{append-nil}
+use Rattle.envy_args.specs.declared.command.Command.TheVariants.{Run as RunWords, Plain as PlainWords}
+use Rattle.envy_io.specs.Lines.{lines_of}
+use Rattle.envy_io.specs.Streams.{IsDry}
+use Rattle.envy_map.specs.Fields.{Chart}
+use Rattle.envy_policy.specs.declared.setup.Setup.{Setup}
+use Rattle.envy_serve.specs.declared.serving.End.{End}
+use Rattle.envy_serve.specs.declared.serving.End.TheVariants.{Done as EndDone, ReadFault, WriteFault, FlushFault, Refused, Dead as EndDead, TooLong}
+use Rattle.envy_serve.specs.Ends.{Serves, Ends}
+use Rattle.envy_serve.specs.Grammar.{Grammar}
+use Rattle.envy_serve.specs.Reading.{HasRead, ReadAll}
+use Rattle.envy_serve.specs.Streams.{Streams, Written}
+use Rattle.envy_serve.specs.Turns.{Turn, lines_done, written}
+use Rattle.envy_serve.proofs.GoodTraces.{front-taken}
+use Rattle.envy_trace.specs.declared.fault.LineFault.{LineFault}
+use Rattle.envy_trace.specs.declared.line.Line.{Line}
+use Rattle.envy_trace.specs.declared.line.Line.TheVariants.{Stat}
+use Rattle.envy_trace.specs.Grammar.{line_of}
+use Rattle.envy_run.specs.Done.{HasDone}
+use Rattle.envy_run.specs.Equal.{HasNoStat, NothingFailed, Wrote}
+use Rattle.envy_run.specs.Headline.{Headline, IsUnserved, IsWithoutMemory, IsOutOfMemory, IsSpoilt, IsDark, Licences, run_task, plain_task, zeros_of}
+use Rattle.envy_run.specs.Outcome.{Outcome, IsQuiet, status_of}
+use Rattle.envy_run.specs.Task.{Task, IsServed, DoesTask}
+use Rattle.envy_run.specs.Turns.{TraceTurn, trace_grammar}
+use Rattle.envy_run.proofs.Alike.{OneAnswer, turns-alike}
+
+pub record IsDone {Line Reply : Type 0} (w : Task Line Reply) (bytes : List ℕ) (turns : List (Turn Line Reply)) (o : Outcome) (io : Streams) : Type 0 where
+  pub did : w.Done o turns
+  pub says : map (Grammar.reads w.grammar) (lines_of bytes) ≡ map Ok (lines_done turns)
+  pub wrote : Wrote (written w.grammar turns ++ w.tail o) io
+
+-- all bytes of the source were read
+read-all : {Line : Type 0} (reads : List ℕ → Result Line LineFault) (skipped : ℕ) (io : Streams) (reader : _) (lines : List Line) (bytes : List ℕ) → io.from.left ≡ Some bytes → ReadAll reads skipped io.from io.feed reader lines → map reads (lines_of bytes) ≡ map Ok lines
+read-all reads skipped io reader lines bytes told all =
+    let read = ReadAll.read all in
+    let (rest, left, is) = front-taken bytes (HasRead.bytes read) io.feed.left (sym told ∙ HasRead.source read) in
+    let none : rest ≡ [] = subst (λ (l : Option (List ℕ)). IsDry l) left (HasRead.dry read (ReadAll.ended all)) in
+    let same : bytes ≡ HasRead.bytes read = is ∙ ap (λ (r : List ℕ). HasRead.bytes read ++ r) none ∙ append-nil (HasRead.bytes read) in
+    ap (λ (b : List ℕ). map reads (lines_of b)) same ∙ ap (map reads) (ReadAll.all_lines all) ∙ HasRead.says read
+
+done-served : {Line Reply : Type 0} (end : End) (w : Task Line Reply) (turns : List (Turn Line Reply)) (o : Outcome) (io : Streams) (bytes : List ℕ) → status_of end ≡ 0 → io.from.left ≡ Some bytes → Serves end o.lines o.taken w.grammar w.skipped (w.Done o) (w.Dead o) (w.tail o) turns io → IsDone w bytes turns o io
+done-served EndDone w turns o io bytes zero told s = record {
+  did = Ends.served (Serves.ends s);
+  says = read-all (Grammar.reads w.grammar) w.skipped io s.reader (lines_done turns) bytes told (Ends.read (Serves.ends s));
+  wrote = Written.whole (Ends.told (Serves.ends s)).0;
+}
+done-served ReadFault w turns o io bytes zero told s = absurd (let never = zero in omega arith)
+done-served WriteFault w turns o io bytes zero told s = absurd (let never = zero in omega arith)
+done-served FlushFault w turns o io bytes zero told s = absurd (let never = zero in omega arith)
+done-served (Refused fault) w turns o io bytes zero told s = absurd (let never = zero in omega arith)
+done-served EndDead w turns o io bytes zero told s = absurd (let never = zero in omega arith)
+done-served TooLong w turns o io bytes zero told s = absurd (let never = zero in omega arith)
+
+pub is-done : {Line Reply : Type 0} (w : Task Line Reply) (turns : List (Turn Line Reply)) (o : Outcome) (io : Streams) (bytes : List ℕ) → o.status ≡ 0 → io.from.left ≡ Some bytes → IsServed w turns o io → IsDone w bytes turns o io
+is-done w turns o io bytes zero told s = done-served s.end w turns o io bytes (sym s.status ∙ zero) told s.serves
+
+ok-same : (x y : Line) → ◌≡◌ {A = Result Line LineFault} (Ok x) (Ok y) → x ≡ y
+ok-same x y e = cc
+
+heads : {A : Type 0} (x y : A) (xs ys : List A) → x ∷ xs ≡ y ∷ ys → (x ≡ y) × (xs ≡ ys)
+heads x y xs ys e = ((let same = e in cc), (let same = e in cc))
+
+-- the same lines, and none of them asks for counters
+same-lines : (pieces : List (List ℕ)) (lines others : List Line) → map line_of pieces ≡ map Ok lines → map line_of pieces ≡ map Ok others → AllByRecursion (λ piece. line_of piece ≢ Ok Stat) pieces → (lines ≡ others) × AllByRecursion (λ line. line ≢ Stat) lines
+same-lines [] [] [] e f none = (refl, tt)
+same-lines [] (x ∷ xs) others e f none = absurd (let never = e in cc)
+same-lines [] [] (y ∷ ys) e f none = absurd (let never = f in cc)
+same-lines (p ∷ ps) [] others e f none = absurd (let never = e in cc)
+same-lines (p ∷ ps) (x ∷ xs) [] e f none = absurd (let never = f in cc)
+same-lines (p ∷ ps) (x ∷ xs) (y ∷ ys) e f (here, others_none) =
+    let (first, rest) = heads (line_of p) (Ok x) (map line_of ps) (map Ok xs) e in
+    let (second, more) = heads (line_of p) (Ok y) (map line_of ps) (map Ok ys) f in
+    let same : x ≡ y = ok-same x y (sym first ∙ second) in
+    let (tails, each) = same-lines ps xs ys rest more others_none in
+    (ap (λ (l : Line). l ∷ xs) same ∙ ap (λ (ls : List Line). y ∷ ls) tails, ((λ is. here (first ∙ ap Ok is)), each))
+
+-- what both wrote
+both-done : OneAnswer → (setup : Setup) (returns : ℕ) (bytes : List ℕ) (o p : Outcome) (io jo : Streams) (turns others : List TraceTurn) → IsDone (run_task setup returns) bytes turns o io → IsDone (plain_task setup) bytes others p jo → IfSome o.board (Licences setup returns turns) → HasNoStat bytes → NothingFailed o.board → (text : List ℕ) × Wrote text io × Wrote text jo
+both-done one setup returns bytes o p io jo turns others run plain licences no_stat well =
+    let (now, is, done) = run.did in
+    let (machine, calm) = plain.did in
+    let l : Licences setup returns turns now = subst (λ (b : Option Chart). IfSome b (Licences setup returns turns)) is licences in
+    let (bads, cuts) : (now.bads ≡ 0) × (now.cuts ≡ now.pulled) = subst (λ (b : Option Chart). NothingFailed b) is well in
+    let (lines, none) = same-lines (lines_of bytes) (lines_done turns) (lines_done others) run.says plain.says no_stat in
+    let pulled = l.pulled in
+    let losts = l.losts in
+    let faults = l.faults in
+    let (texts_same, arrays) = turns-alike one now.shape.entries (zeros_of setup) (HasDone.array done) machine turns others lines none (omega arith) (omega arith) (HasDone.run done) calm in
+    (written trace_grammar turns ++ [], run.wrote, subst (λ (t : List ℕ). Wrote (t ++ []) jo) (sym texts_same) plain.wrote)
+
+-- a run with status 0 served its trace
+
+run-served : (setup : Setup) (returns : ℕ) (o : Outcome) (io : Streams) (turns : List TraceTurn) → o.status ≡ 0 → IsServed (run_task setup returns) turns o io ⊎ ((turns ≡ []) × IsUnserved o io) → IsServed (run_task setup returns) turns o io
+run-served setup returns o io turns zero (inl served) = served
+run-served setup returns o io turns zero (inr (none, (quiet, inl out))) = absurd (let eight = IsOutOfMemory.status out in omega arith)
+run-served setup returns o io turns zero (inr (none, (quiet, inr (inl spoilt)))) = absurd (let seven = IsSpoilt.status spoilt in omega arith)
+run-served setup returns o io turns zero (inr (none, (quiet, inr (inr dark)))) = absurd (let six = IsDark.status dark in omega arith)
+
+plain-served : (setup : Setup) (o : Outcome) (io : Streams) (turns : List TraceTurn) → o.status ≡ 0 → IsServed (plain_task setup) turns o io ⊎ ((turns ≡ []) × (IsQuiet o io × IsOutOfMemory o)) → IsServed (plain_task setup) turns o io
+plain-served setup o io turns zero (inl served) = served
+plain-served setup o io turns zero (inr (none, (quiet, out))) = absurd (let eight = IsOutOfMemory.status out in omega arith)
+
+both-tasks : OneAnswer → (setup : Setup) (returns : ℕ) (bytes : List ℕ) (o p : Outcome) (io jo : Streams) → DoesTask (run_task setup returns) o io → DoesTask (plain_task setup) p jo → io.from.left ≡ Some bytes → jo.from.left ≡ Some bytes → HasNoStat bytes → o.status ≡ 0 → p.status ≡ 0 → NothingFailed o.board → (text : List ℕ) × Wrote text io × Wrote text jo
+both-tasks one setup returns bytes o p io jo run plain told also no_stat zero null well =
+    both-done one setup returns bytes o p io jo run.turns plain.turns
+    (is-done (run_task setup returns) run.turns o io bytes zero told (run-served setup returns o io run.turns zero run.answers))
+    (is-done (plain_task setup) plain.turns p jo bytes null also (plain-served setup p jo plain.turns null plain.answers))
+    run.licences no_stat well
+
+out-never : (o : Outcome) (io : Streams) → o.status ≡ 0 → IsWithoutMemory o io → ⊥
+out-never o io zero without = let eight = IsOutOfMemory.status (IsWithoutMemory.memory without) in omega arith
+
+pub write-alike : OneAnswer → (setup : Setup) (returns : ℕ) (bytes : List ℕ) (o p : Outcome) (io jo : Streams) → Headline (Ok (RunWords setup returns)) o io → Headline (Ok (PlainWords setup)) p jo → io.from.left ≡ Some bytes → jo.from.left ≡ Some bytes → HasNoStat bytes → o.status ≡ 0 → p.status ≡ 0 → NothingFailed o.board → (text : List ℕ) × Wrote text io × Wrote text jo
+write-alike one setup returns bytes o p io jo (inl run) (inl plain) told also no_stat zero null well = both-tasks one setup returns bytes o p io jo run plain told also no_stat zero null well
+write-alike one setup returns bytes o p io jo (inr without) plain told also no_stat zero null well = absurd (out-never o io zero without)
+write-alike one setup returns bytes o p io jo (inl run) (inr without) told also no_stat zero null well = absurd (out-never p jo null without)

@@ -1,0 +1,77 @@
+-- A board that is formatted until it is.
+use Rattle.std.proofs.Common.{◌≡◌, ◌⊎◌, inl, inr, ℕ, ◌-◌, ◌^◌, ◌<◌, ◌≤◌, List, refl, sym, ◌∙◌, ap, subst, arith}
+use Rattle.std.specs.Prelude.{IsTrue, slice_index}
+use Rattle.std.proofs.lemmas.Bool.{cases_lt}
+use Rattle.envy_base.specs.Counting.{up}
+use Rattle.envy_base.specs.State.{State, lit}
+use Rattle.envy_base.specs.declared.shape.Shape.{Shape}
+use Rattle.envy_layout.specs.Same.{Counted, Grows}
+use Rattle.envy_map.specs.Fields.{Chart, chart}
+use Rattle.envy_memory.specs.Formats.{CountsFormat, ErasesEach, IsStarted, Makes, Refuses}
+use Rattle.envy_memory.specs.Picture.{Picture}
+use Rattle.envy_memory.specs.declared.faults.FormatFault.TheVariants.{Off}
+use Rattle.envy_policy.specs.declared.setup.Setup.{Setup}
+use Rattle.envy_run.specs.Prepares.{IsPrepared, IsReady, IsUnspent}
+
+-- formatting plans nothing and cuts nothing by hand
+pub prepared-more : (old s t : Chart) → IsPrepared old s → CountsFormat s t → IsPrepared old t
+prepared-more old s t p f =
+    let c = CountsFormat.counted f in
+    let cuts = p.cuts in
+    let bads = p.bads in
+    let more = Counted.cuts c in
+    let worse = Counted.bads c in
+    record {
+      shape = CountsFormat.shape f ∙ p.shape;
+      pulled = Counted.pulled c ∙ p.pulled;
+      plans = Counted.plans c ∙ p.plans;
+      given = Counted.given c ∙ p.given;
+      cuts = omega arith;
+      bads = omega arith;
+    }
+
+begun-same : (s t : Chart) → CountsFormat s t → t.begun ≡ s.begun
+begun-same s t f = let c = CountsFormat.counted f in let low = Counted.begun c in let few = Counted.few c in omega arith
+
+-- it was cut: the count of failures isn't 0 any more
+cut-some : (old : Chart) (s t : State) (setup : Setup) → IsTrue s.on → CountsFormat (chart s) (chart t) → Refuses s setup Off t → t.cuts ≡ 0 → ⊥
+cut-some old s t setup on f (off, inl (was, same)) none = absurd (let never = was in cc)
+cut-some old s t setup on f (off, inr (may, between, rose)) none = at (cases_lt s.cuts (2 ^ 64 - 1))
+  where
+    at : (s.cuts < 2 ^ 64 - 1) ⊎ (2 ^ 64 - 1 ≤ s.cuts) → ⊥
+    at (inl low) = let more = rose low in absurd (omega arith)
+    at (inr top) = let kept = Counted.cuts (CountsFormat.counted f) in absurd (omega arith)
+
+-- power was cut in formatting and came back
+pub prepared-again : (old : Chart) (s t u : State) (setup : Setup) → IsTrue s.on → IsPrepared old (chart s) × IsUnspent old (chart s) → CountsFormat (chart s) (chart t) → Refuses s setup Off t → u ≡ lit t → IsPrepared old (chart u) × IsUnspent old (chart u)
+prepared-again old s t u setup on (p, spent) f refuses is =
+    let q = prepared-more old (chart s) (chart t) p f in
+    subst (λ (x : State). IsPrepared old (chart x) × IsUnspent old (chart x)) (sym is) (
+      record { shape = q.shape; pulled = q.pulled; plans = q.plans; given = q.given; cuts = q.cuts; bads = q.bads },
+      record {
+        begun = begun-same (chart s) (chart t) f ∙ spent.begun;
+        long = Grows.long (Counted.erases (CountsFormat.counted f)) ∙ spent.long;
+        erases = λ none. absurd (cut-some old s t setup on f refuses none);
+      },
+    )
+
+-- a memory was made
+pub prepared-ready : (old : Chart) (s : State) (setup : Setup) (m : Picture) → IsPrepared old (chart s) × IsUnspent old (chart s) → CountsFormat (chart s) m.chart → Makes s setup m → IsReady old setup m
+prepared-ready old s setup m (p, spent) f makes = record {
+  fresh = makes.fresh;
+  prepared = prepared-more old (chart s) m.chart p f;
+  counts = IsStarted.counts makes.begins;
+  entries = IsStarted.entries makes.begins;
+  begun = begun-same (chart s) m.chart f ∙ spent.begun;
+  once = λ none. once none;
+  long = Grows.long (Counted.erases (CountsFormat.counted f)) ∙ spent.long;
+}
+  where
+    once : m.chart.cuts ≡ 0 → ErasesEach old m.chart
+    once none =
+        let more = Counted.cuts (CountsFormat.counted f) in
+        let same : (chart s).erases ≡ old.erases = spent.erases (omega arith) in
+        λ k lt. makes.once k (let e = ap (λ (sh : Shape). sh.segments) p.shape in omega arith) ∙ ap (λ (es : List ℕ). up (slice_index es k)) same
+
+pub unspent-first : (old : Chart) → IsUnspent old old
+unspent-first old = record { begun = refl; long = refl; erases = λ none. refl }

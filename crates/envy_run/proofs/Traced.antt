@@ -1,0 +1,318 @@
+-- What a memory did in a trace, from what it does in one line, and what its board's counts say then.
+use Rattle.std.proofs.Common.{◌≡◌, ◌⊎◌, inl, inr, ℕ, zero, suc, ◌+◌, ◌*◌, ◌-◌, ◌^◌, ◌<◌, ◌≤◌, Bool, true, false, List, [], ◌∷◌, length, refl, sym, ◌∙◌, ap, subst, arith}
+use Rattle.std.specs.Prelude.{◌↔◌, IfSome, Option, None, Some, Ok, slice_index, sum}
+use Rattle.envy_base.specs.Array.{Array, zeros}
+use Rattle.envy_base.specs.declared.counts.Counts.{Counts}
+use Rattle.envy_base.specs.declared.shape.Shape.{Shape}
+use Rattle.envy_base.specs.State.{State, IsMade}
+use Rattle.std.proofs.lemmas.Bool.{cases_lt}
+use Rattle.std.proofs.lemmas.List.{length-replicate}
+use Rattle.std.proofs.lemmas.List.Sums.{sum_by-cons}
+use Rattle.std.specs.Option.{option_map}
+use Rattle.envy_io.specs.Streams.{Feed, Drain}
+use Rattle.envy_map.specs.Fields.{Chart, chart}
+use Rattle.envy_base.specs.Counting.{up, Tally}
+use Rattle.envy_flush.specs.Counts.{Tallies, Tally3}
+use Rattle.envy_memory.specs.Formats.{IsFresh, no_counts}
+use Rattle.envy_memory.specs.Picture.{Picture, counts_of}
+use Rattle.envy_table.specs.Entries.{Entry, vacant}
+use Rattle.envy_table.specs.Hits.{page_at}
+use Rattle.envy_policy.specs.declared.setup.Setup.{Setup}
+use Rattle.envy_trace.specs.declared.line.Line.{Line}
+use Rattle.envy_trace.specs.declared.line.Line.TheVariants.{Empty, Load, Look, Store, Begin, Put, Commit, Abort, Tick, Power, Cut, Bad, Stat}
+use Rattle.envy_trace.specs.declared.reply.Reply.{Reply}
+use Rattle.envy_trace.specs.Grammar.{line_of}
+use Rattle.envy_trace.specs.Spelling.{Reads}
+use Rattle.envy_serve.specs.declared.service.Obeyed.{Obeyed}
+use Rattle.envy_serve.specs.declared.service.Obeyed.TheVariants.{Done, WriteFault, Dead}
+use Rattle.envy_serve.specs.declared.serving.End.{End}
+use Rattle.envy_serve.specs.Ends.{Serves, Ends, most_bytes}
+use Rattle.envy_serve.specs.Obeys.{Obeys}
+use Rattle.envy_serve.specs.Streams.{Streams}
+use Rattle.envy_serve.specs.Turns.{Turn, count_lines, count_of, count_replies, one_if}
+use Rattle.envy_serve.proofs.Advancing.{Serves-as, served-either}
+use Rattle.envy_run.specs.Answers.{IsServed as MayServe}
+use Rattle.envy_run.specs.Done.{Run, Start, HasDone, HasDied, DiesIn, LicensedTurns}
+use Rattle.envy_run.specs.Headline.{Licences, IsUnserved, OnBoard, run_task}
+use Rattle.envy_run.specs.Task.{DoesTask}
+use Rattle.envy_run.specs.Counters.{AddsUp, just_told, told_in}
+use Rattle.envy_run.specs.Hits.{MayTell}
+use Rattle.envy_run.specs.Tells.{Telling}
+use Rattle.envy_run.specs.Licence.{Licence, RoseOver}
+use Rattle.envy_run.specs.Obeys.{FailsIn, ObeysLine, LineDone, before_restart}
+use Rattle.envy_run.specs.declared.ended.Ended.{Ended}
+use Rattle.envy_run.specs.Prepares.{IsPrepared, IsReady}
+use Rattle.envy_run.specs.Outcome.{outcome, status_of, why_of}
+use Rattle.envy_run.specs.Tracing.{TracedSince, DiedSince}
+use Rattle.envy_run.specs.Turns.{TraceTurn, Does, trace_grammar, is_power, is_plan, is_lost, is_fault}
+use Rattle.envy_run.proofs.Hitting.{telling-more}
+use Rattle.envy_run.proofs.Noting.{Tallies-stay}
+use Rattle.envy_run.proofs.Obeying.{served}
+use Rattle.envy_run.proofs.Recovering.{Licence-trans}
+use Rattle.envy_run.proofs.Replying.{Licence-refl}
+
+pub said-served : (bytes : List ℕ) (line : Line) → line_of bytes ≡ Ok line → (line_of bytes ≡ Ok line) ↔ Reads bytes line → MayServe line
+said-served bytes line says spells = served bytes line (spells.0 says)
+
+-- a line joins the turns
+traced-done : (start : Start) (old new : Picture) (turns : List TraceTurn) (t : TracedSince start old turns) (line : Line) (replies : List _) (left : Array) → LineDone (MayTell old.chart.shape.entries turns) (HasDone.array t.done) line replies left old new → TracedSince start new (record { line = line; replies = replies } ∷ turns)
+traced-done start old new turns t line replies left d = record {
+  done = record {
+    array = left;
+    run = subst (λ (sh : Shape). Run sh.entries start.array (record { line = line; replies = replies } ∷ turns) left) (sym (Licence.shape d.licensed)) (HasDone.array t.done, HasDone.run t.done, d.does);
+    stands = d.stands;
+  };
+  licensed = Licence-trans (count_lines is_power turns) (count_lines is_plan turns) (count_replies is_lost turns) (count_replies is_fault turns) _ _ _ _ start.memory.chart old.chart new.chart t.licensed d.licensed;
+  telling = telling-more start.memory (record { line = line; replies = replies }) turns old new t.telling (Licence.shape d.licensed) d.notes;
+}
+
+pub traced-obeys : (start : Start) (old new : Picture) (turns : List TraceTurn) (line : Line) (obeyed : Obeyed) (sink then_sink : Drain) (t : TracedSince start old turns) → ObeysLine (MayTell old.chart.shape.entries turns) (HasDone.array t.done) line obeyed old new sink then_sink → Obeys obeyed trace_grammar (TracedSince start new) (DiedSince start new) turns line sink then_sink
+traced-obeys start old new turns line Done sink then_sink t (replies, left, done, told) = (replies, traced-done start old new turns t line replies left done, told)
+traced-obeys start old new turns line WriteFault sink then_sink t (replies, left, done, told) = (replies, traced-done start old new turns t line replies left done, told)
+traced-obeys start old new turns line Dead sink then_sink t (dead, told) = (
+  _,
+  record {
+    died = record {
+      array = HasDone.array t.done;
+      run = subst (λ (sh : Shape). Run sh.entries start.array turns (HasDone.array t.done)) (sym (Licence.shape dead.licensed)) (HasDone.run t.done);
+      replies = refl;
+      found = dead.found;
+      magic = dead.magic;
+      version = dead.version;
+      sound = dead.sound;
+      off = dead.off;
+      dead = dead.dead;
+    };
+    licensed = Licence-trans (count_lines is_power turns) (count_lines is_plan turns) (count_replies is_lost turns) (count_replies is_fault turns) _ _ _ _ start.memory.chart old.chart new.chart t.licensed dead.licensed;
+  },
+  told,
+)
+
+-- What the counts of a board that began with none say.
+
+pub licences-none : (setup : Setup) (returns : ℕ) (now : Chart) → now.shape ≡ setup.shape → now.given ≡ returns → now.pulled ≡ 0 → now.plans ≡ 0 → Licences setup returns [] now
+licences-none setup returns now shape given pulled plans = record { shape = shape; given = given; pulled = pulled; plans = plans; losts = omega arith; faults = omega arith; told = tt }
+
+-- there are no more such lines than lines
+count-lines : {Line Reply : Type 0} (test : Line → Bool) (turns : List (Turn Line Reply)) → count_lines test turns ≤ length turns
+count-lines test [] = omega arith
+count-lines test (turn ∷ earlier) = let rest = count-lines test earlier in at (test turn.line) rest
+  where
+    at : (t : Bool) → count_lines test earlier ≤ length earlier → count_lines test earlier + one_if t ≤ length (turn ∷ earlier)
+    at true le = omega arith
+    at false le = omega arith
+
+count-of : {Reply : Type 0} (test : Reply → Bool) (replies : List Reply) → count_of test replies ≤ length replies
+count-of test [] = omega arith
+count-of test (reply ∷ replies) = at (test reply) (count-of test replies)
+  where
+    at : (t : Bool) → count_of test replies ≤ length replies → one_if t + count_of test replies ≤ length (reply ∷ replies)
+    at true le = omega arith
+    at false le = omega arith
+
+-- a line has two replies at most
+does-few : (May : Counts → Type 0) (m : Array) (line : Line) (replies : List Reply) (n : Array) → Does May m line replies n → length replies ≤ 2
+does-few May m line replies n (inl (empty, none, same)) = let e = ap length none in omega arith
+does-few May m line replies n (inr (inl (reply, one, says))) = let e = ap length one in omega arith
+does-few May m line replies n (inr (inr (inl (two, loses)))) = let e = ap length two in omega arith
+does-few May m line replies n (inr (inr (inr (power, one, is)))) = let e = ap length one in omega arith
+
+run-few : (test : Reply → Bool) (entries : ℕ) (first : Array) (turns : List TraceTurn) (m : Array) → Run entries first turns m → count_replies test turns ≤ 2 * length turns
+run-few test entries first [] m run = omega arith
+run-few test entries first (turn ∷ earlier) m (mid, before, does) =
+    let rest = run-few test entries first earlier mid before in
+    let here = count-of test turn.replies in
+    let few = does-few (MayTell entries earlier) mid turn.line turn.replies m does in
+    omega arith
+
+before-few : (line : Line) → length (before_restart line) ≤ 1
+before-few Empty = omega arith
+before-few (Load a) = omega arith
+before-few (Look a) = omega arith
+before-few (Store a w) = omega arith
+before-few Begin = omega arith
+before-few (Put t a w) = omega arith
+before-few (Commit t) = omega arith
+before-few (Abort t) = omega arith
+before-few Tick = omega arith
+before-few Power = omega arith
+before-few (Cut k g) = omega arith
+before-few (Bad k g) = omega arith
+before-few Stat = omega arith
+
+pub traced-few : (test : Reply → Bool) (start : Start) (p : Picture) (turns : List TraceTurn) → TracedSince start p turns ⊎ DiedSince start p turns → count_replies test turns ≤ 2 * length turns
+traced-few test start p turns (inl t) = run-few test p.chart.shape.entries start.array turns (HasDone.array t.done) (HasDone.run t.done)
+traced-few test start p [] (inr d) = omega arith
+traced-few test start p (turn ∷ earlier) (inr d) =
+    let rest = run-few test p.chart.shape.entries start.array earlier (DiesIn.array d.died) (DiesIn.run d.died) in
+    let here = count-of test turn.replies in
+    let few = before-few turn.line in
+    let same = ap length (DiesIn.replies d.died) in
+    omega arith
+
+-- what a memory was when its trace began
+pub record Began (setup : Setup) (returns : ℕ) (first : Picture) : Type 0 where
+  pub shape : first.chart.shape ≡ setup.shape
+  pub given : first.chart.given ≡ returns
+  pub pulled : first.chart.pulled ≡ 0
+  pub plans : first.chart.plans ≡ 0
+  pub counts : counts_of first.parts ≡ no_counts
+  pub begun : first.chart.begun ≡ 0
+  pub erases : first.chart.cuts ≡ 0 → sum first.chart.erases ≡ setup.shape.segments
+
+-- the counters add up
+adds-up : (setup : Setup) (returns : ℕ) (first now : Picture) → Began setup returns first → now.chart.shape ≡ first.chart.shape → first.chart.cuts ≤ now.chart.cuts → Tallies first.chart first.parts now.chart now.parts → AddsUp (counts_of now.parts) now.chart
+adds-up setup returns first now b shape cuts t =
+    let flushes = ap (λ (c : Counts). c.flushes) b.counts in
+    let copies = ap (λ (c : Counts). c.copies) b.counts in
+    let moves = ap (λ (c : Counts). c.moves) b.counts in
+    let erased = ap (λ (c : Counts). c.erases) b.counts in
+    let begun = b.begun in
+    let segments = ap (λ (sh : Shape). sh.segments) (shape ∙ b.shape) in
+    record {
+      programs = λ lf lc lm lb. let same = Tally3.same t.programs lf lc lm lb in omega arith;
+      erases = λ none le ls. let same = Tally.same t.erases ls le in let whole = b.erases (omega arith) in omega arith;
+    }
+
+told-so : (told : Option Counts) (now : Picture) → IfSome told (λ c. c ≡ counts_of now.parts) → AddsUp (counts_of now.parts) now.chart → IfSome told (λ c. AddsUp c now.chart)
+told-so None now same adds = tt
+told-so (Some counts) now same adds = subst (λ (c : Counts). AddsUp c now.chart) (sym same) adds
+
+-- where power failed no counters were just told
+died-told : (array : Array) (line : Line) (replies : List Reply) (earlier : List TraceTurn) (left : Array) → replies ≡ before_restart line → FailsIn array line left → (P : Counts → Type 0) → IfSome (just_told (record { line = line; replies = replies } ∷ earlier)) P
+died-told array Empty replies earlier left is (inl loses) P = absurd (let never = loses.is in cc)
+died-told array Empty replies earlier left is (inr (power, same)) P = absurd (let never = power in cc)
+died-told array (Load a) replies earlier left is fails P = subst (λ (rs : List Reply). IfSome (told_in rs) P) (sym is) tt
+died-told array (Look a) replies earlier left is fails P = subst (λ (rs : List Reply). IfSome (told_in rs) P) (sym is) tt
+died-told array (Store a w) replies earlier left is fails P = subst (λ (rs : List Reply). IfSome (told_in rs) P) (sym is) tt
+died-told array Begin replies earlier left is fails P = subst (λ (rs : List Reply). IfSome (told_in rs) P) (sym is) tt
+died-told array (Put t a w) replies earlier left is fails P = subst (λ (rs : List Reply). IfSome (told_in rs) P) (sym is) tt
+died-told array (Commit t) replies earlier left is fails P = subst (λ (rs : List Reply). IfSome (told_in rs) P) (sym is) tt
+died-told array (Abort t) replies earlier left is fails P = subst (λ (rs : List Reply). IfSome (told_in rs) P) (sym is) tt
+died-told array Tick replies earlier left is fails P = subst (λ (rs : List Reply). IfSome (told_in rs) P) (sym is) tt
+died-told array Power replies earlier left is fails P = subst (λ (rs : List Reply). IfSome (told_in rs) P) (sym is) tt
+died-told array (Cut k g) replies earlier left is fails P = subst (λ (rs : List Reply). IfSome (told_in rs) P) (sym is) tt
+died-told array (Bad k g) replies earlier left is fails P = subst (λ (rs : List Reply). IfSome (told_in rs) P) (sym is) tt
+died-told array Stat replies earlier left is fails P = subst (λ (rs : List Reply). IfSome (told_in rs) P) (sym is) tt
+
+since-told : (setup : Setup) (returns : ℕ) (start : Start) (p : Picture) (turns : List TraceTurn) → Began setup returns start.memory → TracedSince start p turns ⊎ DiedSince start p turns → IfSome (just_told turns) (λ c. AddsUp c p.chart)
+since-told setup returns start p turns b (inl t) = told-so (just_told turns) p (Telling.last t.telling) (adds-up setup returns start.memory p b (Licence.shape t.licensed) (RoseOver.kept (Licence.cuts t.licensed)) (Telling.tallies t.telling))
+since-told setup returns start p [] b (inr d) = tt
+since-told setup returns start p (turn ∷ earlier) b (inr d) = let (left, fails, words) = DiesIn.found d.died in died-told (DiesIn.array d.died) turn.line turn.replies earlier left (DiesIn.replies d.died) fails (λ c. AddsUp c p.chart)
+
+-- a count that is at least n where it is below the top
+below-top : (n count : ℕ) → n < 2 ^ 64 - 1 → (count < 2 ^ 64 - 1 → n ≤ count) → n ≤ count
+below-top n count low le = at (cases_lt count (2 ^ 64 - 1))
+  where
+    at : (count < 2 ^ 64 - 1) ⊎ (2 ^ 64 - 1 ≤ count) → n ≤ count
+    at (inl lt) = le lt
+    at (inr top) = omega arith
+
+licensed-either : (start : Start) (p : Picture) (turns : List TraceTurn) → TracedSince start p turns ⊎ DiedSince start p turns → LicensedTurns turns start.memory.chart p.chart
+licensed-either start p turns (inl t) = t.licensed
+licensed-either start p turns (inr d) = d.licensed
+
+pub licences-since : (setup : Setup) (returns : ℕ) (start : Start) (p : Picture) (turns : List TraceTurn) → Began setup returns start.memory → length turns ≤ most_bytes → TracedSince start p turns ⊎ DiedSince start p turns → Licences setup returns turns p.chart
+licences-since setup returns start p turns b few since =
+    let l = licensed-either start p turns since in
+    let powers = count-lines is_power turns in
+    let planned = count-lines is_plan turns in
+    let lost = traced-few is_lost start p turns since in
+    let fault = traced-few is_fault start p turns since in
+    let pulled = b.pulled in
+    let plans = b.plans in
+    record {
+      shape = Licence.shape l ∙ b.shape;
+      given = Licence.given l ∙ b.given;
+      pulled = let e = Licence.pulled l (omega arith) in omega arith;
+      plans = let e = Licence.plans_made l (omega arith) in omega arith;
+      losts = below-top (count_lines is_power turns + count_replies is_lost turns) p.chart.cuts (omega arith) (λ lt. let rise = RoseOver.rise (Licence.cuts l) lt in omega arith);
+      faults = below-top (count_replies is_fault turns) p.chart.bads (omega arith) (λ lt. let rise = RoseOver.rise (Licence.bads l) lt in omega arith);
+      told = since-told setup returns start p turns b since;
+    }
+
+length-vacant : (n : ℕ) → length (vacant n) ≡ n
+length-vacant n = length-replicate n None
+
+page-vacant : (n i : ℕ) → page_at (vacant n) i ≡ None
+page-vacant zero i = refl
+page-vacant (suc n) zero = refl
+page-vacant (suc n) (suc i) = page-vacant n i
+
+-- before the first line
+pub traced-none : (old : Chart) (setup : Setup) (first : Picture) → 0 < setup.shape.entries → first.chart.shape ≡ setup.shape → IsReady old setup first → TracedSince (record { array = zeros first.chart.shape.pages first.chart.shape.shadows; memory = first }) first []
+traced-none old setup first some shape ready = record {
+  done = record { array = zeros first.chart.shape.pages first.chart.shape.shadows; run = refl; stands = IsFresh.stands ready.fresh };
+  licensed = Licence-refl first.chart;
+  telling = record {
+    can = record {
+      tracks = record {
+        some = let e = ap (λ (sh : Shape). sh.entries) shape in omega arith;
+        size = ap length ready.entries ∙ length-vacant setup.shape.entries ∙ sym (ap (λ (sh : Shape). sh.entries) shape);
+        pages = λ i lt. ap (λ (es : List Entry). page_at es i) ready.entries ∙ page-vacant setup.shape.entries i;
+        hits = ap (λ (c : Counts). c.hits) ready.counts;
+        misses = ap (λ (c : Counts). c.misses) ready.counts;
+      };
+      never_fell = tt;
+    };
+    last = tt;
+    tallies = Tallies-stay first first refl refl refl;
+  };
+}
+
+-- each segment was erased once
+ones-sum : (xs : List ℕ) → ((s : ℕ) → s < length xs → slice_index xs s ≡ 1) → sum xs ≡ length xs
+ones-sum [] each = refl
+ones-sum (x ∷ xs) each = sum_by-cons (λ (n : ℕ). n) x xs ∙ (let here : x ≡ 1 = each 0 (omega arith) in let rest = ones-sum xs (λ s lt. each (suc s) (omega arith)) in omega arith)
+
+up-zero : (n : ℕ) → n ≡ 0 → up n ≡ 1
+unfolding up
+up-zero n none = omega arith
+
+once-sum : (old new : List ℕ) (segments : ℕ) → length new ≡ segments → ((e : ℕ) → slice_index old e ≡ 0) → ((s : ℕ) → s < segments → slice_index new s ≡ up (slice_index old s)) → sum new ≡ segments
+once-sum old new segments long none once = ones-sum new (λ s lt. once s (omega arith) ∙ up-zero (slice_index old s) (none s)) ∙ long
+
+pub began : (setup : Setup) (returns : ℕ) (s : State) (first : Picture) → IsMade setup.shape returns s → length s.erases ≡ setup.shape.segments → IsReady (chart s) setup first → Began setup returns first
+began setup returns s first made long ready = record {
+  shape = IsPrepared.shape ready.prepared ∙ made.shape;
+  given = IsPrepared.given ready.prepared ∙ made.given;
+  pulled = IsPrepared.pulled ready.prepared ∙ made.pulled;
+  plans = IsPrepared.plans ready.prepared ∙ made.plans;
+  counts = ready.counts;
+  begun = ready.begun ∙ made.begun;
+  erases = λ none. once-sum s.erases first.chart.erases setup.shape.segments (ready.long ∙ long) made.erases (subst (λ (sh : Shape). (e : ℕ) → e < sh.segments → slice_index first.chart.erases e ≡ up (slice_index s.erases e)) made.shape (ready.once none));
+}
+
+-- the trace was served over a fresh memory
+pub runs-served : (setup : Setup) (returns : ℕ) (old : Chart) (first now : Picture) (end : End) (lines taken : ℕ) (io : Streams) → 0 < setup.shape.entries → IsReady old setup first → Began setup returns first → lines ≤ most_bytes → ((start : Start) → TracedSince start first [] → (turns : List TraceTurn) × Serves end lines taken trace_grammar 0 (TracedSince start now) (DiedSince start now) [] turns io) → DoesTask (run_task setup returns) (record { status = status_of end; why = why_of end; lines = lines; taken = taken; board = Some now.chart; second = None }) io
+runs-served setup returns old first now end lines taken io some ready b few serves =
+    let start : Start = record { array = zeros first.chart.shape.pages first.chart.shape.shadows; memory = first } in
+    let (turns, s) = serves start (traced-none old setup first some b.shape ready) in
+    let either = served-either end (TracedSince start now) (DiedSince start now) turns (Ends.served (Serves.ends s)) in
+    record {
+      turns = turns;
+      answers = inl (record {
+        end = end;
+        serves = subst (λ (sh : Shape). Serves end lines taken trace_grammar 0 (OnBoard (HasDone (zeros sh.pages sh.shadows)) (record { status = status_of end; why = why_of end; lines = lines; taken = taken; board = Some now.chart; second = None })) (OnBoard (HasDied (zeros sh.pages sh.shadows)) (record { status = status_of end; why = why_of end; lines = lines; taken = taken; board = Some now.chart; second = None })) [] turns io) b.shape (Serves-as end lines taken trace_grammar 0 (TracedSince start now) (DiedSince start now) _ _ [] turns io (λ t. (now.chart, refl, TracedSince.done t)) (λ d. (now.chart, refl, DiedSince.died d)) s);
+        status = refl;
+        why = refl;
+      });
+      licences = licences-since setup returns start now turns b (let same = Serves.lines_are s in omega arith) either;
+    }
+
+pub licences-prepared : (setup : Setup) (returns : ℕ) (s : State) (now : Chart) → IsMade setup.shape returns s → IsPrepared (chart s) now → Licences setup returns [] now
+licences-prepared setup returns s now made p = licences-none setup returns now (p.shape ∙ made.shape) (p.given ∙ made.given) (p.pulled ∙ made.pulled) (p.plans ∙ made.plans)
+
+-- a run that ended before a line was read
+pub runs-quiet : {B : Type 0} (state : B → State) (setup : Setup) (returns status why : ℕ) (board : Option B) (e : Ended B) (feed : Feed) (sink : Drain) → e ≡ record { status = status; why = why; lines = 0; taken = 0; board = board; second = None } → IsUnserved (outcome state (record { status = status; why = why; lines = 0; taken = 0; board = board; second = None })) (record { from = feed; feed = feed; to = sink; sink = sink }) → IfSome (option_map (λ b. chart (state b)) board) (Licences setup returns []) → DoesTask (run_task setup returns) (outcome state e) (record { from = feed; feed = feed; to = sink; sink = sink })
+runs-quiet {B} state setup returns status why board e feed sink is unserved licences =
+    subst (λ (x : Ended B). DoesTask (run_task setup returns) (outcome state x) (record { from = feed; feed = feed; to = sink; sink = sink })) (sym is)
+    (record { turns = []; answers = inr (refl, unserved); licences = licences })
+
+-- a run whose trace was served
+pub runs-ended : {B : Type 0} (state : B → State) (setup : Setup) (returns : ℕ) (made : State) (first now : Picture) (end : End) (lines taken skipped : ℕ) (board : B) (e : Ended B) (io : Streams) → e ≡ record { status = status_of end; why = why_of end; lines = lines; taken = taken; board = Some board; second = None } → chart (state board) ≡ now.chart → skipped ≡ 0 → lines ≤ most_bytes → 0 < setup.shape.entries → length made.erases ≡ setup.shape.segments → IsMade setup.shape returns made → IsReady (chart made) setup first → ((start : Start) → TracedSince start first [] → (turns : List TraceTurn) × Serves end lines taken trace_grammar skipped (TracedSince start now) (DiedSince start now) [] turns io) → DoesTask (run_task setup returns) (outcome state e) io
+runs-ended {B} state setup returns made first now end lines taken skipped board e io is same none few some long m ready serves =
+    subst (λ (x : Ended B). DoesTask (run_task setup returns) (outcome state x) io) (sym is)
+    (subst (λ (c : Chart). DoesTask (run_task setup returns) (record { status = status_of end; why = why_of end; lines = lines; taken = taken; board = Some c; second = None }) io) (sym same)
+    (runs-served setup returns (chart made) first now end lines taken io some ready (began setup returns made first m long ready) few
+    (subst (λ (k : ℕ). (start : Start) → TracedSince start first [] → (turns : List TraceTurn) × Serves end lines taken trace_grammar k (TracedSince start now) (DiedSince start now) [] turns io) none serves)))

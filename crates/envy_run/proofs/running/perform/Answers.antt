@@ -1,0 +1,19 @@
+use Rattle.std.proofs.Common.{inl, sym, subst}
+use Rattle.std.specs.Prelude.{Ok}
+use Rattle.envy_args.specs.declared.command.Command.{Command}
+use Rattle.envy_run.specs.Headline.{Headline}
+use Rattle.envy_run.specs.Outcome.{Outcome, outcome}
+use Rattle.envy_serve.specs.Streams.{Streams}
+use Rattle.envy_run.proofs.running.perform.Goals as goal
+
+pub returns-in-Run-clause-headline : goal.returns-in-Run-clause-headline
+returns-in-Run-clause-headline g c =
+    let o : Outcome = outcome g.M.Made.Board.state c.run_trace.result in
+    let io : Streams = record { from = g.S.Source.feed c.args.source.now; feed = g.S.Source.feed c.run_trace.new.source; to = g.K.Sink.drain c.args.sink.now; sink = g.K.Sink.drain c.run_trace.new.sink } in
+    subst (λ (x : Command). Headline (Ok x) o io) (sym c.in-Run.is) (inl c.run_trace.ensures.runs)
+
+pub returns-in-Plain-clause-headline : goal.returns-in-Plain-clause-headline
+returns-in-Plain-clause-headline g c =
+    let o : Outcome = outcome g.M.Made.Board.state c.run_plain.result in
+    let io : Streams = record { from = g.S.Source.feed c.args.source.now; feed = g.S.Source.feed c.run_plain.new.source; to = g.K.Sink.drain c.args.sink.now; sink = g.K.Sink.drain c.run_plain.new.sink } in
+    subst (λ (x : Command). Headline (Ok x) o io) (sym c.in-Plain.is) (inl (c.run_plain.ensures.runs g.M.Made.Board.state))

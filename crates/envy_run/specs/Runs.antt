@@ -1,0 +1,20 @@
+-- What the program promises of one run.
+use Rattle.std.specs.Prelude.{◌≡◌, ◌≤◌, None, Result}
+use Rattle.envy_args.specs.declared.command.Command.{Command}
+use Rattle.envy_args.specs.declared.command.WordsFault.{WordsFault}
+use Rattle.envy_serve.specs.Ends.{most_bytes}
+use Rattle.envy_serve.specs.Streams.{Streams}
+use Rattle.envy_run.specs.Complete.{Completes}
+use Rattle.envy_run.specs.Headline.{Headline}
+use Rattle.envy_run.specs.Outcome.{Outcome}
+
+pub record Runs (command : Result Command WordsFault) (o : Outcome) (io : Streams) : Type 0 where
+  -- what it did is what its words say, and what it printed is what an array of words answers
+  pub headline : Headline command o io
+  -- where all goes well it is done to its end
+  pub completes : Completes command o io
+  -- no more lines are accepted than bytes are taken, and no more bytes are taken than may be
+  pub few : o.lines ≤ o.taken
+  pub read : o.taken ≤ most_bytes
+  -- there is one board at most
+  pub alone : o.second ≡ None

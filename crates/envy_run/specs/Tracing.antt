@@ -1,0 +1,28 @@
+-- What a memory did since a trace began, with the counts that license it.
+use Rattle.std.specs.Prelude.{◌≡◌, ◌<◌, IsTrue, true, ℕ, List, length, nat_lt, refl, Err}
+use Rattle.std.proofs.lemmas.Bool.{lt-ltb}
+use Rattle.envy_layout.specs.Stands.{Stands}
+use Rattle.envy_memory.specs.Picture.{Picture}
+use Rattle.envy_trace.specs.declared.fault.LineFault.TheVariants.{Long}
+use Rattle.envy_trace.specs.Grammar.{line_of}
+use Rattle.envy_run.specs.Done.{Start, HasDone, HasDied, LicensedTurns}
+use Rattle.envy_run.specs.Tells.{Telling}
+use Rattle.envy_run.specs.Turns.{TraceTurn}
+
+pub record TracedSince (start : Start) (p : Picture) (turns : List TraceTurn) : Type 0 where
+  pub done : HasDone start.array p.chart turns
+  pub licensed : LicensedTurns turns start.memory.chart p.chart
+  pub telling : Telling start.memory turns p
+
+pub record DiedSince (start : Start) (p : Picture) (turns : List TraceTurn) : Type 0 where
+  pub died : HasDied start.array p.chart turns
+  pub licensed : LicensedTurns turns start.memory.chart p.chart
+
+-- the laws of the service
+
+pub on_since : (start : Start) (p : Picture) (turns : List TraceTurn) → TracedSince start p turns → IsTrue p.chart.on
+on_since start p turns t = Stands.on (HasDone.stands t.done)
+
+pub long_any : (piece : List ℕ) → 120 < length piece → line_of piece ≡ Err Long
+unfolding line_of
+long_any piece far = let test : nat_lt 120 (length piece) ≡ true = lt-ltb 120 (length piece) far in rw test refl

@@ -1,0 +1,91 @@
+//! A memory that answers the lines of a trace.
+
+ghost use Rattle.std.specs.Prelude.{◌≡◌, ℕ, List, [], IfOk, IsTrue};
+ghost use Rattle.envy_base.specs.Array.{Array};
+ghost use Rattle.envy_run.specs.Hits.{MayTell};
+ghost use Rattle.envy_layout.specs.Stands.{Stands};
+ghost use Rattle.envy_run.specs.Answers.{IsServed};
+ghost use Rattle.envy_run.specs.Obeys.{ObeysLine};
+ghost use Rattle.envy_run.specs.Tells.{CanTell};
+ghost use Rattle.envy_run.specs.Turns.{TraceTurn};
+ghost use Rattle.envy_trace.specs.Grammar.{line_of};
+ghost use Rattle.envy_serve.specs.Grammar.{IsSaid};
+
+use crate::obey::{obey_call, obey_power};
+use crate::restart::ReplyBuffer;
+use envy_base::Bench;
+use envy_io::{Failed, Sink};
+use envy_memory::Memory;
+use envy_serve::{Obeyed, Service};
+use envy_trace::{Line, LineFault, Reply, grammar_holds_both_ways, read_line};
+
+/// A memory, and what it was when the trace began.
+pub struct Tracing<B: Bench> {
+    pub memory: Memory<B>,
+    pub buffer: ReplyBuffer,
+}
+
+/// Reads a line.
+pub fn read_any(bytes: &[u8]) -> Result<Line, LineFault>
+    ensures { result ≡ line_of bytes.now }
+{
+    read_line(bytes)
+}
+
+/// Does a line, with its replies.
+fn obey_line<K: Sink, B: Bench>(
+    memory: &mut Memory<B>,
+    sink: &mut K,
+    line: &Line,
+    buffer: &mut ReplyBuffer,
+) -> Obeyed
+    requires on { IsTrue memory.old.chart.on }
+    requires line { IsServed line.now }
+    ensures { (earlier : List TraceTurn) (m : Array) → Stands memory.old.chart m → CanTell memory.old.chart.shape.entries earlier memory.old.parts → ObeysLine (MayTell memory.old.chart.shape.entries earlier) m line.now result memory.old memory.new (K.drain sink.old) (K.drain sink.new) }
+{
+    match *line {
+        Line::Empty => Obeyed::Done,
+        Line::Power => obey_power(memory, sink, buffer),
+        _ => obey_call(memory, sink, line, buffer),
+    }
+}
+
+impl<B: Bench> Service for Tracing<B> {
+    ghost use Rattle.std.specs.Prelude.{IsTrue, [], length, ◌<◌};
+    ghost use Rattle.envy_run.specs.Done.{Start};
+    ghost use Rattle.envy_run.specs.Tracing.{TracedSince, DiedSince, long_any, on_since};
+    ghost use Rattle.envy_run.specs.Turns.{trace_grammar};
+
+    type Line = Line;
+
+    type Reply = Reply;
+
+    ghost grammar = { trace_grammar };
+
+    ghost Start = { Start };
+
+    ghost Did = { λ start s turns. TracedSince start s.memory turns };
+
+    ghost Died = { λ start s turns. DiedSince start s.memory turns };
+
+    ghost IsReady = { λ s. IsTrue s.memory.chart.on };
+
+    ghost tail = { λ s. [] };
+
+    fn read(bytes: &[u8]) -> Result<Line, LineFault> {
+        read_any(bytes)
+    }
+
+    fn obey<K: Sink>(&mut self, line: &Line, sink: &mut K) -> Obeyed {
+        grammar_holds_both_ways();
+        obey_line(&mut self.memory, sink, line, &mut self.buffer)
+    }
+
+    fn close<K: Sink>(&self, _sink: &mut K) -> Result<(), Failed> {
+        Ok(())
+    }
+
+    ghost long = { long_any };
+
+    ghost stays_ready = { λ start s turns did. on_since start s.memory turns did };
+}

@@ -1,0 +1,134 @@
+ghost use Rattle.std.specs.Prelude.{◌≡◌, ◌≤◌, ℕ, List, []};
+ghost use Rattle.envy_io.specs.Streams.{Feed, Drain};
+ghost use Rattle.envy_serve.specs.Ends.{Progress, Advances, Serves, IsAtStart, lines_of_end};
+ghost use Rattle.envy_serve.specs.Turns.{Turn};
+ghost use Rattle.envy_serve.specs.Concludes.{Closes, Concludes};
+
+use crate::fetch::{Stop, fetch};
+use crate::{Obeyed, Service};
+use arrayvec::ArrayVec;
+use envy_io::{Failed, Lines, Sink, Source};
+use envy_trace::LineFault;
+
+/// The bytes taken at most.
+pub const MOST_BYTES: u64 = 1_099_511_627_776;
+
+/// How serving a trace ends.
+#[derive(Clone, Copy, Debug, PartialEq, Eq)]
+pub enum End {
+    /// The source was read to its end, and all was done and written.
+    Done,
+    /// The source failed.
+    ReadFault,
+    /// The sink failed at a reply.
+    WriteFault,
+    /// The sink failed behind all replies.
+    FlushFault,
+    /// The next line is refused.
+    Refused(LineFault),
+    /// Power didn't return.
+    Dead,
+    /// The source has more bytes than may be taken.
+    TooLong,
+}
+
+/// How a trace was served.
+#[derive(Drop)]
+pub struct Served {
+    /// How it ended.
+    pub end: End,
+    /// The lines that were accepted.
+    pub lines: u64,
+    /// The bytes taken from the source.
+    pub taken: u64,
+}
+
+/// Writes what stands behind all replies, and flushes the sink.
+fn close<V: Service, K: Sink>(service: &V, sink: &mut K) -> Result<(), Failed>
+    ensures { Closes (V.tail service.now) result (K.drain sink.old) (K.drain sink.new) }
+{
+    service.close(sink)?;
+    sink.flush()
+}
+
+/// How serving ends where no further line comes.
+fn conclude<V: Service, K: Sink>(service: &V, stop: Stop, sink: &mut K) -> End
+    ensures { Concludes stop result (V.tail service.now) (K.drain sink.old) (K.drain sink.new) }
+{
+    match stop {
+        Stop::Finished => match close(service, sink) {
+            Ok(()) => End::Done,
+            Err(Failed) => End::FlushFault,
+        },
+        Stop::Refused(fault) => End::Refused(fault),
+        Stop::Failed => End::ReadFault,
+        Stop::Spent => End::TooLong,
+    }
+}
+
+/// Reads the next line and does it. Answers how serving ends, where it does.
+fn advance<V: Service, S: Source, K: Sink>(
+    service: &mut V,
+    source: &mut S,
+    sink: &mut K,
+    reader: &mut Lines,
+    text: &mut ArrayVec<u8, 120>,
+) -> Option<End>
+    requires { V.IsReady service.old }
+    ensures goes { (start : V.Start) (skipped : ℕ) (from : Feed) (to : Drain) (n : ℕ)
+        → Progress V.grammar skipped (V.Did start service.old) from to n (S.feed source.old) (K.drain sink.old) reader.old
+        → Advances result V.grammar skipped (V.Did start service.new) (V.Died start service.new) (V.tail service.new) from to n (S.feed source.new) (K.drain sink.new) reader.new }
+    ensures cap { reader.new.cap ≡ reader.old.cap }
+    ensures within { reader.new.taken ≤ reader.new.cap }
+{
+    let line = match fetch::<V, S>(source, reader, text) {
+        Ok(line) => line,
+        Err(stop) => return Some(conclude(service, stop, sink)),
+    };
+    match service.obey(&line, sink) {
+        Obeyed::Done => None,
+        Obeyed::WriteFault => Some(End::WriteFault),
+        Obeyed::Dead => Some(End::Dead),
+    }
+}
+
+/// The lines accepted, where so many were done and told.
+fn lines_accepted(end: End, told: u64) -> u64
+    requires { told ≤ 1099511627776 }
+    ensures { result ≡ lines_of_end end told }
+{
+    match end {
+        End::WriteFault | End::Dead => told + 1,
+        _ => told,
+    }
+}
+
+/// Does the lines of the source one after another. The reader may have taken bytes that stood before the
+/// first line.
+pub fn serve<V: Service, S: Source, K: Sink>(
+    service: &mut V,
+    source: &mut S,
+    sink: &mut K,
+    reader: Lines,
+) -> Served
+    requires begun { (start : V.Start) × V.Did start service.old [] }
+    requires reader { IsAtStart reader }
+    ensures serves { (start : V.Start) → V.Did start service.old []
+        → (turns : List (Turn V.Line V.Reply)) × Serves result.end result.lines result.taken V.grammar reader.taken (V.Did start service.new) (V.Died start service.new) (V.tail service.new) turns
+        (record { from = S.feed source.old; feed = S.feed source.new; to = K.drain sink.old; sink = K.drain sink.new }) }
+    ensures few { result.lines ≤ result.taken }
+    ensures read { result.taken ≤ 1099511627776 }
+{
+    let mut reader = reader;
+    let mut text = ArrayVec::new();
+    for told in 0..MOST_BYTES + 1 {
+        if let Some(end) = advance(service, source, sink, &mut reader, &mut text) {
+            return Served {
+                end,
+                lines: lines_accepted(end, told),
+                taken: reader.taken(),
+            };
+        }
+    }
+    unreachable!()
+}
