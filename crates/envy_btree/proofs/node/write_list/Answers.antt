@@ -1,0 +1,23 @@
+use Rattle.std.proofs.Common.{◌≡◌, ◌+◌, ◌/◌, ◌∙◌, ap, sym, subst, get_or, set, length, arith, List, ℕ}
+use Rattle.std.proofs.lemmas.List.Edits.{paste_more}
+use Rattle.envy_base.specs.Words.{OnPage}
+use Rattle.envy_base.proofs.Working.{on_from, OnPage-room, OnPage-trans}
+use Rattle.envy_btree.proofs.node.write_list.Goals as goal
+
+pub put-requires-clause-room : goal.put-requires-clause-room
+put-requires-clause-room g c = OnPage-room _ _ _ _ c.loop-i.invariant.page (on_from _ (g.met.W.Words.lawful c.loop-i.words) c.loop-i.invariant.begun) (omega (arith, c.requires.page)) c.requires.room
+
+pub loop-i-preserved : goal.loop-i-preserved
+loop-i-preserved g c =
+    let e : (c.args.a + c.loop-i.i) / 32 ≡ c.args.a / 32 = omega (arith, c.requires.page) in
+    let put = c.in_ok-put.ensures.answer in
+    let mid = c.loop-i.invariant in
+    let grown = paste_more (g.W.Words.sheet c.args.words.now).words c.args.a c.args.list.now c.loop-i.i 0 (omega (arith, c.requires.within)) (omega arith) in
+    record {
+      words = put.1 ∙ ap (λ x. set x (c.args.a + c.loop-i.i) (get_or c.args.list.now c.loop-i.i 0)) mid.words ∙ grown;
+      page = OnPage-trans (c.args.a / 32) _ _ _ mid.page (subst (λ p. OnPage p (g.W.Words.sheet c.loop-i.words) (g.W.Words.sheet c.put.new.self)) e c.in_ok-put.ensures.works);
+      begun = c.in_ok-put.ensures.works.works.still put.0 ∙ mid.begun;
+    }
+
+pub returns-clause-fails : goal.returns-clause-fails
+returns-clause-fails g c = on_from _ (g.met.W.Words.lawful c.loop-i.words) c.loop-i.invariant.begun

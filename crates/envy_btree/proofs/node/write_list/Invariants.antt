@@ -1,0 +1,11 @@
+use Rattle.std.proofs.Common.{◌≡◌, ◌<◌, ◌≤◌, ◌+◌, ◌/◌, length, ℕ, IsTrue}
+use Rattle.envy_base.specs.Words.{OnPage}
+use Rattle.envy_btree.specs.Nodes.{pasted}
+use Rattle.envy_btree.proofs.node.write_list.Given as goal
+
+abbrev pub invariant-loop-i : goal.invariant-loop-i
+invariant-loop-i g l = record {
+  words : (g.W.Words.sheet l.words).words ≡ pasted l.a l.list l.i (g.W.Words.sheet l.initial.words).words;
+  page : OnPage (l.a / 32) (g.W.Words.sheet l.initial.words) (g.W.Words.sheet l.words);
+  begun : IsTrue (g.W.Words.sheet l.words).started;
+}

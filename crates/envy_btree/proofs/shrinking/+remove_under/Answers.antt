@@ -1,0 +1,301 @@
+use Rattle.std.proofs.Common.{rules, ◌≡◌, IfOk, IfSome, Ok, Err, Result, Option, List, ℕ, ◌+◌, ◌-◌, ◌*◌, ◌<◌, ◌≤◌, ◌∙◌, suc, length, arith, sym, ap, subst, Some, None, get_or, false}
+use Rattle.envy_base.specs.Words.{Works}
+use Rattle.envy_base.proofs.Working.{Works-trans, Works-more}
+use Rattle.envy_heap.specs.Pieces.{IsHeap}
+use Rattle.envy_btree.specs.Pairs.{without}
+use Rattle.envy_btree.specs.Tree.{Rising, keys_of, values_of}
+use Rattle.envy_btree.specs.Changes.{Rests, Beside, joined_keys}
+use Rattle.envy_btree.specs.Shrinking.{Back, MendedBack, Shrinks}
+use Rattle.envy_btree.proofs.Descent.{Rests-within, Rests-few}
+use Rattle.envy_btree.proofs.Diving.{Rests-dives, Rests-lands, leaf-shrinks, front-shrinks, rear-shrinks, dive-fits, hand-more}
+use Rattle.envy_btree.proofs.shrinking.+remove_under.Goals as goal
+
+pub read_node-requires-clause-within : goal.read_node-requires-clause-within
+read_node-requires-clause-within g t c = (Rests-within _ _ _ c.requires.rests).0
+
+pub read_node-requires-clause-few : goal.read_node-requires-clause-few
+read_node-requires-clause-few g t c = Rests-few _ _ _ c.requires.rests
+
+pub shrink_leaf-requires-clause-within : goal.shrink_leaf-requires-clause-within
+shrink_leaf-requires-clause-within g t c = omega (arith, (Rests-within _ _ _ c.requires.rests).0, c.in_ok-node.ensures.works.long)
+
+pub shrink_leaf-requires-clause-few : goal.shrink_leaf-requires-clause-few
+shrink_leaf-requires-clause-few g t c = (Rests-lands _ _ _ c.args.key _ _ _ c.requires.rests c.in_ok-node.ensures.node c.if-not-node.true).few
+
+pub shrink_leaf-requires-clause-long : goal.shrink_leaf-requires-clause-long
+shrink_leaf-requires-clause-long g t c = (Rests-lands _ _ _ c.args.key _ _ _ c.requires.rests c.in_ok-node.ensures.node c.if-not-node.true).long
+
+pub returns-then-not-node-clause-shrinks : goal.returns-then-not-node-clause-shrinks
+returns-then-not-node-clause-shrinks g t c r =
+    let old = (g.W.Words.sheet c.args.words.now).words in
+    let new = (g.W.Words.sheet c.shrink_leaf.new.words).words in
+    let ks = c.in_ok-node.node.keys.items in
+    let ss = c.in_ok-node.node.slots.items in
+    let p = c.args.piece in
+    let l = Rests-lands old p c.args.level c.args.key ks ss _ r c.in_ok-node.ensures.node c.if-not-node.true in
+    let a = subst (λ w. (low high : ℕ) (es : List (ℕ × ℕ)) → Rising low high es → ks ≡ keys_of es → ss ≡ values_of es → IfOk c.shrink_leaf.result (λ x. Back w new p false (keys_of (without c.args.key es)) (values_of (without c.args.key es)) x)) c.in_ok-node.ensures.same c.shrink_leaf.ensures.back in
+    leaf-shrinks old new p c.args.level c.args.key ks ss r c.shrink_leaf.result l a
+
+pub slot-child-requires : goal.slot-child-requires
+slot-child-requires g t c =
+    let s = (Rests-dives _ _ _ _ _ _ _ _ _ c.requires.rests c.in_ok-node.ensures.node c.if-not-node.false c.deref.ensures.0 c.rank-i.ensures) in
+    omega (arith, s.place, s.long)
+
+pub overflow_cast-child : goal.overflow_cast-child
+overflow_cast-child g t c =
+    let fits = dive-fits _ _ _ _ _ _ _ _ (g.met.W.Words.lawful c.args.words.now).few (Rests-dives _ _ _ _ _ _ _ _ _ c.requires.rests c.in_ok-node.ensures.node c.if-not-node.false c.deref.ensures.0 c.rank-i.ensures) in
+    omega (arith, c.slot-child.ensures, fits)
+
+pub overflow_sub-level : goal.overflow_sub-level
+overflow_sub-level g t c = (Rests-dives _ _ _ _ _ _ _ _ _ c.requires.rests c.in_ok-node.ensures.node c.if-not-node.false c.deref.ensures.0 c.rank-i.ensures).lower
+
+pub remove_under-requires : goal.remove_under-requires
+remove_under-requires g t c κs within =
+    let s = (Rests-dives _ _ _ _ _ _ _ _ _ c.requires.rests c.in_ok-node.ensures.node c.if-not-node.false c.deref.ensures.0 c.rank-i.ensures) in
+    let n = c.in_ok-node.ensures in (
+      omega (arith, s.lower, c.decreases),
+      (
+        within,
+        (
+          n.works.still n.power ∙ c.requires.begun,
+          (
+            omega (arith, c.requires.room, n.works.few n.power, n.works.room, s.lower),
+            subst (λ x. Rests x c.slot-child.result (c.args.level - 1)) (sym n.same) (subst (λ x. Rests (g.W.Words.sheet c.args.words.now).words x (c.args.level - 1)) (sym c.slot-child.ensures) s.child),
+          ),
+        ),
+      ),
+    )
+
+pub returns-in_default-clause-shrinks : goal.returns-in_default-clause-shrinks
+returns-in_default-clause-shrinks g t c r =
+    let old = (g.W.Words.sheet c.args.words.now).words in
+    let mid = (g.W.Words.sheet c.remove_under.new.words).words in
+    let ks = c.in_ok-node.node.keys.items in
+    let ss = c.in_ok-node.node.slots.items in
+    let p = c.args.piece in
+    let i = c.rank-i.result in
+    let below = c.args.level - 1 in
+    let s = Rests-dives old p c.args.level c.args.key i ks _ ss _ r c.in_ok-node.ensures.node c.if-not-node.false c.deref.ensures.0 c.rank-i.ensures in
+    let a = subst (λ w. (h : Rests w c.slot-child.result below) → Shrinks w mid c.slot-child.result below c.args.key h c.in_ok-short.field-0) c.in_ok-node.ensures.same c.in_ok-short.ensures.shrinks in
+    let b = subst (λ q. (h : Rests old q below) → Shrinks old mid q below c.args.key h c.in_ok-short.field-0) c.slot-child.ensures a in
+    let d = subst (λ r. Shrinks old mid (get_or ss i 0) below c.args.key s.child r) c.in_default.is (b s.child) in
+    s.same mid d
+
+pub shrink_with_front-requires-clause-within : goal.shrink_with_front-requires-clause-within
+shrink_with_front-requires-clause-within g t c = omega (arith, (Rests-within _ _ _ c.requires.rests).0, c.in_ok-node.ensures.works.long, c.in_ok-short.ensures.works.long)
+
+pub shrink_with_front-requires-clause-room : goal.shrink_with_front-requires-clause-room
+shrink_with_front-requires-clause-room g t c =
+    let s = (Rests-dives _ _ _ _ _ _ _ _ _ c.requires.rests c.in_ok-node.ensures.node c.if-not-node.false c.deref.ensures.0 c.rank-i.ensures) in
+    let n = c.in_ok-node.ensures in
+    let short : Works (4 * (c.args.level - 1)) (g.W.Words.sheet c.read_node.new.words) (g.W.Words.sheet c.remove_under.new.words) = subst (λ r. IfSome r (λ _. Works (4 * (c.args.level - 1)) (g.W.Words.sheet c.read_node.new.words) (g.W.Words.sheet c.remove_under.new.words))) c.in-Some.is c.in_ok-short.ensures.hand in
+    let so_far = Works-trans 0 (4 * (c.args.level - 1)) _ _ _ n.works short in
+    omega (arith, s.lower, c.requires.room, so_far.few c.in_ok-short.ensures.fails, so_far.room)
+
+pub shrink_with_front-requires-clause-many : goal.shrink_with_front-requires-clause-many
+shrink_with_front-requires-clause-many g t c = (Rests-dives _ _ _ _ _ _ _ _ _ c.requires.rests c.in_ok-node.ensures.node c.if-not-node.false c.deref.ensures.0 c.rank-i.ensures).few
+
+pub shrink_with_front-requires-clause-long : goal.shrink_with_front-requires-clause-long
+shrink_with_front-requires-clause-long g t c = (Rests-dives _ _ _ _ _ _ _ _ _ c.requires.rests c.in_ok-node.ensures.node c.if-not-node.false c.deref.ensures.0 c.rank-i.ensures).long
+
+pub shrink_with_front-requires-clause-pair : goal.shrink_with_front-requires-clause-pair
+shrink_with_front-requires-clause-pair g t c =
+    let old = (g.W.Words.sheet c.args.words.now).words in
+    let mid = (g.W.Words.sheet c.remove_under.new.words).words in
+    let ks = c.in_ok-node.node.keys.items in
+    let ss = c.in_ok-node.node.slots.items in
+    let p = c.args.piece in
+    let i = c.rank-i.result in
+    let below = c.args.level - 1 in
+    let s = Rests-dives old p c.args.level c.args.key i ks _ ss _ c.requires.rests c.in_ok-node.ensures.node c.if-not-node.false c.deref.ensures.0 c.rank-i.ensures in
+    let a = subst (λ w. (h : Rests w c.slot-child.result below) → Shrinks w mid c.slot-child.result below c.args.key h c.in_ok-short.field-0) c.in_ok-node.ensures.same c.in_ok-short.ensures.shrinks in
+    let b = subst (λ q. (h : Rests old q below) → Shrinks old mid q below c.args.key h c.in_ok-short.field-0) c.slot-child.ensures a in
+    let d = subst (λ r. Shrinks old mid (get_or ss i 0) below c.args.key s.child r) c.in-Some.is (b s.child) in
+    (s.front mid c.in-Some.short (i - 1) (let e : i ≡ suc (i - 1) = omega (arith, c.if-i-gt0.true) in e) d).0
+
+pub shrink_with_front-requires-clause-beside : goal.shrink_with_front-requires-clause-beside
+shrink_with_front-requires-clause-beside g t c =
+    let old = (g.W.Words.sheet c.args.words.now).words in
+    let mid = (g.W.Words.sheet c.remove_under.new.words).words in
+    let ks = c.in_ok-node.node.keys.items in
+    let ss = c.in_ok-node.node.slots.items in
+    let p = c.args.piece in
+    let i = c.rank-i.result in
+    let below = c.args.level - 1 in
+    let s = Rests-dives old p c.args.level c.args.key i ks _ ss _ c.requires.rests c.in_ok-node.ensures.node c.if-not-node.false c.deref.ensures.0 c.rank-i.ensures in
+    let a = subst (λ w. (h : Rests w c.slot-child.result below) → Shrinks w mid c.slot-child.result below c.args.key h c.in_ok-short.field-0) c.in_ok-node.ensures.same c.in_ok-short.ensures.shrinks in
+    let b = subst (λ q. (h : Rests old q below) → Shrinks old mid q below c.args.key h c.in_ok-short.field-0) c.slot-child.ensures a in
+    let d = subst (λ r. Shrinks old mid (get_or ss i 0) below c.args.key s.child r) c.in-Some.is (b s.child) in
+    (s.front mid c.in-Some.short (i - 1) (let e : i ≡ suc (i - 1) = omega (arith, c.if-i-gt0.true) in e) d).1
+
+pub shrink_with_front-requires-clause-keys : goal.shrink_with_front-requires-clause-keys
+shrink_with_front-requires-clause-keys g t c =
+    let old = (g.W.Words.sheet c.args.words.now).words in
+    let mid = (g.W.Words.sheet c.remove_under.new.words).words in
+    let ks = c.in_ok-node.node.keys.items in
+    let ss = c.in_ok-node.node.slots.items in
+    let p = c.args.piece in
+    let i = c.rank-i.result in
+    let below = c.args.level - 1 in
+    let s = Rests-dives old p c.args.level c.args.key i ks _ ss _ c.requires.rests c.in_ok-node.ensures.node c.if-not-node.false c.deref.ensures.0 c.rank-i.ensures in
+    let a = subst (λ w. (h : Rests w c.slot-child.result below) → Shrinks w mid c.slot-child.result below c.args.key h c.in_ok-short.field-0) c.in_ok-node.ensures.same c.in_ok-short.ensures.shrinks in
+    let b = subst (λ q. (h : Rests old q below) → Shrinks old mid q below c.args.key h c.in_ok-short.field-0) c.slot-child.ensures a in
+    let d = subst (λ r. Shrinks old mid (get_or ss i 0) below c.args.key s.child r) c.in-Some.is (b s.child) in
+    (s.sizes mid c.in-Some.short d).0
+
+pub shrink_with_front-requires-clause-slots : goal.shrink_with_front-requires-clause-slots
+shrink_with_front-requires-clause-slots g t c =
+    let old = (g.W.Words.sheet c.args.words.now).words in
+    let mid = (g.W.Words.sheet c.remove_under.new.words).words in
+    let ks = c.in_ok-node.node.keys.items in
+    let ss = c.in_ok-node.node.slots.items in
+    let p = c.args.piece in
+    let i = c.rank-i.result in
+    let below = c.args.level - 1 in
+    let s = Rests-dives old p c.args.level c.args.key i ks _ ss _ c.requires.rests c.in_ok-node.ensures.node c.if-not-node.false c.deref.ensures.0 c.rank-i.ensures in
+    let a = subst (λ w. (h : Rests w c.slot-child.result below) → Shrinks w mid c.slot-child.result below c.args.key h c.in_ok-short.field-0) c.in_ok-node.ensures.same c.in_ok-short.ensures.shrinks in
+    let b = subst (λ q. (h : Rests old q below) → Shrinks old mid q below c.args.key h c.in_ok-short.field-0) c.slot-child.ensures a in
+    let d = subst (λ r. Shrinks old mid (get_or ss i 0) below c.args.key s.child r) c.in-Some.is (b s.child) in
+    (s.sizes mid c.in-Some.short d).1
+
+pub returns-then-i-gt0-clause-works : goal.returns-then-i-gt0-clause-works
+returns-then-i-gt0-clause-works g t c =
+    let s = (Rests-dives _ _ _ _ _ _ _ _ _ c.requires.rests c.in_ok-node.ensures.node c.if-not-node.false c.deref.ensures.0 c.rank-i.ensures) in
+    let n = c.in_ok-node.ensures in
+    let short : Works (4 * (c.args.level - 1)) (g.W.Words.sheet c.read_node.new.words) (g.W.Words.sheet c.remove_under.new.words) = subst (λ r. IfSome r (λ _. Works (4 * (c.args.level - 1)) (g.W.Words.sheet c.read_node.new.words) (g.W.Words.sheet c.remove_under.new.words))) c.in-Some.is c.in_ok-short.ensures.hand in
+    let so_far = Works-trans 0 (4 * (c.args.level - 1)) _ _ _ n.works short in
+    Works-more (0 + 4 * (c.args.level - 1) + 6) (4 * c.args.level + 2) _ _ (omega (arith, s.lower)) (Works-trans (0 + 4 * (c.args.level - 1)) 6 _ _ _ so_far c.shrink_with_front.ensures.works)
+
+pub returns-then-i-gt0-clause-hand : goal.returns-then-i-gt0-clause-hand
+returns-then-i-gt0-clause-hand g t c =
+    let s = (Rests-dives _ _ _ _ _ _ _ _ _ c.requires.rests c.in_ok-node.ensures.node c.if-not-node.false c.deref.ensures.0 c.rank-i.ensures) in
+    let n = c.in_ok-node.ensures in
+    let short : Works (4 * (c.args.level - 1)) (g.W.Words.sheet c.read_node.new.words) (g.W.Words.sheet c.remove_under.new.words) = subst (λ r. IfSome r (λ _. Works (4 * (c.args.level - 1)) (g.W.Words.sheet c.read_node.new.words) (g.W.Words.sheet c.remove_under.new.words))) c.in-Some.is c.in_ok-short.ensures.hand in
+    let so_far = Works-trans 0 (4 * (c.args.level - 1)) _ _ _ n.works short in
+    hand-more (0 + 4 * (c.args.level - 1)) 4 (4 * c.args.level) (g.W.Words.sheet c.args.words.now) (g.W.Words.sheet c.remove_under.new.words) (g.W.Words.sheet c.shrink_with_front.new.words) c.shrink_with_front.result so_far (omega (arith, s.lower)) c.shrink_with_front.ensures.hand
+
+pub returns-then-i-gt0-clause-shrinks : goal.returns-then-i-gt0-clause-shrinks
+returns-then-i-gt0-clause-shrinks g t c r =
+    let old = (g.W.Words.sheet c.args.words.now).words in
+    let mid = (g.W.Words.sheet c.remove_under.new.words).words in
+    let ks = c.in_ok-node.node.keys.items in
+    let ss = c.in_ok-node.node.slots.items in
+    let p = c.args.piece in
+    let i = c.rank-i.result in
+    let below = c.args.level - 1 in
+    let s = Rests-dives old p c.args.level c.args.key i ks _ ss _ r c.in_ok-node.ensures.node c.if-not-node.false c.deref.ensures.0 c.rank-i.ensures in
+    let a = subst (λ w. (h : Rests w c.slot-child.result below) → Shrinks w mid c.slot-child.result below c.args.key h c.in_ok-short.field-0) c.in_ok-node.ensures.same c.in_ok-short.ensures.shrinks in
+    let b = subst (λ q. (h : Rests old q below) → Shrinks old mid q below c.args.key h c.in_ok-short.field-0) c.slot-child.ensures a in
+    let d = subst (λ r. Shrinks old mid (get_or ss i 0) below c.args.key s.child r) c.in-Some.is (b s.child) in
+    front-shrinks old mid (g.W.Words.sheet c.shrink_with_front.new.words).words p c.args.level c.args.key i (i - 1) ks ss r c.in-Some.short c.shrink_with_front.result s (let e : i ≡ suc (i - 1) = omega (arith, c.if-i-gt0.true) in e) d c.shrink_with_front.ensures.mended
+
+pub shrink_with_rear-requires-clause-within : goal.shrink_with_rear-requires-clause-within
+shrink_with_rear-requires-clause-within g t c = omega (arith, (Rests-within _ _ _ c.requires.rests).0, c.in_ok-node.ensures.works.long, c.in_ok-short.ensures.works.long)
+
+pub shrink_with_rear-requires-clause-room : goal.shrink_with_rear-requires-clause-room
+shrink_with_rear-requires-clause-room g t c =
+    let s = (Rests-dives _ _ _ _ _ _ _ _ _ c.requires.rests c.in_ok-node.ensures.node c.if-not-node.false c.deref.ensures.0 c.rank-i.ensures) in
+    let n = c.in_ok-node.ensures in
+    let short : Works (4 * (c.args.level - 1)) (g.W.Words.sheet c.read_node.new.words) (g.W.Words.sheet c.remove_under.new.words) = subst (λ r. IfSome r (λ _. Works (4 * (c.args.level - 1)) (g.W.Words.sheet c.read_node.new.words) (g.W.Words.sheet c.remove_under.new.words))) c.in-Some.is c.in_ok-short.ensures.hand in
+    let so_far = Works-trans 0 (4 * (c.args.level - 1)) _ _ _ n.works short in
+    omega (arith, s.lower, c.requires.room, so_far.few c.in_ok-short.ensures.fails, so_far.room)
+
+pub shrink_with_rear-requires-clause-many : goal.shrink_with_rear-requires-clause-many
+shrink_with_rear-requires-clause-many g t c = (Rests-dives _ _ _ _ _ _ _ _ _ c.requires.rests c.in_ok-node.ensures.node c.if-not-node.false c.deref.ensures.0 c.rank-i.ensures).few
+
+pub shrink_with_rear-requires-clause-long : goal.shrink_with_rear-requires-clause-long
+shrink_with_rear-requires-clause-long g t c = (Rests-dives _ _ _ _ _ _ _ _ _ c.requires.rests c.in_ok-node.ensures.node c.if-not-node.false c.deref.ensures.0 c.rank-i.ensures).long
+
+pub shrink_with_rear-requires-clause-place : goal.shrink_with_rear-requires-clause-place
+shrink_with_rear-requires-clause-place g t c = (Rests-dives _ _ _ _ _ _ _ _ _ c.requires.rests c.in_ok-node.ensures.node c.if-not-node.false c.deref.ensures.0 c.rank-i.ensures).some
+
+pub shrink_with_rear-requires-clause-pair : goal.shrink_with_rear-requires-clause-pair
+shrink_with_rear-requires-clause-pair g t c =
+    let old = (g.W.Words.sheet c.args.words.now).words in
+    let mid = (g.W.Words.sheet c.remove_under.new.words).words in
+    let ks = c.in_ok-node.node.keys.items in
+    let ss = c.in_ok-node.node.slots.items in
+    let p = c.args.piece in
+    let i = c.rank-i.result in
+    let below = c.args.level - 1 in
+    let s = Rests-dives old p c.args.level c.args.key i ks _ ss _ c.requires.rests c.in_ok-node.ensures.node c.if-not-node.false c.deref.ensures.0 c.rank-i.ensures in
+    let a = subst (λ w. (h : Rests w c.slot-child.result below) → Shrinks w mid c.slot-child.result below c.args.key h c.in_ok-short.field-0) c.in_ok-node.ensures.same c.in_ok-short.ensures.shrinks in
+    let b = subst (λ q. (h : Rests old q below) → Shrinks old mid q below c.args.key h c.in_ok-short.field-0) c.slot-child.ensures a in
+    let d = subst (λ r. Shrinks old mid (get_or ss i 0) below c.args.key s.child r) c.in-Some.is (b s.child) in
+    (s.rear mid c.in-Some.short 0 (let e : i ≡ 0 = omega (arith, c.if-i-gt0.false) in e) (omega (arith, s.some)) d).0
+
+pub shrink_with_rear-requires-clause-beside : goal.shrink_with_rear-requires-clause-beside
+shrink_with_rear-requires-clause-beside g t c =
+    let old = (g.W.Words.sheet c.args.words.now).words in
+    let mid = (g.W.Words.sheet c.remove_under.new.words).words in
+    let ks = c.in_ok-node.node.keys.items in
+    let ss = c.in_ok-node.node.slots.items in
+    let p = c.args.piece in
+    let i = c.rank-i.result in
+    let below = c.args.level - 1 in
+    let s = Rests-dives old p c.args.level c.args.key i ks _ ss _ c.requires.rests c.in_ok-node.ensures.node c.if-not-node.false c.deref.ensures.0 c.rank-i.ensures in
+    let a = subst (λ w. (h : Rests w c.slot-child.result below) → Shrinks w mid c.slot-child.result below c.args.key h c.in_ok-short.field-0) c.in_ok-node.ensures.same c.in_ok-short.ensures.shrinks in
+    let b = subst (λ q. (h : Rests old q below) → Shrinks old mid q below c.args.key h c.in_ok-short.field-0) c.slot-child.ensures a in
+    let d = subst (λ r. Shrinks old mid (get_or ss i 0) below c.args.key s.child r) c.in-Some.is (b s.child) in
+    (s.rear mid c.in-Some.short 0 (let e : i ≡ 0 = omega (arith, c.if-i-gt0.false) in e) (omega (arith, s.some)) d).1
+
+pub shrink_with_rear-requires-clause-keys : goal.shrink_with_rear-requires-clause-keys
+shrink_with_rear-requires-clause-keys g t c =
+    let old = (g.W.Words.sheet c.args.words.now).words in
+    let mid = (g.W.Words.sheet c.remove_under.new.words).words in
+    let ks = c.in_ok-node.node.keys.items in
+    let ss = c.in_ok-node.node.slots.items in
+    let p = c.args.piece in
+    let i = c.rank-i.result in
+    let below = c.args.level - 1 in
+    let s = Rests-dives old p c.args.level c.args.key i ks _ ss _ c.requires.rests c.in_ok-node.ensures.node c.if-not-node.false c.deref.ensures.0 c.rank-i.ensures in
+    let a = subst (λ w. (h : Rests w c.slot-child.result below) → Shrinks w mid c.slot-child.result below c.args.key h c.in_ok-short.field-0) c.in_ok-node.ensures.same c.in_ok-short.ensures.shrinks in
+    let b = subst (λ q. (h : Rests old q below) → Shrinks old mid q below c.args.key h c.in_ok-short.field-0) c.slot-child.ensures a in
+    let d = subst (λ r. Shrinks old mid (get_or ss i 0) below c.args.key s.child r) c.in-Some.is (b s.child) in
+    (s.sizes mid c.in-Some.short d).0
+
+pub shrink_with_rear-requires-clause-slots : goal.shrink_with_rear-requires-clause-slots
+shrink_with_rear-requires-clause-slots g t c =
+    let old = (g.W.Words.sheet c.args.words.now).words in
+    let mid = (g.W.Words.sheet c.remove_under.new.words).words in
+    let ks = c.in_ok-node.node.keys.items in
+    let ss = c.in_ok-node.node.slots.items in
+    let p = c.args.piece in
+    let i = c.rank-i.result in
+    let below = c.args.level - 1 in
+    let s = Rests-dives old p c.args.level c.args.key i ks _ ss _ c.requires.rests c.in_ok-node.ensures.node c.if-not-node.false c.deref.ensures.0 c.rank-i.ensures in
+    let a = subst (λ w. (h : Rests w c.slot-child.result below) → Shrinks w mid c.slot-child.result below c.args.key h c.in_ok-short.field-0) c.in_ok-node.ensures.same c.in_ok-short.ensures.shrinks in
+    let b = subst (λ q. (h : Rests old q below) → Shrinks old mid q below c.args.key h c.in_ok-short.field-0) c.slot-child.ensures a in
+    let d = subst (λ r. Shrinks old mid (get_or ss i 0) below c.args.key s.child r) c.in-Some.is (b s.child) in
+    (s.sizes mid c.in-Some.short d).1
+
+pub returns-clause-works : goal.returns-clause-works
+returns-clause-works g t c =
+    let s = (Rests-dives _ _ _ _ _ _ _ _ _ c.requires.rests c.in_ok-node.ensures.node c.if-not-node.false c.deref.ensures.0 c.rank-i.ensures) in
+    let n = c.in_ok-node.ensures in
+    let short : Works (4 * (c.args.level - 1)) (g.W.Words.sheet c.read_node.new.words) (g.W.Words.sheet c.remove_under.new.words) = subst (λ r. IfSome r (λ _. Works (4 * (c.args.level - 1)) (g.W.Words.sheet c.read_node.new.words) (g.W.Words.sheet c.remove_under.new.words))) c.in-Some.is c.in_ok-short.ensures.hand in
+    let so_far = Works-trans 0 (4 * (c.args.level - 1)) _ _ _ n.works short in
+    Works-more (0 + 4 * (c.args.level - 1) + 6) (4 * c.args.level + 2) _ _ (omega (arith, s.lower)) (Works-trans (0 + 4 * (c.args.level - 1)) 6 _ _ _ so_far c.shrink_with_rear.ensures.works)
+
+pub returns-clause-hand : goal.returns-clause-hand
+returns-clause-hand g t c =
+    let s = (Rests-dives _ _ _ _ _ _ _ _ _ c.requires.rests c.in_ok-node.ensures.node c.if-not-node.false c.deref.ensures.0 c.rank-i.ensures) in
+    let n = c.in_ok-node.ensures in
+    let short : Works (4 * (c.args.level - 1)) (g.W.Words.sheet c.read_node.new.words) (g.W.Words.sheet c.remove_under.new.words) = subst (λ r. IfSome r (λ _. Works (4 * (c.args.level - 1)) (g.W.Words.sheet c.read_node.new.words) (g.W.Words.sheet c.remove_under.new.words))) c.in-Some.is c.in_ok-short.ensures.hand in
+    let so_far = Works-trans 0 (4 * (c.args.level - 1)) _ _ _ n.works short in
+    hand-more (0 + 4 * (c.args.level - 1)) 4 (4 * c.args.level) (g.W.Words.sheet c.args.words.now) (g.W.Words.sheet c.remove_under.new.words) (g.W.Words.sheet c.shrink_with_rear.new.words) c.shrink_with_rear.result so_far (omega (arith, s.lower)) c.shrink_with_rear.ensures.hand
+
+pub returns-clause-shrinks : goal.returns-clause-shrinks
+returns-clause-shrinks g t c r =
+    let old = (g.W.Words.sheet c.args.words.now).words in
+    let mid = (g.W.Words.sheet c.remove_under.new.words).words in
+    let ks = c.in_ok-node.node.keys.items in
+    let ss = c.in_ok-node.node.slots.items in
+    let p = c.args.piece in
+    let i = c.rank-i.result in
+    let below = c.args.level - 1 in
+    let s = Rests-dives old p c.args.level c.args.key i ks _ ss _ r c.in_ok-node.ensures.node c.if-not-node.false c.deref.ensures.0 c.rank-i.ensures in
+    let a = subst (λ w. (h : Rests w c.slot-child.result below) → Shrinks w mid c.slot-child.result below c.args.key h c.in_ok-short.field-0) c.in_ok-node.ensures.same c.in_ok-short.ensures.shrinks in
+    let b = subst (λ q. (h : Rests old q below) → Shrinks old mid q below c.args.key h c.in_ok-short.field-0) c.slot-child.ensures a in
+    let d = subst (λ r. Shrinks old mid (get_or ss i 0) below c.args.key s.child r) c.in-Some.is (b s.child) in
+    rear-shrinks old mid (g.W.Words.sheet c.shrink_with_rear.new.words).words p c.args.level c.args.key i 0 ks ss r c.in-Some.short c.shrink_with_rear.result s (let e : i ≡ 0 = omega (arith, c.if-i-gt0.false) in e) d c.shrink_with_rear.ensures.mended (omega (arith, s.some))

@@ -1,0 +1,30 @@
+-- Words made by hand, which stand for maps, or break a rule and stand for none.
+use Rattle.std.specs.Prelude.{ℕ, ◌+◌, ◌-◌, ◌*◌, List, [], ◌∷◌, ◌++◌, length, map, replicate}
+use Rattle.std.specs.List.{range_with_len}
+
+-- a list, and zeros up to n words
+abbrev pub padded : ℕ → List ℕ → List ℕ
+padded n xs = xs ++ replicate (n - length xs) 0
+
+-- the 64 words of a node
+abbrev pub node_words : ℕ → List ℕ → List ℕ → List ℕ
+node_words kind keys slots = (2 * length keys + kind) ∷ padded 31 keys ++ padded 32 slots
+
+-- the root's piece plus 1, no free piece, how many were handed out, and the number of pairs
+abbrev pub head_words : ℕ → ℕ → ℕ → List ℕ
+head_words root used pairs = padded 64 (root ∷ 0 ∷ used ∷ pairs ∷ [])
+
+-- one leaf
+abbrev pub one_leaf : ℕ → List ℕ → List ℕ → List ℕ
+one_leaf pairs keys slots = padded 640 (head_words 1 1 pairs ++ node_words 0 keys slots)
+
+-- the key i has the value 100 + i
+abbrev pub row_of : ℕ → ℕ → List (ℕ × ℕ)
+row_of first n = map (λ i. (i, 100 + i)) (range_with_len first n)
+
+-- two leaves of this many pairs each, from 0 on, and a root over them with this key
+abbrev pub two_levels : ℕ → ℕ → List ℕ
+two_levels n key = padded 768 (head_words 3 3 (2 * n)
+  ++ node_words 0 (map (λ e. e.0) (row_of 0 n)) (map (λ e. e.1) (row_of 0 n))
+  ++ node_words 0 (map (λ e. e.0) (row_of n n)) (map (λ e. e.1) (row_of n n))
+  ++ node_words 1 (key ∷ []) (0 ∷ 1 ∷ []))

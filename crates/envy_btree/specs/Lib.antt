@@ -1,0 +1,13 @@
+pub mod Answers
+pub mod Changes
+pub mod Commands
+pub mod Examples
+pub mod Grammar
+pub mod Index
+pub mod Nodes
+pub mod Pairs
+pub mod Replies
+pub mod Shrinking
+pub mod Spelling
+pub mod Testing
+pub mod Tree

@@ -1,0 +1,24 @@
+ghost use Rattle.std.specs.Prelude.{◌≡◌};
+
+use envy_base::Off;
+
+/// Why a call of the index tree didn't succeed.
+#[derive(Clone, Copy, Debug, PartialEq, Eq)]
+pub enum TreeFault {
+    /// Power failed in the call, or was off at entry.
+    Off,
+    /// The map has as many pairs as it may have.
+    Full,
+    /// A flash operation failed. The map is as before.
+    Bad,
+}
+
+impl From<Off> for TreeFault {
+    ghost use Rattle.envy_btree.specs.declared.fault.TreeFault.TheVariants.{Off as FaultOff};
+
+    ghost from_gives = { λ _ e. e ≡ FaultOff };
+
+    fn from(_: Off) -> Self {
+        TreeFault::Off
+    }
+}

@@ -1,0 +1,83 @@
+ghost use Rattle.std.specs.Prelude.{◌≡◌, ◌≢◌, ℕ, List, ◌+◌, ◌-◌, ◌*◌, ◌/◌, ◌^◌, ◌<◌, ◌≤◌, length, slice_index, false, OnOk, MatchOption, IsTrue};
+ghost use Rattle.envy_base.specs.Words.{Works, Keeps, Fails};
+ghost use Rattle.envy_btree.specs.Pairs.{with_pair};
+ghost use Rattle.envy_btree.specs.Index.{IsPlanted, IsIndex, most_pairs};
+ghost use Rattle.envy_btree.specs.Answers.{Inserts, Settles};
+
+use crate::closing::close;
+use crate::crowning::insert_at_root;
+use crate::fault::TreeFault;
+use crate::getting::get;
+use envy_base::{Trouble, Words};
+
+/// Sets the value of a key, and answers the old one. A new key is refused as `Full` where the map has
+/// `14 * (q - 8)` pairs, with `q` pieces in all. It is one transaction, which puts at most 27 pages.
+pub fn insert<W: Words>(words: &mut W, key: u64, value: u64) -> Result<Option<u64>, TreeFault>
+    requires shut { (W.sheet words.old).started ≡ false }
+    requires room { 32 ≤ (W.sheet words.old).room }
+    requires size { length (W.sheet words.old).words ≤ 2 ^ 25 }
+    requires map { (es : List (ℕ × ℕ)) × IsIndex (W.sheet words.old).words es }
+    ensures keeps { Keeps (W.sheet words.old) (W.sheet words.new) }
+    ensures shut { (W.sheet words.new).started ≡ false }
+    ensures inserts { (es : List (ℕ × ℕ)) → IsIndex (W.sheet words.old).words es → Inserts key value es (W.sheet words.old) result (W.sheet words.new) }
+{
+    let was = get(words, key)?;
+    let before = words.load(3)?;
+    let pairs = count_with(was, before);
+    if pairs > most_pairs(words.size()) {
+        return Err(TreeFault::Full);
+    }
+    match insert_alone(words, key, value, pairs) {
+        Ok(()) => Ok(was),
+        Err(fault) => Err(fault),
+    }
+}
+
+// the most pairs in so many words
+fn most_pairs(size: u32) -> u64
+    requires { 640 ≤ size }
+    ensures { result ≡ 14 * ((size - 64) / 64 - 8) }
+{
+    14 * u64::from((size - 64) / 64 - 8)
+}
+
+// how many pairs there are once the key has a value
+fn count_with(was: Option<u64>, pairs: u64) -> u64
+    requires { pairs < 2 ^ 32 }
+    ensures { MatchOption was (result ≡ pairs + 1) (λ _. result ≡ pairs) }
+{
+    match was {
+        None => pairs + 1,
+        Some(_) => pairs,
+    }
+}
+
+// Sets the value of a key, as a transaction of its own. There are so many pairs from then on.
+fn insert_alone<W: Words>(words: &mut W, key: u64, value: u64, pairs: u64) -> Result<(), TreeFault>
+    requires shut { (W.sheet words.old).started ≡ false }
+    requires room { 32 ≤ (W.sheet words.old).room }
+    requires size { length (W.sheet words.old).words ≤ 2 ^ 25 }
+    requires map { (es : List (ℕ × ℕ)) × IsIndex (W.sheet words.old).words es }
+    ensures keeps { Keeps (W.sheet words.old) (W.sheet words.new) }
+    ensures shut { (W.sheet words.new).started ≡ false }
+    ensures settles { (es : List (ℕ × ℕ)) → IsIndex (W.sheet words.old).words es → pairs ≡ length (with_pair key value es) → pairs ≤ most_pairs (W.sheet words.old).words → Settles es (with_pair key value es) (W.sheet words.old) result (W.sheet words.new) }
+{
+    words.start()?;
+    let done = insert_inside(words, key, value, pairs);
+    close(words, done)
+}
+
+// The same within an open transaction. The number of pairs is put first: the page of the head is then
+// among those put, whoever changes it later.
+fn insert_inside<W: Words>(words: &mut W, key: u64, value: u64, pairs: u64) -> Result<(), Trouble>
+    requires begun { IsTrue (W.sheet words.old).started }
+    requires room { length (W.sheet words.old).pages + 27 ≤ (W.sheet words.old).room }
+    requires size { length (W.sheet words.old).words ≤ 2 ^ 25 }
+    requires map { (es : List (ℕ × ℕ)) × IsPlanted (W.sheet words.old).words es × (length es ≤ most_pairs (W.sheet words.old).words) }
+    ensures works { Works 27 (W.sheet words.old) (W.sheet words.new) }
+    ensures fails { Fails (W.sheet words.old) result (W.sheet words.new) }
+    ensures planted { (es : List (ℕ × ℕ)) → IsPlanted (W.sheet words.old).words es → length es ≤ most_pairs (W.sheet words.old).words → OnOk result (IsPlanted (W.sheet words.new).words (with_pair key value es) × (slice_index (W.sheet words.new).words 3 ≡ pairs)) }
+{
+    words.put(3, pairs)?;
+    insert_at_root(words, key, value)
+}

@@ -1,0 +1,33 @@
+//! An index tree on pieces of words.
+#![tactic(auto)]
+
+mod closing;
+mod command;
+mod crowning;
+mod fault;
+mod finding;
+mod getting;
+mod growing;
+mod inserting;
+mod laws;
+mod line;
+mod mending;
+mod node;
+mod ranks;
+mod reading;
+mod removing;
+mod reply;
+mod saving;
+mod shrinking;
+#[cfg(test)]
+mod tests;
+mod uprooting;
+
+pub use fault::TreeFault;
+pub use getting::get;
+pub use inserting::insert;
+pub use laws::{index_grammar_holds_both_ways, zeros_are_the_empty_map};
+pub use line::IndexLine;
+pub use reading::read_index_line;
+pub use removing::remove;
+pub use reply::{IndexReply, index_text};

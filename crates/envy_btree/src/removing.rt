@@ -1,0 +1,62 @@
+ghost use Rattle.std.specs.Prelude.{◌≡◌, ℕ, List, ◌+◌, ◌^◌, ◌<◌, ◌≤◌, length, slice_index, false, OnOk, IsTrue};
+ghost use Rattle.envy_base.specs.Words.{Works, Keeps, Fails};
+ghost use Rattle.envy_btree.specs.Pairs.{without};
+ghost use Rattle.envy_btree.specs.Index.{IsPlanted, IsIndex, most_pairs};
+ghost use Rattle.envy_btree.specs.Answers.{Removes, Settles};
+
+use crate::closing::close;
+use crate::fault::TreeFault;
+use crate::getting::get;
+use crate::uprooting::remove_at_root;
+use envy_base::{Trouble, Words};
+
+/// Takes a key out of the map, and answers its value. It is one transaction, which puts at most 24
+/// pages; where the map doesn't have the key there is none. It is never `Full`.
+pub fn remove<W: Words>(words: &mut W, key: u64) -> Result<Option<u64>, TreeFault>
+    requires shut { (W.sheet words.old).started ≡ false }
+    requires room { 32 ≤ (W.sheet words.old).room }
+    requires size { length (W.sheet words.old).words ≤ 2 ^ 25 }
+    requires map { (es : List (ℕ × ℕ)) × IsIndex (W.sheet words.old).words es }
+    ensures keeps { Keeps (W.sheet words.old) (W.sheet words.new) }
+    ensures shut { (W.sheet words.new).started ≡ false }
+    ensures removes { (es : List (ℕ × ℕ)) → IsIndex (W.sheet words.old).words es → Removes key es (W.sheet words.old) result (W.sheet words.new) }
+{
+    let was = get(words, key)?;
+    let Some(value) = was else {
+        return Ok(None);
+    };
+    let pairs = words.load(3)?;
+    match remove_alone(words, key, pairs - 1) {
+        Ok(()) => Ok(Some(value)),
+        Err(fault) => Err(fault),
+    }
+}
+
+// Takes a key out of the map, as a transaction of its own. There are so many pairs from then on.
+fn remove_alone<W: Words>(words: &mut W, key: u64, pairs: u64) -> Result<(), TreeFault>
+    requires shut { (W.sheet words.old).started ≡ false }
+    requires room { 32 ≤ (W.sheet words.old).room }
+    requires size { length (W.sheet words.old).words ≤ 2 ^ 25 }
+    requires map { (es : List (ℕ × ℕ)) × IsIndex (W.sheet words.old).words es }
+    ensures keeps { Keeps (W.sheet words.old) (W.sheet words.new) }
+    ensures shut { (W.sheet words.new).started ≡ false }
+    ensures settles { (es : List (ℕ × ℕ)) → IsIndex (W.sheet words.old).words es → pairs ≡ length (without key es) → pairs ≤ most_pairs (W.sheet words.old).words → Settles es (without key es) (W.sheet words.old) result (W.sheet words.new) }
+{
+    words.start()?;
+    let done = remove_inside(words, key, pairs);
+    close(words, done)
+}
+
+// The same within an open transaction.
+fn remove_inside<W: Words>(words: &mut W, key: u64, pairs: u64) -> Result<(), Trouble>
+    requires begun { IsTrue (W.sheet words.old).started }
+    requires room { length (W.sheet words.old).pages + 24 ≤ (W.sheet words.old).room }
+    requires size { length (W.sheet words.old).words ≤ 2 ^ 25 }
+    requires map { (es : List (ℕ × ℕ)) × IsPlanted (W.sheet words.old).words es }
+    ensures works { Works 24 (W.sheet words.old) (W.sheet words.new) }
+    ensures fails { Fails (W.sheet words.old) result (W.sheet words.new) }
+    ensures planted { (es : List (ℕ × ℕ)) → IsPlanted (W.sheet words.old).words es → OnOk result (IsPlanted (W.sheet words.new).words (without key es) × (slice_index (W.sheet words.new).words 3 ≡ pairs)) }
+{
+    words.put(3, pairs)?;
+    remove_at_root(words, key)
+}

@@ -1,0 +1,143 @@
+ghost use Rattle.std.specs.Prelude.{◌≡◌, ℕ, List, ◌+◌, ◌-◌, ◌*◌, ◌<◌, ◌≤◌, ◌++◌, length, slice_index, IfOk, IfSome, IsTrue, true, false};
+ghost use Rattle.envy_base.specs.Words.{Works, Fails};
+ghost use Rattle.envy_heap.specs.Pieces.{IsHeap, at, one};
+ghost use Rattle.envy_btree.specs.Pairs.{without};
+ghost use Rattle.envy_btree.specs.Tree.{Rising, keys_of, values_of};
+ghost use Rattle.envy_btree.specs.Nodes.{Ranks};
+ghost use Rattle.envy_btree.specs.Changes.{Rests, Pair, Beside, joined_keys};
+ghost use Rattle.envy_btree.specs.Shrinking.{Back, MendedBack, Shrinks};
+
+use crate::mending::{mend_with_front, mend_with_rear};
+use crate::node::{Node, drop_pair, read_node, write_node};
+use crate::ranks::rank;
+use envy_base::{Trouble, Words};
+
+// Writes a node back, or leaves it in hand where it is short.
+fn put_back<W: Words>(words: &mut W, piece: u32, node: Node) -> Result<Option<Node>, Trouble>
+    requires begun { IsTrue (W.sheet words.old).started }
+    requires within { at piece 63 < length (W.sheet words.old).words }
+    requires room { length (W.sheet words.old).pages + 2 ≤ (W.sheet words.old).room }
+    requires few { length node.keys.items ≤ 31 }
+    requires slots { length node.slots.items ≤ 32 }
+    ensures works { Works 2 (W.sheet words.old) (W.sheet words.new) }
+    ensures fails { Fails (W.sheet words.old) result (W.sheet words.new) }
+    ensures hand { IfOk result (λ r. IfSome r (λ _. Works 0 (W.sheet words.old) (W.sheet words.new))) }
+    ensures back { IfOk result (λ r. Back (W.sheet words.old).words (W.sheet words.new).words piece node.inner node.keys.items node.slots.items r) }
+{
+    if node.keys.len() < 15 {
+        return Ok(Some(node));
+    }
+    write_node(words, piece, node.inner, &node.keys, &node.slots)?;
+    Ok(None)
+}
+
+// Takes a key out of a leaf that was read.
+fn shrink_leaf<W: Words>(
+    words: &mut W,
+    piece: u32,
+    mut node: Node,
+    i: usize,
+    key: u64,
+) -> Result<Option<Node>, Trouble>
+    requires begun { IsTrue (W.sheet words.old).started }
+    requires within { at piece 63 < length (W.sheet words.old).words }
+    requires room { length (W.sheet words.old).pages + 2 ≤ (W.sheet words.old).room }
+    requires leaf { node.inner ≡ false }
+    requires few { length node.keys.items ≤ 31 }
+    requires long { length node.slots.items ≡ length node.keys.items }
+    requires place { Ranks key node.keys.items i }
+    ensures works { Works 2 (W.sheet words.old) (W.sheet words.new) }
+    ensures fails { Fails (W.sheet words.old) result (W.sheet words.new) }
+    ensures hand { IfOk result (λ r. IfSome r (λ _. Works 0 (W.sheet words.old) (W.sheet words.new))) }
+    ensures back { (low high : ℕ) (es : List (ℕ × ℕ)) → Rising low high es → node.keys.items ≡ keys_of es → node.slots.items ≡ values_of es → IfOk result (λ r. Back (W.sheet words.old).words (W.sheet words.new).words piece false (keys_of (without key es)) (values_of (without key es)) r) }
+{
+    drop_pair(&mut node, i, key);
+    put_back(words, piece, node)
+}
+
+// Settles child `j + 1` of an inner node, which is in hand and short, with the child before it.
+fn shrink_with_front<W: Words>(
+    words: &mut W,
+    piece: u32,
+    mut node: Node,
+    j: usize,
+    child: Node,
+) -> Result<Option<Node>, Trouble>
+    requires begun { IsTrue (W.sheet words.old).started }
+    requires within { at piece 63 < length (W.sheet words.old).words }
+    requires room { length (W.sheet words.old).pages + 6 ≤ (W.sheet words.old).room }
+    requires inner { node.inner ≡ true }
+    requires place { j < length node.keys.items }
+    requires many { length node.keys.items ≤ 31 }
+    requires long { length node.slots.items ≡ length node.keys.items + 1 }
+    requires pair { Pair (W.sheet words.old).words (slice_index node.slots.items j) (slice_index node.slots.items (j + 1)) }
+    requires beside { Beside (W.sheet words.old).words (slice_index node.slots.items j) child.inner }
+    requires keys { length child.keys.items ≤ 14 }
+    requires slots { length child.slots.items ≡ length child.keys.items + one child.inner }
+    ensures works { Works 6 (W.sheet words.old) (W.sheet words.new) }
+    ensures fails { Fails (W.sheet words.old) result (W.sheet words.new) }
+    ensures hand { IfOk result (λ r. IfSome r (λ _. Works 4 (W.sheet words.old) (W.sheet words.new))) }
+    ensures mended { (free : List ℕ) → IsHeap (W.sheet words.old).words free → (b : Beside (W.sheet words.old).words (slice_index node.slots.items j) child.inner) → IfOk result (λ r. MendedBack (W.sheet words.old).words (W.sheet words.new).words free piece j node.keys.items node.slots.items child.inner (joined_keys child.inner b.keys (slice_index node.keys.items j) child.keys.items) (b.slots ++ child.slots.items) r) }
+{
+    mend_with_front(words, &mut node, j, &child)?;
+    put_back(words, piece, node)
+}
+
+// Settles child `j` of an inner node, which is in hand and short, with the child after it.
+fn shrink_with_rear<W: Words>(
+    words: &mut W,
+    piece: u32,
+    mut node: Node,
+    j: usize,
+    mut child: Node,
+) -> Result<Option<Node>, Trouble>
+    requires begun { IsTrue (W.sheet words.old).started }
+    requires within { at piece 63 < length (W.sheet words.old).words }
+    requires room { length (W.sheet words.old).pages + 6 ≤ (W.sheet words.old).room }
+    requires inner { node.inner ≡ true }
+    requires place { j < length node.keys.items }
+    requires many { length node.keys.items ≤ 31 }
+    requires long { length node.slots.items ≡ length node.keys.items + 1 }
+    requires pair { Pair (W.sheet words.old).words (slice_index node.slots.items j) (slice_index node.slots.items (j + 1)) }
+    requires beside { Beside (W.sheet words.old).words (slice_index node.slots.items (j + 1)) child.inner }
+    requires keys { length child.keys.items ≤ 14 }
+    requires slots { length child.slots.items ≡ length child.keys.items + one child.inner }
+    ensures works { Works 6 (W.sheet words.old) (W.sheet words.new) }
+    ensures fails { Fails (W.sheet words.old) result (W.sheet words.new) }
+    ensures hand { IfOk result (λ r. IfSome r (λ _. Works 4 (W.sheet words.old) (W.sheet words.new))) }
+    ensures mended { (free : List ℕ) → IsHeap (W.sheet words.old).words free → (b : Beside (W.sheet words.old).words (slice_index node.slots.items (j + 1)) child.inner) → IfOk result (λ r. MendedBack (W.sheet words.old).words (W.sheet words.new).words free piece j node.keys.items node.slots.items child.inner (joined_keys child.inner child.keys.items (slice_index node.keys.items j) b.keys) (child.slots.items ++ b.slots) r) }
+{
+    mend_with_rear(words, &mut node, j, &mut child)?;
+    put_back(words, piece, node)
+}
+
+/// Takes a key out of the tree under this piece. Where its root is short then, it isn't written: the
+/// answer is that node, for the caller to settle.
+pub(crate) fn remove_under<W: Words>(
+    words: &mut W,
+    piece: u32,
+    level: u32,
+    key: u64,
+) -> Result<Option<Node>, Trouble>
+    requires begun { IsTrue (W.sheet words.old).started }
+    requires room { length (W.sheet words.old).pages + (4 * level + 2) ≤ (W.sheet words.old).room }
+    requires rests { Rests (W.sheet words.old).words piece level }
+    ensures works { Works (4 * level + 2) (W.sheet words.old) (W.sheet words.new) }
+    ensures fails { Fails (W.sheet words.old) result (W.sheet words.new) }
+    ensures hand { IfOk result (λ r. IfSome r (λ _. Works (4 * level) (W.sheet words.old) (W.sheet words.new))) }
+    ensures shrinks { (t : Rests (W.sheet words.old).words piece level) → IfOk result (λ r. Shrinks (W.sheet words.old).words (W.sheet words.new).words piece level key t r) }
+{
+    let node = read_node(words, piece)?;
+    let i = rank(&node.keys, key);
+    if !node.inner {
+        return shrink_leaf(words, piece, node, i, key);
+    }
+    let child = node.slot(i) as u32;
+    let Some(short) = remove_under(words, child, level - 1, key)? else {
+        return Ok(None);
+    };
+    if i > 0 {
+        return shrink_with_front(words, piece, node, i - 1, short);
+    }
+    shrink_with_rear(words, piece, node, 0, short)
+}

@@ -1,0 +1,17 @@
+-- The words of vectors.
+use Rattle.std.specs.Prelude.{ℕ, Bool, true, List, [], length, take}
+use Rattle.envy_base.specs.Words.{Sheet}
+
+-- the first `used` of the pages are those put
+abbrev pub sheet_of : List ℕ → List ℕ → Bool → List ℕ → ℕ → Sheet
+sheet_of words kept started pages used = record {
+  words = words;
+  kept = kept;
+  started = started;
+  pages = take used pages;
+  room = length pages;
+  on = true;
+  cuts = 0;
+  bads = 0;
+  fixed = [];
+}
