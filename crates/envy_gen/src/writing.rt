@@ -7,29 +7,21 @@ ghost use Rattle.envy_gen.specs.Traces.{trace_bytes};
 use crate::draws::next_line;
 use arrayvec::ArrayVec;
 use envy_io::{Failed, Sink, write_all};
-use envy_report::push_text;
 use envy_trace::{Line, line_text};
 use rand_core::SeedableRng;
 use rand_pcg::Lcg128Xsl64;
 
-// Where lines are built, one after another.
-#[derive(Drop)]
-struct LineBuffer {
-    text: ArrayVec<u8, 120>,
-    piece: ArrayVec<u8, 121>,
-}
-
-// Writes a line and its newline as one piece.
-fn write_line<K: Sink>(sink: &mut K, line: &Line, buffer: &mut LineBuffer) -> Result<(), Failed>
+// Writes a line and its newline as one piece, which is built in the buffer.
+fn write_line<K: Sink>(
+    sink: &mut K,
+    line: &Line,
+    piece: &mut ArrayVec<u8, 120>,
+) -> Result<(), Failed>
     requires { HasPlace line.now }
     ensures { WritesAll (K.drain sink.old) (line_bytes line.now ++ newline ∷ []) result (K.drain sink.new) }
 {
-    let text = &mut buffer.text;
-    text.clear();
-    line_text(line, text);
-    let piece = &mut buffer.piece;
     piece.clear();
-    push_text(piece, text.as_slice());
+    line_text(line, piece);
     piece.push(b'\n');
     write_all(sink, piece.as_slice())
 }
@@ -47,13 +39,10 @@ pub fn generate<K: Sink>(sink: &mut K, start: u64, lines: u32, pages: u32) -> Re
     ensures uncalled { lines ≡ 0 → sink.new ≡ sink.old }
 {
     let mut words = Lcg128Xsl64::seed_from_u64(start);
-    let mut buffer = LineBuffer {
-        text: ArrayVec::new(),
-        piece: ArrayVec::new(),
-    };
+    let mut piece = ArrayVec::new();
     for _line in 0..lines {
         let line = next_line(&mut words, pages);
-        write_line(sink, &line, &mut buffer)?;
+        write_line(sink, &line, &mut piece)?;
     }
     Ok(())
 }

@@ -22,7 +22,8 @@ pub fn cost(counts: &Counts) -> u128
 /// Writes the line `stat`, without a newline, into an empty buffer.
 pub fn stat_text(counts: &Counts, out: &mut ArrayVec<u8, 512>)
     requires { out.old.items ≡ [] }
-    ensures { out.new.items ≡ stat_bytes counts.now }
+    ensures text { out.new.items ≡ stat_bytes counts.now }
+    ensures short { array_vec_len out.new ≤ 252 }
 {
     push_text(out, b"stat");
     push_count(out, b" hits ", counts.hits);
@@ -49,7 +50,8 @@ fn push_count(out: &mut ArrayVec<u8, 512>, name: &[u8], count: u64)
 // Division is slow at 128 bits: only the digits that 64 bits can't hold are made there.
 fn push_wide(out: &mut ArrayVec<u8, 512>, number: u128)
     requires { array_vec_len out.old + 39 ≤ 512 }
-    ensures { out.new.items ≡ out.old.items ++ decimal number }
+    ensures text { out.new.items ≡ out.old.items ++ decimal number }
+    ensures len { array_vec_len out.new ≤ array_vec_len out.old + 39 }
 {
     if number <= u64::MAX as u128 {
         push_number(out, number as u64);

@@ -1,7 +1,8 @@
-ghost use Rattle.std.specs.Prelude.{◌≡◌, ◌+◌, ◌≤◌, ◌++◌, length, drop, decimal};
+ghost use Rattle.std.specs.Prelude.{◌≡◌, ◌+◌, ◌≤◌, ◌++◌, length, decimal};
 ghost use Rattle.arrayvec.specs.ArrayVec.{array_vec_len};
 
 use arrayvec::ArrayVec;
+use itoa::write_digits;
 
 /// The most digits that a number of 64 bits has.
 const MOST_DIGITS: usize = 20;
@@ -22,23 +23,6 @@ pub fn push_number<const CAP: usize>(out: &mut ArrayVec<u8, CAP>, number: u64)
     ensures few { length (decimal number) ≤ 20 }
 {
     let mut digits = [0u8; MOST_DIGITS];
-    let start = write_digits(number, &mut digits);
+    let start = write_digits(number, &mut digits, MOST_DIGITS);
     push_text(out, &digits[start..]);
-}
-
-// Writes the digits at the end, and answers where they begin.
-fn write_digits(number: u64, digits: &mut [u8; MOST_DIGITS]) -> usize
-    ensures start { result + length (decimal number) ≡ 20 }
-    ensures text { drop result digits.new ≡ decimal number }
-{
-    let mut start = MOST_DIGITS;
-    let mut rest = number;
-    while rest >= 10 {
-        start -= 1;
-        digits[start] = b'0' + (rest % 10) as u8;
-        rest /= 10;
-    }
-    start -= 1;
-    digits[start] = b'0' + rest as u8;
-    start
 }

@@ -8,21 +8,18 @@ use arrayvec::ArrayVec;
 use envy_base::Bench;
 use envy_io::{Failed, Sink, write_all};
 use envy_memory::{Memory, ReviveFault};
-use envy_report::push_text;
 use envy_serve::Obeyed;
 use envy_trace::{Reply, reply_text};
 
 /// Where replies are built, one after another, for as long as a run lasts.
 #[derive(Drop)]
 pub struct ReplyBuffer {
-    text: ArrayVec<u8, 512>,
-    piece: ArrayVec<u8, 513>,
+    piece: ArrayVec<u8, 512>,
 }
 
 impl ReplyBuffer {
     pub fn new() -> ReplyBuffer {
         ReplyBuffer {
-            text: ArrayVec::new(),
             piece: ArrayVec::new(),
         }
     }
@@ -37,12 +34,9 @@ pub fn write_reply<K: Sink>(
 ) -> Result<(), Failed>
     ensures { WritesAll (K.drain sink.old) (reply_bytes reply.now ++ newline ∷ []) result (K.drain sink.new) }
 {
-    let text = &mut buffer.text;
-    text.clear();
-    reply_text(reply, text);
     let piece = &mut buffer.piece;
     piece.clear();
-    push_text(piece, text.as_slice());
+    reply_text(reply, piece);
     piece.push(b'\n');
     write_all(sink, piece.as_slice())
 }

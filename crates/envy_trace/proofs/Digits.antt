@@ -1,12 +1,12 @@
 -- The value of decimal digits, read from the left.
-use Rattle.std.proofs.Common.{◌≡◌, ℕ, ◌+◌, ◌-◌, ◌*◌, ◌^◌, ◌<◌, ◌≤◌, true, false, IsTrue, List, length, take, get_or, ap, arith}
+use Rattle.std.proofs.Common.{◌≡◌, ℕ, zero, suc, ◌+◌, ◌-◌, ◌*◌, ◌^◌, ◌<◌, ◌≤◌, true, false, IsTrue, List, [], ◌∷◌, length, take, drop, get_or, sym, ap, ◌∙◌, add_assoc, length-take, length-drop, arith}
 use Rattle.std.specs.Char.{digit_value, is_ascii_digit}
 use Rattle.std.specs.Str.{all_ascii_digits}
 use Rattle.std.specs.Str.Parse.{AllDigits, digits_value}
 use Rattle.std.proofs.lemmas.Bool.Decides.{nat_tests}
 use Rattle.std.proofs.lemmas.Int.Digits.{digits_value_more, digits_more}
-use Rattle.std.proofs.lemmas.Str.Parse.{IsNumeralModel, numerals_by_value, tells_all_ascii_digits, digit_at, digits_value-take-le}
-use Rattle.std.proofs.lemmas.List.{take_all}
+use Rattle.std.proofs.lemmas.Str.Parse.{IsNumeralModel, numerals_by_value, tells_all_ascii_digits, digit_at, digits_value-take-le, digits_value_short}
+use Rattle.std.proofs.lemmas.List.{take_all, get_or-drop}
 
 pub own : IsNumeralModel (λ ds. all_ascii_digits ds ≡ true) (digits_value 10)
 own = numerals_by_value (λ ds. all_ascii_digits ds ≡ true) tells_all_ascii_digits
@@ -35,3 +35,46 @@ digits_over bs i over fits = let more = digits_value-take-le 10 bs (i + 1) (omeg
 
 pub digits_all : (bs : List ℕ) (i : ℕ) → length bs ≤ i → AllDigits 10 (take i bs) → IsTrue (all_ascii_digits bs) × (digits_value 10 (take i bs) ≡ digits_value 10 bs)
 digits_all bs i le all = let e = take_all i bs le in (own.from bs (rw e at all), ap (λ ds. digits_value 10 ds) e)
+
+-- at most 19 digits fit 64 bits
+pub digits_fit : (bs : List ℕ) (i : ℕ) → i < length bs → length bs ≤ 19 → is_ascii_digit (get_or bs i 0) ≡ true → AllDigits 10 (take i bs) → 10 * digits_value 10 (take i bs) + (get_or bs i 0 - 48) < 2 ^ 64
+digits_fit bs i lt few e all =
+    let step = digits_step bs i lt e all in
+    let short : length (take (i + 1) bs) ≤ 19 = omega (arith, length-take (i + 1) bs) in
+    let below = digits_value_short own (take (i + 1) bs) 19 (own.from (take (i + 1) bs) step.0) short in
+    omega (arith, below, step.1)
+
+digits_take : (n : ℕ) (bs : List ℕ) → AllDigits 10 bs → AllDigits 10 (take n bs)
+digits_take zero bs all = tt
+digits_take (suc n) [] all = tt
+digits_take (suc n) (b ∷ bs) all = (all.0, digits_take n bs all.1)
+
+-- a front that has another byte than digits
+pub digits_none_front : (bs : List ℕ) (n : ℕ) → (IsTrue (all_ascii_digits (take n bs)) → ⊥) → IsTrue (all_ascii_digits bs) → ⊥
+digits_none_front bs n other all = other (own.from (take n bs) (digits_take n bs (own.to bs all)))
+
+-- a loop over the digits behind the first n
+module _ (bs back : List ℕ) (n i : ℕ) (is : back ≡ drop n bs) (lt : i < length back) where
+  here : get_or back i 0 ≡ get_or bs (n + i) 0
+  here = ap (λ (ds : List ℕ). get_or ds i 0) is ∙ get_or-drop n bs i 0
+
+  within : n + i < length bs
+  within = omega (arith, lt, ap length is, length-drop n bs)
+
+  pub behind_none : is_ascii_digit (get_or back i 0) ≡ false → IsTrue (all_ascii_digits bs) → ⊥
+  behind_none e all = digits_none bs (n + i) within (sym (ap is_ascii_digit here) ∙ e) all
+
+  pub behind_step : is_ascii_digit (get_or back i 0) ≡ true → AllDigits 10 (take (n + i) bs) → AllDigits 10 (take (n + (i + 1)) bs) × (digits_value 10 (take (n + (i + 1)) bs) ≡ digits_value 10 (take (n + i) bs) * 10 + (get_or back i 0 - 48))
+  behind_step e all =
+      let step = digits_step bs (n + i) within (sym (ap is_ascii_digit here) ∙ e) all in
+      rw (← add_assoc n i 1, here) step
+
+  pub behind_over : 2 ^ 64 ≤ digits_value 10 (take (n + (i + 1)) bs) → digits_value 10 bs < 2 ^ 64 → ⊥
+  behind_over over fits = let more = digits_value-take-le 10 bs (n + (i + 1)) (omega arith) in omega arith
+
+-- before that loop
+pub front_begins : (bs front : List ℕ) (n value : ℕ) → front ≡ take n bs → length front ≤ 19 → IsTrue (all_ascii_digits front) → value ≡ digits_value 10 front → AllDigits 10 (take (n + 0) bs) × (value ≡ digits_value 10 (take (n + 0) bs)) × (value < 2 ^ 64)
+front_begins bs front n value is few all v =
+    let e : n + 0 ≡ n = omega arith in
+    let below = digits_value_short own front 19 all few in
+    rw (e, ← is) (own.to front all, v, omega (arith, below, v))

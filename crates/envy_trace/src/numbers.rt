@@ -1,4 +1,4 @@
-ghost use Rattle.std.specs.Prelude.{◌≡◌, ◌^◌, ◌<◌, ◌≤◌, [], ◌∷◌, IsTrue, IfOk, MatchResult};
+ghost use Rattle.std.specs.Prelude.{◌≡◌, ◌^◌, ◌<◌, ◌≤◌, [], ◌∷◌, length, IsTrue, IfOk, MatchResult};
 ghost use Rattle.std.specs.Option.{SomeIff};
 ghost use Rattle.std.specs.Str.{all_ascii_digits};
 ghost use Rattle.std.specs.Str.Parse.{digits_value};
@@ -7,6 +7,9 @@ ghost use Rattle.envy_trace.specs.Grammar.{pieces, number_in, none, one, two, th
 use crate::bounds::Bounds;
 use crate::fault::LineFault;
 use crate::fields::next_field;
+
+/// So many decimal digits fit 64 bits, whatever they are.
+const SAFE_DIGITS: usize = 19;
 
 /// Reads a number: one decimal digit or more, of a value within the bounds. Leading zeros make no
 /// difference. The fault is `Number`.
@@ -20,6 +23,22 @@ pub fn read_number(field: &[u8], bounds: Bounds) -> Result<u64, LineFault>
     }
 }
 
+// What decimal digits come to, where they are so few that 64 bits always hold it.
+#[inline(always)]
+fn short_value(field: &[u8]) -> Option<u64>
+    requires { length field.now ≤ 19 }
+    ensures { SomeIff result (IsTrue (all_ascii_digits field.now)) (digits_value 10 field.now) }
+{
+    let mut value: u64 = 0;
+    for byte in field {
+        if !byte.is_ascii_digit() {
+            return None;
+        }
+        value = 10 * value + u64::from(*byte - b'0');
+    }
+    Some(value)
+}
+
 // What decimal digits come to, within 64 bits.
 #[inline(always)]
 fn value(field: &[u8]) -> Option<u64>
@@ -27,8 +46,9 @@ fn value(field: &[u8]) -> Option<u64>
         (IsTrue (all_ascii_digits field.now) × (digits_value 10 field.now < 2 ^ 64))
         (digits_value 10 field.now) }
 {
-    let mut value: u64 = 0;
-    for byte in field {
+    let (front, back) = field.split_at(field.len().min(SAFE_DIGITS));
+    let mut value = short_value(front)?;
+    for byte in back {
         if !byte.is_ascii_digit() {
             return None;
         }

@@ -1,4 +1,5 @@
 ghost use Rattle.std.specs.Prelude.{◌≡◌, ℕ, ◌^◌, ◌<◌, ◌≤◌, [], length, slice_index};
+ghost use Rattle.arrayvec.specs.ArrayVec.{array_vec_len};
 ghost use Rattle.envy_trace.specs.Commands.{name_of};
 ghost use Rattle.envy_trace.specs.Grammar.{line_of};
 ghost use Rattle.envy_trace.specs.Replies.{reply_bytes};
@@ -17,6 +18,7 @@ pub fn line_text(line: &Line, out: &mut ArrayVec<u8, 120>)
     requires place { HasPlace line.now }
     ensures text { out.new.items ≡ line_bytes line.now }
     ensures reads_back { line_of out.new.items ≡ Ok line.now }
+    ensures short { array_vec_len out.new ≤ 69 }
 {
     write_line(line, out);
 }
@@ -27,6 +29,7 @@ fn write_line(line: &Line, out: &mut ArrayVec<u8, 120>)
     requires empty { out.old.items ≡ [] }
     ensures text { out.new.items ≡ line_bytes line.now }
     ensures ranges { HasPlace line.now → IsLine line.now }
+    ensures short { array_vec_len out.new ≤ 69 }
 {
     match *line {
         Line::Empty => {}
@@ -59,6 +62,7 @@ fn write_command(command: Command, numbers: &[u64], out: &mut ArrayVec<u8, 120>)
     requires few { length numbers.now ≤ 3 }
     ensures text { out.new.items ≡ written (name_of command) numbers.now }
     ensures ranges { (k : ℕ) → slice_index numbers.now k < 2 ^ 64 }
+    ensures short { array_vec_len out.new ≤ 69 }
 {
     push_text(out, command.name());
     for number in numbers {
@@ -71,7 +75,8 @@ fn write_command(command: Command, numbers: &[u64], out: &mut ArrayVec<u8, 120>)
 #[tactic(auto, unfolding(crate::specs::Replies::reply_bytes))]
 pub fn reply_text(reply: &Reply, out: &mut ArrayVec<u8, 512>)
     requires { out.old.items ≡ [] }
-    ensures { out.new.items ≡ reply_bytes reply.now }
+    ensures text { out.new.items ≡ reply_bytes reply.now }
+    ensures short { array_vec_len out.new ≤ 252 }
 {
     match reply {
         Reply::Word(word) => push_number(out, *word),

@@ -1,11 +1,11 @@
 use Rattle.envy_report.specs.Stat.{stat_bytes}
 use Rattle.envy_report.proofs.stat.stat_text.Goals as goal
 
-pub returns : goal.returns
+pub returns-clause-text : goal.returns-clause-text
 unfolding stat_bytes
-returns c =
+returns-clause-text c =
     rw (
-      c.push_wide.ensures,
+      c.push_wide.ensures.text,
       c.push_text-2.ensures,
       c.push_count-7.ensures.text,
       c.push_count-6.ensures.text,
