@@ -18,20 +18,21 @@ counted() {
     awk '/Collected/ { print $NF }' "$work/said"
 }
 
-# row NAME INPUT WORDS..: a line of the table; the empty run has the words without --lines, and no input
+# row NAME INPUT WORDS..: a line of the table; the empty run has the words with --lines=0, and no input
 row() {
     local name=$1 input=$2 all none
     shift 2
     none=$(counted /dev/null "${@/--lines=$lines/--lines=0}")
     all=$(counted "$input" "$@")
-    printf '| `%s` | %d |\n' "$name" $(((all - none) / lines))
+    printf '| %s | %d |\n' "$name" $(((all - none) / lines))
 }
 
 echo '| Word | Instructions per line |'
 echo '|---|---|'
-row gen /dev/null gen --lines=$lines
+row '`gen`' /dev/null gen --lines=$lines
 cp "$work/out" "$work/generated"
-row plain "$work/generated" plain
+row '`plain`, over generated lines' "$work/generated" plain
 # stores and loads of 8 pages, which are in SRAM
 awk -v lines=$lines 'BEGIN { for (i = 0; i < lines; i++) { if (i % 2) print "load", i * 37 % 256; else print "store", i * 37 % 256, i } }' >"$work/hits"
-row run "$work/hits" run --pages=8
+row '`run`, loads and stores of pages in SRAM' "$work/hits" run --pages=8
+row '`run`, over generated lines' "$work/generated" run
