@@ -1,5 +1,5 @@
 -- Bytes that are read one piece after another.
-use Rattle.std.proofs.Common.{◌≡◌, ℕ, ◌+◌, ◌<◌, ◌≤◌, List, [], ◌++◌, length, take, drop, Err, refl, sym, ◌∙◌, ap, inr, arith, length-append}
+use Rattle.std.proofs.Common.{◌≡◌, ℕ, ◌+◌, ◌<◌, ◌≤◌, List, [], ◌++◌, length, take, drop, Err, Option, None, Some, refl, sym, ◌∙◌, ap, inr, arith, length-append}
 use Rattle.std.proofs.lemmas.List.{append_assoc, append-nil, take-append-drop, drop-drop, nil_from_length, length-drop}
 use Rattle.envy_base.specs.declared.shape.Shape.{Shape}
 use Rattle.envy_io.specs.Streams.{Feed, with_front}
@@ -11,6 +11,7 @@ use Rattle.envy_image.specs.declared.reading.Stop.{Stop}
 use Rattle.envy_image.specs.declared.reading.Stop.TheVariants.{Short, Failed, Spent}
 use Rattle.envy_image.specs.Faults.{head_fault}
 use Rattle.envy_image.specs.Image.{mark, head_of, number_bytes, numbers_bytes, numbers_of}
+use Rattle.envy_image.specs.Installing.{IsWithin}
 use Rattle.envy_image.specs.Reading.{Consumes, Ends, Stops, ReadsHead, EndsInHead}
 
 pub draws-both : (old mid new : Taking) (from feed to : Feed) (a b : List ℕ) → Draws old from a mid feed → Draws mid feed b new to → Draws old from (a ++ b) new to
@@ -38,6 +39,27 @@ consumes-both old mid new from feed to a b first second = record {
   draws = draws-both old mid new from feed to first.got second.got first.draws second.draws;
   all = joined old.held a first.got second.got b new.held mid.held first.all second.all;
   nothing_over = λ none. second.nothing_over (first.nothing_over none);
+}
+
+with_front-nil : (left : Option (List ℕ)) → left ≡ with_front [] left
+with_front-nil None = refl
+with_front-nil (Some bytes) = refl
+
+pub consumes-none : (t : Taking) (feed : Feed) → IsWithin t → Consumes t feed [] t feed
+consumes-none t feed within = record {
+  got = [];
+  draws = record {
+    cap = refl;
+    taken = omega arith;
+    within = within.within;
+    left = with_front-nil feed.left;
+    faults = omega arith;
+    ended = λ was. (was, refl);
+    dry = λ dry. dry;
+    below = within.below;
+  };
+  all = append-nil t.held;
+  nothing_over = λ none. none;
 }
 
 pub ends-later : (old mid new : Taking) (from feed to : Feed) (a b : List ℕ) → Consumes old from a mid feed → Ends mid feed b new to → Ends old from (a ++ b) new to

@@ -1,2 +1,7 @@
+pub mod Backwards
+pub mod Blanking
 pub mod Consuming
 pub mod Joining
+pub mod Programming
+pub mod Stopping
+pub mod Upsetting

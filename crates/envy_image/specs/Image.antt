@@ -1,5 +1,5 @@
 -- A board as bytes.
-use Rattle.std.specs.Prelude.{ℕ, List, [], ◌∷◌, ◌++◌, codes}
+use Rattle.std.specs.Prelude.{ℕ, ◌<◌, ◌^◌, List, [], ◌∷◌, ◌++◌, codes}
 use Rattle.std.specs.List.{flat_map}
 use Rattle.std.specs.Int.{w32, w64, to_le_bytes}
 use Rattle.envy_base.specs.declared.shape.Shape.{Shape}
@@ -27,6 +27,15 @@ numbers_bytes numbers = flat_map number_bytes numbers
 
 abbrev pub numbers_of : Shape → List ℕ
 numbers_of sh = sh.segments ∷ sh.rows ∷ sh.pages ∷ sh.shadows ∷ sh.frames ∷ sh.entries ∷ []
+
+-- each number of a shape fits 4 bytes
+pub record FitNumbers (sh : Shape) : Type 0 where
+  pub segments : sh.segments < 2 ^ 32
+  pub rows : sh.rows < 2 ^ 32
+  pub pages : sh.pages < 2 ^ 32
+  pub shadows : sh.shadows < 2 ^ 32
+  pub frames : sh.frames < 2 ^ 32
+  pub entries : sh.entries < 2 ^ 32
 
 -- the mark, and the board's shape
 unfoldable pub head_of : Shape → List ℕ

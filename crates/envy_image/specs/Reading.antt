@@ -9,7 +9,7 @@ use Rattle.envy_image.specs.declared.reading.HeadFault.{HeadFault}
 use Rattle.envy_image.specs.declared.reading.HeadFault.TheVariants.{Short, Mark, Shape as BadShape, Failed, Spent}
 use Rattle.envy_image.specs.declared.reading.Stop.{Stop}
 use Rattle.envy_image.specs.declared.reading.Stop.TheVariants.{Short as StopShort, Failed as StopFailed, Spent as StopSpent}
-use Rattle.envy_image.specs.Image.{mark, head_of, word_bytes, numbers_bytes, numbers_of}
+use Rattle.envy_image.specs.Image.{mark, head_of, word_bytes, numbers_bytes, numbers_of, FitNumbers}
 
 -- These bytes came next. Nothing was taken beyond them where nothing was held before.
 pub record Consumes (old : Taking) (from : Feed) (bytes : List ℕ) (new : Taking) (to : Feed) : Type 0 where
@@ -45,7 +45,7 @@ ReadsWord old from (Err stop) new to =
 
 -- a shape's numbers are read, or the bytes stop before their end
 abbrev pub ReadsShape : Taking → Feed → Result Shape Stop → Taking → Feed → Type 0
-ReadsShape old from (Ok sh) new to = Consumes old from (numbers_bytes (numbers_of sh)) new to
+ReadsShape old from (Ok sh) new to = Consumes old from (numbers_bytes (numbers_of sh)) new to × FitNumbers sh
 ReadsShape old from (Err stop) new to =
     (bytes : List ℕ) × (length bytes < 24) × Ends old from bytes new to × Stops stop new from to
 
@@ -57,11 +57,11 @@ EndsInHead stop old from new to =
 
 -- The head of an image is read: 8 bytes that are the mark, and 24 that are a shape which checks.
 abbrev pub ReadsHead : Taking → Feed → Result Shape HeadFault → Taking → Feed → Type 0
-ReadsHead old from (Ok sh) new to = Consumes old from (head_of sh) new to × (checked sh ≡ Ok tt)
+ReadsHead old from (Ok sh) new to = Consumes old from (head_of sh) new to × (checked sh ≡ Ok tt) × FitNumbers sh
 ReadsHead old from (Err Mark) new to =
     (first : List ℕ) × (length first ≡ 8) × (first ≢ mark) × Consumes old from first new to
 ReadsHead old from (Err (BadShape fault)) new to =
-    (sh : Shape) × Consumes old from (head_of sh) new to × (checked sh ≡ Err fault)
+    (sh : Shape) × Consumes old from (head_of sh) new to × (checked sh ≡ Err fault) × FitNumbers sh
 ReadsHead old from (Err Short) new to = EndsInHead StopShort old from new to
 ReadsHead old from (Err Failed) new to = EndsInHead StopFailed old from new to
 ReadsHead old from (Err Spent) new to = EndsInHead StopSpent old from new to

@@ -62,8 +62,8 @@ fn is_mark(bytes: &[u8]) -> bool
     bytes == MARK.as_slice()
 }
 
-// The word of 8 bytes.
-fn word_of(bytes: &[u8]) -> u64
+/// The word of 8 bytes.
+pub(crate) fn word_of(bytes: &[u8]) -> u64
     requires { length bytes.now ≡ 8 }
     ensures { word_bytes result ≡ bytes.now }
 {
@@ -72,8 +72,12 @@ fn word_of(bytes: &[u8]) -> u64
     ])
 }
 
-// Fills the slice with the next bytes.
-fn read_bytes<S: Source>(lines: &mut Lines, source: &mut S, into: &mut [u8]) -> Result<(), Stop>
+/// Fills the slice with the next bytes.
+pub(crate) fn read_bytes<S: Source>(
+    lines: &mut Lines,
+    source: &mut S,
+    into: &mut [u8],
+) -> Result<(), Stop>
     requires { 0 < length into.old }
     ensures { ReadsBytes lines.old (S.feed source.old) result into.new lines.new (S.feed source.new) }
 {

@@ -1,0 +1,149 @@
+ghost use Rattle.std.specs.Prelude.{◌≡◌, ◌<◌, ℕ, IsTrue, length};
+ghost use Rattle.envy_base.specs.State.{IsOnes, IsPage, row_of};
+ghost use Rattle.envy_image.specs.Backwards.{GivesBack};
+ghost use Rattle.envy_image.specs.Image.{words_bytes};
+ghost use Rattle.envy_image.specs.Installing.{HasReadHead, IsWithin, Installs, Blanks, ReadsPage, ProgramsRows, FillsWords};
+
+use crate::reading::{Stop, read_bytes, read_word, word_of};
+use envy_base::{Board, Off, Trouble};
+use envy_io::{Lines, Source};
+
+/// Why an image wasn't installed.
+#[derive(Clone, Copy, Debug, PartialEq, Eq)]
+pub enum InFault {
+    /// The source's end was met within the image.
+    Short,
+    /// Power failed, or a flash operation did. The board may hold anything.
+    Upset,
+    /// The source failed, which it counts.
+    Failed,
+    /// As many bytes were taken as may be.
+    Spent,
+}
+
+impl From<Stop> for InFault {
+    ghost use Rattle.std.specs.Prelude.{◌≡◌};
+    ghost use Rattle.envy_image.specs.Faults.{in_fault};
+
+    ghost from_gives = { λ stop fault. fault ≡ in_fault stop };
+
+    fn from(stop: Stop) -> Self {
+        match stop {
+            Stop::Short => InFault::Short,
+            Stop::Failed => InFault::Failed,
+            Stop::Spent => InFault::Spent,
+        }
+    }
+}
+
+impl From<Trouble> for InFault {
+    ghost use Rattle.std.specs.Prelude.{◌≡◌};
+    ghost use Rattle.envy_image.specs.declared.installing.InFault.TheVariants.{Upset};
+
+    ghost from_gives = { λ _ fault. fault ≡ Upset };
+
+    fn from(_: Trouble) -> Self {
+        InFault::Upset
+    }
+}
+
+impl From<Off> for InFault {
+    ghost use Rattle.std.specs.Prelude.{◌≡◌};
+    ghost use Rattle.envy_image.specs.declared.installing.InFault.TheVariants.{Upset};
+
+    ghost from_gives = { λ _ fault. fault ≡ Upset };
+
+    fn from(_: Off) -> Self {
+        InFault::Upset
+    }
+}
+
+// Erases every segment.
+fn erase_all<B: Board>(board: &mut B) -> Result<(), Trouble>
+    requires { IsTrue (B.state board.old).on }
+    ensures { Blanks (B.state board.old) result (B.state board.new) }
+{
+    for segment in 0..board.shape().segments {
+        board.erase(segment)?;
+    }
+    Ok(())
+}
+
+// The words that a page's bytes spell.
+fn page_of(bytes: &[u8; 256]) -> [u64; 32]
+    ensures page { IsPage result }
+    ensures bytes { words_bytes result ≡ bytes.now }
+{
+    let mut page = [0; 32];
+    for i in 0..32 {
+        page[i] = word_of(&bytes[8 * i..8 * i + 8]);
+    }
+    page
+}
+
+// Reads the next page.
+fn read_page<S: Source>(lines: &mut Lines, source: &mut S) -> Result<[u64; 32], Stop>
+    ensures { ReadsPage lines.old (S.feed source.old) result lines.new (S.feed source.new) }
+{
+    let mut bytes = [0; 256];
+    read_bytes(lines, source, &mut bytes)?;
+    Ok(page_of(&bytes))
+}
+
+// Programs every row with the next page.
+fn program_rows<B: Board, S: Source>(
+    board: &mut B,
+    lines: &mut Lines,
+    source: &mut S,
+) -> Result<(), InFault>
+    requires on { IsTrue (B.state board.old).on }
+    requires blank { (q : ℕ) → q < length (B.state board.old).flash → IsOnes (row_of (B.state board.old) q) }
+    requires within { IsWithin lines.old }
+    ensures { ProgramsRows (B.state board.old) lines.old (S.feed source.old) result (B.state board.new) lines.new (S.feed source.new) }
+{
+    let shape = board.shape();
+    for row in 0..shape.segments * shape.rows {
+        let page = read_page(lines, source)?;
+        board.program(row, &page)?;
+    }
+    Ok(())
+}
+
+// Puts the next words into SRAM.
+fn fill_words<B: Board, S: Source>(
+    board: &mut B,
+    lines: &mut Lines,
+    source: &mut S,
+) -> Result<(), InFault>
+    requires on { IsTrue (B.state board.old).on }
+    requires within { IsWithin lines.old }
+    ensures { FillsWords (B.state board.old) lines.old (S.feed source.old) result (B.state board.new) lines.new (S.feed source.new) }
+{
+    for w in 0..envy_map::words(&board.shape()) {
+        let word = read_word(lines, source)?;
+        board.put(w, word)?;
+    }
+    Ok(())
+}
+
+/// Makes a board what an image says, from the bytes behind its head: every segment is erased, every row
+/// programmed and every word of SRAM written. The head that was read last has the board's shape.
+///
+/// # Errors
+///
+/// `Upset` where power failed or a flash operation did, which the board counts; it may hold anything then.
+/// The others as of `Lines::next_bytes`.
+pub fn install<B: Board, S: Source>(
+    board: &mut B,
+    lines: &mut Lines,
+    source: &mut S,
+) -> Result<(), InFault>
+    requires on { IsTrue (B.state board.old).on }
+    requires head { HasReadHead (B.state board.old).shape lines.old (S.feed source.old) }
+    ensures back { GivesBack (B.state board.old) lines.old (S.feed source.old) result (B.state board.new) }
+    ensures installs { Installs (B.state board.old) lines.old (S.feed source.old) result (B.state board.new) lines.new (S.feed source.new) }
+{
+    erase_all(board)?;
+    program_rows(board, lines, source)?;
+    fill_words(board, lines, source)
+}
