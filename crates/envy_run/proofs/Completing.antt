@@ -13,19 +13,20 @@ use Rattle.envy_policy.specs.declared.setup.Setup.{Setup}
 use Rattle.envy_serve.specs.declared.serving.End.TheVariants.{Done as EndDone}
 use Rattle.envy_serve.specs.Ends.{most_bytes}
 use Rattle.envy_serve.specs.GoodTrace.{StaysLow, IsGoodTrace}
-use Rattle.envy_serve.specs.Grammar.{Grammar}
+use Rattle.envy_serve.specs.Grammar.{Grammar, silent}
 use Rattle.envy_serve.specs.Streams.{Streams}
 use Rattle.envy_serve.specs.Turns.{Turn}
 use Rattle.envy_serve.proofs.GoodTraces.{good-ends, still-written}
 use Rattle.envy_trace.specs.declared.fault.LineFault.TheVariants.{Long}
 use Rattle.envy_run.specs.Complete.{IsWell, IsComplete, Completes}
 use Rattle.envy_run.specs.Done.{HasDied, DiesIn}
-use Rattle.envy_run.specs.Headline.{Headline, IsUnserved, run_task, plain_task, WritesTrace, IsDark, IsSpoilt, IsOutOfMemory, IsWithoutMemory, Generates, zeros_of}
+use Rattle.envy_run.specs.Headline.{Headline, IsUnserved, run_task, save_task, plain_task, WritesTrace, IsDark, IsSpoilt, IsOutOfMemory, IsWithoutMemory, Generates, zeros_of}
 use Rattle.envy_run.specs.Outcome.{Outcome, IsQuiet, status_of}
 use Rattle.envy_run.specs.Runs.{Runs}
 use Rattle.envy_run.specs.Task.{Task, IsServed, DoesTask}
 use Rattle.envy_run.specs.Tracing.{long_any}
 use Rattle.envy_run.specs.Turns.{TraceTurn, trace_grammar}
+use Rattle.envy_run.proofs.Audited.{completes-audit}
 
 died-off : (first : Array) (now : Chart) (turns : List TraceTurn) → IsTrue now.on ⊎ (0 < now.lives) → HasDied first now turns → ⊥
 died-off first now [] well died = died
@@ -40,18 +41,32 @@ task-well w turns o io long s good alive = at (good-ends s.end o.lines o.taken w
     at (inl done) = s.status ∙ ap status_of done
     at (inr dead) = absurd (alive dead)
 
+-- no line was read for want of memory alone
+unserved-well : (o : Outcome) (io : Streams) → IsUnserved o io → IsWell o → IsComplete o
+unserved-well o io (quiet, inl out) well = inr (IsOutOfMemory.status out)
+unserved-well o io (quiet, inr (inl spoilt)) well = absurd (let (c, is, some) = IsSpoilt.cause spoilt in let none_bad = IsWell.bads well c is (IsQuiet.taken quiet) in omega arith)
+unserved-well o io (quiet, inr (inr dark)) well = absurd (dark-off dark (IsWell.returns well dark.now dark.board_is))
+  where
+    dark-off : (dark : IsDark o) → IsTrue dark.now.on ⊎ (0 < dark.now.lives) → ⊥
+    dark-off dark (inl on) = let off = IsDark.off dark in cc
+    dark-off dark (inr some) = let none_left = IsDark.lives dark in omega arith
+
 completes-run : (setup : Setup) (returns : ℕ) (o : Outcome) (io : Streams) (d : DoesTask (run_task setup returns) o io) → IsGoodTrace trace_grammar 0 io → IsWell o → IsComplete o
 completes-run setup returns o io d good well = at d.answers
   where
     at : IsServed (run_task setup returns) d.turns o io ⊎ ((d.turns ≡ []) × IsUnserved o io) → IsComplete o
     at (inl served) = inl (task-well (run_task setup returns) d.turns o io long_any served good (λ (now, is, died). died-off (zeros_of setup) now d.turns (IsWell.returns well now is) died))
-    at (inr (none, (quiet, inl out))) = inr (IsOutOfMemory.status out)
-    at (inr (none, (quiet, inr (inl spoilt)))) = absurd (let (c, is, some) = IsSpoilt.cause spoilt in let none_bad = IsWell.bads well c is (IsQuiet.taken quiet) in omega arith)
-    at (inr (none, (quiet, inr (inr dark)))) = absurd (dark-off dark (IsWell.returns well dark.now dark.board_is))
-      where
-        dark-off : (dark : IsDark o) → IsTrue dark.now.on ⊎ (0 < dark.now.lives) → ⊥
-        dark-off dark (inl on) = let off = IsDark.off dark in cc
-        dark-off dark (inr some) = let none_left = IsDark.lives dark in omega arith
+    at (inr (none, unserved)) = unserved-well o io unserved well
+
+completes-save : (setup : Setup) (returns : ℕ) (o : Outcome) (io : Streams) (d : DoesTask (save_task setup returns) o io) → IsGoodTrace trace_grammar 0 io → IsWell o → IsComplete o
+completes-save setup returns o io d good well = at d.answers
+  where
+    silent-good : IsGoodTrace (silent trace_grammar) 0 io
+    silent-good = record { bytes = good.bytes; told = good.told; short = good.short; lines = good.lines; reads = good.reads; writes = good.writes }
+
+    at : IsServed (save_task setup returns) d.turns o io ⊎ ((d.turns ≡ []) × IsUnserved o io) → IsComplete o
+    at (inl served) = inl (task-well (save_task setup returns) d.turns o io long_any served silent-good (λ (now, is, died). died-off (zeros_of setup) now d.turns (IsWell.returns well now is) died))
+    at (inr (none, unserved)) = unserved-well o io unserved well
 
 completes-plain : (setup : Setup) (o : Outcome) (io : Streams) (d : DoesTask (plain_task setup) o io) → IsGoodTrace trace_grammar 0 io → IsComplete o
 completes-plain setup o io d good = at d.answers
@@ -76,9 +91,11 @@ completes (Ok (Plain setup)) o io (inr without) = λ good. inr (IsOutOfMemory.st
 completes (Ok (Gen start count pages)) o io (inl generates) = λ low. completes-gen start count pages o io generates low
 completes (Ok (Gen start count pages)) o io (inr without) = λ low. inr (IsOutOfMemory.status (IsWithoutMemory.memory without))
 completes (Ok (Tpca setup returns start area every)) o io done = tt
-completes (Ok (Save setup returns)) o io done = tt
+completes (Ok (Save setup returns)) o io (inl saves) = λ good well. completes-save setup returns o io saves good well
+completes (Ok (Save setup returns)) o io (inr without) = λ good well. inr (IsOutOfMemory.status (IsWithoutMemory.memory without))
 completes (Ok (Resume policy limit mark returns)) o io done = tt
-completes (Ok Audit) o io done = tt
+completes (Ok Audit) o io (inl audits) = λ holds calm. completes-audit o io audits holds calm
+completes (Ok Audit) o io (inr without) = λ holds calm. inr (IsOutOfMemory.status (IsWithoutMemory.memory without))
 completes (Ok (Index setup returns)) o io done = tt
 completes (Ok (Mirror setup returns)) o io done = tt
 completes (Err fault) o io done = tt

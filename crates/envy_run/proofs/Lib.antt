@@ -1,13 +1,17 @@
 pub mod Alike
+pub mod Audited
 pub mod Calm
 pub mod Completing
 pub mod Equating
 pub mod Generating
 pub mod Hitting
+pub mod Imaged
+pub mod Loaded
 pub mod Noting
 pub mod Obeying
 pub mod Preparing
 pub mod Recovering
 pub mod Replying
+pub mod Saved
 pub mod Traced
 pub mod Words

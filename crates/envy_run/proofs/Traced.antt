@@ -284,8 +284,8 @@ began setup returns s first made long ready = record {
 }
 
 -- the trace was served over a fresh memory
-pub runs-served : (setup : Setup) (returns : ℕ) (old : Chart) (first now : Picture) (end : End) (lines taken : ℕ) (io : Streams) → 0 < setup.shape.entries → IsReady old setup first → Began setup returns first → lines ≤ most_bytes → ((start : Start) → TracedSince start first [] → (turns : List TraceTurn) × Serves end lines taken trace_grammar 0 (TracedSince start now) (DiedSince start now) [] turns io) → DoesTask (run_task setup returns) (record { status = status_of end; why = why_of end; lines = lines; taken = taken; board = Some now.chart; second = None }) io
-runs-served setup returns old first now end lines taken io some ready b few serves =
+pub runs-served : (whole : State) (setup : Setup) (returns : ℕ) (old : Chart) (first now : Picture) (end : End) (lines taken : ℕ) (io : Streams) → 0 < setup.shape.entries → IsReady old setup first → Began setup returns first → lines ≤ most_bytes → ((start : Start) → TracedSince start first [] → (turns : List TraceTurn) × Serves end lines taken trace_grammar 0 (TracedSince start now) (DiedSince start now) [] turns io) → DoesTask (run_task setup returns) (record { status = status_of end; why = why_of end; lines = lines; taken = taken; board = Some now.chart; state = Some whole; second = None }) io
+runs-served whole setup returns old first now end lines taken io some ready b few serves =
     let start : Start = record { array = zeros first.chart.shape.pages first.chart.shape.shadows; memory = first } in
     let (turns, s) = serves start (traced-none old setup first some b.shape ready) in
     let either = served-either end (TracedSince start now) (DiedSince start now) turns (Ends.served (Serves.ends s)) in
@@ -293,7 +293,7 @@ runs-served setup returns old first now end lines taken io some ready b few serv
       turns = turns;
       answers = inl (record {
         end = end;
-        serves = subst (λ (sh : Shape). Serves end lines taken trace_grammar 0 (OnBoard (HasDone (zeros sh.pages sh.shadows)) (record { status = status_of end; why = why_of end; lines = lines; taken = taken; board = Some now.chart; second = None })) (OnBoard (HasDied (zeros sh.pages sh.shadows)) (record { status = status_of end; why = why_of end; lines = lines; taken = taken; board = Some now.chart; second = None })) [] turns io) b.shape (Serves-as end lines taken trace_grammar 0 (TracedSince start now) (DiedSince start now) _ _ [] turns io (λ t. (now.chart, refl, TracedSince.done t)) (λ d. (now.chart, refl, DiedSince.died d)) s);
+        serves = subst (λ (sh : Shape). Serves end lines taken trace_grammar 0 (OnBoard (HasDone (zeros sh.pages sh.shadows)) (record { status = status_of end; why = why_of end; lines = lines; taken = taken; board = Some now.chart; state = Some whole; second = None })) (OnBoard (HasDied (zeros sh.pages sh.shadows)) (record { status = status_of end; why = why_of end; lines = lines; taken = taken; board = Some now.chart; state = Some whole; second = None })) [] turns io) b.shape (Serves-as end lines taken trace_grammar 0 (TracedSince start now) (DiedSince start now) _ _ [] turns io (λ t. (now.chart, refl, TracedSince.done t)) (λ d. (now.chart, refl, DiedSince.died d)) s);
         status = refl;
         why = refl;
       });
@@ -313,6 +313,6 @@ runs-quiet {B} state setup returns status why board e feed sink is unserved lice
 pub runs-ended : {B : Type 0} (state : B → State) (setup : Setup) (returns : ℕ) (made : State) (first now : Picture) (end : End) (lines taken skipped : ℕ) (board : B) (e : Ended B) (io : Streams) → e ≡ record { status = status_of end; why = why_of end; lines = lines; taken = taken; board = Some board; second = None } → chart (state board) ≡ now.chart → skipped ≡ 0 → lines ≤ most_bytes → 0 < setup.shape.entries → length made.erases ≡ setup.shape.segments → IsMade setup.shape returns made → IsReady (chart made) setup first → ((start : Start) → TracedSince start first [] → (turns : List TraceTurn) × Serves end lines taken trace_grammar skipped (TracedSince start now) (DiedSince start now) [] turns io) → DoesTask (run_task setup returns) (outcome state e) io
 runs-ended {B} state setup returns made first now end lines taken skipped board e io is same none few some long m ready serves =
     subst (λ (x : Ended B). DoesTask (run_task setup returns) (outcome state x) io) (sym is)
-    (subst (λ (c : Chart). DoesTask (run_task setup returns) (record { status = status_of end; why = why_of end; lines = lines; taken = taken; board = Some c; second = None }) io) (sym same)
-    (runs-served setup returns (chart made) first now end lines taken io some ready (began setup returns made first m long ready) few
+    (subst (λ (c : Chart). DoesTask (run_task setup returns) (record { status = status_of end; why = why_of end; lines = lines; taken = taken; board = Some c; state = Some (state board); second = None }) io) (sym same)
+    (runs-served (state board) setup returns (chart made) first now end lines taken io some ready (began setup returns made first m long ready) few
     (subst (λ (k : ℕ). (start : Start) → TracedSince start first [] → (turns : List TraceTurn) × Serves end lines taken trace_grammar k (TracedSince start now) (DiedSince start now) [] turns io) none serves)))

@@ -1,8 +1,10 @@
 -- A command for which all goes well is done to its end, or memory runs out.
-use Rattle.std.specs.Prelude.{◌≡◌, ◌⊎◌, ◌<◌, IsTrue, ⊤, Some, Result, Ok}
+use Rattle.std.specs.Prelude.{◌≡◌, ◌⊎◌, ℕ, ◌<◌, IsTrue, ⊤, List, ◌++◌, Some, Result, Ok}
 use Rattle.envy_args.specs.declared.command.Command.{Command}
-use Rattle.envy_args.specs.declared.command.Command.TheVariants.{Run, Plain, Gen}
+use Rattle.envy_args.specs.declared.command.Command.TheVariants.{Run, Plain, Gen, Save, Audit}
 use Rattle.envy_args.specs.declared.command.WordsFault.{WordsFault}
+use Rattle.envy_base.specs.State.{State, IsBoard}
+use Rattle.envy_image.specs.Image.{image_of}
 use Rattle.envy_map.specs.Fields.{Chart}
 use Rattle.envy_serve.specs.GoodTrace.{StaysLow, IsGoodTrace}
 use Rattle.envy_serve.specs.Streams.{Streams}
@@ -18,8 +20,23 @@ pub record IsWell (o : Outcome) : Type 0 where
 abbrev pub IsComplete : Outcome → Type 0
 IsComplete o = (o.status ≡ 0) ⊎ (o.status ≡ 8)
 
+-- The source tells its bytes, which begin with the image of a board whose shape checks. Neither stream fails.
+pub record HoldsImage (io : Streams) : Type 0 where
+  pub image : State
+  pub rest : List ℕ
+  pub whole : IsBoard image
+  pub told : io.from.left ≡ Some (image_of image ++ rest)
+  pub reads : StaysLow io.from.faults io.feed.faults
+  pub writes : StaysLow io.to.faults io.sink.faults
+
+-- neither power nor a flash operation failed
+abbrev pub NeverFailed : Outcome → Type 0
+NeverFailed o = (c : Chart) → o.board ≡ Some c → (c.cuts ≡ 0) × (c.bads ≡ 0)
+
 abbrev pub Completes : Result Command WordsFault → Outcome → Streams → Type 0
 Completes (Ok (Run setup returns)) o io = IsGoodTrace trace_grammar 0 io → IsWell o → IsComplete o
 Completes (Ok (Plain setup)) o io = IsGoodTrace trace_grammar 0 io → IsComplete o
 Completes (Ok (Gen start count pages)) o io = StaysLow io.to.faults io.sink.faults → IsComplete o
+Completes (Ok (Save setup returns)) o io = IsGoodTrace trace_grammar 0 io → IsWell o → IsComplete o
+Completes (Ok Audit) o io = HoldsImage io → NeverFailed o → IsComplete o
 Completes command o io = ⊤

@@ -1,5 +1,5 @@
 -- What a run of the program is.
-use Rattle.std.specs.Prelude.{◌≡◌, ◌⊎◌, ℕ, ◌+◌, ◌<◌, ◌≤◌, false, IsTrue, List, [], map, None, Some, IfSome, Result, Ok, Err}
+use Rattle.std.specs.Prelude.{◌≡◌, ◌⊎◌, ℕ, ◌+◌, ◌<◌, ◌≤◌, false, IsTrue, List, [], map, Option, None, Some, IfSome, Result, Ok, Err}
 use Rattle.std.specs.String.{string_bytes}
 use Rattle.std.specs.declared.string.String.{String}
 use Rattle.envy_args.specs.declared.command.Command.{Command}
@@ -8,19 +8,22 @@ use Rattle.envy_args.specs.declared.command.WordsFault.{WordsFault}
 use Rattle.envy_args.specs.declared.command.WordsFault.TheVariants.{Form, Setup as Rule, Memory}
 use Rattle.envy_args.specs.Words.{command_of}
 use Rattle.envy_base.specs.Array.{Array, zeros}
+use Rattle.envy_base.specs.State.{State}
 use Rattle.envy_gen.specs.Traces.{trace_bytes}
+use Rattle.envy_image.specs.Image.{image_of}
 use Rattle.envy_map.specs.Fields.{Chart}
-use Rattle.envy_io.specs.declared.source.Failed.{Failed}
-use Rattle.envy_io.specs.Streams.{Drain}
 use Rattle.envy_policy.specs.declared.setup.Setup.{Setup}
 use Rattle.envy_trace.specs.declared.line.Line.{Line}
 use Rattle.envy_trace.specs.declared.reply.Reply.{Reply}
-use Rattle.envy_serve.specs.Streams.{Streams, Written, FrontWritten}
+use Rattle.envy_serve.specs.Grammar.{silent}
+use Rattle.envy_serve.specs.Streams.{Streams}
 use Rattle.envy_serve.specs.Turns.{count_lines, count_replies}
+use Rattle.envy_run.specs.Audits.{Audits}
 use Rattle.envy_run.specs.Counters.{AddsUp, just_told}
 use Rattle.envy_run.specs.Calm.{HasDoneCalmly, NeverDies}
 use Rattle.envy_run.specs.Done.{HasDone, HasDied}
 use Rattle.envy_run.specs.Outcome.{Outcome, IsQuiet}
+pub use Rattle.envy_run.specs.Writing.{WritesOut, WritesTrace}
 use Rattle.envy_run.specs.Task.{Task, DoesTask}
 use Rattle.envy_run.specs.Turns.{TraceTurn, trace_grammar, is_power, is_plan, is_lost, is_fault}
 
@@ -89,6 +92,15 @@ run_task setup returns = record {
   Unserved = IsUnserved;
 }
 
+-- the image of a board, where there is one
+abbrev pub image_in : Option State → List ℕ
+image_in None = []
+image_in (Some s) = image_of s
+
+-- the word `save`: the same without replies, and behind them the image of the board
+abbrev pub save_task : Setup → ℕ → Task Line Reply
+save_task setup returns = record (run_task setup returns) { grammar = silent trace_grammar; tail = λ o. image_in o.state }
+
 -- the word `plain`, on a machine of zeros; there is no board
 abbrev pub plain_task : Setup → Task Line Reply
 plain_task setup = record {
@@ -106,15 +118,6 @@ pub record IsWithoutMemory (o : Outcome) (io : Streams) : Type 0 where
   pub memory : IsOutOfMemory o
   pub quiet : IsQuiet o io
   pub board_none : o.board ≡ None
-
--- the text is written whole and the sink is flushed, or a front of it is written and the sink fails
-abbrev pub WritesOut : List ℕ → Result Unit Failed → Drain → Drain → Type 0
-WritesOut text (Ok done) old new = Written text old new × IsTrue new.flushed
-WritesOut text (Err failed) old new = FrontWritten text old new
-
--- status 0 where the text was written whole and the sink is flushed; status 4 where the sink failed
-abbrev pub WritesTrace : List ℕ → ℕ → Drain → Drain → Type 0
-WritesTrace text status to sink = ((status ≡ 0) × Written text to sink × IsTrue sink.flushed) ⊎ ((status ≡ 4) × FrontWritten text to sink)
 
 -- the word `gen`: no board, and nothing is read
 pub record Generates (start count pages : ℕ) (o : Outcome) (io : Streams) : Type 0 where
@@ -136,9 +139,9 @@ DoesCommand (Ok (Run setup returns)) o io = DoesTask (run_task setup returns) o 
 DoesCommand (Ok (Plain setup)) o io = DoesTask (plain_task setup) o io
 DoesCommand (Ok (Gen start count pages)) o io = Generates start count pages o io
 DoesCommand (Ok (Tpca setup returns start area every)) o io = Refuses 0 o io
-DoesCommand (Ok (Save setup returns)) o io = Refuses 0 o io
+DoesCommand (Ok (Save setup returns)) o io = DoesTask (save_task setup returns) o io
 DoesCommand (Ok (Resume policy limit mark returns)) o io = Refuses 0 o io
-DoesCommand (Ok Audit) o io = Refuses 0 o io
+DoesCommand (Ok Audit) o io = Audits o io
 DoesCommand (Ok (Index setup returns)) o io = Refuses 0 o io
 DoesCommand (Ok (Mirror setup returns)) o io = Refuses 0 o io
 DoesCommand (Err Form) o io = Refuses 0 o io

@@ -1,5 +1,6 @@
 pub mod Allowed
 pub mod Answers
+pub mod Audits
 pub mod Calm
 pub mod Complete
 pub mod Counters
@@ -8,6 +9,7 @@ pub mod Equal
 pub mod Headline
 pub mod Hits
 pub mod Licence
+pub mod Loading
 pub mod Obeys
 pub mod Outcome
 pub mod Planned
@@ -19,3 +21,4 @@ pub mod Tells
 pub mod Texts
 pub mod Tracing
 pub mod Turns
+pub mod Writing

@@ -3,11 +3,13 @@
 #![tactic(auto)]
 
 mod answering;
+mod audit_run;
 mod ended;
 #[cfg(test)]
 mod formatting_tests;
 mod gen_run;
 mod laws;
+mod loading;
 mod obey;
 mod plain_run;
 #[cfg(test)]
@@ -19,6 +21,7 @@ mod prepare;
 mod reading_tests;
 mod restart;
 mod running;
+mod save_run;
 #[cfg(test)]
 mod script;
 #[cfg(test)]

@@ -6,11 +6,13 @@ ghost use Rattle.envy_run.specs.Runs.{Runs};
 ghost use Rattle.envy_run.specs.Task.{DoesTask};
 ghost use Rattle.envy_run.specs.Outcome.{outcome, status_of, why_of};
 
+use crate::audit_run::run_audit;
 use crate::ended::Ended;
 use crate::gen_run::run_gen;
 use crate::plain_run::run_plain;
 use crate::prepare::{Unready, prepare};
 use crate::restart::ReplyBuffer;
+use crate::save_run::run_save;
 use crate::tracing::Tracing;
 use envy_args::{Command, WordsFault, read_words};
 use envy_base::Maker;
@@ -65,7 +67,7 @@ pub(crate) fn ended_with<B>(served: Served, board: Option<B>) -> Ended<B>
 
 /// Makes a board, formats it, and does the lines of the source in order, with each reply written before
 /// the next line is read.
-fn run_trace<S: Source, K: Sink, M: Maker>(
+pub(crate) fn run_trace<S: Source, K: Sink, M: Maker>(
     alloc: Global,
     setup: Setup,
     lives: u32,
@@ -125,11 +127,11 @@ fn perform<S: Source, K: Sink, M: Maker>(
             lines,
             pages,
         } => run_gen(sink, start, lines, pages),
+        Command::Save { setup, lives } => run_save(alloc, setup, lives, source, sink, maker),
+        Command::Audit => run_audit(alloc, source, sink, maker),
         // words whose service isn't built yet
         Command::Tpca { .. }
-        | Command::Save { .. }
         | Command::Resume { .. }
-        | Command::Audit
         | Command::Index { .. }
         | Command::Mirror { .. } => unserved(2, 0, None),
     }

@@ -17,3 +17,15 @@ returns-in-Plain-clause-headline g c =
     let o : Outcome = outcome g.M.Made.Board.state c.run_plain.result in
     let io : Streams = record { from = g.S.Source.feed c.args.source.now; feed = g.S.Source.feed c.run_plain.new.source; to = g.K.Sink.drain c.args.sink.now; sink = g.K.Sink.drain c.run_plain.new.sink } in
     subst (λ (x : Command). Headline (Ok x) o io) (sym c.in-Plain.is) (inl (c.run_plain.ensures.runs g.M.Made.Board.state))
+
+pub returns-in-Audit-clause-headline : goal.returns-in-Audit-clause-headline
+returns-in-Audit-clause-headline g c =
+    let o : Outcome = outcome g.M.Made.Board.state c.run_audit.result in
+    let io : Streams = record { from = g.S.Source.feed c.args.source.now; feed = g.S.Source.feed c.run_audit.new.source; to = g.K.Sink.drain c.args.sink.now; sink = g.K.Sink.drain c.run_audit.new.sink } in
+    subst (λ (x : Command). Headline (Ok x) o io) (sym c.in-Audit.is) (inl c.run_audit.ensures.audits)
+
+pub returns-in-Save-clause-headline : goal.returns-in-Save-clause-headline
+returns-in-Save-clause-headline g c =
+    let o : Outcome = outcome g.M.Made.Board.state c.run_save.result in
+    let io : Streams = record { from = g.S.Source.feed c.args.source.now; feed = g.S.Source.feed c.run_save.new.source; to = g.K.Sink.drain c.args.sink.now; sink = g.K.Sink.drain c.run_save.new.sink } in
+    subst (λ (x : Command). Headline (Ok x) o io) (sym c.in-Save.is) (inl c.run_save.ensures.runs)

@@ -1,0 +1,45 @@
+-- An audit of bytes that begin with an image is done to its end, where nothing fails.
+use Rattle.std.proofs.Common.{◌≡◌, ◌⊎◌, inl, inr, ℕ, ◌<◌, ◌≤◌, List, ◌++◌, sym, ◌∙◌, arith}
+use Rattle.std.specs.Prelude.{Some}
+use Rattle.envy_image.specs.Image.{image_of}
+use Rattle.envy_io.specs.Streams.{with_front}
+use Rattle.envy_map.specs.Fields.{Chart}
+use Rattle.envy_serve.specs.Streams.{Streams}
+use Rattle.envy_serve.proofs.GoodTraces.{still-low, still-written}
+use Rattle.envy_run.specs.Audits.{Audits, Judged, audit_lives, verdict_line}
+use Rattle.envy_run.specs.Complete.{HoldsImage, NeverFailed, IsComplete}
+use Rattle.envy_run.specs.Loading.{RefusesImage, Cause, TookOnly, status_for}
+use Rattle.envy_run.specs.Outcome.{Outcome}
+use Rattle.envy_run.specs.Writing.{WritesTrace}
+use Rattle.envy_run.specs.declared.loading.Refusal.{Refusal}
+use Rattle.envy_run.specs.declared.loading.Refusal.TheVariants.{Failed, Memory, Early, Unmarked, Misshapen, Upset}
+use Rattle.envy_run.proofs.Imaged.{never-early, never-unmarked, never-misshapen}
+
+-- an image that is there isn't refused
+pub image-taken : (refusal : Refusal) (returns : ℕ) (o : Outcome) (io : Streams) → HoldsImage io → NeverFailed o → RefusesImage refusal returns o io → o.status ≡ 8
+image-taken Failed returns o io holds calm r = absurd (still-low io.from.faults io.feed.faults holds.reads r.cause)
+image-taken Memory returns o io holds calm r = r.status
+image-taken Early returns o io holds calm r =
+    let (dry, stops) = r.cause in
+    absurd (never-early holds.image holds.rest holds.whole r.bytes io.feed (sym holds.told ∙ TookOnly.source r.took) dry o.board stops)
+image-taken Unmarked returns o io holds calm r =
+    let (none, eight, other) = r.cause in
+    absurd (never-unmarked holds.image holds.rest holds.whole r.bytes io.feed (sym holds.told ∙ TookOnly.source r.took) eight other)
+image-taken Misshapen returns o io holds calm r =
+    let (none, sh, fault, is, fails, fit) = r.cause in
+    absurd (never-misshapen holds.image holds.rest holds.whole r.bytes io.feed (sym holds.told ∙ TookOnly.source r.took) sh fault is fails fit)
+image-taken Upset returns o io holds calm r =
+    let (now, is, either) = r.cause in
+    absurd (at now (calm now is) either)
+  where
+    at : (now : Chart) → (now.cuts ≡ 0) × (now.bads ≡ 0) → (0 < now.cuts) ⊎ (0 < now.bads) → ⊥
+    at now (cuts, bads) (inl some) = omega arith
+    at now (cuts, bads) (inr some) = omega arith
+
+pub completes-audit : (o : Outcome) (io : Streams) → Audits o io → HoldsImage io → NeverFailed o → IsComplete o
+completes-audit o io (inl judged) holds calm = at judged.writes
+  where
+    at : WritesTrace (verdict_line judged.verdict) o.status io.to io.sink → IsComplete o
+    at (inl (done, written, flushed)) = inl done
+    at (inr (failed, front)) = absurd (still-written (verdict_line judged.verdict) io.to io.to io.sink holds.writes (omega arith) front)
+completes-audit o io (inr (refusal, refuses)) holds calm = inr (image-taken refusal audit_lives o io holds calm refuses)

@@ -1,0 +1,84 @@
+-- Bytes that begin with an image are taken up, where nothing fails.
+use Rattle.std.proofs.Common.{◌≡◌, ◌⊎◌, inl, inr, ℕ, ◌+◌, ◌*◌, ◌-◌, ◌<◌, ◌≤◌, Bool, true, false, List, [], ◌++◌, length, refl, sym, ◌∙◌, ap, subst, arith, length-append}
+use Rattle.std.specs.Prelude.{Option, None, Some, Result, Ok, Err, nat_lt, ◌||◌, ◌==◌}
+use Rattle.std.proofs.lemmas.Bool.Decides.{nat_tests}
+use Rattle.std.proofs.lemmas.List.{append_assoc}
+use Rattle.envy_base.specs.Shape.{IsShape, checked}
+use Rattle.envy_base.specs.State.{State, IsBoard}
+use Rattle.envy_base.specs.declared.shape.Shape.{Shape}
+use Rattle.envy_image.specs.Image.{mark, numbers_bytes, numbers_of, head_of, body_of, image_of, FitNumbers}
+use Rattle.envy_image.specs.Installing.{body_size}
+use Rattle.envy_image.proofs.Backwards.{fit-numbers, same-head, same-front, behind-head, length-image, length-head, length-body}
+use Rattle.envy_io.specs.Streams.{Feed, IsDry, with_front}
+use Rattle.envy_map.specs.Fields.{Chart}
+use Rattle.envy_serve.proofs.GoodTraces.{front-taken}
+use Rattle.envy_run.specs.Loading.{StopsInHead, StopsBehindHead, StopsWithin}
+
+-- a shape that has its sizes checks
+pub shape-checks : (sh : Shape) → IsShape sh → checked sh ≡ Ok tt
+unfolding checked
+shape-checks sh s =
+    let a = s.segments in
+    let b = s.few_segments in
+    let c = s.rows in
+    let d = s.few_rows in
+    let e = s.pages in
+    let f = s.frames in
+    let g = s.few_frames in
+    let h = s.entries in
+    let i = s.few_entries in
+    let j = s.share in
+    let k = s.few in
+    let t1 : (nat_lt sh.segments 4 || nat_lt 4096 sh.segments) ≡ false = grind (arith, nat_tests) in
+    let t2 : (nat_lt sh.rows 2 || nat_lt 65536 sh.rows) ≡ false = grind (arith, nat_tests) in
+    let t3 : (sh.pages == 0) ≡ false = grind (arith, nat_tests) in
+    let t4 : (nat_lt sh.frames 2 || nat_lt 65536 sh.frames) ≡ false = grind (arith, nat_tests) in
+    let t5 : (sh.entries == 0 || nat_lt 65536 sh.entries) ≡ false = grind (arith, nat_tests) in
+    let t6 : nat_lt ((sh.segments - 2) * sh.rows) (sh.pages + sh.shadows) ≡ false = grind (arith, nat_tests) in
+    let t7 : nat_lt 1048576 (sh.segments * sh.rows) ≡ false = grind (arith, nat_tests) in
+    rw (t1, t2, t3, t4, t5, t6, t7) refl
+
+module _ (b : State) (rest : List ℕ) (whole : IsBoard b) (bytes : List ℕ) (feed : Feed) (source : Some (image_of b ++ rest) ≡ with_front bytes feed.left) where
+  -- the image behind its head
+  pub parts : image_of b ++ rest ≡ head_of b.shape ++ (body_of b.flash b.sram ++ rest)
+  unfolding image_of
+  parts = append_assoc (head_of b.shape) (body_of b.flash b.sram) rest
+
+  -- the source doesn't end within it
+  pub never-early : IsDry feed.left → (board : Option Chart) → StopsWithin bytes board → ⊥
+  never-early dry board stops =
+      let (left, is, all) = front-taken (image_of b ++ rest) bytes feed.left source in
+      let none : left ≡ [] = subst (λ (o : Option (List ℕ)). IsDry o) is dry in
+      let same : image_of b ++ rest ≡ bytes ++ left = all in
+      let long : length (image_of b) + length rest ≡ length bytes = sym (length-append (image_of b) rest) ∙ (ap length same ∙ (length-append bytes left ∙ (let zero = ap length none in omega arith))) in
+      at left same long stops
+    where
+      size : length (image_of b) ≡ 32 + body_size b.shape
+      size = length-image b whole
+
+      at : (left : List ℕ) → image_of b ++ rest ≡ bytes ++ left → length (image_of b) + length rest ≡ length bytes → StopsWithin bytes board → ⊥
+      at left same long (inl (none, inl few)) = omega (arith, size)
+      at left same long (inl (none, inr (more, is, few))) = omega (arith, size, ap length is, length-append mark more)
+      at left same long (inr (some, sh, shape, (more, is, few))) =
+          let heads : head_of b.shape ++ (body_of b.flash b.sram ++ rest) ≡ head_of sh ++ (more ++ left) = sym parts ∙ (same ∙ (ap (λ (xs : List ℕ). xs ++ left) is ∙ append_assoc (head_of sh) more left)) in
+          let one : b.shape ≡ sh = same-head b.shape sh _ _ (fit-numbers b.shape (IsBoard.shape whole)) (fit-numbers sh shape) heads in
+          let even : body_size b.shape ≡ body_size sh = ap body_size one in
+          omega (arith, size, ap length is, length-append (head_of sh) more, length-head sh)
+
+  -- its first bytes are the mark
+  pub never-unmarked : length bytes ≡ 8 → (bytes ≡ mark → ⊥) → ⊥
+  unfolding head_of
+  never-unmarked eight other =
+      let (left, is, all) = front-taken (image_of b ++ rest) bytes feed.left source in
+      let split : head_of b.shape ++ (body_of b.flash b.sram ++ rest) ≡ mark ++ (numbers_bytes (numbers_of b.shape) ++ (body_of b.flash b.sram ++ rest)) = append_assoc mark (numbers_bytes (numbers_of b.shape)) (body_of b.flash b.sram ++ rest) in
+      other (same-front bytes mark left _ eight (sym all ∙ (parts ∙ split)))
+
+  -- its shape checks
+  pub never-misshapen : (sh : Shape) (fault : _) → bytes ≡ head_of sh → checked sh ≡ Err fault → FitNumbers sh → ⊥
+  never-misshapen sh fault is fails fit =
+      let (left, same, all) = front-taken (image_of b ++ rest) bytes feed.left source in
+      let heads : head_of b.shape ++ (body_of b.flash b.sram ++ rest) ≡ head_of sh ++ left = sym parts ∙ (all ∙ ap (λ (xs : List ℕ). xs ++ left) is) in
+      let one : b.shape ≡ sh = same-head b.shape sh _ _ (fit-numbers b.shape (IsBoard.shape whole)) fit heads in
+      let good : checked sh ≡ Ok tt = subst (λ (x : Shape). checked x ≡ Ok tt) one (shape-checks b.shape (IsBoard.shape whole)) in
+      let never = sym good ∙ fails in
+      cc

@@ -1,0 +1,182 @@
+-- Images that are taken from a source, and boards that hold them.
+use Rattle.std.proofs.Common.{◌≡◌, ◌⊎◌, inl, inr, ℕ, ◌+◌, ◌*◌, ◌-◌, ◌^◌, ◌<◌, ◌≤◌, List, [], ◌++◌, length, refl, sym, ◌∙◌, ap, subst, arith, length-append}
+use Rattle.std.specs.Prelude.{IsTrue, Option, None, Some, Result, Ok, Err, slice_index, max, min}
+use Rattle.std.specs.Option.{option_map}
+use Rattle.std.proofs.lemmas.List.{append-nil}
+use Rattle.envy_base.specs.Counting.{up}
+use Rattle.envy_base.specs.Shape.{IsShape}
+use Rattle.envy_base.specs.State.{State, IsBoard, IsMade}
+use Rattle.envy_base.specs.declared.shape.Shape.{Shape}
+use Rattle.envy_audit.specs.Judging.{Judges}
+use Rattle.envy_audit.specs.declared.verdict.Verdict.{Verdict}
+use Rattle.envy_image.specs.Image.{head_of, body_of, image_of}
+use Rattle.envy_image.specs.Reading.{Consumes, Ends}
+use Rattle.envy_image.specs.Installing.{Goes, Upsets, IsUpset, Installed, StopsAs, FailsInBody, body_size, count_after}
+use Rattle.envy_image.specs.declared.installing.InFault.TheVariants.{Short as InShort, Failed as InFailed, Spent as InSpent}
+use Rattle.envy_image.proofs.Backwards.{length-head}
+use Rattle.envy_io.specs.Streams.{Feed, Drain, with_front}
+use Rattle.envy_io.specs.Taking.{Taking}
+use Rattle.envy_io.proofs.Counts.{Rises-after}
+use Rattle.envy_io.proofs.TakesLemmas.{with_front-with_front}
+use Rattle.envy_map.specs.Fields.{Chart, chart}
+use Rattle.envy_run.specs.Audits.{Audits, audit_lives, verdict_line}
+use Rattle.envy_run.specs.Loading.{HasTaken, IsUnharmed, IsInstalled, Loaded, Unloaded, RefusesImage, status_for, why_for}
+use Rattle.envy_run.specs.Outcome.{outcome}
+use Rattle.envy_run.specs.Writing.{WritesTrace}
+use Rattle.envy_run.specs.declared.ended.Ended.{Ended}
+use Rattle.envy_run.specs.declared.loading.Refusal.{Refusal}
+use Rattle.envy_run.specs.declared.loading.Refusal.TheVariants.{Failed, Memory, Early, Unmarked, Misshapen, Upset}
+
+-- more bytes are taken behind those that were
+pub taken-more : (a b : List ℕ) (from feed to : Feed) (was now : Taking) → HasTaken a from was feed → Consumes was feed b now to → HasTaken (a ++ b) from now to
+taken-more a b from feed to was now t c =
+    let all : c.got ≡ b ++ now.held = ap (λ (held : List ℕ). held ++ c.got) (sym t.held) ∙ c.all in
+    let none : now.held ≡ [] = c.nothing_over t.held in
+    let same : c.got ≡ b = all ∙ (ap (λ (held : List ℕ). b ++ held) none ∙ append-nil b) in
+    record {
+      left = t.left ∙ (ap (with_front a) c.draws.left ∙ (with_front-with_front a c.got to.left ∙ ap (λ (g : List ℕ). with_front (a ++ g) to.left) same));
+      taken = let x = t.taken in let y = c.draws.taken in let z = ap length same in omega (arith, length-append a b);
+      cap = c.draws.cap ∙ t.cap;
+      within = c.draws.within;
+      held = none;
+      faults = let x = t.faults in let y = c.draws.faults in omega arith;
+      below = c.draws.below;
+      dry = c.draws.dry t.dry;
+    }
+
+pub taken-ends : (a b : List ℕ) (from feed to : Feed) (was now : Taking) → HasTaken a from was feed → Ends was feed b now to → HasTaken (a ++ b) from now to
+taken-ends a b from feed to was now t e =
+    let same : e.got ≡ b = ap (λ (held : List ℕ). held ++ e.got) (sym t.held) ∙ e.all in
+    record {
+      left = t.left ∙ (ap (with_front a) e.draws.left ∙ (with_front-with_front a e.got to.left ∙ ap (λ (g : List ℕ). with_front (a ++ g) to.left) same));
+      taken = let x = t.taken in let y = e.draws.taken in let z = ap length same in omega (arith, length-append a b);
+      cap = e.draws.cap ∙ t.cap;
+      within = e.draws.within;
+      held = e.used;
+      faults = let x = t.faults in let y = e.draws.faults in omega arith;
+      below = e.draws.below;
+      dry = e.draws.dry t.dry;
+    }
+
+-- an image is shorter than what may be taken
+pub body-short : (sh : Shape) → IsShape sh → 32 + body_size sh < 1099511627776
+body-short sh s =
+    let a = s.few_segments in
+    let b = s.few_rows in
+    let c = s.few_pages in
+    let d = s.few_frames in
+    let e = s.few in
+    omega arith
+
+unharmed-goes : (sh : Shape) (returns : ℕ) (old new : State) → IsMade sh returns old → Goes old new → IsUnharmed returns (chart new)
+unharmed-goes sh returns old new made goes = record {
+  given = ap (λ (s : State). s.given) goes.same ∙ made.given;
+  pulled = ap (λ (s : State). s.pulled) goes.same ∙ made.pulled;
+  plans = ap (λ (s : State). s.plans) goes.same ∙ made.plans;
+}
+
+module _ (sh : Shape) (returns : ℕ) (from feed to : Feed) (old new : State) (was now : Taking) (shape : IsShape sh) (made : IsMade sh returns old) (head : HasTaken (head_of sh) from was feed) where
+  fewer : (n : ℕ) → n < body_size old.shape → n < body_size sh
+  fewer n lt = subst (λ (x : Shape). n < body_size x) made.shape lt
+
+  pub short-unloaded : StopsAs InShort (body_size old.shape) old was feed new now to → Unloaded returns from (Some new) Early now to
+  short-unloaded s =
+      let taken = taken-ends (head_of sh) s.bytes from feed to was now head s.ends in
+      record {
+        bytes = head_of sh ++ s.bytes;
+        taken = taken;
+        cause = (taken.dry s.stops, inr (refl, sh, shape, (s.bytes, refl, fewer (length s.bytes) s.few)));
+        unharmed = unharmed-goes sh returns old new made s.goes;
+      }
+
+  pub failed-unloaded : StopsAs InFailed (body_size old.shape) old was feed new now to → Unloaded returns from (Some new) Failed now to
+  failed-unloaded s =
+      let (going, below, rises) = s.stops in
+      record {
+        bytes = head_of sh ++ s.bytes;
+        taken = taken-ends (head_of sh) s.bytes from feed to was now head s.ends;
+        cause = Rises-after from.faults feed.faults to.faults head.faults rises;
+        unharmed = unharmed-goes sh returns old new made s.goes;
+      }
+
+  pub spent-never : StopsAs InSpent (body_size old.shape) old was feed new now to → ⊥
+  spent-never s =
+      let (going, full) = s.stops in
+      let taken = taken-ends (head_of sh) s.bytes from feed to was now head s.ends in
+      let count = taken.taken in
+      let cap = taken.cap in
+      let few = fewer (length s.bytes) s.few in
+      let short = body-short sh shape in
+      omega (arith, length-append (head_of sh) s.bytes, length-head sh)
+
+  upset-cause : IsUpset old new → (0 < new.cuts) ⊎ (0 < new.bads)
+  upset-cause (inl (off, rose, same)) = inl (let none = made.cuts in let more = rose (omega arith) in omega arith)
+  upset-cause (inr (on, same, rose)) = inr (let none = made.bads in let more = rose (omega arith) in omega arith)
+
+  pub upset-unloaded : FailsInBody (body_size old.shape) old was feed new now to → Unloaded returns from (Some new) Upset now to
+  upset-unloaded f = record {
+    bytes = head_of sh ++ f.bytes;
+    taken = taken-more (head_of sh) f.bytes from feed to was now head f.read;
+    cause = (chart new, refl, upset-cause (Upsets.failed f.upset));
+    unharmed = record {
+      given = ap (λ (s : State). s.given) (Upsets.same f.upset) ∙ made.given;
+      pulled = ap (λ (s : State). s.pulled) (Upsets.same f.upset) ∙ made.pulled;
+      plans = ap (λ (s : State). s.plans) (Upsets.same f.upset) ∙ made.plans;
+    };
+  }
+
+  count-zero : (n count : ℕ) → n ≤ 1048576 → count ≡ 0 → count_after n count ≡ n
+  unfolding count_after
+  count-zero n count few none = omega arith
+
+  up-zero : (count : ℕ) → count ≡ 0 → up count ≡ 1
+  unfolding up
+  up-zero count none = omega arith
+
+  pub loaded : (verdict : Verdict) → IsBoard new → Installed old was feed new now to → Judges verdict (chart new) → Loaded sh returns from new verdict now to
+  unfolding image_of
+  loaded verdict whole i judges =
+      let same : new.shape ≡ sh = ap (λ (s : State). s.shape) (Goes.same i.goes) ∙ made.shape in
+      record {
+        taken = subst (λ (x : Shape). HasTaken (head_of x ++ body_of new.flash new.sram) from now to) (sym same) (taken-more (head_of sh) (body_of new.flash new.sram) from feed to was now head i.bytes);
+        installed = record {
+          whole = whole;
+          on = subst (λ (s : State). IsTrue s.on) (sym (Goes.same i.goes)) (Goes.on i.goes);
+          shape = same;
+          given = ap (λ (s : State). s.given) (Goes.same i.goes) ∙ made.given;
+          pulled = ap (λ (s : State). s.pulled) (Goes.same i.goes) ∙ made.pulled;
+          plans = ap (λ (s : State). s.plans) (Goes.same i.goes) ∙ made.plans;
+          cuts = ap (λ (s : State). s.cuts) (Goes.same i.goes) ∙ made.cuts;
+          bads = ap (λ (s : State). s.bads) (Goes.same i.goes) ∙ made.bads;
+          begun = i.begun ∙ (ap (λ (x : Shape). count_after (x.segments * x.rows) old.begun) made.shape ∙ count-zero (sh.segments * sh.rows) old.begun shape.few made.begun);
+          erases = λ e lt. i.erases e (subst (λ (x : Shape). e < x.segments) (sym made.shape) lt) ∙ up-zero (slice_index old.erases e) (made.erases e);
+        };
+        judges = judges;
+      }
+
+-- the word `audit`
+
+pub audit-refused : {B : Type 0} (state : B → State) (refusal : Refusal) (taken : ℕ) (board : Option B) (e : Ended B) (from feed : Feed) (sink : Drain) (now : Taking) → e ≡ record { status = status_for refusal; why = why_for refusal; lines = 0; taken = taken; board = board; second = None } → taken ≡ now.taken → Unloaded audit_lives from (option_map state board) refusal now feed → Audits (outcome state e) (record { from = from; feed = feed; to = sink; sink = sink })
+audit-refused {B} state refusal taken None e from feed sink now is same u =
+    subst (λ (x : Ended B). Audits (outcome state x) (record { from = from; feed = feed; to = sink; sink = sink })) (sym is)
+    (inr (refusal, record { status = refl; why = refl; bytes = u.bytes; took = record { lines = refl; taken = same ∙ u.taken.taken; source = u.taken.left; sink = refl }; cause = u.cause; unharmed = u.unharmed }))
+audit-refused {B} state refusal taken (Some board) e from feed sink now is same u =
+    subst (λ (x : Ended B). Audits (outcome state x) (record { from = from; feed = feed; to = sink; sink = sink })) (sym is)
+    (inr (refusal, record { status = refl; why = refl; bytes = u.bytes; took = record { lines = refl; taken = same ∙ u.taken.taken; source = u.taken.left; sink = refl }; cause = u.cause; unharmed = u.unharmed }))
+
+pub audit-told : {B : Type 0} (state : B → State) (sh : Shape) (verdict : Verdict) (status taken : ℕ) (board : B) (e : Ended B) (from feed : Feed) (to sink : Drain) (now : Taking) → e ≡ record { status = status; why = 0; lines = 0; taken = taken; board = Some board; second = None } → taken ≡ now.taken → Loaded sh audit_lives from (state board) verdict now feed → WritesTrace (verdict_line verdict) status to sink → Audits (outcome state e) (record { from = from; feed = feed; to = to; sink = sink })
+audit-told {B} state sh verdict status taken board e from feed to sink now is same l writes =
+    subst (λ (x : Ended B). Audits (outcome state x) (record { from = from; feed = feed; to = to; sink = sink })) (sym is)
+    (inl (record {
+      found = state board;
+      whole = l.installed.whole;
+      board = refl;
+      source = l.taken.left;
+      taken = same ∙ l.taken.taken;
+      lines = refl;
+      verdict = verdict;
+      judges = l.judges;
+      writes = writes;
+      why = refl;
+      unharmed = record { given = l.installed.given; pulled = l.installed.pulled; plans = l.installed.plans };
+    }))

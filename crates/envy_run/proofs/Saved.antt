@@ -1,0 +1,182 @@
+-- A trace whose replies go nowhere, and an image that is written behind it.
+use Rattle.std.proofs.Common.{◌≡◌, ◌⊎◌, inl, inr, ℕ, ◌-◌, ◌^◌, ◌<◌, ◌≤◌, List, [], ◌∷◌, ◌++◌, refl, sym, ◌∙◌, ap, subst, arith}
+use Rattle.std.specs.Result.{is_err}
+use Rattle.std.specs.Prelude.{IsTrue, true, false, Option, None, Some, Result, Ok, Err}
+use Rattle.std.specs.Option.{option_map}
+use Rattle.envy_base.specs.State.{State}
+use Rattle.envy_image.specs.Image.{image_of}
+use Rattle.envy_io.specs.declared.source.Failed.{Failed}
+use Rattle.envy_io.specs.Streams.{Drain, Rises}
+use Rattle.envy_io.proofs.WritesLemmas.{with_end-nil}
+use Rattle.envy_layout.specs.Stands.{Stands}
+use Rattle.envy_map.specs.Fields.{Chart, chart}
+use Rattle.envy_policy.specs.declared.setup.Setup.{Setup}
+use Rattle.envy_serve.specs.declared.serving.End.{End}
+use Rattle.envy_serve.specs.declared.serving.End.TheVariants.{Done as EndDone, ReadFault, WriteFault, FlushFault, Refused, Dead as EndDead, TooLong}
+use Rattle.envy_serve.specs.Ends.{Serves, Ends, HasServed, HasReadTo, HasTold}
+use Rattle.envy_serve.specs.Grammar.{Grammar, silent}
+use Rattle.envy_serve.specs.Streams.{Streams, Written, FrontWritten}
+use Rattle.envy_serve.specs.Turns.{Turn, lines_done, texts, written}
+use Rattle.envy_trace.specs.declared.line.Line.{Line}
+use Rattle.envy_trace.specs.declared.reply.Reply.{Reply}
+use Rattle.envy_run.specs.Done.{HasDone, HasDied}
+use Rattle.envy_run.specs.Headline.{IsUnserved, IsOutOfMemory, IsSpoilt, IsDark, OnBoard, run_task, save_task, image_in, zeros_of}
+use Rattle.envy_run.specs.Outcome.{Outcome, IsQuiet, outcome, status_of, why_of}
+use Rattle.envy_run.specs.Task.{IsServed, DoesTask}
+use Rattle.envy_run.specs.Turns.{TraceTurn, trace_grammar}
+use Rattle.envy_run.specs.Writing.{WritesOut}
+use Rattle.envy_run.specs.declared.ended.Ended.{Ended}
+
+silent-texts : {Line Reply : Type 0} (g : Grammar Line Reply) (replies : List Reply) → texts (silent g) replies ≡ []
+silent-texts g [] = refl
+silent-texts g (reply ∷ replies) = silent-texts g replies
+
+silent-all : {Line Reply : Type 0} (g : Grammar Line Reply) (turns : List (Turn Line Reply)) → written (silent g) turns ≡ []
+silent-all g [] = refl
+silent-all g (turn ∷ earlier) = ap (λ (w : List ℕ). w ++ texts (silent g) turn.replies) (silent-all g earlier) ∙ silent-texts g turn.replies
+
+written-none : (d : Drain) → Written [] d d
+written-none d = record { whole = sym (with_end-nil d.written); faults = omega arith }
+
+nothing-told : {Line Reply : Type 0} (g : Grammar Line Reply) (turns : List (Turn Line Reply)) (d : Drain) → Written (written (silent g) turns) d d
+nothing-told g turns d = subst (λ (w : List ℕ). Written w d d) (sym (silent-all g turns)) (written-none d)
+
+-- a sink that never failed has no front written
+never-front : (text : List ℕ) (mid sink : Drain) → sink.faults ≡ 0 → FrontWritten text mid sink → ⊥
+never-front text mid sink none front = let kept = Rises.kept front.faults in let more = Rises.more front.faults (omega arith) in omega arith
+
+-- what is told to nobody, by the end, but for the end of a trace that was done
+quiet-told : (end : End) (turns : List TraceTurn) (tail : List ℕ) (to sink d : Drain) → sink.faults ≡ 0 → (end ≡ EndDone → ⊥) → HasTold end trace_grammar turns [] to sink → HasTold end (silent trace_grammar) turns tail d d
+quiet-told EndDone turns tail to sink d none other told = absurd (other refl)
+quiet-told FlushFault turns tail to sink d none other (mid, before, front) = absurd (never-front [] mid sink none front)
+quiet-told WriteFault [] tail to sink d none other told = absurd told
+quiet-told WriteFault (turn ∷ earlier) tail to sink d none other (mid, before, front) = absurd (never-front _ mid sink none front)
+quiet-told EndDead [] tail to sink d none other told = absurd told
+quiet-told EndDead (turn ∷ earlier) tail to sink d none other told = (d, nothing-told trace_grammar earlier d, inl (subst (λ (t : List ℕ). Written t d d) (sym (silent-texts trace_grammar turn.replies)) (written-none d)))
+quiet-told ReadFault turns tail to sink d none other told = nothing-told trace_grammar turns d
+quiet-told (Refused fault) turns tail to sink d none other told = nothing-told trace_grammar turns d
+quiet-told TooLong turns tail to sink d none other told = nothing-told trace_grammar turns d
+
+abbrev pub status_after : Result Unit Failed → ℕ
+status_after (Ok done) = 0
+status_after (Err failed) = 4
+
+pub after-err : (r : Result Unit Failed) → is_err r ≡ true → status_after r ≡ 4
+after-err (Ok done) is = absurd cc
+after-err (Err failed) is = refl
+
+pub after-ok : (r : Result Unit Failed) → is_err r ≡ false → status_after r ≡ 0
+after-ok (Ok done) is = refl
+after-ok (Err failed) is = absurd cc
+
+-- a trace that wasn't done to its end
+module _ (setup : Setup) (returns : ℕ) (o : Outcome) (io : Streams) (task : DoesTask (run_task setup returns) o io) (none : io.sink.faults ≡ 0) where
+  pub saves-nothing : (d : Drain) → (o.status ≡ 0 → ⊥) → DoesTask (save_task setup returns) o (record io { to = d; sink = d })
+  saves-nothing d undone = record { turns = task.turns; answers = at task.answers; licences = task.licences }
+    where
+      at : IsServed (run_task setup returns) task.turns o io ⊎ ((task.turns ≡ []) × IsUnserved o io) → IsServed (save_task setup returns) task.turns o (record io { to = d; sink = d }) ⊎ ((task.turns ≡ []) × IsUnserved o (record io { to = d; sink = d }))
+      at (inl s) = inl (record {
+        end = s.end;
+        serves = record {
+          lines_are = Serves.lines_are s.serves;
+          reader = Serves.reader s.serves;
+          taken_are = Serves.taken_are s.serves;
+          cap = Serves.cap s.serves;
+          ends = record {
+            served = Ends.served (Serves.ends s.serves);
+            read = Ends.read (Serves.ends s.serves);
+            told = quiet-told s.end task.turns (image_in o.state) io.to io.sink d none (λ done. undone (s.status ∙ ap status_of done)) (Ends.told (Serves.ends s.serves));
+          };
+        };
+        status = s.status;
+        why = s.why;
+      })
+      at (inr (empty, (quiet, cause))) = inr (empty, (record { lines = quiet.lines; taken = quiet.taken; source = quiet.source; sink = refl }, cause))
+
+  -- a status of 0 is that of a trace that was done
+  done-end : (end : End) → status_of end ≡ 0 → end ≡ EndDone
+  done-end EndDone is = refl
+  done-end ReadFault is = absurd cc
+  done-end WriteFault is = absurd cc
+  done-end FlushFault is = absurd cc
+  done-end (Refused fault) is = absurd cc
+  done-end EndDead is = absurd cc
+  done-end TooLong is = absurd cc
+
+  never-unserved : o.status ≡ 0 → IsUnserved o io → ⊥
+  never-unserved zero (quiet, inl out) = let is = IsOutOfMemory.status out in omega arith
+  never-unserved zero (quiet, inr (inl spoilt)) = let is = IsSpoilt.status spoilt in omega arith
+  never-unserved zero (quiet, inr (inr dark)) = let is = IsDark.status dark in omega arith
+
+  served-done : o.status ≡ 0 → (s : IsServed (run_task setup returns) task.turns o io) × (s.end ≡ EndDone)
+  served-done zero = at task.answers
+    where
+      at : IsServed (run_task setup returns) task.turns o io ⊎ ((task.turns ≡ []) × IsUnserved o io) → (s : IsServed (run_task setup returns) task.turns o io) × (s.end ≡ EndDone)
+      at (inl s) = (s, done-end s.end (sym s.status ∙ zero))
+      at (inr (empty, unserved)) = absurd (never-unserved zero unserved)
+
+  done-turns : o.status ≡ 0 → OnBoard (HasDone (zeros_of setup)) o task.turns
+  done-turns zero =
+      let (s, is) = served-done zero in
+      subst (λ (end : End). HasServed end (OnBoard (HasDone (zeros_of setup)) o) (OnBoard (HasDied (zeros_of setup)) o) task.turns) is (Ends.served (Serves.ends s.serves))
+
+  -- then there is a board with power
+  pub board-done : o.status ≡ 0 → (now : Chart) × (o.board ≡ Some now) × IsTrue now.on
+  board-done zero = let (now, is, done) = done-turns zero in (now, is, Stands.on (HasDone.stands done))
+
+  -- the image is written behind a trace that was done
+  pub saves-image : (to sink : Drain) (r : Result Unit Failed) (status : ℕ) → o.status ≡ 0 → WritesOut (image_in o.state) r to sink → status ≡ status_after r → DoesTask (save_task setup returns) (record o { status = status }) (record io { to = to; sink = sink })
+  saves-image to sink (Ok done) status zero (whole, flushed) is =
+      let (s, end) = served-done zero in
+      record {
+        turns = task.turns;
+        answers = inl (record {
+          end = EndDone;
+          serves = record {
+            lines_are = Serves.lines_are s.serves;
+            reader = Serves.reader s.serves;
+            taken_are = Serves.taken_are s.serves;
+            cap = Serves.cap s.serves;
+            ends = record {
+              served = done-turns zero;
+              read = subst (λ (e : End). HasReadTo e (Grammar.reads trace_grammar) 0 io.from io.feed (Serves.reader s.serves) (lines_done task.turns)) end (Ends.read (Serves.ends s.serves));
+              told = (subst (λ (w : List ℕ). Written (w ++ image_in o.state) to sink) (sym (silent-all trace_grammar task.turns)) whole, flushed);
+            };
+          };
+          status = is;
+          why = s.why ∙ ap why_of end;
+        });
+        licences = task.licences;
+      }
+  saves-image to sink (Err failed) status zero front is =
+      let (s, end) = served-done zero in
+      record {
+        turns = task.turns;
+        answers = inl (record {
+          end = FlushFault;
+          serves = record {
+            lines_are = Serves.lines_are s.serves;
+            reader = Serves.reader s.serves;
+            taken_are = Serves.taken_are s.serves;
+            cap = Serves.cap s.serves;
+            ends = record {
+              served = done-turns zero;
+              read = subst (λ (e : End). HasReadTo e (Grammar.reads trace_grammar) 0 io.from io.feed (Serves.reader s.serves) (lines_done task.turns)) end (Ends.read (Serves.ends s.serves));
+              told = (to, nothing-told trace_grammar task.turns to, front);
+            };
+          };
+          status = is;
+          why = s.why ∙ ap why_of end;
+        });
+        licences = task.licences;
+      }
+
+-- the board of a trace that was done
+pub saved-on : {B : Type 0} (state : B → State) (board : B) (found : Option B) → found ≡ Some board → (now : Chart) × (option_map (λ b. chart (state b)) found ≡ Some now) × IsTrue now.on → IsTrue (state board).on
+saved-on {B} state board found is (now, same, on) =
+    let both : Some (chart (state board)) ≡ Some now = ap (option_map (λ (b : B). chart (state b))) (sym is) ∙ same in
+    let one : chart (state board) ≡ now = cc in
+    subst (λ (c : Chart). IsTrue c.on) (sym one) on
+
+pub saved-some : {B : Type 0} (state : B → State) (found : Option B) → found ≡ None → (now : Chart) × (option_map (λ b. chart (state b)) found ≡ Some now) × IsTrue now.on → ⊥
+saved-some {B} state found is (now, same, on) = absurd (let never = ap (option_map (λ (b : B). chart (state b))) (sym is) ∙ same in cc)

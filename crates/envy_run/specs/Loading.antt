@@ -1,0 +1,122 @@
+-- Images that a source begins with: what was taken of one, and why there may be no board that holds it.
+use Rattle.std.specs.Prelude.{◌≡◌, ◌≢◌, ◌⊎◌, ℕ, ◌*◌, ◌<◌, ◌≤◌, false, IsTrue, List, [], ◌++◌, length, Option, None, Some, IsSome, IfSome, Result, Ok, Err, slice_index, ⊤}
+use Rattle.std.specs.Option.{option_map}
+use Rattle.envy_base.specs.Shape.{IsShape, checked}
+use Rattle.envy_base.specs.State.{State, IsBoard}
+use Rattle.envy_base.specs.declared.shape.Shape.{Shape}
+use Rattle.envy_base.specs.declared.shape.ShapeFault.{ShapeFault}
+use Rattle.envy_audit.specs.Judging.{Judges}
+use Rattle.envy_audit.specs.declared.verdict.Verdict.{Verdict}
+use Rattle.envy_image.specs.Image.{mark, head_of, image_of, FitNumbers}
+use Rattle.envy_image.specs.Installing.{HasReadHead, body_size}
+use Rattle.envy_io.specs.Streams.{Feed, Rises, IsDry, with_front}
+use Rattle.envy_io.specs.Taking.{Taking}
+use Rattle.envy_map.specs.Fields.{Chart, chart}
+use Rattle.envy_serve.specs.Ends.{most_bytes}
+use Rattle.envy_serve.specs.Streams.{Streams}
+use Rattle.envy_run.specs.Outcome.{Outcome}
+use Rattle.envy_run.specs.declared.loading.Refusal.{Refusal}
+use Rattle.envy_run.specs.declared.loading.Refusal.TheVariants.{Failed, Memory, Early, Unmarked, Misshapen, Upset}
+
+-- these bytes were taken from the source, which is asked for no more before they are used
+pub record HasTaken (bytes : List ℕ) (from : Feed) (now : Taking) (feed : Feed) : Type 0 where
+  pub left : from.left ≡ with_front bytes feed.left
+  pub taken : now.taken ≡ length bytes
+  pub cap : now.cap ≡ most_bytes
+  pub within : now.taken ≤ now.cap
+  pub held : now.held ≡ []
+  pub faults : from.faults ≤ feed.faults
+  pub below : IsTrue now.ended → now.taken < now.cap
+  pub dry : IsTrue now.ended → IsDry feed.left
+
+-- nothing was taken yet
+abbrev pub untouched : Taking
+untouched = record { cap = most_bytes; taken = 0; held = []; ended = false }
+
+-- bytes that stop before the end of a head, or of an image behind a head of this shape
+abbrev pub StopsInHead : List ℕ → Type 0
+StopsInHead bytes = (length bytes < 8) ⊎ ((rest : List ℕ) × (bytes ≡ mark ++ rest) × (length rest < 24))
+
+abbrev pub StopsBehindHead : Shape → List ℕ → Type 0
+StopsBehindHead sh bytes = (rest : List ℕ) × (bytes ≡ head_of sh ++ rest) × (length rest < body_size sh)
+
+-- a board was made of such a shape, and the bytes stop in the rest of its image; or they stop in the head
+abbrev pub StopsWithin : List ℕ → Option Chart → Type 0
+StopsWithin bytes board =
+    ((board ≡ None) × StopsInHead bytes) ⊎ (IsSome board × (sh : Shape) × IsShape sh × StopsBehindHead sh bytes)
+
+-- Why there is no board that holds an image, by the bytes taken, the board where one was made, and the source.
+abbrev pub Cause : Refusal → List ℕ → Option Chart → Feed → Feed → Type 0
+Cause Failed bytes board from feed = Rises from.faults feed.faults
+Cause Memory bytes board from feed = ⊤
+Cause Early bytes board from feed = IsDry feed.left × StopsWithin bytes board
+Cause Unmarked bytes board from feed = (board ≡ None) × (length bytes ≡ 8) × (bytes ≢ mark)
+Cause Misshapen bytes board from feed = (board ≡ None) × (sh : Shape) × (fault : ShapeFault) × (bytes ≡ head_of sh) × (checked sh ≡ Err fault) × FitNumbers sh
+Cause Upset bytes board from feed = (now : Chart) × (board ≡ Some now) × ((0 < now.cuts) ⊎ (0 < now.bads))
+
+-- no failure was planned on the board and power wasn't cut by hand
+pub record IsUnharmed (returns : ℕ) (c : Chart) : Type 0 where
+  pub given : c.given ≡ returns
+  pub pulled : c.pulled ≡ 0
+  pub plans : c.plans ≡ 0
+
+-- the head is read, and its shape checks
+abbrev pub TakesHead : Feed → Result Shape Refusal → Taking → Feed → Type 0
+TakesHead from (Ok sh) now feed = HasTaken (head_of sh) from now feed × (checked sh ≡ Ok tt) × HasReadHead sh now feed
+TakesHead from (Err refusal) now feed = (bytes : List ℕ) × HasTaken bytes from now feed × Cause refusal bytes None from feed
+
+-- An image was installed on a new board of this shape: each row was programmed once, and each segment erased once.
+pub record IsInstalled (sh : Shape) (returns : ℕ) (s : State) : Type 0 where
+  pub whole : IsBoard s
+  pub on : IsTrue s.on
+  pub shape : s.shape ≡ sh
+  pub given : s.given ≡ returns
+  pub pulled : s.pulled ≡ 0
+  pub plans : s.plans ≡ 0
+  pub cuts : s.cuts ≡ 0
+  pub bads : s.bads ≡ 0
+  pub begun : s.begun ≡ sh.segments * sh.rows
+  pub erases : (e : ℕ) → e < sh.segments → slice_index s.erases e ≡ 1
+
+-- the bytes taken are the image of the board, and it was judged
+pub record Loaded (sh : Shape) (returns : ℕ) (from : Feed) (found : State) (verdict : Verdict) (now : Taking) (feed : Feed) : Type 0 where
+  pub taken : HasTaken (image_of found) from now feed
+  pub installed : IsInstalled sh returns found
+  pub judges : Judges verdict (chart found)
+
+-- or there is no such board
+pub record Unloaded (returns : ℕ) (from : Feed) (board : Option State) (refusal : Refusal) (now : Taking) (feed : Feed) : Type 0 where
+  pub bytes : List ℕ
+  pub taken : HasTaken bytes from now feed
+  pub cause : Cause refusal bytes (option_map chart board) from feed
+  pub unharmed : IfSome (option_map chart board) (IsUnharmed returns)
+
+abbrev pub status_for : Refusal → ℕ
+status_for Failed = 3
+status_for Memory = 8
+status_for Early = 10
+status_for Unmarked = 10
+status_for Misshapen = 10
+status_for Upset = 11
+
+abbrev pub why_for : Refusal → ℕ
+why_for Early = 1
+why_for Unmarked = 2
+why_for Misshapen = 3
+why_for refusal = 0
+
+-- these bytes were taken, no line was read, and nothing was written
+pub record TookOnly (bytes : List ℕ) (o : Outcome) (io : Streams) : Type 0 where
+  pub lines : o.lines ≡ 0
+  pub taken : o.taken ≡ length bytes
+  pub source : io.from.left ≡ with_front bytes io.feed.left
+  pub sink : io.sink ≡ io.to
+
+-- no image was taken up, for this reason
+pub record RefusesImage (refusal : Refusal) (returns : ℕ) (o : Outcome) (io : Streams) : Type 0 where
+  pub status : o.status ≡ status_for refusal
+  pub why : o.why ≡ why_for refusal
+  pub bytes : List ℕ
+  pub took : TookOnly bytes o io
+  pub cause : Cause refusal bytes o.board io.from io.feed
+  pub unharmed : IfSome o.board (IsUnharmed returns)

@@ -1,0 +1,63 @@
+//! A trace done without a reply, and the image of its board behind it.
+
+ghost use Rattle.std.specs.Prelude.{◌≡◌, ◌≤◌, IsTrue, None, Ok};
+ghost use Rattle.envy_image.specs.Image.{image_of};
+ghost use Rattle.envy_policy.specs.Setup.{checked};
+ghost use Rattle.envy_run.specs.Headline.{save_task};
+ghost use Rattle.envy_run.specs.Outcome.{outcome};
+ghost use Rattle.envy_run.specs.Task.{DoesTask};
+ghost use Rattle.envy_run.specs.Writing.{WritesOut};
+
+use crate::ended::Ended;
+use crate::running::run_trace;
+use envy_base::{Board, Maker};
+use envy_image::{OutFault, write_image};
+use envy_io::{Failed, Sink, Source};
+use envy_policy::Setup;
+use envy_serve::Nothing;
+use std::alloc::Global;
+
+/// Writes the image of a board, and flushes the sink.
+fn write_board<B: Board, K: Sink>(board: &B, sink: &mut K) -> Result<(), Failed>
+    requires { IsTrue (B.state board.now).on }
+    ensures { WritesOut (image_of (B.state board.now)) result (K.drain sink.old) (K.drain sink.new) }
+{
+    match write_image(board, sink) {
+        Ok(()) => sink.flush(),
+        Err(OutFault::Failed) => Err(Failed),
+        // power is on
+        Err(OutFault::Off) => unreachable!(),
+    }
+}
+
+/// Does the lines of the source in order over a board that is made and formatted, with no reply written.
+/// Where the trace was done to its end the image of the board is written.
+pub fn run_save<S: Source, K: Sink, M: Maker>(
+    alloc: Global,
+    setup: Setup,
+    lives: u32,
+    source: &mut S,
+    sink: &mut K,
+    maker: &mut M,
+) -> Ended<M::Made>
+    requires { checked setup ≡ Ok tt }
+    ensures runs { DoesTask (save_task setup lives) (outcome M.Made.Board.state result)
+        (record { from = S.feed source.old; feed = S.feed source.new; to = K.drain sink.old; sink = K.drain sink.new }) }
+    ensures few { result.lines ≤ result.taken }
+    ensures read { result.taken ≤ 1099511627776 }
+    ensures second { result.second ≡ None }
+{
+    let mut ended = run_trace(alloc, setup, lives, source, &mut Nothing::new(), maker);
+    if ended.status != 0 {
+        return ended;
+    }
+    let written = match &ended.board {
+        Some(board) => write_board(board, sink),
+        // a trace that was done has its board
+        None => unreachable!(),
+    };
+    if written.is_err() {
+        ended.status = 4;
+    }
+    ended
+}
