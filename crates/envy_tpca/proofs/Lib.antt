@@ -1,0 +1,10 @@
+pub mod Adding
+pub mod Between
+pub mod Calling
+pub mod Chaining
+pub mod Counted
+pub mod Drawing
+pub mod Looking
+pub mod Since
+pub mod Totals
+pub mod Trying
