@@ -1,6 +1,6 @@
 -- What happens between tries: ticks, restarts, and the word that tells whether a transfer is done.
 use Rattle.std.proofs.Common.{◌≡◌, ◌≢◌, ◌⊎◌, inl, inr, ℕ, zero, suc, ◌<◌, ◌≤◌, ◌+◌, Bool, true, false, List, [], ◌∷◌, length, Result, Ok, Err, refl, sym, ◌∙◌, ap, subst, arith}
-use Rattle.std.specs.Prelude.{◌++◌, ◌^◌, ◌-◌, slice_index, IsTrue}
+use Rattle.std.specs.Prelude.{◌++◌, ◌^◌, ◌-◌, slice_index, IsTrue, IsErr, IsErrAnd}
 use Rattle.std.proofs.lemmas.List.{length_push}
 use Rattle.envy_base.specs.Array.{Array, put_back, undone}
 use Rattle.envy_base.specs.Step.{Tick, Done, Step, Lost}
@@ -31,7 +31,7 @@ use Rattle.envy_tpca.proofs.Trying.{Closed, undone-closed}
 
 -- ---- causes, from an earlier moment on
 
-cause-later : (n : ℕ) (first mid p : Picture) (fault : DriveFault) → Since n first mid → Since 0 mid p → IsEnd fault mid p → IsEnd fault first p
+pub cause-later : (n : ℕ) (first mid p : Picture) (fault : DriveFault) → Since n first mid → Since 0 mid p → IsEnd fault mid p → IsEnd fault first p
 cause-later n first mid p Dead since did (off, lives, past) = (off, lives, past-later _ _ _ since.keeps.cuts past did.keeps.cuts)
 cause-later n first mid p DriveBad since did (on, past) = (on, past-later _ _ _ since.keeps.bads past did.keeps.bads)
 
@@ -111,3 +111,50 @@ tick-off first mid off p (Err Dead) rests since did cut lost (dark, none, same, 
     let past = past-later _ _ _ since.keeps.cuts (cut rests.on lost.off) did.keeps.cuts in
     ((dark, none, λ low. let e = past low in let f = then_did.keeps.cuts in omega arith), record { words = inl (same ∙ words); since = Since-more 0 first off p before then_did })
 tick-off first mid off p (Err DriveBad) rests since did cut lost never = absurd never
+
+-- ---- one transfer
+
+-- the words after a transfer are those of one transfer more
+pub counted-tried : (shadows : ℕ) (l : Places) (size : ℕ) (ts : List Transfer) (before : List ℕ) (i : ℕ) (t : Transfer) (spots : Spots) → IsTried shadows l size ts before i t spots → TpcAt l size (ts ++ (t ∷ [])) (put_back (writes l ts t) before)
+counted-tried shadows l size ts before i t spots tried = counted l size ts t before tried.tpc (subst (λ (k : ℕ). InRange l size k t) (sym tried.count) tried.range)
+
+-- word 0 tells whether the transfer is done
+pub told : (shadows : ℕ) (l : Places) (size : ℕ) (ts : List Transfer) (before : List ℕ) (i : ℕ) (t : Transfer) (spots : Spots) → IsTried shadows l size ts before i t spots
+    → (words : List ℕ) → (words ≡ before) ⊎ (words ≡ put_back (writes l ts t) before) → (w : ℕ) → w ≡ slice_index words 0
+    → (w ≡ i + 1 → words ≡ put_back (writes l ts t) before) × ((w ≡ i + 1 → ⊥) → words ≡ before)
+told shadows l size ts before i t spots tried words (inl same) w is =
+    let c = tried.tpc.count in let k = tried.count in let e = ap (λ (ws : List ℕ). slice_index ws 0) same in
+    ((λ more. absurd (omega arith)), λ less. same)
+told shadows l size ts before i t spots tried words (inr same) w is =
+    let c = (counted-tried shadows l size ts before i t spots tried).count in let k = tried.count in let e = ap (λ (ws : List ℕ). slice_index ws 0) same in let f = length_push ts t in
+    ((λ more. same), λ less. absurd (less (omega arith)))
+
+-- there is a word 0
+pub has-count : (shadows : ℕ) (l : Places) (size : ℕ) (ts : List Transfer) (before : List ℕ) (i : ℕ) (t : Transfer) (spots : Spots) → IsTried shadows l size ts before i t spots
+    → (words : List ℕ) → (words ≡ before) ⊎ (words ≡ put_back (writes l ts t) before) → 0 < length words
+has-count shadows l size ts before i t spots tried words (inl same) =
+    let long = tried.tpc.long in let room = tried.range.room in let e = ap (λ (ws : List ℕ). length ws) same in omega arith
+has-count shadows l size ts before i t spots tried words (inr same) =
+    let long = (counted-tried shadows l size ts before i t spots tried).long in let room = tried.range.room in let e = ap (λ (ws : List ℕ). length ws) same in omega arith
+
+-- the same words, and the same board
+pub rests-at : (old new : Picture) (words then_words : List ℕ) → Rests words old → new.chart ≡ old.chart → words ≡ then_words → Rests then_words new
+rests-at old new words then_words rests same is =
+    subst (λ (ws : List ℕ). Rests ws new) is (subst (λ (ch : Chart). Stands ch (fresh ch.shape.shadows words)) (sym same) rests)
+
+-- power doesn't return
+pub dead-ends : (n : ℕ) (first : Picture) (before now : List ℕ) (mid p : Picture) (result back : Result Unit DriveFault) (fault : DriveFault) → IsCause Off first mid → Stopped n first before now mid → Returns mid back p → back ≡ Err fault → IsErr result → IsErrAnd result (λ e. e ≡ fault) → AfterTransfer n first before now result p
+dead-ends n first before now mid p (Ok done) back fault cause stopped returns was is same = cc
+dead-ends n first before now mid p (Err e) back fault cause stopped returns was is same = at fault same (subst (λ (r : Result Unit DriveFault). Returns mid r p) was returns)
+  where
+    words : (durable p.chart ≡ durable mid.chart) → (durable mid.chart ≡ before) ⊎ (durable mid.chart ≡ now) → (durable p.chart ≡ before) ⊎ (durable p.chart ≡ now)
+    words w (inl e) = inl (w ∙ e)
+    words w (inr e) = inr (w ∙ e)
+
+    at : (f : DriveFault) → e ≡ f → Returns mid (Err f) p → IsEnd e first p × Stopped n first before now p
+    at Dead is (off, none, w, did) = subst (λ (k : DriveFault). IsEnd k first p × Stopped n first before now p) (sym is)
+      ((off, none, λ low. let d = cause.1 low in let k = did.keeps.cuts in omega arith), record { words = words w stopped.words; since = Since-more n first mid p stopped.since did })
+    at DriveBad is never = absurd never
+
+pub returns-ok : (old p : Picture) (result : Result Unit DriveFault) (u : Unit) → Returns old result p → result ≡ Ok u → Rests (durable old.chart) p × Since 0 old p × (p.chart.lives < old.chart.lives)
+returns-ok old p result u returns was = subst (λ (r : Result Unit DriveFault). Returns old r p) was returns

@@ -28,6 +28,7 @@ use Rattle.envy_tpca.specs.Trying.{Rests, Open, Running, Widens, Undone, Stopped
 use Rattle.envy_tpca.specs.declared.fault.Fault.{Fault}
 use Rattle.envy_tpca.specs.declared.fault.Fault.TheVariants.{Off, Bad, Refused}
 use Rattle.envy_tpca.proofs.Since.{Since-more, past-later}
+use Rattle.envy_tpca.proofs.Totals.{as_word-is}
 use Rattle.envy_tpca.proofs.Trying.{Closed, Grows, begin-law, put-law, commit-law, closed-fresh, fresh-closed, undone-closed}
 
 -- power failed, or a flash operation did
@@ -135,10 +136,6 @@ commit-stopped n first before now t most last old new r did cut EndClosed (k, st
 
 -- ---- words in two's complement
 
-as_word-is : (x : ℤ) → as_word x ≡ cast_unsigned w64 x
-as_word-is (pos n) = refl
-as_word-is (negsuc n) = omega arith
-
 below : (x : ℤ) → Small x → cast_unsigned w64 x < 2 ^ 64
 below (pos n) small = let e = small.sfits in omega arith
 below (negsuc n) small = omega arith
@@ -159,10 +156,6 @@ put-ok n first before now t more page result p u b is = subst (λ (r : Result Un
 
 pub put-err : (n : ℕ) (first : Picture) (before now : List ℕ) (t more page : ℕ) (result : Result Unit Fault) (p : Picture) (fault : Fault) → AfterPut n first before now t more page result p → result ≡ Err fault → Undone n first before fault p
 put-err n first before now t more page result p fault b is = subst (λ (r : Result Unit Fault). AfterPut n first before now t more page r p) is b
-
--- a call that fails ends the try
-pub undone-tries : (n : ℕ) (first : Picture) (before now : List ℕ) (p : Picture) (fault : Fault) → Undone n first before fault p → AfterTry n first before now (Err fault) p
-undone-tries n first before now p fault u = (u.cause, record { words = inl u.words; since = u.since })
 
 pub load-none : (n : ℕ) (first : Picture) (before now : List ℕ) (t most last a : ℕ) (result : Result ℕ Fault) (p : Picture) (fault : Fault) → AfterLoad n first before now t most last a result p → result ≡ Err fault → ⊥
 load-none n first before now t most last a result p fault l is = subst (λ (r : Result ℕ Fault). AfterLoad n first before now t most last a r p) is l

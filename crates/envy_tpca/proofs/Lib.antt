@@ -4,7 +4,10 @@ pub mod Calling
 pub mod Chaining
 pub mod Counted
 pub mod Drawing
+pub mod Loading
 pub mod Looking
+pub mod Planning
 pub mod Since
+pub mod Stepping
 pub mod Totals
 pub mod Trying

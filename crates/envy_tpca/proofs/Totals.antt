@@ -1,13 +1,13 @@
 -- The sums that the words of an area add up to.
 use Rattle.std.proofs.Common.{◌≡◌, ◌≢◌, ◌⊎◌, inl, inr, ℕ, zero, suc, ◌<◌, ◌≤◌, ◌+◌, ◌*◌, Bool, true, false, cond, List, [], ◌∷◌, length, get_or, refl, sym, ◌∙◌, ap, subst, arith, add-one}
 use Rattle.std.specs.Prelude.{◌/◌, ◌%◌, ◌^◌, ◌++◌, ◌==◌, slice_index, ℤ, pos, negsuc, ◌+ℤ◌, ◌-ℤ◌, unsigned_abs}
-use Rattle.std.specs.Int.{cast_signed, cast_unsigned}
+use Rattle.std.specs.Int.{cast_signed, cast_unsigned, int_wrap}
 use Rattle.std.specs.List.{All}
 use Rattle.std.proofs.Common.{w64}
 use Rattle.std.proofs.Math.IntN.{+ℤ_comm, +ℤ_assoc, +ℤ_idl, +ℤ_idr}
 use Rattle.std.proofs.Math.Seq.{get_or-append_seam}
 use Rattle.std.proofs.lemmas.Bool.{cases_lt}
-use Rattle.std.proofs.lemmas.Int.{fits_signed_from_abs, ints, to_z-of_z}
+use Rattle.std.proofs.lemmas.Int.{fits_signed_from_abs, ints, to_z-of_z, wrapping_add_onto, int_wrap_fits}
 use Rattle.std.proofs.lemmas.List.{get_or_append_left}
 use Rattle.envy_tpca.specs.declared.places.Places.{Places}
 use Rattle.envy_tpca.specs.declared.transfer.Transfer.{Transfer}
@@ -21,7 +21,7 @@ use Rattle.envy_tpca.proofs.Looking.{abs-add, abs-of}
 
 -- ---- words in two's complement
 
-as_word-is : (x : ℤ) → as_word x ≡ cast_unsigned w64 x
+pub as_word-is : (x : ℤ) → as_word x ≡ cast_unsigned w64 x
 as_word-is (pos n) = refl
 as_word-is (negsuc n) = omega arith
 
@@ -34,6 +34,16 @@ signed-word x small = ap (cast_signed w64) (as_word-is x) ∙ to_z-of_z w64 x sm
 pub sum-same : (n : ℕ) (f g : ℕ → ℤ) → ((k : ℕ) → k < n → f k ≡ g k) → sum_below n f ≡ sum_below n g
 sum-same zero f g same = refl
 sum-same (suc n) f g same = ap (λ (x : ℤ). x +ℤ f n) (sum-same n f g (λ k lt. same k (omega arith))) ∙ ap (λ (x : ℤ). sum_below n g +ℤ x) (same n (omega arith))
+
+-- a wrapping sum of words, where nothing wraps
+pub sum-step : (bits k : ℕ) (sum v : ℤ) (f : ℕ → ℤ) → bits < 2 ^ 64 → cast_signed w64 bits ≡ sum → sum ≡ sum_below k f → v ≡ f k → Small v → Small (sum_below (k + 1) f) → cast_signed w64 ((bits + cast_unsigned w64 v) % 2 ^ 64) ≡ sum_below (k + 1) f
+sum-step bits k sum v f lt e1 e2 e3 sv small =
+    let next : sum_below (k + 1) f ≡ sum_below k f +ℤ f k = ap (λ (n : ℕ). sum_below n f) (add-one k) in
+    wrapping_add_onto w64 bits v lt sv
+    ∙ ap (λ (y : ℤ). int_wrap w64 (y +ℤ v)) (e1 ∙ e2)
+    ∙ ap (λ (y : ℤ). int_wrap w64 (sum_below k f +ℤ y)) e3
+    ∙ int_wrap_fits w64 (sum_below k f +ℤ f k) (subst Small next small)
+    ∙ sym next
 
 -- a sum of some records is no larger than all deltas
 abs-some : (at : Transfer → ℕ) (n : ℕ) (ts : List Transfer) → AreSmall ts → unsigned_abs (sum_below n (λ k. deltas_of at k ts)) ≤ length ts * 10 ^ 6

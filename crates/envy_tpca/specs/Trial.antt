@@ -52,17 +52,18 @@ pub record IsTried (shadows : ℕ) (l : Places) (size : ℕ) (ts : List Transfer
   pub room : 5 ≤ shadows
 
 -- a row of history fits at an address, and five pages may be owned
-pub record IsRoomy (shadows : ℕ) (words : List ℕ) (row : ℕ) : Type 0 where
+pub record IsRoomy (shadows : ℕ) (words : List ℕ) (row : ℕ) (t : Transfer) : Type 0 where
+  pub delta : unsigned_abs t.delta < 10 ^ 6
   pub room : 5 ≤ shadows
   pub whole : row % 4 ≡ 0
   pub within : row + 4 ≤ length words
 
 -- the three balances that a transfer puts
-abbrev pub balances_of : Places → List Transfer → Transfer → Saved
-balances_of l ts t =
-    (account_at l t.account, as_word (deltas_of (λ s. s.account) t.account ts +ℤ t.delta))
-    ∷ (teller_at l t.teller, as_word (deltas_of (λ s. s.teller) t.teller ts +ℤ t.delta))
-    ∷ (branch_at l t.branch, as_word (deltas_of (λ s. s.branch) t.branch ts +ℤ t.delta))
+abbrev pub balances_of : Spots → List Transfer → Transfer → Saved
+balances_of spots ts t =
+    (spots.account, as_word (deltas_of (λ s. s.account) t.account ts +ℤ t.delta))
+    ∷ (spots.teller, as_word (deltas_of (λ s. s.teller) t.teller ts +ℤ t.delta))
+    ∷ (spots.branch, as_word (deltas_of (λ s. s.branch) t.branch ts +ℤ t.delta))
     ∷ []
 
 -- the row of history that it puts

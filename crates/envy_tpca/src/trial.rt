@@ -16,7 +16,7 @@ use envy_memory::Memory;
 
 /// Adds to the three balances.
 pub fn put_balances<B: Bench>(memory: &mut Memory<B>, slot: u8, at: Spots, t: Transfer) -> Result<(), Fault>
-    ensures { (n : ℕ) (first : Picture) (l : Places) (size : ℕ) (ts : List ATransfer) (before : List ℕ) → Running n first before before slot 0 0 memory.old → IsTried first.chart.shape.shadows l size ts before (length ts) t at → AfterPut n first before (put_back (balances_of l ts t) before) slot 3 (page_of at.branch) result memory.new }
+    ensures { (n : ℕ) (first : Picture) (l : Places) (size : ℕ) (ts : List ATransfer) (before : List ℕ) → Running n first before before slot 0 0 memory.old → IsTried first.chart.shape.shadows l size ts before (length ts) t at → AfterPut n first before (put_back (balances_of at ts t) before) slot 3 (page_of at.branch) result memory.new }
 {
     add(memory, slot, at.account, t.delta)?;
     add(memory, slot, at.teller, t.delta)?;
@@ -26,7 +26,7 @@ pub fn put_balances<B: Bench>(memory: &mut Memory<B>, slot: u8, at: Spots, t: Tr
 /// Puts the row of history.
 pub fn put_row<B: Bench>(memory: &mut Memory<B>, slot: u8, row: u32, t: Transfer) -> Result<(), Fault>
     requires row { row < 2 ^ 31 }
-    ensures { (n : ℕ) (first : Picture) (before now : List ℕ) (last : ℕ) → Running n first before now slot 3 last memory.old → IsRoomy first.chart.shape.shadows now row → AfterPut n first before (put_back (row_of row t) now) slot 4 (page_of row) result memory.new }
+    ensures { (n : ℕ) (first : Picture) (before now : List ℕ) (last : ℕ) → Running n first before now slot 3 last memory.old → IsRoomy first.chart.shape.shadows now row t → AfterPut n first before (put_back (row_of row t) now) slot 4 (page_of row) result memory.new }
 {
     put_word(memory, slot, row, u64::from(t.account))?;
     put_word(memory, slot, row + 1, u64::from(t.teller))?;

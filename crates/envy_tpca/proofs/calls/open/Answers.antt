@@ -12,7 +12,7 @@ returns-in_err-begin g c =
     let p = err_from_is_err_and c.from_residual.result c.from_residual.ensures.1 in
     let did = since-quiet c.args.memory.now c.begin.new.self c.begin.ensures.works (ap (λ (x : Picture). counts_of x.parts) c.begin.ensures.kept) in
     rw (p.1, p.2) (λ n first before rests since.
-    begin-stopped n first before c.args.memory.now c.begin.new.self rests since did c.begin.ensures.cut c.in_err-begin.field-0 (c.in_err-begin.ensures.step (fresh c.args.memory.now.chart.shape.shadows before) rests))
+    begin-stopped n first before c.args.memory.now c.begin.new.self rests since did c.begin.ensures.cut c.in_err-begin.field-0.0 (c.in_err-begin.ensures.step (fresh c.args.memory.now.chart.shape.shadows before) rests))
 
 pub returns : goal.returns
 returns g c =
