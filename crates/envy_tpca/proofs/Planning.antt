@@ -30,7 +30,7 @@ plans-step : (every n : ℕ) → plans_in every n ≤ plans_in every (n + 1)
 plans-step every n = rw (plans-more every n) (omega arith)
 
 pub plans-least : (every n k : ℕ) → plans_in every n ≤ plans_in every (n + k)
-plans-least every n zero = omega arith
+plans-least every n zero = let e : n ≡ n + 0 = omega arith in subst (λ (j : ℕ). plans_in every n ≤ plans_in every j) e (omega arith)
 plans-least every n (suc k) = let e = plans-least every n k in let f = plans-step every (n + k) in let same : n + k + 1 ≡ n + suc k = omega arith in subst (λ (j : ℕ). plans_in every n ≤ plans_in every j) same (omega arith)
 
 pub plans-within : (every n m : ℕ) → n ≤ m → plans_in every n ≤ plans_in every m

@@ -1,12 +1,13 @@
 -- One transfer more of a load that is driven.
 use Rattle.std.proofs.Common.{◌≡◌, ◌⊎◌, inl, inr, ℕ, zero, suc, ◌<◌, ◌≤◌, ◌+◌, ◌*◌, List, [], ◌∷◌, length, Result, Ok, Err, refl, sym, ◌∙◌, ap, subst, arith, add-one}
-use Rattle.std.specs.Prelude.{◌++◌, ◌%◌, ◌/◌, ◌^◌, ℤ, ◌+ℤ◌, if◌then◌else◌, unsigned_abs, replicate}
+use Rattle.std.specs.Prelude.{◌++◌, ◌%◌, ◌/◌, ◌^◌, ℤ, ◌+ℤ◌, if◌then◌else◌, unsigned_abs, replicate, IsErr, IsErrAnd}
 use Rattle.envy_base.specs.Area.{Fits, history_at}
 use Rattle.envy_base.specs.Array.{put_back, zeros}
 use Rattle.envy_base.specs.declared.area.Area.{Area}
 use Rattle.envy_base.specs.declared.shape.Shape.{Shape}
 use Rattle.envy_layout.specs.Stands.{Stands}
 use Rattle.envy_layout.specs.Words.{durable}
+use Rattle.envy_memory.specs.Calls.{fresh}
 use Rattle.envy_memory.specs.Picture.{Picture}
 use Rattle.envy_tpca.specs.declared.fault.DriveFault.{DriveFault}
 use Rattle.envy_tpca.specs.declared.places.Places.{Places}
@@ -14,7 +15,7 @@ use Rattle.envy_tpca.specs.declared.places.Spots.{Spots}
 use Rattle.envy_tpca.specs.declared.transfer.Transfer.{Transfer}
 use Rattle.envy_tpca.specs.Driving.{IsLoadOf, is_planned, plans_in}
 use Rattle.envy_tpca.specs.Load.{Draws, next_transfer, after, first}
-use Rattle.envy_tpca.specs.Running.{MayDrive, IsAt, IsWithin}
+use Rattle.envy_tpca.specs.Running.{MayDrive, IsAt, IsWithin, AfterAll}
 use Rattle.envy_tpca.specs.Since.{Since}
 use Rattle.envy_tpca.specs.Tpc.{TpcAt, Tpc, places_of, account_at, row_at}
 use Rattle.envy_tpca.specs.Trial.{AreSmall, AreSpots, InRange, IsTried, writes}
@@ -139,3 +140,26 @@ at-first area l load every p may since = record { words = may.words; since = sub
 -- words of zeros are those after no transfer
 pub zeros-words : (area : Area) (load : Draws) (pages : ℕ) (words : List ℕ) → words ≡ replicate (32 * pages) 0 → Tpc area pages load 0 words
 zeros-words area load pages words is = subst (λ (ws : List ℕ). Tpc area pages load 0 ws) (sym is) (subst (λ (ts : List Transfer). TpcAt (places_of area) (32 * pages) ts (replicate (32 * pages) 0)) (sym (first-none load)) (zeros-law (places_of area) (32 * pages)))
+
+-- a plan changes neither the words nor the slots
+pub rests-planned : (mid p : Picture) → Rests (durable mid.chart) mid → Stands p.chart (fresh mid.chart.shape.shadows (durable mid.chart)) → p.chart.shape ≡ mid.chart.shape → durable p.chart ≡ durable mid.chart → Rests (durable p.chart) p
+rests-planned mid p rests stands shape same =
+    subst (λ (ws : List ℕ). Stands p.chart (fresh p.chart.shape.shadows ws)) (sym same) (subst (λ (k : ℕ). Stands p.chart (fresh k (durable mid.chart))) (sym (ap (λ (sh : Shape). sh.shadows) shape)) stands)
+
+pub all-fails : (area : Area) (load : Draws) (every : ℕ) (old q : Picture) (result : Result ℤ DriveFault) (then_load : Draws) (fault : DriveFault) → IsEnd fault old q × IsWithin area load every old q → IsErr result → IsErrAnd result (λ e. e ≡ fault) → AfterAll area load every old result then_load q
+all-fails area load every old q (Ok sum) then_load fault ended is same = cc
+all-fails area load every old q (Err e) then_load fault ended is same = subst (λ (f : DriveFault). IsEnd f old q × IsWithin area load every old q) (sym same) ended
+
+-- what each transfer answers, at its answer
+pub once-ok : (n : ℕ) (old : Picture) (before now : List ℕ) (result : Result Unit DriveFault) (p : Picture) (u : Unit) → AfterTransfer n old before now result p → result ≡ Ok u → AfterTransfer n old before now (Ok u) p
+once-ok n old before now result p u a is = subst (λ (r : Result Unit DriveFault). AfterTransfer n old before now r p) is a
+
+pub once-err : (n : ℕ) (old : Picture) (before now : List ℕ) (result : Result Unit DriveFault) (p : Picture) (fault : DriveFault) → AfterTransfer n old before now result p → result ≡ Err fault → AfterTransfer n old before now (Err fault) p
+once-err n old before now result p fault a is = subst (λ (r : Result Unit DriveFault). AfterTransfer n old before now r p) is a
+
+-- what all transfers answer, at their answer
+pub all-ok : (area : Area) (load : Draws) (every : ℕ) (old q : Picture) (result : Result ℤ DriveFault) (then_load : Draws) (sum : ℤ) → AfterAll area load every old result then_load q → result ≡ Ok sum → AfterAll area load every old (Ok sum) then_load q
+all-ok area load every old q result then_load sum a is = subst (λ (r : Result ℤ DriveFault). AfterAll area load every old r then_load q) is a
+
+pub all-err : (area : Area) (load : Draws) (every : ℕ) (old q : Picture) (result : Result ℤ DriveFault) (then_load : Draws) (fault : DriveFault) → AfterAll area load every old result then_load q → result ≡ Err fault → IsEnd fault old q × IsWithin area load every old q
+all-err area load every old q result then_load fault a is = subst (λ (r : Result ℤ DriveFault). AfterAll area load every old r then_load q) is a

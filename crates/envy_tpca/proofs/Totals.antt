@@ -179,3 +179,16 @@ history-are l size n load words tpc all m le =
         let same = get-first n j load t (omega arith) in
         let small : unsigned_abs (get_or (first n load) j t).delta < 10 ^ 6 = all j t (omega arith) in
         ap (cast_signed w64) row ∙ signed-word (get_or (first n load) j t).delta (fits_signed_from_abs w64 (get_or (first n load) j t).delta (omega arith)) ∙ ap (λ (u : Transfer). u.delta) same
+
+deltas-more : (n : ℕ) (load : Draws) → deltas (first (n + 1) load) ≡ deltas (first n load) +ℤ (next_transfer (after n load)).0.delta
+deltas-more n load = ap deltas (first-more n load) ∙ deltas-push (first n load) (next_transfer (after n load)).0
+
+-- the wrapping sum of the deltas, where nothing wraps
+pub delta-step : (bits n : ℕ) (load : Draws) (d : ℤ) → bits < 2 ^ 64 → cast_signed w64 bits ≡ deltas (first n load) → d ≡ (next_transfer (after n load)).0.delta → Small d → Small (deltas (first (n + 1) load)) → cast_signed w64 ((bits + cast_unsigned w64 d) % 2 ^ 64) ≡ deltas (first (n + 1) load)
+delta-step bits n load d lt e is sd small =
+    let next = deltas-more n load in
+    wrapping_add_onto w64 bits d lt sd
+    ∙ ap (λ (y : ℤ). int_wrap w64 (y +ℤ d)) e
+    ∙ ap (λ (y : ℤ). int_wrap w64 (deltas (first n load) +ℤ y)) is
+    ∙ int_wrap_fits w64 (deltas (first n load) +ℤ (next_transfer (after n load)).0.delta) (subst Small next small)
+    ∙ sym next

@@ -92,11 +92,11 @@ pub fn drive<B: Bench>(memory: &mut Memory<B>, load: &mut Load, area: &Area, eve
     ensures some_plans { memory.old.chart.plans ≤ memory.new.chart.plans }
     ensures few_plans { memory.new.chart.plans ≤ memory.old.chart.plans + plans_in every area.now.transfers }
 {
-    let lives = memory.lives();
+    let given = memory.lives();
     let places = lay_out(area, memory.board());
     let deltas = transfer_all(memory, load, area, places, every)?;
     let counts = memory.counts();
-    let cuts = u64::from(lives - memory.lives());
+    let cuts = u64::from(given - memory.lives());
     let branches = sum_balances(memory, 1, places.branches);
     let tellers = sum_balances(memory, 1 + places.branches, 10 * places.branches);
     let accounts = sum_balances(memory, 1 + 11 * places.branches, places.accounts);
