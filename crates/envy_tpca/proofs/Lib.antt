@@ -4,6 +4,7 @@ pub mod Calling
 pub mod Chaining
 pub mod Counted
 pub mod Drawing
+pub mod Driven
 pub mod Loading
 pub mod Looking
 pub mod Planning
