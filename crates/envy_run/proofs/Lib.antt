@@ -4,6 +4,8 @@ pub mod Completing
 pub mod Equating
 pub mod Generating
 pub mod Hitting
+pub mod IndexLines
+pub mod IndexTold
 pub mod Noting
 pub mod Obeying
 pub mod Preparing

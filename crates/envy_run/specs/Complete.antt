@@ -1,11 +1,12 @@
 -- A command for which all goes well is done to its end, or memory runs out.
 use Rattle.std.specs.Prelude.{◌≡◌, ◌⊎◌, ◌<◌, IsTrue, ⊤, Some, Result, Ok}
 use Rattle.envy_args.specs.declared.command.Command.{Command}
-use Rattle.envy_args.specs.declared.command.Command.TheVariants.{Run, Plain, Gen}
+use Rattle.envy_args.specs.declared.command.Command.TheVariants.{Run, Plain, Gen, Index}
 use Rattle.envy_args.specs.declared.command.WordsFault.{WordsFault}
 use Rattle.envy_map.specs.Fields.{Chart}
 use Rattle.envy_serve.specs.GoodTrace.{StaysLow, IsGoodTrace}
 use Rattle.envy_serve.specs.Streams.{Streams}
+use Rattle.envy_run.specs.IndexTurns.{index_grammar}
 use Rattle.envy_run.specs.Outcome.{Outcome}
 use Rattle.envy_run.specs.Turns.{trace_grammar}
 
@@ -21,5 +22,6 @@ IsComplete o = (o.status ≡ 0) ⊎ (o.status ≡ 8)
 abbrev pub Completes : Result Command WordsFault → Outcome → Streams → Type 0
 Completes (Ok (Run setup returns)) o io = IsGoodTrace trace_grammar 0 io → IsWell o → IsComplete o
 Completes (Ok (Plain setup)) o io = IsGoodTrace trace_grammar 0 io → IsComplete o
+Completes (Ok (Index setup returns)) o io = IsGoodTrace index_grammar 0 io → IsWell o → IsComplete o
 Completes (Ok (Gen start count pages)) o io = StaysLow io.to.faults io.sink.faults → IsComplete o
 Completes command o io = ⊤

@@ -8,6 +8,8 @@ use Rattle.envy_args.specs.declared.command.WordsFault.{WordsFault}
 use Rattle.envy_args.specs.declared.command.WordsFault.TheVariants.{Form, Setup as Rule, Memory}
 use Rattle.envy_args.specs.Words.{command_of}
 use Rattle.envy_base.specs.Array.{Array, zeros}
+use Rattle.envy_btree.specs.declared.line.IndexLine.{IndexLine}
+use Rattle.envy_btree.specs.declared.reply.IndexReply.{IndexReply}
 use Rattle.envy_gen.specs.Traces.{trace_bytes}
 use Rattle.envy_map.specs.Fields.{Chart}
 use Rattle.envy_io.specs.declared.source.Failed.{Failed}
@@ -20,6 +22,8 @@ use Rattle.envy_serve.specs.Turns.{count_lines, count_replies}
 use Rattle.envy_run.specs.Counters.{AddsUp, just_told}
 use Rattle.envy_run.specs.Calm.{HasDoneCalmly, NeverDies}
 use Rattle.envy_run.specs.Done.{HasDone, HasDied}
+use Rattle.envy_run.specs.IndexDone.{HasIndexed, HasIndexDied, IndexLicences, OnIndexBoard}
+use Rattle.envy_run.specs.IndexTurns.{index_grammar}
 use Rattle.envy_run.specs.Outcome.{Outcome, IsQuiet}
 use Rattle.envy_run.specs.Task.{Task, DoesTask}
 use Rattle.envy_run.specs.Turns.{TraceTurn, trace_grammar, is_power, is_plan, is_lost, is_fault}
@@ -89,6 +93,18 @@ run_task setup returns = record {
   Unserved = IsUnserved;
 }
 
+-- the word `index`, over the words of a memory of zeros
+abbrev pub index_task : Setup → ℕ → Task IndexLine IndexReply
+index_task setup returns = record {
+  grammar = index_grammar;
+  skipped = 0;
+  Done = OnIndexBoard HasIndexed;
+  Dead = OnIndexBoard HasIndexDied;
+  tail = λ o. [];
+  Licences = λ o turns. IfSome o.board (IndexLicences setup returns turns);
+  Unserved = IsUnserved;
+}
+
 -- the word `plain`, on a machine of zeros; there is no board
 abbrev pub plain_task : Setup → Task Line Reply
 plain_task setup = record {
@@ -139,7 +155,7 @@ DoesCommand (Ok (Tpca setup returns start area every)) o io = Refuses 0 o io
 DoesCommand (Ok (Save setup returns)) o io = Refuses 0 o io
 DoesCommand (Ok (Resume policy limit mark returns)) o io = Refuses 0 o io
 DoesCommand (Ok Audit) o io = Refuses 0 o io
-DoesCommand (Ok (Index setup returns)) o io = Refuses 0 o io
+DoesCommand (Ok (Index setup returns)) o io = DoesTask (index_task setup returns) o io
 DoesCommand (Ok (Mirror setup returns)) o io = Refuses 0 o io
 DoesCommand (Err Form) o io = Refuses 0 o io
 DoesCommand (Err (Rule rule)) o io = Refuses rule o io

@@ -7,6 +7,9 @@ pub mod Done
 pub mod Equal
 pub mod Headline
 pub mod Hits
+pub mod IndexDone
+pub mod IndexServing
+pub mod IndexTurns
 pub mod Licence
 pub mod Obeys
 pub mod Outcome

@@ -15,8 +15,8 @@ use envy_trace::{Reply, reply_text};
 /// Where replies are built, one after another, for as long as a run lasts.
 #[derive(Drop)]
 pub struct ReplyBuffer {
-    text: ArrayVec<u8, 512>,
-    piece: ArrayVec<u8, 513>,
+    pub(crate) text: ArrayVec<u8, 512>,
+    pub(crate) piece: ArrayVec<u8, 513>,
 }
 
 impl ReplyBuffer {

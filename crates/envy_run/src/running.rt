@@ -8,6 +8,7 @@ ghost use Rattle.envy_run.specs.Outcome.{outcome, status_of, why_of};
 
 use crate::ended::Ended;
 use crate::gen_run::run_gen;
+use crate::index_run::run_index;
 use crate::plain_run::run_plain;
 use crate::prepare::{Unready, prepare};
 use crate::restart::ReplyBuffer;
@@ -125,12 +126,12 @@ fn perform<S: Source, K: Sink, M: Maker>(
             lines,
             pages,
         } => run_gen(sink, start, lines, pages),
+        Command::Index { setup, lives } => run_index(alloc, setup, lives, source, sink, maker),
         // words whose service isn't built yet
         Command::Tpca { .. }
         | Command::Save { .. }
         | Command::Resume { .. }
         | Command::Audit
-        | Command::Index { .. }
         | Command::Mirror { .. } => unserved(2, 0, None),
     }
 }

@@ -17,3 +17,9 @@ returns-in-Plain-clause-headline g c =
     let o : Outcome = outcome g.M.Made.Board.state c.run_plain.result in
     let io : Streams = record { from = g.S.Source.feed c.args.source.now; feed = g.S.Source.feed c.run_plain.new.source; to = g.K.Sink.drain c.args.sink.now; sink = g.K.Sink.drain c.run_plain.new.sink } in
     subst (λ (x : Command). Headline (Ok x) o io) (sym c.in-Plain.is) (inl (c.run_plain.ensures.runs g.M.Made.Board.state))
+
+pub returns-in-Index-clause-headline : goal.returns-in-Index-clause-headline
+returns-in-Index-clause-headline g c =
+    let o : Outcome = outcome g.M.Made.Board.state c.run_index.result in
+    let io : Streams = record { from = g.S.Source.feed c.args.source.now; feed = g.S.Source.feed c.run_index.new.source; to = g.K.Sink.drain c.args.sink.now; sink = g.K.Sink.drain c.run_index.new.sink } in
+    subst (λ (x : Command). Headline (Ok x) o io) (sym c.in-Index.is) (inl c.run_index.ensures.runs)
