@@ -109,10 +109,14 @@ index-of old mid es n (Ok done) long count few made = record { planted = made.0;
 index-of old mid es n (Err e) long count few made = tt
 
 -- a change that failed, after look-ups
-pub inserts-err : (key value : ℕ) (es : List (ℕ × ℕ)) (old mid new : Sheet) (f : TreeFault) → old.bads ≤ mid.bads → mid.bads ≤ new.bads → Settles es (with_pair key value es) mid (Err f) new → Inserts key value es old (Err f) new
-inserts-err key value es old mid new FaultOff le more s = s
-inserts-err key value es old mid new Full le more s = absurd s
-inserts-err key value es old mid new Bad le more s = (s.0, rose-over old.bads mid.bads new.bads new.bads le s.1 more (omega arith), s.2)
+pub inserts-err : (key value : ℕ) (es : List (ℕ × ℕ)) (old mid new : Sheet) (f : TreeFault) → old.bads ≤ mid.bads → mid.bads ≤ new.bads → (IsFull old.words key es → ⊥) → Settles es (with_pair key value es) mid (Err f) new → Inserts key value es old (Err f) new
+inserts-err key value es old mid new FaultOff le more room s = s
+inserts-err key value es old mid new Full le more room s = absurd s
+inserts-err key value es old mid new Bad le more room s = (s.0, rose-over old.bads mid.bads new.bads new.bads le s.1 more (omega arith), room, s.2)
+
+-- the pairs with the key are no more than there may be
+pub has-room : (old two : List ℕ) (key value n : ℕ) (es : List (ℕ × ℕ)) → length two ≡ length old → n ≡ length (with_pair key value es) → n ≤ most_pairs two → IsFull old key es → ⊥
+has-room old two key value n es long count few f = omega (arith, with_pair-missing key value es f.0, f.1, long, few, count)
 
 -- a map that isn't full took the key
 pub not-full : (old new : List ℕ) (key value : ℕ) (es : List (ℕ × ℕ)) → length new ≡ length old → IsIndex new (with_pair key value es) → IsFull old key es → ⊥

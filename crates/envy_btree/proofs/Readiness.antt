@@ -22,7 +22,7 @@ pub inserts-map : (key value : ℕ) (es : List (ℕ × ℕ)) (old new : Sheet) (
 inserts-map key value es old new (Ok x) shut g = (with_pair key value es, g.3)
 inserts-map key value es old new (Err FaultOff) shut g = elim g.1 [ inl i ↦ (es, subst (λ w. IsIndex w es) (sym shut) i) | inr i ↦ (with_pair key value es, subst (λ w. IsIndex w (with_pair key value es)) (sym shut) i) ]
 inserts-map key value es old new (Err Full) shut g = (es, g.2)
-inserts-map key value es old new (Err Bad) shut g = (es, g.2)
+inserts-map key value es old new (Err Bad) shut g = (es, g.3)
 
 pub removes-map : (key : ℕ) (es : List (ℕ × ℕ)) (old new : Sheet) (r : Result (Option ℕ) TreeFault) → new.words ≡ new.kept → Removes key es old r new → SomeMap new.words
 removes-map key es old new (Ok x) shut g = (without key es, g.2)

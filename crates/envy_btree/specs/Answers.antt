@@ -23,7 +23,7 @@ abbrev pub Inserts : ℕ → ℕ → List (ℕ × ℕ) → Sheet → Result (Opt
 Inserts key value es old (Ok was) new = IsTrue new.on × (was ≡ assoc key es) × (IsFull old.words key es → ⊥) × IsIndex new.words (with_pair key value es)
 Inserts key value es old (Err FaultOff) new = (new.on ≡ false) × (IsIndex new.kept es ⊎ IsIndex new.kept (with_pair key value es))
 Inserts key value es old (Err Full) new = IsTrue new.on × IsFull old.words key es × IsIndex new.words es
-Inserts key value es old (Err Bad) new = IsTrue new.on × Rose old.bads new.bads × IsIndex new.words es
+Inserts key value es old (Err Bad) new = IsTrue new.on × Rose old.bads new.bads × (IsFull old.words key es → ⊥) × IsIndex new.words es
 
 -- The old value of the key, which is out of the map from then on. Where power fails it is in or out.
 abbrev pub Removes : ℕ → List (ℕ × ℕ) → Sheet → Result (Option ℕ) TreeFault → Sheet → Type 0

@@ -1,4 +1,5 @@
-ghost use Rattle.std.specs.Prelude.{◌≡◌, []};
+ghost use Rattle.std.specs.Prelude.{◌≡◌, ◌≤◌, []};
+ghost use Rattle.arrayvec.specs.ArrayVec.{array_vec_len};
 ghost use Rattle.envy_btree.specs.Replies.{index_bytes};
 
 use arrayvec::ArrayVec;
@@ -27,7 +28,8 @@ pub enum IndexReply {
 #[tactic(auto, unfolding(crate::specs::Replies::index_bytes))]
 pub fn index_text(reply: &IndexReply, out: &mut ArrayVec<u8, 512>)
     requires { out.old.items ≡ [] }
-    ensures { out.new.items ≡ index_bytes reply.now }
+    ensures text { out.new.items ≡ index_bytes reply.now }
+    ensures short { array_vec_len out.new ≤ 20 }
 {
     match reply {
         IndexReply::Value(value) => push_number(out, *value),

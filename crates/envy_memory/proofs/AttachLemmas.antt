@@ -34,7 +34,7 @@ use Rattle.envy_memory.specs.Picture.{IsMemory, counts_of}
 
 -- ---- the array
 
-IsArray-fresh : (count shadows : ℕ) (words : List ℕ) → length words ≡ 32 * count → IsArray (fresh shadows words)
+pub IsArray-fresh : (count shadows : ℕ) (words : List ℕ) → length words ≡ 32 * count → IsArray (fresh shadows words)
 IsArray-fresh count shadows words long =
     let same : length words ≡ length (zeros count shadows).words = long ∙ sym (length-replicate (32 * count) 0) in
     IsArray-closed (zeros count shadows) 0 words (omega arith) same (IsArray-zeros count shadows)

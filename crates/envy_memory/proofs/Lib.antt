@@ -9,3 +9,4 @@ pub mod Owning
 pub mod PutLemmas
 pub mod Standing
 pub mod TickLemmas
+pub mod Transacting

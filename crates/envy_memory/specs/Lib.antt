@@ -4,6 +4,8 @@ pub mod Effects
 pub mod Faults
 pub mod Formats
 pub mod Hits
+pub mod Lawful
 pub mod Making
 pub mod Picture
 pub mod Restarts
+pub mod Sheets

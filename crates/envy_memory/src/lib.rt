@@ -13,6 +13,7 @@ mod laws;
 mod looking;
 mod making;
 mod memory;
+mod one_tx;
 mod putting;
 mod storing;
 #[cfg(test)]
@@ -35,3 +36,4 @@ pub use faults::{
 };
 pub use laws::hits_are_those_of_the_accesses;
 pub use memory::Memory;
+pub use one_tx::OneTx;

@@ -1,5 +1,7 @@
-ghost use Rattle.std.specs.Prelude.{◌≡◌, ◌↔◌, ◌*◌, ◌≤◌, ◌<◌, ◌/◌, false, IsTrue, OnOk, MatchResult, slice_index};
+ghost use Rattle.std.specs.Prelude.{◌≡◌, ◌↔◌, ◌*◌, ◌≤◌, ◌<◌, ◌/◌, false, IsTrue, OnOk, MatchResult, slice_index, [], replicate, None};
 ghost use Rattle.envy_base.specs.Array.{Array};
+ghost use Rattle.envy_base.specs.Shape.{IsShape};
+ghost use Rattle.envy_map.specs.Codes.{the_magic};
 ghost use Rattle.envy_map.specs.Fields.{chart};
 ghost use Rattle.envy_layout.specs.Sound.{IsSound};
 ghost use Rattle.envy_layout.specs.Stands.{Stands};
@@ -106,6 +108,17 @@ impl<B: Board> Memory<B> {
         ensures { chart (B.state result.now) ≡ self.now.chart }
     {
         &self.board
+    }
+
+    /// What holds of each memory: its board is formatted and sound. Where no slot is open, no page has an owner.
+    pub(crate) fn known(&self)
+        ensures shape { IsShape self.now.chart.shape }
+        ensures magic { self.now.chart.fields.magic ≡ the_magic }
+        ensures version { self.now.chart.fields.version ≡ 2 }
+        ensures sound { IsSound self.now.chart }
+        ensures unowned { (m : Array) → Stands self.now.chart m → m.slots ≡ replicate 64 None → self.now.owned.pairs ≡ [] }
+    {
+        let _ = &self.board;
     }
 
     /// Gives the board back. A memory may be attached to it.

@@ -20,7 +20,10 @@ use Rattle.envy_serve.proofs.GoodTraces.{good-ends, still-written}
 use Rattle.envy_trace.specs.declared.fault.LineFault.TheVariants.{Long}
 use Rattle.envy_run.specs.Complete.{IsWell, IsComplete, Completes}
 use Rattle.envy_run.specs.Done.{HasDied, DiesIn}
-use Rattle.envy_run.specs.Headline.{Headline, IsUnserved, run_task, save_task, plain_task, WritesTrace, IsDark, IsSpoilt, IsOutOfMemory, IsWithoutMemory, Generates, zeros_of}
+use Rattle.envy_run.specs.Headline.{Headline, IsUnserved, run_task, save_task, index_task, plain_task, WritesTrace, IsDark, IsSpoilt, IsOutOfMemory, IsWithoutMemory, Generates, zeros_of}
+use Rattle.envy_run.specs.IndexDone.{HasIndexDied, IndexDiesIn}
+use Rattle.envy_run.specs.IndexServing.{long_index}
+use Rattle.envy_run.specs.IndexTurns.{IndexTurn, index_grammar}
 use Rattle.envy_run.specs.Outcome.{Outcome, IsQuiet, status_of}
 use Rattle.envy_run.specs.Runs.{Runs}
 use Rattle.envy_run.specs.Task.{Task, IsServed, DoesTask}
@@ -68,6 +71,24 @@ completes-save setup returns o io d good well = at d.answers
     at (inl served) = inl (task-well (save_task setup returns) d.turns o io long_any served silent-good (λ (now, is, died). died-off (zeros_of setup) now d.turns (IsWell.returns well now is) died))
     at (inr (none, unserved)) = unserved-well o io unserved well
 
+fallen-off : (now : Chart) (turns : List IndexTurn) → IsTrue now.on ⊎ (0 < now.lives) → HasIndexDied now turns → ⊥
+fallen-off now [] well died = died
+fallen-off now (turn ∷ earlier) (inl on) died = let off = IndexDiesIn.off died in cc
+fallen-off now (turn ∷ earlier) (inr some) died = let none = IndexDiesIn.dead died in omega arith
+
+completes-index : (setup : Setup) (returns : ℕ) (o : Outcome) (io : Streams) (d : DoesTask (index_task setup returns) o io) → IsGoodTrace index_grammar 0 io → IsWell o → IsComplete o
+completes-index setup returns o io d good well = at d.answers
+  where
+    at : IsServed (index_task setup returns) d.turns o io ⊎ ((d.turns ≡ []) × IsUnserved o io) → IsComplete o
+    at (inl served) = inl (task-well (index_task setup returns) d.turns o io long_index served good (λ (now, is, died). fallen-off now d.turns (IsWell.returns well now is) died))
+    at (inr (none, (quiet, inl out))) = inr (IsOutOfMemory.status out)
+    at (inr (none, (quiet, inr (inl spoilt)))) = absurd (let (c, is, some) = IsSpoilt.cause spoilt in let none_bad = IsWell.bads well c is (IsQuiet.taken quiet) in omega arith)
+    at (inr (none, (quiet, inr (inr dark)))) = absurd (dark-off dark (IsWell.returns well dark.now dark.board_is))
+      where
+        dark-off : (dark : IsDark o) → IsTrue dark.now.on ⊎ (0 < dark.now.lives) → ⊥
+        dark-off dark (inl on) = let off = IsDark.off dark in cc
+        dark-off dark (inr some) = let none_left = IsDark.lives dark in omega arith
+
 completes-plain : (setup : Setup) (o : Outcome) (io : Streams) (d : DoesTask (plain_task setup) o io) → IsGoodTrace trace_grammar 0 io → IsComplete o
 completes-plain setup o io d good = at d.answers
   where
@@ -96,7 +117,8 @@ completes (Ok (Save setup returns)) o io (inr without) = λ good well. inr (IsOu
 completes (Ok (Resume policy limit mark returns)) o io done = tt
 completes (Ok Audit) o io (inl audits) = λ holds calm. completes-audit o io audits holds calm
 completes (Ok Audit) o io (inr without) = λ holds calm. inr (IsOutOfMemory.status (IsWithoutMemory.memory without))
-completes (Ok (Index setup returns)) o io done = tt
+completes (Ok (Index setup returns)) o io (inl indexes) = λ good well. completes-index setup returns o io indexes good well
+completes (Ok (Index setup returns)) o io (inr without) = λ good well. inr (IsOutOfMemory.status (IsWithoutMemory.memory without))
 completes (Ok (Mirror setup returns)) o io done = tt
 completes (Err fault) o io done = tt
 

@@ -7,6 +7,8 @@ pub mod Generating
 pub mod Hitting
 pub mod Imaged
 pub mod Loaded
+pub mod IndexLines
+pub mod IndexTold
 pub mod Noting
 pub mod Obeying
 pub mod Preparing

@@ -87,7 +87,7 @@ answered May m line (Stat counts) c on a = a
 texts-one : (reply : Reply) → texts trace_grammar (reply ∷ []) ≡ reply_bytes reply ++ newline ∷ []
 texts-one reply = append-nil (reply_bytes reply ++ newline ∷ [])
 
-one-more : (x : ℕ) → x ≡ x + 0
+pub one-more : (x : ℕ) → x ≡ x + 0
 one-more x = omega arith
 
 done-so : (May : Counts → Type 0) (m : Array) (line : Line) (reply : Reply) (old c : Picture) → IsCall line → IsTrue c.chart.on → AnswersTo May m line reply c.chart → AnswerLicence line reply old.chart c.chart → Notes line (reply ∷ []) old c → (left : Array) × LineDone May m line (reply ∷ []) left old c
@@ -186,7 +186,7 @@ lost-fresh m command n (k, (answer, step, accepted), inr is) =
     subst (λ (x : Array). fresh m.shadows x.words ≡ x) (sym is) (ap (λ (s : ℕ). fresh s (undone k)) (sym (step-shadows m command answer k step)))
 
 -- two texts one after the other, of which the second has a front written
-front-after : (a b c : Drain) (first second : List ℕ) → b.written ≡ with_end a.written first → a.faults ≤ b.faults → FrontWritten second b c → FrontWritten (first ++ second) a c
+pub front-after : (a b c : Drain) (first second : List ℕ) → b.written ≡ with_end a.written first → a.faults ≤ b.faults → FrontWritten second b c → FrontWritten (first ++ second) a c
 front-after a b c first second whole faults part = record {
   count = length first + part.count;
   front = part.front ∙ ap (λ (w : _). with_end w (take part.count second)) whole ∙ with_end-with_end a.written first (take part.count second) ∙ ap (with_end a.written) (sym (take-append-add first second part.count));
@@ -201,7 +201,7 @@ front-after a b c first second whole faults part = record {
         at (inr top) = let kept = Rises.kept part.faults in omega arith
 
 -- a front of the first text is one of both
-front-before : (a c : Drain) (first second : List ℕ) (n : ℕ) → n < length first → c.written ≡ with_end a.written (take n first) → Rises a.faults c.faults → FrontWritten (first ++ second) a c
+pub front-before : (a c : Drain) (first second : List ℕ) (n : ℕ) → n < length first → c.written ≡ with_end a.written (take n first) → Rises a.faults c.faults → FrontWritten (first ++ second) a c
 front-before a c first second n lt front faults = record {
   count = n;
   front = front ∙ ap (with_end a.written) (sym (take-append-le n first second (omega arith)));

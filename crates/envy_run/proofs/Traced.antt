@@ -94,7 +94,7 @@ pub licences-none : (setup : Setup) (returns : ℕ) (now : Chart) → now.shape 
 licences-none setup returns now shape given pulled plans = record { shape = shape; given = given; pulled = pulled; plans = plans; losts = omega arith; faults = omega arith; told = tt }
 
 -- there are no more such lines than lines
-count-lines : {Line Reply : Type 0} (test : Line → Bool) (turns : List (Turn Line Reply)) → count_lines test turns ≤ length turns
+pub count-lines : {Line Reply : Type 0} (test : Line → Bool) (turns : List (Turn Line Reply)) → count_lines test turns ≤ length turns
 count-lines test [] = omega arith
 count-lines test (turn ∷ earlier) = let rest = count-lines test earlier in at (test turn.line) rest
   where
@@ -102,7 +102,7 @@ count-lines test (turn ∷ earlier) = let rest = count-lines test earlier in at 
     at true le = omega arith
     at false le = omega arith
 
-count-of : {Reply : Type 0} (test : Reply → Bool) (replies : List Reply) → count_of test replies ≤ length replies
+pub count-of : {Reply : Type 0} (test : Reply → Bool) (replies : List Reply) → count_of test replies ≤ length replies
 count-of test [] = omega arith
 count-of test (reply ∷ replies) = at (test reply) (count-of test replies)
   where
@@ -201,7 +201,7 @@ since-told setup returns start p [] b (inr d) = tt
 since-told setup returns start p (turn ∷ earlier) b (inr d) = let (left, fails, words) = DiesIn.found d.died in died-told (DiesIn.array d.died) turn.line turn.replies earlier left (DiesIn.replies d.died) fails (λ c. AddsUp c p.chart)
 
 -- a count that is at least n where it is below the top
-below-top : (n count : ℕ) → n < 2 ^ 64 - 1 → (count < 2 ^ 64 - 1 → n ≤ count) → n ≤ count
+pub below-top : (n count : ℕ) → n < 2 ^ 64 - 1 → (count < 2 ^ 64 - 1 → n ≤ count) → n ≤ count
 below-top n count low le = at (cases_lt count (2 ^ 64 - 1))
   where
     at : (count < 2 ^ 64 - 1) ⊎ (2 ^ 64 - 1 ≤ count) → n ≤ count

@@ -1,13 +1,14 @@
 -- A command for which all goes well is done to its end, or memory runs out.
 use Rattle.std.specs.Prelude.{◌≡◌, ◌⊎◌, ℕ, ◌<◌, IsTrue, ⊤, List, ◌++◌, Some, Result, Ok}
 use Rattle.envy_args.specs.declared.command.Command.{Command}
-use Rattle.envy_args.specs.declared.command.Command.TheVariants.{Run, Plain, Gen, Save, Audit}
+use Rattle.envy_args.specs.declared.command.Command.TheVariants.{Run, Plain, Gen, Save, Audit, Index}
 use Rattle.envy_args.specs.declared.command.WordsFault.{WordsFault}
 use Rattle.envy_base.specs.State.{State, IsBoard}
 use Rattle.envy_image.specs.Image.{image_of}
 use Rattle.envy_map.specs.Fields.{Chart}
 use Rattle.envy_serve.specs.GoodTrace.{StaysLow, IsGoodTrace}
 use Rattle.envy_serve.specs.Streams.{Streams}
+use Rattle.envy_run.specs.IndexTurns.{index_grammar}
 use Rattle.envy_run.specs.Outcome.{Outcome}
 use Rattle.envy_run.specs.Turns.{trace_grammar}
 
@@ -36,6 +37,7 @@ NeverFailed o = (c : Chart) → o.board ≡ Some c → (c.cuts ≡ 0) × (c.bads
 abbrev pub Completes : Result Command WordsFault → Outcome → Streams → Type 0
 Completes (Ok (Run setup returns)) o io = IsGoodTrace trace_grammar 0 io → IsWell o → IsComplete o
 Completes (Ok (Plain setup)) o io = IsGoodTrace trace_grammar 0 io → IsComplete o
+Completes (Ok (Index setup returns)) o io = IsGoodTrace index_grammar 0 io → IsWell o → IsComplete o
 Completes (Ok (Gen start count pages)) o io = StaysLow io.to.faults io.sink.faults → IsComplete o
 Completes (Ok (Save setup returns)) o io = IsGoodTrace trace_grammar 0 io → IsWell o → IsComplete o
 Completes (Ok Audit) o io = HoldsImage io → NeverFailed o → IsComplete o

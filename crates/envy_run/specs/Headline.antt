@@ -9,6 +9,8 @@ use Rattle.envy_args.specs.declared.command.WordsFault.TheVariants.{Form, Setup 
 use Rattle.envy_args.specs.Words.{command_of}
 use Rattle.envy_base.specs.Array.{Array, zeros}
 use Rattle.envy_base.specs.State.{State}
+use Rattle.envy_btree.specs.declared.line.IndexLine.{IndexLine}
+use Rattle.envy_btree.specs.declared.reply.IndexReply.{IndexReply}
 use Rattle.envy_gen.specs.Traces.{trace_bytes}
 use Rattle.envy_image.specs.Image.{image_of}
 use Rattle.envy_map.specs.Fields.{Chart}
@@ -22,6 +24,8 @@ use Rattle.envy_run.specs.Audits.{Audits}
 use Rattle.envy_run.specs.Counters.{AddsUp, just_told}
 use Rattle.envy_run.specs.Calm.{HasDoneCalmly, NeverDies}
 use Rattle.envy_run.specs.Done.{HasDone, HasDied}
+use Rattle.envy_run.specs.IndexDone.{HasIndexed, HasIndexDied, IndexLicences, OnIndexBoard}
+use Rattle.envy_run.specs.IndexTurns.{index_grammar}
 use Rattle.envy_run.specs.Outcome.{Outcome, IsQuiet}
 pub use Rattle.envy_run.specs.Writing.{WritesOut, WritesTrace}
 use Rattle.envy_run.specs.Task.{Task, DoesTask}
@@ -101,6 +105,18 @@ image_in (Some s) = image_of s
 abbrev pub save_task : Setup → ℕ → Task Line Reply
 save_task setup returns = record (run_task setup returns) { grammar = silent trace_grammar; tail = λ o. image_in o.state }
 
+-- the word `index`, over the words of a memory of zeros
+abbrev pub index_task : Setup → ℕ → Task IndexLine IndexReply
+index_task setup returns = record {
+  grammar = index_grammar;
+  skipped = 0;
+  Done = OnIndexBoard HasIndexed;
+  Dead = OnIndexBoard HasIndexDied;
+  tail = λ o. [];
+  Licences = λ o turns. IfSome o.board (IndexLicences setup returns turns);
+  Unserved = IsUnserved;
+}
+
 -- the word `plain`, on a machine of zeros; there is no board
 abbrev pub plain_task : Setup → Task Line Reply
 plain_task setup = record {
@@ -142,7 +158,7 @@ DoesCommand (Ok (Tpca setup returns start area every)) o io = Refuses 0 o io
 DoesCommand (Ok (Save setup returns)) o io = DoesTask (save_task setup returns) o io
 DoesCommand (Ok (Resume policy limit mark returns)) o io = Refuses 0 o io
 DoesCommand (Ok Audit) o io = Audits o io
-DoesCommand (Ok (Index setup returns)) o io = Refuses 0 o io
+DoesCommand (Ok (Index setup returns)) o io = DoesTask (index_task setup returns) o io
 DoesCommand (Ok (Mirror setup returns)) o io = Refuses 0 o io
 DoesCommand (Err Form) o io = Refuses 0 o io
 DoesCommand (Err (Rule rule)) o io = Refuses rule o io

@@ -8,6 +8,9 @@ pub mod Done
 pub mod Equal
 pub mod Headline
 pub mod Hits
+pub mod IndexDone
+pub mod IndexServing
+pub mod IndexTurns
 pub mod Licence
 pub mod Loading
 pub mod Obeys

@@ -8,6 +8,10 @@ mod ended;
 #[cfg(test)]
 mod formatting_tests;
 mod gen_run;
+mod index_answering;
+mod index_obey;
+mod index_run;
+mod indexing;
 mod laws;
 mod loading;
 mod obey;

@@ -14,7 +14,7 @@ use envy_trace::{Reply, reply_text};
 /// Where replies are built, one after another, for as long as a run lasts.
 #[derive(Drop)]
 pub struct ReplyBuffer {
-    piece: ArrayVec<u8, 512>,
+    pub(crate) piece: ArrayVec<u8, 512>,
 }
 
 impl ReplyBuffer {

@@ -9,6 +9,7 @@ ghost use Rattle.envy_run.specs.Outcome.{outcome, status_of, why_of};
 use crate::audit_run::run_audit;
 use crate::ended::Ended;
 use crate::gen_run::run_gen;
+use crate::index_run::run_index;
 use crate::plain_run::run_plain;
 use crate::prepare::{Unready, prepare};
 use crate::restart::ReplyBuffer;
@@ -129,10 +130,10 @@ fn perform<S: Source, K: Sink, M: Maker>(
         } => run_gen(sink, start, lines, pages),
         Command::Save { setup, lives } => run_save(alloc, setup, lives, source, sink, maker),
         Command::Audit => run_audit(alloc, source, sink, maker),
+        Command::Index { setup, lives } => run_index(alloc, setup, lives, source, sink, maker),
         // words whose service isn't built yet
         Command::Tpca { .. }
         | Command::Resume { .. }
-        | Command::Index { .. }
         | Command::Mirror { .. } => unserved(2, 0, None),
     }
 }

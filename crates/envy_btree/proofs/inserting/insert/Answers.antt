@@ -1,6 +1,6 @@
 use Rattle.std.proofs.Common.{◌≡◌, ◌+◌, ◌≤◌, ◌<◌, ◌∙◌, ap, sym, subst, arith, length, get_or, List, ℕ, MatchOption}
 use Rattle.envy_btree.specs.Index.{IsIndex, most_pairs}
-use Rattle.envy_btree.proofs.Calls.{count-of, inserts-err, not-full}
+use Rattle.envy_btree.proofs.Calls.{count-of, has-room, inserts-err, not-full}
 use Rattle.envy_btree.proofs.inserting.insert.Goals as goal
 
 pub returns-in-Ok-clause-inserts : goal.returns-in-Ok-clause-inserts
@@ -27,4 +27,4 @@ returns-in-Err-clause-inserts g c es x =
     let counted = subst (λ b. MatchOption c.in_ok-was.was' (n ≡ b + 1) (λ _. n ≡ b)) before c.count_with-pairs.ensures in
     let count = count-of two.words c.args.key c.args.value n es c.in_ok-was.was' now.planted got.1 counted in
     let few : n ≤ most_pairs two.words = omega (arith, c.if-pairs-most_pairs.false, c.most_pairs.ensures, c.size.ensures) in
-    inserts-err c.args.key c.args.value es old two (g.W.Words.sheet c.insert_alone.new.words) c.in-Err.fault (omega (arith, c.in_ok-was.ensures.works.bads, c.in_ok-before.ensures.works.bads)) c.in-Err.ensures.keeps.bads (c.in-Err.ensures.settles es now count few)
+    inserts-err c.args.key c.args.value es old two (g.W.Words.sheet c.insert_alone.new.words) c.in-Err.fault (omega (arith, c.in_ok-was.ensures.works.bads, c.in_ok-before.ensures.works.bads)) c.in-Err.ensures.keeps.bads (has-room old.words two.words c.args.key c.args.value n es (c.in_ok-before.ensures.works.long ∙ c.in_ok-was.ensures.works.long) count few) (c.in-Err.ensures.settles es now count few)

@@ -29,3 +29,9 @@ returns-in-Save-clause-headline g c =
     let o : Outcome = outcome g.M.Made.Board.state c.run_save.result in
     let io : Streams = record { from = g.S.Source.feed c.args.source.now; feed = g.S.Source.feed c.run_save.new.source; to = g.K.Sink.drain c.args.sink.now; sink = g.K.Sink.drain c.run_save.new.sink } in
     subst (λ (x : Command). Headline (Ok x) o io) (sym c.in-Save.is) (inl c.run_save.ensures.runs)
+
+pub returns-in-Index-clause-headline : goal.returns-in-Index-clause-headline
+returns-in-Index-clause-headline g c =
+    let o : Outcome = outcome g.M.Made.Board.state c.run_index.result in
+    let io : Streams = record { from = g.S.Source.feed c.args.source.now; feed = g.S.Source.feed c.run_index.new.source; to = g.K.Sink.drain c.args.sink.now; sink = g.K.Sink.drain c.run_index.new.sink } in
+    subst (λ (x : Command). Headline (Ok x) o io) (sym c.in-Index.is) (inl c.run_index.ensures.runs)

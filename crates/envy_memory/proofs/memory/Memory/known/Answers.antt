@@ -1,0 +1,12 @@
+use Rattle.std.proofs.Common.{◌≡◌, [], sym, subst}
+use Rattle.envy_map.specs.Fields.{chart}
+use Rattle.envy_layout.specs.Stands.{Stands}
+use Rattle.envy_memory.specs.Picture.{Picture}
+use Rattle.envy_memory.proofs.Transacting.{unowned-shut}
+use Rattle.envy_memory.proofs.memory.Memory.known.Goals as goal
+
+pub returns-clause-unowned : goal.returns-clause-unowned
+returns-clause-unowned g c m stood shut =
+    let old = chart (g.B.Board.state c.self.inside.board) in
+    let stands : Stands old m = subst (λ (p : Picture). Stands p.chart m) (sym c.self.view_is) stood in
+    subst (λ (p : Picture). p.owned.pairs ≡ []) c.self.view_is (unowned-shut old m c.self.inside.owned.pairs stands shut (c.self.invariant.owned (Stands.on stands)))

@@ -1,0 +1,10 @@
+use Rattle.std.proofs.Common.{ap}
+use Rattle.envy_memory.specs.Picture.{Picture}
+use Rattle.envy_memory.proofs.Transacting.{few-as, planned-held}
+use Rattle.envy_memory.proofs.one_tx.OneTx.arm_bad.Goals as goal
+
+pub invariant_of-self : goal.invariant_of-self
+invariant_of-self g c = record {
+  few = few-as c.args.self.now.memory.chart c.arm_bad.new.self.chart (ap (λ (p : Picture). p.chart.shape) c.arm_bad.ensures) c.args.self.now.few;
+  held = planned-held c.args.self.now.memory c.arm_bad.new.self c.args.self.now.begun c.arm_bad.ensures c.args.self.now.held;
+}

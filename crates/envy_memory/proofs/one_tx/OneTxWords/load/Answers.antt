@@ -1,0 +1,30 @@
+use Rattle.std.proofs.Common.{ap, refl, sym, ◌∙◌}
+use Rattle.envy_base.specs.Words.{Sheet}
+use Rattle.envy_map.specs.Fields.{Chart}
+use Rattle.envy_memory.specs.Picture.{Picture}
+use Rattle.std.specs.Prelude.{Err}
+use Rattle.envy_memory.proofs.Transacting.{few-as, same-held, sheet-same, in-range, lit-ok, load-word}
+use Rattle.envy_memory.proofs.one_tx.OneTxWords.load.Goals as goal
+
+pub invariant_of-self : goal.invariant_of-self
+invariant_of-self g c =
+    let same = ap (λ (p : Picture). p.chart) c.load.ensures.kept in
+    record {
+      few = few-as c.args.self.now.memory.chart c.load.new.self.chart (ap (λ (x : Chart). x.shape) same) c.args.self.now.few;
+      held = same-held c.args.self.now.memory.chart c.load.new.self.chart c.args.self.now.begun same c.args.self.now.held;
+    }
+
+pub unreachable-requires : goal.unreachable-requires
+unreachable-requires g c =
+    in-range c.args.self.now.memory c.args.self.now.begun c.args.a c.requires (c.load.ensures.range.0 (c.in-Err-Range.is ∙ ap (λ e. Err e) c.in-Err-Range.field-0-is)).1
+
+pub returns-in-Ok-clause-answer : goal.returns-in-Ok-clause-answer
+returns-in-Ok-clause-answer g c =
+    let p = c.args.self.now.memory in
+    let q = c.load.new.self in
+    let b = c.args.self.now.begun in
+    let lit = lit-ok q.chart.on c.in-Ok.word _ c.load.result c.in-Ok.is c.load.ensures.off in
+    let same = ap (λ (x : Picture). x.chart) c.load.ensures.kept in
+    let whole = sheet-same p q b same (ap (λ (x : Picture). x.owned) c.load.ensures.kept) in
+    let on = sym (ap (λ (x : Chart). x.on) same) ∙ lit in
+    (lit, load-word p b q.chart c.args.a c.in-Ok.word on c.args.self.now.held c.in-Ok.ensures.step, ap (λ (s : Sheet). s.words) whole, ap (λ (s : Sheet). s.pages) whole)

@@ -1,0 +1,44 @@
+-- A memory with one transaction at a time, as words.
+use Rattle.std.specs.Prelude.{◌≡◌, ◌⊎◌, ℕ, ◌&&◌, Bool, true, false, IsTrue, List, [], ◌∷◌, map, replicate, Option, None, Some, Result, Ok, Err}
+use Rattle.envy_base.specs.Array.{Array, Saved}
+use Rattle.envy_base.specs.Words.{Sheet}
+use Rattle.envy_map.specs.Fields.{Chart}
+use Rattle.envy_layout.specs.Stands.{Stands}
+use Rattle.envy_layout.specs.Words.{live, durable}
+use Rattle.envy_memory.specs.Picture.{Picture}
+use Rattle.envy_txn.specs.declared.pair.Pair.{Pair}
+
+-- what loads read while a transaction is open; else, and without power, what a restart leaves
+abbrev pub words_read : Bool → Chart → List ℕ
+words_read true c = live c
+words_read false c = durable c
+
+-- the numbers of a board that no call of `Words` changes: its sizes, the cuts by hand and the plans that were made, and
+-- the returns of power that it was given and has left
+abbrev pub fixed_of : Chart → List ℕ
+fixed_of c = c.shape.segments ∷ c.shape.rows ∷ c.shape.pages ∷ c.shape.shadows ∷ c.shape.frames ∷ c.shape.entries ∷ c.pulled ∷ c.plans ∷ c.given ∷ c.lives ∷ []
+
+-- The words of a memory whose transaction has begun or not. The pages put in it are those that it owns.
+abbrev pub sheet_of : Picture → Bool → Sheet
+sheet_of p begun = record {
+  words = words_read (p.chart.on && begun) p.chart;
+  kept = durable p.chart;
+  started = p.chart.on && begun;
+  pages = map (λ (e : Pair). e.page) p.owned.pairs;
+  room = p.chart.shape.shadows;
+  on = p.chart.on;
+  cuts = p.chart.cuts;
+  bads = p.chart.bads;
+  fixed = fixed_of p.chart;
+}
+
+-- no slot is open, or the first alone
+abbrev pub OnlyFirst : Bool → List (Option Saved) → Type 0
+OnlyFirst false slots = slots ≡ replicate 64 None
+OnlyFirst true slots = (saved : Saved) × (slots ≡ Some saved ∷ replicate 63 None)
+
+-- the board stands for an array with no other slot open than the transaction's
+pub record IsHeld (c : Chart) (begun : Bool) : Type 0 where
+  pub array : Array
+  pub stands : Stands c array
+  pub slots : OnlyFirst begun array.slots

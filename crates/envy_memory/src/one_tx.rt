@@ -1,0 +1,171 @@
+ghost use Rattle.std.specs.Prelude.{◌≡◌, ◌↔◌, ◌⊎◌, ◌*◌, ◌-◌, ◌^◌, ◌<◌, ◌≤◌, false, IsTrue, OnOk, MatchResult, [], replicate, None, Ok, Err};
+ghost use Rattle.envy_base.specs.Array.{Array};
+ghost use Rattle.envy_base.specs.Shape.{IsShape};
+ghost use Rattle.envy_layout.specs.Same.{Kept};
+ghost use Rattle.envy_layout.specs.Stands.{Stands};
+ghost use Rattle.envy_layout.specs.Words.{durable};
+ghost use Rattle.envy_map.specs.Codes.{the_magic};
+ghost use Rattle.envy_memory.specs.Calls.{fresh, lit, planned, pulled};
+ghost use Rattle.envy_memory.specs.Faults.{IsNoRefusal, trouble_of};
+ghost use Rattle.envy_memory.specs.Sheets.{IsHeld, sheet_of};
+
+use crate::faults::{BeginFault, EndFault, LoadFault, PutFault, ReviveFault};
+use crate::memory::Memory;
+use envy_base::{Bench, Board, Off, Trouble, Words};
+
+/// A memory with one transaction at a time, which has the first slot.
+pub struct OneTx<B: Bench> {
+    memory: Memory<B>,
+    begun: bool,
+    ghost few: { 32 * memory.chart.shape.pages < 2 ^ 32 },
+    ghost held: { ∥ (IsTrue memory.chart.on → IsHeld memory.chart begun) ∥₁ },
+}
+
+impl<B: Bench> OneTx<B> {
+    /// A memory that has power and no open slot.
+    pub fn new(memory: Memory<B>) -> OneTx<B>
+        requires { (m : Array) × Stands memory.chart m × (m.slots ≡ replicate 64 None) }
+        ensures same { result.memory ≡ memory }
+        ensures shut { result.begun ≡ false }
+    {
+        memory.known();
+        OneTx {
+            memory,
+            begun: false,
+        }
+    }
+
+    /// Gives the memory back. Its board is formatted; where power is on and no transaction is open, it stands for the
+    /// kept words with no slot open.
+    pub fn into_memory(self) -> Memory<B>
+        ensures same { result ≡ self.memory }
+        ensures magic { result.chart.fields.magic ≡ the_magic }
+        ensures version { result.chart.fields.version ≡ 2 }
+        ensures stands { IsTrue self.memory.chart.on → (sheet_of self.memory self.begun).started ≡ false → Stands result.chart (fresh result.chart.shape.shadows (durable result.chart)) }
+    {
+        self.memory.known();
+        let OneTx { memory, begun: _ } = self;
+        memory
+    }
+
+    /// Asks for power, as `Memory::revive` does. The kept words stay, and no transaction is open.
+    ///
+    /// # Errors
+    ///
+    /// `Dead`: power doesn't return, and nothing changed. `Off`: power was cut again.
+    pub fn wake(&mut self) -> Result<(), ReviveFault>
+        requires { self.old.memory.chart.on ≡ false }
+        ensures words { (sheet_of self.new.memory self.new.begun).kept ≡ (sheet_of self.old.memory self.old.begun).kept }
+        ensures ok { OnOk result (IsTrue self.new.memory.chart.on × (self.new.begun ≡ false)) }
+        ensures dead { (result ≡ Err ReviveFault.Dead) ↔ (self.old.memory.chart.lives ≡ 0) }
+        ensures off { (result ≡ Err ReviveFault.Off) ↔ ((0 < self.old.memory.chart.lives) × (self.new.memory.chart.on ≡ false)) }
+        ensures cut { (result ≡ Err ReviveFault.Off) → self.old.memory.chart.cuts < 2 ^ 64 - 1 → self.old.memory.chart.cuts < self.new.memory.chart.cuts }
+        ensures kept { MatchResult result (λ _. Kept (lit self.old.memory.chart) self.new.memory.chart) (λ e. ((e ≡ ReviveFault.Dead) × (self.new.memory ≡ self.old.memory)) ⊎ (Kept (lit self.old.memory.chart) self.new.memory.chart × (self.new.memory.chart.on ≡ false))) }
+    {
+        self.memory.revive()?;
+        self.begun = false;
+        Ok(())
+    }
+
+    /// Plans a cut of power at the `k`-th device operation from now.
+    pub fn arm_cut(&mut self, k: u32, g: u64)
+        requires { 1 ≤ k }
+        ensures memory { self.new.memory ≡ record self.old.memory { chart = planned self.old.memory.chart } }
+        ensures begun { self.new.begun ≡ self.old.begun }
+    {
+        self.memory.arm_cut(k, g);
+    }
+
+    /// Plans a bad operation at the `k`-th flash operation from now.
+    pub fn arm_bad(&mut self, k: u32, g: u64)
+        requires { 1 ≤ k }
+        ensures memory { self.new.memory ≡ record self.old.memory { chart = planned self.old.memory.chart } }
+        ensures begun { self.new.begun ≡ self.old.begun }
+    {
+        self.memory.arm_bad(k, g);
+    }
+
+    /// Cuts power between two operations.
+    pub fn cut_now(&mut self)
+        requires { IsTrue self.old.memory.chart.on }
+        ensures memory { self.new.memory ≡ record self.old.memory { chart = pulled self.old.memory.chart } }
+        ensures begun { self.new.begun ≡ self.old.begun }
+    {
+        self.memory.cut_now();
+    }
+}
+
+/// The answer of a put that wasn't refused.
+fn trouble(answer: Result<(), PutFault>) -> Result<(), Trouble>
+    requires { IsNoRefusal answer }
+    ensures { result ≡ trouble_of answer }
+{
+    match answer {
+        Ok(()) => Ok(()),
+        Err(PutFault::Off) => Err(Trouble::Off),
+        Err(PutFault::Bad) => Err(Trouble::Bad),
+        Err(PutFault::Range | PutFault::Closed | PutFault::Held(_) | PutFault::Full) => {
+            unreachable!()
+        }
+    }
+}
+
+impl<B: Bench> Words for OneTx<B> {
+    ghost use Rattle.envy_memory.specs.Sheets.{sheet_of};
+    ghost use Rattle.envy_memory.specs.Lawful.{lawful_sheet};
+
+    ghost sheet = { λ s. sheet_of s.memory s.begun };
+
+    ghost lawful = { λ s. lawful_sheet s.memory s.begun s.few };
+
+    fn size(&self) -> u32 {
+        32 * self.memory.board().shape().pages
+    }
+
+    fn room(&self) -> u32 {
+        self.memory.board().shape().shadows
+    }
+
+    fn load(&mut self, a: u32) -> Result<u64, Off> {
+        match self.memory.load(a) {
+            Ok(word) => Ok(word),
+            Err(LoadFault::Off) => Err(Off),
+            Err(LoadFault::Range) => unreachable!(),
+        }
+    }
+
+    fn start(&mut self) -> Result<(), Off> {
+        self.memory.known();
+        let begun = self.memory.begin();
+        self.begun = true;
+        match begun {
+            Ok(_) => Ok(()),
+            Err(BeginFault::Off) => Err(Off),
+            Err(BeginFault::Busy) => unreachable!(),
+        }
+    }
+
+    fn put(&mut self, a: u32, w: u64) -> Result<(), Trouble> {
+        trouble(self.memory.put(0, a, w))
+    }
+
+    fn finish(&mut self) -> Result<(), Off> {
+        let ended = self.memory.commit(0);
+        self.begun = false;
+        match ended {
+            Ok(()) => Ok(()),
+            Err(EndFault::Off) => Err(Off),
+            Err(EndFault::Closed) => unreachable!(),
+        }
+    }
+
+    fn undo(&mut self) -> Result<(), Off> {
+        let ended = self.memory.abort(0);
+        self.begun = false;
+        match ended {
+            Ok(()) => Ok(()),
+            Err(EndFault::Off) => Err(Off),
+            Err(EndFault::Closed) => unreachable!(),
+        }
+    }
+}

@@ -1,0 +1,431 @@
+-- What an index did in a line and in a trace, from what its calls say.
+use Rattle.std.proofs.Common.{◌≡◌, ◌⊎◌, inl, inr, ℕ, ◌+◌, ◌-◌, ◌*◌, ◌^◌, ◌<◌, ◌≤◌, Bool, true, false, List, [], ◌∷◌, ◌++◌, length, take, refl, sym, ◌∙◌, ap, subst, arith}
+use Rattle.std.specs.Prelude.{IsTrue, Option, None, Some, IfSome, Result, Ok, Err, replicate, ◌↔◌, ◌&&◌}
+use Rattle.std.specs.Option.{option_map}
+use Rattle.std.proofs.lemmas.Bool.{cases_lt}
+use Rattle.std.proofs.Math.Seq.{take-append-add}
+use Rattle.std.proofs.lemmas.List.{append-nil, take-append-le}
+use Rattle.envy_base.specs.Shape.{IsShape}
+use Rattle.envy_base.specs.State.{State, IsMade}
+use Rattle.envy_base.proofs.Counting.{up-least, up-below}
+use Rattle.envy_base.proofs.Undoing.{undo_all-closed}
+use Rattle.envy_base.specs.declared.shape.Shape.{Shape}
+use Rattle.envy_btree.specs.Grammar.{index_line_of}
+use Rattle.envy_btree.specs.Index.{IsIndex}
+use Rattle.envy_btree.specs.Replies.{index_bytes}
+use Rattle.envy_btree.specs.Spelling.{ReadsIndex}
+use Rattle.envy_btree.proofs.Readiness.{zeros-index}
+use Rattle.envy_btree.specs.declared.line.IndexLine.{IndexLine}
+use Rattle.envy_btree.specs.declared.line.IndexLine.TheVariants.{Empty, Get, Insert, Remove, Power, Cut, Bad}
+use Rattle.envy_btree.specs.declared.reply.IndexReply.{IndexReply}
+use Rattle.envy_btree.specs.declared.reply.IndexReply.TheVariants.{Value, Missing, Full, Fault, Lost, Restarted, Armed}
+use Rattle.envy_io.specs.declared.source.Failed.{Failed}
+use Rattle.envy_io.specs.Lines.{newline}
+use Rattle.envy_io.specs.Streams.{Feed, Drain, Rises, WritesAll, with_end}
+use Rattle.envy_io.proofs.WritesLemmas.{with_end-with_end, with_end-nil}
+use Rattle.envy_layout.specs.Same.{Kept, Counted}
+use Rattle.envy_layout.specs.Sound.{IsSound}
+use Rattle.envy_layout.specs.Stands.{Stands, Holds}
+use Rattle.envy_layout.specs.Words.{durable}
+use Rattle.envy_map.specs.Codes.{the_magic}
+use Rattle.envy_map.specs.Fields.{Chart, chart}
+use Rattle.envy_memory.specs.Calls.{fresh, lit, pulled}
+use Rattle.envy_memory.specs.Formats.{IsFresh}
+use Rattle.envy_memory.specs.Picture.{Picture}
+use Rattle.envy_memory.specs.Sheets.{sheet_of}
+use Rattle.envy_policy.specs.declared.setup.Setup.{Setup}
+use Rattle.envy_serve.specs.declared.service.Obeyed.{Obeyed}
+use Rattle.envy_serve.specs.declared.service.Obeyed.TheVariants.{Done, WriteFault, Dead}
+use Rattle.envy_serve.specs.declared.serving.End.{End}
+use Rattle.envy_serve.specs.declared.serving.End.TheVariants.{Dead as EndDead}
+use Rattle.envy_serve.specs.Ends.{Serves, Ends, most_bytes}
+use Rattle.envy_serve.specs.Obeys.{Obeys}
+use Rattle.envy_serve.specs.Streams.{Streams, Written, FrontWritten}
+use Rattle.envy_serve.specs.Turns.{count_lines, count_of, count_replies, one_if, texts}
+use Rattle.envy_serve.proofs.Advancing.{Serves-as, served-either}
+use Rattle.envy_run.specs.Headline.{IsUnserved, index_task}
+use Rattle.envy_run.specs.IndexDone.{HasIndexed, HasIndexDied, IndexDiesIn, IndexLicences, OnIndexBoard}
+use Rattle.envy_run.specs.IndexServing.{Serving, IsIndexCall, IsIndexServed, LostAt, AnswersIndex, ReplyLicence, LineLicence, IndexOff, IndexBack, RecoversIndex, IndexLineDone, IndexLineDead, ObeysIndex, IndexLicensed, IndexedSince, FellIn, HasFallen, FellSince}
+use Rattle.envy_run.specs.IndexTurns.{Pairs, IndexTurn, IndexRun, Says, Faults, Loses, DoesIndex, FailsIn, index_grammar, most_of, before_restart, is_power, is_plan, is_lost, is_fault}
+use Rattle.envy_run.specs.Licence.{Licence, RoseOver}
+use Rattle.envy_run.specs.Outcome.{Outcome, outcome, status_of, why_of, IsQuiet}
+use Rattle.envy_run.specs.Prepares.{IsPrepared, IsReady}
+use Rattle.envy_run.specs.Task.{DoesTask}
+use Rattle.envy_run.specs.declared.ended.Ended.{Ended}
+use Rattle.envy_run.proofs.IndexLines.{Calls}
+use Rattle.envy_run.proofs.Obeying.{Licence-as, front-after, front-before, one-more}
+use Rattle.envy_run.proofs.Recovering.{Licence-trans, Licence-revived}
+use Rattle.envy_run.proofs.Replying.{Licence-refl, up-low}
+use Rattle.envy_run.proofs.Traced.{count-lines, count-of, below-top}
+
+texts-one : (reply : IndexReply) → texts index_grammar (reply ∷ []) ≡ index_bytes reply ++ newline ∷ []
+texts-one reply = append-nil (index_bytes reply ++ newline ∷ [])
+
+no-power : (line : IndexLine) → IsIndexCall line → (is_power line ≡ false) × (before_restart line ≡ Lost ∷ [])
+no-power Empty call = absurd call
+no-power (Get key) call = (refl, refl)
+no-power (Insert key value) call = (refl, refl)
+no-power (Remove key) call = (refl, refl)
+no-power Power call = absurd call
+no-power (Cut k g) call = (refl, refl)
+no-power (Bad k g) call = (refl, refl)
+
+-- ---- restarts
+
+pub off-refl : (c : Chart) → c.on ≡ false → IndexOff c c
+off-refl c off = record { off = off; durable = refl; licence = Licence-refl c }
+
+off-more : (a b c : Chart) → IndexOff a b → Kept (lit b) c → c.on ≡ false → IndexOff a c
+off-more a b c x kept off = record { off = off; durable = kept.durable ∙ x.durable; licence = Licence-trans 0 0 0 0 0 0 0 0 a b c x.licence (Licence-revived b c kept) }
+
+pub off-again : {E : Type 0} (a : Chart) (b c : Picture) → IndexOff a b.chart → (E × (c ≡ b)) ⊎ (Kept (lit b.chart) c.chart × (c.chart.on ≡ false)) → IndexOff a c.chart
+off-again a b c x (inl (never, same)) = subst (λ (p : Picture). IndexOff a p.chart) (sym same) x
+off-again a b c x (inr (kept, off)) = off-more a b.chart c.chart x kept off
+
+pub off-dead : {E : Type 0} (a : Chart) (b c : Picture) → IndexOff a b.chart → (E × (c ≡ b)) ⊎ (Kept (lit b.chart) c.chart × (c.chart.on ≡ false)) → b.chart.lives ≡ 0 → IndexOff a c.chart × (c.chart.lives ≡ 0)
+off-dead {E} a b c x (inl (never, same)) none = (off-again {E = E} a b c x (inl (never, same)), ap (λ (p : Picture). p.chart.lives) same ∙ none)
+off-dead {E} a b c x (inr (kept, off)) none = (off-again {E = E} a b c x (inr (kept, off)), let e = Counted.lives kept.counted in omega arith)
+
+and-shut : (on begun : Bool) → begun ≡ false → (on && begun) ≡ false
+and-shut true begun shut = shut
+and-shut false begun shut = refl
+
+pub back-after : (a b : Chart) (c : Picture) (begun : Bool) → IndexOff a b → Kept (lit b) c.chart → IsTrue c.chart.on → begun ≡ false → IndexBack a c begun
+back-after a b c begun x kept on shut = record { on = on; shut = and-shut c.chart.on begun shut; durable = kept.durable ∙ x.durable; licence = Licence-trans 0 0 0 0 0 0 0 0 a b c.chart x.licence (Licence-revived b c.chart kept) }
+
+-- ---- one line
+
+one-line : (most : ℕ) (es : Pairs) (line : IndexLine) (reply : IndexReply) (old : Chart) (new : Picture) (begun : Bool) → IsIndexCall line → IsTrue new.chart.on → AnswersIndex most es line reply new begun → ReplyLicence line reply old new.chart → (left : Pairs) × IndexLineDone most es line (reply ∷ []) left old new begun
+one-line most es line reply old new begun call on answers licence = at reply answers licence
+  where
+    so : (reply : IndexReply) → (n : Pairs) × (Says most es line reply n ⊎ Faults most es line reply n) × Serving new begun n → ReplyLicence line reply old new.chart → (left : Pairs) × IndexLineDone most es line (reply ∷ []) left old new begun
+    so reply (n, says, serving) x = (
+      n,
+      record {
+        does = inr (inl (reply, refl, says));
+        serving = serving;
+        licensed = Licence-as 0 (one_if (is_plan line)) (one_if (is_lost reply)) (one_if (is_fault reply)) (one_if (is_power line)) (one_if (is_plan line)) (one_if (is_lost reply) + 0) (one_if (is_fault reply) + 0) old new.chart (sym (ap one_if (no-power line call).0)) refl (one-more (one_if (is_lost reply))) (one-more (one_if (is_fault reply))) x;
+      },
+    )
+
+    at : (reply : IndexReply) → AnswersIndex most es line reply new begun → ReplyLicence line reply old new.chart → (left : Pairs) × IndexLineDone most es line (reply ∷ []) left old new begun
+    at (Value v) a x = so (Value v) a x
+    at Missing a x = so Missing a x
+    at Full a x = so Full a x
+    at Fault a x = so Fault a x
+    at Lost a x = absurd (let off = LostAt.off a in let clash : true ≡ false = sym on ∙ off in cc)
+    at Restarted a x = so Restarted a x
+    at Armed a x = so Armed a x
+
+-- an answer that isn't `lost` leaves power on
+lit-after : (most : ℕ) (es : Pairs) (line : IndexLine) (reply : IndexReply) (new : Picture) (begun : Bool) → (reply ≡ Lost → ⊥) → AnswersIndex most es line reply new begun → IsTrue new.chart.on
+lit-after most es line (Value v) new begun other (n, says, s) = Serving.on s
+lit-after most es line Missing new begun other (n, says, s) = Serving.on s
+lit-after most es line Full new begun other (n, says, s) = Serving.on s
+lit-after most es line Fault new begun other (n, says, s) = Serving.on s
+lit-after most es line Lost new begun other a = absurd (other refl)
+lit-after most es line Restarted new begun other (n, says, s) = Serving.on s
+lit-after most es line Armed new begun other (n, says, s) = Serving.on s
+
+pub index-done : (most : ℕ) (es : Pairs) (line : IndexLine) (reply : IndexReply) (old : Chart) (new : Picture) (begun : Bool) (sink then_sink : Drain) → IsIndexCall line → (reply ≡ Lost → ⊥) → AnswersIndex most es line reply new begun → ReplyLicence line reply old new.chart → WritesAll sink (index_bytes reply ++ newline ∷ []) (Ok tt) then_sink → ObeysIndex most es line Done old new begun sink then_sink
+index-done most es line reply old new begun sink then_sink call other a x (whole, faults, after) =
+    let (left, done) = one-line most es line reply old new begun call (lit-after most es line reply new begun other a) a x in
+    (reply ∷ [], left, done, record { whole = whole ∙ ap (with_end sink.written) (sym (texts-one reply)); faults = faults })
+
+pub index-failed : (most : ℕ) (es : Pairs) (line : IndexLine) (reply : IndexReply) (old : Chart) (new : Picture) (begun : Bool) (sink then_sink : Drain) (failed : Failed) → IsIndexCall line → (reply ≡ Lost → ⊥) → AnswersIndex most es line reply new begun → ReplyLicence line reply old new.chart → WritesAll sink (index_bytes reply ++ newline ∷ []) (Err failed) then_sink → ObeysIndex most es line WriteFault old new begun sink then_sink
+index-failed most es line reply old new begun sink then_sink failed call other a x (n, lt, front, faults) =
+    let (left, done) = one-line most es line reply old new begun call (lit-after most es line reply new begun other a) a x in
+    (reply ∷ [], left, done, record { count = n; front = front ∙ ap (λ (t : List ℕ). with_end sink.written (take n t)) (sym (texts-one reply)); faults = faults })
+
+-- what stays while power is off
+pub record Stays (es : Pairs) (old c : Chart) : Type 0 where
+  pub room : 32 ≤ c.shape.shadows
+  pub size : 32 * c.shape.pages ≤ 2 ^ 25
+
+back-serving : (es : Pairs) (old c : Chart) (new : Picture) (begun : Bool) → Stays es old c → IndexBack c new begun → IsIndex (durable c) es → Serving new begun es
+back-serving es old c new begun stays back map =
+    let shadows = ap (λ (sh : Shape). sh.shadows) (Licence.shape back.licence) in
+    let pages = ap (λ (sh : Shape). sh.pages) (Licence.shape back.licence) in
+    let room = stays.room in
+    let size = stays.size in
+    record { on = back.on; shut = back.shut; room = omega arith; size = omega arith; map = subst (λ (ws : List ℕ). IsIndex ws es) (sym back.durable) map }
+
+pub index-recovers : (most : ℕ) (es : Pairs) (line : IndexLine) (reply : IndexReply) (old c : Chart) (new : Picture) (b begun : Bool) (p : Picture) (sink mid_sink then_sink : Drain) (wrote : Result Unit Failed) (obeyed : Obeyed) → p.chart ≡ c → IsIndexCall line → Stays es old c → reply ≡ Lost → AnswersIndex most es line reply p b → ReplyLicence line reply old c → WritesAll sink (index_bytes reply ++ newline ∷ []) wrote mid_sink → RecoversIndex wrote obeyed c new begun mid_sink then_sink → ObeysIndex most es line obeyed old new begun sink then_sink
+index-recovers most es line reply old c new b begun p sink mid_sink then_sink wrote obeyed same call stays is a x writes recovers =
+    lost-so (subst (λ (d : Chart). LostAt most es line d) same (subst (λ (r : IndexReply). AnswersIndex most es line r p b) is a)) (subst (λ (r : IndexReply). ReplyLicence line r old c) is x) wrote obeyed (subst (λ (r : IndexReply). WritesAll sink (index_bytes r ++ newline ∷ []) wrote mid_sink) is writes) recovers
+  where
+    first : List ℕ
+    first = index_bytes Lost ++ newline ∷ []
+
+    licensed-one : ReplyLicence line Lost old c → Licence 0 0 0 0 c new.chart → LineLicence line (Lost ∷ []) old new.chart
+    licensed-one y z = Licence-as 0 (one_if (is_plan line) + 0) 1 0 (one_if (is_power line)) (one_if (is_plan line)) 1 0 old new.chart (sym (ap one_if (no-power line call).0)) (sym (one-more (one_if (is_plan line)))) refl refl (Licence-trans 0 (one_if (is_plan line)) 1 0 0 0 0 0 old c new.chart y z)
+
+    done-both : ReplyLicence line Lost old c → (l : LostAt most es line c) → IndexBack c new begun → IndexLineDone most es line (Lost ∷ Restarted ∷ []) (LostAt.left l) old new begun
+    done-both y l back = record { does = inr (inr (inl (refl, LostAt.loses l))); serving = back-serving (LostAt.left l) old c new begun (record { room = stays.room; size = stays.size }) back (LostAt.map l); licensed = licensed-one y back.licence }
+
+    dead-so : ReplyLicence line Lost old c → LostAt most es line c → IndexOff c new.chart → new.chart.lives ≡ 0 → IndexLineDead most es line old new.chart
+    dead-so y l off dead = record {
+      off = off.off;
+      dead = dead;
+      found = (LostAt.left l, inl (LostAt.loses l), subst (λ (ws : List ℕ). IsIndex ws (LostAt.left l)) (sym off.durable) (LostAt.map l));
+      licensed = subst (λ (rs : List IndexReply). LineLicence line rs old new.chart) (sym (no-power line call).1) (licensed-one y off.licence);
+    }
+
+    lost-so : LostAt most es line c → ReplyLicence line Lost old c → (wrote : Result Unit Failed) (obeyed : Obeyed) → WritesAll sink first wrote mid_sink → RecoversIndex wrote obeyed c new begun mid_sink then_sink → ObeysIndex most es line obeyed old new begun sink then_sink
+    lost-so l y (Ok done) Done (whole, faults, after) (ok, back, told) =
+        (Lost ∷ Restarted ∷ [], LostAt.left l, done-both y l back, record { whole = told.whole ∙ ap (λ (w : _). with_end w (texts index_grammar (Restarted ∷ []))) whole ∙ with_end-with_end sink.written first (texts index_grammar (Restarted ∷ [])); faults = let later = told.faults in omega arith })
+    lost-so l y (Err failed) Done writes_all (ok, back, told) = absurd (let never = ok in cc)
+    lost-so l y (Ok done) WriteFault (whole, faults, after) (back, inl (err, kept)) = absurd (let never = err in cc)
+    lost-so l y (Ok done) WriteFault (whole, faults, after) (back, inr (ok, part)) =
+        (Lost ∷ Restarted ∷ [], LostAt.left l, done-both y l back, front-after sink mid_sink then_sink first (texts index_grammar (Restarted ∷ [])) whole faults part)
+    lost-so l y (Err failed) WriteFault (n, lt, front, faults) (back, inl (err, kept)) =
+        (Lost ∷ Restarted ∷ [], LostAt.left l, done-both y l back, front-before sink then_sink first (texts index_grammar (Restarted ∷ [])) n lt (ap (λ (d : Drain). d.written) kept ∙ front) (subst (λ (d : Drain). Rises sink.faults d.faults) (sym kept) faults))
+    lost-so l y (Err failed) WriteFault writes_all (back, inr (ok, part)) = absurd (let never = ok in cc)
+    lost-so l y (Ok done) Dead (whole, faults, after) (off, dead, kept) =
+        (dead-so y l off dead, inl (subst (λ (rs : List IndexReply). Written (texts index_grammar rs) sink then_sink) (sym (no-power line call).1) (subst (λ (d : Drain). Written (texts index_grammar (Lost ∷ [])) sink d) (sym kept) (record { whole = whole ∙ ap (with_end sink.written) (sym (texts-one Lost)); faults = faults }))))
+    lost-so l y (Err failed) Dead (n, lt, front, faults) (off, dead, kept) =
+        (dead-so y l off dead, inr (subst (λ (rs : List IndexReply). FrontWritten (texts index_grammar rs) sink then_sink) (sym (no-power line call).1) (subst (λ (d : Drain). FrontWritten (texts index_grammar (Lost ∷ [])) sink d) (sym kept) (record { count = n; front = front ∙ ap (λ (t : List ℕ). with_end sink.written (take n t)) (sym (texts-one Lost)); faults = faults }))))
+
+pub index-power : (most : ℕ) (es : Pairs) (p c new : Picture) (b begun : Bool) (sink then_sink : Drain) (obeyed : Obeyed) → Serving p b es → c ≡ record p { chart = pulled p.chart } → RecoversIndex (Ok tt) obeyed c.chart new begun sink then_sink → ObeysIndex most es Power obeyed p.chart new begun sink then_sink
+index-power most es p c new b begun sink then_sink obeyed s is recovers = at obeyed recovers
+  where
+    cut : Licence 1 0 0 0 p.chart c.chart
+    cut = subst (λ (x : Picture). Licence 1 0 0 0 p.chart x.chart) (sym is) (record {
+      shape = refl;
+      given = refl;
+      pulled = λ lt. up-low p.chart.pulled lt;
+      plans_made = λ lt. omega arith;
+      cuts = record { kept = up-least p.chart.cuts; rise = λ lt. let e = up-below p.chart.cuts lt in omega arith };
+      bads = record { kept = omega arith; rise = λ lt. omega arith };
+    })
+
+    map : IsIndex (durable c.chart) es
+    map = subst (λ (x : Picture). IsIndex (durable x.chart) es) (sym is) s.map
+
+    stays : Stays es p.chart c.chart
+    stays = subst (λ (x : Picture). Stays es p.chart x.chart) (sym is) (record { room = s.room; size = s.size })
+
+    done-so : IndexBack c.chart new begun → IndexLineDone most es Power (Restarted ∷ []) es p.chart new begun
+    done-so back = record { does = inr (inr (inr (refl, refl, refl))); serving = back-serving es p.chart c.chart new begun stays back map; licensed = Licence-trans 1 0 0 0 0 0 0 0 p.chart c.chart new.chart cut back.licence }
+
+    at : (obeyed : Obeyed) → RecoversIndex (Ok tt) obeyed c.chart new begun sink then_sink → ObeysIndex most es Power obeyed p.chart new begun sink then_sink
+    at Done (ok, back, told) = (Restarted ∷ [], es, done-so back, told)
+    at WriteFault (back, inl (err, kept)) = absurd (let never = err in cc)
+    at WriteFault (back, inr (ok, part)) = (Restarted ∷ [], es, done-so back, part)
+    at Dead (off, dead, kept) = (
+      record { off = off.off; dead = dead; found = (es, inr (refl, refl), subst (λ (ws : List ℕ). IsIndex ws es) (sym off.durable) map); licensed = Licence-trans 1 0 0 0 0 0 0 0 p.chart c.chart new.chart cut off.licence },
+      inl (subst (λ (d : Drain). Written [] sink d) (sym kept) (record { whole = sym (with_end-nil sink.written); faults = omega arith })),
+    )
+
+-- an empty line does nothing
+pub index-empty : (most : ℕ) (es : Pairs) (line : IndexLine) (p : Picture) (b : Bool) (sink : Drain) → line ≡ Empty → Serving p b es → ObeysIndex most es line Done p.chart p b sink sink
+index-empty most es line p b sink is s = subst (λ (l : IndexLine). ObeysIndex most es l Done p.chart p b sink sink) (sym is)
+    ([], es, record { does = inl (refl, refl, refl); serving = s; licensed = Licence-refl p.chart }, record { whole = sym (with_end-nil sink.written); faults = omega arith })
+
+-- what the grammar reads may be served
+index-served : (bytes : List ℕ) (line : IndexLine) → ReadsIndex bytes line → IsIndexServed line
+index-served bytes Empty reads = tt
+index-served bytes (Get key) reads = tt
+index-served bytes (Insert key value) reads = tt
+index-served bytes (Remove key) reads = tt
+index-served bytes Power reads = tt
+index-served bytes (Cut k g) reads = (ReadsIndex.ranges reads).0
+index-served bytes (Bad k g) reads = (ReadsIndex.ranges reads).0
+
+pub said-served : (bytes : List ℕ) (line : IndexLine) → index_line_of bytes ≡ Ok line → (index_line_of bytes ≡ Ok line) ↔ ReadsIndex bytes line → IsIndexServed line
+said-served bytes line says spells = index-served bytes line (spells.0 says)
+
+-- ---- turns
+
+joined : (first : Chart) (p q : Picture) (b d : Bool) (turns : List IndexTurn) (t : IndexedSince first p b turns) (line : IndexLine) (replies : List IndexReply) (left : Pairs) → IndexLineDone (most_of p.chart.shape.pages) (IndexedSince.pairs t) line replies left p.chart q d → IndexedSince first q d (record { line = line; replies = replies } ∷ turns)
+joined first p q b d turns t line replies left x = record {
+  pairs = left;
+  run = subst (λ (sh : Shape). IndexRun (most_of sh.pages) (record { line = line; replies = replies } ∷ turns) left) (sym (Licence.shape x.licensed)) (IndexedSince.pairs t, IndexedSince.run t, x.does);
+  serving = x.serving;
+  licensed = Licence-trans (count_lines is_power turns) (count_lines is_plan turns) (count_replies is_lost turns) (count_replies is_fault turns) _ _ _ _ first p.chart q.chart t.licensed x.licensed;
+}
+
+pub index-obeys : (first : Chart) (p q : Picture) (b d : Bool) (turns : List IndexTurn) (line : IndexLine) (obeyed : Obeyed) (sink then_sink : Drain) (t : IndexedSince first p b turns) → ObeysIndex (most_of p.chart.shape.pages) (IndexedSince.pairs t) line obeyed p.chart q d sink then_sink → Obeys obeyed index_grammar (IndexedSince first q d) (FellSince first q.chart) turns line sink then_sink
+index-obeys first p q b d turns line Done sink then_sink t (replies, left, done, told) = (replies, joined first p q b d turns t line replies left done, told)
+index-obeys first p q b d turns line WriteFault sink then_sink t (replies, left, done, told) = (replies, joined first p q b d turns t line replies left done, told)
+index-obeys first p q b d turns line Dead sink then_sink t (dead, told) = (
+  _,
+  record {
+    fell = record {
+      pairs = IndexedSince.pairs t;
+      run = subst (λ (sh : Shape). IndexRun (most_of sh.pages) turns (IndexedSince.pairs t)) (sym (Licence.shape dead.licensed)) (IndexedSince.run t);
+      replies = refl;
+      found = subst (λ (sh : Shape). (left : Pairs) × FailsIn (most_of sh.pages) (IndexedSince.pairs t) line left × IsIndex (durable q.chart) left) (sym (Licence.shape dead.licensed)) dead.found;
+      off = dead.off;
+      dead = dead.dead;
+    };
+    licensed = Licence-trans (count_lines is_power turns) (count_lines is_plan turns) (count_replies is_lost turns) (count_replies is_fault turns) _ _ _ _ first p.chart q.chart t.licensed dead.licensed;
+  },
+  told,
+)
+
+-- ---- licences
+
+-- a line has two replies at most
+does-few : (most : ℕ) (es : Pairs) (line : IndexLine) (replies : List IndexReply) (n : Pairs) → DoesIndex most es line replies n → length replies ≤ 2
+does-few most es line replies n (inl (empty, none, same)) = let e = ap length none in omega arith
+does-few most es line replies n (inr (inl (reply, one, says))) = let e = ap length one in omega arith
+does-few most es line replies n (inr (inr (inl (two, loses)))) = let e = ap length two in omega arith
+does-few most es line replies n (inr (inr (inr (power, one, is)))) = let e = ap length one in omega arith
+
+run-few : (test : IndexReply → Bool) (most : ℕ) (turns : List IndexTurn) (n : Pairs) → IndexRun most turns n → count_replies test turns ≤ 2 * length turns
+run-few test most [] n run = omega arith
+run-few test most (turn ∷ earlier) n (mid, before, does) =
+    let rest = run-few test most earlier mid before in
+    let here = count-of test turn.replies in
+    let few = does-few most mid turn.line turn.replies n does in
+    omega arith
+
+before-few : (line : IndexLine) → length (before_restart line) ≤ 1
+before-few Empty = omega arith
+before-few (Get key) = omega arith
+before-few (Insert key value) = omega arith
+before-few (Remove key) = omega arith
+before-few Power = omega arith
+before-few (Cut k g) = omega arith
+before-few (Bad k g) = omega arith
+
+since-few : (test : IndexReply → Bool) (first : Chart) (p : Picture) (b : Bool) (turns : List IndexTurn) → IndexedSince first p b turns ⊎ FellSince first p.chart turns → count_replies test turns ≤ 2 * length turns
+since-few test first p b turns (inl t) = run-few test (most_of p.chart.shape.pages) turns (IndexedSince.pairs t) (IndexedSince.run t)
+since-few test first p b [] (inr d) = omega arith
+since-few test first p b (turn ∷ earlier) (inr d) =
+    let rest = run-few test (most_of p.chart.shape.pages) earlier (FellIn.pairs (FellSince.fell d)) (FellIn.run (FellSince.fell d)) in
+    let here = count-of test turn.replies in
+    let few = before-few turn.line in
+    let same = ap length (FellIn.replies (FellSince.fell d)) in
+    omega arith
+
+licensed-either : (first : Chart) (p : Picture) (b : Bool) (turns : List IndexTurn) → IndexedSince first p b turns ⊎ FellSince first p.chart turns → IndexLicensed turns first p.chart
+licensed-either first p b turns (inl t) = IndexedSince.licensed t
+licensed-either first p b turns (inr d) = FellSince.licensed d
+
+-- what a board was when its trace began
+pub record IndexBegan (setup : Setup) (returns : ℕ) (first : Chart) : Type 0 where
+  pub shape : first.shape ≡ setup.shape
+  pub given : first.given ≡ returns
+  pub pulled : first.pulled ≡ 0
+  pub plans : first.plans ≡ 0
+
+licences-none : (setup : Setup) (returns : ℕ) (c : Chart) → IndexBegan setup returns c → IndexLicences setup returns [] c
+licences-none setup returns c b = record { shape = b.shape; given = b.given; pulled = b.pulled; plans = b.plans; losts = omega arith; faults = omega arith }
+
+licences-since : (setup : Setup) (returns : ℕ) (first : Chart) (p : Picture) (d : Bool) (turns : List IndexTurn) → IndexBegan setup returns first → length turns ≤ most_bytes → IndexedSince first p d turns ⊎ FellSince first p.chart turns → IndexLicences setup returns turns p.chart
+licences-since setup returns first p d turns b few since =
+    let l = licensed-either first p d turns since in
+    let powers = count-lines is_power turns in
+    let planned = count-lines is_plan turns in
+    let lost = since-few is_lost first p d turns since in
+    let fault = since-few is_fault first p d turns since in
+    let pulled_none = b.pulled in
+    let plans_none = b.plans in
+    record {
+      shape = Licence.shape l ∙ b.shape;
+      given = Licence.given l ∙ b.given;
+      pulled = let e = Licence.pulled l (omega arith) in omega arith;
+      plans = let e = Licence.plans_made l (omega arith) in omega arith;
+      losts = below-top (count_lines is_power turns + count_replies is_lost turns) p.chart.cuts (omega arith) (λ lt. let rise = RoseOver.rise (Licence.cuts l) lt in omega arith);
+      faults = below-top (count_replies is_fault turns) p.chart.bads (omega arith) (λ lt. let rise = RoseOver.rise (Licence.bads l) lt in omega arith);
+    }
+
+-- ---- the whole trace
+
+-- before the first line: the words are zeros, and no transaction is open
+pub index-none : (setup : Setup) (returns : ℕ) (s : State) (p : Picture) (b : Bool) → IsShape setup.shape → 32 ≤ setup.shape.shadows → 20 ≤ setup.shape.pages → IsMade setup.shape returns s → IsReady (chart s) setup p → b ≡ false → IndexedSince p.chart p b []
+index-none setup returns s p b sizes room least made ready shut =
+    let shape : p.chart.shape ≡ setup.shape = IsPrepared.shape (IsReady.prepared ready) ∙ made.shape in
+    let shadows = ap (λ (sh : Shape). sh.shadows) shape in
+    let pages = ap (λ (sh : Shape). sh.pages) shape in
+    let most = sizes.few_pages in
+    let stands = IsFresh.stands (IsReady.fresh ready) in
+    let zeros_are : durable p.chart ≡ replicate (32 * p.chart.shape.pages) 0 = Holds.durable (Stands.holds stands) ∙ undo_all-closed 64 (replicate (32 * p.chart.shape.pages) 0) in
+    record {
+      pairs = [];
+      run = refl;
+      serving = record {
+        on = Stands.on stands;
+        shut = and-shut p.chart.on b shut;
+        room = omega arith;
+        size = omega arith;
+        map = subst (λ (ws : List ℕ). IsIndex ws []) (sym zeros_are) (zeros-index (32 * p.chart.shape.pages) (omega arith));
+      };
+      licensed = Licence-refl p.chart;
+    }
+
+-- what the memory gives back with its board
+pub record Back (p : Picture) (b : Bool) (now : Chart) : Type 0 where
+  pub same : now ≡ p.chart
+  pub sound : IsSound now
+  pub magic : now.fields.magic ≡ the_magic
+  pub version : now.fields.version ≡ 2
+  pub stands : IsTrue p.chart.on → (sheet_of p b).started ≡ false → Stands now (fresh now.shape.shadows (durable now))
+
+indexed : (first : Chart) (p : Picture) (b : Bool) (now : Chart) (turns : List IndexTurn) → Back p b now → IndexedSince first p b turns → HasIndexed now turns
+indexed first p b now turns x t = record {
+  pairs = IndexedSince.pairs t;
+  run = subst (λ (c : Chart). IndexRun (most_of c.shape.pages) turns (IndexedSince.pairs t)) (sym x.same) (IndexedSince.run t);
+  stands = x.stands (Serving.on (IndexedSince.serving t)) (Serving.shut (IndexedSince.serving t));
+  map = subst (λ (c : Chart). IsIndex (durable c) (IndexedSince.pairs t)) (sym x.same) (Serving.map (IndexedSince.serving t));
+}
+
+fallen : (first : Chart) (p : Picture) (b : Bool) (now : Chart) (turns : List IndexTurn) → Back p b now → FellSince first p.chart turns → HasIndexDied now turns
+fallen first p b now [] x d = FellSince.fell d
+fallen first p b now (turn ∷ earlier) x d =
+    let f = FellSince.fell d in
+    record {
+      pairs = FellIn.pairs f;
+      run = subst (λ (c : Chart). IndexRun (most_of c.shape.pages) earlier (FellIn.pairs f)) (sym x.same) (FellIn.run f);
+      replies = FellIn.replies f;
+      found = subst (λ (c : Chart). (left : Pairs) × FailsIn (most_of c.shape.pages) (FellIn.pairs f) turn.line left × IsIndex (durable c) left) (sym x.same) (FellIn.found f);
+      magic = x.magic;
+      version = x.version;
+      sound = x.sound;
+      off = ap (λ (c : Chart). c.on) x.same ∙ FellIn.off f;
+      dead = ap (λ (c : Chart). c.lives) x.same ∙ FellIn.dead f;
+    }
+
+pub index-began : (setup : Setup) (returns : ℕ) (s : State) (c : Chart) → IsMade setup.shape returns s → IsPrepared (chart s) c → IndexBegan setup returns c
+index-began setup returns s c made p = record { shape = p.shape ∙ made.shape; given = p.given ∙ made.given; pulled = p.pulled ∙ made.pulled; plans = p.plans ∙ made.plans }
+
+-- a run that ended before a line was read
+pub index-quiet : {B : Type 0} (state : B → State) (setup : Setup) (returns status why : ℕ) (board : Option B) (e : Ended B) (feed : Feed) (sink : Drain) → e ≡ record { status = status; why = why; lines = 0; taken = 0; board = board; second = None } → IsUnserved (outcome state (record { status = status; why = why; lines = 0; taken = 0; board = board; second = None })) (record { from = feed; feed = feed; to = sink; sink = sink }) → IfSome (option_map (λ b. chart (state b)) board) (IndexLicences setup returns []) → DoesTask (index_task setup returns) (outcome state e) (record { from = feed; feed = feed; to = sink; sink = sink })
+index-quiet {B} state setup returns status why board e feed sink is unserved licences =
+    subst (λ (x : Ended B). DoesTask (index_task setup returns) (outcome state x) (record { from = feed; feed = feed; to = sink; sink = sink })) (sym is)
+    (record { turns = []; answers = inr (refl, unserved); licences = licences })
+
+pub index-unread : (setup : Setup) (returns : ℕ) (s : State) (now : Chart) → IsMade setup.shape returns s → IsPrepared (chart s) now → IndexLicences setup returns [] now
+index-unread setup returns s now made p = licences-none setup returns now (index-began setup returns s now made p)
+
+index-ends : (setup : Setup) (returns : ℕ) (first : Chart) (p : Picture) (b : Bool) (now : Chart) (end : End) (lines taken : ℕ) (io : Streams) → Back p b now → IndexBegan setup returns first → lines ≤ most_bytes → (turns : List IndexTurn) × Serves end lines taken index_grammar 0 (IndexedSince first p b) (FellSince first p.chart) [] turns io → DoesTask (index_task setup returns) (record { status = status_of end; why = why_of end; lines = lines; taken = taken; board = Some now; second = None }) io
+index-ends setup returns first p b now end lines taken io x began few (turns, s) =
+    let either = served-either end (IndexedSince first p b) (FellSince first p.chart) turns (Ends.served (Serves.ends s)) in
+    record {
+      turns = turns;
+      answers = inl (record {
+        end = end;
+        serves = Serves-as end lines taken index_grammar 0 (IndexedSince first p b) (FellSince first p.chart) _ _ [] turns io (λ t. (now, refl, indexed first p b now turns x t)) (λ d. (now, refl, fallen first p b now turns x d)) s;
+        status = refl;
+        why = refl;
+      });
+      licences = subst (λ (c : Chart). IndexLicences setup returns turns c) (sym x.same) (licences-since setup returns first p b turns began (let same = Serves.lines_are s in omega arith) either);
+    }
+
+-- a run whose trace was served
+pub index-ended : {B : Type 0} (state : B → State) (setup : Setup) (returns : ℕ) (first : Chart) (p : Picture) (b : Bool) (now : Chart) (end : End) (lines taken skipped : ℕ) (board : B) (e : Ended B) (io : Streams) → e ≡ record { status = status_of end; why = why_of end; lines = lines; taken = taken; board = Some board; second = None } → chart (state board) ≡ now → skipped ≡ 0 → lines ≤ most_bytes → Back p b now → IndexBegan setup returns first → (turns : List IndexTurn) × Serves end lines taken index_grammar skipped (IndexedSince first p b) (FellSince first p.chart) [] turns io → DoesTask (index_task setup returns) (outcome state e) io
+index-ended {B} state setup returns first p b now end lines taken skipped board e io is same none few x began serves =
+    subst (λ (y : Ended B). DoesTask (index_task setup returns) (outcome state y) io) (sym is)
+    (subst (λ (c : Chart). DoesTask (index_task setup returns) (record { status = status_of end; why = why_of end; lines = lines; taken = taken; board = Some c; second = None }) io) (sym same)
+    (index-ends setup returns first p b now end lines taken io x began few
+    (subst (λ (k : ℕ). (turns : List IndexTurn) × Serves end lines taken index_grammar k (IndexedSince first p b) (FellSince first p.chart) [] turns io) none serves)))
+
+pub stays-of : (es : Pairs) (p : Picture) (b : Bool) (c : Chart) (i j k l : ℕ) → Serving p b es → Licence i j k l p.chart c → Stays es p.chart c
+stays-of es p b c i j k l s x =
+    let shadows = ap (λ (sh : Shape). sh.shadows) (Licence.shape x) in
+    let pages = ap (λ (sh : Shape). sh.pages) (Licence.shape x) in
+    let room = s.room in
+    let size = s.size in
+    record { room = omega arith; size = omega arith }
