@@ -1,5 +1,6 @@
 pub mod Alike
 pub mod Calm
+pub mod Checked
 pub mod Completing
 pub mod Equating
 pub mod Generating

@@ -1,5 +1,6 @@
 pub mod Allowed
 pub mod Answers
+pub mod Below
 pub mod Calm
 pub mod Complete
 pub mod Counters

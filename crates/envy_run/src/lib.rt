@@ -3,11 +3,15 @@
 #![tactic(auto)]
 
 mod answering;
+#[cfg(test)]
+mod board_tests;
 mod ended;
 #[cfg(test)]
 mod formatting_tests;
 mod gen_run;
 mod laws;
+#[cfg(test)]
+mod long_tests;
 mod obey;
 mod plain_run;
 #[cfg(test)]

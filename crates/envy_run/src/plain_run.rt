@@ -163,6 +163,7 @@ impl Service for Calm {
 
 /// Does the lines of the source in order on a plain machine, with each reply written before the next
 /// line is read. There is no board.
+#[tactic(auto, using(crate::proofs::Checked::shape_of_checked))]
 pub fn run_plain<S: Source, K: Sink, B>(
     alloc: Global,
     setup: &Setup,
@@ -176,10 +177,6 @@ pub fn run_plain<S: Source, K: Sink, B>(
     ensures read { result.taken ≤ 1099511627776 }
     ensures second { result.second ≡ None }
 {
-    // the words were checked
-    if setup.check().is_err() {
-        unreachable!();
-    }
     let Ok(plain) = Plain::new(alloc, &setup.shape) else {
         return unserved(8, 0, None);
     };

@@ -65,6 +65,7 @@ pub(crate) fn ended_with<B>(served: Served, board: Option<B>) -> Ended<B>
 
 /// Makes a board, formats it, and does the lines of the source in order, with each reply written before
 /// the next line is read.
+#[tactic(auto, using(crate::proofs::Checked::shape_of_checked))]
 fn run_trace<S: Source, K: Sink, M: Maker>(
     alloc: Global,
     setup: Setup,
@@ -80,10 +81,6 @@ fn run_trace<S: Source, K: Sink, M: Maker>(
     ensures read { result.taken ≤ 1099511627776 }
     ensures second { result.second ≡ None }
 {
-    // the words were checked
-    if setup.check().is_err() {
-        unreachable!();
-    }
     let Ok(board) = maker.make(alloc, &setup.shape, lives) else {
         return unserved(8, 0, None);
     };
