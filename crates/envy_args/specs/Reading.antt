@@ -5,9 +5,9 @@ use Rattle.std.specs.Option.{option_map_or}
 use Rattle.envy_args.specs.declared.command.Command.{Command}
 use Rattle.envy_args.specs.declared.command.WordsFault.{WordsFault}
 use Rattle.envy_args.specs.declared.command.WordsFault.TheVariants.{Form}
-use Rattle.envy_args.specs.Words.{Text, Options, is_number, is_value, value_of, run_of, plain_of, tpca_of, gen_of, run_options, plain_options, tpca_options, gen_options}
+use Rattle.envy_args.specs.Words.{Text, Options, is_number, is_value, value_of, run_of, plain_of, tpca_of, gen_of, save_of, resume_of, audit_of, index_of, mirror_of, run_options, plain_options, tpca_options, gen_options, resume_options, audit_options}
 use Rattle.envy_args.specs.declared.word.Word.{Word}
-use Rattle.envy_args.specs.declared.word.Word.TheVariants.{Run, Plain, Tpca, Gen}
+use Rattle.envy_args.specs.declared.word.Word.TheVariants.{Run, Plain, Tpca, Gen, Save, Resume, Audit, Index, Mirror}
 
 -- the text of a command word
 abbrev pub word_of : Word → Text
@@ -15,9 +15,14 @@ word_of Run = codes "run"
 word_of Plain = codes "plain"
 word_of Tpca = codes "tpca"
 word_of Gen = codes "gen"
+word_of Save = codes "save"
+word_of Resume = codes "resume"
+word_of Audit = codes "audit"
+word_of Index = codes "index"
+word_of Mirror = codes "mirror"
 
 abbrev pub all : List Word
-all = Run ∷ Plain ∷ Tpca ∷ Gen ∷ []
+all = Run ∷ Plain ∷ Tpca ∷ Gen ∷ Save ∷ Resume ∷ Audit ∷ Index ∷ Mirror ∷ []
 
 -- the names of its options
 abbrev pub options_of : Word → List Text
@@ -25,6 +30,11 @@ options_of Run = run_options
 options_of Plain = plain_options
 options_of Tpca = tpca_options
 options_of Gen = gen_options
+options_of Save = run_options
+options_of Resume = resume_options
+options_of Audit = audit_options
+options_of Index = run_options
+options_of Mirror = run_options
 
 -- the option isn't given, or has a number as its value
 abbrev pub has_number : ℕ → Options → Text → Bool
@@ -61,3 +71,8 @@ make_of Run = run_of
 make_of Plain = plain_of
 make_of Tpca = tpca_of
 make_of Gen = gen_of
+make_of Save = save_of
+make_of Resume = resume_of
+make_of Audit = audit_of
+make_of Index = index_of
+make_of Mirror = mirror_of

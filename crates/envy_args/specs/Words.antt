@@ -13,7 +13,7 @@ use Rattle.envy_policy.specs.declared.setup.Setup.{Setup}
 use Rattle.envy_policy.specs.declared.setup.SetupFault.{SetupFault}
 use Rattle.envy_policy.specs.Setup.{checked, rule_of}
 use Rattle.envy_args.specs.declared.command.Command.{Command}
-use Rattle.envy_args.specs.declared.command.Command.TheVariants.{Run, Plain, Tpca, Gen}
+use Rattle.envy_args.specs.declared.command.Command.TheVariants.{Run, Plain, Tpca, Gen, Save, Resume, Audit, Index, Mirror}
 use Rattle.envy_args.specs.declared.command.WordsFault.{WordsFault}
 use Rattle.envy_args.specs.declared.command.WordsFault.TheVariants.{Form, Setup as Rule}
 
@@ -122,6 +122,10 @@ usual = record { segments = 8; rows = 16; pages = 64; shadows = 16; frames = 8; 
 abbrev pub usual_of_load : Shape
 usual_of_load = record { segments = 16; rows = 32; pages = 384; shadows = 16; frames = 16; entries = 16 }
 
+-- the shape of an index: that of a load, with shadows for all pages that one operation puts
+abbrev pub usual_of_index : Shape
+usual_of_index = record usual_of_load { shadows = 32 }
+
 abbrev pub shape_of : Shape → Options → Shape
 shape_of default options = record {
   segments = number_of options (codes "segments") default.segments;
@@ -192,6 +196,32 @@ gen_of options = let pages = number_of options (codes "pages") 64 in
     else (if nat_lt 1048576 pages then Err (Rule 7)
     else Ok (Gen (start_of options) (number_of options (codes "lines") 1000) pages))
 
+abbrev pub save_of : Options → Result Command WordsFault
+save_of options = let setup = setup_of usual options in
+    after_check (checked setup) (Ok (Save setup (lives_of options)))
+
+-- a mark that isn't given stands open; no rule is asked before the image is read
+abbrev pub resume_of : Options → Result Command WordsFault
+resume_of options = Ok (Resume (policy_of options) (number_of options (codes "limit") 100)
+    (option_map (digits_value 10) (value_of options (codes "mark"))) (lives_of options))
+
+abbrev pub audit_of : Options → Result Command WordsFault
+audit_of options = Ok Audit
+
+abbrev pub tree_of : Setup → Options → Result Command WordsFault
+tree_of setup options =
+    if nat_lt setup.shape.shadows 32 then Err (Rule 13)
+    else (if nat_lt setup.shape.pages 20 then Err (Rule 14)
+    else Ok (Index setup (lives_of options)))
+
+abbrev pub index_of : Options → Result Command WordsFault
+index_of options = let setup = setup_of usual_of_index options in
+    after_check (checked setup) (tree_of setup options)
+
+abbrev pub mirror_of : Options → Result Command WordsFault
+mirror_of options = let setup = setup_of usual options in
+    after_check (checked setup) (Ok (Mirror setup (lives_of options)))
+
 -- an entry of the table: a command word, its options, and what they make of it
 pub record Entry : Type 0 where
   pub name : Text
@@ -212,12 +242,23 @@ tpca_options = run_options
 abbrev pub gen_options : List Text
 gen_options = codes "start" ∷ codes "lines" ∷ codes "pages" ∷ []
 
+abbrev pub resume_options : List Text
+resume_options = codes "part" ∷ codes "policy" ∷ codes "limit" ∷ codes "mark" ∷ codes "lives" ∷ []
+
+abbrev pub audit_options : List Text
+audit_options = []
+
 abbrev pub commands : List Entry
 commands =
     record { name = codes "run"; options = run_options; make = run_of }
     ∷ record { name = codes "plain"; options = plain_options; make = plain_of }
     ∷ record { name = codes "tpca"; options = tpca_options; make = tpca_of }
     ∷ record { name = codes "gen"; options = gen_options; make = gen_of }
+    ∷ record { name = codes "save"; options = run_options; make = save_of }
+    ∷ record { name = codes "resume"; options = resume_options; make = resume_of }
+    ∷ record { name = codes "audit"; options = audit_options; make = audit_of }
+    ∷ record { name = codes "index"; options = run_options; make = index_of }
+    ∷ record { name = codes "mirror"; options = run_options; make = mirror_of }
     ∷ []
 
 -- Words

@@ -1,5 +1,5 @@
 use envy_base::Area;
-use envy_policy::Setup;
+use envy_policy::{Policy, Setup};
 
 /// What the program is asked to do.
 #[derive(Clone, Copy, Debug, PartialEq, Eq)]
@@ -28,6 +28,30 @@ pub enum Command {
         lines: u32,
         pages: u32,
     },
+    /// Answer a trace without a reply, and write the board's image where the trace was done to its end.
+    Save {
+        setup: Setup,
+        lives: u32,
+    },
+    /// Read an image, and answer the trace behind it. A mark of None is the image's number of frames.
+    Resume {
+        policy: Policy,
+        limit: u64,
+        mark: Option<u32>,
+        lives: u32,
+    },
+    /// Read an image and judge it.
+    Audit,
+    /// Keep an index tree in the memory: a trace of its operations is answered.
+    Index {
+        setup: Setup,
+        lives: u32,
+    },
+    /// Answer a trace over a mirrored pair of boards.
+    Mirror {
+        setup: Setup,
+        lives: u32,
+    },
 }
 
 /// Why words are refused.
@@ -36,7 +60,8 @@ pub enum WordsFault {
     /// They aren't in the form.
     Form,
     /// They are, but break a rule. This is the number of the first: 1 to 10 those of a setup, 11 that
-    /// the records of the load fit, 12 that it has shadows enough.
+    /// the records of the load fit, 12 that it has shadows enough, 13 that an index has shadows enough, 14
+    /// that it has pages enough.
     Setup(u8),
     /// Out of memory.
     Memory,

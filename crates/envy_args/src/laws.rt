@@ -1,8 +1,8 @@
-ghost use Rattle.std.specs.Prelude.{◌≡◌, ◌↔◌, ℕ, [], ◌∷◌, codes, Ok, Err, IsTrue};
+ghost use Rattle.std.specs.Prelude.{◌≡◌, ◌↔◌, ℕ, None, [], ◌∷◌, codes, Ok, Err, IsTrue};
 ghost use Rattle.envy_base.specs.Area.{Fits};
 ghost use Rattle.envy_base.specs.declared.area.Area.{Area};
 ghost use Rattle.envy_policy.specs.declared.setup.Policy.TheVariants.{Greedy};
-ghost use Rattle.envy_args.specs.declared.command.Command.TheVariants.{Run};
+ghost use Rattle.envy_args.specs.declared.command.Command.TheVariants.{Run, Resume, Audit};
 ghost use Rattle.envy_args.specs.declared.command.WordsFault.TheVariants.{Form, Setup as Rule};
 ghost use Rattle.envy_args.specs.Words.{command_of, fits, usual};
 
@@ -20,5 +20,9 @@ pub fn words_name_commands()
     ensures pages { command_of (codes "run" ∷ codes "--pages=0" ∷ codes "--" ∷ []) ≡ Err (Rule 3) }
     ensures total { command_of (codes "run" ∷ codes "--segments" ∷ codes "17" ∷ codes "--rows=65536" ∷ []) ≡ Err (Rule 7) }
     ensures transfers { command_of (codes "tpca" ∷ codes "--transfers" ∷ codes "1070" ∷ []) ≡ Err (Rule 11) }
+    ensures judged { command_of (codes "audit" ∷ []) ≡ Ok Audit }
+    ensures open { command_of (codes "resume" ∷ []) ≡ Ok (Resume Greedy 100 None 4294967295) }
+    ensures tree { command_of (codes "index" ∷ codes "--pages=19" ∷ codes "--shadows=31" ∷ []) ≡ Err (Rule 13) }
+    ensures heap { command_of (codes "index" ∷ codes "--pages=19" ∷ []) ≡ Err (Rule 14) }
     ensures shadows { command_of (codes "tpca" ∷ codes "--shadows" ∷ codes "4" ∷ []) ≡ Err (Rule 12) }
 {}

@@ -1,5 +1,6 @@
 ghost use Rattle.std.specs.Prelude.{◌≡◌, ◌⊎◌, map, None, Some, true, IfOk, MatchResult};
 ghost use Rattle.std.specs.Option.{option_map};
+ghost use Rattle.std.specs.Str.Parse.{digits_value};
 ghost use Rattle.std.specs.String.{string_bytes};
 ghost use Rattle.clap.specs.Words.{app_of};
 ghost use Rattle.envy_args.specs.Parser.{app_of_names};
@@ -99,6 +100,16 @@ impl<'a> Options<'a> {
     {
         let number = self.wide_number(name, u64::from(default))?;
         u32::try_from(number).map_err(|_| WordsFault::Form)
+    }
+
+    /// The number within 32 bits that an option is given, or none. The fault is `Form`.
+    pub(crate) fn given_number(&self, name: &str) -> Result<Option<u32>, WordsFault>
+        ensures { GivesIf (has_number 32 self.now name.now) (option_map (digits_value 10) (value_of self.now name.now)) result }
+    {
+        match self.value(name) {
+            Some(_) => Ok(Some(self.number(name, 0)?)),
+            None => Ok(None),
+        }
     }
 
     /// The policy that the options give, or else greedy. The fault is `Form`.

@@ -1,6 +1,6 @@
 ghost use Rattle.std.specs.Prelude.{◌≡◌, ◌⊎◌, map, Err};
 ghost use Rattle.std.specs.String.{string_bytes};
-ghost use Rattle.envy_args.specs.Words.{command_of, run_of, plain_of, tpca_of, gen_of, setup_of, shape_of, area_of, run_options, plain_options, tpca_options, gen_options};
+ghost use Rattle.envy_args.specs.Words.{command_of, run_of, plain_of, tpca_of, gen_of, save_of, resume_of, index_of, mirror_of, lives_of, setup_of, shape_of, area_of, run_options, plain_options, tpca_options, gen_options, resume_options};
 ghost use Rattle.envy_args.specs.Reading.{GivesIf, are_readable, shape_options, area_options, made, make_of, options_of};
 
 use crate::command::{Command, WordsFault};
@@ -42,6 +42,16 @@ const USUAL_OF_LOAD: Shape = Shape {
     entries: 16,
 };
 
+/// The board of an index.
+const USUAL_OF_INDEX: Shape = Shape {
+    segments: 16,
+    rows: 32,
+    pages: 384,
+    shadows: 32,
+    frames: 16,
+    entries: 16,
+};
+
 /// How often power returns, where the words don't say otherwise.
 const MOST_LIVES: u32 = u32::MAX;
 
@@ -51,9 +61,14 @@ const MOST_PAGES: u32 = 1_048_576;
 /// The fewest shadows of a load.
 const LOAD_SHADOWS: u32 = 5;
 
+/// The fewest shadows and pages of an index.
+const INDEX_SHADOWS: u32 = 32;
+
+const INDEX_PAGES: u32 = 20;
+
 /// Reads the words behind the program's name.
 ///
-/// The first is a command: `run`, `plain`, `tpca` or `gen`. Its options follow in any order, each at most
+/// The first is a command: `run`, `plain`, `tpca`, `gen`, `save`, `resume`, `audit`, `index` or `mirror`. Its options follow in any order, each at most
 /// once, as `--name value` or `--name=value`, and behind them may stand one `--`. `Form` where the words
 /// are others, and `Setup` with the number of the first rule that the command breaks.
 pub fn read_words(alloc: Global, words: &[String]) -> Result<Command, WordsFault>
@@ -78,16 +93,65 @@ fn make(word: Word, options: &Options) -> Result<Command, WordsFault>
         Word::Plain => plain(options),
         Word::Tpca => tpca(options),
         Word::Gen => generate(options),
+        Word::Save => save(options),
+        Word::Resume => resume(options),
+        Word::Audit => Ok(Command::Audit),
+        Word::Index => index(options),
+        Word::Mirror => mirror(options),
     }
 }
 
 fn run(options: &Options) -> Result<Command, WordsFault>
     ensures { result ≡ made run_options run_of options.now }
 {
-    let setup = setup(options, &USUAL)?;
-    let lives = options.number("lives", MOST_LIVES)?;
+    let (setup, lives) = powered(options, &USUAL)?;
     setup.check()?;
     Ok(Command::Run { setup, lives })
+}
+
+fn save(options: &Options) -> Result<Command, WordsFault>
+    ensures { result ≡ made run_options save_of options.now }
+{
+    let (setup, lives) = powered(options, &USUAL)?;
+    setup.check()?;
+    Ok(Command::Save { setup, lives })
+}
+
+fn mirror(options: &Options) -> Result<Command, WordsFault>
+    ensures { result ≡ made run_options mirror_of options.now }
+{
+    let (setup, lives) = powered(options, &USUAL)?;
+    setup.check()?;
+    Ok(Command::Mirror { setup, lives })
+}
+
+fn index(options: &Options) -> Result<Command, WordsFault>
+    ensures { result ≡ made run_options index_of options.now }
+{
+    let (setup, lives) = powered(options, &USUAL_OF_INDEX)?;
+    setup.check()?;
+    if setup.shape.shadows < INDEX_SHADOWS {
+        return Err(WordsFault::Setup(13));
+    }
+    if setup.shape.pages < INDEX_PAGES {
+        return Err(WordsFault::Setup(14));
+    }
+    Ok(Command::Index { setup, lives })
+}
+
+fn resume(options: &Options) -> Result<Command, WordsFault>
+    ensures { result ≡ made resume_options resume_of options.now }
+{
+    let policy = options.policy()?;
+    let limit = options.wide_number("limit", 100)?;
+    let mark = options.given_number("mark")?;
+    let lives = options.number("lives", MOST_LIVES)?;
+    Ok(Command::Resume {
+        policy,
+        limit,
+        mark,
+        lives,
+    })
 }
 
 fn plain(options: &Options) -> Result<Command, WordsFault>
@@ -101,8 +165,7 @@ fn plain(options: &Options) -> Result<Command, WordsFault>
 fn tpca(options: &Options) -> Result<Command, WordsFault>
     ensures { result ≡ made tpca_options tpca_of options.now }
 {
-    let setup = setup(options, &USUAL_OF_LOAD)?;
-    let lives = options.number("lives", MOST_LIVES)?;
+    let (setup, lives) = powered(options, &USUAL_OF_LOAD)?;
     let start = options.wide_number("start", 1)?;
     let area = area(options)?;
     let every = options.number("every", 0)?;
@@ -139,6 +202,15 @@ fn generate(options: &Options) -> Result<Command, WordsFault>
         lines,
         pages,
     })
+}
+
+/// A setup over a board whose power can fail, with how often it returns.
+fn powered(options: &Options, default: &Shape) -> Result<(Setup, u32), WordsFault>
+    ensures { GivesIf (are_readable run_options options.now) (setup_of default.now options.now, lives_of options.now) result }
+{
+    let setup = setup(options, default)?;
+    let lives = options.number("lives", MOST_LIVES)?;
+    Ok((setup, lives))
 }
 
 fn setup(options: &Options, default: &Shape) -> Result<Setup, WordsFault>

@@ -154,6 +154,44 @@ fn each_command_has_its_defaults(rt: HostRuntime) -> Result<(), Fail> {
 }
 
 #[test]
+fn words_of_images_trees_and_pairs_have_their_defaults(rt: HostRuntime) -> Result<(), Fail> {
+    let (setup, lives) = (SETUP, 4294967295);
+    check(&rt, "save", Ok(Command::Save { setup, lives }))?;
+    check(&rt, "mirror", Ok(Command::Mirror { setup, lives }))?;
+    check(&rt, "audit", Ok(Command::Audit))?;
+    let resumed = |policy, limit, mark, lives| {
+        Ok(Command::Resume {
+            policy,
+            limit,
+            mark,
+            lives,
+        })
+    };
+    let usual = resumed(Policy::Greedy, 100, None, 4294967295);
+    check(&rt, "resume", usual)?;
+    check(
+        &rt,
+        "resume --mark 0 --policy hybrid --part=0 --limit 0 --lives 3",
+        resumed(Policy::Hybrid(0), 0, Some(0), 3),
+    )?;
+    let shape = Shape {
+        segments: 16,
+        rows: 32,
+        pages: 384,
+        shadows: 32,
+        frames: 16,
+        entries: 16,
+    };
+    let tree = Setup {
+        shape,
+        policy: Policy::Greedy,
+        limit: 100,
+        mark: 16,
+    };
+    check(&rt, "index", Ok(Command::Index { setup: tree, lives }))
+}
+
+#[test]
 fn options_stand_in_any_order_and_both_forms(rt: HostRuntime) -> Result<(), Fail> {
     check(&rt, "run --frames 9 --mark 3", run_with_frames(9, 3))?;
     check(&rt, "run --mark=3 --frames=9", run_with_frames(9, 3))?;
@@ -288,6 +326,14 @@ fn other_forms_are_refused(rt: HostRuntime) -> Result<(), Fail> {
         "gen --rows 16",
         "gen --lives 1",
         "tpca --lines 1",
+        "save --start 1",
+        "resume --rows 16",
+        "resume --mark 4294967296",
+        "resume --policy lifo",
+        "audit --rows 16",
+        "audit --lives 1",
+        "index --pairs 1",
+        "mirror --side 1",
     ] {
         check(&rt, line, Err(WordsFault::Form))?;
     }
@@ -318,6 +364,12 @@ fn the_first_rule_that_fails_is_told(rt: HostRuntime) -> Result<(), Fail> {
         ("tpca --mark 17 --shadows 4", 10),
         ("gen --pages 0", 3),
         ("gen --pages 1048577", 7),
+        ("save --limit 0", 9),
+        ("mirror --pages 0", 3),
+        ("index --shadows 31", 13),
+        ("index --pages 19", 14),
+        ("index --pages 19 --shadows 31", 13),
+        ("index --rows 1 --shadows 31", 2),
     ] {
         check(&rt, line, Err(WordsFault::Setup(rule)))?;
     }

@@ -7,10 +7,15 @@ pub(crate) enum Word {
     Plain,
     Tpca,
     Gen,
+    Save,
+    Resume,
+    Audit,
+    Index,
+    Mirror,
 }
 
 /// The options of the load. The first eleven are those of a run, the first ten those of the plain
-/// machine.
+/// machine. Those of a resumed run are the seventh to the eleventh.
 const OPTIONS: [&str; 16] = [
     "segments",
     "rows",
@@ -35,7 +40,17 @@ impl Word {
     ghost use Rattle.std.specs.Str.{bytes_eq};
     ghost use Rattle.envy_args.specs.Reading.{word_of, options_of, all};
 
-    const ALL: [Word; 4] = [Word::Run, Word::Plain, Word::Tpca, Word::Gen];
+    const ALL: [Word; 9] = [
+        Word::Run,
+        Word::Plain,
+        Word::Tpca,
+        Word::Gen,
+        Word::Save,
+        Word::Resume,
+        Word::Audit,
+        Word::Index,
+        Word::Mirror,
+    ];
 
     pub(crate) fn text(self) -> &'static [u8]
         ensures { result.now ≡ word_of self }
@@ -45,6 +60,11 @@ impl Word {
             Word::Plain => b"plain",
             Word::Tpca => b"tpca",
             Word::Gen => b"gen",
+            Word::Save => b"save",
+            Word::Resume => b"resume",
+            Word::Audit => b"audit",
+            Word::Index => b"index",
+            Word::Mirror => b"mirror",
         }
     }
 
@@ -60,10 +80,12 @@ impl Word {
         ensures { map (λ name. name.now) result.now ≡ options_of self }
     {
         match self {
-            Word::Run => &OPTIONS[..11],
+            Word::Run | Word::Save | Word::Index | Word::Mirror => &OPTIONS[..11],
             Word::Plain => &OPTIONS[..10],
             Word::Tpca => &OPTIONS,
             Word::Gen => &["start", "lines", "pages"],
+            Word::Resume => &OPTIONS[6..11],
+            Word::Audit => &[],
         }
     }
 }

@@ -25,6 +25,6 @@ row_of first n = map (λ i. (i, 100 + i)) (range_with_len first n)
 -- two leaves of this many pairs each, from 0 on, and a root over them with this key
 abbrev pub two_levels : ℕ → ℕ → List ℕ
 two_levels n key = padded 768 (head_words 3 3 (2 * n)
-  ++ node_words 0 (map (λ e. e.0) (row_of 0 n)) (map (λ e. e.1) (row_of 0 n))
-  ++ node_words 0 (map (λ e. e.0) (row_of n n)) (map (λ e. e.1) (row_of n n))
-  ++ node_words 1 (key ∷ []) (0 ∷ 1 ∷ []))
+    ++ node_words 0 (map (λ e. e.0) (row_of 0 n)) (map (λ e. e.1) (row_of 0 n))
+    ++ node_words 0 (map (λ e. e.0) (row_of n n)) (map (λ e. e.1) (row_of n n))
+    ++ node_words 1 (key ∷ []) (0 ∷ 1 ∷ []))

@@ -2,7 +2,7 @@
 use Rattle.std.proofs.Common.{◌≡◌, ◌⊎◌, inl, inr, ℕ, ◌<◌, ◌≤◌, List, [], ◌∷◌, length, sym, ◌∙◌, ap, subst, arith}
 use Rattle.std.specs.Prelude.{IsTrue, None, Result, Ok, Err}
 use Rattle.envy_args.specs.declared.command.Command.{Command}
-use Rattle.envy_args.specs.declared.command.Command.TheVariants.{Run, Plain, Tpca, Gen}
+use Rattle.envy_args.specs.declared.command.Command.TheVariants.{Run, Plain, Tpca, Gen, Save, Resume, Audit, Index, Mirror}
 use Rattle.envy_args.specs.declared.command.WordsFault.{WordsFault}
 use Rattle.envy_args.specs.declared.command.WordsFault.TheVariants.{Memory}
 use Rattle.envy_args.specs.Words.{Text, command_of}
@@ -76,6 +76,11 @@ completes (Ok (Plain setup)) o io (inr without) = λ good. inr (IsOutOfMemory.st
 completes (Ok (Gen start count pages)) o io (inl generates) = λ low. completes-gen start count pages o io generates low
 completes (Ok (Gen start count pages)) o io (inr without) = λ low. inr (IsOutOfMemory.status (IsWithoutMemory.memory without))
 completes (Ok (Tpca setup returns start area every)) o io done = tt
+completes (Ok (Save setup returns)) o io done = tt
+completes (Ok (Resume policy limit mark returns)) o io done = tt
+completes (Ok Audit) o io done = tt
+completes (Ok (Index setup returns)) o io done = tt
+completes (Ok (Mirror setup returns)) o io done = tt
 completes (Err fault) o io done = tt
 
 -- the command is that of the words

@@ -3,7 +3,7 @@ use Rattle.std.specs.Prelude.{◌≡◌, ◌⊎◌, ℕ, ◌+◌, ◌<◌, ◌�
 use Rattle.std.specs.String.{string_bytes}
 use Rattle.std.specs.declared.string.String.{String}
 use Rattle.envy_args.specs.declared.command.Command.{Command}
-use Rattle.envy_args.specs.declared.command.Command.TheVariants.{Run, Plain, Tpca, Gen}
+use Rattle.envy_args.specs.declared.command.Command.TheVariants.{Run, Plain, Tpca, Gen, Save, Resume, Audit, Index, Mirror}
 use Rattle.envy_args.specs.declared.command.WordsFault.{WordsFault}
 use Rattle.envy_args.specs.declared.command.WordsFault.TheVariants.{Form, Setup as Rule, Memory}
 use Rattle.envy_args.specs.Words.{command_of}
@@ -136,6 +136,11 @@ DoesCommand (Ok (Run setup returns)) o io = DoesTask (run_task setup returns) o 
 DoesCommand (Ok (Plain setup)) o io = DoesTask (plain_task setup) o io
 DoesCommand (Ok (Gen start count pages)) o io = Generates start count pages o io
 DoesCommand (Ok (Tpca setup returns start area every)) o io = Refuses 0 o io
+DoesCommand (Ok (Save setup returns)) o io = Refuses 0 o io
+DoesCommand (Ok (Resume policy limit mark returns)) o io = Refuses 0 o io
+DoesCommand (Ok Audit) o io = Refuses 0 o io
+DoesCommand (Ok (Index setup returns)) o io = Refuses 0 o io
+DoesCommand (Ok (Mirror setup returns)) o io = Refuses 0 o io
 DoesCommand (Err Form) o io = Refuses 0 o io
 DoesCommand (Err (Rule rule)) o io = Refuses rule o io
 DoesCommand (Err Memory) o io = ⊥

@@ -122,7 +122,13 @@ fn perform<S: Source, K: Sink, M: Maker>(
             lines,
             pages,
         } => run_gen(sink, start, lines, pages),
-        Command::Tpca { .. } => unserved(2, 0, None),
+        // words whose service isn't built yet
+        Command::Tpca { .. }
+        | Command::Save { .. }
+        | Command::Resume { .. }
+        | Command::Audit
+        | Command::Index { .. }
+        | Command::Mirror { .. } => unserved(2, 0, None),
     }
 }
 

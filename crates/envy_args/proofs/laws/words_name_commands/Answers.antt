@@ -35,3 +35,19 @@ returns-clause-transfers c = refl
 pub returns-clause-shadows : goal.returns-clause-shadows
 unfolding command_of options_in are_known checked shape_checked
 returns-clause-shadows c = refl
+
+pub returns-clause-judged : goal.returns-clause-judged
+unfolding command_of options_in are_known checked shape_checked
+returns-clause-judged c = refl
+
+pub returns-clause-open : goal.returns-clause-open
+unfolding command_of options_in are_known checked shape_checked
+returns-clause-open c = refl
+
+pub returns-clause-tree : goal.returns-clause-tree
+unfolding command_of options_in are_known checked shape_checked
+returns-clause-tree c = refl
+
+pub returns-clause-heap : goal.returns-clause-heap
+unfolding command_of options_in are_known checked shape_checked
+returns-clause-heap c = refl
