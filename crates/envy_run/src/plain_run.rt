@@ -163,7 +163,6 @@ impl Service for Calm {
 
 /// Does the lines of the source in order on a plain machine, with each reply written before the next
 /// line is read. There is no board.
-#[tactic(auto, using(crate::proofs::Checked::shape_of_checked))]
 pub fn run_plain<S: Source, K: Sink, B>(
     alloc: Global,
     setup: &Setup,

@@ -65,7 +65,6 @@ pub(crate) fn ended_with<B>(served: Served, board: Option<B>) -> Ended<B>
 
 /// Makes a board, formats it, and does the lines of the source in order, with each reply written before
 /// the next line is read.
-#[tactic(auto, using(crate::proofs::Checked::shape_of_checked))]
 fn run_trace<S: Source, K: Sink, M: Maker>(
     alloc: Global,
     setup: Setup,
