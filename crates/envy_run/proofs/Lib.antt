@@ -1,6 +1,7 @@
 pub mod Alike
 pub mod Audited
 pub mod Calm
+pub mod Checked
 pub mod Completing
 pub mod Equating
 pub mod Generating

@@ -60,8 +60,7 @@ pub prepared-ready : (old : Chart) (s : State) (setup : Setup) (m : Picture) →
 prepared-ready old s setup m (p, spent) f makes = record {
   fresh = makes.fresh;
   prepared = prepared-more old (chart s) m.chart p f;
-  counts = IsStarted.counts makes.begins;
-  entries = IsStarted.entries makes.begins;
+  begins = makes.begins;
   begun = begun-same (chart s) m.chart f ∙ spent.begun;
   once = λ none. once none;
   long = Grows.long (Counted.erases (CountsFormat.counted f)) ∙ spent.long;

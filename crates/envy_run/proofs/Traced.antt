@@ -13,7 +13,7 @@ use Rattle.envy_io.specs.Streams.{Feed, Drain}
 use Rattle.envy_map.specs.Fields.{Chart, chart}
 use Rattle.envy_base.specs.Counting.{up, Tally}
 use Rattle.envy_flush.specs.Counts.{Tallies, Tally3}
-use Rattle.envy_memory.specs.Formats.{IsFresh, no_counts}
+use Rattle.envy_memory.specs.Formats.{IsFresh, IsStarted, no_counts}
 use Rattle.envy_memory.specs.Picture.{Picture, counts_of}
 use Rattle.envy_table.specs.Entries.{Entry, vacant}
 use Rattle.envy_table.specs.Hits.{page_at}
@@ -248,10 +248,10 @@ traced-none old setup first some shape ready = record {
     can = record {
       tracks = record {
         some = let e = ap (λ (sh : Shape). sh.entries) shape in omega arith;
-        size = ap length ready.entries ∙ length-vacant setup.shape.entries ∙ sym (ap (λ (sh : Shape). sh.entries) shape);
-        pages = λ i lt. ap (λ (es : List Entry). page_at es i) ready.entries ∙ page-vacant setup.shape.entries i;
-        hits = ap (λ (c : Counts). c.hits) ready.counts;
-        misses = ap (λ (c : Counts). c.misses) ready.counts;
+        size = ap length (IsStarted.entries ready.begins) ∙ length-vacant setup.shape.entries ∙ sym (ap (λ (sh : Shape). sh.entries) shape);
+        pages = λ i lt. ap (λ (es : List Entry). page_at es i) (IsStarted.entries ready.begins) ∙ page-vacant setup.shape.entries i;
+        hits = ap (λ (c : Counts). c.hits) (IsStarted.counts ready.begins);
+        misses = ap (λ (c : Counts). c.misses) (IsStarted.counts ready.begins);
       };
       never_fell = tt;
     };
@@ -278,7 +278,7 @@ began setup returns s first made long ready = record {
   given = IsPrepared.given ready.prepared ∙ made.given;
   pulled = IsPrepared.pulled ready.prepared ∙ made.pulled;
   plans = IsPrepared.plans ready.prepared ∙ made.plans;
-  counts = ready.counts;
+  counts = (IsStarted.counts ready.begins);
   begun = ready.begun ∙ made.begun;
   erases = λ none. once-sum s.erases first.chart.erases setup.shape.segments (ready.long ∙ long) made.erases (subst (λ (sh : Shape). (e : ℕ) → e < sh.segments → slice_index first.chart.erases e ≡ up (slice_index s.erases e)) made.shape (ready.once none));
 }

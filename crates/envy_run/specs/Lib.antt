@@ -1,6 +1,7 @@
 pub mod Allowed
 pub mod Answers
 pub mod Audits
+pub mod Below
 pub mod Calm
 pub mod Complete
 pub mod Counters

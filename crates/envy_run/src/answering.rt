@@ -2,6 +2,7 @@ ghost use Rattle.std.specs.Prelude.{◌≡◌, ◌↔◌, List, [], ◌∷◌, f
 ghost use Rattle.envy_base.specs.Array.{Array};
 ghost use Rattle.envy_layout.specs.Stands.{Stands};
 ghost use Rattle.envy_run.specs.Answers.{Answered, IsCall, AnswersTo, AnswerLicence};
+ghost use Rattle.envy_run.specs.Below.{WorksOf, FollowsRules};
 ghost use Rattle.envy_run.specs.Hits.{MayTell};
 ghost use Rattle.envy_run.specs.Tells.{CanTell, Notes};
 ghost use Rattle.envy_run.specs.Turns.{TraceTurn};
@@ -17,6 +18,7 @@ fn load<B: Bench>(memory: &mut Memory<B>, address: u32) -> Reply
     ensures lost { (result ≡ Reply.Lost) ↔ (memory.new.chart.on ≡ false) }
     ensures licence { AnswerLicence (Load address) result memory.old.chart memory.new.chart }
     ensures notes { Notes (Load address) (result ∷ []) memory.old memory.new }
+    ensures works { WorksOf (Load address) memory.old.chart memory.new.chart }
 {
     match memory.load(address) {
         Ok(word) => Reply::Word(word),
@@ -45,6 +47,8 @@ fn store<B: Bench>(memory: &mut Memory<B>, address: u32, word: u64) -> Reply
     ensures lost { (result ≡ Reply.Lost) ↔ (memory.new.chart.on ≡ false) }
     ensures licence { AnswerLicence (Store address word) result memory.old.chart memory.new.chart }
     ensures notes { Notes (Store address word) (result ∷ []) memory.old memory.new }
+    ensures works { WorksOf (Store address word) memory.old.chart memory.new.chart }
+    ensures rules { FollowsRules (Store address word) result memory.old memory.new }
 {
     match memory.store(address, word) {
         Ok(()) => Reply::Done,
@@ -61,6 +65,7 @@ fn begin<B: Bench>(memory: &mut Memory<B>) -> Reply
     ensures lost { (result ≡ Reply.Lost) ↔ (memory.new.chart.on ≡ false) }
     ensures licence { AnswerLicence Begin result memory.old.chart memory.new.chart }
     ensures notes { Notes Begin (result ∷ []) memory.old memory.new }
+    ensures works { WorksOf Begin memory.old.chart memory.new.chart }
 {
     match memory.begin() {
         Ok(slot) => Reply::Started(slot),
@@ -75,6 +80,8 @@ fn put<B: Bench>(memory: &mut Memory<B>, slot: u8, address: u32, word: u64) -> R
     ensures lost { (result ≡ Reply.Lost) ↔ (memory.new.chart.on ≡ false) }
     ensures licence { AnswerLicence (Put slot address word) result memory.old.chart memory.new.chart }
     ensures notes { Notes (Put slot address word) (result ∷ []) memory.old memory.new }
+    ensures works { WorksOf (Put slot address word) memory.old.chart memory.new.chart }
+    ensures rules { FollowsRules (Put slot address word) result memory.old memory.new }
 {
     match memory.put(slot, address, word) {
         Ok(()) => Reply::Done,
@@ -93,6 +100,7 @@ fn commit<B: Bench>(memory: &mut Memory<B>, slot: u8) -> Reply
     ensures lost { (result ≡ Reply.Lost) ↔ (memory.new.chart.on ≡ false) }
     ensures licence { AnswerLicence (Commit slot) result memory.old.chart memory.new.chart }
     ensures notes { Notes (Commit slot) (result ∷ []) memory.old memory.new }
+    ensures works { WorksOf (Commit slot) memory.old.chart memory.new.chart }
 {
     match memory.commit(slot) {
         Ok(()) => Reply::Done,
@@ -107,6 +115,7 @@ fn abort<B: Bench>(memory: &mut Memory<B>, slot: u8) -> Reply
     ensures lost { (result ≡ Reply.Lost) ↔ (memory.new.chart.on ≡ false) }
     ensures licence { AnswerLicence (Abort slot) result memory.old.chart memory.new.chart }
     ensures notes { Notes (Abort slot) (result ∷ []) memory.old memory.new }
+    ensures works { WorksOf (Abort slot) memory.old.chart memory.new.chart }
 {
     match memory.abort(slot) {
         Ok(()) => Reply::Done,
@@ -121,6 +130,8 @@ fn tick<B: Bench>(memory: &mut Memory<B>) -> Reply
     ensures lost { (result ≡ Reply.Lost) ↔ (memory.new.chart.on ≡ false) }
     ensures licence { AnswerLicence Tick result memory.old.chart memory.new.chart }
     ensures notes { Notes Tick (result ∷ []) memory.old memory.new }
+    ensures works { WorksOf Tick memory.old.chart memory.new.chart }
+    ensures rules { FollowsRules Tick result memory.old memory.new }
 {
     match memory.tick() {
         Ok(_) => Reply::Done,
@@ -130,7 +141,8 @@ fn tick<B: Bench>(memory: &mut Memory<B>) -> Reply
 }
 
 /// Does one line: the call of the memory that it names, and the reply. `Lost` is the answer exactly
-/// where power failed in this call, `Fault` only where a flash operation failed in it.
+/// where power failed in this call, `Fault` only where a flash operation failed in it. It begins as much flash
+/// work as that call may, by the memory's own rules.
 pub fn answer<B: Bench>(memory: &mut Memory<B>, line: &Line) -> Reply
     requires on { IsTrue memory.old.chart.on }
     requires call { IsCall line.now }
@@ -139,6 +151,8 @@ pub fn answer<B: Bench>(memory: &mut Memory<B>, line: &Line) -> Reply
     ensures lost { (result ≡ Reply.Lost) ↔ (memory.new.chart.on ≡ false) }
     ensures licence { AnswerLicence line.now result memory.old.chart memory.new.chart }
     ensures notes { Notes line.now (result ∷ []) memory.old memory.new }
+    ensures works { WorksOf line.now memory.old.chart memory.new.chart }
+    ensures rules { FollowsRules line.now result memory.old memory.new }
 {
     match *line {
         Line::Load { address } => load(memory, address),

@@ -4,6 +4,8 @@
 
 mod answering;
 mod audit_run;
+#[cfg(test)]
+mod board_tests;
 mod ended;
 #[cfg(test)]
 mod formatting_tests;
@@ -14,6 +16,8 @@ mod index_run;
 mod indexing;
 mod laws;
 mod loading;
+#[cfg(test)]
+mod long_tests;
 mod obey;
 mod plain_run;
 #[cfg(test)]

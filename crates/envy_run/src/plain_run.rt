@@ -176,10 +176,6 @@ pub fn run_plain<S: Source, K: Sink, B>(
     ensures read { result.taken ≤ 1099511627776 }
     ensures second { result.second ≡ None }
 {
-    // the words were checked
-    if setup.check().is_err() {
-        unreachable!();
-    }
     let Ok(plain) = Plain::new(alloc, &setup.shape) else {
         return unserved(8, 0, None);
     };

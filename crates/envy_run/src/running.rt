@@ -83,10 +83,6 @@ pub(crate) fn run_trace<S: Source, K: Sink, M: Maker>(
     ensures read { result.taken ≤ 1099511627776 }
     ensures second { result.second ≡ None }
 {
-    // the words were checked
-    if setup.check().is_err() {
-        unreachable!();
-    }
     let Ok(board) = maker.make(alloc, &setup.shape, lives) else {
         return unserved(8, 0, None);
     };

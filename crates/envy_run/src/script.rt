@@ -1,8 +1,9 @@
 //! Traces that are built line by line, with the reply to each.
 
 use crate::ended::Ended;
-use crate::tests::{Streams, run_with};
-use envy_bench::MemBoard;
+use crate::tests::{Streams, run_over};
+use envy_base::Maker;
+use envy_bench::{MemBoard, MemMaker};
 use std::alloc::{AllocError, Global};
 use std::process::Abort;
 use std::test::Fail;
@@ -57,6 +58,16 @@ impl Script {
         rt: &(impl Abort + Alloc<A = Global>),
         words: &[&str],
     ) -> Result<Ended<MemBoard>, Fail> {
+        self.check_over(rt, words, &mut MemMaker::new())
+    }
+
+    /// The same over a board of the maker's.
+    pub(crate) fn check_over<M: Maker>(
+        &self,
+        rt: &(impl Abort + Alloc<A = Global>),
+        words: &[&str],
+        maker: &mut M,
+    ) -> Result<Ended<M::Made>, Fail> {
         let streams = Streams {
             trace: &self.trace,
             piece: 4096,
@@ -64,7 +75,7 @@ impl Script {
             sink_fails: &[],
             room: 65536,
         };
-        let (ended, sink) = run_with(rt.alloc(), words, &streams)?;
+        let (ended, sink) = run_over(rt.alloc(), words, &streams, maker)?;
         assert_eq!(rt; (ended.status, ended.why), (0, 0));
         assert!(rt; sink.written() == self.replies.as_slice());
         Ok(ended)

@@ -95,12 +95,6 @@ fn a_restart_takes_open_transactions_back(rt: HostRuntime) -> Result<(), Fail> {
             b"ok\ntx 0\nok\nrestarted\n1\nclosed\n",
             6,
         ),
-        // the plan falls in the restart, which is made again
-        done(
-            b"store 5 1\nbegin\nput 0 5 2\ncut 1 0\npower\nload 5\nstore 5 3\nload 5\n",
-            b"ok\ntx 0\nok\narmed\nrestarted\n1\nok\n3\n",
-            8,
-        ),
     ] {
         check(&rt, &["run"], &row)?;
     }

@@ -9,7 +9,11 @@ use Rattle.envy_run.specs.Headline.{plain_task, zeros_of}
 use Rattle.envy_run.specs.Task.{DoesTask}
 use Rattle.envy_run.specs.declared.ended.Ended.{Ended}
 use Rattle.envy_run.specs.Outcome.{outcome}
+use Rattle.envy_run.proofs.Checked.{shape-of-checked}
 use Rattle.envy_run.proofs.plain_run.run_plain.Goals as goal
+
+pub new-requires : goal.new-requires
+new-requires g c = shape-of-checked c.args.setup.now c.requires
 
 pub returns-in_default-clause-runs : goal.returns-in_default-clause-runs
 returns-in_default-clause-runs g c state =

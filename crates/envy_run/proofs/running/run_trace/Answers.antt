@@ -6,8 +6,12 @@ use Rattle.envy_base.specs.declared.shape.Shape.{Shape}
 use Rattle.envy_run.specs.Prepares.{IsPrepared, IsReady}
 use Rattle.envy_io.specs.Taking.{Taking}
 use Rattle.envy_map.specs.Fields.{chart}
+use Rattle.envy_run.proofs.Checked.{shape-of-checked}
 use Rattle.envy_run.proofs.Traced.{licences-prepared, runs-quiet, runs-ended, traced-none}
 use Rattle.envy_run.proofs.running.run_trace.Goals as goal
+
+pub make-requires : goal.make-requires
+make-requires g c = shape-of-checked c.args.setup c.requires
 
 pub returns-in_default-clause-runs : goal.returns-in_default-clause-runs
 returns-in_default-clause-runs g c =
