@@ -10,7 +10,6 @@ use Rattle.envy_base.specs.declared.fields.Slot.TheVariants.{Active}
 use Rattle.envy_map.specs.Fields.{slot as slot_of, undo as undo_of}
 use Rattle.envy_map.specs.Writes.{with_slot}
 use Rattle.envy_layout.specs.Stands.{Stands}
-use Rattle.envy_layout.specs.Words.{durable}
 use Rattle.envy_table.specs.Hits.{Rests}
 use Rattle.envy_flush.specs.Counts.{Counting}
 use Rattle.envy_flush.specs.Flushing.{Ends, Stops}
