@@ -18,6 +18,7 @@ use envy_txn::Owned;
 use std::marker::Model;
 
 /// A memory over a board. Addresses count words of 64 bits; 32 words make a page.
+#[derive(Drop)]
 pub struct Memory<B: Board> {
     pub(crate) board: B,
     pub(crate) parts: Parts,

@@ -1,0 +1,110 @@
+/* A memory over regions that the program gives, as of a file that it maps: a plain array of 64-bit words, with
+   transactions. A process that is killed at any moment is a failure of power: the next one attaches to the regions,
+   and finds every word that was stored and every transaction that was committed, and of others nothing. Of the call
+   in which the process died it finds the whole or nothing.
+
+   What the program promises, and nothing checks:
+   - It makes a handle with ENVY_NO_MAPPED, calls envy_mapped_new on it once, and gives every other call a handle of
+     which envy_mapped_new answered ENVY_DONE. It neither copies nor changes a handle.
+   - One call at a time uses a handle. It may use it from any thread if it orders the calls itself.
+   - Every pointer is to memory that is there, aligned, of the size that is said, and in no two arguments at once.
+   - From the call that gives regions until envy_mapped_close, or until a call that gave them is refused, it neither
+     reads nor writes the regions, and no other process does; nor does it unmap them or shorten their file.
+   - rattle_alloc, rattle_realloc and rattle_dealloc are those of heap.c, or do the same.
+
+   Where a call answers anything but ENVY_DONE, what its pointers point to is as before, but for ENVY_HELD. */
+#ifndef ENVY_MAPPED_H
+#define ENVY_MAPPED_H
+
+#include "envy_codes.h"
+
+#ifdef __cplusplus
+extern "C" {
+#endif
+
+/* A place for a memory. */
+typedef struct envy_mapped {
+    void *at;
+} envy_mapped;
+#define ENVY_NO_MAPPED {0}
+
+/* A region of so many words, and one of so many rows of 32 words. */
+typedef struct envy_words {
+    uint64_t *at;
+    size_t len;
+} envy_words;
+
+typedef struct envy_rows {
+    uint64_t (*at)[32];
+    size_t len;
+} envy_rows;
+
+/* The sizes of the regions that a setup asks for. */
+typedef struct envy_sizes {
+    uint64_t rows;   /* of flash, 256 bytes each */
+    uint64_t words;  /* of SRAM, 8 bytes each */
+    uint64_t erases; /* counts of erases, 8 bytes each */
+} envy_sizes;
+
+/* Writes the sizes that a setup asks for. ENVY_DONE, ENVY_POLICY or an ENVY_SETUP_*. */
+uint32_t envy_mapped_sizes(const envy_setup *setup, envy_sizes *sizes);
+
+/* Makes a place that holds no memory. ENVY_DONE or ENVY_NO_MEMORY. The place, a few hundred bytes, stays until the
+   process ends, and serves for any number of memories, one after another. */
+uint32_t envy_mapped_new(envy_mapped *m);
+
+/* Makes a memory of zeros over the regions, whatever they hold, and erases each segment once. If it is killed, the
+   regions hold what they held, or nothing that is formatted, or a memory of zeros.
+   ENVY_DONE; ENVY_OPEN; ENVY_POLICY, ENVY_SETUP_*; ENVY_FLASH_SIZE, ENVY_SRAM_SIZE, ENVY_ERASES_SIZE; ENVY_NO_MEMORY.
+   Where it is refused the place and the regions are as before. */
+uint32_t envy_mapped_format(envy_mapped *m, const envy_setup *setup, envy_rows flash, envy_words sram,
+                            envy_words erases);
+
+/* Takes up the memory that the regions hold. It takes nothing on trust: sizes, version and shape are compared and
+   the whole is audited first, in a time that grows with the regions. Transactions that were open are undone then, and
+   no flash operation is begun. Policy, part, limit and mark may differ from those of before.
+   ENVY_DONE; ENVY_OPEN; ENVY_POLICY, ENVY_SETUP_*; ENVY_FLASH_SIZE, ENVY_SRAM_SIZE, ENVY_ERASES_SIZE;
+   ENVY_UNFORMATTED; ENVY_OLDER; ENVY_OTHER_SHAPE; ENVY_BROKEN_*; ENVY_NO_MEMORY.
+   Where it is refused the place and the regions are as before. */
+uint32_t envy_mapped_attach(envy_mapped *m, const envy_setup *setup, envy_rows flash, envy_words sram,
+                            envy_words erases);
+
+/* Ends the memory and frees what it took from the heap. The regions are the program's again and hold the memory
+   still; what open transactions put is undone by the next attach. On an empty place it does nothing. */
+void envy_mapped_close(envy_mapped *m);
+
+/* Writes the word at an address, also where an open transaction put it. ENVY_DONE, ENVY_EMPTY, ENVY_RANGE. */
+uint32_t envy_mapped_load(envy_mapped *m, uint32_t address, uint64_t *word);
+
+/* Writes the committed word at an address: what a restart would leave. ENVY_DONE, ENVY_EMPTY, ENVY_RANGE. */
+uint32_t envy_mapped_look(envy_mapped *m, uint32_t address, uint64_t *word);
+
+/* Makes the word at an address this. From then on it outlives the process. ENVY_DONE, ENVY_EMPTY, ENVY_RANGE, or
+   ENVY_HELD with the slot that owns the page at *holder. Refused, it changes nothing. */
+uint32_t envy_mapped_store(envy_mapped *m, uint32_t address, uint64_t word, uint32_t *holder);
+
+/* Opens a transaction in the lowest slot that isn't open, and writes its number, 0 to 63, at *slot.
+   ENVY_DONE, ENVY_EMPTY, ENVY_BUSY. */
+uint32_t envy_mapped_begin(envy_mapped *m, uint32_t *slot);
+
+/* Makes the word at an address this within the transaction of a slot, which owns the page from then on: stores and
+   other transactions are kept from it. ENVY_DONE, ENVY_EMPTY, ENVY_RANGE, ENVY_CLOSED, ENVY_FULL, or ENVY_HELD with the
+   slot that owns the page at *holder. Refused, it changes nothing. */
+uint32_t envy_mapped_put(envy_mapped *m, uint32_t slot, uint32_t address, uint64_t word, uint32_t *holder);
+
+/* Closes a slot and keeps all that it put. From then on it outlives the process. ENVY_DONE, ENVY_EMPTY, ENVY_CLOSED. */
+uint32_t envy_mapped_commit(envy_mapped *m, uint32_t slot);
+
+/* Closes a slot and puts back the words of its pages. ENVY_DONE, ENVY_EMPTY, ENVY_CLOSED. */
+uint32_t envy_mapped_abort(envy_mapped *m, uint32_t slot);
+
+/* Does one step of work in the background, and writes an envy_did. No word changes. ENVY_DONE, ENVY_EMPTY. */
+uint32_t envy_mapped_tick(envy_mapped *m, uint32_t *did);
+
+/* Writes the counters. ENVY_DONE, ENVY_EMPTY. */
+uint32_t envy_mapped_counts(envy_mapped *m, envy_counts *counts);
+
+#ifdef __cplusplus
+}
+#endif
+#endif

@@ -1,0 +1,102 @@
+-- A number tells its answer.
+use Rattle.std.proofs.Common.{◌≡◌, ℕ, ◌==◌, if◌then◌else◌, refl, sym, ◌∙◌, ap}
+use Rattle.envy_base.specs.declared.shape.ShapeFault.TheVariants.{Segments, Rows, Pages, Frames, Entries, Share, Total}
+use Rattle.envy_audit.specs.declared.verdict.Rule.TheVariants.{A, B, C, D, E, F, G, H, I, J, K, L}
+use Rattle.envy_policy.specs.declared.setup.SetupFault.TheVariants.{Shape as OfShape, Part, Limit, Mark}
+use Rattle.envy_calls.specs.Codes.{number_of}
+use Rattle.envy_calls.specs.declared.code.Code.{Code}
+use Rattle.envy_calls.specs.declared.code.Code.TheVariants.{Done, Empty, Off, Range, Held, Full, Busy, Closed, Bad, NoMemory, Open, Zero, Dead, Powered, FlashSize, SramSize, ErasesSize, Policy, Unformatted, Older, OtherShape, Setup, Broken}
+
+abbrev code_at : ℕ → Code
+code_at n =
+    if n == 0 then Done
+    else (if n == 1 then Empty
+    else (if n == 2 then Off
+    else (if n == 3 then Range
+    else (if n == 4 then Held
+    else (if n == 5 then Full
+    else (if n == 6 then Busy
+    else (if n == 7 then Closed
+    else (if n == 8 then Bad
+    else (if n == 9 then NoMemory
+    else (if n == 10 then Open
+    else (if n == 11 then Zero
+    else (if n == 12 then Dead
+    else (if n == 13 then Powered
+    else (if n == 14 then FlashSize
+    else (if n == 15 then SramSize
+    else (if n == 16 then ErasesSize
+    else (if n == 17 then Policy
+    else (if n == 18 then Unformatted
+    else (if n == 19 then Older
+    else (if n == 20 then OtherShape
+    else (if n == 21 then Setup (OfShape Segments)
+    else (if n == 22 then Setup (OfShape Rows)
+    else (if n == 23 then Setup (OfShape Pages)
+    else (if n == 24 then Setup (OfShape Frames)
+    else (if n == 25 then Setup (OfShape Entries)
+    else (if n == 26 then Setup (OfShape Share)
+    else (if n == 27 then Setup (OfShape Total)
+    else (if n == 28 then Setup Part
+    else (if n == 29 then Setup Limit
+    else (if n == 30 then Setup Mark
+    else (if n == 31 then Broken A
+    else (if n == 32 then Broken B
+    else (if n == 33 then Broken C
+    else (if n == 34 then Broken D
+    else (if n == 35 then Broken E
+    else (if n == 36 then Broken F
+    else (if n == 37 then Broken G
+    else (if n == 38 then Broken H
+    else (if n == 39 then Broken I
+    else (if n == 40 then Broken J
+    else (if n == 41 then Broken K
+    else Broken L)))))))))))))))))))))))))))))))))))))))))
+
+code_at-number_of : (x : Code) → code_at (number_of x) ≡ x
+code_at-number_of Done = refl
+code_at-number_of Empty = refl
+code_at-number_of Off = refl
+code_at-number_of Range = refl
+code_at-number_of Held = refl
+code_at-number_of Full = refl
+code_at-number_of Busy = refl
+code_at-number_of Closed = refl
+code_at-number_of Bad = refl
+code_at-number_of NoMemory = refl
+code_at-number_of Open = refl
+code_at-number_of Zero = refl
+code_at-number_of Dead = refl
+code_at-number_of Powered = refl
+code_at-number_of FlashSize = refl
+code_at-number_of SramSize = refl
+code_at-number_of ErasesSize = refl
+code_at-number_of Policy = refl
+code_at-number_of Unformatted = refl
+code_at-number_of Older = refl
+code_at-number_of OtherShape = refl
+code_at-number_of (Setup (OfShape Segments)) = refl
+code_at-number_of (Setup (OfShape Rows)) = refl
+code_at-number_of (Setup (OfShape Pages)) = refl
+code_at-number_of (Setup (OfShape Frames)) = refl
+code_at-number_of (Setup (OfShape Entries)) = refl
+code_at-number_of (Setup (OfShape Share)) = refl
+code_at-number_of (Setup (OfShape Total)) = refl
+code_at-number_of (Setup Part) = refl
+code_at-number_of (Setup Limit) = refl
+code_at-number_of (Setup Mark) = refl
+code_at-number_of (Broken A) = refl
+code_at-number_of (Broken B) = refl
+code_at-number_of (Broken C) = refl
+code_at-number_of (Broken D) = refl
+code_at-number_of (Broken E) = refl
+code_at-number_of (Broken F) = refl
+code_at-number_of (Broken G) = refl
+code_at-number_of (Broken H) = refl
+code_at-number_of (Broken I) = refl
+code_at-number_of (Broken J) = refl
+code_at-number_of (Broken K) = refl
+code_at-number_of (Broken L) = refl
+
+pub same_number : (x y : Code) → number_of x ≡ number_of y → x ≡ y
+same_number x y is = sym (code_at-number_of x) ∙ (ap code_at is ∙ code_at-number_of y)

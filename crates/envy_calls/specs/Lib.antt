@@ -1,0 +1,4 @@
+pub mod Answers
+pub mod Codes
+pub mod Making
+pub mod Setups

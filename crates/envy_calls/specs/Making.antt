@@ -1,0 +1,44 @@
+-- What formatting and attaching answer, and what they leave in the place for a memory.
+use Rattle.std.specs.Prelude.{◌≡◌, ◌≢◌, ◌⊎◌, ⊤, false, None, Some, Err}
+use Rattle.envy_base.specs.State.{State}
+use Rattle.envy_map.specs.Codes.{the_magic}
+use Rattle.envy_map.specs.Fields.{Chart, chart, IsFormatted, shape_of}
+use Rattle.envy_layout.specs.Same.{Kept}
+use Rattle.envy_layout.specs.Sound.{IsSound}
+use Rattle.envy_audit.specs.Judging.{BreaksFirst}
+use Rattle.envy_policy.specs.Setup.{checked}
+use Rattle.envy_policy.specs.declared.setup.Setup.{Setup as OfSetup}
+use Rattle.envy_memory.specs.Attaching.{MayAttach}
+use Rattle.envy_calls.specs.Setups.{setup_of}
+use Rattle.envy_calls.specs.declared.code.Code.{Code}
+use Rattle.envy_calls.specs.declared.code.Code.TheVariants.{Off, NoMemory, Policy, Unformatted, Older, OtherShape, Setup, Broken}
+use Rattle.envy_calls.specs.declared.setup.EnvySetup.{EnvySetup}
+
+-- Why a setup isn't one: no policy has its number, or it breaks a rule.
+abbrev pub IsNoSetup : EnvySetup → Code → Type 0
+IsNoSetup given Policy = setup_of given ≡ None
+IsNoSetup given (Setup fault) = (setup : OfSetup) × (setup_of given ≡ Some setup) × (checked setup ≡ Err fault)
+IsNoSetup given other = ⊥
+
+-- a board that may be taken up: formatted in the second version, in the setup's shape, and sound
+pub record IsWhole (c : Chart) (setup : OfSetup) : Type 0 where
+  pub magic : c.fields.magic ≡ the_magic
+  pub version : c.fields.version ≡ 2
+  pub shape : shape_of c.fields.sizes ≡ setup.shape
+  pub sound : IsSound c
+
+-- What was found of a board that isn't taken up. Only want of memory is free.
+abbrev pub Forbids : Code → Chart → OfSetup → Type 0
+Forbids NoMemory c setup = ⊤
+Forbids Off c setup = c.on ≡ false
+Forbids Unformatted c setup = IsFormatted c.fields → ⊥
+Forbids Older c setup = (c.fields.magic ≡ the_magic) × (c.fields.version ≡ 1)
+Forbids OtherShape c setup = IsFormatted c.fields × (shape_of c.fields.sizes ≢ setup.shape)
+Forbids (Setup fault) c setup = checked setup ≡ Err fault
+Forbids (Broken rule) c setup = BreaksFirst rule c
+Forbids other c setup = ⊥
+
+-- a board that wasn't taken up: it is as before, or power was off or failed in the call
+abbrev pub Declined : Code → State → OfSetup → State → Type 0
+Declined Off old setup new = (new.on ≡ false) × (((old.on ≡ false) × (new ≡ old)) ⊎ (MayAttach (chart old) setup × Kept (chart old) (chart new)))
+Declined code old setup new = (new ≡ old) × Forbids code (chart old) setup

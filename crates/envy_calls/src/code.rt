@@ -1,0 +1,109 @@
+ghost use Rattle.std.specs.Prelude.{◌≡◌};
+ghost use Rattle.envy_calls.specs.Codes.{number_of_rule, number_of};
+
+use envy_audit::Rule;
+use envy_policy::SetupFault;
+
+/// What a call answers.
+#[derive(Clone, Copy, Debug, PartialEq, Eq)]
+pub enum Code {
+    /// It was done.
+    Done,
+    /// The place holds no memory.
+    Empty,
+    /// Power is off, or failed in the call.
+    Off,
+    /// The address lies past the last page.
+    Range,
+    /// Another transaction owns the page.
+    Held,
+    /// No more pages may be owned.
+    Full,
+    /// All 64 slots are open.
+    Busy,
+    /// No such slot is open.
+    Closed,
+    /// A flash operation failed.
+    Bad,
+    /// Memory ran out.
+    NoMemory,
+    /// The place holds a memory already.
+    Open,
+    /// A plan for the operation before the next one.
+    Zero,
+    /// Power doesn't return.
+    Dead,
+    /// Power is on already.
+    Powered,
+    /// The flash hasn't as many rows as the setup's shape.
+    FlashSize,
+    /// The SRAM hasn't as many words as the map of the setup's shape.
+    SramSize,
+    /// The counts of erases aren't as many as the segments.
+    ErasesSize,
+    /// No policy has this number.
+    Policy,
+    /// What was found isn't formatted.
+    Unformatted,
+    /// What was found is of the first version.
+    Older,
+    /// What was found has another shape.
+    OtherShape,
+    /// The setup breaks this rule.
+    Setup(SetupFault),
+    /// What was found isn't sound: this is the first point that fails.
+    Broken(Rule),
+}
+
+// The place of a point in the order of the audit.
+fn rule_number(rule: Rule) -> u32
+    ensures { result ≡ number_of_rule rule }
+{
+    match rule {
+        Rule::A => 0,
+        Rule::B => 1,
+        Rule::C => 2,
+        Rule::D => 3,
+        Rule::E => 4,
+        Rule::F => 5,
+        Rule::G => 6,
+        Rule::H => 7,
+        Rule::I => 8,
+        Rule::J => 9,
+        Rule::K => 10,
+        Rule::L => 11,
+    }
+}
+
+impl Code {
+    /// The number that stands for the answer.
+    pub fn number(self) -> u32
+        ensures { result ≡ number_of self }
+    {
+        match self {
+            Code::Done => 0,
+            Code::Empty => 1,
+            Code::Off => 2,
+            Code::Range => 3,
+            Code::Held => 4,
+            Code::Full => 5,
+            Code::Busy => 6,
+            Code::Closed => 7,
+            Code::Bad => 8,
+            Code::NoMemory => 9,
+            Code::Open => 10,
+            Code::Zero => 11,
+            Code::Dead => 12,
+            Code::Powered => 13,
+            Code::FlashSize => 14,
+            Code::SramSize => 15,
+            Code::ErasesSize => 16,
+            Code::Policy => 17,
+            Code::Unformatted => 18,
+            Code::Older => 19,
+            Code::OtherShape => 20,
+            Code::Setup(fault) => 20 + fault.rule() as u32,
+            Code::Broken(rule) => 31 + rule_number(rule),
+        }
+    }
+}

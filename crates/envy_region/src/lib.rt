@@ -1,0 +1,10 @@
+//! A board over memory that its caller owns: flash as rows of 32 words, SRAM as words, and a count of erases for each
+//! segment, as of a file that is mapped.
+//!
+//! Power doesn't fail here, and no flash operation goes wrong. Where the process that owns the memory is killed inside
+//! a call, what it leaves is what a failure of power leaves. Nothing costs more than the words that it writes.
+#![tactic(auto)]
+
+mod board;
+
+pub use board::RegionBoard;

@@ -1,0 +1,103 @@
+/* A small account book over a mapped file. A transfer is a transaction: it is there whole or not at all, whenever the
+   process dies.
+
+     book FILE new              makes the file, with 1,000 in each of 100 accounts
+     book FILE move A B AMOUNT  moves an amount from account A to account B
+     book FILE show A           prints what account A holds
+     book FILE sum              prints the number of transfers and the sum of all accounts */
+#include "book.h"
+
+enum { ACCOUNTS = 100, START = 1000 };
+
+/* Word 0 counts the transfers. Each account has a page of its own, so that its balance is word 32 * (A + 1). */
+static uint32_t account(uint32_t a) { return 32 * (a + 1); }
+
+static const envy_setup setup = {
+    .segments = 8, .rows = 32, .pages = ACCOUNTS + 1, .shadows = 16, .frames = 16, .entries = 16,
+    .policy = ENVY_LOCALITY, .limit = 100, .mark = 12,
+};
+
+static mapping book;
+
+static int failed(const char *what, uint32_t code) {
+    fprintf(stderr, "book: %s: code %u\n", what, code);
+    return 1;
+}
+
+static uint32_t put(uint32_t slot, uint32_t address, uint64_t word) {
+    uint32_t holder;
+    return envy_mapped_put(&book.memory, slot, address, word, &holder);
+}
+
+/* All accounts in transactions, each of no more pages than may be owned at once. */
+static uint32_t fill(void) {
+    uint32_t code = ENVY_DONE, slot;
+    for (uint32_t a = 0; a < ACCOUNTS && code == ENVY_DONE;) {
+        if ((code = envy_mapped_begin(&book.memory, &slot)) != ENVY_DONE) return code;
+        for (int i = 0; i < 10 && a < ACCOUNTS && code == ENVY_DONE; i++) code = put(slot, account(a++), START);
+        if (code == ENVY_DONE) code = envy_mapped_commit(&book.memory, slot);
+    }
+    return code;
+}
+
+/* Moves an amount, or nothing: where a call is refused the transaction is aborted. */
+static uint32_t move(uint32_t from, uint32_t to, uint64_t amount) {
+    uint64_t source, target, count;
+    uint32_t slot, code = envy_mapped_begin(&book.memory, &slot);
+    if (code != ENVY_DONE) return code;
+    code = envy_mapped_load(&book.memory, account(from), &source);
+    if (code == ENVY_DONE && source < amount) code = ENVY_RANGE;
+    if (code == ENVY_DONE) code = put(slot, account(from), source - amount);
+    if (code == ENVY_DONE) code = envy_mapped_load(&book.memory, account(to), &target);
+    if (code == ENVY_DONE) code = put(slot, account(to), target + amount);
+    if (code == ENVY_DONE) code = envy_mapped_load(&book.memory, 0, &count);
+    if (code == ENVY_DONE) code = put(slot, 0, count + 1);
+    if (code == ENVY_DONE) return envy_mapped_commit(&book.memory, slot);
+    envy_mapped_abort(&book.memory, slot);
+    return code;
+}
+
+static uint32_t sum(uint64_t *count, uint64_t *total) {
+    uint32_t code = envy_mapped_load(&book.memory, 0, count);
+    *total = 0;
+    for (uint32_t a = 0; a < ACCOUNTS && code == ENVY_DONE; a++) {
+        uint64_t word = 0;
+        code = envy_mapped_load(&book.memory, account(a), &word);
+        *total += word;
+    }
+    return code;
+}
+
+static int run(int words, char **word) {
+    uint32_t code = ENVY_DONE;
+    if (!strcmp(word[2], "new") && words == 3) return (code = fill()) ? failed("new", code) : 0;
+    if (!strcmp(word[2], "move") && words == 6) {
+        uint32_t from = strtoul(word[3], NULL, 10), to = strtoul(word[4], NULL, 10);
+        if (from >= ACCOUNTS || to >= ACCOUNTS) return failed("no such account", ENVY_RANGE);
+        return (code = move(from, to, strtoull(word[5], NULL, 10))) ? failed("move", code) : 0;
+    }
+    if (!strcmp(word[2], "show") && words == 4) {
+        uint64_t held = 0;
+        uint32_t a = strtoul(word[3], NULL, 10);
+        if (a >= ACCOUNTS) return failed("no such account", ENVY_RANGE);
+        if ((code = envy_mapped_load(&book.memory, account(a), &held))) return failed("show", code);
+        printf("%llu\n", (unsigned long long)held);
+        return 0;
+    }
+    if (!strcmp(word[2], "sum") && words == 3) {
+        uint64_t count = 0, total = 0;
+        if ((code = sum(&count, &total))) return failed("sum", code);
+        printf("%llu transfers, %llu in all\n", (unsigned long long)count, (unsigned long long)total);
+        return 0;
+    }
+    return failed("words", 2);
+}
+
+int main(int words, char **word) {
+    if (words < 3) return failed("book FILE new|move A B AMOUNT|show A|sum", 2);
+    uint32_t code = open_book(&book, word[1], &setup, !strcmp(word[2], "new"));
+    if (code != ENVY_DONE) return failed(word[1], code);
+    int status = run(words, word);
+    close_book(&book);
+    return status;
+}

@@ -1,0 +1,279 @@
+/* Every answer of the library but ENVY_NO_MEMORY: what is opened that is truncated, foreign, older, of another shape
+   or damaged is refused by its own number, and not a byte of it changes.
+
+     refused FILE */
+#include "../book.h"
+
+/* Of this shape the map of SRAM has the fields at these words. */
+enum { SEGMENTS = 8, ROWS = 16, PAGES = 64, SHADOWS = 16 };
+enum { VERSION = 1, JOB = 5, SLOTS = 8, FILLS = 80, POSITIONS = 88, PLACES = 95, UNDOS = 127, BACKS = 159 };
+
+static const envy_setup setup = {
+    .segments = SEGMENTS, .rows = ROWS, .pages = PAGES, .shadows = SHADOWS, .frames = 8, .entries = 4,
+    .policy = ENVY_GREEDY, .part = 2, .limit = 100, .mark = 8,
+};
+
+static mapping map;
+static char *whole, *changed;
+static size_t bytes;
+static const char *path;
+
+static void want(int line, uint64_t found, uint64_t wanted) {
+    if (found == wanted) return;
+    fprintf(stderr, "refused.c:%d: %llu, not %llu\n", line, (unsigned long long)found, (unsigned long long)wanted);
+    exit(1);
+}
+#define WANT(found, wanted) want(__LINE__, found, wanted)
+
+static void write_file(const char *from, size_t n) {
+    FILE *file = fopen(path, "wb");
+    if (!file || fwrite(from, 1, n, file) != n || fclose(file)) exit(1);
+}
+
+static void read_file(char *into, size_t n) {
+    FILE *file = fopen(path, "rb");
+    if (!file || fread(into, 1, n, file) != n || fgetc(file) != EOF || fclose(file)) exit(1);
+}
+
+/* Opening the first n of the changed bytes gives this code, and leaves them. */
+static void refuses(int line, const envy_setup *given, size_t n, uint32_t code) {
+    char *found = malloc(n + 1);
+    uint64_t word = 77;
+    write_file(changed, n);
+    want(line, open_book(&map, path, given, 0), code);
+    read_file(found, n);
+    want(line, memcmp(found, changed, n) == 0, 1);
+    want(line, envy_mapped_load(&map.memory, 0, &word), ENVY_EMPTY);
+    want(line, word, 77);
+    free(found);
+    memcpy(changed, whole, bytes);
+}
+#define REFUSES(code) refuses(__LINE__, &setup, bytes, code)
+
+static uint64_t *flash_word(size_t row) { return (uint64_t *)changed + 32 * row; }
+static uint64_t *word_at(size_t w) { return (uint64_t *)changed + 32 * SEGMENTS * ROWS + w; }
+static uint32_t *half_at(size_t w, size_t entry) { return (uint32_t *)word_at(w) + entry; }
+
+/* A page that stands in a row (1) or in a frame (2), other than one. */
+static size_t page_in(uint32_t kind, size_t other) {
+    for (size_t p = 0; p < PAGES; p++)
+        if (p != other && *half_at(PLACES, p) % 4 == kind) return p;
+    exit(1);
+}
+
+static size_t spare(void) {
+    size_t left = SEGMENTS * (SEGMENTS - 1) / 2;
+    for (size_t k = 0; k < SEGMENTS - 1; k++) left -= *word_at(POSITIONS + k);
+    return left;
+}
+
+static void damaged(void) {
+    size_t p = page_in(1, PAGES), q = page_in(1, p), f = page_in(2, PAGES);
+    *word_at(JOB) = 7;
+    REFUSES(ENVY_BROKEN_FIELDS);
+    *half_at(PLACES, 3) = 3;
+    REFUSES(ENVY_BROKEN_FIELDS);
+    *half_at(PLACES, 3) = 1 + 4 * SEGMENTS * ROWS;
+    REFUSES(ENVY_BROKEN_FIELDS);
+    *word_at(SLOTS + 9) = 3;
+    REFUSES(ENVY_BROKEN_FIELDS);
+    *word_at(POSITIONS) = *word_at(POSITIONS + 1);
+    REFUSES(ENVY_BROKEN_POSITIONS);
+    *half_at(PLACES, p) = *half_at(PLACES, f);
+    REFUSES(ENVY_BROKEN_FRAMES);
+    *half_at(PLACES, p) = *half_at(PLACES, q);
+    REFUSES(ENVY_BROKEN_ROWS);
+    *word_at(BACKS + *half_at(PLACES, p) / 4) = q;
+    REFUSES(ENVY_BROKEN_CLAIMS);
+    for (size_t k = 0; k < SEGMENTS; k++)
+        if (*word_at(FILLS + k) < ROWS) *flash_word(k * ROWS + ROWS - 1) = 0;
+    REFUSES(ENVY_BROKEN_FREE);
+    *word_at(FILLS + spare()) = 1;
+    REFUSES(ENVY_BROKEN_SPARE);
+    *word_at(JOB) = 1 + 4 * *word_at(POSITIONS);
+    *word_at(FILLS + spare()) = 1;
+    *word_at(BACKS + spare() * ROWS) = p;
+    *half_at(PLACES, p) = 1 + 4 * spare() * ROWS;
+    REFUSES(ENVY_BROKEN_PLACES);
+    *word_at(JOB) = 1 + 4 * spare();
+    REFUSES(ENVY_BROKEN_JOB);
+    *word_at(SLOTS) = 1;
+    for (size_t i = 0; i <= SHADOWS; i++) *half_at(UNDOS, i) = 1;
+    REFUSES(ENVY_BROKEN_OWNED);
+    *half_at(UNDOS, 3) = 1 + 4 * 5;
+    REFUSES(ENVY_BROKEN_UNDOS);
+}
+
+/* The kept rows of the segment at the first position are copied to the spare, and one of them is named in both. */
+static void copied_twice(void) {
+    size_t v = *word_at(POSITIONS), e = spare(), kept = 0, origins = BACKS + SEGMENTS * ROWS;
+    size_t page = PAGES;
+    for (size_t p = 0; p < PAGES; p++) {
+        uint32_t place = *half_at(PLACES, p);
+        if (place % 4 != 1 || place / 4 / ROWS != v) continue;
+        memcpy(flash_word(e * ROWS + kept), flash_word(place / 4), 256);
+        *word_at(BACKS + e * ROWS + kept) = p;
+        *word_at(origins + kept++) = place / 4;
+        page = p;
+    }
+    if (page == PAGES) exit(1);
+    *word_at(FILLS + e) = kept;
+    *word_at(JOB) = 2 + 4 * v;
+    /* slot 0 is open, and the page stands in the copy with the row itself as its shadow */
+    *word_at(SLOTS) = 1;
+    *half_at(UNDOS, page) = 2 + 256 * (*half_at(PLACES, page) / 4);
+    *half_at(PLACES, page) = 1 + 4 * (e * ROWS + kept - 1);
+    REFUSES(ENVY_BROKEN_COPIES);
+}
+
+static void truncated_and_foreign(void) {
+    refuses(__LINE__, &setup, bytes - 1, ENVY_ERASES_SIZE);
+    refuses(__LINE__, &setup, bytes - 8 * SEGMENTS - 8, ENVY_SRAM_SIZE);
+    refuses(__LINE__, &setup, SEGMENTS * ROWS * 256 - 1, ENVY_FLASH_SIZE);
+    refuses(__LINE__, &setup, 4096, ENVY_FLASH_SIZE);
+    refuses(__LINE__, &setup, 0, ENVY_FLASH_SIZE);
+    memset(changed, 'x', bytes);
+    REFUSES(ENVY_UNFORMATTED);
+    memset(changed, 0, bytes);
+    REFUSES(ENVY_UNFORMATTED);
+    *word_at(VERSION) = 3;
+    REFUSES(ENVY_UNFORMATTED);
+    *word_at(VERSION) = 1;
+    REFUSES(ENVY_OLDER);
+    envy_setup other = setup;
+    other.entries = 5;
+    refuses(__LINE__, &other, bytes, ENVY_OTHER_SHAPE);
+    other = setup;
+    other.shadows = 15;
+    refuses(__LINE__, &other, bytes, ENVY_OTHER_SHAPE);
+}
+
+static void setups(void) {
+    envy_setup bad[14];
+    uint32_t code[14] = {ENVY_SETUP_SEGMENTS, ENVY_SETUP_SEGMENTS, ENVY_SETUP_ROWS, ENVY_SETUP_PAGES, ENVY_SETUP_FRAMES,
+                         ENVY_SETUP_ENTRIES, ENVY_SETUP_SHARE, ENVY_SETUP_TOTAL, ENVY_SETUP_PART, ENVY_SETUP_PART,
+                         ENVY_SETUP_LIMIT, ENVY_SETUP_MARK, ENVY_SETUP_MARK, ENVY_POLICY};
+    for (int i = 0; i < 14; i++) bad[i] = setup;
+    bad[0].segments = 3;
+    bad[1].segments = 4097;
+    bad[2].rows = 1;
+    bad[3].pages = 0;
+    bad[4].frames = 1;
+    bad[5].entries = 0;
+    bad[6].pages = 81;
+    bad[7].segments = 17, bad[7].rows = 65536;
+    bad[8].policy = bad[9].policy = ENVY_HYBRID;
+    bad[8].part = 0, bad[9].part = SEGMENTS;
+    bad[10].limit = 0;
+    bad[11].mark = 0;
+    bad[12].mark = 9;
+    bad[13].policy = 4;
+    for (int i = 0; i < 14; i++) {
+        envy_sizes sizes = {1, 2, 3};
+        WANT(envy_mapped_sizes(&bad[i], &sizes), code[i]);
+        WANT(sizes.rows == 1 && sizes.words == 2 && sizes.erases == 3, 1);
+        /* open_book asks for the sizes first, so the regions are given here */
+        envy_rows flash = {(uint64_t (*)[32])changed, SEGMENTS * ROWS};
+        envy_words sram = {word_at(0), 559}, erases = {word_at(559), SEGMENTS};
+        WANT(envy_mapped_attach(&map.memory, &bad[i], flash, sram, erases), code[i]);
+        WANT(envy_mapped_format(&map.memory, &bad[i], flash, sram, erases), code[i]);
+        WANT(memcmp(changed, whole, bytes), 0);
+    }
+}
+
+/* Each answer of a call of an open memory. */
+static void calls(void) {
+    envy_mapped *m = &map.memory;
+    uint64_t word = 5;
+    uint32_t slot = 99, holder = 99, other = 99;
+    envy_counts counts;
+    WANT(envy_mapped_load(m, 32 * PAGES, &word), ENVY_RANGE);
+    WANT(envy_mapped_look(m, UINT32_MAX, &word), ENVY_RANGE);
+    WANT(envy_mapped_store(m, 32 * PAGES, 1, &holder), ENVY_RANGE);
+    WANT(word == 5 && holder == 99, 1);
+    WANT(envy_mapped_store(m, 7, 70, &holder), ENVY_DONE);
+    WANT(envy_mapped_begin(m, &slot), ENVY_DONE);
+    WANT(slot, 0);
+    WANT(envy_mapped_begin(m, &other), ENVY_DONE);
+    WANT(other, 1);
+    WANT(envy_mapped_put(m, slot, 7, 71, &holder), ENVY_DONE);
+    WANT(holder, 99);
+    WANT(envy_mapped_put(m, other, 8, 1, &holder), ENVY_HELD);
+    WANT(holder, 0);
+    holder = 99;
+    WANT(envy_mapped_store(m, 9, 1, &holder), ENVY_HELD);
+    WANT(holder, 0);
+    WANT(envy_mapped_load(m, 7, &word), ENVY_DONE);
+    WANT(word, 71);
+    WANT(envy_mapped_look(m, 7, &word), ENVY_DONE);
+    WANT(word, 70);
+    WANT(envy_mapped_put(m, 256, 7, 72, &holder), ENVY_CLOSED);
+    WANT(envy_mapped_put(m, 64, 7, 72, &holder), ENVY_CLOSED);
+    WANT(envy_mapped_put(m, 64, 32 * PAGES, 72, &holder), ENVY_RANGE);
+    WANT(envy_mapped_commit(m, 256), ENVY_CLOSED);
+    WANT(envy_mapped_abort(m, UINT32_MAX), ENVY_CLOSED);
+    WANT(envy_mapped_abort(m, slot), ENVY_DONE);
+    WANT(envy_mapped_abort(m, slot), ENVY_CLOSED);
+    WANT(envy_mapped_load(m, 7, &word), ENVY_DONE);
+    WANT(word, 70);
+    for (uint32_t p = 0; p < SHADOWS; p++) WANT(envy_mapped_put(m, other, 32 * p, p, &holder), ENVY_DONE);
+    WANT(envy_mapped_put(m, other, 32 * SHADOWS, 1, &holder), ENVY_FULL);
+    WANT(envy_mapped_commit(m, other), ENVY_DONE);
+    for (uint32_t t = 0; t < 64; t++) WANT(envy_mapped_begin(m, &slot), ENVY_DONE);
+    slot = 99;
+    WANT(envy_mapped_begin(m, &slot), ENVY_BUSY);
+    WANT(slot, 99);
+    WANT(envy_mapped_counts(m, &counts), ENVY_DONE);
+    WANT(counts.hits + counts.misses > 0 && counts.flushes > 0, 1);
+    WANT(envy_mapped_tick(m, &holder), ENVY_DONE);
+}
+
+static void open_and_empty(void) {
+    envy_mapped *m = &map.memory;
+    uint64_t word = 5;
+    uint32_t number = 99;
+    envy_counts counts;
+    envy_rows flash = {(uint64_t (*)[32])changed, SEGMENTS * ROWS};
+    envy_words sram = {word_at(0), 559}, erases = {word_at(559), SEGMENTS};
+    WANT(envy_mapped_attach(m, &setup, flash, sram, erases), ENVY_OPEN);
+    WANT(envy_mapped_format(m, &setup, flash, sram, erases), ENVY_OPEN);
+    WANT(memcmp(changed, whole, bytes), 0);
+    close_book(&map);
+    envy_mapped_close(m);
+    WANT(envy_mapped_load(m, 0, &word), ENVY_EMPTY);
+    WANT(envy_mapped_look(m, 0, &word), ENVY_EMPTY);
+    WANT(envy_mapped_store(m, 0, 1, &number), ENVY_EMPTY);
+    WANT(envy_mapped_begin(m, &number), ENVY_EMPTY);
+    WANT(envy_mapped_put(m, 0, 0, 1, &number), ENVY_EMPTY);
+    WANT(envy_mapped_commit(m, 0), ENVY_EMPTY);
+    WANT(envy_mapped_abort(m, 0), ENVY_EMPTY);
+    WANT(envy_mapped_tick(m, &number), ENVY_EMPTY);
+    WANT(envy_mapped_counts(m, &counts), ENVY_EMPTY);
+    WANT(word == 5 && number == 99, 1);
+}
+
+int main(int words, char **word) {
+    uint32_t holder;
+    if (words != 2) return 2;
+    path = word[1];
+    WANT(open_book(&map, path, &setup, 1), ENVY_DONE);
+    for (uint32_t a = 0; a < 32 * PAGES; a++) WANT(envy_mapped_store(&map.memory, a, a, &holder), ENVY_DONE);
+    bytes = map.bytes;
+    close_book(&map);
+    whole = malloc(bytes);
+    changed = malloc(bytes);
+    read_file(whole, bytes);
+    memcpy(changed, whole, bytes);
+    damaged();
+    copied_twice();
+    truncated_and_foreign();
+    setups();
+    write_file(whole, bytes);
+    WANT(open_book(&map, path, &setup, 0), ENVY_DONE);
+    calls();
+    open_and_empty();
+    free(whole);
+    free(changed);
+    puts("every answer has its number");
+    return 0;
+}
