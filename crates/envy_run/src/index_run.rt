@@ -37,10 +37,6 @@ pub fn run_index<S: Source, K: Sink, M: Maker>(
     ensures read { result.taken ≤ 1099511627776 }
     ensures second { result.second ≡ None }
 {
-    // the words were checked
-    if setup.check().is_err() {
-        unreachable!();
-    }
     let Ok(board) = maker.make(alloc, &setup.shape, lives) else {
         return unserved(8, 0, None);
     };

@@ -10,8 +10,12 @@ use Rattle.envy_map.specs.Fields.{Chart, chart}
 use Rattle.envy_memory.specs.Formats.{IsFresh}
 use Rattle.envy_memory.specs.Picture.{Picture}
 use Rattle.envy_run.specs.Prepares.{IsPrepared, IsReady}
+use Rattle.envy_run.proofs.Checked.{shape-of-checked}
 use Rattle.envy_run.proofs.IndexTold.{Back, index-began, index-ended, index-none, index-quiet, index-unread}
 use Rattle.envy_run.proofs.index_run.run_index.Goals as goal
+
+pub make-requires : goal.make-requires
+make-requires g c = shape-of-checked c.args.setup c.requires.rules
 
 pub returns-in_default-clause-runs : goal.returns-in_default-clause-runs
 returns-in_default-clause-runs g c =
