@@ -400,8 +400,8 @@ index-quiet {B} state setup returns status why board e feed sink is unserved lic
 pub index-unread : (setup : Setup) (returns : ℕ) (s : State) (now : Chart) → IsMade setup.shape returns s → IsPrepared (chart s) now → IndexLicences setup returns [] now
 index-unread setup returns s now made p = licences-none setup returns now (index-began setup returns s now made p)
 
-index-ends : (setup : Setup) (returns : ℕ) (first : Chart) (p : Picture) (b : Bool) (now : Chart) (end : End) (lines taken : ℕ) (io : Streams) → Back p b now → IndexBegan setup returns first → lines ≤ most_bytes → (turns : List IndexTurn) × Serves end lines taken index_grammar 0 (IndexedSince first p b) (FellSince first p.chart) [] turns io → DoesTask (index_task setup returns) (record { status = status_of end; why = why_of end; lines = lines; taken = taken; board = Some now; second = None }) io
-index-ends setup returns first p b now end lines taken io x began few (turns, s) =
+index-ends : (whole : State) (setup : Setup) (returns : ℕ) (first : Chart) (p : Picture) (b : Bool) (now : Chart) (end : End) (lines taken : ℕ) (io : Streams) → Back p b now → IndexBegan setup returns first → lines ≤ most_bytes → (turns : List IndexTurn) × Serves end lines taken index_grammar 0 (IndexedSince first p b) (FellSince first p.chart) [] turns io → DoesTask (index_task setup returns) (record { status = status_of end; why = why_of end; lines = lines; taken = taken; board = Some now; state = Some whole; second = None }) io
+index-ends whole setup returns first p b now end lines taken io x began few (turns, s) =
     let either = served-either end (IndexedSince first p b) (FellSince first p.chart) turns (Ends.served (Serves.ends s)) in
     record {
       turns = turns;
@@ -418,8 +418,8 @@ index-ends setup returns first p b now end lines taken io x began few (turns, s)
 pub index-ended : {B : Type 0} (state : B → State) (setup : Setup) (returns : ℕ) (first : Chart) (p : Picture) (b : Bool) (now : Chart) (end : End) (lines taken skipped : ℕ) (board : B) (e : Ended B) (io : Streams) → e ≡ record { status = status_of end; why = why_of end; lines = lines; taken = taken; board = Some board; second = None } → chart (state board) ≡ now → skipped ≡ 0 → lines ≤ most_bytes → Back p b now → IndexBegan setup returns first → (turns : List IndexTurn) × Serves end lines taken index_grammar skipped (IndexedSince first p b) (FellSince first p.chart) [] turns io → DoesTask (index_task setup returns) (outcome state e) io
 index-ended {B} state setup returns first p b now end lines taken skipped board e io is same none few x began serves =
     subst (λ (y : Ended B). DoesTask (index_task setup returns) (outcome state y) io) (sym is)
-    (subst (λ (c : Chart). DoesTask (index_task setup returns) (record { status = status_of end; why = why_of end; lines = lines; taken = taken; board = Some c; second = None }) io) (sym same)
-    (index-ends setup returns first p b now end lines taken io x began few
+    (subst (λ (c : Chart). DoesTask (index_task setup returns) (record { status = status_of end; why = why_of end; lines = lines; taken = taken; board = Some c; state = Some (state board); second = None }) io) (sym same)
+    (index-ends (state board) setup returns first p b now end lines taken io x began few
     (subst (λ (k : ℕ). (turns : List IndexTurn) × Serves end lines taken index_grammar k (IndexedSince first p b) (FellSince first p.chart) [] turns io) none serves)))
 
 pub stays-of : (es : Pairs) (p : Picture) (b : Bool) (c : Chart) (i j k l : ℕ) → Serving p b es → Licence i j k l p.chart c → Stays es p.chart c
