@@ -47,10 +47,6 @@ converse() {
     [ "$status" = 0 ] || fail "a conversation ended with status $status"
 }
 
-statuses() {
-    printf 'store 0 7\nload 0\n' | runs run --pages 8
-}
-
 converse
 
 runs run --pages 8 < <(printf 'store 0 7\nload 0\n')

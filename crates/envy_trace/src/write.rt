@@ -57,6 +57,7 @@ fn write_line(line: &Line, out: &mut ArrayVec<u8, 120>)
     }
 }
 
+#[inline(always)]
 fn write_command(command: Command, numbers: &[u64], out: &mut ArrayVec<u8, 120>)
     requires empty { out.old.items ≡ [] }
     requires few { length numbers.now ≤ 3 }
