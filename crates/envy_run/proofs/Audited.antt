@@ -1,14 +1,11 @@
 -- An audit of bytes that begin with an image is done to its end, where nothing fails.
-use Rattle.std.proofs.Common.{◌≡◌, ◌⊎◌, inl, inr, ℕ, ◌<◌, ◌≤◌, List, ◌++◌, sym, ◌∙◌, arith}
-use Rattle.std.specs.Prelude.{Some}
-use Rattle.envy_image.specs.Image.{image_of}
-use Rattle.envy_io.specs.Streams.{with_front}
+use Rattle.std.proofs.Common.{◌≡◌, ◌⊎◌, inl, inr, ℕ, ◌<◌, sym, ◌∙◌, arith}
 use Rattle.envy_map.specs.Fields.{Chart}
 use Rattle.envy_serve.specs.Streams.{Streams}
 use Rattle.envy_serve.proofs.GoodTraces.{still-low, still-written}
-use Rattle.envy_run.specs.Audits.{Audits, Judged, audit_lives, verdict_line}
+use Rattle.envy_run.specs.Audits.{Audits, audit_lives, verdict_line}
 use Rattle.envy_run.specs.Complete.{HoldsImage, NeverFailed, IsComplete}
-use Rattle.envy_run.specs.Loading.{RefusesImage, Cause, TookOnly, status_for}
+use Rattle.envy_run.specs.Loading.{RefusesImage, TookOnly}
 use Rattle.envy_run.specs.Outcome.{Outcome}
 use Rattle.envy_run.specs.Writing.{WritesTrace}
 use Rattle.envy_run.specs.declared.loading.Refusal.{Refusal}

@@ -1,6 +1,6 @@
 -- Bytes that begin with an image are taken up, where nothing fails.
-use Rattle.std.proofs.Common.{◌≡◌, ◌⊎◌, inl, inr, ℕ, ◌+◌, ◌*◌, ◌-◌, ◌<◌, ◌≤◌, Bool, true, false, List, [], ◌++◌, length, refl, sym, ◌∙◌, ap, subst, arith, length-append}
-use Rattle.std.specs.Prelude.{Option, None, Some, Result, Ok, Err, nat_lt, ◌||◌, ◌==◌}
+use Rattle.std.proofs.Common.{◌≡◌, inl, inr, ℕ, ◌+◌, ◌*◌, ◌-◌, false, List, [], ◌++◌, length, refl, sym, ◌∙◌, ap, subst, arith, length-append}
+use Rattle.std.specs.Prelude.{Option, Some, Ok, Err, nat_lt, ◌||◌, ◌==◌}
 use Rattle.std.proofs.lemmas.Bool.Decides.{nat_tests}
 use Rattle.std.proofs.lemmas.List.{append_assoc}
 use Rattle.envy_base.specs.Shape.{IsShape, checked}
@@ -8,11 +8,11 @@ use Rattle.envy_base.specs.State.{State, IsBoard}
 use Rattle.envy_base.specs.declared.shape.Shape.{Shape}
 use Rattle.envy_image.specs.Image.{mark, numbers_bytes, numbers_of, head_of, body_of, image_of, FitNumbers}
 use Rattle.envy_image.specs.Installing.{body_size}
-use Rattle.envy_image.proofs.Backwards.{fit-numbers, same-head, same-front, behind-head, length-image, length-head, length-body}
+use Rattle.envy_image.proofs.Backwards.{fit-numbers, same-head, same-front, length-image, length-head}
 use Rattle.envy_io.specs.Streams.{Feed, IsDry, with_front}
 use Rattle.envy_map.specs.Fields.{Chart}
 use Rattle.envy_serve.proofs.GoodTraces.{front-taken}
-use Rattle.envy_run.specs.Loading.{StopsInHead, StopsBehindHead, StopsWithin}
+use Rattle.envy_run.specs.Loading.{StopsWithin}
 
 -- a shape that has its sizes checks
 pub shape-checks : (sh : Shape) → IsShape sh → checked sh ≡ Ok tt

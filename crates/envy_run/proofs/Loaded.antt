@@ -1,6 +1,6 @@
 -- Images that are taken from a source, and boards that hold them.
-use Rattle.std.proofs.Common.{◌≡◌, ◌⊎◌, inl, inr, ℕ, ◌+◌, ◌*◌, ◌-◌, ◌^◌, ◌<◌, ◌≤◌, List, [], ◌++◌, length, refl, sym, ◌∙◌, ap, subst, arith, length-append}
-use Rattle.std.specs.Prelude.{IsTrue, Option, None, Some, Result, Ok, Err, slice_index, max, min}
+use Rattle.std.proofs.Common.{◌≡◌, ◌⊎◌, inl, inr, ℕ, ◌+◌, ◌*◌, ◌<◌, ◌≤◌, List, [], ◌++◌, length, refl, sym, ◌∙◌, ap, subst, arith, length-append}
+use Rattle.std.specs.Prelude.{IsTrue, Option, None, Some, slice_index}
 use Rattle.std.specs.Option.{option_map}
 use Rattle.std.proofs.lemmas.List.{append-nil}
 use Rattle.envy_base.specs.Counting.{up}
@@ -18,14 +18,14 @@ use Rattle.envy_io.specs.Streams.{Feed, Drain, with_front}
 use Rattle.envy_io.specs.Taking.{Taking}
 use Rattle.envy_io.proofs.Counts.{Rises-after}
 use Rattle.envy_io.proofs.TakesLemmas.{with_front-with_front}
-use Rattle.envy_map.specs.Fields.{Chart, chart}
+use Rattle.envy_map.specs.Fields.{chart}
 use Rattle.envy_run.specs.Audits.{Audits, audit_lives, verdict_line}
-use Rattle.envy_run.specs.Loading.{HasTaken, IsUnharmed, IsInstalled, Loaded, Unloaded, RefusesImage, status_for, why_for}
+use Rattle.envy_run.specs.Loading.{HasTaken, IsUnharmed, Loaded, Unloaded, status_for, why_for}
 use Rattle.envy_run.specs.Outcome.{outcome}
 use Rattle.envy_run.specs.Writing.{WritesTrace}
 use Rattle.envy_run.specs.declared.ended.Ended.{Ended}
 use Rattle.envy_run.specs.declared.loading.Refusal.{Refusal}
-use Rattle.envy_run.specs.declared.loading.Refusal.TheVariants.{Failed, Memory, Early, Unmarked, Misshapen, Upset}
+use Rattle.envy_run.specs.declared.loading.Refusal.TheVariants.{Failed, Early, Upset}
 
 -- more bytes are taken behind those that were
 pub taken-more : (a b : List ℕ) (from feed to : Feed) (was now : Taking) → HasTaken a from was feed → Consumes was feed b now to → HasTaken (a ++ b) from now to

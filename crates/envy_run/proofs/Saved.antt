@@ -1,10 +1,9 @@
 -- A trace whose replies go nowhere, and an image that is written behind it.
-use Rattle.std.proofs.Common.{◌≡◌, ◌⊎◌, inl, inr, ℕ, ◌-◌, ◌^◌, ◌<◌, ◌≤◌, List, [], ◌∷◌, ◌++◌, refl, sym, ◌∙◌, ap, subst, arith}
+use Rattle.std.proofs.Common.{◌≡◌, ◌⊎◌, inl, inr, ℕ, List, [], ◌∷◌, ◌++◌, refl, sym, ◌∙◌, ap, subst, arith}
 use Rattle.std.specs.Result.{is_err}
 use Rattle.std.specs.Prelude.{IsTrue, true, false, Option, None, Some, Result, Ok, Err}
 use Rattle.std.specs.Option.{option_map}
 use Rattle.envy_base.specs.State.{State}
-use Rattle.envy_image.specs.Image.{image_of}
 use Rattle.envy_io.specs.declared.source.Failed.{Failed}
 use Rattle.envy_io.specs.Streams.{Drain, Rises}
 use Rattle.envy_io.proofs.WritesLemmas.{with_end-nil}
@@ -17,15 +16,12 @@ use Rattle.envy_serve.specs.Ends.{Serves, Ends, HasServed, HasReadTo, HasTold}
 use Rattle.envy_serve.specs.Grammar.{Grammar, silent}
 use Rattle.envy_serve.specs.Streams.{Streams, Written, FrontWritten}
 use Rattle.envy_serve.specs.Turns.{Turn, lines_done, texts, written}
-use Rattle.envy_trace.specs.declared.line.Line.{Line}
-use Rattle.envy_trace.specs.declared.reply.Reply.{Reply}
 use Rattle.envy_run.specs.Done.{HasDone, HasDied}
 use Rattle.envy_run.specs.Headline.{IsUnserved, IsOutOfMemory, IsSpoilt, IsDark, OnBoard, run_task, save_task, image_in, zeros_of}
-use Rattle.envy_run.specs.Outcome.{Outcome, IsQuiet, outcome, status_of, why_of}
+use Rattle.envy_run.specs.Outcome.{Outcome, status_of, why_of}
 use Rattle.envy_run.specs.Task.{IsServed, DoesTask}
 use Rattle.envy_run.specs.Turns.{TraceTurn, trace_grammar}
 use Rattle.envy_run.specs.Writing.{WritesOut}
-use Rattle.envy_run.specs.declared.ended.Ended.{Ended}
 
 silent-texts : {Line Reply : Type 0} (g : Grammar Line Reply) (replies : List Reply) → texts (silent g) replies ≡ []
 silent-texts g [] = refl
