@@ -13,6 +13,8 @@ mod gen_run;
 mod index_answering;
 mod index_obey;
 mod index_run;
+#[cfg(test)]
+mod index_tests;
 mod indexing;
 mod laws;
 mod loading;
