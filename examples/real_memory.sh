@@ -3,19 +3,20 @@
 # trace, which runs under each policy. The replies must be those of the plain machine. Prints for each policy the
 # accesses, how many of a hundred hit the cache of the page table, and the cleaning cost.
 #
-#   examples/real_memory.sh [--skip N] [--accesses N] [--transaction N] PROGRAM..
+#   examples/real_memory.sh [--skip N] [--accesses N] [--transaction N] [--frames N] PROGRAM..
 #
 # Of the words that the program loads and stores the first N (--skip, 0) are passed over and then so many taken
 # (--accesses, 1000000). With --transaction N each N stores are one transaction. Pages are numbered as they are met,
-# and the array has as many; the board is filled to four fifths.
+# and the array has as many; the board is filled to four fifths. Frames of SRAM (--frames) are an eighth of the pages.
 set -eu
 top=$(cd "$(dirname "$0")/.." && pwd)
-skip=0 accesses=1000000 transaction=0
+skip=0 accesses=1000000 transaction=0 frames=0
 while [ $# -gt 0 ]; do
     case $1 in
     --skip) skip=$2 && shift 2 ;;
     --accesses) accesses=$2 && shift 2 ;;
     --transaction) transaction=$2 && shift 2 ;;
+    --frames) frames=$2 && shift 2 ;;
     *) break ;;
     esac
 done
@@ -63,16 +64,20 @@ awk -v skip="$skip" -v most="$accesses" -v size="$transaction" -v pages="$work/p
             if ($1 != "L") access("S", word)
         }
     }
-    END { close_transaction(); print met > pages }
+    END { close_transaction(); print met + 0 > pages }
 ' "$work/accesses" > "$work/trace" &
 valgrind --tool=lackey --trace-mem=yes --log-file="$work/accesses" "$@" >/dev/null
 wait
 
 pages=$(cat "$work/pages")
+if [ "$pages" -eq 0 ]; then
+    echo "real_memory: no word was loaded or stored" >&2
+    exit 1
+fi
 shadows=$((transaction > 16 ? transaction : 16))
 rows=64
 segments=$(((pages + shadows) * 5 / (4 * rows) + 4))
-frames=$((pages / 8 > 8 ? pages / 8 : 8))
+[ "$frames" -gt 0 ] || frames=$((pages / 8 > 8 ? pages / 8 : 8))
 shape=(--segments "$segments" --rows "$rows" --pages "$pages" --shadows "$shadows" --frames "$frames" --entries 64)
 echo "$*: $(wc -l < "$work/trace") lines, $pages pages; a board of $segments segments of $rows rows, $frames frames, 64 entries"
 "$top/envy" plain "${shape[@]}" < "$work/trace" > "$work/plain"

@@ -78,7 +78,11 @@ fn check_counters(
     for (policy, line) in ["greedy", "fifo", "locality", "hybrid"].iter().zip(told) {
         let policy = ["--policy", *policy];
         let memory = replies(rt, &words(alloc, "run", options, &policy)?, &asking)?;
-        assert!(rt; memory.strip_suffix(line) == Some(plain.as_slice()), "{}", policy[1]);
+        assert!(rt;
+            memory.strip_suffix(line) == Some(plain.as_slice()),
+            "{}",
+            policy[1]
+        );
     }
     Ok(())
 }
@@ -170,9 +174,17 @@ fn failures_leave_the_counters_that_the_rules_give(rt: HostRuntime) -> Result<()
             b"\nstat hits 1349 misses 11780 flushes 4267 copies 4912 moves 556 erases 1292 swaps 0 cost 128\n".as_slice(),
         ),
     ] {
-        let memory = replies(&rt, &words(alloc, "run", &SMALL, &["--policy", policy])?, &trace)?;
+        let memory = replies(
+            &rt,
+            &words(alloc, "run", &SMALL, &["--policy", policy])?,
+            &trace,
+        )?;
         assert!(rt; memory.ends_with(told), "{policy}");
-        assert_eq!(rt; (count_of(&memory, b"lost"), count_of(&memory, b"fault")), (400, faults), "{policy}");
+        assert_eq!(rt;
+            (count_of(&memory, b"lost"), count_of(&memory, b"fault")),
+            (400, faults),
+            "{policy}"
+        );
     }
     Ok(())
 }

@@ -89,13 +89,11 @@ fn the_lowest_closed_slot_is_opened(rt: HostRuntime) -> Result<(), Fail> {
 
 #[test]
 fn a_restart_takes_open_transactions_back(rt: HostRuntime) -> Result<(), Fail> {
-    for row in [
-        done(
-            b"store 5 1\nbegin\nput 0 5 2\npower\nload 5\nput 0 5 3\n",
-            b"ok\ntx 0\nok\nrestarted\n1\nclosed\n",
-            6,
-        ),
-    ] {
+    for row in [done(
+        b"store 5 1\nbegin\nput 0 5 2\npower\nload 5\nput 0 5 3\n",
+        b"ok\ntx 0\nok\nrestarted\n1\nclosed\n",
+        6,
+    )] {
         check(&rt, &["run"], &row)?;
     }
     Ok(())
