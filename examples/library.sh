@@ -3,7 +3,7 @@
 # drawn moments, and the account book in both languages. It needs gcc and rustc.
 set -eu
 cd "$(dirname "$0")"
-(cd ../crates/envy_mapped && rt lib)
+for crate in envy_mapped envy_c; do (cd ../crates/$crate && rt lib); done
 make -s all tests
 work=$(mktemp -d "${TMPDIR:-/tmp}/envy-library.XXXXXX")
 trap 'rm -rf "$work"' EXIT
@@ -17,6 +17,15 @@ for program in replay replay-asan; do
     cmp "$work/wanted" "$work/$program.replies"
 done
 echo "library: $(wc -l <"$work/wanted") replies are those of envy run"
+
+# the same with a failure of power or of flash planned before every fiftieth
+awk '{ print } NR % 50 == 0 { if (NR % 100) print "cut", 1 + NR * 7 % 40, NR; else print "bad", 1 + NR * 3 % 5, NR }' \
+    "$work/trace" >"$work/failing"
+../envy run <"$work/failing" >"$work/wanted"
+out/replay-memory <"$work/failing" >"$work/memory.replies"
+cmp "$work/wanted" "$work/memory.replies"
+echo "library: $(wc -l <"$work/wanted") replies are those of envy run, $(grep -c lost "$work/wanted") of them lost," \
+    "$(grep -c fault "$work/wanted") faults"
 
 out/refused-asan "$work/refused.file"
 out/killed "$work/killed.file" 200 "${1-$(date +%s)}"

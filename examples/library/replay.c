@@ -1,15 +1,34 @@
-/* Answers a trace on standard input by a memory over a mapped file, in the replies of `envy run`. `power` closes the
-   memory and attaches to what it left.
+/* Answers a trace on standard input in the replies of `envy run`, by a memory over a mapped file, where `power` closes
+   the memory and attaches to what it left; or, built with IN_MEMORY, by one over a board in memory, where failures can
+   be planned too.
 
-     replay FILE */
+     replay FILE | replay-memory */
+#ifdef IN_MEMORY
+#include "../../c/envy.h"
+#include <stdio.h>
+#include <stdlib.h>
+#include <string.h>
+#define CALL(name) envy_##name
+static struct { envy_memory memory; } map;
+#else
 #include "../book.h"
+#define CALL(name) envy_mapped_##name
+static mapping map;
+#endif
 
 static const envy_setup setup = {
     .segments = 8, .rows = 16, .pages = 64, .shadows = 16, .frames = 8, .entries = 4,
     .policy = ENVY_GREEDY, .limit = 100, .mark = 8,
 };
 
-static mapping map;
+#ifdef IN_MEMORY
+static void restart(void) {
+    uint32_t code;
+    while ((code = envy_revive(&map.memory)) == ENVY_OFF) {}
+    if (code != ENVY_DONE) exit(6);
+    puts("restarted");
+}
+#endif
 
 static void reply(uint32_t code, uint32_t holder) {
     switch (code) {
@@ -19,39 +38,52 @@ static void reply(uint32_t code, uint32_t holder) {
     case ENVY_FULL: puts("full"); break;
     case ENVY_BUSY: puts("busy"); break;
     case ENVY_CLOSED: puts("closed"); break;
+#ifdef IN_MEMORY
+    case ENVY_BAD: puts("fault"); break;
+    case ENVY_OFF: puts("lost"); restart(); break;
+#endif
     default: printf("code %u\n", code); exit(1);
     }
 }
 
 static void answer(const char *command, const unsigned long long *x, const char *path) {
-    envy_mapped *m = &map.memory;
     uint64_t word = 0;
     uint32_t number = 0, code;
     if (!strcmp(command, "load") || !strcmp(command, "look")) {
-        code = command[2] == 'a' ? envy_mapped_load(m, x[0], &word) : envy_mapped_look(m, x[0], &word);
+        code = command[2] == 'a' ? CALL(load)(&map.memory, x[0], &word) : CALL(look)(&map.memory, x[0], &word);
         if (code == ENVY_DONE) printf("%llu\n", (unsigned long long)word);
         else reply(code, 0);
     } else if (!strcmp(command, "store")) {
-        code = envy_mapped_store(m, x[0], x[1], &number);
+        code = CALL(store)(&map.memory, x[0], x[1], &number);
         reply(code, number);
     } else if (!strcmp(command, "begin")) {
-        code = envy_mapped_begin(m, &number);
+        code = CALL(begin)(&map.memory, &number);
         if (code == ENVY_DONE) printf("tx %u\n", number);
         else reply(code, 0);
     } else if (!strcmp(command, "put")) {
-        code = envy_mapped_put(m, x[0], x[1], x[2], &number);
+        code = CALL(put)(&map.memory, x[0], x[1], x[2], &number);
         reply(code, number);
     } else if (!strcmp(command, "commit")) {
-        reply(envy_mapped_commit(m, x[0]), 0);
+        reply(CALL(commit)(&map.memory, x[0]), 0);
     } else if (!strcmp(command, "abort")) {
-        reply(envy_mapped_abort(m, x[0]), 0);
+        reply(CALL(abort)(&map.memory, x[0]), 0);
     } else if (!strcmp(command, "tick")) {
-        reply(envy_mapped_tick(m, &number), 0);
+        reply(CALL(tick)(&map.memory, &number), 0);
     } else if (!strcmp(command, "power")) {
+#ifdef IN_MEMORY
+        (void)path;
+        if (envy_cut_now(&map.memory) != ENVY_DONE) exit(1);
+        restart();
+    } else if (!strcmp(command, "cut") || !strcmp(command, "bad")) {
+        code = command[0] == 'c' ? envy_arm_cut(&map.memory, x[0], x[1]) : envy_arm_bad(&map.memory, x[0], x[1]);
+        if (code != ENVY_DONE) exit(1);
+        puts("armed");
+#else
         close_book(&map);
         code = open_book(&map, path, &setup, 0);
         if (code != ENVY_DONE) reply(code, 0);
         puts("restarted");
+#endif
     } else {
         exit(5);
     }
@@ -59,11 +91,20 @@ static void answer(const char *command, const unsigned long long *x, const char 
 
 int main(int words, char **word) {
     char line[128], command[16];
+#ifdef IN_MEMORY
+    if (words != 1 || envy_new(&map.memory) != ENVY_DONE) return 2;
+    if (envy_format(&map.memory, &setup, UINT32_MAX) != ENVY_DONE) return 2;
+#else
     if (words != 2 || open_book(&map, word[1], &setup, 1) != ENVY_DONE) return 2;
+#endif
     while (fgets(line, sizeof line, stdin)) {
         unsigned long long x[3] = {0, 0, 0};
         if (sscanf(line, "%15s %llu %llu %llu", command, x, x + 1, x + 2) > 0) answer(command, x, word[1]);
     }
+#ifdef IN_MEMORY
+    envy_close(&map.memory);
+#else
     close_book(&map);
+#endif
     return 0;
 }

@@ -1,6 +1,6 @@
 //! A memory over regions of memory that a program in C or Rust gives, as of a file that it maps.
 //!
-//! Each export says what the call of the memory says, by the number of its answer. `include/envy_mapped.h` says
+//! Each export says what the call of the memory says, by the number of its answer. `c/envy_mapped.h` says
 //! beside each of them what its caller promises.
 #![tactic(auto)]
 

@@ -1,0 +1,96 @@
+/* A memory over a board in memory whose power and flash operations can be made to fail: for programs that test
+   themselves against failures. It is the memory of envy_mapped.h in all else, and ends with the process.
+
+   What the program promises, and nothing checks:
+   - It makes a handle with ENVY_NO_MEMORY_HANDLE, calls envy_new on it once, and gives every other call a handle of
+     which envy_new answered ENVY_DONE. It neither copies nor changes a handle.
+   - One call at a time uses a handle. It may use it from any thread if it orders the calls itself.
+   - Every pointer is to memory that is there, aligned, of the size that is said, and in no two arguments at once.
+   - rattle_alloc, rattle_realloc and rattle_dealloc are those of heap.c, or do the same.
+
+   Where power is off, or fails in a call, the call answers ENVY_OFF, and so does every call until envy_revive answers
+   ENVY_DONE. Where power failed in a call, the call was done or not. Where a flash operation failed it answers
+   ENVY_BAD, and no word changed. Where a call answers anything but ENVY_DONE, what its pointers point to is as before,
+   but for ENVY_HELD. */
+#ifndef ENVY_H
+#define ENVY_H
+
+#include "envy_codes.h"
+
+#ifdef __cplusplus
+extern "C" {
+#endif
+
+/* A place for a memory. */
+typedef struct envy_memory {
+    void *at;
+} envy_memory;
+#define ENVY_NO_MEMORY_HANDLE {0}
+
+/* Makes a place that holds no memory. ENVY_DONE or ENVY_NO_MEMORY. The place, a few hundred bytes, stays until the
+   process ends, and serves for any number of memories, one after another. */
+uint32_t envy_new(envy_memory *m);
+
+/* Makes a memory of zeros over a new board, whose power can return `lives` times. ENVY_DONE; ENVY_OPEN; ENVY_POLICY,
+   ENVY_SETUP_*; ENVY_NO_MEMORY. Where it is refused the place is as before. */
+uint32_t envy_format(envy_memory *m, const envy_setup *setup, uint32_t lives);
+
+/* Ends the memory and its board, and frees what they took from the heap. On an empty place it does nothing. */
+void envy_close(envy_memory *m);
+
+/* Writes the word at an address, also where an open transaction put it. ENVY_DONE, ENVY_EMPTY, ENVY_OFF, ENVY_RANGE. */
+uint32_t envy_load(envy_memory *m, uint32_t address, uint64_t *word);
+
+/* Writes the committed word at an address: what a restart would leave. ENVY_DONE, ENVY_EMPTY, ENVY_OFF, ENVY_RANGE. */
+uint32_t envy_look(envy_memory *m, uint32_t address, uint64_t *word);
+
+/* Makes the word at an address this. ENVY_DONE, ENVY_EMPTY, ENVY_OFF, ENVY_RANGE, ENVY_BAD, or ENVY_HELD with the slot
+   that owns the page at *holder. */
+uint32_t envy_store(envy_memory *m, uint32_t address, uint64_t word, uint32_t *holder);
+
+/* Opens a transaction in the lowest slot that isn't open, and writes its number, 0 to 63, at *slot.
+   ENVY_DONE, ENVY_EMPTY, ENVY_OFF, ENVY_BUSY. */
+uint32_t envy_begin(envy_memory *m, uint32_t *slot);
+
+/* Makes the word at an address this within the transaction of a slot, which owns the page from then on.
+   ENVY_DONE, ENVY_EMPTY, ENVY_OFF, ENVY_RANGE, ENVY_CLOSED, ENVY_FULL, ENVY_BAD, or ENVY_HELD with the slot that owns
+   the page at *holder. */
+uint32_t envy_put(envy_memory *m, uint32_t slot, uint32_t address, uint64_t word, uint32_t *holder);
+
+/* Closes a slot and keeps all that it put. ENVY_DONE, ENVY_EMPTY, ENVY_OFF, ENVY_CLOSED. */
+uint32_t envy_commit(envy_memory *m, uint32_t slot);
+
+/* Closes a slot and puts back the words of its pages. ENVY_DONE, ENVY_EMPTY, ENVY_OFF, ENVY_CLOSED. */
+uint32_t envy_abort(envy_memory *m, uint32_t slot);
+
+/* Does one step of work in the background, and writes an envy_did. No word changes. ENVY_DONE, ENVY_EMPTY, ENVY_OFF,
+   ENVY_BAD. */
+uint32_t envy_tick(envy_memory *m, uint32_t *did);
+
+/* Writes the counters. ENVY_DONE, ENVY_EMPTY. */
+uint32_t envy_count(envy_memory *m, envy_counts *counts);
+
+/* Plans a failure of power in the k-th device operation from now (a program or erase of flash, or a write of a word of
+   SRAM), in place of an earlier such plan. What the operation leaves is drawn from g. ENVY_DONE, ENVY_EMPTY, or
+   ENVY_ZERO where k is 0. */
+uint32_t envy_arm_cut(envy_memory *m, uint32_t k, uint64_t g);
+
+/* Plans that the k-th flash operation from now fails, in place of an earlier such plan. What its row or segment holds
+   then is drawn from g. ENVY_DONE, ENVY_EMPTY, or ENVY_ZERO where k is 0. */
+uint32_t envy_arm_bad(envy_memory *m, uint32_t k, uint64_t g);
+
+/* Cuts power between two operations. ENVY_DONE, ENVY_EMPTY, ENVY_OFF. */
+uint32_t envy_cut_now(envy_memory *m);
+
+/* Asks for power, and restarts the memory: all slots are closed, and the words are those that were committed. It uses
+   one of the lives. ENVY_DONE; ENVY_EMPTY; ENVY_POWERED where power is on already; ENVY_OFF where power failed again in
+   the restart, which may be asked for once more; ENVY_DEAD where no life is left, and nothing changed. */
+uint32_t envy_revive(envy_memory *m);
+
+/* Writes how often power can still return. ENVY_DONE, ENVY_EMPTY. */
+uint32_t envy_lives(envy_memory *m, uint32_t *left);
+
+#ifdef __cplusplus
+}
+#endif
+#endif

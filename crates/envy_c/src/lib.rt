@@ -1,0 +1,14 @@
+//! A memory over a board in memory for programs in C or Rust that test themselves against failures of power and of
+//! flash operations, which they plan.
+//!
+//! Each export says what the call of the memory says, by the number of its answer. `c/envy.h` says beside each of them
+//! what its caller promises.
+#![tactic(auto)]
+
+mod calls;
+mod failing;
+mod handle;
+mod making;
+mod opening;
+
+pub use handle::EnvyMemory;
