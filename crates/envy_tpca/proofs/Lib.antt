@@ -1,0 +1,14 @@
+pub mod Adding
+pub mod Between
+pub mod Calling
+pub mod Chaining
+pub mod Counted
+pub mod Drawing
+pub mod Driven
+pub mod Loading
+pub mod Looking
+pub mod Planning
+pub mod Since
+pub mod Stepping
+pub mod Totals
+pub mod Trying

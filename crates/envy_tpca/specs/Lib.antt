@@ -1,0 +1,10 @@
+pub mod Driving
+pub mod Load
+pub mod Loading
+pub mod Running
+pub mod Since
+pub mod Stops
+pub mod Summing
+pub mod Tpc
+pub mod Trial
+pub mod Trying
