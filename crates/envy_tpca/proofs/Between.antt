@@ -1,30 +1,27 @@
 -- What happens between tries: ticks, restarts, and the word that tells whether a transfer is done.
-use Rattle.std.proofs.Common.{◌≡◌, ◌≢◌, ◌⊎◌, inl, inr, ℕ, zero, suc, ◌<◌, ◌≤◌, ◌+◌, Bool, true, false, List, [], ◌∷◌, length, Result, Ok, Err, refl, sym, ◌∙◌, ap, subst, arith}
-use Rattle.std.specs.Prelude.{◌++◌, ◌^◌, ◌-◌, slice_index, IsTrue, IsErr, IsErrAnd}
+use Rattle.std.proofs.Common.{◌≡◌, ◌⊎◌, inl, inr, ℕ, ◌<◌, ◌+◌, false, List, [], ◌∷◌, length, Result, Ok, Err, refl, sym, ◌∙◌, ap, subst, arith}
+use Rattle.std.specs.Prelude.{◌++◌, slice_index, IsErr, IsErrAnd}
 use Rattle.std.proofs.lemmas.List.{length_push}
 use Rattle.envy_base.specs.Array.{Array, put_back, undone}
-use Rattle.envy_base.specs.Step.{Tick, Done, Step, Lost}
-use Rattle.envy_base.specs.declared.board.Trouble.{Trouble}
-use Rattle.envy_base.specs.declared.board.Trouble.TheVariants.{Off as TroubleOff, Bad as TroubleBad}
+use Rattle.envy_base.specs.Step.{Tick, Done, Lost}
 use Rattle.envy_base.specs.declared.shape.Shape.{Shape}
 use Rattle.envy_layout.specs.Same.{Counted, Kept}
-use Rattle.envy_layout.specs.Stands.{Stands, Holds, Steps, IsLost, Fails}
+use Rattle.envy_layout.specs.Stands.{Stands, Steps, IsLost, Fails}
 use Rattle.envy_layout.specs.Words.{durable}
 use Rattle.envy_map.specs.Fields.{Chart}
-use Rattle.envy_memory.specs.Calls.{IsCut, HasFailed, fresh, lit, planned}
+use Rattle.envy_memory.specs.Calls.{IsCut, HasFailed, fresh, lit}
 use Rattle.envy_memory.specs.Picture.{Picture, counts_of}
 use Rattle.envy_tpca.specs.declared.fault.DriveFault.{DriveFault}
 use Rattle.envy_tpca.specs.declared.fault.DriveFault.TheVariants.{Dead, Bad as DriveBad}
-use Rattle.envy_tpca.specs.declared.fault.Fault.{Fault}
-use Rattle.envy_tpca.specs.declared.fault.Fault.TheVariants.{Off, Bad, Refused}
+use Rattle.envy_tpca.specs.declared.fault.Fault.TheVariants.{Off}
 use Rattle.envy_tpca.specs.declared.places.Places.{Places}
 use Rattle.envy_tpca.specs.declared.places.Spots.{Spots}
 use Rattle.envy_tpca.specs.declared.transfer.Transfer.{Transfer}
-use Rattle.envy_tpca.specs.Since.{IsPast, Since}
+use Rattle.envy_tpca.specs.Since.{Since}
 use Rattle.envy_tpca.specs.Tpc.{TpcAt}
 use Rattle.envy_tpca.specs.Trial.{InRange, IsTried, writes}
-use Rattle.envy_tpca.specs.Trying.{Rests, Stopped, IsCause, IsEnd, Returns, AfterTry, AfterTransfer, Trial}
-use Rattle.envy_tpca.proofs.Calling.{durable-rests, rests-durable, closed-rests}
+use Rattle.envy_tpca.specs.Trying.{Rests, Stopped, IsCause, IsEnd, Returns, AfterTransfer}
+use Rattle.envy_tpca.proofs.Calling.{durable-rests, closed-rests}
 use Rattle.envy_tpca.proofs.Counted.{counted}
 use Rattle.envy_tpca.proofs.Since.{Since-more, Since-refl, since-lit, past-later}
 use Rattle.envy_tpca.proofs.Trying.{Closed, undone-closed}
@@ -79,10 +76,11 @@ back-returns first mid p waits kept stands counts some =
     let did = since-lit mid p kept counts in
     let fewer : p.chart.lives < mid.chart.lives = let e = Counted.lives kept.counted in omega arith in
     let low = waits.since.keeps.lives in
-    let shape = ap (λ (sh : Shape). sh.shadows) kept.shape in
-    (subst (λ (ws : List ℕ). Stands p.chart (fresh p.chart.shape.shadows ws)) waits.words (subst (λ (k : ℕ). Stands p.chart (fresh k (durable mid.chart))) (sym shape) stands),
-    Since-more 0 first mid p waits.since did,
-    omega arith)
+    let shape = ap (λ (sh : Shape). sh.shadows) kept.shape in (
+      subst (λ (ws : List ℕ). Stands p.chart (fresh p.chart.shape.shadows ws)) waits.words (subst (λ (k : ℕ). Stands p.chart (fresh k (durable mid.chart))) (sym shape) stands),
+      Since-more 0 first mid p waits.since did,
+      omega arith,
+    )
 
 -- ---- ticks
 
@@ -97,9 +95,10 @@ tick-done first mid p rests since did (n, step, stands) =
     (subst (λ (k : ℕ). Stands p.chart (fresh k (durable first.chart))) (sym (ap (λ (sh : Shape). sh.shadows) did.keeps.shape)) (subst (Stands p.chart) step stands), Since-more 0 first mid p since did)
 
 pub tick-bad : (first mid p : Picture) → Rests (durable first.chart) mid → Since 0 first mid → Since 0 mid p → HasFailed mid.chart p.chart → Fails (fresh mid.chart.shape.shadows (durable first.chart)) Tick p.chart → AfterTransfer 0 first (durable first.chart) (durable first.chart) (Err DriveBad) p
-tick-bad first mid p rests since did failed (n, accepts, stands) =
-    ((stands.on, past-later _ _ _ since.keeps.bads failed did.keeps.bads),
-    record { words = inl (stands.holds.durable ∙ undone-closed (fresh mid.chart.shape.shadows (durable first.chart)) (Closed.slots (closed-rests (durable first.chart) mid rests))); since = Since-more 0 first mid p since did })
+tick-bad first mid p rests since did failed (n, accepts, stands) = (
+  (stands.on, past-later _ _ _ since.keeps.bads failed did.keeps.bads),
+  record { words = inl (stands.holds.durable ∙ undone-closed (fresh mid.chart.shape.shadows (durable first.chart)) (Closed.slots (closed-rests (durable first.chart) mid rests))); since = Since-more 0 first mid p since did },
+)
 
 pub tick-off : (first mid off p : Picture) (result : Result Unit DriveFault) → Rests (durable first.chart) mid → Since 0 first mid → Since 0 mid off → IsCut mid.chart off.chart → IsLost (fresh mid.chart.shape.shadows (durable first.chart)) Tick off.chart → Returns off result p → AfterTransfer 0 first (durable first.chart) (durable first.chart) result p
 tick-off first mid off p (Ok done) rests since did cut lost (then_rests, then_did, fewer) =
@@ -153,7 +152,7 @@ dead-ends n first before now mid p (Err e) back fault cause stopped returns was 
 
     at : (f : DriveFault) → e ≡ f → Returns mid (Err f) p → IsEnd e first p × Stopped n first before now p
     at Dead is (off, none, w, did) = subst (λ (k : DriveFault). IsEnd k first p × Stopped n first before now p) (sym is)
-      ((off, none, λ low. let d = cause.1 low in let k = did.keeps.cuts in omega arith), record { words = words w stopped.words; since = Since-more n first mid p stopped.since did })
+        ((off, none, λ low. let d = cause.1 low in let k = did.keeps.cuts in omega arith), record { words = words w stopped.words; since = Since-more n first mid p stopped.since did })
     at DriveBad is never = absurd never
 
 pub returns-ok : (old p : Picture) (result : Result Unit DriveFault) (u : Unit) → Returns old result p → result ≡ Ok u → Rests (durable old.chart) p × Since 0 old p × (p.chart.lives < old.chart.lives)

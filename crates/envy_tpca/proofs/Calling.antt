@@ -1,14 +1,13 @@
 -- One transaction on a memory.
-use Rattle.std.proofs.Common.{◌≡◌, ◌≢◌, ◌⊎◌, inl, inr, ℕ, zero, suc, ◌<◌, ◌≤◌, ◌+◌, Bool, true, false, List, length, set, Some, Result, Ok, Err, refl, sym, ◌∙◌, ap, subst, arith}
-use Rattle.std.specs.Prelude.{◌%◌, ◌^◌, ◌-◌, slice_index, slice_set, ℤ, pos, negsuc, ◌+ℤ◌, FitsSigned, IsTrue, IsErr, IsErrAnd}
+use Rattle.std.proofs.Common.{◌≡◌, ◌⊎◌, inl, inr, ℕ, ◌<◌, ◌+◌, false, List, length, Some, Result, Ok, Err, refl, sym, ◌∙◌, ap, subst, arith}
+use Rattle.std.specs.Prelude.{◌%◌, ◌^◌, slice_index, slice_set, ℤ, pos, negsuc, ◌+ℤ◌, IsTrue}
 use Rattle.std.specs.Int.{cast_unsigned, cast_signed, int_wrap}
 use Rattle.std.proofs.Common.{w64}
 use Rattle.std.proofs.lemmas.Int.{to_z-of_z, wrapping_add_onto, int_wrap_fits}
-use Rattle.envy_base.specs.Array.{Array, owner, page_of, undone}
+use Rattle.envy_base.specs.Array.{Array, owner, page_of}
 use Rattle.envy_base.specs.declared.shape.Shape.{Shape}
-use Rattle.envy_base.specs.Step.{Command, Answer, Load, Begin, Put, Commit, Word, Done, Started, Range, Held, Closed as ClosedAnswer, Full, Busy, Step, Lost}
-use Rattle.envy_map.specs.Fields.{Chart}
-use Rattle.envy_layout.specs.Stands.{Stands, Steps, IsLost, Fails}
+use Rattle.envy_base.specs.Step.{Answer, Load, Begin, Put, Commit, Word, Done, Started, Range, Held, Closed as ClosedAnswer, Full, Busy, Step, Lost}
+use Rattle.envy_layout.specs.Stands.{Stands, Steps}
 use Rattle.envy_layout.specs.Words.{durable}
 use Rattle.envy_memory.specs.Calls.{Loads, Begins, Puts, Commits, IsCut, HasFailed, fresh}
 use Rattle.envy_memory.specs.Picture.{Picture}
@@ -20,13 +19,13 @@ use Rattle.envy_memory.specs.declared.faults.PutFault.{PutFault}
 use Rattle.envy_memory.specs.declared.faults.PutFault.TheVariants.{Off as PutOff, Range as PutRange, Closed as PutClosed, Held as PutHeld, Full as PutFull, Bad as PutBad}
 use Rattle.envy_memory.specs.declared.faults.EndFault.{EndFault}
 use Rattle.envy_memory.specs.declared.faults.EndFault.TheVariants.{Off as EndOff, Closed as EndClosed}
-use Rattle.envy_tpca.specs.Since.{IsPast, Since}
+use Rattle.envy_tpca.specs.Since.{Since}
 use Rattle.envy_tpca.specs.Stops.{begin_stop, put_stop, end_stop}
 use Rattle.envy_tpca.specs.Tpc.{as_word}
 use Rattle.envy_tpca.specs.Summing.{Small}
-use Rattle.envy_tpca.specs.Trying.{Rests, Open, Running, Widens, Undone, Stopped, IsCause, AfterBegin, AfterLoad, AfterPut, AfterTry}
+use Rattle.envy_tpca.specs.Trying.{Rests, Open, Running, Widens, Undone, Stopped, IsCause, AfterBegin, AfterLoad, AfterPut}
 use Rattle.envy_tpca.specs.declared.fault.Fault.{Fault}
-use Rattle.envy_tpca.specs.declared.fault.Fault.TheVariants.{Off, Bad, Refused}
+use Rattle.envy_tpca.specs.declared.fault.Fault.TheVariants.{Off, Bad}
 use Rattle.envy_tpca.proofs.Since.{Since-more, past-later}
 use Rattle.envy_tpca.proofs.Totals.{as_word-is}
 use Rattle.envy_tpca.proofs.Trying.{Closed, Grows, begin-law, put-law, commit-law, closed-fresh, fresh-closed, undone-closed}
@@ -129,9 +128,10 @@ either before now p k is (inl e) = inl (is ∙ e)
 either before now p k is (inr e) = inr (is ∙ e)
 
 pub commit-stopped : (n : ℕ) (first : Picture) (before now : List ℕ) (t most last : ℕ) (old new : Picture) (r : Running n first before now t most last old) → Since 0 old new → IsCut old.chart new.chart → (fault : EndFault) → Commits r.array t (Err fault) new.chart → IsCause (end_stop fault) first new × Stopped n first before now new
-commit-stopped n first before now t most last old new r did cut EndOff lost =
-    (off-cause n first old new r.since did r.stands.on lost.off cut,
-    record { words = either before now new lost.words.0 lost.words.2 ((commit-so n first before now t most last old r).1 lost.words.0 lost.words.1); since = Since-more n first old new r.since did })
+commit-stopped n first before now t most last old new r did cut EndOff lost = (
+  off-cause n first old new r.since did r.stands.on lost.off cut,
+  record { words = either before now new lost.words.0 lost.words.2 ((commit-so n first before now t most last old r).1 lost.words.0 lost.words.1); since = Since-more n first old new r.since did },
+)
 commit-stopped n first before now t most last old new r did cut EndClosed (k, step, stands) = let d = (commit-so n first before now t most last old r).0 ClosedAnswer k step in let e = d.0 in cc
 
 -- ---- words in two's complement

@@ -1,17 +1,17 @@
 -- The puts of one transfer, one after another.
-use Rattle.std.proofs.Common.{◌≡◌, ◌≢◌, ◌⊎◌, inl, inr, ℕ, zero, suc, ◌<◌, ◌≤◌, ◌+◌, ◌*◌, Bool, true, false, List, [], ◌∷◌, length, set, refl, sym, ◌∙◌, ap, subst, arith, Result, Ok, Err}
+use Rattle.std.proofs.Common.{◌≡◌, inl, inr, ℕ, ◌<◌, ◌≤◌, ◌+◌, List, [], ◌∷◌, length, refl, sym, ◌∙◌, ap, subst, arith, Result, Ok, Err}
 use Rattle.std.specs.Int.{cast_signed, cast_unsigned}
-use Rattle.std.specs.Prelude.{IsErr, IsErrAnd, ◌/◌, ◌%◌, ◌^◌, slice_index, slice_set, ℤ, pos, ◌+ℤ◌, unsigned_abs}
+use Rattle.std.specs.Prelude.{IsErr, IsErrAnd, ◌%◌, ◌^◌, slice_index, slice_set, ℤ, ◌+ℤ◌, unsigned_abs}
 use Rattle.std.proofs.Common.{w64}
-use Rattle.std.proofs.lemmas.Int.{fits_signed_from_abs, ints, to_z-of_z}
-use Rattle.std.proofs.lemmas.List.{get_or-set_same, get_or-set_other, length-set}
-use Rattle.envy_base.specs.Array.{Saved, page_of, put_back}
+use Rattle.std.proofs.lemmas.Int.{fits_signed_from_abs, to_z-of_z}
+use Rattle.std.proofs.lemmas.List.{get_or-set_other, length-set}
+use Rattle.envy_base.specs.Array.{page_of, put_back}
 use Rattle.envy_tpca.specs.declared.places.Places.{Places}
 use Rattle.envy_tpca.specs.declared.places.Spots.{Spots}
 use Rattle.envy_tpca.specs.declared.transfer.Transfer.{Transfer}
 use Rattle.envy_tpca.specs.Summing.{Small}
-use Rattle.envy_tpca.specs.Tpc.{TpcAt, as_word, deltas_of, account_at, teller_at, branch_at, row_at}
-use Rattle.envy_tpca.specs.Trial.{AreSmall, AreSpots, InRange, IsTried, IsRoomy, writes, balances_of, row_of}
+use Rattle.envy_tpca.specs.Tpc.{as_word, deltas_of, account_at, teller_at, branch_at, row_at}
+use Rattle.envy_tpca.specs.Trial.{AreSmall, AreSpots, IsTried, IsRoomy, writes, balances_of, row_of}
 use Rattle.envy_memory.specs.Picture.{Picture}
 use Rattle.envy_tpca.specs.declared.fault.Fault.{Fault}
 use Rattle.envy_tpca.specs.Trying.{Widens, Undone, Stopped, IsCause, AfterPut, AfterTry}
@@ -120,7 +120,7 @@ all-eight l ts i t at before count spots =
     let sa = spots.account in let st = spots.teller in let sb = spots.branch in
     let sr : at.row ≡ row_at l (length ts) = spots.row ∙ ap (row_at l) (sym count) in
     let all : (a b c r n : ℕ) → a ≡ account_at l t.account → b ≡ teller_at l t.teller → c ≡ branch_at l t.branch → r ≡ row_at l (length ts) → n ≡ length ts
-        → slice_set (put_back (row_of r t) (put_back ((a, new_account ts t) ∷ (b, new_teller ts t) ∷ (c, new_branch ts t) ∷ []) before)) 0 (n + 1) ≡ put_back (writes l ts t) before = λ a b c r n ea eb ec er en. rw (ea, eb, ec, er, en) refl in
+    → slice_set (put_back (row_of r t) (put_back ((a, new_account ts t) ∷ (b, new_teller ts t) ∷ (c, new_branch ts t) ∷ []) before)) 0 (n + 1) ≡ put_back (writes l ts t) before = λ a b c r n ea eb ec er en. rw (ea, eb, ec, er, en) refl in
     all at.account at.teller at.branch at.row i sa st sb sr (sym count)
 
 -- a number reads the same after it was written as a word
@@ -167,7 +167,7 @@ pub add-at : (n : ℕ) (first : Picture) (before now : List ℕ) (slot most last
     → AfterPut n first before (slice_set now a (as_word (x +ℤ d))) slot (most + 1) (page_of a) result p
 add-at n first before now slot most last a x d e result p same can room call =
     subst (λ (y : ℤ). AfterPut n first before (slice_set now a (as_word (x +ℤ y))) slot (most + 1) (page_of a) result p) same
-      (call can.within (inr (room, refl)) can.word can.small (subst (λ (y : ℤ). Small (x +ℤ y)) (sym same) can.sum))
+    (call can.within (inr (room, refl)) can.word can.small (subst (λ (y : ℤ). Small (x +ℤ y)) (sym same) can.sum))
 
 -- ---- failures
 

@@ -1,7 +1,7 @@
 -- The eight words of a transfer add it to those before it.
-use Rattle.std.proofs.Common.{◌≡◌, ◌≢◌, ◌⊎◌, inl, inr, ℕ, zero, suc, ◌<◌, ◌≤◌, ◌+◌, ◌*◌, Bool, true, false, cond, List, [], ◌∷◌, length, get_or, set, refl, sym, ◌∙◌, ap, subst, arith}
+use Rattle.std.proofs.Common.{◌≡◌, ◌≢◌, ◌⊎◌, inl, inr, ℕ, zero, suc, ◌<◌, ◌≤◌, ◌+◌, ◌*◌, cond, List, [], ◌∷◌, length, get_or, set, refl, sym, ◌∙◌, ap, subst, arith}
 use Rattle.std.specs.Prelude.{ℤ, pos, ◌+ℤ◌, ◌==◌, ◌++◌, slice_index}
-use Rattle.std.proofs.Math.IntN.{+ℤ_comm, +ℤ_assoc, +ℤ_idl, +ℤ_idr}
+use Rattle.std.proofs.Math.IntN.{+ℤ_comm, +ℤ_assoc}
 use Rattle.std.proofs.lemmas.Bool.{cases_eq, ne_eqb, eq-eqb, cases_lt}
 use Rattle.std.proofs.lemmas.List.{get_or-set_same, get_or-set_other, length-set, length_push, get_or_append_left}
 use Rattle.std.proofs.Math.Seq.{get_or-append_seam}
@@ -50,10 +50,10 @@ five l i t = (row_at l i, t.account) ∷ (row_at l i + 1, t.teller) ∷ (row_at 
 misses-five : (l : Places) (i : ℕ) (t : Transfer) (a : ℕ) → 0 < a → ((c : ℕ) → c < 4 → a ≢ row_at l i + c) → Misses a (five l i t)
 misses-five l i t a lt ne =
     misses-more a (row_at l i) t.account ((row_at l i + 1, t.teller) ∷ (row_at l i + 2, t.branch) ∷ (row_at l i + 3, as_word t.delta) ∷ (0, i + 1) ∷ []) (λ e. ne 0 (omega arith) (omega arith))
-      (misses-more a (row_at l i + 1) t.teller ((row_at l i + 2, t.branch) ∷ (row_at l i + 3, as_word t.delta) ∷ (0, i + 1) ∷ []) (ne 1 (omega arith))
-        (misses-more a (row_at l i + 2) t.branch ((row_at l i + 3, as_word t.delta) ∷ (0, i + 1) ∷ []) (ne 2 (omega arith))
-          (misses-more a (row_at l i + 3) (as_word t.delta) ((0, i + 1) ∷ []) (ne 3 (omega arith))
-            (misses-more a 0 (i + 1) [] (λ e. omega arith) (misses-none a)))))
+    (misses-more a (row_at l i + 1) t.teller ((row_at l i + 2, t.branch) ∷ (row_at l i + 3, as_word t.delta) ∷ (0, i + 1) ∷ []) (ne 1 (omega arith))
+    (misses-more a (row_at l i + 2) t.branch ((row_at l i + 3, as_word t.delta) ∷ (0, i + 1) ∷ []) (ne 2 (omega arith))
+    (misses-more a (row_at l i + 3) (as_word t.delta) ((0, i + 1) ∷ []) (ne 3 (omega arith))
+    (misses-more a 0 (i + 1) [] (λ e. omega arith) (misses-none a)))))
 
 pub counted : (l : Places) (size : ℕ) (ts : List Transfer) (t : Transfer) (words : List ℕ) → TpcAt l size ts words → InRange l size (length ts) t → TpcAt l size (ts ++ (t ∷ [])) (put_back (writes l ts t) words)
 counted l size ts t words o r = record {
@@ -87,40 +87,55 @@ counted l size ts t words o r = record {
 
     va : ℕ
     va = as_word (deltas_of (λ s. s.account) t.account ts +ℤ t.delta)
+
     vt : ℕ
     vt = as_word (deltas_of (λ s. s.teller) t.teller ts +ℤ t.delta)
+
     vb : ℕ
     vb = as_word (deltas_of (λ s. s.branch) t.branch ts +ℤ t.delta)
 
     w1 : List ℕ
     w1 = set words (account_at l t.account) va
+
     w2 : List ℕ
     w2 = set w1 (teller_at l t.teller) vt
+
     w3 : List ℕ
     w3 = set w2 (branch_at l t.branch) vb
+
     w4 : List ℕ
     w4 = set w3 (row_at l i) t.account
+
     w5 : List ℕ
     w5 = set w4 (row_at l i + 1) t.teller
+
     w6 : List ℕ
     w6 = set w5 (row_at l i + 2) t.branch
+
     w7 : List ℕ
     w7 = set w6 (row_at l i + 3) (as_word t.delta)
+
     new : List ℕ
     new = put_back (writes l ts t) words
 
     l1 : length w1 ≡ size
     l1 = length-set words (account_at l t.account) va ∙ o.long
+
     l2 : length w2 ≡ size
     l2 = length-set w1 (teller_at l t.teller) vt ∙ l1
+
     l3 : length w3 ≡ size
     l3 = length-set w2 (branch_at l t.branch) vb ∙ l2
+
     l4 : length w4 ≡ size
     l4 = length-set w3 (row_at l i) t.account ∙ l3
+
     l5 : length w5 ≡ size
     l5 = length-set w4 (row_at l i + 1) t.teller ∙ l4
+
     l6 : length w6 ≡ size
     l6 = length-set w5 (row_at l i + 2) t.branch ∙ l5
+
     l7 : length w7 ≡ size
     l7 = length-set w6 (row_at l i + 3) (as_word t.delta) ∙ l6
 
@@ -166,19 +181,19 @@ counted l size ts t words o r = record {
     mine : IsRow new (row_at l i) t
     mine = record {
       account = written (row_at l i) t.account ((row_at l i + 1, t.teller) ∷ (row_at l i + 2, t.branch) ∷ (row_at l i + 3, as_word t.delta) ∷ (0, i + 1) ∷ []) w3 (room w3 l3 (row_at l i) (omega arith))
-        (misses-more (row_at l i) (row_at l i + 1) t.teller ((row_at l i + 2, t.branch) ∷ (row_at l i + 3, as_word t.delta) ∷ (0, i + 1) ∷ []) (λ e. omega arith)
+          (misses-more (row_at l i) (row_at l i + 1) t.teller ((row_at l i + 2, t.branch) ∷ (row_at l i + 3, as_word t.delta) ∷ (0, i + 1) ∷ []) (λ e. omega arith)
           (misses-more (row_at l i) (row_at l i + 2) t.branch ((row_at l i + 3, as_word t.delta) ∷ (0, i + 1) ∷ []) (λ e. omega arith)
-            (misses-more (row_at l i) (row_at l i + 3) (as_word t.delta) ((0, i + 1) ∷ []) (λ e. omega arith)
-              (misses-more (row_at l i) 0 (i + 1) [] (λ e. omega arith) (misses-none (row_at l i))))));
+          (misses-more (row_at l i) (row_at l i + 3) (as_word t.delta) ((0, i + 1) ∷ []) (λ e. omega arith)
+          (misses-more (row_at l i) 0 (i + 1) [] (λ e. omega arith) (misses-none (row_at l i))))));
       teller = written (row_at l i + 1) t.teller ((row_at l i + 2, t.branch) ∷ (row_at l i + 3, as_word t.delta) ∷ (0, i + 1) ∷ []) w4 (room w4 l4 (row_at l i + 1) (omega arith))
           (misses-more (row_at l i + 1) (row_at l i + 2) t.branch ((row_at l i + 3, as_word t.delta) ∷ (0, i + 1) ∷ []) (λ e. omega arith)
-            (misses-more (row_at l i + 1) (row_at l i + 3) (as_word t.delta) ((0, i + 1) ∷ []) (λ e. omega arith)
-              (misses-more (row_at l i + 1) 0 (i + 1) [] (λ e. omega arith) (misses-none (row_at l i + 1)))));
+          (misses-more (row_at l i + 1) (row_at l i + 3) (as_word t.delta) ((0, i + 1) ∷ []) (λ e. omega arith)
+          (misses-more (row_at l i + 1) 0 (i + 1) [] (λ e. omega arith) (misses-none (row_at l i + 1)))));
       branch = written (row_at l i + 2) t.branch ((row_at l i + 3, as_word t.delta) ∷ (0, i + 1) ∷ []) w5 (room w5 l5 (row_at l i + 2) (omega arith))
-            (misses-more (row_at l i + 2) (row_at l i + 3) (as_word t.delta) ((0, i + 1) ∷ []) (λ e. omega arith)
-              (misses-more (row_at l i + 2) 0 (i + 1) [] (λ e. omega arith) (misses-none (row_at l i + 2))));
+          (misses-more (row_at l i + 2) (row_at l i + 3) (as_word t.delta) ((0, i + 1) ∷ []) (λ e. omega arith)
+          (misses-more (row_at l i + 2) 0 (i + 1) [] (λ e. omega arith) (misses-none (row_at l i + 2))));
       delta = written (row_at l i + 3) (as_word t.delta) ((0, i + 1) ∷ []) w6 (room w6 l6 (row_at l i + 3) (omega arith))
-              (misses-more (row_at l i + 3) 0 (i + 1) [] (λ e. omega arith) (misses-none (row_at l i + 3)));
+          (misses-more (row_at l i + 3) 0 (i + 1) [] (λ e. omega arith) (misses-none (row_at l i + 3)));
     }
 
     earlier : (j c : ℕ) → j < i → c < 4 → slice_index new (row_at l j + c) ≡ slice_index words (row_at l j + c)

@@ -1,6 +1,6 @@
 -- A load that was driven to its end, and its sums.
-use Rattle.std.proofs.Common.{◌≡◌, ℕ, ◌<◌, ◌≤◌, ◌+◌, ◌*◌, List, length, Ok, refl, sym, ◌∙◌, ap, subst, arith}
-use Rattle.std.specs.Prelude.{◌^◌, ◌-◌, slice_index, ℤ}
+use Rattle.std.proofs.Common.{◌≡◌, ℕ, ◌<◌, ◌≤◌, ◌+◌, ◌*◌, List, length, refl, sym, ◌∙◌, ap, subst, arith}
+use Rattle.std.specs.Prelude.{◌^◌, slice_index, ℤ}
 use Rattle.std.proofs.Common.{w64}
 use Rattle.std.proofs.lemmas.Int.{to_z-of_z}
 use Rattle.std.specs.Int.{cast_signed, cast_unsigned}
@@ -10,14 +10,12 @@ use Rattle.envy_base.specs.declared.area.Area.{Area}
 use Rattle.envy_base.specs.declared.counts.Counts.{Counts}
 use Rattle.envy_base.specs.declared.shape.Shape.{Shape}
 use Rattle.envy_layout.specs.Words.{durable}
-use Rattle.envy_map.specs.Fields.{Chart}
 use Rattle.envy_memory.specs.Picture.{Picture, counts_of}
 use Rattle.envy_tpca.specs.declared.places.Places.{Places}
-use Rattle.envy_tpca.specs.declared.transfer.Transfer.{Transfer}
 use Rattle.envy_tpca.specs.Driving.{IsLoadOf, HasCounted, IsToldBefore, plans_in}
-use Rattle.envy_tpca.specs.Load.{Draws, next_transfer, after, first}
+use Rattle.envy_tpca.specs.Load.{Draws, first}
 use Rattle.envy_tpca.specs.Loading.{Loaded}
-use Rattle.envy_tpca.specs.Running.{IsAt, IsWithin}
+use Rattle.envy_tpca.specs.Running.{IsWithin}
 use Rattle.envy_tpca.specs.Summing.{Small, balances_in, history_in}
 use Rattle.envy_tpca.specs.Tpc.{TpcAt, Tpc, deltas, places_of}
 use Rattle.envy_tpca.specs.Trial.{AreSmall}
@@ -33,7 +31,7 @@ has-counted area load pages done words p size same few tpc =
     record {
       few = omega arith;
       words = subst (λ (k : ℕ). Tpc area p.chart.shape.pages load k (durable p.chart)) (sym is)
-        (subst (λ (n : ℕ). Tpc area n load done (durable p.chart)) (sym size) (subst (λ (ws : List ℕ). Tpc area pages load done ws) (sym same) tpc));
+          (subst (λ (n : ℕ). Tpc area n load done (durable p.chart)) (sym size) (subst (λ (ws : List ℕ). Tpc area pages load done ws) (sym same) tpc));
     }
 
 pub counted-within : (area : Area) (load : Draws) (every : ℕ) (old p : Picture) → IsWithin area load every old p → HasCounted area load p
@@ -70,7 +68,7 @@ accounts-small area l load pages words s tpc = balances-small words (1 + 11 * l.
 pub history-small : (area : Area) (l : Places) (load : Draws) (pages : ℕ) (words : List ℕ) → Sized area l load pages → Tpc area pages load area.transfers words → (n : ℕ) → n ≤ area.transfers → Small (history_in words l.history n)
 history-small area l load pages words s tpc n le =
     subst Small (sym (history-are l (32 * pages) area.transfers load words (all-words area l load pages words s tpc) (all-small area l load pages area.transfers s) n le))
-      (small-deltas (first n load) (all-small area l load pages n s) (let e = length-first n load in let room = s.fits.room in let low = s.low in omega arith))
+    (small-deltas (first n load) (all-small area l load pages n s) (let e = length-first n load in let room = s.fits.room in let low = s.low in omega arith))
 
 branch-below : (area : Area) (l : Places) (load : Draws) (pages : ℕ) → Sized area l load pages → All (λ t. t.branch < l.branches) (first area.transfers load)
 branch-below area l load pages s = let e = ap (λ (k : Places). k.branches) s.places in All-first (λ t. t.branch < l.branches) area.transfers load (λ i. let d = (sizes-drawn area load pages i s.fits s.sizes).branch in omega arith)
@@ -102,7 +100,7 @@ told-before n loads old new told is loaded all =
     let missed = loaded.accessed.misses in
     record {
       others = subst (λ (c : Counts). c ≡ record (counts_of new.parts) { hits = c.hits; misses = c.misses }) (sym is)
-        (subst (λ (p : Picture). counts_of old.parts ≡ record (counts_of p.parts) { hits = (counts_of old.parts).hits; misses = (counts_of old.parts).misses }) (sym loaded.same) refl);
+          (subst (λ (p : Picture). counts_of old.parts ≡ record (counts_of p.parts) { hits = (counts_of old.parts).hits; misses = (counts_of old.parts).misses }) (sym loaded.same) refl);
       hits = omega arith;
       misses = omega arith;
       accesses = λ lh lm. let e = loaded.accessed.sum lh lm in omega arith;

@@ -1,7 +1,6 @@
 -- Loads of a memory that rests.
-use Rattle.std.proofs.Common.{◌≡◌, ◌⊎◌, inl, inr, ℕ, ◌<◌, ◌≤◌, ◌+◌, Bool, true, false, cond, List, length, Result, Ok, Err, refl, sym, ◌∙◌, ap, subst, arith}
+use Rattle.std.proofs.Common.{◌≡◌, ℕ, ◌<◌, ◌≤◌, ◌+◌, Bool, true, false, cond, List, length, Err, refl, sym, ◌∙◌, ap, subst, arith}
 use Rattle.std.specs.Prelude.{◌^◌, ◌-◌, slice_index}
-use Rattle.std.proofs.lemmas.Bool.{cases_Bool}
 use Rattle.envy_base.proofs.Counting.{up-least, up-below}
 use Rattle.envy_base.specs.Counting.{up}
 use Rattle.envy_base.specs.Step.{Load, Word}
@@ -38,8 +37,8 @@ pub loaded-more : (n k : ℕ) (a b c : Picture) → Loaded n a b → Loaded k b 
 loaded-more n k a b c x y = record {
   same = y.same ∙ ap (λ (q : Picture). record q { parts = record q.parts { cache = c.parts.cache } }) x.same;
   accessed =
-    let p = x.accessed.hits in let q = y.accessed.hits in let r = x.accessed.misses in let s = y.accessed.misses in
-    record { hits = omega arith; misses = omega arith; sum = λ lh lm. let e = x.accessed.sum (omega arith) (omega arith) in let f = y.accessed.sum lh lm in omega arith };
+      let p = x.accessed.hits in let q = y.accessed.hits in let r = x.accessed.misses in let s = y.accessed.misses in
+      record { hits = omega arith; misses = omega arith; sum = λ lh lm. let e = x.accessed.sum (omega arith) (omega arith) in let f = y.accessed.sum lh lm in omega arith };
 }
 
 pub loaded-chart : (n : ℕ) (old new : Picture) → Loaded n old new → new.chart ≡ old.chart

@@ -1,5 +1,5 @@
 -- What a restart finds, and how large the sums are.
-use Rattle.std.proofs.Common.{◌≡◌, ◌≢◌, ◌⊎◌, inl, inr, ℕ, zero, suc, ◌<◌, ◌≤◌, ◌+◌, ◌*◌, Bool, true, false, cond, List, [], ◌∷◌, length, get_or, replicate, refl, sym, ◌∙◌, ap, arith}
+use Rattle.std.proofs.Common.{◌≡◌, ◌≢◌, ◌⊎◌, inl, inr, ℕ, suc, ◌<◌, ◌≤◌, ◌+◌, ◌*◌, true, false, cond, List, [], ◌∷◌, length, get_or, replicate, ◌∙◌, arith}
 use Rattle.std.specs.Prelude.{ℤ, pos, negsuc, ◌+ℤ◌, ◌==◌, ◌++◌, ◌^◌, slice_index, unsigned_abs}
 use Rattle.std.proofs.Common.{w64}
 use Rattle.std.proofs.lemmas.List.{length_push, length-replicate, get_or-replicate, get_or_past}
@@ -8,7 +8,7 @@ use Rattle.std.proofs.lemmas.Bool.{cases_lt, cases_Bool}
 use Rattle.envy_tpca.specs.declared.places.Places.{Places}
 use Rattle.envy_tpca.specs.declared.transfer.Transfer.{Transfer}
 use Rattle.envy_tpca.specs.Summing.{Small}
-use Rattle.envy_tpca.specs.Tpc.{TpcAt, deltas, deltas_of, branch_at, teller_at, account_at}
+use Rattle.envy_tpca.specs.Tpc.{TpcAt, deltas_of, branch_at, teller_at, account_at}
 use Rattle.envy_tpca.specs.Trial.{AreSmall}
 
 -- what a restart may find of a transfer that was cut, and what word 0 then says

@@ -1,14 +1,12 @@
 -- What happened since: one thing after another.
 use Rattle.std.proofs.Common.{◌≡◌, ◌⊎◌, inl, inr, ℕ, ◌+◌, ◌-◌, ◌^◌, ◌<◌, ◌≤◌, refl, sym, ◌∙◌, ap, subst, arith}
-use Rattle.std.specs.Prelude.{sum, false, IsTrue}
+use Rattle.std.specs.Prelude.{sum}
 use Rattle.std.proofs.lemmas.Bool.{cases_lt}
 use Rattle.envy_base.proofs.Counting.{Tally-trans}
 use Rattle.envy_base.specs.Counting.{up}
 use Rattle.envy_base.specs.declared.counts.Counts.{Counts}
-use Rattle.envy_flush.specs.Counts.{Tallies, Tally3, Counting}
-use Rattle.envy_flush.specs.declared.parts.Parts.{Parts}
+use Rattle.envy_flush.specs.Counts.{Tallies, Tally3}
 use Rattle.envy_layout.specs.Same.{Counted, Grows, Kept}
-use Rattle.envy_map.specs.Fields.{Chart}
 use Rattle.envy_memory.specs.Calls.{Works, lit, planned}
 use Rattle.envy_memory.specs.Effects.{TicksOnce}
 use Rattle.envy_memory.specs.Picture.{Picture, counts_of}
@@ -103,9 +101,18 @@ since-ticks old new (inr works) tallies = since-works 0 1 old new works tallies
 -- a load: the cache alone changed
 pub since-load : (old new : Picture) (cache : Translations) → new ≡ record old { parts = record old.parts { cache = cache } } → Since 0 old new
 since-load old new cache same = subst (Since 0 old) (sym same) (record {
-  keeps = record { shape = refl; given = refl; pulled = refl; lives = omega arith; cuts = omega arith; bads = omega arith; tallies = record {
-    programs = record { first = omega arith; second = omega arith; third = omega arith; fourth = omega arith; same = λ i j k l. omega arith };
-    erases = record { first = omega arith; second = omega arith; same = λ l m. omega arith } } };
+  keeps = record {
+    shape = refl;
+    given = refl;
+    pulled = refl;
+    lives = omega arith;
+    cuts = omega arith;
+    bads = omega arith;
+    tallies = record {
+      programs = record { first = omega arith; second = omega arith; third = omega arith; fourth = omega arith; same = λ i j k l. omega arith };
+      erases = record { first = omega arith; second = omega arith; same = λ l m. omega arith };
+    };
+  };
   plans = Rises-same _ _ refl;
 })
 
@@ -116,9 +123,18 @@ planned-rises n = record { least = omega arith; most = omega arith; exact = λ l
 
 pub since-planned : (old new : Picture) → new ≡ record old { chart = planned old.chart } → Since 1 old new
 since-planned old new same = subst (Since 1 old) (sym same) (record {
-  keeps = record { shape = refl; given = refl; pulled = refl; lives = omega arith; cuts = omega arith; bads = omega arith; tallies = record {
-    programs = record { first = omega arith; second = omega arith; third = omega arith; fourth = omega arith; same = λ i j k l. omega arith };
-    erases = record { first = omega arith; second = omega arith; same = λ l m. omega arith } } };
+  keeps = record {
+    shape = refl;
+    given = refl;
+    pulled = refl;
+    lives = omega arith;
+    cuts = omega arith;
+    bads = omega arith;
+    tallies = record {
+      programs = record { first = omega arith; second = omega arith; third = omega arith; fourth = omega arith; same = λ i j k l. omega arith };
+      erases = record { first = omega arith; second = omega arith; same = λ l m. omega arith };
+    };
+  };
   plans = planned-rises old.chart.plans;
 })
 

@@ -1,8 +1,8 @@
 -- One transfer more of a load that is driven.
-use Rattle.std.proofs.Common.{◌≡◌, ◌⊎◌, inl, inr, ℕ, zero, suc, ◌<◌, ◌≤◌, ◌+◌, ◌*◌, List, [], ◌∷◌, length, Result, Ok, Err, refl, sym, ◌∙◌, ap, subst, arith, add-one}
-use Rattle.std.specs.Prelude.{◌++◌, ◌%◌, ◌/◌, ◌^◌, ℤ, ◌+ℤ◌, if◌then◌else◌, unsigned_abs, replicate, IsErr, IsErrAnd}
-use Rattle.envy_base.specs.Area.{Fits, history_at}
-use Rattle.envy_base.specs.Array.{put_back, zeros}
+use Rattle.std.proofs.Common.{◌≡◌, ◌⊎◌, inl, inr, ℕ, zero, suc, ◌<◌, ◌≤◌, ◌+◌, ◌*◌, List, [], ◌∷◌, Result, Ok, Err, sym, ◌∙◌, ap, subst, arith}
+use Rattle.std.specs.Prelude.{◌++◌, ◌%◌, ◌/◌, ◌^◌, ℤ, if◌then◌else◌, replicate, IsErr, IsErrAnd}
+use Rattle.envy_base.specs.Area.{Fits}
+use Rattle.envy_base.specs.Array.{put_back}
 use Rattle.envy_base.specs.declared.area.Area.{Area}
 use Rattle.envy_base.specs.declared.shape.Shape.{Shape}
 use Rattle.envy_layout.specs.Stands.{Stands}
@@ -17,9 +17,9 @@ use Rattle.envy_tpca.specs.Driving.{IsLoadOf, is_planned, plans_in}
 use Rattle.envy_tpca.specs.Load.{Draws, next_transfer, after, first}
 use Rattle.envy_tpca.specs.Running.{MayDrive, IsAt, IsWithin, AfterAll}
 use Rattle.envy_tpca.specs.Since.{Since}
-use Rattle.envy_tpca.specs.Tpc.{TpcAt, Tpc, places_of, account_at, row_at}
+use Rattle.envy_tpca.specs.Tpc.{TpcAt, Tpc, places_of}
 use Rattle.envy_tpca.specs.Trial.{AreSmall, AreSpots, InRange, IsTried, writes}
-use Rattle.envy_tpca.specs.Trying.{Rests, Stopped, IsEnd, AfterTransfer}
+use Rattle.envy_tpca.specs.Trying.{Rests, IsEnd, AfterTransfer}
 use Rattle.envy_tpca.proofs.Between.{cause-later, counted-tried}
 use Rattle.envy_tpca.proofs.Calling.{durable-rests}
 use Rattle.envy_tpca.proofs.Drawing.{length-first, first-more, first-none}
@@ -38,8 +38,8 @@ sizes-drawn area load pages i fits sizes =
     let eb = sizes.branches in let ea = sizes.accounts in
     let some = fits.branches in let all = fits.accounts in
     subst (λ (b : ℕ). IsDrawn b area.accounts (next_transfer (after i load)).0) eb
-      (subst (λ (a : ℕ). IsDrawn load.branches a (next_transfer (after i load)).0) ea
-        (is-drawn i load (omega arith) (pos-mul load.branches load.accounts (omega arith) (omega arith))))
+    (subst (λ (a : ℕ). IsDrawn load.branches a (next_transfer (after i load)).0) ea
+    (is-drawn i load (omega arith) (pos-mul load.branches load.accounts (omega arith) (omega arith))))
 
 pub load-small : (area : Area) (load : Draws) (pages n : ℕ) → Fits area pages → IsLoadOf area load → AreSmall (first n load)
 load-small area load pages n fits sizes =
@@ -67,7 +67,13 @@ range-of area load pages i fits sizes lt few =
 
 pub range-wide : (l : Places) (size more i : ℕ) (t : Transfer) → size ≤ more → InRange l size i t → InRange l more i t
 range-wide l size more i t le r = record {
-  branch = r.branch; teller = r.teller; account = r.account; delta = r.delta; history = r.history; whole = r.whole; few = r.few;
+  branch = r.branch;
+  teller = r.teller;
+  account = r.account;
+  delta = r.delta;
+  history = r.history;
+  whole = r.whole;
+  few = r.few;
   room = let room = r.room in omega arith;
 }
 
@@ -96,8 +102,8 @@ step-words area l load pages i shadows before words t spots places tried is same
     let now = counted-tried shadows l (32 * pages) (first i load) before i t spots tried in
     let more : first i load ++ (t ∷ []) ≡ first (i + 1) load = ap (λ (u : Transfer). first i load ++ (u ∷ [])) is ∙ sym (first-more i load) in
     subst (λ (ws : List ℕ). Tpc area pages load (i + 1) ws) (sym same)
-      (subst (λ (ts : List Transfer). TpcAt (places_of area) (32 * pages) ts (put_back (writes l (first i load) t) before)) more
-        (subst (λ (k : Places). TpcAt k (32 * pages) (first i load ++ (t ∷ [])) (put_back (writes l (first i load) t) before)) places now))
+    (subst (λ (ts : List Transfer). TpcAt (places_of area) (32 * pages) ts (put_back (writes l (first i load) t) before)) more
+    (subst (λ (k : Places). TpcAt k (32 * pages) (first i load ++ (t ∷ [])) (put_back (writes l (first i load) t) before)) places now))
 
 step-since : (every i : ℕ) (old mid p q : Picture) → Since (plans_in every i) old mid → Since (if is_planned every i then 1 else 0) mid p → Since 0 p q → Since (plans_in every (i + 1)) old q
 step-since every i old mid p q before plan did =
@@ -108,11 +114,13 @@ pub step-done : (area : Area) (l : Places) (load : Draws) (every i : ℕ) (old m
     → AfterTransfer 0 p (durable p.chart) (put_back (writes l (first i load) t) (durable p.chart)) (Ok u) q → IsAt area load every (i + 1) old q × Rests (durable q.chart) q
 step-done area l load every i old mid p q t spots u may reached plan tried is (rests, did) =
     let now = put_back (writes l (first i load) t) (durable p.chart) in
-    let same : durable q.chart ≡ now = durable-rests now q rests in
-    (record {
-      words = step-words area l load old.chart.shape.pages i p.chart.shape.shadows (durable p.chart) (durable q.chart) t spots may.places tried is same;
-      since = step-since every i old mid p q reached.since plan did;
-    }, subst (λ (ws : List ℕ). Rests ws q) (sym same) rests)
+    let same : durable q.chart ≡ now = durable-rests now q rests in (
+      record {
+        words = step-words area l load old.chart.shape.pages i p.chart.shape.shadows (durable p.chart) (durable q.chart) t spots may.places tried is same;
+        since = step-since every i old mid p q reached.since plan did;
+      },
+      subst (λ (ws : List ℕ). Rests ws q) (sym same) rests,
+    )
 
 pub step-ended : (area : Area) (l : Places) (load : Draws) (every i : ℕ) (old mid p q : Picture) (t : Transfer) (spots : Spots) (fault : DriveFault) → MayDrive area l load old → IsAt area load every i old mid → Since (if is_planned every i then 1 else 0) mid p
     → durable p.chart ≡ durable mid.chart → i < area.transfers → IsTried p.chart.shape.shadows l (32 * old.chart.shape.pages) (first i load) (durable p.chart) i t spots → t ≡ (next_transfer (after i load)).0
@@ -123,12 +131,18 @@ step-ended area l load every i old mid p q t spots fault may reached plan kept l
   where
     within : Since (plans_in every (i + 1)) old q → (durable q.chart ≡ durable p.chart) ⊎ (durable q.chart ≡ put_back (writes l (first i load) t) (durable p.chart)) → IsWithin area load every old q
     within since (inl same) = record {
-      done = i; planned = i + 1; few = omega arith; few_planned = omega arith;
+      done = i;
+      planned = i + 1;
+      few = omega arith;
+      few_planned = omega arith;
       words = subst (λ (ws : List ℕ). Tpc area old.chart.shape.pages load i ws) (sym (same ∙ kept)) reached.words;
       since = since;
     }
     within since (inr same) = record {
-      done = i + 1; planned = i + 1; few = omega arith; few_planned = omega arith;
+      done = i + 1;
+      planned = i + 1;
+      few = omega arith;
+      few_planned = omega arith;
       words = step-words area l load old.chart.shape.pages i p.chart.shape.shadows (durable p.chart) (durable q.chart) t spots may.places tried is same;
       since = since;
     }

@@ -1,19 +1,19 @@
 -- The sums that the words of an area add up to.
-use Rattle.std.proofs.Common.{◌≡◌, ◌≢◌, ◌⊎◌, inl, inr, ℕ, zero, suc, ◌<◌, ◌≤◌, ◌+◌, ◌*◌, Bool, true, false, cond, List, [], ◌∷◌, length, get_or, refl, sym, ◌∙◌, ap, subst, arith, add-one}
-use Rattle.std.specs.Prelude.{◌/◌, ◌%◌, ◌^◌, ◌++◌, ◌==◌, slice_index, ℤ, pos, negsuc, ◌+ℤ◌, ◌-ℤ◌, unsigned_abs}
+use Rattle.std.proofs.Common.{◌≡◌, ◌⊎◌, inl, inr, ℕ, zero, suc, ◌<◌, ◌≤◌, ◌+◌, ◌*◌, cond, List, [], ◌∷◌, length, get_or, refl, sym, ◌∙◌, ap, subst, arith, add-one}
+use Rattle.std.specs.Prelude.{◌%◌, ◌^◌, ◌++◌, ◌==◌, slice_index, ℤ, pos, negsuc, ◌+ℤ◌, ◌-ℤ◌, unsigned_abs}
 use Rattle.std.specs.Int.{cast_signed, cast_unsigned, int_wrap}
 use Rattle.std.specs.List.{All}
 use Rattle.std.proofs.Common.{w64}
-use Rattle.std.proofs.Math.IntN.{+ℤ_comm, +ℤ_assoc, +ℤ_idl, +ℤ_idr}
+use Rattle.std.proofs.Math.IntN.{+ℤ_comm, +ℤ_assoc, +ℤ_idr}
 use Rattle.std.proofs.Math.Seq.{get_or-append_seam}
 use Rattle.std.proofs.lemmas.Bool.{cases_lt}
 use Rattle.std.proofs.lemmas.Int.{fits_signed_from_abs, ints, to_z-of_z, wrapping_add_onto, int_wrap_fits}
 use Rattle.std.proofs.lemmas.List.{get_or_append_left}
 use Rattle.envy_tpca.specs.declared.places.Places.{Places}
 use Rattle.envy_tpca.specs.declared.transfer.Transfer.{Transfer}
-use Rattle.envy_tpca.specs.Load.{Draws, drawn, next_transfer, after, first}
+use Rattle.envy_tpca.specs.Load.{Draws, next_transfer, after, first}
 use Rattle.envy_tpca.specs.Summing.{Small, sum_below, signed_at, balances_in, history_in}
-use Rattle.envy_tpca.specs.Tpc.{TpcAt, as_word, deltas, deltas_of, account_at, teller_at, branch_at, row_at}
+use Rattle.envy_tpca.specs.Tpc.{TpcAt, as_word, deltas, deltas_of}
 use Rattle.envy_tpca.specs.Trial.{AreSmall}
 use Rattle.envy_tpca.proofs.Adding.{sum-both, sum-one, sum-none, sums-are}
 use Rattle.envy_tpca.proofs.Drawing.{first-more, after-more, length-first, first-none, after-none}
@@ -71,7 +71,7 @@ pub balances-are : (words : List ℕ) (from n : ℕ) (at : Transfer → ℕ) (ts
     → balances_in words from n ≡ sum_below n (λ k. deltas_of at k ts)
 balances-are words from n at ts words-are all few =
     sum-same n (λ k. signed_at words (from + k)) (λ k. deltas_of at k ts)
-      (λ k lt. ap (cast_signed w64) (words-are k lt) ∙ signed-word (deltas_of at k ts) (fits_signed_from_abs w64 (deltas_of at k ts) (let e = abs-of at k ts all in omega arith)))
+    (λ k lt. ap (cast_signed w64) (words-are k lt) ∙ signed-word (deltas_of at k ts) (fits_signed_from_abs w64 (deltas_of at k ts) (let e = abs-of at k ts all in omega arith)))
 
 pub balances-small : (words : List ℕ) (from n : ℕ) (at : Transfer → ℕ) (ts : List Transfer) → ((k : ℕ) → k < n → slice_index words (from + k) ≡ as_word (deltas_of at k ts)) → AreSmall ts → length ts < 2 ^ 32
     → (m : ℕ) → m ≤ n → Small (balances_in words from m)

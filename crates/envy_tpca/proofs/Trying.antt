@@ -1,11 +1,10 @@
 -- One transaction on the plain array.
-use Rattle.std.proofs.Common.{◌≡◌, ◌≢◌, ◌⊎◌, inl, inr, ℕ, zero, suc, ◌<◌, ◌≤◌, ◌+◌, Bool, true, false, cond, List, [], ◌∷◌, length, get_or, set, replicate, Option, None, Some, is_some, IsTrue, refl, sym, ◌∙◌, ap, subst, arith}
-use Rattle.std.specs.Prelude.{slice_index, slice_set, position}
-use Rattle.std.proofs.lemmas.List.{length-set}
-use Rattle.envy_base.specs.Array.{Array, Saved, IsArray, page_of, slot_of, owns, owner, owned, is_closed, undo_all, undone, with_slot, stored, put, restarted, saving}
-use Rattle.envy_base.specs.Step.{Command, Answer, Begin, Put, Commit, Word, Done, Started, Range, Held, Closed as ClosedAnswer, Full, Busy, Step, Lost, MayOwn}
-use Rattle.envy_base.proofs.Owning.{position-None, owner-Some, owner-None, owner-nobody, owned-none, slot_cases, slot-within, owner-put_here, owned-put}
-use Rattle.envy_base.proofs.Keeping.{first-closed, step-keeps, undone-restarted}
+use Rattle.std.proofs.Common.{◌≡◌, ◌≢◌, ◌⊎◌, inl, inr, ℕ, zero, suc, ◌<◌, ◌≤◌, ◌+◌, false, cond, List, [], ◌∷◌, length, get_or, set, replicate, Option, None, Some, is_some, refl, sym, ◌∙◌, ap, subst, arith}
+use Rattle.std.specs.Prelude.{slice_index, slice_set}
+use Rattle.envy_base.specs.Array.{Array, Saved, IsArray, page_of, slot_of, owns, owner, owned, is_closed, undo_all, undone, with_slot, stored, put, saving}
+use Rattle.envy_base.specs.Step.{Answer, Begin, Put, Commit, Done, Started, Range, Held, Closed as ClosedAnswer, Full, Busy, Step, Lost}
+use Rattle.envy_base.proofs.Owning.{position-None, owner-Some, owner-nobody, owned-none, slot_cases, slot-within, owner-put_here, owned-put}
+use Rattle.envy_base.proofs.Keeping.{first-closed, step-keeps}
 use Rattle.envy_base.proofs.Undoing.{undone-begun, undone-put, has}
 use Rattle.envy_memory.specs.Calls.{fresh}
 use Rattle.envy_tpca.specs.Trying.{Open}

@@ -1,11 +1,11 @@
 -- What driving a load may answer, and what it leaves.
-use Rattle.std.specs.Prelude.{◌≡◌, ℕ, zero, suc, ◌+◌, ◌*◌, ◌%◌, ◌-◌, ◌^◌, ◌<◌, ◌≤◌, ◌==◌, ◌&&◌, not, Bool, false, IsTrue, slice_index, if◌then◌else◌}
+use Rattle.std.specs.Prelude.{◌≡◌, ℕ, zero, suc, ◌+◌, ◌*◌, ◌%◌, ◌-◌, ◌^◌, ◌<◌, ◌≤◌, ◌==◌, ◌&&◌, not, Bool, slice_index, if◌then◌else◌}
 use Rattle.envy_base.specs.declared.area.Area.{Area}
 use Rattle.envy_base.specs.declared.counts.Counts.{Counts}
 use Rattle.envy_layout.specs.Words.{durable}
 use Rattle.envy_memory.specs.Picture.{Picture, counts_of}
 use Rattle.envy_tpca.specs.declared.sums.Sums.{Sums}
-use Rattle.envy_tpca.specs.Load.{Draws, after, first}
+use Rattle.envy_tpca.specs.Load.{Draws, first}
 use Rattle.envy_tpca.specs.Since.{Rises}
 use Rattle.envy_tpca.specs.Tpc.{Tpc, deltas}
 use Rattle.envy_tpca.specs.Trying.{Rests}

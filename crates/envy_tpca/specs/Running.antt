@@ -1,5 +1,5 @@
 -- All transfers of a load, one after another.
-use Rattle.std.specs.Prelude.{◌≡◌, ℕ, ◌+◌, ◌*◌, ◌^◌, ◌≤◌, Result, Ok, Err, ℤ}
+use Rattle.std.specs.Prelude.{◌≡◌, ℕ, ◌^◌, ◌≤◌, Result, Ok, Err, ℤ}
 use Rattle.envy_base.specs.Area.{Fits}
 use Rattle.envy_base.specs.declared.area.Area.{Area}
 use Rattle.envy_layout.specs.Words.{durable}
@@ -7,7 +7,7 @@ use Rattle.envy_memory.specs.Picture.{Picture}
 use Rattle.envy_tpca.specs.declared.fault.DriveFault.{DriveFault}
 use Rattle.envy_tpca.specs.declared.places.Places.{Places}
 use Rattle.envy_tpca.specs.Driving.{IsLoadOf, plans_in}
-use Rattle.envy_tpca.specs.Load.{Draws, IsLoad, after, first}
+use Rattle.envy_tpca.specs.Load.{Draws, after, first}
 use Rattle.envy_tpca.specs.Since.{Since}
 use Rattle.envy_tpca.specs.Tpc.{Tpc, deltas, places_of}
 use Rattle.envy_tpca.specs.Trying.{Rests, IsEnd}

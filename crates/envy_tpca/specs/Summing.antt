@@ -1,5 +1,5 @@
 -- Adding up words of a memory by loads.
-use Rattle.std.specs.Prelude.{◌≡◌, ℕ, zero, suc, ◌+◌, ◌*◌, ◌-◌, ◌^◌, ◌<◌, ◌≤◌, List, slice_index, ℤ, pos, ◌+ℤ◌, FitsSigned}
+use Rattle.std.specs.Prelude.{ℕ, zero, suc, ◌+◌, ◌*◌, List, slice_index, ℤ, pos, ◌+ℤ◌, FitsSigned}
 use Rattle.std.proofs.Common.{w64}
 use Rattle.std.specs.Int.{cast_signed}
 

@@ -1,5 +1,5 @@
 -- The words of the load after a list of transfers.
-use Rattle.std.specs.Prelude.{◌≡◌, ℕ, zero, suc, ◌+◌, ◌-◌, ◌*◌, ◌^◌, ◌<◌, ◌≤◌, ◌==◌, List, [], ◌∷◌, length, slice_index, get_or, ℤ, pos, negsuc, ◌+ℤ◌, if◌then◌else◌}
+use Rattle.std.specs.Prelude.{◌≡◌, ℕ, ◌+◌, ◌-◌, ◌*◌, ◌^◌, ◌<◌, ◌≤◌, ◌==◌, List, [], ◌∷◌, length, slice_index, get_or, ℤ, pos, negsuc, ◌+ℤ◌, if◌then◌else◌}
 use Rattle.envy_base.specs.Area.{history_at}
 use Rattle.envy_base.specs.declared.area.Area.{Area}
 use Rattle.envy_tpca.specs.Load.{Draws, first}

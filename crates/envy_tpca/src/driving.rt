@@ -23,7 +23,12 @@ use envy_base::{Area, Bench};
 use envy_memory::Memory;
 
 /// Tries transfer `i` until it is done, and ticks. After a restart address 0 tells whether it is done.
-pub fn transfer_once<B: Bench>(memory: &mut Memory<B>, at: Spots, i: u32, t: Transfer) -> Result<(), DriveFault>
+pub fn transfer_once<B: Bench>(
+    memory: &mut Memory<B>,
+    at: Spots,
+    i: u32,
+    t: Transfer,
+) -> Result<(), DriveFault>
     requires trial { Trial i t at memory.old }
     requires row { at.row < 2 ^ 31 }
     ensures { (l : APlaces) (size : ℕ) (ts : List ATransfer) → IsTried memory.old.chart.shape.shadows l size ts (durable memory.old.chart) i t at → AfterTransfer 0 memory.old (durable memory.old.chart) (put_back (writes l ts t) (durable memory.old.chart)) result memory.new }
@@ -54,7 +59,13 @@ pub fn plan_cut<B: Bench>(memory: &mut Memory<B>, every: u32, i: u32)
 }
 
 /// Does all transfers, and adds up their deltas.
-fn transfer_all<B: Bench>(memory: &mut Memory<B>, load: &mut Load, area: &Area, places: Places, every: u32) -> Result<i64, DriveFault>
+fn transfer_all<B: Bench>(
+    memory: &mut Memory<B>,
+    load: &mut Load,
+    area: &Area,
+    places: Places,
+    every: u32,
+) -> Result<i64, DriveFault>
     requires { MayDrive area.now places load.old memory.old }
     ensures { AfterAll area.now load.old every memory.old result load.new memory.new }
 {
@@ -76,7 +87,12 @@ fn transfer_all<B: Bench>(memory: &mut Memory<B>, load: &mut Load, area: &Area, 
 ///
 /// `Dead` where power doesn't return, `Bad` where a flash operation failed. However it ends, a restart finds the words
 /// after as many transfers as address 0 says.
-pub fn drive<B: Bench>(memory: &mut Memory<B>, load: &mut Load, area: &Area, every: u32) -> Result<Sums, DriveFault>
+pub fn drive<B: Bench>(
+    memory: &mut Memory<B>,
+    load: &mut Load,
+    area: &Area,
+    every: u32,
+) -> Result<Sums, DriveFault>
     requires fits { Fits area.now memory.old.chart.shape.pages }
     requires load { IsLoadOf area.now load.old }
     requires room { 5 ≤ memory.old.chart.shape.shadows }

@@ -57,7 +57,8 @@ impl From<PutFault> for Fault {
         match fault {
             PutFault::Off => Fault::Off,
             PutFault::Bad => Fault::Bad,
-            PutFault::Range | PutFault::Closed | PutFault::Held(_) | PutFault::Full => Fault::Refused,
+            PutFault::Range | PutFault::Closed | PutFault::Held(_) | PutFault::Full =>
+                Fault::Refused,
         }
     }
 }

@@ -1,8 +1,8 @@
 ghost use Rattle.std.specs.Prelude.{◌≡◌, ◌+◌, ◌*◌, ◌^◌, ◌<◌, ◌≤◌};
 ghost use Rattle.envy_tpca.specs.Load.{seeded, next_transfer};
 
-use crate::draw::drawn;
 use crate::Transfer;
+use crate::draw::drawn;
 use rand_core::SeedableRng;
 use rand_core::utils::NextWord;
 use rand_pcg::Lcg128Xsl64;

@@ -15,7 +15,12 @@ use envy_base::Bench;
 use envy_memory::Memory;
 
 /// Adds to the three balances.
-pub fn put_balances<B: Bench>(memory: &mut Memory<B>, slot: u8, at: Spots, t: Transfer) -> Result<(), Fault>
+pub fn put_balances<B: Bench>(
+    memory: &mut Memory<B>,
+    slot: u8,
+    at: Spots,
+    t: Transfer,
+) -> Result<(), Fault>
     ensures { (n : ℕ) (first : Picture) (l : Places) (size : ℕ) (ts : List ATransfer) (before : List ℕ) → Running n first before before slot 0 0 memory.old → IsTried first.chart.shape.shadows l size ts before (length ts) t at → AfterPut n first before (put_back (balances_of at ts t) before) slot 3 (page_of at.branch) result memory.new }
 {
     add(memory, slot, at.account, t.delta)?;
@@ -24,7 +29,12 @@ pub fn put_balances<B: Bench>(memory: &mut Memory<B>, slot: u8, at: Spots, t: Tr
 }
 
 /// Puts the row of history.
-pub fn put_row<B: Bench>(memory: &mut Memory<B>, slot: u8, row: u32, t: Transfer) -> Result<(), Fault>
+pub fn put_row<B: Bench>(
+    memory: &mut Memory<B>,
+    slot: u8,
+    row: u32,
+    t: Transfer,
+) -> Result<(), Fault>
     requires row { row < 2 ^ 31 }
     ensures { (n : ℕ) (first : Picture) (before now : List ℕ) (last : ℕ) → Running n first before now slot 3 last memory.old → IsRoomy first.chart.shape.shadows now row t → AfterPut n first before (put_back (row_of row t) now) slot 4 (page_of row) result memory.new }
 {
@@ -36,7 +46,12 @@ pub fn put_row<B: Bench>(memory: &mut Memory<B>, slot: u8, row: u32, t: Transfer
 
 /// Does transfer `i` as one transaction: the balances of its account, teller and branch, its row of history, and the
 /// number of transfers that are done.
-pub fn try_transfer<B: Bench>(memory: &mut Memory<B>, at: Spots, i: u32, t: Transfer) -> Result<(), Fault>
+pub fn try_transfer<B: Bench>(
+    memory: &mut Memory<B>,
+    at: Spots,
+    i: u32,
+    t: Transfer,
+) -> Result<(), Fault>
     requires row { at.row < 2 ^ 31 }
     ensures { (n : ℕ) (first : Picture) (l : Places) (size : ℕ) (ts : List ATransfer) (before : List ℕ) → Rests before memory.old → Since n first memory.old → IsTried first.chart.shape.shadows l size ts before i t at → AfterTry n first before (put_back (writes l ts t) before) result memory.new }
 {

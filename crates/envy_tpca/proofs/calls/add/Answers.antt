@@ -1,4 +1,4 @@
-use Rattle.std.proofs.Common.{ap, sym, ◌∙◌, ◌≡◌, subst, ℕ, List, refl}
+use Rattle.std.proofs.Common.{◌∙◌, ◌≡◌, subst, ℕ}
 use Rattle.std.specs.Prelude.{slice_set, ◌+ℤ◌}
 use Rattle.envy_tpca.specs.Tpc.{as_word}
 use Rattle.envy_base.specs.Array.{page_of}

@@ -1,4 +1,3 @@
-use Rattle.std.proofs.lemmas.Result.{err_from_is_err_and}
 use Rattle.envy_tpca.proofs.Calling.{load-done, load-never}
 use Rattle.envy_tpca.proofs.Since.{since-load}
 use Rattle.envy_tpca.proofs.calls.load_word.Goals as goal

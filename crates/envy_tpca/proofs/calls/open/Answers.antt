@@ -1,6 +1,5 @@
 use Rattle.std.proofs.Common.{ap}
 use Rattle.std.proofs.lemmas.Result.{err_from_is_err_and}
-use Rattle.envy_base.specs.declared.counts.Counts.{Counts}
 use Rattle.envy_memory.specs.Calls.{fresh}
 use Rattle.envy_memory.specs.Picture.{Picture, counts_of}
 use Rattle.envy_tpca.proofs.Calling.{begin-done, begin-stopped}

@@ -1,12 +1,10 @@
-use Rattle.std.proofs.Common.{◌≡◌, ℕ, ◌<◌, ◌≤◌, ◌+◌, ◌*◌, List, length, arith, ap, sym, ◌∙◌, subst, refl}
+use Rattle.std.proofs.Common.{◌≡◌, ℕ, ◌≤◌, ◌+◌, ◌*◌, arith, ap, sym, ◌∙◌, subst}
 use Rattle.std.specs.Prelude.{◌^◌, replicate}
 use Rattle.envy_layout.specs.Words.{durable}
 use Rattle.envy_map.specs.Fields.{Chart}
-use Rattle.envy_memory.specs.Picture.{Picture}
 use Rattle.envy_base.specs.declared.shape.Shape.{Shape}
 use Rattle.envy_tpca.specs.declared.places.Places.{Places}
 use Rattle.envy_tpca.specs.Driving.{plans_in}
-use Rattle.envy_tpca.specs.Loading.{Loaded}
 use Rattle.envy_tpca.specs.Since.{Rises}
 use Rattle.envy_tpca.specs.Summing.{Small, balances_in, history_in}
 use Rattle.envy_tpca.specs.Tpc.{Tpc}
@@ -40,12 +38,12 @@ transfer_all-requires g c =
 pub returns-in_err-deltas-clause-counted : goal.returns-in_err-deltas-clause-counted
 returns-in_err-deltas-clause-counted g c =
     counted-within c.args.area.now c.args.load.now c.args.every c.args.memory.now c.transfer_all.new.memory
-      (all-err c.args.area.now c.args.load.now c.args.every c.args.memory.now c.transfer_all.new.memory c.transfer_all.result c.transfer_all.new.load c.in_err-deltas.field-0.0 c.transfer_all.ensures c.in_err-deltas.was).1
+    (all-err c.args.area.now c.args.load.now c.args.every c.args.memory.now c.transfer_all.new.memory c.transfer_all.result c.transfer_all.new.load c.in_err-deltas.field-0.0 c.transfer_all.ensures c.in_err-deltas.was).1
 
 pub returns-in_err-deltas-clause-few_plans : goal.returns-in_err-deltas-clause-few_plans
 returns-in_err-deltas-clause-few_plans g c =
     few-plans c.args.area.now c.args.load.now c.args.every c.args.memory.now c.transfer_all.new.memory
-      (all-err c.args.area.now c.args.load.now c.args.every c.args.memory.now c.transfer_all.new.memory c.transfer_all.result c.transfer_all.new.load c.in_err-deltas.field-0.0 c.transfer_all.ensures c.in_err-deltas.was).1
+    (all-err c.args.area.now c.args.load.now c.args.every c.args.memory.now c.transfer_all.new.memory c.transfer_all.result c.transfer_all.new.load c.in_err-deltas.field-0.0 c.transfer_all.ensures c.in_err-deltas.was).1
 
 pub sum_balances-branches-requires-clause-small : goal.sum_balances-branches-requires-clause-small
 sum_balances-branches-requires-clause-small g c =
@@ -195,10 +193,10 @@ returns-clause-driven g c =
     let last = c.sum_history-history.new.memory in
     let size : last.chart.shape.pages ≡ pages = ap (λ (ch : Chart). ch.shape.pages) e5 ∙ ap (λ (sh : Shape). sh.pages) all.3.since.keeps.shape in
     let loads = loaded-more (l.branches + 10 * l.branches + l.accounts) area.transfers one c.sum_balances-accounts.new.memory last
-      (loaded-more (l.branches + 10 * l.branches) l.accounts one c.sum_balances-tellers.new.memory c.sum_balances-accounts.new.memory
-        (loaded-more l.branches (10 * l.branches) one c.sum_balances-branches.new.memory c.sum_balances-tellers.new.memory c.sum_balances-branches.ensures.loaded c.sum_balances-tellers.ensures.loaded)
-        c.sum_balances-accounts.ensures.loaded)
-      c.sum_history-history.ensures.loaded in
+    (loaded-more (l.branches + 10 * l.branches) l.accounts one c.sum_balances-tellers.new.memory c.sum_balances-accounts.new.memory
+    (loaded-more l.branches (10 * l.branches) one c.sum_balances-branches.new.memory c.sum_balances-tellers.new.memory c.sum_balances-branches.ensures.loaded c.sum_balances-tellers.ensures.loaded)
+    c.sum_balances-accounts.ensures.loaded)
+    c.sum_history-history.ensures.loaded in
     let eb = ap (λ (k : Places). k.branches) c.lay_out-places.ensures.places in
     let ea = ap (λ (k : Places). k.accounts) c.lay_out-places.ensures.places in
     let lower = all.3.since.keeps.lives in
@@ -210,7 +208,7 @@ returns-clause-driven g c =
     record {
       rests = rests-same one last e5 all.2;
       words = subst (λ (ch : Chart). Tpc area ch.shape.pages load area.transfers (durable ch)) (sym e5)
-        (subst (λ (n : ℕ). Tpc area n load area.transfers (durable one.chart)) (sym (ap (λ (sh : Shape). sh.pages) all.3.since.keeps.shape)) all.3.words);
+          (subst (λ (n : ℕ). Tpc area n load area.transfers (durable one.chart)) (sym (ap (λ (sh : Shape). sh.pages) all.3.since.keeps.shape)) all.3.words);
       adds_up = record {
         branches = kept-signed _ _ (c.sum_balances-branches.ensures.sum ∙ branches-total area l load pages (durable one.chart) sized all.3.words) small;
         tellers = kept-signed _ _ (c.sum_balances-tellers.ensures.sum ∙ ap (λ (ch : Chart). balances_in (durable ch) (1 + l.branches) (10 * l.branches)) e2 ∙ tellers-total area l load pages (durable one.chart) sized all.3.words) small;
@@ -241,8 +239,8 @@ returns-clause-keeps g c =
     let e5 = loaded-chart _ _ _ c.sum_history-history.ensures.loaded ∙ e4 in
     let last = c.sum_history-history.new.memory in
     let loads = loaded-more (l.branches + 10 * l.branches + l.accounts) area.transfers one c.sum_balances-accounts.new.memory last
-      (loaded-more (l.branches + 10 * l.branches) l.accounts one c.sum_balances-tellers.new.memory c.sum_balances-accounts.new.memory
-        (loaded-more l.branches (10 * l.branches) one c.sum_balances-branches.new.memory c.sum_balances-tellers.new.memory c.sum_balances-branches.ensures.loaded c.sum_balances-tellers.ensures.loaded)
-        c.sum_balances-accounts.ensures.loaded)
-      c.sum_history-history.ensures.loaded in
+    (loaded-more (l.branches + 10 * l.branches) l.accounts one c.sum_balances-tellers.new.memory c.sum_balances-accounts.new.memory
+    (loaded-more l.branches (10 * l.branches) one c.sum_balances-branches.new.memory c.sum_balances-tellers.new.memory c.sum_balances-branches.ensures.loaded c.sum_balances-tellers.ensures.loaded)
+    c.sum_balances-accounts.ensures.loaded)
+    c.sum_history-history.ensures.loaded in
     Keeps-trans old one last all.3.since.keeps (since-load one last _ loads.same).keeps

@@ -1,4 +1,4 @@
-use Rattle.std.proofs.Common.{◌≡◌, ℕ, ◌<◌, ◌≤◌, ◌+◌, ◌*◌, List, length, arith, ap, sym, ◌∙◌, subst, refl}
+use Rattle.std.proofs.Common.{◌≡◌, ◌<◌, ◌+◌, ◌*◌, arith, ap, sym, ◌∙◌}
 use Rattle.std.specs.Prelude.{◌^◌}
 use Rattle.envy_base.specs.Array.{put_back}
 use Rattle.envy_layout.specs.Words.{durable}
@@ -72,8 +72,8 @@ returns-in_err-transfer_once g c =
     let now = put_back (writes c.args.places (first c.loop-i.i load) c.next-t.result) (durable p.chart) in
     let a = once-err 0 p (durable p.chart) now c.transfer_once.result c.transfer_once.new.memory c.in_err-transfer_once.field-0.0 (c.transfer_once.ensures c.args.places (32 * old.chart.shape.pages) (first c.loop-i.i load) tried) c.in_err-transfer_once.was in
     all-fails c.args.area.now load c.args.every old c.transfer_once.new.memory c.from_residual.result c.next-t.new.self c.in_err-transfer_once.field-0.0
-      (step-ended c.args.area.now c.args.places load c.args.every c.loop-i.i old mid p c.transfer_once.new.memory c.next-t.result c.spots.result c.in_err-transfer_once.field-0.0 may c.loop-i.invariant.reached c.plan_cut.ensures.since c.plan_cut.ensures.same lt tried is a)
-      c.from_residual.ensures.0 c.from_residual.ensures.1
+    (step-ended c.args.area.now c.args.places load c.args.every c.loop-i.i old mid p c.transfer_once.new.memory c.next-t.result c.spots.result c.in_err-transfer_once.field-0.0 may c.loop-i.invariant.reached c.plan_cut.ensures.since c.plan_cut.ensures.same lt tried is a)
+    c.from_residual.ensures.0 c.from_residual.ensures.1
 
 pub loop-i-preserved : goal.loop-i-preserved
 loop-i-preserved g c =
@@ -95,7 +95,7 @@ loop-i-preserved g c =
     record {
       load = ap (λ (d : Transfer × Draws). d.1) c.next-t.ensures ∙ ap (λ (d : Draws). (next_transfer d).1) c.loop-i.invariant.load ∙ sym (after-more c.loop-i.i load);
       sum = delta-step c.loop-i.deltas-bits c.loop-i.i load c.next-t.result.delta (omega arith) c.loop-i.invariant.sum (ap (λ (u : Transfer). u.delta) is) (small-delta c.next-t.result.delta tried.range.delta)
-        (small-deltas (first (c.loop-i.i + 1) load) (load-small c.args.area.now load old.chart.shape.pages (c.loop-i.i + 1) may.fits may.sizes) (omega arith));
+          (small-deltas (first (c.loop-i.i + 1) load) (load-small c.args.area.now load old.chart.shape.pages (c.loop-i.i + 1) may.fits may.sizes) (omega arith));
       rests = d.1;
       reached = d.0;
     }

@@ -1,9 +1,8 @@
-use Rattle.std.proofs.Common.{◌≡◌, ◌⊎◌, ℕ, ◌<◌, ◌≤◌, ◌+◌, List, length, arith, ap, sym, ◌∙◌, subst, refl}
+use Rattle.std.proofs.Common.{◌≡◌, ℕ, ◌<◌, ◌+◌, List, length, arith, ap, sym, ◌∙◌, subst}
 use Rattle.std.specs.Prelude.{slice_index}
 use Rattle.envy_base.specs.Array.{put_back}
 use Rattle.envy_layout.specs.Words.{durable}
 use Rattle.envy_map.specs.Fields.{Chart}
-use Rattle.envy_memory.specs.Picture.{Picture}
 use Rattle.envy_base.specs.declared.shape.Shape.{Shape}
 use Rattle.envy_tpca.specs.Trial.{writes, IsTried}
 use Rattle.envy_tpca.proofs.Between.{ticked, told, has-count, rests-at, dead-ends, returns-ok}
@@ -71,7 +70,7 @@ pub tick_four_times-requires-then-load_at-from : goal.tick_four_times-requires-t
 tick_four_times-requires-then-load_at-from g c =
     let r = returns-ok c.try_transfer.new.memory c.restart.new.memory c.restart.result _ c.restart.ensures c.in_ok-restart.was in
     rests-at c.restart.new.memory c.load_at.new.memory (durable c.try_transfer.new.memory.chart) (durable c.load_at.new.memory.chart) r.0 (loaded-chart _ _ _ c.load_at.ensures.loaded)
-      (sym (durable-rests (durable c.try_transfer.new.memory.chart) c.restart.new.memory r.0) ∙ ap durable (sym (loaded-chart _ _ _ c.load_at.ensures.loaded)))
+    (sym (durable-rests (durable c.try_transfer.new.memory.chart) c.restart.new.memory r.0) ∙ ap durable (sym (loaded-chart _ _ _ c.load_at.ensures.loaded)))
 
 pub returns-then-load_at-from : goal.returns-then-load_at-from
 returns-then-load_at-from g c = λ l size ts tried.
@@ -89,7 +88,7 @@ returns-then-load_at-from g c = λ l size ts tried.
     let done : durable mid.chart ≡ now = t.0 (is ∙ ap (λ (k : ℕ). k + 1) from) in
     let since = Since-more 0 first back c.load_at.new.memory (Since-more 0 first mid back d.1.since r.1) (since-load back c.load_at.new.memory _ c.load_at.ensures.loaded.same) in
     ticked 0 first (durable first.chart) now c.load_at.new.memory c.tick_four_times-then-load_at-from.new.memory c.tick_four_times-then-load_at-from.result
-      (rests-at back c.load_at.new.memory (durable mid.chart) now r.0 (loaded-chart _ _ _ c.load_at.ensures.loaded) done) since c.tick_four_times-then-load_at-from.ensures
+    (rests-at back c.load_at.new.memory (durable mid.chart) now r.0 (loaded-chart _ _ _ c.load_at.ensures.loaded) done) since c.tick_four_times-then-load_at-from.ensures
 
 pub loop-memory-init : goal.loop-memory-init
 loop-memory-init g c = record { rests = c.requires.trial.rests; since = Since-refl c.args.memory.now }

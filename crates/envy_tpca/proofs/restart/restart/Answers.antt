@@ -1,4 +1,4 @@
-use Rattle.std.proofs.Common.{rules, arith, ◌≡◌, ◌<◌}
+use Rattle.std.proofs.Common.{rules, arith, ◌≡◌}
 use Rattle.envy_tpca.proofs.Between.{waits-first, waits-more, dead-returns, back-returns}
 use Rattle.envy_tpca.proofs.restart.restart.Goals as goal
 

@@ -1,4 +1,4 @@
-use Rattle.std.proofs.Common.{refl, arith, ℕ, ◌≡◌, ◌∙◌, ◌<◌, ◌+◌, ◌*◌, length, ap, sym, subst, w64}
+use Rattle.std.proofs.Common.{refl, arith, ◌≡◌, ◌∙◌, ◌<◌, ◌+◌, ◌*◌, length, ap, sym, subst, w64}
 use Rattle.std.specs.Int.{cast_signed}
 use Rattle.std.specs.Prelude.{slice_index}
 use Rattle.envy_map.specs.Fields.{Chart}
@@ -27,5 +27,5 @@ loop-k-preserved g c =
     record {
       loaded = loaded-more c.loop-k.k 1 c.args.memory.now c.loop-k.memory c.load_at.new.memory c.loop-k.invariant.loaded c.load_at.ensures.loaded;
       sum = sum-step c.loop-k.sum-bits c.loop-k.k (cast_signed w64 c.loop-k.sum-bits) c.cast_signed-sum.result (λ k. signed_at (durable c.args.memory.now.chart) (c.args.from + 4 * k + 3)) (omega arith) refl c.loop-k.invariant.sum word
-        (record { sfits = c.cast_signed-sum.type_inv }) (c.requires.small (c.loop-k.k + 1) (omega arith));
+          (record { sfits = c.cast_signed-sum.type_inv }) (c.requires.small (c.loop-k.k + 1) (omega arith));
     }

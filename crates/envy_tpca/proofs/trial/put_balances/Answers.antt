@@ -1,10 +1,10 @@
-use Rattle.std.proofs.Common.{ℕ, List, arith, ◌≡◌}
+use Rattle.std.proofs.Common.{arith}
 use Rattle.std.specs.Prelude.{slice_set}
 use Rattle.envy_base.specs.Array.{page_of, put_back}
 use Rattle.envy_tpca.specs.Tpc.{deltas_of}
 use Rattle.envy_tpca.specs.Trial.{balances_of}
 use Rattle.envy_tpca.proofs.Calling.{put-ok, put-err}
-use Rattle.envy_tpca.proofs.Chaining.{new_account, new_teller, new_branch, first-add, second-add, third-add, same-delta, add-at, put-fails}
+use Rattle.envy_tpca.proofs.Chaining.{new_account, new_teller, first-add, second-add, third-add, same-delta, add-at, put-fails}
 use Rattle.envy_tpca.proofs.trial.put_balances.Goals as goal
 
 pub returns-in_err-add : goal.returns-in_err-add
@@ -15,7 +15,7 @@ returns-in_err-add g c = λ n first l size ts before run tried.
     let w = slice_set before c.args.at.account (new_account ts c.args.t) in
     let a = add-at n first before before c.args.slot 0 0 c.args.at.account x c.args.t.delta _ c.add.result c.add.new.memory same (first-add _ l size ts before _ c.args.t c.args.at tried) (omega arith) (c.add.ensures n first before before 0 1 0 x run) in
     put-fails n first before (put_back (balances_of c.args.at ts c.args.t) before) c.args.slot 3 (page_of c.args.at.branch) c.from_residual.result c.add.new.memory c.in_err-add.field-0.0
-      (put-err n first before w c.args.slot 1 (page_of c.args.at.account) c.add.result c.add.new.memory c.in_err-add.field-0.0 a c.in_err-add.was) c.from_residual.ensures.0 c.from_residual.ensures.1
+    (put-err n first before w c.args.slot 1 (page_of c.args.at.account) c.add.result c.add.new.memory c.in_err-add.field-0.0 a c.in_err-add.was) c.from_residual.ensures.0 c.from_residual.ensures.1
 
 pub returns-in_err-add-2 : goal.returns-in_err-add-2
 returns-in_err-add-2 g c = λ n first l size ts before run tried.
@@ -29,7 +29,7 @@ returns-in_err-add-2 g c = λ n first l size ts before run tried.
     let run1 = put-ok n first before w c.args.slot 1 (page_of c.args.at.account) c.add.result c.add.new.memory _ a c.in_ok-add.was in
     let b = add-at n first before w c.args.slot 1 (page_of c.args.at.account) c.args.at.teller y c.args.t.delta _ c.add-2.result c.add-2.new.memory same (second-add _ l size ts before _ c.args.t c.args.at tried) (omega arith) (c.add-2.ensures n first before w 1 2 (page_of c.args.at.account) y run1) in
     put-fails n first before (put_back (balances_of c.args.at ts c.args.t) before) c.args.slot 3 (page_of c.args.at.branch) c.from_residual-in_err-add-2.result c.add-2.new.memory c.in_err-add-2.field-0.0
-      (put-err n first before v c.args.slot 2 (page_of c.args.at.teller) c.add-2.result c.add-2.new.memory c.in_err-add-2.field-0.0 b c.in_err-add-2.was) c.from_residual-in_err-add-2.ensures.0 c.from_residual-in_err-add-2.ensures.1
+    (put-err n first before v c.args.slot 2 (page_of c.args.at.teller) c.add-2.result c.add-2.new.memory c.in_err-add-2.field-0.0 b c.in_err-add-2.was) c.from_residual-in_err-add-2.ensures.0 c.from_residual-in_err-add-2.ensures.1
 
 pub returns : goal.returns
 returns g c = λ n first l size ts before run tried.

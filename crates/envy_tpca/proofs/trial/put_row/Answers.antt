@@ -1,4 +1,4 @@
-use Rattle.std.proofs.Common.{ℕ, List, arith, ◌≡◌, ◌+◌, ◌∙◌, ap, sym}
+use Rattle.std.proofs.Common.{arith, ◌+◌, ◌∙◌, ap, sym}
 use Rattle.std.proofs.Common.{w64}
 use Rattle.std.specs.Int.{cast_unsigned}
 use Rattle.std.specs.Prelude.{slice_set}
@@ -16,7 +16,7 @@ returns-in_err-put_word g c = λ n first before now last run roomy.
     let le = roomy.within in
     let a0 = c.put_word.ensures n first before now 3 4 last run (omega arith) (widens-first first.chart.shape.shadows last (page_of c.args.row) 3 (omega arith)) in
     put-fails n first before (put_back (row_of c.args.row c.args.t) now) c.args.slot 4 (page_of c.args.row) c.from_residual.result c.put_word.new.memory c.in_err-put_word.field-0.0
-      (put-err n first before (slice_set now c.args.row c.from.result) c.args.slot 4 (page_of c.args.row) c.put_word.result c.put_word.new.memory c.in_err-put_word.field-0.0 a0 c.in_err-put_word.was) c.from_residual.ensures.0 c.from_residual.ensures.1
+    (put-err n first before (slice_set now c.args.row c.from.result) c.args.slot 4 (page_of c.args.row) c.put_word.result c.put_word.new.memory c.in_err-put_word.field-0.0 a0 c.in_err-put_word.was) c.from_residual.ensures.0 c.from_residual.ensures.1
 
 pub returns-in_err-put_word-2 : goal.returns-in_err-put_word-2
 returns-in_err-put_word-2 g c = λ n first before now last run roomy.
@@ -27,7 +27,7 @@ returns-in_err-put_word-2 g c = λ n first before now last run roomy.
     let run1 = put-ok n first before (slice_set now c.args.row c.from.result) c.args.slot 4 (page_of c.args.row) c.put_word.result c.put_word.new.memory _ a0 c.in_ok-put_word.was in
     let a1 = c.put_word-2.ensures n first before (slice_set now c.args.row c.from.result) 4 4 (page_of c.args.row) run1 (row-within now c.args.row 1 c.from.result le (omega arith)) (widens-next first.chart.shape.shadows c.args.row 1 whole (omega arith)) in
     put-fails n first before (put_back (row_of c.args.row c.args.t) now) c.args.slot 4 (page_of c.args.row) c.from_residual-in_err-put_word-2.result c.put_word-2.new.memory c.in_err-put_word-2.field-0.0
-      (put-err n first before (slice_set (slice_set now c.args.row c.from.result) (c.args.row + 1) c.from-2.result) c.args.slot 4 (page_of (c.args.row + 1)) c.put_word-2.result c.put_word-2.new.memory c.in_err-put_word-2.field-0.0 a1 c.in_err-put_word-2.was) c.from_residual-in_err-put_word-2.ensures.0 c.from_residual-in_err-put_word-2.ensures.1
+    (put-err n first before (slice_set (slice_set now c.args.row c.from.result) (c.args.row + 1) c.from-2.result) c.args.slot 4 (page_of (c.args.row + 1)) c.put_word-2.result c.put_word-2.new.memory c.in_err-put_word-2.field-0.0 a1 c.in_err-put_word-2.was) c.from_residual-in_err-put_word-2.ensures.0 c.from_residual-in_err-put_word-2.ensures.1
 
 pub returns-in_err-put_word-3 : goal.returns-in_err-put_word-3
 returns-in_err-put_word-3 g c = λ n first before now last run roomy.
@@ -40,7 +40,7 @@ returns-in_err-put_word-3 g c = λ n first before now last run roomy.
     let run2 = put-ok n first before (slice_set (slice_set now c.args.row c.from.result) (c.args.row + 1) c.from-2.result) c.args.slot 4 (page_of (c.args.row + 1)) c.put_word-2.result c.put_word-2.new.memory _ a1 c.in_ok-put_word-2.was in
     let a2 = c.put_word-3.ensures n first before (slice_set (slice_set now c.args.row c.from.result) (c.args.row + 1) c.from-2.result) 4 4 (page_of (c.args.row + 1)) run2 (row-within-2 now c.args.row 2 c.from.result c.from-2.result le (omega arith)) (widens-row first.chart.shape.shadows c.args.row 1 2 whole (omega arith) (omega arith)) in
     put-fails n first before (put_back (row_of c.args.row c.args.t) now) c.args.slot 4 (page_of c.args.row) c.from_residual-in_err-put_word-3.result c.put_word-3.new.memory c.in_err-put_word-3.field-0.0
-      (put-err n first before (slice_set (slice_set (slice_set now c.args.row c.from.result) (c.args.row + 1) c.from-2.result) (c.args.row + 2) c.from-3.result) c.args.slot 4 (page_of (c.args.row + 2)) c.put_word-3.result c.put_word-3.new.memory c.in_err-put_word-3.field-0.0 a2 c.in_err-put_word-3.was) c.from_residual-in_err-put_word-3.ensures.0 c.from_residual-in_err-put_word-3.ensures.1
+    (put-err n first before (slice_set (slice_set (slice_set now c.args.row c.from.result) (c.args.row + 1) c.from-2.result) (c.args.row + 2) c.from-3.result) c.args.slot 4 (page_of (c.args.row + 2)) c.put_word-3.result c.put_word-3.new.memory c.in_err-put_word-3.field-0.0 a2 c.in_err-put_word-3.was) c.from_residual-in_err-put_word-3.ensures.0 c.from_residual-in_err-put_word-3.ensures.1
 
 pub returns : goal.returns
 returns g c = λ n first before now last run roomy.

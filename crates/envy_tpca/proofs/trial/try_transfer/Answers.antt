@@ -1,4 +1,4 @@
-use Rattle.std.proofs.Common.{ℕ, List, arith, ◌≡◌, ◌+◌, ◌∙◌, ap, sym, subst, length}
+use Rattle.std.proofs.Common.{ℕ, List, arith, ◌+◌, ◌∙◌, ap, sym, subst}
 use Rattle.std.specs.Prelude.{slice_set}
 use Rattle.envy_base.specs.Array.{page_of, put_back}
 use Rattle.envy_tpca.specs.Trial.{balances_of, row_of, writes, IsTried}
@@ -10,7 +10,7 @@ use Rattle.envy_tpca.proofs.trial.try_transfer.Goals as goal
 pub returns-in_err-slot : goal.returns-in_err-slot
 returns-in_err-slot g c = λ n first l size ts before rests since tried.
     try-fails n first before (put_back (writes l ts c.args.t) before) c.from_residual.result c.open.new.memory c.in_err-slot.field-0.0
-      (begin-err n first before c.open.result c.open.new.memory c.in_err-slot.field-0.0 (c.open.ensures n first before rests since) c.in_err-slot.was) c.from_residual.ensures.0 c.from_residual.ensures.1
+    (begin-err n first before c.open.result c.open.new.memory c.in_err-slot.field-0.0 (c.open.ensures n first before rests since) c.in_err-slot.was) c.from_residual.ensures.0 c.from_residual.ensures.1
 
 pub returns-in_err-put_balances : goal.returns-in_err-put_balances
 returns-in_err-put_balances g c = λ n first l size ts before rests since tried.
@@ -19,7 +19,7 @@ returns-in_err-put_balances g c = λ n first l size ts before rests since tried.
     let w = put_back (balances_of c.args.at ts c.args.t) before in
     let a = c.put_balances.ensures n first l size ts before run counted in
     try-fails n first before (put_back (writes l ts c.args.t) before) c.from_residual-in_err-put_balances.result c.put_balances.new.memory c.in_err-put_balances.field-0.0
-      (put-err n first before w c.in_ok-slot.slot 3 (page_of c.args.at.branch) c.put_balances.result c.put_balances.new.memory c.in_err-put_balances.field-0.0 a c.in_err-put_balances.was) c.from_residual-in_err-put_balances.ensures.0 c.from_residual-in_err-put_balances.ensures.1
+    (put-err n first before w c.in_ok-slot.slot 3 (page_of c.args.at.branch) c.put_balances.result c.put_balances.new.memory c.in_err-put_balances.field-0.0 a c.in_err-put_balances.was) c.from_residual-in_err-put_balances.ensures.0 c.from_residual-in_err-put_balances.ensures.1
 
 pub returns-in_err-put_row : goal.returns-in_err-put_row
 returns-in_err-put_row g c = λ n first l size ts before rests since tried.
@@ -31,7 +31,7 @@ returns-in_err-put_row g c = λ n first l size ts before rests since tried.
     let run1 = put-ok n first before w c.in_ok-slot.slot 3 (page_of c.args.at.branch) c.put_balances.result c.put_balances.new.memory _ a c.in_ok-put_balances.was in
     let b = c.put_row.ensures n first before w (page_of c.args.at.branch) run1 (row-roomy _ l size ts before _ c.args.t c.args.at tried) in
     try-fails n first before (put_back (writes l ts c.args.t) before) c.from_residual-in_err-put_row.result c.put_row.new.memory c.in_err-put_row.field-0.0
-      (put-err n first before v c.in_ok-slot.slot 4 (page_of c.args.at.row) c.put_row.result c.put_row.new.memory c.in_err-put_row.field-0.0 b c.in_err-put_row.was) c.from_residual-in_err-put_row.ensures.0 c.from_residual-in_err-put_row.ensures.1
+    (put-err n first before v c.in_ok-slot.slot 4 (page_of c.args.at.row) c.put_row.result c.put_row.new.memory c.in_err-put_row.field-0.0 b c.in_err-put_row.was) c.from_residual-in_err-put_row.ensures.0 c.from_residual-in_err-put_row.ensures.1
 
 pub returns-in_err-put_word : goal.returns-in_err-put_word
 returns-in_err-put_word g c = λ n first l size ts before rests since tried.
@@ -47,7 +47,7 @@ returns-in_err-put_word g c = λ n first l size ts before rests since tried.
     let run2 = put-ok n first before v c.in_ok-slot.slot 4 (page_of c.args.at.row) c.put_row.result c.put_row.new.memory _ b c.in_ok-put_row.was in
     let d = c.put_word.ensures n first before v 4 5 (page_of c.args.at.row) run2 (count-within _ w c.args.at.row c.args.t roomy) (widens-first first.chart.shape.shadows (page_of c.args.at.row) (page_of 0) 4 (omega arith)) in
     try-fails n first before (put_back (writes l ts c.args.t) before) c.from_residual-in_err-put_word.result c.put_word.new.memory c.in_err-put_word.field-0.0
-      (put-err n first before (slice_set v 0 (c.from.result + 1)) c.in_ok-slot.slot 5 (page_of 0) c.put_word.result c.put_word.new.memory c.in_err-put_word.field-0.0 d c.in_err-put_word.was) c.from_residual-in_err-put_word.ensures.0 c.from_residual-in_err-put_word.ensures.1
+    (put-err n first before (slice_set v 0 (c.from.result + 1)) c.in_ok-slot.slot 5 (page_of 0) c.put_word.result c.put_word.new.memory c.in_err-put_word.field-0.0 d c.in_err-put_word.was) c.from_residual-in_err-put_word.ensures.0 c.from_residual-in_err-put_word.ensures.1
 
 pub returns : goal.returns
 returns g c = λ n first l size ts before rests since tried.
@@ -65,4 +65,4 @@ returns g c = λ n first l size ts before rests since tried.
     let run3 = put-ok n first before (slice_set v 0 (c.from.result + 1)) c.in_ok-slot.slot 5 (page_of 0) c.put_word.result c.put_word.new.memory _ d c.in_ok-put_word.was in
     let e = c.close.ensures n first before (slice_set v 0 (c.from.result + 1)) 5 (page_of 0) run3 in
     subst (λ (ws : List ℕ). AfterTry n first before ws c.close.result c.close.new.memory)
-      (ap (λ (k : ℕ). slice_set v 0 (k + 1)) c.from.ensures ∙ all-eight l ts c.args.i c.args.t c.args.at before tried.count tried.spots) e
+    (ap (λ (k : ℕ). slice_set v 0 (k + 1)) c.from.ensures ∙ all-eight l ts c.args.i c.args.t c.args.at before tried.count tried.spots) e
