@@ -2,6 +2,7 @@ pub mod AttachLemmas
 pub mod AttachVersion
 pub mod Effects
 pub mod EndLemmas
+pub mod Ended
 pub mod FormatLemmas
 pub mod HitsLemmas
 pub mod LoadLemmas

@@ -2,7 +2,7 @@ use Rattle.std.proofs.Common.{◌≡◌, [], sym, subst}
 use Rattle.envy_map.specs.Fields.{chart}
 use Rattle.envy_layout.specs.Stands.{Stands}
 use Rattle.envy_memory.specs.Picture.{Picture}
-use Rattle.envy_memory.proofs.Transacting.{unowned-shut}
+use Rattle.envy_memory.proofs.Ended.{unowned-shut}
 use Rattle.envy_memory.proofs.memory.Memory.known.Goals as goal
 
 pub returns-clause-unowned : goal.returns-clause-unowned

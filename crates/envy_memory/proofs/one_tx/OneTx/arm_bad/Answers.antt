@@ -1,6 +1,6 @@
 use Rattle.std.proofs.Common.{ap}
 use Rattle.envy_memory.specs.Picture.{Picture}
-use Rattle.envy_memory.proofs.Transacting.{few-as, planned-held}
+use Rattle.envy_memory.proofs.Ended.{few-as, planned-held}
 use Rattle.envy_memory.proofs.one_tx.OneTx.arm_bad.Goals as goal
 
 pub invariant_of-self : goal.invariant_of-self

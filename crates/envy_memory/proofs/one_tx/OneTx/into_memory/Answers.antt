@@ -1,5 +1,6 @@
 use Rattle.std.proofs.Common.{false}
-use Rattle.envy_memory.proofs.Transacting.{flag-is, shut-on, shut-stands}
+use Rattle.envy_memory.proofs.Ended.{shut-stands}
+use Rattle.envy_memory.proofs.Transacting.{flag-is, shut-on}
 use Rattle.envy_memory.proofs.one_tx.OneTx.into_memory.Goals as goal
 
 pub returns-clause-stands : goal.returns-clause-stands

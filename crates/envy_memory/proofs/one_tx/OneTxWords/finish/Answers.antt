@@ -5,7 +5,8 @@ use Rattle.envy_layout.specs.Stands.{Stands}
 use Rattle.envy_layout.specs.Words.{durable}
 use Rattle.envy_memory.specs.Calls.{Commits, Works}
 use Rattle.envy_memory.specs.declared.faults.EndFault.{EndFault}
-use Rattle.envy_memory.proofs.Transacting.{few-as, flag-is, lit-ok, begun-on, is-active, and-false, sheet-keeps, finish-all, finish-kept, finish-lost, words-as}
+use Rattle.envy_memory.proofs.Ended.{few-as, lit-ok, and-false, finish-all, finish-kept, finish-lost, words-as}
+use Rattle.envy_memory.proofs.Transacting.{flag-is, begun-on, is-active, sheet-keeps}
 use Rattle.envy_memory.proofs.one_tx.OneTxWords.finish.Goals as goal
 
 pub invariant_of-self : goal.invariant_of-self

@@ -4,7 +4,8 @@ use Rattle.envy_base.specs.Words.{Puts}
 use Rattle.envy_base.specs.declared.board.Trouble.{Trouble}
 use Rattle.envy_memory.specs.Calls.{Works}
 use Rattle.envy_memory.specs.Sheets.{sheet_of}
-use Rattle.envy_memory.proofs.Transacting.{PutMeets, few-as, begun-on, put-keeps, never-refused, put-works, put-answer}
+use Rattle.envy_memory.proofs.Ended.{PutMeets, few-as, put-keeps, never-refused, put-works, put-answer}
+use Rattle.envy_memory.proofs.Transacting.{begun-on}
 use Rattle.envy_memory.proofs.one_tx.OneTxWords.put.Goals as goal
 
 pub invariant_of-self : goal.invariant_of-self
