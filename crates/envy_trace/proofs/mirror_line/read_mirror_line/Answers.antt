@@ -1,0 +1,44 @@
+use Rattle.std.proofs.Common.{◌≡◌, ℕ, List, Bool, true, false, Option, Result, Ok, Err, sym, ap, ◌∙◌, cc}
+use Rattle.std.specs.Str.{bytes_eq}
+use Rattle.std.specs.Prelude.{codes}
+use Rattle.std.proofs.lemmas.Result.{err_from_is_err_and}
+use Rattle.envy_trace.specs.declared.line.Line.{Line}
+use Rattle.envy_trace.specs.declared.line.Line.TheVariants.{Empty}
+use Rattle.envy_trace.specs.declared.mirror_line.MirrorLine.TheVariants.{Array, Side, Catch}
+use Rattle.envy_trace.specs.Grammar.{says, pieces}
+use Rattle.envy_trace.specs.Mirror.{mirror_commands}
+use Rattle.envy_trace.proofs.Mirrored.{mirror-long, mirror-short, mirror-array, word-side, word-catch, as_array}
+use Rattle.envy_trace.proofs.mirror_line.read_mirror_line.Goals as goal
+
+pub returns-in_err-name : goal.returns-in_err-name
+returns-in_err-name c =
+    let p = err_from_is_err_and c.from_residual.result c.from_residual.ensures.1 in
+    let fault = c.in_err-name.ensures in
+    rw (p.1, p.2, fault.0) (sym (mirror-long c.args.bytes.now fault.1))
+
+pub returns-in_default : goal.returns-in_default
+returns-in_default c =
+    let found = c.in_ok-name.ensures in
+    sym (mirror-short c.args.bytes.now found.0 ∙ ap (says (Array Empty) mirror_commands) (rw c.in_default.is at found.1))
+
+pub returns-then-eq : goal.returns-then-eq
+returns-then-eq c =
+    let found = c.in_ok-name.ensures in
+    let line = mirror-short c.args.bytes.now found.0 ∙ ap (says (Array Empty) mirror_commands) (rw c.in-Some.is at found.1) in
+    let read = word-side c.in-Some.name.now (pieces c.in-Some.rest.now) ? in
+    sym (line ∙ read ∙ ?)
+
+pub returns-in_err-read_side : goal.returns-in_err-read_side
+returns-in_err-read_side c = let h = c.if-eq in let s = c.in_err-read_side in let r = c.from_residual-in_err-read_side in ?
+
+pub returns-in_err-no_number : goal.returns-in_err-no_number
+returns-in_err-no_number c = let h = c.if-eq in let h2 = c.if-eq-2 in let s = c.in_err-no_number in let r = c.from_residual-in_err-no_number in ?
+
+pub returns-then-eq-2 : goal.returns-then-eq-2
+returns-then-eq-2 c = let n = c.in_ok-no_number in ?
+
+pub returns-in_err-read_line : goal.returns-in_err-read_line
+returns-in_err-read_line c = let s = c.in_err-read_line in ?
+
+pub returns : goal.returns
+returns c = let s = c.in_ok-read_line in ?
