@@ -1,5 +1,5 @@
 -- What holds of every pair goes on to hold once a command went to each Good side.
-use Rattle.std.proofs.Common.{◌≡◌, ◌≢◌, ◌⊎◌, inl, inr, ℕ, Bool, true, false, List, length, Option, None, Some, refl, sym, ◌∙◌, ap, subst}
+use Rattle.std.proofs.Common.{◌≡◌, ◌≢◌, ◌⊎◌, inl, inr, ℕ, ◌≤◌, Bool, true, false, List, length, Option, None, Some, refl, sym, ◌∙◌, ap, subst}
 use Rattle.std.specs.Prelude.{IsTrue, ◌||◌, ◌&&◌, ◌↔◌, if◌then◌else◌}
 use Rattle.std.proofs.lemmas.Bool.{cases_Bool}
 use Rattle.envy_base.specs.Step.{Command, Answer}
@@ -122,6 +122,7 @@ IsPair-reached old new command one two reply i first second stale last =
       second = side-reached command one two old.second new.second i.second second;
       shape = too ∙ i.shape ∙ sym shape;
       marks = ap length stale ∙ length-marked command reply old.stale ∙ i.marks ∙ ap (λ (sh : Shape). sh.pages) (sym shape);
+      few = subst (λ (sh : Shape). sh.pages ≤ 1048576) (sym shape) i.few;
       last = subst (λ (w : Which). Leads w new.first.standing new.second.standing) (sym last) (leads-reached old new command one two i first second);
     }
 

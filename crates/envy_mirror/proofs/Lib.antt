@@ -6,3 +6,5 @@ mod Answering
 mod Marking
 mod Reckoning
 mod Closing
+mod Following
+mod Returning

@@ -1,5 +1,5 @@
 -- Two sides, what each is good for, and what holds of every pair.
-use Rattle.std.specs.Prelude.{◌≡◌, ℕ, Bool, true, false, IsTrue, List, length, replicate, if◌then◌else◌, ◌&&◌}
+use Rattle.std.specs.Prelude.{◌≡◌, ℕ, ◌≤◌, Bool, true, false, IsTrue, List, length, replicate, if◌then◌else◌, ◌&&◌}
 use Rattle.envy_map.specs.Fields.{Chart}
 use Rattle.envy_layout.specs.Stands.{Stands}
 use Rattle.envy_layout.specs.Words.{live}
@@ -69,6 +69,7 @@ pub record IsPair (p : Pair) : Type 0 where
   pub second : IsSide p.second
   pub shape : p.second.memory.chart.shape ≡ p.first.memory.chart.shape
   pub marks : length p.stale ≡ p.first.memory.chart.shape.pages
+  pub few : p.first.memory.chart.shape.pages ≤ 1048576
   pub last : Leads p.last p.first.standing p.second.standing
 
 -- which side was Good last: where both were, side 0 is asked first, so side 1 outlasts it

@@ -1,10 +1,8 @@
-ghost use Rattle.std.specs.Prelude.{◌≡◌, ◌<◌, ◌^◌, IsTrue, length, MatchOption};
+ghost use Rattle.std.specs.Prelude.{◌≡◌, ◌<◌, ◌≤◌, ◌^◌, false, IsTrue, length, MatchOption};
 ghost use Rattle.envy_base.specs.Array.{Array};
-ghost use Rattle.envy_map.specs.Fields.{Chart};
 ghost use Rattle.envy_mirror.specs.Catching.{CatchesUp, Helps, IsLowestOpen, NoneOpen, IsLowestStale, NoneStale};
 ghost use Rattle.envy_mirror.specs.Mirroring.{Mirrors};
-ghost use Rattle.envy_mirror.specs.Pair.{IsSide};
-ghost use Rattle.envy_mirror.specs.declared.standing.Standing.TheVariants.{Good};
+ghost use Rattle.envy_mirror.specs.Pair.{Side, IsSide, IsClosed, is_good};
 
 use crate::copying::copy_page;
 use crate::half::Half;
@@ -49,7 +47,7 @@ fn lowest_open<B: Bench>(memory: &Memory<B>) -> Option<u8>
 {
     let board = memory.board();
     for t in 0..64 {
-        if slot(board, t) == Ok(Slot::Active) {
+        if let Ok(Slot::Active) = slot(board, t) {
             return Some(t);
         }
     }
@@ -70,7 +68,13 @@ fn lowest_stale(stale: &[bool]) -> Option<u32>
 }
 
 /// Asks for power of a Gone side: all its pages are stale.
-fn wake<B: Bench>(side: &mut Half<B>, stale: &mut [bool]) -> Result<Caught, CatchFault> {
+fn wake<B: Bench>(side: &mut Half<B>, stale: &mut Vec<bool>) -> Result<Caught, CatchFault>
+    requires off { side.old.memory.chart.on ≡ false }
+    requires gone { side.old.standing ≡ Standing.Gone }
+    ensures helps { (from : Side) → Helps result from side.old stale.old.items side.new stale.new.items }
+    ensures side { IsSide side.new }
+    ensures shape { side.new.memory.chart.shape ≡ side.old.memory.chart.shape }
+{
     match side.memory.revive() {
         Ok(()) => {
             side.standing = Standing::Behind;
@@ -86,9 +90,21 @@ fn wake<B: Bench>(side: &mut Half<B>, stale: &mut [bool]) -> Result<Caught, Catc
 fn copy_stale<A: Bench, B: Bench>(
     from: &Memory<A>,
     side: &mut Half<B>,
-    stale: &mut [bool],
+    stale: &mut Vec<bool>,
     page: u32,
-) -> Result<Caught, CatchFault> {
+) -> Result<Caught, CatchFault>
+    requires on { IsTrue from.now.chart.on }
+    requires behind { side.old.standing ≡ Standing.Behind }
+    requires closed { IsClosed side.old.memory.chart }
+    requires shape { side.old.memory.chart.shape ≡ from.now.chart.shape }
+    requires few { from.now.chart.shape.pages ≤ 1048576 }
+    requires marks { length stale.old.items ≡ from.now.chart.shape.pages }
+    requires none { NoneOpen from.now.chart }
+    requires lowest { IsLowestStale stale.old.items page }
+    ensures helps { (good : Side) → good.memory ≡ from.now → Helps result good side.old stale.old.items side.new stale.new.items }
+    ensures side { IsSide side.new }
+    ensures shape { side.new.memory.chart.shape ≡ side.old.memory.chart.shape }
+{
     match copy_page(from, &mut side.memory, page) {
         Ok(()) => {
             stale[page as usize] = false;
@@ -104,21 +120,32 @@ fn copy_stale<A: Bench, B: Bench>(
 
 /// One step by which a side follows the other, which is Good.
 fn help<A: Bench, B: Bench>(
-    from: &Memory<A>,
+    from: &Half<A>,
     side: &mut Half<B>,
-    stale: &mut [bool],
-) -> Result<Caught, CatchFault> {
+    stale: &mut Vec<bool>,
+) -> Result<Caught, CatchFault>
+    requires good { IsTrue (is_good from.now) }
+    requires on { IsSide from.now }
+    requires other { is_good side.old ≡ false }
+    requires side { IsSide side.old }
+    requires shape { side.old.memory.chart.shape ≡ from.now.memory.chart.shape }
+    requires few { from.now.memory.chart.shape.pages ≤ 1048576 }
+    requires marks { length stale.old.items ≡ from.now.memory.chart.shape.pages }
+    ensures helps { Helps result from.now side.old stale.old.items side.new stale.new.items }
+    ensures side { IsSide side.new }
+    ensures shape { side.new.memory.chart.shape ≡ side.old.memory.chart.shape }
+{
     if side.standing == Standing::Gone {
         return wake(side, stale);
     }
-    if let Some(t) = lowest_open(from) {
+    if let Some(t) = lowest_open(&from.memory) {
         return Ok(Caught::Waiting(t));
     }
     let Some(page) = lowest_stale(stale) else {
         side.standing = Standing::Good;
         return Ok(Caught::Joined);
     };
-    copy_stale(from, side, stale, page)
+    copy_stale(&from.memory, side, stale, page)
 }
 
 impl<A: Bench, B: Bench> Mirror<A, B> {
@@ -134,8 +161,8 @@ impl<A: Bench, B: Bench> Mirror<A, B> {
     {
         match (self.first.is_good(), self.second.is_good()) {
             (true, true) => Ok(Caught::Whole),
-            (true, false) => help(&self.first.memory, &mut self.second, &mut self.stale),
-            (false, true) => help(&self.second.memory, &mut self.first, &mut self.stale),
+            (true, false) => help(&self.first, &mut self.second, &mut self.stale),
+            (false, true) => help(&self.second, &mut self.first, &mut self.stale),
             (false, false) => Err(CatchFault::Off),
         }
     }

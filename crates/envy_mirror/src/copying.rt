@@ -1,4 +1,4 @@
-ghost use Rattle.std.specs.Prelude.{◌≡◌, ◌≢◌, ◌↔◌, ◌/◌, ◌*◌, ◌<◌, ℕ, false, IsTrue, OnOk, IsErrOf, Err, slice_index, slice_set};
+ghost use Rattle.std.specs.Prelude.{◌≡◌, ◌≢◌, ◌↔◌, ◌/◌, ◌*◌, ◌<◌, ◌≤◌, ℕ, false, IsTrue, OnOk, IsErrOf, Err, slice_index, slice_set};
 ghost use Rattle.envy_layout.specs.Words.{live, durable};
 ghost use Rattle.envy_memory.specs.Calls.{HasFailed, IsCut};
 ghost use Rattle.envy_mirror.specs.Asking.{Reckons};
@@ -33,7 +33,8 @@ fn copy_word<A: Bench, B: Bench>(
         Ok(()) => Ok(()),
         Err(StoreFault::Off) => Err(Trouble::Off),
         Err(StoreFault::Bad) => Err(Trouble::Bad),
-        Err(StoreFault::Range | StoreFault::Held(_)) => unreachable!(),
+        Err(StoreFault::Range) => unreachable!(),
+        Err(StoreFault::Held(_)) => unreachable!(),
     }
 }
 
@@ -47,6 +48,7 @@ pub fn copy_page<A: Bench, B: Bench>(
     requires closed { IsClosed to.old.chart }
     requires shape { to.old.chart.shape ≡ from.now.chart.shape }
     requires within { page < to.old.chart.shape.pages }
+    requires few { to.old.chart.shape.pages ≤ 1048576 }
     ensures closed { IsTrue to.new.chart.on → IsClosed to.new.chart }
     ensures copies { OnOk result (Copies page from.now.chart to.old.chart to.new.chart) }
     ensures others { IsErrOf result Trouble.Bad → (a : ℕ) → a / 32 ≢ page → slice_index (live to.new.chart) a ≡ slice_index (live to.old.chart) a }
@@ -55,8 +57,8 @@ pub fn copy_page<A: Bench, B: Bench>(
     ensures cut { IsCut to.old.chart to.new.chart }
     ensures reckons { Reckons to.old to.new }
 {
-    for a in 32 * page..32 * page + 32 {
-        copy_word(from, to, a)?;
+    for i in 0..32 {
+        copy_word(from, to, 32 * page + i)?;
     }
     Ok(())
 }

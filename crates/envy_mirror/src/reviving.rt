@@ -11,16 +11,21 @@ use crate::standing::{Standing, Which};
 use envy_base::Bench;
 use envy_memory::ReviveFault;
 
-/// Revives a side, to which the other compares all its pages anew.
-fn revive_side<B: Bench>(side: &mut Half<B>, stale: &mut [bool]) -> Result<(), ReviveFault>
+/// Revives a side. All pages of the other are stale then.
+fn revive_side<B: Bench>(side: &mut Half<B>, stale: &mut Vec<bool>) -> Result<(), ReviveFault>
     requires off { side.old.memory.chart.on ≡ false }
     requires gone { side.old.standing ≡ Standing.Gone }
-    ensures { Returns result side.old stale.old side.new stale.new }
+    ensures { Returns result side.old stale.old.items side.new stale.new.items }
 {
-    side.memory.revive()?;
-    side.standing = Standing::Good;
-    stale.fill(true);
-    Ok(())
+    match side.memory.revive() {
+        Ok(()) => {
+            side.standing = Standing::Good;
+            stale.fill(true);
+            Ok(())
+        }
+        Err(ReviveFault::Dead) => Err(ReviveFault::Dead),
+        Err(ReviveFault::Off) => Err(ReviveFault::Off),
+    }
 }
 
 impl<A: Bench, B: Bench> Mirror<A, B> {

@@ -7,10 +7,10 @@ use Rattle.std.proofs.lemmas.Slice.Eq.{bytes_eq-Decides}
 use Rattle.envy_trace.specs.declared.fault.LineFault.{LineFault}
 use Rattle.envy_trace.specs.declared.fault.LineFault.TheVariants.{Long}
 use Rattle.envy_trace.specs.declared.line.Line.{Line}
-use Rattle.envy_trace.specs.declared.line.Line.TheVariants.{Empty}
+use Rattle.envy_trace.specs.declared.line.Line.TheVariants.{Empty, Load, Look, Store, Begin, Put, Commit, Abort, Tick, Power, Cut, Bad, Stat}
 use Rattle.envy_trace.specs.declared.mirror_line.MirrorLine.{MirrorLine}
 use Rattle.envy_trace.specs.declared.mirror_line.MirrorLine.TheVariants.{Array, Side, Catch}
-use Rattle.envy_trace.specs.Grammar.{Entry, ◌>>=◌, line_of, fields_of, command_in, says, look_up, commands, none, one}
+use Rattle.envy_trace.specs.Grammar.{Entry, ◌>>=◌, line_of, fields_of, command_in, says, look_up, commands, number_in, none, one}
 use Rattle.envy_trace.specs.Mirror.{side, of_array, mirror_commands, mirror_line_of, mirror_parts, mirror_line_bytes, IsMirrorLine, ReadsMirror}
 use Rattle.envy_trace.specs.Spelling.{parts, IsLine, IsNumeralOf, Spells, Reads, line_bytes, written, written_parts}
 use Rattle.envy_trace.proofs.Faults.{long-only, no_numbers, one_number}
@@ -102,7 +102,7 @@ of-command : (fs : List (List ℕ)) (name : List ℕ) (others : List (List ℕ))
 of-command [] name others e = absurd (let never : ⊥ = cc in never)
 of-command (f ∷ fs) name others e = go (starts_with ◌==◌ f (codes "#")) e
   where
-    go : (v : Bool) → cond v None (Some (f, fs)) ≡ Some (name, others) → f ∷ fs ≡ name ∷ others
+    go : (v : Bool) → cond {A = Option (List ℕ × List (List ℕ))} v None (Some (f, fs)) ≡ Some (name, others) → f ∷ fs ≡ name ∷ others
     go true h = absurd (let never : ⊥ = cc in never)
     go false h = let same : (f, fs) ≡ (name, others) = cc in ap (λ (p : List ℕ × List (List ℕ)). p.0 ∷ p.1) same
 
@@ -131,6 +131,20 @@ named bs c is name others fields plain word =
     let some : Some (name, others) ≡ Some c = sym (cond-false _ _ _ plain) ∙ found in
     let same : (name, others) ≡ c = cc in
     subst (λ (d : List ℕ × List (List ℕ)). IsArrayWord d.0) same word
+
+-- a number that is read, and what is made of it
+bind-as : {A B : Type 0} (r : Result A LineFault) (make : A → B) → (r >>= λ x. Ok (make x)) ≡ ((r >>= λ x. Ok x) >>= λ x. Ok (make x))
+bind-as (Ok x) make = refl
+bind-as (Err fault) make = refl
+
+pub one-as : (fs : List (List ℕ)) → one side Side fs ≡ (one side (λ x. x) fs >>= λ x. Ok (Side x))
+one-as [] = refl
+one-as (f ∷ []) = bind-as (number_in side f) Side
+one-as (f ∷ g ∷ fs) = refl
+
+pub none-as : (fs : List (List ℕ)) → none Catch fs ≡ (none tt fs >>= λ u. Ok Catch)
+none-as [] = refl
+none-as (f ∷ fs) = refl
 
 -- a line of one array is none of the two others
 array-words : (bs : List ℕ) (line : Line) → length bs ≤ 120 → Spells (fields_of bs) (parts line) → (c : List ℕ × List (List ℕ)) → command_in (fields_of bs) ≡ Some c → IsArrayWord c.0

@@ -1,13 +1,12 @@
-use Rattle.std.proofs.Common.{◌≡◌, ℕ, List, Bool, true, false, Option, Result, Ok, Err, sym, ap, ◌∙◌, cc}
-use Rattle.std.specs.Str.{bytes_eq}
-use Rattle.std.specs.Prelude.{codes}
+use Rattle.std.proofs.Common.{◌≡◌, ℕ, List, Bool, true, false, Option, Result, Ok, Err, sym, ap, ◌∙◌}
 use Rattle.std.proofs.lemmas.Result.{err_from_is_err_and}
+use Rattle.envy_trace.specs.declared.fault.LineFault.{LineFault}
 use Rattle.envy_trace.specs.declared.line.Line.{Line}
 use Rattle.envy_trace.specs.declared.line.Line.TheVariants.{Empty}
 use Rattle.envy_trace.specs.declared.mirror_line.MirrorLine.TheVariants.{Array, Side, Catch}
-use Rattle.envy_trace.specs.Grammar.{says, pieces}
+use Rattle.envy_trace.specs.Grammar.{says, pieces, ◌>>=◌}
 use Rattle.envy_trace.specs.Mirror.{mirror_commands}
-use Rattle.envy_trace.proofs.Mirrored.{mirror-long, mirror-short, mirror-array, word-side, word-catch, as_array}
+use Rattle.envy_trace.proofs.Mirrored.{mirror-long, mirror-short, mirror-array, word-side, word-catch, one-as, none-as, as_array}
 use Rattle.envy_trace.proofs.mirror_line.read_mirror_line.Goals as goal
 
 pub returns-in_err-name : goal.returns-in_err-name
@@ -21,24 +20,46 @@ returns-in_default c =
     let found = c.in_ok-name.ensures in
     sym (mirror-short c.args.bytes.now found.0 ∙ ap (says (Array Empty) mirror_commands) (rw c.in_default.is at found.1))
 
+pub returns-in_err-read_side : goal.returns-in_err-read_side
+returns-in_err-read_side c =
+    let e = c.eq.ensures in let t = c.if-eq.true in let u = c.if-eq.ensures in let a = c.as_slice.ensures in
+    let p = err_from_is_err_and c.from_residual-in_err-read_side.result c.from_residual-in_err-read_side.ensures.1 in
+    let found = c.in_ok-name.ensures in
+    let line = mirror-short c.args.bytes.now found.0 ∙ ap (says (Array Empty) mirror_commands) (rw c.in-Some.is at found.1) in
+    let read = word-side c.in-Some.name.now (pieces c.in-Some.rest.now) ? in
+    rw (p.1, p.2) (sym (line ∙ read ∙ one-as (pieces c.in-Some.rest.now) ∙ ap (λ (r : Result ℕ LineFault). r >>= λ x. Ok (Side x)) (sym c.in_err-read_side.ensures)))
+
 pub returns-then-eq : goal.returns-then-eq
 returns-then-eq c =
     let found = c.in_ok-name.ensures in
     let line = mirror-short c.args.bytes.now found.0 ∙ ap (says (Array Empty) mirror_commands) (rw c.in-Some.is at found.1) in
     let read = word-side c.in-Some.name.now (pieces c.in-Some.rest.now) ? in
-    sym (line ∙ read ∙ ?)
-
-pub returns-in_err-read_side : goal.returns-in_err-read_side
-returns-in_err-read_side c = let h = c.if-eq in let s = c.in_err-read_side in let r = c.from_residual-in_err-read_side in ?
+    sym (line ∙ read ∙ one-as (pieces c.in-Some.rest.now) ∙ ap (λ (r : Result ℕ LineFault). r >>= λ x. Ok (Side x)) (sym c.in_ok-read_side.ensures))
 
 pub returns-in_err-no_number : goal.returns-in_err-no_number
-returns-in_err-no_number c = let h = c.if-eq in let h2 = c.if-eq-2 in let s = c.in_err-no_number in let r = c.from_residual-in_err-no_number in ?
+returns-in_err-no_number c =
+    let p = err_from_is_err_and c.from_residual-in_err-no_number.result c.from_residual-in_err-no_number.ensures.1 in
+    let found = c.in_ok-name.ensures in
+    let line = mirror-short c.args.bytes.now found.0 ∙ ap (says (Array Empty) mirror_commands) (rw c.in-Some.is at found.1) in
+    let read = word-catch c.in-Some.name.now (pieces c.in-Some.rest.now) ? ? in
+    rw (p.1, p.2) (sym (line ∙ read ∙ none-as (pieces c.in-Some.rest.now) ∙ ap (λ (r : Result (Unit {0}) LineFault). r >>= λ x. Ok Catch) (sym c.in_err-no_number.ensures)))
 
 pub returns-then-eq-2 : goal.returns-then-eq-2
-returns-then-eq-2 c = let n = c.in_ok-no_number in ?
+returns-then-eq-2 c =
+    let found = c.in_ok-name.ensures in
+    let line = mirror-short c.args.bytes.now found.0 ∙ ap (says (Array Empty) mirror_commands) (rw c.in-Some.is at found.1) in
+    let read = word-catch c.in-Some.name.now (pieces c.in-Some.rest.now) ? ? in
+    sym (line ∙ read ∙ none-as (pieces c.in-Some.rest.now) ∙ ap (λ (r : Result (Unit {0}) LineFault). r >>= λ x. Ok Catch) (sym c.in_ok-no_number.ensures))
 
 pub returns-in_err-read_line : goal.returns-in_err-read_line
-returns-in_err-read_line c = let s = c.in_err-read_line in ?
+returns-in_err-read_line c =
+    let p = err_from_is_err_and c.from_residual-in_err-read_line.result c.from_residual-in_err-read_line.ensures.1 in
+    let found = c.in_ok-name.ensures in
+    let whole = mirror-array c.args.bytes.now found.0 _ (rw c.in-Some.is at found.1) (λ d same. ?) in
+    rw (p.1, p.2) (sym (whole ∙ ap as_array (sym c.in_err-read_line.ensures)))
 
 pub returns : goal.returns
-returns c = let s = c.in_ok-read_line in ?
+returns c =
+    let found = c.in_ok-name.ensures in
+    let whole = mirror-array c.args.bytes.now found.0 _ (rw c.in-Some.is at found.1) (λ d same. ?) in
+    sym (whole ∙ ap as_array (sym c.in_ok-read_line.ensures))
