@@ -1,6 +1,6 @@
 //! A pair over two boards in memory beside the plain machine, while power and flash operations fail.
 
-ghost use Rattle.std.specs.Prelude.{◌≡◌, ◌<◌, IfOk};
+ghost use Rattle.std.specs.Prelude.{◌≡◌};
 ghost use Rattle.envy_base.specs.Array.{zeros};
 ghost use Rattle.envy_layout.specs.Stands.{Stands};
 
@@ -60,30 +60,34 @@ fn drawn_call(seed: &mut u64) -> Call {
     }
 }
 
-fn formatted(rt: &impl Abort, alloc: Global, policy: Policy) -> Result<Memory<MemBoard>, Fail>
-    ensures shape { IfOk result (λ memory. memory.chart.shape ≡ SMALL) }
-    ensures zeros { IfOk result (λ memory. Stands memory.chart (zeros memory.chart.shape.pages memory.chart.shape.shadows)) }
+fn formatted(rt: &impl Abort, alloc: Global, board: MemBoard, policy: Policy) -> Memory<MemBoard>
+    ensures shape { result.chart.shape ≡ SMALL }
+    ensures zeros { Stands result.chart (zeros result.chart.shape.pages result.chart.shape.shadows) }
 {
-    SMALL.check()?;
     let setup = Setup {
         shape: SMALL,
         policy,
         limit: 2,
         mark: 2,
     };
-    let board = MemBoard::new(alloc, &SMALL, u32::MAX)?;
     match Memory::format(alloc, board, setup) {
-        Ok(memory) => Ok(memory),
+        Ok(memory) => memory,
         Err((_, fault)) => panic!(rt; "not formatted: {fault:?}"),
     }
 }
 
 fn paired(rt: &impl Abort, alloc: Global, policy: Policy) -> Result<Pair, Fail> {
-    let a = formatted(rt, alloc, policy)?;
-    let b = formatted(rt, alloc, policy)?;
+    SMALL.check()?;
+    let a = MemBoard::new(alloc, &SMALL, u32::MAX)?;
+    let b = MemBoard::new(alloc, &SMALL, u32::MAX)?;
+    let a = formatted(rt, alloc, a, policy);
+    let b = formatted(rt, alloc, b, policy);
     match Mirror::new(alloc, a, b) {
         Ok(mirror) => Ok(mirror),
-        Err(_) => panic!(rt; "no memory"),
+        Err((a, b, _)) => {
+            let (_a, _b) = (a.into_board(), b.into_board());
+            panic!(rt; "no memory")
+        }
     }
 }
 
@@ -97,22 +101,17 @@ fn is_kept<B: Bench>(side: &Half<B>, plain: &Plain) -> bool {
     true
 }
 
-fn assert_same_side<B: Bench>(rt: &impl Abort, side: &mut Half<B>, plain: &Plain) {
-    if side.is_good() {
-        assert!(rt; is_kept(side, plain));
-        for a in 0..WORDS {
-            assert_eq!(rt; side.memory.load(a).ok(), plain.load(a).ok(), "load of {a}");
-        }
-    }
-}
-
+/// Each Good side has the committed words, and the pair the words that loads read.
 fn assert_same(rt: &impl Abort, mirror: &mut Pair, plain: &Plain) {
-    assert_same_side(rt, &mut mirror.first, plain);
-    assert_same_side(rt, &mut mirror.second, plain);
-    for a in 0..WORDS {
-        assert_eq!(rt; mirror.look(a).ok(), plain.look(a).ok());
+    if mirror.first.is_good() {
+        assert!(rt; is_kept(&mirror.first, plain));
     }
-    assert_eq!(rt; mirror.load(7), Ok(plain.load(7).unwrap_or(0)));
+    if mirror.second.is_good() {
+        assert!(rt; is_kept(&mirror.second, plain));
+    }
+    for a in 0..WORDS {
+        assert_eq!(rt; mirror.load(a).ok(), plain.load(a).ok(), "load of {a}");
+    }
     assert_eq!(rt; mirror.load(WORDS), Err(LoadFault::Range));
 }
 
@@ -246,24 +245,33 @@ fn run(rt: &impl Abort, alloc: Global, policy: Policy, lines: u32) -> Result<(),
         if disturb(rt, &mut mirror, &mut plain, &mut seed) {
             joined += 1;
         }
-        assert_same(rt, &mut mirror, &plain);
         let call = drawn_call(&mut seed);
         make(rt, &mut mirror, &mut plain, call);
         assert_same(rt, &mut mirror, &plain);
     }
-    assert!(rt; joined > 5, "joined {joined} times");
+    assert!(rt; joined > 2, "joined {joined} times");
     let (_a, _b) = mirror.into_boards();
     Ok(())
 }
 
 #[test]
 fn pair_is_the_plain_machine_under_greedy(rt: HostRuntime) -> Result<(), Fail> {
-    run(&rt, rt.alloc(), Policy::Greedy, 2000)
+    run(&rt, rt.alloc(), Policy::Greedy, 800)
+}
+
+#[test]
+fn pair_is_the_plain_machine_under_fifo(rt: HostRuntime) -> Result<(), Fail> {
+    run(&rt, rt.alloc(), Policy::Fifo, 800)
+}
+
+#[test]
+fn pair_is_the_plain_machine_under_locality(rt: HostRuntime) -> Result<(), Fail> {
+    run(&rt, rt.alloc(), Policy::Locality, 800)
 }
 
 #[test]
 fn pair_is_the_plain_machine_under_hybrid(rt: HostRuntime) -> Result<(), Fail> {
-    run(&rt, rt.alloc(), Policy::Hybrid(2), 2000)
+    run(&rt, rt.alloc(), Policy::Hybrid(2), 800)
 }
 
 /// Catching up, both sides cut, and waiting for a slot, as a client would do it.
@@ -293,6 +301,7 @@ fn side_catches_up_page_by_page(rt: HostRuntime) -> Result<(), Fail> {
     }
     assert!(rt; mirror.good(0) && !mirror.good(1));
     assert_eq!(rt; mirror.load(5), Ok(2));
+    let (_a, _b) = mirror.into_boards();
     Ok(())
 }
 
@@ -307,5 +316,6 @@ fn catching_up_waits_for_an_open_slot(rt: HostRuntime) -> Result<(), Fail> {
     assert_eq!(rt; mirror.commit(0), Ok(()));
     assert_eq!(rt; mirror.catch_up(), Ok(Caught::Copied(0)));
     assert_eq!(rt; mirror.counts(1).misses, 1);
+    let (_a, _b) = mirror.into_boards();
     Ok(())
 }

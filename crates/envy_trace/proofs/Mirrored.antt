@@ -61,6 +61,9 @@ mirror-array bs short (Some c) is words =
     let w = words c refl in
     mirror-short bs short ∙ ap (says (Array Empty) mirror_commands) is ∙ word-array c.0 c.1 w.0 w.1 ∙ ap as_array (sym (line-short bs short ∙ ap (says Empty commands) is))
 
+pub mirror-array-named : (bs : List ℕ) → length bs ≤ 120 → (c : List ℕ × List (List ℕ)) → command_in (fields_of bs) ≡ Some c → bytes_eq (codes "side") c.0 ≡ false → bytes_eq (codes "catch") c.0 ≡ false → mirror_line_of bs ≡ as_array (line_of bs)
+mirror-array-named bs short c is e f = mirror-array bs short (Some c) is (λ d same. let it : c ≡ d = cc in subst (λ (x : List ℕ × List (List ℕ)). IsArrayWord x.0) it (e, f))
+
 pub data Cases (bs : List ℕ) : Type 0 where
   IsArray : mirror_line_of bs ≡ as_array (line_of bs) → Cases bs
   IsSide : (fs : List (List ℕ)) → command_in (fields_of bs) ≡ Some (codes "side", fs) → mirror_line_of bs ≡ one side Side fs → Cases bs
@@ -142,9 +145,21 @@ one-as [] = refl
 one-as (f ∷ []) = bind-as (number_in side f) Side
 one-as (f ∷ g ∷ fs) = refl
 
-pub none-as : (fs : List (List ℕ)) → none Catch fs ≡ (none tt fs >>= λ u. Ok Catch)
+pub none-as : (fs : List (List ℕ)) → none Catch fs ≡ (none {L = Unit {0}} tt fs >>= λ u. Ok Catch)
 none-as [] = refl
 none-as (f ∷ fs) = refl
+
+-- a comparison of bytes does not depend on which side is first
+eq-flip : (a b : List ℕ) → bytes_eq a b ≡ bytes_eq b a
+eq-flip a b = at (cases_Bool (bytes_eq a b)) (cases_Bool (bytes_eq b a))
+  where
+    at : (bytes_eq a b ≡ true) ⊎ (bytes_eq a b ≡ false) → (bytes_eq b a ≡ true) ⊎ (bytes_eq b a ≡ false) → bytes_eq a b ≡ bytes_eq b a
+    at (inl e) f = let same = (bytes_eq-Decides a b).0 e in rw same refl
+    at (inr e) (inr f) = e ∙ sym f
+    at (inr e) (inl f) = let same = (bytes_eq-Decides b a).0 f in rw same refl
+
+pub is-word : (name word slice : List ℕ) (r v : Bool) → r ≡ bytes_eq name slice → slice ≡ word → r ≡ v → bytes_eq word name ≡ v
+is-word name word slice r v e same is = eq-flip word name ∙ ap (bytes_eq name) (sym same) ∙ sym e ∙ is
 
 -- a line of one array is none of the two others
 array-words : (bs : List ℕ) (line : Line) → length bs ≤ 120 → Spells (fields_of bs) (parts line) → (c : List ℕ × List (List ℕ)) → command_in (fields_of bs) ≡ Some c → IsArrayWord c.0
