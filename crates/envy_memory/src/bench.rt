@@ -59,6 +59,7 @@ impl<B: Bench> Memory<B> {
         ensures restarts { OnOk result (Restarts self.old self.new) }
         ensures counts { counts_of self.new.parts ≡ counts_of self.old.parts }
         ensures dead { (result ≡ Err ReviveFault.Dead) ↔ (self.old.chart.lives ≡ 0) }
+        ensures refused { (result ≡ Err ReviveFault.Dead) → self.new ≡ self.old }
         ensures off { (result ≡ Err ReviveFault.Off) ↔ ((0 < self.old.chart.lives) × (self.new.chart.on ≡ false)) }
         ensures cut { (result ≡ Err ReviveFault.Off) → self.old.chart.cuts < 2 ^ 64 - 1 → self.old.chart.cuts < self.new.chart.cuts }
         ensures kept { MatchResult result (λ _. Kept (lit self.old.chart) self.new.chart) (λ e. ((e ≡ ReviveFault.Dead) × (self.new ≡ self.old)) ⊎ (Kept (lit self.old.chart) self.new.chart × (self.new.chart.on ≡ false))) }

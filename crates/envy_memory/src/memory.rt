@@ -106,7 +106,9 @@ impl<B: Board> Memory<B> {
 
     /// The board.
     pub fn board(&self) -> &B
-        ensures { chart (B.state result.now) ≡ self.now.chart }
+        ensures same { chart (B.state result.now) ≡ self.now.chart }
+        ensures sound { IsSound (chart (B.state result.now)) }
+        ensures version { (chart (B.state result.now)).fields.version ≡ 2 }
     {
         &self.board
     }

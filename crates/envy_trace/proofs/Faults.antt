@@ -12,7 +12,7 @@ use Rattle.envy_trace.specs.declared.line.Line.TheVariants.{Empty}
 use Rattle.envy_trace.specs.Grammar.{Entry, line_of, fields_of, command_in, says, look_up, commands, number_in, lies_in, ◌>>=◌, none, one, two, three}
 use Rattle.envy_trace.proofs.Lines.{line-short}
 
-abbrev IsNotLong : {A : Type 0} → Result A LineFault → Type 0
+abbrev pub IsNotLong : {A : Type 0} → Result A LineFault → Type 0
 IsNotLong r = r ≡ Err Long → ⊥
 
 number : (b : Bounds) (f : List ℕ) → IsNotLong (number_in b f)
@@ -26,11 +26,11 @@ bind : {A B : Type 0} (r : Result A LineFault) (f : A → Result B LineFault) �
 bind (Ok x) f p q = q x
 bind (Err fault) f p q = λ e. let same : fault ≡ Long = cc in p (ap (λ x. Err x) same)
 
-no_numbers : {L : Type 0} (line : L) (fs : List (List ℕ)) → IsNotLong (none line fs)
+pub no_numbers : {L : Type 0} (line : L) (fs : List (List ℕ)) → IsNotLong (none line fs)
 no_numbers line [] e = let never : ⊥ = cc in never
 no_numbers line (f ∷ fs) e = let never : ⊥ = cc in never
 
-one_number : {L : Type 0} (r : Bounds) (line : ℕ → L) (fs : List (List ℕ)) → IsNotLong (one r line fs)
+pub one_number : {L : Type 0} (r : Bounds) (line : ℕ → L) (fs : List (List ℕ)) → IsNotLong (one r line fs)
 one_number r line [] e = let never : ⊥ = cc in never
 one_number r line (f ∷ []) e = bind (number_in r f) (λ x. Ok (line x)) (number r f) (λ x h. let never : ⊥ = cc in never) e
 one_number r line (f ∷ g ∷ fs) e = let never : ⊥ = cc in never

@@ -87,21 +87,21 @@ numerals [] all = tt
 numerals (n ∷ ns) all = (decimal_is_IsNumeral n all.0, numerals ns all.1)
 
 -- the parts of a line, as they are written
-record HasForm (p : List ℕ × List ℕ) : Type 0 where
-  word : IsField p.0
-  short : length p.0 ≤ 6
-  numbers : AllByRecursion (λ n. n < 2 ^ 64) p.1
-  few : length p.1 ≤ 3
+pub record HasForm (p : List ℕ × List ℕ) : Type 0 where
+  pub word : IsField p.0
+  pub short : length p.0 ≤ 6
+  pub numbers : AllByRecursion (λ n. n < 2 ^ 64) p.1
+  pub few : length p.1 ≤ 3
 
 plain : (w : List ℕ) → list_all (nat_lt 32) w ≡ true → All (λ b. 32 < b) w
 plain [] e = All-nil (λ b. 32 < b)
 plain (b ∷ w) e = let h = both (nat_lt 32 b) (list_all (nat_lt 32) w) e in All-cons (λ b. 32 < b) b w (ltb-true 32 b h.0) (plain w h.1)
 
-form : (w : List ℕ) (ns : List ℕ) → 0 < length w → list_all (nat_lt 32) w ≡ true → length w ≤ 6 → AllByRecursion (λ n. n < 2 ^ 64) ns → length ns ≤ 3 → HasForm (w, ns)
+pub form : (w : List ℕ) (ns : List ℕ) → 0 < length w → list_all (nat_lt 32) w ≡ true → length w ≤ 6 → AllByRecursion (λ n. n < 2 ^ 64) ns → length ns ≤ 3 → HasForm (w, ns)
 form w ns some e short numbers few = record { word = record { some = some; bytes = plain w e }; short = short; numbers = numbers; few = few }
 
 -- what is written of parts spells them
-spells_written : (p : List ℕ × List ℕ) → HasForm p → (length (written p.0 p.1) ≤ 120) × Spells (fields_of (written p.0 p.1)) (Some p) × All (λ b. 32 ≤ b) (written p.0 p.1)
+pub spells_written : (p : List ℕ × List ℕ) → HasForm p → (length (written p.0 p.1) ≤ 120) × Spells (fields_of (written p.0 p.1)) (Some p) × All (λ b. 32 ≤ b) (written p.0 p.1)
 spells_written p f =
     let bytes = printed p.1 f.numbers p.0 f.word in
     let same = ap pieces (no_return (written p.0 p.1) bytes) ∙ pieces_written p.1 f.numbers p.0 f.word in (

@@ -1,5 +1,6 @@
 pub mod Commands
 pub mod Faults
 pub mod Grammar
+pub mod Mirror
 pub mod Replies
 pub mod Spelling

@@ -11,6 +11,12 @@ impl Bounds {
         greatest: u8::MAX as u64,
     };
 
+    /// The number of one of two sides.
+    pub const SIDE: Bounds = Bounds {
+        least: 0,
+        greatest: 1,
+    };
+
     pub const ADDRESS: Bounds = Bounds {
         least: 0,
         greatest: u32::MAX as u64,

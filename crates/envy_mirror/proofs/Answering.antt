@@ -1,0 +1,42 @@
+-- A command on a pair, put together.
+use Rattle.std.proofs.Common.{◌≡◌, ◌⊎◌, inl, inr, ℕ, ◌*◌, Bool, true, false, List, length, Option, None, Some, refl, sym, ◌∙◌, ap, subst}
+use Rattle.std.specs.Prelude.{IsTrue, ◌||◌}
+use Rattle.std.proofs.lemmas.Bool.{or_cases}
+use Rattle.envy_base.specs.Array.{Array}
+use Rattle.envy_base.specs.Step.{Command}
+use Rattle.envy_base.specs.declared.shape.Shape.{Shape}
+use Rattle.envy_layout.proofs.Standing.{length-stands}
+use Rattle.envy_mirror.specs.Asking.{Answers, AsksBoth, heard}
+use Rattle.envy_mirror.specs.Mirroring.{Mirrors, Gives}
+use Rattle.envy_mirror.specs.Pair.{Pair, is_good, IsPair, lasting}
+use Rattle.envy_mirror.specs.Replies.{Reply, marked}
+use Rattle.envy_mirror.proofs.Giving.{Before, gives}
+use Rattle.envy_mirror.proofs.Holding.{IsPair-reached, dark-reached}
+use Rattle.envy_mirror.proofs.Telling.{IsOne, stands-good}
+
+-- the words are those of the pages that have marks
+pub long-mirrors : (p : Pair) (m : Array) → IsPair p → Mirrors p m → length m.words ≡ 32 * length p.stale
+long-mirrors p m i h = at (or_cases (is_good p.first) (is_good p.second) h.some)
+  where
+    at : (is_good p.first ≡ true) ⊎ (is_good p.second ≡ true) → length m.words ≡ 32 * length p.stale
+    at (inl good) =
+        let s = stands-good p.first.standing p.first.memory.chart p.stale m good h.first in
+        length-stands p.first.memory.chart m s ∙ ap (λ (n : ℕ). 32 * n) (sym i.marks)
+    at (inr good) =
+        let s = stands-good p.second.standing p.second.memory.chart p.stale m good h.second in
+        length-stands p.second.memory.chart m s ∙ ap (λ (n : ℕ). 32 * n) (ap (λ (sh : Shape). sh.pages) i.shape ∙ sym i.marks)
+
+pub Before-is : (p : Pair) (m : Array) → IsPair p → Mirrors p m → Before p m
+Before-is p m i h = record { pair = i; mirrors = h; long = long-mirrors p m i h }
+
+pub IsPair-both : (old new : Pair) (command : Command) (reply : Reply) → IsPair old → AsksBoth command reply old.first old.second new.first new.second → new.stale ≡ marked command reply old.stale → new.last ≡ lasting old new → IsPair new
+IsPair-both old new command reply i b stale last = IsPair-reached old new command b.one b.two reply i b.to_first b.to_second stale last
+
+pub answers : (old new : Pair) (command : Command) (reply : Reply) → IsOne → IsPair old → AsksBoth command reply old.first old.second new.first new.second → new.stale ≡ marked command reply old.stale → new.last ≡ lasting old new → Answers command reply old new
+answers old new command reply law i b stale last = record {
+  both = b;
+  stale = stale;
+  last = last;
+  step = λ m h. subst (λ (r : Reply). Gives m command r new) (sym b.told) (gives old new m command b.one b.two law (Before-is old m i h) b.to_first b.to_second (rw (← b.told) stale) last);
+  off = dark-reached old new command b.one b.two reply b.to_first b.to_second b.told;
+}

@@ -1,0 +1,10 @@
+mod Trailing
+mod Telling
+mod Giving
+mod Holding
+mod Answering
+mod Marking
+mod Reckoning
+mod Closing
+mod Following
+mod Returning
