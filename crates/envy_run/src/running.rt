@@ -128,9 +128,9 @@ fn perform<S: Source, K: Sink, M: Maker>(
         Command::Audit => run_audit(alloc, source, sink, maker),
         Command::Index { setup, lives } => run_index(alloc, setup, lives, source, sink, maker),
         // words whose service isn't built yet
-        Command::Tpca { .. }
-        | Command::Resume { .. }
-        | Command::Mirror { .. } => unserved(2, 0, None),
+        Command::Tpca { .. } | Command::Resume { .. } | Command::Mirror { .. } => unserved(
+            2, 0, None,
+        ),
     }
 }
 
