@@ -22,7 +22,7 @@ transfer_all-requires g c =
     let area = c.args.area.now in
     let l = c.lay_out-places.result in
     let pages = old.chart.shape.pages in
-    let board = ap (λ (ch : Chart). ch.shape.pages) c.board.ensures in
+    let board = ap (λ (ch : Chart). ch.shape.pages) c.board.ensures.same in
     let low : pages ≤ 2 ^ 20 = omega (arith, c.lay_out-places.ensures.low) in
     let zeros = replicate (32 * pages) 0 in
     record {
@@ -52,7 +52,7 @@ sum_balances-branches-requires-clause-small g c =
     let area = c.args.area.now in
     let l = c.lay_out-places.result in
     let pages = old.chart.shape.pages in
-    let board = ap (λ (ch : Chart). ch.shape.pages) c.board.ensures in
+    let board = ap (λ (ch : Chart). ch.shape.pages) c.board.ensures.same in
     let low : pages ≤ 2 ^ 20 = omega (arith, c.lay_out-places.ensures.low) in
     let sized : Sized area l load pages = record { fits = c.requires.fits; low = low; sizes = c.requires.load; places = c.lay_out-places.ensures.places } in
     let one = c.transfer_all.new.memory in
@@ -66,7 +66,7 @@ sum_balances-tellers-requires-clause-rests g c =
     let area = c.args.area.now in
     let l = c.lay_out-places.result in
     let pages = old.chart.shape.pages in
-    let board = ap (λ (ch : Chart). ch.shape.pages) c.board.ensures in
+    let board = ap (λ (ch : Chart). ch.shape.pages) c.board.ensures.same in
     let low : pages ≤ 2 ^ 20 = omega (arith, c.lay_out-places.ensures.low) in
     let sized : Sized area l load pages = record { fits = c.requires.fits; low = low; sizes = c.requires.load; places = c.lay_out-places.ensures.places } in
     let one = c.transfer_all.new.memory in
@@ -81,7 +81,7 @@ sum_balances-tellers-requires-clause-small g c =
     let area = c.args.area.now in
     let l = c.lay_out-places.result in
     let pages = old.chart.shape.pages in
-    let board = ap (λ (ch : Chart). ch.shape.pages) c.board.ensures in
+    let board = ap (λ (ch : Chart). ch.shape.pages) c.board.ensures.same in
     let low : pages ≤ 2 ^ 20 = omega (arith, c.lay_out-places.ensures.low) in
     let sized : Sized area l load pages = record { fits = c.requires.fits; low = low; sizes = c.requires.load; places = c.lay_out-places.ensures.places } in
     let one = c.transfer_all.new.memory in
@@ -96,7 +96,7 @@ sum_balances-accounts-requires-clause-rests g c =
     let area = c.args.area.now in
     let l = c.lay_out-places.result in
     let pages = old.chart.shape.pages in
-    let board = ap (λ (ch : Chart). ch.shape.pages) c.board.ensures in
+    let board = ap (λ (ch : Chart). ch.shape.pages) c.board.ensures.same in
     let low : pages ≤ 2 ^ 20 = omega (arith, c.lay_out-places.ensures.low) in
     let sized : Sized area l load pages = record { fits = c.requires.fits; low = low; sizes = c.requires.load; places = c.lay_out-places.ensures.places } in
     let one = c.transfer_all.new.memory in
@@ -112,7 +112,7 @@ sum_balances-accounts-requires-clause-small g c =
     let area = c.args.area.now in
     let l = c.lay_out-places.result in
     let pages = old.chart.shape.pages in
-    let board = ap (λ (ch : Chart). ch.shape.pages) c.board.ensures in
+    let board = ap (λ (ch : Chart). ch.shape.pages) c.board.ensures.same in
     let low : pages ≤ 2 ^ 20 = omega (arith, c.lay_out-places.ensures.low) in
     let sized : Sized area l load pages = record { fits = c.requires.fits; low = low; sizes = c.requires.load; places = c.lay_out-places.ensures.places } in
     let one = c.transfer_all.new.memory in
@@ -128,7 +128,7 @@ sum_history-history-requires-clause-rests g c =
     let area = c.args.area.now in
     let l = c.lay_out-places.result in
     let pages = old.chart.shape.pages in
-    let board = ap (λ (ch : Chart). ch.shape.pages) c.board.ensures in
+    let board = ap (λ (ch : Chart). ch.shape.pages) c.board.ensures.same in
     let low : pages ≤ 2 ^ 20 = omega (arith, c.lay_out-places.ensures.low) in
     let sized : Sized area l load pages = record { fits = c.requires.fits; low = low; sizes = c.requires.load; places = c.lay_out-places.ensures.places } in
     let one = c.transfer_all.new.memory in
@@ -145,7 +145,7 @@ sum_history-history-requires-clause-small g c =
     let area = c.args.area.now in
     let l = c.lay_out-places.result in
     let pages = old.chart.shape.pages in
-    let board = ap (λ (ch : Chart). ch.shape.pages) c.board.ensures in
+    let board = ap (λ (ch : Chart). ch.shape.pages) c.board.ensures.same in
     let low : pages ≤ 2 ^ 20 = omega (arith, c.lay_out-places.ensures.low) in
     let sized : Sized area l load pages = record { fits = c.requires.fits; low = low; sizes = c.requires.load; places = c.lay_out-places.ensures.places } in
     let one = c.transfer_all.new.memory in
@@ -162,7 +162,7 @@ returns-clause-counted g c =
     let area = c.args.area.now in
     let l = c.lay_out-places.result in
     let pages = old.chart.shape.pages in
-    let board = ap (λ (ch : Chart). ch.shape.pages) c.board.ensures in
+    let board = ap (λ (ch : Chart). ch.shape.pages) c.board.ensures.same in
     let low : pages ≤ 2 ^ 20 = omega (arith, c.lay_out-places.ensures.low) in
     let sized : Sized area l load pages = record { fits = c.requires.fits; low = low; sizes = c.requires.load; places = c.lay_out-places.ensures.places } in
     let one = c.transfer_all.new.memory in
@@ -181,7 +181,7 @@ returns-clause-driven g c =
     let area = c.args.area.now in
     let l = c.lay_out-places.result in
     let pages = old.chart.shape.pages in
-    let board = ap (λ (ch : Chart). ch.shape.pages) c.board.ensures in
+    let board = ap (λ (ch : Chart). ch.shape.pages) c.board.ensures.same in
     let low : pages ≤ 2 ^ 20 = omega (arith, c.lay_out-places.ensures.low) in
     let sized : Sized area l load pages = record { fits = c.requires.fits; low = low; sizes = c.requires.load; places = c.lay_out-places.ensures.places } in
     let one = c.transfer_all.new.memory in
@@ -228,7 +228,7 @@ returns-clause-keeps g c =
     let area = c.args.area.now in
     let l = c.lay_out-places.result in
     let pages = old.chart.shape.pages in
-    let board = ap (λ (ch : Chart). ch.shape.pages) c.board.ensures in
+    let board = ap (λ (ch : Chart). ch.shape.pages) c.board.ensures.same in
     let low : pages ≤ 2 ^ 20 = omega (arith, c.lay_out-places.ensures.low) in
     let sized : Sized area l load pages = record { fits = c.requires.fits; low = low; sizes = c.requires.load; places = c.lay_out-places.ensures.places } in
     let one = c.transfer_all.new.memory in
