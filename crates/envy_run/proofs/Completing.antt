@@ -7,6 +7,7 @@ use Rattle.envy_args.specs.declared.command.WordsFault.{WordsFault}
 use Rattle.envy_args.specs.declared.command.WordsFault.TheVariants.{Memory}
 use Rattle.envy_args.specs.Words.{Text, command_of}
 use Rattle.envy_base.specs.Array.{Array}
+use Rattle.envy_base.specs.declared.area.Area.{Area}
 use Rattle.envy_gen.specs.Traces.{trace_bytes}
 use Rattle.envy_map.specs.Fields.{Chart}
 use Rattle.envy_policy.specs.declared.setup.Setup.{Setup}
@@ -20,6 +21,7 @@ use Rattle.envy_serve.proofs.GoodTraces.{good-ends, still-written}
 use Rattle.envy_trace.specs.declared.fault.LineFault.TheVariants.{Long}
 use Rattle.envy_run.specs.Complete.{IsWell, IsComplete, Completes}
 use Rattle.envy_run.specs.Done.{HasDied, DiesIn}
+use Rattle.envy_run.specs.Drives.{Breaks, Drives, Reports, report}
 use Rattle.envy_run.specs.Headline.{Headline, IsUnserved, run_task, save_task, index_task, plain_task, WritesTrace, IsDark, IsSpoilt, IsOutOfMemory, IsWithoutMemory, Generates, zeros_of}
 use Rattle.envy_run.specs.IndexDone.{HasIndexDied, IndexDiesIn}
 use Rattle.envy_run.specs.IndexServing.{long_index}
@@ -103,6 +105,17 @@ completes-gen start count pages o io g low = at g.writes
     at (inl (done, written, flushed)) = inl done
     at (inr (failed, front)) = absurd (still-written (trace_bytes start count pages) io.to io.to io.sink low (omega arith) front)
 
+completes-tpca : (setup : Setup) (returns start : ℕ) (area : Area) (every : ℕ) (o : Outcome) (io : Streams) → Drives setup returns start area every o io → StaysLow io.to.faults io.sink.faults → IsWell o → IsComplete o
+completes-tpca setup returns start area every o io d low well = at d.ends
+  where
+    told : (text : List ℕ) → WritesTrace text o.status io.to io.sink → IsComplete o
+    told text (inl (done, written, flushed)) = inl done
+    told text (inr (failed, front)) = absurd (still-written text io.to io.to io.sink low (omega arith) front)
+
+    at : Reports setup returns start area every o io ⊎ Breaks setup start area o io → IsComplete o
+    at (inl r) = told (report area r.sums) r.writes
+    at (inr b) = unserved-well o io b.unserved well
+
 -- what is done for a command is complete where all goes well
 pub completes : (command : Result Command WordsFault) (o : Outcome) (io : Streams) → Headline command o io → Completes command o io
 completes (Ok (Run setup returns)) o io (inl runs) = λ good well. completes-run setup returns o io runs good well
@@ -111,7 +124,8 @@ completes (Ok (Plain setup)) o io (inl calm) = λ good. completes-plain setup o 
 completes (Ok (Plain setup)) o io (inr without) = λ good. inr (IsOutOfMemory.status (IsWithoutMemory.memory without))
 completes (Ok (Gen start count pages)) o io (inl generates) = λ low. completes-gen start count pages o io generates low
 completes (Ok (Gen start count pages)) o io (inr without) = λ low. inr (IsOutOfMemory.status (IsWithoutMemory.memory without))
-completes (Ok (Tpca setup returns start area every)) o io done = tt
+completes (Ok (Tpca setup returns start area every)) o io (inl drives) = λ low well. completes-tpca setup returns start area every o io drives low well
+completes (Ok (Tpca setup returns start area every)) o io (inr without) = λ low well. inr (IsOutOfMemory.status (IsWithoutMemory.memory without))
 completes (Ok (Save setup returns)) o io (inl saves) = λ good well. completes-save setup returns o io saves good well
 completes (Ok (Save setup returns)) o io (inr without) = λ good well. inr (IsOutOfMemory.status (IsWithoutMemory.memory without))
 completes (Ok (Resume policy limit mark returns)) o io done = tt

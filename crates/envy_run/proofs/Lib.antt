@@ -3,6 +3,7 @@ pub mod Audited
 pub mod Calm
 pub mod Checked
 pub mod Completing
+pub mod Driving
 pub mod Equating
 pub mod Generating
 pub mod Hitting
@@ -15,6 +16,7 @@ pub mod Obeying
 pub mod Preparing
 pub mod Recovering
 pub mod Replying
+pub mod Reporting
 pub mod Saved
 pub mod Traced
 pub mod Words

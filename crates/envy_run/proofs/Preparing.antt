@@ -13,6 +13,9 @@ use Rattle.envy_memory.specs.declared.faults.FormatFault.TheVariants.{Off}
 use Rattle.envy_policy.specs.declared.setup.Setup.{Setup}
 use Rattle.envy_run.specs.Prepares.{IsPrepared, IsReady, IsUnspent}
 
+begun-same : (s t : Chart) → CountsFormat s t → t.begun ≡ s.begun
+begun-same s t f = let c = CountsFormat.counted f in let low = Counted.begun c in let few = Counted.few c in omega arith
+
 -- formatting plans nothing and cuts nothing by hand
 pub prepared-more : (old s t : Chart) → IsPrepared old s → CountsFormat s t → IsPrepared old t
 prepared-more old s t p f =
@@ -21,6 +24,8 @@ prepared-more old s t p f =
     let bads = p.bads in
     let more = Counted.cuts c in
     let worse = Counted.bads c in
+    let lives = p.lives in
+    let same_lives = Counted.lives c in
     record {
       shape = CountsFormat.shape f ∙ p.shape;
       pulled = Counted.pulled c ∙ p.pulled;
@@ -28,10 +33,9 @@ prepared-more old s t p f =
       given = Counted.given c ∙ p.given;
       cuts = omega arith;
       bads = omega arith;
+      begun = begun-same s t f ∙ p.begun;
+      lives = omega arith;
     }
-
-begun-same : (s t : Chart) → CountsFormat s t → t.begun ≡ s.begun
-begun-same s t f = let c = CountsFormat.counted f in let low = Counted.begun c in let few = Counted.few c in omega arith
 
 -- it was cut: the count of failures isn't 0 any more
 cut-some : (old : Chart) (s t : State) (setup : Setup) → IsTrue s.on → CountsFormat (chart s) (chart t) → Refuses s setup Off t → t.cuts ≡ 0 → ⊥
@@ -47,7 +51,7 @@ pub prepared-again : (old : Chart) (s t u : State) (setup : Setup) → IsTrue s.
 prepared-again old s t u setup on (p, spent) f refuses is =
     let q = prepared-more old (chart s) (chart t) p f in
     subst (λ (x : State). IsPrepared old (chart x) × IsUnspent old (chart x)) (sym is) (
-      record { shape = q.shape; pulled = q.pulled; plans = q.plans; given = q.given; cuts = q.cuts; bads = q.bads },
+      record { shape = q.shape; pulled = q.pulled; plans = q.plans; given = q.given; cuts = q.cuts; bads = q.bads; begun = q.begun; lives = let low = q.lives in omega arith },
       record {
         begun = begun-same (chart s) (chart t) f ∙ spent.begun;
         long = Grows.long (Counted.erases (CountsFormat.counted f)) ∙ spent.long;

@@ -161,7 +161,7 @@ pub record Began (setup : Setup) (returns : ℕ) (first : Picture) : Type 0 wher
   pub erases : first.chart.cuts ≡ 0 → sum first.chart.erases ≡ setup.shape.segments
 
 -- the counters add up
-adds-up : (setup : Setup) (returns : ℕ) (first now : Picture) → Began setup returns first → now.chart.shape ≡ first.chart.shape → first.chart.cuts ≤ now.chart.cuts → Tallies first.chart first.parts now.chart now.parts → AddsUp (counts_of now.parts) now.chart
+pub adds-up : (setup : Setup) (returns : ℕ) (first now : Picture) → Began setup returns first → now.chart.shape ≡ first.chart.shape → first.chart.cuts ≤ now.chart.cuts → Tallies first.chart first.parts now.chart now.parts → AddsUp (counts_of now.parts) now.chart
 adds-up setup returns first now b shape cuts t =
     let flushes = ap (λ (c : Counts). c.flushes) b.counts in
     let copies = ap (λ (c : Counts). c.copies) b.counts in

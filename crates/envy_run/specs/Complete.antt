@@ -1,7 +1,7 @@
 -- A command for which all goes well is done to its end, or memory runs out.
 use Rattle.std.specs.Prelude.{◌≡◌, ◌⊎◌, ℕ, ◌<◌, IsTrue, ⊤, List, ◌++◌, Some, Result, Ok}
 use Rattle.envy_args.specs.declared.command.Command.{Command}
-use Rattle.envy_args.specs.declared.command.Command.TheVariants.{Run, Plain, Gen, Save, Audit, Index}
+use Rattle.envy_args.specs.declared.command.Command.TheVariants.{Run, Plain, Tpca, Gen, Save, Audit, Index}
 use Rattle.envy_args.specs.declared.command.WordsFault.{WordsFault}
 use Rattle.envy_base.specs.State.{State, IsBoard}
 use Rattle.envy_image.specs.Image.{image_of}
@@ -39,6 +39,7 @@ Completes (Ok (Run setup returns)) o io = IsGoodTrace trace_grammar 0 io → IsW
 Completes (Ok (Plain setup)) o io = IsGoodTrace trace_grammar 0 io → IsComplete o
 Completes (Ok (Index setup returns)) o io = IsGoodTrace index_grammar 0 io → IsWell o → IsComplete o
 Completes (Ok (Gen start count pages)) o io = StaysLow io.to.faults io.sink.faults → IsComplete o
+Completes (Ok (Tpca setup returns start area every)) o io = StaysLow io.to.faults io.sink.faults → IsWell o → IsComplete o
 Completes (Ok (Save setup returns)) o io = IsGoodTrace trace_grammar 0 io → IsWell o → IsComplete o
 Completes (Ok Audit) o io = HoldsImage io → NeverFailed o → IsComplete o
 Completes command o io = ⊤

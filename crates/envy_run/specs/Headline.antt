@@ -26,7 +26,9 @@ use Rattle.envy_run.specs.Calm.{HasDoneCalmly, NeverDies}
 use Rattle.envy_run.specs.Done.{HasDone, HasDied}
 use Rattle.envy_run.specs.IndexDone.{HasIndexed, HasIndexDied, IndexLicences, OnIndexBoard}
 use Rattle.envy_run.specs.IndexTurns.{index_grammar}
+use Rattle.envy_run.specs.Drives.{Drives}
 use Rattle.envy_run.specs.Outcome.{Outcome, IsQuiet}
+pub use Rattle.envy_run.specs.Unserved.{IsOutOfMemory, IsSpoilt, IsDark, IsUnserved}
 pub use Rattle.envy_run.specs.Writing.{WritesOut, WritesTrace}
 use Rattle.envy_run.specs.Task.{Task, DoesTask}
 use Rattle.envy_run.specs.Turns.{TraceTurn, trace_grammar, is_power, is_plan, is_lost, is_fault}
@@ -40,30 +42,6 @@ pub record IsRefused (why : ℕ) (o : Outcome) : Type 0 where
   pub status : o.status ≡ 2
   pub why_is : o.why ≡ why
   pub board_none : o.board ≡ None
-
--- status 8
-pub record IsOutOfMemory (o : Outcome) : Type 0 where
-  pub status : o.status ≡ 8
-  pub why : o.why ≡ 0
-
--- status 7: a flash operation failed in formatting
-pub record IsSpoilt (o : Outcome) : Type 0 where
-  pub status : o.status ≡ 7
-  pub why : o.why ≡ 0
-  pub cause : (now : Chart) × (o.board ≡ Some now) × (0 < now.bads)
-
--- status 6 with no line read: power failed in formatting and didn't return
-pub record IsDark (o : Outcome) : Type 0 where
-  pub status : o.status ≡ 6
-  pub why : o.why ≡ 0
-  pub now : Chart
-  pub board_is : o.board ≡ Some now
-  pub off : now.on ≡ false
-  pub lives : now.lives ≡ 0
-
--- no line was read, for one of these reasons
-abbrev pub IsUnserved : Outcome → Streams → Type 0
-IsUnserved o io = IsQuiet o io × (IsOutOfMemory o ⊎ (IsSpoilt o ⊎ IsDark o))
 
 -- What a board that began with no counts says of the turns: power was cut by hand once for each line `power`, a failure
 -- was planned by each line `cut` and `bad`, each `lost` has a failure of power of its own besides, and each `fault` a
@@ -154,7 +132,7 @@ abbrev pub DoesCommand : Result Command WordsFault → Outcome → Streams → T
 DoesCommand (Ok (Run setup returns)) o io = DoesTask (run_task setup returns) o io
 DoesCommand (Ok (Plain setup)) o io = DoesTask (plain_task setup) o io
 DoesCommand (Ok (Gen start count pages)) o io = Generates start count pages o io
-DoesCommand (Ok (Tpca setup returns start area every)) o io = Refuses 0 o io
+DoesCommand (Ok (Tpca setup returns start area every)) o io = Drives setup returns start area every o io
 DoesCommand (Ok (Save setup returns)) o io = DoesTask (save_task setup returns) o io
 DoesCommand (Ok (Resume policy limit mark returns)) o io = Refuses 0 o io
 DoesCommand (Ok Audit) o io = Audits o io

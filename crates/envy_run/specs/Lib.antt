@@ -6,6 +6,8 @@ pub mod Calm
 pub mod Complete
 pub mod Counters
 pub mod Done
+pub mod Driven
+pub mod Drives
 pub mod Equal
 pub mod Headline
 pub mod Hits
@@ -25,4 +27,5 @@ pub mod Tells
 pub mod Texts
 pub mod Tracing
 pub mod Turns
+pub mod Unserved
 pub mod Writing

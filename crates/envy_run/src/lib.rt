@@ -29,6 +29,7 @@ mod planned_board;
 mod prepare;
 #[cfg(test)]
 mod reading_tests;
+mod report;
 mod restart;
 mod running;
 mod save_run;
@@ -36,6 +37,9 @@ mod save_run;
 mod script;
 #[cfg(test)]
 mod tests;
+mod tpca_run;
+#[cfg(test)]
+mod tpca_tests;
 mod tracing;
 #[cfg(test)]
 mod transaction_tests;

@@ -14,8 +14,9 @@ use crate::plain_run::run_plain;
 use crate::prepare::{Unready, prepare};
 use crate::restart::ReplyBuffer;
 use crate::save_run::run_save;
+use crate::tpca_run::run_tpca;
 use crate::tracing::Tracing;
-use envy_args::{Command, WordsFault, read_words};
+use envy_args::{Command, WordsFault, read_words, the_area_is_asked_to_fit};
 use envy_base::Maker;
 use envy_io::{Lines, Sink, Source};
 use envy_policy::Setup;
@@ -127,15 +128,23 @@ fn perform<S: Source, K: Sink, M: Maker>(
         Command::Save { setup, lives } => run_save(alloc, setup, lives, source, sink, maker),
         Command::Audit => run_audit(alloc, source, sink, maker),
         Command::Index { setup, lives } => run_index(alloc, setup, lives, source, sink, maker),
+        Command::Tpca {
+            setup,
+            lives,
+            start,
+            area,
+            every,
+        } => {
+            the_area_is_asked_to_fit();
+            run_tpca(alloc, setup, lives, start, &area, every, sink, maker)
+        }
         // words whose service isn't built yet
-        Command::Tpca { .. } | Command::Resume { .. } | Command::Mirror { .. } => unserved(
-            2, 0, None,
-        ),
+        Command::Resume { .. } | Command::Mirror { .. } => unserved(2, 0, None),
     }
 }
 
 /// Does what the words say: answers the trace of the source over a board of the maker's or on a plain
-/// machine, or writes a generated trace.
+/// machine, writes a generated trace, or drives a load and reports its sums.
 pub fn run<S: Source, K: Sink, M: Maker>(
     alloc: Global,
     words: &[String],

@@ -1,0 +1,93 @@
+-- The word `tpca`: a bank's load driven over a memory of zeros, and the report of its sums.
+use Rattle.std.specs.Prelude.{◌≡◌, ◌⊎◌, ℕ, ◌+◌, ◌≤◌, List, [], ◌∷◌, ◌++◌, slice_index, Some, IfSome, codes, decimal}
+use Rattle.std.specs.Fmt.{signed_decimal}
+use Rattle.envy_base.specs.declared.area.Area.{Area}
+use Rattle.envy_io.specs.Lines.{newline}
+use Rattle.envy_layout.specs.Sound.{IsSound}
+use Rattle.envy_layout.specs.Stands.{Stands}
+use Rattle.envy_layout.specs.Words.{durable}
+use Rattle.envy_map.specs.Fields.{Chart}
+use Rattle.envy_memory.specs.Calls.{fresh}
+use Rattle.envy_policy.specs.declared.setup.Setup.{Setup}
+use Rattle.envy_report.specs.Stat.{stat_bytes}
+use Rattle.envy_serve.specs.Streams.{Streams}
+use Rattle.envy_tpca.specs.declared.sums.Sums.{Sums}
+use Rattle.envy_tpca.specs.Driving.{AddsUp, plans_in}
+use Rattle.envy_tpca.specs.Load.{Draws, seeded}
+use Rattle.envy_tpca.specs.Tpc.{Tpc}
+use Rattle.envy_run.specs.Counters.{AddsUp as CountsAddUp}
+use Rattle.envy_run.specs.Outcome.{Outcome, IsQuiet}
+use Rattle.envy_run.specs.Unserved.{IsUnserved}
+use Rattle.envy_run.specs.Writing.{WritesTrace}
+
+-- a name and a number on a line
+abbrev pub named : List ℕ → List ℕ → List ℕ
+named name number = name ++ number ++ newline ∷ []
+
+-- the four sums of balances and history, and that of what the load gave
+abbrev pub sums_text : Sums → List ℕ
+sums_text sums =
+    named (codes "branches ") (signed_decimal sums.branches)
+    ++ named (codes "tellers ") (signed_decimal sums.tellers)
+    ++ named (codes "accounts ") (signed_decimal sums.accounts)
+    ++ named (codes "history ") (signed_decimal sums.history)
+    ++ named (codes "deltas ") (signed_decimal sums.deltas)
+
+-- the report of eight lines
+abbrev pub report : Area → Sums → List ℕ
+report area sums =
+    named (codes "transfers ") (decimal area.transfers)
+    ++ sums_text sums
+    ++ named (codes "cuts ") (decimal sums.cuts)
+    ++ (stat_bytes sums.counts ++ newline ∷ [])
+
+-- the load of these words, drawn from a number
+abbrev pub load_of : ℕ → Area → Draws
+load_of start area = record { branches = area.branches; accounts = area.accounts; words = seeded start }
+
+-- All transfers are done, and no slot is open. The report tells their sums, and what the board counts: flushes, copies
+-- and moves add up to the programs that began. Power returned no more often than it could. The report is written whole
+-- and the sink is flushed, or the sink failed behind a front of it.
+pub record Reports (setup : Setup) (returns start : ℕ) (area : Area) (every : ℕ) (o : Outcome) (io : Streams) : Type 0 where
+  pub now : Chart
+  pub board_is : o.board ≡ Some now
+  pub stands : Stands now (fresh setup.shape.shadows (durable now))
+  pub words : Tpc area setup.shape.pages (load_of start area) area.transfers (durable now)
+  pub sums : Sums
+  pub adds_up : AddsUp area (load_of start area) sums
+  pub counts : CountsAddUp sums.counts now
+  pub cuts : sums.cuts + now.lives ≤ returns
+  pub plans : now.plans ≡ plans_in every area.transfers
+  pub writes : WritesTrace (report area sums) o.status io.to io.sink
+
+-- the load wasn't begun: no program began, and no cut was planned
+pub record IsUnbegun (now : Chart) : Type 0 where
+  pub begun : now.begun ≡ 0
+  pub plans : now.plans ≡ 0
+
+-- a restart finds the words after as many transfers as word 0 says, each of them counted once
+pub record IsCounted (setup : Setup) (start : ℕ) (area : Area) (now : Chart) : Type 0 where
+  pub sound : IsSound now
+  pub few : slice_index (durable now) 0 ≤ area.transfers
+  pub words : Tpc area setup.shape.pages (load_of start area) (slice_index (durable now) 0) (durable now)
+
+-- Memory ran out, a flash operation failed, or power didn't return, in formatting or in the load: nothing is written.
+pub record Breaks (setup : Setup) (start : ℕ) (area : Area) (o : Outcome) (io : Streams) : Type 0 where
+  pub unserved : IsUnserved o io
+  pub found : IfSome o.board (λ now. IsUnbegun now ⊎ IsCounted setup start area now)
+
+-- What the board's counts say, whatever the status: no cut by hand, and no more plans than transfers to be cut.
+pub record IsDriver (setup : Setup) (returns : ℕ) (area : Area) (every : ℕ) (now : Chart) : Type 0 where
+  pub shape : now.shape ≡ setup.shape
+  pub given : now.given ≡ returns
+  pub pulled : now.pulled ≡ 0
+  pub plans : now.plans ≤ plans_in every area.transfers
+
+-- the word `tpca`: no byte is read
+pub record Drives (setup : Setup) (returns start : ℕ) (area : Area) (every : ℕ) (o : Outcome) (io : Streams) : Type 0 where
+  pub ends : Reports setup returns start area every o io ⊎ Breaks setup start area o io
+  pub board : IfSome o.board (IsDriver setup returns area every)
+  pub why : o.why ≡ 0
+  pub lines : o.lines ≡ 0
+  pub taken : o.taken ≡ 0
+  pub source : io.feed ≡ io.from

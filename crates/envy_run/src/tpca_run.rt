@@ -1,0 +1,80 @@
+//! A bank's load over a fresh memory, and the report of its sums.
+
+ghost use Rattle.std.specs.Prelude.{◌≡◌, ◌^◌, ◌≤◌, None, Ok};
+ghost use Rattle.envy_base.specs.Area.{Fits};
+ghost use Rattle.envy_base.specs.Array.{zeros};
+ghost use Rattle.envy_layout.specs.Stands.{Stands};
+ghost use Rattle.envy_policy.specs.Setup.{checked};
+ghost use Rattle.envy_run.specs.Driven.{AfterLoad};
+ghost use Rattle.envy_run.specs.Drives.{Drives, load_of};
+ghost use Rattle.envy_io.specs.Streams.{Feed};
+ghost use Rattle.envy_run.specs.Outcome.{outcome};
+
+use crate::ended::Ended;
+use crate::prepare::{Unready, prepare};
+use crate::report::write_report;
+use crate::running::unserved;
+use envy_base::{Area, Bench, Maker};
+use envy_io::{Failed, Sink};
+use envy_memory::Memory;
+use envy_policy::Setup;
+use envy_tpca::{DriveFault, Load, drive};
+use std::alloc::Global;
+
+/// Drives the load that the number `start` draws, and writes the report of its sums. Answers the status of the run.
+fn drive_load<B: Bench, K: Sink>(
+    memory: &mut Memory<B>,
+    start: u64,
+    area: &Area,
+    every: u32,
+    sink: &mut K,
+) -> u8
+    requires fits { Fits area.now memory.old.chart.shape.pages }
+    requires low { memory.old.chart.shape.pages ≤ 2 ^ 20 }
+    requires room { 5 ≤ memory.old.chart.shape.shadows }
+    requires zeros { Stands memory.old.chart (zeros memory.old.chart.shape.pages memory.old.chart.shape.shadows) }
+    ensures { AfterLoad area.now (load_of start area.now) every memory.old memory.new result (K.drain sink.old) (K.drain sink.new) }
+{
+    let mut load = Load::new(start, area.branches, area.accounts);
+    match drive(memory, &mut load, area, every) {
+        Ok(sums) => match write_report(sink, area, &sums) {
+            Ok(()) => 0,
+            Err(Failed) => 4,
+        },
+        Err(DriveFault::Dead) => 6,
+        Err(DriveFault::Bad) => 7,
+    }
+}
+
+/// Makes a board, formats it, drives a load over it, and writes the report of its sums. Nothing is read.
+pub fn run_tpca<K: Sink, M: Maker>(
+    alloc: Global,
+    setup: Setup,
+    lives: u32,
+    start: u64,
+    area: &Area,
+    every: u32,
+    sink: &mut K,
+    maker: &mut M,
+) -> Ended<M::Made>
+    requires rules { checked setup ≡ Ok tt }
+    requires fits { Fits area.now setup.shape.pages }
+    requires room { 5 ≤ setup.shape.shadows }
+    ensures drives { (feed : Feed) → Drives setup lives start area.now every (outcome M.Made.Board.state result)
+        (record { from = feed; feed = feed; to = K.drain sink.old; sink = K.drain sink.new }) }
+    ensures few { result.lines ≤ result.taken }
+    ensures read { result.taken ≤ 1099511627776 }
+    ensures second { result.second ≡ None }
+{
+    let Ok(board) = maker.make(alloc, &setup.shape, lives) else {
+        return unserved(8, 0, None);
+    };
+    let mut memory = match prepare(alloc, board, setup) {
+        Ok(memory) => memory,
+        Err((board, Unready::Memory)) => return unserved(8, 0, Some(board)),
+        Err((board, Unready::Bad)) => return unserved(7, 0, Some(board)),
+        Err((board, Unready::Dead)) => return unserved(6, 0, Some(board)),
+    };
+    let status = drive_load(&mut memory, start, area, every, sink);
+    unserved(status, 0, Some(memory.into_board()))
+}
