@@ -1,9 +1,9 @@
 -- A load that was driven over a board that was made and formatted.
-use Rattle.std.proofs.Common.{◌≡◌, ◌⊎◌, inl, inr, ℕ, zero, suc, ◌+◌, ◌-◌, ◌*◌, ◌/◌, ◌^◌, ◌<◌, ◌≤◌, Bool, true, false, List, length, refl, sym, ◌∙◌, ap, subst, arith}
+use Rattle.std.proofs.Common.{◌≡◌, ◌⊎◌, inl, inr, ℕ, zero, suc, ◌+◌, ◌-◌, ◌*◌, ◌^◌, ◌<◌, ◌≤◌, Bool, true, false, length, refl, sym, ◌∙◌, subst, arith}
 use Rattle.std.specs.Prelude.{IfSome, Option, None, Some, slice_index, if◌then◌else◌}
 use Rattle.std.specs.Option.{option_map}
 use Rattle.std.proofs.lemmas.Bool.{cases_lt}
-use Rattle.envy_base.specs.Area.{Fits, history_at}
+use Rattle.envy_base.specs.Area.{Fits}
 use Rattle.envy_base.specs.State.{State, IsMade}
 use Rattle.envy_base.specs.declared.area.Area.{Area}
 use Rattle.envy_base.specs.declared.counts.Counts.{Counts}
@@ -23,7 +23,7 @@ use Rattle.envy_tpca.specs.Tpc.{Tpc}
 use Rattle.envy_run.specs.Counters.{AddsUp}
 use Rattle.envy_run.specs.Driven.{AfterLoad, HasBroken, HasTold, IsCause}
 use Rattle.envy_run.specs.Drives.{Breaks, Drives, IsCounted, IsDriver, IsUnbegun, Reports, load_of}
-use Rattle.envy_run.specs.Outcome.{Outcome, IsQuiet, outcome}
+use Rattle.envy_run.specs.Outcome.{Outcome, outcome}
 use Rattle.envy_run.specs.Prepares.{IsPrepared, IsReady}
 use Rattle.envy_run.specs.Unserved.{IsDark, IsOutOfMemory, IsSpoilt}
 use Rattle.envy_run.specs.declared.ended.Ended.{Ended}

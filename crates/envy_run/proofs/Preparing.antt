@@ -7,7 +7,7 @@ use Rattle.envy_base.specs.State.{State, lit}
 use Rattle.envy_base.specs.declared.shape.Shape.{Shape}
 use Rattle.envy_layout.specs.Same.{Counted, Grows}
 use Rattle.envy_map.specs.Fields.{Chart, chart}
-use Rattle.envy_memory.specs.Formats.{CountsFormat, ErasesEach, IsStarted, Makes, Refuses}
+use Rattle.envy_memory.specs.Formats.{CountsFormat, ErasesEach, Makes, Refuses}
 use Rattle.envy_memory.specs.Picture.{Picture}
 use Rattle.envy_memory.specs.declared.faults.FormatFault.TheVariants.{Off}
 use Rattle.envy_policy.specs.declared.setup.Setup.{Setup}

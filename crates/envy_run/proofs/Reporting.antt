@@ -1,11 +1,11 @@
 -- A report that is written line by line.
-use Rattle.std.proofs.Common.{◌≡◌, ℕ, ◌+◌, ◌-◌, ◌^◌, ◌<◌, ◌≤◌, false, List, [], ◌∷◌, ◌++◌, length, take, Option, Ok, Err, refl, sym, ap, subst, ◌∙◌, arith, length-append}
+use Rattle.std.proofs.Common.{ℕ, ◌+◌, ◌-◌, List, [], ◌∷◌, ◌++◌, length, take, Option, Ok, Err, sym, ap, ◌∙◌, arith, length-append}
 use Rattle.std.specs.Prelude.{Result}
-use Rattle.std.proofs.Math.Seq.{take-append_seam, take-append-add}
-use Rattle.std.proofs.lemmas.List.{append_assoc, append-nil, take-append-le}
+use Rattle.std.proofs.Math.Seq.{take-append-add}
+use Rattle.std.proofs.lemmas.List.{take-append-le}
 use Rattle.envy_io.proofs.WritesLemmas.{with_end-with_end}
 use Rattle.envy_io.specs.declared.source.Failed.{Failed}
-use Rattle.envy_io.specs.Streams.{AfterPiece, Drain, Rises, WritesAll, with_end}
+use Rattle.envy_io.specs.Streams.{AfterPiece, Drain, WritesAll, with_end}
 use Rattle.envy_serve.proofs.Advancing.{rises-told}
 
 after-both : (a b : List ℕ) (old mid new : Drain) → AfterPiece a old mid → AfterPiece b mid new → AfterPiece (a ++ b) old new

@@ -16,7 +16,7 @@ use Rattle.envy_tpca.specs.Driving.{AddsUp, plans_in}
 use Rattle.envy_tpca.specs.Load.{Draws, seeded}
 use Rattle.envy_tpca.specs.Tpc.{Tpc}
 use Rattle.envy_run.specs.Counters.{AddsUp as CountsAddUp}
-use Rattle.envy_run.specs.Outcome.{Outcome, IsQuiet}
+use Rattle.envy_run.specs.Outcome.{Outcome}
 use Rattle.envy_run.specs.Unserved.{IsUnserved}
 use Rattle.envy_run.specs.Writing.{WritesTrace}
 

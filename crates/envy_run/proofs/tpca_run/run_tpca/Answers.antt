@@ -1,4 +1,4 @@
-use Rattle.std.proofs.Common.{inl, inr, ap, refl, sym, subst, ◌∙◌, ◌≡◌, arith}
+use Rattle.std.proofs.Common.{inl, inr, ap, refl, sym, subst, ◌∙◌, arith}
 use Rattle.std.specs.Prelude.{None, Some}
 use Rattle.envy_base.specs.Area.{Fits}
 use Rattle.envy_base.specs.State.{IsBoard, IsMade}
