@@ -1,8 +1,7 @@
 -- What the calls of the index tree say of the words of a memory.
-use Rattle.std.proofs.Common.{◌≡◌, ◌⊎◌, inl, inr, ℕ, ◌+◌, ◌-◌, ◌*◌, ◌/◌, ◌^◌, ◌<◌, ◌≤◌, Bool, true, false, List, [], ◌∷◌, length, refl, sym, ◌∙◌, ap, subst, arith}
-use Rattle.std.specs.Prelude.{◌&&◌, IsTrue, Option, None, Some, Result, Ok, Err}
-use Rattle.std.proofs.lemmas.Bool.{cases_lt}
-use Rattle.envy_base.specs.Words.{Sheet, Works, Keeps, Rose}
+use Rattle.std.proofs.Common.{◌≡◌, ◌⊎◌, inl, inr, ℕ, ◌+◌, ◌-◌, ◌*◌, ◌/◌, ◌^◌, ◌<◌, ◌≤◌, Bool, false, List, length, refl, sym, ◌∙◌, ap, subst, arith}
+use Rattle.std.specs.Prelude.{◌&&◌, IsTrue, Option, None, Some, Ok, Err}
+use Rattle.envy_base.specs.Words.{Works, Keeps, Rose}
 use Rattle.envy_base.specs.declared.board.Off.{Off}
 use Rattle.envy_base.specs.declared.shape.Shape.{Shape}
 use Rattle.envy_btree.specs.Answers.{Gets, Inserts, Removes}
@@ -12,9 +11,9 @@ use Rattle.envy_btree.specs.Pairs.{assoc, with_pair, without}
 use Rattle.envy_btree.proofs.Calls.{not-full}
 use Rattle.envy_btree.specs.declared.fault.TreeFault.TheVariants.{Off as FaultOff, Full as FaultFull, Bad as FaultBad}
 use Rattle.envy_btree.specs.declared.line.IndexLine.{IndexLine}
-use Rattle.envy_btree.specs.declared.line.IndexLine.TheVariants.{Get, Insert, Remove, Cut, Bad}
+use Rattle.envy_btree.specs.declared.line.IndexLine.TheVariants.{Get, Insert, Remove}
 use Rattle.envy_btree.specs.declared.reply.IndexReply.{IndexReply}
-use Rattle.envy_btree.specs.declared.reply.IndexReply.TheVariants.{Value, Missing, Full, Fault, Lost, Restarted, Armed}
+use Rattle.envy_btree.specs.declared.reply.IndexReply.TheVariants.{Full, Fault, Lost}
 use Rattle.envy_layout.specs.Words.{durable}
 use Rattle.envy_layout.proofs.WordLists.{length-durable}
 use Rattle.envy_map.specs.Fields.{Chart}
@@ -24,8 +23,8 @@ use Rattle.envy_memory.specs.Picture.{Picture}
 use Rattle.envy_memory.specs.Sheets.{fixed_of, sheet_of, words_read}
 use Rattle.envy_serve.specs.Turns.{one_if}
 use Rattle.envy_run.specs.IndexServing.{Serving, AnswersIndex, LostAt, ReplyLicence}
-use Rattle.envy_run.specs.IndexTurns.{Pairs, IsFull, Says, Faults, Loses, most_of, told, is_lost, is_fault, is_plan}
-use Rattle.envy_run.specs.Licence.{Licence, RoseOver}
+use Rattle.envy_run.specs.IndexTurns.{Pairs, IsFull, Says, most_of, told, is_lost, is_fault, is_plan}
+use Rattle.envy_run.specs.Licence.{Licence}
 use Rattle.envy_run.proofs.Replying.{Licence-planned}
 
 -- ---- words and their numbers

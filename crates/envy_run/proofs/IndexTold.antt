@@ -1,10 +1,8 @@
 -- What an index did in a line and in a trace, from what its calls say.
-use Rattle.std.proofs.Common.{◌≡◌, ◌⊎◌, inl, inr, ℕ, ◌+◌, ◌-◌, ◌*◌, ◌^◌, ◌<◌, ◌≤◌, Bool, true, false, List, [], ◌∷◌, ◌++◌, length, take, refl, sym, ◌∙◌, ap, subst, arith}
+use Rattle.std.proofs.Common.{◌≡◌, ◌⊎◌, inl, inr, ℕ, ◌+◌, ◌*◌, ◌^◌, ◌≤◌, Bool, true, false, List, [], ◌∷◌, ◌++◌, length, take, refl, sym, ◌∙◌, ap, subst, arith}
 use Rattle.std.specs.Prelude.{IsTrue, Option, None, Some, IfSome, Result, Ok, Err, replicate, ◌↔◌, ◌&&◌}
 use Rattle.std.specs.Option.{option_map}
-use Rattle.std.proofs.lemmas.Bool.{cases_lt}
-use Rattle.std.proofs.Math.Seq.{take-append-add}
-use Rattle.std.proofs.lemmas.List.{append-nil, take-append-le}
+use Rattle.std.proofs.lemmas.List.{append-nil}
 use Rattle.envy_base.specs.Shape.{IsShape}
 use Rattle.envy_base.specs.State.{State, IsMade}
 use Rattle.envy_base.proofs.Counting.{up-least, up-below}
@@ -37,22 +35,20 @@ use Rattle.envy_policy.specs.declared.setup.Setup.{Setup}
 use Rattle.envy_serve.specs.declared.service.Obeyed.{Obeyed}
 use Rattle.envy_serve.specs.declared.service.Obeyed.TheVariants.{Done, WriteFault, Dead}
 use Rattle.envy_serve.specs.declared.serving.End.{End}
-use Rattle.envy_serve.specs.declared.serving.End.TheVariants.{Dead as EndDead}
 use Rattle.envy_serve.specs.Ends.{Serves, Ends, most_bytes}
 use Rattle.envy_serve.specs.Obeys.{Obeys}
 use Rattle.envy_serve.specs.Streams.{Streams, Written, FrontWritten}
-use Rattle.envy_serve.specs.Turns.{count_lines, count_of, count_replies, one_if, texts}
+use Rattle.envy_serve.specs.Turns.{count_lines, count_replies, one_if, texts}
 use Rattle.envy_serve.proofs.Advancing.{Serves-as, served-either}
 use Rattle.envy_run.specs.Headline.{IsUnserved, index_task}
-use Rattle.envy_run.specs.IndexDone.{HasIndexed, HasIndexDied, IndexDiesIn, IndexLicences, OnIndexBoard}
-use Rattle.envy_run.specs.IndexServing.{Serving, IsIndexCall, IsIndexServed, LostAt, AnswersIndex, ReplyLicence, LineLicence, IndexOff, IndexBack, RecoversIndex, IndexLineDone, IndexLineDead, ObeysIndex, IndexLicensed, IndexedSince, FellIn, HasFallen, FellSince}
-use Rattle.envy_run.specs.IndexTurns.{Pairs, IndexTurn, IndexRun, Says, Faults, Loses, DoesIndex, FailsIn, index_grammar, most_of, before_restart, is_power, is_plan, is_lost, is_fault}
+use Rattle.envy_run.specs.IndexDone.{HasIndexed, HasIndexDied, IndexLicences}
+use Rattle.envy_run.specs.IndexServing.{Serving, IsIndexCall, IsIndexServed, LostAt, AnswersIndex, ReplyLicence, LineLicence, IndexOff, IndexBack, RecoversIndex, IndexLineDone, IndexLineDead, ObeysIndex, IndexLicensed, IndexedSince, FellIn, FellSince}
+use Rattle.envy_run.specs.IndexTurns.{Pairs, IndexTurn, IndexRun, Says, Faults, DoesIndex, FailsIn, index_grammar, most_of, before_restart, is_power, is_plan, is_lost, is_fault}
 use Rattle.envy_run.specs.Licence.{Licence, RoseOver}
-use Rattle.envy_run.specs.Outcome.{Outcome, outcome, status_of, why_of, IsQuiet}
+use Rattle.envy_run.specs.Outcome.{outcome, status_of, why_of}
 use Rattle.envy_run.specs.Prepares.{IsPrepared, IsReady}
 use Rattle.envy_run.specs.Task.{DoesTask}
 use Rattle.envy_run.specs.declared.ended.Ended.{Ended}
-use Rattle.envy_run.proofs.IndexLines.{Calls}
 use Rattle.envy_run.proofs.Obeying.{Licence-as, front-after, front-before, one-more}
 use Rattle.envy_run.proofs.Recovering.{Licence-trans, Licence-revived}
 use Rattle.envy_run.proofs.Replying.{Licence-refl, up-low}

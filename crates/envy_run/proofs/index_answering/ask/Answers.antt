@@ -1,5 +1,5 @@
 use Rattle.std.proofs.Common.{refl}
-use Rattle.envy_run.proofs.IndexLines.{map-in, size-in, Calls, calls-works, ask-told, ask-lost, told-licence, licence-calm, licence-lost}
+use Rattle.envy_run.proofs.IndexLines.{map-in, size-in, calls-works, ask-told, ask-lost, told-licence, licence-calm, licence-lost}
 use Rattle.envy_run.specs.IndexServing.{Serving}
 use Rattle.envy_btree.specs.declared.line.IndexLine.TheVariants.{Get}
 use Rattle.envy_run.proofs.index_answering.ask.Goals as goal

@@ -1,5 +1,5 @@
 use Rattle.std.proofs.Common.{refl}
-use Rattle.envy_run.proofs.IndexLines.{map-in, size-in, Calls, calls-keeps, out-told, out-bad, out-lost, told-licence, licence-calm, licence-fault, licence-lost}
+use Rattle.envy_run.proofs.IndexLines.{map-in, size-in, calls-keeps, out-told, out-bad, out-lost, told-licence, licence-calm, licence-fault, licence-lost}
 use Rattle.envy_run.specs.IndexServing.{Serving}
 use Rattle.envy_btree.specs.declared.line.IndexLine.TheVariants.{Remove}
 use Rattle.envy_run.proofs.index_answering.take_out.Goals as goal

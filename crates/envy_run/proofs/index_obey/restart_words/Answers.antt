@@ -1,5 +1,5 @@
 use Rattle.std.proofs.Common.{rules}
-use Rattle.envy_run.proofs.IndexTold.{back-after, off-again, off-dead, off-refl}
+use Rattle.envy_run.proofs.IndexTold.{back-after, off-again, off-dead}
 use Rattle.envy_run.proofs.index_obey.restart_words.Goals as goal
 
 pub returns-in-Ok : goal.returns-in-Ok

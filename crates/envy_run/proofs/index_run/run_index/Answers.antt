@@ -1,15 +1,14 @@
-use Rattle.std.proofs.Common.{◌≡◌, inl, inr, ap, refl, sym, subst, ◌∙◌, arith}
+use Rattle.std.proofs.Common.{inl, inr, ap, refl, sym, subst, arith}
 use Rattle.std.specs.Prelude.{None, Some}
 use Rattle.envy_base.specs.Array.{zeros}
 use Rattle.envy_base.specs.Shape.{IsShape}
 use Rattle.envy_base.specs.State.{IsBoard, IsMade}
-use Rattle.envy_base.specs.declared.shape.Shape.{Shape}
 use Rattle.envy_io.specs.Taking.{Taking}
 use Rattle.envy_layout.specs.Sound.{IsSound}
-use Rattle.envy_map.specs.Fields.{Chart, chart}
+use Rattle.envy_map.specs.Fields.{chart}
 use Rattle.envy_memory.specs.Formats.{IsFresh}
 use Rattle.envy_memory.specs.Picture.{Picture}
-use Rattle.envy_run.specs.Prepares.{IsPrepared, IsReady}
+use Rattle.envy_run.specs.Prepares.{IsReady}
 use Rattle.envy_run.proofs.Checked.{shape-of-checked}
 use Rattle.envy_run.proofs.IndexTold.{Back, index-began, index-ended, index-none, index-quiet, index-unread}
 use Rattle.envy_run.proofs.index_run.run_index.Goals as goal
