@@ -118,7 +118,7 @@ fn each_write_of_a_report_may_fail(rt: HostRuntime) -> Result<(), Fail> {
         assert_eq!(rt; (ended.status, ended.lines), (4, 0), "at call {call}");
         assert!(rt; sink.written() == front.as_slice(), "at call {call}");
         front.extend_from_slice(line)?;
-        call += 1;
+        call = call.wrapping_add(1);
     }
     let streams = Streams {
         sink_fails: &[9],
