@@ -75,7 +75,7 @@ pub record StoresTo (p q : Picture) (a w code before after : ℕ) : Type 0 where
   pub flushes : OnOk answer (q.parts.flushes ≡ flushes_after false (a / 32) p)
   pub does : OnOk answer (StoresBy (a / 32) p.chart p.parts q.chart q.parts)
   pub ends : OnOk answer (Ends p.chart p.parts q.chart q.parts)
-  pub stops : IsErrOf answer StoreBad → Stops (a / 32) p.chart p.parts q.parts
+  pub stops : IsErrOf answer StoreBad → Stops (a / 32) p.chart p.parts q.chart q.parts
   pub kept : q ≡ record p { chart = q.chart; parts = q.parts }
 
 pub record BeginsTo (p q : Picture) (code before after : ℕ) : Type 0 where
@@ -113,7 +113,7 @@ pub record PutsTo (p q : Picture) (t a w code before after : ℕ) : Type 0 where
   pub flushes : OnOk answer (q.parts.flushes ≡ flushes_after (is_unowned p.owned (a / 32)) (a / 32) p)
   pub does : OnOk answer (PutEffect t (a / 32) p q)
   pub ends : OnOk answer (Ends p.chart p.parts q.chart q.parts)
-  pub stops : IsErrOf answer PutBad → Stops (a / 32) p.chart p.parts q.parts × (q.owned ≡ p.owned)
+  pub stops : IsErrOf answer PutBad → Stops (a / 32) p.chart p.parts q.chart q.parts × (q.owned ≡ p.owned)
   pub kept : q ≡ record p { chart = q.chart; parts = q.parts; owned = q.owned }
 
 pub record CommitsTo (p q : Picture) (t code : ℕ) : Type 0 where

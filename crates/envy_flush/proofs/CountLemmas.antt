@@ -7,7 +7,7 @@ use Rattle.envy_base.proofs.Counting.{Tally-trans}
 use Rattle.envy_map.specs.Fields.{Chart}
 use Rattle.envy_layout.specs.Same.{Counted, Grows}
 use Rattle.envy_flush.specs.Counts.{Tally3, Tallies, Counting}
-use Rattle.envy_flush.specs.Ticks.{CountsNone}
+use Rattle.envy_flush.specs.Steps.{CountsNone}
 use Rattle.envy_reloc.specs.Phases.{CountsBegun}
 use Rattle.envy_flush.specs.declared.parts.Parts.{Parts}
 

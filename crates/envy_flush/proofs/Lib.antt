@@ -1,4 +1,5 @@
 pub mod AgreeLemmas
+pub mod AvailLemmas
 pub mod BudgetLemmas
 pub mod CleanLemmas
 pub mod CountLemmas
@@ -6,10 +7,12 @@ pub mod ElsewhereLemmas
 pub mod EndLemmas
 pub mod FlushLemmas
 pub mod JobLemmas
+pub mod KeptLemmas
 pub mod LookLemmas
 pub mod NearLemmas
 pub mod PutLemmas
 pub mod RestartLemmas
 pub mod RowLemmas
 pub mod ShadeLemmas
+pub mod StepLemmas
 pub mod StoreLemmas

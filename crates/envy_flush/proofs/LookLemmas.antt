@@ -15,7 +15,7 @@ use Rattle.envy_table.specs.Entries.{Translations}
 use Rattle.envy_table.specs.Hits.{Accesses, Rests}
 use Rattle.envy_flush.specs.Choosing.{ChoiceFor}
 use Rattle.envy_flush.specs.Counts.{Counting}
-use Rattle.envy_flush.specs.Flushing.{NotesBad, ChoosesBad, MakesRoom, IsProgrammed, Stops}
+use Rattle.envy_flush.specs.Flushing.{NotesBad, ChoosesBad, MakesRoom, IsProgrammed, StopsFor, Stops}
 use Rattle.envy_flush.specs.Putting.{undo_for, PutsBy}
 use Rattle.envy_flush.specs.Storing.{Brings, StoresBy}
 use Rattle.envy_flush.specs.declared.parts.Parts.{Parts}
@@ -33,13 +33,16 @@ ChoosesBad-same home old x y now is noted idle none =
     let c = noted idle (ap (λ (z : Parts). z.stages) is ∙ none) in
     (c.0, subst (λ (h : History). ChoiceFor h y.space home c.0) chooser (subst (λ (s : Pool). ChoiceFor x.chooser s home c.0) space c.1), NotesBad-same c.0 x y now chooser c.2)
 
-pub Stops-framed : (p k : ℕ) (old : Chart) (was x now : Parts) → x ≡ record was { cache = x.cache } → place old.fields p ≡ Some (Frame k) → now.frames ≡ x.frames → ((home : ℕ) × Any (λ h. (h.frame ≡ k) × (h.home ≡ home)) x.frames.held × ChoosesBad home old x now) → Stops p old was now
-Stops-framed p k old was x now looked here frames (home, held, noted) = record {
+pub Stops-framed : (p k : ℕ) (old : Chart) (was x : Parts) (new : Chart) (now : Parts) → x ≡ record was { cache = x.cache } → place old.fields p ≡ Some (Frame k) → now.frames ≡ x.frames → ((home : ℕ) × Any (λ h. (h.frame ≡ k) × (h.home ≡ home)) x.frames.held × StopsFor home old x new now) → Stops p old was new now
+Stops-framed p k old was x new now looked here frames (home, held, stops) = record {
   frames = frames ∙ ap (λ (z : Parts). z.frames) looked;
   home = home;
   programmed = subst (λ (y : Option Place). IsProgrammed y was.frames.held home) (sym here)
       (subst (λ (hs : List Held). Any (λ h. (h.frame ≡ k) × (h.home ≡ home)) hs) (ap (λ (z : Parts). z.frames.held) looked) held);
-  noted = ChoosesBad-same home old x was now looked noted;
+  noted = ChoosesBad-same home old x was now looked stops.noted;
+  looked = x;
+  after_look = looked;
+  halted = stops.halted;
 }
 
 programmed-oldest : (from : Place) (hs : List Held) (h : Held) → IsElsewhere (Some from) → slice_get hs 0 ≡ Some h → IsProgrammed (Some from) hs h.home
@@ -47,13 +50,16 @@ programmed-oldest Absent hs h elsewhere first = (h, first, refl)
 programmed-oldest (Row q) hs h elsewhere first = (h, first, refl)
 programmed-oldest (Frame k) hs h elsewhere first = absurd (elsewhere k refl)
 
-pub Stops-elsewhere : (p : ℕ) (from : Place) (old : Chart) (was x now : Parts) → x ≡ record was { cache = x.cache } → place old.fields p ≡ Some from → IsElsewhere (place old.fields p) → now.frames ≡ x.frames → ((h : Held) × (slice_get x.frames.held 0 ≡ Some h) × ChoosesBad h.home old x now) → Stops p old was now
-Stops-elsewhere p from old was x now looked here elsewhere frames (h, first, noted) = record {
+pub Stops-elsewhere : (p : ℕ) (from : Place) (old : Chart) (was x : Parts) (new : Chart) (now : Parts) → x ≡ record was { cache = x.cache } → place old.fields p ≡ Some from → IsElsewhere (place old.fields p) → now.frames ≡ x.frames → ((h : Held) × (slice_get x.frames.held 0 ≡ Some h) × StopsFor h.home old x new now) → Stops p old was new now
+Stops-elsewhere p from old was x new now looked here elsewhere frames (h, first, stops) = record {
   frames = frames ∙ ap (λ (z : Parts). z.frames) looked;
   home = h.home;
   programmed = subst (λ (y : Option Place). IsProgrammed y was.frames.held h.home) (sym here)
       (programmed-oldest from was.frames.held h (subst (λ (y : Option Place). IsElsewhere y) here elsewhere) (subst (λ (hs : List Held). slice_get hs 0 ≡ Some h) (ap (λ (z : Parts). z.frames.held) looked) first));
-  noted = ChoosesBad-same h.home old x was now looked noted;
+  noted = ChoosesBad-same h.home old x was now looked stops.noted;
+  looked = x;
+  after_look = looked;
+  halted = stops.halted;
 }
 
 pub Stores-fetched : (p : ℕ) (old : Chart) (was x : Parts) (new : Chart) (now : Parts) (r : Result Unit Trouble) → x ≡ record was { cache = x.cache } → IsElsewhere (place old.fields p) → OnOk r ((mid : Chart) × (between : Parts) × MakesRoom old x mid between × Brings p mid between new now) → OnOk r (StoresBy p old was new now)

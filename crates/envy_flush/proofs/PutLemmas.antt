@@ -1,13 +1,13 @@
 -- The first put of a slot to a page.
 use Rattle.std.proofs.Common.{◌≡◌, true, false, ℕ, ◌+◌, ◌<◌, ◌≤◌, List, get_or, set, Option, None, sym, ◌∙◌, ap, subst, arith}
-use Rattle.std.specs.Prelude.{IsTrue, Result, Err}
+use Rattle.std.specs.Prelude.{IsTrue, Result, Ok, Err}
 use Rattle.envy_base.specs.declared.board.Off.{Off}
 use Rattle.envy_base.specs.declared.board.Trouble.{Trouble}
 use Rattle.envy_base.specs.declared.board.Trouble.TheVariants.{Off as TroubleOff, Bad}
 use Rattle.envy_base.specs.declared.fields.Slot.{Slot}
 use Rattle.envy_map.specs.Fields.{Fields, Chart}
 use Rattle.envy_map.specs.Writes.{Writes, with_frame_word}
-use Rattle.envy_layout.specs.Same.{Framed, Same, SameWords, SameDurable, Dropped}
+use Rattle.envy_layout.specs.Same.{Stays, Framed, Same, SameWords, SameDurable, Dropped}
 use Rattle.envy_layout.specs.Sound.{slots_of}
 use Rattle.envy_layout.proofs.Composition.{exits, at-each, Same-trans, Same-more, SameDurable-trans, SameDurable-more, SameDurable-same, SameDurable-words, SameDurable-dropped, Counted-trans, Counted-more, Wears-trans}
 use Rattle.envy_layout.specs.Transactions.{PutDone}
@@ -18,6 +18,11 @@ use Rattle.envy_flush.proofs.JobLemmas.{IsPlanOf-words}
 use Rattle.envy_flush.specs.Agreement.{Steady}
 use Rattle.envy_flush.specs.Putting.{MayGive, PutFirst, Shadows}
 use Rattle.envy_flush.specs.declared.parts.Parts.{Parts}
+
+pub Shadows-shape : (k j t p : ℕ) (old : Chart) (r : Result Unit Trouble) (new : Chart) → Shadows k j t p old r new → new.shape ≡ old.shape
+Shadows-shape k j t p old (Ok done) new (same, owns, on) = SameWords.shape same
+Shadows-shape k j t p old (Err TroubleOff) new (same, off) = SameDurable.shape same
+Shadows-shape k j t p old (Err Bad) new (same, on) = Framed.shape (Stays.framed (Same.stays same))
 
 -- the page couldn't be shadowed
 pub PutFirst-shadow : (i l k j t p : ℕ) (old mid new : Chart) (a w : ℕ) (fault : Trouble) → i + 1 ≤ k → l ≤ j → Same i l old mid → Shadows 1 0 t p mid (Err fault) new → PutFirst k j t p old a w (Err fault) new

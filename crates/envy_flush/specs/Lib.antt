@@ -1,6 +1,7 @@
 pub mod Agreement
 pub mod Budgets
 pub mod Choosing
+pub mod Cleaning
 pub mod Counts
 pub mod Ending
 pub mod Flushing
@@ -8,5 +9,6 @@ pub mod Pages
 pub mod Putting
 pub mod Restarts
 pub mod Starting
+pub mod Steps
 pub mod Storing
 pub mod Ticks

@@ -1,72 +1,28 @@
 -- What a tick does, by the first rule that applies.
-use Rattle.std.specs.Prelude.{◌≡◌, ◌≢◌, ◌⊎◌, ℕ, ◌+◌, ◌<◌, ◌≤◌, [], ◌∷◌, drop, length, sum, Some, slice_get, slice_index, slice_set}
+use Rattle.std.specs.Prelude.{◌≡◌, ◌≢◌, ◌⊎◌, ℕ, ◌+◌, ◌<◌, ◌≤◌, [], ◌∷◌, length, sum, Some, slice_get, slice_index, slice_set}
 use Rattle.envy_base.specs.Counting.{up, Tally}
-use Rattle.envy_base.specs.declared.fields.Job.TheVariants.{Idle as IdleJob, Copy, Erase}
+use Rattle.envy_base.specs.declared.fields.Job.TheVariants.{Idle as IdleJob}
 use Rattle.envy_frames.specs.declared.held.Held.{Held}
 use Rattle.envy_map.specs.Fields.{Chart}
 use Rattle.envy_policy.specs.declared.choice.Choice.{Choice}
 use Rattle.envy_policy.specs.declared.choice.Choice.TheVariants.{Free, Clean}
 use Rattle.envy_policy.specs.History.{flushed, cleaned}
-use Rattle.envy_reloc.specs.Phases.{Does}
-use Rattle.envy_reloc.specs.declared.step.Phase.{Phase}
-use Rattle.envy_reloc.specs.declared.step.Phase.TheVariants.{Moved as MovedPhase, Copied as CopiedPhase, Switched as SwitchedPhase, Placed as PlacedPhase, Erased as ErasedPhase}
 use Rattle.envy_flush.specs.Choosing.{ChoiceFor}
+use Rattle.envy_flush.specs.Cleaning.{BeginsClean}
 use Rattle.envy_flush.specs.Counts.{Tallies}
 use Rattle.envy_flush.specs.Flushing.{FlushesOldest}
+use Rattle.envy_flush.specs.Steps.{CountsNone, TicksJob, Begins, TicksStage, StopsJob}
 use Rattle.envy_flush.specs.declared.parts.Parts.{Parts}
 use Rattle.envy_wear.specs.Swaps.{IsDue}
 use Rattle.envy_wear.specs.declared.swap.Swap.{Swap}
 use Rattle.envy_flush.specs.declared.did.Did.{Did}
-use Rattle.envy_flush.specs.declared.did.Did.TheVariants.{Idle, Flushed, Began, Moved, Copied, Switched, Placed, Erased}
-
-abbrev pub did_of : Phase → Did
-did_of MovedPhase = Moved
-did_of CopiedPhase = Copied
-did_of SwitchedPhase = Switched
-did_of PlacedPhase = Placed
-did_of ErasedPhase = Erased
-
--- flushes, heats, turns, frames and swaps are as before
-pub record Idles (was now : Parts) : Type 0 where
-  pub flushes : now.flushes ≡ was.flushes
-  pub swaps : now.swaps ≡ was.swaps
-  pub chooser : now.chooser ≡ was.chooser
-  pub frames : now.frames ≡ was.frames
-
--- nothing is programmed or erased by a relocation
-pub record CountsNone (was now : Parts) : Type 0 where
-  pub copied : now.reloc.copied ≡ was.reloc.copied
-  pub moved : now.reloc.moved ≡ was.reloc.moved
-  pub erased : now.reloc.erased ≡ was.reloc.erased
-
--- the first rule: a step of the job
-pub record TicksJob (did : Did) (old : Chart) (was : Parts) (new : Chart) (now : Parts) : Type 0 where
-  pub phase : Phase
-  pub named : did ≡ did_of phase
-  pub does : Does old was.reloc phase new now.reloc
-  pub idles : Idles was now
-  pub stages : now.stages ≡ was.stages
-
--- the job becomes the relocation of position k
-abbrev pub Begins : ℕ → Chart → Chart → Type 0
-Begins k old new = new.fields.job ≡ Some (Copy (slice_index old.fields.positions k))
-
--- the second rule: the next stage of a swap begins, without moves
-pub record TicksStage (did : Did) (old : Chart) (was : Parts) (new : Chart) (now : Parts) : Type 0 where
-  pub began : did ≡ Began
-  pub position : ℕ
-  pub next : slice_get was.stages 0 ≡ Some position
-  pub begins : Begins position old new
-  pub rest : now.stages ≡ drop 1 was.stages
-  pub moves : now.reloc.moves ≡ []
-  pub none : CountsNone was now
-  pub idles : Idles was now
+use Rattle.envy_flush.specs.declared.did.Did.TheVariants.{Idle, Flushed, Began}
 
 -- the third rule, by the choice for the oldest held page's home: it is flushed, or a cleaning begins
 abbrev pub TicksChoice : Choice → Did → Chart → Parts → Chart → Parts → Type 0
 TicksChoice (Free k) did old was new now = (did ≡ Flushed) × FlushesOldest old was new now × CountsNone was now × (now.swaps ≡ was.swaps)
 TicksChoice (Clean k aside) did old was new now =
-    (did ≡ Began) × Begins k old new × (now.chooser ≡ cleaned was.chooser k) × (now.flushes ≡ was.flushes) × (now.frames ≡ was.frames) × CountsNone was now × (now.swaps ≡ was.swaps)
+    (did ≡ Began) × Begins k old new × (now.chooser ≡ cleaned was.chooser k) × (now.flushes ≡ was.flushes) × (now.frames ≡ was.frames) × CountsNone was now × (now.swaps ≡ was.swaps) × BeginsClean k aside old was new now
 
 pub record TicksFlush (did : Did) (old : Chart) (was : Parts) (new : Chart) (now : Parts) : Type 0 where
   pub oldest : Held
@@ -106,13 +62,6 @@ TicksBy limit mark did old was new now =
     ⊎ ((old.fields.job ≡ Some IdleJob) × (((0 < length was.stages) × TicksStage did old was new now)
     ⊎ ((was.stages ≡ []) × (((mark ≤ length was.frames.held) × TicksFlush did old was new now)
     ⊎ ((length was.frames.held < mark) × (TicksSwap limit did old was new now ⊎ TicksNone limit did old was new now))))))
-
--- a step failed: the spare is to be erased, and but for a failed erase the moves and the stages are dropped
-pub record StopsJob (old : Chart) (was : Parts) (new : Chart) (now : Parts) : Type 0 where
-  pub job : new.fields.job ≡ Some Erase
-  pub idles : Idles was now
-  pub kept : old.fields.job ≡ Some Erase → now.stages ≡ was.stages
-  pub dropped : old.fields.job ≢ Some Erase → (now.stages ≡ []) × (now.reloc.moves ≡ [])
 
 -- a flush failed: the row was claimed, and the page is held as before
 pub record StopsFlush (old : Chart) (was : Parts) (new : Chart) (now : Parts) : Type 0 where

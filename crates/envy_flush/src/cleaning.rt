@@ -14,7 +14,8 @@ ghost use Rattle.envy_flush.specs.Budgets.{Budget};
 ghost use Rattle.envy_reloc.specs.Cleaning.{Cleans};
 ghost use Rattle.envy_flush.specs.Counts.{Counting};
 ghost use Rattle.envy_flush.specs.Flushing.{Granted, Follows, Ends, NotesBad};
-ghost use Rattle.envy_flush.specs.Ticks.{Begins, CountsNone};
+ghost use Rattle.envy_flush.specs.Cleaning.{AreLowestKept, AreMoves, takers, BeginsClean, CleansAll, StopsClean};
+ghost use Rattle.envy_flush.specs.Steps.{Begins, CountsNone, Finishes, StopsStep};
 
 use crate::claiming::claim_at;
 use crate::jobs::{runs, tick_job};
@@ -28,6 +29,7 @@ fn kept_rows<B: Board>(board: &B, parts: &Parts, position: u32) -> Result<ArrayV
     requires ready { Ready (chart (B.state board.now)) parts.now }
     requires position { position < (B.state board.now).shape.segments - 1 }
     ensures rows { IfOk result (λ rows. All (λ q. q / (B.state board.now).shape.rows ≡ slice_index parts.now.space.positions position) rows.items) }
+    ensures lowest { IfOk result (λ rows. AreLowestKept (B.state board.now).shape (chart (B.state board.now)).fields (slice_index (chart (B.state board.now)).fields.positions position) rows.items) }
     ensures off { OnErr result ((B.state board.now).on ≡ false) }
 {
     let segment = parts.space.segment_at(position);
@@ -62,6 +64,8 @@ fn planned<B: Board>(
     requires position { position < (B.state board.now).shape.segments - 1 }
     requires aside { IfSome aside (λ g. g < length parts.now.chooser.heats) }
     ensures rows { IfOk result (λ plan. All (λ q. q / (B.state board.now).shape.rows ≡ slice_index parts.now.space.positions position) plan.moves.items) }
+    ensures moves { IfOk result (λ plan. AreMoves (B.state board.now).shape (chart (B.state board.now)).fields position aside plan.moves.items) }
+    ensures takers { IfOk result (λ plan. plan.neighbour ≡ takers parts.now.chooser aside) }
     ensures neighbour { IfOk result (λ plan. (first last : ℕ) → plan.neighbour ≡ Some (first, last) → (first ≤ last) × (last < (B.state board.now).shape.segments - 1)) }
     ensures off { OnErr result ((B.state board.now).on ≡ false) }
 {
@@ -96,6 +100,7 @@ pub fn begin_clean<B: Board>(
     ensures steady { Steady (chart (B.state board.new)) parts.new }
     ensures begins { OnOk result (Begins position (chart (B.state board.old)) (chart (B.state board.new))) }
     ensures fields { OnOk result (chart (B.state board.new) ≡ with_fields (chart (B.state board.old)) (with_job (Some (Copy (slice_index parts.old.space.positions position))) (chart (B.state board.old)).fields)) }
+    ensures cleans { OnOk result (BeginsClean position aside (chart (B.state board.old)) parts.old (chart (B.state board.new)) parts.new) }
     ensures chooser { OnOk result (parts.new.chooser ≡ cleaned parts.old.chooser position) }
     ensures none { CountsNone parts.old parts.new }
     ensures since { parts.new.reloc.since ≡ parts.old.reloc.since }
@@ -125,6 +130,8 @@ fn finish_clean<B: Board>(board: &mut B, parts: &mut Parts, rows: u32) -> Result
     ensures rests { Rests parts.old.cache parts.new.cache }
     ensures idle { OnOk result ((chart (B.state board.new)).fields.job ≡ Some Idle) }
     ensures none { OnOk result (parts.new.stages ≡ []) }
+    ensures finishes { OnOk result (Finishes (chart (B.state board.old)) parts.old (chart (B.state board.new)) parts.new) }
+    ensures stops { IsErrOf result Trouble.Bad → StopsStep (chart (B.state board.old)) parts.old (chart (B.state board.new)) parts.new }
     ensures cleans { OnOk result ((positions : List ℕ) (k n : ℕ) → Cleans (B.state board.old).shape positions k n (chart (B.state board.old)).fields parts.old.reloc.erased → Cleans (B.state board.old).shape positions k n (chart (B.state board.new)).fields parts.new.reloc.erased) }
     ensures on { OnOk result (IsTrue (B.state board.new).on) }
     ensures off { (result ≡ Err Trouble.Off) ↔ ((B.state board.new).on ≡ false) }
@@ -162,6 +169,8 @@ fn run_clean<B: Board>(
     ensures none { OnOk result (parts.new.stages ≡ []) }
     ensures chooser { OnOk result (parts.new.chooser ≡ cleaned parts.old.chooser position) }
     ensures noted { IsErrOf result Trouble.Bad → parts.new.chooser ≡ cleaned parts.old.chooser position }
+    ensures whole { OnOk result (CleansAll position aside (chart (B.state board.old)) parts.old (chart (B.state board.new)) parts.new) }
+    ensures stops { IsErrOf result Trouble.Bad → StopsClean position aside (chart (B.state board.old)) parts.old (chart (B.state board.new)) parts.new }
     ensures cleans { OnOk result (Cleans (B.state board.old).shape (chart (B.state board.old)).fields.positions position parts.old.reloc.erased (chart (B.state board.new)).fields parts.new.reloc.erased) }
     ensures on { OnOk result (IsTrue (B.state board.new).on) }
     ensures off { (result ≡ Err Trouble.Off) ↔ ((B.state board.new).on ≡ false) }
@@ -198,6 +207,7 @@ pub fn clean<B: Board>(
     ensures flushes { parts.new.flushes ≡ parts.old.flushes }
     ensures rests { Rests parts.old.cache parts.new.cache }
     ensures noted { IsErrOf result Trouble.Bad → NotesBad (Clean position aside) parts.old parts.new }
+    ensures stops { IsErrOf result Trouble.Bad → StopsClean position aside (chart (B.state board.old)) parts.old (chart (B.state board.new)) parts.new }
     ensures follows { IfOk result (λ row. Follows (Clean position aside) row (chart (B.state board.old)) parts.old (chart (B.state board.new)) parts.new) }
     ensures ends { OnOk result (Ends (chart (B.state board.old)) parts.old (chart (B.state board.new)) parts.new) }
     ensures on { OnOk result (IsTrue (B.state board.new).on) }

@@ -1,4 +1,4 @@
-ghost use Rattle.envy_flush.specs.Ticks.{did_of};
+ghost use Rattle.envy_flush.specs.Steps.{did_of};
 ghost use Rattle.std.specs.Prelude.{◌≡◌};
 
 use envy_reloc::Phase;

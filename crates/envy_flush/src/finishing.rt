@@ -7,6 +7,7 @@ ghost use Rattle.envy_table.specs.Hits.{Rests};
 ghost use Rattle.envy_flush.specs.Agreement.{Ready, Steady};
 ghost use Rattle.envy_flush.specs.Budgets.{Budget, Turns};
 ghost use Rattle.envy_flush.specs.Counts.{Counting};
+ghost use Rattle.envy_flush.specs.Steps.{StepsOnce, Finishes, StopsJob, StopsStep};
 
 use crate::jobs::{runs, tick_job, tick_stage};
 use crate::parts::Parts;
@@ -22,6 +23,9 @@ fn turn<B: Board>(board: &mut B, parts: &mut Parts) -> Result<bool, Trouble>
     ensures parts { parts.new ≡ record parts.old { space = parts.new.space; cache = parts.new.cache; reloc = parts.new.reloc; stages = parts.new.stages } }
     ensures rests { Rests parts.old.cache parts.new.cache }
     ensures idle { IfOk result (λ more. more ≡ false → ((chart (B.state board.new)).fields.job ≡ Some Idle) × (parts.new.stages ≡ [])) }
+    ensures steps { IfOk result (λ more. IsTrue more → StepsOnce (chart (B.state board.old)) parts.old (chart (B.state board.new)) parts.new) }
+    ensures still { IfOk result (λ more. more ≡ false → (chart (B.state board.new) ≡ chart (B.state board.old)) × (parts.new ≡ parts.old)) }
+    ensures stops { IsErrOf result Trouble.Bad → ((chart (B.state board.old)).fields.job ≢ Some Idle) × StopsJob (chart (B.state board.old)) parts.old (chart (B.state board.new)) parts.new }
     ensures on { OnOk result (IsTrue (B.state board.new).on) }
     ensures off { (result ≡ Err Trouble.Off) ↔ ((B.state board.new).on ≡ false) }
     ensures bad { IsErrOf result Trouble.Bad → (B.state board.old).bads < 2 ^ 64 - 1 → (B.state board.old).bads < (B.state board.new).bads }
@@ -50,6 +54,8 @@ fn finish_all<B: Board>(board: &mut B, parts: &mut Parts, rows: u32) -> Result<(
     ensures rests { Rests parts.old.cache parts.new.cache }
     ensures idle { OnOk result ((chart (B.state board.new)).fields.job ≡ Some Idle) }
     ensures none { OnOk result (parts.new.stages ≡ []) }
+    ensures finishes { OnOk result (Finishes (chart (B.state board.old)) parts.old (chart (B.state board.new)) parts.new) }
+    ensures stops { IsErrOf result Trouble.Bad → StopsStep (chart (B.state board.old)) parts.old (chart (B.state board.new)) parts.new }
     ensures on { OnOk result (IsTrue (B.state board.new).on) }
     ensures off { (result ≡ Err Trouble.Off) ↔ ((B.state board.new).on ≡ false) }
     ensures bad { IsErrOf result Trouble.Bad → (B.state board.old).bads < 2 ^ 64 - 1 → (B.state board.old).bads < (B.state board.new).bads }
@@ -75,6 +81,8 @@ pub fn finish<B: Board>(board: &mut B, parts: &mut Parts) -> Result<(), Trouble>
     ensures rests { Rests parts.old.cache parts.new.cache }
     ensures idle { OnOk result ((chart (B.state board.new)).fields.job ≡ Some Idle) }
     ensures none { OnOk result (parts.new.stages ≡ []) }
+    ensures finishes { OnOk result (Finishes (chart (B.state board.old)) parts.old (chart (B.state board.new)) parts.new) }
+    ensures stops { IsErrOf result Trouble.Bad → StopsStep (chart (B.state board.old)) parts.old (chart (B.state board.new)) parts.new }
     ensures on { OnOk result (IsTrue (B.state board.new).on) }
     ensures off { (result ≡ Err Trouble.Off) ↔ ((B.state board.new).on ≡ false) }
     ensures bad { IsErrOf result Trouble.Bad → (B.state board.old).bads < 2 ^ 64 - 1 → (B.state board.old).bads < (B.state board.new).bads }

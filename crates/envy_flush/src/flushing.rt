@@ -10,7 +10,7 @@ ghost use Rattle.envy_layout.specs.Same.{Same};
 ghost use Rattle.envy_table.specs.Hits.{Rests};
 ghost use Rattle.envy_flush.specs.Agreement.{Ready, Steady};
 ghost use Rattle.envy_flush.specs.Counts.{Counting};
-ghost use Rattle.envy_flush.specs.Flushing.{ChoosesBad, FlushesOldest, Granted};
+ghost use Rattle.envy_flush.specs.Flushing.{StopsFor, FlushesOldest, Granted};
 
 use crate::parts::Parts;
 use crate::programming::program_copy;
@@ -69,6 +69,7 @@ pub fn flush_into<B: Board>(
     ensures flushes { parts.new.flushes ≡ up parts.old.flushes }
     ensures stops { IsErrOf result Trouble.Bad → parts.new.frames ≡ parts.old.frames }
     ensures stays { IsErrOf result Trouble.Bad → (chart (B.state board.new)).fields ≡ (chart (B.state board.old)).fields }
+    ensures unerased { IsErrOf result Trouble.Bad → (B.state board.new).erases ≡ (B.state board.old).erases }
     ensures rests { Rests parts.old.cache parts.new.cache }
     ensures parts { parts.new ≡ record parts.old { frames = parts.new.frames; space = parts.new.space; cache = parts.new.cache; flushes = parts.new.flushes } }
     ensures on { OnOk result (IsTrue (B.state board.new).on) }
@@ -90,7 +91,7 @@ pub fn flush_oldest<B: Board>(board: &mut B, parts: &mut Parts) -> Result<(), Tr
     ensures rests { Rests parts.old.cache parts.new.cache }
     ensures flushes { OnOk result (FlushesOldest (chart (B.state board.old)) parts.old (chart (B.state board.new)) parts.new) }
     ensures stops { IsErrOf result Trouble.Bad → parts.new.frames ≡ parts.old.frames }
-    ensures noted { IsErrOf result Trouble.Bad → (h : Held) × (slice_get parts.old.frames.held 0 ≡ Some h) × ChoosesBad h.home (chart (B.state board.old)) parts.old parts.new }
+    ensures noted { IsErrOf result Trouble.Bad → (h : Held) × (slice_get parts.old.frames.held 0 ≡ Some h) × StopsFor h.home (chart (B.state board.old)) parts.old (chart (B.state board.new)) parts.new }
     ensures on { OnOk result (IsTrue (B.state board.new).on) }
     ensures off { (result ≡ Err Trouble.Off) ↔ ((B.state board.new).on ≡ false) }
     ensures bad { IsErrOf result Trouble.Bad → (B.state board.old).bads < 2 ^ 64 - 1 → (B.state board.old).bads < (B.state board.new).bads }

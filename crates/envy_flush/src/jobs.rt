@@ -7,12 +7,12 @@ ghost use Rattle.envy_layout.specs.Sound.{IsSound};
 ghost use Rattle.envy_layout.specs.Frames.{FramesStay};
 ghost use Rattle.envy_reloc.specs.Effort.{Leaves, Spent};
 ghost use Rattle.envy_table.specs.Hits.{Rests};
-ghost use Rattle.envy_reloc.specs.Phases.{Does, SameOnce};
+ghost use Rattle.envy_reloc.specs.Phases.{Does, SameOnce, Spoils};
 ghost use Rattle.envy_flush.specs.Agreement.{Ready, Steady};
 ghost use Rattle.envy_reloc.specs.Cleaning.{Cleans};
 ghost use Rattle.envy_flush.specs.Budgets.{StageBegins};
 ghost use Rattle.envy_flush.specs.Counts.{Counting};
-ghost use Rattle.envy_flush.specs.Ticks.{TicksJob, TicksStage, StopsJob};
+ghost use Rattle.envy_flush.specs.Steps.{TicksJob, TicksStage, StopsJob};
 
 use crate::did::{Did, named};
 use crate::parts::Parts;
@@ -46,6 +46,7 @@ pub fn step_job<B: Board>(board: &mut B, parts: &mut Parts) -> Result<Phase, Tro
     ensures left { OnOk result ((n e s : ℕ) → Leaves (chart (B.state board.old)) parts.old.reloc n e s → Spent (chart (B.state board.old)) (chart (B.state board.new)) parts.new.reloc n e s) }
     ensures job { IsErrOf result Trouble.Bad → (chart (B.state board.new)).fields.job ≡ Some Erase }
     ensures dropped { IsErrOf result Trouble.Bad → (chart (B.state board.old)).fields.job ≢ Some Erase → parts.new.reloc.moves ≡ [] }
+    ensures spoils { IsErrOf result Trouble.Bad → Spoils (chart (B.state board.old)) parts.old.reloc (chart (B.state board.new)) parts.new.reloc }
     ensures on { OnOk result (IsTrue (B.state board.new).on) }
     ensures off { (result ≡ Err Trouble.Off) ↔ ((B.state board.new).on ≡ false) }
     ensures bad { IsErrOf result Trouble.Bad → (B.state board.new).bads ≡ up (B.state board.old).bads }

@@ -11,7 +11,7 @@ ghost use Rattle.envy_layout.specs.Transactions.{PutDone};
 ghost use Rattle.envy_table.specs.Hits.{Accesses, Rests};
 ghost use Rattle.envy_flush.specs.Agreement.{Ready, Steady};
 ghost use Rattle.envy_flush.specs.Counts.{Counting};
-ghost use Rattle.envy_flush.specs.Flushing.{ChoosesBad, MakesRoom, Stops};
+ghost use Rattle.envy_flush.specs.Flushing.{StopsFor, MakesRoom, Stops};
 ghost use Rattle.envy_flush.specs.Putting.{MayGive, OwnersAgree, given, undo_for, PutFirst, PutsBy};
 ghost use Rattle.envy_flush.specs.Storing.{Brings, Near};
 ghost use Rattle.envy_flush.specs.declared.parts.Parts.{Parts as TheParts};
@@ -159,7 +159,7 @@ fn put_elsewhere<B: Board>(
     ensures owners { OwnersAgree (chart (B.state board.new)) owned.new }
     ensures stays { IsErrOf result Trouble.Bad → owned.new ≡ owned.old }
     ensures stops { IsErrOf result Trouble.Bad → parts.new.frames ≡ parts.old.frames }
-    ensures noted { IsErrOf result Trouble.Bad → (h : Held) × (slice_get parts.old.frames.held 0 ≡ Some h) × ChoosesBad h.home (chart (B.state board.old)) parts.old parts.new }
+    ensures noted { IsErrOf result Trouble.Bad → (h : Held) × (slice_get parts.old.frames.held 0 ≡ Some h) × StopsFor h.home (chart (B.state board.old)) parts.old (chart (B.state board.new)) parts.new }
     ensures off { (result ≡ Err Trouble.Off) ↔ ((B.state board.new).on ≡ false) }
     ensures bad { IsErrOf result Trouble.Bad → (B.state board.old).bads < 2 ^ 64 - 1 → (B.state board.old).bads < (B.state board.new).bads }
 {
@@ -189,7 +189,7 @@ pub fn put_first<B: Board>(
     ensures limit { owned.new.limit ≡ owned.old.limit }
     ensures owners { OwnersAgree (chart (B.state board.new)) owned.new }
     ensures stays { IsErrOf result Trouble.Bad → owned.new ≡ owned.old }
-    ensures stops { IsErrOf result Trouble.Bad → Stops page (chart (B.state board.old)) parts.old parts.new }
+    ensures stops { IsErrOf result Trouble.Bad → Stops page (chart (B.state board.old)) parts.old (chart (B.state board.new)) parts.new }
     ensures off { (result ≡ Err Trouble.Off) ↔ ((B.state board.new).on ≡ false) }
     ensures bad { IsErrOf result Trouble.Bad → (B.state board.old).bads < 2 ^ 64 - 1 → (B.state board.old).bads < (B.state board.new).bads }
 {

@@ -1,4 +1,4 @@
-ghost use Rattle.std.specs.Prelude.{◌≡◌, ◌≢◌, ◌⊎◌, ◌↔◌, ◌*◌, ◌+◌, ◌-◌, ◌^◌, ◌<◌, ◌≤◌, ℕ, false, IsTrue, [], Some, Err, IfOk, IfSome, OnOk, OnErr, IsErrOf, slice_index, length};
+ghost use Rattle.std.specs.Prelude.{◌≡◌, ◌≢◌, ◌⊎◌, ◌↔◌, ◌*◌, ◌+◌, ◌-◌, ◌^◌, ◌<◌, ◌≤◌, ℕ, false, IsTrue, [], Some, Err, IfOk, IfSome, MatchOption, OnOk, OnErr, IsErrOf, slice_index, length};
 ghost use Rattle.envy_base.specs.State.{ones, row_of};
 ghost use Rattle.envy_base.specs.declared.fields.Job.TheVariants.{Idle};
 ghost use Rattle.envy_map.specs.Fields.{chart};
@@ -9,7 +9,7 @@ ghost use Rattle.envy_table.specs.Hits.{Rests};
 ghost use Rattle.envy_flush.specs.Agreement.{Ready, Steady};
 ghost use Rattle.envy_flush.specs.Counts.{Counting};
 ghost use Rattle.envy_reloc.specs.Plan.{IsFreeOf};
-ghost use Rattle.envy_flush.specs.Flushing.{Granted, Chooses, ChoosesBad, Ends, GetsRow};
+ghost use Rattle.envy_flush.specs.Flushing.{Granted, Chooses, ChoosesBad, Ends, GetsRow, IsBusy, IsNoneAvailable, IsLowestAvailable, StopsRow};
 
 use crate::claiming::claim_at;
 use crate::cleaning::clean;
@@ -24,6 +24,7 @@ use envy_policy::Choice;
 fn relocated<B: Board>(board: &B) -> Result<Option<u32>, Off>
     requires sound { IsSound (chart (B.state board.now)) }
     ensures others { IfOk result (λ found. (s : ℕ) → found ≢ Some s → IsFreeOf (chart (B.state board.now)).fields.job s) }
+    ensures is { IfOk result (λ found. (s : ℕ) → found ≡ Some s → IsFreeOf (chart (B.state board.now)).fields.job s → ⊥) }
     ensures off { OnErr result ((B.state board.now).on ≡ false) }
 {
     match job(board)? {
@@ -39,6 +40,7 @@ fn usable<B: Board>(board: &B, parts: &Parts, home: u32) -> Result<Option<u32>, 
     ensures within { IfOk result (λ found. IfSome found (λ k. k < (B.state board.now).shape.segments - 1)) }
     ensures room { IfOk result (λ found. IfSome found (λ k. slice_index parts.now.space.fills (slice_index parts.now.space.positions k) < (B.state board.now).shape.rows)) }
     ensures free { IfOk result (λ found. IfSome found (λ k. IsFreeOf (chart (B.state board.now)).fields.job (slice_index parts.now.space.positions k))) }
+    ensures lowest { IfOk result (λ found. MatchOption found (IsNoneAvailable parts.now.chooser home (chart (B.state board.now))) (λ k. IsLowestAvailable parts.now.chooser home (chart (B.state board.now)) k)) }
     ensures off { OnErr result ((B.state board.now).on ≡ false) }
 {
     let relocated = relocated(board)?;
@@ -75,6 +77,7 @@ fn idle_row<B: Board>(
     ensures rests { Rests parts.old.cache parts.new.cache }
     ensures gets { IfOk result (λ row. GetsRow home row (chart (B.state board.old)) parts.old (chart (B.state board.new)) parts.new) }
     ensures noted { IsErrOf result Trouble.Bad → ChoosesBad home (chart (B.state board.old)) parts.old parts.new }
+    ensures stops { IsErrOf result Trouble.Bad → StopsRow home (chart (B.state board.old)) parts.old (chart (B.state board.new)) parts.new }
     ensures on { OnOk result (IsTrue (B.state board.new).on) }
     ensures off { (result ≡ Err Trouble.Off) ↔ ((B.state board.new).on ≡ false) }
     ensures bad { IsErrOf result Trouble.Bad → (B.state board.old).bads < 2 ^ 64 - 1 → (B.state board.old).bads < (B.state board.new).bads }
@@ -88,7 +91,7 @@ fn idle_row<B: Board>(
 /// Whether a job runs or a stage of a swap is left.
 fn is_busy<B: Board>(board: &B, parts: &Parts) -> Result<bool, Off>
     requires ready { Ready (chart (B.state board.now)) parts.now }
-    ensures busy { IfOk result (λ busy. IsTrue busy → ((chart (B.state board.now)).fields.job ≢ Some Idle) ⊎ (0 < length parts.now.stages)) }
+    ensures busy { IfOk result (λ busy. IsTrue busy → IsBusy (chart (B.state board.now)) parts.now) }
     ensures idle { IfOk result (λ busy. busy ≡ false → ((chart (B.state board.now)).fields.job ≡ Some Idle) × (parts.now.stages ≡ [])) }
     ensures off { OnErr result ((B.state board.now).on ≡ false) }
 {
@@ -107,7 +110,7 @@ fn busy_row<B: Board>(
 ) -> Result<u32, Trouble>
     requires ready { Ready (chart (B.state board.old)) parts.old }
     requires page { page < (B.state board.old).shape.pages }
-    requires busy { ((chart (B.state board.old)).fields.job ≢ Some Idle) ⊎ (0 < length parts.old.stages) }
+    requires busy { IsBusy (chart (B.state board.old)) parts.old }
     requires home { home < (B.state board.old).shape.segments - 1 }
     ensures same { Same (4 * (B.state board.old).shape.rows + 12) 6 (chart (B.state board.old)) (chart (B.state board.new)) }
     ensures steady { Steady (chart (B.state board.new)) parts.new }
@@ -120,6 +123,7 @@ fn busy_row<B: Board>(
     ensures rests { Rests parts.old.cache parts.new.cache }
     ensures gets { IfOk result (λ row. GetsRow home row (chart (B.state board.old)) parts.old (chart (B.state board.new)) parts.new) }
     ensures noted { IsErrOf result Trouble.Bad → ChoosesBad home (chart (B.state board.old)) parts.old parts.new }
+    ensures stops { IsErrOf result Trouble.Bad → StopsRow home (chart (B.state board.old)) parts.old (chart (B.state board.new)) parts.new }
     ensures on { OnOk result (IsTrue (B.state board.new).on) }
     ensures off { (result ≡ Err Trouble.Off) ↔ ((B.state board.new).on ≡ false) }
     ensures bad { IsErrOf result Trouble.Bad → (B.state board.old).bads < 2 ^ 64 - 1 → (B.state board.old).bads < (B.state board.new).bads }
@@ -152,6 +156,7 @@ pub fn get_row<B: Board>(
     ensures rests { Rests parts.old.cache parts.new.cache }
     ensures gets { IfOk result (λ row. GetsRow home row (chart (B.state board.old)) parts.old (chart (B.state board.new)) parts.new) }
     ensures noted { IsErrOf result Trouble.Bad → ChoosesBad home (chart (B.state board.old)) parts.old parts.new }
+    ensures stops { IsErrOf result Trouble.Bad → StopsRow home (chart (B.state board.old)) parts.old (chart (B.state board.new)) parts.new }
     ensures on { OnOk result (IsTrue (B.state board.new).on) }
     ensures off { (result ≡ Err Trouble.Off) ↔ ((B.state board.new).on ≡ false) }
     ensures bad { IsErrOf result Trouble.Bad → (B.state board.old).bads < 2 ^ 64 - 1 → (B.state board.old).bads < (B.state board.new).bads }

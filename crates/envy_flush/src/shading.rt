@@ -8,7 +8,7 @@ ghost use Rattle.envy_layout.specs.Transactions.{Owns};
 ghost use Rattle.envy_table.specs.Hits.{Rests};
 ghost use Rattle.envy_flush.specs.Agreement.{Ready, Steady};
 ghost use Rattle.envy_flush.specs.Counts.{Counting};
-ghost use Rattle.envy_flush.specs.Flushing.{ChoosesBad, Granted, GetsRow};
+ghost use Rattle.envy_flush.specs.Flushing.{StopsFor, Granted, GetsRow};
 ghost use Rattle.envy_flush.specs.Putting.{MayGive, OwnersAgree, given, PutFirst, Shadows};
 
 use crate::parts::Parts;
@@ -98,6 +98,7 @@ fn shadow<B: Board>(
     ensures counting { Counting (chart (B.state board.old)) parts.old (chart (B.state board.new)) parts.new }
     ensures fields { OnOk result ((chart (B.state board.new)).fields ≡ with_undo page (Some (Undo.Shadow slot row)) (chart (B.state board.old)).fields) }
     ensures erases { OnOk result ((B.state board.new).erases ≡ (B.state board.old).erases) }
+    ensures spoils { IsErrOf result Trouble.Bad → ((chart (B.state board.new)).fields ≡ (chart (B.state board.old)).fields) × ((B.state board.new).erases ≡ (B.state board.old).erases) }
     ensures flushes { parts.new.flushes ≡ up parts.old.flushes }
     ensures gives { OnOk result (owned.new ≡ given slot page owned.old) }
     ensures limit { owned.new.limit ≡ owned.old.limit }
@@ -140,7 +141,7 @@ pub fn put_framed<B: Board>(
     ensures limit { owned.new.limit ≡ owned.old.limit }
     ensures owners { OwnersAgree (chart (B.state board.new)) owned.new }
     ensures stays { IsErrOf result Trouble.Bad → owned.new ≡ owned.old }
-    ensures noted { IsErrOf result Trouble.Bad → (home : ℕ) × Any (λ h. (h.frame ≡ frame) × (h.home ≡ home)) parts.old.frames.held × ChoosesBad home (chart (B.state board.old)) parts.old parts.new }
+    ensures noted { IsErrOf result Trouble.Bad → (home : ℕ) × Any (λ h. (h.frame ≡ frame) × (h.home ≡ home)) parts.old.frames.held × StopsFor home (chart (B.state board.old)) parts.old (chart (B.state board.new)) parts.new }
     ensures off { (result ≡ Err Trouble.Off) ↔ ((B.state board.new).on ≡ false) }
     ensures bad { IsErrOf result Trouble.Bad → (B.state board.old).bads < 2 ^ 64 - 1 → (B.state board.old).bads < (B.state board.new).bads }
 {

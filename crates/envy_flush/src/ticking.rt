@@ -32,6 +32,7 @@ fn flush_at<B: Board>(
 ) -> Result<(), Trouble>
     requires ready { Ready (chart (B.state board.old)) parts.old }
     requires idle { (chart (B.state board.old)).fields.job ≡ Some Idle }
+    requires stages { parts.old.stages ≡ [] }
     requires oldest { slice_get parts.old.frames.held 0 ≡ Some held }
     requires position { position < (B.state board.old).shape.segments - 1 }
     requires room { slice_index parts.old.space.fills (slice_index parts.old.space.positions position) < (B.state board.old).shape.rows }

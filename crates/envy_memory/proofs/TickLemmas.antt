@@ -17,7 +17,8 @@ use Rattle.envy_reloc.specs.declared.step.Phase.{Phase}
 use Rattle.envy_reloc.specs.declared.step.Phase.TheVariants.{Moved as MovedPhase, Copied as CopiedPhase, Switched as SwitchedPhase, Placed as PlacedPhase, Erased as ErasedPhase}
 use Rattle.envy_flush.specs.Agreement.{Steady}
 use Rattle.envy_flush.specs.Storing.{Leaves}
-use Rattle.envy_flush.specs.Ticks.{did_of, TicksBy, TicksStage, TicksFlush, TicksChoice, TicksSwap}
+use Rattle.envy_flush.specs.Steps.{did_of, TicksStage}
+use Rattle.envy_flush.specs.Ticks.{TicksBy, TicksFlush, TicksChoice, TicksSwap}
 use Rattle.envy_flush.specs.declared.did.Did.{Did}
 use Rattle.envy_flush.specs.declared.did.Did.TheVariants.{Idle, Flushed, Began, Moved, Copied, Switched, Placed, Erased}
 use Rattle.envy_flush.specs.declared.parts.Parts.{Parts}

@@ -37,7 +37,7 @@ impl<B: Board> Memory<B> {
         ensures flushes { OnOk result (self.new.parts.flushes ≡ flushes_after (is_unowned self.old.owned (a / 32)) (a / 32) self.old) }
         ensures does { OnOk result (PutEffect t (a / 32) self.old self.new) }
         ensures ends { OnOk result (Ends self.old.chart self.old.parts self.new.chart self.new.parts) }
-        ensures stops { IsErrOf result PutFault.Bad → Stops (a / 32) self.old.chart self.old.parts self.new.parts × (self.new.owned ≡ self.old.owned) }
+        ensures stops { IsErrOf result PutFault.Bad → Stops (a / 32) self.old.chart self.old.parts self.new.chart self.new.parts × (self.new.owned ≡ self.old.owned) }
         ensures kept { self.new ≡ record self.old { chart = self.new.chart; parts = self.new.parts; owned = self.new.owned } }
     {
         if !self.board.powered() {

@@ -34,7 +34,7 @@ impl<B: Board> Memory<B> {
         ensures flushes { OnOk result (self.new.parts.flushes ≡ flushes_after false (a / 32) self.old) }
         ensures does { OnOk result (StoresBy (a / 32) self.old.chart self.old.parts self.new.chart self.new.parts) }
         ensures ends { OnOk result (Ends self.old.chart self.old.parts self.new.chart self.new.parts) }
-        ensures stops { IsErrOf result StoreFault.Bad → Stops (a / 32) self.old.chart self.old.parts self.new.parts }
+        ensures stops { IsErrOf result StoreFault.Bad → Stops (a / 32) self.old.chart self.old.parts self.new.chart self.new.parts }
         ensures kept { self.new ≡ record self.old { chart = self.new.chart; parts = self.new.parts } }
     {
         if !self.board.powered() {

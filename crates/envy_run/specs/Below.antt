@@ -32,7 +32,7 @@ abbrev pub FollowsRules : Line → Reply → Picture → Picture → Type 0
 FollowsRules Tick Done old new = (did : Did) × TicksBy old.limit old.mark did old.chart old.parts new.chart new.parts
 FollowsRules Tick Fault old new = TicksBad old.mark old.chart old.parts new.chart new.parts
 FollowsRules (Store a w) Done old new = StoresBy (a / 32) old.chart old.parts new.chart new.parts × Ends old.chart old.parts new.chart new.parts
-FollowsRules (Store a w) Fault old new = Stops (a / 32) old.chart old.parts new.parts
+FollowsRules (Store a w) Fault old new = Stops (a / 32) old.chart old.parts new.chart new.parts
 FollowsRules (Put t a w) Done old new = PutEffect t (a / 32) old new × Ends old.chart old.parts new.chart new.parts
-FollowsRules (Put t a w) Fault old new = Stops (a / 32) old.chart old.parts new.parts × (new.owned ≡ old.owned)
+FollowsRules (Put t a w) Fault old new = Stops (a / 32) old.chart old.parts new.chart new.parts × (new.owned ≡ old.owned)
 FollowsRules line reply old new = ⊤

@@ -1,4 +1,4 @@
-use Rattle.std.proofs.Common.{◌≡◌, ◌∙◌, ◌+◌, sym, ap, subst, arith}
+use Rattle.std.proofs.Common.{◌≡◌, ◌∙◌, ◌+◌, ℕ, List, get_or, set, sym, ap, subst, arith}
 use Rattle.envy_base.specs.declared.shape.Shape.{Shape}
 use Rattle.envy_map.specs.Fields.{Chart, chart}
 use Rattle.envy_layout.specs.Same.{Same, Stays, Framed}
@@ -52,11 +52,21 @@ returns-clause-follows g c =
     let x = c.args.parts.now in
     let e = c.in_ok-run_clean.ensures in
     let f = c.in_ok-claim_at.ensures in
+    let new = chart (g.B.Board.state c.claim_at.new.board) in
+    let agrees = Steady.agrees e.steady e.on in
+    let fills : new.fields.fills ≡ set mid.fields.fills (get_or mid.fields.positions c.args.position 0) (get_or mid.fields.fills (get_or mid.fields.positions c.args.position 0) 0 + 1) =
+    subst (λ (s : ℕ). new.fields.fills ≡ set mid.fields.fills s (get_or mid.fields.fills s 0 + 1)) (ap (λ (xs : List ℕ). get_or xs c.args.position 0) agrees.pool.positions) (ap (λ (w : Chart). w.fields.fills) f.claims.fields) in
     let end = cleans-ended old.shape old.fields.positions c.args.position x.reloc.erased mid.fields c.run_clean.new.parts.reloc.erased e.idle e.cleans in (
       f.last,
       record { spare = Cleans.e e.cleans; is_spare = Cleans.spare e.cleans; positions = ap (λ (z : Chart). z.fields.positions) f.claims.fields ∙ end.0 },
       ap (λ (z : Parts). z.reloc.erased) f.parts ∙ end.1,
       f.warmed ∙ ap (λ (h : _). flushed h c.args.position) e.chooser,
+      record {
+        mid = mid;
+        between = c.run_clean.new.parts;
+        cleans = e.whole;
+        claims = (f.last, fills, ap (λ (z : Chart). z.fields.positions) f.claims.fields, ap (λ (z : Chart). z.erases) f.claims.fields, f.warmed);
+      },
     )
 
 pub returns-clause-counting : goal.returns-clause-counting

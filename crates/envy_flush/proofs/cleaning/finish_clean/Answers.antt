@@ -1,5 +1,6 @@
-use Rattle.std.proofs.Common.{◌≡◌, ◌∙◌, ◌+◌, arith, refl, sym, ap, subst}
+use Rattle.std.proofs.Common.{◌≡◌, ◌∙◌, ◌+◌, arith, inl, refl, sym, ap, subst}
 use Rattle.envy_base.specs.declared.shape.Shape.{Shape}
+use Rattle.std.proofs.lemmas.Result.{err_from_is_err_and}
 use Rattle.envy_map.specs.Fields.{chart}
 use Rattle.envy_layout.specs.Same.{Same, Stays, Framed}
 use Rattle.envy_flush.specs.Agreement.{Ready, Steady}
@@ -8,6 +9,8 @@ use Rattle.envy_reloc.specs.Cleaning.{Cleans}
 use Rattle.envy_flush.specs.declared.parts.Parts.{Parts}
 use Rattle.envy_flush.proofs.BudgetLemmas.{Going-start, Going-more, Going-stops, Turns-job, step-both}
 use Rattle.envy_flush.proofs.CountLemmas.{Counting-trans, Counting-still}
+use Rattle.envy_flush.proofs.FlushLemmas.{err-at}
+use Rattle.envy_flush.proofs.StepLemmas.{StepsBy-more}
 use Rattle.envy_layout.proofs.FrameStay.{FramesStay-trans}
 use Rattle.envy_table.proofs.HitLemmas.{Rests-trans, Rests-refl}
 use Rattle.envy_flush.proofs.StoreLemmas.{shape-step}
@@ -26,6 +29,7 @@ loop-turn-init g c =
       parts = refl;
       rests = Rests-refl c.args.parts.now.cache;
       none = c.requires.none;
+      steps = (refl, refl);
       cleans = λ positions k n a. a;
     }
 
@@ -65,5 +69,26 @@ loop-turn-preserved g c =
       parts = e.parts ∙ ap (λ (z : Parts). record z { space = c.tick_job.new.parts.space; cache = c.tick_job.new.parts.cache; reloc = c.tick_job.new.parts.reloc; stages = c.tick_job.new.parts.stages }) i.parts;
       rests = Rests-trans _ _ _ i.rests e.rests;
       none = o.stays ∙ i.none;
+      steps = StepsBy-more c.loop-turn._turn first c.args.parts.now mid c.loop-turn.parts new c.tick_job.new.parts i.steps (c.in_ok-tick_job.field-0, inl (c.in_ok-runs.ensures.busy c.if-not-branch.false, o.does));
       cleans = λ positions k n a. subst (λ (sh : Shape). Cleans sh positions k n new.fields c.tick_job.new.parts.reloc.erased) since (o.cleans positions k n (subst (λ (sh : Shape). Cleans sh positions k n mid.fields c.loop-turn.parts.reloc.erased) (sym since) (i.cleans positions k n a)));
     }
+
+pub returns-in_err-tick_job-clause-stops : goal.returns-in_err-tick_job-clause-stops
+returns-in_err-tick_job-clause-stops g c =
+    let p = err_from_is_err_and c.from_residual-in_err-tick_job.result c.from_residual-in_err-tick_job.ensures.1 in
+    rw (p.1, p.2) (λ is. record {
+      steps = c.loop-turn._turn;
+      mid = chart (g.B.Board.state c.loop-turn.board);
+      between = c.loop-turn.parts;
+      made = c.loop-turn.invariant.steps;
+      running = c.in_ok-runs.ensures.busy c.if-not-branch.false;
+      stops = c.in_err-tick_job.ensures.stops (err-at _ _ is);
+    })
+
+pub returns-then-not-branch-clause-finishes : goal.returns-then-not-branch-clause-finishes
+returns-then-not-branch-clause-finishes g c = record {
+  steps = c.loop-turn._turn;
+  made = c.loop-turn.invariant.steps;
+  job = c.in_ok-runs.ensures.idle c.if-not-branch.true;
+  stages = c.loop-turn.invariant.none;
+}

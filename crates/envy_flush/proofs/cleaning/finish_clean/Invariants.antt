@@ -6,6 +6,7 @@ use Rattle.envy_flush.specs.Agreement.{Ready}
 use Rattle.envy_flush.specs.Budgets.{Going}
 use Rattle.envy_reloc.specs.Cleaning.{Cleans}
 use Rattle.envy_flush.specs.Counts.{Counting}
+use Rattle.envy_flush.specs.Steps.{StepsBy}
 use Rattle.envy_flush.proofs.cleaning.finish_clean.Given as goal
 
 abbrev pub invariant-loop-turn : goal.invariant-loop-turn
@@ -17,5 +18,6 @@ invariant-loop-turn g l = record {
   parts : l.parts ≡ record l.initial.parts { space = l.parts.space; cache = l.parts.cache; reloc = l.parts.reloc; stages = l.parts.stages };
   rests : Rests l.initial.parts.cache l.parts.cache;
   none : l.parts.stages ≡ [];
+  steps : StepsBy l._turn (chart (g.B.Board.state l.initial.board)) l.initial.parts (chart (g.B.Board.state l.board)) l.parts;
   cleans : (positions : List ℕ) (k n : ℕ) → Cleans (g.B.Board.state l.initial.board).shape positions k n (chart (g.B.Board.state l.initial.board)).fields l.initial.parts.reloc.erased → Cleans (g.B.Board.state l.initial.board).shape positions k n (chart (g.B.Board.state l.board)).fields l.parts.reloc.erased;
 }

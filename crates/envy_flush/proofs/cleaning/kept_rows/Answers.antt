@@ -1,14 +1,32 @@
-use Rattle.std.proofs.Common.{◌≡◌, ◌*◌, ◌+◌, ◌/◌, ◌<◌, ◌≤◌, ℕ, get_or, ap, arith}
+use Rattle.std.proofs.Common.{◌≡◌, ◌*◌, ◌+◌, ◌/◌, ◌%◌, ◌<◌, ◌≤◌, ◌∷◌, ◌++◌, [], ℕ, List, get_or, length, ap, ◌∙◌, sym, subst, arith}
+use Rattle.std.proofs.lemmas.Bool.{eqb-true, eqb-false}
+use Rattle.envy_base.specs.State.{IsBoard}
 use Rattle.envy_base.specs.declared.shape.Shape.{Shape}
+use Rattle.envy_map.specs.Fields.{chart}
 use Rattle.envy_flush.specs.Agreement.{Fits}
+use Rattle.envy_flush.specs.Cleaning.{AreLowestKept}
 use Rattle.envy_layout.proofs.References.{row-of}
 use Rattle.envy_flush.proofs.CleanLemmas.{All-push}
+use Rattle.envy_flush.proofs.KeptLemmas.{Found, Found-start, Found-kept, Found-dead, Found-four, Found-whole, kept-found, dead-found}
 use Rattle.envy_flush.proofs.cleaning.kept_rows.Goals as goal
 use Rattle.envy_flush.proofs.cleaning.kept_rows.Goals.{then-is_some, else-is_some}
+
+pub loop-i-init : goal.loop-i-init
+loop-i-init g c =
+    let old = chart (g.B.Board.state c.args.board.now) in
+    let s = c.segment_at-segment.result in
+    let shape : c.shape.result.rows ≡ old.shape.rows = ap (λ (sh : Shape). sh.rows) c.shape.ensures in
+    let start : s * old.shape.rows ≡ s * c.shape.result.rows + 0 = rw shape (omega arith) in
+    record {
+      rows = λ k d lt. absurd (let none = ap length c.new-rows.ensures in omega arith);
+      found = subst (λ (xs : List ℕ). Found old.shape old.fields s (s * c.shape.result.rows + 0) xs) (sym c.new-rows.ensures) (subst (λ (m : ℕ). Found old.shape old.fields s m []) start (Found-start old.shape old.fields s));
+      few = let none = ap length c.new-rows.ensures in omega arith;
+    }
 
 pub loop-i-preserved : goal.loop-i-preserved
 loop-i-preserved g c =
     let n = (g.B.Board.state c.args.board.now).shape.rows in
+    let old = chart (g.B.Board.state c.args.board.now) in
     let s = c.segment_at-segment.result in
     elim c.if-is_some.branch [
       | then-is_some w ↦
@@ -18,6 +36,42 @@ loop-i-preserved g c =
           let fill = c.fill-i-end.ensures.fill in
           let small : c.loop-i.i < n = omega arith in
           let shape : c.shape.result.rows ≡ n = ap (λ (sh : Shape). sh.rows) c.shape.ensures in
-          record { rows = rw (w.rows-is, w.push.ensures.items, shape) (All-push (λ (q : ℕ). q / n ≡ s) c.loop-i.rows.items (s * n + c.loop-i.i) c.loop-i.invariant.rows (row-of n s c.loop-i.i small).0) }
-      | else-is_some w ↦ record { rows = rw w.rows-is c.loop-i.invariant.rows }
+          let m = s * c.shape.result.rows + c.loop-i.i in
+          let own : m / n ≡ s = rw shape (row-of n s c.loop-i.i small).0 in
+          let next : m + 1 ≡ s * c.shape.result.rows + (c.loop-i.i + 1) = omega arith in
+          record {
+            found = rw (w.rows-is, w.push.ensures.items) (subst (λ (k : ℕ). Found old.shape old.fields s k (c.loop-i.rows.items ++ m ∷ [])) next (Found-kept old.shape old.fields s m c.loop-i.rows.items own (kept-found old.shape old.fields m c.in_ok-keeper.field-0 c.in_ok-keeper.ensures.keeps (sym c.is_some.ensures ∙ w.if-is_some.true)) c.loop-i.invariant.found));
+            rows = rw (w.rows-is, w.push.ensures.items, shape) (All-push (λ (q : ℕ). q / n ≡ s) c.loop-i.rows.items (s * n + c.loop-i.i) c.loop-i.invariant.rows (row-of n s c.loop-i.i small).0);
+            few = rw w.rows-is (let more = w.push.ensures.len in let others = eqb-false (length c.loop-i.rows.items) 4 (sym c.is_full.ensures.value ∙ c.if-is_full.false) in let low = c.loop-i.invariant.few in omega arith);
+          }
+      | else-is_some w ↦
+          let m = s * c.shape.result.rows + c.loop-i.i in
+          let next : m + 1 ≡ s * c.shape.result.rows + (c.loop-i.i + 1) = omega arith in
+          record {
+            found = rw w.rows-is (subst (λ (k : ℕ). Found old.shape old.fields s k c.loop-i.rows.items) next (Found-dead old.shape old.fields s m c.loop-i.rows.items (dead-found old.shape old.fields m c.in_ok-keeper.field-0 c.in_ok-keeper.ensures.keeps (sym c.is_some.ensures ∙ w.if-is_some.false)) c.loop-i.invariant.found));
+            rows = rw w.rows-is c.loop-i.invariant.rows;
+            few = rw w.rows-is c.loop-i.invariant.few;
+          }
     ]
+
+pub returns-then-is_full-clause-lowest : goal.returns-then-is_full-clause-lowest
+returns-then-is_full-clause-lowest g c =
+    let old = chart (g.B.Board.state c.args.board.now) in
+    let s = c.segment_at-segment.result in
+    let own : s ≡ get_or old.fields.positions c.args.position 0 = c.segment_at-segment.ensures.segment ∙ ap (λ (xs : List ℕ). get_or xs c.args.position 0) c.requires.ready.agrees.pool.positions in
+    let four : length c.loop-i.rows.items ≡ 4 = eqb-true (length c.loop-i.rows.items) 4 (sym c.is_full.ensures.value ∙ c.if-is_full.true) in
+    subst (λ (v : ℕ). AreLowestKept old.shape old.fields v c.loop-i.rows.items) own (Found-four old.shape old.fields s (s * c.shape.result.rows + c.loop-i.i) c.loop-i.rows.items four c.loop-i.invariant.found)
+
+pub returns-clause-lowest : goal.returns-clause-lowest
+returns-clause-lowest g c =
+    let old = chart (g.B.Board.state c.args.board.now) in
+    let s = c.segment_at-segment.result in
+    let pool = c.requires.ready.agrees.pool in
+    let shape : c.shape.result.rows ≡ old.shape.rows = ap (λ (sh : Shape). sh.rows) c.shape.ensures in
+    let own : s ≡ get_or old.fields.positions c.args.position 0 = c.segment_at-segment.ensures.segment ∙ ap (λ (xs : List ℕ). get_or xs c.args.position 0) pool.positions in
+    let fill : c.fill-i-end.result ≡ get_or old.fields.fills s 0 = c.fill-i-end.ensures.fill ∙ ap (λ (xs : List ℕ). get_or xs s 0) pool.fills in
+    let past = c.loop-i-test.false in
+    let end : s * old.shape.rows + get_or old.fields.fills s 0 ≤ s * c.shape.result.rows + c.loop-i.i = rw shape (omega arith) in
+    let some = IsBoard.shape (g.met.B.Board.lawful c.args.board.now) in
+    subst (λ (v : ℕ). AreLowestKept old.shape old.fields v c.loop-i.rows.items) own
+    (Found-whole old s (s * c.shape.result.rows + c.loop-i.i) c.loop-i.rows.items c.requires.ready.sound (omega arith) end c.loop-i.invariant.few c.loop-i.invariant.found)

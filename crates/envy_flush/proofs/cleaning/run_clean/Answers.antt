@@ -64,3 +64,10 @@ returns-clause-counting g c =
     Counting-trans old mid new c.args.parts.now c.begin_clean.new.parts c.finish_clean.new.parts
     (Counting-quiet old mid c.args.parts.now c.begin_clean.new.parts (Stays.counted (Same.stays e.same)) (ap (λ (z : Parts). z.flushes) e.parts) (ap (λ (z : Parts). z.swaps) e.parts) e.none e.since)
     c.finish_clean.ensures.counting
+
+pub returns-clause-whole : goal.returns-clause-whole
+returns-clause-whole g c =
+    on-ok c.finish_clean.result _ _ (λ finishes. record { begun = chart (g.B.Board.state c.begin_clean.new.board); plan = c.begin_clean.new.parts; begins = c.in_ok-begin_clean.ensures.cleans; finishes = finishes }) c.finish_clean.ensures.finishes
+
+pub returns-clause-stops : goal.returns-clause-stops
+returns-clause-stops g c is = record { begun = chart (g.B.Board.state c.begin_clean.new.board); plan = c.begin_clean.new.parts; begins = c.in_ok-begin_clean.ensures.cleans; stops = c.finish_clean.ensures.stops is }

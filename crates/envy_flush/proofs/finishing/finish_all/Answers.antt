@@ -1,4 +1,5 @@
 use Rattle.std.proofs.Common.{◌∙◌, ◌*◌, ◌+◌, arith, refl, ap}
+use Rattle.std.proofs.lemmas.Result.{err_from_is_err_and}
 use Rattle.envy_map.specs.Fields.{chart}
 use Rattle.envy_layout.specs.Same.{Same, Stays}
 use Rattle.envy_flush.specs.Agreement.{Ready, Steady}
@@ -6,6 +7,8 @@ use Rattle.envy_flush.specs.Budgets.{Going, Spends}
 use Rattle.envy_flush.specs.declared.parts.Parts.{Parts}
 use Rattle.envy_flush.proofs.BudgetLemmas.{Going-start, Going-more, Going-stops, Going-last}
 use Rattle.envy_flush.proofs.CountLemmas.{Counting-trans, Counting-still}
+use Rattle.envy_flush.proofs.FlushLemmas.{err-at}
+use Rattle.envy_flush.proofs.StepLemmas.{StepsBy-more, StepsBy-still}
 use Rattle.envy_layout.proofs.FrameStay.{FramesStay-trans}
 use Rattle.envy_table.proofs.HitLemmas.{Rests-trans, Rests-refl}
 use Rattle.envy_layout.proofs.Composition.{Same-more, Same-refl}
@@ -22,6 +25,7 @@ loop-turn-init g c =
       here = λ p k. ((λ h. h), (λ h. h));
       parts = refl;
       rests = Rests-refl c.args.parts.now.cache;
+      steps = (refl, refl);
     }
 
 pub returns-in_err-turn-clause-same : goal.returns-in_err-turn-clause-same
@@ -52,6 +56,7 @@ loop-turn-preserved g c =
       here = FramesStay-trans first.fields.places mid.fields.places new.fields.places i.here (e.here e.on);
       parts = e.parts ∙ ap (λ (z : Parts). record z { space = c.turn.new.parts.space; cache = c.turn.new.parts.cache; reloc = c.turn.new.parts.reloc; stages = c.turn.new.parts.stages }) i.parts;
       rests = Rests-trans _ _ _ i.rests e.rests;
+      steps = StepsBy-more c.loop-turn._turn first c.args.parts.now mid c.loop-turn.parts new c.turn.new.parts i.steps (e.steps c.if-not-branch.false);
     }
 
 pub returns-in_err-turn-clause-counting : goal.returns-in_err-turn-clause-counting
@@ -73,3 +78,23 @@ returns-then-not-branch-clause-here g c on =
     let mid = chart (g.B.Board.state c.loop-turn.board) in
     let new = chart (g.B.Board.state c.turn.new.board) in
     FramesStay-trans first.fields.places mid.fields.places new.fields.places c.loop-turn.invariant.here (c.turn.ensures.here on)
+
+pub returns-in_err-turn-clause-stops : goal.returns-in_err-turn-clause-stops
+returns-in_err-turn-clause-stops g c =
+    let p = err_from_is_err_and c.from_residual.result c.from_residual.ensures.1 in
+    rw (p.1, p.2) (λ is. let e = c.in_err-turn.ensures.stops (err-at _ _ is) in record { steps = c.loop-turn._turn; mid = chart (g.B.Board.state c.loop-turn.board); between = c.loop-turn.parts; made = c.loop-turn.invariant.steps; running = e.0; stops = e.1 })
+
+pub returns-then-not-branch-clause-finishes : goal.returns-then-not-branch-clause-finishes
+returns-then-not-branch-clause-finishes g c =
+    let first = chart (g.B.Board.state c.args.board.now) in
+    let mid = chart (g.B.Board.state c.loop-turn.board) in
+    let new = chart (g.B.Board.state c.turn.new.board) in
+    let e = c.in_ok-turn.ensures in
+    let still = e.still c.if-not-branch.true in
+    let idle = e.idle c.if-not-branch.true in
+    record {
+      steps = c.loop-turn._turn;
+      made = StepsBy-still c.loop-turn._turn first c.args.parts.now mid c.loop-turn.parts new c.turn.new.parts c.loop-turn.invariant.steps still.0 still.1;
+      job = idle.0;
+      stages = idle.1;
+    }

@@ -5,6 +5,7 @@ use Rattle.envy_table.specs.Hits.{Rests}
 use Rattle.envy_flush.specs.Agreement.{Ready}
 use Rattle.envy_flush.specs.Budgets.{Going}
 use Rattle.envy_flush.specs.Counts.{Counting}
+use Rattle.envy_flush.specs.Steps.{StepsBy}
 use Rattle.envy_flush.proofs.finishing.finish_all.Given as goal
 
 abbrev pub invariant-loop-turn : goal.invariant-loop-turn
@@ -15,4 +16,5 @@ invariant-loop-turn g l = record {
   here : FramesStay (chart (g.B.Board.state l.initial.board)).fields.places (chart (g.B.Board.state l.board)).fields.places;
   parts : l.parts ≡ record l.initial.parts { space = l.parts.space; cache = l.parts.cache; reloc = l.parts.reloc; stages = l.parts.stages };
   rests : Rests l.initial.parts.cache l.parts.cache;
+  steps : StepsBy l._turn (chart (g.B.Board.state l.initial.board)) l.initial.parts (chart (g.B.Board.state l.board)) l.parts;
 }

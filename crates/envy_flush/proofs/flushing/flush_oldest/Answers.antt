@@ -1,8 +1,9 @@
-use Rattle.std.proofs.Common.{◌≡◌, ◌∙◌, ◌<◌, ◌*◌, ◌+◌, length, None, Some, sym, ap, arith}
+use Rattle.std.proofs.Common.{◌≡◌, ◌∙◌, ◌<◌, ◌*◌, ◌+◌, inl, length, None, Some, sym, ap, arith}
 use Rattle.std.specs.List.{filter}
 use Rattle.envy_frames.specs.Order.{Order, is_other}
 use Rattle.std.proofs.lemmas.List.{get_or-set_same}
 use Rattle.envy_base.specs.declared.fields.Place.TheVariants.{Row}
+use Rattle.std.proofs.lemmas.Result.{err_from_is_err_and}
 use Rattle.envy_map.specs.Fields.{place}
 use Rattle.envy_layout.specs.Sound.{Sound, Places}
 use Rattle.envy_frames.specs.Agreement.{AreHeld, IsHeld}
@@ -13,7 +14,7 @@ use Rattle.envy_layout.specs.Same.{Same, Stays, Framed, Counted}
 use Rattle.envy_base.specs.Counting.{up}
 use Rattle.envy_flush.specs.declared.parts.Parts.{Parts}
 use Rattle.envy_flush.proofs.CountLemmas.{Counting-trans, Counting-flushed}
-use Rattle.envy_flush.proofs.FlushLemmas.{on-three, GetsRow-after, ChoosesBad-gets, bad-rises}
+use Rattle.envy_flush.proofs.FlushLemmas.{err-at, on-three, GetsRow-after, StopsFor-gets, bad-rises}
 use Rattle.envy_table.proofs.HitLemmas.{Rests-trans}
 use Rattle.envy_flush.proofs.StoreLemmas.{Same-two}
 use Rattle.envy_flush.proofs.flushing.flush_oldest.Goals as goal
@@ -66,4 +67,14 @@ returns-clause-flushes g c =
 
 pub returns-clause-noted : goal.returns-clause-noted
 returns-clause-noted g c is =
-    (c.in-Some.held, sym c.in-Some.ensures.first, ChoosesBad-gets c.in-Some.held.home c.in_ok-row.row (chart (g.B.Board.state c.args.board.now)) c.args.parts.now (chart (g.B.Board.state c.get_row.new.board)) c.get_row.new.parts _ (ap (λ (p : Parts). p.chooser) c.flush_into.ensures.parts) c.in_ok-row.ensures.gets)
+    let e = c.flush_into.ensures in (
+      c.in-Some.held,
+      sym c.in-Some.ensures.first,
+      StopsFor-gets c.in-Some.held.home c.in_ok-row.row (chart (g.B.Board.state c.args.board.now)) c.args.parts.now (chart (g.B.Board.state c.get_row.new.board)) c.get_row.new.parts (chart (g.B.Board.state c.flush_into.new.board)) c.flush_into.new.parts
+          (Framed.shape (Stays.framed (Same.stays e.same))) (e.stays is) (e.unerased is) (ap (λ (p : Parts). p.chooser) e.parts) (ap (λ (p : Parts). p.reloc) e.parts) (ap (λ (p : Parts). p.stages) e.parts) (e.flushes ∙ ap up c.get_row.ensures.flushes) c.in_ok-row.ensures.gets,
+    )
+
+pub returns-in_err-row-clause-noted : goal.returns-in_err-row-clause-noted
+returns-in_err-row-clause-noted g c =
+    let p = err_from_is_err_and c.from_residual.result c.from_residual.ensures.1 in
+    rw (p.1, p.2) (λ is. (c.in-Some.held, sym c.in-Some.ensures.first, record { noted = c.in_err-row.ensures.noted (err-at _ _ is); halted = inl (c.in_err-row.ensures.stops (err-at _ _ is)) }))

@@ -1,8 +1,9 @@
-use Rattle.std.proofs.Common.{◌≡◌, ◌∙◌, ◌<◌, ◌-◌, ◌^◌, ℕ, refl, ap}
+use Rattle.std.proofs.Common.{◌≡◌, ◌∙◌, ◌<◌, ◌-◌, ◌^◌, ℕ, refl, rules, ap}
 use Rattle.std.specs.Prelude.{Result, Ok, Err, IsErrOf}
 use Rattle.envy_base.specs.Counting.{up}
 use Rattle.envy_reloc.specs.declared.step.Phase.{Phase}
 use Rattle.envy_flush.specs.declared.did.Did.{Did}
+use Rattle.envy_flush.specs.declared.parts.Parts.{Parts}
 use Rattle.envy_map.specs.Fields.{chart}
 use Rattle.envy_flush.proofs.AgreeLemmas.{Fits-staged, no-stages}
 use Rattle.envy_base.proofs.Counting.{up-rises}
@@ -33,3 +34,16 @@ returns-then-not-erasing-clause-bad g c = raised (g.B.Board.state c.args.board.n
 
 pub returns-else-eq-clause-bad : goal.returns-else-eq-clause-bad
 returns-else-eq-clause-bad g c = raised (g.B.Board.state c.args.board.now).bads (g.B.Board.state c.step_job.new.board).bads c.in-Err.fault c.step_job.result c.in-Err.is c.step_job.ensures.bad
+
+pub returns-then-not-erasing-clause-stops : goal.returns-then-not-erasing-clause-stops
+unfolding fault_of
+returns-then-not-erasing-clause-stops g c is =
+    let e = c.step_job.ensures in
+    let got : c.step_job.result ≡ Err Bad = c.in-Err.is ∙ ap (λ (x : Trouble). Err x) (ap (λ (s : Result Did Trouble). fault_of s) is) in
+    record {
+      job = e.job got;
+      idles = record { flushes = ap (λ (z : Parts). z.flushes) e.parts; swaps = ap (λ (z : Parts). z.swaps) e.parts; chooser = ap (λ (z : Parts). z.chooser) e.parts; frames = ap (λ (z : Parts). z.frames) e.parts };
+      kept = search rules;
+      dropped = λ other. (c.clear.ensures, e.dropped got other);
+      spoils = e.spoils got;
+    }

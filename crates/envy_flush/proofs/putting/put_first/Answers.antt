@@ -10,7 +10,7 @@ returns-in-Frame-clause-stops g c is =
     let was = c.args.parts.now in
     let looked : Parts = record was { cache = c.translate.new.self } in
     let here = c.in_ok-frame.ensures.place.1 ∙ ap (λ (x : Place). Some x) c.in-Frame.is in
-    Stops-framed c.args.page c.in-Frame.frame (chart (g.B.Board.state c.args.board.now)) was looked c.put_framed.new.parts refl here c.put_framed.ensures.frames (c.put_framed.ensures.noted is)
+    Stops-framed c.args.page c.in-Frame.frame (chart (g.B.Board.state c.args.board.now)) was looked (chart (g.B.Board.state c.put_framed.new.board)) c.put_framed.new.parts refl here c.put_framed.ensures.frames (c.put_framed.ensures.noted is)
 
 pub returns-in_default : goal.returns-in_default
 returns-in_default g c =
@@ -33,7 +33,7 @@ returns-in_default g c =
       limit = e.limit;
       owners = e.owners;
       stays = e.stays;
-      stops = λ is. Stops-elsewhere c.args.page from old was looked now refl here elsewhere (e.stops is) (e.noted is);
+      stops = λ is. Stops-elsewhere c.args.page from old was looked new now refl here elsewhere (e.stops is) (e.noted is);
       off = e.off;
       bad = e.bad;
     }

@@ -1,13 +1,16 @@
-use Rattle.std.proofs.Common.{◌≡◌, ◌*◌, ◌+◌, inl, inr, ap, subst, arith}
+use Rattle.std.proofs.Common.{◌≡◌, ◌*◌, ◌+◌, ℕ, Option, List, get_or, set, inl, inr, ap, subst, arith}
 use Rattle.envy_base.specs.declared.shape.Shape.{Shape}
+use Rattle.std.specs.Prelude.{MatchOption}
+use Rattle.std.proofs.lemmas.Result.{err_from_is_err_and}
 use Rattle.envy_map.specs.Fields.{Chart, chart}
 use Rattle.envy_layout.specs.Same.{Same, Stays, Framed}
 use Rattle.envy_flush.specs.declared.parts.Parts.{Parts}
 use Rattle.envy_flush.proofs.CountLemmas.{Counting-trans, Counting-still}
 use Rattle.envy_layout.proofs.FrameStay.{FramesStay-trans}
 use Rattle.envy_flush.proofs.StoreLemmas.{Same-two}
-use Rattle.envy_flush.specs.Flushing.{GetsRow}
-use Rattle.envy_flush.proofs.FlushLemmas.{if-done, never-idle, none-left, no-stage-left}
+use Rattle.envy_flush.specs.Agreement.{Steady}
+use Rattle.envy_flush.specs.Flushing.{GetsRow, FinishesFirst, IsNoneAvailable, IsLowestAvailable}
+use Rattle.envy_flush.proofs.FlushLemmas.{err-at, if-done, never-idle, none-of, stops-after, none-left, no-stage-left}
 use Rattle.envy_flush.proofs.rows.busy_row.Goals as goal
 
 pub returns-in-Some-clause-counting : goal.returns-in-Some-clause-counting
@@ -39,9 +42,25 @@ pub returns-in-Some-clause-gets : goal.returns-in-Some-clause-gets
 returns-in-Some-clause-gets g c =
     let e = c.in_ok-claim_at.ensures in
     let f = c.claim_at.ensures in
+    let old = chart (g.B.Board.state c.args.board.now) in
+    let new = chart (g.B.Board.state c.claim_at.new.board) in
+    let r = c.requires.ready in
+    let k = c.in-Some.position in
+    let fills : new.fields.fills ≡ set old.fields.fills (get_or old.fields.positions k 0) (get_or old.fields.fills (get_or old.fields.positions k 0) 0 + 1) =
+    subst (λ (s : ℕ). new.fields.fills ≡ set old.fields.fills s (get_or old.fields.fills s 0 + 1)) (ap (λ (xs : List ℕ). get_or xs k 0) r.agrees.pool.positions) (ap (λ (w : Chart). w.fields.fills) e.claims.fields) in
+    let job = ap (λ (w : Chart). w.fields.job) e.claims.fields in
+    let stages = ap (λ (z : Parts). z.stages) f.parts in
     record {
       chooses = λ idle none. absurd (never-idle _ _ c.requires.busy idle none);
-      ends = (inl (ap (λ (w : Chart). w.fields.job) e.claims.fields), inl (ap (λ (z : Parts). z.stages) f.parts));
+      busy = λ some. inl (record {
+        position = k;
+        lowest = subst (λ (o : Option ℕ). MatchOption o (IsNoneAvailable c.args.parts.now.chooser c.args.home old) (λ k. IsLowestAvailable c.args.parts.now.chooser c.args.home old k)) c.in-Some.is c.in_ok-position.ensures.lowest;
+        claims = (e.last, fills, ap (λ (w : Chart). w.fields.positions) e.claims.fields, ap (λ (w : Chart). w.erases) e.claims.fields, e.warmed);
+        job = job;
+        stages = stages;
+        reloc = ap (λ (z : Parts). z.reloc) f.parts;
+      });
+      ends = (inl job, inl stages);
     }
 
 pub returns-clause-gets : goal.returns-clause-gets
@@ -50,9 +69,11 @@ returns-clause-gets g c =
     let mid = chart (g.B.Board.state c.finish.new.board) in
     let new = chart (g.B.Board.state c.idle_row.new.board) in
     let e = c.in_ok-finish.ensures in
+    let first : FinishesFirst c.args.home old c.args.parts.now mid c.finish.new.parts = record { none = none-of c.in_ok-position.field-0 _ _ c.in_default.not-Some c.in_ok-position.ensures.lowest; finishes = e.finishes; chooser = e.chooser; pool = (Steady.agrees e.steady e.on).pool } in
     if-done c.idle_row.result _ _ c.idle_row.ensures.gets
     (λ row gets. record {
       chooses = λ idle none. absurd (never-idle _ _ c.requires.busy idle none);
+      busy = λ some. let c2 = GetsRow.chooses gets e.idle e.none in inr (record { mid = mid; between = c.finish.new.parts; first = first; choice = c2.0; chosen = c2.1; follows = c2.2 });
       ends = (inr (none-left mid.fields.job new.fields.job e.idle (GetsRow.ends gets).0), inr (no-stage-left c.finish.new.parts.stages c.idle_row.new.parts.stages e.none (GetsRow.ends gets).1));
     })
 
@@ -61,3 +82,16 @@ returns-in_err-finish-clause-noted g c is idle none = absurd (never-idle _ _ c.r
 
 pub returns-clause-noted : goal.returns-clause-noted
 returns-clause-noted g c is idle none = absurd (never-idle _ _ c.requires.busy idle none)
+
+pub returns-in_err-finish-clause-stops : goal.returns-in_err-finish-clause-stops
+returns-in_err-finish-clause-stops g c =
+    let p = err_from_is_err_and c.from_residual-in_err-finish.result c.from_residual-in_err-finish.ensures.1 in
+    rw (p.1, p.2) (λ is. inl (c.requires.busy, none-of c.in_ok-position.field-0 _ _ c.in_default.not-Some c.in_ok-position.ensures.lowest, c.in_err-finish.ensures.stops (err-at _ _ is)))
+
+pub returns-clause-stops : goal.returns-clause-stops
+returns-clause-stops g c is =
+    let old = chart (g.B.Board.state c.args.board.now) in
+    let mid = chart (g.B.Board.state c.finish.new.board) in
+    let e = c.in_ok-finish.ensures in
+    let first : FinishesFirst c.args.home old c.args.parts.now mid c.finish.new.parts = record { none = none-of c.in_ok-position.field-0 _ _ c.in_default.not-Some c.in_ok-position.ensures.lowest; finishes = e.finishes; chooser = e.chooser; pool = (Steady.agrees e.steady e.on).pool } in
+    stops-after c.args.home old c.args.parts.now mid c.finish.new.parts (chart (g.B.Board.state c.idle_row.new.board)) c.idle_row.new.parts c.requires.busy e.idle e.none first (c.idle_row.ensures.stops is)

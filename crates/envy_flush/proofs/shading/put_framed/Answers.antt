@@ -1,5 +1,6 @@
-use Rattle.std.proofs.Common.{◌≡◌, ◌∙◌, ◌<◌, ◌*◌, ◌+◌, length, get_or, None, Some, refl, sym, ap, subst, arith}
+use Rattle.std.proofs.Common.{◌≡◌, ◌∙◌, ◌<◌, ◌*◌, ◌+◌, inl, length, get_or, None, Some, refl, sym, ap, subst, arith}
 use Rattle.envy_base.specs.declared.shape.Shape.{Shape}
+use Rattle.envy_base.specs.Counting.{up}
 use Rattle.envy_map.specs.Fields.{chart}
 use Rattle.std.proofs.lemmas.Result.{err_from_is_err_and}
 use Rattle.envy_base.specs.declared.fields.Slot.TheVariants.{Active}
@@ -13,11 +14,11 @@ use Rattle.envy_txn.specs.Owners.{AreOwned}
 use Rattle.envy_layout.specs.Same.{Same, SameWords, Stays, Framed, Counted}
 use Rattle.envy_flush.specs.declared.parts.Parts.{Parts}
 use Rattle.envy_flush.proofs.CountLemmas.{Counting-trans, Counting-still}
-use Rattle.envy_flush.proofs.FlushLemmas.{bad-rises, ChoosesBad-gets, GetsRow-after}
+use Rattle.envy_flush.proofs.FlushLemmas.{bad-rises, err-at, GetsRow-after, StopsFor-gets}
 use Rattle.envy_layout.proofs.Owners.{owned_by-owns}
 use Rattle.envy_layout.proofs.Putting.{PutDone-more, PutDone-shadowed}
 use Rattle.envy_layout.proofs.Composition.{Counted-put}
-use Rattle.envy_flush.proofs.PutLemmas.{MayGive-framed, PutFirst-shadow, PutFirst-dropped, Steady-word}
+use Rattle.envy_flush.proofs.PutLemmas.{MayGive-framed, Shadows-shape, PutFirst-shadow, PutFirst-dropped, Steady-word}
 use Rattle.envy_flush.proofs.shading.put_framed.Goals as goal
 
 pub shadow-requires-clause-here : goal.shadow-requires-clause-here
@@ -96,8 +97,17 @@ returns-clause-counting g c =
     (Counting-still next new _ _ (Counted-put next new (with_frame_word c.args.frame c.args.i c.args.w) c.change_frame_word.result c.change_frame_word.ensures.writes) refl refl refl)
 
 pub returns-in_err-shadow-clause-noted : goal.returns-in_err-shadow-clause-noted
-returns-in_err-shadow-clause-noted g c is =
-    (c.home-home.result, c.home-home.ensures.value, ChoosesBad-gets c.home-home.result c.in_ok-row.row (chart (g.B.Board.state c.args.board.now)) c.args.parts.now (chart (g.B.Board.state c.get_row.new.board)) c.get_row.new.parts _ (ap (λ (z : Parts). z.chooser) c.shadow.ensures.parts) c.in_ok-row.ensures.gets)
+returns-in_err-shadow-clause-noted g c =
+    let old = chart (g.B.Board.state c.args.board.now) in
+    let mid = chart (g.B.Board.state c.get_row.new.board) in
+    let new = chart (g.B.Board.state c.shadow.new.board) in
+    let e = c.shadow.ensures in
+    let p = err_from_is_err_and c.from_residual-in_err-shadow.result c.from_residual-in_err-shadow.ensures.1 in
+    rw (p.1, p.2) (λ is. let kept = c.in_err-shadow.ensures.spoils is in (
+      c.home-home.result,
+      c.home-home.ensures.value,
+      StopsFor-gets c.home-home.result c.in_ok-row.row old c.args.parts.now mid c.get_row.new.parts new c.shadow.new.parts (Shadows-shape 1 0 c.args.slot c.args.page mid c.shadow.result new e.shadows) kept.0 kept.1 (ap (λ (z : Parts). z.chooser) e.parts) (ap (λ (z : Parts). z.reloc) e.parts) (ap (λ (z : Parts). z.stages) e.parts) (e.flushes ∙ ap up c.get_row.ensures.flushes) c.in_ok-row.ensures.gets,
+    ))
 
 pub change_frame_word-requires-clause-here : goal.change_frame_word-requires-clause-here
 change_frame_word-requires-clause-here g c on =
@@ -136,3 +146,8 @@ returns-clause-owners g c on =
     let next = chart (g.B.Board.state c.shadow.new.board) in
     let done = c.in_ok-change_frame_word.ensures.writes.1 in
     subst (λ (w : Chart). AreOwned w.fields.slots w.fields.undos c.shadow.new.owned.pairs) (sym done) (c.shadow.ensures.owners c.in_ok-shadow.ensures.shadows.2)
+
+pub returns-in_err-row-clause-noted : goal.returns-in_err-row-clause-noted
+returns-in_err-row-clause-noted g c =
+    let p = err_from_is_err_and c.from_residual.result c.from_residual.ensures.1 in
+    rw (p.1, p.2) (λ is. (c.home-home.result, c.home-home.ensures.value, record { noted = c.in_err-row.ensures.noted (err-at _ _ is); halted = inl (c.in_err-row.ensures.stops (err-at _ _ is)) }))

@@ -22,7 +22,7 @@ returns-in_default g c =
       counting = Counting-looked old new was now c.translate.new.self e.counting;
       accesses = Accesses-rests c.args.page was.cache c.translate.new.self now.cache c.in_ok-frame.ensures.accesses e.rests;
       stores = Stores-fetched c.args.page old was looked new now c.store_elsewhere.result refl elsewhere e.makes;
-      stops = λ is. Stops-elsewhere c.args.page from old was looked now refl here elsewhere (e.stops is) (e.noted is);
+      stops = λ is. Stops-elsewhere c.args.page from old was looked new now refl here elsewhere (e.stops is) (e.noted is);
       off = e.off;
       bad = e.bad;
     }

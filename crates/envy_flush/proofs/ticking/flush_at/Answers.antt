@@ -15,7 +15,7 @@ use Rattle.envy_base.specs.declared.fields.Place.TheVariants.{Row}
 use Rattle.envy_layout.specs.Sound.{Sound, Places}
 use Rattle.envy_flush.specs.declared.parts.Parts.{Parts}
 use Rattle.envy_flush.proofs.CountLemmas.{Counting-trans, Counting-still, Counting-flushed}
-use Rattle.envy_flush.proofs.FlushLemmas.{bad-rises, on-three, GetsRow-after}
+use Rattle.envy_flush.proofs.FlushLemmas.{bad-rises, never-idle, on-three, GetsRow-after}
 use Rattle.envy_flush.proofs.StoreLemmas.{Same-two}
 use Rattle.envy_flush.proofs.ticking.flush_at.Goals as goal
 
@@ -58,6 +58,7 @@ returns-clause-does g c =
     let follows : Follows (Free k) c.in_ok-row.row old x mid y = (e.last, fills, ap (λ (w : Chart). w.fields.positions) e.claims.fields, ap (λ (w : Chart). w.erases) e.claims.fields, e.warmed) in
     let gets : GetsRow c.args.held.home c.in_ok-row.row old x mid y = record {
       chooses = λ idle none. (Free k, c.requires.chosen, follows);
+      busy = λ some. absurd (never-idle _ _ some c.requires.idle c.requires.stages);
       ends = (inl (ap (λ (w : Chart). w.fields.job) e.claims.fields), inl (ap (λ (w : Parts). w.stages) e.parts));
     } in
     let shape : new.shape ≡ mid.shape = Framed.shape (Stays.framed (Same.stays f.same)) in

@@ -5,7 +5,7 @@ use Rattle.envy_map.specs.Fields.{chart}
 use Rattle.envy_layout.specs.Same.{Same, Stays}
 use Rattle.envy_policy.specs.declared.choice.Choice.{Choice}
 use Rattle.envy_flush.specs.Choosing.{ChoiceFor}
-use Rattle.envy_flush.specs.Ticks.{CountsNone}
+use Rattle.envy_flush.specs.Steps.{CountsNone}
 use Rattle.envy_flush.specs.declared.parts.Parts.{Parts}
 use Rattle.envy_flush.proofs.CountLemmas.{Counting-quiet}
 use Rattle.envy_flush.proofs.RowLemmas.{some-rows, free-room, clean-room}
