@@ -72,7 +72,7 @@ no-phase ErasedPhase is = let no : Idle ≡ Erased = is in cc
 
 no-choice : (choice : Choice) (c new : Chart) (x y : Parts) → TicksChoice choice Idle c x new y → ⊥
 no-choice (Free k) c new x y (is, a, b, d) = let no : Idle ≡ Flushed = is in cc
-no-choice (Clean k aside) c new x y (is, a, b, d, e, f, h) = let no : Idle ≡ Began = is in cc
+no-choice (Clean k aside) c new x y (is, a, b, d, e, f, h, begins) = let no : Idle ≡ Began = is in cc
 
 pub idle-found : (p : Picture) (new : Chart) (y : Parts) → IsTrue p.chart.on → TicksBy p.limit p.mark Idle p.chart p.parts new y → IsIdle p
 idle-found p new y on (inl (busy, j)) = absurd (no-phase j.phase j.named)
