@@ -23,3 +23,6 @@ pub mod Lines
 pub mod Readings
 pub mod Readiness
 pub mod Examples
+pub mod Walking
+pub mod Ruling
+pub mod Broken

@@ -1,6 +1,6 @@
 -- Words made by hand, which stand for maps, or break a rule and stand for none.
 use Rattle.std.specs.Prelude.{ℕ, ◌+◌, ◌-◌, ◌*◌, List, [], ◌∷◌, ◌++◌, length, map, replicate}
-use Rattle.std.specs.List.{range_with_len}
+use Rattle.std.specs.List.{flat_map, range_with_len}
 
 -- a list, and zeros up to n words
 abbrev pub padded : ℕ → List ℕ → List ℕ
@@ -22,9 +22,30 @@ one_leaf pairs keys slots = padded 640 (head_words 1 1 pairs ++ node_words 0 key
 abbrev pub row_of : ℕ → ℕ → List (ℕ × ℕ)
 row_of first n = map (λ i. (i, 100 + i)) (range_with_len first n)
 
+-- a leaf of n such pairs
+abbrev pub leaf_of : ℕ → ℕ → List ℕ
+leaf_of first n = node_words 0 (map (λ e. e.0) (row_of first n)) (map (λ e. e.1) (row_of first n))
+
 -- two leaves of this many pairs each, from 0 on, and a root over them with this key
 abbrev pub two_levels : ℕ → ℕ → List ℕ
-two_levels n key = padded 768 (head_words 3 3 (2 * n)
-    ++ node_words 0 (map (λ e. e.0) (row_of 0 n)) (map (λ e. e.1) (row_of 0 n))
-    ++ node_words 0 (map (λ e. e.0) (row_of n n)) (map (λ e. e.1) (row_of n n))
-    ++ node_words 1 (key ∷ []) (0 ∷ 1 ∷ []))
+two_levels n key = padded 768 (head_words 3 3 (2 * n) ++ leaf_of 0 n ++ leaf_of n n ++ node_words 1 (key ∷ []) (0 ∷ 1 ∷ []))
+
+-- the root names its second leaf twice, and the first never
+abbrev pub named_twice : List ℕ
+named_twice = padded 768 (head_words 3 3 30 ++ leaf_of 0 15 ++ leaf_of 15 15 ++ node_words 1 (15 ∷ []) (1 ∷ 1 ∷ []))
+
+-- a leaf beside an inner node with 16 leaves
+abbrev pub uneven : List ℕ
+uneven = padded 1792 (head_words 3 19 255
+    ++ leaf_of 0 15
+    ++ node_words 1 (map (λ i. 30 + 15 * i) (range_with_len 0 15)) (range_with_len 3 16)
+    ++ node_words 1 (15 ∷ []) (0 ∷ 1 ∷ [])
+    ++ flat_map (λ i. leaf_of (15 + 15 * i) 15) (range_with_len 0 16))
+
+-- one leaf, and a piece handed out that is no node
+abbrev pub idle_piece : List ℕ
+idle_piece = padded 640 (head_words 1 2 1 ++ node_words 0 (5 ∷ []) (50 ∷ []))
+
+-- a leaf with no pair, whose piece is free too
+abbrev pub free_root : List ℕ
+free_root = padded 640 (1 ∷ 1 ∷ 1 ∷ [])

@@ -7,6 +7,7 @@ pub mod Index
 pub mod Nodes
 pub mod Pairs
 pub mod Replies
+pub mod Rules
 pub mod Shrinking
 pub mod Spelling
 pub mod Testing

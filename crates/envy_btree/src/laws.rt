@@ -1,14 +1,43 @@
-ghost use Rattle.std.specs.Prelude.{◌≡◌, ◌↔◌, ◌+◌, ◌*◌, ◌<◌, ◌≤◌, ℕ, List, [], length, replicate, Ok, Err};
+ghost use Rattle.std.specs.Prelude.{◌≡◌, ◌↔◌, ◌+◌, ◌*◌, ◌<◌, ◌≤◌, ℕ, List, [], ◌∷◌, length, replicate, slice_index, Ok, Err};
 ghost use Rattle.envy_trace.specs.declared.fault.LineFault.{LineFault};
 ghost use Rattle.envy_btree.specs.declared.line.IndexLine.{IndexLine};
 ghost use Rattle.envy_btree.specs.Grammar.{index_line_of};
 ghost use Rattle.envy_btree.specs.Spelling.{ReadsIndex};
+ghost use Rattle.envy_heap.specs.Pieces.{IsHeap};
+ghost use Rattle.envy_btree.specs.Examples.{one_leaf, two_levels, row_of, named_twice, uneven, idle_piece, free_root};
 ghost use Rattle.envy_btree.specs.Index.{IsIndex};
+ghost use Rattle.envy_btree.specs.Rules.{ObeysRules};
 
 /// What is read is spelled so, and what is spelled so is read. Only its length makes a line too long.
 pub fn index_grammar_holds_both_ways()
     ensures spelled { (bytes : List ℕ) (line : IndexLine) → (index_line_of bytes ≡ Ok line) ↔ ReadsIndex bytes line }
     ensures long { (bytes : List ℕ) → (index_line_of bytes ≡ Err LineFault.Long) ↔ (120 < length bytes) }
+{}
+
+/// Words that stand for a map, with a root, obey each rule of the tree. Words that break one stand for no map.
+pub fn maps_obey_the_rules()
+    ensures { (words free : List ℕ) (root : ℕ) (es : List (ℕ × ℕ)) → IsIndex words es → IsHeap words free → slice_index words 0 ≡ root + 1 → ObeysRules words free root es }
+{}
+
+/// Words made by hand that stand for a map: one leaf, and two levels at the least fill.
+pub fn hand_made_words_are_maps()
+    ensures leaf { IsIndex (one_leaf 1 (5 ∷ []) (50 ∷ [])) ((5, 50) ∷ []) }
+    ensures levels { IsIndex (two_levels 15 15) (row_of 0 30) }
+{}
+
+/// Words made by hand that break one rule stand for no map: a leaf of 14 pairs under a root, a key of the root that is
+/// one too small or too large, keys that fall, another number of pairs, a piece named twice, a leaf
+/// deeper than another, a piece handed out that is no node, and a root that is free.
+pub fn broken_words_are_no_map()
+    ensures leaf_of_14 { (es : List (ℕ × ℕ)) → IsIndex (two_levels 14 14) es → ⊥ }
+    ensures key_too_small { (es : List (ℕ × ℕ)) → IsIndex (two_levels 15 14) es → ⊥ }
+    ensures key_too_large { (es : List (ℕ × ℕ)) → IsIndex (two_levels 15 16) es → ⊥ }
+    ensures falling { (es : List (ℕ × ℕ)) → IsIndex (one_leaf 2 (6 ∷ 5 ∷ []) (60 ∷ 50 ∷ [])) es → ⊥ }
+    ensures miscounted { (es : List (ℕ × ℕ)) → IsIndex (one_leaf 2 (5 ∷ []) (50 ∷ [])) es → ⊥ }
+    ensures twice { (es : List (ℕ × ℕ)) → IsIndex named_twice es → ⊥ }
+    ensures deeper { (es : List (ℕ × ℕ)) → IsIndex uneven es → ⊥ }
+    ensures idle { (es : List (ℕ × ℕ)) → IsIndex idle_piece es → ⊥ }
+    ensures free { (es : List (ℕ × ℕ)) → IsIndex free_root es → ⊥ }
 {}
 
 /// Words that are all 0 stand for the empty map.

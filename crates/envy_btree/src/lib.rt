@@ -26,7 +26,10 @@ mod uprooting;
 pub use fault::TreeFault;
 pub use getting::get;
 pub use inserting::insert;
-pub use laws::{index_grammar_holds_both_ways, zeros_are_the_empty_map};
+pub use laws::{
+    broken_words_are_no_map, hand_made_words_are_maps, index_grammar_holds_both_ways,
+    maps_obey_the_rules, zeros_are_the_empty_map,
+};
 pub use line::IndexLine;
 pub use reading::read_index_line;
 pub use removing::remove;

@@ -1,3 +1,4 @@
+pub mod Examples
 pub mod Pieces
 pub mod Sheets
 pub mod Vectors

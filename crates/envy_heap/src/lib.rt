@@ -12,6 +12,8 @@ mod pieces;
 mod tests;
 mod vec_words;
 
-pub use laws::{free_pieces_are_known, pieces_never_overlap, zeros_are_a_heap};
+pub use laws::{
+    broken_words_are_no_heap, free_pieces_are_known, pieces_never_overlap, zeros_are_a_heap,
+};
 pub use pieces::{give, take};
 pub use vec_words::VecWords;

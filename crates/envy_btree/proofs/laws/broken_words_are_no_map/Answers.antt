@@ -1,0 +1,29 @@
+use Rattle.envy_btree.proofs.Broken.{leaf-of-14, key-too-small, key-too-large, falling, miscounted, twice, deeper, idle, free-root}
+use Rattle.envy_btree.proofs.laws.broken_words_are_no_map.Goals as goal
+
+pub returns-clause-leaf_of_14 : goal.returns-clause-leaf_of_14
+returns-clause-leaf_of_14 c es i = leaf-of-14 es i
+
+pub returns-clause-key_too_small : goal.returns-clause-key_too_small
+returns-clause-key_too_small c es i = key-too-small es i
+
+pub returns-clause-key_too_large : goal.returns-clause-key_too_large
+returns-clause-key_too_large c es i = key-too-large es i
+
+pub returns-clause-falling : goal.returns-clause-falling
+returns-clause-falling c es i = falling es i
+
+pub returns-clause-miscounted : goal.returns-clause-miscounted
+returns-clause-miscounted c es i = miscounted es i
+
+pub returns-clause-twice : goal.returns-clause-twice
+returns-clause-twice c es i = twice es i
+
+pub returns-clause-idle : goal.returns-clause-idle
+returns-clause-idle c es i = idle es i
+
+pub returns-clause-free : goal.returns-clause-free
+returns-clause-free c es i = free-root es i
+
+pub returns-clause-deeper : goal.returns-clause-deeper
+returns-clause-deeper c es i = deeper es i
