@@ -5,13 +5,14 @@
    - It makes a handle with ENVY_NO_MEMORY_HANDLE, calls envy_new on it once, and gives every other call a handle of
      which envy_new answered ENVY_DONE. It neither copies nor changes a handle.
    - One call at a time uses a handle. It may use it from any thread if it orders the calls itself.
-   - Every pointer is to memory that is there, aligned, of the size that is said, and in no two arguments at once.
+   - Every pointer is to memory that is there, aligned, of the size that is said, and in no two arguments at once. So is
+     that of an envy_bytes, which isn't NULL where there are no bytes either.
    - rattle_alloc, rattle_realloc and rattle_dealloc are those of heap.c, or do the same.
 
-   Where power is off, or fails in a call, the call answers ENVY_OFF, and so does every call until envy_revive answers
-   ENVY_DONE. Where power failed in a call, the call was done or not. Where a flash operation failed it answers
-   ENVY_BAD, and no word changed. Where a call answers anything but ENVY_DONE, what its pointers point to is as before,
-   but for ENVY_HELD. */
+   Where power is off, or fails in the call, a call that reads or changes words, or opens or closes slots, answers
+   ENVY_OFF, and so does each later one until envy_revive answers ENVY_DONE. Where power failed in a call, it was done
+   or not. Where a flash operation failed it answers ENVY_BAD, and no word changed. Where a call answers anything but
+   ENVY_DONE, what its pointers point to is as before, but for ENVY_HELD. */
 #ifndef ENVY_H
 #define ENVY_H
 
@@ -27,6 +28,12 @@ typedef struct envy_memory {
 } envy_memory;
 #define ENVY_NO_MEMORY_HANDLE {0}
 
+/* So many bytes of the program's. A call neither keeps nor changes the pointer and the count. */
+typedef struct envy_bytes {
+    uint8_t *at;
+    size_t len;
+} envy_bytes;
+
 /* Makes a place that holds no memory. ENVY_DONE or ENVY_NO_MEMORY. The place, a few hundred bytes, stays until the
    process ends, and serves for any number of memories, one after another. */
 uint32_t envy_new(envy_memory *m);
@@ -34,6 +41,29 @@ uint32_t envy_new(envy_memory *m);
 /* Makes a memory of zeros over a new board, whose power can return `lives` times. ENVY_DONE; ENVY_OPEN; ENVY_POLICY,
    ENVY_SETUP_*; ENVY_NO_MEMORY. Where it is refused the place is as before. */
 uint32_t envy_format(envy_memory *m, const envy_setup *setup, uint32_t lives);
+
+/* Writes how many bytes the image of a board of this setup has: 32 of its head, 256 for each row of flash and 8 for
+   each word of SRAM. ENVY_DONE, ENVY_POLICY or an ENVY_SETUP_*. */
+uint32_t envy_image_size(const envy_setup *setup, uint64_t *size);
+
+/* Writes the image of the memory's board over the first bytes: the mark "eNVyIMG1", the six numbers of the shape as 4
+   bytes each, the words of the rows of flash, and those of SRAM, 8 bytes to a word, the lowest byte of each number
+   first. The program `envy` writes and reads the same. What stands behind the image stays. It takes as many bytes of
+   the heap as the image has, and frees them. ENVY_DONE, ENVY_EMPTY, ENVY_OFF, ENVY_SMALL, ENVY_NO_MEMORY. */
+uint32_t envy_save(envy_memory *m, envy_bytes *image);
+
+/* Writes the shape that an image names into the first six numbers of a setup. It reads the head alone.
+   ENVY_DONE, ENVY_IMAGE_SHORT, ENVY_IMAGE_MARK or an ENVY_IMAGE_SEGMENTS to ENVY_IMAGE_TOTAL. The bytes stay as they
+   are, and where it is refused the setup does. */
+uint32_t envy_image_shape(envy_bytes *image, envy_setup *setup);
+
+/* Takes up the memory that an image is, over a new board whose power can return `lives` times. It takes nothing on
+   trust: the mark and the shape are compared, and what the image makes of the board is audited. Transactions that were
+   open are undone. Bytes behind the image aren't looked at, and none is changed.
+   ENVY_DONE; ENVY_OPEN; ENVY_POLICY, ENVY_SETUP_*; ENVY_IMAGE_*; ENVY_UNFORMATTED; ENVY_OLDER; ENVY_OTHER_SHAPE, where
+   the map of SRAM keeps another shape than the head; ENVY_BROKEN_*; ENVY_NO_MEMORY. Where it is refused the place is as
+   before. */
+uint32_t envy_restore(envy_memory *m, const envy_setup *setup, uint32_t lives, envy_bytes *image);
 
 /* Ends the memory and its board, and frees what they took from the heap. On an empty place it does nothing. */
 void envy_close(envy_memory *m);

@@ -57,7 +57,22 @@ enum envy_code {
     ENVY_BROKEN_JOB = 39,        /* the job's segment, or a copy of its rows, is not as it should be */
     ENVY_BROKEN_COPIES = 40,     /* of a row and its copy both are kept */
     ENVY_BROKEN_OWNED = 41,      /* more pages are owned than may be */
-    ENVY_BROKEN_UNDOS = 42       /* an undo names a slot that isn't in use */
+    ENVY_BROKEN_UNDOS = 42,      /* an undo names a slot that isn't in use */
+
+    /* images; never over regions */
+    ENVY_SMALL = 43,       /* the bytes have no room for the image */
+    ENVY_IMAGE_SHORT = 44, /* the bytes end within the image */
+    ENVY_IMAGE_MARK = 45,  /* the bytes don't begin with the mark of an image */
+    ENVY_IMAGE_OTHER = 46, /* the image is one of another shape than the setup's */
+
+    /* the first rule that the shape of an image breaks, as of a setup */
+    ENVY_IMAGE_SEGMENTS = 47,
+    ENVY_IMAGE_ROWS = 48,
+    ENVY_IMAGE_PAGES = 49,
+    ENVY_IMAGE_FRAMES = 50,
+    ENVY_IMAGE_ENTRIES = 51,
+    ENVY_IMAGE_SHARE = 52,
+    ENVY_IMAGE_TOTAL = 53
 };
 
 /* How the cleaner chooses what to clean. */

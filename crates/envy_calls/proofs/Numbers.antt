@@ -5,7 +5,7 @@ use Rattle.envy_audit.specs.declared.verdict.Rule.TheVariants.{A, B, C, D, E, F,
 use Rattle.envy_policy.specs.declared.setup.SetupFault.TheVariants.{Shape as OfShape, Part, Limit, Mark}
 use Rattle.envy_calls.specs.Codes.{number_of}
 use Rattle.envy_calls.specs.declared.code.Code.{Code}
-use Rattle.envy_calls.specs.declared.code.Code.TheVariants.{Done, Empty, Off, Range, Held, Full, Busy, Closed, Bad, NoMemory, Open, Zero, Dead, Powered, FlashSize, SramSize, ErasesSize, Policy, Unformatted, Older, OtherShape, Setup, Broken}
+use Rattle.envy_calls.specs.declared.code.Code.TheVariants.{Done, Empty, Off, Range, Held, Full, Busy, Closed, Bad, NoMemory, Open, Zero, Dead, Powered, FlashSize, SramSize, ErasesSize, Policy, Unformatted, Older, OtherShape, Setup, Broken, Small, ImageShort, ImageMark, ImageOther, ImageShape}
 
 abbrev code_at : ℕ → Code
 code_at n =
@@ -51,7 +51,18 @@ code_at n =
     else (if n == 39 then Broken I
     else (if n == 40 then Broken J
     else (if n == 41 then Broken K
-    else Broken L)))))))))))))))))))))))))))))))))))))))))
+    else (if n == 42 then Broken L
+    else (if n == 43 then Small
+    else (if n == 44 then ImageShort
+    else (if n == 45 then ImageMark
+    else (if n == 46 then ImageOther
+    else (if n == 47 then ImageShape Segments
+    else (if n == 48 then ImageShape Rows
+    else (if n == 49 then ImageShape Pages
+    else (if n == 50 then ImageShape Frames
+    else (if n == 51 then ImageShape Entries
+    else (if n == 52 then ImageShape Share
+    else ImageShape Total))))))))))))))))))))))))))))))))))))))))))))))))))))
 
 code_at-number_of : (x : Code) → code_at (number_of x) ≡ x
 code_at-number_of Done = refl
@@ -97,6 +108,17 @@ code_at-number_of (Broken I) = refl
 code_at-number_of (Broken J) = refl
 code_at-number_of (Broken K) = refl
 code_at-number_of (Broken L) = refl
+code_at-number_of Small = refl
+code_at-number_of ImageShort = refl
+code_at-number_of ImageMark = refl
+code_at-number_of ImageOther = refl
+code_at-number_of (ImageShape Segments) = refl
+code_at-number_of (ImageShape Rows) = refl
+code_at-number_of (ImageShape Pages) = refl
+code_at-number_of (ImageShape Frames) = refl
+code_at-number_of (ImageShape Entries) = refl
+code_at-number_of (ImageShape Share) = refl
+code_at-number_of (ImageShape Total) = refl
 
 pub same_number : (x y : Code) → number_of x ≡ number_of y → x ≡ y
 same_number x y is = sym (code_at-number_of x) ∙ (ap code_at is ∙ code_at-number_of y)

@@ -1,6 +1,6 @@
 -- What a call answers by a number, and what it leaves in the place for a memory: all that the memory's call says of
 -- the answer that the number stands for. Where the place holds no memory that is the answer, and nothing changes.
-use Rattle.std.specs.Prelude.{◌≡◌, ◌≢◌, ◌↔◌, ◌+◌, ◌*◌, ◌/◌, ◌<◌, ◌≤◌, not, ℕ, false, IsTrue, IsErrOf, OnOk, IfOk, MatchResult, length, nat_lt, if◌then◌else◌, Option, None, Some, Result, Ok, Err}
+use Rattle.std.specs.Prelude.{◌≡◌, ◌≢◌, ◌↔◌, ◌+◌, ◌*◌, ◌/◌, ◌<◌, ◌≤◌, not, ℕ, false, IsTrue, IsErrOf, OnOk, IfOk, MatchResult, length, slice_index, nat_lt, if◌then◌else◌, Option, None, Some, Result, Ok, Err}
 use Rattle.std.specs.List.{filter}
 use Rattle.envy_base.specs.Array.{Array}
 use Rattle.envy_base.specs.declared.board.Trouble.{Trouble}
@@ -10,6 +10,7 @@ use Rattle.envy_base.specs.declared.fields.Slot.TheVariants.{Active}
 use Rattle.envy_map.specs.Fields.{slot as slot_of, undo as undo_of}
 use Rattle.envy_map.specs.Writes.{with_slot}
 use Rattle.envy_layout.specs.Stands.{Stands}
+use Rattle.envy_layout.specs.Words.{durable}
 use Rattle.envy_table.specs.Hits.{Rests}
 use Rattle.envy_flush.specs.Counts.{Counting}
 use Rattle.envy_flush.specs.Flushing.{Ends, Stops}
@@ -53,6 +54,7 @@ pub record LooksAt (p : Picture) (a code before after : ℕ) : Type 0 where
   pub answer : Result ℕ LoadFault
   pub coded : code ≡ number_of (load_code answer)
   pub written : after ≡ loaded before answer
+  pub word : OnOk answer (answer ≡ Ok (slice_index (durable p.chart) a))
   pub step : (m : Array) → Stands p.chart m → Looks m a answer p.chart
   pub off : (answer ≡ Err LoadOff) ↔ (p.chart.on ≡ false)
   pub range : (answer ≡ Err LoadRange) ↔ (IsTrue p.chart.on × (32 * p.chart.shape.pages ≤ a))

@@ -4,7 +4,7 @@ use Rattle.envy_base.specs.declared.board.Trouble.{Trouble}
 use Rattle.envy_base.specs.declared.board.Trouble.TheVariants.{Off as TroubleOff, Bad as TroubleBad}
 use Rattle.envy_audit.specs.declared.verdict.Rule.{Rule}
 use Rattle.envy_audit.specs.Judging.{number_of as rule_place}
-use Rattle.envy_policy.specs.Setup.{rule_of}
+use Rattle.envy_policy.specs.Setup.{rule_of, shape_rule}
 use Rattle.envy_flush.specs.declared.did.Did.{Did}
 use Rattle.envy_flush.specs.declared.did.Did.TheVariants.{Idle, Flushed, Began, Moved, Copied, Switched, Placed, Erased}
 use Rattle.envy_memory.specs.declared.faults.LoadFault.{LoadFault}
@@ -20,7 +20,7 @@ use Rattle.envy_memory.specs.declared.faults.EndFault.TheVariants.{Off as EndOff
 use Rattle.envy_memory.specs.declared.faults.FormatFault.{FormatFault}
 use Rattle.envy_memory.specs.declared.faults.FormatFault.TheVariants.{Off as FormatOff, Setup as FormatSetup, OtherShape as FormatShape, Memory as FormatMemory, Bad as FormatBad}
 use Rattle.envy_calls.specs.declared.code.Code.{Code}
-use Rattle.envy_calls.specs.declared.code.Code.TheVariants.{Done, Empty, Off, Range, Held, Full, Busy, Closed, Bad, NoMemory, Open, Zero, Dead, Powered, FlashSize, SramSize, ErasesSize, Policy, Unformatted, Older, OtherShape, Setup, Broken}
+use Rattle.envy_calls.specs.declared.code.Code.TheVariants.{Done, Empty, Off, Range, Held, Full, Busy, Closed, Bad, NoMemory, Open, Zero, Dead, Powered, FlashSize, SramSize, ErasesSize, Policy, Unformatted, Older, OtherShape, Setup, Broken, Small, ImageShort, ImageMark, ImageOther, ImageShape}
 
 -- the place of a point of soundness in the order of the audit
 abbrev pub number_of_rule : Rule → ℕ
@@ -50,6 +50,11 @@ number_of Older = 19
 number_of OtherShape = 20
 number_of (Setup fault) = 20 + rule_of fault
 number_of (Broken rule) = 31 + number_of_rule rule
+number_of Small = 43
+number_of ImageShort = 44
+number_of ImageMark = 45
+number_of ImageOther = 46
+number_of (ImageShape fault) = 46 + shape_rule fault
 
 -- the code of what a call of the memory answers
 

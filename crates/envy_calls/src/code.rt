@@ -1,7 +1,9 @@
 ghost use Rattle.std.specs.Prelude.{◌≡◌};
+ghost use Rattle.envy_policy.specs.Setup.{shape_rule};
 ghost use Rattle.envy_calls.specs.Codes.{number_of_rule, number_of};
 
 use envy_audit::Rule;
+use envy_base::ShapeFault;
 use envy_policy::SetupFault;
 
 /// What a call answers.
@@ -53,6 +55,16 @@ pub enum Code {
     Setup(SetupFault),
     /// What was found isn't sound: this is the first point that fails.
     Broken(Rule),
+    /// The caller's bytes have no room for the image.
+    Small,
+    /// The bytes end within the image.
+    ImageShort,
+    /// The bytes don't begin with the mark of an image.
+    ImageMark,
+    /// The image is one of another shape than the setup's.
+    ImageOther,
+    /// The image has a shape that breaks this rule.
+    ImageShape(ShapeFault),
 }
 
 // The place of a point in the order of the audit.
@@ -72,6 +84,21 @@ fn rule_number(rule: Rule) -> u32
         Rule::J => 9,
         Rule::K => 10,
         Rule::L => 11,
+    }
+}
+
+// The place of a rule in the order in which shapes are checked.
+fn shape_number(fault: ShapeFault) -> u32
+    ensures { result ≡ shape_rule fault }
+{
+    match fault {
+        ShapeFault::Segments => 1,
+        ShapeFault::Rows => 2,
+        ShapeFault::Pages => 3,
+        ShapeFault::Frames => 4,
+        ShapeFault::Entries => 5,
+        ShapeFault::Share => 6,
+        ShapeFault::Total => 7,
     }
 }
 
@@ -104,6 +131,11 @@ impl Code {
             Code::OtherShape => 20,
             Code::Setup(fault) => 20 + fault.rule() as u32,
             Code::Broken(rule) => 31 + rule_number(rule),
+            Code::Small => 43,
+            Code::ImageShort => 44,
+            Code::ImageMark => 45,
+            Code::ImageOther => 46,
+            Code::ImageShape(fault) => 46 + shape_number(fault),
         }
     }
 }
