@@ -21,7 +21,7 @@ pub record IsServing {Line Reply : Type 0} (g : Grammar Line Reply) (skipped : �
   pub within : reader.taken ≤ reader.cap
 
 -- before the first line
-pub serving-none : {Line Reply : Type 0} (g : Grammar Line Reply) (Done : List (Turn Line Reply) → Type 0) (feed : Feed) (sink : Drain) (reader : Taking) → Done [] → IsAtStart reader → IsServing g reader.taken Done 0 feed sink feed sink reader
+pub serving-none : {Line Reply : Type 0} (g : Grammar Line Reply) (Done : List (Turn Line Reply) → Type 0) (feed : Feed) (sink : Drain) (reader : Taking) → Done [] → IsAtStart reader feed → IsServing g reader.taken Done 0 feed sink feed sink reader
 serving-none g Done feed sink reader done start = record {
   progress = record {
     turns = [];
@@ -32,7 +32,7 @@ serving-none g Done feed sink reader done start = record {
       pieces = [];
       source = sym (with_front-nil feed.left);
       faults = omega arith;
-      dry = λ ended. absurd (let going = start.going in cc);
+      dry = start.dry;
       given = record { each = tt; split = inl (sym start.held) };
       count = omega arith;
       says = refl;

@@ -112,7 +112,7 @@ pub fn serve<V: Service, S: Source, K: Sink>(
     reader: Lines,
 ) -> Served
     requires begun { (start : V.Start) × V.Did start service.old [] }
-    requires reader { IsAtStart reader }
+    requires reader { IsAtStart reader (S.feed source.old) }
     ensures serves { (start : V.Start) → V.Did start service.old []
         → (turns : List (Turn V.Line V.Reply)) × Serves result.end result.lines result.taken V.grammar reader.taken (V.Did start service.new) (V.Died start service.new) (V.tail service.new) turns
         (record { from = S.feed source.old; feed = S.feed source.new; to = K.drain sink.old; sink = K.drain sink.new }) }
