@@ -6,9 +6,10 @@ use Rattle.envy_base.specs.Array.{Array}
 use Rattle.envy_base.specs.Step.{Command}
 use Rattle.envy_base.specs.declared.shape.Shape.{Shape}
 use Rattle.envy_layout.proofs.Standing.{length-stands}
-use Rattle.envy_mirror.specs.Asking.{Answers, AsksBoth, heard}
+use Rattle.envy_memory.specs.Picture.{Picture}
+use Rattle.envy_mirror.specs.Asking.{Answers, AsksBoth, TellsBoth, heard, replied}
 use Rattle.envy_mirror.specs.Mirroring.{Mirrors, Gives}
-use Rattle.envy_mirror.specs.Pair.{Pair, is_good, IsPair, lasting}
+use Rattle.envy_mirror.specs.Pair.{Side, Pair, is_good, IsPair, lasting}
 use Rattle.envy_mirror.specs.Replies.{Reply, marked}
 use Rattle.envy_mirror.proofs.Giving.{Before, gives}
 use Rattle.envy_mirror.proofs.Holding.{IsPair-reached, dark-reached}
@@ -28,6 +29,16 @@ long-mirrors p m i h = at (or_cases (is_good p.first) (is_good p.second) h.some)
 
 pub Before-is : (p : Pair) (m : Array) → IsPair p → Mirrors p m → Before p m
 Before-is p m i h = record { pair = i; mirrors = h; long = long-mirrors p m i h }
+
+-- what became of both sides, whatever is said of the calls besides
+pub asks-both : {T : Type 0} (reply : T → Reply) (Does : T → Picture → Picture → Type 0) (command : Command) (result : T) (first second new_first new_second : Side) → TellsBoth reply Does command result first second new_first new_second → AsksBoth command (reply result) first second new_first new_second
+asks-both reply Does command result first second new_first new_second t = record {
+  one = replied reply t.one;
+  two = replied reply t.two;
+  to_first = (t.to_first.0, t.to_first.1, t.to_first.3);
+  to_second = (t.to_second.0, t.to_second.1, t.to_second.3);
+  told = t.told;
+}
 
 pub IsPair-both : (old new : Pair) (command : Command) (reply : Reply) → IsPair old → AsksBoth command reply old.first old.second new.first new.second → new.stale ≡ marked command reply old.stale → new.last ≡ lasting old new → IsPair new
 IsPair-both old new command reply i b stale last = IsPair-reached old new command b.one b.two reply i b.to_first b.to_second stale last

@@ -1,10 +1,11 @@
 -- What a pair stands for once a command went to each Good side, by the replies.
-use Rattle.std.proofs.Common.{◌≡◌, ◌≢◌, ℕ, ◌*◌, Bool, true, false, List, length, Option, None, Some, refl, sym, ◌∙◌, ap, subst}
+use Rattle.std.proofs.Common.{◌≡◌, ◌≢◌, ◌⊎◌, inl, inr, ℕ, ◌*◌, Bool, true, false, List, length, Option, None, Some, refl, sym, ◌∙◌, ap, subst}
 use Rattle.std.specs.Prelude.{IsTrue, ◌||◌}
+use Rattle.std.proofs.lemmas.Bool.{cases_Bool}
 use Rattle.envy_base.specs.Array.{Array}
-use Rattle.envy_base.specs.Step.{Command, Answer, Step}
+use Rattle.envy_base.specs.Step.{Command, Load, Look, Store, Begin, Put, Commit, Abort, Tick, Answer, Word, Started, Done, Range, Held, Closed, Full, Busy, Step}
 use Rattle.envy_layout.specs.Stands.{Stands}
-use Rattle.envy_mirror.specs.Asking.{Reaches, heard}
+use Rattle.envy_mirror.specs.Asking.{Reaches, heard, is_moving}
 use Rattle.envy_mirror.specs.Mirroring.{Agrees, Mirrors, Gives, Trails}
 use Rattle.envy_mirror.specs.Pair.{Side, Pair, is_good, IsPair, IsDark, lasting}
 use Rattle.envy_mirror.specs.Replies.{Reply, Off, Bad, Said, marked}
@@ -83,6 +84,31 @@ said-both old new m command x y one b first second stale =
           (agrees-good new.second left t.0 (Told.good u.2) (subst (λ (k : Array). Stands new.second.memory.chart k) same (Told.stands u.2))),
     )
 
+-- ---- one failed where the array stays, and both are Good
+
+still : (m n : Array) (command : Command) (answer : Answer) → is_moving command ≡ false → Step m command answer n → n ≡ m
+still m n Tick Done holds step = step
+still m n Tick (Word w) holds step = absurd step
+still m n Tick (Started t) holds step = absurd step
+still m n Tick Range holds step = absurd step
+still m n Tick (Held u) holds step = absurd step
+still m n Tick Closed holds step = absurd step
+still m n Tick Full holds step = absurd step
+still m n Tick Busy holds step = absurd step
+still m n (Load a) answer holds step = cc
+still m n (Look a) answer holds step = cc
+still m n (Store a w) answer holds step = cc
+still m n Begin answer holds step = cc
+still m n (Put t a w) answer holds step = cc
+still m n (Commit t) answer holds step = cc
+still m n (Abort t) answer holds step = cc
+
+told-still : (m n : Array) (command : Command) (answer : Answer) (s : Side) → is_moving command ≡ false → Step m command answer n → Told m s → Told n s
+told-still m n command answer s holds step = subst (λ (k : Array). Told k s) (sym (still m n command answer holds step))
+
+both-told : (new : Pair) (n : Array) (left : List Bool) → new.stale ≡ left → Told n new.first → Told n new.second → Mirrors new n
+both-told new n left stale f s = mirrors new n left stale (either-left (is_good new.first) (is_good new.second) (good-is new.first f.good)) (agrees-good new.first left n f.good f.stands) (agrees-good new.second left n s.good s.stands)
+
 -- ---- by both replies
 
 pub gives : (old new : Pair) (m : Array) (command : Command) (one two : Option Reply) → IsOne → Before old m → Reaches command two one old.first new.first → Reaches command one two old.second new.second → new.stale ≡ marked command (heard one two) old.stale → new.last ≡ lasting old new → Gives m command (heard one two) new
@@ -158,11 +184,23 @@ gives old new m command (Some Bad) (Some Bad) law b first second stale last =
           (agrees-good new.first old.stale m (Told.good f.2) (Told.stands f.2))
           (agrees-good new.second old.stale m (Told.good s.2) (Told.stands s.2)),
     )
-gives old new m command (Some Bad) (Some (Said y)) law b first second stale last =
-    said-second old new m command y (Some Bad) b second (reach-spoiled command (Some (Said y)) old.first new.first refl first) stale
+gives old new m command (Some Bad) (Some (Said y)) law b first second stale last = at (cases_Bool (is_moving command))
+  where
+    at : (is_moving command ≡ true) ⊎ (is_moving command ≡ false) → Gives m command (Said y) new
+    at (inl moving) = said-second old new m command y (Some Bad) b second (reach-spoiled command (Some (Said y)) old.first new.first moving first) stale
+    at (inr still_there) =
+        let f = reach-bad command (Some (Said y)) old.first new.first old.stale m still_there first (Mirrors.first b.mirrors) in
+        let s = reach-said command (Some Bad) y old.second new.second old.stale m second (Mirrors.second b.mirrors) in
+        (s.0, s.1, both-told new s.0 (marked command (Said y) old.stale) stale (told-still m s.0 command y new.first still_there s.1 f.2) s.2)
 gives old new m command (Some (Said x)) (Some Off) law b first second stale last =
     let s = reach-off command (Some (Said x)) old.second new.second old.stale m second (Mirrors.second b.mirrors) in
     said-first old new m command x (Some Off) b first s.1 stale
-gives old new m command (Some (Said x)) (Some Bad) law b first second stale last =
-    said-first old new m command x (Some Bad) b first (reach-spoiled command (Some (Said x)) old.second new.second refl second) stale
+gives old new m command (Some (Said x)) (Some Bad) law b first second stale last = at (cases_Bool (is_moving command))
+  where
+    at : (is_moving command ≡ true) ⊎ (is_moving command ≡ false) → Gives m command (Said x) new
+    at (inl moving) = said-first old new m command x (Some Bad) b first (reach-spoiled command (Some (Said x)) old.second new.second moving second) stale
+    at (inr still_there) =
+        let f = reach-said command (Some Bad) x old.first new.first old.stale m first (Mirrors.first b.mirrors) in
+        let s = reach-bad command (Some (Said x)) old.second new.second old.stale m still_there second (Mirrors.second b.mirrors) in
+        (f.0, f.1, both-told new f.0 (marked command (Said x) old.stale) stale f.2 (told-still m f.0 command x new.second still_there f.1 s.2))
 gives old new m command (Some (Said x)) (Some (Said y)) law b first second stale last = said-both old new m command x y law b first second stale

@@ -6,7 +6,7 @@ use Rattle.envy_base.specs.Step.{Command, Answer}
 use Rattle.envy_base.specs.declared.shape.Shape.{Shape}
 use Rattle.envy_map.specs.Fields.{Chart}
 use Rattle.envy_memory.specs.Picture.{Picture}
-use Rattle.envy_mirror.specs.Asking.{Asks, Asked, Reckons, Reaches, heard, has_said, cut_by_hand, standing_after, spoiled_if}
+use Rattle.envy_mirror.specs.Asking.{Asks, Asked, Reckons, Reaches, heard, has_said, is_moving, cut_by_hand, standing_after, spoiled_if}
 use Rattle.envy_mirror.specs.Pair.{Side, Pair, is_good, is_good_by, IsDark, IsPair, IsSide, IsSideBy, Leads, MayLead, lasting}
 use Rattle.envy_mirror.specs.Replies.{Reply, Off, Bad, Said, marked}
 use Rattle.envy_mirror.specs.declared.standing.Standing.{Standing}
@@ -40,7 +40,7 @@ side-spoiled false mid is = is
 pub side-reached : (command : Command) (other own : Option Reply) (old new : Side) → IsSide old → Reaches command other own old new → IsSide new
 side-reached command other None old new side reach = subst IsSide (sym (reach-none command other old new reach).1) side
 side-reached command other (Some Off) old new side (mid, asked, is) = subst IsSide (sym is) (side-asked command Off old mid asked)
-side-reached command other (Some Bad) old new side (mid, asked, is) = subst IsSide (sym is) (side-spoiled (has_said other) mid (side-asked command Bad old mid asked))
+side-reached command other (Some Bad) old new side (mid, asked, is) = subst IsSide (sym is) (side-spoiled (has_said other && is_moving command) mid (side-asked command Bad old mid asked))
 side-reached command other (Some (Said answer)) old new side (mid, asked, is) = subst IsSide (sym is) (side-asked command (Said answer) old mid asked)
 
 shape-asked : (command : Command) (reply : Reply) (old mid : Side) → Asked command (Some reply) old mid → mid.memory.chart.shape ≡ old.memory.chart.shape
@@ -56,7 +56,7 @@ HasShape sh s = s.memory.chart.shape ≡ sh
 pub shape-reached : (command : Command) (other own : Option Reply) (old new : Side) → Reaches command other own old new → new.memory.chart.shape ≡ old.memory.chart.shape
 shape-reached command other None old new reach = ap (λ (s : Side). s.memory.chart.shape) (reach-none command other old new reach).1
 shape-reached command other (Some Off) old new (mid, asked, is) = ap (λ (s : Side). s.memory.chart.shape) is ∙ shape-asked command Off old mid asked
-shape-reached command other (Some Bad) old new (mid, asked, is) = ap (λ (s : Side). s.memory.chart.shape) is ∙ shape-spoiled (has_said other) mid ∙ shape-asked command Bad old mid asked
+shape-reached command other (Some Bad) old new (mid, asked, is) = ap (λ (s : Side). s.memory.chart.shape) is ∙ shape-spoiled (has_said other && is_moving command) mid ∙ shape-asked command Bad old mid asked
 shape-reached command other (Some (Said answer)) old new (mid, asked, is) = ap (λ (s : Side). s.memory.chart.shape) is ∙ shape-asked command (Said answer) old mid asked
 
 -- ---- who was Good last
@@ -68,7 +68,7 @@ IsSettled g = (g ≡ Good) ⊎ (g ≡ Gone)
 settled-reached : (command : Command) (other : Option Reply) (reply : Reply) (old new : Side) → Reaches command other (Some reply) old new → IsSettled new.standing
 settled-reached command other Off old new (mid, (good, asks, stood), is) = inr (ap (λ (s : Side). s.standing) is ∙ stood)
 settled-reached command other (Said answer) old new (mid, (good, asks, stood), is) = inl (ap (λ (s : Side). s.standing) is ∙ stood)
-settled-reached command other Bad old new (mid, (good, asks, stood), is) = at (has_said other) is
+settled-reached command other Bad old new (mid, (good, asks, stood), is) = at (has_said other && is_moving command) is
   where
     at : (b : Bool) → new ≡ spoiled_if b mid → IsSettled new.standing
     at true e = inr (ap (λ (s : Side). s.standing) e)
@@ -128,45 +128,45 @@ IsPair-reached old new command one two reply i first second stale last =
 
 -- ---- no side is Good
 
-abbrev left_good : Option Reply → Option Reply → Bool
-left_good other None = false
-left_good other (Some Off) = false
-left_good other (Some Bad) = if has_said other then false else true
-left_good other (Some (Said answer)) = true
+abbrev left_good : Command → Option Reply → Option Reply → Bool
+left_good command other None = false
+left_good command other (Some Off) = false
+left_good command other (Some Bad) = if has_said other && is_moving command then false else true
+left_good command other (Some (Said answer)) = true
 
-good-reached : (command : Command) (other own : Option Reply) (old new : Side) → Reaches command other own old new → is_good new ≡ left_good other own
+good-reached : (command : Command) (other own : Option Reply) (old new : Side) → Reaches command other own old new → is_good new ≡ left_good command other own
 good-reached command other None old new reach = let r = reach-none command other old new reach in ap is_good r.1 ∙ r.0
 good-reached command other (Some Off) old new (mid, (good, asks, stood), is) = ap is_good is ∙ ap is_good_by stood
 good-reached command other (Some (Said answer)) old new (mid, (good, asks, stood), is) = ap is_good is ∙ ap is_good_by stood
-good-reached command other (Some Bad) old new (mid, (good, asks, stood), is) = at (has_said other) is
+good-reached command other (Some Bad) old new (mid, (good, asks, stood), is) = at (has_said other && is_moving command) is
   where
     at : (b : Bool) → new ≡ spoiled_if b mid → is_good new ≡ (if b then false else true)
     at true e = ap is_good e
     at false e = ap is_good e ∙ ap is_good_by stood
 
-abbrev IsLeftDark : Option Reply → Option Reply → Type 0
-IsLeftDark one two = (left_good two one ≡ false) × (left_good one two ≡ false)
+abbrev IsLeftDark : Command → Option Reply → Option Reply → Type 0
+IsLeftDark command one two = (left_good command two one ≡ false) × (left_good command one two ≡ false)
 
-dark-heard : (one two : Option Reply) → (heard one two ≡ Off) ↔ IsLeftDark one two
-dark-heard None None = ((λ e. (refl, refl)), (λ d. refl))
-dark-heard None (Some Off) = ((λ e. (refl, refl)), (λ d. refl))
-dark-heard None (Some Bad) = ((λ e. cc), (λ d. let clash : true ≡ false = d.1 in cc))
-dark-heard None (Some (Said y)) = ((λ e. cc), (λ d. let clash : true ≡ false = d.1 in cc))
-dark-heard (Some Off) None = ((λ e. (refl, refl)), (λ d. refl))
-dark-heard (Some Bad) None = ((λ e. cc), (λ d. let clash : true ≡ false = d.0 in cc))
-dark-heard (Some (Said x)) None = ((λ e. cc), (λ d. let clash : true ≡ false = d.0 in cc))
-dark-heard (Some Off) (Some Off) = ((λ e. (refl, refl)), (λ d. refl))
-dark-heard (Some Off) (Some Bad) = ((λ e. cc), (λ d. let clash : true ≡ false = d.1 in cc))
-dark-heard (Some Off) (Some (Said y)) = ((λ e. cc), (λ d. let clash : true ≡ false = d.1 in cc))
-dark-heard (Some Bad) (Some Off) = ((λ e. cc), (λ d. let clash : true ≡ false = d.0 in cc))
-dark-heard (Some Bad) (Some Bad) = ((λ e. cc), (λ d. let clash : true ≡ false = d.0 in cc))
-dark-heard (Some Bad) (Some (Said y)) = ((λ e. cc), (λ d. let clash : true ≡ false = d.1 in cc))
-dark-heard (Some (Said x)) (Some Off) = ((λ e. cc), (λ d. let clash : true ≡ false = d.0 in cc))
-dark-heard (Some (Said x)) (Some Bad) = ((λ e. cc), (λ d. let clash : true ≡ false = d.0 in cc))
-dark-heard (Some (Said x)) (Some (Said y)) = ((λ e. cc), (λ d. let clash : true ≡ false = d.0 in cc))
+dark-heard : (command : Command) (one two : Option Reply) → (heard one two ≡ Off) ↔ IsLeftDark command one two
+dark-heard command None None = ((λ e. (refl, refl)), (λ d. refl))
+dark-heard command None (Some Off) = ((λ e. (refl, refl)), (λ d. refl))
+dark-heard command None (Some Bad) = ((λ e. cc), (λ d. let clash : true ≡ false = d.1 in cc))
+dark-heard command None (Some (Said y)) = ((λ e. cc), (λ d. let clash : true ≡ false = d.1 in cc))
+dark-heard command (Some Off) None = ((λ e. (refl, refl)), (λ d. refl))
+dark-heard command (Some Bad) None = ((λ e. cc), (λ d. let clash : true ≡ false = d.0 in cc))
+dark-heard command (Some (Said x)) None = ((λ e. cc), (λ d. let clash : true ≡ false = d.0 in cc))
+dark-heard command (Some Off) (Some Off) = ((λ e. (refl, refl)), (λ d. refl))
+dark-heard command (Some Off) (Some Bad) = ((λ e. cc), (λ d. let clash : true ≡ false = d.1 in cc))
+dark-heard command (Some Off) (Some (Said y)) = ((λ e. cc), (λ d. let clash : true ≡ false = d.1 in cc))
+dark-heard command (Some Bad) (Some Off) = ((λ e. cc), (λ d. let clash : true ≡ false = d.0 in cc))
+dark-heard command (Some Bad) (Some Bad) = ((λ e. cc), (λ d. let clash : true ≡ false = d.0 in cc))
+dark-heard command (Some Bad) (Some (Said y)) = ((λ e. cc), (λ d. let clash : true ≡ false = d.1 in cc))
+dark-heard command (Some (Said x)) (Some Off) = ((λ e. cc), (λ d. let clash : true ≡ false = d.0 in cc))
+dark-heard command (Some (Said x)) (Some Bad) = ((λ e. cc), (λ d. let clash : true ≡ false = d.0 in cc))
+dark-heard command (Some (Said x)) (Some (Said y)) = ((λ e. cc), (λ d. let clash : true ≡ false = d.0 in cc))
 
 pub dark-reached : (old new : Pair) (command : Command) (one two : Option Reply) (reply : Reply) → Reaches command two one old.first new.first → Reaches command one two old.second new.second → reply ≡ heard one two → (reply ≡ Off) ↔ IsDark new
 dark-reached old new command one two reply first second told =
     let f = good-reached command two one old.first new.first first in
     let s = good-reached command one two old.second new.second second in
-    rw (told, f, s) (dark-heard one two)
+    rw (told, f, s) (dark-heard command one two)

@@ -8,7 +8,7 @@ use Rattle.envy_map.specs.Fields.{Chart}
 use Rattle.envy_layout.specs.Stands.{Stands, IsLost}
 use Rattle.envy_layout.proofs.Standing.{length-stands}
 use Rattle.envy_memory.specs.Picture.{Picture}
-use Rattle.envy_mirror.specs.Asking.{Asks, Asked, Reaches, AsksBoth, heard, has_said, cut_by_hand}
+use Rattle.envy_mirror.specs.Asking.{Asks, Asked, Reaches, AsksBoth, heard, has_said, is_moving, cut_by_hand}
 use Rattle.envy_mirror.specs.Mirroring.{AgreesBy, Agrees, Mirrors, Gives, Trails}
 use Rattle.envy_mirror.specs.Pair.{Side, Pair, is_good, is_good_by, side_at, IsDark, IsPair, IsSide, IsSideBy, Leads, MayLead, lasting}
 use Rattle.envy_mirror.specs.Replies.{Reply, Off, Bad, Said, marked, mark_if, set_mark, written_by}
@@ -67,13 +67,13 @@ reach-said command other answer old new stale m (mid, (good, asks, stood), is) a
     let t = asks.step m (stands-good old.standing old.memory.chart stale m good agrees) in
     (t.0, t.1, subst (λ (s : Side). Told t.0 s) (sym is) (record { good = stood; stands = t.2 }))
 
-pub reach-bad : (command : Command) (other : Option Reply) (old new : Side) (stale : List Bool) (m : Array) → has_said other ≡ false → Reaches command other (Some Bad) old new → Agrees old stale m → (n : Array) × Accepts m command n × Told m new
+pub reach-bad : (command : Command) (other : Option Reply) (old new : Side) (stale : List Bool) (m : Array) → (has_said other && is_moving command) ≡ false → Reaches command other (Some Bad) old new → Agrees old stale m → (n : Array) × Accepts m command n × Told m new
 reach-bad command other old new stale m none (mid, (good, asks, stood), is) agrees =
     let t = asks.step m (stands-good old.standing old.memory.chart stale m good agrees) in
     let same : new ≡ mid = rw none at is in
     (t.0, t.1, subst (λ (s : Side). Told m s) (sym same) (record { good = stood; stands = t.2 }))
 
-pub reach-spoiled : (command : Command) (other : Option Reply) (old new : Side) → has_said other ≡ true → Reaches command other (Some Bad) old new → new.standing ≡ Gone
+pub reach-spoiled : (command : Command) (other : Option Reply) (old new : Side) → (has_said other && is_moving command) ≡ true → Reaches command other (Some Bad) old new → new.standing ≡ Gone
 reach-spoiled command other old new said (mid, asked, is) =
     let same : new ≡ record { memory = cut_by_hand mid.memory; standing = Gone } = rw said at is in
     ap (λ (s : Side). s.standing) same

@@ -1,7 +1,7 @@
 -- A call that goes to each Good side.
-use Rattle.std.specs.Prelude.{◌≡◌, ◌↔◌, ℕ, ◌-◌, ◌^◌, ◌<◌, ◌≤◌, Bool, true, false, IsTrue, Option, None, Some, ◌&&◌}
+use Rattle.std.specs.Prelude.{◌≡◌, ◌↔◌, ℕ, ◌-◌, ◌^◌, ◌<◌, ◌≤◌, Bool, true, false, IsTrue, Option, None, Some, ◌&&◌, MatchOption}
 use Rattle.envy_base.specs.Array.{Array}
-use Rattle.envy_base.specs.Step.{Command}
+use Rattle.envy_base.specs.Step.{Command, Tick}
 use Rattle.envy_map.specs.Fields.{Chart}
 use Rattle.envy_layout.specs.Stands.{Stands, Steps, IsLost, Fails}
 use Rattle.envy_flush.specs.Counts.{Tallies}
@@ -70,13 +70,18 @@ abbrev pub spoiled_if : Bool → Side → Side
 spoiled_if true mid = record { memory = cut_by_hand mid.memory; standing = Gone }
 spoiled_if false mid = mid
 
--- A side whose flash failed, where the other did the command or refused it, is cut, and is Gone.
-abbrev pub left_by : Option Reply → Option Reply → Side → Side
-left_by other own mid = spoiled_if (has_failed own && has_said other) mid
+-- Whether a side that failed lags behind one that did the command: a tick leaves the array as it was.
+abbrev pub is_moving : Command → Bool
+is_moving Tick = false
+is_moving other = true
+
+-- A side whose flash failed in a store or put, where the other did the command or refused it, is cut, and is Gone.
+abbrev pub left_by : Command → Option Reply → Option Reply → Side → Side
+left_by command other own mid = spoiled_if (has_failed own && (has_said other && is_moving command)) mid
 
 -- one side in a call, by what the other and it replied
 abbrev pub Reaches : Command → Option Reply → Option Reply → Side → Side → Type 0
-Reaches command other own old new = (mid : Side) × Asked command own old mid × (new ≡ left_by other own mid)
+Reaches command other own old new = (mid : Side) × Asked command own old mid × (new ≡ left_by command other own mid)
 
 -- The answer of the pair: that of the lowest side that did the command or refused it; else `Bad` where a side says so.
 abbrev pub heard : Option Reply → Option Reply → Reply
@@ -105,10 +110,17 @@ pub record Answers (command : Command) (reply : Reply) (old new : Pair) : Type 0
   pub step : (m : Array) → Mirrors old m → Gives m command reply new
   pub off : (reply ≡ Off) ↔ IsDark new
 
-abbrev pub If : Bool → Type 0 → Type 0 → Type 0
-If true so not_so = so
-If false so not_so = not_so
+-- one side in a call, by what it told: what a call tells is said of each memory that was asked
+abbrev pub Tells : {T : Type 0} → (T → Reply) → (T → Picture → Picture → Type 0) → Command → Option T → Option T → Side → Side → Type 0
+Tells reply Does command other own old new = (mid : Side) × Asked command (replied reply own) old mid × MatchOption own (Unit {0}) (λ told. Does told old.memory mid.memory) × (new ≡ left_by command (replied reply other) (replied reply own) mid)
 
--- what is said of the memory of the lowest side that is Good at the end
-abbrev pub OfLowest : (Picture → Picture → Type 0) → Side → Side → Side → Side → Type 0
-OfLowest P first second new_first new_second = If (is_good new_first) (P first.memory new_first.memory) (P second.memory new_second.memory)
+-- The command went to each Good side of two. What the pair tells is what the lowest side told that did the command or
+-- refused it.
+pub record TellsBoth {T : Type 0} (reply : T → Reply) (Does : T → Picture → Picture → Type 0) (command : Command) (result : T) (first second new_first new_second : Side) : Type 0 where
+  pub one : Option T
+  pub two : Option T
+  pub to_first : Tells reply Does command two one first new_first
+  pub to_second : Tells reply Does command one two second new_second
+  pub told : reply result ≡ heard (replied reply one) (replied reply two)
+  pub lowest : IsTrue (has_said (replied reply one)) → one ≡ Some result
+  pub next : has_said (replied reply one) ≡ false → IsTrue (is_said (reply result)) → two ≡ Some result

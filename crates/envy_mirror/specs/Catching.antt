@@ -18,6 +18,7 @@ use Rattle.envy_mirror.specs.declared.standing.Standing.TheVariants.{Good, Behin
 
 -- t is the lowest open slot
 pub record IsLowestOpen (c : Chart) (t : ℕ) : Type 0 where
+  pub within : t < 64
   pub open_one : slot c.fields t ≡ Some Active
   pub below : (u : ℕ) → u < t → slot c.fields u ≢ Some Active
 

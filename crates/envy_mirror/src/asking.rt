@@ -2,7 +2,7 @@ ghost use Rattle.std.specs.Prelude.{◌≡◌, ◌&&◌, false, IsTrue, IfOk, So
 ghost use Rattle.envy_base.specs.Array.{Array};
 ghost use Rattle.envy_base.specs.Step.{Store, Begin, Put, Commit, Abort, Tick};
 ghost use Rattle.envy_flush.specs.Ticks.{TicksBy};
-ghost use Rattle.envy_mirror.specs.Asking.{Answers, AsksBoth, OfLowest, left_by, replied, heard, has_said, has_failed};
+ghost use Rattle.envy_mirror.specs.Asking.{Answers, TellsBoth, left_by, replied, heard, has_said, has_failed};
 ghost use Rattle.envy_mirror.specs.Pair.{is_good, IsSide};
 ghost use Rattle.envy_mirror.specs.Replies.{is_said, marked, set_mark, store_reply, begin_reply, put_reply, end_reply, tick_reply};
 
@@ -49,12 +49,17 @@ fn choose<C: Call>(one: Option<C::Told>, two: Option<C::Told>) -> C::Told
     }
 }
 
-/// Cuts a side whose flash failed, where the other side answered.
-fn part<C: Call, B: Bench>(own: &Option<C::Told>, other: &Option<C::Told>, side: &mut Half<B>)
+/// Cuts a side whose flash failed, where the other side answered and so left it behind.
+fn part<C: Call, B: Bench>(
+    call: &C,
+    own: &Option<C::Told>,
+    other: &Option<C::Told>,
+    side: &mut Half<B>,
+)
     requires { IsTrue (has_failed (replied C.reply own.now)) → IsSide side.old × IsTrue (is_good side.old) }
-    ensures { side.new ≡ left_by (replied C.reply other.now) (replied C.reply own.now) side.old }
+    ensures { side.new ≡ left_by (C.command call.now) (replied C.reply other.now) (replied C.reply own.now) side.old }
 {
-    if is_bad::<C>(own) && has_answered::<C>(other) {
+    if is_bad::<C>(own) && has_answered::<C>(other) && call.is_moving() {
         side.cut();
     }
 }
@@ -65,13 +70,12 @@ fn ask_both<A: Bench, B: Bench, C: Call>(
     second: &mut Half<B>,
     call: &C,
 ) -> C::Told
-    ensures both { AsksBoth (C.command call.now) (C.reply result) first.old second.old first.new second.new }
-    ensures does { IsTrue (is_said (C.reply result)) → OfLowest (C.Does call.now result) first.old second.old first.new second.new }
+    ensures { TellsBoth C.reply (C.Does call.now) (C.command call.now) result first.old second.old first.new second.new }
 {
     let one = first.ask(call);
     let two = second.ask(call);
-    part::<C, A>(&one, &two, first);
-    part::<C, B>(&two, &one, second);
+    part(call, &one, &two, first);
+    part(call, &two, &one, second);
     choose::<C>(one, two)
 }
 
@@ -117,7 +121,7 @@ impl<A: Bench, B: Bench> Mirror<A, B> {
     /// Makes a call on each Good side. The page of a store or put that is accepted becomes stale.
     fn call<C: Call>(&mut self, call: &C) -> C::Told
         ensures answers { Answers (C.command call.now) (C.reply result) self.old self.new }
-        ensures does { IsTrue (is_said (C.reply result)) → OfLowest (C.Does call.now result) self.old.first self.old.second self.new.first self.new.second }
+        ensures tells { TellsBoth C.reply (C.Does call.now) (C.command call.now) result self.old.first self.old.second self.new.first self.new.second }
     {
         step_gives_one_answer();
         let both = are_good(&self.first, &self.second);
@@ -189,14 +193,15 @@ impl<A: Bench, B: Bench> Mirror<A, B> {
         self.call(&AbortCall { slot: t })
     }
 
-    /// One background step on each Good side. What it did is what the lowest side did that is Good at the end.
+    /// One background step on each Good side. What it did is what the lowest side did that answered Ok. A side that
+    /// fails in it beside one that doesn't stays Good: the array is as it was.
     ///
     /// # Errors
     ///
     /// `Off` where no side is left, `Bad` where a flash operation failed on each that is left.
     pub fn tick(&mut self) -> Result<Did, Trouble>
         ensures answers { Answers Tick (tick_reply result) self.old self.new }
-        ensures does { IfOk result (λ did. OfLowest (λ old new. TicksBy old.limit old.mark did old.chart old.parts new.chart new.parts) self.old.first self.old.second self.new.first self.new.second) }
+        ensures tells { TellsBoth tick_reply (λ told old new. IfOk told (λ did. TicksBy old.limit old.mark did old.chart old.parts new.chart new.parts)) Tick result self.old.first self.old.second self.new.first self.new.second }
     {
         self.call(&TickCall)
     }

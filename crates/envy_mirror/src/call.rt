@@ -1,7 +1,7 @@
 ghost use Rattle.std.specs.Prelude.{◌≡◌};
 ghost use Rattle.envy_base.specs.Step.{Command};
 ghost use Rattle.envy_memory.specs.Picture.{Picture};
-ghost use Rattle.envy_mirror.specs.Asking.{Asks};
+ghost use Rattle.envy_mirror.specs.Asking.{Asks, is_moving};
 ghost use Rattle.envy_mirror.specs.Replies.{Reply, Off, kind_of, written_by};
 
 use envy_base::Bench;
@@ -30,13 +30,17 @@ pub trait Call {
     /// What an answer means.
     ghost reply: { Self.Told → Reply };
 
-    /// What else is said of a call that answered.
+    /// What else is said of a call, by what it told.
     ghost Does: { Self → Self.Told → Picture → Picture → Type 0 };
 
     /// Makes the call.
     fn make<B: Bench>(&self, memory: &mut Memory<B>) -> Self::Told
         ensures asks { Asks (command self.now) (reply result) memory.old memory.new }
         ensures does { Does self.now result memory.old memory.new };
+
+    /// Whether a side lags behind that fails in it where the other doesn't.
+    fn is_moving(&self) -> bool
+        ensures { result ≡ is_moving (command self.now) };
 
     /// The page that it writes to.
     fn page(&self) -> Option<u32>

@@ -30,6 +30,10 @@ impl Call for StoreCall {
         memory.store(self.address, self.word)
     }
 
+    fn is_moving(&self) -> bool {
+        true
+    }
+
     fn page(&self) -> Option<u32> {
         Some(self.address / 32)
     }
@@ -66,6 +70,10 @@ impl Call for BeginCall {
 
     fn make<B: Bench>(&self, memory: &mut Memory<B>) -> Result<u8, BeginFault> {
         memory.begin()
+    }
+
+    fn is_moving(&self) -> bool {
+        true
     }
 
     fn page(&self) -> Option<u32> {
@@ -107,6 +115,10 @@ impl Call for PutCall {
 
     fn make<B: Bench>(&self, memory: &mut Memory<B>) -> Result<(), PutFault> {
         memory.put(self.slot, self.address, self.word)
+    }
+
+    fn is_moving(&self) -> bool {
+        true
     }
 
     fn page(&self) -> Option<u32> {
@@ -162,6 +174,10 @@ impl Call for CommitCall {
         memory.commit(self.slot)
     }
 
+    fn is_moving(&self) -> bool {
+        true
+    }
+
     fn page(&self) -> Option<u32> {
         None
     }
@@ -197,6 +213,10 @@ impl Call for AbortCall {
         memory.abort(self.slot)
     }
 
+    fn is_moving(&self) -> bool {
+        true
+    }
+
     fn page(&self) -> Option<u32> {
         None
     }
@@ -230,6 +250,10 @@ impl Call for TickCall {
 
     fn make<B: Bench>(&self, memory: &mut Memory<B>) -> Result<Did, Trouble> {
         memory.tick()
+    }
+
+    fn is_moving(&self) -> bool {
+        false
     }
 
     fn page(&self) -> Option<u32> {

@@ -4,7 +4,7 @@ ghost use Rattle.envy_map.specs.Fields.{chart};
 ghost use Rattle.envy_layout.specs.Stands.{Stands};
 ghost use Rattle.envy_memory.specs.Picture.{counts_of};
 ghost use Rattle.envy_mirror.specs.Mirroring.{Mirrors};
-ghost use Rattle.envy_mirror.specs.Pair.{is_good, side_at, started};
+ghost use Rattle.envy_mirror.specs.Pair.{IsPair, is_good, side_at, started};
 ghost use Rattle.envy_mirror.specs.Reviving.{which};
 
 use crate::half::Half;
@@ -73,7 +73,8 @@ impl<A: Bench, B: Bench> Mirror<A, B> {
     /// Whether a side is Good.
     pub fn good(&self, side: u8) -> bool
         requires { side < 2 }
-        ensures { result ≡ is_good (side_at (which side) self.now) }
+        ensures good { result ≡ is_good (side_at (which side) self.now) }
+        ensures pair { IsPair self.now }
     {
         match side {
             0 => self.first.is_good(),
