@@ -10,6 +10,9 @@ use arrayvec::ArrayVec;
 use envy_io::{Failed, Lines, Sink, Source};
 use envy_trace::LineFault;
 
+#[cfg(test)]
+mod tests;
+
 /// The bytes taken at most.
 pub const MOST_BYTES: u64 = 1_099_511_627_776;
 
