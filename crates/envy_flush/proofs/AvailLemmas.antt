@@ -1,5 +1,5 @@
 -- The lowest position of a home's partition with a free row that the job leaves free.
-use Rattle.std.proofs.Common.{◌≡◌, ◌≢◌, ◌⊎◌, inl, inr, ℕ, ◌+◌, ◌-◌, ◌<◌, ◌≤◌, get_or, sym, ◌∙◌, subst, arith}
+use Rattle.std.proofs.Common.{◌≡◌, ◌⊎◌, inl, inr, ℕ, ◌+◌, ◌-◌, ◌<◌, ◌≤◌, get_or, sym, subst, arith}
 use Rattle.std.proofs.lemmas.Bool.{cases_lt}
 use Rattle.envy_map.specs.Fields.{Chart}
 use Rattle.envy_policy.specs.History.{History, IsHistory, partition_of, first_of, end_of}

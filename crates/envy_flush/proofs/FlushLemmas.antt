@@ -13,7 +13,7 @@ use Rattle.envy_policy.specs.declared.choice.Choice.TheVariants.{Free, Clean}
 use Rattle.envy_reloc.specs.Plan.{Plan}
 use Rattle.envy_flush.specs.Choosing.{ChoiceFor}
 use Rattle.envy_flush.specs.Cleaning.{StopsClean}
-use Rattle.envy_flush.specs.Flushing.{IsLastAt, Claims, Follows, Ends, IsBusy, ClaimsBeside, ClaimsAfter, FinishesFirst, GetsRow, NotesBad, ChoosesBad, Settles, StopsChosen, StopsRow, StopsFor}
+use Rattle.envy_flush.specs.Flushing.{IsLastAt, Claims, Follows, Ends, IsBusy, ClaimsBeside, ClaimsAfter, FinishesFirst, GetsRow, NotesBad, ChoosesBad, Settles, StopsRow, StopsFor}
 use Rattle.envy_flush.specs.declared.parts.Parts.{Parts}
 
 pub on-ok : {T E : Type 0} (r : Result T E) (A B : Type 0) → (A → B) → OnOk r A → OnOk r B
