@@ -2,6 +2,7 @@
 use Rattle.std.proofs.Common.{◌≡◌, ◌⊎◌, inl, inr, ℕ, ◌+◌, ◌*◌, ◌<◌, ◌≤◌, List, [], ◌++◌, length, refl, sym, ◌∙◌, ap, subst, arith}
 use Rattle.std.specs.Prelude.{IfSome, IsErr, IsTrue, false, Option, None, Some, Result, Ok, Err, slice_index}
 use Rattle.std.specs.Option.{option_map}
+use Rattle.std.specs.Result.{is_err}
 use Rattle.std.proofs.lemmas.List.{append_assoc}
 use Rattle.envy_audit.specs.Judging.{Judges, Holds}
 use Rattle.envy_audit.specs.declared.verdict.Verdict.{Verdict}
@@ -22,6 +23,7 @@ use Rattle.envy_memory.specs.Formats.{IsStarted}
 use Rattle.envy_memory.specs.Picture.{Picture}
 use Rattle.envy_policy.specs.Setup.{checked}
 use Rattle.envy_policy.specs.declared.setup.Setup.{Setup}
+use Rattle.envy_policy.specs.declared.setup.SetupFault.{SetupFault}
 use Rattle.envy_serve.specs.declared.serving.End.{End}
 use Rattle.envy_serve.specs.Ends.{Serves, Ends, most_bytes}
 use Rattle.envy_serve.specs.GoodTrace.{IsGoodTrace}
@@ -129,7 +131,7 @@ does-earlier found setup returns o io faults le d = record { turns = d.turns; an
     })
     at (inr (none, u)) = inr (none, record { lines = u.lines; taken = u.taken; source = u.source; sink = u.sink; board = u.board; cause = u.cause })
 
-pub takes-up : (words : Shape → Setup) (setup : Setup) (returns : ℕ) (sh : Shape) (found : State) (o : Outcome) (from mid feed : Feed) (to sink : Drain) (now : Taking) → setup ≡ words sh → checked setup ≡ Ok tt → Loaded sh returns from found Sound now mid → DoesTask (resume_task found setup found.given) o (record { from = mid; feed = feed; to = to; sink = sink }) → TakesUp words returns o (record { from = from; feed = feed; to = to; sink = sink })
+takes-up : (words : Shape → Setup) (setup : Setup) (returns : ℕ) (sh : Shape) (found : State) (o : Outcome) (from mid feed : Feed) (to sink : Drain) (now : Taking) → setup ≡ words sh → checked setup ≡ Ok tt → Loaded sh returns from found Sound now mid → DoesTask (resume_task found setup found.given) o (record { from = mid; feed = feed; to = to; sink = sink }) → TakesUp words returns o (record { from = from; feed = feed; to = to; sink = sink })
 takes-up words setup returns sh found o from mid feed to sink now is checks l does =
     let io : Streams = record { from = record { left = mid.left; faults = from.faults }; feed = feed; to = to; sink = sink } in
     let same : setup ≡ words found.shape = is ∙ ap words (sym (IsInstalled.shape l.installed)) in
@@ -142,6 +144,23 @@ takes-up words setup returns sh found o from mid feed to sink now is checks l do
       sound = l.judges;
       does = subst (λ (n : ℕ). DoesTask (resume_task found (words found.shape) n) o io) (IsInstalled.given l.installed) (subst (λ (x : Setup). DoesTask (resume_task found x found.given) o io) same (does-earlier found setup found.given o (record { from = mid; feed = feed; to = to; sink = sink }) from.faults (HasTaken.faults l.taken) does));
     }
+
+-- the image was installed and is sound, and what is behind it was done
+pub resume-sound : (words : Shape → Setup) (setup : Setup) (returns : ℕ) (sh : Shape) (verdict : Verdict) (found : State) (o : Outcome) (from mid feed : Feed) (to sink : Drain) (now : Taking) → setup ≡ words sh → checked setup ≡ Ok tt → verdict ≡ Sound → Loaded sh returns from found verdict now mid → DoesTask (resume_task found setup found.given) o (record { from = mid; feed = feed; to = to; sink = sink }) → Resumes words returns o (record { from = from; feed = feed; to = to; sink = sink })
+resume-sound words setup returns sh verdict found o from mid feed to sink now is checks sound l does =
+    inl (takes-up words setup returns sh found o from mid feed to sink now is checks (subst (λ (v : Verdict). Loaded sh returns from found v now mid) sound l) does)
+
+-- the board that an image was installed on, by its own count of lives
+pub installed-given : (setup : Setup) (sh : Shape) (returns : ℕ) (s : State) → setup.shape ≡ sh → IsInstalled sh returns s → IsInstalled setup.shape s.given s
+installed-given setup sh returns s same i = subst (λ (x : Shape). IsInstalled x s.given s) (sym same) (subst (λ (n : ℕ). IsInstalled sh n s) (sym i.given) i)
+
+pub judged-sound : (verdict : Verdict) (c : Chart) → verdict ≡ Sound → Judges verdict c → Judges Sound c
+judged-sound verdict c is judges = subst (λ (v : Verdict). Judges v c) is judges
+
+-- no rule is broken
+pub checks-ok : (r : Result Unit SetupFault) → is_err r ≡ false → r ≡ Ok tt
+checks-ok (Ok done) is = refl
+checks-ok (Err fault) is = absurd cc
 
 -- a verdict that isn't `Sound`
 unsound : (verdict : Verdict) (s : State) → IsBoard s → (verdict ≡ Sound → ⊥) → Judges verdict (chart s) → Judges Sound (chart s) → ⊥
@@ -189,6 +208,12 @@ resume-unsound {B} state words setup sh verdict returns taken board e from feed 
       unharmed = record { given = i.given; pulled = i.pulled; plans = i.plans };
     }))))
 
+-- no line was read
+pub stopped-ends : {B : Type 0} (status why taken : ℕ) (board : Option B) (e : Ended B) (now : Taking) (bytes : List ℕ) (from feed : Feed) → e ≡ record { status = status; why = why; lines = 0; taken = taken; board = board; second = None } → taken ≡ now.taken → HasTaken bytes from now feed → (e.lines ≤ e.taken) × (e.taken ≤ 1099511627776) × (e.second ≡ None)
+stopped-ends {B} status why taken board e now bytes from feed is same t =
+    subst (λ (x : Ended B). (x.lines ≤ x.taken) × (x.taken ≤ 1099511627776) × (x.second ≡ None)) (sym is)
+    (omega arith, (let within = t.within in let cap = t.cap in omega arith), refl)
+
 -- where all goes well
 
 module _ (words : Shape → Setup) (returns : ℕ) (o : Outcome) (io : Streams) (holds : HoldsImage io) (trace : HoldsTrace words io holds) where
@@ -223,7 +248,7 @@ module _ (words : Shape → Setup) (returns : ℕ) (o : Outcome) (io : Streams) 
       let parts : image_of holds.image ++ holds.rest ≡ head_of holds.image.shape ++ (body_of holds.image.flash holds.image.sram ++ holds.rest) = append_assoc (head_of holds.image.shape) (body_of holds.image.flash holds.image.sram) holds.rest in
       let one : holds.image.shape ≡ b.sh = same-head holds.image.shape b.sh _ _ (fit-numbers holds.image.shape (IsBoard.shape holds.whole)) (fit-numbers b.sh (shape-is b.sh b.shape)) (sym parts ∙ all) in
       let good : checked (words b.sh) ≡ Ok tt = subst (λ (x : Shape). checked (words x) ≡ Ok tt) one trace.rules in
-      let never : IsErr (Ok tt) = subst IsErr good b.fails in
+      let never = subst (λ (r : Result Unit SetupFault). IsErr r) good b.fails in
       cc
 
   sound-alike : (s t : State) → HoldTheSame s t → Judges Sound (chart t) → Judges Sound (chart s)
