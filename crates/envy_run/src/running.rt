@@ -13,6 +13,7 @@ use crate::index_run::run_index;
 use crate::plain_run::run_plain;
 use crate::prepare::{Unready, prepare};
 use crate::restart::ReplyBuffer;
+use crate::resume_run::{Resuming, run_resume};
 use crate::save_run::run_save;
 use crate::tpca_run::run_tpca;
 use crate::tracing::Tracing;
@@ -138,8 +139,22 @@ fn perform<S: Source, K: Sink, M: Maker>(
             the_area_is_asked_to_fit();
             run_tpca(alloc, setup, lives, start, &area, every, sink, maker)
         }
-        // words whose service isn't built yet
-        Command::Resume { .. } | Command::Mirror { .. } => unserved(2, 0, None),
+        Command::Resume {
+            policy,
+            limit,
+            mark,
+            lives,
+        } => {
+            let words = Resuming {
+                policy,
+                limit,
+                mark,
+                lives,
+            };
+            run_resume(alloc, &words, source, sink, maker)
+        }
+        // a word whose service isn't built yet
+        Command::Mirror { .. } => unserved(2, 0, None),
     }
 }
 
