@@ -1,9 +1,16 @@
 #!/usr/bin/env bash
-# The libraries that C and Rust programs link, tried by such programs: the answers of `envy run`, every number, kills at
-# drawn moments, and the account book in both languages. It needs gcc and rustc.
+# The libraries that C and Rust programs link, tried by such programs: the answers of `envy run`, every number, images,
+# kills at drawn moments, and the account book in both languages. It needs gcc and rustc, and a program that `envy`
+# starts at once (./envy --prove, or .ci/run). A word is the number that the kills are drawn from.
 set -eu
 cd "$(dirname "$0")"
-for crate in envy_mapped envy_c; do (cd ../crates/$crate && rt lib); done
+for tool in gcc rustc; do
+    if ! command -v $tool >/dev/null; then
+        echo "library: there is no $tool, so nothing was tried" >&2
+        exit 2
+    fi
+done
+library/build.py envy_mapped envy_c
 make -s all tests
 work=$(mktemp -d "${TMPDIR:-/tmp}/envy-library.XXXXXX")
 trap 'rm -rf "$work"' EXIT
@@ -27,8 +34,16 @@ cmp "$work/wanted" "$work/memory.replies"
 echo "library: $(wc -l <"$work/wanted") replies are those of envy run, $(grep -c lost "$work/wanted") of them lost," \
     "$(grep -c fault "$work/wanted") faults"
 
+# the image that `envy save` writes of a memory holds its words, and what is written of them is sound
+../envy save <"$work/trace" >"$work/image"
+{ cat "$work/trace"; seq -f "look %.0f" 0 2047; } | ../envy run | tail -n 2048 >"$work/wanted"
+out/images "$work/image" "$work/second.image" >"$work/words"
+cmp "$work/wanted" "$work/words"
+[ "$(../envy audit <"$work/second.image")" = sound ]
+echo "library: the $(wc -l <"$work/words") words of an image are those of envy run"
+
 out/refused-asan "$work/refused.file"
-out/killed "$work/killed.file" 200 "${1-$(date +%s)}"
+out/killed "$work/killed.file" 200 "${1-1}"
 
 for program in book book-asan book-rust; do
     book() { out/$program "$work/$program.book" "$@"; }

@@ -1,0 +1,69 @@
+#!/usr/bin/env python3
+"""Builds the libraries that C and Rust programs link: crates/NAME/out/libNAME.a.
+
+`rt ci` leaves each crate below them proved and built in its out/, but without the mark by which `rt lib` knows its own
+work, so a plain `rt lib` would prove all of them a second time. Where they stand so, and no source is newer, this takes
+them as they are and proves the libraries alone. Everywhere else it calls `rt lib`.
+
+  build.py NAME.."""
+
+import os
+import subprocess
+import sys
+from concurrent.futures import ThreadPoolExecutor
+
+ROOT = os.path.dirname(os.path.dirname(os.path.dirname(os.path.realpath(__file__))))
+
+
+def kit_library():
+    """Returns the library of the command `rt`, which reads crates.txt and knows the compiler's words."""
+    ran = subprocess.run(["rt", "doc"], stdout=subprocess.PIPE, text=True, check=True)
+    sys.dont_write_bytecode = True
+    sys.path.insert(0, f"{os.path.dirname(ran.stdout.strip())}/bin")
+    import rtlib
+
+    return rtlib
+
+
+def newest(folder):
+    """Returns when a source of the crate was changed last."""
+    times = [os.stat(f"{ROOT}/crates.txt").st_mtime]
+    for part in ("src", "specs", "proofs"):
+        for at, _, names in os.walk(f"{folder}/{part}"):
+            times += [os.stat(it).st_mtime for it in [at, *[f"{at}/{name}" for name in names]]]
+    return max(times)
+
+
+def stands(crate):
+    """Returns whether `rt ci` left the crate built, and nothing of it was changed since."""
+    is_marked = os.path.exists(f"{os.path.dirname(crate.rlib)}/stamp")
+    return os.path.isdir(crate.rlib) and not is_marked and newest(crate.folder) <= os.stat(crate.rlib).st_mtime
+
+
+def build(rtlib, crate):
+    """Proves and builds a library over the crates below it as they stand."""
+    os.makedirs(f"{crate.folder}/out", exist_ok=True)
+    log = f"{crate.folder}/out/lib{crate.name}.log"
+    with open(log, "w", encoding="utf-8") as crate.out:
+        words = [*crate.words([], keeps=False), "--toolchain", f"{rtlib.KIT}/toolchain", "--backend", "llvm"]
+        status = crate.call(rtlib.RATTLE, "build", *words, "-o", f"out/lib{crate.name}.a")
+    if status:
+        with open(log, encoding="utf-8", errors="replace") as it:
+            print(it.read()[-4000:], file=sys.stderr)
+    return status
+
+
+def main(names):
+    rtlib = kit_library()
+    crates = [rtlib.Crate(f"{ROOT}/crates/{name}", ROOT, {}) for name in names]
+    if not all(stands(it) for crate in crates for it in crate.below()):
+        print("build.py: the crates below don't stand as rt ci leaves them, so rt lib proves what it needs", flush=True)
+        return any([subprocess.run(["rt", "lib"], cwd=it.folder).returncode for it in crates])
+    # (its first call sets a handler, which only the main thread may)
+    rtlib.guarded()
+    with ThreadPoolExecutor(len(crates)) as pool:
+        return any(list(pool.map(lambda it: build(rtlib, it), crates)))
+
+
+if __name__ == "__main__":
+    sys.exit(main(sys.argv[1:]))
