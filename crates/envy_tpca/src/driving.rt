@@ -1,6 +1,6 @@
 //! Driving a load.
 
-ghost use Rattle.std.specs.Prelude.{◌≡◌, ◌↔◌, ◌+◌, ◌*◌, ◌^◌, ◌<◌, ◌≤◌, ℕ, false, IfOk, OnOk, Ok, Err, List, if◌then◌else◌};
+ghost use Rattle.std.specs.Prelude.{◌≡◌, ◌↔◌, ◌+◌, ◌*◌, ◌%◌, ◌^◌, ◌<◌, ◌≤◌, ℕ, false, IfOk, OnOk, Ok, Err, List, if◌then◌else◌};
 ghost use Rattle.envy_base.specs.Area.{Fits};
 ghost use Rattle.envy_base.specs.Array.{Array, zeros, put_back};
 ghost use Rattle.envy_layout.specs.Stands.{Stands};
@@ -47,6 +47,13 @@ pub fn transfer_once<B: Bench>(
     }
 }
 
+/// The cut that is planned before transfer `i` comes in the operation of this number from there.
+fn place_of(i: u32) -> u32
+    ensures { result ≡ 1 + (37 * i) % 512 }
+{
+    1 + 37 * (i % 512) % 512
+}
+
 /// Plans a cut before transfer `i`, where it is a multiple of `every` and that is above 0.
 pub fn plan_cut<B: Bench>(memory: &mut Memory<B>, every: u32, i: u32)
     ensures since { Since (if is_planned every i then 1 else 0) memory.old memory.new }
@@ -54,7 +61,7 @@ pub fn plan_cut<B: Bench>(memory: &mut Memory<B>, every: u32, i: u32)
     ensures same { durable memory.new.chart ≡ durable memory.old.chart }
 {
     if every != 0 && i % every == 0 {
-        memory.arm_cut(1 + 37 * (i % 512) % 512, u64::from(i));
+        memory.arm_cut(place_of(i), u64::from(i));
     }
 }
 
