@@ -182,8 +182,8 @@ fallen m count pair p (turn ∷ earlier) few d =
       dead = at-which d.mid.last p (λ (c : Chart). c.lives ≡ 0) board.dead;
       sound = at-which d.mid.last p IsSound board.sound;
       words = at-which d.mid.last p (λ (c : Chart). durable c ≡ d.mid.array.words) board.words;
-      paid_first = falls-paid b.first d.mid.first.falls (length (turn ∷ earlier)) pair.first.memory p.first.memory b.to_first b.first_falls b.few_first few;
-      paid_second = falls-paid b.second d.mid.second.falls (length (turn ∷ earlier)) pair.second.memory p.second.memory b.to_second b.second_falls b.few_second few;
+      paid_first = record { falls = falls-paid b.first d.mid.first.falls (length (turn ∷ earlier)) pair.first.memory p.first.memory b.to_first b.first_falls b.few_first few; dead = d.spent_first };
+      paid_second = record { falls = falls-paid b.second d.mid.second.falls (length (turn ∷ earlier)) pair.second.memory p.second.memory b.to_second b.second_falls b.few_second few; dead = d.spent_second };
     }
 
 -- shapes and lives given stay

@@ -137,9 +137,12 @@ dark-done replies k line old mid new side within d back =
 pub dark-dead : (replies : List MirrorReply) (k : Known) (line : MirrorLine) (old mid new : Pair) (side : ℕ) → DarkLine replies k line old mid (which side) → IsForGood mid new → LineDead k line old side new
 dark-dead replies k line old mid new side d good =
     let still = good.still in
+    let charged = charged-dark mid new still in
     record {
       mid = state_of d.left mid (which side);
       fails = d.fails;
+      spent_first = spent-on d.left.first mid.first new.first charged.0 d.spent_first;
+      spent_second = spent-on d.left.second mid.second new.second charged.1 d.spent_second;
       board = record { off = still.off; dead = good.dead; sound = still.sound d.sound; words = still.durable ∙ d.words };
       costs = record {
         first_falls = d.first_falls;

@@ -60,6 +60,8 @@ joins-dead start old new side turns t line d = record {
   mid = d.mid;
   fails = d.fails;
   board = d.board;
+  spent_first = d.spent_first;
+  spent_second = d.spent_second;
   bill = bill-joins turns (record { line = line; replies = before_restart line }) (MirroredSince.known t) d.mid.first.falls d.mid.second.falls start.pair old new (MirroredSince.bill t) d.costs;
 }
 

@@ -71,8 +71,8 @@ pub record HasFallenIn (first : Array) (count : ℕ) (boards : Boards) (turn : M
   pub dead : (board_at mid.last boards).lives ≡ 0
   pub sound : IsSound (board_at mid.last boards)
   pub words : durable (board_at mid.last boards) ≡ mid.array.words
-  pub paid_first : mid.first.falls ≤ boards.first.cuts
-  pub paid_second : mid.second.falls ≤ boards.second.cuts
+  pub paid_first : IsPaid mid.first boards.first
+  pub paid_second : IsPaid mid.second boards.second
 
 abbrev pub HasFallen : Array → ℕ → Boards → List MirrorTurn → Type 0
 HasFallen first count boards [] = ⊥

@@ -108,6 +108,8 @@ pub record LineDead (k : Known) (line : MirrorLine) (old : Pair) (side : ℕ) (n
   pub mid : MirrorState
   pub fails : FailsIn (state_of k old (which side)) line mid
   pub board : IsDeadBoard mid new
+  pub spent_first : IsTrue mid.first.dead → new.first.memory.chart.lives ≡ 0
+  pub spent_second : IsTrue mid.second.dead → new.second.memory.chart.lives ≡ 0
   pub costs : Costs line (before_restart line) k old mid.first.falls mid.second.falls new
 
 abbrev pub ObeysMirror : Known → MirrorLine → Obeyed → Pair → ℕ → Pair → ℕ → Drain → Drain → Type 0
@@ -141,6 +143,8 @@ pub record FellIn (start : Start) (p : Pair) (turn : MirrorTurn) (earlier : List
   pub mid : MirrorState
   pub fails : FailsIn before turn.line mid
   pub board : IsDeadBoard mid p
+  pub spent_first : IsTrue mid.first.dead → p.first.memory.chart.lives ≡ 0
+  pub spent_second : IsTrue mid.second.dead → p.second.memory.chart.lives ≡ 0
   pub bill : Bill (sums_since (turn ∷ earlier) mid.first.falls mid.second.falls) start.pair p
 
 abbrev pub FellSince : Start → Pair → List MirrorTurn → Type 0

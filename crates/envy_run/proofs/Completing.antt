@@ -27,11 +27,12 @@ use Rattle.envy_run.specs.IndexDone.{HasIndexDied, IndexDiesIn}
 use Rattle.envy_run.specs.IndexServing.{long_index}
 use Rattle.envy_run.specs.IndexTurns.{IndexTurn, index_grammar}
 use Rattle.envy_run.specs.Outcome.{Outcome, IsQuiet, status_of}
-use Rattle.envy_run.specs.Runs.{Runs}
+use Rattle.envy_run.specs.Runs.{IsAlone, Runs}
 use Rattle.envy_run.specs.Task.{Task, IsServed, DoesTask}
 use Rattle.envy_run.specs.Tracing.{long_any}
 use Rattle.envy_run.specs.Turns.{TraceTurn, trace_grammar}
 use Rattle.envy_run.proofs.Audited.{completes-audit}
+use Rattle.envy_run.proofs.MirrorWell.{completes-mirror}
 
 died-off : (first : Array) (now : Chart) (turns : List TraceTurn) → IsTrue now.on ⊎ (0 < now.lives) → HasDied first now turns → ⊥
 died-off first now [] well died = died
@@ -133,11 +134,12 @@ completes (Ok Audit) o io (inl audits) = λ holds calm. completes-audit o io aud
 completes (Ok Audit) o io (inr without) = λ holds calm. inr (IsOutOfMemory.status (IsWithoutMemory.memory without))
 completes (Ok (Index setup returns)) o io (inl indexes) = λ good well. completes-index setup returns o io indexes good well
 completes (Ok (Index setup returns)) o io (inr without) = λ good well. inr (IsOutOfMemory.status (IsWithoutMemory.memory without))
-completes (Ok (Mirror setup returns)) o io done = tt
+completes (Ok (Mirror setup returns)) o io (inl mirrors) = λ good well. completes-mirror setup returns o io mirrors good well
+completes (Ok (Mirror setup returns)) o io (inr without) = λ good well. inl (inr (IsOutOfMemory.status (IsWithoutMemory.memory without)))
 completes (Err fault) o io done = tt
 
 -- the command is that of the words
-pub runs-read : (words : List Text) (read : Result Command WordsFault) (command : Command) (o : Outcome) (io : Streams) → (read ≡ Err Memory) ⊎ (read ≡ command_of words) → read ≡ Ok command → Headline (Ok command) o io → o.lines ≤ o.taken → o.taken ≤ most_bytes → o.second ≡ None → Runs (command_of words) o io
+pub runs-read : (words : List Text) (read : Result Command WordsFault) (command : Command) (o : Outcome) (io : Streams) → (read ≡ Err Memory) ⊎ (read ≡ command_of words) → read ≡ Ok command → Headline (Ok command) o io → o.lines ≤ o.taken → o.taken ≤ most_bytes → IsAlone command o.second → Runs (command_of words) o io
 runs-read words read command o io (inl none) e headline few taken alone = absurd (let never = none in cc)
 runs-read words read command o io (inr is) e headline few taken alone =
     subst (λ (x : Result Command WordsFault). Runs x o io) (sym e ∙ is) (record { headline = headline; completes = completes (Ok command) o io headline; few = few; read = taken; alone = alone })
