@@ -17,6 +17,8 @@ use Rattle.envy_serve.specs.GoodTrace.{IsGoodTrace}
 use Rattle.envy_serve.specs.Streams.{Streams}
 use Rattle.envy_serve.specs.Turns.{Turn}
 use Rattle.envy_serve.proofs.GoodTraces.{good-ends}
+use Rattle.envy_trace.specs.declared.mirror_line.MirrorLine.{MirrorLine}
+use Rattle.envy_trace.specs.declared.mirror_reply.MirrorReply.{MirrorReply}
 use Rattle.envy_run.specs.Complete.{IsComplete}
 use Rattle.envy_run.specs.MirrorTask.{OfEither, IsOffForGood, IsEitherSpoilt, IsEitherDark, IsMirrorUnserved, mirror_task, AreWell, HasDiedOut}
 use Rattle.envy_run.specs.Outcome.{Outcome, IsQuiet, status_of}
@@ -37,7 +39,7 @@ named e TooLong Done Dead turns is served = served
 task-ends : (setup : Setup) (returns : ℕ) (turns : List MirrorTurn) (o : Outcome) (io : Streams) → IsServed (mirror_task setup returns) turns o io → IsGoodTrace mirror_grammar 0 io → (o.status ≡ 0) ⊎ ((o.status ≡ 6) × Task.Dead (mirror_task setup returns) o turns)
 task-ends setup returns turns o io s good = at (good-ends s.end o.lines o.taken mirror_grammar 0 (w.Done o) (λ t. s.end ≡ EndDead) (w.tail o) turns io long_mirror renamed good)
   where
-    w : Task _ _
+    w : Task MirrorLine MirrorReply
     w = mirror_task setup returns
 
     renamed : Serves s.end o.lines o.taken mirror_grammar 0 (w.Done o) (λ t. s.end ≡ EndDead) (w.tail o) turns io

@@ -164,18 +164,33 @@ mirror-served {B} state setup returns a b p side end lines taken one two io same
       answers = inl (record {
         end = end;
         serves = subst (λ (sh : Shape). Serves end lines taken mirror_grammar 0 (OnBoards (HasMirrored (zeros sh.pages sh.shadows) sh.pages) o) (OnBoards (HasFallen (zeros sh.pages sh.shadows) sh.pages) o) [] turns io) first_shape
-        (serves-short end lines taken (MirroredSince (start_of a b) p side) (FellSince (start_of a b) p) (OnBoards (HasMirrored (zeros a.chart.shape.pages a.chart.shape.shadows) a.chart.shape.pages) o) (OnBoards (HasFallen (zeros a.chart.shape.pages a.chart.shape.shadows) a.chart.shape.pages) o) turns io (λ t. (boards_of p, e, f, mirrored (zeros a.chart.shape.pages a.chart.shape.shadows) a.chart.shape.pages (started a b) p side turns ready.unused (omega arith) t)) (λ d. (boards_of p, e, f, fallen (zeros a.chart.shape.pages a.chart.shape.shadows) a.chart.shape.pages (started a b) p turns (omega arith) d)) s);
+        (Serves-as end lines taken mirror_grammar 0 (MirroredSince (start_of a b) p side) (FellSince (start_of a b) p) (OnBoards (HasMirrored (zeros a.chart.shape.pages a.chart.shape.shadows) a.chart.shape.pages) o) (OnBoards (HasFallen (zeros a.chart.shape.pages a.chart.shape.shadows) a.chart.shape.pages) o) [] turns io (λ t. (boards_of p, e, f, mirrored (zeros a.chart.shape.pages a.chart.shape.shadows) a.chart.shape.pages (started a b) p side turns ready.unused (omega arith) t)) (λ d. (boards_of p, e, f, fallen (zeros a.chart.shape.pages a.chart.shape.shadows) a.chart.shape.pages (started a b) p turns (omega arith) d)) s);
         status = refl;
         why = refl;
       });
       licences = licences-of setup returns o turns p.first.memory.chart p.second.memory.chart e f made.0 made.1 (licences-either (start_of a b) p side turns ready.unused (omega arith) either);
     }
-  where
-    serves-short : (end : End) (lines taken : ℕ) (Done Dead Done2 Dead2 : List MirrorTurn → Type 0) (turns : List MirrorTurn) (io : Streams) → (Done turns → Done2 turns) → (Dead turns → Dead2 turns) → Serves end lines taken mirror_grammar 0 Done Dead [] turns io → Serves end lines taken mirror_grammar 0 Done2 Dead2 [] turns io
-    serves-short end lines taken Done Dead Done2 Dead2 turns io f g s = Serves-as end lines taken mirror_grammar 0 Done Dead Done2 Dead2 [] turns io f g s
+-- before the first line
+pub begins-as : (a b : Picture) (p : Pair) (side : ℕ) → p ≡ started a b → side ≡ 0 → Mirrors p (zeros a.chart.shape.pages a.chart.shape.shadows) → MirroredSince (start_of a b) p side []
+begins-as a b p side is none mirrors =
+    subst (λ (q : Pair). MirroredSince (start_of a b) q side []) (sym is)
+    (subst (λ (n : ℕ). MirroredSince (start_of a b) (started a b) n []) (sym none)
+    (begins (zeros a.chart.shape.pages a.chart.shape.shadows) a b (subst (λ (q : Pair). Mirrors q (zeros a.chart.shape.pages a.chart.shape.shadows)) is mirrors)))
 
-pub mirror-ended : {B : Type 0} (state : B → State) (setup : Setup) (returns : ℕ) (a b : Picture) (p : Pair) (side : ℕ) (end : End) (lines taken skipped : ℕ) (one two : B) (e : Ended B) (io : Streams) → e ≡ both_ended end lines taken one two → chart (state one) ≡ p.first.memory.chart → chart (state two) ≡ p.second.memory.chart → skipped ≡ 0 → lines ≤ most_bytes → AreReady setup returns a b → Mirrors (started a b) (zeros a.chart.shape.pages a.chart.shape.shadows) → ((start : Start) → MirroredSince start (started a b) 0 [] → (turns : List MirrorTurn) × Serves end lines taken mirror_grammar skipped (MirroredSince start p side) (FellSince start p) [] turns io) → DoesTask (mirror_task setup returns) (outcome state e) io
-mirror-ended {B} state setup returns a b p side end lines taken skipped one two e io is same same_second none few ready mirrors serves =
-    let served = subst (λ (k : ℕ). (turns : List MirrorTurn) × Serves end lines taken mirror_grammar k (MirroredSince (start_of a b) p side) (FellSince (start_of a b) p) [] turns io) none (serves (start_of a b) (begins (zeros a.chart.shape.pages a.chart.shape.shadows) a b mirrors)) in
+pub numbered : {B : Type 0} (status why : ℕ) (end : End) (lines taken : ℕ) (one two : B) (e : Ended B) → e ≡ record { status = status; why = why; lines = lines; taken = taken; board = Some one; second = Some two } → status ≡ status_of end → why ≡ why_of end → e ≡ both_ended end lines taken one two
+numbered {B} status why end lines taken one two e is same why_is =
+    let with_numbers : ℕ → ℕ → Ended B = λ s w. record { status = s; why = w; lines = lines; taken = taken; board = Some one; second = Some two } in
+    is ∙ ap (λ (s : ℕ). with_numbers s why) same ∙ ap (λ (w : ℕ). with_numbers (status_of end) w) why_is
+
+pub mirror-ended : {B : Type 0} (state : B → State) (setup : Setup) (returns : ℕ) (a b : Picture) (first_pair p : Pair) (first_side side : ℕ) (end : End) (lines taken skipped : ℕ) (one two : B) (e : Ended B) (io : Streams) → e ≡ both_ended end lines taken one two → chart (state one) ≡ p.first.memory.chart → chart (state two) ≡ p.second.memory.chart → skipped ≡ 0 → lines ≤ most_bytes → AreReady setup returns a b → MirroredSince (start_of a b) first_pair first_side [] → ((start : Start) → MirroredSince start first_pair first_side [] → (turns : List MirrorTurn) × Serves end lines taken mirror_grammar skipped (MirroredSince start p side) (FellSince start p) [] turns io) → DoesTask (mirror_task setup returns) (outcome state e) io
+mirror-ended {B} state setup returns a b first_pair p first_side side end lines taken skipped one two e io is same same_second none few ready first serves =
+    let served = subst (λ (k : ℕ). (turns : List MirrorTurn) × Serves end lines taken mirror_grammar k (MirroredSince (start_of a b) p side) (FellSince (start_of a b) p) [] turns io) none (serves (start_of a b) first) in
     subst (λ (x : Ended B). DoesTask (mirror_task setup returns) (outcome state x) io) (sym is)
     (mirror-served state setup returns a b p side end lines taken one two io same same_second few ready served.0 served.1)
+
+-- the board of a memory that was prepared
+pub blank-board : (setup : Setup) (returns : ℕ) (s : State) (p : Picture) (c : Chart) → IsMade setup.shape returns s → IsReady (chart s) setup p → c ≡ p.chart → IsBlank setup returns c
+blank-board setup returns s p c made ready same = subst (λ (x : Chart). IsBlank setup returns x) (sym same) (blank-prepared setup returns (chart s) p.chart (IsReady.prepared ready) (blank-made setup returns s made))
+
+pub not-stopped : (c : Chart) → Stopped Memory c
+not-stopped c = record { bad = λ e. cc; dead = λ e. cc }
