@@ -52,9 +52,9 @@ licences-of setup returns o turns first second e f made made_second licences = r
   first = subst (λ (b : Option Chart). IfSome b (IsMadeFor setup returns)) (sym e) made;
   second = subst (λ (b : Option Chart). IfSome b (IsMadeFor setup returns)) (sym f) made_second;
   both = λ boards is is_second.
-    let same : first ≡ boards.first = ap (λ (b : Option Chart). unwrap_or b first) (sym e ∙ is) in
-    let same_second : second ≡ boards.second = ap (λ (b : Option Chart). unwrap_or b second) (sym f ∙ is_second) in
-    subst (λ (c : Chart). PairLicences turns (record { first = c; second = boards.second })) same (subst (λ (c : Chart). PairLicences turns (record { first = first; second = c })) same_second licences);
+      let same : first ≡ boards.first = ap (λ (b : Option Chart). unwrap_or b first) (sym e ∙ is) in
+      let same_second : second ≡ boards.second = ap (λ (b : Option Chart). unwrap_or b second) (sym f ∙ is_second) in
+      subst (λ (c : Chart). PairLicences turns (record { first = c; second = boards.second })) same (subst (λ (c : Chart). PairLicences turns (record { first = first; second = c })) same_second licences);
 }
 
 licences-alone : (setup : Setup) (returns : ℕ) (o : Outcome) → IfSome o.board (IsMadeFor setup returns) → o.second ≡ None → MirrorLicences setup returns o []
@@ -140,8 +140,7 @@ start_of a b = record { state = begun (zeros a.chart.shape.pages a.chart.shape.s
 
 made-since : (setup : Setup) (returns : ℕ) (a b : Picture) (p : Pair) (side : ℕ) (turns : List MirrorTurn) → AreReady setup returns a b → MirroredSince (start_of a b) p side turns ⊎ FellSince (start_of a b) p turns → IsMadeFor setup returns p.first.memory.chart × IsMadeFor setup returns p.second.memory.chart
 made-since setup returns a b p side turns ready since =
-    let (first, second) = bill-either (start_of a b) p side turns since in
-    (
+    let (first, second) = bill-either (start_of a b) p side turns since in (
       record { shape = first.0 ∙ IsMadeFor.shape ready.first; given = first.1 ∙ IsMadeFor.given ready.first },
       record { shape = second.0 ∙ IsMadeFor.shape ready.second; given = second.1 ∙ IsMadeFor.given ready.second },
     )
@@ -164,12 +163,13 @@ mirror-served {B} state setup returns a b p side end lines taken one two io same
       answers = inl (record {
         end = end;
         serves = subst (λ (sh : Shape). Serves end lines taken mirror_grammar 0 (OnBoards (HasMirrored (zeros sh.pages sh.shadows) sh.pages) o) (OnBoards (HasFallen (zeros sh.pages sh.shadows) sh.pages) o) [] turns io) first_shape
-        (Serves-as end lines taken mirror_grammar 0 (MirroredSince (start_of a b) p side) (FellSince (start_of a b) p) (OnBoards (HasMirrored (zeros a.chart.shape.pages a.chart.shape.shadows) a.chart.shape.pages) o) (OnBoards (HasFallen (zeros a.chart.shape.pages a.chart.shape.shadows) a.chart.shape.pages) o) [] turns io (λ t. (boards_of p, e, f, mirrored (zeros a.chart.shape.pages a.chart.shape.shadows) a.chart.shape.pages (started a b) p side turns ready.unused (omega arith) t)) (λ d. (boards_of p, e, f, fallen (zeros a.chart.shape.pages a.chart.shape.shadows) a.chart.shape.pages (started a b) p turns (omega arith) d)) s);
+            (Serves-as end lines taken mirror_grammar 0 (MirroredSince (start_of a b) p side) (FellSince (start_of a b) p) (OnBoards (HasMirrored (zeros a.chart.shape.pages a.chart.shape.shadows) a.chart.shape.pages) o) (OnBoards (HasFallen (zeros a.chart.shape.pages a.chart.shape.shadows) a.chart.shape.pages) o) [] turns io (λ t. (boards_of p, e, f, mirrored (zeros a.chart.shape.pages a.chart.shape.shadows) a.chart.shape.pages (started a b) p side turns ready.unused (omega arith) t)) (λ d. (boards_of p, e, f, fallen (zeros a.chart.shape.pages a.chart.shape.shadows) a.chart.shape.pages (started a b) p turns (omega arith) d)) s);
         status = refl;
         why = refl;
       });
       licences = licences-of setup returns o turns p.first.memory.chart p.second.memory.chart e f made.0 made.1 (licences-either (start_of a b) p side turns ready.unused (omega arith) either);
     }
+
 -- before the first line
 pub begins-as : (a b : Picture) (p : Pair) (side : ℕ) → p ≡ started a b → side ≡ 0 → Mirrors p (zeros a.chart.shape.pages a.chart.shape.shadows) → MirroredSince (start_of a b) p side []
 begins-as a b p side is none mirrors =

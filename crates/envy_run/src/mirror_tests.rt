@@ -47,7 +47,11 @@ fn catching_up_waits_for_a_slot(rt: HostRuntime) -> Result<(), Fail> {
 #[test]
 fn lines_of_a_pair_are_read(rt: HostRuntime) -> Result<(), Fail> {
     for row in [
-        done(b"# a pair\n\nside 1\nlook 5\nload 2048", b"ok\n0\nrange\n", 5),
+        done(
+            b"# a pair\n\nside 1\nlook 5\nload 2048",
+            b"ok\n0\nrange\n",
+            5,
+        ),
         // a cut that comes true on one side is told by no reply of the array
         done(
             b"side 1\ncut 1 0\nstore 5 1\nload 5\ncatch\n",
