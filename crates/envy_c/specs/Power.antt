@@ -47,6 +47,7 @@ pub record RevivesTo (p q : Picture) (code : ℕ) : Type 0 where
   pub restarts : OnOk answer (Restarts p q)
   pub counts : counts_of q.parts ≡ counts_of p.parts
   pub dead : (answer ≡ Err ReviveDead) ↔ (p.chart.lives ≡ 0)
+  pub refused : (answer ≡ Err ReviveDead) → q ≡ p
   pub off : (answer ≡ Err ReviveOff) ↔ ((0 < p.chart.lives) × (q.chart.on ≡ false))
   pub cut : (answer ≡ Err ReviveOff) → p.chart.cuts < 2 ^ 64 - 1 → p.chart.cuts < q.chart.cuts
   pub kept : MatchResult answer (λ _. Kept (lit p.chart) q.chart) (λ e. ((e ≡ ReviveDead) × (q ≡ p)) ⊎ (Kept (lit p.chart) q.chart × (q.chart.on ≡ false)))

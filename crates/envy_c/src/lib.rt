@@ -5,10 +5,17 @@
 //! what its caller promises.
 #![tactic(auto)]
 
+mod board;
+mod bytes;
 mod calls;
+mod cursor;
 mod failing;
 mod handle;
+mod images;
 mod making;
 mod opening;
+mod restoring;
+mod saving;
 
+pub use bytes::EnvyBytes;
 pub use handle::EnvyMemory;

@@ -7,7 +7,7 @@ use Rattle.envy_map.specs.Fields.{chart}
 use Rattle.envy_policy.specs.Setup.{checked}
 use Rattle.envy_policy.specs.declared.setup.Setup.{Setup as OfSetup}
 use Rattle.envy_memory.specs.Attaching.{Attaches}
-use Rattle.envy_memory.specs.Formats.{Makes}
+use Rattle.envy_memory.specs.Formats.{Makes, CountsFormat}
 use Rattle.envy_memory.specs.Picture.{Picture}
 use Rattle.envy_calls.specs.Codes.{number_of}
 use Rattle.envy_calls.specs.Making.{Forbids, IsWhole, IsNoSetup}
@@ -63,6 +63,7 @@ pub record Formatted (given : Given) (p : Picture) : Type 0 where
   pub setup : OfSetup
   pub is : setup_of given.setup ≡ Some setup
   pub makes : Makes (board_of setup.shape given) setup p
+  pub counts : CountsFormat (chart (board_of setup.shape given)) p.chart
 
 -- the memory that the regions hold was taken up, as a failure of power left it
 pub record Attached (given : Given) (p : Picture) : Type 0 where

@@ -13,8 +13,8 @@ use Rattle.envy_run.specs.declared.loading.Refusal.TheVariants.{Failed, Memory, 
 use Rattle.envy_run.proofs.Imaged.{never-early, never-unmarked, never-misshapen}
 
 -- an image that is there isn't refused
-pub image-taken : (refusal : Refusal) (returns : ℕ) (o : Outcome) (io : Streams) → HoldsImage io → NeverFailed o → RefusesImage refusal returns o io → o.status ≡ 8
-image-taken Failed returns o io holds calm r = absurd (still-low io.from.faults io.feed.faults holds.reads r.cause)
+pub image-taken : (refusal : Refusal) (returns : ℕ) (o : Outcome) (io : Streams) → HoldsImage io → (o.status ≡ 11 → NeverFailed o) → RefusesImage refusal returns o io → o.status ≡ 8
+image-taken Failed returns o io holds calm r = absurd (still-low io.from.faults io.feed.faults holds.reads r.cause.0)
 image-taken Memory returns o io holds calm r = r.status
 image-taken Early returns o io holds calm r =
     let (dry, stops) = r.cause in
@@ -26,8 +26,8 @@ image-taken Misshapen returns o io holds calm r =
     let (none, sh, fault, is, fails, fit) = r.cause in
     absurd (never-misshapen holds.image holds.rest holds.whole r.bytes io.feed (sym holds.told ∙ TookOnly.source r.took) sh fault is fails fit)
 image-taken Upset returns o io holds calm r =
-    let (now, is, either) = r.cause in
-    absurd (at now (calm now is) either)
+    let (now, is, reach, either) = r.cause in
+    absurd (at now (calm r.status now is) either)
   where
     at : (now : Chart) → (now.cuts ≡ 0) × (now.bads ≡ 0) → (0 < now.cuts) ⊎ (0 < now.bads) → ⊥
     at now (cuts, bads) (inl some) = omega arith
@@ -39,4 +39,4 @@ completes-audit o io (inl judged) holds calm = at judged.writes
     at : WritesTrace (verdict_line judged.verdict) o.status io.to io.sink → IsComplete o
     at (inl (done, written, flushed)) = inl done
     at (inr (failed, front)) = absurd (still-written (verdict_line judged.verdict) io.to io.to io.sink holds.writes (omega arith) front)
-completes-audit o io (inr (refusal, refuses)) holds calm = inr (image-taken refusal audit_lives o io holds calm refuses)
+completes-audit o io (inr (refusal, refuses)) holds calm = inr (image-taken refusal audit_lives o io holds (λ upset. calm) refuses)

@@ -26,7 +26,7 @@ not-below a b e = grind (arith, nat_tests)
 not-none : (a : ℕ) → (a == 0) ≡ false → 1 ≤ a
 not-none a e = grind (arith, nat_tests)
 
-shape-is : (sh : Shape) → shape_checked sh ≡ Ok tt → IsShape sh
+pub shape-is : (sh : Shape) → shape_checked sh ≡ Ok tt → IsShape sh
 unfolding shape_checked
 shape-is sh e =
     let segments = passed (nat_lt sh.segments 4 || nat_lt 4096 sh.segments) Segments _ e in

@@ -9,6 +9,7 @@ use Rattle.envy_args.specs.declared.command.WordsFault.TheVariants.{Memory}
 use Rattle.envy_args.specs.Words.{Text, command_of}
 use Rattle.envy_base.specs.Array.{Array}
 use Rattle.envy_base.specs.declared.area.Area.{Area}
+use Rattle.envy_base.specs.declared.shape.Shape.{Shape}
 use Rattle.envy_gen.specs.Traces.{trace_bytes}
 use Rattle.envy_map.specs.Fields.{Chart}
 use Rattle.envy_policy.specs.declared.setup.Setup.{Setup}
@@ -20,7 +21,7 @@ use Rattle.envy_serve.specs.Streams.{Streams}
 use Rattle.envy_serve.specs.Turns.{Turn}
 use Rattle.envy_serve.proofs.GoodTraces.{good-ends, still-written}
 use Rattle.envy_trace.specs.declared.fault.LineFault.TheVariants.{Long}
-use Rattle.envy_run.specs.Complete.{IsWell, IsComplete, Completes}
+use Rattle.envy_run.specs.Complete.{HoldsImage, HoldsTrace, IsWell, IsWellInstalled, IsComplete, Completes}
 use Rattle.envy_run.specs.Done.{HasDied, DiesIn}
 use Rattle.envy_run.specs.Drives.{Breaks, Drives, Reports, report}
 use Rattle.envy_run.specs.Headline.{Headline, IsUnserved, run_task, save_task, index_task, plain_task, WritesTrace, IsDark, IsSpoilt, IsOutOfMemory, IsWithoutMemory, Generates, zeros_of}
@@ -28,12 +29,14 @@ use Rattle.envy_run.specs.IndexDone.{HasIndexDied, IndexDiesIn}
 use Rattle.envy_run.specs.IndexServing.{long_index}
 use Rattle.envy_run.specs.IndexTurns.{IndexTurn, index_grammar}
 use Rattle.envy_run.specs.Outcome.{Outcome, IsQuiet, status_of}
+use Rattle.envy_run.specs.Resumes.{IsUnattached, Resumes, resume_task, setup_found, words_found}
 use Rattle.envy_run.specs.Runs.{IsAlone, Runs}
 use Rattle.envy_run.specs.Task.{Task, IsServed, DoesTask}
 use Rattle.envy_run.specs.Tracing.{long_any}
 use Rattle.envy_run.specs.Turns.{TraceTurn, trace_grammar}
-use Rattle.envy_run.proofs.Audited.{completes-audit}
+use Rattle.envy_run.proofs.Audited.{completes-audit, image-taken}
 use Rattle.envy_run.proofs.MirrorWell.{completes-mirror}
+use Rattle.envy_run.proofs.Resumed.{good-behind, never-unruly, never-unsound}
 
 died-off : (first : Array) (now : Chart) (turns : List TraceTurn) → IsTrue now.on ⊎ (0 < now.lives) → HasDied first now turns → ⊥
 died-off first now [] well died = died
@@ -118,6 +121,24 @@ completes-tpca setup returns start area every o io d low well = at d.ends
     at (inl r) = told (report area r.sums) r.writes
     at (inr b) = unserved-well o io b.unserved well
 
+completes-resume : (setup : Shape → Setup) (returns : ℕ) (o : Outcome) (io : Streams) → Resumes setup returns o io → (holds : HoldsImage io) → HoldsTrace setup io holds → IsWellInstalled o → IsComplete o
+completes-resume setup returns o io (inl t) holds trace well = at (DoesTask.answers t.does)
+  where
+    dark-off : (dark : IsDark o) → IsTrue dark.now.on ⊎ (0 < dark.now.lives) → ⊥
+    dark-off dark (inl on) = let off = dark.off in cc
+    dark-off dark (inr some) = let none_left = dark.lives in omega arith
+
+    at : IsServed (resume_task t.found (setup t.found.shape) returns) (DoesTask.turns t.does) o (record io { from = record { left = t.behind; faults = io.from.faults } }) ⊎ ((DoesTask.turns t.does ≡ []) × IsUnattached t.found o (record io { from = record { left = t.behind; faults = io.from.faults } })) → IsComplete o
+    at (inl served) = inl (task-well (resume_task t.found (setup t.found.shape) returns) (DoesTask.turns t.does) o (record io { from = record { left = t.behind; faults = io.from.faults } }) long_any served (good-behind setup returns o io holds trace t.found t.behind t.whole t.image) (λ (now, is, died). died-off (words_found t.found) now (DoesTask.turns t.does) (well.returns now is) died))
+    at (inr (none, u)) = cause (IsUnattached.cause u)
+      where
+        cause : IsOutOfMemory o ⊎ IsDark o → IsComplete o
+        cause (inl out) = inr out.status
+        cause (inr dark) = absurd (dark-off dark (well.returns dark.now dark.board_is))
+completes-resume setup returns o io (inr (inl (refusal, d))) holds trace well = inr (image-taken refusal returns o io holds well.installed d.refuses)
+completes-resume setup returns o io (inr (inr (inl b))) holds trace well = absurd (never-unruly setup returns o io holds trace b)
+completes-resume setup returns o io (inr (inr (inr u))) holds trace well = absurd (never-unsound setup returns o io holds trace u)
+
 -- what is done for a command is complete where all goes well
 pub completes : (command : Result Command WordsFault) (o : Outcome) (io : Streams) → Headline command o io → Completes command o io
 completes (Ok (Run setup returns)) o io (inl runs) = λ good well. completes-run setup returns o io runs good well
@@ -130,7 +151,8 @@ completes (Ok (Tpca setup returns start area every)) o io (inl drives) = λ low 
 completes (Ok (Tpca setup returns start area every)) o io (inr without) = λ low well. inr (IsOutOfMemory.status (IsWithoutMemory.memory without))
 completes (Ok (Save setup returns)) o io (inl saves) = λ good well. completes-save setup returns o io saves good well
 completes (Ok (Save setup returns)) o io (inr without) = λ good well. inr (IsOutOfMemory.status (IsWithoutMemory.memory without))
-completes (Ok (Resume policy limit mark returns)) o io done = tt
+completes (Ok (Resume policy limit mark returns)) o io (inl resumes) = λ holds trace well. completes-resume (setup_found policy limit mark) returns o io resumes holds trace well
+completes (Ok (Resume policy limit mark returns)) o io (inr without) = λ holds trace well. inr (IsOutOfMemory.status (IsWithoutMemory.memory without))
 completes (Ok Audit) o io (inl audits) = λ holds calm. completes-audit o io audits holds calm
 completes (Ok Audit) o io (inr without) = λ holds calm. inr (IsOutOfMemory.status (IsWithoutMemory.memory without))
 completes (Ok (Index setup returns)) o io (inl indexes) = λ good well. completes-index setup returns o io indexes good well

@@ -53,10 +53,10 @@ ended status now whole = record { status = status; why = 0; lines = 0; taken = 0
 abbrev pub unread : Feed → Drain → Drain → Streams
 unread feed to sink = record { from = feed; feed = feed; to = to; sink = sink }
 
-counts-told : (sums now : Counts) (c : Chart) → sums ≡ record now { hits = sums.hits; misses = sums.misses } → AddsUp now c → AddsUp sums c
-counts-told sums now c others a = subst (λ (x : Counts). AddsUp x c) (sym others) (record { programs = a.programs; erases = a.erases })
+counts-told : (sums now : Counts) (c : Chart) → sums ≡ record now { hits = sums.hits; misses = sums.misses } → AddsUp 0 now c → AddsUp 0 sums c
+counts-told sums now c others a = subst (λ (x : Counts). AddsUp 0 x c) (sym others) (record { programs = a.programs; erases = a.erases })
 
-module _ (setup : Setup) (returns start : ℕ) (area : Area) (every : ℕ) (first now : Picture) (b : Began setup returns first) (lives : first.chart.lives ≤ returns) (status : ℕ) (whole : State) (feed : Feed) (to sink : Drain) (keeps : Keeps first now) where
+module _ (setup : Setup) (returns start : ℕ) (area : Area) (every : ℕ) (first now : Picture) (b : Began 0 setup returns first) (lives : first.chart.lives ≤ returns) (status : ℕ) (whole : State) (feed : Feed) (to sink : Drain) (keeps : Keeps first now) where
   same-shape : now.chart.shape ≡ setup.shape
   same-shape = keeps.shape ∙ b.shape
 
@@ -74,7 +74,7 @@ module _ (setup : Setup) (returns start : ℕ) (area : Area) (every : ℕ) (firs
         words = subst (λ (sh : Shape). Tpc area sh.pages (load_of start area) area.transfers (durable now.chart)) same-shape (IsDriven.words d);
         sums = HasTold.sums told;
         adds_up = IsDriven.adds_up d;
-        counts = counts-told _ (counts_of now.parts) now.chart (IsToldBefore.others (IsDriven.counts d)) (adds-up setup returns first now b keeps.shape keeps.cuts keeps.tallies);
+        counts = counts-told _ (counts_of now.parts) now.chart (IsToldBefore.others (IsDriven.counts d)) (adds-up 0 setup returns first now b keeps.shape keeps.cuts keeps.tallies);
         cuts = omega arith;
         plans = let exact = Rises.exact plans (omega arith) in omega arith;
         writes = HasTold.writes told;

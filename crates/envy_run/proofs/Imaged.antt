@@ -1,6 +1,6 @@
 -- Bytes that begin with an image are taken up, where nothing fails.
 use Rattle.std.proofs.Common.{◌≡◌, inl, inr, ℕ, ◌+◌, ◌*◌, ◌-◌, false, List, [], ◌++◌, length, refl, sym, ◌∙◌, ap, subst, arith, length-append}
-use Rattle.std.specs.Prelude.{Option, Some, Ok, Err, nat_lt, ◌||◌, ◌==◌}
+use Rattle.std.specs.Prelude.{Option, None, Some, Ok, Err, nat_lt, ◌||◌, ◌==◌}
 use Rattle.std.proofs.lemmas.Bool.Decides.{nat_tests}
 use Rattle.std.proofs.lemmas.List.{append_assoc}
 use Rattle.envy_base.specs.Shape.{IsShape, checked}
@@ -51,19 +51,19 @@ module _ (b : State) (rest : List ℕ) (whole : IsBoard b) (bytes : List ℕ) (f
       let none : left ≡ [] = subst (λ (o : Option (List ℕ)). IsDry o) is dry in
       let same : image_of b ++ rest ≡ bytes ++ left = all in
       let long : length (image_of b) + length rest ≡ length bytes = sym (length-append (image_of b) rest) ∙ (ap length same ∙ (length-append bytes left ∙ (let zero = ap length none in omega arith))) in
-      at left same long stops
+      at left same long board stops
     where
       size : length (image_of b) ≡ 32 + body_size b.shape
       size = length-image b whole
 
-      at : (left : List ℕ) → image_of b ++ rest ≡ bytes ++ left → length (image_of b) + length rest ≡ length bytes → StopsWithin bytes board → ⊥
-      at left same long (inl (none, inl few)) = omega (arith, size)
-      at left same long (inl (none, inr (more, is, few))) = omega (arith, size, ap length is, length-append mark more)
-      at left same long (inr (some, sh, shape, (more, is, few))) =
-          let heads : head_of b.shape ++ (body_of b.flash b.sram ++ rest) ≡ head_of sh ++ (more ++ left) = sym parts ∙ (same ∙ (ap (λ (xs : List ℕ). xs ++ left) is ∙ append_assoc (head_of sh) more left)) in
-          let one : b.shape ≡ sh = same-head b.shape sh _ _ (fit-numbers b.shape (IsBoard.shape whole)) (fit-numbers sh shape) heads in
-          let even : body_size b.shape ≡ body_size sh = ap body_size one in
-          omega (arith, size, ap length is, length-append (head_of sh) more, length-head sh)
+      at : (left : List ℕ) → image_of b ++ rest ≡ bytes ++ left → length (image_of b) + length rest ≡ length bytes → (board : Option Chart) → StopsWithin bytes board → ⊥
+      at left same long None (inl few) = omega (arith, size)
+      at left same long None (inr (more, is, few)) = omega (arith, size, ap length is, length-append mark more)
+      at left same long (Some now) (shape, (more, is, few)) =
+          let heads : head_of b.shape ++ (body_of b.flash b.sram ++ rest) ≡ head_of now.shape ++ (more ++ left) = sym parts ∙ (same ∙ (ap (λ (xs : List ℕ). xs ++ left) is ∙ append_assoc (head_of now.shape) more left)) in
+          let one : b.shape ≡ now.shape = same-head b.shape now.shape _ _ (fit-numbers b.shape (IsBoard.shape whole)) (fit-numbers now.shape shape) heads in
+          let even : body_size b.shape ≡ body_size now.shape = ap body_size one in
+          omega (arith, size, ap length is, length-append (head_of now.shape) more, length-head now.shape)
 
   -- its first bytes are the mark
   pub never-unmarked : length bytes ≡ 8 → (bytes ≡ mark → ⊥) → ⊥

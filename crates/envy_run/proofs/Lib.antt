@@ -1,4 +1,5 @@
 pub mod Alike
+pub mod Attaching
 pub mod Audited
 pub mod Calm
 pub mod Checked
@@ -19,6 +20,7 @@ pub mod Preparing
 pub mod Recovering
 pub mod Replying
 pub mod Reporting
+pub mod Resumed
 pub mod Saved
 pub mod Traced
 pub mod Words

@@ -1,10 +1,10 @@
 -- Images that are taken from a source, and boards that hold them.
 use Rattle.std.proofs.Common.{◌≡◌, ◌⊎◌, inl, inr, ℕ, ◌+◌, ◌*◌, ◌<◌, ◌≤◌, List, [], ◌++◌, length, refl, sym, ◌∙◌, ap, subst, arith, length-append}
-use Rattle.std.specs.Prelude.{IsTrue, Option, None, Some, slice_index}
+use Rattle.std.specs.Prelude.{IsTrue, Ok, Option, None, Some, slice_index}
 use Rattle.std.specs.Option.{option_map}
 use Rattle.std.proofs.lemmas.List.{append-nil}
 use Rattle.envy_base.specs.Counting.{up}
-use Rattle.envy_base.specs.Shape.{IsShape}
+use Rattle.envy_base.specs.Shape.{IsShape, checked}
 use Rattle.envy_base.specs.State.{State, IsBoard, IsMade}
 use Rattle.envy_base.specs.declared.shape.Shape.{Shape}
 use Rattle.envy_audit.specs.Judging.{Judges}
@@ -20,12 +20,12 @@ use Rattle.envy_io.proofs.Counts.{Rises-after}
 use Rattle.envy_io.proofs.TakesLemmas.{with_front-with_front}
 use Rattle.envy_map.specs.Fields.{chart}
 use Rattle.envy_run.specs.Audits.{Audits, audit_lives, verdict_line}
-use Rattle.envy_run.specs.Loading.{HasTaken, IsUnharmed, Loaded, Unloaded, status_for, why_for}
+use Rattle.envy_run.specs.Loading.{HasTaken, IsUnharmed, Loaded, ReachesBehindHead, RefusesImage, StopsBehindHead, StopsWithin, Unloaded, status_for, why_for}
 use Rattle.envy_run.specs.Outcome.{outcome}
 use Rattle.envy_run.specs.Writing.{WritesTrace}
 use Rattle.envy_run.specs.declared.ended.Ended.{Ended}
 use Rattle.envy_run.specs.declared.loading.Refusal.{Refusal}
-use Rattle.envy_run.specs.declared.loading.Refusal.TheVariants.{Failed, Early, Upset}
+use Rattle.envy_run.specs.declared.loading.Refusal.TheVariants.{Failed, Early, Memory, Upset}
 
 -- more bytes are taken behind those that were
 pub taken-more : (a b : List ℕ) (from feed to : Feed) (was now : Taking) → HasTaken a from was feed → Consumes was feed b now to → HasTaken (a ++ b) from now to
@@ -68,6 +68,19 @@ body-short sh s =
     let e = s.few in
     omega arith
 
+-- memory ran out before a byte behind the head was taken
+pub memory-unmade : (sh : Shape) (returns : ℕ) (from feed : Feed) (was : Taking) → checked sh ≡ Ok tt → HasTaken (head_of sh) from was feed → Unloaded sh returns from None Memory was feed
+memory-unmade sh returns from feed was checks head = record { shape = tt; bytes = head_of sh; taken = head; cause = (sh, checks, refl, tt); unharmed = tt }
+
+pub memory-made : (sh : Shape) (returns : ℕ) (from feed : Feed) (old : State) (was : Taking) → checked sh ≡ Ok tt → IsMade sh returns old → HasTaken (head_of sh) from was feed → Unloaded sh returns from (Some old) Memory was feed
+memory-made sh returns from feed old was checks made head = record {
+  shape = made.shape;
+  bytes = head_of sh;
+  taken = head;
+  cause = (sh, checks, refl, made.shape);
+  unharmed = record { given = made.given; pulled = made.pulled; plans = made.plans };
+}
+
 unharmed-goes : (sh : Shape) (returns : ℕ) (old new : State) → IsMade sh returns old → Goes old new → IsUnharmed returns (chart new)
 unharmed-goes sh returns old new made goes = record {
   given = ap (λ (s : State). s.given) goes.same ∙ made.given;
@@ -79,23 +92,31 @@ module _ (sh : Shape) (returns : ℕ) (from feed to : Feed) (old new : State) (w
   fewer : (n : ℕ) → n < body_size old.shape → n < body_size sh
   fewer n lt = subst (λ (x : Shape). n < body_size x) made.shape lt
 
-  pub short-unloaded : StopsAs InShort (body_size old.shape) old was feed new now to → Unloaded returns from (Some new) Early now to
+  went : Goes old new → new.shape ≡ sh
+  went goes = ap (λ (s : State). s.shape) goes.same ∙ made.shape
+
+  within : Goes old new → (bytes : List ℕ) → length bytes < body_size old.shape → StopsWithin (head_of sh ++ bytes) (Some (chart new))
+  within goes bytes few = subst (λ (x : Shape). IsShape x × StopsBehindHead x (head_of sh ++ bytes)) (sym (went goes)) (shape, (bytes, refl, fewer (length bytes) few))
+
+  pub short-unloaded : StopsAs InShort (body_size old.shape) old was feed new now to → Unloaded sh returns from (Some new) Early now to
   short-unloaded s =
       let taken = taken-ends (head_of sh) s.bytes from feed to was now head s.ends in
       record {
+        shape = went s.goes;
         bytes = head_of sh ++ s.bytes;
         taken = taken;
-        cause = (taken.dry s.stops, inr (refl, sh, shape, (s.bytes, refl, fewer (length s.bytes) s.few)));
+        cause = (taken.dry s.stops, within s.goes s.bytes s.few);
         unharmed = unharmed-goes sh returns old new made s.goes;
       }
 
-  pub failed-unloaded : StopsAs InFailed (body_size old.shape) old was feed new now to → Unloaded returns from (Some new) Failed now to
+  pub failed-unloaded : StopsAs InFailed (body_size old.shape) old was feed new now to → Unloaded sh returns from (Some new) Failed now to
   failed-unloaded s =
       let (going, below, rises) = s.stops in
       record {
+        shape = went s.goes;
         bytes = head_of sh ++ s.bytes;
         taken = taken-ends (head_of sh) s.bytes from feed to was now head s.ends;
-        cause = Rises-after from.faults feed.faults to.faults head.faults rises;
+        cause = (Rises-after from.faults feed.faults to.faults head.faults rises, within s.goes s.bytes s.few);
         unharmed = unharmed-goes sh returns old new made s.goes;
       }
 
@@ -113,11 +134,19 @@ module _ (sh : Shape) (returns : ℕ) (from feed to : Feed) (old new : State) (w
   upset-cause (inl (off, rose, same)) = inl (let none = made.cuts in let more = rose (omega arith) in omega arith)
   upset-cause (inr (on, same, rose)) = inr (let none = made.bads in let more = rose (omega arith) in omega arith)
 
-  pub upset-unloaded : FailsInBody (body_size old.shape) old was feed new now to → Unloaded returns from (Some new) Upset now to
+  upset-shape : (f : FailsInBody (body_size old.shape) old was feed new now to) → new.shape ≡ sh
+  upset-shape f = ap (λ (s : State). s.shape) (Upsets.same f.upset) ∙ made.shape
+
+  upset-reach : (f : FailsInBody (body_size old.shape) old was feed new now to) → ReachesBehindHead new.shape (head_of sh ++ f.bytes)
+  upset-reach f =
+      subst (λ (x : Shape). ReachesBehindHead x (head_of sh ++ f.bytes)) (sym (upset-shape f)) (f.bytes, refl, subst (λ (x : Shape). length f.bytes ≤ body_size x) made.shape f.few)
+
+  pub upset-unloaded : FailsInBody (body_size old.shape) old was feed new now to → Unloaded sh returns from (Some new) Upset now to
   upset-unloaded f = record {
+    shape = upset-shape f;
     bytes = head_of sh ++ f.bytes;
     taken = taken-more (head_of sh) f.bytes from feed to was now head f.read;
-    cause = (chart new, refl, upset-cause (Upsets.failed f.upset));
+    cause = (chart new, refl, upset-reach f, upset-cause (Upsets.failed f.upset));
     unharmed = record {
       given = ap (λ (s : State). s.given) (Upsets.same f.upset) ∙ made.given;
       pulled = ap (λ (s : State). s.pulled) (Upsets.same f.upset) ∙ made.pulled;
@@ -154,15 +183,17 @@ module _ (sh : Shape) (returns : ℕ) (from feed to : Feed) (old new : State) (w
         judges = judges;
       }
 
+-- no image was taken up
+pub image-refused : {B : Type 0} (state : B → State) (sh : Shape) (refusal : Refusal) (returns taken : ℕ) (board : Option B) (from feed : Feed) (sink : Drain) (now : Taking) → taken ≡ now.taken → Unloaded sh returns from (option_map state board) refusal now feed → RefusesImage refusal returns (outcome state (record { status = status_for refusal; why = why_for refusal; lines = 0; taken = taken; board = board; second = None })) (record { from = from; feed = feed; to = sink; sink = sink })
+image-refused {B} state sh refusal returns taken None from feed sink now same u = record { status = refl; why = refl; bytes = u.bytes; took = record { lines = refl; taken = same ∙ u.taken.taken; source = u.taken.left; sink = refl }; cause = u.cause; unharmed = u.unharmed }
+image-refused {B} state sh refusal returns taken (Some board) from feed sink now same u = record { status = refl; why = refl; bytes = u.bytes; took = record { lines = refl; taken = same ∙ u.taken.taken; source = u.taken.left; sink = refl }; cause = u.cause; unharmed = u.unharmed }
+
 -- the word `audit`
 
-pub audit-refused : {B : Type 0} (state : B → State) (refusal : Refusal) (taken : ℕ) (board : Option B) (e : Ended B) (from feed : Feed) (sink : Drain) (now : Taking) → e ≡ record { status = status_for refusal; why = why_for refusal; lines = 0; taken = taken; board = board; second = None } → taken ≡ now.taken → Unloaded audit_lives from (option_map state board) refusal now feed → Audits (outcome state e) (record { from = from; feed = feed; to = sink; sink = sink })
-audit-refused {B} state refusal taken None e from feed sink now is same u =
+pub audit-refused : {B : Type 0} (state : B → State) (sh : Shape) (refusal : Refusal) (taken : ℕ) (board : Option B) (e : Ended B) (from feed : Feed) (sink : Drain) (now : Taking) → e ≡ record { status = status_for refusal; why = why_for refusal; lines = 0; taken = taken; board = board; second = None } → taken ≡ now.taken → Unloaded sh audit_lives from (option_map state board) refusal now feed → Audits (outcome state e) (record { from = from; feed = feed; to = sink; sink = sink })
+audit-refused {B} state sh refusal taken board e from feed sink now is same u =
     subst (λ (x : Ended B). Audits (outcome state x) (record { from = from; feed = feed; to = sink; sink = sink })) (sym is)
-    (inr (refusal, record { status = refl; why = refl; bytes = u.bytes; took = record { lines = refl; taken = same ∙ u.taken.taken; source = u.taken.left; sink = refl }; cause = u.cause; unharmed = u.unharmed }))
-audit-refused {B} state refusal taken (Some board) e from feed sink now is same u =
-    subst (λ (x : Ended B). Audits (outcome state x) (record { from = from; feed = feed; to = sink; sink = sink })) (sym is)
-    (inr (refusal, record { status = refl; why = refl; bytes = u.bytes; took = record { lines = refl; taken = same ∙ u.taken.taken; source = u.taken.left; sink = refl }; cause = u.cause; unharmed = u.unharmed }))
+    (inr (refusal, image-refused state sh refusal audit_lives taken board from feed sink now same u))
 
 pub audit-told : {B : Type 0} (state : B → State) (sh : Shape) (verdict : Verdict) (status taken : ℕ) (board : B) (e : Ended B) (from feed : Feed) (to sink : Drain) (now : Taking) → e ≡ record { status = status; why = 0; lines = 0; taken = taken; board = Some board; second = None } → taken ≡ now.taken → Loaded sh audit_lives from (state board) verdict now feed → WritesTrace (verdict_line verdict) status to sink → Audits (outcome state e) (record { from = from; feed = feed; to = to; sink = sink })
 audit-told {B} state sh verdict status taken board e from feed to sink now is same l writes =

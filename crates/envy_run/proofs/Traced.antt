@@ -13,6 +13,7 @@ use Rattle.envy_io.specs.Streams.{Feed, Drain}
 use Rattle.envy_map.specs.Fields.{Chart, chart}
 use Rattle.envy_base.specs.Counting.{up, Tally}
 use Rattle.envy_flush.specs.Counts.{Tallies, Tally3}
+use Rattle.envy_layout.specs.Stands.{Stands}
 use Rattle.envy_memory.specs.Formats.{IsFresh, IsStarted, no_counts}
 use Rattle.envy_memory.specs.Picture.{Picture, counts_of}
 use Rattle.envy_table.specs.Entries.{Entry, vacant}
@@ -42,6 +43,7 @@ use Rattle.envy_run.specs.Licence.{Licence, RoseOver}
 use Rattle.envy_run.specs.Obeys.{FailsIn, ObeysLine, LineDone, before_restart}
 use Rattle.envy_run.specs.declared.ended.Ended.{Ended}
 use Rattle.envy_run.specs.Prepares.{IsPrepared, IsReady}
+use Rattle.envy_run.specs.Resumes.{LicencesBehind}
 use Rattle.envy_run.specs.Outcome.{outcome, status_of, why_of}
 use Rattle.envy_run.specs.Tracing.{TracedSince, DiedSince}
 use Rattle.envy_run.specs.Turns.{TraceTurn, Does, trace_grammar, is_power, is_plan, is_lost, is_fault}
@@ -150,19 +152,19 @@ traced-few test start p (turn ∷ earlier) (inr d) =
     let same = ap length (DiesIn.replies d.died) in
     omega arith
 
--- what a memory was when its trace began
-pub record Began (setup : Setup) (returns : ℕ) (first : Picture) : Type 0 where
+-- what a memory was when its trace began, of whose board so many programs had begun
+pub record Began (programs : ℕ) (setup : Setup) (returns : ℕ) (first : Picture) : Type 0 where
   pub shape : first.chart.shape ≡ setup.shape
   pub given : first.chart.given ≡ returns
   pub pulled : first.chart.pulled ≡ 0
   pub plans : first.chart.plans ≡ 0
   pub counts : counts_of first.parts ≡ no_counts
-  pub begun : first.chart.begun ≡ 0
+  pub begun : first.chart.begun ≡ programs
   pub erases : first.chart.cuts ≡ 0 → sum first.chart.erases ≡ setup.shape.segments
 
 -- the counters add up
-pub adds-up : (setup : Setup) (returns : ℕ) (first now : Picture) → Began setup returns first → now.chart.shape ≡ first.chart.shape → first.chart.cuts ≤ now.chart.cuts → Tallies first.chart first.parts now.chart now.parts → AddsUp (counts_of now.parts) now.chart
-adds-up setup returns first now b shape cuts t =
+pub adds-up : (programs : ℕ) (setup : Setup) (returns : ℕ) (first now : Picture) → Began programs setup returns first → now.chart.shape ≡ first.chart.shape → first.chart.cuts ≤ now.chart.cuts → Tallies first.chart first.parts now.chart now.parts → AddsUp programs (counts_of now.parts) now.chart
+adds-up programs setup returns first now b shape cuts t =
     let flushes = ap (λ (c : Counts). c.flushes) b.counts in
     let copies = ap (λ (c : Counts). c.copies) b.counts in
     let moves = ap (λ (c : Counts). c.moves) b.counts in
@@ -174,9 +176,9 @@ adds-up setup returns first now b shape cuts t =
       erases = λ none le ls. let same = Tally.same t.erases ls le in let whole = b.erases (omega arith) in omega arith;
     }
 
-told-so : (told : Option Counts) (now : Picture) → IfSome told (λ c. c ≡ counts_of now.parts) → AddsUp (counts_of now.parts) now.chart → IfSome told (λ c. AddsUp c now.chart)
-told-so None now same adds = tt
-told-so (Some counts) now same adds = subst (λ (c : Counts). AddsUp c now.chart) (sym same) adds
+told-so : (programs : ℕ) (told : Option Counts) (now : Picture) → IfSome told (λ c. c ≡ counts_of now.parts) → AddsUp programs (counts_of now.parts) now.chart → IfSome told (λ c. AddsUp programs c now.chart)
+told-so programs None now same adds = tt
+told-so programs (Some counts) now same adds = subst (λ (c : Counts). AddsUp programs c now.chart) (sym same) adds
 
 -- where power failed no counters were just told
 died-told : (array : Array) (line : Line) (replies : List Reply) (earlier : List TraceTurn) (left : Array) → replies ≡ before_restart line → FailsIn array line left → (P : Counts → Type 0) → IfSome (just_told (record { line = line; replies = replies } ∷ earlier)) P
@@ -195,10 +197,10 @@ died-told array (Cut k g) replies earlier left is fails P = subst (λ (rs : List
 died-told array (Bad k g) replies earlier left is fails P = subst (λ (rs : List Reply). IfSome (told_in rs) P) (sym is) tt
 died-told array Stat replies earlier left is fails P = subst (λ (rs : List Reply). IfSome (told_in rs) P) (sym is) tt
 
-since-told : (setup : Setup) (returns : ℕ) (start : Start) (p : Picture) (turns : List TraceTurn) → Began setup returns start.memory → TracedSince start p turns ⊎ DiedSince start p turns → IfSome (just_told turns) (λ c. AddsUp c p.chart)
-since-told setup returns start p turns b (inl t) = told-so (just_told turns) p (Telling.last t.telling) (adds-up setup returns start.memory p b (Licence.shape t.licensed) (RoseOver.kept (Licence.cuts t.licensed)) (Telling.tallies t.telling))
-since-told setup returns start p [] b (inr d) = tt
-since-told setup returns start p (turn ∷ earlier) b (inr d) = let (left, fails, words) = DiesIn.found d.died in died-told (DiesIn.array d.died) turn.line turn.replies earlier left (DiesIn.replies d.died) fails (λ c. AddsUp c p.chart)
+since-told : (programs : ℕ) (setup : Setup) (returns : ℕ) (start : Start) (p : Picture) (turns : List TraceTurn) → Began programs setup returns start.memory → TracedSince start p turns ⊎ DiedSince start p turns → IfSome (just_told turns) (λ c. AddsUp programs c p.chart)
+since-told programs setup returns start p turns b (inl t) = told-so programs (just_told turns) p (Telling.last t.telling) (adds-up programs setup returns start.memory p b (Licence.shape t.licensed) (RoseOver.kept (Licence.cuts t.licensed)) (Telling.tallies t.telling))
+since-told programs setup returns start p [] b (inr d) = tt
+since-told programs setup returns start p (turn ∷ earlier) b (inr d) = let (left, fails, words) = DiesIn.found d.died in died-told (DiesIn.array d.died) turn.line turn.replies earlier left (DiesIn.replies d.died) fails (λ c. AddsUp programs c p.chart)
 
 -- a count that is at least n where it is below the top
 pub below-top : (n count : ℕ) → n < 2 ^ 64 - 1 → (count < 2 ^ 64 - 1 → n ≤ count) → n ≤ count
@@ -212,8 +214,8 @@ licensed-either : (start : Start) (p : Picture) (turns : List TraceTurn) → Tra
 licensed-either start p turns (inl t) = t.licensed
 licensed-either start p turns (inr d) = d.licensed
 
-pub licences-since : (setup : Setup) (returns : ℕ) (start : Start) (p : Picture) (turns : List TraceTurn) → Began setup returns start.memory → length turns ≤ most_bytes → TracedSince start p turns ⊎ DiedSince start p turns → Licences setup returns turns p.chart
-licences-since setup returns start p turns b few since =
+pub licences-behind : (programs : ℕ) (setup : Setup) (returns : ℕ) (start : Start) (p : Picture) (turns : List TraceTurn) → Began programs setup returns start.memory → length turns ≤ most_bytes → TracedSince start p turns ⊎ DiedSince start p turns → LicencesBehind programs setup returns turns p.chart
+licences-behind programs setup returns start p turns b few since =
     let l = licensed-either start p turns since in
     let powers = count-lines is_power turns in
     let planned = count-lines is_plan turns in
@@ -228,8 +230,13 @@ licences-since setup returns start p turns b few since =
       plans = let e = Licence.plans_made l (omega arith) in omega arith;
       losts = below-top (count_lines is_power turns + count_replies is_lost turns) p.chart.cuts (omega arith) (λ lt. let rise = RoseOver.rise (Licence.cuts l) lt in omega arith);
       faults = below-top (count_replies is_fault turns) p.chart.bads (omega arith) (λ lt. let rise = RoseOver.rise (Licence.bads l) lt in omega arith);
-      told = since-told setup returns start p turns b since;
+      told = since-told programs setup returns start p turns b since;
     }
+
+pub licences-since : (setup : Setup) (returns : ℕ) (start : Start) (p : Picture) (turns : List TraceTurn) → Began 0 setup returns start.memory → length turns ≤ most_bytes → TracedSince start p turns ⊎ DiedSince start p turns → Licences setup returns turns p.chart
+licences-since setup returns start p turns b few since =
+    let l = licences-behind 0 setup returns start p turns b few since in
+    record { shape = l.shape; given = l.given; pulled = l.pulled; plans = l.plans; losts = l.losts; faults = l.faults; told = l.told }
 
 length-vacant : (n : ℕ) → length (vacant n) ≡ n
 length-vacant n = length-replicate n None
@@ -239,19 +246,19 @@ page-vacant zero i = refl
 page-vacant (suc n) zero = refl
 page-vacant (suc n) (suc i) = page-vacant n i
 
--- before the first line
-pub traced-none : (old : Chart) (setup : Setup) (first : Picture) → 0 < setup.shape.entries → first.chart.shape ≡ setup.shape → IsReady old setup first → TracedSince (record { array = zeros first.chart.shape.pages first.chart.shape.shadows; memory = first }) first []
-traced-none old setup first some shape ready = record {
-  done = record { array = zeros first.chart.shape.pages first.chart.shape.shadows; run = refl; stands = IsFresh.stands ready.fresh };
+-- before the first line of a memory that was just made, whatever array its board stands for
+pub traced-first : (setup : Setup) (first : Picture) (array : Array) → 0 < setup.shape.entries → first.chart.shape ≡ setup.shape → Stands first.chart array → IsStarted setup first → TracedSince (record { array = array; memory = first }) first []
+traced-first setup first array some shape stands begins = record {
+  done = record { array = array; run = refl; stands = stands };
   licensed = Licence-refl first.chart;
   telling = record {
     can = record {
       tracks = record {
         some = let e = ap (λ (sh : Shape). sh.entries) shape in omega arith;
-        size = ap length (IsStarted.entries ready.begins) ∙ length-vacant setup.shape.entries ∙ sym (ap (λ (sh : Shape). sh.entries) shape);
-        pages = λ i lt. ap (λ (es : List Entry). page_at es i) (IsStarted.entries ready.begins) ∙ page-vacant setup.shape.entries i;
-        hits = ap (λ (c : Counts). c.hits) (IsStarted.counts ready.begins);
-        misses = ap (λ (c : Counts). c.misses) (IsStarted.counts ready.begins);
+        size = ap length begins.entries ∙ length-vacant setup.shape.entries ∙ sym (ap (λ (sh : Shape). sh.entries) shape);
+        pages = λ i lt. ap (λ (es : List Entry). page_at es i) begins.entries ∙ page-vacant setup.shape.entries i;
+        hits = ap (λ (c : Counts). c.hits) begins.counts;
+        misses = ap (λ (c : Counts). c.misses) begins.counts;
       };
       never_fell = tt;
     };
@@ -260,8 +267,11 @@ traced-none old setup first some shape ready = record {
   };
 }
 
+pub traced-none : (old : Chart) (setup : Setup) (first : Picture) → 0 < setup.shape.entries → first.chart.shape ≡ setup.shape → IsReady old setup first → TracedSince (record { array = zeros first.chart.shape.pages first.chart.shape.shadows; memory = first }) first []
+traced-none old setup first some shape ready = traced-first setup first (zeros first.chart.shape.pages first.chart.shape.shadows) some shape (IsFresh.stands ready.fresh) ready.begins
+
 -- each segment was erased once
-ones-sum : (xs : List ℕ) → ((s : ℕ) → s < length xs → slice_index xs s ≡ 1) → sum xs ≡ length xs
+pub ones-sum : (xs : List ℕ) → ((s : ℕ) → s < length xs → slice_index xs s ≡ 1) → sum xs ≡ length xs
 ones-sum [] each = refl
 ones-sum (x ∷ xs) each = sum_by-cons (λ (n : ℕ). n) x xs ∙ (let here : x ≡ 1 = each 0 (omega arith) in let rest = ones-sum xs (λ s lt. each (suc s) (omega arith)) in omega arith)
 
@@ -272,7 +282,7 @@ up-zero n none = omega arith
 once-sum : (old new : List ℕ) (segments : ℕ) → length new ≡ segments → ((e : ℕ) → slice_index old e ≡ 0) → ((s : ℕ) → s < segments → slice_index new s ≡ up (slice_index old s)) → sum new ≡ segments
 once-sum old new segments long none once = ones-sum new (λ s lt. once s (omega arith) ∙ up-zero (slice_index old s) (none s)) ∙ long
 
-pub began : (setup : Setup) (returns : ℕ) (s : State) (first : Picture) → IsMade setup.shape returns s → length s.erases ≡ setup.shape.segments → IsReady (chart s) setup first → Began setup returns first
+pub began : (setup : Setup) (returns : ℕ) (s : State) (first : Picture) → IsMade setup.shape returns s → length s.erases ≡ setup.shape.segments → IsReady (chart s) setup first → Began 0 setup returns first
 began setup returns s first made long ready = record {
   shape = IsPrepared.shape ready.prepared ∙ made.shape;
   given = IsPrepared.given ready.prepared ∙ made.given;
@@ -284,7 +294,7 @@ began setup returns s first made long ready = record {
 }
 
 -- the trace was served over a fresh memory
-pub runs-served : (whole : State) (setup : Setup) (returns : ℕ) (old : Chart) (first now : Picture) (end : End) (lines taken : ℕ) (io : Streams) → 0 < setup.shape.entries → IsReady old setup first → Began setup returns first → lines ≤ most_bytes → ((start : Start) → TracedSince start first [] → (turns : List TraceTurn) × Serves end lines taken trace_grammar 0 (TracedSince start now) (DiedSince start now) [] turns io) → DoesTask (run_task setup returns) (record { status = status_of end; why = why_of end; lines = lines; taken = taken; board = Some now.chart; state = Some whole; second = None }) io
+pub runs-served : (whole : State) (setup : Setup) (returns : ℕ) (old : Chart) (first now : Picture) (end : End) (lines taken : ℕ) (io : Streams) → 0 < setup.shape.entries → IsReady old setup first → Began 0 setup returns first → lines ≤ most_bytes → ((start : Start) → TracedSince start first [] → (turns : List TraceTurn) × Serves end lines taken trace_grammar 0 (TracedSince start now) (DiedSince start now) [] turns io) → DoesTask (run_task setup returns) (record { status = status_of end; why = why_of end; lines = lines; taken = taken; board = Some now.chart; state = Some whole; second = None }) io
 runs-served whole setup returns old first now end lines taken io some ready b few serves =
     let start : Start = record { array = zeros first.chart.shape.pages first.chart.shape.shadows; memory = first } in
     let (turns, s) = serves start (traced-none old setup first some b.shape ready) in

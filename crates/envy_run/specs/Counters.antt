@@ -50,8 +50,9 @@ pub record NoneFell (old new : Counts) : Type 0 where
 abbrev pub IsLow : ℕ → Type 0
 IsLow n = n < 2 ^ 64 - 1
 
--- The counters add up to what the board counts. Each program that began is a flush, a copy or a move. Where power
--- never failed, each segment was erased once in formatting, and the other erases are those of the counters.
-pub record AddsUp (counts : Counts) (now : Chart) : Type 0 where
-  pub programs : IsLow counts.flushes → IsLow counts.copies → IsLow counts.moves → IsLow now.begun → counts.flushes + counts.copies + counts.moves ≡ now.begun
+-- The counters add up to what the board counts. Each program that began is a flush, a copy or a move, but for so many
+-- that began earlier, in installing an image. Where power never failed, each segment was erased once in formatting or
+-- installing, and the other erases are those of the counters.
+pub record AddsUp (earlier : ℕ) (counts : Counts) (now : Chart) : Type 0 where
+  pub programs : IsLow counts.flushes → IsLow counts.copies → IsLow counts.moves → IsLow now.begun → counts.flushes + counts.copies + counts.moves + earlier ≡ now.begun
   pub erases : now.cuts ≡ 0 → IsLow counts.erases → IsLow (sum now.erases) → counts.erases + now.shape.segments ≡ sum now.erases

@@ -1,5 +1,5 @@
 -- What is said of a board whose memory has done turns, and of one whose power didn't return.
-use Rattle.std.specs.Prelude.{◌≡◌, ℕ, false, List, [], ◌∷◌}
+use Rattle.std.specs.Prelude.{◌≡◌, ℕ, false, List, [], ◌∷◌, Some}
 use Rattle.envy_base.specs.Array.{Array}
 use Rattle.envy_map.specs.Codes.{the_magic}
 use Rattle.envy_map.specs.Fields.{Chart}
@@ -11,6 +11,7 @@ use Rattle.envy_serve.specs.Turns.{Leads, count_lines, count_replies}
 use Rattle.envy_run.specs.Hits.{MayTell}
 use Rattle.envy_run.specs.Licence.{Licence}
 use Rattle.envy_run.specs.Obeys.{FailsIn, before_restart}
+use Rattle.envy_run.specs.Outcome.{Outcome}
 use Rattle.envy_run.specs.Turns.{TraceTurn, Does, is_power, is_plan, is_lost, is_fault}
 
 -- lines with their replies, the newest first, lead from one array to another
@@ -39,6 +40,10 @@ pub record DiesIn (first : Array) (now : Chart) (turn : TraceTurn) (earlier : Li
 abbrev pub HasDied : Array → Chart → List TraceTurn → Type 0
 HasDied first now [] = ⊥
 HasDied first now (turn ∷ earlier) = DiesIn first now turn earlier
+
+-- the board exists, and this is said of it
+abbrev pub OnBoard : (Chart → List TraceTurn → Type 0) → Outcome → List TraceTurn → Type 0
+OnBoard Is o turns = (now : Chart) × (o.board ≡ Some now) × Is now turns
 
 -- the counts that license the turns
 abbrev pub LicensedTurns : List TraceTurn → Chart → Chart → Type 0

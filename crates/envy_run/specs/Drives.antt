@@ -55,7 +55,7 @@ pub record Reports (setup : Setup) (returns start : ℕ) (area : Area) (every : 
   pub words : Tpc area setup.shape.pages (load_of start area) area.transfers (durable now)
   pub sums : Sums
   pub adds_up : AddsUp area (load_of start area) sums
-  pub counts : CountsAddUp sums.counts now
+  pub counts : CountsAddUp 0 sums.counts now
   pub cuts : sums.cuts + now.lives ≤ returns
   pub plans : now.plans ≡ plans_in every area.transfers
   pub writes : WritesTrace (report area sums) o.status io.to io.sink

@@ -24,11 +24,13 @@ use Rattle.envy_run.specs.Audits.{Audits}
 use Rattle.envy_run.specs.Counters.{AddsUp, just_told}
 use Rattle.envy_run.specs.Calm.{HasDoneCalmly, NeverDies}
 use Rattle.envy_run.specs.Done.{HasDone, HasDied}
+pub use Rattle.envy_run.specs.Done.{OnBoard}
 use Rattle.envy_run.specs.IndexDone.{HasIndexed, HasIndexDied, IndexLicences, OnIndexBoard}
 use Rattle.envy_run.specs.IndexTurns.{index_grammar}
 use Rattle.envy_run.specs.Drives.{Drives}
 use Rattle.envy_run.specs.MirrorTask.{mirror_task}
 use Rattle.envy_run.specs.Outcome.{Outcome, IsQuiet}
+use Rattle.envy_run.specs.Resumes.{Resumes, setup_found}
 pub use Rattle.envy_run.specs.Unserved.{IsOutOfMemory, IsSpoilt, IsDark, IsUnserved}
 pub use Rattle.envy_run.specs.Writing.{WritesOut, WritesTrace}
 use Rattle.envy_run.specs.Task.{Task, DoesTask}
@@ -54,14 +56,10 @@ pub record Licences (setup : Setup) (returns : ℕ) (turns : List TraceTurn) (no
   pub plans : now.plans ≡ count_lines is_plan turns
   pub losts : count_lines is_power turns + count_replies is_lost turns ≤ now.cuts
   pub faults : count_replies is_fault turns ≤ now.bads
-  pub told : IfSome (just_told turns) (λ counts. AddsUp counts now)
+  pub told : IfSome (just_told turns) (λ counts. AddsUp 0 counts now)
 
 abbrev pub zeros_of : Setup → Array
 zeros_of setup = zeros setup.shape.pages setup.shape.shadows
-
--- the board exists, and this is said of it
-abbrev pub OnBoard : (Chart → List TraceTurn → Type 0) → Outcome → List TraceTurn → Type 0
-OnBoard Is o turns = (now : Chart) × (o.board ≡ Some now) × Is now turns
 
 -- the word `run`, over a memory of zeros
 abbrev pub run_task : Setup → ℕ → Task Line Reply
@@ -135,7 +133,7 @@ DoesCommand (Ok (Plain setup)) o io = DoesTask (plain_task setup) o io
 DoesCommand (Ok (Gen start count pages)) o io = Generates start count pages o io
 DoesCommand (Ok (Tpca setup returns start area every)) o io = Drives setup returns start area every o io
 DoesCommand (Ok (Save setup returns)) o io = DoesTask (save_task setup returns) o io
-DoesCommand (Ok (Resume policy limit mark returns)) o io = Refuses 0 o io
+DoesCommand (Ok (Resume policy limit mark returns)) o io = Resumes (setup_found policy limit mark) returns o io
 DoesCommand (Ok Audit) o io = Audits o io
 DoesCommand (Ok (Index setup returns)) o io = DoesTask (index_task setup returns) o io
 DoesCommand (Ok (Mirror setup returns)) o io = DoesTask (mirror_task setup returns) o io

@@ -1,5 +1,6 @@
 pub mod Allowed
 pub mod Answers
+pub mod Attached
 pub mod Audits
 pub mod Below
 pub mod Calm
@@ -22,6 +23,7 @@ pub mod Outcome
 pub mod Planned
 pub mod Prepares
 pub mod Restarts
+pub mod Resumes
 pub mod Runs
 pub mod Task
 pub mod Tells

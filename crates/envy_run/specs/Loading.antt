@@ -1,5 +1,5 @@
 -- Images that a source begins with: what was taken of one, and why there may be no board that holds it.
-use Rattle.std.specs.Prelude.{◌≡◌, ◌≢◌, ◌⊎◌, ℕ, ◌*◌, ◌<◌, ◌≤◌, false, IsTrue, List, [], ◌++◌, length, Option, None, Some, IsSome, IfSome, Result, Ok, Err, slice_index, ⊤}
+use Rattle.std.specs.Prelude.{◌≡◌, ◌≢◌, ◌⊎◌, ℕ, ◌*◌, ◌<◌, ◌≤◌, false, IsTrue, List, [], ◌++◌, length, Option, None, Some, IfSome, Result, Ok, Err, slice_index}
 use Rattle.std.specs.Option.{option_map}
 use Rattle.envy_base.specs.Shape.{IsShape, checked}
 use Rattle.envy_base.specs.State.{State, IsBoard}
@@ -40,19 +40,24 @@ StopsInHead bytes = (length bytes < 8) ⊎ ((rest : List ℕ) × (bytes ≡ mark
 abbrev pub StopsBehindHead : Shape → List ℕ → Type 0
 StopsBehindHead sh bytes = (rest : List ℕ) × (bytes ≡ head_of sh ++ rest) × (length rest < body_size sh)
 
--- a board was made of such a shape, and the bytes stop in the rest of its image; or they stop in the head
-abbrev pub StopsWithin : List ℕ → Option Chart → Type 0
-StopsWithin bytes board =
-    ((board ≡ None) × StopsInHead bytes) ⊎ (IsSome board × (sh : Shape) × IsShape sh × StopsBehindHead sh bytes)
+-- the bytes reach beyond the head of such a shape, and not beyond its image
+abbrev pub ReachesBehindHead : Shape → List ℕ → Type 0
+ReachesBehindHead sh bytes = (rest : List ℕ) × (bytes ≡ head_of sh ++ rest) × (length rest ≤ body_size sh)
 
--- Why there is no board that holds an image, by the bytes taken, the board where one was made, and the source.
+-- the bytes stop in the head, and no board was made; or a board of its shape was made, and they stop in what is behind it
+abbrev pub StopsWithin : List ℕ → Option Chart → Type 0
+StopsWithin bytes None = StopsInHead bytes
+StopsWithin bytes (Some now) = IsShape now.shape × StopsBehindHead now.shape bytes
+
+-- Why there is no board that holds an image, by the bytes taken, the board where one was made, and the source. A board
+-- that was made has the shape of the head.
 abbrev pub Cause : Refusal → List ℕ → Option Chart → Feed → Feed → Type 0
-Cause Failed bytes board from feed = Rises from.faults feed.faults
-Cause Memory bytes board from feed = ⊤
+Cause Failed bytes board from feed = Rises from.faults feed.faults × StopsWithin bytes board
+Cause Memory bytes board from feed = (sh : Shape) × (checked sh ≡ Ok tt) × (bytes ≡ head_of sh) × IfSome board (λ now. now.shape ≡ sh)
 Cause Early bytes board from feed = IsDry feed.left × StopsWithin bytes board
 Cause Unmarked bytes board from feed = (board ≡ None) × (length bytes ≡ 8) × (bytes ≢ mark)
 Cause Misshapen bytes board from feed = (board ≡ None) × (sh : Shape) × (fault : ShapeFault) × (bytes ≡ head_of sh) × (checked sh ≡ Err fault) × FitNumbers sh
-Cause Upset bytes board from feed = (now : Chart) × (board ≡ Some now) × ((0 < now.cuts) ⊎ (0 < now.bads))
+Cause Upset bytes board from feed = (now : Chart) × (board ≡ Some now) × ReachesBehindHead now.shape bytes × ((0 < now.cuts) ⊎ (0 < now.bads))
 
 -- no failure was planned on the board and power wasn't cut by hand
 pub record IsUnharmed (returns : ℕ) (c : Chart) : Type 0 where
@@ -84,8 +89,9 @@ pub record Loaded (sh : Shape) (returns : ℕ) (from : Feed) (found : State) (ve
   pub installed : IsInstalled sh returns found
   pub judges : Judges verdict (chart found)
 
--- or there is no such board
-pub record Unloaded (returns : ℕ) (from : Feed) (board : Option State) (refusal : Refusal) (now : Taking) (feed : Feed) : Type 0 where
+-- or there is no such board; one that was made has this shape
+pub record Unloaded (sh : Shape) (returns : ℕ) (from : Feed) (board : Option State) (refusal : Refusal) (now : Taking) (feed : Feed) : Type 0 where
+  pub shape : IfSome board (λ s. s.shape ≡ sh)
   pub bytes : List ℕ
   pub taken : HasTaken bytes from now feed
   pub cause : Cause refusal bytes (option_map chart board) from feed

@@ -3,6 +3,7 @@
 #![tactic(auto)]
 
 mod answering;
+mod attach;
 mod audit_run;
 #[cfg(test)]
 mod board_tests;
@@ -34,6 +35,7 @@ mod prepare;
 mod reading_tests;
 mod report;
 mod restart;
+mod resume_run;
 mod running;
 mod save_run;
 #[cfg(test)]

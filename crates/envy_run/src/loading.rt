@@ -99,7 +99,7 @@ pub(crate) fn take_image<S: Source, M: Maker>(
     ensures { (from : Feed) → HasTaken (head_of shape.now) from lines.old (S.feed source.old)
         → MatchResult result
         (λ loaded. Loaded shape.now lives from (M.Made.Board.state loaded.0) loaded.1 lines.new (S.feed source.new))
-        (λ e. Unloaded lives from (option_map M.Made.Board.state e.0) e.1 lines.new (S.feed source.new)) }
+        (λ e. Unloaded shape.now lives from (option_map M.Made.Board.state e.0) e.1 lines.new (S.feed source.new)) }
 {
     // the shape was checked
     if shape.check().is_err() {

@@ -14,6 +14,7 @@ use crate::mirror_run::run_mirror;
 use crate::plain_run::run_plain;
 use crate::prepare::{Unready, prepare};
 use crate::restart::ReplyBuffer;
+use crate::resume_run::{Resuming, run_resume};
 use crate::save_run::run_save;
 use crate::tpca_run::run_tpca;
 use crate::tracing::Tracing;
@@ -140,8 +141,20 @@ fn perform<S: Source, K: Sink, M: Maker>(
             run_tpca(alloc, setup, lives, start, &area, every, sink, maker)
         }
         Command::Mirror { setup, lives } => run_mirror(alloc, setup, lives, source, sink, maker),
-        // a word whose service isn't built yet
-        Command::Resume { .. } => unserved(2, 0, None),
+        Command::Resume {
+            policy,
+            limit,
+            mark,
+            lives,
+        } => {
+            let words = Resuming {
+                policy,
+                limit,
+                mark,
+                lives,
+            };
+            run_resume(alloc, &words, source, sink, maker)
+        }
     }
 }
 

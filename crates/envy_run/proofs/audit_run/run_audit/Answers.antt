@@ -18,4 +18,4 @@ returns-after-write_verdict-clause-audits g c =
 pub returns-in-Err-take_image-clause-audits : goal.returns-in-Err-take_image-clause-audits
 returns-in-Err-take_image-clause-audits g c =
     let from = g.S.Source.feed c.args.source.now in
-    audit-refused g.M.Made.Board.state c.in-Err-take_image.refusal c.taken-in-Err-take_image.result c.in-Err-take_image.board c.refused-in-Err-take_image.result from (g.S.Source.feed c.take_image.new.source) (g.K.Sink.drain c.args.sink.now) c.take_image.new.lines c.refused-in-Err-take_image.ensures c.taken-in-Err-take_image.ensures (c.in-Err-take_image.ensures from c.in-Ok.ensures.0)
+    audit-refused g.M.Made.Board.state c.in-Ok.shape c.in-Err-take_image.refusal c.taken-in-Err-take_image.result c.in-Err-take_image.board c.refused-in-Err-take_image.result from (g.S.Source.feed c.take_image.new.source) (g.K.Sink.drain c.args.sink.now) c.take_image.new.lines c.refused-in-Err-take_image.ensures c.taken-in-Err-take_image.ensures (c.in-Err-take_image.ensures from c.in-Ok.ensures.0)

@@ -35,3 +35,9 @@ returns-in-Index-clause-headline g c =
     let o : Outcome = outcome g.M.Made.Board.state c.run_index.result in
     let io : Streams = record { from = g.S.Source.feed c.args.source.now; feed = g.S.Source.feed c.run_index.new.source; to = g.K.Sink.drain c.args.sink.now; sink = g.K.Sink.drain c.run_index.new.sink } in
     subst (λ (x : Command). Headline (Ok x) o io) (sym c.in-Index.is) (inl c.run_index.ensures.runs)
+
+pub returns-in-Resume-clause-headline : goal.returns-in-Resume-clause-headline
+returns-in-Resume-clause-headline g c =
+    let o : Outcome = outcome g.M.Made.Board.state c.run_resume.result in
+    let io : Streams = record { from = g.S.Source.feed c.args.source.now; feed = g.S.Source.feed c.run_resume.new.source; to = g.K.Sink.drain c.args.sink.now; sink = g.K.Sink.drain c.run_resume.new.sink } in
+    subst (λ (x : Command). Headline (Ok x) o io) (sym c.in-Resume.is) (inl c.run_resume.ensures.resumes)

@@ -1,0 +1,80 @@
+-- A board to which a memory is attached until it is.
+use Rattle.std.proofs.Common.{◌≡◌, inl, inr, ℕ, zero, suc, ◌<◌, false, refl, sym, ◌∙◌, subst, arith}
+use Rattle.std.specs.Prelude.{IsTrue}
+use Rattle.envy_base.specs.State.{State, lit}
+use Rattle.envy_layout.specs.Same.{Counted, Grows, Kept}
+use Rattle.envy_layout.specs.Sound.{Head, Sound}
+use Rattle.envy_map.specs.Fields.{Chart, chart, IsFormatted}
+use Rattle.envy_memory.specs.Attaching.{Declines}
+use Rattle.envy_memory.specs.declared.faults.AttachFault.TheVariants.{Off}
+use Rattle.envy_policy.specs.declared.setup.Setup.{Setup}
+use Rattle.envy_run.specs.Attached.{HoldsStill, IsUntouched, KeepsImage}
+
+untouched-kept : (old s t : Chart) → IsUntouched old s → Kept s t → IsUntouched old t
+untouched-kept old s t u k =
+    let c = k.counted in
+    let cuts = u.cuts in
+    let bads = u.bads in
+    let more = Counted.cuts c in
+    let worse = Counted.bads c in
+    let lives = u.lives in
+    let same_lives = Counted.lives c in
+    let low = Counted.begun c in
+    let few = Counted.few c in
+    let begun = u.begun in
+    let least = Grows.least (Counted.erases c) in
+    let most = Grows.few (Counted.erases c) in
+    let erases = u.erases in
+    record {
+      shape = k.shape ∙ u.shape;
+      pulled = Counted.pulled c ∙ u.pulled;
+      plans = Counted.plans c ∙ u.plans;
+      given = Counted.given c ∙ u.given;
+      cuts = omega arith;
+      bads = omega arith;
+      begun = omega arith;
+      erases = omega arith;
+      lives = omega arith;
+    }
+
+-- what a restart keeps is formatted still
+formatted-kept : (s t : Chart) → IsFormatted s.fields → Kept s t → IsFormatted t.fields
+formatted-kept s t (magic, version) k = (k.magic ∙ magic, Head.versions (Sound.head k.sound))
+
+keeps-kept : (old s t : Chart) → KeepsImage old s → Kept s t → KeepsImage old t
+keeps-kept old s t k kept = record {
+  still = record {
+    formatted = formatted-kept s t (HoldsStill.formatted k.still) kept;
+    sound = kept.sound;
+    durable = kept.durable ∙ HoldsStill.durable k.still;
+  };
+  untouched = untouched-kept old s t k.untouched kept;
+}
+
+-- attaching was cut
+pub keeps-off : (old : Chart) (s t : State) (setup : Setup) → KeepsImage old (chart s) → Declines s setup Off t → KeepsImage old (chart t)
+keeps-off old s t setup k (off, inl (was, same)) = subst (λ (x : State). KeepsImage old (chart x)) (sym same) k
+keeps-off old s t setup k (off, inr (may, kept, rose)) = keeps-kept old (chart s) (chart t) k kept
+
+-- without a return of power left none is left
+pub no-lives : (n : ℕ) → (0 < n → IsTrue false) → n ≡ 0
+no-lives zero never = refl
+no-lives (suc n) never = absurd (let clash = never (omega arith) in cc)
+
+-- power came back
+pub keeps-lit : (old : Chart) (t u : State) → KeepsImage old (chart t) → u ≡ lit t → KeepsImage old (chart u)
+keeps-lit old t u k is =
+    subst (λ (x : State). KeepsImage old (chart x)) (sym is) (record {
+      still = record { formatted = HoldsStill.formatted k.still; sound = HoldsStill.sound k.still; durable = HoldsStill.durable k.still };
+      untouched = record {
+        shape = IsUntouched.shape k.untouched;
+        pulled = IsUntouched.pulled k.untouched;
+        plans = IsUntouched.plans k.untouched;
+        given = IsUntouched.given k.untouched;
+        cuts = IsUntouched.cuts k.untouched;
+        bads = IsUntouched.bads k.untouched;
+        begun = IsUntouched.begun k.untouched;
+        erases = IsUntouched.erases k.untouched;
+        lives = let low = IsUntouched.lives k.untouched in omega arith;
+      };
+    })

@@ -1,0 +1,263 @@
+-- A trace behind an image, from what was said of the image and of the memory that was attached to its board.
+use Rattle.std.proofs.Common.{◌≡◌, ◌⊎◌, inl, inr, ℕ, ◌+◌, ◌*◌, ◌<◌, ◌≤◌, List, [], ◌++◌, length, refl, sym, ◌∙◌, ap, subst, arith}
+use Rattle.std.specs.Prelude.{IfSome, IsErr, IsTrue, false, Option, None, Some, Result, Ok, Err, slice_index}
+use Rattle.std.specs.Option.{option_map}
+use Rattle.std.specs.Result.{is_err}
+use Rattle.std.proofs.lemmas.List.{append_assoc}
+use Rattle.envy_audit.specs.Judging.{Judges, Holds}
+use Rattle.envy_audit.specs.declared.verdict.Verdict.{Verdict}
+use Rattle.envy_audit.specs.declared.verdict.Verdict.TheVariants.{Sound, Unformatted, Broken}
+use Rattle.envy_audit.proofs.Sounding.{sound-points}
+use Rattle.envy_base.specs.Shape.{checked as shape_checked}
+use Rattle.envy_base.specs.State.{State, IsBoard}
+use Rattle.envy_base.specs.declared.shape.Shape.{Shape}
+use Rattle.envy_image.specs.Backwards.{HoldTheSame}
+use Rattle.envy_image.specs.Image.{head_of, body_of, image_of}
+use Rattle.envy_image.specs.Installing.{body_size}
+use Rattle.envy_image.proofs.Backwards.{fit-numbers, length-image, one-image, same-head}
+use Rattle.envy_io.specs.Streams.{Feed, Drain, with_front}
+use Rattle.envy_io.specs.Taking.{Taking}
+use Rattle.envy_map.specs.Fields.{Chart, chart, map_fields, IsFormatted}
+use Rattle.envy_layout.specs.Sound.{Sound as SoundMap}
+use Rattle.envy_memory.specs.Formats.{IsStarted}
+use Rattle.envy_memory.specs.Picture.{Picture}
+use Rattle.envy_policy.specs.Setup.{checked}
+use Rattle.envy_policy.specs.declared.setup.Setup.{Setup}
+use Rattle.envy_policy.specs.declared.setup.SetupFault.{SetupFault}
+use Rattle.envy_serve.specs.declared.serving.End.{End}
+use Rattle.envy_serve.specs.Ends.{Serves, Ends, most_bytes}
+use Rattle.envy_serve.specs.GoodTrace.{IsGoodTrace}
+use Rattle.envy_serve.specs.Streams.{Streams}
+use Rattle.envy_serve.proofs.Advancing.{Serves-as, served-either}
+use Rattle.envy_serve.proofs.Earlier.{serves-earlier}
+use Rattle.envy_serve.proofs.GoodTraces.{front-taken}
+use Rattle.envy_run.specs.Attached.{HoldsStill, IsUntouched, KeepsImage, IsAttached}
+use Rattle.envy_run.specs.Complete.{HoldsImage, HoldsTrace}
+use Rattle.envy_run.specs.Done.{Start, HasDone, HasDied, OnBoard}
+use Rattle.envy_run.specs.Loading.{HasTaken, IsInstalled, IsUnharmed, Loaded, RefusesImage, TookOnly, Unloaded, status_for, why_for}
+use Rattle.envy_run.specs.Outcome.{Outcome, outcome, status_of, why_of}
+use Rattle.envy_run.specs.Resumes.{BreaksRule, DeclinesImage, IsUnattached, IsUnsound, LicencesBehind, Resumes, TakesUp, resume_task, words_found}
+use Rattle.envy_run.specs.Task.{DoesTask, IsServed}
+use Rattle.envy_run.specs.Tracing.{TracedSince, DiedSince}
+use Rattle.envy_run.specs.Turns.{TraceTurn, trace_grammar}
+use Rattle.envy_run.specs.Unserved.{IsDark, IsOutOfMemory}
+use Rattle.envy_run.specs.declared.ended.Ended.{Ended}
+use Rattle.envy_run.specs.declared.loading.Refusal.{Refusal}
+use Rattle.envy_run.proofs.Checked.{shape-is}
+use Rattle.envy_run.proofs.Loaded.{image-refused}
+use Rattle.envy_run.proofs.Traced.{Began, licences-behind, ones-sum, traced-first}
+
+-- a memory that was attached to the board of an image
+module _ (setup : Setup) (found : State) (installed : IsInstalled setup.shape found.given found) where
+  image-began : (first : Picture) → IsAttached (chart found) setup first → Began (setup.shape.segments * setup.shape.rows) setup found.given first
+  image-began first a =
+      let u = a.untouched in
+      record {
+        shape = IsUntouched.shape u ∙ installed.shape;
+        given = IsUntouched.given u;
+        pulled = IsUntouched.pulled u ∙ installed.pulled;
+        plans = IsUntouched.plans u ∙ installed.plans;
+        counts = IsStarted.counts a.begins;
+        begun = IsUntouched.begun u ∙ installed.begun;
+        erases = λ none. IsUntouched.erases u ∙ (ones-sum found.erases each ∙ long);
+      }
+    where
+      long : length found.erases ≡ setup.shape.segments
+      long = IsBoard.erases installed.whole ∙ ap (λ (sh : Shape). sh.segments) installed.shape
+
+      each : (e : ℕ) → e < length found.erases → slice_index found.erases e ≡ 1
+      each e lt = installed.erases e (omega (arith, long))
+
+  pub image-traced : (first : Picture) → 0 < setup.shape.entries → IsAttached (chart found) setup first → TracedSince (record { array = words_found found; memory = first }) first []
+  image-traced first some a = traced-first setup first (words_found found) some (IsUntouched.shape a.untouched ∙ installed.shape) a.stands a.begins
+
+  -- the trace was served
+  pub image-served : (whole : State) (first now : Picture) (end : End) (lines taken skipped : ℕ) (io : Streams) → skipped ≡ length (image_of found) → 0 < setup.shape.entries → IsAttached (chart found) setup first → lines ≤ most_bytes → ((start : Start) → TracedSince start first [] → (turns : List TraceTurn) × Serves end lines taken trace_grammar skipped (TracedSince start now) (DiedSince start now) [] turns io) → DoesTask (resume_task found setup found.given) (record { status = status_of end; why = why_of end; lines = lines; taken = taken; board = Some now.chart; state = Some whole; second = None }) io
+  image-served whole first now end lines taken skipped io long some a few serves =
+      let start : Start = record { array = words_found found; memory = first } in
+      let o : Outcome = record { status = status_of end; why = why_of end; lines = lines; taken = taken; board = Some now.chart; state = Some whole; second = None } in
+      let (turns, s) = serves start (image-traced first some a) in
+      let either = served-either end (TracedSince start now) (DiedSince start now) turns (Ends.served (Serves.ends s)) in
+      record {
+        turns = turns;
+        answers = inl (record {
+          end = end;
+          serves = subst (λ (k : ℕ). Serves end lines taken trace_grammar k (OnBoard (HasDone (words_found found)) o) (OnBoard (HasDied (words_found found)) o) [] turns io) long (Serves-as end lines taken trace_grammar skipped (TracedSince start now) (DiedSince start now) _ _ [] turns io (λ t. (now.chart, refl, TracedSince.done t)) (λ d. (now.chart, refl, DiedSince.died d)) s);
+          status = refl;
+          why = refl;
+        });
+        licences = licences-behind (setup.shape.segments * setup.shape.rows) setup found.given start now turns (image-began first a) (let same = Serves.lines_are s in omega arith) either;
+      }
+
+  pub image-ended : {B : Type 0} (state : B → State) (first now : Picture) (end : End) (lines taken skipped : ℕ) (board : B) (e : Ended B) (io : Streams) → e ≡ record { status = status_of end; why = why_of end; lines = lines; taken = taken; board = Some board; second = None } → chart (state board) ≡ now.chart → skipped ≡ length (image_of found) → lines ≤ most_bytes → 0 < setup.shape.entries → IsAttached (chart found) setup first → ((start : Start) → TracedSince start first [] → (turns : List TraceTurn) × Serves end lines taken trace_grammar skipped (TracedSince start now) (DiedSince start now) [] turns io) → DoesTask (resume_task found setup found.given) (outcome state e) io
+  image-ended {B} state first now end lines taken skipped board e io is same long few some a serves =
+      subst (λ (x : Ended B). DoesTask (resume_task found setup found.given) (outcome state x) io) (sym is)
+      (subst (λ (c : Chart). DoesTask (resume_task found setup found.given) (record { status = status_of end; why = why_of end; lines = lines; taken = taken; board = Some c; state = Some (state board); second = None }) io) (sym same)
+      (image-served (state board) first now end lines taken skipped io long some a few serves))
+
+  -- no line was read
+  pub image-unread : {B : Type 0} (state : B → State) (status taken : ℕ) (board : B) (e : Ended B) (feed : Feed) (sink : Drain) → e ≡ record { status = status; why = 0; lines = 0; taken = taken; board = Some board; second = None } → taken ≡ length (image_of found) → KeepsImage (chart found) (chart (state board)) → (status ≡ 8) ⊎ ((status ≡ 6) × ((chart (state board)).on ≡ false) × ((chart (state board)).lives ≡ 0)) → DoesTask (resume_task found setup found.given) (outcome state e) (record { from = feed; feed = feed; to = sink; sink = sink })
+  image-unread {B} state status taken board e feed sink is long k why =
+      let u = k.untouched in
+      subst (λ (x : Ended B). DoesTask (resume_task found setup found.given) (outcome state x) (record { from = feed; feed = feed; to = sink; sink = sink })) (sym is)
+      (record {
+        turns = [];
+        answers = inr (refl, record { lines = refl; taken = long; source = refl; sink = refl; board = (chart (state board), refl, k.still); cause = at why });
+        licences = record {
+          shape = IsUntouched.shape u ∙ installed.shape;
+          given = IsUntouched.given u;
+          pulled = IsUntouched.pulled u ∙ installed.pulled;
+          plans = IsUntouched.plans u ∙ installed.plans;
+          losts = omega arith;
+          faults = omega arith;
+          told = tt;
+        };
+      })
+    where
+      at : (status ≡ 8) ⊎ ((status ≡ 6) × ((chart (state board)).on ≡ false) × ((chart (state board)).lives ≡ 0)) → IsOutOfMemory (outcome state (record { status = status; why = 0; lines = 0; taken = taken; board = Some board; second = None })) ⊎ IsDark (outcome state (record { status = status; why = 0; lines = 0; taken = taken; board = Some board; second = None }))
+      at (inl eight) = inl (record { status = eight; why = refl })
+      at (inr (six, off, lives)) = inr (record { status = six; why = refl; now = chart (state board); board_is = refl; off = off; lives = lives })
+
+-- What was done behind an image is said of the source that the image stood in.
+does-earlier : (found : State) (setup : Setup) (returns : ℕ) (o : Outcome) (io : Streams) (faults : ℕ) → faults ≤ io.from.faults → DoesTask (resume_task found setup returns) o io → DoesTask (resume_task found setup returns) o (record io { from = record { left = io.from.left; faults = faults } })
+does-earlier found setup returns o io faults le d = record { turns = d.turns; answers = at d.answers; licences = d.licences }
+  where
+    at : IsServed (resume_task found setup returns) d.turns o io ⊎ ((d.turns ≡ []) × IsUnattached found o io) → IsServed (resume_task found setup returns) d.turns o (record io { from = record { left = io.from.left; faults = faults } }) ⊎ ((d.turns ≡ []) × IsUnattached found o (record io { from = record { left = io.from.left; faults = faults } }))
+    at (inl s) = inl (record {
+      end = s.end;
+      serves = serves-earlier s.end o.lines o.taken trace_grammar (length (image_of found)) (OnBoard (HasDone (words_found found)) o) (OnBoard (HasDied (words_found found)) o) [] d.turns io faults le s.serves;
+      status = s.status;
+      why = s.why;
+    })
+    at (inr (none, u)) = inr (none, record { lines = u.lines; taken = u.taken; source = u.source; sink = u.sink; board = u.board; cause = u.cause })
+
+takes-up : (words : Shape → Setup) (setup : Setup) (returns : ℕ) (sh : Shape) (found : State) (o : Outcome) (from mid feed : Feed) (to sink : Drain) (now : Taking) → setup ≡ words sh → checked setup ≡ Ok tt → Loaded sh returns from found Sound now mid → DoesTask (resume_task found setup found.given) o (record { from = mid; feed = feed; to = to; sink = sink }) → TakesUp words returns o (record { from = from; feed = feed; to = to; sink = sink })
+takes-up words setup returns sh found o from mid feed to sink now is checks l does =
+    let io : Streams = record { from = record { left = mid.left; faults = from.faults }; feed = feed; to = to; sink = sink } in
+    let same : setup ≡ words found.shape = is ∙ ap words (sym (IsInstalled.shape l.installed)) in
+    record {
+      found = found;
+      whole = IsInstalled.whole l.installed;
+      behind = mid.left;
+      image = HasTaken.left l.taken;
+      rules = subst (λ (x : Setup). checked x ≡ Ok tt) same checks;
+      sound = l.judges;
+      does = subst (λ (n : ℕ). DoesTask (resume_task found (words found.shape) n) o io) (IsInstalled.given l.installed) (subst (λ (x : Setup). DoesTask (resume_task found x found.given) o io) same (does-earlier found setup found.given o (record { from = mid; feed = feed; to = to; sink = sink }) from.faults (HasTaken.faults l.taken) does));
+    }
+
+-- the image was installed and is sound, and what is behind it was done
+pub resume-sound : (words : Shape → Setup) (setup : Setup) (returns : ℕ) (sh : Shape) (verdict : Verdict) (found : State) (o : Outcome) (from mid feed : Feed) (to sink : Drain) (now : Taking) → setup ≡ words sh → checked setup ≡ Ok tt → verdict ≡ Sound → Loaded sh returns from found verdict now mid → DoesTask (resume_task found setup found.given) o (record { from = mid; feed = feed; to = to; sink = sink }) → Resumes words returns o (record { from = from; feed = feed; to = to; sink = sink })
+resume-sound words setup returns sh verdict found o from mid feed to sink now is checks sound l does =
+    inl (takes-up words setup returns sh found o from mid feed to sink now is checks (subst (λ (v : Verdict). Loaded sh returns from found v now mid) sound l) does)
+
+-- the board that an image was installed on, by its own count of lives
+pub installed-given : (setup : Setup) (sh : Shape) (returns : ℕ) (s : State) → setup.shape ≡ sh → IsInstalled sh returns s → IsInstalled setup.shape s.given s
+installed-given setup sh returns s same i = subst (λ (x : Shape). IsInstalled x s.given s) (sym same) (subst (λ (n : ℕ). IsInstalled sh n s) (sym i.given) i)
+
+pub judged-sound : (verdict : Verdict) (c : Chart) → verdict ≡ Sound → Judges verdict c → Judges Sound c
+judged-sound verdict c is judges = subst (λ (v : Verdict). Judges v c) is judges
+
+-- no rule is broken
+pub checks-ok : (r : Result Unit SetupFault) → is_err r ≡ false → r ≡ Ok tt
+checks-ok (Ok done) is = refl
+checks-ok (Err fault) is = absurd cc
+
+-- a verdict that isn't `Sound`
+unsound : (verdict : Verdict) (s : State) → IsBoard s → (verdict ≡ Sound → ⊥) → Judges verdict (chart s) → Judges Sound (chart s) → ⊥
+unsound Sound s board other judges sound = other refl
+unsound Unformatted s board other judges sound = judges sound.0
+unsound (Broken x) s board other judges sound = judges.fails (sound-points s board sound.1 x)
+
+-- the ends of `resume` without a trace
+
+pub resume-declined : {B : Type 0} (state : B → State) (words : Shape → Setup) (sh : Shape) (refusal : Refusal) (returns taken : ℕ) (board : Option B) (e : Ended B) (from feed : Feed) (sink : Drain) (now : Taking) → e ≡ record { status = status_for refusal; why = why_for refusal; lines = 0; taken = taken; board = board; second = None } → taken ≡ now.taken → checked (words sh) ≡ Ok tt → Unloaded sh returns from (option_map state board) refusal now feed → Resumes words returns (outcome state e) (record { from = from; feed = feed; to = sink; sink = sink })
+resume-declined {B} state words sh refusal returns taken board e from feed sink now is same checks u =
+    subst (λ (x : Ended B). Resumes words returns (outcome state x) (record { from = from; feed = feed; to = sink; sink = sink })) (sym is)
+    (inr (inl (refusal, record { refuses = image-refused state sh refusal returns taken board from feed sink now same u; rules = at board u.shape })))
+  where
+    at : (b : Option B) → IfSome (option_map state b) (λ s. s.shape ≡ sh) → IfSome (option_map (λ x. chart (state x)) b) (λ c. checked (words c.shape) ≡ Ok tt)
+    at None same_shape = tt
+    at (Some b) same_shape = subst (λ (x : Shape). checked (words x) ≡ Ok tt) (sym same_shape) checks
+
+pub resume-unruly : {B : Type 0} (state : B → State) (words : Shape → Setup) (setup : Setup) (sh : Shape) (returns taken : ℕ) (e : Ended B) (from feed : Feed) (sink : Drain) (now : Taking) → e ≡ record { status = 10; why = 4; lines = 0; taken = taken; board = None; second = None } → taken ≡ now.taken → setup ≡ words sh → IsErr (checked setup) → shape_checked sh ≡ Ok tt → HasTaken (head_of sh) from now feed → Resumes words returns (outcome state e) (record { from = from; feed = feed; to = sink; sink = sink })
+resume-unruly {B} state words setup sh returns taken e from feed sink now is same found fails shape t =
+    subst (λ (x : Ended B). Resumes words returns (outcome state x) (record { from = from; feed = feed; to = sink; sink = sink })) (sym is)
+    (inr (inr (inl (record {
+      status = refl;
+      why = refl;
+      sh = sh;
+      shape = shape;
+      took = record { lines = refl; taken = same ∙ t.taken; source = t.left; sink = refl };
+      fails = subst (λ (x : Setup). IsErr (checked x)) found fails;
+      board_none = refl;
+    }))))
+
+pub resume-unsound : {B : Type 0} (state : B → State) (words : Shape → Setup) (setup : Setup) (sh : Shape) (verdict : Verdict) (returns taken : ℕ) (board : B) (e : Ended B) (from feed : Feed) (sink : Drain) (now : Taking) → e ≡ record { status = 10; why = 5; lines = 0; taken = taken; board = Some board; second = None } → taken ≡ now.taken → setup ≡ words sh → checked setup ≡ Ok tt → (verdict ≡ Sound → ⊥) → Loaded sh returns from (state board) verdict now feed → Resumes words returns (outcome state e) (record { from = from; feed = feed; to = sink; sink = sink })
+resume-unsound {B} state words setup sh verdict returns taken board e from feed sink now is same found checks other l =
+    let i = l.installed in
+    subst (λ (x : Ended B). Resumes words returns (outcome state x) (record { from = from; feed = feed; to = sink; sink = sink })) (sym is)
+    (inr (inr (inr (record {
+      status = refl;
+      why = refl;
+      found = state board;
+      whole = i.whole;
+      board = refl;
+      took = record { lines = refl; taken = same ∙ HasTaken.taken l.taken; source = HasTaken.left l.taken; sink = refl };
+      rules = subst (λ (x : Setup). checked x ≡ Ok tt) (found ∙ ap words (sym i.shape)) checks;
+      fails = unsound verdict (state board) i.whole other l.judges;
+      unharmed = record { given = i.given; pulled = i.pulled; plans = i.plans };
+    }))))
+
+-- no line was read
+pub stopped-ends : {B : Type 0} (status why taken : ℕ) (board : Option B) (e : Ended B) (now : Taking) (bytes : List ℕ) (from feed : Feed) → e ≡ record { status = status; why = why; lines = 0; taken = taken; board = board; second = None } → taken ≡ now.taken → HasTaken bytes from now feed → (e.lines ≤ e.taken) × (e.taken ≤ 1099511627776) × (e.second ≡ None)
+stopped-ends {B} status why taken board e now bytes from feed is same t =
+    subst (λ (x : Ended B). (x.lines ≤ x.taken) × (x.taken ≤ 1099511627776) × (x.second ≡ None)) (sym is)
+    (omega arith, (let within = t.within in let cap = t.cap in omega arith), refl)
+
+-- where all goes well
+
+module _ (words : Shape → Setup) (returns : ℕ) (o : Outcome) (io : Streams) (holds : HoldsImage io) (trace : HoldsTrace words io holds) where
+  -- the image that was found is the one that is there
+  same-image : (found : State) (behind : Option (List ℕ)) → IsBoard found → io.from.left ≡ with_front (image_of found) behind → HoldTheSame found holds.image × (behind ≡ Some holds.rest)
+  same-image found behind whole image =
+      let (left, is, all) = front-taken (image_of holds.image ++ holds.rest) (image_of found) behind (sym holds.told ∙ image) in
+      let (same, rest) = one-image found holds.image left holds.rest whole holds.whole (sym all) in
+      (same, is ∙ ap Some rest)
+
+  same-length : (found : State) → IsBoard found → HoldTheSame found holds.image → length (image_of holds.image) ≡ length (image_of found)
+  same-length found whole same = let a = length-image found whole in let b = length-image holds.image holds.whole in let c = ap body_size same.shape in omega arith
+
+  -- the trace behind it can be served
+  pub good-behind : (found : State) (behind : Option (List ℕ)) → IsBoard found → io.from.left ≡ with_front (image_of found) behind → IsGoodTrace trace_grammar (length (image_of found)) (record io { from = record { left = behind; faults = io.from.faults } })
+  good-behind found behind whole image =
+      let (same, is) = same-image found behind whole image in
+      let t = trace.trace in
+      record {
+        bytes = t.bytes;
+        told = is ∙ t.told;
+        short = let long = same-length found whole same in let few = t.short in omega arith;
+        lines = t.lines;
+        reads = t.reads;
+        writes = t.writes;
+      }
+
+  pub never-unruly : BreaksRule words o io → ⊥
+  unfolding image_of
+  never-unruly b =
+      let (left, is, all) = front-taken (image_of holds.image ++ holds.rest) (head_of b.sh) io.feed.left (sym holds.told ∙ TookOnly.source b.took) in
+      let parts : image_of holds.image ++ holds.rest ≡ head_of holds.image.shape ++ (body_of holds.image.flash holds.image.sram ++ holds.rest) = append_assoc (head_of holds.image.shape) (body_of holds.image.flash holds.image.sram) holds.rest in
+      let one : holds.image.shape ≡ b.sh = same-head holds.image.shape b.sh _ _ (fit-numbers holds.image.shape (IsBoard.shape holds.whole)) (fit-numbers b.sh (shape-is b.sh b.shape)) (sym parts ∙ all) in
+      let good : checked (words b.sh) ≡ Ok tt = subst (λ (x : Shape). checked (words x) ≡ Ok tt) one trace.rules in
+      let never = subst (λ (r : Result Unit SetupFault). IsErr r) good b.fails in
+      cc
+
+  sound-alike : (s t : State) → HoldTheSame s t → Judges Sound (chart t) → Judges Sound (chart s)
+  sound-alike s t same sound =
+      subst (λ (flash : List (List ℕ)). IsFormatted (map_fields s.shape s.sram) × SoundMap s.shape (map_fields s.shape s.sram) flash) (sym same.flash)
+      (subst (λ (sram : List ℕ). IsFormatted (map_fields s.shape sram) × SoundMap s.shape (map_fields s.shape sram) t.flash) (sym same.sram)
+      (subst (λ (sh : Shape). IsFormatted (map_fields sh t.sram) × SoundMap sh (map_fields sh t.sram) t.flash) (sym same.shape) sound))
+
+  pub never-unsound : IsUnsound words returns o io → ⊥
+  never-unsound u =
+      let (same, is) = same-image u.found io.feed.left u.whole (TookOnly.source u.took) in
+      u.fails (sound-alike u.found holds.image same trace.sound)

@@ -1,0 +1,19 @@
+use Rattle.std.proofs.Common.{◌≡◌, false, sym, subst}
+use Rattle.envy_base.specs.State.{State}
+use Rattle.envy_map.specs.Fields.{chart}
+use Rattle.envy_run.specs.Attached.{KeepsImage}
+use Rattle.envy_run.proofs.Attaching.{keeps-lit, keeps-off, no-lives}
+use Rattle.envy_run.proofs.attach.attach.Goals as goal
+
+pub returns-then-not-power_on : goal.returns-then-not-power_on
+returns-then-not-power_on g c =
+    let d = rw c.in-Err-default-Off.field-0-1-is at c.in-Err-default-Off.ensures in
+    let k = keeps-off (chart (g.B.Board.state c.args.board)) (g.B.Board.state c.loop-memory.board) (g.B.Board.state c.in-Err-default-Off.back) c.args.setup c.loop-memory.invariant d in
+    let none = no-lives (g.B.Board.state c.in-Err-default-Off.back).lives (c.if-not-power_on.ensures.answer.1) in
+    subst (λ (x : State). KeepsImage (chart (g.B.Board.state c.args.board)) (chart x) × (x.on ≡ false) × (x.lives ≡ 0)) (sym c.if-not-power_on.ensures.state) (k, d.0, none)
+
+pub loop-memory-preserved : goal.loop-memory-preserved
+loop-memory-preserved g c =
+    let d = rw c.in-Err-default-Off.field-0-1-is at c.in-Err-default-Off.ensures in
+    let k = keeps-off (chart (g.B.Board.state c.args.board)) (g.B.Board.state c.loop-memory.board) (g.B.Board.state c.in-Err-default-Off.back) c.args.setup c.loop-memory.invariant d in
+    keeps-lit (chart (g.B.Board.state c.args.board)) (g.B.Board.state c.in-Err-default-Off.back) (g.B.Board.state c.power_on.new.self) k c.if-not-power_on.ensures.state

@@ -1,0 +1,47 @@
+use Rattle.std.proofs.Common.{sym, ◌∙◌, ap}
+use Rattle.std.specs.Prelude.{Some}
+use Rattle.envy_map.specs.Fields.{chart}
+use Rattle.envy_policy.specs.Setup.{checked}
+use Rattle.envy_policy.specs.declared.setup.Setup.{Setup}
+use Rattle.envy_run.specs.Loading.{Loaded}
+use Rattle.envy_run.specs.Outcome.{outcome}
+use Rattle.envy_run.specs.Resumes.{setup_found}
+use Rattle.envy_run.proofs.Resumed.{checks-ok, installed-given, judged-sound, resume-declined, resume-sound, resume-unsound, stopped-ends}
+use Rattle.envy_run.proofs.resume_run.run_resume.Goals as goal
+
+pub serve_image-requires-clause-installed : goal.serve_image-requires-clause-installed
+serve_image-requires-clause-installed g c =
+    let l = c.in-Ok-take_image.ensures (g.S.Source.feed c.args.source.now) c.in-Ok.ensures.0 in
+    installed-given c.setup_over-setup.result c.in-Ok.shape c.args.words.now.lives (g.M.Made.Board.state c.in-Ok-take_image.board) (ap (λ (x : Setup). x.shape) c.setup_over-setup.ensures) (Loaded.installed l)
+
+pub serve_image-requires-clause-sound : goal.serve_image-requires-clause-sound
+serve_image-requires-clause-sound g c =
+    let l = c.in-Ok-take_image.ensures (g.S.Source.feed c.args.source.now) c.in-Ok.ensures.0 in
+    judged-sound c.in-Ok-take_image.verdict (chart (g.M.Made.Board.state c.in-Ok-take_image.board)) c.in-Sound.is (Loaded.judges l)
+
+pub serve_image-requires-clause-taken : goal.serve_image-requires-clause-taken
+serve_image-requires-clause-taken g c =
+    let l = c.in-Ok-take_image.ensures (g.S.Source.feed c.args.source.now) c.in-Ok.ensures.0 in
+    (g.S.Source.feed c.args.source.now, Loaded.taken l)
+
+pub returns-in-Sound-clause-resumes : goal.returns-in-Sound-clause-resumes
+returns-in-Sound-clause-resumes g c =
+    let from = g.S.Source.feed c.args.source.now in
+    resume-sound (setup_found c.args.words.now.policy c.args.words.now.limit c.args.words.now.mark) c.setup_over-setup.result c.args.words.now.lives c.in-Ok.shape c.in-Ok-take_image.verdict (g.M.Made.Board.state c.in-Ok-take_image.board) (outcome g.M.Made.Board.state c.serve_image.result) from (g.S.Source.feed c.take_image.new.source) (g.S.Source.feed c.serve_image.new.source) (g.K.Sink.drain c.args.sink.now) (g.K.Sink.drain c.serve_image.new.sink) c.take_image.new.lines c.setup_over-setup.ensures (sym c.check.ensures.table ∙ checks-ok c.check.result (sym c.if-is_err.ensures.value)) c.in-Sound.is (c.in-Ok-take_image.ensures from c.in-Ok.ensures.0) c.serve_image.ensures.does
+
+pub returns-in_default : goal.returns-in_default
+returns-in_default g c =
+    let from = g.S.Source.feed c.args.source.now in
+    let l = c.in-Ok-take_image.ensures from c.in-Ok.ensures.0 in
+    let (few, read, second) = stopped-ends 10 5 c.taken-in_default.result (Some c.in-Ok-take_image.board) c.stopped_at-in_default.result c.take_image.new.lines _ from (g.S.Source.feed c.take_image.new.source) c.stopped_at-in_default.ensures c.taken-in_default.ensures (Loaded.taken l) in
+    record {
+      resumes = resume-unsound g.M.Made.Board.state (setup_found c.args.words.now.policy c.args.words.now.limit c.args.words.now.mark) c.setup_over-setup.result c.in-Ok.shape c.in-Ok-take_image.verdict c.args.words.now.lives c.taken-in_default.result c.in-Ok-take_image.board c.stopped_at-in_default.result from (g.S.Source.feed c.take_image.new.source) (g.K.Sink.drain c.args.sink.now) c.take_image.new.lines c.stopped_at-in_default.ensures c.taken-in_default.ensures c.setup_over-setup.ensures (sym c.check.ensures.table ∙ checks-ok c.check.result (sym c.if-is_err.ensures.value)) c.in_default.not-Sound l;
+      few = few;
+      read = read;
+      second = second;
+    }
+
+pub returns-in-Err-take_image-clause-resumes : goal.returns-in-Err-take_image-clause-resumes
+returns-in-Err-take_image-clause-resumes g c =
+    let from = g.S.Source.feed c.args.source.now in
+    resume-declined g.M.Made.Board.state (setup_found c.args.words.now.policy c.args.words.now.limit c.args.words.now.mark) c.in-Ok.shape c.in-Err-take_image.refusal c.args.words.now.lives c.taken-in-Err-take_image.result c.in-Err-take_image.board c.refused-in-Err-take_image.result from (g.S.Source.feed c.take_image.new.source) (g.K.Sink.drain c.args.sink.now) c.take_image.new.lines c.refused-in-Err-take_image.ensures c.taken-in-Err-take_image.ensures (ap checked (sym c.setup_over-setup.ensures) ∙ (sym c.check.ensures.table ∙ checks-ok c.check.result (sym c.if-is_err.ensures.value))) (c.in-Err-take_image.ensures from c.in-Ok.ensures.0)
