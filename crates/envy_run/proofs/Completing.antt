@@ -1,6 +1,7 @@
 -- Where nothing goes wrong, no end but the good one is left.
 use Rattle.std.proofs.Common.{◌≡◌, ◌⊎◌, inl, inr, ℕ, ◌<◌, ◌≤◌, List, [], ◌∷◌, length, sym, ◌∙◌, ap, subst, arith}
-use Rattle.std.specs.Prelude.{IsTrue, None, Result, Ok, Err}
+use Rattle.std.specs.Option.{option_map}
+use Rattle.std.specs.Prelude.{IsTrue, Option, None, Result, Ok, Err}
 use Rattle.envy_args.specs.declared.command.Command.{Command}
 use Rattle.envy_args.specs.declared.command.Command.TheVariants.{Run, Plain, Tpca, Gen, Save, Resume, Audit, Index, Mirror}
 use Rattle.envy_args.specs.declared.command.WordsFault.{WordsFault}
@@ -29,11 +30,12 @@ use Rattle.envy_run.specs.IndexServing.{long_index}
 use Rattle.envy_run.specs.IndexTurns.{IndexTurn, index_grammar}
 use Rattle.envy_run.specs.Outcome.{Outcome, IsQuiet, status_of}
 use Rattle.envy_run.specs.Resumes.{IsUnattached, Resumes, resume_task, setup_found, words_found}
-use Rattle.envy_run.specs.Runs.{Runs}
+use Rattle.envy_run.specs.Runs.{IsAlone, Runs}
 use Rattle.envy_run.specs.Task.{Task, IsServed, DoesTask}
 use Rattle.envy_run.specs.Tracing.{long_any}
 use Rattle.envy_run.specs.Turns.{TraceTurn, trace_grammar}
 use Rattle.envy_run.proofs.Audited.{completes-audit, image-taken}
+use Rattle.envy_run.proofs.MirrorWell.{completes-mirror}
 use Rattle.envy_run.proofs.Resumed.{good-behind, never-unruly, never-unsound}
 
 died-off : (first : Array) (now : Chart) (turns : List TraceTurn) → IsTrue now.on ⊎ (0 < now.lives) → HasDied first now turns → ⊥
@@ -155,11 +157,24 @@ completes (Ok Audit) o io (inl audits) = λ holds calm. completes-audit o io aud
 completes (Ok Audit) o io (inr without) = λ holds calm. inr (IsOutOfMemory.status (IsWithoutMemory.memory without))
 completes (Ok (Index setup returns)) o io (inl indexes) = λ good well. completes-index setup returns o io indexes good well
 completes (Ok (Index setup returns)) o io (inr without) = λ good well. inr (IsOutOfMemory.status (IsWithoutMemory.memory without))
-completes (Ok (Mirror setup returns)) o io done = tt
+completes (Ok (Mirror setup returns)) o io (inl mirrors) = λ good well. completes-mirror setup returns o io mirrors good well
+completes (Ok (Mirror setup returns)) o io (inr without) = λ good well. inl (inr (IsOutOfMemory.status (IsWithoutMemory.memory without)))
 completes (Err fault) o io done = tt
 
+-- what is said of a second board is said of its chart
+pub alone-mapped : {X Y : Type 0} (command : Command) (f : X → Y) (second : Option X) → IsAlone command second → IsAlone command (option_map f second)
+alone-mapped (Mirror setup returns) f second alone = tt
+alone-mapped (Run setup returns) f second alone = ap (option_map f) alone
+alone-mapped (Plain setup) f second alone = ap (option_map f) alone
+alone-mapped (Gen start count pages) f second alone = ap (option_map f) alone
+alone-mapped (Tpca setup returns start area every) f second alone = ap (option_map f) alone
+alone-mapped (Save setup returns) f second alone = ap (option_map f) alone
+alone-mapped (Resume policy limit mark returns) f second alone = ap (option_map f) alone
+alone-mapped Audit f second alone = ap (option_map f) alone
+alone-mapped (Index setup returns) f second alone = ap (option_map f) alone
+
 -- the command is that of the words
-pub runs-read : (words : List Text) (read : Result Command WordsFault) (command : Command) (o : Outcome) (io : Streams) → (read ≡ Err Memory) ⊎ (read ≡ command_of words) → read ≡ Ok command → Headline (Ok command) o io → o.lines ≤ o.taken → o.taken ≤ most_bytes → o.second ≡ None → Runs (command_of words) o io
+pub runs-read : (words : List Text) (read : Result Command WordsFault) (command : Command) (o : Outcome) (io : Streams) → (read ≡ Err Memory) ⊎ (read ≡ command_of words) → read ≡ Ok command → Headline (Ok command) o io → o.lines ≤ o.taken → o.taken ≤ most_bytes → IsAlone command o.second → Runs (command_of words) o io
 runs-read words read command o io (inl none) e headline few taken alone = absurd (let never = none in cc)
 runs-read words read command o io (inr is) e headline few taken alone =
     subst (λ (x : Result Command WordsFault). Runs x o io) (sym e ∙ is) (record { headline = headline; completes = completes (Ok command) o io headline; few = few; read = taken; alone = alone })

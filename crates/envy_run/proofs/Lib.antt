@@ -12,6 +12,8 @@ pub mod Imaged
 pub mod Loaded
 pub mod IndexLines
 pub mod IndexTold
+pub mod MirrorWell
+pub mod Mirrored
 pub mod Noting
 pub mod Obeying
 pub mod Preparing

@@ -1,7 +1,7 @@
 -- A command for which all goes well is done to its end, or memory runs out.
 use Rattle.std.specs.Prelude.{◌≡◌, ◌⊎◌, ℕ, ◌<◌, IsTrue, ⊤, List, ◌++◌, length, Some, Result, Ok}
 use Rattle.envy_args.specs.declared.command.Command.{Command}
-use Rattle.envy_args.specs.declared.command.Command.TheVariants.{Run, Plain, Tpca, Gen, Save, Resume, Audit, Index}
+use Rattle.envy_args.specs.declared.command.Command.TheVariants.{Run, Plain, Tpca, Gen, Save, Resume, Audit, Index, Mirror}
 use Rattle.envy_args.specs.declared.command.WordsFault.{WordsFault}
 use Rattle.envy_audit.specs.Judging.{Judges}
 use Rattle.envy_audit.specs.declared.verdict.Verdict.TheVariants.{Sound}
@@ -9,11 +9,13 @@ use Rattle.envy_base.specs.State.{State, IsBoard}
 use Rattle.envy_base.specs.declared.shape.Shape.{Shape}
 use Rattle.envy_image.specs.Image.{image_of}
 use Rattle.envy_map.specs.Fields.{Chart, chart}
+use Rattle.envy_pair.specs.MirrorRun.{mirror_grammar}
 use Rattle.envy_policy.specs.Setup.{checked}
 use Rattle.envy_policy.specs.declared.setup.Setup.{Setup}
 use Rattle.envy_serve.specs.GoodTrace.{StaysLow, IsGoodTrace}
 use Rattle.envy_serve.specs.Streams.{Streams}
 use Rattle.envy_run.specs.IndexTurns.{index_grammar}
+use Rattle.envy_run.specs.MirrorTask.{AreWell, HasDiedOut}
 use Rattle.envy_run.specs.Outcome.{Outcome}
 use Rattle.envy_run.specs.Resumes.{setup_found}
 use Rattle.envy_run.specs.Turns.{trace_grammar}
@@ -60,4 +62,5 @@ Completes (Ok (Tpca setup returns start area every)) o io = StaysLow io.to.fault
 Completes (Ok (Save setup returns)) o io = IsGoodTrace trace_grammar 0 io → IsWell o → IsComplete o
 Completes (Ok (Resume policy limit mark returns)) o io = (holds : HoldsImage io) → HoldsTrace (setup_found policy limit mark) io holds → IsWellInstalled o → IsComplete o
 Completes (Ok Audit) o io = HoldsImage io → NeverFailed o → IsComplete o
+Completes (Ok (Mirror setup returns)) o io = IsGoodTrace mirror_grammar 0 io → AreWell o → IsComplete o ⊎ HasDiedOut o
 Completes command o io = ⊤

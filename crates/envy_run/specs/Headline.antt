@@ -28,6 +28,7 @@ pub use Rattle.envy_run.specs.Done.{OnBoard}
 use Rattle.envy_run.specs.IndexDone.{HasIndexed, HasIndexDied, IndexLicences, OnIndexBoard}
 use Rattle.envy_run.specs.IndexTurns.{index_grammar}
 use Rattle.envy_run.specs.Drives.{Drives}
+use Rattle.envy_run.specs.MirrorTask.{mirror_task}
 use Rattle.envy_run.specs.Outcome.{Outcome, IsQuiet}
 use Rattle.envy_run.specs.Resumes.{Resumes, setup_found}
 pub use Rattle.envy_run.specs.Unserved.{IsOutOfMemory, IsSpoilt, IsDark, IsUnserved}
@@ -135,7 +136,7 @@ DoesCommand (Ok (Save setup returns)) o io = DoesTask (save_task setup returns) 
 DoesCommand (Ok (Resume policy limit mark returns)) o io = Resumes (setup_found policy limit mark) returns o io
 DoesCommand (Ok Audit) o io = Audits o io
 DoesCommand (Ok (Index setup returns)) o io = DoesTask (index_task setup returns) o io
-DoesCommand (Ok (Mirror setup returns)) o io = Refuses 0 o io
+DoesCommand (Ok (Mirror setup returns)) o io = DoesTask (mirror_task setup returns) o io
 DoesCommand (Err Form) o io = Refuses 0 o io
 DoesCommand (Err (Rule rule)) o io = Refuses rule o io
 DoesCommand (Err Memory) o io = ⊥

@@ -17,6 +17,7 @@ pub mod IndexServing
 pub mod IndexTurns
 pub mod Licence
 pub mod Loading
+pub mod MirrorTask
 pub mod Obeys
 pub mod Outcome
 pub mod Planned

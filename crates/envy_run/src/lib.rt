@@ -21,6 +21,9 @@ mod laws;
 mod loading;
 #[cfg(test)]
 mod long_tests;
+mod mirror_run;
+#[cfg(test)]
+mod mirror_tests;
 mod obey;
 mod plain_run;
 #[cfg(test)]

@@ -2,7 +2,7 @@ ghost use Rattle.std.specs.Prelude.{◌≡◌, ◌≤◌, None, Ok};
 ghost use Rattle.envy_policy.specs.Setup.{checked};
 ghost use Rattle.envy_run.specs.Allowed.{IsAllowed};
 ghost use Rattle.envy_run.specs.Headline.{Headline, run_task, command_in};
-ghost use Rattle.envy_run.specs.Runs.{Runs};
+ghost use Rattle.envy_run.specs.Runs.{IsAlone, Runs};
 ghost use Rattle.envy_run.specs.Task.{DoesTask};
 ghost use Rattle.envy_run.specs.Outcome.{outcome, status_of, why_of};
 
@@ -10,6 +10,7 @@ use crate::audit_run::run_audit;
 use crate::ended::Ended;
 use crate::gen_run::run_gen;
 use crate::index_run::run_index;
+use crate::mirror_run::run_mirror;
 use crate::plain_run::run_plain;
 use crate::prepare::{Unready, prepare};
 use crate::restart::ReplyBuffer;
@@ -25,7 +26,7 @@ use envy_serve::{End, MOST_BYTES, Served, serve};
 use std::alloc::Global;
 
 /// The status of an end, and its second number.
-fn numbers(end: End) -> (u8, u8)
+pub(crate) fn numbers(end: End) -> (u8, u8)
     ensures status { result.0 ≡ status_of end }
     ensures why { result.1 ≡ why_of end }
 {
@@ -116,7 +117,7 @@ fn perform<S: Source, K: Sink, M: Maker>(
         (record { from = S.feed source.old; feed = S.feed source.new; to = K.drain sink.old; sink = K.drain sink.new }) }
     ensures few { result.lines ≤ result.taken }
     ensures read { result.taken ≤ 1099511627776 }
-    ensures second { result.second ≡ None }
+    ensures alone { IsAlone command result.second }
 {
     match command {
         Command::Run { setup, lives } => run_trace(alloc, setup, lives, source, sink, maker),
@@ -139,6 +140,7 @@ fn perform<S: Source, K: Sink, M: Maker>(
             the_area_is_asked_to_fit();
             run_tpca(alloc, setup, lives, start, &area, every, sink, maker)
         }
+        Command::Mirror { setup, lives } => run_mirror(alloc, setup, lives, source, sink, maker),
         Command::Resume {
             policy,
             limit,
@@ -153,8 +155,6 @@ fn perform<S: Source, K: Sink, M: Maker>(
             };
             run_resume(alloc, &words, source, sink, maker)
         }
-        // a word whose service isn't built yet
-        Command::Mirror { .. } => unserved(2, 0, None),
     }
 }
 

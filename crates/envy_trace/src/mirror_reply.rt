@@ -1,4 +1,5 @@
-ghost use Rattle.std.specs.Prelude.{◌≡◌, []};
+ghost use Rattle.arrayvec.specs.ArrayVec.{array_vec_len};
+ghost use Rattle.std.specs.Prelude.{◌≡◌, ◌≤◌, []};
 ghost use Rattle.envy_trace.specs.Mirror.{mirror_bytes};
 
 use crate::reply::Reply;
@@ -33,7 +34,8 @@ pub enum MirrorReply {
 #[tactic(auto, unfolding(crate::specs::Mirror::mirror_bytes))]
 pub fn mirror_text(reply: &MirrorReply, out: &mut ArrayVec<u8, 512>)
     requires { out.old.items ≡ [] }
-    ensures { out.new.items ≡ mirror_bytes reply.now }
+    ensures text { out.new.items ≡ mirror_bytes reply.now }
+    ensures short { array_vec_len out.new ≤ 252 }
 {
     match reply {
         MirrorReply::Array(reply) => reply_text(reply, out),

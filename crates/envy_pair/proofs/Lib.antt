@@ -1,0 +1,15 @@
+pub mod Beginning
+pub mod Charging
+pub mod Commanded
+pub mod Commanding
+pub mod Finishing
+pub mod Following
+pub mod Joining
+pub mod Keeping
+pub mod Lines
+pub mod Telling
+pub mod Powering
+pub mod Returning
+pub mod Sides
+pub mod Since
+pub mod Writing

@@ -1,0 +1,7 @@
+pub mod Bills
+pub mod Ending
+pub mod Hearing
+pub mod MirrorRun
+pub mod Restarting
+pub mod Serving
+pub mod State

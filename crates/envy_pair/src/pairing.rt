@@ -1,0 +1,93 @@
+ghost use Rattle.std.specs.Prelude.{◌≡◌, ◌<◌};
+ghost use Rattle.envy_base.specs.Array.{Array};
+ghost use Rattle.envy_mirror.specs.Mirroring.{Mirrors};
+
+use crate::obeying::obey_mirror;
+use crate::restarting::PairBuffer;
+use envy_base::Bench;
+use envy_io::{Failed, Sink};
+use envy_mirror::Mirror;
+use envy_serve::{Obeyed, Service};
+use envy_trace::{
+    LineFault, MirrorLine, MirrorReply, mirror_grammar_holds_both_ways, read_mirror_line,
+};
+
+/// A pair of memories that answers the lines of a trace, and the side that its lines speak of.
+pub struct Pairing<A: Bench, B: Bench> {
+    pub mirror: Mirror<A, B>,
+    pub side: u8,
+    pub buffer: PairBuffer,
+}
+
+impl<A: Bench, B: Bench> Pairing<A, B> {
+    /// The lines speak of side 0 at first.
+    pub fn new(mirror: Mirror<A, B>) -> Pairing<A, B>
+        ensures mirror { result.mirror ≡ mirror }
+        ensures side { result.side ≡ 0 }
+    {
+        Pairing {
+            mirror,
+            side: 0,
+            buffer: PairBuffer::new(),
+        }
+    }
+
+    /// Gives the boards back.
+    pub fn into_mirror(self) -> Mirror<A, B>
+        ensures { result ≡ self.mirror }
+    {
+        let Pairing {
+            mirror,
+            side: _,
+            buffer: _,
+        } = self;
+        mirror
+    }
+}
+
+impl<A: Bench, B: Bench> Service for Pairing<A, B> {
+    ghost use Rattle.std.specs.Prelude.{[], ◌<◌};
+    ghost use Rattle.envy_base.specs.Array.{Array};
+    ghost use Rattle.envy_mirror.specs.Mirroring.{Mirrors};
+    ghost use Rattle.envy_pair.specs.MirrorRun.{mirror_grammar};
+    ghost use Rattle.envy_pair.specs.Serving.{Start, MirroredSince, FellSince, IsReady, long_mirror, ready_since};
+
+    type Line = MirrorLine;
+
+    type Reply = MirrorReply;
+
+    ghost grammar = { mirror_grammar };
+
+    ghost Start = { Start };
+
+    ghost Did = { λ start s turns. MirroredSince start s.mirror s.side turns };
+
+    ghost Died = { λ start s turns. FellSince start s.mirror turns };
+
+    ghost IsReady = { λ s. IsReady s.mirror s.side };
+
+    ghost tail = { λ s. [] };
+
+    fn read(bytes: &[u8]) -> Result<MirrorLine, LineFault> {
+        read_mirror_line(bytes)
+    }
+
+    fn obey<K: Sink>(&mut self, line: &MirrorLine, sink: &mut K) -> Obeyed {
+        mirror_grammar_holds_both_ways();
+        obey_mirror(
+            &mut self.mirror,
+            &mut self.side,
+            line,
+            sink,
+            &mut self.buffer,
+        )
+    }
+
+    fn close<K: Sink>(&self, _sink: &mut K) -> Result<(), Failed> {
+        Ok(())
+    }
+
+    ghost long = { long_mirror };
+
+    ghost stays_ready = { λ start s turns did. ready_since start s.mirror s.side turns did };
+}

@@ -1,0 +1,196 @@
+-- A run over a mirrored pair of boards.
+use Rattle.std.proofs.Common.{◌≡◌, ◌⊎◌, inl, inr, ℕ, ◌+◌, ◌-◌, ◌^◌, ◌<◌, ◌≤◌, false, List, [], ◌∷◌, length, refl, sym, ◌∙◌, ap, subst, arith}
+use Rattle.std.specs.Prelude.{IfSome, Option, None, Some, unwrap_or, IsTrue}
+use Rattle.std.specs.Option.{option_map}
+use Rattle.envy_base.specs.Array.{Array, zeros}
+use Rattle.envy_base.specs.State.{State, IsMade}
+use Rattle.envy_base.specs.declared.shape.Shape.{Shape}
+use Rattle.envy_io.specs.Streams.{Feed, Drain}
+use Rattle.envy_map.specs.Fields.{Chart, chart}
+use Rattle.envy_memory.specs.Formats.{IsFresh, IsStarted}
+use Rattle.envy_memory.specs.Picture.{Picture}
+use Rattle.envy_mirror.specs.Mirroring.{Mirrors}
+use Rattle.envy_mirror.specs.Pair.{Pair, started}
+use Rattle.envy_pair.specs.Bills.{Charged, Bill}
+use Rattle.envy_pair.specs.Ending.{Boards, HasMirrored, HasFallen, PairLicences}
+use Rattle.envy_pair.specs.MirrorRun.{MirrorTurn, mirror_grammar}
+use Rattle.envy_pair.specs.Serving.{Start, MirroredSince, FellSince}
+use Rattle.envy_pair.specs.State.{begun}
+use Rattle.envy_pair.proofs.Beginning.{begins}
+use Rattle.envy_pair.proofs.Finishing.{IsUnused, AreUnused, boards_of, licences-either, mirrored, fallen, bill-either}
+use Rattle.envy_policy.specs.declared.setup.Setup.{Setup}
+use Rattle.envy_serve.specs.declared.serving.End.{End}
+use Rattle.envy_serve.specs.Ends.{Serves, Ends, most_bytes}
+use Rattle.envy_serve.specs.Streams.{Streams}
+use Rattle.envy_serve.proofs.Advancing.{Serves-as, served-either}
+use Rattle.envy_run.specs.declared.ended.Ended.{Ended}
+use Rattle.envy_run.specs.declared.prepare.Unready.{Unready}
+use Rattle.envy_run.specs.declared.prepare.Unready.TheVariants.{Memory, Bad, Dead}
+use Rattle.envy_run.specs.MirrorTask.{OnBoards, IsMadeFor, MirrorLicences, IsMirrorUnserved, mirror_task, status_of_unready}
+use Rattle.envy_run.specs.Outcome.{Outcome, outcome, status_of, why_of}
+use Rattle.envy_run.specs.Prepares.{IsPrepared, IsReady, Unprepared}
+use Rattle.envy_run.specs.Task.{DoesTask}
+
+-- a board that nothing was planned on and nobody cut
+pub record IsBlank (setup : Setup) (returns : ℕ) (now : Chart) : Type 0 where
+  pub made : IsMadeFor setup returns now
+  pub pulled : now.pulled ≡ 0
+  pub plans : now.plans ≡ 0
+
+pub blank-made : (setup : Setup) (returns : ℕ) (s : State) → IsMade setup.shape returns s → IsBlank setup returns (chart s)
+blank-made setup returns s made = record { made = record { shape = made.shape; given = made.given }; pulled = made.pulled; plans = made.plans }
+
+pub blank-prepared : (setup : Setup) (returns : ℕ) (old now : Chart) → IsPrepared old now → IsBlank setup returns old → IsBlank setup returns now
+blank-prepared setup returns old now p b = record { made = record { shape = p.shape ∙ IsMadeFor.shape b.made; given = p.given ∙ IsMadeFor.given b.made }; pulled = p.pulled ∙ b.pulled; plans = p.plans ∙ b.plans }
+
+blank-licences : (first second : Chart) → first.pulled ≡ 0 → second.pulled ≡ 0 → first.plans ≡ 0 → second.plans ≡ 0 → PairLicences [] (record { first = first; second = second })
+blank-licences first second a b c d = record { pulled = omega arith; plans = omega arith; losts = omega arith; faults = omega arith }
+
+-- what is said of two boards is said of the two that are there
+licences-of : (setup : Setup) (returns : ℕ) (o : Outcome) (turns : List MirrorTurn) (first second : Chart) → o.board ≡ Some first → o.second ≡ Some second → IsMadeFor setup returns first → IsMadeFor setup returns second → PairLicences turns (record { first = first; second = second }) → MirrorLicences setup returns o turns
+licences-of setup returns o turns first second e f made made_second licences = record {
+  first = subst (λ (b : Option Chart). IfSome b (IsMadeFor setup returns)) (sym e) made;
+  second = subst (λ (b : Option Chart). IfSome b (IsMadeFor setup returns)) (sym f) made_second;
+  both = λ boards is is_second.
+      let same : first ≡ boards.first = ap (λ (b : Option Chart). unwrap_or b first) (sym e ∙ is) in
+      let same_second : second ≡ boards.second = ap (λ (b : Option Chart). unwrap_or b second) (sym f ∙ is_second) in
+      subst (λ (c : Chart). PairLicences turns (record { first = c; second = boards.second })) same (subst (λ (c : Chart). PairLicences turns (record { first = first; second = c })) same_second licences);
+}
+
+licences-alone : (setup : Setup) (returns : ℕ) (o : Outcome) → IfSome o.board (IsMadeFor setup returns) → o.second ≡ None → MirrorLicences setup returns o []
+licences-alone setup returns o made none = record {
+  first = made;
+  second = subst (λ (b : Option Chart). IfSome b (IsMadeFor setup returns)) (sym none) tt;
+  both = λ boards is is_second. absurd (let clash : None ≡ Some boards.second = sym none ∙ is_second in let never : Option Chart = None in cc);
+}
+
+-- a run that ended before a line was read
+pub mirror-quiet : {B : Type 0} (state : B → State) (setup : Setup) (returns : ℕ) (e f : Ended B) (feed : Feed) (sink : Drain) → e ≡ f → IsMirrorUnserved (outcome state f) (record { from = feed; feed = feed; to = sink; sink = sink }) → MirrorLicences setup returns (outcome state f) [] → DoesTask (mirror_task setup returns) (outcome state e) (record { from = feed; feed = feed; to = sink; sink = sink })
+mirror-quiet {B} state setup returns e f feed sink is unserved licences =
+    subst (λ (x : Ended B). DoesTask (mirror_task setup returns) (outcome state x) (record { from = feed; feed = feed; to = sink; sink = sink })) (sym is)
+    (record { turns = []; answers = inr (refl, unserved); licences = licences })
+
+-- no board, or the first alone, was made
+pub mirror-unmade : {B : Type 0} (state : B → State) (setup : Setup) (returns : ℕ) (board : Option B) (e : Ended B) (feed : Feed) (sink : Drain) → e ≡ record { status = 8; why = 0; lines = 0; taken = 0; board = board; second = None } → IfSome (option_map (λ b. chart (state b)) board) (IsMadeFor setup returns) → DoesTask (mirror_task setup returns) (outcome state e) (record { from = feed; feed = feed; to = sink; sink = sink })
+mirror-unmade {B} state setup returns board e feed sink is made =
+    let f : Ended B = record { status = 8; why = 0; lines = 0; taken = 0; board = board; second = None } in
+    mirror-quiet state setup returns e f feed sink is (record { lines = refl; taken = refl; source = refl; sink = refl }, inl (record { status = refl; why = refl })) (licences-alone setup returns (outcome state f) made refl)
+
+abbrev pub two_boards : {B : Type 0} → ℕ → B → B → Ended B
+two_boards status one two = record { status = status; why = 0; lines = 0; taken = 0; board = Some one; second = Some two }
+
+both-blank : {B : Type 0} (state : B → State) (setup : Setup) (returns status : ℕ) (one two : B) → IsBlank setup returns (chart (state one)) → IsBlank setup returns (chart (state two)) → MirrorLicences setup returns (outcome state (two_boards status one two)) []
+both-blank state setup returns status one two first second = licences-of setup returns (outcome state (two_boards status one two)) [] (chart (state one)) (chart (state two)) refl refl first.made second.made (blank-licences (chart (state one)) (chart (state two)) first.pulled second.pulled first.plans second.plans)
+
+-- what stopped the preparing of a board that was made without a count
+pub record Stopped (unready : Unready) (now : Chart) : Type 0 where
+  pub bad : unready ≡ Bad → 0 < now.bads
+  pub dead : unready ≡ Dead → (now.on ≡ false) × (now.lives ≡ 0)
+
+pub stopped-by : (unready : Unready) (old now : Chart) → old.bads ≡ 0 → Unprepared unready old now → IsPrepared old now × Stopped unready now
+stopped-by Memory old now none u = (u, record { bad = λ e. cc; dead = λ e. cc })
+stopped-by Bad old now none u = (u.0, record { bad = λ e. (let rise = u.1 (omega arith) in omega arith); dead = λ e. cc })
+stopped-by Dead old now none u = (u.0, record { bad = λ e. cc; dead = λ e. (u.1, u.2) })
+
+-- one of two boards couldn't be prepared
+pub mirror-unready : {B : Type 0} (state : B → State) (setup : Setup) (returns : ℕ) (unready : Unready) (one two : B) (e : Ended B) (feed : Feed) (sink : Drain) → e ≡ two_boards (status_of_unready unready) one two → Stopped unready (chart (state one)) ⊎ Stopped unready (chart (state two)) → IsBlank setup returns (chart (state one)) → IsBlank setup returns (chart (state two)) → DoesTask (mirror_task setup returns) (outcome state e) (record { from = feed; feed = feed; to = sink; sink = sink })
+mirror-unready {B} state setup returns Memory one two e feed sink is stopped first second =
+    mirror-quiet state setup returns e (two_boards 8 one two) feed sink is (record { lines = refl; taken = refl; source = refl; sink = refl }, inl (record { status = refl; why = refl })) (both-blank state setup returns 8 one two first second)
+mirror-unready {B} state setup returns Bad one two e feed sink is stopped first second =
+    mirror-quiet state setup returns e (two_boards 7 one two) feed sink is (record { lines = refl; taken = refl; source = refl; sink = refl }, inr (inl (record { status = refl; why = refl; cause = at stopped }))) (both-blank state setup returns 7 one two first second)
+  where
+    at : Stopped Bad (chart (state one)) ⊎ Stopped Bad (chart (state two)) → (now : Chart) × ((Some (chart (state one)) ≡ Some now) ⊎ (Some (chart (state two)) ≡ Some now)) × (0 < now.bads)
+    at (inl x) = (chart (state one), inl refl, x.bad refl)
+    at (inr x) = (chart (state two), inr refl, x.bad refl)
+mirror-unready {B} state setup returns Dead one two e feed sink is stopped first second =
+    mirror-quiet state setup returns e (two_boards 6 one two) feed sink is (record { lines = refl; taken = refl; source = refl; sink = refl }, inr (inr (record { status = refl; why = refl; cause = at stopped }))) (both-blank state setup returns 6 one two first second)
+  where
+    at : Stopped Dead (chart (state one)) ⊎ Stopped Dead (chart (state two)) → (now : Chart) × ((Some (chart (state one)) ≡ Some now) ⊎ (Some (chart (state two)) ≡ Some now)) × ((now.on ≡ false) × (now.lives ≡ 0))
+    at (inl x) = (chart (state one), inl refl, x.dead refl)
+    at (inr x) = (chart (state two), inr refl, x.dead refl)
+
+-- ---- the trace was served
+
+unused-ready : (s : State) (setup : Setup) (returns : ℕ) (p : Picture) → IsMade setup.shape returns s → IsReady (chart s) setup p → IsUnused p
+unused-ready s setup returns p made ready = record {
+  pulled = IsPrepared.pulled ready.prepared ∙ made.pulled;
+  plans = IsPrepared.plans ready.prepared ∙ made.plans;
+  begun = ready.begun ∙ made.begun;
+  counts = IsStarted.counts ready.begins;
+}
+
+made-ready : (s : State) (setup : Setup) (returns : ℕ) (p : Picture) → IsMade setup.shape returns s → IsReady (chart s) setup p → IsMadeFor setup returns p.chart
+made-ready s setup returns p made ready = record { shape = IsPrepared.shape ready.prepared ∙ made.shape; given = IsPrepared.given ready.prepared ∙ made.given }
+
+-- the memories that a pair is made of
+pub record AreReady (setup : Setup) (returns : ℕ) (a b : Picture) : Type 0 where
+  pub first : IsMadeFor setup returns a.chart
+  pub second : IsMadeFor setup returns b.chart
+  pub unused : AreUnused (started a b)
+
+pub are-ready : (s t : State) (setup : Setup) (returns : ℕ) (a b : Picture) → IsMade setup.shape returns s → IsMade setup.shape returns t → IsReady (chart s) setup a → IsReady (chart t) setup b → AreReady setup returns a b
+are-ready s t setup returns a b made made_second ready ready_second = record {
+  first = made-ready s setup returns a made ready;
+  second = made-ready t setup returns b made_second ready_second;
+  unused = record { first = unused-ready s setup returns a made ready; second = unused-ready t setup returns b made_second ready_second };
+}
+
+abbrev pub start_of : Picture → Picture → Start
+start_of a b = record { state = begun (zeros a.chart.shape.pages a.chart.shape.shadows) a.chart.shape.pages; pair = started a b }
+
+made-since : (setup : Setup) (returns : ℕ) (a b : Picture) (p : Pair) (side : ℕ) (turns : List MirrorTurn) → AreReady setup returns a b → MirroredSince (start_of a b) p side turns ⊎ FellSince (start_of a b) p turns → IsMadeFor setup returns p.first.memory.chart × IsMadeFor setup returns p.second.memory.chart
+made-since setup returns a b p side turns ready since =
+    let (first, second) = bill-either (start_of a b) p side turns since in (
+      record { shape = first.0 ∙ IsMadeFor.shape ready.first; given = first.1 ∙ IsMadeFor.given ready.first },
+      record { shape = second.0 ∙ IsMadeFor.shape ready.second; given = second.1 ∙ IsMadeFor.given ready.second },
+    )
+
+abbrev pub both_ended : {B : Type 0} → End → ℕ → ℕ → B → B → Ended B
+both_ended end lines taken one two = record { status = status_of end; why = why_of end; lines = lines; taken = taken; board = Some one; second = Some two }
+
+-- of these boards, whose charts are the pair's
+mirror-served : {B : Type 0} (state : B → State) (setup : Setup) (returns : ℕ) (a b : Picture) (p : Pair) (side : ℕ) (end : End) (lines taken : ℕ) (one two : B) (io : Streams) → chart (state one) ≡ p.first.memory.chart → chart (state two) ≡ p.second.memory.chart → lines ≤ most_bytes → AreReady setup returns a b → (turns : List MirrorTurn) → Serves end lines taken mirror_grammar 0 (MirroredSince (start_of a b) p side) (FellSince (start_of a b) p) [] turns io → DoesTask (mirror_task setup returns) (outcome state (both_ended end lines taken one two)) io
+mirror-served {B} state setup returns a b p side end lines taken one two io same same_second few ready turns s =
+    let o : Outcome = outcome state (both_ended end lines taken one two) in
+    let e : o.board ≡ Some p.first.memory.chart = ap (λ (c : Chart). Some c) same in
+    let f : o.second ≡ Some p.second.memory.chart = ap (λ (c : Chart). Some c) same_second in
+    let either = served-either end (MirroredSince (start_of a b) p side) (FellSince (start_of a b) p) turns (Ends.served (Serves.ends s)) in
+    let many = Serves.lines_are s in
+    let made = made-since setup returns a b p side turns ready either in
+    let first_shape : a.chart.shape ≡ setup.shape = IsMadeFor.shape ready.first in
+    record {
+      turns = turns;
+      answers = inl (record {
+        end = end;
+        serves = subst (λ (sh : Shape). Serves end lines taken mirror_grammar 0 (OnBoards (HasMirrored (zeros sh.pages sh.shadows) sh.pages) o) (OnBoards (HasFallen (zeros sh.pages sh.shadows) sh.pages) o) [] turns io) first_shape
+            (Serves-as end lines taken mirror_grammar 0 (MirroredSince (start_of a b) p side) (FellSince (start_of a b) p) (OnBoards (HasMirrored (zeros a.chart.shape.pages a.chart.shape.shadows) a.chart.shape.pages) o) (OnBoards (HasFallen (zeros a.chart.shape.pages a.chart.shape.shadows) a.chart.shape.pages) o) [] turns io (λ t. (boards_of p, e, f, mirrored (zeros a.chart.shape.pages a.chart.shape.shadows) a.chart.shape.pages (started a b) p side turns ready.unused (omega arith) t)) (λ d. (boards_of p, e, f, fallen (zeros a.chart.shape.pages a.chart.shape.shadows) a.chart.shape.pages (started a b) p turns (omega arith) d)) s);
+        status = refl;
+        why = refl;
+      });
+      licences = licences-of setup returns o turns p.first.memory.chart p.second.memory.chart e f made.0 made.1 (licences-either (start_of a b) p side turns ready.unused (omega arith) either);
+    }
+
+-- before the first line
+pub begins-as : (a b : Picture) (p : Pair) (side : ℕ) → p ≡ started a b → side ≡ 0 → Mirrors p (zeros a.chart.shape.pages a.chart.shape.shadows) → MirroredSince (start_of a b) p side []
+begins-as a b p side is none mirrors =
+    subst (λ (q : Pair). MirroredSince (start_of a b) q side []) (sym is)
+    (subst (λ (n : ℕ). MirroredSince (start_of a b) (started a b) n []) (sym none)
+    (begins (zeros a.chart.shape.pages a.chart.shape.shadows) a b (subst (λ (q : Pair). Mirrors q (zeros a.chart.shape.pages a.chart.shape.shadows)) is mirrors)))
+
+pub numbered : {B : Type 0} (status why : ℕ) (end : End) (lines taken : ℕ) (one two : B) (e : Ended B) → e ≡ record { status = status; why = why; lines = lines; taken = taken; board = Some one; second = Some two } → status ≡ status_of end → why ≡ why_of end → e ≡ both_ended end lines taken one two
+numbered {B} status why end lines taken one two e is same why_is =
+    let with_numbers : ℕ → ℕ → Ended B = λ s w. record { status = s; why = w; lines = lines; taken = taken; board = Some one; second = Some two } in
+    is ∙ ap (λ (s : ℕ). with_numbers s why) same ∙ ap (λ (w : ℕ). with_numbers (status_of end) w) why_is
+
+pub mirror-ended : {B : Type 0} (state : B → State) (setup : Setup) (returns : ℕ) (a b : Picture) (first_pair p : Pair) (first_side side : ℕ) (end : End) (lines taken skipped : ℕ) (one two : B) (e : Ended B) (io : Streams) → e ≡ both_ended end lines taken one two → chart (state one) ≡ p.first.memory.chart → chart (state two) ≡ p.second.memory.chart → skipped ≡ 0 → lines ≤ most_bytes → AreReady setup returns a b → MirroredSince (start_of a b) first_pair first_side [] → ((start : Start) → MirroredSince start first_pair first_side [] → (turns : List MirrorTurn) × Serves end lines taken mirror_grammar skipped (MirroredSince start p side) (FellSince start p) [] turns io) → DoesTask (mirror_task setup returns) (outcome state e) io
+mirror-ended {B} state setup returns a b first_pair p first_side side end lines taken skipped one two e io is same same_second none few ready first serves =
+    let served = subst (λ (k : ℕ). (turns : List MirrorTurn) × Serves end lines taken mirror_grammar k (MirroredSince (start_of a b) p side) (FellSince (start_of a b) p) [] turns io) none (serves (start_of a b) first) in
+    subst (λ (x : Ended B). DoesTask (mirror_task setup returns) (outcome state x) io) (sym is)
+    (mirror-served state setup returns a b p side end lines taken one two io same same_second few ready served.0 served.1)
+
+-- the board of a memory that was prepared
+pub blank-board : (setup : Setup) (returns : ℕ) (s : State) (p : Picture) (c : Chart) → IsMade setup.shape returns s → IsReady (chart s) setup p → c ≡ p.chart → IsBlank setup returns c
+blank-board setup returns s p c made ready same = subst (λ (x : Chart). IsBlank setup returns x) (sym same) (blank-prepared setup returns (chart s) p.chart (IsReady.prepared ready) (blank-made setup returns s made))
+
+pub not-stopped : (c : Chart) → Stopped Memory c
+not-stopped c = record { bad = λ e. cc; dead = λ e. cc }

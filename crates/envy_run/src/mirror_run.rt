@@ -1,0 +1,87 @@
+//! A trace over a mirrored pair of fresh memories.
+
+ghost use Rattle.std.specs.Prelude.{◌≡◌, ◌≤◌, None, Ok, Some};
+ghost use Rattle.envy_policy.specs.Setup.{checked};
+ghost use Rattle.envy_run.specs.MirrorTask.{mirror_task, status_of_unready};
+ghost use Rattle.envy_run.specs.Outcome.{outcome};
+ghost use Rattle.envy_run.specs.Task.{DoesTask};
+
+use crate::ended::Ended;
+use crate::prepare::{Unready, prepare};
+use crate::running::{numbers, unserved};
+use envy_base::Maker;
+use envy_io::{Lines, Sink, Source};
+use envy_mirror::Mirror;
+use envy_pair::Pairing;
+use envy_policy::Setup;
+use envy_serve::{MOST_BYTES, serve};
+use std::alloc::Global;
+
+/// An end with nothing read, since there is no pair to serve.
+fn unmirrored<B>(unready: Unready, first: B, second: B) -> Ended<B>
+    ensures { result ≡ record { status = status_of_unready unready; why = 0; lines = 0; taken = 0; board = Some first; second = Some second } }
+{
+    let status = match unready {
+        Unready::Memory => 8,
+        Unready::Bad => 7,
+        Unready::Dead => 6,
+    };
+    Ended {
+        status,
+        why: 0,
+        lines: 0,
+        taken: 0,
+        board: Some(first),
+        second: Some(second),
+    }
+}
+
+/// Makes two boards, formats both, and does the lines of the source in order on the pair, with each reply written
+/// before the next line is read.
+pub fn run_mirror<S: Source, K: Sink, M: Maker>(
+    alloc: Global,
+    setup: Setup,
+    lives: u32,
+    source: &mut S,
+    sink: &mut K,
+    maker: &mut M,
+) -> Ended<M::Made>
+    requires { checked setup ≡ Ok tt }
+    ensures runs { DoesTask (mirror_task setup lives) (outcome M.Made.Board.state result)
+        (record { from = S.feed source.old; feed = S.feed source.new; to = K.drain sink.old; sink = K.drain sink.new }) }
+    ensures few { result.lines ≤ result.taken }
+    ensures read { result.taken ≤ 1099511627776 }
+{
+    let Ok(one) = maker.make(alloc, &setup.shape, lives) else {
+        return unserved(8, 0, None);
+    };
+    let Ok(two) = maker.make(alloc, &setup.shape, lives) else {
+        return unserved(8, 0, Some(one));
+    };
+    let first = match prepare(alloc, one, setup) {
+        Ok(memory) => memory,
+        Err((one, unready)) => return unmirrored(unready, one, two),
+    };
+    let second = match prepare(alloc, two, setup) {
+        Ok(memory) => memory,
+        Err((two, unready)) => return unmirrored(unready, first.into_board(), two),
+    };
+    let mirror = match Mirror::new(alloc, first, second) {
+        Ok(mirror) => mirror,
+        Err((first, second, _)) => {
+            return unmirrored(Unready::Memory, first.into_board(), second.into_board());
+        }
+    };
+    let mut pairing = Pairing::new(mirror);
+    let served = serve(&mut pairing, source, sink, Lines::new(MOST_BYTES));
+    let (one, two) = pairing.into_mirror().into_boards();
+    let (status, why) = numbers(served.end);
+    Ended {
+        status,
+        why,
+        lines: served.lines,
+        taken: served.taken,
+        board: Some(one),
+        second: Some(two),
+    }
+}
