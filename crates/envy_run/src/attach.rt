@@ -20,11 +20,7 @@ pub enum Unattached {
 
 /// Attaches a memory to a sound board. Where power fails meanwhile it is asked for, and the memory is attached
 /// again.
-pub fn attach<B: Bench>(
-    alloc: Global,
-    board: B,
-    setup: Setup,
-) -> Result<Memory<B>, (B, Unattached)>
+pub fn attach<B: Bench>(alloc: Global, board: B, setup: Setup) -> Result<Memory<B>, (B, Unattached)>
     requires formatted { IsFormatted (chart (B.state board)).fields }
     requires sound { IsSound (chart (B.state board)) }
     requires setup { checked setup ≡ Ok tt }
