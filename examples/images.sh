@@ -4,11 +4,16 @@
 # Then 2,000 images with one to three bytes changed: each has a verdict, and where it is sound a trace is served.
 set -eu
 cd "$(dirname "$0")/.."
+if [ -n "$(./envy gen --lines 0 2>&1)" ]; then
+    echo "images: no proved program stands for these sources: ./envy --prove makes one" >&2
+    exit 1
+fi
 exec python3 - "$@" <<'TEXT'
 import random
 import subprocess
 import sys
 
+PROGRAM = "crates/envy/out/envy"
 SHAPE = "--segments 4 --rows 4 --pages 7 --shadows 1 --frames 2 --entries 2".split()
 KEEPS = "--mark 1 --limit 2 --policy".split()
 POLICIES = ["greedy", "fifo", "locality", "hybrid"]
@@ -17,7 +22,7 @@ WORDS = 7 * 32
 
 def envy(words, given, wanted=0):
     """Returns what the program writes, which has to end with this status."""
-    ran = subprocess.run(["./envy", *words], input=given, stdout=subprocess.PIPE, stderr=subprocess.PIPE)
+    ran = subprocess.run([PROGRAM, *words], input=given, stdout=subprocess.PIPE, stderr=subprocess.PIPE)
     if ran.returncode != wanted:
         sys.exit(f"images: envy {' '.join(words)} ended with {ran.returncode}: {ran.stderr.decode()}")
     return ran.stdout
