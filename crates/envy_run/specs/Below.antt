@@ -9,7 +9,7 @@ use Rattle.envy_memory.specs.Calls.{Works, planned}
 use Rattle.envy_memory.specs.Effects.{PutEffect, TicksOnce}
 use Rattle.envy_memory.specs.Picture.{Picture}
 use Rattle.envy_trace.specs.declared.line.Line.{Line}
-use Rattle.envy_trace.specs.declared.line.Line.TheVariants.{Store, Begin, Put, Commit, Abort, Tick, Cut, Bad}
+use Rattle.envy_trace.specs.declared.line.Line.TheVariants.{Load, Look, Store, Begin, Put, Commit, Abort, Tick, Cut, Bad, Stat}
 use Rattle.envy_trace.specs.declared.reply.Reply.{Reply}
 use Rattle.envy_trace.specs.declared.reply.Reply.TheVariants.{Done, Fault}
 
@@ -27,7 +27,8 @@ WorksOf (Bad k g) old new = new ≡ planned old
 WorksOf line old new = new ≡ old
 
 -- A background step is that of the first rule that applies. A store or a put flushes by the policy's choice. What a bad
--- operation ended left parts and job as those calls of the memory say.
+-- operation ended left parts and job as those calls of the memory say. No other line changes heats, turns, stages or what
+-- was counted of flash work, and one that only asks changes nothing but the cache.
 abbrev pub FollowsRules : Line → Reply → Picture → Picture → Type 0
 FollowsRules Tick Done old new = (did : Did) × TicksBy old.limit old.mark did old.chart old.parts new.chart new.parts
 FollowsRules Tick Fault old new = TicksBad old.mark old.chart old.parts new.chart new.parts
@@ -35,4 +36,12 @@ FollowsRules (Store a w) Done old new = StoresBy (a / 32) old.chart old.parts ne
 FollowsRules (Store a w) Fault old new = Stops (a / 32) old.chart old.parts new.chart new.parts
 FollowsRules (Put t a w) Done old new = PutEffect t (a / 32) old new × Ends old.chart old.parts new.chart new.parts
 FollowsRules (Put t a w) Fault old new = Stops (a / 32) old.chart old.parts new.chart new.parts × (new.owned ≡ old.owned)
+FollowsRules (Load a) reply old new = new ≡ record old { parts = record old.parts { cache = new.parts.cache } }
+FollowsRules (Look a) reply old new = new ≡ old
+FollowsRules Begin reply old new = new ≡ record old { chart = new.chart }
+FollowsRules (Commit t) reply old new = new ≡ record old { chart = new.chart; owned = new.owned; parts = record old.parts { space = new.parts.space } }
+FollowsRules (Abort t) reply old new = new ≡ record old { chart = new.chart; owned = new.owned; parts = record old.parts { frames = new.parts.frames; space = new.parts.space; cache = new.parts.cache } }
+FollowsRules (Cut k g) reply old new = new ≡ record old { chart = planned old.chart }
+FollowsRules (Bad k g) reply old new = new ≡ record old { chart = planned old.chart }
+FollowsRules Stat reply old new = new ≡ old
 FollowsRules line reply old new = ⊤

@@ -19,6 +19,7 @@ fn load<B: Bench>(memory: &mut Memory<B>, address: u32) -> Reply
     ensures licence { AnswerLicence (Load address) result memory.old.chart memory.new.chart }
     ensures notes { Notes (Load address) (result ∷ []) memory.old memory.new }
     ensures works { WorksOf (Load address) memory.old.chart memory.new.chart }
+    ensures rules { FollowsRules (Load address) result memory.old memory.new }
 {
     match memory.load(address) {
         Ok(word) => Reply::Word(word),
@@ -66,6 +67,7 @@ fn begin<B: Bench>(memory: &mut Memory<B>) -> Reply
     ensures licence { AnswerLicence Begin result memory.old.chart memory.new.chart }
     ensures notes { Notes Begin (result ∷ []) memory.old memory.new }
     ensures works { WorksOf Begin memory.old.chart memory.new.chart }
+    ensures rules { FollowsRules Begin result memory.old memory.new }
 {
     match memory.begin() {
         Ok(slot) => Reply::Started(slot),
@@ -101,6 +103,7 @@ fn commit<B: Bench>(memory: &mut Memory<B>, slot: u8) -> Reply
     ensures licence { AnswerLicence (Commit slot) result memory.old.chart memory.new.chart }
     ensures notes { Notes (Commit slot) (result ∷ []) memory.old memory.new }
     ensures works { WorksOf (Commit slot) memory.old.chart memory.new.chart }
+    ensures rules { FollowsRules (Commit slot) result memory.old memory.new }
 {
     match memory.commit(slot) {
         Ok(()) => Reply::Done,
@@ -116,6 +119,7 @@ fn abort<B: Bench>(memory: &mut Memory<B>, slot: u8) -> Reply
     ensures licence { AnswerLicence (Abort slot) result memory.old.chart memory.new.chart }
     ensures notes { Notes (Abort slot) (result ∷ []) memory.old memory.new }
     ensures works { WorksOf (Abort slot) memory.old.chart memory.new.chart }
+    ensures rules { FollowsRules (Abort slot) result memory.old memory.new }
 {
     match memory.abort(slot) {
         Ok(()) => Reply::Done,
