@@ -5,8 +5,8 @@
 set -eu
 cd "$(dirname "$0")"
 for tool in gcc rustc; do
-    if ! command -v $tool >/dev/null; then
-        echo "library: there is no $tool, so nothing was tried" >&2
+    if ! $tool --version >/dev/null 2>&1; then
+        echo "library: $tool doesn't run here, so nothing was tried" >&2
         exit 2
     fi
 done

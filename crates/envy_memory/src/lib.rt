@@ -23,7 +23,11 @@ mod tests_cuts;
 #[cfg(test)]
 mod tests_format;
 #[cfg(test)]
+mod tests_orders;
+#[cfg(test)]
 mod tests_random;
+#[cfg(test)]
+mod tests_rules;
 #[cfg(test)]
 mod tests_setup;
 #[cfg(test)]

@@ -1,25 +1,10 @@
-use crate::tests_setup::{SETUP, SHAPE, formatted, new_board};
+use crate::tests_setup::{SETUP, arm_cut, formatted, memory_of, new_board, revive};
 use crate::{EndFault, Memory, PutFault, StoreFault};
 use envy_base::{Bench, Counts, Shape, Trouble};
 use envy_bench::MemBoard;
 use envy_policy::{Policy, Setup};
-use std::alloc::Global;
 use std::process::Abort;
 use std::test::Fail;
-
-fn memory_of(rt: &impl Abort, alloc: Global, setup: Setup) -> Result<Memory<MemBoard>, Fail> {
-    setup.shape.check()?;
-    let board = MemBoard::new(alloc, &setup.shape, u32::MAX)?;
-    match Memory::format(alloc, board, setup) {
-        Ok(memory) => Ok(memory),
-        Err((_, fault)) => panic!(rt; "not formatted: {fault:?}"),
-    }
-}
-
-fn revive(rt: &impl Abort, memory: &mut Memory<MemBoard>) {
-    assert!(rt; !memory.powered());
-    assert_eq!(rt; memory.revive(), Ok(()));
-}
 
 /// Stores, and lets power return where it fails in that. Answers whether it didn't.
 fn store(rt: &impl Abort, memory: &mut Memory<MemBoard>, a: u32, value: u64) -> bool {
@@ -48,11 +33,6 @@ fn ticks(rt: &impl Abort, memory: &mut Memory<MemBoard>, count: u32) {
             Err(fault) => panic!(rt; "tick: {fault:?}"),
         }
     }
-}
-
-fn arm_cut(rt: &impl Abort, memory: &mut Memory<MemBoard>, k: u32, g: u64) {
-    assert!(rt; k >= 1);
-    memory.arm_cut(k, g);
 }
 
 // The first eight of nine pages, each in a frame of its own.
