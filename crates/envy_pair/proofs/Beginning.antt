@@ -1,5 +1,5 @@
 -- A pair before the first line.
-use Rattle.std.proofs.Common.{◌≡◌, ℕ, ◌<◌, ◌≤◌, List, [], refl, arith}
+use Rattle.std.proofs.Common.{[], refl, arith}
 use Rattle.envy_base.specs.Array.{Array}
 use Rattle.envy_memory.specs.Picture.{Picture}
 use Rattle.envy_mirror.specs.Mirroring.{Mirrors}

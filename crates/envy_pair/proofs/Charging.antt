@@ -1,14 +1,13 @@
 -- What the counts of one board show of one call.
-use Rattle.std.proofs.Common.{◌≡◌, ◌⊎◌, inl, inr, ℕ, ◌+◌, ◌-◌, ◌^◌, ◌<◌, ◌≤◌, Bool, true, false, refl, sym, ◌∙◌, ap, subst, arith}
-use Rattle.std.specs.Prelude.{IsTrue}
+use Rattle.std.proofs.Common.{◌≡◌, ℕ, ◌+◌, ◌-◌, ◌^◌, ◌<◌, ◌≤◌, refl, sym, ◌∙◌, ap, subst, arith}
 use Rattle.envy_base.specs.Counting.{up}
 use Rattle.envy_base.proofs.Counting.{up-least, up-below}
 use Rattle.envy_base.specs.declared.counts.Counts.{Counts}
 use Rattle.envy_flush.specs.Counts.{Tallies, Tally3}
 use Rattle.envy_layout.specs.Same.{Counted, Kept}
 use Rattle.envy_map.specs.Fields.{Chart}
-use Rattle.envy_memory.specs.Calls.{lit, pulled, planned, HasFailed}
-use Rattle.envy_memory.specs.Picture.{Picture, counts_of}
+use Rattle.envy_memory.specs.Calls.{planned, HasFailed}
+use Rattle.envy_memory.specs.Picture.{Picture}
 use Rattle.envy_mirror.specs.Asking.{Reckons, cut_by_hand}
 use Rattle.envy_mirror.specs.Catching.{Wakes}
 use Rattle.envy_mirror.specs.Reading.{IsLooked}

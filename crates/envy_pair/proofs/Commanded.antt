@@ -1,5 +1,5 @@
 -- A command on a pair, seen without the boards: some side is left, or none.
-use Rattle.std.proofs.Common.{◌≡◌, ◌⊎◌, inl, inr, ℕ, ◌+◌, ◌≤◌, Bool, true, false, List, [], ◌∷◌, Option, None, Some, refl, sym, ◌∙◌, ap, subst, arith}
+use Rattle.std.proofs.Common.{◌≡◌, ◌⊎◌, inl, inr, ℕ, ◌+◌, Bool, true, false, List, [], ◌∷◌, Option, None, refl, sym, ◌∙◌, ap, subst, arith}
 use Rattle.std.specs.Prelude.{IsTrue, ◌||◌}
 use Rattle.std.proofs.lemmas.Bool.{or_cases}
 use Rattle.envy_base.specs.Array.{Array, undone}
@@ -27,7 +27,7 @@ use Rattle.envy_pair.specs.Bills.{Charged, Bill}
 use Rattle.envy_pair.specs.Hearing.{shown, Commanded}
 use Rattle.envy_pair.specs.MirrorRun.{said, may_fault, is_lost, is_fault, told_in, IsTold, Darkens}
 use Rattle.envy_pair.specs.Restarting.{last_side, IsFallen}
-use Rattle.envy_pair.specs.Serving.{Past, Known, state_of, IsSpent, Serves}
+use Rattle.envy_pair.specs.Serving.{Known, state_of, IsSpent, Serves}
 use Rattle.envy_pair.specs.State.{Falls}
 use Rattle.envy_pair.proofs.Commanding.{fell, reach_toll, past_if, falls-if, Reached, reached, spent-kept, Paid, bad-paid, off-paid, both-pay, bill-paid, sums, quiet-said}
 

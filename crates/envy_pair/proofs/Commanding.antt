@@ -1,37 +1,21 @@
 -- A command that went to each Good side, seen without the boards.
-use Rattle.std.proofs.Common.{◌≡◌, ◌⊎◌, inl, inr, ℕ, ◌+◌, ◌<◌, ◌≤◌, Bool, true, false, List, [], ◌∷◌, Option, None, Some, refl, sym, ◌∙◌, ap, subst, arith}
-use Rattle.std.specs.Prelude.{IsTrue, ◌||◌, ◌&&◌}
-use Rattle.envy_base.specs.Array.{Array, undone}
-use Rattle.envy_base.specs.Step.{Command, Answer, Step, Accepts, Lost as LostAs}
+use Rattle.std.proofs.Common.{◌≡◌, inl, inr, ℕ, ◌+◌, ◌≤◌, Bool, true, false, [], ◌∷◌, Option, None, Some, refl, sym, ◌∙◌, ap, subst, arith}
+use Rattle.std.specs.Prelude.{IsTrue, ◌&&◌}
+use Rattle.envy_base.specs.Step.{Command, Answer}
 use Rattle.envy_base.specs.Step.{Word as IsWord, Done as IsDone, Started as IsStarted, Range as IsRange, Held as IsHeld, Closed as IsClosed, Full as IsFull, Busy as IsBusy}
-use Rattle.envy_base.specs.declared.shape.Shape.{Shape}
-use Rattle.envy_layout.specs.Sound.{IsSound}
-use Rattle.envy_layout.specs.Stands.{Stands, Holds, IsLost as LostIn}
-use Rattle.envy_layout.specs.Words.{durable}
-use Rattle.envy_map.specs.Fields.{Chart}
-use Rattle.envy_memory.specs.Calls.{fresh}
-use Rattle.envy_memory.specs.Picture.{Picture}
-use Rattle.envy_pair.proofs.Sides.{stands-good, neither}
-use Rattle.envy_mirror.specs.Asking.{Answers, AsksBoth, Asks, Asked, Reaches, heard, has_said, has_failed, is_moving, spoiled_if, cut_by_hand}
-use Rattle.envy_mirror.specs.Mirroring.{Mirrors, Gives}
-use Rattle.envy_mirror.specs.Pair.{Side, Pair, is_good, is_good_by, side_at, IsDark, IsPair, IsSideBy, MayLead}
-use Rattle.envy_mirror.specs.Replies.{Reply as PairReply, Off, Bad as WasBad, Said, is_bad, marked}
+use Rattle.envy_mirror.specs.Asking.{Reaches, heard, has_said, is_moving, spoiled_if, cut_by_hand}
+use Rattle.envy_mirror.specs.Pair.{Side, Pair, is_good, is_good_by}
+use Rattle.envy_mirror.specs.Replies.{Reply as PairReply, Off, Bad as WasBad, Said}
 use Rattle.envy_mirror.specs.declared.standing.Standing.{Standing}
 use Rattle.envy_mirror.specs.declared.standing.Standing.TheVariants.{Good, Behind, Gone}
-use Rattle.envy_mirror.specs.declared.standing.Which.{Which}
-use Rattle.envy_mirror.specs.declared.standing.Which.TheVariants.{First, Second}
 use Rattle.envy_serve.specs.Turns.{one_if, count_of}
-use Rattle.envy_trace.specs.declared.reply.Reply.{Reply}
-use Rattle.envy_trace.specs.declared.reply.Reply.TheVariants.{Fault, Lost}
-use Rattle.envy_trace.specs.declared.mirror_reply.MirrorReply.{MirrorReply}
 use Rattle.envy_trace.specs.declared.mirror_reply.MirrorReply.TheVariants.{Array as Plain}
 use Rattle.envy_pair.specs.Bills.{Toll, Charged, Sums, Bill}
-use Rattle.envy_pair.specs.Hearing.{shown, Commanded}
-use Rattle.envy_pair.specs.MirrorRun.{said, may_fault, is_lost, is_fault, told_in, IsTold, Darkens}
-use Rattle.envy_pair.specs.Restarting.{no_toll, last_side, IsFallen}
-use Rattle.envy_pair.specs.Serving.{Past, Known, side_of, state_of, IsSpent, Serves}
-use Rattle.envy_pair.specs.State.{SideState, MayFall, Falls, gone, has_good}
-use Rattle.envy_pair.proofs.Charging.{add_tolls, one_fail, one_bad, one_pull, Charged-trans, Charged-same, Charged-reckons, Charged-failed, Charged-bad, Charged-pulled}
+use Rattle.envy_pair.specs.MirrorRun.{said, is_lost, is_fault, told_in}
+use Rattle.envy_pair.specs.Restarting.{no_toll}
+use Rattle.envy_pair.specs.Serving.{Past, side_of, IsSpent}
+use Rattle.envy_pair.specs.State.{SideState, MayFall}
+use Rattle.envy_pair.proofs.Charging.{one_fail, one_bad, one_pull, Charged-trans, Charged-same, Charged-reckons, Charged-failed, Charged-bad, Charged-pulled}
 
 -- ---- one side
 

@@ -1,31 +1,29 @@
 -- What both boards say once a trace was done, from what the pair did since it began with no counts.
-use Rattle.std.proofs.Common.{◌≡◌, ◌⊎◌, inl, inr, ℕ, zero, suc, ◌+◌, ◌-◌, ◌^◌, ◌<◌, ◌≤◌, Bool, true, false, List, [], ◌∷◌, length, refl, sym, ◌∙◌, ap, subst, arith}
-use Rattle.std.specs.Prelude.{IsTrue, IfSome, Option, None, Some, ◌||◌, ◌&&◌}
+use Rattle.std.proofs.Common.{◌≡◌, ◌⊎◌, inl, inr, ℕ, ◌+◌, ◌-◌, ◌^◌, ◌<◌, ◌≤◌, Bool, true, false, List, [], ◌∷◌, length, sym, ap, subst, arith}
+use Rattle.std.specs.Prelude.{IfSome, Option, None, Some}
 use Rattle.std.proofs.lemmas.Bool.{cases_lt}
 use Rattle.envy_base.specs.Array.{Array}
 use Rattle.envy_base.specs.declared.counts.Counts.{Counts}
 use Rattle.envy_flush.specs.Counts.{Tally3}
 use Rattle.envy_layout.specs.Sound.{IsSound}
-use Rattle.envy_layout.specs.Stands.{Stands}
 use Rattle.envy_layout.specs.Words.{durable}
 use Rattle.envy_map.specs.Fields.{Chart}
 use Rattle.envy_memory.specs.Formats.{no_counts}
 use Rattle.envy_memory.specs.Picture.{Picture, counts_of}
 use Rattle.envy_pair.proofs.Sides.{stands-good}
-use Rattle.envy_mirror.specs.Mirroring.{Mirrors, Agrees, AgreesBy}
-use Rattle.envy_mirror.specs.Pair.{Side, Pair, is_good, is_good_by, side_at}
+use Rattle.envy_mirror.specs.Mirroring.{Mirrors, Agrees}
+use Rattle.envy_mirror.specs.Pair.{Side, Pair, is_good_by, side_at}
 use Rattle.envy_mirror.specs.Reviving.{which}
-use Rattle.envy_mirror.specs.declared.standing.Standing.{Standing}
-use Rattle.envy_mirror.specs.declared.standing.Standing.TheVariants.{Good, Behind, Gone}
+use Rattle.envy_mirror.specs.declared.standing.Standing.TheVariants.{Good}
 use Rattle.envy_mirror.specs.declared.standing.Which.{Which}
 use Rattle.envy_mirror.specs.declared.standing.Which.TheVariants.{First, Second}
 use Rattle.envy_serve.specs.Ends.{most_bytes}
 use Rattle.envy_serve.specs.Turns.{Turn, count_lines, count_replies, one_if}
-use Rattle.envy_pair.specs.Bills.{RoseBy, RoseOver, Toll, Charged, Bill}
-use Rattle.envy_pair.specs.Ending.{Boards, board_at, IsPaid, Keeps, AddsUp, HasMirrored, HasFallen, PairLicences}
-use Rattle.envy_pair.specs.MirrorRun.{MirrorTurn, MirrorRun, is_power, is_plan, is_lost, is_fault, just_told}
-use Rattle.envy_pair.specs.Serving.{Past, Known, Serves, Start, side_of, state_of, sums_since, MirroredSince, FellSince}
-use Rattle.envy_pair.specs.State.{SideState, MirrorState, begun}
+use Rattle.envy_pair.specs.Bills.{RoseOver, Toll, Charged, Bill}
+use Rattle.envy_pair.specs.Ending.{Boards, board_at, Keeps, AddsUp, HasMirrored, HasFallen, PairLicences}
+use Rattle.envy_pair.specs.MirrorRun.{MirrorTurn, is_power, is_plan, is_lost, is_fault, just_told}
+use Rattle.envy_pair.specs.Serving.{Past, Serves, Start, side_of, state_of, sums_since, MirroredSince, FellSince}
+use Rattle.envy_pair.specs.State.{begun}
 use Rattle.envy_pair.proofs.Joining.{joined-good}
 use Rattle.envy_pair.proofs.Keeping.{AreFirm, firm-run, firm-begun}
 

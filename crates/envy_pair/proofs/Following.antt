@@ -1,15 +1,12 @@
 -- A step by which one side follows the other, seen without the boards.
-use Rattle.std.proofs.Common.{◌≡◌, ◌≢◌, ◌⊎◌, inl, inr, ℕ, ◌+◌, ◌-◌, ◌^◌, ◌<◌, ◌≤◌, Bool, true, false, List, [], ◌∷◌, length, replicate, Option, None, Some, refl, sym, ◌∙◌, ap, subst, arith}
-use Rattle.std.specs.Prelude.{IsTrue, Result, Ok, Err}
+use Rattle.std.proofs.Common.{◌≡◌, ◌≢◌, inl, inr, ℕ, ◌+◌, ◌-◌, ◌^◌, ◌<◌, ◌≤◌, Bool, true, false, List, [], ◌∷◌, Option, None, Some, refl, sym, ◌∙◌, ap, subst, arith}
+use Rattle.std.specs.Prelude.{Result, Ok, Err}
 use Rattle.envy_base.specs.Array.{Array, Saved, slot_of}
-use Rattle.envy_base.specs.declared.fields.Slot.{Slot}
 use Rattle.envy_base.specs.declared.fields.Slot.TheVariants.{Vacant, Active}
 use Rattle.envy_layout.specs.Stands.{Stands, Holds, slot_word}
 use Rattle.envy_map.specs.Fields.{Chart, slot}
-use Rattle.envy_memory.specs.Picture.{Picture}
 use Rattle.envy_pair.proofs.Sides.{stands-good, neither}
-use Rattle.envy_mirror.specs.Catching.{Helps, Slips as SlipsBy, CatchesUp, CatchesBy as Catching, IsLowestStale, IsLowestOpen as LowestOpenSlot, NoneOpen as NoSlotOpen, Wakes}
-use Rattle.envy_mirror.specs.Asking.{Reckons}
+use Rattle.envy_mirror.specs.Catching.{Helps, Slips as SlipsBy, CatchesUp, CatchesBy as Catching, IsLowestOpen as LowestOpenSlot, NoneOpen as NoSlotOpen}
 use Rattle.envy_mirror.specs.Mirroring.{Mirrors, Agrees}
 use Rattle.envy_mirror.specs.Pair.{Side, Pair, is_good}
 use Rattle.envy_mirror.specs.declared.catching.Caught.{Caught}
@@ -19,16 +16,14 @@ use Rattle.envy_mirror.specs.declared.catching.CatchFault.TheVariants.{Off as Ca
 use Rattle.envy_mirror.specs.declared.standing.Standing.{Standing}
 use Rattle.envy_mirror.specs.declared.standing.Standing.TheVariants.{Good, Behind, Gone}
 use Rattle.envy_mirror.specs.declared.standing.Which.{Which}
-use Rattle.envy_serve.specs.Turns.{one_if, count_of}
-use Rattle.envy_trace.specs.declared.mirror_line.MirrorLine.TheVariants.{Catch}
+use Rattle.envy_serve.specs.Turns.{count_of}
 use Rattle.envy_trace.specs.declared.mirror_reply.MirrorReply.{MirrorReply}
 use Rattle.envy_pair.specs.Bills.{Toll, Charged, Bill}
 use Rattle.envy_pair.specs.Hearing.{caught}
-use Rattle.envy_pair.specs.MirrorRun.{IsLowestOpen, NoneOpen, MayCopy, Follows, CatchesBy, is_lost, is_fault, told_in}
+use Rattle.envy_pair.specs.MirrorRun.{IsLowestOpen, NoneOpen, Follows, CatchesBy, is_lost, is_fault, told_in}
 use Rattle.envy_pair.specs.Restarting.{no_toll}
 use Rattle.envy_pair.specs.Serving.{Past, Known, side_of, state_of, IsSpent, Serves}
-use Rattle.envy_pair.specs.State.{SideState, MirrorState, gone, is_up}
-use Rattle.envy_pair.proofs.Charging.{one_fail, one_bad, Charged-refl, Charged-same, Charged-reckons, Charged-failed, Charged-bad, Charged-woken, Charged-slipped}
+use Rattle.envy_pair.proofs.Charging.{one_fail, one_bad, Charged-same, Charged-reckons, Charged-failed, Charged-bad, Charged-woken, Charged-slipped}
 use Rattle.envy_pair.proofs.Commanding.{past_if, stood_as, sums, spent-kept}
 
 -- ---- the slots of the board are those of the array

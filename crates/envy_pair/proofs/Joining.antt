@@ -1,11 +1,8 @@
 -- After `joined` both sides are Good.
-use Rattle.std.proofs.Common.{◌≡◌, ◌⊎◌, inl, inr, ℕ, Bool, true, false, List, [], ◌∷◌, refl, sym, ◌∙◌, ap, subst}
+use Rattle.std.proofs.Common.{◌≡◌, ◌⊎◌, inl, inr, Bool, true, false, List, [], ◌∷◌, refl, sym, ◌∙◌, ap, subst}
 use Rattle.std.specs.Prelude.{IsTrue}
 use Rattle.envy_base.specs.Array.{Array}
-use Rattle.envy_base.specs.Step.{Command, Answer}
-use Rattle.envy_mirror.specs.Pair.{is_good_by}
-use Rattle.envy_mirror.specs.declared.standing.Standing.{Standing}
-use Rattle.envy_mirror.specs.declared.standing.Standing.TheVariants.{Good, Behind}
+use Rattle.envy_base.specs.Step.{Command}
 use Rattle.envy_trace.specs.declared.line.Line.{Line}
 use Rattle.envy_trace.specs.declared.line.Line.TheVariants.{Empty, Load, Look, Store, Begin, Put, Commit, Abort, Tick, Power, Cut, Bad, Stat}
 use Rattle.envy_trace.specs.declared.mirror_line.MirrorLine.{MirrorLine}
@@ -14,7 +11,7 @@ use Rattle.envy_trace.specs.declared.reply.Reply.TheVariants.{Restarted}
 use Rattle.envy_trace.specs.declared.mirror_reply.MirrorReply.{MirrorReply}
 use Rattle.envy_trace.specs.declared.mirror_reply.MirrorReply.TheVariants.{Array as Plain, Gone, Whole, Waiting, Woken, Copied, Joined, Dead, Slipped}
 use Rattle.envy_pair.specs.Ending.{says_joined, just_joined}
-use Rattle.envy_pair.specs.MirrorRun.{If, MirrorTurn, MirrorRun, DoesMirror, DoesLine, Commands, IsTold, IsAnswered, IsFaulted, Powers, Follows, CatchesBy, undo_all_in}
+use Rattle.envy_pair.specs.MirrorRun.{If, MirrorTurn, MirrorRun, DoesMirror, DoesLine, Commands, IsAnswered, IsFaulted, Powers, Follows, CatchesBy, undo_all_in}
 use Rattle.envy_pair.specs.State.{SideState, MirrorState, cut_chosen, has_good, is_up, revived}
 
 -- these replies don't say so

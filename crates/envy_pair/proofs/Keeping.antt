@@ -1,9 +1,7 @@
 -- A side that never went Gone is Good.
-use Rattle.std.proofs.Common.{◌≡◌, ◌⊎◌, inl, inr, ℕ, zero, suc, ◌+◌, ◌<◌, ◌≤◌, Bool, true, false, List, [], ◌∷◌, refl, sym, ◌∙◌, ap, subst, arith}
-use Rattle.std.specs.Prelude.{IsTrue, if◌then◌else◌, ◌||◌, ◌&&◌}
+use Rattle.std.proofs.Common.{◌≡◌, inl, inr, ℕ, Bool, true, false, List, [], ◌∷◌, refl, sym, ◌∙◌, ap, subst, arith}
 use Rattle.envy_base.specs.Array.{Array}
 use Rattle.envy_base.specs.Step.{Command}
-use Rattle.envy_mirror.specs.Reviving.{which}
 use Rattle.envy_mirror.specs.declared.standing.Standing.{Standing}
 use Rattle.envy_mirror.specs.declared.standing.Standing.TheVariants.{Good, Behind, Gone as IsGone}
 use Rattle.envy_mirror.specs.declared.standing.Which.{Which}
@@ -12,11 +10,10 @@ use Rattle.envy_trace.specs.declared.line.Line.{Line}
 use Rattle.envy_trace.specs.declared.line.Line.TheVariants.{Empty, Load, Look, Store, Begin, Put, Commit, Abort, Tick, Power, Cut, Bad, Stat}
 use Rattle.envy_trace.specs.declared.mirror_line.MirrorLine.{MirrorLine}
 use Rattle.envy_trace.specs.declared.mirror_line.MirrorLine.TheVariants.{Array as OfArray, Side, Catch}
-use Rattle.envy_trace.specs.declared.reply.Reply.{Reply}
-use Rattle.envy_trace.specs.declared.reply.Reply.TheVariants.{Word, Done, Started, Range, Held, Closed, Full, Busy, Fault, Lost, Restarted, Armed, Stat as StatLine}
+use Rattle.envy_trace.specs.declared.reply.Reply.TheVariants.{Fault, Restarted}
 use Rattle.envy_trace.specs.declared.mirror_reply.MirrorReply.{MirrorReply}
-use Rattle.envy_trace.specs.declared.mirror_reply.MirrorReply.TheVariants.{Array as Plain, Gone, Whole, Waiting, Woken, Copied, Joined, Dead, Slipped}
-use Rattle.envy_pair.specs.MirrorRun.{If, MirrorTurn, MirrorRun, DoesMirror, DoesLine, Asks, Commands, IsTold, Darkens, Powers, Follows, CatchesBy, undo_all_in, OnlySays}
+use Rattle.envy_trace.specs.declared.mirror_reply.MirrorReply.TheVariants.{Array as Plain, Gone, Waiting, Woken, Copied, Joined, Dead, Slipped}
+use Rattle.envy_pair.specs.MirrorRun.{If, MirrorTurn, MirrorRun, DoesMirror, DoesLine, Commands, Powers, Follows, CatchesBy, undo_all_in}
 use Rattle.envy_pair.specs.State.{SideState, MirrorState, MayFall, Falls, gone, cut_by, cut_chosen, has_good, is_up, revived, side_in, with_side_in, begun}
 
 -- a side that wasn't Gone yet is Good

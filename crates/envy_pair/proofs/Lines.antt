@@ -1,5 +1,5 @@
 -- What a line does to a pair, from what was heard of its call.
-use Rattle.std.proofs.Common.{◌≡◌, ◌⊎◌, inl, inr, ℕ, ◌+◌, ◌/◌, ◌<◌, ◌≤◌, Bool, true, false, List, [], ◌∷◌, ◌++◌, length, replicate, Option, None, Some, refl, sym, ◌∙◌, ap, subst, arith}
+use Rattle.std.proofs.Common.{◌≡◌, ◌⊎◌, inl, inr, ℕ, ◌+◌, ◌/◌, ◌<◌, Bool, true, false, List, [], ◌∷◌, ◌++◌, Option, None, refl, sym, ◌∙◌, ap, subst, arith}
 use Rattle.std.specs.Prelude.{IsTrue, IfSome, Result, Ok, Err, ◌||◌}
 use Rattle.envy_base.specs.Array.{Array, undone, restarted}
 use Rattle.envy_base.specs.Step.{Command, Answer, Step}
@@ -7,19 +7,19 @@ use Rattle.envy_base.specs.Step.{Load as DoLoad, Look as DoLook, Store as DoStor
 use Rattle.envy_base.specs.Step.{Word as IsWord, Range as IsRange}
 use Rattle.envy_base.specs.declared.counts.Counts.{Counts}
 use Rattle.envy_layout.specs.Sound.{IsSound}
-use Rattle.envy_layout.specs.Stands.{Stands, Holds}
+use Rattle.envy_layout.specs.Stands.{Stands}
 use Rattle.envy_layout.specs.Words.{durable, live}
 use Rattle.envy_map.specs.Fields.{Chart}
 use Rattle.envy_memory.specs.Calls.{fresh, planned}
-use Rattle.envy_memory.specs.Picture.{Picture, counts_of}
+use Rattle.envy_memory.specs.Picture.{counts_of}
 use Rattle.envy_memory.specs.declared.faults.LoadFault.{LoadFault}
 use Rattle.envy_memory.specs.declared.faults.LoadFault.TheVariants.{Off as LoadOff, Range as LoadRange}
 use Rattle.envy_pair.proofs.Sides.{neither}
 use Rattle.envy_mirror.specs.Catching.{CatchesUp}
-use Rattle.envy_mirror.specs.Mirroring.{Mirrors, Gives, Agrees, AgreesBy, Trails, IsFreshAt}
+use Rattle.envy_mirror.specs.Mirroring.{Mirrors, AgreesBy}
 use Rattle.envy_mirror.specs.Pair.{Side, Pair, is_good, is_good_by, side_at, IsDark, IsPair}
 use Rattle.envy_mirror.specs.Reading.{Finds, AsksLowest, Reads}
-use Rattle.envy_mirror.specs.Replies.{Off, load_reply}
+use Rattle.envy_mirror.specs.Replies.{load_reply}
 use Rattle.envy_mirror.specs.Reviving.{which, plan_side, LeavesCut, cut_pair}
 use Rattle.envy_mirror.specs.declared.catching.Caught.{Caught}
 use Rattle.envy_mirror.specs.declared.catching.CatchFault.{CatchFault}
@@ -40,13 +40,13 @@ use Rattle.envy_pair.specs.Bills.{Charged, Sums, Bill}
 use Rattle.envy_pair.specs.Hearing.{shown, Loaded, Looked, Commanded, HearsLine, Hears, caught}
 use Rattle.envy_pair.specs.MirrorRun.{DoesLine, DoesMirror, FailsIn, IsTold, Darkens, said, before_restart, is_power, is_plan, is_lost, is_fault, told_in, undo_all_in}
 use Rattle.envy_pair.specs.Restarting.{no_toll, last_side, IsFallen, IsBack, IsForGood}
-use Rattle.envy_pair.specs.Serving.{Past, Known, side_of, state_of, IsSpent, Serves, IsCall, IsMirrorCall, Costs, LineDone, LineDead, IsDeadBoard, sums_of}
-use Rattle.envy_pair.specs.State.{SideState, MirrorState, cut_chosen, has_good, revived}
+use Rattle.envy_pair.specs.Serving.{Past, Known, side_of, state_of, IsSpent, Serves, IsMirrorCall, Costs, LineDone, LineDead, sums_of}
+use Rattle.envy_pair.specs.State.{MirrorState, cut_chosen, has_good, revived}
 use Rattle.envy_pair.proofs.Charging.{one_plan, Charged-refl, Charged-same, Charged-looked, Charged-planned}
 use Rattle.envy_pair.proofs.Commanding.{sums, quiet-said, stood_as}
 use Rattle.envy_pair.proofs.Commanded.{Lit, Dark, commanded, both-false, fallen-dark, shadows-last}
-use Rattle.envy_pair.proofs.Following.{CaughtUp, caught-up, plus-none}
-use Rattle.envy_pair.proofs.Powering.{Cut as WasCut, cut-known, powers-lit, powers-dark}
+use Rattle.envy_pair.proofs.Following.{caught-up, plus-none}
+use Rattle.envy_pair.proofs.Powering.{cut-known, powers-lit, powers-dark}
 use Rattle.envy_pair.proofs.Returning.{bill-more, charged-back, charged-dark, state-back, mirrors-back}
 
 -- ---- bills

@@ -1,32 +1,22 @@
 -- Power of the chosen side cut by hand, seen without the boards.
-use Rattle.std.proofs.Common.{◌≡◌, ◌⊎◌, inl, inr, ℕ, ◌+◌, ◌≤◌, Bool, true, false, List, [], ◌∷◌, refl, sym, ◌∙◌, ap, subst, arith}
-use Rattle.std.specs.Prelude.{IsTrue, ◌||◌, ◌&&◌, if◌then◌else◌}
-use Rattle.envy_base.specs.Array.{Array, undone, restarted}
-use Rattle.envy_layout.specs.Sound.{IsSound}
-use Rattle.envy_layout.specs.Words.{durable}
-use Rattle.envy_memory.specs.Calls.{fresh}
+use Rattle.std.proofs.Common.{◌≡◌, ℕ, ◌+◌, ◌≤◌, Bool, true, false, [], ◌∷◌, refl, sym, ap, subst, arith}
+use Rattle.std.specs.Prelude.{IsTrue, ◌&&◌, if◌then◌else◌}
 use Rattle.envy_memory.specs.Picture.{Picture}
-use Rattle.envy_mirror.specs.Asking.{cut_by_hand}
-use Rattle.envy_mirror.specs.Mirroring.{Mirrors}
-use Rattle.envy_mirror.specs.Pair.{Side, Pair, is_good, IsDark, IsPair}
-use Rattle.envy_mirror.specs.Reviving.{cut_side, cut_side_by, cut_pair, other_than, with_side, LeavesCut}
+use Rattle.envy_mirror.specs.Pair.{Side, Pair, is_good}
+use Rattle.envy_mirror.specs.Reviving.{cut_side_by, cut_pair, other_than}
 use Rattle.envy_mirror.specs.declared.standing.Standing.{Standing}
 use Rattle.envy_mirror.specs.declared.standing.Standing.TheVariants.{Good, Behind, Gone as IsGone}
 use Rattle.envy_mirror.specs.declared.standing.Which.{Which}
 use Rattle.envy_mirror.specs.declared.standing.Which.TheVariants.{First, Second}
-use Rattle.envy_trace.specs.declared.line.Line.TheVariants.{Power}
-use Rattle.envy_trace.specs.declared.mirror_line.MirrorLine.TheVariants.{Array as OfArray}
 use Rattle.envy_trace.specs.declared.reply.Reply.TheVariants.{Restarted}
-use Rattle.envy_trace.specs.declared.mirror_reply.MirrorReply.{MirrorReply}
 use Rattle.envy_trace.specs.declared.mirror_reply.MirrorReply.TheVariants.{Array as Plain, Gone}
 use Rattle.envy_pair.specs.Bills.{Toll, Charged, Sums, Bill}
-use Rattle.envy_pair.specs.MirrorRun.{If, Powers, FailsIn, undo_all_in, before_restart}
-use Rattle.envy_pair.specs.Restarting.{no_toll, last_side, IsFallen}
+use Rattle.envy_pair.specs.MirrorRun.{If, Powers, undo_all_in}
+use Rattle.envy_pair.specs.Restarting.{no_toll}
 use Rattle.envy_pair.specs.Serving.{Past, Known, side_of, state_of, IsSpent, Serves}
 use Rattle.envy_pair.specs.State.{SideState, MirrorState, cut_by, cut_chosen, has_good, revived}
 use Rattle.envy_pair.proofs.Charging.{one_pull, Charged-refl, Charged-pulled}
 use Rattle.envy_pair.proofs.Commanding.{past_if, spent-kept}
-use Rattle.envy_pair.proofs.Commanded.{both-false, fallen-dark, shadows-last}
 use Rattle.envy_pair.proofs.Following.{plus-none}
 
 -- ---- one side

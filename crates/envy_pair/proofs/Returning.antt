@@ -1,6 +1,6 @@
 -- Power asked for where no side is Good.
-use Rattle.std.proofs.Common.{◌≡◌, ◌≢◌, ◌⊎◌, inl, inr, ℕ, ◌+◌, ◌-◌, ◌^◌, ◌<◌, ◌≤◌, Bool, true, false, List, [], ◌∷◌, length, replicate, refl, sym, ◌∙◌, ap, subst, arith}
-use Rattle.std.specs.Prelude.{IsTrue, Result, Ok, Err}
+use Rattle.std.proofs.Common.{◌≡◌, ℕ, ◌+◌, ◌<◌, Bool, true, false, List, length, replicate, refl, sym, ◌∙◌, ap, subst, arith}
+use Rattle.std.specs.Prelude.{Result, Ok, Err}
 use Rattle.envy_base.specs.Array.{Array}
 use Rattle.envy_base.specs.declared.shape.Shape.{Shape}
 use Rattle.envy_layout.specs.Same.{Counted, Kept}
@@ -15,15 +15,14 @@ use Rattle.envy_mirror.specs.Mirroring.{Mirrors}
 use Rattle.envy_mirror.specs.Pair.{Side, Pair, is_good, is_good_by, side_at, IsDark}
 use Rattle.envy_mirror.specs.Reviving.{Returns, RevivesBy, with_side}
 use Rattle.envy_mirror.specs.declared.standing.Standing.{Standing}
-use Rattle.envy_mirror.specs.declared.standing.Standing.TheVariants.{Good, Behind, Gone}
+use Rattle.envy_mirror.specs.declared.standing.Standing.TheVariants.{Good, Gone}
 use Rattle.envy_mirror.specs.declared.standing.Which.{Which}
 use Rattle.envy_mirror.specs.declared.standing.Which.TheVariants.{First, Second}
 use Rattle.envy_pair.specs.Bills.{Charged, Bill, Sums, Toll}
-use Rattle.envy_pair.specs.Restarting.{no_toll, last_side, IsFallen, IsStillDark, IsBack, IsForGood, Restarts}
-use Rattle.envy_pair.specs.Serving.{Past, Known, side_of, state_of, IsSpent}
+use Rattle.envy_pair.specs.Restarting.{no_toll, last_side, IsFallen, IsStillDark, IsBack, IsForGood}
+use Rattle.envy_pair.specs.Serving.{Past, Known, side_of, state_of}
 use Rattle.envy_pair.specs.State.{SideState, MirrorState, side_in, with_side_in, revived}
 use Rattle.envy_pair.proofs.Charging.{add_tolls, Charged-refl, Charged-trans, Charged-woken}
-use Rattle.envy_pair.proofs.Commanding.{spent-kept}
 
 -- ---- one of two sides
 

@@ -1,5 +1,5 @@
 -- Facts of one side of a pair.
-use Rattle.std.proofs.Common.{◌≡◌, Bool, true, false, List, Option, None, refl, sym, ◌∙◌}
+use Rattle.std.proofs.Common.{◌≡◌, Bool, true, false, List, Option, None, sym, ◌∙◌}
 use Rattle.std.specs.Prelude.{IsTrue, ◌||◌}
 use Rattle.envy_base.specs.Array.{Array}
 use Rattle.envy_base.specs.Step.{Command}

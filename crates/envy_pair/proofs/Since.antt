@@ -1,22 +1,19 @@
 -- What a pair did in a trace, from what it does in one line.
-use Rattle.std.proofs.Common.{◌≡◌, ◌⊎◌, inl, inr, ℕ, ◌+◌, ◌<◌, ◌≤◌, List, [], ◌∷◌, refl, sym, ◌∙◌, ap, subst, arith}
+use Rattle.std.proofs.Common.{◌≡◌, ℕ, List, ◌∷◌, refl, arith}
 use Rattle.std.specs.Prelude.{Ok, ◌↔◌}
 use Rattle.envy_io.specs.Streams.{Drain}
 use Rattle.envy_mirror.specs.Pair.{Pair}
-use Rattle.envy_mirror.specs.Reviving.{which}
 use Rattle.envy_serve.specs.declared.service.Obeyed.{Obeyed}
 use Rattle.envy_serve.specs.declared.service.Obeyed.TheVariants.{Done, WriteFault, Dead}
 use Rattle.envy_serve.specs.Obeys.{Obeys}
-use Rattle.envy_serve.specs.Turns.{count_lines, count_replies, count_of, one_if}
 use Rattle.envy_trace.specs.Mirror.{mirror_line_of, ReadsMirror}
-use Rattle.envy_trace.specs.declared.line.Line.{Line}
 use Rattle.envy_trace.specs.declared.line.Line.TheVariants.{Empty, Load, Look, Store, Begin, Put, Commit, Abort, Tick, Power, Cut, Bad, Stat}
 use Rattle.envy_trace.specs.declared.mirror_line.MirrorLine.{MirrorLine}
 use Rattle.envy_trace.specs.declared.mirror_line.MirrorLine.TheVariants.{Array as OfArray, Side, Catch}
 use Rattle.envy_trace.specs.declared.mirror_reply.MirrorReply.{MirrorReply}
 use Rattle.envy_pair.specs.Bills.{Bill}
 use Rattle.envy_pair.specs.MirrorRun.{MirrorTurn, mirror_grammar, before_restart}
-use Rattle.envy_pair.specs.Serving.{Known, Costs, LineDone, LineDead, ObeysMirror, IsServed, Start, MirroredSince, FellSince, sums_since, sums_of}
+use Rattle.envy_pair.specs.Serving.{Known, Costs, LineDone, LineDead, ObeysMirror, IsServed, Start, MirroredSince, FellSince, sums_since}
 use Rattle.envy_pair.proofs.Charging.{add_tolls, Charged-trans}
 
 -- a line's bill joins that of the lines before it

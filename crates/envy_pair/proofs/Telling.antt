@@ -1,6 +1,6 @@
 -- A line with its replies, from what was heard, written and asked for.
-use Rattle.std.proofs.Common.{◌≡◌, ◌⊎◌, inl, inr, ℕ, ◌<◌, Bool, true, false, List, [], ◌∷◌, ◌++◌, refl, sym, ◌∙◌, ap, subst}
-use Rattle.std.specs.Prelude.{IsTrue, Result, Ok, Err, ◌||◌}
+use Rattle.std.proofs.Common.{◌≡◌, ◌⊎◌, inl, inr, ℕ, ◌<◌, Bool, true, false, List, [], ◌∷◌, ◌++◌, refl, sym, ◌∙◌, subst}
+use Rattle.std.specs.Prelude.{Result, Ok, Err, ◌||◌}
 use Rattle.envy_io.specs.declared.source.Failed.{Failed}
 use Rattle.envy_io.specs.Lines.{newline}
 use Rattle.envy_io.specs.Streams.{Drain, WritesAll}

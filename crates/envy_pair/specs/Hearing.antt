@@ -1,5 +1,5 @@
 -- What the calls of a pair answer to the lines of a trace.
-use Rattle.std.specs.Prelude.{◌≡◌, ℕ, ◌/◌, Bool, true, IsTrue, Result, Ok, Err}
+use Rattle.std.specs.Prelude.{◌≡◌, ℕ, ◌/◌, IsTrue, Result, Ok, Err}
 use Rattle.envy_base.specs.Array.{Array}
 use Rattle.envy_base.specs.Step.{Command}
 use Rattle.envy_base.specs.Step.{Load as DoLoad, Look as DoLook, Store as DoStore, Begin as DoBegin, Put as DoPut, Commit as DoCommit, Abort as DoAbort, Tick as DoTick}
@@ -17,7 +17,7 @@ use Rattle.envy_mirror.specs.declared.catching.Caught.TheVariants.{Whole as Caug
 use Rattle.envy_mirror.specs.declared.catching.CatchFault.{CatchFault}
 use Rattle.envy_mirror.specs.declared.catching.CatchFault.TheVariants.{Off as CatchOff, Dead as CatchDead, Slipped as CatchSlipped, Bad as CatchBad}
 use Rattle.envy_trace.specs.declared.line.Line.{Line}
-use Rattle.envy_trace.specs.declared.line.Line.TheVariants.{Empty, Load, Look, Store, Begin, Put, Commit, Abort, Tick, Power, Cut, Bad, Stat}
+use Rattle.envy_trace.specs.declared.line.Line.TheVariants.{Load, Look, Store, Begin, Put, Commit, Abort, Tick, Cut, Bad, Stat}
 use Rattle.envy_trace.specs.declared.mirror_line.MirrorLine.{MirrorLine}
 use Rattle.envy_trace.specs.declared.mirror_line.MirrorLine.TheVariants.{Array as OfArray, Side, Catch}
 use Rattle.envy_trace.specs.declared.reply.Reply.{Reply}

@@ -10,7 +10,6 @@ use Rattle.envy_mirror.specs.Catching.{IsLowestStale, NoneStale}
 use Rattle.envy_mirror.specs.Replies.{Said, marked}
 use Rattle.envy_mirror.specs.Reviving.{which}
 use Rattle.envy_mirror.specs.declared.standing.Standing.TheVariants.{Good, Behind, Gone as IsGone}
-use Rattle.envy_mirror.specs.declared.standing.Which.{Which}
 use Rattle.envy_serve.specs.Grammar.{Grammar}
 use Rattle.envy_serve.specs.Turns.{Turn, Leads}
 use Rattle.envy_trace.specs.Mirror.{mirror_line_of, mirror_bytes}
@@ -22,7 +21,7 @@ use Rattle.envy_trace.specs.declared.reply.Reply.{Reply}
 use Rattle.envy_trace.specs.declared.reply.Reply.TheVariants.{Word, Done, Started, Range, Held, Closed, Full, Busy, Fault, Lost as IsLost, Restarted, Armed, Stat as StatLine}
 use Rattle.envy_trace.specs.declared.mirror_reply.MirrorReply.{MirrorReply}
 use Rattle.envy_trace.specs.declared.mirror_reply.MirrorReply.TheVariants.{Array as Plain, Gone, Whole, Waiting, Woken, Copied, Joined, Dead, Slipped}
-use Rattle.envy_pair.specs.State.{SideState, MirrorState, Falls, has_good, is_up, side_in, with_side_in, gone, cut_chosen, revived}
+use Rattle.envy_pair.specs.State.{SideState, MirrorState, Falls, has_good, is_up, gone, cut_chosen, revived}
 
 -- one of two facts, by a test
 abbrev pub If : Bool → Type 0 → Type 0 → Type 0

@@ -1,5 +1,5 @@
 -- A pair of which no side is Good, and the return of power.
-use Rattle.std.specs.Prelude.{◌≡◌, ◌⊎◌, ℕ, Bool, true, false, [], ◌∷◌, length, replicate, Result, IsOk, IsErr}
+use Rattle.std.specs.Prelude.{◌≡◌, ◌⊎◌, Bool, true, false, [], ◌∷◌, length, replicate, Result, IsOk, IsErr}
 use Rattle.envy_io.specs.declared.source.Failed.{Failed}
 use Rattle.envy_io.specs.Streams.{Drain}
 use Rattle.envy_layout.specs.Sound.{IsSound}

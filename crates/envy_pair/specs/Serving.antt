@@ -1,12 +1,11 @@
 -- What a pair of memories is between lines, and what one line does to it.
-use Rattle.std.specs.Prelude.{◌≡◌, ◌⊎◌, ℕ, ◌+◌, ◌≤◌, ◌<◌, Bool, true, false, IsTrue, IfSome, List, [], ◌∷◌, length, Result, Err, IsOk, IsErr, ⊤, refl, nat_lt}
+use Rattle.std.specs.Prelude.{◌≡◌, ◌⊎◌, ℕ, ◌+◌, ◌≤◌, ◌<◌, Bool, true, false, IsTrue, IfSome, List, [], ◌∷◌, length, Err, ⊤, refl, nat_lt}
 use Rattle.std.proofs.lemmas.Bool.{lt-ltb}
 use Rattle.envy_base.specs.Array.{Array}
-use Rattle.envy_io.specs.declared.source.Failed.{Failed}
 use Rattle.envy_io.specs.Streams.{Drain}
 use Rattle.envy_layout.specs.Sound.{IsSound}
 use Rattle.envy_layout.specs.Words.{durable}
-use Rattle.envy_memory.specs.Picture.{Picture, counts_of}
+use Rattle.envy_memory.specs.Picture.{counts_of}
 use Rattle.envy_mirror.specs.Mirroring.{Mirrors}
 use Rattle.envy_mirror.specs.Pair.{Side as PairSide, Pair, side_at}
 use Rattle.envy_mirror.specs.Reviving.{which}
@@ -24,7 +23,7 @@ use Rattle.envy_trace.specs.declared.mirror_line.MirrorLine.TheVariants.{Array a
 use Rattle.envy_trace.specs.declared.mirror_reply.MirrorReply.{MirrorReply}
 use Rattle.envy_pair.specs.Bills.{Sums, Bill}
 use Rattle.envy_pair.specs.MirrorRun.{MirrorTurn, DoesMirror, MirrorRun, FailsIn, mirror_grammar, before_restart, is_power, is_plan, is_lost, is_fault, just_told, told_in}
-use Rattle.envy_pair.specs.State.{SideState, MirrorState, side_in}
+use Rattle.envy_pair.specs.State.{SideState, MirrorState}
 
 -- what is known of a side besides its memory: how often it went Gone, and whether it was found without lives
 pub record Past : Type 0 where

@@ -1,6 +1,6 @@
 use Rattle.std.proofs.Common.{refl}
-use Rattle.envy_base.specs.Step.{Done as IsDone, Started as IsStarted, Range as IsRange, Held as IsHeld, Closed as IsClosed, Full as IsFull, Busy as IsBusy}
-use Rattle.envy_mirror.specs.Replies.{Off, Bad as WasBad, Said}
+use Rattle.envy_base.specs.Step.{Done as IsDone, Closed as IsClosed}
+use Rattle.envy_mirror.specs.Replies.{Off, Said}
 use Rattle.envy_pair.proofs.answering.commit.Goals as goal
 
 pub returns-in-Ok : goal.returns-in-Ok

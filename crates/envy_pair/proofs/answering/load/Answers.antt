@@ -1,6 +1,6 @@
 use Rattle.std.proofs.Common.{refl, ◌/◌}
 use Rattle.std.specs.Prelude.{Ok, Err}
-use Rattle.envy_memory.specs.declared.faults.LoadFault.TheVariants.{Range, Off}
+use Rattle.envy_memory.specs.declared.faults.LoadFault.TheVariants.{Range}
 use Rattle.envy_pair.specs.Serving.{no_past}
 use Rattle.envy_pair.proofs.Lines.{load-lit}
 use Rattle.envy_pair.proofs.answering.load.Goals as goal

@@ -1,4 +1,4 @@
-use Rattle.std.proofs.Common.{sym, ◌∙◌, rules}
+use Rattle.std.proofs.Common.{sym, ◌∙◌}
 use Rattle.envy_pair.proofs.Commanded.{fallen-dark}
 use Rattle.envy_pair.proofs.Telling.{dark-of, call-done, call-failed, call-recovers}
 use Rattle.envy_pair.proofs.obeying.obey_call.Goals as goal

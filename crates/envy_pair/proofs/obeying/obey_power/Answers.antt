@@ -1,5 +1,4 @@
 use Rattle.std.proofs.Common.{sym, ◌∙◌}
-use Rattle.envy_pair.specs.Serving.{Known, Serves}
 use Rattle.envy_pair.proofs.Commanded.{fallen-dark}
 use Rattle.envy_pair.proofs.Telling.{dark-of, power-done, power-failed, power-recovers}
 use Rattle.envy_pair.proofs.obeying.obey_power.Goals as goal
