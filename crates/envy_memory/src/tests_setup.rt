@@ -1,5 +1,5 @@
 //! What the tests of a memory over a board of flash chips share.
-ghost use Rattle.std.specs.Prelude.{◌≡◌, ◌<◌, IsErr, Err, IfOk};
+ghost use Rattle.std.specs.Prelude.{◌≡◌, IsErr, Err, IfOk};
 ghost use Rattle.envy_map.specs.Fields.{chart};
 ghost use Rattle.envy_bench.specs.Board.{board_state};
 ghost use Rattle.envy_bench.specs.Parts.{new_state};
