@@ -22,8 +22,6 @@ mod loading;
 #[cfg(test)]
 mod long_tests;
 mod mirror_run;
-#[cfg(test)]
-mod mirror_tests;
 mod obey;
 mod plain_run;
 #[cfg(test)]
