@@ -1,0 +1,189 @@
+//! Images that are taken up, and those that aren't.
+
+use crate::fixture::{End, Given, calm, check_end, check_text, joined, told, with_byte, written};
+use std::alloc::Global;
+use std::process::Abort;
+use std::test::Fail;
+
+/// The smallest board: 8 rows of 256 bytes, and 161 words of SRAM.
+const SMALLEST: [&str; 7] = [
+    "save",
+    "--segments=4",
+    "--rows=2",
+    "--pages=3",
+    "--shadows=1",
+    "--frames=2",
+    "--entries=1",
+];
+
+/// How many bytes its image has: 32 and 2,048 and 1,288.
+const SIZE: usize = 3368;
+
+const WORDS: [&str; 2] = ["audit", "resume"];
+
+/// The end of a run that refuses an image so.
+const fn refused(status: u8, why: u8, taken: u64, made: bool) -> End {
+    End {
+        status,
+        why,
+        lines: 0,
+        taken,
+        made,
+    }
+}
+
+/// Both words refuse these bytes so.
+fn check_refused(
+    rt: &(impl Abort + Alloc<A = Global>),
+    bytes: &[u8],
+    end: End,
+) -> Result<(), Fail> {
+    for word in WORDS {
+        check_end(rt, &[word], &calm(bytes), end, b"")?;
+    }
+    Ok(())
+}
+
+#[test]
+fn an_image_is_judged(rt: HostRuntime) -> Result<(), Fail> {
+    let image = written(&rt, &["save"], b"")?;
+    assert!(&rt; image.len() == 37272);
+    check_text(&rt, &["audit"], &image, b"sound\n")?;
+    let broken = with_byte(rt.alloc(), &image, 32864, 3)?;
+    check_text(&rt, &["audit"], &broken, b"unsound a\n")?;
+    check_end(
+        &rt,
+        &["resume"],
+        &calm(&broken),
+        refused(10, 5, 37272, true),
+        b"",
+    )?;
+    let dirty = with_byte(rt.alloc(), &image, 32, 0)?;
+    check_text(&rt, &["audit"], &dirty, b"unsound f\n")?;
+    match image.get(..37271) {
+        Some(short) => check_refused(&rt, short, refused(10, 1, 37271, true)),
+        None => Err(Fail::new("too short")),
+    }
+}
+
+#[test]
+fn a_trace_behind_an_image_is_answered(rt: HostRuntime) -> Result<(), Fail> {
+    let image = written(&rt, &["save"], b"store 5 1\nbegin\nput 0 5 2\n")?;
+    let resumed = joined(rt.alloc(), &image, b"load 5\nbegin\n")?;
+    check_text(&rt, &["resume"], &resumed, b"1\ntx 0\n")?;
+    // an audit leaves what is behind the image
+    let judged = End {
+        status: 0,
+        ..refused(0, 0, 37272, true)
+    };
+    check_end(&rt, &["audit"], &calm(&resumed), judged, b"sound\n")?;
+    // no bytes of the image are lines, and all are counted
+    let stuck = joined(rt.alloc(), &image, b"load 5\nfly\n")?;
+    let end = End {
+        lines: 1,
+        ..refused(5, 1, 37283, true)
+    };
+    check_end(&rt, &["resume"], &calm(&stuck), end, b"1\n")
+}
+
+#[test]
+fn an_image_may_stop_at_any_byte(rt: HostRuntime) -> Result<(), Fail> {
+    let image = written(&rt, &SMALLEST, b"store 3 4\nbegin\nput 0 40 5\ntick\n")?;
+    assert!(&rt; image.len() == SIZE);
+    for n in 0..SIZE {
+        if let Some(front) = image.get(..n) {
+            check_refused(&rt, front, refused(10, 1, n as u64, n >= 32))?;
+        }
+    }
+    Ok(())
+}
+
+#[test]
+fn a_shape_is_checked(rt: HostRuntime) -> Result<(), Fail> {
+    let image = written(&rt, &SMALLEST, b"")?;
+    // a byte of a number of the shape, and what it becomes
+    for (at, byte) in [
+        (8, 3),
+        (9, 17),
+        (12, 1),
+        (14, 2),
+        (16, 0),
+        (16, 4),
+        (20, 2),
+        (23, 255),
+        (24, 1),
+        (26, 2),
+        (28, 0),
+        (30, 2),
+        (11, 255),
+    ] {
+        let misshapen = with_byte(rt.alloc(), &image, at, byte)?;
+        check_refused(&rt, &misshapen, refused(10, 3, 32, false))?;
+    }
+    for at in 0..8 {
+        let unmarked = with_byte(rt.alloc(), &image, at, b'x')?;
+        check_refused(&rt, &unmarked, refused(10, 2, 8, false))?;
+    }
+    Ok(())
+}
+
+#[test]
+fn the_rules_of_the_words_come_before_the_rest(rt: HostRuntime) -> Result<(), Fail> {
+    let image = written(&rt, &SMALLEST, b"")?;
+    for words in [
+        ["resume", "--policy=hybrid", "--part=4"],
+        ["resume", "--policy=hybrid", "--part=0"],
+        ["resume", "--policy=fifo", "--limit=0"],
+        ["resume", "--policy=greedy", "--mark=0"],
+        ["resume", "--policy=greedy", "--mark=3"],
+    ] {
+        for (n, why) in [(31, 1), (32, 4), (SIZE - 1, 4), (SIZE, 4)] {
+            if let Some(front) = image.get(..n) {
+                let taken = n.min(32) as u64;
+                check_end(
+                    &rt,
+                    &words,
+                    &calm(front),
+                    refused(10, why, taken, false),
+                    b"",
+                )?;
+            }
+        }
+    }
+    Ok(())
+}
+
+#[test]
+fn a_source_may_fail_within_an_image(rt: HostRuntime) -> Result<(), Fail> {
+    let image = written(&rt, &SMALLEST, b"store 3 4\n")?;
+    // 8 and 24 bytes of the head, 8 rows and 161 words, each of which is asked for by itself
+    for call in 1..172 {
+        let fails = Given {
+            source_fails: call,
+            ..calm(&image)
+        };
+        for word in WORDS {
+            let end = told(rt.alloc(), &[word], &fails)?.end;
+            assert!(&rt; end == refused(3, 0, end.taken, call > 2));
+            assert!(&rt; end.taken < SIZE as u64);
+        }
+    }
+    Ok(())
+}
+
+#[test]
+fn a_sink_may_fail_within_an_image(rt: HostRuntime) -> Result<(), Fail> {
+    let image = written(&rt, &SMALLEST, b"store 3 4\n")?;
+    // the mark, six numbers, 256 words of rows and 161 of SRAM, and the flush
+    for call in 1..426 {
+        let fails = Given {
+            sink_fails: call,
+            ..calm(b"store 3 4\n")
+        };
+        let told = told(rt.alloc(), &SMALLEST, &fails)?;
+        assert!(&rt; told.end.status == 4 && told.end.lines == 1);
+        assert!(&rt; image.starts_with(&told.text));
+        assert!(&rt; (told.text.len() == SIZE) == (call == 425));
+    }
+    Ok(())
+}
