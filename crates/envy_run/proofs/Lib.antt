@@ -22,5 +22,6 @@ pub mod Replying
 pub mod Reporting
 pub mod Resumed
 pub mod Saved
+pub mod Spent
 pub mod Traced
 pub mod Words

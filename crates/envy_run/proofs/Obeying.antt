@@ -27,6 +27,7 @@ use Rattle.envy_serve.specs.declared.service.Obeyed.{Obeyed}
 use Rattle.envy_serve.specs.declared.service.Obeyed.TheVariants.{Done, WriteFault, Dead}
 use Rattle.envy_trace.specs.Spelling.{Reads}
 use Rattle.envy_run.specs.Answers.{IsCall, IsServed, AnswersTo, AnswerLicence, LosesIn}
+use Rattle.envy_run.specs.Below.{WorksOf}
 use Rattle.envy_run.specs.Licence.{Licence, RoseOver}
 use Rattle.envy_run.specs.Obeys.{ObeysLine, Licensed, LineDone, LineDead, before_restart}
 use Rattle.envy_run.specs.Restarts.{Recovers, IsStillOff, IsBack}
@@ -36,10 +37,12 @@ use Rattle.envy_run.specs.Turns.{Replies, trace_grammar, is_power, is_plan, is_l
 use Rattle.envy_base.specs.declared.counts.Counts.{Counts}
 use Rattle.envy_run.specs.Counters.{is_empty}
 use Rattle.envy_run.specs.Hits.{accessed}
-use Rattle.envy_run.specs.Tells.{Notes, Translates, hits_after, misses_after}
+use Rattle.envy_run.specs.Spending.{Spends, programs_of, erases_of}
+use Rattle.envy_run.specs.Tells.{CountsStay, Notes, Translates, hits_after, misses_after}
 use Rattle.envy_run.proofs.Noting.{Tallies-stay, Tallies-trans, notes-empty, swaps-stay}
 use Rattle.envy_run.proofs.Recovering.{Licence-trans}
 use Rattle.envy_run.proofs.Replying.{Licence-refl, up-low}
+use Rattle.envy_run.proofs.Spent.{spends-line, spends-none, spends-stay}
 
 -- a licence under equal numbers
 pub Licence-as : (a b c d i j k l : ℕ) (p q : Chart) → a ≡ i → b ≡ j → c ≡ k → d ≡ l → Licence a b c d p q → Licence i j k l p q
@@ -90,26 +93,27 @@ texts-one reply = append-nil (reply_bytes reply ++ newline ∷ [])
 pub one-more : (x : ℕ) → x ≡ x + 0
 one-more x = omega arith
 
-done-so : (May : Counts → Type 0) (m : Array) (line : Line) (reply : Reply) (old c : Picture) → IsCall line → IsTrue c.chart.on → AnswersTo May m line reply c.chart → AnswerLicence line reply old.chart c.chart → Notes line (reply ∷ []) old c → (left : Array) × LineDone May m line (reply ∷ []) left old c
-done-so May m line reply old c call on a licence notes =
+done-so : (May : Counts → Type 0) (m : Array) (line : Line) (reply : Reply) (old c : Picture) → IsCall line → IsTrue c.chart.on → AnswersTo May m line reply c.chart → AnswerLicence line reply old.chart c.chart → WorksOf line old.chart c.chart → Notes line (reply ∷ []) old c → (left : Array) × LineDone May m line (reply ∷ []) left old c
+done-so May m line reply old c call on a licence works notes =
     let (left, replies, stands) = answered May m line reply c.chart on a in (
       left,
       record {
         does = inr (inl (reply, refl, replies));
         stands = stands;
         licensed = Licence-as 0 (one_if (is_plan line)) (one_if (is_lost reply)) (one_if (is_fault reply)) (one_if (is_power line)) (one_if (is_plan line)) (one_if (is_lost reply) + 0) (one_if (is_fault reply) + 0) old.chart c.chart (sym (ap one_if (no-power line call).0)) refl (one-more (one_if (is_lost reply))) (one-more (one_if (is_fault reply))) licence;
+        spent = spends-line line old.chart c.chart works;
         notes = notes;
       },
     )
 
-pub call-done : (May : Counts → Type 0) (m : Array) (line : Line) (reply : Reply) (old c : Picture) (sink then_sink : Drain) → IsCall line → IsTrue c.chart.on → AnswersTo May m line reply c.chart → AnswerLicence line reply old.chart c.chart → Notes line (reply ∷ []) old c → WritesAll sink (reply_bytes reply ++ newline ∷ []) (Ok tt) then_sink → ObeysLine May m line Done old c sink then_sink
-call-done May m line reply old c sink then_sink call on a licence notes (whole, faults, after) =
-    let (left, done) = done-so May m line reply old c call on a licence notes in
+pub call-done : (May : Counts → Type 0) (m : Array) (line : Line) (reply : Reply) (old c : Picture) (sink then_sink : Drain) → IsCall line → IsTrue c.chart.on → AnswersTo May m line reply c.chart → AnswerLicence line reply old.chart c.chart → WorksOf line old.chart c.chart → Notes line (reply ∷ []) old c → WritesAll sink (reply_bytes reply ++ newline ∷ []) (Ok tt) then_sink → ObeysLine May m line Done old c sink then_sink
+call-done May m line reply old c sink then_sink call on a licence works notes (whole, faults, after) =
+    let (left, done) = done-so May m line reply old c call on a licence works notes in
     (reply ∷ [], left, done, record { whole = whole ∙ ap (with_end sink.written) (sym (texts-one reply)); faults = faults })
 
-pub call-failed : (May : Counts → Type 0) (m : Array) (line : Line) (reply : Reply) (old c : Picture) (sink then_sink : Drain) (failed : Failed) → IsCall line → IsTrue c.chart.on → AnswersTo May m line reply c.chart → AnswerLicence line reply old.chart c.chart → Notes line (reply ∷ []) old c → WritesAll sink (reply_bytes reply ++ newline ∷ []) (Err failed) then_sink → ObeysLine May m line WriteFault old c sink then_sink
-call-failed May m line reply old c sink then_sink failed call on a licence notes (n, lt, front, faults) =
-    let (left, done) = done-so May m line reply old c call on a licence notes in
+pub call-failed : (May : Counts → Type 0) (m : Array) (line : Line) (reply : Reply) (old c : Picture) (sink then_sink : Drain) (failed : Failed) → IsCall line → IsTrue c.chart.on → AnswersTo May m line reply c.chart → AnswerLicence line reply old.chart c.chart → WorksOf line old.chart c.chart → Notes line (reply ∷ []) old c → WritesAll sink (reply_bytes reply ++ newline ∷ []) (Err failed) then_sink → ObeysLine May m line WriteFault old c sink then_sink
+call-failed May m line reply old c sink then_sink failed call on a licence works notes (n, lt, front, faults) =
+    let (left, done) = done-so May m line reply old c call on a licence works notes in
     (reply ∷ [], left, done, record { count = n; front = front ∙ ap (λ (t : List ℕ). with_end sink.written (take n t)) (sym (texts-one reply)); faults = faults })
 
 -- no command changes how many pages may be owned
@@ -276,8 +280,8 @@ Notes-power old c new is back =
       empty = λ e. absurd (let never = e in cc);
     }
 
-pub call-recovers : (May : Counts → Type 0) (m : Array) (line : Line) (reply : Reply) (old c new : Picture) (sink mid_sink then_sink : Drain) (wrote : Result Unit Failed) (obeyed : Obeyed) → IsCall line → Stands old.chart m → c.chart.shape ≡ old.chart.shape → reply ≡ Lost → AnswersTo May m line reply c.chart → AnswerLicence line reply old.chart c.chart → Notes line (reply ∷ []) old c → WritesAll sink (reply_bytes reply ++ newline ∷ []) wrote mid_sink → Recovers wrote obeyed c new mid_sink then_sink → ObeysLine May m line obeyed old new sink then_sink
-call-recovers May m line reply old c new sink mid_sink then_sink wrote obeyed call stood shape is a licence notes writes recovers =
+pub call-recovers : (May : Counts → Type 0) (m : Array) (line : Line) (reply : Reply) (old c new : Picture) (sink mid_sink then_sink : Drain) (wrote : Result Unit Failed) (obeyed : Obeyed) → IsCall line → Stands old.chart m → c.chart.shape ≡ old.chart.shape → reply ≡ Lost → AnswersTo May m line reply c.chart → AnswerLicence line reply old.chart c.chart → WorksOf line old.chart c.chart → Notes line (reply ∷ []) old c → WritesAll sink (reply_bytes reply ++ newline ∷ []) wrote mid_sink → Recovers wrote obeyed c new mid_sink then_sink → ObeysLine May m line obeyed old new sink then_sink
+call-recovers May m line reply old c new sink mid_sink then_sink wrote obeyed call stood shape is a licence works notes writes recovers =
     lost-so (subst (λ (r : Reply). AnswersTo May m line r c.chart) is a) (subst (λ (r : Reply). AnswerLicence line r old.chart c.chart) is licence) wrote obeyed (subst (λ (r : Reply). WritesAll sink (reply_bytes r ++ newline ∷ []) wrote mid_sink) is writes) recovers
   where
     first : List ℕ
@@ -297,13 +301,16 @@ call-recovers May m line reply old c new sink mid_sink then_sink wrote obeyed ca
     licensed-one : AnswerLicence line Lost old.chart c.chart → Licence 0 0 0 0 c.chart new.chart → Licensed line (Lost ∷ []) old.chart new.chart
     licensed-one x y = Licence-as 0 (one_if (is_plan line) + 0) 1 0 (one_if (is_power line)) (one_if (is_plan line)) 1 0 old.chart new.chart (sym (ap one_if (no-power line call).0)) (sym (one-more (one_if (is_plan line)))) refl refl (Licence-trans 0 (one_if (is_plan line)) 1 0 0 0 0 0 old.chart c.chart new.chart x y)
 
+    spent-so : CountsStay c new → Spends (programs_of old.chart.shape.rows line) (erases_of line) old.chart new.chart
+    spent-so stay = spends-stay (programs_of old.chart.shape.rows line) (erases_of line) old.chart c new (spends-line line old.chart c.chart works) stay
+
     notes-back : IsBack c new → Notes line (Lost ∷ Restarted ∷ []) old new
     notes-back back = Notes-restarted line old c new (not-empty line call) (subst (λ (r : Reply). Notes line (r ∷ []) old c) is notes) back
 
     done-both : AnswerLicence line Lost old.chart c.chart → (loses : LosesIn m line c.chart) → IsBack c new → (left : Array) × LineDone May m line (Lost ∷ Restarted ∷ []) left old new
     done-both x loses back =
         let (left, lost, stands) = back-so loses back in
-        (left, record { does = inr (inr (inl (refl, record { command = loses.command; is = loses.is; lost = lost }))); stands = stands; licensed = licensed-both x back.licence; notes = notes-back back })
+        (left, record { does = inr (inr (inl (refl, record { command = loses.command; is = loses.is; lost = lost }))); stands = stands; licensed = licensed-both x back.licence; spent = spent-so back.counts; notes = notes-back back })
 
     dead-so : AnswerLicence line Lost old.chart c.chart → (loses : LosesIn m line c.chart) → IsStillOff c new → new.chart.lives ≡ 0 → LineDead m line old.chart new.chart
     dead-so x loses still dead =
@@ -316,6 +323,7 @@ call-recovers May m line reply old c new sink mid_sink then_sink wrote obeyed ca
           dead = dead;
           found = (left, inl (record { command = loses.command; is = loses.is; lost = lost }), still.durable ∙ words);
           licensed = subst (λ (rs : List Reply). Licensed line rs old.chart new.chart) (sym (no-power line call).1) (licensed-one x still.licence);
+          spent = spent-so still.counts;
         }
 
     lost-so : LosesIn m line c.chart → AnswerLicence line Lost old.chart c.chart → (wrote : Result Unit Failed) (obeyed : Obeyed) → WritesAll sink first wrote mid_sink → Recovers wrote obeyed c new mid_sink then_sink → ObeysLine May m line obeyed old new sink then_sink
@@ -352,11 +360,15 @@ power-recovers May m old c new sink then_sink obeyed stood is (sound, words) rec
       bads = record { kept = omega arith; rise = λ lt. omega arith };
     })
 
+    spent-so : CountsStay c new → Spends 0 0 old.chart new.chart
+    spent-so stay = spends-none 0 0 old.chart new.chart (stay.begun ∙ ap (λ (p : Picture). p.chart.begun) is) (stay.erases ∙ ap (λ (p : Picture). sum p.chart.erases) is)
+
     done-so_power : IsBack c new → LineDone May m PowerLine (Restarted ∷ []) (restarted m) old new
     done-so_power back = record {
       does = inr (inr (inr (refl, refl, refl)));
       stands = subst (λ (s : ℕ). Stands new.chart (fresh s (undone m))) (sym shadows) (subst (λ (ws : List ℕ). Stands new.chart (fresh c.chart.shape.shadows ws)) words back.stands);
       licensed = Licence-trans 1 0 0 0 0 0 0 0 old.chart c.chart new.chart cut back.licence;
+      spent = spent-so back.counts;
       notes = Notes-power old c new is back;
     }
 
@@ -365,14 +377,14 @@ power-recovers May m old c new sink then_sink obeyed stood is (sound, words) rec
     at WriteFault (back, inl (err, same)) = absurd (let never = err in cc)
     at WriteFault (back, inr (ok, part)) = (Restarted ∷ [], restarted m, done-so_power back, part)
     at Dead (still, dead, same) = (
-      record { off = still.off; magic = still.magic ∙ ap (λ (x : Picture). x.chart.fields.magic) is ∙ Holds.magic stood.holds; version = still.version ∙ ap (λ (x : Picture). x.chart.fields.version) is ∙ Holds.version stood.holds; sound = still.sound sound; dead = dead; found = (restarted m, inr (refl, refl), still.durable ∙ words); licensed = Licence-trans 1 0 0 0 0 0 0 0 old.chart c.chart new.chart cut still.licence },
+      record { off = still.off; magic = still.magic ∙ ap (λ (x : Picture). x.chart.fields.magic) is ∙ Holds.magic stood.holds; version = still.version ∙ ap (λ (x : Picture). x.chart.fields.version) is ∙ Holds.version stood.holds; sound = still.sound sound; dead = dead; found = (restarted m, inr (refl, refl), still.durable ∙ words); licensed = Licence-trans 1 0 0 0 0 0 0 0 old.chart c.chart new.chart cut still.licence; spent = spent-so still.counts },
       inl (subst (λ (d : Drain). Written [] sink d) (sym same) (record { whole = sym (with_end-nil sink.written); faults = omega arith })),
     )
 
 -- an empty line does nothing
 pub empty-done : (May : Counts → Type 0) (m : Array) (line : Line) (c : Picture) (sink : Drain) → line ≡ EmptyLine → Stands c.chart m → ObeysLine May m line Done c c sink sink
 empty-done May m line c sink is stood = subst (λ (l : Line). ObeysLine May m l Done c c sink sink) (sym is)
-    ([], m, record { does = inl (refl, refl, refl); stands = stood; licensed = Licence-refl c.chart; notes = notes-empty c }, record { whole = sym (with_end-nil sink.written); faults = omega arith })
+    ([], m, record { does = inl (refl, refl, refl); stands = stood; licensed = Licence-refl c.chart; spent = spends-none 0 0 c.chart c.chart refl refl; notes = notes-empty c }, record { whole = sym (with_end-nil sink.written); faults = omega arith })
 
 -- what the grammar reads may be served
 pub served : (bytes : List ℕ) (line : Line) → Reads bytes line → IsServed line

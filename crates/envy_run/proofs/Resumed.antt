@@ -45,7 +45,7 @@ use Rattle.envy_run.specs.declared.ended.Ended.{Ended}
 use Rattle.envy_run.specs.declared.loading.Refusal.{Refusal}
 use Rattle.envy_run.proofs.Checked.{shape-is}
 use Rattle.envy_run.proofs.Loaded.{image-refused}
-use Rattle.envy_run.proofs.Traced.{Began, licences-behind, ones-sum, traced-first}
+use Rattle.envy_run.proofs.Traced.{Began, licences-behind, ones-sum, thrifty-none, traced-first}
 
 -- a memory that was attached to the board of an image
 module _ (setup : Setup) (found : State) (installed : IsInstalled setup.shape found.given found) where
@@ -111,6 +111,7 @@ module _ (setup : Setup) (found : State) (installed : IsInstalled setup.shape fo
           losts = omega arith;
           faults = omega arith;
           told = tt;
+          thrifty = thrifty-none (setup.shape.segments * setup.shape.rows) (chart (state board)) (IsUntouched.begun u ∙ installed.begun);
         };
       })
     where

@@ -45,16 +45,22 @@ use Rattle.envy_run.specs.declared.ended.Ended.{Ended}
 use Rattle.envy_run.specs.Prepares.{IsPrepared, IsReady}
 use Rattle.envy_run.specs.Resumes.{LicencesBehind}
 use Rattle.envy_run.specs.Outcome.{outcome, status_of, why_of}
-use Rattle.envy_run.specs.Tracing.{TracedSince, DiedSince}
+use Rattle.envy_run.specs.Spending.{IsThrifty, Spends, programs_in, programs_of, erases_in, erases_of}
+use Rattle.envy_run.specs.Tracing.{SpentSince, TracedSince, DiedSince}
 use Rattle.envy_run.specs.Turns.{TraceTurn, Does, trace_grammar, is_power, is_plan, is_lost, is_fault}
 use Rattle.envy_run.proofs.Hitting.{telling-more}
 use Rattle.envy_run.proofs.Noting.{Tallies-stay}
 use Rattle.envy_run.proofs.Obeying.{served}
 use Rattle.envy_run.proofs.Recovering.{Licence-trans}
 use Rattle.envy_run.proofs.Replying.{Licence-refl}
+use Rattle.envy_run.proofs.Spent.{spends-none, spends-trans}
 
 pub said-served : (bytes : List ℕ) (line : Line) → line_of bytes ≡ Ok line → (line_of bytes ≡ Ok line) ↔ Reads bytes line → MayServe line
 said-served bytes line says spells = served bytes line (spells.0 says)
+
+-- a line began what it may
+spent-more : (start : Start) (old new : Picture) (turns : List TraceTurn) (line : Line) → SpentSince start old turns → old.chart.shape ≡ start.memory.chart.shape → Spends (programs_of old.chart.shape.rows line) (erases_of line) old.chart new.chart → Spends (programs_in start.memory.chart.shape.rows turns + programs_of start.memory.chart.shape.rows line) (erases_in turns + erases_of line) start.memory.chart new.chart
+spent-more start old new turns line before shape s = spends-trans (programs_in start.memory.chart.shape.rows turns) (erases_in turns) (programs_of start.memory.chart.shape.rows line) (erases_of line) start.memory.chart old.chart new.chart before (subst (λ (sh : Shape). Spends (programs_of sh.rows line) (erases_of line) old.chart new.chart) shape s)
 
 -- a line joins the turns
 traced-done : (start : Start) (old new : Picture) (turns : List TraceTurn) (t : TracedSince start old turns) (line : Line) (replies : List _) (left : Array) → LineDone (MayTell old.chart.shape.entries turns) (HasDone.array t.done) line replies left old new → TracedSince start new (record { line = line; replies = replies } ∷ turns)
@@ -65,6 +71,7 @@ traced-done start old new turns t line replies left d = record {
     stands = d.stands;
   };
   licensed = Licence-trans (count_lines is_power turns) (count_lines is_plan turns) (count_replies is_lost turns) (count_replies is_fault turns) _ _ _ _ start.memory.chart old.chart new.chart t.licensed d.licensed;
+  spent = spent-more start old new turns line t.spent (Licence.shape t.licensed) d.spent;
   telling = telling-more start.memory (record { line = line; replies = replies }) turns old new t.telling (Licence.shape d.licensed) d.notes;
 }
 
@@ -86,14 +93,19 @@ traced-obeys start old new turns line Dead sink then_sink t (dead, told) = (
       dead = dead.dead;
     };
     licensed = Licence-trans (count_lines is_power turns) (count_lines is_plan turns) (count_replies is_lost turns) (count_replies is_fault turns) _ _ _ _ start.memory.chart old.chart new.chart t.licensed dead.licensed;
+    spent = spent-more start old new turns line t.spent (Licence.shape t.licensed) dead.spent;
   },
   told,
 )
 
 -- What the counts of a board that began with none say.
 
-pub licences-none : (setup : Setup) (returns : ℕ) (now : Chart) → now.shape ≡ setup.shape → now.given ≡ returns → now.pulled ≡ 0 → now.plans ≡ 0 → Licences setup returns [] now
-licences-none setup returns now shape given pulled plans = record { shape = shape; given = given; pulled = pulled; plans = plans; losts = omega arith; faults = omega arith; told = tt }
+-- no line began anything yet
+pub thrifty-none : (programs : ℕ) (now : Chart) → now.begun ≡ programs → IsThrifty programs [] now
+thrifty-none programs now begun = record { programs = omega arith; erases = λ some told. absurd (let never = some in omega arith) }
+
+pub licences-none : (setup : Setup) (returns : ℕ) (now : Chart) → now.shape ≡ setup.shape → now.given ≡ returns → now.pulled ≡ 0 → now.plans ≡ 0 → now.begun ≡ 0 → Licences setup returns [] now
+licences-none setup returns now shape given pulled plans begun = record { shape = shape; given = given; pulled = pulled; plans = plans; losts = omega arith; faults = omega arith; told = tt; thrifty = thrifty-none 0 now begun }
 
 -- there are no more such lines than lines
 pub count-lines : {Line Reply : Type 0} (test : Line → Bool) (turns : List (Turn Line Reply)) → count_lines test turns ≤ length turns
@@ -214,6 +226,25 @@ licensed-either : (start : Start) (p : Picture) (turns : List TraceTurn) → Tra
 licensed-either start p turns (inl t) = t.licensed
 licensed-either start p turns (inr d) = d.licensed
 
+spent-either : (start : Start) (p : Picture) (turns : List TraceTurn) → TracedSince start p turns ⊎ DiedSince start p turns → SpentSince start p turns
+spent-either start p turns (inl t) = t.spent
+spent-either start p turns (inr d) = d.spent
+
+thrifty-since : (programs : ℕ) (setup : Setup) (returns : ℕ) (start : Start) (p : Picture) (turns : List TraceTurn) → Began programs setup returns start.memory → count_lines is_power turns + count_replies is_lost turns < 2 ^ 64 - 1 → TracedSince start p turns ⊎ DiedSince start p turns → IsThrifty programs turns p.chart
+thrifty-since programs setup returns start p turns b few since =
+    let l = licensed-either start p turns since in
+    let s = spent-either start p turns since in
+    let begun = b.begun in
+    let shape = Licence.shape l in
+    let rows = ap (λ (sh : Shape). programs_in sh.rows turns) shape in
+    let segments = ap (λ (sh : Shape). sh.segments) (shape ∙ b.shape) in
+    let within = Spends.programs s in
+    let erased = Spends.erases s in
+    record {
+      programs = omega arith;
+      erases = λ some told. let rise = RoseOver.rise (Licence.cuts l) (omega arith) in let whole = b.erases (omega arith) in omega arith;
+    }
+
 pub licences-behind : (programs : ℕ) (setup : Setup) (returns : ℕ) (start : Start) (p : Picture) (turns : List TraceTurn) → Began programs setup returns start.memory → length turns ≤ most_bytes → TracedSince start p turns ⊎ DiedSince start p turns → LicencesBehind programs setup returns turns p.chart
 licences-behind programs setup returns start p turns b few since =
     let l = licensed-either start p turns since in
@@ -231,12 +262,13 @@ licences-behind programs setup returns start p turns b few since =
       losts = below-top (count_lines is_power turns + count_replies is_lost turns) p.chart.cuts (omega arith) (λ lt. let rise = RoseOver.rise (Licence.cuts l) lt in omega arith);
       faults = below-top (count_replies is_fault turns) p.chart.bads (omega arith) (λ lt. let rise = RoseOver.rise (Licence.bads l) lt in omega arith);
       told = since-told programs setup returns start p turns b since;
+      thrifty = thrifty-since programs setup returns start p turns b (omega arith) since;
     }
 
 pub licences-since : (setup : Setup) (returns : ℕ) (start : Start) (p : Picture) (turns : List TraceTurn) → Began 0 setup returns start.memory → length turns ≤ most_bytes → TracedSince start p turns ⊎ DiedSince start p turns → Licences setup returns turns p.chart
 licences-since setup returns start p turns b few since =
     let l = licences-behind 0 setup returns start p turns b few since in
-    record { shape = l.shape; given = l.given; pulled = l.pulled; plans = l.plans; losts = l.losts; faults = l.faults; told = l.told }
+    record { shape = l.shape; given = l.given; pulled = l.pulled; plans = l.plans; losts = l.losts; faults = l.faults; told = l.told; thrifty = l.thrifty }
 
 length-vacant : (n : ℕ) → length (vacant n) ≡ n
 length-vacant n = length-replicate n None
@@ -251,6 +283,7 @@ pub traced-first : (setup : Setup) (first : Picture) (array : Array) → 0 < set
 traced-first setup first array some shape stands begins = record {
   done = record { array = array; run = refl; stands = stands };
   licensed = Licence-refl first.chart;
+  spent = spends-none 0 0 first.chart first.chart refl refl;
   telling = record {
     can = record {
       tracks = record {
@@ -311,7 +344,7 @@ runs-served whole setup returns old first now end lines taken io some ready b fe
     }
 
 pub licences-prepared : (setup : Setup) (returns : ℕ) (s : State) (now : Chart) → IsMade setup.shape returns s → IsPrepared (chart s) now → Licences setup returns [] now
-licences-prepared setup returns s now made p = licences-none setup returns now (p.shape ∙ made.shape) (p.given ∙ made.given) (p.pulled ∙ made.pulled) (p.plans ∙ made.plans)
+licences-prepared setup returns s now made p = licences-none setup returns now (p.shape ∙ made.shape) (p.given ∙ made.given) (p.pulled ∙ made.pulled) (p.plans ∙ made.plans) (p.begun ∙ made.begun)
 
 -- a run that ended before a line was read
 pub runs-quiet : {B : Type 0} (state : B → State) (setup : Setup) (returns status why : ℕ) (board : Option B) (e : Ended B) (feed : Feed) (sink : Drain) → e ≡ record { status = status; why = why; lines = 0; taken = 0; board = board; second = None } → IsUnserved (outcome state (record { status = status; why = why; lines = 0; taken = 0; board = board; second = None })) (record { from = feed; feed = feed; to = sink; sink = sink }) → IfSome (option_map (λ b. chart (state b)) board) (Licences setup returns []) → DoesTask (run_task setup returns) (outcome state e) (record { from = feed; feed = feed; to = sink; sink = sink })

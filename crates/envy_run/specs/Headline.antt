@@ -31,6 +31,7 @@ use Rattle.envy_run.specs.Drives.{Drives}
 use Rattle.envy_run.specs.MirrorTask.{mirror_task}
 use Rattle.envy_run.specs.Outcome.{Outcome, IsQuiet}
 use Rattle.envy_run.specs.Resumes.{Resumes, setup_found}
+use Rattle.envy_run.specs.Spending.{IsThrifty}
 pub use Rattle.envy_run.specs.Unserved.{IsOutOfMemory, IsSpoilt, IsDark, IsUnserved}
 pub use Rattle.envy_run.specs.Writing.{WritesOut, WritesTrace}
 use Rattle.envy_run.specs.Task.{Task, DoesTask}
@@ -48,7 +49,8 @@ pub record IsRefused (why : ℕ) (o : Outcome) : Type 0 where
 
 -- What a board that began with no counts says of the turns: power was cut by hand once for each line `power`, a failure
 -- was planned by each line `cut` and `bad`, each `lost` has a failure of power of its own besides, and each `fault` a
--- flash operation that failed. Where the last line asked for the counters, they add up to the board's.
+-- flash operation that failed. Where the last line asked for the counters, they add up to the board's. The lines began
+-- no more flash work than their calls may.
 pub record Licences (setup : Setup) (returns : ℕ) (turns : List TraceTurn) (now : Chart) : Type 0 where
   pub shape : now.shape ≡ setup.shape
   pub given : now.given ≡ returns
@@ -57,6 +59,7 @@ pub record Licences (setup : Setup) (returns : ℕ) (turns : List TraceTurn) (no
   pub losts : count_lines is_power turns + count_replies is_lost turns ≤ now.cuts
   pub faults : count_replies is_fault turns ≤ now.bads
   pub told : IfSome (just_told turns) (λ counts. AddsUp 0 counts now)
+  pub thrifty : IsThrifty 0 turns now
 
 abbrev pub zeros_of : Setup → Array
 zeros_of setup = zeros setup.shape.pages setup.shape.shadows

@@ -25,6 +25,7 @@ pub mod Prepares
 pub mod Restarts
 pub mod Resumes
 pub mod Runs
+pub mod Spending
 pub mod Task
 pub mod Tells
 pub mod Texts

@@ -15,6 +15,7 @@ use Rattle.envy_serve.specs.declared.service.Obeyed.{Obeyed}
 use Rattle.envy_serve.specs.declared.service.Obeyed.TheVariants.{Done, WriteFault, Dead}
 use Rattle.envy_memory.specs.Picture.{Picture}
 use Rattle.envy_run.specs.Licence.{Licence}
+use Rattle.envy_run.specs.Spending.{Spends, programs_of, erases_of}
 use Rattle.envy_run.specs.Tells.{Notes}
 use Rattle.envy_base.specs.declared.counts.Counts.{Counts}
 use Rattle.envy_run.specs.Turns.{Does, Loses, trace_grammar, is_power, is_plan, is_lost, is_fault}
@@ -30,6 +31,7 @@ pub record LineDone (May : Counts → Type 0) (m : Array) (line : Line) (replies
   pub does : Does May m line replies left
   pub stands : Stands new.chart left
   pub licensed : Licensed line replies old.chart new.chart
+  pub spent : Spends (programs_of old.chart.shape.rows line) (erases_of line) old.chart new.chart
   pub notes : Notes line replies old new
 
 -- the replies that stand before power is asked for
@@ -50,6 +52,7 @@ pub record LineDead (m : Array) (line : Line) (old new : Chart) : Type 0 where
   pub dead : new.lives ≡ 0
   pub found : (left : Array) × FailsIn m line left × (durable new ≡ left.words)
   pub licensed : Licensed line (before_restart line) old new
+  pub spent : Spends (programs_of old.shape.rows line) (erases_of line) old new
 
 abbrev pub ObeysLine : (Counts → Type 0) → Array → Line → Obeyed → Picture → Picture → Drain → Drain → Type 0
 ObeysLine May m line Done old new sink then_sink = (replies : List Reply) × (left : Array) × LineDone May m line replies left old new × Written (texts trace_grammar replies) sink then_sink

@@ -23,6 +23,7 @@ use Rattle.envy_run.specs.Counters.{AddsUp, just_told}
 use Rattle.envy_run.specs.Done.{HasDone, HasDied, OnBoard}
 use Rattle.envy_run.specs.Loading.{IsUnharmed, RefusesImage, TookOnly}
 use Rattle.envy_run.specs.Outcome.{Outcome}
+use Rattle.envy_run.specs.Spending.{IsThrifty}
 use Rattle.envy_run.specs.Task.{Task, DoesTask}
 use Rattle.envy_run.specs.Turns.{TraceTurn, trace_grammar, is_power, is_plan, is_lost, is_fault}
 use Rattle.envy_run.specs.Unserved.{IsOutOfMemory, IsDark}
@@ -42,6 +43,7 @@ pub record LicencesBehind (programs : ℕ) (setup : Setup) (returns : ℕ) (turn
   pub losts : count_lines is_power turns + count_replies is_lost turns ≤ now.cuts
   pub faults : count_replies is_fault turns ≤ now.bads
   pub told : IfSome (just_told turns) (λ counts. AddsUp programs counts now)
+  pub thrifty : IsThrifty programs turns now
 
 -- the words that power left on the board of an image, with all slots closed
 abbrev pub words_found : State → Array

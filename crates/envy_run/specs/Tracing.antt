@@ -6,17 +6,24 @@ use Rattle.envy_memory.specs.Picture.{Picture}
 use Rattle.envy_trace.specs.declared.fault.LineFault.TheVariants.{Long}
 use Rattle.envy_trace.specs.Grammar.{line_of}
 use Rattle.envy_run.specs.Done.{Start, HasDone, HasDied, LicensedTurns}
+use Rattle.envy_run.specs.Spending.{Spends, programs_in, erases_in}
 use Rattle.envy_run.specs.Tells.{Telling}
 use Rattle.envy_run.specs.Turns.{TraceTurn}
+
+-- the flash work of the lines
+abbrev pub SpentSince : Start → Picture → List TraceTurn → Type 0
+SpentSince start p turns = Spends (programs_in start.memory.chart.shape.rows turns) (erases_in turns) start.memory.chart p.chart
 
 pub record TracedSince (start : Start) (p : Picture) (turns : List TraceTurn) : Type 0 where
   pub done : HasDone start.array p.chart turns
   pub licensed : LicensedTurns turns start.memory.chart p.chart
+  pub spent : SpentSince start p turns
   pub telling : Telling start.memory turns p
 
 pub record DiedSince (start : Start) (p : Picture) (turns : List TraceTurn) : Type 0 where
   pub died : HasDied start.array p.chart turns
   pub licensed : LicensedTurns turns start.memory.chart p.chart
+  pub spent : SpentSince start p turns
 
 -- the laws of the service
 
