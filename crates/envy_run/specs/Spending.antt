@@ -30,10 +30,10 @@ abbrev pub erases_in : List TraceTurn → ℕ
 erases_in [] = 0
 erases_in (turn ∷ earlier) = erases_in earlier + erases_of turn.line
 
--- so many programs and erases began at most
-pub record Spends (programs erases : ℕ) (old new : Chart) : Type 0 where
-  pub programs : new.begun ≤ old.begun + programs
-  pub erases : sum new.erases ≤ sum old.erases + erases
+-- k programs and j erases began at most
+pub record Spends (k j : ℕ) (old new : Chart) : Type 0 where
+  pub programs : new.begun ≤ old.begun + k
+  pub erases : sum new.erases ≤ sum old.erases + j
 
 -- The flash work of a board is that of its lines at most, behind so many programs that began before the first of them.
 -- Formatting and installing erase each segment once, where power never failed but in the lines that tell it.
