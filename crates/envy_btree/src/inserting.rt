@@ -11,10 +11,11 @@ use crate::getting::get;
 use envy_base::{Trouble, Words};
 
 /// Sets the value of a key, and answers the old one. A new key is refused as `Full` where the map has
-/// `14 * (q - 8)` pairs, with `q` pieces in all. It is one transaction, which puts at most 27 pages.
+/// `14 * (q - 8)` pairs, with `q` pieces in all. It is one transaction, which puts at most 27 pages: it
+/// needs no more room.
 pub fn insert<W: Words>(words: &mut W, key: u64, value: u64) -> Result<Option<u64>, TreeFault>
     requires shut { (W.sheet words.old).started ≡ false }
-    requires room { 32 ≤ (W.sheet words.old).room }
+    requires room { 27 ≤ (W.sheet words.old).room }
     requires size { length (W.sheet words.old).words ≤ 2 ^ 25 }
     requires map { (es : List (ℕ × ℕ)) × IsIndex (W.sheet words.old).words es }
     ensures keeps { Keeps (W.sheet words.old) (W.sheet words.new) }
@@ -55,7 +56,7 @@ fn count_with(was: Option<u64>, pairs: u64) -> u64
 // Sets the value of a key, as a transaction of its own. There are so many pairs from then on.
 fn insert_alone<W: Words>(words: &mut W, key: u64, value: u64, pairs: u64) -> Result<(), TreeFault>
     requires shut { (W.sheet words.old).started ≡ false }
-    requires room { 32 ≤ (W.sheet words.old).room }
+    requires room { 27 ≤ (W.sheet words.old).room }
     requires size { length (W.sheet words.old).words ≤ 2 ^ 25 }
     requires map { (es : List (ℕ × ℕ)) × IsIndex (W.sheet words.old).words es }
     ensures keeps { Keeps (W.sheet words.old) (W.sheet words.new) }

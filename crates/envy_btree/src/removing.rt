@@ -11,10 +11,10 @@ use crate::uprooting::remove_at_root;
 use envy_base::{Trouble, Words};
 
 /// Takes a key out of the map, and answers its value. It is one transaction, which puts at most 24
-/// pages; where the map doesn't have the key there is none. It is never `Full`.
+/// pages, and needs no more room; where the map doesn't have the key there is none. It is never `Full`.
 pub fn remove<W: Words>(words: &mut W, key: u64) -> Result<Option<u64>, TreeFault>
     requires shut { (W.sheet words.old).started ≡ false }
-    requires room { 32 ≤ (W.sheet words.old).room }
+    requires room { 24 ≤ (W.sheet words.old).room }
     requires size { length (W.sheet words.old).words ≤ 2 ^ 25 }
     requires map { (es : List (ℕ × ℕ)) × IsIndex (W.sheet words.old).words es }
     ensures keeps { Keeps (W.sheet words.old) (W.sheet words.new) }
@@ -35,7 +35,7 @@ pub fn remove<W: Words>(words: &mut W, key: u64) -> Result<Option<u64>, TreeFaul
 // Takes a key out of the map, as a transaction of its own. There are so many pairs from then on.
 fn remove_alone<W: Words>(words: &mut W, key: u64, pairs: u64) -> Result<(), TreeFault>
     requires shut { (W.sheet words.old).started ≡ false }
-    requires room { 32 ≤ (W.sheet words.old).room }
+    requires room { 24 ≤ (W.sheet words.old).room }
     requires size { length (W.sheet words.old).words ≤ 2 ^ 25 }
     requires map { (es : List (ℕ × ℕ)) × IsIndex (W.sheet words.old).words es }
     ensures keeps { Keeps (W.sheet words.old) (W.sheet words.new) }
