@@ -9,10 +9,11 @@
      that of an envy_bytes, which isn't NULL where there are no bytes either.
    - rattle_alloc, rattle_realloc and rattle_dealloc are those of heap.c, or do the same.
 
-   Where power is off, or fails in the call, a call that reads or changes words, or opens or closes slots, answers
-   ENVY_OFF, and so does each later one until envy_revive answers ENVY_DONE. Where power failed in a call, it was done
-   or not. Where a flash operation failed it answers ENVY_BAD, and no word changed. Where a call answers anything but
-   ENVY_DONE, what its pointers point to is as before, but for ENVY_HELD. */
+   Where power is off, or fails in the call, a call that reads or changes words, opens or closes slots, does work in
+   the background or writes an image answers ENVY_OFF, and so does each later one until envy_revive answers ENVY_DONE.
+   Where power failed in a call, it was done or not. ENVY_BAD says that a flash operation failed in the call, and no
+   word changed. Where a call answers anything but ENVY_DONE, what its pointers point to is as before, but for
+   ENVY_HELD. */
 #ifndef ENVY_H
 #define ENVY_H
 
@@ -53,16 +54,18 @@ uint32_t envy_image_size(const envy_setup *setup, uint64_t *size);
 uint32_t envy_save(envy_memory *m, envy_bytes *image);
 
 /* Writes the shape that an image names into the first six numbers of a setup. It reads the head alone.
-   ENVY_DONE, ENVY_IMAGE_SHORT, ENVY_IMAGE_MARK or an ENVY_IMAGE_SEGMENTS to ENVY_IMAGE_TOTAL. The bytes stay as they
-   are, and where it is refused the setup does. */
+   ENVY_DONE; ENVY_IMAGE_MARK, where 8 bytes are there and aren't the mark; ENVY_IMAGE_SHORT, where the bytes end within
+   the head; or an ENVY_IMAGE_SEGMENTS to ENVY_IMAGE_TOTAL. The bytes stay as they are, and where it is refused the
+   setup does. */
 uint32_t envy_image_shape(envy_bytes *image, envy_setup *setup);
 
 /* Takes up the memory that an image is, over a new board whose power can return `lives` times. It takes nothing on
    trust: the mark and the shape are compared, and what the image makes of the board is audited. Transactions that were
    open are undone. Bytes behind the image aren't looked at, and none is changed.
-   ENVY_DONE; ENVY_OPEN; ENVY_POLICY, ENVY_SETUP_*; ENVY_IMAGE_*; ENVY_UNFORMATTED; ENVY_OLDER; ENVY_OTHER_SHAPE, where
-   the map of SRAM keeps another shape than the head; ENVY_BROKEN_*; ENVY_NO_MEMORY. Where it is refused the place is as
-   before. */
+   ENVY_DONE; ENVY_OPEN; ENVY_POLICY, ENVY_SETUP_*; what envy_image_shape answers of the head; ENVY_IMAGE_OTHER, where
+   the setup has another shape than the head; ENVY_IMAGE_SHORT, where the bytes end behind the head; ENVY_UNFORMATTED;
+   ENVY_OLDER; ENVY_OTHER_SHAPE, where the map of SRAM keeps another shape than the head; ENVY_BROKEN_*; ENVY_NO_MEMORY.
+   Where it is refused the place is as before. */
 uint32_t envy_restore(envy_memory *m, const envy_setup *setup, uint32_t lives, envy_bytes *image);
 
 /* Ends the memory and its board, and frees what they took from the heap. On an empty place it does nothing. */

@@ -80,7 +80,7 @@ uint32_t envy_mapped_load(envy_mapped *m, uint32_t address, uint64_t *word);
 uint32_t envy_mapped_look(envy_mapped *m, uint32_t address, uint64_t *word);
 
 /* Makes the word at an address this. From then on it outlives the process. ENVY_DONE, ENVY_EMPTY, ENVY_RANGE, or
-   ENVY_HELD with the slot that owns the page at *holder. Refused, it changes nothing. */
+   ENVY_HELD with the slot that owns the page at *holder. Refused, it changes no word. */
 uint32_t envy_mapped_store(envy_mapped *m, uint32_t address, uint64_t word, uint32_t *holder);
 
 /* Opens a transaction in the lowest slot that isn't open, and writes its number, 0 to 63, at *slot.
@@ -89,7 +89,7 @@ uint32_t envy_mapped_begin(envy_mapped *m, uint32_t *slot);
 
 /* Makes the word at an address this within the transaction of a slot, which owns the page from then on: stores and
    other transactions are kept from it. ENVY_DONE, ENVY_EMPTY, ENVY_RANGE, ENVY_CLOSED, ENVY_FULL, or ENVY_HELD with the
-   slot that owns the page at *holder. Refused, it changes nothing. */
+   slot that owns the page at *holder. Refused, it changes no word. */
 uint32_t envy_mapped_put(envy_mapped *m, uint32_t slot, uint32_t address, uint64_t word, uint32_t *holder);
 
 /* Closes a slot and keeps all that it put. From then on it outlives the process. ENVY_DONE, ENVY_EMPTY, ENVY_CLOSED. */
