@@ -3,6 +3,7 @@ pub mod Charging
 pub mod Commanded
 pub mod Commanding
 pub mod Finishing
+pub mod Failing
 pub mod Following
 pub mod Joining
 pub mod Keeping

@@ -24,7 +24,8 @@ use Rattle.envy_pair.specs.Restarting.{Recovers}
 use Rattle.envy_pair.specs.Serving.{Known, Serves, IsMirrorCall, LineDone, ObeysMirror}
 use Rattle.envy_pair.proofs.Sides.{neither}
 use Rattle.envy_pair.proofs.Commanded.{both-false}
-use Rattle.envy_pair.proofs.Lines.{HeardLine, DarkLine, heard, dark-done, dark-dead, power-lit, power-dark, empty-done}
+use Rattle.envy_pair.proofs.Failing.{HeardLine, DarkLine, dark-done, dark-dead, power-lit, power-dark}
+use Rattle.envy_pair.proofs.Lines.{heard, empty-done}
 use Rattle.envy_pair.proofs.Writing.{told-one, front-one, told-none, told-both, front-second, front-first}
 
 -- which of two isn't so
