@@ -1,5 +1,6 @@
 pub mod Asking
 pub mod Catching
+pub mod Doing
 pub mod Mirroring
 pub mod Pair
 pub mod Reading

@@ -1,10 +1,12 @@
 -- A call that asks the lowest Good side.
-use Rattle.std.specs.Prelude.{◌≡◌, ◌↔◌, ℕ, Bool, true, false, Result}
+use Rattle.std.specs.Prelude.{◌≡◌, ◌↔◌, ℕ, Bool, true, false, slice_index, Result, Ok, Err, OnOk}
 use Rattle.envy_base.specs.Array.{Array}
 use Rattle.envy_base.specs.Step.{Command}
+use Rattle.envy_layout.specs.Words.{durable}
 use Rattle.envy_memory.specs.Effects.{LoadVisits}
 use Rattle.envy_memory.specs.Picture.{Picture}
 use Rattle.envy_memory.specs.declared.faults.LoadFault.{LoadFault}
+use Rattle.envy_memory.specs.declared.faults.LoadFault.TheVariants.{Off as LoadOff}
 use Rattle.envy_mirror.specs.Mirroring.{Mirrors, Gives}
 use Rattle.envy_mirror.specs.Pair.{Side, Pair, is_good, IsDark}
 use Rattle.envy_mirror.specs.Replies.{Reply, Off, load_reply}
@@ -26,6 +28,12 @@ abbrev pub AsksLowest : Bool → Bool → ℕ → Result ℕ LoadFault → Pair 
 AsksLowest true second p result old new = Reads p result old.first new.first × (new ≡ record old { first = new.first })
 AsksLowest false true p result old new = Reads p result old.second new.second × (new ≡ record old { second = new.second })
 AsksLowest false false p result old new = new ≡ old
+
+-- a look sees what a restart of the lowest Good side would find
+abbrev pub SeesLowest : Bool → Bool → ℕ → Result ℕ LoadFault → Pair → Type 0
+SeesLowest true second a result p = OnOk result (result ≡ Ok (slice_index (durable p.first.memory.chart) a))
+SeesLowest false true a result p = OnOk result (result ≡ Ok (slice_index (durable p.second.memory.chart) a))
+SeesLowest false false a result p = result ≡ Err LoadOff
 
 -- what a load or look answers, and leaves
 pub record Finds (command : Command) (result : Result ℕ LoadFault) (old new : Pair) : Type 0 where

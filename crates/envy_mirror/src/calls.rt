@@ -1,6 +1,6 @@
 //! The calls that each Good side makes, one type for each.
 
-ghost use Rattle.std.specs.Prelude.{◌≡◌};
+ghost use Rattle.std.specs.Prelude.{◌≡◌, ◌/◌};
 ghost use Rattle.envy_mirror.specs.Replies.{kind_of, end_reply};
 
 use crate::call::{Call, Kind};
@@ -16,6 +16,7 @@ pub struct StoreCall {
 
 impl Call for StoreCall {
     ghost use Rattle.envy_base.specs.Step.{Store};
+    ghost use Rattle.envy_mirror.specs.Doing.{StoreDoes};
     ghost use Rattle.envy_mirror.specs.Replies.{store_reply};
 
     type Told = Result<(), StoreFault>;
@@ -24,7 +25,7 @@ impl Call for StoreCall {
 
     ghost reply = { store_reply };
 
-    ghost Does = { λ c told old new. Unit {0} };
+    ghost Does = { λ c. StoreDoes (c.address / 32) };
 
     fn make<B: Bench>(&self, memory: &mut Memory<B>) -> Result<(), StoreFault> {
         memory.store(self.address, self.word)
@@ -103,6 +104,7 @@ pub struct PutCall {
 
 impl Call for PutCall {
     ghost use Rattle.envy_base.specs.Step.{Put};
+    ghost use Rattle.envy_mirror.specs.Doing.{PutDoes};
     ghost use Rattle.envy_mirror.specs.Replies.{put_reply};
 
     type Told = Result<(), PutFault>;
@@ -111,7 +113,7 @@ impl Call for PutCall {
 
     ghost reply = { put_reply };
 
-    ghost Does = { λ c told old new. Unit {0} };
+    ghost Does = { λ c. PutDoes c.slot (c.address / 32) };
 
     fn make<B: Bench>(&self, memory: &mut Memory<B>) -> Result<(), PutFault> {
         memory.put(self.slot, self.address, self.word)
@@ -235,9 +237,8 @@ impl Call for AbortCall {
 pub struct TickCall;
 
 impl Call for TickCall {
-    ghost use Rattle.std.specs.Prelude.{IfOk};
     ghost use Rattle.envy_base.specs.Step.{Tick};
-    ghost use Rattle.envy_flush.specs.Ticks.{TicksBy};
+    ghost use Rattle.envy_mirror.specs.Doing.{TickDoes};
     ghost use Rattle.envy_mirror.specs.Replies.{tick_reply};
 
     type Told = Result<Did, Trouble>;
@@ -246,7 +247,7 @@ impl Call for TickCall {
 
     ghost reply = { tick_reply };
 
-    ghost Does = { λ c told old new. IfOk told (λ did. TicksBy old.limit old.mark did old.chart old.parts new.chart new.parts) };
+    ghost Does = { λ c. TickDoes };
 
     fn make<B: Bench>(&self, memory: &mut Memory<B>) -> Result<Did, Trouble> {
         memory.tick()

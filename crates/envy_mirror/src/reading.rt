@@ -1,8 +1,7 @@
-ghost use Rattle.std.specs.Prelude.{◌≡◌, ◌/◌, OnOk, Ok, slice_index};
+ghost use Rattle.std.specs.Prelude.{◌≡◌, ◌/◌};
 ghost use Rattle.envy_base.specs.Step.{Load, Look};
-ghost use Rattle.envy_layout.specs.Words.{durable};
 ghost use Rattle.envy_mirror.specs.Pair.{is_good};
-ghost use Rattle.envy_mirror.specs.Reading.{AsksLowest, Finds};
+ghost use Rattle.envy_mirror.specs.Reading.{AsksLowest, Finds, SeesLowest};
 
 use crate::mirror::Mirror;
 use envy_base::Bench;
@@ -35,7 +34,8 @@ impl<A: Bench, B: Bench> Mirror<A, B> {
     ///
     /// `Off` where no side is Good, then `Range`.
     pub fn look(&self, a: u32) -> Result<u64, LoadFault>
-        ensures { Finds (Look a) result self.now self.now }
+        ensures finds { Finds (Look a) result self.now self.now }
+        ensures lowest { SeesLowest (is_good self.now.first) (is_good self.now.second) a result self.now }
     {
         if self.first.is_good() {
             return self.first.memory.look(a);
