@@ -8,6 +8,8 @@
 mod calls;
 mod draw;
 mod driving;
+#[cfg(test)]
+mod driving_tests;
 mod fault;
 mod layout;
 mod load;
