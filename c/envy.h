@@ -13,7 +13,8 @@
    the background or writes an image answers ENVY_OFF, and so does each later one until envy_revive answers ENVY_DONE.
    Where power failed in a call, it was done or not. ENVY_BAD says that a flash operation failed in the call, and no
    word changed. Where a call answers anything but ENVY_DONE, what its pointers point to is as before, but for
-   ENVY_HELD. */
+   ENVY_HELD. Where several answers would be right, it is the first of them in the order in which the call names them,
+   but that ENVY_NO_MEMORY may come in place of what follows the setup's answers. */
 #ifndef ENVY_H
 #define ENVY_H
 

@@ -12,7 +12,9 @@
      reads nor writes the regions, and no other process does; nor does it unmap them or shorten their file.
    - rattle_alloc, rattle_realloc and rattle_dealloc are those of heap.c, or do the same.
 
-   Where a call answers anything but ENVY_DONE, what its pointers point to is as before, but for ENVY_HELD. */
+   Where a call answers anything but ENVY_DONE, what its pointers point to is as before, but for ENVY_HELD. Where several
+   answers would be right, it is the first of them in the order in which the call names them, but that ENVY_NO_MEMORY may
+   come in place of an ENVY_BROKEN_*. */
 #ifndef ENVY_MAPPED_H
 #define ENVY_MAPPED_H
 

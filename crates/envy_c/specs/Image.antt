@@ -1,5 +1,5 @@
 -- What bytes of a caller say of a board whose image they begin with, and what writing an image does.
-use Rattle.std.specs.Prelude.{◌≡◌, ◌≢◌, ◌⊎◌, ⊤, ℕ, ◌+◌, ◌*◌, ◌<◌, false, IsTrue, List, ◌++◌, length, drop, slice_index, Option, None, Some, Ok, Err}
+use Rattle.std.specs.Prelude.{◌≡◌, ◌≢◌, ◌⊎◌, ⊤, ℕ, ◌+◌, ◌*◌, ◌<◌, ◌≤◌, false, IsTrue, List, ◌++◌, length, drop, slice_index, Option, None, Some, Ok, Err}
 use Rattle.envy_base.specs.Counting.{up}
 use Rattle.envy_base.specs.Shape.{checked}
 use Rattle.envy_base.specs.State.{State}
@@ -52,12 +52,12 @@ pub record HoldsImage (bytes : List ℕ) (made board : State) : Type 0 where
   pub begun : board.begun ≡ count_after (made.shape.segments * made.shape.rows) made.begun
   pub erases : (e : ℕ) → e < made.shape.segments → slice_index board.erases e ≡ up (slice_index made.erases e)
 
--- What writing the image of a board over bytes answers, and what they are then. Only want of memory is free.
+-- What writing the image of a board over bytes answers, and what they are then.
 abbrev pub Saves : State → List ℕ → List ℕ → Code → Type 0
 Saves board before after Done = IsTrue board.on × (after ≡ image_of board ++ drop (image_size board.shape) before)
 Saves board before after Off = (board.on ≡ false) × (after ≡ before)
 Saves board before after Small = IsTrue board.on × (length before < image_size board.shape) × (after ≡ before)
-Saves board before after NoMemory = after ≡ before
+Saves board before after NoMemory = IsTrue board.on × (image_size board.shape ≤ length before) × (after ≡ before)
 Saves board before after other = ⊥
 
 -- in a place: the board is the one of the memory that it holds

@@ -8,7 +8,7 @@ use Rattle.envy_memory.specs.Attaching.{Attaches}
 use Rattle.envy_memory.specs.Formats.{Makes, CountsFormat}
 use Rattle.envy_memory.specs.Picture.{Picture}
 use Rattle.envy_calls.specs.Codes.{number_of}
-use Rattle.envy_calls.specs.Making.{Forbids, IsNoSetup, IsWhole}
+use Rattle.envy_calls.specs.Making.{Forbids, ForSetup, IsNoSetup, IsWhole}
 use Rattle.envy_calls.specs.Setups.{setup_of}
 use Rattle.envy_calls.specs.declared.code.Code.{Code}
 use Rattle.envy_calls.specs.declared.code.Code.TheVariants.{Done, NoMemory, Open, Unformatted, Older, OtherShape, Broken, ImageShort, ImageMark, ImageOther, ImageShape}
@@ -24,7 +24,7 @@ pub record Formatted (given : EnvySetup) (lives : ℕ) (p : Picture) : Type 0 wh
 
 -- Why there is no memory of zeros. Nothing of a new board fails, so no other answer comes.
 abbrev pub RefusesFormat : EnvySetup → Code → Type 0
-RefusesFormat given NoMemory = ⊤
+RefusesFormat given NoMemory = ForSetup given (λ setup. ⊤)
 RefusesFormat given code = IsNoSetup given code
 
 -- The memory that the image of a board is, over a new board whose power can return so often: it was taken up as a
@@ -39,17 +39,16 @@ pub record Restored (given : EnvySetup) (lives : ℕ) (bytes : List ℕ) (p : Pi
 
 -- the bytes make no board of the setup's shape
 abbrev pub GivesNoBoard : EnvySetup → List ℕ → Code → Type 0
-GivesNoBoard given bytes code = (setup : OfSetup) × (setup_of given ≡ Some setup) × NoBoard bytes setup.shape code
+GivesNoBoard given bytes code = ForSetup given (λ setup. NoBoard bytes setup.shape code)
 
 -- they make a board, and it isn't taken up
 abbrev pub GivesNoMemory : EnvySetup → ℕ → List ℕ → Code → Type 0
-GivesNoMemory given lives bytes code =
-    (setup : OfSetup) × (setup_of given ≡ Some setup) × ((board : State) × HoldsImage bytes (new_state setup.shape lives) board × Forbids code (chart board) setup)
+GivesNoMemory given lives bytes code = ForSetup given (λ setup. (board : State) × HoldsImage bytes (new_state setup.shape lives) board × Forbids code (chart board) setup)
 
 -- Why no memory was made of an image: there is no setup, or no board, or of what the board holds. Nothing of a new
 -- board fails, so no other answer comes.
 abbrev pub RefusesImage : EnvySetup → ℕ → List ℕ → Code → Type 0
-RefusesImage given lives bytes NoMemory = ⊤
+RefusesImage given lives bytes NoMemory = ForSetup given (λ setup. ⊤)
 RefusesImage given lives bytes ImageShort = GivesNoBoard given bytes ImageShort
 RefusesImage given lives bytes ImageMark = GivesNoBoard given bytes ImageMark
 RefusesImage given lives bytes ImageOther = GivesNoBoard given bytes ImageOther

@@ -66,13 +66,26 @@ impl Board for PlannedBoard {
 }
 
 impl Bench for PlannedBoard {
+    ghost use Rattle.std.specs.Prelude.{◌≤◌};
+    ghost use Rattle.envy_base.specs.State.{planned};
+    ghost use Rattle.envy_power.specs.Power.{with_cut, with_bad};
+    ghost use Rattle.envy_c.specs.State.{planned_state};
+
     #[tactic(auto, unfolding(envy_base::specs::Counting::up))]
-    fn arm_cut(&mut self, k: u32, g: u64) {
+    fn arm_cut(&mut self, k: u32, g: u64)
+        requires { 1 ≤ k }
+        ensures state { planned_state self.new ≡ planned (planned_state self.old) }
+        ensures power { board_power self.new.board ≡ with_cut k g (board_power self.old.board) }
+    {
         self.board.arm_cut(k, g);
     }
 
     #[tactic(auto, unfolding(envy_base::specs::Counting::up))]
-    fn arm_bad(&mut self, k: u32, g: u64) {
+    fn arm_bad(&mut self, k: u32, g: u64)
+        requires { 1 ≤ k }
+        ensures state { planned_state self.new ≡ planned (planned_state self.old) }
+        ensures power { board_power self.new.board ≡ with_bad k g (board_power self.old.board) }
+    {
         self.board.arm_bad(k, g);
     }
 

@@ -1,5 +1,5 @@
 -- What formatting and attaching answer, and what they leave in the place for a memory.
-use Rattle.std.specs.Prelude.{◌≡◌, ◌≢◌, ◌⊎◌, ⊤, false, None, Some, Err}
+use Rattle.std.specs.Prelude.{◌≡◌, ◌≢◌, ◌⊎◌, ◌-◌, ◌^◌, ◌<◌, false, None, Some, Ok, Err}
 use Rattle.envy_base.specs.State.{State}
 use Rattle.envy_map.specs.Codes.{the_magic}
 use Rattle.envy_map.specs.Fields.{Chart, chart, IsFormatted, shape_of}
@@ -20,6 +20,10 @@ IsNoSetup given Policy = setup_of given ≡ None
 IsNoSetup given (Setup fault) = (setup : OfSetup) × (setup_of given ≡ Some setup) × (checked setup ≡ Err fault)
 IsNoSetup given other = ⊥
 
+-- the numbers give a setup that breaks no rule, and this holds of it
+abbrev pub ForSetup : EnvySetup → (OfSetup → Type 0) → Type 0
+ForSetup given Of = (setup : OfSetup) × (setup_of given ≡ Some setup) × (checked setup ≡ Ok tt) × Of setup
+
 -- a board that may be taken up: formatted in the second version, in the setup's shape, and sound
 pub record IsWhole (c : Chart) (setup : OfSetup) : Type 0 where
   pub magic : c.fields.magic ≡ the_magic
@@ -27,18 +31,24 @@ pub record IsWhole (c : Chart) (setup : OfSetup) : Type 0 where
   pub shape : shape_of c.fields.sizes ≡ setup.shape
   pub sound : IsSound c
 
--- What was found of a board that isn't taken up. Only want of memory is free.
+-- a board of the second version, in the setup's shape
+pub record IsAlike (c : Chart) (setup : OfSetup) : Type 0 where
+  pub magic : c.fields.magic ≡ the_magic
+  pub version : c.fields.version ≡ 2
+  pub shape : shape_of c.fields.sizes ≡ setup.shape
+
+-- What was found of a board that isn't taken up: the first of these, in this order, that holds. Want of memory comes
+-- only where the first three don't.
 abbrev pub Forbids : Code → Chart → OfSetup → Type 0
-Forbids NoMemory c setup = ⊤
-Forbids Off c setup = c.on ≡ false
 Forbids Unformatted c setup = IsFormatted c.fields → ⊥
 Forbids Older c setup = (c.fields.magic ≡ the_magic) × (c.fields.version ≡ 1)
-Forbids OtherShape c setup = IsFormatted c.fields × (shape_of c.fields.sizes ≢ setup.shape)
-Forbids (Setup fault) c setup = checked setup ≡ Err fault
-Forbids (Broken rule) c setup = BreaksFirst rule c
+Forbids OtherShape c setup = (c.fields.magic ≡ the_magic) × (c.fields.version ≡ 2) × (shape_of c.fields.sizes ≢ setup.shape)
+Forbids (Broken rule) c setup = IsAlike c setup × BreaksFirst rule c
+Forbids (Setup fault) c setup = IsWhole c setup × (checked setup ≡ Err fault)
+Forbids NoMemory c setup = IsAlike c setup
 Forbids other c setup = ⊥
 
 -- a board that wasn't taken up: it is as before, or power was off or failed in the call
 abbrev pub Declined : Code → State → OfSetup → State → Type 0
-Declined Off old setup new = (new.on ≡ false) × (((old.on ≡ false) × (new ≡ old)) ⊎ (MayAttach (chart old) setup × Kept (chart old) (chart new)))
+Declined Off old setup new = (new.on ≡ false) × (((old.on ≡ false) × (new ≡ old)) ⊎ (MayAttach (chart old) setup × Kept (chart old) (chart new) × (old.cuts < 2 ^ 64 - 1 → old.cuts < new.cuts)))
 Declined code old setup new = (new ≡ old) × Forbids code (chart old) setup

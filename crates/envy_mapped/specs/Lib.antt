@@ -1,3 +1,4 @@
 pub mod Held
 pub mod Opening
 pub mod Regions
+pub mod Steady

@@ -10,7 +10,7 @@ use Rattle.envy_memory.specs.Attaching.{Attaches}
 use Rattle.envy_memory.specs.Formats.{Makes, CountsFormat}
 use Rattle.envy_memory.specs.Picture.{Picture}
 use Rattle.envy_calls.specs.Codes.{number_of}
-use Rattle.envy_calls.specs.Making.{Forbids, IsWhole, IsNoSetup}
+use Rattle.envy_calls.specs.Making.{Forbids, ForSetup, IsWhole, IsNoSetup}
 use Rattle.envy_calls.specs.Setups.{setup_of}
 use Rattle.envy_calls.specs.declared.code.Code.{Code}
 use Rattle.envy_calls.specs.declared.code.Code.TheVariants.{Done, NoMemory, Open, FlashSize, SramSize, ErasesSize, Policy, Unformatted, Older, OtherShape, Setup, Broken}
@@ -35,33 +35,42 @@ pub record HasSizes (sh : Shape) (rows : List (List ℕ)) (words counts : List �
   pub sram : length words ≡ words_of sh
   pub erases : length counts ≡ sh.segments
 
--- why regions make no board
+-- why regions make no board: the first of these, in this order, that holds
 abbrev pub Misfits : Given → Code → Type 0
 Misfits given Policy = IsNoSetup given.setup Policy
 Misfits given (Setup fault) = IsNoSetup given.setup (Setup fault)
-Misfits given FlashSize = (setup : OfSetup) × (setup_of given.setup ≡ Some setup) × (length given.flash ≢ setup.shape.segments * setup.shape.rows)
-Misfits given SramSize = (setup : OfSetup) × (setup_of given.setup ≡ Some setup) × (length given.sram ≢ words_of setup.shape)
-Misfits given ErasesSize = (setup : OfSetup) × (setup_of given.setup ≡ Some setup) × (length given.erases ≢ setup.shape.segments)
+Misfits given FlashSize = ForSetup given.setup (λ setup. length given.flash ≢ setup.shape.segments * setup.shape.rows)
+Misfits given SramSize = ForSetup given.setup (λ setup. (length given.flash ≡ setup.shape.segments * setup.shape.rows) × (length given.sram ≢ words_of setup.shape))
+Misfits given ErasesSize = ForSetup given.setup (λ setup. (length given.flash ≡ setup.shape.segments * setup.shape.rows) × (length given.sram ≡ words_of setup.shape) × (length given.erases ≢ setup.shape.segments))
 Misfits given other = ⊥
+
+-- the regions have the sizes that the setup asks for, and this holds of it
+abbrev pub ForRegions : Given → (OfSetup → Type 0) → Type 0
+ForRegions given Of = ForSetup given.setup (λ setup. HasSizes setup.shape given.flash given.sram given.erases × Of setup)
 
 -- Why no memory was made of regions. Power doesn't fail, so no other answer comes.
 abbrev pub RefusesFormat : Given → Code → Type 0
-RefusesFormat given NoMemory = ⊤
+RefusesFormat given NoMemory = ForRegions given (λ setup. ⊤)
 RefusesFormat given code = Misfits given code
+
+-- the regions make a board, and it isn't taken up
+abbrev pub HoldsNoMemory : Given → Code → Type 0
+HoldsNoMemory given code = ForRegions given (λ setup. Forbids code (chart (board_of setup.shape given)) setup)
 
 -- Why regions weren't taken up: they make no board, or of what they hold.
 abbrev pub RefusesAttach : Given → Code → Type 0
-RefusesAttach given NoMemory = ⊤
-RefusesAttach given Unformatted = (setup : OfSetup) × (setup_of given.setup ≡ Some setup) × Forbids Unformatted (chart (board_of setup.shape given)) setup
-RefusesAttach given Older = (setup : OfSetup) × (setup_of given.setup ≡ Some setup) × Forbids Older (chart (board_of setup.shape given)) setup
-RefusesAttach given OtherShape = (setup : OfSetup) × (setup_of given.setup ≡ Some setup) × Forbids OtherShape (chart (board_of setup.shape given)) setup
-RefusesAttach given (Broken rule) = (setup : OfSetup) × (setup_of given.setup ≡ Some setup) × Forbids (Broken rule) (chart (board_of setup.shape given)) setup
+RefusesAttach given Unformatted = HoldsNoMemory given Unformatted
+RefusesAttach given Older = HoldsNoMemory given Older
+RefusesAttach given OtherShape = HoldsNoMemory given OtherShape
+RefusesAttach given (Broken rule) = HoldsNoMemory given (Broken rule)
+RefusesAttach given NoMemory = HoldsNoMemory given NoMemory
 RefusesAttach given code = Misfits given code
 
 -- a memory of zeros was made
 pub record Formatted (given : Given) (p : Picture) : Type 0 where
   pub setup : OfSetup
   pub is : setup_of given.setup ≡ Some setup
+  pub sizes : HasSizes setup.shape given.flash given.sram given.erases
   pub makes : Makes (board_of setup.shape given) setup p
   pub counts : CountsFormat (chart (board_of setup.shape given)) p.chart
 
@@ -69,6 +78,7 @@ pub record Formatted (given : Given) (p : Picture) : Type 0 where
 pub record Attached (given : Given) (p : Picture) : Type 0 where
   pub setup : OfSetup
   pub is : setup_of given.setup ≡ Some setup
+  pub sizes : HasSizes setup.shape given.flash given.sram given.erases
   pub whole : IsWhole (chart (board_of setup.shape given)) setup
   pub attaches : Attaches (chart (board_of setup.shape given)) setup p
 

@@ -1,8 +1,9 @@
 ghost use Rattle.std.specs.Prelude.{◌≡◌};
 ghost use Rattle.envy_calls.specs.Answers.{DoesLoad, DoesLook, DoesStore, DoesBegin, DoesPut, DoesCommit, DoesAbort, DoesTick, DoesCount};
+ghost use Rattle.envy_mapped.specs.Steady.{AreSteady};
 ghost use denote.RawPtr.{InBlock};
 
-use crate::handle::{EnvyMapped, lend};
+use crate::handle::{EnvyMapped, give_back, lend};
 use envy_calls::{EnvyCounts, abort, begin, commit, counts, load, look, put, store, tick};
 
 /// The word at an address, also where a transaction that is still open put it.
@@ -10,11 +11,12 @@ use envy_calls::{EnvyCounts, abort, begin, commit, counts, load, look, put, stor
 pub extern "C" fn envy_mapped_load(m: &mut EnvyMapped, a: u32, word: &mut u64) -> u32
     requires { InBlock m.old.at }
     ensures live { InBlock m.new.at }
+    ensures steady { AreSteady m.old.slot.now m.new.slot.now }
     ensures loads { DoesLoad m.old.slot.now m.new.slot.now a result word.old word.new }
 {
     let slot = lend(m);
     let code = load(slot, a, word);
-    *m = EnvyMapped::of(slot);
+    give_back(m, slot);
     code
 }
 
@@ -23,11 +25,12 @@ pub extern "C" fn envy_mapped_load(m: &mut EnvyMapped, a: u32, word: &mut u64) -
 pub extern "C" fn envy_mapped_look(m: &mut EnvyMapped, a: u32, word: &mut u64) -> u32
     requires { InBlock m.old.at }
     ensures live { InBlock m.new.at }
+    ensures steady { AreSteady m.old.slot.now m.new.slot.now }
     ensures looks { DoesLook m.old.slot.now m.new.slot.now a result word.old word.new }
 {
     let slot = lend(m);
     let code = look(slot, a, word);
-    *m = EnvyMapped::of(slot);
+    give_back(m, slot);
     code
 }
 
@@ -36,11 +39,12 @@ pub extern "C" fn envy_mapped_look(m: &mut EnvyMapped, a: u32, word: &mut u64) -
 pub extern "C" fn envy_mapped_store(m: &mut EnvyMapped, a: u32, word: u64, holder: &mut u32) -> u32
     requires { InBlock m.old.at }
     ensures live { InBlock m.new.at }
+    ensures steady { AreSteady m.old.slot.now m.new.slot.now }
     ensures stores { DoesStore m.old.slot.now m.new.slot.now a word result holder.old holder.new }
 {
     let slot = lend(m);
     let code = store(slot, a, word, holder);
-    *m = EnvyMapped::of(slot);
+    give_back(m, slot);
     code
 }
 
@@ -49,11 +53,12 @@ pub extern "C" fn envy_mapped_store(m: &mut EnvyMapped, a: u32, word: u64, holde
 pub extern "C" fn envy_mapped_begin(m: &mut EnvyMapped, opened: &mut u32) -> u32
     requires { InBlock m.old.at }
     ensures live { InBlock m.new.at }
+    ensures steady { AreSteady m.old.slot.now m.new.slot.now }
     ensures begins { DoesBegin m.old.slot.now m.new.slot.now result opened.old opened.new }
 {
     let slot = lend(m);
     let code = begin(slot, opened);
-    *m = EnvyMapped::of(slot);
+    give_back(m, slot);
     code
 }
 
@@ -68,11 +73,12 @@ pub extern "C" fn envy_mapped_put(
 ) -> u32
     requires { InBlock m.old.at }
     ensures live { InBlock m.new.at }
+    ensures steady { AreSteady m.old.slot.now m.new.slot.now }
     ensures puts { DoesPut m.old.slot.now m.new.slot.now t a word result holder.old holder.new }
 {
     let slot = lend(m);
     let code = put(slot, t, a, word, holder);
-    *m = EnvyMapped::of(slot);
+    give_back(m, slot);
     code
 }
 
@@ -81,11 +87,12 @@ pub extern "C" fn envy_mapped_put(
 pub extern "C" fn envy_mapped_commit(m: &mut EnvyMapped, t: u32) -> u32
     requires { InBlock m.old.at }
     ensures live { InBlock m.new.at }
+    ensures steady { AreSteady m.old.slot.now m.new.slot.now }
     ensures commits { DoesCommit m.old.slot.now m.new.slot.now t result }
 {
     let slot = lend(m);
     let code = commit(slot, t);
-    *m = EnvyMapped::of(slot);
+    give_back(m, slot);
     code
 }
 
@@ -94,11 +101,12 @@ pub extern "C" fn envy_mapped_commit(m: &mut EnvyMapped, t: u32) -> u32
 pub extern "C" fn envy_mapped_abort(m: &mut EnvyMapped, t: u32) -> u32
     requires { InBlock m.old.at }
     ensures live { InBlock m.new.at }
+    ensures steady { AreSteady m.old.slot.now m.new.slot.now }
     ensures aborts { DoesAbort m.old.slot.now m.new.slot.now t result }
 {
     let slot = lend(m);
     let code = abort(slot, t);
-    *m = EnvyMapped::of(slot);
+    give_back(m, slot);
     code
 }
 
@@ -107,11 +115,12 @@ pub extern "C" fn envy_mapped_abort(m: &mut EnvyMapped, t: u32) -> u32
 pub extern "C" fn envy_mapped_tick(m: &mut EnvyMapped, did: &mut u32) -> u32
     requires { InBlock m.old.at }
     ensures live { InBlock m.new.at }
+    ensures steady { AreSteady m.old.slot.now m.new.slot.now }
     ensures ticks { DoesTick m.old.slot.now m.new.slot.now result did.old did.new }
 {
     let slot = lend(m);
     let code = tick(slot, did);
-    *m = EnvyMapped::of(slot);
+    give_back(m, slot);
     code
 }
 
@@ -120,11 +129,12 @@ pub extern "C" fn envy_mapped_tick(m: &mut EnvyMapped, did: &mut u32) -> u32
 pub extern "C" fn envy_mapped_counts(m: &mut EnvyMapped, found: &mut EnvyCounts) -> u32
     requires { InBlock m.old.at }
     ensures live { InBlock m.new.at }
+    ensures steady { AreSteady m.old.slot.now m.new.slot.now }
     ensures same { m.new.slot.now ≡ m.old.slot.now }
     ensures counts { DoesCount m.old.slot.now result found.old found.new }
 {
     let slot = lend(m);
     let code = counts(slot, found);
-    *m = EnvyMapped::of(slot);
+    give_back(m, slot);
     code
 }

@@ -1,8 +1,10 @@
 // A place for a memory, as a caller in C holds it.
 ghost use Rattle.std.specs.Prelude.{◌≡◌, Option};
 ghost use Rattle.std.specs.Borrow.{MutBor};
+ghost use Rattle.std.specs.Option.{ForSome};
 ghost use Rattle.envy_memory.specs.Picture.{Picture};
 ghost use Rattle.envy_mapped.specs.Held.{slot_owns, lent_row};
+ghost use Rattle.envy_mapped.specs.Steady.{IsSteady};
 ghost use denote.RawPtr.{InBlock};
 
 use envy_memory::Memory;
@@ -52,10 +54,32 @@ impl EnvyMapped {
     }
 }
 
+// What the board of a memory over regions says.
+fn steady(slot: &Option<Memory<RegionBoard<'static>>>)
+    ensures { ForSome slot.now IsSteady }
+{
+    if let Some(memory) = slot {
+        let _board = memory.board();
+    }
+}
+
 /// Takes the place out of a handle, which is one of no place then.
 pub fn lend(m: &mut EnvyMapped) -> &'static mut Option<Memory<RegionBoard<'static>>>
     requires { InBlock m.old.at }
-    ensures { result ≡ m.old.slot }
+    ensures slot { result ≡ m.old.slot }
+    ensures steady { ForSome result.now IsSteady }
 {
-    std::mem::replace(m, EnvyMapped::none()).into_slot()
+    let slot = std::mem::replace(m, EnvyMapped::none()).into_slot();
+    steady(&*slot);
+    slot
+}
+
+/// Puts a place back into a handle.
+pub fn give_back(m: &mut EnvyMapped, slot: &'static mut Option<Memory<RegionBoard<'static>>>)
+    ensures slot { m.new.slot ≡ slot.entry }
+    ensures live { InBlock m.new.at }
+    ensures steady { ForSome slot.entry.now IsSteady }
+{
+    steady(&*slot);
+    *m = EnvyMapped::of(slot);
 }

@@ -1,8 +1,8 @@
-ghost use Rattle.std.specs.Prelude.{◌≡◌, Some, MatchResult};
+ghost use Rattle.std.specs.Prelude.{◌≡◌, Some, Ok, MatchResult};
 ghost use Rattle.envy_calls.specs.Setups.{setup_of};
 ghost use Rattle.envy_mapped.specs.Opening.{Attached, Formatted, Given, HasSizes, Misfits, Opens, RefusesAttach, RefusesFormat};
 ghost use Rattle.envy_mapped.specs.Regions.{AreWhole};
-ghost use Rattle.envy_policy.specs.Setup.{IsSetup};
+ghost use Rattle.envy_policy.specs.Setup.{IsSetup, checked};
 
 use crate::handle::Slot;
 use envy_calls::{Code, EnvySetup, attach, checked_setup, format_answer};
@@ -20,7 +20,7 @@ fn setup_for(
     erases: &[u64],
 ) -> Result<Setup, Code>
     ensures { MatchResult result
-        (λ setup. (setup_of given.now ≡ Some setup) × IsSetup setup × HasSizes setup.shape flash.now sram.now erases.now)
+        (λ setup. (setup_of given.now ≡ Some setup) × (checked setup ≡ Ok tt) × IsSetup setup × HasSizes setup.shape flash.now sram.now erases.now)
         (Misfits (record { setup = given.now; flash = flash.now; sram = sram.now; erases = erases.now })) }
 {
     let setup = checked_setup(given)?;
