@@ -4,6 +4,7 @@
 use crate::planned_board::{Plan, PlannedMaker};
 use crate::tests::{Streams, check_text, run_over, run_with, whole};
 use envy_base::Board;
+use envy_map::words;
 use std::test::Fail;
 
 /// The first six lines of the report on a thousand transfers.
@@ -54,6 +55,24 @@ stat hits 9695 misses 1305 flushes 2989 copies 2454 moves 0 erases 155 swaps 0 c
         .as_slice();
     assert!(rt; sink.written() == told);
     check_text(&rt, &ended, b"")
+}
+
+#[test]
+fn a_load_whose_power_fails_is_reported(rt: HostRuntime) -> Result<(), Fail> {
+    let (ended, sink) = run_with(rt.alloc(), &["tpca", "--every=7"], &whole(b""))?;
+    assert_eq!(rt; (ended.status, ended.why), (0, 0));
+    let told = b"transfers 1000
+branches -37333876
+tellers -37333876
+accounts -37333876
+history -37333876
+deltas -37333876
+cuts 143
+stat hits 9916 misses 1731 flushes 3002 copies 2548 moves 0 erases 168 swaps 0 cost 84
+"
+        .as_slice();
+    assert!(rt; sink.written() == told);
+    Ok(())
 }
 
 #[test]
@@ -150,4 +169,45 @@ fn a_bad_operation_is_not_reported(rt: HostRuntime) -> Result<(), Fail> {
     assert_eq!(rt; (ended.status, ended.lines), (7, 0));
     assert!(rt; sink.written().is_empty());
     check_text(&rt, &ended, b"envy: bad flash operation")
+}
+
+// Formatting makes 16 operations of flash, so that the hundredth comes in the load.
+#[test]
+fn a_bad_operation_in_the_load_is_not_reported(rt: HostRuntime) -> Result<(), Fail> {
+    let mut maker = PlannedMaker {
+        plan: Plan::BadHundredth(3),
+    };
+    let (ended, sink) = run_over(rt.alloc(), &["tpca"], &whole(b""), &mut maker)?;
+    assert_eq!(rt; (ended.status, ended.lines), (7, 0));
+    assert!(rt; sink.written().is_empty());
+    check_text(&rt, &ended, b"envy: bad flash operation")?;
+    let Some(board) = &ended.board else {
+        return Err(Fail::new("no board"));
+    };
+    assert_eq!(rt; board.inner.bads(), 1);
+    assert!(rt; 0 < words(&board.shape()));
+    assert_eq!(rt; board.inner.peek(0), 0x654E_5679_464C_5348);
+    Ok(())
+}
+
+// Thirty-seven times 7 is 259, and times 14 it is 518, which is 6 modulo 512.
+#[test]
+fn a_cut_is_planned_at_the_number_of_the_transfer(rt: HostRuntime) -> Result<(), Fail> {
+    for (transfers, cut) in [
+        ("1", (1, 0)),
+        ("7", (1, 0)),
+        ("8", (260, 7)),
+        ("15", (7, 14)),
+    ] {
+        let words = ["tpca", "--every", "7", "--transfers", transfers];
+        let mut maker = PlannedMaker {
+            plan: Plan::Nothing,
+        };
+        let (ended, _) = run_over(rt.alloc(), &words, &whole(b""), &mut maker)?;
+        let Some(board) = &ended.board else {
+            return Err(Fail::new("no board"));
+        };
+        assert_eq!(rt; board.last_cut, cut, "at {transfers}");
+    }
+    Ok(())
 }
