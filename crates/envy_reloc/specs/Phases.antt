@@ -187,6 +187,11 @@ pub record CountsBegun (old : Chart) (plan : Plan) (new : Chart) (then_plan : Pl
   pub erases : Tally (sum old.erases) plan.erased (sum new.erases) then_plan.erased
   pub since : Tally (sum old.erases) plan.since (sum new.erases) then_plan.since
 
+-- a program is counted as a copy only where no move stays, and as a move only where one does
+pub record CountsApart (old : Chart) (plan then_plan : Plan) : Type 0 where
+  pub copies : then_plan.copied ≢ plan.copied → (v : ℕ) × (old.fields.job ≡ Some (Copy v)) × HasNoMove old.shape old.fields v plan
+  pub moves : then_plan.moved ≢ plan.moved → (v : ℕ) × (old.fields.job ≡ Some (Copy v)) × (HasNoMove old.shape old.fields v plan → ⊥)
+
 -- the first move that stays and the position that it goes to, or none where no move stays
 abbrev pub NextMove : Shape → Fields → ℕ → Plan → Option Move → Plan → Type 0
 NextMove sh f v plan (Some next) then_plan =

@@ -9,7 +9,7 @@ ghost use Rattle.envy_layout.specs.Same.{Same};
 ghost use Rattle.envy_layout.specs.Sound.{IsSound, IsSpare};
 ghost use Rattle.envy_space.specs.Pool.{PoolAgrees};
 ghost use Rattle.envy_table.specs.Agreement.{AreCurrent};
-ghost use Rattle.envy_reloc.specs.Phases.{Does, SameOnce, CountsBegun, CopiesLeft, MovesRow, Spoils, SpoilsRow, SpoilsTarget, counted_by};
+ghost use Rattle.envy_reloc.specs.Phases.{Does, SameOnce, CountsBegun, CountsApart, CopiesLeft, MovesRow, Spoils, SpoilsRow, SpoilsTarget, counted_by};
 ghost use Rattle.envy_table.specs.Hits.{Rests};
 ghost use Rattle.envy_reloc.specs.Cleaning.{Cleans};
 ghost use Rattle.envy_reloc.specs.Effort.{programs_of, erases_of, Leaves, Spent};
@@ -43,7 +43,7 @@ pub enum Phase {
 }
 
 impl Reloc {
-    #[tactic(auto, using(crate::proofs::Counts::counts_by_copy, crate::proofs::Counts::counts_by_move, crate::proofs::Counts::counts_by_erase, crate::proofs::Counts::counts_by_none, crate::proofs::Counts::counts_by_nothing))]
+    #[tactic(auto, using(crate::proofs::Counts::counts_by_copy, crate::proofs::Counts::counts_by_move, crate::proofs::Counts::counts_by_erase, crate::proofs::Counts::counts_by_none, crate::proofs::Counts::counts_by_nothing, crate::proofs::Counts::apart_by_none))]
     /// Does the next step of the job, which is at most one program or one erase beside writes of SRAM. Every
     /// word of the array stays. After a bad program the spare is to be erased, and the moves are dropped.
     pub fn step<B: Board>(
@@ -77,6 +77,7 @@ impl Reloc {
         ensures counted { IfOk result (λ phase. self.new ≡ record (counted_by phase self.old) { moves = self.new.moves; mark = self.new.mark }) }
         ensures spoils { IsErrOf result Trouble.Bad → Spoils (chart (B.state board.old)) self.old (chart (B.state board.new)) self.new }
         ensures counts { CountsBegun (chart (B.state board.old)) self.old (chart (B.state board.new)) self.new }
+        ensures apart { CountsApart (chart (B.state board.old)) self.old self.new }
         ensures job { IsErrOf result Trouble.Bad → (chart (B.state board.new)).fields.job ≡ Some Erase }
         ensures dropped { IsErrOf result Trouble.Bad → (chart (B.state board.old)).fields.job ≢ Some Erase → self.new.moves ≡ [] }
         ensures bad { IsErrOf result Trouble.Bad → (B.state board.new).bads ≡ up (B.state board.old).bads }
@@ -100,7 +101,7 @@ impl Reloc {
         }
     }
 
-    #[tactic(auto, using(crate::proofs::Counts::counts_by_copy, crate::proofs::Counts::counts_by_move, crate::proofs::Counts::counts_by_erase, crate::proofs::Counts::counts_by_none, crate::proofs::Counts::counts_by_nothing))]
+    #[tactic(auto, using(crate::proofs::Counts::counts_by_copy, crate::proofs::Counts::counts_by_move, crate::proofs::Counts::counts_by_erase, crate::proofs::Counts::counts_by_none, crate::proofs::Counts::counts_by_nothing, crate::proofs::Counts::apart_by_none))]
     // A step of a copy: a move, or a copied row, or the switch where nothing is left.
     fn go_on<B: Board>(
         &mut self,
@@ -126,6 +127,7 @@ impl Reloc {
         ensures parted { IsTrue (B.state board.new).on → AreParted (chart (B.state board.new)).fields.slots (chart (B.state board.new)).fields.undos (chart (B.state board.new)).fields.places }
         ensures shape { space.new.shape ≡ space.old.shape }
         ensures counts { CountsBegun (chart (B.state board.old)) self.old (chart (B.state board.new)) self.new }
+        ensures apart { CountsApart (chart (B.state board.old)) self.old self.new }
         ensures job { IsErrOf result Trouble.Bad → (chart (B.state board.new)).fields.job ≡ Some Erase }
         ensures dropped { IsErrOf result Trouble.Bad → self.new.moves ≡ [] }
         ensures within { (n e s : ℕ) → Leaves (chart (B.state board.old)) self.old n e s → Same n e (chart (B.state board.old)) (chart (B.state board.new)) }

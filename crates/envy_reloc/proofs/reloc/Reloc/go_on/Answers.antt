@@ -1,4 +1,4 @@
-use Rattle.std.proofs.Common.{◌≡◌, inl, inr, ℕ, List, Option, sym, ap, subst, arith}
+use Rattle.std.proofs.Common.{◌≡◌, ◌∙◌, inl, inr, ℕ, List, Option, sym, ap, subst, arith}
 use Rattle.envy_base.specs.Shape.{IsShape}
 use Rattle.envy_base.specs.State.{IsBoard}
 use Rattle.envy_base.specs.declared.shape.Shape.{Shape}
@@ -13,6 +13,7 @@ use Rattle.envy_reloc.specs.declared.moving.Move.{Move}
 use Rattle.envy_reloc.specs.Phases.{NextMove}
 use Rattle.envy_reloc.specs.Plan.{Plan, IsPlanOf}
 use Rattle.envy_reloc.specs.Rows.{NextKept, IsLowestRoom}
+use Rattle.envy_reloc.proofs.Counts.{apart_by_move}
 use Rattle.envy_reloc.proofs.CopyLemmas.{AllCopied-next, CopiedWhole-made}
 use Rattle.envy_reloc.proofs.StepLemmas.{Found, spare-is, within-move, within-copy, err-of, SpoilsCopy-found, CopiesOne-found, SwitchesSegment-made}
 use Rattle.envy_reloc.proofs.PlanLemmas.{Plan-switched}
@@ -154,3 +155,15 @@ returns-in_ok-switch_segment-in-None-clause-does g c =
     let next = subst (λ (l : Option Left). NextKept old.shape old.fields c.args.segment mid.mark l) c.in-None.is (subst (λ (m : ℕ). NextKept old.shape old.fields c.args.segment m c.in_ok-left.field-0) (ap (λ (p : Plan). p.mark) c.self.view_is) c.in_ok-left.ensures.next) in
     SwitchesSegment-made old (chart (g.B.Board.state c.switch_segment.new.board)) c.args.self.now mid c.args.segment c.spare-spare.result c.requires.copying none.0 c.in_ok-next.ensures.plan none.1 c.next_move.ensures.becomes
     (spare-is old.shape old.fields c.args.space.now c.spare-spare.result c.requires.pool c.spare-spare.ensures.spare) next c.in_ok-switch_segment-in-None.ensures.switches c.in_ok-switch_segment-in-None.ensures.flash
+
+pub returns-in_err-move_next-clause-apart : goal.returns-in_err-move_next-clause-apart
+returns-in_err-move_next-clause-apart g c =
+    let old = chart (g.B.Board.state c.args.board.now) in
+    let next = subst (λ (m : Option Move). NextMove old.shape old.fields c.args.segment c.args.self.now m c.next_move.new.self) c.in-Some.is c.in_ok-next.ensures.next in
+    apart_by_move old c.args.segment c.args.self.now c.next_move.new.self c.move_next.new.self c.in-Some.next c.requires.copying next (c.move_next.ensures.copied ∙ ap (λ (p : Plan). p.copied) c.next_move.ensures.becomes)
+
+pub returns-in-Some-clause-apart : goal.returns-in-Some-clause-apart
+returns-in-Some-clause-apart g c =
+    let old = chart (g.B.Board.state c.args.board.now) in
+    let next = subst (λ (m : Option Move). NextMove old.shape old.fields c.args.segment c.args.self.now m c.next_move.new.self) c.in-Some.is c.in_ok-next.ensures.next in
+    apart_by_move old c.args.segment c.args.self.now c.next_move.new.self c.move_next.new.self c.in-Some.next c.requires.copying next (c.move_next.ensures.copied ∙ ap (λ (p : Plan). p.copied) c.next_move.ensures.becomes)
