@@ -5,6 +5,7 @@ use Rattle.envy_base.specs.Counting.{up}
 use Rattle.envy_base.specs.State.{State}
 use Rattle.envy_base.specs.declared.counts.Counts.{Counts}
 use Rattle.envy_map.specs.Fields.{Chart, chart}
+use Rattle.envy_layout.specs.Formatting.{IsEmpty}
 use Rattle.envy_layout.specs.Same.{Counted}
 use Rattle.envy_layout.specs.Stands.{Holds, Stands}
 use Rattle.envy_frames.specs.Agreement.{held_by_default}
@@ -34,10 +35,11 @@ pub record IsStarted (setup : Setup) (p : Picture) : Type 0 where
   pub limit : p.limit ≡ setup.limit
   pub mark : p.mark ≡ setup.mark
 
--- the board stands for zeros, and each segment is worn once
+-- The board stands for zeros: each page is absent, no job runs, each segment is worn once and empty, and position k
+-- names segment k.
 pub record IsFresh (c : Chart) : Type 0 where
   pub stands : Stands c (zeros c.shape.pages c.shape.shadows)
-  pub wears : (s : ℕ) → s < c.shape.segments → slice_index c.fields.wears s ≡ 1
+  pub empty : IsEmpty 2 c
 
 -- formatting was begun: power is on, the setup checks and is that of the board
 pub record MayFormat (old : State) (setup : Setup) : Type 0 where

@@ -7,6 +7,8 @@ ghost use Rattle.envy_layout.specs.Words.{durable};
 ghost use Rattle.envy_map.specs.Codes.{the_magic};
 ghost use Rattle.envy_memory.specs.Calls.{fresh, lit, planned, pulled};
 ghost use Rattle.envy_memory.specs.Faults.{IsNoRefusal, trouble_of};
+ghost use Rattle.envy_memory.specs.Picture.{counts_of};
+ghost use Rattle.envy_memory.specs.Restarts.{Restarts};
 ghost use Rattle.envy_memory.specs.Sheets.{IsHeld, sheet_of};
 
 use crate::faults::{BeginFault, EndFault, LoadFault, PutFault, ReviveFault};
@@ -57,6 +59,9 @@ impl<B: Bench> OneTx<B> {
         requires { self.old.memory.chart.on ≡ false }
         ensures words { (sheet_of self.new.memory self.new.begun).kept ≡ (sheet_of self.old.memory self.old.begun).kept }
         ensures ok { OnOk result (IsTrue self.new.memory.chart.on × (self.new.begun ≡ false)) }
+        ensures restarts { OnOk result (Restarts self.old.memory self.new.memory) }
+        ensures counts { counts_of self.new.memory.parts ≡ counts_of self.old.memory.parts }
+        ensures setup { (self.new.memory.limit ≡ self.old.memory.limit) × (self.new.memory.mark ≡ self.old.memory.mark) }
         ensures dead { (result ≡ Err ReviveFault.Dead) ↔ (self.old.memory.chart.lives ≡ 0) }
         ensures off { (result ≡ Err ReviveFault.Off) ↔ ((0 < self.old.memory.chart.lives) × (self.new.memory.chart.on ≡ false)) }
         ensures cut { (result ≡ Err ReviveFault.Off) → self.old.memory.chart.cuts < 2 ^ 64 - 1 → self.old.memory.chart.cuts < self.new.memory.chart.cuts }

@@ -1,6 +1,5 @@
 use Rattle.std.proofs.Common.{◌∙◌, inr, refl}
 use Rattle.envy_map.specs.Fields.{chart}
-use Rattle.envy_layout.specs.Formatting.{IsEmpty}
 use Rattle.envy_layout.proofs.Composition.{cause}
 use Rattle.envy_memory.specs.Formats.{MayFormat}
 use Rattle.envy_memory.proofs.FormatLemmas.{Holds-empty, between, IsMemory-new, IsStarted-new}
@@ -20,7 +19,7 @@ returns-in-Ok-format_board-clause-made g c =
     let e = o.formats.1 in
     record {
       may = c.in_default.ensures.reason;
-      fresh = record { stands = record { on = o.formats.0; holds = Holds-empty new e }; wears = IsEmpty.wears e };
+      fresh = record { stands = record { on = o.formats.0; holds = Holds-empty new e }; empty = e };
       begins = IsStarted-new new c.args.setup c.in-Ok.parts c.in-Ok.owned e c.in-Ok.ensures.parts c.in-Ok.ensures.owned;
       once = o.erases;
     }
