@@ -1,9 +1,9 @@
 -- Words that break one rule of the tree.
-use Rattle.std.proofs.Common.{◌≡◌, ℕ, ◌+◌, ◌<◌, ◌≤◌, List, [], ◌∷◌, get_or, refl, sym, subst, arith, lit≤, lit<}
+use Rattle.std.proofs.Common.{◌≡◌, ℕ, ◌+◌, ◌<◌, ◌≤◌, List, [], ◌∷◌, length, get_or, refl, sym, subst, arith, lit≤, lit<}
 use Rattle.envy_heap.specs.Pieces.{handed}
 use Rattle.envy_heap.proofs.Heaps.{Chain-one}
 use Rattle.envy_btree.specs.Index.{IsIndex}
-use Rattle.envy_btree.specs.Examples.{one_leaf, two_levels, named_twice, uneven, idle_piece, free_root as freed}
+use Rattle.envy_btree.specs.Examples.{one_leaf, two_levels, named_twice, uneven, idle_piece, free_root as freed, too_many, crowded, one_child, crossed, three_levels}
 use Rattle.envy_btree.specs.Rules.{ObeysRules, Leads}
 use Rattle.envy_btree.proofs.Ruling.{index-obeys}
 
@@ -72,3 +72,33 @@ free-root es i =
     let f : 0 ∷ [] ≡ i.planted.free = Chain-one freed 1 (0 ∷ []) i.planted.free (refl, refl) i.planted.heap.chain in
     let out : handed freed (0 ∷ []) 0 ≡ 1 = subst (λ x. handed freed x 0 ≡ 1) (sym f) (r.named [] 0 refl) in
     apart 1 0 (lit< tt) out
+
+pub full-by-one : (es : List (ℕ × ℕ)) → IsIndex too_many es → ⊥
+full-by-one es i =
+    let few : length es ≤ 14 = i.few in
+    let count : 15 ≡ length es = i.count in
+    omega arith
+
+pub leaf-of-32 : (es : List (ℕ × ℕ)) → IsIndex crowded es → ⊥
+leaf-of-32 es i =
+    let r = rules crowded 0 es refl i in
+    let few : 32 ≤ 31 = r.most [] 0 refl in
+    omega arith
+
+pub one-child : (es : List (ℕ × ℕ)) → IsIndex one_child es → ⊥
+one-child es i =
+    let r = rules one_child 1 es refl i in
+    let some : 1 ≤ 0 = r.root_least refl in
+    omega arith
+
+pub keys-crossed : (es : List (ℕ × ℕ)) → IsIndex crossed es → ⊥
+keys-crossed es i =
+    let r = rules crossed 3 es refl i in
+    let less : 30 < 15 = r.rising [] 3 0 refl (lit< tt) in
+    omega arith
+
+pub inner-of-15 : (es : List (ℕ × ℕ)) → IsIndex (three_levels 15) es → ⊥
+inner-of-15 es i =
+    let r = rules (three_levels 15) 32 es refl i in
+    let few : 15 ≤ 14 = r.least 0 [] 30 (refl, lit≤ tt, refl) in
+    omega arith

@@ -49,3 +49,31 @@ idle_piece = padded 640 (head_words 1 2 1 ++ node_words 0 (5 ∷ []) (50 ∷ [])
 -- a leaf with no pair, whose piece is free too
 abbrev pub free_root : List ℕ
 free_root = padded 640 (1 ∷ 1 ∷ 1 ∷ [])
+
+-- a leaf of 15 pairs, which 9 pieces have no room for
+abbrev pub too_many : List ℕ
+too_many = padded 640 (head_words 1 1 15 ++ leaf_of 0 15)
+
+-- a leaf of 32 pairs: its last key and its first value are one word
+abbrev pub crowded : List ℕ
+crowded = padded 768 (head_words 1 1 32 ++ (64 ∷ range_with_len 1 63))
+
+-- an inner root with one child and no key
+abbrev pub one_child : List ℕ
+one_child = padded 704 (head_words 2 2 15 ++ leaf_of 0 15 ++ node_words 1 [] (0 ∷ []))
+
+-- three leaves under a root whose keys have changed places, so that no pair fits between them
+abbrev pub crossed : List ℕ
+crossed = padded 832 (head_words 4 4 45 ++ leaf_of 0 15 ++ leaf_of 15 15 ++ leaf_of 30 15 ++ node_words 1 (30 ∷ 15 ∷ []) (0 ∷ 1 ∷ 2 ∷ []))
+
+-- an inner node over these n leaves of 15 pairs each, the pieces from first on
+abbrev pub over_leaves : ℕ → ℕ → List ℕ
+over_leaves first n = node_words 1 (map (λ i. 15 * i) (range_with_len (first + 1) (n - 1))) (range_with_len first n)
+
+-- two such nodes under a root
+abbrev pub three_levels : ℕ → List ℕ
+three_levels n = padded 2688 (head_words (2 * n + 3) (2 * n + 3) (30 * n)
+    ++ flat_map (λ i. leaf_of (15 * i) 15) (range_with_len 0 (2 * n))
+    ++ over_leaves 0 n
+    ++ over_leaves n n
+    ++ node_words 1 (15 * n ∷ []) (2 * n ∷ (2 * n + 1) ∷ []))

@@ -4,7 +4,7 @@ ghost use Rattle.envy_btree.specs.declared.line.IndexLine.{IndexLine};
 ghost use Rattle.envy_btree.specs.Grammar.{index_line_of};
 ghost use Rattle.envy_btree.specs.Spelling.{ReadsIndex};
 ghost use Rattle.envy_heap.specs.Pieces.{IsHeap};
-ghost use Rattle.envy_btree.specs.Examples.{one_leaf, two_levels, row_of, named_twice, uneven, idle_piece, free_root};
+ghost use Rattle.envy_btree.specs.Examples.{one_leaf, two_levels, row_of, named_twice, uneven, idle_piece, free_root, too_many, crowded, one_child, crossed, three_levels};
 ghost use Rattle.envy_btree.specs.Index.{IsIndex};
 ghost use Rattle.envy_btree.specs.Rules.{ObeysRules};
 
@@ -25,9 +25,11 @@ pub fn hand_made_words_are_maps()
     ensures levels { IsIndex (two_levels 15 15) (row_of 0 30) }
 {}
 
-/// Words made by hand that break one rule stand for no map: a leaf of 14 pairs under a root, a key of the root that is
-/// one too small or too large, keys that fall, another number of pairs, a piece named twice, a leaf
-/// deeper than another, a piece handed out that is no node, and a root that is free.
+/// Words made by hand that break one rule stand for no map: a leaf of 14 pairs under a root, a key of the
+/// root that is one too small or too large, keys that fall in a leaf, another number of pairs, a piece
+/// named twice, a leaf deeper than another, a piece handed out that is no node, a root that is free, one
+/// pair more than the pieces have room for, a leaf of 32 pairs, a root of one child, keys that fall in a
+/// root, and inner nodes of 15 children under a root.
 pub fn broken_words_are_no_map()
     ensures leaf_of_14 { (es : List (ℕ × ℕ)) → IsIndex (two_levels 14 14) es → ⊥ }
     ensures key_too_small { (es : List (ℕ × ℕ)) → IsIndex (two_levels 15 14) es → ⊥ }
@@ -38,6 +40,11 @@ pub fn broken_words_are_no_map()
     ensures deeper { (es : List (ℕ × ℕ)) → IsIndex uneven es → ⊥ }
     ensures idle { (es : List (ℕ × ℕ)) → IsIndex idle_piece es → ⊥ }
     ensures free { (es : List (ℕ × ℕ)) → IsIndex free_root es → ⊥ }
+    ensures too_many { (es : List (ℕ × ℕ)) → IsIndex too_many es → ⊥ }
+    ensures leaf_of_32 { (es : List (ℕ × ℕ)) → IsIndex crowded es → ⊥ }
+    ensures one_child { (es : List (ℕ × ℕ)) → IsIndex one_child es → ⊥ }
+    ensures falling_above { (es : List (ℕ × ℕ)) → IsIndex crossed es → ⊥ }
+    ensures inner_of_15 { (es : List (ℕ × ℕ)) → IsIndex (three_levels 15) es → ⊥ }
 {}
 
 /// Words that are all 0 stand for the empty map.

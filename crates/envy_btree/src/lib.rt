@@ -22,6 +22,8 @@ mod shrinking;
 #[cfg(test)]
 mod tests;
 mod uprooting;
+#[cfg(test)]
+mod watched_tests;
 
 pub use fault::TreeFault;
 pub use getting::get;

@@ -1,4 +1,4 @@
-use Rattle.envy_btree.proofs.Broken.{leaf-of-14, key-too-small, key-too-large, falling, miscounted, twice, deeper, idle, free-root}
+use Rattle.envy_btree.proofs.Broken.{leaf-of-14, key-too-small, key-too-large, falling, miscounted, twice, deeper, idle, free-root, full-by-one, leaf-of-32, one-child, keys-crossed, inner-of-15}
 use Rattle.envy_btree.proofs.laws.broken_words_are_no_map.Goals as goal
 
 pub returns-clause-leaf_of_14 : goal.returns-clause-leaf_of_14
@@ -27,3 +27,18 @@ returns-clause-free c es i = free-root es i
 
 pub returns-clause-deeper : goal.returns-clause-deeper
 returns-clause-deeper c es i = deeper es i
+
+pub returns-clause-too_many : goal.returns-clause-too_many
+returns-clause-too_many c es i = full-by-one es i
+
+pub returns-clause-leaf_of_32 : goal.returns-clause-leaf_of_32
+returns-clause-leaf_of_32 c es i = leaf-of-32 es i
+
+pub returns-clause-one_child : goal.returns-clause-one_child
+returns-clause-one_child c es i = one-child es i
+
+pub returns-clause-falling_above : goal.returns-clause-falling_above
+returns-clause-falling_above c es i = keys-crossed es i
+
+pub returns-clause-inner_of_15 : goal.returns-clause-inner_of_15
+returns-clause-inner_of_15 c es i = inner-of-15 es i
