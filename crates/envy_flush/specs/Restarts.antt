@@ -4,6 +4,8 @@ use Rattle.envy_base.specs.declared.fields.Job.TheVariants.{Idle, Erase}
 use Rattle.envy_base.specs.declared.fields.Slot.TheVariants.{Vacant}
 use Rattle.envy_base.specs.declared.fields.Undo.TheVariants.{Clear}
 use Rattle.envy_map.specs.Fields.{Chart, undo, slot}
+use Rattle.envy_reloc.specs.Settling.{Settles as SettlesJob}
+use Rattle.envy_txn.specs.Ending.{Settles as SettlesOwners}
 use Rattle.envy_flush.specs.declared.parts.Parts.{Parts}
 
 -- no transaction is open, each undo is clear, and a job is to erase the spare at most
@@ -11,6 +13,14 @@ pub record IsSettled (c : Chart) : Type 0 where
   pub undos : (p : ℕ) → p < c.shape.pages → undo c.fields p ≡ Some Clear
   pub slots : (t : ℕ) → t < 64 → slot c.fields t ≡ Some Vacant
   pub job : (c.fields.job ≡ Some Idle) ⊎ (c.fields.job ≡ Some Erase)
+
+-- First the transactions that power left open were undone, and then the job was settled. Nothing else of the map
+-- changed, and flash is as before.
+pub record IsRestarted (old new : Chart) : Type 0 where
+  pub undone : Chart
+  pub undoes : SettlesOwners old undone
+  pub settles : SettlesJob undone.shape undone.fields.job undone.fields new.fields
+  pub flash : new.flash ≡ old.flash
 
 -- no count changed
 pub record SameCounts (was now : Parts) : Type 0 where

@@ -1,9 +1,10 @@
 -- What a tick does, by the first rule that applies.
-use Rattle.std.specs.Prelude.{◌≡◌, ◌≢◌, ◌⊎◌, ℕ, ◌+◌, ◌<◌, ◌≤◌, [], ◌∷◌, length, sum, Some, slice_get, slice_index, slice_set}
+use Rattle.std.specs.Prelude.{◌≡◌, ◌≢◌, ◌⊎◌, ℕ, ◌+◌, ◌<◌, ◌≤◌, [], ◌∷◌, length, sum, None, Some, slice_get, slice_index, slice_set}
 use Rattle.envy_base.specs.Counting.{up, Tally}
-use Rattle.envy_base.specs.declared.fields.Job.TheVariants.{Idle as IdleJob}
+use Rattle.envy_base.specs.declared.fields.Job.TheVariants.{Idle as IdleJob, Copy}
 use Rattle.envy_frames.specs.declared.held.Held.{Held}
-use Rattle.envy_map.specs.Fields.{Chart}
+use Rattle.envy_map.specs.Fields.{Chart, with_fields}
+use Rattle.envy_map.specs.Writes.{with_job}
 use Rattle.envy_policy.specs.declared.choice.Choice.{Choice}
 use Rattle.envy_policy.specs.declared.choice.Choice.TheVariants.{Free, Clean}
 use Rattle.envy_policy.specs.History.{flushed, cleaned}
@@ -36,20 +37,13 @@ pub record TicksFlush (did : Did) (old : Chart) (was : Parts) (new : Chart) (now
 abbrev pub IsNoneDue : ℕ → Chart → ℕ → Type 0
 IsNoneDue limit c since = (s : Swap) → IsDue c.shape c.fields limit since s → ⊥
 
--- the fourth rule: a swap begins
+-- the fourth rule: a swap begins, without moves, and erases are counted anew: nothing else changes
 pub record TicksSwap (limit : ℕ) (did : Did) (old : Chart) (was : Parts) (new : Chart) (now : Parts) : Type 0 where
   pub began : did ≡ Began
   pub swap : Swap
   pub due : IsDue old.shape old.fields limit was.reloc.since swap
-  pub begins : Begins swap.worn old new
-  pub stages : now.stages ≡ swap.young ∷ swap.worn ∷ []
-  pub moves : now.reloc.moves ≡ []
-  pub swaps : now.swaps ≡ up was.swaps
-  pub since : now.reloc.since ≡ 0
-  pub none : CountsNone was now
-  pub flushes : now.flushes ≡ was.flushes
-  pub chooser : now.chooser ≡ was.chooser
-  pub frames : now.frames ≡ was.frames
+  pub fields : new ≡ with_fields old (with_job (Some (Copy (slice_index old.fields.positions swap.worn))) old.fields)
+  pub parts : now ≡ record was { stages = swap.young ∷ swap.worn ∷ []; swaps = up was.swaps; reloc = record was.reloc { moves = []; aside = None; mark = 0; since = 0 } }
 
 -- nothing is done
 abbrev pub TicksNone : ℕ → Did → Chart → Parts → Chart → Parts → Type 0

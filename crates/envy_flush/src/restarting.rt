@@ -7,7 +7,7 @@ ghost use Rattle.envy_layout.specs.Words.{live, durable};
 ghost use Rattle.envy_policy.specs.History.{started};
 ghost use Rattle.envy_flush.specs.Agreement.{Fits, Ready};
 ghost use Rattle.envy_table.specs.Hits.{Empties};
-ghost use Rattle.envy_flush.specs.Restarts.{IsSettled, SameCounts};
+ghost use Rattle.envy_flush.specs.Restarts.{IsSettled, IsRestarted, SameCounts};
 
 use crate::parts::Parts;
 use envy_base::{Board, Off};
@@ -47,6 +47,7 @@ fn settle_all<B: Board>(board: &mut B) -> Result<(), Off>
     requires version { (chart (B.state board.old)).fields.version ≡ 2 }
     ensures durable { SameDurable 0 0 (chart (B.state board.old)) (chart (B.state board.new)) }
     ensures settled { OnOk result (IsSettled (chart (B.state board.new))) }
+    ensures restarted { OnOk result (IsRestarted (chart (B.state board.old)) (chart (B.state board.new))) }
     ensures on { OnOk result (IsTrue (B.state board.new).on) }
     ensures off { OnErr result ((B.state board.new).on ≡ false) }
 {
@@ -64,6 +65,7 @@ pub fn restart<B: Board>(board: &mut B, parts: &mut Parts) -> Result<(), Off>
     ensures durable { SameDurable 0 0 (chart (B.state board.old)) (chart (B.state board.new)) }
     ensures live { OnOk result (live (chart (B.state board.new)) ≡ durable (chart (B.state board.old))) }
     ensures settled { OnOk result (IsSettled (chart (B.state board.new))) }
+    ensures restarted { OnOk result (IsRestarted (chart (B.state board.old)) (chart (B.state board.new))) }
     ensures ready { OnOk result (Ready (chart (B.state board.new)) parts.new) }
     ensures fits { Fits (B.state board.new).shape parts.new }
     ensures heats { OnOk result (parts.new.chooser ≡ started parts.old.chooser.policy parts.old.chooser.positions) }

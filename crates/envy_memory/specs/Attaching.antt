@@ -1,11 +1,13 @@
 -- What attaching to a board may answer, and what it leaves.
 use Rattle.std.specs.Prelude.{◌≡◌, ◌≢◌, ◌⊎◌, ◌-◌, ◌^◌, ◌<◌, false, IsTrue, Ok, Err}
 use Rattle.envy_base.specs.State.{State}
-use Rattle.envy_map.specs.Fields.{Chart, chart, IsFormatted, shape_of}
+use Rattle.envy_map.specs.Fields.{Chart, chart, with_fields, IsFormatted, shape_of}
 use Rattle.envy_layout.specs.Same.{Kept}
 use Rattle.envy_layout.specs.Sound.{IsSound}
 use Rattle.envy_layout.specs.Stands.{Stands}
+use Rattle.envy_layout.specs.Upgrading.{upgraded}
 use Rattle.envy_layout.specs.Words.{durable}
+use Rattle.envy_flush.specs.Restarts.{IsRestarted}
 use Rattle.envy_policy.specs.Setup.{checked}
 use Rattle.envy_policy.specs.declared.setup.Setup.{Setup}
 use Rattle.envy_memory.specs.Calls.{fresh}
@@ -25,11 +27,22 @@ pub record MayAttach (old : Chart) (setup : Setup) : Type 0 where
   pub formatted : IsFormatted old.fields
   pub shape : shape_of old.fields.sizes ≡ setup.shape
 
+-- the board is of version 2, or was upgraded from version 1, and nothing else of it changed
+abbrev pub Raises : Chart → Chart → Type 0
+Raises old new = ((old.fields.version ≡ 2) × (new ≡ old)) ⊎ ((old.fields.version ≡ 1) × (new ≡ with_fields old (upgraded old.fields)))
+
+-- the board was raised to version 2, and then it was restarted
+pub record IsTakenUp (old new : Chart) : Type 0 where
+  pub raised : Chart
+  pub raises : Raises old raised
+  pub restarted : IsRestarted raised new
+
 -- A memory was made: the board stands for the words that power left, with no slot open. No program or erase began.
 pub record Attaches (old : Chart) (setup : Setup) (p : Picture) : Type 0 where
   pub may : MayAttach old setup
   pub stands : Stands p.chart (fresh old.shape.shadows (durable old))
   pub kept : Kept old p.chart
+  pub taken : IsTakenUp old p.chart
   pub begins : IsStarted setup p
 
 abbrev pub Declines : State → Setup → AttachFault → State → Type 0

@@ -3,12 +3,15 @@ use Rattle.std.specs.Prelude.{◌≡◌, []}
 use Rattle.envy_frames.specs.Agreement.{held_by_default}
 use Rattle.envy_policy.specs.History.{started}
 use Rattle.envy_table.specs.Hits.{Empties}
+use Rattle.envy_flush.specs.Restarts.{IsRestarted}
+use Rattle.envy_memory.specs.Calls.{lit}
 use Rattle.envy_memory.specs.Picture.{Picture}
 
--- The counters stay, and the cache is empty. Heats and turns are at their start, no stage or move is pending, no
--- erase has begun since, no page has an owner, and the held frames are those that the table names, in rising order
--- of page with their default homes.
+-- The board was restarted as power came back to it. The counters stay, and the cache is empty. Heats and turns are at
+-- their start, no stage or move is pending, no erase has begun since, no page has an owner, and the held frames are
+-- those that the table names, in rising order of page with their default homes.
 pub record Restarts (old new : Picture) : Type 0 where
+  pub restarted : IsRestarted (lit old.chart) new.chart
   pub empties : Empties old.parts.cache new.parts.cache
   pub chooser : new.parts.chooser ≡ started old.parts.chooser.policy old.parts.chooser.positions
   pub stages : new.parts.stages ≡ []

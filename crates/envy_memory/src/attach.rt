@@ -6,7 +6,7 @@ ghost use Rattle.envy_layout.specs.Words.{live, durable};
 ghost use Rattle.envy_policy.specs.Setup.{IsSetup};
 ghost use Rattle.envy_flush.specs.Agreement.{Fits, Ready};
 ghost use Rattle.envy_flush.specs.Restarts.{IsSettled};
-ghost use Rattle.envy_memory.specs.Attaching.{IsAttachable, MayAttach, Attaches, Declines};
+ghost use Rattle.envy_memory.specs.Attaching.{IsAttachable, MayAttach, Raises, IsTakenUp, Attaches, Declines};
 ghost use Rattle.envy_memory.specs.Making.{StartsAnew};
 
 use crate::faults::AttachFault;
@@ -51,6 +51,7 @@ fn raise_version<B: Board>(board: &mut B) -> Result<(), Off>
     requires formatted { IsFormatted (chart (B.state board.old)).fields }
     ensures kept { Kept (chart (B.state board.old)) (chart (B.state board.new)) }
     ensures version { OnOk result ((chart (B.state board.new)).fields.version ≡ 2) }
+    ensures raises { OnOk result (Raises (chart (B.state board.old)) (chart (B.state board.new))) }
     ensures on { OnOk result (IsTrue (B.state board.new).on) }
     ensures off { OnErr result ((B.state board.new).on ≡ false) }
 {
@@ -70,6 +71,7 @@ fn take_up<B: Board>(board: &mut B, parts: &mut Parts) -> Result<(), Off>
     ensures live { OnOk result (live (chart (B.state board.new)) ≡ durable (chart (B.state board.old))) }
     ensures version { OnOk result ((chart (B.state board.new)).fields.version ≡ 2) }
     ensures settled { OnOk result (IsSettled (chart (B.state board.new))) }
+    ensures taken { OnOk result (IsTakenUp (chart (B.state board.old)) (chart (B.state board.new))) }
     ensures ready { OnOk result (Ready (chart (B.state board.new)) parts.new) }
     ensures starts { OnOk result (StartsAnew parts.old (chart (B.state board.new)) parts.new) }
     ensures off { OnErr result ((B.state board.new).on ≡ false) }

@@ -44,6 +44,7 @@ returns-in-Ok-take_up g c =
       may = may;
       stands = Stands-settled old new (Ready.on o.ready) (Kept.magic o.kept ∙ (MayAttach.formatted may).0) o.version (Kept.sound o.kept) o.settled (Kept.shape o.kept) (Kept.durable o.kept) o.live;
       kept = o.kept;
+      taken = o.taken;
       begins = IsStarted-anew c.args.setup new c.take_up.new.parts c.in-Ok.owned starts (ap (λ (z : Ownership). z.pairs) c.in-Ok.ensures.owned);
     }
 
