@@ -1,8 +1,13 @@
 -- A load that was driven over a board that was made and formatted.
-use Rattle.std.proofs.Common.{◌≡◌, ◌⊎◌, inl, inr, ℕ, zero, suc, ◌+◌, ◌-◌, ◌*◌, ◌^◌, ◌<◌, ◌≤◌, Bool, true, false, length, refl, sym, ◌∙◌, subst, arith}
-use Rattle.std.specs.Prelude.{IfSome, Option, None, Some, slice_index, if◌then◌else◌}
+use Rattle.std.proofs.Common.{◌≡◌, ◌⊎◌, inl, inr, ℕ, zero, suc, ◌+◌, ◌-◌, ◌*◌, ◌^◌, ◌<◌, ◌≤◌, Bool, true, false, List, length, refl, sym, ◌∙◌, ap, subst, arith}
+use Rattle.std.specs.Prelude.{IfSome, Option, None, Some, Result, Ok, Err, slice_index, if◌then◌else◌}
 use Rattle.std.specs.Option.{option_map}
 use Rattle.std.proofs.lemmas.Bool.{cases_lt}
+use Rattle.envy_args.specs.declared.command.Command.{Command}
+use Rattle.envy_args.specs.declared.command.Command.TheVariants.{Run, Plain, Tpca, Gen, Save, Resume, Audit, Index, Mirror}
+use Rattle.envy_args.specs.declared.command.WordsFault.{WordsFault}
+use Rattle.envy_args.specs.declared.command.WordsFault.TheVariants.{Memory}
+use Rattle.envy_args.specs.Words.{Text, command_of}
 use Rattle.envy_base.specs.Area.{Fits}
 use Rattle.envy_base.specs.State.{State, IsMade}
 use Rattle.envy_base.specs.declared.area.Area.{Area}
@@ -22,10 +27,11 @@ use Rattle.envy_tpca.specs.Since.{IsPast, Keeps, Rises}
 use Rattle.envy_tpca.specs.Tpc.{Tpc}
 use Rattle.envy_run.specs.Counters.{AddsUp}
 use Rattle.envy_run.specs.Driven.{AfterLoad, HasBroken, HasTold, IsCause}
-use Rattle.envy_run.specs.Drives.{Breaks, Drives, IsCounted, IsDriver, IsUnbegun, Reports, load_of}
+use Rattle.envy_run.specs.Drives.{Breaks, Drives, FailsAsPlanned, IsCounted, IsDriver, IsUnbegun, Reports, TellsAll, TellsReturns, load_of}
 use Rattle.envy_run.specs.Outcome.{Outcome, outcome}
-use Rattle.envy_run.specs.Prepares.{IsPrepared, IsReady}
-use Rattle.envy_run.specs.Unserved.{IsDark, IsOutOfMemory, IsSpoilt}
+use Rattle.envy_run.specs.Licence.{RoseOver}
+use Rattle.envy_run.specs.Prepares.{HasTried, IsPrepared, IsReady}
+use Rattle.envy_run.specs.Unserved.{IsDark, IsOutOfMemory, IsSpoilt, IsUnserved}
 use Rattle.envy_run.specs.declared.ended.Ended.{Ended}
 use Rattle.envy_run.proofs.Traced.{Began, adds-up, began}
 
@@ -105,6 +111,17 @@ module _ (setup : Setup) (returns start : ℕ) (area : Area) (every : ℕ) (firs
   either few sound (inl told) = inl (reports few told)
   either few sound (inr broken) = inr (breaks sound broken)
 
+  -- where formatting used no life the report tells each return of power
+  tells-after : first.chart.lives ≡ returns → IsSound now.chart → HasTold area (load_of start area) every first now status to sink ⊎ HasBroken area (load_of start area) first now status to sink → TellsReturns returns area (ended status now.chart whole) (unread feed to sink) ⊎ IsUnserved (ended status now.chart whole) (unread feed to sink)
+  tells-after had sound (inl told) = inl (record {
+    now = now.chart;
+    board_is = refl;
+    sums = HasTold.sums told;
+    cuts = IsDriven.cuts (HasTold.driven told) ∙ had;
+    writes = HasTold.writes told;
+  })
+  tells-after had sound (inr broken) = inr (Breaks.unserved (breaks sound broken))
+
   drives-after : area.transfers < 2 ^ 32 → IsSound now.chart → AfterLoad area (load_of start area) every first now status to sink → Drives setup returns start area every (ended status now.chart whole) (unread feed to sink)
   drives-after few sound after =
       let none = Began.plans b in
@@ -126,6 +143,55 @@ drives-ended {B} state setup returns start area every made first now status boar
     subst (λ (x : Ended B). Drives setup returns start area every (outcome state x) (unread feed to sink)) (sym is)
     (subst (λ (c : Chart). Drives setup returns start area every (ended status c (state board)) (unread feed to sink)) (sym same)
     (drives-after setup returns start area every first now (began setup returns made first m long ready) (omega arith) status (state board) feed to sink (AfterLoad.keeps after) few (subst IsSound same sound) after))
+
+-- a board whose power fails as planned alone was formatted without a failure
+no-life-used : {B : Type 0} (state : B → State) (setup : Setup) (returns : ℕ) (made : State) (first : Picture) (board : B) → FailsAsPlanned state → chart (state board) ≡ first.chart → IsMade setup.shape returns made → IsReady (chart made) setup first → first.chart.lives ≡ returns
+no-life-used state setup returns made first board kind same m ready =
+    let p = IsReady.prepared ready in
+    let plans : (state board).plans ≡ 0 = ap (λ (c : Chart). c.plans) same ∙ (IsPrepared.plans p ∙ m.plans) in
+    let pulled : (state board).pulled ≡ 0 = ap (λ (c : Chart). c.pulled) same ∙ (IsPrepared.pulled p ∙ m.pulled) in
+    let none = kind board plans pulled in
+    let cuts : (state board).cuts ≡ first.chart.cuts = ap (λ (c : Chart). c.cuts) same in
+    let rise = RoseOver.rise (HasTried.cuts (IsPrepared.tried p)) (omega arith) in
+    let lives = HasTried.lives (IsPrepared.tried p) in
+    let had = m.lives in
+    omega arith
+
+-- what the report of a load tells, where one is written
+pub tells-ended : {B : Type 0} (state : B → State) (setup : Setup) (returns start : ℕ) (area : Area) (every : ℕ) (made : State) (first now : Picture) (status : ℕ) (board formatted : B) (e : Ended B) (feed : Feed) (to sink : Drain) → e ≡ record { status = status; why = 0; lines = 0; taken = 0; board = Some board; second = None } → chart (state board) ≡ now.chart → IsSound (chart (state board)) → length made.erases ≡ setup.shape.segments → IsMade setup.shape returns made → IsReady (chart made) setup first → FailsAsPlanned state → chart (state formatted) ≡ first.chart → AfterLoad area (load_of start area) every first now status to sink → TellsReturns returns area (outcome state e) (unread feed to sink) ⊎ IsUnserved (outcome state e) (unread feed to sink)
+tells-ended {B} state setup returns start area every made first now status board formatted e feed to sink is same sound long m ready kind before after =
+    let lives = IsPrepared.lives (IsReady.prepared ready) in
+    let had = IsMade.lives m in
+    subst (λ (x : Ended B). TellsReturns returns area (outcome state x) (unread feed to sink) ⊎ IsUnserved (outcome state x) (unread feed to sink)) (sym is)
+    (subst (λ (c : Chart). TellsReturns returns area (ended status c (state board)) (unread feed to sink) ⊎ IsUnserved (ended status c (state board)) (unread feed to sink)) (sym same)
+    (tells-after setup returns start area every first now (began setup returns made first m long ready) (omega arith) status (state board) feed to sink (AfterLoad.keeps after) (no-life-used state setup returns made first formatted kind before m ready) (subst IsSound same sound) (AfterLoad.ends after)))
+
+-- a run that ended without a load, or without a board
+pub ends-unserved : {B : Type 0} (state : B → State) (status : ℕ) (board : Option B) (e : Ended B) (feed : Feed) (sink : Drain) → e ≡ record { status = status; why = 0; lines = 0; taken = 0; board = board; second = None } → (let o = outcome state (record { status = status; why = 0; lines = 0; taken = 0; board = board; second = None }) in IsOutOfMemory o ⊎ (IsSpoilt o ⊎ IsDark o)) → IsUnserved (outcome state e) (unread feed sink sink)
+ends-unserved {B} state status board e feed sink is cause =
+    subst (λ (x : Ended B). IsUnserved (outcome state x) (unread feed sink sink)) (sym is) (record { lines = refl; taken = refl; source = refl; sink = refl }, cause)
+
+tells-unserved : (command : Result Command WordsFault) (o : Outcome) (io : Streams) → IsUnserved o io → TellsAll command o io
+tells-unserved (Ok (Tpca setup returns start area every)) o io u = inr u
+tells-unserved (Ok (Run setup returns)) o io u = tt
+tells-unserved (Ok (Plain setup)) o io u = tt
+tells-unserved (Ok (Gen start count pages)) o io u = tt
+tells-unserved (Ok (Save setup returns)) o io u = tt
+tells-unserved (Ok (Resume policy limit mark returns)) o io u = tt
+tells-unserved (Ok Audit) o io u = tt
+tells-unserved (Ok (Index setup returns)) o io u = tt
+tells-unserved (Ok (Mirror setup returns)) o io u = tt
+tells-unserved (Err fault) o io u = tt
+
+-- the command is that of the words
+pub tells-read : (words : List Text) (read : Result Command WordsFault) (command : Command) (o : Outcome) (io : Streams) → (read ≡ Err Memory) ⊎ (read ≡ command_of words) → read ≡ Ok command → TellsAll (Ok command) o io → TellsAll (command_of words) o io
+tells-read words read command o io (inl none) e told = absurd (let never = none in cc)
+tells-read words read command o io (inr is) e told = subst (λ (x : Result Command WordsFault). TellsAll x o io) (sym e ∙ is) told
+
+-- the words are refused, or memory ran out
+pub tells-refused : (words : List Text) (read : Result Command WordsFault) (fault : WordsFault) (o : Outcome) (io : Streams) → (read ≡ Err Memory) ⊎ (read ≡ command_of words) → read ≡ Err fault → (fault ≡ Memory → IsUnserved o io) → TellsAll (command_of words) o io
+tells-refused words read fault o io (inl out) e without = tells-unserved (command_of words) o io (without cc)
+tells-refused words read fault o io (inr is) e without = subst (λ (x : Result Command WordsFault). TellsAll x o io) (sym e ∙ is) tt
 
 -- formatting alone plans nothing and programs nothing
 pub driver-prepared : (setup : Setup) (returns : ℕ) (area : Area) (every : ℕ) (made : State) (now : Chart) → IsMade setup.shape returns made → IsPrepared (chart made) now → IsUnbegun now × IsDriver setup returns area every now

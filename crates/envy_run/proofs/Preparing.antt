@@ -1,5 +1,5 @@
 -- A board that is formatted until it is.
-use Rattle.std.proofs.Common.{◌≡◌, ◌⊎◌, inl, inr, ℕ, ◌-◌, ◌^◌, ◌<◌, ◌≤◌, List, refl, sym, ◌∙◌, ap, subst, arith}
+use Rattle.std.proofs.Common.{◌≡◌, ◌⊎◌, inl, inr, ℕ, ◌+◌, ◌-◌, ◌^◌, ◌<◌, ◌≤◌, List, refl, sym, ◌∙◌, ap, subst, arith}
 use Rattle.std.specs.Prelude.{IsTrue, slice_index}
 use Rattle.std.proofs.lemmas.Bool.{cases_lt}
 use Rattle.envy_base.specs.Counting.{up}
@@ -11,14 +11,32 @@ use Rattle.envy_memory.specs.Formats.{CountsFormat, ErasesEach, Makes, Refuses}
 use Rattle.envy_memory.specs.Picture.{Picture}
 use Rattle.envy_memory.specs.declared.faults.FormatFault.TheVariants.{Off}
 use Rattle.envy_policy.specs.declared.setup.Setup.{Setup}
-use Rattle.envy_run.specs.Prepares.{IsPrepared, IsReady, IsUnspent}
+use Rattle.envy_run.specs.Licence.{RoseOver}
+use Rattle.envy_run.specs.Prepares.{HasTried, IsPrepared, IsReady, IsUnspent}
 
 begun-same : (s t : Chart) → CountsFormat s t → t.begun ≡ s.begun
 begun-same s t f = let c = CountsFormat.counted f in let low = Counted.begun c in let few = Counted.few c in omega arith
 
+-- formatting was begun once more
+tried-more : (old s t : Chart) (returned : ℕ) → s.shape ≡ old.shape → HasTried returned returned old s → CountsFormat s t → HasTried returned (1 + returned) old t
+tried-more old s t returned shape tried f =
+    let c = CountsFormat.counted f in
+    let lives = tried.lives in
+    let same_lives = Counted.lives c in
+    let kept = RoseOver.kept tried.cuts in
+    let more = Counted.cuts c in
+    let before = tried.erases in
+    let few = Grows.few (Counted.erases c) in
+    let segments = ap (λ (sh : Shape). sh.segments) shape in
+    record {
+      lives = omega arith;
+      cuts = record { kept = omega arith; rise = λ low. let rise = RoseOver.rise tried.cuts (omega arith) in omega arith };
+      erases = omega arith;
+    }
+
 -- formatting plans nothing and cuts nothing by hand
-pub prepared-more : (old s t : Chart) → IsPrepared old s → CountsFormat s t → IsPrepared old t
-prepared-more old s t p f =
+pub prepared-more : (old s t : Chart) → IsPrepared old s × IsUnspent old s → CountsFormat s t → IsPrepared old t
+prepared-more old s t (p, spent) f =
     let c = CountsFormat.counted f in
     let cuts = p.cuts in
     let bads = p.bads in
@@ -35,6 +53,8 @@ prepared-more old s t p f =
       bads = omega arith;
       begun = begun-same s t f ∙ p.begun;
       lives = omega arith;
+      returned = spent.returned;
+      tried = tried-more old s t spent.returned p.shape spent.tried f;
     }
 
 -- it was cut: the count of failures isn't 0 any more
@@ -46,16 +66,55 @@ cut-some old s t setup on f (off, inr (may, between, rose)) none = at (cases_lt 
     at (inl low) = let more = rose low in absurd (omega arith)
     at (inr top) = let kept = Counted.cuts (CountsFormat.counted f) in absurd (omega arith)
 
+-- a failure of power in formatting is counted
+cut-counted : (s t : State) (setup : Setup) → IsTrue s.on → Refuses s setup Off t → s.cuts < 2 ^ 64 - 1 → s.cuts < t.cuts
+cut-counted s t setup on (off, inl (was, same)) = absurd (let never = was in cc)
+cut-counted s t setup on (off, inr (may, between, rose)) = rose
+
+-- power failed in formatting and came back
+tried-again : (old : Chart) (s t : State) (setup : Setup) (returned : ℕ) → IsTrue s.on → 0 < t.lives → s.cuts ≤ t.cuts → HasTried returned returned old (chart s) → HasTried returned (1 + returned) old (chart t) → Refuses s setup Off t → HasTried (1 + returned) (1 + returned) old (chart (lit t))
+tried-again old s t setup returned on some more before tried refuses =
+    let lives = tried.lives in
+    let kept = RoseOver.kept before.cuts in
+    record {
+      lives = omega arith;
+      cuts = record { kept = omega arith; rise = rise };
+      erases = tried.erases;
+    }
+  where
+    rise : t.cuts < 2 ^ 64 - 1 → old.cuts + (1 + returned) ≤ t.cuts
+    rise low = at (cases_lt s.cuts (2 ^ 64 - 1))
+      where
+        at : (s.cuts < 2 ^ 64 - 1) ⊎ (2 ^ 64 - 1 ≤ s.cuts) → old.cuts + (1 + returned) ≤ t.cuts
+        at (inl lt) = let up = cut-counted s t setup on refuses lt in let rise = RoseOver.rise before.cuts lt in omega arith
+        at (inr top) = absurd (omega arith)
+
 -- power was cut in formatting and came back
-pub prepared-again : (old : Chart) (s t u : State) (setup : Setup) → IsTrue s.on → IsPrepared old (chart s) × IsUnspent old (chart s) → CountsFormat (chart s) (chart t) → Refuses s setup Off t → u ≡ lit t → IsPrepared old (chart u) × IsUnspent old (chart u)
-prepared-again old s t u setup on (p, spent) f refuses is =
-    let q = prepared-more old (chart s) (chart t) p f in
+pub prepared-again : (old : Chart) (s t u : State) (setup : Setup) → IsTrue s.on → 0 < t.lives → IsPrepared old (chart s) × IsUnspent old (chart s) → CountsFormat (chart s) (chart t) → Refuses s setup Off t → u ≡ lit t → IsPrepared old (chart u) × IsUnspent old (chart u)
+prepared-again old s t u setup on some (p, spent) f refuses is =
+    let q = prepared-more old (chart s) (chart t) (p, spent) f in
+    let again = tried-again old s t setup spent.returned on some (Counted.cuts (CountsFormat.counted f)) spent.tried (tried-more old (chart s) (chart t) spent.returned p.shape spent.tried f) refuses in
+    let lives = again.lives in
+    let erases = again.erases in
     subst (λ (x : State). IsPrepared old (chart x) × IsUnspent old (chart x)) (sym is) (
-      record { shape = q.shape; pulled = q.pulled; plans = q.plans; given = q.given; cuts = q.cuts; bads = q.bads; begun = q.begun; lives = let low = q.lives in omega arith },
+      record {
+        shape = q.shape;
+        pulled = q.pulled;
+        plans = q.plans;
+        given = q.given;
+        cuts = q.cuts;
+        bads = q.bads;
+        begun = q.begun;
+        lives = let low = q.lives in omega arith;
+        returned = 1 + spent.returned;
+        tried = record { lives = again.lives; cuts = again.cuts; erases = omega arith };
+      },
       record {
         begun = begun-same (chart s) (chart t) f ∙ spent.begun;
         long = Grows.long (Counted.erases (CountsFormat.counted f)) ∙ spent.long;
         erases = λ none. absurd (cut-some old s t setup on f refuses none);
+        returned = 1 + spent.returned;
+        tried = again;
       },
     )
 
@@ -63,7 +122,7 @@ prepared-again old s t u setup on (p, spent) f refuses is =
 pub prepared-ready : (old : Chart) (s : State) (setup : Setup) (m : Picture) → IsPrepared old (chart s) × IsUnspent old (chart s) → CountsFormat (chart s) m.chart → Makes s setup m → IsReady old setup m
 prepared-ready old s setup m (p, spent) f makes = record {
   fresh = makes.fresh;
-  prepared = prepared-more old (chart s) m.chart p f;
+  prepared = prepared-more old (chart s) m.chart (p, spent) f;
   begins = makes.begins;
   begun = begun-same (chart s) m.chart f ∙ spent.begun;
   once = λ none. once none;
@@ -76,5 +135,22 @@ prepared-ready old s setup m (p, spent) f makes = record {
         let same : (chart s).erases ≡ old.erases = spent.erases (omega arith) in
         λ k lt. makes.once k (let e = ap (λ (sh : Shape). sh.segments) p.shape in omega arith) ∙ ap (λ (es : List ℕ). up (slice_index es k)) same
 
+tried-first : (old : Chart) → HasTried 0 0 old old
+tried-first old = record { lives = omega arith; cuts = record { kept = omega arith; rise = λ low. omega arith }; erases = omega arith }
+
 pub unspent-first : (old : Chart) → IsUnspent old old
-unspent-first old = record { begun = refl; long = refl; erases = λ none. refl }
+unspent-first old = record { begun = refl; long = refl; erases = λ none. refl; returned = 0; tried = tried-first old }
+
+pub prepared-first : (old : Chart) → IsPrepared old old
+prepared-first old = record {
+  shape = refl;
+  pulled = refl;
+  plans = refl;
+  given = refl;
+  cuts = omega arith;
+  bads = omega arith;
+  begun = refl;
+  lives = omega arith;
+  returned = 0;
+  tried = let t = tried-first old in let erases = t.erases in record { lives = t.lives; cuts = t.cuts; erases = omega arith };
+}

@@ -1,10 +1,10 @@
 -- A trace behind an image, from what was said of the image and of the memory that was attached to its board.
-use Rattle.std.proofs.Common.{◌≡◌, ◌⊎◌, inl, inr, ℕ, ◌+◌, ◌*◌, ◌<◌, ◌≤◌, List, [], ◌++◌, length, refl, sym, ◌∙◌, ap, subst, arith}
-use Rattle.std.specs.Prelude.{IfSome, IsErr, IsTrue, false, Option, None, Some, Result, Ok, Err, slice_index}
+use Rattle.std.proofs.Common.{◌≡◌, ◌⊎◌, inl, inr, ℕ, ◌*◌, ◌<◌, ◌≤◌, List, [], ◌++◌, length, refl, sym, ◌∙◌, ap, subst, arith}
+use Rattle.std.specs.Prelude.{IfSome, IsErr, false, Option, None, Some, Result, Ok, Err, slice_index, sum}
 use Rattle.std.specs.Option.{option_map}
 use Rattle.std.specs.Result.{is_err}
 use Rattle.std.proofs.lemmas.List.{append_assoc}
-use Rattle.envy_audit.specs.Judging.{Judges, Holds}
+use Rattle.envy_audit.specs.Judging.{Judges}
 use Rattle.envy_audit.specs.declared.verdict.Verdict.{Verdict}
 use Rattle.envy_audit.specs.declared.verdict.Verdict.TheVariants.{Sound, Unformatted, Broken}
 use Rattle.envy_audit.proofs.Sounding.{sound-points}
@@ -31,12 +31,12 @@ use Rattle.envy_serve.specs.Streams.{Streams}
 use Rattle.envy_serve.proofs.Advancing.{Serves-as, served-either}
 use Rattle.envy_serve.proofs.Earlier.{serves-earlier}
 use Rattle.envy_serve.proofs.GoodTraces.{front-taken}
-use Rattle.envy_run.specs.Attached.{HoldsStill, IsUntouched, KeepsImage, IsAttached}
+use Rattle.envy_run.specs.Attached.{IsUntouched, KeepsImage, IsAttached}
 use Rattle.envy_run.specs.Complete.{HoldsImage, HoldsTrace}
 use Rattle.envy_run.specs.Done.{Start, HasDone, HasDied, OnBoard}
-use Rattle.envy_run.specs.Loading.{HasTaken, IsInstalled, IsUnharmed, Loaded, RefusesImage, TookOnly, Unloaded, status_for, why_for}
+use Rattle.envy_run.specs.Loading.{HasTaken, IsInstalled, Loaded, TookOnly, Unloaded, status_for, why_for}
 use Rattle.envy_run.specs.Outcome.{Outcome, outcome, status_of, why_of}
-use Rattle.envy_run.specs.Resumes.{BreaksRule, DeclinesImage, IsUnattached, IsUnsound, LicencesBehind, Resumes, TakesUp, resume_task, words_found}
+use Rattle.envy_run.specs.Resumes.{BreaksRule, IsUnattached, IsUnsound, Resumes, TakesUp, resume_task, words_found}
 use Rattle.envy_run.specs.Task.{DoesTask, IsServed}
 use Rattle.envy_run.specs.Tracing.{TracedSince, DiedSince}
 use Rattle.envy_run.specs.Turns.{TraceTurn, trace_grammar}
@@ -49,6 +49,16 @@ use Rattle.envy_run.proofs.Traced.{Began, licences-behind, ones-sum, thrifty-non
 
 -- a memory that was attached to the board of an image
 module _ (setup : Setup) (found : State) (installed : IsInstalled setup.shape found.given found) where
+  -- each segment was erased once
+  erased-once : sum found.erases ≡ setup.shape.segments
+  erased-once = ones-sum found.erases each ∙ long
+    where
+      long : length found.erases ≡ setup.shape.segments
+      long = IsBoard.erases installed.whole ∙ ap (λ (sh : Shape). sh.segments) installed.shape
+
+      each : (e : ℕ) → e < length found.erases → slice_index found.erases e ≡ 1
+      each e lt = installed.erases e (omega (arith, long))
+
   image-began : (first : Picture) → IsAttached (chart found) setup first → Began (setup.shape.segments * setup.shape.rows) setup found.given first
   image-began first a =
       let u = a.untouched in
@@ -59,14 +69,8 @@ module _ (setup : Setup) (found : State) (installed : IsInstalled setup.shape fo
         plans = IsUntouched.plans u ∙ installed.plans;
         counts = IsStarted.counts a.begins;
         begun = IsUntouched.begun u ∙ installed.begun;
-        erases = λ none. IsUntouched.erases u ∙ (ones-sum found.erases each ∙ long);
+        erases = λ none. IsUntouched.erases u ∙ erased-once;
       }
-    where
-      long : length found.erases ≡ setup.shape.segments
-      long = IsBoard.erases installed.whole ∙ ap (λ (sh : Shape). sh.segments) installed.shape
-
-      each : (e : ℕ) → e < length found.erases → slice_index found.erases e ≡ 1
-      each e lt = installed.erases e (omega (arith, long))
 
   pub image-traced : (first : Picture) → 0 < setup.shape.entries → IsAttached (chart found) setup first → TracedSince (record { array = words_found found; memory = first }) first []
   image-traced first some a = traced-first setup first (words_found found) some (IsUntouched.shape a.untouched ∙ installed.shape) a.stands a.begins
@@ -86,7 +90,7 @@ module _ (setup : Setup) (found : State) (installed : IsInstalled setup.shape fo
           status = refl;
           why = refl;
         });
-        licences = licences-behind (setup.shape.segments * setup.shape.rows) setup found.given start now turns (image-began first a) (let same = Serves.lines_are s in omega arith) either;
+        licences = licences-behind (setup.shape.segments * setup.shape.rows) 1 setup found.given start now turns (image-began first a) (let same_erases = IsUntouched.erases a.untouched in let once = erased-once in omega arith) (let same = Serves.lines_are s in omega arith) either;
       }
 
   pub image-ended : {B : Type 0} (state : B → State) (first now : Picture) (end : End) (lines taken skipped : ℕ) (board : B) (e : Ended B) (io : Streams) → e ≡ record { status = status_of end; why = why_of end; lines = lines; taken = taken; board = Some board; second = None } → chart (state board) ≡ now.chart → skipped ≡ length (image_of found) → lines ≤ most_bytes → 0 < setup.shape.entries → IsAttached (chart found) setup first → ((start : Start) → TracedSince start first [] → (turns : List TraceTurn) × Serves end lines taken trace_grammar skipped (TracedSince start now) (DiedSince start now) [] turns io) → DoesTask (resume_task found setup found.given) (outcome state e) io
@@ -111,7 +115,7 @@ module _ (setup : Setup) (found : State) (installed : IsInstalled setup.shape fo
           losts = omega arith;
           faults = omega arith;
           told = tt;
-          thrifty = thrifty-none (setup.shape.segments * setup.shape.rows) (chart (state board)) (IsUntouched.begun u ∙ installed.begun);
+          thrifty = thrifty-none (setup.shape.segments * setup.shape.rows) 1 (chart (state board)) (IsUntouched.begun u ∙ installed.begun) (let same_erases = IsUntouched.erases u in let once = erased-once in let segments = ap (λ (sh : Shape). sh.segments) (IsUntouched.shape u ∙ installed.shape) in omega arith);
         };
       })
     where

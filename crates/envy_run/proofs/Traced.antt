@@ -5,6 +5,7 @@ use Rattle.envy_base.specs.Array.{Array, zeros}
 use Rattle.envy_base.specs.declared.counts.Counts.{Counts}
 use Rattle.envy_base.specs.declared.shape.Shape.{Shape}
 use Rattle.envy_base.specs.State.{State, IsMade}
+use Rattle.std.proofs.Math.Nat.{mul-le-mul_left}
 use Rattle.std.proofs.lemmas.Bool.{cases_lt}
 use Rattle.std.proofs.lemmas.List.{length-replicate}
 use Rattle.std.proofs.lemmas.List.Sums.{sum_by-cons}
@@ -42,10 +43,10 @@ use Rattle.envy_run.specs.Tells.{Telling}
 use Rattle.envy_run.specs.Licence.{Licence, RoseOver}
 use Rattle.envy_run.specs.Obeys.{FailsIn, ObeysLine, LineDone, before_restart}
 use Rattle.envy_run.specs.declared.ended.Ended.{Ended}
-use Rattle.envy_run.specs.Prepares.{IsPrepared, IsReady}
+use Rattle.envy_run.specs.Prepares.{HasTried, IsPrepared, IsReady}
 use Rattle.envy_run.specs.Resumes.{LicencesBehind}
 use Rattle.envy_run.specs.Outcome.{outcome, status_of, why_of}
-use Rattle.envy_run.specs.Spending.{IsThrifty, Spends, programs_in, programs_of, erases_in, erases_of}
+use Rattle.envy_run.specs.Spending.{IsThrifty, Spends, programs_in, programs_of, erases_in, erases_of, tries_of}
 use Rattle.envy_run.specs.Tracing.{SpentSince, TracedSince, DiedSince}
 use Rattle.envy_run.specs.Turns.{TraceTurn, Does, trace_grammar, is_power, is_plan, is_lost, is_fault}
 use Rattle.envy_run.proofs.Hitting.{telling-more}
@@ -98,14 +99,76 @@ traced-obeys start old new turns line Dead sink then_sink t (dead, told) = (
   told,
 )
 
+-- a count that is at least n where it is below the top
+pub below-top : (n count : ℕ) → n < 2 ^ 64 - 1 → (count < 2 ^ 64 - 1 → n ≤ count) → n ≤ count
+below-top n count low le = at (cases_lt count (2 ^ 64 - 1))
+  where
+    at : (count < 2 ^ 64 - 1) ⊎ (2 ^ 64 - 1 ≤ count) → n ≤ count
+    at (inl lt) = le lt
+    at (inr top) = omega arith
+
 -- What the counts of a board that began with none say.
 
 -- no line began anything yet
-pub thrifty-none : (programs : ℕ) (now : Chart) → now.begun ≡ programs → IsThrifty programs [] now
-thrifty-none programs now begun = record { programs = omega arith; erases = λ some told. absurd (let never = some in omega arith) }
+pub thrifty-none : (programs times : ℕ) (now : Chart) → now.begun ≡ programs → sum now.erases ≤ now.shape.segments * times → IsThrifty programs times [] now
+thrifty-none programs times now begun erases = record { programs = omega arith; erases = omega arith }
 
-pub licences-none : (setup : Setup) (returns : ℕ) (now : Chart) → now.shape ≡ setup.shape → now.given ≡ returns → now.pulled ≡ 0 → now.plans ≡ 0 → now.begun ≡ 0 → Licences setup returns [] now
-licences-none setup returns now shape given pulled plans begun = record { shape = shape; given = given; pulled = pulled; plans = plans; losts = omega arith; faults = omega arith; told = tt; thrifty = thrifty-none 0 now begun }
+-- it is no less thrifty where each segment may have been erased more often
+thrifty-more : (programs few many : ℕ) (turns : List TraceTurn) (now : Chart) → few ≤ many → IsThrifty programs few turns now → IsThrifty programs many turns now
+thrifty-more programs few many turns now le t =
+    let more = mul-le-mul_left now.shape.segments le in
+    let erases = t.erases in
+    record { programs = t.programs; erases = omega arith }
+
+-- How often formatting was begun on a board that is formatted: once, and again for so many failures of power.
+pub record IsTriedOn (setup : Setup) (now : Chart) : Type 0 where
+  pub times : ℕ
+  pub erases : sum now.erases ≤ setup.shape.segments * times
+  pub paid : times ≤ 1 + now.cuts
+  pub low : times < 2 ^ 34
+
+no-erases : (xs : List ℕ) → ((s : ℕ) → slice_index xs s ≡ 0) → sum xs ≡ 0
+no-erases [] each = refl
+no-erases (x ∷ xs) each = sum_by-cons (λ (n : ℕ). n) x xs ∙ (let here : x ≡ 0 = each 0 in let rest = no-erases xs (λ s. each (suc s)) in omega arith)
+
+pub tried-on : (setup : Setup) (returns : ℕ) (s : State) (now : Chart) → returns < 2 ^ 32 → IsMade setup.shape returns s → IsPrepared (chart s) now → IsTriedOn setup now
+tried-on setup returns s now low made p =
+    let none = no-erases s.erases made.erases in
+    let shape = ap (λ (sh : Shape). sh.segments * (1 + p.returned)) made.shape in
+    let few = HasTried.erases p.tried in
+    let lives = HasTried.lives p.tried in
+    let had = made.lives in
+    let cuts = made.cuts in
+    record {
+      times = 1 + p.returned;
+      erases = omega arith;
+      paid = let paid : p.returned ≤ now.cuts = below-top p.returned now.cuts (omega arith) (λ lt. let rise = RoseOver.rise (HasTried.cuts p.tried) lt in omega arith) in omega arith;
+      low = omega arith;
+    }
+
+-- formatting was begun no more often than failures of power that no line tells allow
+times-few : (times n cuts now : ℕ) → times ≤ 1 + cuts → times < 2 ^ 34 → n < 2 ^ 63 → (now < 2 ^ 64 - 1 → cuts + n ≤ now) → times ≤ 1 + (now - n)
+times-few times n cuts now paid low few rise = at (cases_lt now (2 ^ 64 - 1))
+  where
+    at : (now < 2 ^ 64 - 1) ⊎ (2 ^ 64 - 1 ≤ now) → times ≤ 1 + (now - n)
+    at (inl lt) = let le = rise lt in omega arith
+    at (inr top) = omega arith
+
+pub licences-none : (setup : Setup) (returns : ℕ) (now : Chart) → now.shape ≡ setup.shape → now.given ≡ returns → now.pulled ≡ 0 → now.plans ≡ 0 → now.begun ≡ 0 → IsTriedOn setup now → Licences setup returns [] now
+licences-none setup returns now shape given pulled plans begun tried =
+    let paid = tried.paid in
+    let segments = ap (λ (sh : Shape). sh.segments * tried.times) shape in
+    let erases = tried.erases in
+    record {
+      shape = shape;
+      given = given;
+      pulled = pulled;
+      plans = plans;
+      losts = omega arith;
+      faults = omega arith;
+      told = tt;
+      thrifty = thrifty-more 0 tried.times (tries_of [] now) [] now (omega arith) (thrifty-none 0 tried.times now begun (omega arith));
+    }
 
 -- there are no more such lines than lines
 pub count-lines : {Line Reply : Type 0} (test : Line → Bool) (turns : List (Turn Line Reply)) → count_lines test turns ≤ length turns
@@ -214,14 +277,6 @@ since-told programs setup returns start p turns b (inl t) = told-so programs (ju
 since-told programs setup returns start p [] b (inr d) = tt
 since-told programs setup returns start p (turn ∷ earlier) b (inr d) = let (left, fails, words) = DiesIn.found d.died in died-told (DiesIn.array d.died) turn.line turn.replies earlier left (DiesIn.replies d.died) fails (λ c. AddsUp programs c p.chart)
 
--- a count that is at least n where it is below the top
-pub below-top : (n count : ℕ) → n < 2 ^ 64 - 1 → (count < 2 ^ 64 - 1 → n ≤ count) → n ≤ count
-below-top n count low le = at (cases_lt count (2 ^ 64 - 1))
-  where
-    at : (count < 2 ^ 64 - 1) ⊎ (2 ^ 64 - 1 ≤ count) → n ≤ count
-    at (inl lt) = le lt
-    at (inr top) = omega arith
-
 licensed-either : (start : Start) (p : Picture) (turns : List TraceTurn) → TracedSince start p turns ⊎ DiedSince start p turns → LicensedTurns turns start.memory.chart p.chart
 licensed-either start p turns (inl t) = t.licensed
 licensed-either start p turns (inr d) = d.licensed
@@ -230,23 +285,20 @@ spent-either : (start : Start) (p : Picture) (turns : List TraceTurn) → Traced
 spent-either start p turns (inl t) = t.spent
 spent-either start p turns (inr d) = d.spent
 
-thrifty-since : (programs : ℕ) (setup : Setup) (returns : ℕ) (start : Start) (p : Picture) (turns : List TraceTurn) → Began programs setup returns start.memory → count_lines is_power turns + count_replies is_lost turns < 2 ^ 64 - 1 → TracedSince start p turns ⊎ DiedSince start p turns → IsThrifty programs turns p.chart
-thrifty-since programs setup returns start p turns b few since =
+thrifty-since : (programs times : ℕ) (setup : Setup) (returns : ℕ) (start : Start) (p : Picture) (turns : List TraceTurn) → Began programs setup returns start.memory → sum start.memory.chart.erases ≤ setup.shape.segments * times → TracedSince start p turns ⊎ DiedSince start p turns → IsThrifty programs times turns p.chart
+thrifty-since programs times setup returns start p turns b before since =
     let l = licensed-either start p turns since in
     let s = spent-either start p turns since in
     let begun = b.begun in
     let shape = Licence.shape l in
     let rows = ap (λ (sh : Shape). programs_in sh.rows turns) shape in
-    let segments = ap (λ (sh : Shape). sh.segments) (shape ∙ b.shape) in
+    let segments = ap (λ (sh : Shape). sh.segments * times) (shape ∙ b.shape) in
     let within = Spends.programs s in
     let erased = Spends.erases s in
-    record {
-      programs = omega arith;
-      erases = λ some told. let rise = RoseOver.rise (Licence.cuts l) (omega arith) in let whole = b.erases (omega arith) in omega arith;
-    }
+    record { programs = omega arith; erases = omega arith }
 
-pub licences-behind : (programs : ℕ) (setup : Setup) (returns : ℕ) (start : Start) (p : Picture) (turns : List TraceTurn) → Began programs setup returns start.memory → length turns ≤ most_bytes → TracedSince start p turns ⊎ DiedSince start p turns → LicencesBehind programs setup returns turns p.chart
-licences-behind programs setup returns start p turns b few since =
+pub licences-behind : (programs times : ℕ) (setup : Setup) (returns : ℕ) (start : Start) (p : Picture) (turns : List TraceTurn) → Began programs setup returns start.memory → sum start.memory.chart.erases ≤ setup.shape.segments * times → length turns ≤ most_bytes → TracedSince start p turns ⊎ DiedSince start p turns → LicencesBehind programs times setup returns turns p.chart
+licences-behind programs times setup returns start p turns b before few since =
     let l = licensed-either start p turns since in
     let powers = count-lines is_power turns in
     let planned = count-lines is_plan turns in
@@ -262,13 +314,17 @@ licences-behind programs setup returns start p turns b few since =
       losts = below-top (count_lines is_power turns + count_replies is_lost turns) p.chart.cuts (omega arith) (λ lt. let rise = RoseOver.rise (Licence.cuts l) lt in omega arith);
       faults = below-top (count_replies is_fault turns) p.chart.bads (omega arith) (λ lt. let rise = RoseOver.rise (Licence.bads l) lt in omega arith);
       told = since-told programs setup returns start p turns b since;
-      thrifty = thrifty-since programs setup returns start p turns b (omega arith) since;
+      thrifty = thrifty-since programs times setup returns start p turns b before since;
     }
 
-pub licences-since : (setup : Setup) (returns : ℕ) (start : Start) (p : Picture) (turns : List TraceTurn) → Began 0 setup returns start.memory → length turns ≤ most_bytes → TracedSince start p turns ⊎ DiedSince start p turns → Licences setup returns turns p.chart
-licences-since setup returns start p turns b few since =
-    let l = licences-behind 0 setup returns start p turns b few since in
-    record { shape = l.shape; given = l.given; pulled = l.pulled; plans = l.plans; losts = l.losts; faults = l.faults; told = l.told; thrifty = l.thrifty }
+pub licences-since : (setup : Setup) (returns : ℕ) (start : Start) (p : Picture) (turns : List TraceTurn) → Began 0 setup returns start.memory → IsTriedOn setup start.memory.chart → length turns ≤ most_bytes → TracedSince start p turns ⊎ DiedSince start p turns → Licences setup returns turns p.chart
+licences-since setup returns start p turns b tried few since =
+    let l = licences-behind 0 tried.times setup returns start p turns b tried.erases few since in
+    let licence = licensed-either start p turns since in
+    let powers = count-lines is_power turns in
+    let lost = traced-few is_lost start p turns since in
+    let enough = times-few tried.times (count_lines is_power turns + count_replies is_lost turns) start.memory.chart.cuts p.chart.cuts tried.paid tried.low (omega arith) (λ lt. RoseOver.rise (Licence.cuts licence) lt) in
+    record { shape = l.shape; given = l.given; pulled = l.pulled; plans = l.plans; losts = l.losts; faults = l.faults; told = l.told; thrifty = thrifty-more 0 tried.times (tries_of turns p.chart) turns p.chart enough l.thrifty }
 
 length-vacant : (n : ℕ) → length (vacant n) ≡ n
 length-vacant n = length-replicate n None
@@ -327,8 +383,8 @@ began setup returns s first made long ready = record {
 }
 
 -- the trace was served over a fresh memory
-pub runs-served : (whole : State) (setup : Setup) (returns : ℕ) (old : Chart) (first now : Picture) (end : End) (lines taken : ℕ) (io : Streams) → 0 < setup.shape.entries → IsReady old setup first → Began 0 setup returns first → lines ≤ most_bytes → ((start : Start) → TracedSince start first [] → (turns : List TraceTurn) × Serves end lines taken trace_grammar 0 (TracedSince start now) (DiedSince start now) [] turns io) → DoesTask (run_task setup returns) (record { status = status_of end; why = why_of end; lines = lines; taken = taken; board = Some now.chart; state = Some whole; second = None }) io
-runs-served whole setup returns old first now end lines taken io some ready b few serves =
+pub runs-served : (whole : State) (setup : Setup) (returns : ℕ) (old : Chart) (first now : Picture) (end : End) (lines taken : ℕ) (io : Streams) → 0 < setup.shape.entries → IsReady old setup first → Began 0 setup returns first → IsTriedOn setup first.chart → lines ≤ most_bytes → ((start : Start) → TracedSince start first [] → (turns : List TraceTurn) × Serves end lines taken trace_grammar 0 (TracedSince start now) (DiedSince start now) [] turns io) → DoesTask (run_task setup returns) (record { status = status_of end; why = why_of end; lines = lines; taken = taken; board = Some now.chart; state = Some whole; second = None }) io
+runs-served whole setup returns old first now end lines taken io some ready b tried few serves =
     let start : Start = record { array = zeros first.chart.shape.pages first.chart.shape.shadows; memory = first } in
     let (turns, s) = serves start (traced-none old setup first some b.shape ready) in
     let either = served-either end (TracedSince start now) (DiedSince start now) turns (Ends.served (Serves.ends s)) in
@@ -340,11 +396,11 @@ runs-served whole setup returns old first now end lines taken io some ready b fe
         status = refl;
         why = refl;
       });
-      licences = licences-since setup returns start now turns b (let same = Serves.lines_are s in omega arith) either;
+      licences = licences-since setup returns start now turns b tried (let same = Serves.lines_are s in omega arith) either;
     }
 
-pub licences-prepared : (setup : Setup) (returns : ℕ) (s : State) (now : Chart) → IsMade setup.shape returns s → IsPrepared (chart s) now → Licences setup returns [] now
-licences-prepared setup returns s now made p = licences-none setup returns now (p.shape ∙ made.shape) (p.given ∙ made.given) (p.pulled ∙ made.pulled) (p.plans ∙ made.plans) (p.begun ∙ made.begun)
+pub licences-prepared : (setup : Setup) (returns : ℕ) (s : State) (now : Chart) → returns < 2 ^ 32 → IsMade setup.shape returns s → IsPrepared (chart s) now → Licences setup returns [] now
+licences-prepared setup returns s now low made p = licences-none setup returns now (p.shape ∙ made.shape) (p.given ∙ made.given) (p.pulled ∙ made.pulled) (p.plans ∙ made.plans) (p.begun ∙ made.begun) (tried-on setup returns s now low made p)
 
 -- a run that ended before a line was read
 pub runs-quiet : {B : Type 0} (state : B → State) (setup : Setup) (returns status why : ℕ) (board : Option B) (e : Ended B) (feed : Feed) (sink : Drain) → e ≡ record { status = status; why = why; lines = 0; taken = 0; board = board; second = None } → IsUnserved (outcome state (record { status = status; why = why; lines = 0; taken = 0; board = board; second = None })) (record { from = feed; feed = feed; to = sink; sink = sink }) → IfSome (option_map (λ b. chart (state b)) board) (Licences setup returns []) → DoesTask (run_task setup returns) (outcome state e) (record { from = feed; feed = feed; to = sink; sink = sink })
@@ -353,9 +409,9 @@ runs-quiet {B} state setup returns status why board e feed sink is unserved lice
     (record { turns = []; answers = inr (refl, unserved); licences = licences })
 
 -- a run whose trace was served
-pub runs-ended : {B : Type 0} (state : B → State) (setup : Setup) (returns : ℕ) (made : State) (first now : Picture) (end : End) (lines taken skipped : ℕ) (board : B) (e : Ended B) (io : Streams) → e ≡ record { status = status_of end; why = why_of end; lines = lines; taken = taken; board = Some board; second = None } → chart (state board) ≡ now.chart → skipped ≡ 0 → lines ≤ most_bytes → 0 < setup.shape.entries → length made.erases ≡ setup.shape.segments → IsMade setup.shape returns made → IsReady (chart made) setup first → ((start : Start) → TracedSince start first [] → (turns : List TraceTurn) × Serves end lines taken trace_grammar skipped (TracedSince start now) (DiedSince start now) [] turns io) → DoesTask (run_task setup returns) (outcome state e) io
-runs-ended {B} state setup returns made first now end lines taken skipped board e io is same none few some long m ready serves =
+pub runs-ended : {B : Type 0} (state : B → State) (setup : Setup) (returns : ℕ) (made : State) (first now : Picture) (end : End) (lines taken skipped : ℕ) (board : B) (e : Ended B) (io : Streams) → e ≡ record { status = status_of end; why = why_of end; lines = lines; taken = taken; board = Some board; second = None } → chart (state board) ≡ now.chart → skipped ≡ 0 → lines ≤ most_bytes → 0 < setup.shape.entries → length made.erases ≡ setup.shape.segments → returns < 2 ^ 32 → IsMade setup.shape returns made → IsReady (chart made) setup first → ((start : Start) → TracedSince start first [] → (turns : List TraceTurn) × Serves end lines taken trace_grammar skipped (TracedSince start now) (DiedSince start now) [] turns io) → DoesTask (run_task setup returns) (outcome state e) io
+runs-ended {B} state setup returns made first now end lines taken skipped board e io is same none few some long low m ready serves =
     subst (λ (x : Ended B). DoesTask (run_task setup returns) (outcome state x) io) (sym is)
     (subst (λ (c : Chart). DoesTask (run_task setup returns) (record { status = status_of end; why = why_of end; lines = lines; taken = taken; board = Some c; state = Some (state board); second = None }) io) (sym same)
-    (runs-served (state board) setup returns (chart made) first now end lines taken io some ready (began setup returns made first m long ready) few
+    (runs-served (state board) setup returns (chart made) first now end lines taken io some ready (began setup returns made first m long ready) (tried-on setup returns made first.chart low m (IsReady.prepared ready)) few
     (subst (λ (k : ℕ). (start : Start) → TracedSince start first [] → (turns : List TraceTurn) × Serves end lines taken trace_grammar k (TracedSince start now) (DiedSince start now) [] turns io) none serves)))

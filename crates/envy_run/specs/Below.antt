@@ -11,7 +11,7 @@ use Rattle.envy_memory.specs.Picture.{Picture}
 use Rattle.envy_trace.specs.declared.line.Line.{Line}
 use Rattle.envy_trace.specs.declared.line.Line.TheVariants.{Load, Look, Store, Begin, Put, Commit, Abort, Tick, Cut, Bad, Stat}
 use Rattle.envy_trace.specs.declared.reply.Reply.{Reply}
-use Rattle.envy_trace.specs.declared.reply.Reply.TheVariants.{Done, Fault}
+use Rattle.envy_trace.specs.declared.reply.Reply.TheVariants.{Done, Fault, Range, Held, Closed, Full, Busy}
 
 -- Programs and erases that a line begins: those of one flush, with a cleaning and the end of a swap before it; one in a
 -- background step; none where a slot is opened or closed. Else the board stays, but for a plan.
@@ -28,18 +28,29 @@ WorksOf line old new = new ≡ old
 
 -- A background step is that of the first rule that applies. A store or a put flushes by the policy's choice. What a bad
 -- operation ended left parts and job as those calls of the memory say. No other line changes heats, turns, stages or what
--- was counted of flash work, and one that only asks changes nothing but the cache.
+-- was counted of flash work, and one that only asks changes nothing but the cache. A line that is refused changes nothing
+-- at all.
 abbrev pub FollowsRules : Line → Reply → Picture → Picture → Type 0
 FollowsRules Tick Done old new = (did : Did) × TicksBy old.limit old.mark did old.chart old.parts new.chart new.parts
 FollowsRules Tick Fault old new = TicksBad old.mark old.chart old.parts new.chart new.parts
 FollowsRules (Store a w) Done old new = StoresBy (a / 32) old.chart old.parts new.chart new.parts × Ends old.chart old.parts new.chart new.parts
 FollowsRules (Store a w) Fault old new = Stops (a / 32) old.chart old.parts new.chart new.parts
+FollowsRules (Store a w) Range old new = new ≡ old
+FollowsRules (Store a w) (Held u) old new = new ≡ old
 FollowsRules (Put t a w) Done old new = PutEffect t (a / 32) old new × Ends old.chart old.parts new.chart new.parts
 FollowsRules (Put t a w) Fault old new = Stops (a / 32) old.chart old.parts new.chart new.parts × (new.owned ≡ old.owned)
+FollowsRules (Put t a w) Range old new = new ≡ old
+FollowsRules (Put t a w) Closed old new = new ≡ old
+FollowsRules (Put t a w) (Held u) old new = new ≡ old
+FollowsRules (Put t a w) Full old new = new ≡ old
+FollowsRules (Load a) Range old new = new ≡ old
 FollowsRules (Load a) reply old new = new ≡ record old { parts = record old.parts { cache = new.parts.cache } }
 FollowsRules (Look a) reply old new = new ≡ old
+FollowsRules Begin Busy old new = new ≡ old
 FollowsRules Begin reply old new = new ≡ record old { chart = new.chart }
+FollowsRules (Commit t) Closed old new = new ≡ old
 FollowsRules (Commit t) reply old new = new ≡ record old { chart = new.chart; owned = new.owned; parts = record old.parts { space = new.parts.space } }
+FollowsRules (Abort t) Closed old new = new ≡ old
 FollowsRules (Abort t) reply old new = new ≡ record old { chart = new.chart; owned = new.owned; parts = record old.parts { frames = new.parts.frames; space = new.parts.space; cache = new.parts.cache } }
 FollowsRules (Cut k g) reply old new = new ≡ record old { chart = planned old.chart }
 FollowsRules (Bad k g) reply old new = new ≡ record old { chart = planned old.chart }

@@ -1,6 +1,10 @@
 -- The word `tpca`: a bank's load driven over a memory of zeros, and the report of its sums.
-use Rattle.std.specs.Prelude.{◌≡◌, ◌⊎◌, ℕ, ◌+◌, ◌≤◌, List, [], ◌∷◌, ◌++◌, slice_index, Some, IfSome, codes, decimal}
+use Rattle.std.specs.Prelude.{◌≡◌, ◌⊎◌, ℕ, ◌+◌, ◌≤◌, ⊤, List, [], ◌∷◌, ◌++◌, slice_index, Some, IfSome, Result, Ok, codes, decimal}
 use Rattle.std.specs.Fmt.{signed_decimal}
+use Rattle.envy_args.specs.declared.command.Command.{Command}
+use Rattle.envy_args.specs.declared.command.Command.TheVariants.{Tpca}
+use Rattle.envy_args.specs.declared.command.WordsFault.{WordsFault}
+use Rattle.envy_base.specs.State.{State}
 use Rattle.envy_base.specs.declared.area.Area.{Area}
 use Rattle.envy_io.specs.Lines.{newline}
 use Rattle.envy_layout.specs.Sound.{IsSound}
@@ -46,8 +50,8 @@ abbrev pub load_of : ℕ → Area → Draws
 load_of start area = record { branches = area.branches; accounts = area.accounts; words = seeded start }
 
 -- All transfers are done, and no slot is open. The report tells their sums, and what the board counts: flushes, copies
--- and moves add up to the programs that began. Power returned no more often than it could. The report is written whole
--- and the sink is flushed, or the sink failed behind a front of it.
+-- and moves add up to the programs that began. Power returned no more often than it could, formatting included. The report
+-- is written whole and the sink is flushed, or the sink failed behind a front of it.
 pub record Reports (setup : Setup) (returns start : ℕ) (area : Area) (every : ℕ) (o : Outcome) (io : Streams) : Type 0 where
   pub now : Chart
   pub board_is : o.board ≡ Some now
@@ -58,6 +62,18 @@ pub record Reports (setup : Setup) (returns start : ℕ) (area : Area) (every : 
   pub counts : CountsAddUp 0 sums.counts now
   pub cuts : sums.cuts + now.lives ≤ returns
   pub plans : now.plans ≡ plans_in every area.transfers
+  pub writes : WritesTrace (report area sums) o.status io.to io.sink
+
+-- Boards of a kind whose power fails only as it was planned, or by hand: none of them counts a failure before that.
+abbrev pub FailsAsPlanned : {B : Type 0} → (B → State) → Type 0
+FailsAsPlanned {B} state = (board : B) → (state board).plans ≡ 0 → (state board).pulled ≡ 0 → (state board).cuts ≡ 0
+
+-- The report tells each return of power: those told and those left are those that there were.
+pub record TellsReturns (returns : ℕ) (area : Area) (o : Outcome) (io : Streams) : Type 0 where
+  pub now : Chart
+  pub board_is : o.board ≡ Some now
+  pub sums : Sums
+  pub cuts : sums.cuts + now.lives ≡ returns
   pub writes : WritesTrace (report area sums) o.status io.to io.sink
 
 -- the load wasn't begun: no program began, and no cut was planned
@@ -91,3 +107,8 @@ pub record Drives (setup : Setup) (returns start : ℕ) (area : Area) (every : �
   pub lines : o.lines ≡ 0
   pub taken : o.taken ≡ 0
   pub source : io.feed ≡ io.from
+
+-- a report tells each return of power, where one is written
+abbrev pub TellsAll : Result Command WordsFault → Outcome → Streams → Type 0
+TellsAll (Ok (Tpca setup returns start area every)) o io = TellsReturns returns area o io ⊎ IsUnserved o io
+TellsAll command o io = ⊤

@@ -31,7 +31,7 @@ use Rattle.envy_run.specs.Drives.{Drives}
 use Rattle.envy_run.specs.MirrorTask.{mirror_task}
 use Rattle.envy_run.specs.Outcome.{Outcome, IsQuiet}
 use Rattle.envy_run.specs.Resumes.{Resumes, setup_found}
-use Rattle.envy_run.specs.Spending.{IsThrifty}
+use Rattle.envy_run.specs.Spending.{IsThrifty, tries_of}
 pub use Rattle.envy_run.specs.Unserved.{IsOutOfMemory, IsSpoilt, IsDark, IsUnserved}
 pub use Rattle.envy_run.specs.Writing.{WritesOut, WritesTrace}
 use Rattle.envy_run.specs.Task.{Task, DoesTask}
@@ -59,7 +59,7 @@ pub record Licences (setup : Setup) (returns : ℕ) (turns : List TraceTurn) (no
   pub losts : count_lines is_power turns + count_replies is_lost turns ≤ now.cuts
   pub faults : count_replies is_fault turns ≤ now.bads
   pub told : IfSome (just_told turns) (λ counts. AddsUp 0 counts now)
-  pub thrifty : IsThrifty 0 turns now
+  pub thrifty : IsThrifty 0 (tries_of turns now) turns now
 
 abbrev pub zeros_of : Setup → Array
 zeros_of setup = zeros setup.shape.pages setup.shape.shadows

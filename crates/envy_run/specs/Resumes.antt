@@ -34,8 +34,9 @@ abbrev pub setup_found : Policy → ℕ → Option ℕ → Shape → Setup
 setup_found policy limit mark sh = record { shape = sh; policy = policy; limit = limit; mark = unwrap_or mark sh.frames }
 
 -- What a board says of the turns, as under `run`. Its counts are those since it was made, so a failure of power before
--- the first line leaves room for one `lost` more.
-pub record LicencesBehind (programs : ℕ) (setup : Setup) (returns : ℕ) (turns : List TraceTurn) (now : Chart) : Type 0 where
+-- the first line leaves room for one `lost` more. So many programs began before the first line, and so often each segment
+-- was erased.
+pub record LicencesBehind (programs times : ℕ) (setup : Setup) (returns : ℕ) (turns : List TraceTurn) (now : Chart) : Type 0 where
   pub shape : now.shape ≡ setup.shape
   pub given : now.given ≡ returns
   pub pulled : now.pulled ≡ count_lines is_power turns
@@ -43,7 +44,7 @@ pub record LicencesBehind (programs : ℕ) (setup : Setup) (returns : ℕ) (turn
   pub losts : count_lines is_power turns + count_replies is_lost turns ≤ now.cuts
   pub faults : count_replies is_fault turns ≤ now.bads
   pub told : IfSome (just_told turns) (λ counts. AddsUp programs counts now)
-  pub thrifty : IsThrifty programs turns now
+  pub thrifty : IsThrifty programs times turns now
 
 -- the words that power left on the board of an image, with all slots closed
 abbrev pub words_found : State → Array
@@ -67,7 +68,7 @@ resume_task found setup returns = record {
   Done = OnBoard (HasDone (words_found found));
   Dead = OnBoard (HasDied (words_found found));
   tail = λ o. [];
-  Licences = λ o turns. IfSome o.board (LicencesBehind (setup.shape.segments * setup.shape.rows) setup returns turns);
+  Licences = λ o turns. IfSome o.board (LicencesBehind (setup.shape.segments * setup.shape.rows) 1 setup returns turns);
   Unserved = IsUnattached found;
 }
 

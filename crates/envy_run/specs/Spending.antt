@@ -1,5 +1,5 @@
 -- How much flash work the lines of a trace may begin, and that the board counts no more.
-use Rattle.std.specs.Prelude.{◌≡◌, ℕ, ◌+◌, ◌*◌, ◌<◌, ◌≤◌, List, [], ◌∷◌, length, sum}
+use Rattle.std.specs.Prelude.{ℕ, ◌+◌, ◌-◌, ◌*◌, ◌≤◌, List, [], ◌∷◌, sum}
 use Rattle.envy_map.specs.Fields.{Chart}
 use Rattle.envy_serve.specs.Turns.{count_lines, count_replies}
 use Rattle.envy_trace.specs.declared.line.Line.{Line}
@@ -35,8 +35,12 @@ pub record Spends (k j : ℕ) (old new : Chart) : Type 0 where
   pub programs : new.begun ≤ old.begun + k
   pub erases : sum new.erases ≤ sum old.erases + j
 
+-- How often formatting was begun, at most: once, and once again for each failure of power that no line tells.
+abbrev pub tries_of : List TraceTurn → Chart → ℕ
+tries_of turns now = 1 + (now.cuts - (count_lines is_power turns + count_replies is_lost turns))
+
 -- The flash work of a board is that of its lines at most, behind so many programs that began before the first of them.
--- Formatting and installing erase each segment once, where power never failed but in the lines that tell it.
-pub record IsThrifty (earlier : ℕ) (turns : List TraceTurn) (now : Chart) : Type 0 where
+-- The array was formatted or installed so often at most, and each time each segment was erased once at most.
+pub record IsThrifty (earlier times : ℕ) (turns : List TraceTurn) (now : Chart) : Type 0 where
   pub programs : now.begun ≤ earlier + programs_in now.shape.rows turns
-  pub erases : 0 < length turns → now.cuts ≡ count_lines is_power turns + count_replies is_lost turns → sum now.erases ≤ now.shape.segments + erases_in turns
+  pub erases : sum now.erases ≤ now.shape.segments * times + erases_in turns

@@ -1,6 +1,7 @@
 ghost use Rattle.std.specs.Prelude.{◌≡◌, ◌≤◌, None, Ok};
 ghost use Rattle.envy_policy.specs.Setup.{checked};
 ghost use Rattle.envy_run.specs.Allowed.{IsAllowed};
+ghost use Rattle.envy_run.specs.Drives.{FailsAsPlanned, TellsAll};
 ghost use Rattle.envy_run.specs.Headline.{Headline, run_task, command_in};
 ghost use Rattle.envy_run.specs.Runs.{IsAlone, Runs};
 ghost use Rattle.envy_run.specs.Task.{DoesTask};
@@ -115,6 +116,8 @@ fn perform<S: Source, K: Sink, M: Maker>(
     requires { IsAllowed command }
     ensures headline { Headline (Ok command) (outcome M.Made.Board.state result)
         (record { from = S.feed source.old; feed = S.feed source.new; to = K.drain sink.old; sink = K.drain sink.new }) }
+    ensures told { FailsAsPlanned M.Made.Board.state → TellsAll (Ok command) (outcome M.Made.Board.state result)
+        (record { from = S.feed source.old; feed = S.feed source.new; to = K.drain sink.old; sink = K.drain sink.new }) }
     ensures few { result.lines ≤ result.taken }
     ensures read { result.taken ≤ 1099511627776 }
     ensures alone { IsAlone command result.second }
@@ -167,7 +170,9 @@ pub fn run<S: Source, K: Sink, M: Maker>(
     sink: &mut K,
     maker: &mut M,
 ) -> Ended<M::Made>
-    ensures { Runs (command_in words.now) (outcome M.Made.Board.state result)
+    ensures runs { Runs (command_in words.now) (outcome M.Made.Board.state result)
+        (record { from = S.feed source.old; feed = S.feed source.new; to = K.drain sink.old; sink = K.drain sink.new }) }
+    ensures told { FailsAsPlanned M.Made.Board.state → TellsAll (command_in words.now) (outcome M.Made.Board.state result)
         (record { from = S.feed source.old; feed = S.feed source.new; to = K.drain sink.old; sink = K.drain sink.new }) }
 {
     match read_words(alloc, words) {

@@ -1,14 +1,15 @@
 //! A bank's load over a fresh memory, and the report of its sums.
 
-ghost use Rattle.std.specs.Prelude.{◌≡◌, ◌^◌, ◌≤◌, None, Ok};
+ghost use Rattle.std.specs.Prelude.{◌≡◌, ◌⊎◌, ◌^◌, ◌≤◌, None, Ok};
 ghost use Rattle.envy_base.specs.Area.{Fits};
 ghost use Rattle.envy_base.specs.Array.{zeros};
 ghost use Rattle.envy_layout.specs.Stands.{Stands};
 ghost use Rattle.envy_policy.specs.Setup.{checked};
 ghost use Rattle.envy_run.specs.Driven.{AfterLoad};
-ghost use Rattle.envy_run.specs.Drives.{Drives, load_of};
+ghost use Rattle.envy_run.specs.Drives.{Drives, FailsAsPlanned, TellsReturns, load_of};
 ghost use Rattle.envy_io.specs.Streams.{Feed};
 ghost use Rattle.envy_run.specs.Outcome.{outcome};
+ghost use Rattle.envy_run.specs.Unserved.{IsUnserved};
 
 use crate::ended::Ended;
 use crate::prepare::{Unready, prepare};
@@ -62,6 +63,9 @@ pub fn run_tpca<K: Sink, M: Maker>(
     requires room { 5 ≤ setup.shape.shadows }
     ensures drives { (feed : Feed) → Drives setup lives start area.now every (outcome M.Made.Board.state result)
         (record { from = feed; feed = feed; to = K.drain sink.old; sink = K.drain sink.new }) }
+    ensures told { FailsAsPlanned M.Made.Board.state → (feed : Feed) →
+        TellsReturns lives area.now (outcome M.Made.Board.state result) (record { from = feed; feed = feed; to = K.drain sink.old; sink = K.drain sink.new })
+        ⊎ IsUnserved (outcome M.Made.Board.state result) (record { from = feed; feed = feed; to = K.drain sink.old; sink = K.drain sink.new }) }
     ensures few { result.lines ≤ result.taken }
     ensures read { result.taken ≤ 1099511627776 }
     ensures second { result.second ≡ None }
@@ -75,6 +79,8 @@ pub fn run_tpca<K: Sink, M: Maker>(
         Err((board, Unready::Bad)) => return unserved(7, 0, Some(board)),
         Err((board, Unready::Dead)) => return unserved(6, 0, Some(board)),
     };
+    // a board that was formatted: where power fails only as planned, it never failed so far
+    memory.board();
     let status = drive_load(&mut memory, start, area, every, sink);
     unserved(status, 0, Some(memory.into_board()))
 }

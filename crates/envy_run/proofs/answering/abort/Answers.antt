@@ -1,3 +1,4 @@
+use Rattle.std.proofs.Common.{refl}
 use Rattle.envy_base.specs.Step.{Abort as DoAbort, Closed as IsClosed, Done as IsDone}
 use Rattle.envy_run.proofs.Replying.{says-steps}
 use Rattle.envy_run.proofs.answering.abort.Goals as goal
@@ -10,3 +11,8 @@ pub returns-in-Err-Closed-clause-step : goal.returns-in-Err-Closed-clause-step
 returns-in-Err-Closed-clause-step g c m stood =
     let e = rw c.in-Err-Closed.field-0-is at c.in-Err-Closed.ensures in
     says-steps m (DoAbort c.args.slot) (IsClosed) c.abort.new.self.chart (e.step m stood)
+
+pub returns-in-Err-Closed-clause-rules : goal.returns-in-Err-Closed-clause-rules
+returns-in-Err-Closed-clause-rules g c =
+    let e = rw c.in-Err-Closed.field-0-is at c.in-Err-Closed.ensures in
+    e.refused refl

@@ -10,3 +10,8 @@ pub returns-in-Err-Range-clause-step : goal.returns-in-Err-Range-clause-step
 returns-in-Err-Range-clause-step g c m stood =
     let e = rw c.in-Err-Range.field-0-is at c.in-Err-Range.ensures in
     says-steps m (DoLoad c.args.address) (IsRange) c.load.new.self.chart (e.step m stood)
+
+pub returns-in-Err-Range-clause-rules : goal.returns-in-Err-Range-clause-rules
+returns-in-Err-Range-clause-rules g c =
+    let e = rw c.in-Err-Range.field-0-is at c.in-Err-Range.ensures in
+    e.visits

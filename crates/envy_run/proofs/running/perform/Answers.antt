@@ -1,6 +1,7 @@
 use Rattle.std.proofs.Common.{inl, sym, subst}
 use Rattle.std.specs.Prelude.{Ok}
 use Rattle.envy_args.specs.declared.command.Command.{Command}
+use Rattle.envy_run.specs.Drives.{TellsAll}
 use Rattle.envy_run.specs.Headline.{Headline}
 use Rattle.envy_run.specs.Outcome.{Outcome, outcome}
 use Rattle.envy_serve.specs.Streams.{Streams}
@@ -41,3 +42,10 @@ returns-in-Resume-clause-headline g c =
     let o : Outcome = outcome g.M.Made.Board.state c.run_resume.result in
     let io : Streams = record { from = g.S.Source.feed c.args.source.now; feed = g.S.Source.feed c.run_resume.new.source; to = g.K.Sink.drain c.args.sink.now; sink = g.K.Sink.drain c.run_resume.new.sink } in
     subst (λ (x : Command). Headline (Ok x) o io) (sym c.in-Resume.is) (inl c.run_resume.ensures.resumes)
+
+pub returns-in-Tpca-clause-told : goal.returns-in-Tpca-clause-told
+returns-in-Tpca-clause-told g c = λ kind.
+    let o : Outcome = outcome g.M.Made.Board.state c.run_tpca.result in
+    let feed = g.S.Source.feed c.args.source.now in
+    let io : Streams = record { from = feed; feed = feed; to = g.K.Sink.drain c.args.sink.now; sink = g.K.Sink.drain c.run_tpca.new.sink } in
+    subst (λ (x : Command). TellsAll (Ok x) o io) (sym c.in-Tpca.is) (c.run_tpca.ensures.told kind feed)
