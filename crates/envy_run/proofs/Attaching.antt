@@ -41,20 +41,24 @@ untouched-kept old s t u k =
 formatted-kept : (s t : Chart) → IsFormatted s.fields → Kept s t → IsFormatted t.fields
 formatted-kept s t (magic, version) k = (k.magic ∙ magic, Head.versions (Sound.head k.sound))
 
-keeps-kept : (old s t : Chart) → KeepsImage old s → Kept s t → KeepsImage old t
-keeps-kept old s t k kept = record {
+keeps-kept : (old s t : Chart) → KeepsImage old s → Kept s t → (t.cuts ≡ 0 → ⊥) → KeepsImage old t
+keeps-kept old s t k kept cut = record {
   still = record {
     formatted = formatted-kept s t (HoldsStill.formatted k.still) kept;
     sound = kept.sound;
     durable = kept.durable ∙ HoldsStill.durable k.still;
   };
   untouched = untouched-kept old s t k.untouched kept;
+  bads = λ none. absurd (cut none);
 }
 
 -- attaching was cut
 pub keeps-off : (old : Chart) (s t : State) (setup : Setup) → KeepsImage old (chart s) → Declines s setup Off t → KeepsImage old (chart t)
 keeps-off old s t setup k (off, inl (was, same)) = subst (λ (x : State). KeepsImage old (chart x)) (sym same) k
-keeps-off old s t setup k (off, inr (may, kept, rose)) = keeps-kept old (chart s) (chart t) k kept
+keeps-off old s t setup k (off, inr (may, kept, rose)) = keeps-kept old (chart s) (chart t) k kept (λ none. cut none)
+  where
+    cut : t.cuts ≡ 0 → ⊥
+    cut none = let low = Counted.cuts (Kept.counted kept) in let more = rose (omega arith) in absurd (omega arith)
 
 -- without a return of power left none is left
 pub no-lives : (n : ℕ) → (0 < n → IsTrue false) → n ≡ 0
@@ -77,4 +81,5 @@ keeps-lit old t u k is =
         erases = IsUntouched.erases k.untouched;
         lives = let low = IsUntouched.lives k.untouched in omega arith;
       };
+      bads = KeepsImage.bads k;
     })

@@ -1,11 +1,11 @@
 -- An audit of bytes that begin with an image is done to its end, where nothing fails.
-use Rattle.std.proofs.Common.{◌≡◌, ◌⊎◌, inl, inr, ℕ, ◌<◌, sym, ◌∙◌, arith}
+use Rattle.std.proofs.Common.{◌≡◌, inl, inr, ℕ, sym, ◌∙◌, arith}
 use Rattle.envy_map.specs.Fields.{Chart}
 use Rattle.envy_serve.specs.Streams.{Streams}
 use Rattle.envy_serve.proofs.GoodTraces.{still-low, still-written}
 use Rattle.envy_run.specs.Audits.{Audits, audit_lives, verdict_line}
 use Rattle.envy_run.specs.Complete.{HoldsImage, NeverFailed, IsComplete}
-use Rattle.envy_run.specs.Loading.{RefusesImage, TookOnly}
+use Rattle.envy_run.specs.Loading.{HasFailed, RefusesImage, TookOnly}
 use Rattle.envy_run.specs.Outcome.{Outcome}
 use Rattle.envy_run.specs.Writing.{WritesTrace}
 use Rattle.envy_run.specs.declared.loading.Refusal.{Refusal}
@@ -29,9 +29,9 @@ image-taken Upset returns o io holds calm r =
     let (now, is, reach, either) = r.cause in
     absurd (at now (calm r.status now is) either)
   where
-    at : (now : Chart) → (now.cuts ≡ 0) × (now.bads ≡ 0) → (0 < now.cuts) ⊎ (0 < now.bads) → ⊥
-    at now (cuts, bads) (inl some) = omega arith
-    at now (cuts, bads) (inr some) = omega arith
+    at : (now : Chart) → (now.cuts ≡ 0) × (now.bads ≡ 0) → HasFailed now → ⊥
+    at now (cuts, bads) (inl (off, some, none)) = omega arith
+    at now (cuts, bads) (inr (on, none, some)) = omega arith
 
 pub completes-audit : (o : Outcome) (io : Streams) → Audits o io → HoldsImage io → NeverFailed o → IsComplete o
 completes-audit o io (inl judged) holds calm = at judged.writes

@@ -1,7 +1,7 @@
 -- Where nothing goes wrong, no end but the good one is left.
 use Rattle.std.proofs.Common.{◌≡◌, ◌⊎◌, inl, inr, ℕ, ◌<◌, ◌≤◌, List, [], ◌∷◌, length, sym, ◌∙◌, ap, subst, arith}
 use Rattle.std.specs.Option.{option_map}
-use Rattle.std.specs.Prelude.{IsTrue, Option, None, Result, Ok, Err}
+use Rattle.std.specs.Prelude.{IsTrue, Option, Result, Ok, Err}
 use Rattle.envy_args.specs.declared.command.Command.{Command}
 use Rattle.envy_args.specs.declared.command.Command.TheVariants.{Run, Plain, Tpca, Gen, Save, Resume, Audit, Index, Mirror}
 use Rattle.envy_args.specs.declared.command.WordsFault.{WordsFault}

@@ -59,7 +59,7 @@ module _ (b : State) (rest : List ℕ) (whole : IsBoard b) (bytes : List ℕ) (f
       at : (left : List ℕ) → image_of b ++ rest ≡ bytes ++ left → length (image_of b) + length rest ≡ length bytes → (board : Option Chart) → StopsWithin bytes board → ⊥
       at left same long None (inl few) = omega (arith, size)
       at left same long None (inr (more, is, few)) = omega (arith, size, ap length is, length-append mark more)
-      at left same long (Some now) (shape, (more, is, few)) =
+      at left same long (Some now) (shape, (more, is, few), flawless) =
           let heads : head_of b.shape ++ (body_of b.flash b.sram ++ rest) ≡ head_of now.shape ++ (more ++ left) = sym parts ∙ (same ∙ (ap (λ (xs : List ℕ). xs ++ left) is ∙ append_assoc (head_of now.shape) more left)) in
           let one : b.shape ≡ now.shape = same-head b.shape now.shape _ _ (fit-numbers b.shape (IsBoard.shape whole)) (fit-numbers now.shape shape) heads in
           let even : body_size b.shape ≡ body_size now.shape = ap body_size one in

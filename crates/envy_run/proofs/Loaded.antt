@@ -1,5 +1,5 @@
 -- Images that are taken from a source, and boards that hold them.
-use Rattle.std.proofs.Common.{◌≡◌, ◌⊎◌, inl, inr, ℕ, ◌+◌, ◌*◌, ◌<◌, ◌≤◌, List, [], ◌++◌, length, refl, sym, ◌∙◌, ap, subst, arith, length-append}
+use Rattle.std.proofs.Common.{◌≡◌, inl, inr, ℕ, ◌+◌, ◌*◌, ◌<◌, ◌≤◌, List, [], ◌++◌, length, refl, sym, ◌∙◌, ap, subst, arith, length-append}
 use Rattle.std.specs.Prelude.{IsTrue, Ok, Option, None, Some, slice_index}
 use Rattle.std.specs.Option.{option_map}
 use Rattle.std.proofs.lemmas.List.{append-nil}
@@ -20,7 +20,7 @@ use Rattle.envy_io.proofs.Counts.{Rises-after}
 use Rattle.envy_io.proofs.TakesLemmas.{with_front-with_front}
 use Rattle.envy_map.specs.Fields.{chart}
 use Rattle.envy_run.specs.Audits.{Audits, audit_lives, verdict_line}
-use Rattle.envy_run.specs.Loading.{HasTaken, IsUnharmed, Loaded, ReachesBehindHead, RefusesImage, StopsBehindHead, StopsWithin, Unloaded, status_for, why_for}
+use Rattle.envy_run.specs.Loading.{HasFailed, HasTaken, IsFlawless, IsInstalled, IsUnharmed, Loaded, ReachesBehindHead, RefusesImage, StopsBehindHead, StopsWithin, Unloaded, status_for, why_for}
 use Rattle.envy_run.specs.Outcome.{outcome}
 use Rattle.envy_run.specs.Writing.{WritesTrace}
 use Rattle.envy_run.specs.declared.ended.Ended.{Ended}
@@ -77,13 +77,14 @@ memory-made sh returns from feed old was checks made head = record {
   shape = made.shape;
   bytes = head_of sh;
   taken = head;
-  cause = (sh, checks, refl, made.shape);
-  unharmed = record { given = made.given; pulled = made.pulled; plans = made.plans };
+  cause = (sh, checks, refl, record { shape = made.shape; flawless = record { on = made.on; cuts = made.cuts; bads = made.bads }; begun = made.begun; erases = made.erases });
+  unharmed = record { given = made.given; lives = made.lives; pulled = made.pulled; plans = made.plans };
 }
 
 unharmed-goes : (sh : Shape) (returns : ℕ) (old new : State) → IsMade sh returns old → Goes old new → IsUnharmed returns (chart new)
 unharmed-goes sh returns old new made goes = record {
   given = ap (λ (s : State). s.given) goes.same ∙ made.given;
+  lives = ap (λ (s : State). s.lives) goes.same ∙ made.lives;
   pulled = ap (λ (s : State). s.pulled) goes.same ∙ made.pulled;
   plans = ap (λ (s : State). s.plans) goes.same ∙ made.plans;
 }
@@ -95,8 +96,17 @@ module _ (sh : Shape) (returns : ℕ) (from feed to : Feed) (old new : State) (w
   went : Goes old new → new.shape ≡ sh
   went goes = ap (λ (s : State). s.shape) goes.same ∙ made.shape
 
+  flawless : Goes old new → IsFlawless (chart new)
+  flawless goes = record {
+    on = subst (λ (s : State). IsTrue s.on) (sym goes.same) goes.on;
+    cuts = ap (λ (s : State). s.cuts) goes.same ∙ made.cuts;
+    bads = ap (λ (s : State). s.bads) goes.same ∙ made.bads;
+  }
+
   within : Goes old new → (bytes : List ℕ) → length bytes < body_size old.shape → StopsWithin (head_of sh ++ bytes) (Some (chart new))
-  within goes bytes few = subst (λ (x : Shape). IsShape x × StopsBehindHead x (head_of sh ++ bytes)) (sym (went goes)) (shape, (bytes, refl, fewer (length bytes) few))
+  within goes bytes few =
+      let (sizes, stops) = subst (λ (x : Shape). IsShape x × StopsBehindHead x (head_of sh ++ bytes)) (sym (went goes)) (shape, (bytes, refl, fewer (length bytes) few)) in
+      (sizes, stops, flawless goes)
 
   pub short-unloaded : StopsAs InShort (body_size old.shape) old was feed new now to → Unloaded sh returns from (Some new) Early now to
   short-unloaded s =
@@ -130,9 +140,9 @@ module _ (sh : Shape) (returns : ℕ) (from feed to : Feed) (old new : State) (w
       let short = body-short sh shape in
       omega (arith, length-append (head_of sh) s.bytes, length-head sh)
 
-  upset-cause : IsUpset old new → (0 < new.cuts) ⊎ (0 < new.bads)
-  upset-cause (inl (off, rose, same)) = inl (let none = made.cuts in let more = rose (omega arith) in omega arith)
-  upset-cause (inr (on, same, rose)) = inr (let none = made.bads in let more = rose (omega arith) in omega arith)
+  upset-cause : IsUpset old new → HasFailed (chart new)
+  upset-cause (inl (off, rose, same)) = inl (off, (let none = made.cuts in let more = rose (omega arith) in omega arith), same ∙ made.bads)
+  upset-cause (inr (on, same, rose)) = inr (on, same ∙ made.cuts, (let none = made.bads in let more = rose (omega arith) in omega arith))
 
   upset-shape : (f : FailsInBody (body_size old.shape) old was feed new now to) → new.shape ≡ sh
   upset-shape f = ap (λ (s : State). s.shape) (Upsets.same f.upset) ∙ made.shape
@@ -149,6 +159,7 @@ module _ (sh : Shape) (returns : ℕ) (from feed to : Feed) (old new : State) (w
     cause = (chart new, refl, upset-reach f, upset-cause (Upsets.failed f.upset));
     unharmed = record {
       given = ap (λ (s : State). s.given) (Upsets.same f.upset) ∙ made.given;
+      lives = ap (λ (s : State). s.lives) (Upsets.same f.upset) ∙ made.lives;
       pulled = ap (λ (s : State). s.pulled) (Upsets.same f.upset) ∙ made.pulled;
       plans = ap (λ (s : State). s.plans) (Upsets.same f.upset) ∙ made.plans;
     };
@@ -173,6 +184,7 @@ module _ (sh : Shape) (returns : ℕ) (from feed to : Feed) (old new : State) (w
           on = subst (λ (s : State). IsTrue s.on) (sym (Goes.same i.goes)) (Goes.on i.goes);
           shape = same;
           given = ap (λ (s : State). s.given) (Goes.same i.goes) ∙ made.given;
+          lives = ap (λ (s : State). s.lives) (Goes.same i.goes) ∙ made.lives;
           pulled = ap (λ (s : State). s.pulled) (Goes.same i.goes) ∙ made.pulled;
           plans = ap (λ (s : State). s.plans) (Goes.same i.goes) ∙ made.plans;
           cuts = ap (λ (s : State). s.cuts) (Goes.same i.goes) ∙ made.cuts;
@@ -182,6 +194,10 @@ module _ (sh : Shape) (returns : ℕ) (from feed to : Feed) (old new : State) (w
         };
         judges = judges;
       }
+
+-- the shape of a board that an image was installed on is its own
+pub installed-itself : (sh : Shape) (returns : ℕ) (s : State) → IsInstalled sh returns s → IsInstalled s.shape returns s
+installed-itself sh returns s i = subst (λ (x : Shape). IsInstalled x returns s) (sym i.shape) i
 
 -- no image was taken up
 pub image-refused : {B : Type 0} (state : B → State) (sh : Shape) (refusal : Refusal) (returns taken : ℕ) (board : Option B) (from feed : Feed) (sink : Drain) (now : Taking) → taken ≡ now.taken → Unloaded sh returns from (option_map state board) refusal now feed → RefusesImage refusal returns (outcome state (record { status = status_for refusal; why = why_for refusal; lines = 0; taken = taken; board = board; second = None })) (record { from = from; feed = feed; to = sink; sink = sink })
@@ -200,8 +216,9 @@ audit-told {B} state sh verdict status taken board e from feed to sink now is sa
     subst (λ (x : Ended B). Audits (outcome state x) (record { from = from; feed = feed; to = to; sink = sink })) (sym is)
     (inl (record {
       found = state board;
-      whole = l.installed.whole;
+      installed = installed-itself sh audit_lives (state board) l.installed;
       board = refl;
+      state = refl;
       source = l.taken.left;
       taken = same ∙ l.taken.taken;
       lines = refl;
@@ -209,5 +226,4 @@ audit-told {B} state sh verdict status taken board e from feed to sink now is sa
       judges = l.judges;
       writes = writes;
       why = refl;
-      unharmed = record { given = l.installed.given; pulled = l.installed.pulled; plans = l.installed.plans };
     }))

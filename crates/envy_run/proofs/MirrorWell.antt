@@ -1,12 +1,10 @@
 -- A mirrored run where nothing goes wrong.
-use Rattle.std.proofs.Common.{◌≡◌, ◌⊎◌, inl, inr, ℕ, ◌<◌, ◌≤◌, false, List, [], ◌∷◌, length, refl, sym, ◌∙◌, ap, subst, arith}
-use Rattle.std.specs.Prelude.{Some, Err}
-use Rattle.std.proofs.lemmas.Bool.{lt-ltb}
+use Rattle.std.proofs.Common.{◌≡◌, ◌⊎◌, inl, inr, ℕ, ◌<◌, false, List, [], ◌∷◌, refl, ◌∙◌, ap, subst, arith}
+use Rattle.std.specs.Prelude.{Some}
 use Rattle.envy_base.specs.Array.{Array, zeros}
-use Rattle.envy_map.specs.Fields.{Chart}
 use Rattle.envy_mirror.specs.declared.standing.Which.{Which}
 use Rattle.envy_mirror.specs.declared.standing.Which.TheVariants.{First, Second}
-use Rattle.envy_pair.specs.Ending.{Boards, board_at, HasFallen, HasFallenIn}
+use Rattle.envy_pair.specs.Ending.{Boards, board_at, HasFallen}
 use Rattle.envy_pair.specs.MirrorRun.{MirrorTurn, mirror_grammar}
 use Rattle.envy_pair.specs.Serving.{long_mirror}
 use Rattle.envy_policy.specs.declared.setup.Setup.{Setup}
@@ -20,10 +18,9 @@ use Rattle.envy_serve.proofs.GoodTraces.{good-ends}
 use Rattle.envy_trace.specs.declared.mirror_line.MirrorLine.{MirrorLine}
 use Rattle.envy_trace.specs.declared.mirror_reply.MirrorReply.{MirrorReply}
 use Rattle.envy_run.specs.Complete.{IsComplete}
-use Rattle.envy_run.specs.MirrorTask.{OfEither, IsOffForGood, IsEitherSpoilt, IsEitherDark, IsMirrorUnserved, mirror_task, AreWell, HasDiedOut}
+use Rattle.envy_run.specs.MirrorTask.{OfEither, IsOffForGood, IsPairOutOfMemory, IsEitherSpoilt, IsEitherDark, IsMirrorUnserved, mirror_task, AreWell, HasDiedOut}
 use Rattle.envy_run.specs.Outcome.{Outcome, IsQuiet, status_of}
 use Rattle.envy_run.specs.Task.{Task, IsServed, DoesTask}
-use Rattle.envy_run.specs.Unserved.{IsOutOfMemory}
 
 -- what is said of an end at which power didn't return, where it is this end
 named : {Line Reply : Type 0} (e end : End) (Done Dead : List (Turn Line Reply) → Type 0) (turns : List (Turn Line Reply)) → e ≡ end → HasServed end Done Dead turns → HasServed end Done (λ t. e ≡ EndDead) turns
@@ -82,6 +79,6 @@ completes-mirror setup returns o io d good well = at d.answers
 
     at : IsServed (mirror_task setup returns) d.turns o io ⊎ ((d.turns ≡ []) × IsMirrorUnserved o io) → IsComplete o ⊎ HasDiedOut o
     at (inl served) = ended (task-ends setup returns d.turns o io served good)
-    at (inr (none, (quiet, inl out))) = inl (inr (IsOutOfMemory.status out))
+    at (inr (none, (quiet, inl out))) = inl (inr (IsPairOutOfMemory.status out))
     at (inr (none, (quiet, inr (inl spoilt)))) = absurd (spoilt-well o well (IsQuiet.taken quiet) (IsEitherSpoilt.cause spoilt))
     at (inr (none, (quiet, inr (inr dark)))) = inr (record { status = IsEitherDark.status dark; cause = IsEitherDark.cause dark })

@@ -1,18 +1,18 @@
 -- A run over a mirrored pair of boards.
-use Rattle.std.proofs.Common.{◌≡◌, ◌⊎◌, inl, inr, ℕ, ◌+◌, ◌-◌, ◌^◌, ◌<◌, ◌≤◌, false, List, [], ◌∷◌, length, refl, sym, ◌∙◌, ap, subst, arith}
+use Rattle.std.proofs.Common.{◌≡◌, ◌⊎◌, inl, inr, ℕ, ◌<◌, ◌≤◌, false, List, [], refl, sym, ◌∙◌, ap, subst, arith}
 use Rattle.std.specs.Prelude.{IfSome, Option, None, Some, unwrap_or, IsTrue}
 use Rattle.std.specs.Option.{option_map}
-use Rattle.envy_base.specs.Array.{Array, zeros}
+use Rattle.envy_base.specs.Array.{zeros}
 use Rattle.envy_base.specs.State.{State, IsMade}
 use Rattle.envy_base.specs.declared.shape.Shape.{Shape}
 use Rattle.envy_io.specs.Streams.{Feed, Drain}
+use Rattle.envy_layout.specs.Stands.{Stands}
 use Rattle.envy_map.specs.Fields.{Chart, chart}
 use Rattle.envy_memory.specs.Formats.{IsFresh, IsStarted}
 use Rattle.envy_memory.specs.Picture.{Picture}
 use Rattle.envy_mirror.specs.Mirroring.{Mirrors}
 use Rattle.envy_mirror.specs.Pair.{Pair, started}
-use Rattle.envy_pair.specs.Bills.{Charged, Bill}
-use Rattle.envy_pair.specs.Ending.{Boards, HasMirrored, HasFallen, PairLicences}
+use Rattle.envy_pair.specs.Ending.{HasMirrored, HasFallen, PairLicences}
 use Rattle.envy_pair.specs.MirrorRun.{MirrorTurn, mirror_grammar}
 use Rattle.envy_pair.specs.Serving.{Start, MirroredSince, FellSince}
 use Rattle.envy_pair.specs.State.{begun}
@@ -71,10 +71,10 @@ mirror-quiet {B} state setup returns e f feed sink is unserved licences =
     (record { turns = []; answers = inr (refl, unserved); licences = licences })
 
 -- no board, or the first alone, was made
-pub mirror-unmade : {B : Type 0} (state : B → State) (setup : Setup) (returns : ℕ) (board : Option B) (e : Ended B) (feed : Feed) (sink : Drain) → e ≡ record { status = 8; why = 0; lines = 0; taken = 0; board = board; second = None } → IfSome (option_map (λ b. chart (state b)) board) (IsMadeFor setup returns) → DoesTask (mirror_task setup returns) (outcome state e) (record { from = feed; feed = feed; to = sink; sink = sink })
-mirror-unmade {B} state setup returns board e feed sink is made =
+pub mirror-unmade : {B : Type 0} (state : B → State) (setup : Setup) (returns : ℕ) (board : Option B) (e : Ended B) (feed : Feed) (sink : Drain) → e ≡ record { status = 8; why = 0; lines = 0; taken = 0; board = board; second = None } → IfSome (option_map (λ b. chart (state b)) board) (IsMadeFor setup returns) → IfSome (option_map (λ b. chart (state b)) board) (λ now. IsTrue now.on) → DoesTask (mirror_task setup returns) (outcome state e) (record { from = feed; feed = feed; to = sink; sink = sink })
+mirror-unmade {B} state setup returns board e feed sink is made on =
     let f : Ended B = record { status = 8; why = 0; lines = 0; taken = 0; board = board; second = None } in
-    mirror-quiet state setup returns e f feed sink is (record { lines = refl; taken = refl; source = refl; sink = refl }, inl (record { status = refl; why = refl })) (licences-alone setup returns (outcome state f) made refl)
+    mirror-quiet state setup returns e f feed sink is (record { lines = refl; taken = refl; source = refl; sink = refl }, inl (record { status = refl; why = refl; first = on; second = tt })) (licences-alone setup returns (outcome state f) made refl)
 
 abbrev pub two_boards : {B : Type 0} → ℕ → B → B → Ended B
 two_boards status one two = record { status = status; why = 0; lines = 0; taken = 0; board = Some one; second = Some two }
@@ -86,23 +86,25 @@ both-blank state setup returns status one two first second = licences-of setup r
 pub record Stopped (unready : Unready) (now : Chart) : Type 0 where
   pub bad : unready ≡ Bad → 0 < now.bads
   pub dead : unready ≡ Dead → (now.on ≡ false) × (now.lives ≡ 0)
+  pub on : unready ≡ Memory → IsTrue now.on
 
 pub stopped-by : (unready : Unready) (old now : Chart) → old.bads ≡ 0 → Unprepared unready old now → IsPrepared old now × Stopped unready now
-stopped-by Memory old now none u = (u, record { bad = λ e. cc; dead = λ e. cc })
-stopped-by Bad old now none u = (u.0, record { bad = λ e. (let rise = u.1 (omega arith) in omega arith); dead = λ e. cc })
-stopped-by Dead old now none u = (u.0, record { bad = λ e. cc; dead = λ e. (u.1, u.2) })
+stopped-by Memory old now none u = (u.0, record { bad = λ e. cc; dead = λ e. cc; on = λ e. u.2 })
+stopped-by Bad old now none u = (u.0, record { bad = λ e. (let rise = u.1 (omega arith) in omega arith); dead = λ e. cc; on = λ e. cc })
+stopped-by Dead old now none u = (u.0, record { bad = λ e. cc; dead = λ e. (u.1, u.2); on = λ e. cc })
 
 -- one of two boards couldn't be prepared
-pub mirror-unready : {B : Type 0} (state : B → State) (setup : Setup) (returns : ℕ) (unready : Unready) (one two : B) (e : Ended B) (feed : Feed) (sink : Drain) → e ≡ two_boards (status_of_unready unready) one two → Stopped unready (chart (state one)) ⊎ Stopped unready (chart (state two)) → IsBlank setup returns (chart (state one)) → IsBlank setup returns (chart (state two)) → DoesTask (mirror_task setup returns) (outcome state e) (record { from = feed; feed = feed; to = sink; sink = sink })
-mirror-unready {B} state setup returns Memory one two e feed sink is stopped first second =
-    mirror-quiet state setup returns e (two_boards 8 one two) feed sink is (record { lines = refl; taken = refl; source = refl; sink = refl }, inl (record { status = refl; why = refl })) (both-blank state setup returns 8 one two first second)
-mirror-unready {B} state setup returns Bad one two e feed sink is stopped first second =
+pub mirror-unready : {B : Type 0} (state : B → State) (setup : Setup) (returns : ℕ) (unready : Unready) (one two : B) (e : Ended B) (feed : Feed) (sink : Drain) → e ≡ two_boards (status_of_unready unready) one two → Stopped unready (chart (state one)) ⊎ Stopped unready (chart (state two)) → (unready ≡ Memory → IsTrue (state one).on × IsTrue (state two).on) → IsBlank setup returns (chart (state one)) → IsBlank setup returns (chart (state two)) → DoesTask (mirror_task setup returns) (outcome state e) (record { from = feed; feed = feed; to = sink; sink = sink })
+mirror-unready {B} state setup returns Memory one two e feed sink is stopped lit first second =
+    let (on, also) = lit refl in
+    mirror-quiet state setup returns e (two_boards 8 one two) feed sink is (record { lines = refl; taken = refl; source = refl; sink = refl }, inl (record { status = refl; why = refl; first = on; second = also })) (both-blank state setup returns 8 one two first second)
+mirror-unready {B} state setup returns Bad one two e feed sink is stopped lit first second =
     mirror-quiet state setup returns e (two_boards 7 one two) feed sink is (record { lines = refl; taken = refl; source = refl; sink = refl }, inr (inl (record { status = refl; why = refl; cause = at stopped }))) (both-blank state setup returns 7 one two first second)
   where
     at : Stopped Bad (chart (state one)) ⊎ Stopped Bad (chart (state two)) → (now : Chart) × ((Some (chart (state one)) ≡ Some now) ⊎ (Some (chart (state two)) ≡ Some now)) × (0 < now.bads)
     at (inl x) = (chart (state one), inl refl, x.bad refl)
     at (inr x) = (chart (state two), inr refl, x.bad refl)
-mirror-unready {B} state setup returns Dead one two e feed sink is stopped first second =
+mirror-unready {B} state setup returns Dead one two e feed sink is stopped lit first second =
     mirror-quiet state setup returns e (two_boards 6 one two) feed sink is (record { lines = refl; taken = refl; source = refl; sink = refl }, inr (inr (record { status = refl; why = refl; cause = at stopped }))) (both-blank state setup returns 6 one two first second)
   where
     at : Stopped Dead (chart (state one)) ⊎ Stopped Dead (chart (state two)) → (now : Chart) × ((Some (chart (state one)) ≡ Some now) ⊎ (Some (chart (state two)) ≡ Some now)) × ((now.on ≡ false) × (now.lives ≡ 0))
@@ -192,5 +194,8 @@ mirror-ended {B} state setup returns a b first_pair p first_side side end lines 
 pub blank-board : (setup : Setup) (returns : ℕ) (s : State) (p : Picture) (c : Chart) → IsMade setup.shape returns s → IsReady (chart s) setup p → c ≡ p.chart → IsBlank setup returns c
 blank-board setup returns s p c made ready same = subst (λ (x : Chart). IsBlank setup returns x) (sym same) (blank-prepared setup returns (chart s) p.chart (IsReady.prepared ready) (blank-made setup returns s made))
 
-pub not-stopped : (c : Chart) → Stopped Memory c
-not-stopped c = record { bad = λ e. cc; dead = λ e. cc }
+pub lit-board : (s : Chart) (setup : Setup) (p : Picture) (c : Chart) → IsReady s setup p → c ≡ p.chart → IsTrue c.on
+lit-board s setup p c ready same = subst (λ (x : Chart). IsTrue x.on) (sym same) (Stands.on (IsFresh.stands (IsReady.fresh ready)))
+
+pub not-stopped : (c : Chart) → IsTrue c.on → Stopped Memory c
+not-stopped c on = record { bad = λ e. cc; dead = λ e. cc; on = λ e. on }

@@ -3,7 +3,7 @@ use Rattle.std.proofs.Common.{◌≡◌, ◌⊎◌, inl, inr, ℕ, ◌+◌, ◌-
 use Rattle.std.specs.Prelude.{IsTrue, slice_index}
 use Rattle.std.proofs.lemmas.Bool.{cases_lt}
 use Rattle.envy_base.specs.Counting.{up}
-use Rattle.envy_base.specs.State.{State, lit}
+use Rattle.envy_base.specs.State.{State, IsMade, lit}
 use Rattle.envy_base.specs.declared.shape.Shape.{Shape}
 use Rattle.envy_layout.specs.Same.{Counted, Grows}
 use Rattle.envy_map.specs.Fields.{Chart, chart}
@@ -13,6 +13,7 @@ use Rattle.envy_memory.specs.declared.faults.FormatFault.TheVariants.{Off}
 use Rattle.envy_policy.specs.declared.setup.Setup.{Setup}
 use Rattle.envy_run.specs.Licence.{RoseOver}
 use Rattle.envy_run.specs.Prepares.{HasTried, IsPrepared, IsReady, IsUnspent}
+use Rattle.envy_run.specs.Unserved.{IsStanding}
 
 begun-same : (s t : Chart) → CountsFormat s t → t.begun ≡ s.begun
 begun-same s t f = let c = CountsFormat.counted f in let low = Counted.begun c in let few = Counted.few c in omega arith
@@ -113,10 +114,19 @@ prepared-again old s t u setup on some (p, spent) f refuses is =
         begun = begun-same (chart s) (chart t) f ∙ spent.begun;
         long = Grows.long (Counted.erases (CountsFormat.counted f)) ∙ spent.long;
         erases = λ none. absurd (cut-some old s t setup on f refuses none);
+        bads = λ none. absurd (cut-some old s t setup on f refuses none);
         returned = 1 + spent.returned;
         tried = again;
       },
     )
+
+-- no memory was made, and the board is as it was
+pub prepared-short : (old : Chart) (s t : State) → IsTrue s.on → IsPrepared old (chart s) × IsUnspent old (chart s) → t ≡ s → IsPrepared old (chart t) × IsUnspent old (chart t) × IsTrue t.on
+prepared-short old s t on (p, spent) same = subst (λ (x : State). IsPrepared old (chart x) × IsUnspent old (chart x) × IsTrue x.on) (sym same) (p, spent, on)
+
+-- and of a board that was just made
+pub unspent-standing : (setup : Setup) (returns : ℕ) (s : State) (now : Chart) → IsMade setup.shape returns s → IsUnspent (chart s) now → IsTrue now.on → IsStanding now
+unspent-standing setup returns s now made spent on = record { on = on; bads = λ none. spent.bads none ∙ made.bads }
 
 -- a memory was made
 pub prepared-ready : (old : Chart) (s : State) (setup : Setup) (m : Picture) → IsPrepared old (chart s) × IsUnspent old (chart s) → CountsFormat (chart s) m.chart → Makes s setup m → IsReady old setup m
@@ -139,7 +149,7 @@ tried-first : (old : Chart) → HasTried 0 0 old old
 tried-first old = record { lives = omega arith; cuts = record { kept = omega arith; rise = λ low. omega arith }; erases = omega arith }
 
 pub unspent-first : (old : Chart) → IsUnspent old old
-unspent-first old = record { begun = refl; long = refl; erases = λ none. refl; returned = 0; tried = tried-first old }
+unspent-first old = record { begun = refl; long = refl; erases = λ none. refl; bads = λ none. refl; returned = 0; tried = tried-first old }
 
 pub prepared-first : (old : Chart) → IsPrepared old old
 prepared-first old = record {

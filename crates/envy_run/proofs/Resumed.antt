@@ -1,6 +1,6 @@
 -- A trace behind an image, from what was said of the image and of the memory that was attached to its board.
 use Rattle.std.proofs.Common.{◌≡◌, ◌⊎◌, inl, inr, ℕ, ◌*◌, ◌<◌, ◌≤◌, List, [], ◌++◌, length, refl, sym, ◌∙◌, ap, subst, arith}
-use Rattle.std.specs.Prelude.{IfSome, IsErr, false, Option, None, Some, Result, Ok, Err, slice_index, sum}
+use Rattle.std.specs.Prelude.{IfSome, IsErr, IsTrue, false, Option, None, Some, Result, Ok, Err, slice_index, sum}
 use Rattle.std.specs.Option.{option_map}
 use Rattle.std.specs.Result.{is_err}
 use Rattle.std.proofs.lemmas.List.{append_assoc}
@@ -44,7 +44,7 @@ use Rattle.envy_run.specs.Unserved.{IsDark, IsOutOfMemory}
 use Rattle.envy_run.specs.declared.ended.Ended.{Ended}
 use Rattle.envy_run.specs.declared.loading.Refusal.{Refusal}
 use Rattle.envy_run.proofs.Checked.{shape-is}
-use Rattle.envy_run.proofs.Loaded.{image-refused}
+use Rattle.envy_run.proofs.Loaded.{image-refused, installed-itself}
 use Rattle.envy_run.proofs.Traced.{Began, licences-behind, ones-sum, thrifty-none, traced-first}
 
 -- a memory that was attached to the board of an image
@@ -100,7 +100,7 @@ module _ (setup : Setup) (found : State) (installed : IsInstalled setup.shape fo
       (image-served (state board) first now end lines taken skipped io long some a few serves))
 
   -- no line was read
-  pub image-unread : {B : Type 0} (state : B → State) (status taken : ℕ) (board : B) (e : Ended B) (feed : Feed) (sink : Drain) → e ≡ record { status = status; why = 0; lines = 0; taken = taken; board = Some board; second = None } → taken ≡ length (image_of found) → KeepsImage (chart found) (chart (state board)) → (status ≡ 8) ⊎ ((status ≡ 6) × ((chart (state board)).on ≡ false) × ((chart (state board)).lives ≡ 0)) → DoesTask (resume_task found setup found.given) (outcome state e) (record { from = feed; feed = feed; to = sink; sink = sink })
+  pub image-unread : {B : Type 0} (state : B → State) (status taken : ℕ) (board : B) (e : Ended B) (feed : Feed) (sink : Drain) → e ≡ record { status = status; why = 0; lines = 0; taken = taken; board = Some board; second = None } → taken ≡ length (image_of found) → KeepsImage (chart found) (chart (state board)) → ((status ≡ 8) × IsTrue (state board).on) ⊎ ((status ≡ 6) × ((chart (state board)).on ≡ false) × ((chart (state board)).lives ≡ 0)) → DoesTask (resume_task found setup found.given) (outcome state e) (record { from = feed; feed = feed; to = sink; sink = sink })
   image-unread {B} state status taken board e feed sink is long k why =
       let u = k.untouched in
       subst (λ (x : Ended B). DoesTask (resume_task found setup found.given) (outcome state x) (record { from = feed; feed = feed; to = sink; sink = sink })) (sym is)
@@ -119,8 +119,8 @@ module _ (setup : Setup) (found : State) (installed : IsInstalled setup.shape fo
         };
       })
     where
-      at : (status ≡ 8) ⊎ ((status ≡ 6) × ((chart (state board)).on ≡ false) × ((chart (state board)).lives ≡ 0)) → IsOutOfMemory (outcome state (record { status = status; why = 0; lines = 0; taken = taken; board = Some board; second = None })) ⊎ IsDark (outcome state (record { status = status; why = 0; lines = 0; taken = taken; board = Some board; second = None }))
-      at (inl eight) = inl (record { status = eight; why = refl })
+      at : ((status ≡ 8) × IsTrue (state board).on) ⊎ ((status ≡ 6) × ((chart (state board)).on ≡ false) × ((chart (state board)).lives ≡ 0)) → IsOutOfMemory (outcome state (record { status = status; why = 0; lines = 0; taken = taken; board = Some board; second = None })) ⊎ IsDark (outcome state (record { status = status; why = 0; lines = 0; taken = taken; board = Some board; second = None }))
+      at (inl (eight, on)) = inl (record { status = eight; why = refl; board = record { on = on; bads = λ none. KeepsImage.bads k none ∙ installed.bads } })
       at (inr (six, off, lives)) = inr (record { status = six; why = refl; now = chart (state board); board_is = refl; off = off; lives = lives })
 
 -- What was done behind an image is said of the source that the image stood in.
@@ -205,12 +205,12 @@ resume-unsound {B} state words setup sh verdict returns taken board e from feed 
       status = refl;
       why = refl;
       found = state board;
-      whole = i.whole;
+      installed = installed-itself sh returns (state board) i;
       board = refl;
+      state = refl;
       took = record { lines = refl; taken = same ∙ HasTaken.taken l.taken; source = HasTaken.left l.taken; sink = refl };
       rules = subst (λ (x : Setup). checked x ≡ Ok tt) (found ∙ ap words (sym i.shape)) checks;
       fails = unsound verdict (state board) i.whole other l.judges;
-      unharmed = record { given = i.given; pulled = i.pulled; plans = i.plans };
     }))))
 
 -- no line was read
@@ -264,5 +264,5 @@ module _ (words : Shape → Setup) (returns : ℕ) (o : Outcome) (io : Streams) 
 
   pub never-unsound : IsUnsound words returns o io → ⊥
   never-unsound u =
-      let (same, is) = same-image u.found io.feed.left u.whole (TookOnly.source u.took) in
+      let (same, is) = same-image u.found io.feed.left (IsInstalled.whole u.installed) (TookOnly.source u.took) in
       u.fails (sound-alike u.found holds.image same trace.sound)

@@ -1,5 +1,5 @@
 -- What attaching a memory to the board of an image, until it is attached, does.
-use Rattle.std.specs.Prelude.{◌≡◌, ℕ, ◌≤◌, false, IsTrue, List, [], sum}
+use Rattle.std.specs.Prelude.{◌≡◌, ◌≤◌, false, IsTrue, sum}
 use Rattle.envy_layout.specs.Sound.{IsSound}
 use Rattle.envy_layout.specs.Stands.{Stands}
 use Rattle.envy_layout.specs.Words.{durable}
@@ -29,10 +29,11 @@ pub record IsUntouched (old new : Chart) : Type 0 where
   pub erases : sum new.erases ≡ sum old.erases
   pub lives : new.lives ≤ old.lives
 
--- the image is on the board still, whatever power did
+-- the image is on the board still, whatever power did, and no flash operation failed where power never did
 pub record KeepsImage (old new : Chart) : Type 0 where
   pub still : HoldsStill old new
   pub untouched : IsUntouched old new
+  pub bads : new.cuts ≡ 0 → new.bads ≡ old.bads
 
 -- a memory was attached, which stands for the words that power left
 pub record IsAttached (old : Chart) (setup : Setup) (p : Picture) : Type 0 where
@@ -41,5 +42,5 @@ pub record IsAttached (old : Chart) (setup : Setup) (p : Picture) : Type 0 where
   pub untouched : IsUntouched old p.chart
 
 abbrev pub Unattaches : Unattached → Chart → Chart → Type 0
-Unattaches Memory old new = KeepsImage old new
+Unattaches Memory old new = KeepsImage old new × IsTrue new.on
 Unattaches Dead old new = KeepsImage old new × (new.on ≡ false) × (new.lives ≡ 0)

@@ -1,17 +1,17 @@
 -- The word `audit`: the verdict on the image that the source begins with.
-use Rattle.std.specs.Prelude.{◌≡◌, ◌⊎◌, ℕ, List, [], ◌∷◌, ◌++◌, length, Some, IfSome, codes}
+use Rattle.std.specs.Prelude.{◌≡◌, ◌⊎◌, ℕ, List, [], ◌∷◌, ◌++◌, length, Some, codes}
 use Rattle.envy_audit.specs.Judging.{Judges}
 use Rattle.envy_audit.specs.declared.verdict.Rule.{Rule}
 use Rattle.envy_audit.specs.declared.verdict.Rule.TheVariants.{A, B, C, D, E, F, G, H, I, J, K, L}
 use Rattle.envy_audit.specs.declared.verdict.Verdict.{Verdict}
 use Rattle.envy_audit.specs.declared.verdict.Verdict.TheVariants.{Sound, Unformatted, Broken}
-use Rattle.envy_base.specs.State.{State, IsBoard}
+use Rattle.envy_base.specs.State.{State}
 use Rattle.envy_image.specs.Image.{image_of}
 use Rattle.envy_io.specs.Lines.{newline}
 use Rattle.envy_io.specs.Streams.{with_front}
 use Rattle.envy_map.specs.Fields.{chart}
 use Rattle.envy_serve.specs.Streams.{Streams}
-use Rattle.envy_run.specs.Loading.{IsUnharmed, RefusesImage}
+use Rattle.envy_run.specs.Loading.{IsInstalled, RefusesImage}
 use Rattle.envy_run.specs.Outcome.{Outcome}
 use Rattle.envy_run.specs.Writing.{WritesTrace}
 use Rattle.envy_run.specs.declared.loading.Refusal.{Refusal}
@@ -43,11 +43,13 @@ verdict_line verdict = verdict_text verdict ++ newline ∷ []
 abbrev pub audit_lives : ℕ
 audit_lives = 4294967295
 
--- The bytes taken are the image of a board, and the verdict on it is written; no line is read.
+-- The bytes taken are the image of a board, which is handed back as installing left it, and the verdict on it is
+-- written; no line is read.
 pub record Judged (o : Outcome) (io : Streams) : Type 0 where
   pub found : State
-  pub whole : IsBoard found
+  pub installed : IsInstalled found.shape audit_lives found
   pub board : o.board ≡ Some (chart found)
+  pub state : o.state ≡ Some found
   pub source : io.from.left ≡ with_front (image_of found) io.feed.left
   pub taken : o.taken ≡ length (image_of found)
   pub lines : o.lines ≡ 0
@@ -55,7 +57,6 @@ pub record Judged (o : Outcome) (io : Streams) : Type 0 where
   pub judges : Judges verdict (chart found)
   pub writes : WritesTrace (verdict_line verdict) o.status io.to io.sink
   pub why : o.why ≡ 0
-  pub unharmed : IfSome o.board (IsUnharmed audit_lives)
 
 abbrev pub Audits : Outcome → Streams → Type 0
 Audits o io = Judged o io ⊎ ((refusal : Refusal) × RefusesImage refusal audit_lives o io)

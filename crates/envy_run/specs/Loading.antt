@@ -44,24 +44,43 @@ StopsBehindHead sh bytes = (rest : List ℕ) × (bytes ≡ head_of sh ++ rest) �
 abbrev pub ReachesBehindHead : Shape → List ℕ → Type 0
 ReachesBehindHead sh bytes = (rest : List ℕ) × (bytes ≡ head_of sh ++ rest) × (length rest ≤ body_size sh)
 
--- the bytes stop in the head, and no board was made; or a board of its shape was made, and they stop in what is behind it
+-- power is on and never failed, and no flash operation did
+pub record IsFlawless (c : Chart) : Type 0 where
+  pub on : IsTrue c.on
+  pub cuts : c.cuts ≡ 0
+  pub bads : c.bads ≡ 0
+
+-- a board of this shape on which nothing failed and nothing began
+pub record IsNew (sh : Shape) (c : Chart) : Type 0 where
+  pub shape : c.shape ≡ sh
+  pub flawless : IsFlawless c
+  pub begun : c.begun ≡ 0
+  pub erases : (e : ℕ) → slice_index c.erases e ≡ 0
+
+-- power is off and no flash operation failed, or one failed and power never did
+abbrev pub HasFailed : Chart → Type 0
+HasFailed c = ((c.on ≡ false) × (0 < c.cuts) × (c.bads ≡ 0)) ⊎ (IsTrue c.on × (c.cuts ≡ 0) × (0 < c.bads))
+
+-- The bytes stop in the head, and no board was made; or a board of its shape was made, on which nothing failed, and they
+-- stop in what is behind it.
 abbrev pub StopsWithin : List ℕ → Option Chart → Type 0
 StopsWithin bytes None = StopsInHead bytes
-StopsWithin bytes (Some now) = IsShape now.shape × StopsBehindHead now.shape bytes
+StopsWithin bytes (Some now) = IsShape now.shape × StopsBehindHead now.shape bytes × IsFlawless now
 
 -- Why there is no board that holds an image, by the bytes taken, the board where one was made, and the source. A board
 -- that was made has the shape of the head.
 abbrev pub Cause : Refusal → List ℕ → Option Chart → Feed → Feed → Type 0
 Cause Failed bytes board from feed = Rises from.faults feed.faults × StopsWithin bytes board
-Cause Memory bytes board from feed = (sh : Shape) × (checked sh ≡ Ok tt) × (bytes ≡ head_of sh) × IfSome board (λ now. now.shape ≡ sh)
+Cause Memory bytes board from feed = (sh : Shape) × (checked sh ≡ Ok tt) × (bytes ≡ head_of sh) × IfSome board (IsNew sh)
 Cause Early bytes board from feed = IsDry feed.left × StopsWithin bytes board
 Cause Unmarked bytes board from feed = (board ≡ None) × (length bytes ≡ 8) × (bytes ≢ mark)
 Cause Misshapen bytes board from feed = (board ≡ None) × (sh : Shape) × (fault : ShapeFault) × (bytes ≡ head_of sh) × (checked sh ≡ Err fault) × FitNumbers sh
-Cause Upset bytes board from feed = (now : Chart) × (board ≡ Some now) × ReachesBehindHead now.shape bytes × ((0 < now.cuts) ⊎ (0 < now.bads))
+Cause Upset bytes board from feed = (now : Chart) × (board ≡ Some now) × ReachesBehindHead now.shape bytes × HasFailed now
 
--- no failure was planned on the board and power wasn't cut by hand
+-- no failure was planned on the board, power wasn't cut by hand, and nobody asked for its return
 pub record IsUnharmed (returns : ℕ) (c : Chart) : Type 0 where
   pub given : c.given ≡ returns
+  pub lives : c.lives ≡ returns
   pub pulled : c.pulled ≡ 0
   pub plans : c.plans ≡ 0
 
@@ -76,6 +95,7 @@ pub record IsInstalled (sh : Shape) (returns : ℕ) (s : State) : Type 0 where
   pub on : IsTrue s.on
   pub shape : s.shape ≡ sh
   pub given : s.given ≡ returns
+  pub lives : s.lives ≡ returns
   pub pulled : s.pulled ≡ 0
   pub plans : s.plans ≡ 0
   pub cuts : s.cuts ≡ 0

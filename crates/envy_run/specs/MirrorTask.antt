@@ -1,5 +1,5 @@
 -- The word `mirror`: a trace over a pair of boards.
-use Rattle.std.specs.Prelude.{◌≡◌, ◌⊎◌, ℕ, ◌<◌, false, List, [], Option, None, Some, IfSome}
+use Rattle.std.specs.Prelude.{◌≡◌, ◌⊎◌, ℕ, ◌<◌, false, IsTrue, List, [], Some, IfSome}
 use Rattle.envy_base.specs.Array.{zeros}
 use Rattle.envy_map.specs.Fields.{Chart}
 use Rattle.envy_pair.specs.Ending.{Boards, HasMirrored, HasFallen, PairLicences}
@@ -12,7 +12,6 @@ use Rattle.envy_run.specs.declared.prepare.Unready.{Unready}
 use Rattle.envy_run.specs.declared.prepare.Unready.TheVariants.{Memory, Bad, Dead}
 use Rattle.envy_run.specs.Outcome.{Outcome, IsQuiet}
 use Rattle.envy_run.specs.Task.{Task}
-use Rattle.envy_run.specs.Unserved.{IsOutOfMemory}
 
 -- both boards exist, and this is said of them
 abbrev pub OnBoards : (Boards → List MirrorTurn → Type 0) → Outcome → List MirrorTurn → Type 0
@@ -37,6 +36,13 @@ OfEither Is o = (now : Chart) × ((o.board ≡ Some now) ⊎ (o.second ≡ Some 
 abbrev pub IsOffForGood : Chart → Type 0
 IsOffForGood now = (now.on ≡ false) × (now.lives ≡ 0)
 
+-- status 8, which is not told of a board without power
+pub record IsPairOutOfMemory (o : Outcome) : Type 0 where
+  pub status : o.status ≡ 8
+  pub why : o.why ≡ 0
+  pub first : IfSome o.board (λ now. IsTrue now.on)
+  pub second : IfSome o.second (λ now. IsTrue now.on)
+
 -- status 7: a flash operation of one of the boards failed in formatting
 pub record IsEitherSpoilt (o : Outcome) : Type 0 where
   pub status : o.status ≡ 7
@@ -50,7 +56,7 @@ pub record IsEitherDark (o : Outcome) : Type 0 where
   pub cause : OfEither IsOffForGood o
 
 abbrev pub IsMirrorUnserved : Outcome → Streams → Type 0
-IsMirrorUnserved o io = IsQuiet o io × (IsOutOfMemory o ⊎ (IsEitherSpoilt o ⊎ IsEitherDark o))
+IsMirrorUnserved o io = IsQuiet o io × (IsPairOutOfMemory o ⊎ (IsEitherSpoilt o ⊎ IsEitherDark o))
 
 -- the word `mirror`, over two memories of zeros
 abbrev pub mirror_task : Setup → ℕ → Task MirrorLine MirrorReply

@@ -21,7 +21,7 @@ use Rattle.envy_trace.specs.declared.reply.Reply.{Reply}
 use Rattle.envy_run.specs.Attached.{HoldsStill}
 use Rattle.envy_run.specs.Counters.{AddsUp, just_told}
 use Rattle.envy_run.specs.Done.{HasDone, HasDied, OnBoard}
-use Rattle.envy_run.specs.Loading.{IsUnharmed, RefusesImage, TookOnly}
+use Rattle.envy_run.specs.Loading.{IsInstalled, RefusesImage, TookOnly}
 use Rattle.envy_run.specs.Outcome.{Outcome}
 use Rattle.envy_run.specs.Spending.{IsThrifty}
 use Rattle.envy_run.specs.Task.{Task, DoesTask}
@@ -93,17 +93,17 @@ pub record BreaksRule (setup : Shape → Setup) (o : Outcome) (io : Streams) : T
   pub fails : IsErr (checked (setup sh))
   pub board_none : o.board ≡ None
 
--- status 10, 5: the image was installed, and its board isn't formatted and sound
+-- status 10, 5: the image was installed, and its board, which is handed back so, isn't formatted and sound
 pub record IsUnsound (setup : Shape → Setup) (returns : ℕ) (o : Outcome) (io : Streams) : Type 0 where
   pub status : o.status ≡ 10
   pub why : o.why ≡ 5
   pub found : State
-  pub whole : IsBoard found
+  pub installed : IsInstalled found.shape returns found
   pub board : o.board ≡ Some (chart found)
+  pub state : o.state ≡ Some found
   pub took : TookOnly (image_of found) o io
   pub rules : checked (setup found.shape) ≡ Ok tt
   pub fails : Judges Sound (chart found) → ⊥
-  pub unharmed : IsUnharmed returns (chart found)
 
 -- no image was taken up, for this reason; where a board was made, the rules hold of its shape
 pub record DeclinesImage (refusal : Refusal) (setup : Shape → Setup) (returns : ℕ) (o : Outcome) (io : Streams) : Type 0 where

@@ -1,13 +1,19 @@
 -- How a run over a board may end before it begins its work.
-use Rattle.std.specs.Prelude.{◌≡◌, ◌⊎◌, ◌<◌, false, Some}
+use Rattle.std.specs.Prelude.{◌≡◌, ◌⊎◌, ◌<◌, false, IsTrue, Some, IfSome}
 use Rattle.envy_map.specs.Fields.{Chart}
 use Rattle.envy_serve.specs.Streams.{Streams}
 use Rattle.envy_run.specs.Outcome.{Outcome, IsQuiet}
 
--- status 8
+-- power is on, and no flash operation failed where power never did
+pub record IsStanding (now : Chart) : Type 0 where
+  pub on : IsTrue now.on
+  pub bads : now.cuts ≡ 0 → now.bads ≡ 0
+
+-- status 8, which is not told of a board without power
 pub record IsOutOfMemory (o : Outcome) : Type 0 where
   pub status : o.status ≡ 8
   pub why : o.why ≡ 0
+  pub board : IfSome o.board IsStanding
 
 -- status 7: a flash operation failed in formatting, or in a load
 pub record IsSpoilt (o : Outcome) : Type 0 where

@@ -1,6 +1,8 @@
 use Rattle.std.proofs.Common.{◌≡◌, false, sym, subst}
+use Rattle.std.specs.Prelude.{IsTrue}
 use Rattle.envy_base.specs.State.{State}
 use Rattle.envy_map.specs.Fields.{chart}
+use Rattle.envy_memory.specs.Attaching.{MayAttach}
 use Rattle.envy_run.specs.Attached.{KeepsImage}
 use Rattle.envy_run.proofs.Attaching.{keeps-lit, keeps-off, no-lives}
 use Rattle.envy_run.proofs.attach.attach.Goals as goal
@@ -11,6 +13,11 @@ returns-then-not-power_on g c =
     let k = keeps-off (chart (g.B.Board.state c.args.board)) (g.B.Board.state c.loop-memory.board) (g.B.Board.state c.in-Err-default-Off.back) c.args.setup c.loop-memory.invariant d in
     let none = no-lives (g.B.Board.state c.in-Err-default-Off.back).lives (c.if-not-power_on.ensures.answer.1) in
     subst (λ (x : State). KeepsImage (chart (g.B.Board.state c.args.board)) (chart x) × (x.on ≡ false) × (x.lives ≡ 0)) (sym c.if-not-power_on.ensures.state) (k, d.0, none)
+
+pub returns-in-Err-default-Memory : goal.returns-in-Err-default-Memory
+returns-in-Err-default-Memory g c =
+    let (may, same) = rw c.in-Err-default-Memory.field-0-1-is at c.in-Err-default-Memory.ensures in
+    subst (λ (x : State). KeepsImage (chart (g.B.Board.state c.args.board)) (chart x) × IsTrue x.on) (sym same) (c.loop-memory.invariant, MayAttach.on may)
 
 pub loop-memory-preserved : goal.loop-memory-preserved
 loop-memory-preserved g c =

@@ -10,6 +10,7 @@ use Rattle.envy_memory.specs.Formats.{IsFresh}
 use Rattle.envy_memory.specs.Picture.{Picture}
 use Rattle.envy_run.specs.Prepares.{IsReady}
 use Rattle.envy_run.proofs.Checked.{shape-of-checked}
+use Rattle.envy_run.proofs.Preparing.{unspent-standing}
 use Rattle.envy_run.proofs.IndexTold.{Back, index-began, index-ended, index-none, index-quiet, index-unread}
 use Rattle.envy_run.proofs.index_run.run_index.Goals as goal
 
@@ -18,12 +19,12 @@ make-requires g c = shape-of-checked c.args.setup c.requires.rules
 
 pub returns-in_default-clause-runs : goal.returns-in_default-clause-runs
 returns-in_default-clause-runs g c =
-    index-quiet g.M.Made.Board.state c.args.setup c.args.lives 8 0 None c.unserved.result (g.S.Source.feed c.args.source.now) (g.K.Sink.drain c.args.sink.now) c.unserved.ensures (record { lines = refl; taken = refl; source = refl; sink = refl }, inl (record { status = refl; why = refl })) tt
+    index-quiet g.M.Made.Board.state c.args.setup c.args.lives 8 0 None c.unserved.result (g.S.Source.feed c.args.source.now) (g.K.Sink.drain c.args.sink.now) c.unserved.ensures (record { lines = refl; taken = refl; source = refl; sink = refl }, inl (record { status = refl; why = refl; board = tt })) tt
 
 pub returns-in-Err-default-Memory-clause-runs : goal.returns-in-Err-default-Memory-clause-runs
 returns-in-Err-default-Memory-clause-runs g c =
     let e = rw c.in-Err-default-Memory.field-0-1-is at c.in-Err-default-Memory.ensures in
-    index-quiet g.M.Made.Board.state c.args.setup c.args.lives 8 0 (Some c.in-Err-default-Memory.board) c.unserved-in-Err-default-Memory.result (g.S.Source.feed c.args.source.now) (g.K.Sink.drain c.args.sink.now) c.unserved-in-Err-default-Memory.ensures (record { lines = refl; taken = refl; source = refl; sink = refl }, inl (record { status = refl; why = refl })) (index-unread c.args.setup c.args.lives (g.M.Made.Board.state c.in-Ok.board) (chart (g.M.Made.Board.state c.in-Err-default-Memory.board)) c.in-Ok.ensures e)
+    index-quiet g.M.Made.Board.state c.args.setup c.args.lives 8 0 (Some c.in-Err-default-Memory.board) c.unserved-in-Err-default-Memory.result (g.S.Source.feed c.args.source.now) (g.K.Sink.drain c.args.sink.now) c.unserved-in-Err-default-Memory.ensures (record { lines = refl; taken = refl; source = refl; sink = refl }, inl (record { status = refl; why = refl; board = unspent-standing c.args.setup c.args.lives (g.M.Made.Board.state c.in-Ok.board) (chart (g.M.Made.Board.state c.in-Err-default-Memory.board)) c.in-Ok.ensures e.1 e.2 })) (index-unread c.args.setup c.args.lives (g.M.Made.Board.state c.in-Ok.board) (chart (g.M.Made.Board.state c.in-Err-default-Memory.board)) c.in-Ok.ensures e.0)
 
 pub returns-in-Err-default-Bad-clause-runs : goal.returns-in-Err-default-Bad-clause-runs
 returns-in-Err-default-Bad-clause-runs g c =

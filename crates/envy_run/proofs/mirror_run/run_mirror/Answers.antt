@@ -6,7 +6,7 @@ use Rattle.envy_map.specs.Fields.{chart}
 use Rattle.envy_mirror.specs.Pair.{Pair}
 use Rattle.envy_run.proofs.Checked.{shape-of-checked}
 use Rattle.envy_run.specs.declared.prepare.Unready.TheVariants.{Memory}
-use Rattle.envy_run.proofs.Mirrored.{IsBlank, blank-made, blank-prepared, blank-board, stopped-by, not-stopped, mirror-unmade, mirror-unready, are-ready, start_of, begins-as, numbered, mirror-ended}
+use Rattle.envy_run.proofs.Mirrored.{IsBlank, blank-made, blank-prepared, blank-board, Stopped, stopped-by, lit-board, not-stopped, mirror-unmade, mirror-unready, are-ready, start_of, begins-as, numbered, mirror-ended}
 use Rattle.envy_run.proofs.mirror_run.run_mirror.Goals as goal
 
 pub make-requires : goal.make-requires
@@ -14,11 +14,11 @@ make-requires g c = shape-of-checked c.args.setup c.requires
 
 pub returns-in_default-clause-runs : goal.returns-in_default-clause-runs
 returns-in_default-clause-runs g c =
-    mirror-unmade g.M.Made.Board.state c.args.setup c.args.lives None c.unserved.result (g.S.Source.feed c.args.source.now) (g.K.Sink.drain c.args.sink.now) c.unserved.ensures tt
+    mirror-unmade g.M.Made.Board.state c.args.setup c.args.lives None c.unserved.result (g.S.Source.feed c.args.source.now) (g.K.Sink.drain c.args.sink.now) c.unserved.ensures tt tt
 
 pub returns-in_default-make-clause-runs : goal.returns-in_default-make-clause-runs
 returns-in_default-make-clause-runs g c =
-    mirror-unmade g.M.Made.Board.state c.args.setup c.args.lives (Some c.in-Ok.one) c.unserved-in_default-make.result (g.S.Source.feed c.args.source.now) (g.K.Sink.drain c.args.sink.now) c.unserved-in_default-make.ensures (IsBlank.made (blank-made c.args.setup c.args.lives (g.M.Made.Board.state c.in-Ok.one) c.in-Ok.ensures))
+    mirror-unmade g.M.Made.Board.state c.args.setup c.args.lives (Some c.in-Ok.one) c.unserved-in_default-make.result (g.S.Source.feed c.args.source.now) (g.K.Sink.drain c.args.sink.now) c.unserved-in_default-make.ensures (IsBlank.made (blank-made c.args.setup c.args.lives (g.M.Made.Board.state c.in-Ok.one) c.in-Ok.ensures)) (IsMade.on c.in-Ok.ensures)
 
 pub returns-in-Err-clause-runs : goal.returns-in-Err-clause-runs
 returns-in-Err-clause-runs g c =
@@ -26,6 +26,7 @@ returns-in-Err-clause-runs g c =
     let now = chart (g.M.Made.Board.state c.in-Err.one) in
     let stopped = stopped-by c.in-Err.unready old now (IsMade.bads c.in-Ok.ensures) c.in-Err.ensures in
     mirror-unready g.M.Made.Board.state c.args.setup c.args.lives c.in-Err.unready c.in-Err.one c.in-Ok-make.two c.unmirrored.result (g.S.Source.feed c.args.source.now) (g.K.Sink.drain c.args.sink.now) c.unmirrored.ensures (inl stopped.1)
+    (λ memory. (Stopped.on stopped.1 memory, IsMade.on c.in-Ok-make.ensures))
     (blank-prepared c.args.setup c.args.lives old now stopped.0 (blank-made c.args.setup c.args.lives (g.M.Made.Board.state c.in-Ok.one) c.in-Ok.ensures))
     (blank-made c.args.setup c.args.lives (g.M.Made.Board.state c.in-Ok-make.two) c.in-Ok-make.ensures)
 
@@ -35,6 +36,7 @@ returns-in-Err-prepare-clause-runs g c =
     let now = chart (g.M.Made.Board.state c.in-Err-prepare.two) in
     let stopped = stopped-by c.in-Err-prepare.unready old now (IsMade.bads c.in-Ok-make.ensures) c.in-Err-prepare.ensures in
     mirror-unready g.M.Made.Board.state c.args.setup c.args.lives c.in-Err-prepare.unready c.into_board.result c.in-Err-prepare.two c.unmirrored-in-Err-prepare.result (g.S.Source.feed c.args.source.now) (g.K.Sink.drain c.args.sink.now) c.unmirrored-in-Err-prepare.ensures (inr stopped.1)
+    (λ memory. (lit-board (chart (g.M.Made.Board.state c.in-Ok.one)) c.args.setup c.in-Ok-prepare.memory (chart (g.M.Made.Board.state c.into_board.result)) c.in-Ok-prepare.ensures c.into_board.ensures.same, Stopped.on stopped.1 memory))
     (blank-board c.args.setup c.args.lives (g.M.Made.Board.state c.in-Ok.one) c.in-Ok-prepare.memory (chart (g.M.Made.Board.state c.into_board.result)) c.in-Ok.ensures c.in-Ok-prepare.ensures c.into_board.ensures.same)
     (blank-prepared c.args.setup c.args.lives old now stopped.0 (blank-made c.args.setup c.args.lives (g.M.Made.Board.state c.in-Ok-make.two) c.in-Ok-make.ensures))
 
@@ -44,7 +46,9 @@ returns-in-Err-new-clause-runs g c =
     let two = c.into_board-in-Err-new-2.result in
     let first = chart (g.M.Made.Board.state one) in
     let second = chart (g.M.Made.Board.state two) in
-    mirror-unready g.M.Made.Board.state c.args.setup c.args.lives Memory one two c.unmirrored-in-Err-new.result (g.S.Source.feed c.args.source.now) (g.K.Sink.drain c.args.sink.now) c.unmirrored-in-Err-new.ensures (inl (not-stopped first))
+    let first_on = lit-board (chart (g.M.Made.Board.state c.in-Ok.one)) c.args.setup c.in-Ok-prepare.memory first c.in-Ok-prepare.ensures (c.into_board-in-Err-new.ensures.same ∙ ap (λ p. p.chart) c.in-Err-new.ensures.pair.0) in
+    let second_on = lit-board (chart (g.M.Made.Board.state c.in-Ok-make.two)) c.args.setup c.in-Ok-prepare-2.memory second c.in-Ok-prepare-2.ensures (c.into_board-in-Err-new-2.ensures.same ∙ ap (λ p. p.chart) c.in-Err-new.ensures.pair.1) in
+    mirror-unready g.M.Made.Board.state c.args.setup c.args.lives Memory one two c.unmirrored-in-Err-new.result (g.S.Source.feed c.args.source.now) (g.K.Sink.drain c.args.sink.now) c.unmirrored-in-Err-new.ensures (inl (not-stopped first first_on)) (λ memory. (first_on, second_on))
     (blank-board c.args.setup c.args.lives (g.M.Made.Board.state c.in-Ok.one) c.in-Ok-prepare.memory first c.in-Ok.ensures c.in-Ok-prepare.ensures (c.into_board-in-Err-new.ensures.same ∙ ap (λ p. p.chart) c.in-Err-new.ensures.pair.0))
     (blank-board c.args.setup c.args.lives (g.M.Made.Board.state c.in-Ok-make.two) c.in-Ok-prepare-2.memory second c.in-Ok-make.ensures c.in-Ok-prepare-2.ensures (c.into_board-in-Err-new-2.ensures.same ∙ ap (λ p. p.chart) c.in-Err-new.ensures.pair.1))
 

@@ -18,7 +18,7 @@ new-requires g c = shape-of-checked c.args.setup.now c.requires
 pub returns-in_default-clause-runs : goal.returns-in_default-clause-runs
 returns-in_default-clause-runs g c state =
     subst (λ (e : Ended g.row.B.Denot). DoesTask (plain_task c.args.setup.now) (outcome state e) (record { from = g.S.Source.feed c.args.source.now; feed = g.S.Source.feed c.args.source.now; to = g.K.Sink.drain c.args.sink.now; sink = g.K.Sink.drain c.args.sink.now })) (sym c.unserved.ensures)
-    (record { turns = []; answers = inr (refl, (record { lines = refl; taken = refl; source = refl; sink = refl }, record { status = refl; why = refl })); licences = refl })
+    (record { turns = []; answers = inr (refl, (record { lines = refl; taken = refl; source = refl; sink = refl }, record { status = refl; why = refl; board = tt })); licences = refl })
 
 pub returns-clause-runs : goal.returns-clause-runs
 returns-clause-runs g c state =

@@ -8,6 +8,7 @@ use Rattle.envy_map.specs.Fields.{chart}
 use Rattle.envy_memory.specs.Formats.{IsFresh}
 use Rattle.envy_run.specs.Prepares.{IsPrepared, IsReady}
 use Rattle.envy_run.proofs.Checked.{shape-of-checked}
+use Rattle.envy_run.proofs.Preparing.{unspent-standing}
 use Rattle.envy_run.proofs.Driving.{driver-prepared, drives-ended, drives-quiet, ends-unserved, tells-ended}
 use Rattle.envy_run.proofs.tpca_run.run_tpca.Goals as goal
 
@@ -16,12 +17,12 @@ make-requires g c = shape-of-checked c.args.setup c.requires.rules
 
 pub returns-in_default-clause-drives : goal.returns-in_default-clause-drives
 returns-in_default-clause-drives g c = λ feed.
-    drives-quiet g.M.Made.Board.state c.args.setup c.args.lives c.args.start c.args.area.now c.args.every 8 None c.unserved.result feed (g.K.Sink.drain c.args.sink.now) c.unserved.ensures (inl (record { status = refl; why = refl })) tt
+    drives-quiet g.M.Made.Board.state c.args.setup c.args.lives c.args.start c.args.area.now c.args.every 8 None c.unserved.result feed (g.K.Sink.drain c.args.sink.now) c.unserved.ensures (inl (record { status = refl; why = refl; board = tt })) tt
 
 pub returns-in-Err-default-Memory-clause-drives : goal.returns-in-Err-default-Memory-clause-drives
 returns-in-Err-default-Memory-clause-drives g c = λ feed.
     let e = rw c.in-Err-default-Memory.field-0-1-is at c.in-Err-default-Memory.ensures in
-    drives-quiet g.M.Made.Board.state c.args.setup c.args.lives c.args.start c.args.area.now c.args.every 8 (Some c.in-Err-default-Memory.board) c.unserved-in-Err-default-Memory.result feed (g.K.Sink.drain c.args.sink.now) c.unserved-in-Err-default-Memory.ensures (inl (record { status = refl; why = refl })) (driver-prepared c.args.setup c.args.lives c.args.area.now c.args.every (g.M.Made.Board.state c.in-Ok.board) (chart (g.M.Made.Board.state c.in-Err-default-Memory.board)) c.in-Ok.ensures e)
+    drives-quiet g.M.Made.Board.state c.args.setup c.args.lives c.args.start c.args.area.now c.args.every 8 (Some c.in-Err-default-Memory.board) c.unserved-in-Err-default-Memory.result feed (g.K.Sink.drain c.args.sink.now) c.unserved-in-Err-default-Memory.ensures (inl (record { status = refl; why = refl; board = unspent-standing c.args.setup c.args.lives (g.M.Made.Board.state c.in-Ok.board) (chart (g.M.Made.Board.state c.in-Err-default-Memory.board)) c.in-Ok.ensures e.1 e.2 })) (driver-prepared c.args.setup c.args.lives c.args.area.now c.args.every (g.M.Made.Board.state c.in-Ok.board) (chart (g.M.Made.Board.state c.in-Err-default-Memory.board)) c.in-Ok.ensures e.0)
 
 pub returns-in-Err-default-Bad-clause-drives : goal.returns-in-Err-default-Bad-clause-drives
 returns-in-Err-default-Bad-clause-drives g c = λ feed.
