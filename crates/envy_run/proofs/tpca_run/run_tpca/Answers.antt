@@ -66,11 +66,12 @@ returns-clause-drives g c = λ feed.
 
 pub returns-in_default-clause-told : goal.returns-in_default-clause-told
 returns-in_default-clause-told g c = λ kind feed.
-    inr (ends-unserved g.M.Made.Board.state 8 None c.unserved.result feed (g.K.Sink.drain c.args.sink.now) c.unserved.ensures (inl (record { status = refl; why = refl })))
+    inr (ends-unserved g.M.Made.Board.state 8 None c.unserved.result feed (g.K.Sink.drain c.args.sink.now) c.unserved.ensures (inl (record { status = refl; why = refl; board = tt })))
 
 pub returns-in-Err-default-Memory-clause-told : goal.returns-in-Err-default-Memory-clause-told
 returns-in-Err-default-Memory-clause-told g c = λ kind feed.
-    inr (ends-unserved g.M.Made.Board.state 8 (Some c.in-Err-default-Memory.board) c.unserved-in-Err-default-Memory.result feed (g.K.Sink.drain c.args.sink.now) c.unserved-in-Err-default-Memory.ensures (inl (record { status = refl; why = refl })))
+    let e = rw c.in-Err-default-Memory.field-0-1-is at c.in-Err-default-Memory.ensures in
+    inr (ends-unserved g.M.Made.Board.state 8 (Some c.in-Err-default-Memory.board) c.unserved-in-Err-default-Memory.result feed (g.K.Sink.drain c.args.sink.now) c.unserved-in-Err-default-Memory.ensures (inl (record { status = refl; why = refl; board = unspent-standing c.args.setup c.args.lives (g.M.Made.Board.state c.in-Ok.board) (chart (g.M.Made.Board.state c.in-Err-default-Memory.board)) c.in-Ok.ensures e.1 e.2 })))
 
 pub returns-in-Err-default-Bad-clause-told : goal.returns-in-Err-default-Bad-clause-told
 returns-in-Err-default-Bad-clause-told g c = λ kind feed.
