@@ -82,7 +82,7 @@ next-stays sh f v plan then_plan next found (inl dead) =
     let here : drop (length (IsFirstMove.dropped first)) (IsFirstMove.dropped first ++ next.row ∷ then_plan.moves) ≡ next.row ∷ then_plan.moves = drop-append_seam (IsFirstMove.dropped first) (next.row ∷ then_plan.moves) in
     All-head (λ r. IsKept f r → ⊥) next.row then_plan.moves (subst (λ (xs : List ℕ). All (λ r. IsKept f r → ⊥) xs) here (All-drop (λ r. IsKept f r → ⊥) (length (IsFirstMove.dropped first)) _ listed)) (IsFirstMove.kept first)
 next-stays sh f v plan then_plan next found (inr (inl none)) = none-some (found.5, found.6) (sym none ∙ found.7)
-next-stays sh f v plan then_plan next found (inr (inr full)) = 
+next-stays sh f v plan then_plan next found (inr (inr full)) =
     let low = found.8 in
     let same : Some (full.0, full.1) ≡ Some (found.5, found.6) = sym full.2 ∙ found.7 in
     let pair = same_Some (full.0, full.1) (found.5, found.6) same in
