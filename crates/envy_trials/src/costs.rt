@@ -1,0 +1,212 @@
+//! How often calls read the board, of which no clause says anything.
+
+use crate::counting::CountingBoard;
+use envy_base::Shape;
+use envy_memory::{Did, Memory};
+use envy_policy::{Policy, Setup};
+use std::alloc::Global;
+use std::process::Abort;
+use std::test::Fail;
+
+/// A memory of 33 positions, which are cleaned in turn.
+fn memory_of(
+    rt: &(impl Abort + Alloc<A = Global>),
+    rows: u32,
+    pages: u32,
+    mark: u32,
+) -> Result<Memory<CountingBoard>, Fail> {
+    let shape = Shape {
+        segments: 34,
+        rows,
+        pages,
+        shadows: 200,
+        frames: 4,
+        entries: 4,
+    };
+    let setup = Setup {
+        shape,
+        policy: Policy::Fifo,
+        limit: 100,
+        mark,
+    };
+    shape.check()?;
+    let board = CountingBoard::new(rt.alloc(), &shape)?;
+    match Memory::format(rt.alloc(), board, setup) {
+        Ok(memory) => Ok(memory),
+        Err((_, fault)) => panic!(rt; "not formatted: {fault:?}"),
+    }
+}
+
+/// A page is stored, and goes to the next free row.
+fn flush(rt: &impl Abort, memory: &mut Memory<CountingBoard>, page: u16) {
+    assert_eq!(rt; memory.store(32 * page as u32, 1), Ok(()));
+    assert_eq!(rt; memory.tick(), Ok(Did::Flushed));
+}
+
+/// Lets the cleaning of position 0 begin, all of whose rows but the first are kept. No row is free at the others.
+fn begin_cleaning(rt: &impl Abort, memory: &mut Memory<CountingBoard>, rows: u16) {
+    // page 0 leaves row 0
+    flush(rt, memory, 0);
+    for page in 1..rows {
+        flush(rt, memory, page - 1);
+    }
+    for _row in 0..32 * rows as u32 {
+        flush(rt, memory, 63);
+    }
+    assert_eq!(rt; memory.store(32 * 63, 1), Ok(()));
+    assert_eq!(rt; memory.tick(), Ok(Did::Began));
+}
+
+/// How often all steps of the cleaning of a segment read the board, where so many rows but one are kept.
+fn cleaning_reads(
+    rt: &(impl Abort + Alloc<A = Global>),
+    rows: u16,
+    pages: u32,
+) -> Result<u64, Fail> {
+    let mut memory = memory_of(rt, rows as u32, pages, 1)?;
+    begin_cleaning(rt, &mut memory, rows);
+    let _before = memory.board().take_reads();
+    for _row in 1..rows {
+        assert_eq!(rt; memory.tick(), Ok(Did::Copied));
+    }
+    for did in [Did::Switched, Did::Placed, Did::Erased] {
+        assert_eq!(rt; memory.tick(), Ok(did));
+    }
+    Ok(memory.board().take_reads())
+}
+
+// A row that is kept makes one step, which looks at the job three times (3), asks who keeps the row (4 at most: the
+// page that it was claimed for, the page's place and undo, and the undo's slot) and reads its words (32). The switch
+// looks where the copy came from (1), asks again who keeps that row (4), and reads the word that it changes (1). Those
+// are 45. The steps that switch, place and erase look at the job too (9), and the last at the segment's wear (1).
+//
+// Each kept row makes as many reads as another, k, and what doesn't depend on the rows makes c. Then n rows, one of
+// which isn't kept, make k (n - 1) + c, and 2 n rows make k - c more than twice as many, so at most 45 more. Steps
+// that began at the first row again would read 2 words of each row that was copied before: about n n in all.
+#[test]
+fn a_cleaning_looks_at_each_row_a_few_times(rt: HostRuntime) -> Result<(), Fail> {
+    let few = cleaning_reads(&rt, 16, 64)?;
+    assert!(rt; few <= 45 * 16 + 10, "{few}");
+    let more = cleaning_reads(&rt, 32, 64)?;
+    assert!(rt; more <= 2 * few + 45, "{few}, {more}");
+    let most = cleaning_reads(&rt, 64, 64)?;
+    assert!(rt; most <= 2 * more + 45, "{more}, {most}");
+    Ok(())
+}
+
+/// What is asked of a memory.
+#[derive(Clone, Copy, Debug)]
+enum Call {
+    Load(u32),
+    Look(u32),
+    Store(u32),
+    Begin,
+    Put(u32),
+    Commit,
+    Abort,
+    Tick(Did),
+}
+
+/// Whether a call, within slot 0 where it needs one, isn't refused.
+fn is_done(memory: &mut Memory<CountingBoard>, call: Call) -> bool {
+    match call {
+        Call::Load(a) => memory.load(a).is_ok(),
+        Call::Look(a) => memory.look(a).is_ok(),
+        Call::Store(a) => memory.store(a, 1).is_ok(),
+        Call::Begin => memory.begin() == Ok(0),
+        Call::Put(a) => memory.put(0, a, 2).is_ok(),
+        Call::Commit => memory.commit(0).is_ok(),
+        Call::Abort => memory.abort(0).is_ok(),
+        Call::Tick(did) => memory.tick() == Ok(did),
+    }
+}
+
+/// How often each call of a list reads the board of a memory with this last page. No call cleans.
+fn reads_by_call(rt: &(impl Abort + Alloc<A = Global>), last: u16) -> Result<Vec<u64>, Fail> {
+    let mut memory = memory_of(rt, 32, last as u32 + 1, 4)?;
+    let last = 32 * last as u32;
+    let mut reads = Vec::new(rt.alloc());
+    let _before = memory.board().take_reads();
+    for call in [
+        Call::Tick(Did::Idle),
+        // an absent page comes to a frame, and is hit there
+        Call::Load(last),
+        Call::Look(last),
+        Call::Store(last),
+        Call::Store(last + 1),
+        Call::Load(last),
+        // the frames are full, so the first page is flushed, and then the next one is
+        Call::Store(0),
+        Call::Store(32),
+        Call::Store(64),
+        Call::Store(96),
+        Call::Load(last),
+        Call::Look(last),
+        Call::Tick(Did::Flushed),
+        // pages in a frame, in a row and absent get an owner; page 1 is flushed for the last of them
+        Call::Begin,
+        Call::Put(64),
+        Call::Put(65),
+        Call::Put(last),
+        Call::Put(128),
+        Call::Look(64),
+        Call::Look(last),
+        Call::Look(128),
+        Call::Commit,
+        // pages in a frame and absent are put back
+        Call::Begin,
+        Call::Put(64),
+        Call::Put(last),
+        Call::Put(160),
+        Call::Abort,
+        Call::Tick(Did::Idle),
+    ] {
+        assert!(rt; is_done(&mut memory, call), "{call:?}");
+        reads.push(memory.board().take_reads())?;
+    }
+    Ok(reads)
+}
+
+// Nothing but the number of pages differs, and only format, attach and revive may look at all pages. Each call reads
+// the same fields of its own page, of slots and of rows.
+#[test]
+fn calls_read_as_much_of_many_pages(rt: HostRuntime) -> Result<(), Fail> {
+    let few = reads_by_call(&rt, 63)?;
+    let many = reads_by_call(&rt, 511)?;
+    assert_eq!(rt; few.as_slice(), many.as_slice());
+    assert_eq!(rt; cleaning_reads(&rt, 32, 64)?, cleaning_reads(&rt, 32, 512)?);
+    Ok(())
+}
+
+/// How often a store into a page in a frame reads the board: where the cache holds the page, and where it doesn't. So
+/// many slots are open, each of which owns 25 pages.
+fn store_reads(rt: &(impl Abort + Alloc<A = Global>), slots: u8) -> Result<(u64, u64), Fail> {
+    let mut memory = memory_of(rt, 32, 512, 4)?;
+    for slot in 0..slots {
+        assert_eq!(rt; memory.begin(), Ok(slot));
+        for i in 0..25 {
+            let page = 4 + 25 * slot as u32 + i;
+            assert_eq!(rt; memory.put(slot, 32 * page, 2), Ok(()));
+        }
+    }
+    assert_eq!(rt; memory.store(0, 1), Ok(()));
+    let _before = memory.board().take_reads();
+    assert_eq!(rt; memory.store(1, 1), Ok(()));
+    let held = memory.board().take_reads();
+    // page 4 uses the same entry
+    assert!(rt; memory.load(128).is_ok());
+    let _before = memory.board().take_reads();
+    assert_eq!(rt; memory.store(2, 1), Ok(()));
+    Ok((held, memory.board().take_reads()))
+}
+
+// A store of one word into a frame needs to know but the page's place, which is one word, and whether the page has an
+// owner, which the memory knows without the board.
+#[test]
+fn a_store_into_a_frame_reads_as_much_beside_owned_pages(rt: HostRuntime) -> Result<(), Fail> {
+    let (held, sought) = store_reads(&rt, 0)?;
+    assert!(rt; held <= 1 && sought <= 1, "{held}, {sought}");
+    assert_eq!(rt; store_reads(&rt, 1)?, (held, sought));
+    assert_eq!(rt; store_reads(&rt, 8)?, (held, sought));
+    Ok(())
+}
