@@ -1,0 +1,64 @@
+-- A file that was mended, as a journal begins with it.
+use Rattle.std.proofs.Common.{◌≡◌, ℕ, ◌+◌, ◌≤◌, false, List, [], ◌∷◌, ◌++◌, length, take, refl, sym, ◌∙◌, ap, subst, arith}
+use Rattle.std.proofs.lemmas.List.{take-take, take_at}
+use Rattle.envy_base.specs.declared.shape.Shape.{Shape}
+use Rattle.envy_device.specs.Device.{Only, LeavesOnly}
+use Rattle.envy_journal.specs.declared.operation.Operation.{Operation}
+use Rattle.envy_journal.specs.Found.{IsMended, ReadsAlike}
+use Rattle.envy_journal.specs.Head.{StandsFor, head_bytes}
+use Rattle.envy_journal.specs.Journal.{IsAtRest}
+use Rattle.envy_journal.specs.Log.{Begins}
+use Rattle.envy_journal.specs.Reading.{operations, Leads}
+use Rattle.envy_journal.proofs.Moments.{started, widened}
+use Rattle.envy_journal.proofs.Parsed.{leads_to, leads_over}
+use Rattle.envy_journal.proofs.Settled.{head_alike}
+
+module _ (end gate : ℕ) (old new : List ℕ) (is : IsMended end gate old new) (le : 33 ≤ end) where
+  pub mended_reads : operations (take gate new) ≡ operations old
+  mended_reads = leads_to false false 33 (take gate new) (operations old) is.leads
+
+  pub mended_leads : Leads false 33 (take gate new) (operations (take gate new)) false
+  mended_leads = subst (λ (p : List Operation). Leads false 33 (take gate new) p false) (sym mended_reads) is.leads
+
+  pub mended_head : (sh : Shape) → Begins (head_bytes sh) old → Begins (head_bytes sh) (take gate new)
+  mended_head sh head = take-take 33 gate new (omega (arith, is.near)) ∙ head_alike sh end old new le head is.front
+
+-- a file with the same operations and head stands for the same
+pub alike_stands : (sh : Shape) (end : ℕ) (old c : List ℕ) → 33 ≤ end → Begins (head_bytes sh) old → ReadsAlike end old c → StandsFor sh (operations old) c
+alike_stands sh end old c le head alike = record { head = head_alike sh end old c le head alike.front; reads = alike.reads }
+
+module _ {D : Type 0} (moment : D → ℕ) (left_since : D → ℕ → List ℕ → Type 0) (old new : D) where
+  -- before the first call of a device
+  pub untouched : (may : List ℕ → Type 0) (file : List ℕ) (P : List ℕ → Type 0) → Only file may → ((c : List ℕ) → left_since old (moment old) c → may c) → P file → LeavesOnly moment left_since old old P
+  untouched may file P only now_only has = started moment left_since old P (λ c left. subst P (sym (only c (now_only c left))) has)
+
+  pub settled_stands : (sh : Shape) (end : ℕ) (file bytes : List ℕ) → bytes ≡ file → 33 ≤ end → Begins (head_bytes sh) bytes → LeavesOnly moment left_since old new (ReadsAlike end file) → LeavesOnly moment left_since old new (StandsFor sh (operations bytes))
+  settled_stands sh end file bytes is le head only =
+      subst (λ (l : List ℕ). LeavesOnly moment left_since old new (StandsFor sh (operations l))) (sym is)
+      (widened moment left_since old new (ReadsAlike end file) (StandsFor sh (operations file)) only (λ c alike. alike_stands sh end file c le (subst (λ (l : List ℕ). Begins (head_bytes sh) l) is head) alike))
+
+pub stands_itself : (sh : Shape) (bytes : List ℕ) → Begins (head_bytes sh) bytes → StandsFor sh (operations bytes) bytes
+stands_itself sh bytes head = record { head = head; reads = refl }
+
+-- a head and a closed gate, at rest
+module _ (sh : Shape) (file : List ℕ) (is : file ≡ head_bytes sh ++ 0 ∷ []) where
+  pub made_front : take 33 file ≡ head_bytes sh
+  made_front = ap (λ (l : List ℕ). take 33 l) is ∙ take_at (head_bytes sh) (0 ∷ []) 33 refl
+
+  pub made_file : file ≡ take 33 file ++ 0 ∷ []
+  made_file = is ∙ ap (λ (l : List ℕ). l ++ 0 ∷ []) (sym made_front)
+
+  pub made_size : length file ≡ 34
+  made_size = ap length is
+
+  pub made_head : Begins (head_bytes sh) (take 33 file)
+  made_head = take-take 33 33 file (omega arith) ∙ made_front
+
+  none_leads : Leads false 33 (take 33 file) [] false
+  none_leads = subst (λ (l : List ℕ). Leads false 33 l [] false) (sym made_front) (leads_over false 33 (head_bytes sh) refl)
+
+  pub made_reads : operations (take 33 file) ≡ []
+  made_reads = leads_to false false 33 (take 33 file) [] none_leads
+
+  pub made_leads : Leads false 33 (take 33 file) (operations (take 33 file)) false
+  made_leads = subst (λ (p : List Operation). Leads false 33 (take 33 file) p false) (sym made_reads) none_leads

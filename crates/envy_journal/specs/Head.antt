@@ -1,0 +1,39 @@
+-- The head of a journal, and what a file that begins with one stands for.
+use Rattle.std.specs.Prelude.{◌≡◌, ◌≢◌, ◌⊎◌, ℕ, ◌<◌, ◌≤◌, List, [], ◌∷◌, ◌++◌, length, take, codes, slice_index}
+use Rattle.envy_base.specs.declared.shape.Shape.{Shape}
+use Rattle.envy_journal.specs.declared.operation.Operation.{Operation}
+use Rattle.envy_journal.specs.Log.{Begins}
+use Rattle.envy_journal.specs.Reading.{operations, number_bytes}
+
+-- a journal that is made begins with a 1, and then its name
+abbrev pub mark : List ℕ
+mark = 1 ∷ codes "eNVyJNL"
+
+-- the mark, the version and the sizes: 33 bytes
+abbrev pub head_bytes : Shape → List ℕ
+head_bytes sh =
+    mark ++ 1 ∷ number_bytes sh.segments ++ number_bytes sh.rows ++ number_bytes sh.pages
+    ++ number_bytes sh.shadows ++ number_bytes sh.frames ++ number_bytes sh.entries
+
+-- a journal of a board of this shape, with these operations
+pub record StandsFor (sh : Shape) (done : List Operation) (file : List ℕ) : Type 0 where
+  pub head : Begins (head_bytes sh) file
+  pub reads : operations file ≡ done
+
+-- what a crash may leave before a journal is made: no more than a head and a gate, and where it is as much, no 1 at the front
+pub record IsUnmade (file : List ℕ) : Type 0 where
+  pub short : length file ≤ 34
+  pub unmarked : length file ≡ 34 → slice_index file 0 ≢ 1
+
+-- before a journal is made, or once it is, without operations
+abbrev pub IsNewOrUnmade : Shape → List ℕ → Type 0
+IsNewOrUnmade sh file = IsUnmade file ⊎ StandsFor sh [] file
+
+-- the bytes don't begin as a journal does
+abbrev pub HasNoJournal : List ℕ → Type 0
+HasNoJournal file = (length file < 34) ⊎ (take 8 file ≢ mark)
+
+-- a journal of a version that isn't known here
+pub record IsOtherVersion (file : List ℕ) : Type 0 where
+  pub marked : take 8 file ≡ mark
+  pub version : slice_index file 8 ≢ 1
