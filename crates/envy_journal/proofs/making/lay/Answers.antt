@@ -1,4 +1,5 @@
-use Rattle.std.proofs.Common.{◌≡◌, ◌∙◌, ◌∷◌, [], ◌++◌, ℕ, List, ap, take}
+use Rattle.std.proofs.Common.{◌≡◌, ◌∙◌, ◌∷◌, [], ◌++◌, ℕ, List, ap, take, subst}
+use Rattle.envy_device.specs.Device.{LeavesOnly}
 use Rattle.envy_journal.specs.Head.{IsUnmade}
 use Rattle.envy_journal.specs.Log.{IsMending}
 use Rattle.envy_journal.proofs.Moments.{widened, joined}
@@ -22,7 +23,7 @@ returns-in_err-mend-2-clause-any_moment g c =
     let one : seen mid ≡ 0 ∷ [] = c.in_ok-mend.ensures.ok in
     joined moment left old mid new IsUnmade
     (widened moment left old mid (IsMending 0 1 (seen old)) IsUnmade c.mend.ensures.any_moment (laid_first (seen old) c.requires.unmade))
-    (widened moment left mid new (IsMending 1 33 (seen mid)) IsUnmade c.mend-2.ensures.any_moment (laid_rest (seen mid) one))
+    (widened moment left mid new (IsMending 1 33 (seen mid)) IsUnmade (subst (λ (n : ℕ). LeavesOnly moment left mid new (IsMending 1 n (seen mid))) c.told-rest c.mend-2.ensures.any_moment) (laid_rest (seen mid) one))
 
 pub returns-clause-any_moment : goal.returns-clause-any_moment
 returns-clause-any_moment g c =
@@ -35,4 +36,4 @@ returns-clause-any_moment g c =
     let one : seen mid ≡ 0 ∷ [] = c.in_ok-mend.ensures.ok in
     joined moment left old mid new IsUnmade
     (widened moment left old mid (IsMending 0 1 (seen old)) IsUnmade c.mend.ensures.any_moment (laid_first (seen old) c.requires.unmade))
-    (widened moment left mid new (IsMending 1 33 (seen mid)) IsUnmade c.mend-2.ensures.any_moment (laid_rest (seen mid) one))
+    (widened moment left mid new (IsMending 1 33 (seen mid)) IsUnmade (subst (λ (n : ℕ). LeavesOnly moment left mid new (IsMending 1 n (seen mid))) c.told-rest c.mend-2.ensures.any_moment) (laid_rest (seen mid) one))

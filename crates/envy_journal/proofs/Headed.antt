@@ -1,0 +1,57 @@
+-- The head of a journal, piece by piece.
+use Rattle.std.proofs.Common.{◌≡◌, ℕ, ◌+◌, ◌<◌, ◌≤◌, List, [], ◌∷◌, ◌++◌, length, get_or, take, drop, refl, sym, ◌∙◌, ap, subst, arith, inl, inr, length-take, length-drop}
+use Rattle.std.proofs.lemmas.Bool.{cases_lt}
+use Rattle.std.proofs.lemmas.List.{take_all, drop_more, get_or-take, get_or-drop, get_or_past}
+use Rattle.std.proofs.lemmas.Nat.{le_bytes_4}
+use Rattle.std.proofs.Math.Seq.{take-add}
+use Rattle.std.specs.Int.{w32, from_le_bytes}
+use Rattle.envy_base.specs.declared.shape.Shape.{Shape}
+use Rattle.envy_journal.specs.Head.{head_bytes, mark}
+use Rattle.envy_journal.specs.Log.{Begins}
+use Rattle.envy_journal.specs.Reading.{number_bytes}
+
+-- a head is a mark, a version and six numbers
+pub pieces : (sh : Shape) (named versioned a b c d e f : List ℕ) → named ≡ mark → versioned ≡ named ++ 1 ∷ []
+    → a ≡ versioned ++ number_bytes sh.segments → b ≡ a ++ number_bytes sh.rows → c ≡ b ++ number_bytes sh.pages
+    → d ≡ c ++ number_bytes sh.shadows → e ≡ d ++ number_bytes sh.frames → f ≡ e ++ number_bytes sh.entries → f ≡ head_bytes sh
+pieces sh named versioned a b c d e f is_named is_versioned is_a is_b is_c is_d is_e is_f =
+    let with_version : versioned ≡ mark ++ 1 ∷ [] = is_versioned ∙ ap (λ (l : List ℕ). l ++ 1 ∷ []) is_named in
+    let with_a : a ≡ (mark ++ 1 ∷ []) ++ number_bytes sh.segments = is_a ∙ ap (λ (l : List ℕ). l ++ number_bytes sh.segments) with_version in
+    let with_b = is_b ∙ ap (λ (l : List ℕ). l ++ number_bytes sh.rows) with_a in
+    let with_c = is_c ∙ ap (λ (l : List ℕ). l ++ number_bytes sh.pages) with_b in
+    let with_d = is_d ∙ ap (λ (l : List ℕ). l ++ number_bytes sh.shadows) with_c in
+    let with_e = is_e ∙ ap (λ (l : List ℕ). l ++ number_bytes sh.frames) with_d in
+    is_f ∙ ap (λ (l : List ℕ). l ++ number_bytes sh.entries) with_e
+
+module _ (bytes : List ℕ) where
+  -- one byte more
+  pub byte_back : (at x : ℕ) → at < length bytes → get_or bytes at 0 ≡ x → take (at + 1) bytes ≡ take at bytes ++ x ∷ []
+  byte_back at x lt is =
+      take-add at 1 bytes
+      ∙ ap (λ (l : List ℕ). take at bytes ++ take 1 l) (drop_more bytes at 0 lt)
+      ∙ ap (λ (y : ℕ). take at bytes ++ y ∷ []) is
+
+  module _ (small : (i : ℕ) → get_or bytes i 0 < 256) where
+    small_part : (at i : ℕ) → get_or (take 4 (drop at bytes)) i 0 < 256
+    small_part at i = elim (cases_lt i 4) [
+      | inl lt ↦ subst (λ (n : ℕ). n < 256) (sym (get_or-take 4 (drop at bytes) i 0 lt ∙ get_or-drop at bytes i 0)) (small (at + i))
+      | inr ge ↦ subst (λ (n : ℕ). n < 256) (sym (get_or_past (take 4 (drop at bytes)) i 0 (omega (arith, length-take {A = ℕ})))) (omega arith)
+    ]
+
+    -- a number that is read where it stands
+    pub number_back : (at n : ℕ) → at + 4 ≤ length bytes → n ≡ from_le_bytes w32 (take 4 (drop at bytes)) → take (at + 4) bytes ≡ take at bytes ++ number_bytes n
+    number_back at n le is =
+        let long : length (take 4 (drop at bytes)) ≡ 4 = omega (arith, length-take {A = ℕ}, length-drop at bytes) in
+        take-add at 4 bytes ∙ ap (λ (l : List ℕ). take at bytes ++ l) (sym (le_bytes_4 (take 4 (drop at bytes)) n long (small_part at) is))
+
+pub long_head : (sh : Shape) (bytes : List ℕ) → Begins (head_bytes sh) bytes → 33 ≤ length bytes
+long_head sh bytes head =
+    let long : length (take 33 bytes) ≡ 33 = ap length head in
+    omega (arith, long, length-take {A = ℕ})
+
+-- what stands behind the first byte of a head, and a closed gate
+pub slid : (head part first second : List ℕ) → length head ≡ 33 → part ≡ drop 1 head → take (0 + length part) first ≡ part → take 33 second ≡ take 32 first ++ 0 ∷ [] → length second ≡ 33 → second ≡ drop 1 head ++ 0 ∷ []
+slid head part first second long is copied closed room =
+    let few : length part ≡ 32 = omega (arith, ap length is, length-drop 1 head) in
+    let all : 32 ≡ 0 + length part = omega (arith, few) in
+    sym (take_all 33 second (omega arith)) ∙ closed ∙ ap (λ (l : List ℕ). l ++ 0 ∷ []) (ap (λ (n : ℕ). take n first) all ∙ copied ∙ is)
