@@ -6,5 +6,6 @@ pub mod NotingLemmas
 pub mod OrderLemmas
 pub mod PlaceLemmas
 pub mod PoolLemmas
+pub mod RisingLemmas
 pub mod RunLemmas
 pub mod SpaceLemmas

@@ -11,11 +11,13 @@ mod laws;
 mod nodes;
 mod order;
 mod rebuild;
+mod rising;
 mod space;
 #[cfg(test)]
 mod tests;
 mod winners;
 
 pub use following::notes_follow_a_row;
+pub use rising::no_row_is_claimed_twice;
 pub use laws::{notes_follow_a_page, notes_follow_a_place};
 pub use space::Space;
