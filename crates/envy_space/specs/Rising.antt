@@ -1,7 +1,7 @@
 -- The rows of one segment as calls of a pool claim them: the first at its fill of 0, each later one higher, until the
 -- segment is erased.
 use Rattle.std.specs.Prelude.{◌≡◌, ℕ, ◌+◌, ◌*◌, List, [], ◌∷◌, slice_index}
-use Rattle.envy_space.specs.Pool.{Pool, with_filled}
+use Rattle.envy_space.specs.Pool.{Pool}
 
 -- what a call does to the rows of a segment
 pub data Call : Type 0 where

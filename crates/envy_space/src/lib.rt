@@ -18,6 +18,6 @@ mod tests;
 mod winners;
 
 pub use following::notes_follow_a_row;
-pub use rising::no_row_is_claimed_twice;
 pub use laws::{notes_follow_a_page, notes_follow_a_place};
+pub use rising::no_row_is_claimed_twice;
 pub use space::Space;
