@@ -36,6 +36,20 @@ impl<B: AnyBoard> Counted<B> {
         }
     }
 
+    /// How many failures of power were told, at most 2^64 - 1.
+    pub fn cuts(&self) -> u64
+        ensures { result ≡ (⟦<Counted<B> as Board>⟧.state self.now).cuts }
+    {
+        self.cuts
+    }
+
+    /// How many bad operations were told, at most 2^64 - 1.
+    pub fn bads(&self) -> u64
+        ensures { result ≡ (⟦<Counted<B> as Board>⟧.state self.now).bads }
+    {
+        self.bads
+    }
+
     /// The board itself, which counted each failure that was told, and maybe more.
     pub fn board(&self) -> &B
         ensures { TellsNoMore (⟦<Counted<B> as Board>⟧.state self.now) (B.state result.now) }
