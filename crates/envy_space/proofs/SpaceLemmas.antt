@@ -9,7 +9,8 @@ use Rattle.std.proofs.lemmas.List.FromFn.{get_or-range_with_len, length-range_wi
 use Rattle.envy_base.specs.declared.shape.Shape.{Shape}
 use Rattle.envy_base.specs.Shape.{IsShape}
 use Rattle.envy_space.specs.Order.{IsOrder}
-use Rattle.envy_space.specs.Pool.{Pool, IsPool, IsSpace, StandsAt, empty_pool}
+use Rattle.envy_space.specs.Pool.{Pool, IsPool, IsSpace, StandsAt, empty_pool, free_at, dead_at}
+use Rattle.envy_space.specs.Winners.{flag}
 use Rattle.envy_space.proofs.OrderLemmas.{IsOrder-places, ArePlaces-range, swapped, swapped_first, swapped_other}
 
 -- one number more in a sum
@@ -38,7 +39,7 @@ take-range m n le =
 abbrev pub pool_of : Shape → List ℕ → List ℕ → List ℕ → Pool
 pool_of sh fills kept order = record { shape = sh; fills = fills; kept = kept; positions = take (sh.segments - 1) order }
 
-pub IsSpace-empty : (sh : Shape) → IsShape sh → IsSpace sh (replicate sh.segments 0) (replicate sh.segments 0) (range_with_len 0 sh.segments) (replicate sh.segments 0)
+pub IsSpace-empty : (sh : Shape) → IsShape sh → IsSpace sh (replicate sh.segments 0) (replicate sh.segments 0) (range_with_len 0 sh.segments) (replicate sh.segments 0) (replicate sh.segments (flag sh.rows)) (replicate sh.segments (flag 0))
 IsSpace-empty sh shape = record {
   shape = shape;
   fills_long = length-replicate sh.segments 0;
@@ -49,11 +50,15 @@ IsSpace-empty sh shape = record {
   kept_fit = λ s. omega arith;
   ordered = IsOrder-places _ _ (ArePlaces-range sh.segments (let few = shape.few_segments in omega arith));
   scores = λ k lt. zeros_at sh.segments k ∙ (let none = zeros_at sh.segments (get_or (range_with_len 0 sh.segments) k 0) in omega arith);
+  has_free_long = length-replicate sh.segments (flag sh.rows);
+  has_dead_long = length-replicate sh.segments (flag 0);
+  free_flags = λ k lt. let at = get_or-replicate sh.segments k (flag sh.rows) 0 lt in let none = zeros_at sh.segments (get_or (range_with_len 0 sh.segments) k 0) in omega arith;
+  dead_flags = λ k lt. let at = get_or-replicate sh.segments k (flag 0) 0 lt in let none = zeros_at sh.segments (get_or (range_with_len 0 sh.segments) k 0) in omega arith;
 }
 
 -- a space that was cleared
-pub IsSpace-cleared : (sh : Shape) (fills kept order dead : List ℕ) → IsShape sh → fills ≡ replicate sh.segments 0 → kept ≡ replicate sh.segments 0 → order ≡ range_with_len 0 sh.segments → dead ≡ replicate sh.segments 0 → IsSpace sh fills kept order dead
-IsSpace-cleared sh fills kept order dead shape fills_is kept_is order_is dead_is = rw (fills_is, kept_is, order_is, dead_is) (IsSpace-empty sh shape)
+pub IsSpace-cleared : (sh : Shape) (fills kept order dead has_free has_dead : List ℕ) → IsShape sh → fills ≡ replicate sh.segments 0 → kept ≡ replicate sh.segments 0 → order ≡ range_with_len 0 sh.segments → dead ≡ replicate sh.segments 0 → has_free ≡ replicate sh.segments (flag sh.rows) → has_dead ≡ replicate sh.segments (flag 0) → IsSpace sh fills kept order dead has_free has_dead
+IsSpace-cleared sh fills kept order dead has_free has_dead shape fills_is kept_is order_is dead_is free_is has_is = rw (fills_is, kept_is, order_is, dead_is, free_is, has_is) (IsSpace-empty sh shape)
 
 pub pool-cleared : (sh : Shape) (fills kept order : List ℕ) → fills ≡ replicate sh.segments 0 → kept ≡ replicate sh.segments 0 → order ≡ range_with_len 0 sh.segments → pool_of sh fills kept order ≡ empty_pool sh
 pool-cleared sh fills kept order fills_is kept_is order_is =
@@ -61,8 +66,8 @@ pool-cleared sh fills kept order fills_is kept_is order_is =
     rw (fills_is, kept_is, front) refl
 
 -- two segments have changed places
-pub IsSpace-swap : (sh : Shape) (fills kept order dead then_order then_dead : List ℕ) (i j : ℕ) → i < sh.segments → j < sh.segments → IsSpace sh fills kept order dead → then_order ≡ swap order i j → IsOrder then_order → then_dead ≡ swap dead i j → IsSpace sh fills kept then_order then_dead
-IsSpace-swap sh fills kept order dead then_order then_dead i j low lower was order_is ordered dead_is = record {
+pub IsSpace-swap : (sh : Shape) (fills kept order dead has_free has_dead then_order then_dead then_free then_has : List ℕ) (i j : ℕ) → i < sh.segments → j < sh.segments → IsSpace sh fills kept order dead has_free has_dead → then_order ≡ swap order i j → IsOrder then_order → then_dead ≡ swap dead i j → then_free ≡ swap has_free i j → then_has ≡ swap has_dead i j → IsSpace sh fills kept then_order then_dead then_free then_has
+IsSpace-swap sh fills kept order dead has_free has_dead then_order then_dead then_free then_has i j low lower was order_is ordered dead_is free_is has_is = record {
   shape = was.shape;
   fills_long = was.fills_long;
   kept_long = was.kept_long;
@@ -76,10 +81,22 @@ IsSpace-swap sh fills kept order dead then_order then_dead i j low lower was ord
       let order_at : get_or then_order k 0 ≡ get_or order from.0 0 = ap (λ (xs : List ℕ). get_or xs k 0) order_is ∙ from.2 order was.order_long in
       let dead_at : get_or then_dead k 0 ≡ get_or dead from.0 0 = ap (λ (xs : List ℕ). get_or xs k 0) dead_is ∙ from.2 dead was.dead_long in
       dead_at ∙ was.scores from.0 from.1 ∙ ap (λ (s : ℕ). get_or fills s 0 - get_or kept s 0) (sym order_at);
+  has_free_long = ap length free_is ∙ length-swap has_free i j ∙ was.has_free_long;
+  has_dead_long = ap length has_is ∙ length-swap has_dead i j ∙ was.has_dead_long;
+  free_flags = λ k lt.
+      let from = swapped sh.segments i j k low lower lt in
+      let order_at : get_or then_order k 0 ≡ get_or order from.0 0 = ap (λ (xs : List ℕ). get_or xs k 0) order_is ∙ from.2 order was.order_long in
+      let flag_at : get_or then_free k 0 ≡ get_or has_free from.0 0 = ap (λ (xs : List ℕ). get_or xs k 0) free_is ∙ from.2 has_free was.has_free_long in
+      flag_at ∙ was.free_flags from.0 from.1 ∙ ap (λ (s : ℕ). flag (sh.rows - get_or fills s 0)) (sym order_at);
+  dead_flags = λ k lt.
+      let from = swapped sh.segments i j k low lower lt in
+      let order_at : get_or then_order k 0 ≡ get_or order from.0 0 = ap (λ (xs : List ℕ). get_or xs k 0) order_is ∙ from.2 order was.order_long in
+      let flag_at : get_or then_has k 0 ≡ get_or has_dead from.0 0 = ap (λ (xs : List ℕ). get_or xs k 0) has_is ∙ from.2 has_dead was.has_dead_long in
+      flag_at ∙ was.dead_flags from.0 from.1 ∙ ap (λ (s : ℕ). flag (get_or fills s 0 - get_or kept s 0)) (sym order_at);
 }
 
-pub IsPool-space : (sh : Shape) (fills kept order dead : List ℕ) → IsSpace sh fills kept order dead → IsPool (pool_of sh fills kept order)
-IsPool-space sh fills kept order dead are =
+pub IsPool-space : (sh : Shape) (fills kept order dead has_free has_dead : List ℕ) → IsSpace sh fills kept order dead has_free has_dead → IsPool (pool_of sh fills kept order)
+IsPool-space sh fills kept order dead has_free has_dead are =
     let long = are.order_long in
     record {
       shape = are.shape;
@@ -93,11 +110,11 @@ IsPool-space sh fills kept order dead are =
     }
 
 -- the segment of place j stands at position i
-pub StandsAt-swap : (sh : Shape) (fills kept order dead then_order then_dead : List ℕ) (i j s : ℕ) → i < sh.segments - 1 → j < sh.segments → get_or order j 0 ≡ s → IsSpace sh fills kept order dead → then_order ≡ swap order i j → IsOrder then_order → then_dead ≡ swap dead i j → StandsAt i s (pool_of sh fills kept order) (pool_of sh fills kept then_order)
-StandsAt-swap sh fills kept order dead then_order then_dead i j s low lower here was order_is ordered dead_is =
+pub StandsAt-swap : (sh : Shape) (fills kept order dead has_free has_dead then_order then_dead then_free then_has : List ℕ) (i j s : ℕ) → i < sh.segments - 1 → j < sh.segments → get_or order j 0 ≡ s → IsSpace sh fills kept order dead has_free has_dead → then_order ≡ swap order i j → IsOrder then_order → IsSpace sh fills kept then_order then_dead then_free then_has → StandsAt i s (pool_of sh fills kept order) (pool_of sh fills kept then_order)
+StandsAt-swap sh fills kept order dead has_free has_dead then_order then_dead then_free then_has i j s low lower here was order_is ordered now =
     let long = was.order_long in
     record {
-      is_pool = IsPool-space sh fills kept then_order then_dead (IsSpace-swap sh fills kept order dead then_order then_dead i j (omega arith) lower was order_is ordered dead_is);
+      is_pool = IsPool-space sh fills kept then_order then_dead then_free then_has now;
       shape = refl;
       fills = refl;
       kept = refl;
@@ -107,3 +124,10 @@ StandsAt-swap sh fills kept order dead then_order then_dead i j s low lower here
           ∙ swapped_other order i j k (omega arith) (omega arith) apart (λ same. other (get_or-take (sh.segments - 1) order k 0 lt ∙ ap (λ (p : ℕ). get_or order p 0) same ∙ here))
           ∙ sym (get_or-take (sh.segments - 1) order k 0 lt);
     }
+
+-- what the flags say of a position
+pub free-flags : (sh : Shape) (fills kept order dead has_free has_dead : List ℕ) → IsSpace sh fills kept order dead has_free has_dead → (k : ℕ) → k < sh.segments - 1 → get_or has_free k 0 ≡ flag (free_at (pool_of sh fills kept order) k)
+free-flags sh fills kept order dead has_free has_dead are k lt = are.free_flags k (omega arith) ∙ ap (λ (s : ℕ). flag (sh.rows - get_or fills s 0)) (sym (get_or-take (sh.segments - 1) order k 0 lt))
+
+pub dead-flags : (sh : Shape) (fills kept order dead has_free has_dead : List ℕ) → IsSpace sh fills kept order dead has_free has_dead → (k : ℕ) → k < sh.segments - 1 → get_or has_dead k 0 ≡ flag (dead_at (pool_of sh fills kept order) k)
+dead-flags sh fills kept order dead has_free has_dead are k lt = are.dead_flags k (omega arith) ∙ ap (λ (s : ℕ). flag (get_or fills s 0 - get_or kept s 0)) (sym (get_or-take (sh.segments - 1) order k 0 lt))
