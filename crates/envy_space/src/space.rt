@@ -201,7 +201,7 @@ impl Space {
     }
 
     /// Lets a segment stand at a position. The segment of the position stands where that one stood.
-    pub(crate) fn stand(&mut self, position: u32, segment: u32)
+    pub fn stand(&mut self, position: u32, segment: u32)
         requires position { position < self.old.shape.segments - 1 }
         requires segment { segment < self.old.shape.segments }
         ensures { StandsAt position segment self.old self.new }
@@ -214,7 +214,7 @@ impl Space {
     }
 
     /// Writes the fill of a segment.
-    pub(crate) fn set_fill(&mut self, segment: u32, fill: u32)
+    pub fn set_fill(&mut self, segment: u32, fill: u32)
         requires segment { segment < self.old.shape.segments }
         requires fits { fill ≤ self.old.shape.rows }
         requires kept { slice_index self.old.kept segment ≤ fill }
