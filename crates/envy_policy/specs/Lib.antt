@@ -1,3 +1,4 @@
 pub mod Choice
 pub mod History
+pub mod Lifetime
 pub mod Setup
