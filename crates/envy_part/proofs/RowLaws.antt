@@ -4,7 +4,7 @@ use Rattle.std.proofs.Common.{rules, take, drop, min, slice_set, map}
 use Rattle.std.proofs.lemmas.Grind.{same_number_lists}
 use Rattle.std.proofs.lemmas.Bool.{cases_lt, cases_eq}
 use Rattle.std.proofs.lemmas.Nat.{div-mul-add, div-add-mod', mod_below, row_fits}
-use Rattle.std.proofs.lemmas.List.{places, length-take, length-drop, map-set, get_or-set_same, get_or-set_other, get_or_past, get_or-map, length-map, length-set}
+use Rattle.std.proofs.lemmas.List.{places, length-take, length-drop, map-set, get_or-set_same, get_or-set_other, get_or_past, get_or-map, length-map, length-set, ext_get_or}
 use borrow.Rule.Slice.PartMut.{put_mid}
 use Rattle.envy_base.specs.declared.shape.Shape.{Shape}
 use Rattle.envy_base.specs.Counting.{up}
@@ -12,8 +12,9 @@ use Rattle.envy_base.specs.Map.{words_of}
 use Rattle.envy_base.specs.Shape.{IsShape}
 use Rattle.envy_base.specs.State.{ands, AreWords, Only, IsPage, IsBoard, with_row}
 use Rattle.envy_part.specs.Part.{part_state, ArePages}
-use Rattle.envy_bank.specs.Lanes.{row_from}
-use Rattle.envy_bank.proofs.LaneLaws.{length-row_from}
+use Rattle.envy_bank.specs.Lanes.{lane_of, row_from}
+use Rattle.envy_bank.specs.Rows.{IsPage as WholePage}
+use Rattle.envy_bank.proofs.LaneLaws.{length-row_from, lanes_of, length-lanes_of, get_or-lanes_of, row_from-lanes_of}
 
 -- the first n words are done
 pub record Anded (n : ℕ) (row page both : List ℕ) : Type 0 where
@@ -177,3 +178,8 @@ made_board sh flash sram erases shape pages words rows long counts = record {
   words = words;
   erases = counts;
 }
+
+-- bytes that are those of a page make the page
+pub bytes_all : (page bytes : List ℕ) → WholePage page → length bytes ≡ 256 → ((k : ℕ) → k < 256 → slice_index bytes k ≡ lane_of page k) → row_from bytes ≡ page
+bytes_all page bytes is long done =
+    ap row_from (ext_get_or 0 bytes (lanes_of page) (long ∙ sym (length-lanes_of page)) (λ k lt. let small : k < 256 = omega arith in done k small ∙ sym (get_or-lanes_of page k small))) ∙ row_from-lanes_of page is

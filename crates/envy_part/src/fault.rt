@@ -8,4 +8,3 @@ pub enum PartFault {
     /// No memory was left for the counts of erases, a word for each segment.
     NoMemory,
 }
-

@@ -6,6 +6,7 @@ ghost use Rattle.envy_part.specs.Placing.{ArePlaced, AreApart, Misplaces, Mingle
 use envy_base::Shape;
 
 const ROW_BYTES: u64 = 256;
+
 const WORD_BYTES: u64 = 8;
 
 /// Where a part's map and the SRAM lie: addresses and lengths in bytes.
@@ -82,10 +83,14 @@ impl Places {
         ensures { MatchResult result (λ _. AreApart self.now) (Mingles self.now) }
     {
         let places = *self;
-        if places.flash_bytes > u64::MAX - places.flash || places.sram_bytes > u64::MAX - places.sram {
+        if places.flash_bytes > u64::MAX - places.flash
+            || places.sram_bytes > u64::MAX - places.sram
+        {
             return Err(PlaceFault::Past);
         }
-        if places.flash + places.flash_bytes > places.sram && places.sram + places.sram_bytes > places.flash {
+        if places.flash + places.flash_bytes > places.sram
+            && places.sram + places.sram_bytes > places.flash
+        {
             return Err(PlaceFault::Overlap);
         }
         Ok(())

@@ -1,7 +1,7 @@
 // A row of a part, as bytes and as words.
 ghost use Rattle.std.specs.Prelude.{◌≡◌, ◌<◌, slice_index};
 ghost use Rattle.envy_base.specs.State.{ands};
-ghost use Rattle.envy_bank.specs.Lanes.{row_from};
+ghost use Rattle.envy_bank.specs.Lanes.{lane_of, row_from};
 
 // The word `i` of a row, whose first byte is the least significant.
 #[inline]
@@ -27,11 +27,23 @@ pub fn words(row: &[u8; 256]) -> [u64; 32]
     found
 }
 
-// The bytes of a page, the least significant of a word first.
-pub fn bytes_of(page: &[u64; 32]) -> [u8; 256] {
+// The byte `j` of a page, the least significant of a word first.
+#[inline]
+#[tactic(auto, unfolding(envy_bank::specs::Lanes::lane_of))]
+fn byte(page: &[u64; 32], j: usize) -> u8
+    requires { j < 256 }
+    ensures { result ≡ lane_of page.now j }
+{
+    page[j / 8].to_le_bytes()[j % 8]
+}
+
+// The bytes of a page.
+pub fn bytes_of(page: &[u64; 32]) -> [u8; 256]
+    ensures { row_from result ≡ page.now }
+{
     let mut bytes = [0; 256];
-    for i in 0..256usize {
-        bytes[i] = page[i / 8].to_le_bytes()[i % 8];
+    for j in 0..256usize {
+        bytes[j] = byte(page, j);
     }
     bytes
 }

@@ -1,6 +1,7 @@
 use super::*;
 use crate::orders;
 use envy_base::{Board, Shape, Trouble};
+use std::alloc::Global;
 use std::process::Abort;
 use std::test::Fail;
 
@@ -49,9 +50,10 @@ impl Fake {
     }
 }
 
+// Clears the bits of the first so many bytes of a page, so many bytes further on in the row.
 fn clear(row: &mut [u8; 256], page: &[u8; 256], count: usize, shift: usize) {
     for i in 0..count.min(256) {
-        let at = (i + shift.min(256)) % 256;
+        let at = (i + shift % 256) % 256;
         row[at] &= page[i];
     }
 }
@@ -89,11 +91,25 @@ impl Port for Fake {
     }
 }
 
-// The answer to a program of row 3 with a page of threes, and whether the other rows stayed.
-fn program_once(
+fn program(board: &mut PartBoard<Fake>, row: u32, page: &[u64; 32]) -> Option<Result<(), Trouble>> {
+    if row as usize >= board.flash.len() {
+        return None;
+    }
+    Some(board.program(row, page))
+}
+
+fn erase(board: &mut PartBoard<Fake>, segment: u32) -> Option<Result<(), Trouble>> {
+    if segment >= board.shape.segments {
+        return None;
+    }
+    Some(board.erase(segment))
+}
+
+// What a program of row 3 answers, what the board counts, and whether all other rows stayed.
+fn program_by(
     rt: &(impl Abort + Alloc<A = Global>),
     manner: Manner,
-) -> Result<(Result<(), Trouble>, bool), Fail> {
+) -> (Option<Result<(), Trouble>>, u64, bool) {
     let mut flash = [[0; 256]; 8];
     let mut port = Fake::new(Manner::Right);
     orders::erase(&mut port, &mut flash);
@@ -102,7 +118,118 @@ fn program_once(
     let Ok(mut board) = PartBoard::over(rt.alloc(), SHAPE, &mut flash, &mut sram, port) else {
         panic!(rt; "no board");
     };
-    let answer = board.program(3, &[3; 32]);
-    let stayed = (0..8).all(|q| q == 3 || board.flash[q] == [0xFF; 256]);
-    Ok((answer, stayed))
+    let mut page = [3; 32];
+    page[31] = 5;
+    let answer = program(&mut board, 3, &page);
+    let bads = board.bads;
+    drop(board);
+    let stayed = flash[..3] == [[0xFF; 256]; 3] && flash[4..] == [[0xFF; 256]; 4];
+    (answer, bads, stayed)
+}
+
+#[test]
+fn a_program_is_done_where_its_row_is_right_and_nowhere_else(rt: HostRuntime) {
+    let table = [
+        (Manner::Right, Ok(()), 0),
+        (Manner::ToldBad, Ok(()), 0),
+        (Manner::Bad, Err(Trouble::Bad), 1),
+        (Manner::Late, Err(Trouble::Bad), 1),
+        (Manner::Half, Err(Trouble::Bad), 1),
+        (Manner::Elsewhere, Err(Trouble::Bad), 1),
+        (Manner::Upward, Err(Trouble::Bad), 1),
+    ];
+    for (manner, answer, bads) in table {
+        assert_eq!(rt;
+            program_by(&rt, manner),
+            (Some(answer), bads, true),
+            "{manner:?}"
+        );
+    }
+}
+
+// What an erase of segment 1, whose rows are clear, answers, what the board counts, and whether all other rows stayed.
+fn erase_by(
+    rt: &(impl Abort + Alloc<A = Global>),
+    manner: Manner,
+) -> (Option<Result<(), Trouble>>, u64, bool) {
+    let mut flash = [[0; 256]; 8];
+    let mut port = Fake::new(Manner::Bad);
+    orders::erase(&mut port, &mut flash);
+    port.manner = manner;
+    let mut sram = [0; 161];
+    let Ok(mut board) = PartBoard::over(rt.alloc(), SHAPE, &mut flash, &mut sram, port) else {
+        panic!(rt; "no board");
+    };
+    let answer = erase(&mut board, 1);
+    let bads = board.bads;
+    drop(board);
+    let stayed = flash[..2] == [[0; 256]; 2] && flash[4..] == [[0; 256]; 4];
+    (answer, bads, stayed)
+}
+
+#[test]
+fn an_erase_is_done_where_each_row_is_ones(rt: HostRuntime) {
+    let table = [
+        (Manner::Right, Ok(()), 0),
+        (Manner::Bad, Err(Trouble::Bad), 1),
+        (Manner::Half, Err(Trouble::Bad), 1),
+        (Manner::Elsewhere, Err(Trouble::Bad), 1),
+    ];
+    for (manner, answer, bads) in table {
+        assert_eq!(rt;
+            erase_by(&rt, manner),
+            (Some(answer), bads, true),
+            "{manner:?}"
+        );
+    }
+}
+
+fn places(flash: u64, flash_bytes: u64, sram: u64, sram_bytes: u64) -> Places {
+    Places {
+        flash,
+        flash_bytes,
+        sram,
+        sram_bytes,
+    }
+}
+
+// Whether a board of the shape may stand there.
+fn checked(places: Places) -> Option<Result<(), PlaceFault>> {
+    if SHAPE.check().is_err() {
+        return None;
+    }
+    Some(places.check(&SHAPE))
+}
+
+#[test]
+fn places_are_refused_by_their_first_fault(rt: HostRuntime) {
+    let top = u64::MAX - 2047;
+    let table = [
+        (places(0x1000, 2048, 0x1800, 1288), Ok(())),
+        (places(0x1800, 2048, 0x1000, 1288), Ok(())),
+        (
+            places(0x1008, 2048, 0x4000, 1288),
+            Err(PlaceFault::FlashAddress),
+        ),
+        (places(0, 2048, 0x4000, 1288), Err(PlaceFault::FlashAddress)),
+        (
+            places(0x1000, 2048, 0x4004, 1288),
+            Err(PlaceFault::SramAddress),
+        ),
+        (places(0x1000, 2048, 0, 1288), Err(PlaceFault::SramAddress)),
+        (
+            places(0x1000, 2304, 0x4000, 1288),
+            Err(PlaceFault::FlashSize),
+        ),
+        (
+            places(0x1000, 2048, 0x4000, 1280),
+            Err(PlaceFault::SramSize),
+        ),
+        (places(top, 2048, 0x4000, 1288), Err(PlaceFault::Past)),
+        (places(0x1000, 2048, 0x17F8, 1288), Err(PlaceFault::Overlap)),
+        (places(0x1800, 2048, 0x1400, 1288), Err(PlaceFault::Overlap)),
+    ];
+    for (places, answer) in table {
+        assert_eq!(rt; checked(places), Some(answer), "{places:?}");
+    }
 }
