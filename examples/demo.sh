@@ -6,7 +6,7 @@ cd "$(dirname "$0")/.."
 trace=${1-examples/first.trace}
 read -r -a words < <(sed -n '1s/^# envy //p' "$trace")
 [ "${#words[@]}" -gt 0 ] || words=(run)
-replies=$(./envy "${words[@]}" <"$trace")
+replies=$("${ENVY-./envy}" "${words[@]}" <"$trace")
 awk -v replies="$replies" '
     BEGIN { count = split(replies, reply, "\n") }
     NF == 0 || $1 ~ /^#/ { print; next }

@@ -4,6 +4,7 @@
 # starts at once (./envy --prove, or .ci/run). A word is the number that the kills are drawn from.
 set -eu
 cd "$(dirname "$0")"
+../envy --stands || exit 1
 for tool in gcc rustc; do
     if ! $tool --version >/dev/null 2>&1; then
         echo "library: $tool doesn't run here, so nothing was tried" >&2
