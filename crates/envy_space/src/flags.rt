@@ -97,7 +97,10 @@ impl Flags {
         if first == end {
             return None;
         }
-        match self.falling.best(self.places - end, self.places - 1 - first) {
+        match self
+            .falling
+            .best(self.places - end, self.places - 1 - first)
+        {
             Some(place) => Some(self.places - 1 - place),
             None => None,
         }
