@@ -48,11 +48,14 @@ best-passed end n rows class None not is = λ x below full. elim (cases_lt x end
   | inl lower ↦ is x lower full
   | inr last ↦ let same : x ≡ end = omega arith in not (subst (λ (k : ℕ). IsFull rows k) same full)
 ]
-best-passed end n rows class (Some best) not is = (is.0, record {
-  holds = (let low = is.1.holds.0 in omega arith, is.1.holds.1);
-  most = λ y has. is.1.most y (below y has, has.1);
-  lowest = λ y has more. is.1.lowest y (below y has, has.1) more;
-}) where
+best-passed end n rows class (Some best) not is = (
+  is.0,
+  record {
+    holds = (let low = is.1.holds.0 in omega arith, is.1.holds.1);
+    most = λ y has. is.1.most y (below y has, has.1);
+    lowest = λ y has more. is.1.lowest y (below y has, has.1) more;
+  },
+) where
   below : (y : ℕ) → (y < end + 1) × IsFull rows y → y < end
   below y has = elim (cases_lt y end) [
     | inl lower ↦ lower
@@ -61,11 +64,14 @@ best-passed end n rows class (Some best) not is = (is.0, record {
 
 -- the first full position is the best so far
 pub best-first : (end : ℕ) (n : Notes) (rows : RowCounts) (class : Class) (best : Weighed) → best.position ≡ end → best.worth ≡ worth n rows class end → IsFull rows end → IsBestBelow end n rows class None → IsBestBelow (end + 1) n rows class (Some best)
-best-first end n rows class best at is full none = subst (λ (k : ℕ). (best.worth ≡ worth n rows class k) × IsGreatest (λ x. (x < end + 1) × IsFull rows x) (worth n rows class) k) (sym at) (is, record {
-  holds = (omega arith, full);
-  most = λ y has. let same = only y has in subst (λ (k : ℕ). IsAtMost (worth n rows class k) (worth n rows class end)) same (omega arith);
-  lowest = λ y has more. let same = only y has in omega arith;
-}) where
+best-first end n rows class best at is full none = subst (λ (k : ℕ). (best.worth ≡ worth n rows class k) × IsGreatest (λ x. (x < end + 1) × IsFull rows x) (worth n rows class) k) (sym at) (
+  is,
+  record {
+    holds = (omega arith, full);
+    most = λ y has. let same = only y has in subst (λ (k : ℕ). IsAtMost (worth n rows class k) (worth n rows class end)) same (omega arith);
+    lowest = λ y has more. let same = only y has in omega arith;
+  },
+) where
   only : (y : ℕ) → (y < end + 1) × IsFull rows y → end ≡ y
   only y has = elim (cases_lt y end) [
     | inl lower ↦ absurd (none y lower has.1)
@@ -74,19 +80,22 @@ best-first end n rows class best at is full none = subst (λ (k : ℕ). (best.wo
 
 -- a full position that is worth no more leaves the best
 pub best-stays : (end : ℕ) (n : Notes) (rows : RowCounts) (class : Class) (best : Weighed) → IsAtMost (worth n rows class end) best.worth → IsBestBelow end n rows class (Some best) → IsBestBelow (end + 1) n rows class (Some best)
-best-stays end n rows class best less is = (is.0, record {
-  holds = (let low = is.1.holds.0 in omega arith, is.1.holds.1);
-  most = λ y has. elim (cases_lt y end) [
-    | inl lower ↦ is.1.most y (lower, has.1)
-    | inr last ↦
-        let same : end ≡ y = (let low = has.0 in omega arith) in
-        subst (λ (k : ℕ). IsAtMost (worth n rows class k) (worth n rows class best.position)) same (subst (λ (a : Fraction). IsAtMost (worth n rows class end) a) is.0 less)
-  ];
-  lowest = λ y has more. elim (cases_lt y end) [
-    | inl lower ↦ is.1.lowest y (lower, has.1) more
-    | inr last ↦ let low = is.1.holds.0 in omega arith
-  ];
-})
+best-stays end n rows class best less is = (
+  is.0,
+  record {
+    holds = (let low = is.1.holds.0 in omega arith, is.1.holds.1);
+    most = λ y has. elim (cases_lt y end) [
+      | inl lower ↦ is.1.most y (lower, has.1)
+      | inr last ↦
+          let same : end ≡ y = (let low = has.0 in omega arith) in
+          subst (λ (k : ℕ). IsAtMost (worth n rows class k) (worth n rows class best.position)) same (subst (λ (a : Fraction). IsAtMost (worth n rows class end) a) is.0 less)
+    ];
+    lowest = λ y has more. elim (cases_lt y end) [
+      | inl lower ↦ is.1.lowest y (lower, has.1) more
+      | inr last ↦ let low = is.1.holds.0 in omega arith
+    ];
+  },
+)
 
 -- the best is small too
 pub best-small : (end : ℕ) (n : Notes) (rows : RowCounts) (positions : ℕ) (class : Class) (best : Weighed) → IsNotes n → IsCounted positions rows → IsBestBelow end n rows class (Some best) → IsSmall best.worth
@@ -94,19 +103,22 @@ best-small end n rows positions class best whole counted is = subst (λ (a : Fra
 
 -- a full position that is worth more is the best
 pub best-found : (end : ℕ) (n : Notes) (rows : RowCounts) (class : Class) (old best : Weighed) → best.worth ≡ worth n rows class best.position → IsFull rows best.position → old.worth.over * best.worth.under < best.worth.over * old.worth.under → best.position ≡ end → IsBestBelow end n rows class (Some old) → IsBestBelow (end + 1) n rows class (Some best)
-best-found end n rows class old best is full more at was = (is, record {
-  holds = (omega arith, full);
-  most = λ y has. elim (cases_lt y end) [
-    | inl lower ↦ at_most-trans (value y) (value old.position) (value best.position) (worth-under n rows class old.position) (was.1.most y (lower, has.1)) (omega (arith, above))
-    | inr last ↦ let same : best.position ≡ y = (let low = has.0 in omega arith) in subst (λ (k : ℕ). IsAtMost (value k) (value best.position)) same (omega arith)
-  ];
-  lowest = λ y has back. elim (cases_lt y end) [
-    | inl lower ↦
-        let both = at_most-trans (value best.position) (value y) (value old.position) (worth-under n rows class y) back (was.1.most y (lower, has.1)) in
-        absurd (omega (arith, both, above))
-    | inr last ↦ omega arith
-  ];
-}) where
+best-found end n rows class old best is full more at was = (
+  is,
+  record {
+    holds = (omega arith, full);
+    most = λ y has. elim (cases_lt y end) [
+      | inl lower ↦ at_most-trans (value y) (value old.position) (value best.position) (worth-under n rows class old.position) (was.1.most y (lower, has.1)) (omega (arith, above))
+      | inr last ↦ let same : best.position ≡ y = (let low = has.0 in omega arith) in subst (λ (k : ℕ). IsAtMost (value k) (value best.position)) same (omega arith)
+    ];
+    lowest = λ y has back. elim (cases_lt y end) [
+      | inl lower ↦
+          let both = at_most-trans (value best.position) (value y) (value old.position) (worth-under n rows class y) back (was.1.most y (lower, has.1)) in
+          absurd (omega (arith, both, above))
+      | inr last ↦ omega arith
+    ];
+  },
+) where
   value : ℕ → Fraction
   value k = worth n rows class k
 

@@ -174,4 +174,3 @@ pub record IsCounted (positions : ℕ) (rows : RowCounts) : Type 0 where
   pub kept : length rows.kept ≡ positions
   pub few_dead : (position : ℕ) → slice_index rows.dead position ≤ 1048576
   pub few_kept : (position : ℕ) → slice_index rows.kept position ≤ 1048576
-

@@ -70,10 +70,22 @@ impl OpenPositions {
     {
         let opened = Some(position);
         match class {
-            Class::Brief => OpenPositions { brief: opened, ..self },
-            Class::Short => OpenPositions { short: opened, ..self },
-            Class::Long => OpenPositions { long: opened, ..self },
-            Class::Lasting => OpenPositions { lasting: opened, ..self },
+            Class::Brief => OpenPositions {
+                brief: opened,
+                ..self
+            },
+            Class::Short => OpenPositions {
+                short: opened,
+                ..self
+            },
+            Class::Long => OpenPositions {
+                long: opened,
+                ..self
+            },
+            Class::Lasting => OpenPositions {
+                lasting: opened,
+                ..self
+            },
         }
     }
 
