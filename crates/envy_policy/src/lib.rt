@@ -10,6 +10,8 @@ mod fraction;
 mod laws;
 mod lifetime;
 mod lifetime_laws;
+#[cfg(test)]
+mod lifetime_tests;
 mod rows;
 mod setup;
 #[cfg(test)]
