@@ -6,12 +6,12 @@
 #   examples/cleaning_cost.sh [--transfers N] [--every N] [--stores N] [--to FOLDER] [--compare FOLDER]
 #
 # Each load has N transfers (--transfers, 1000); with --every N power is cut before each N-th. Each skewed trace has N
-# stores (--stores, 4000). Prints two tables. With --to the numbers stand in that folder too, and pictures as PNG and SVG
+# stores (--stores, 1500). Prints two tables. With --to the numbers stand in that folder too, and pictures as PNG and SVG
 # where gnuplot is on the path. With --compare the numbers must be those in the folder. Wants the proved program; ENVY
 # names another one.
 set -eu
 top=$(cd "$(dirname "$0")/.." && pwd)
-transfers=1000 every=0 stores=4000 to='' compare=''
+transfers=1000 every=0 stores=1500 to='' compare=''
 while [ $# -gt 0 ]; do
     case $1 in
     --transfers) transfers=$2 ;;
@@ -93,6 +93,6 @@ picture() {
 }
 
 # the spare, one segment more and the shadows stay free: 86 in a hundred is the most
-table by_share cost_by_share 'Share of rows in use' 'rows in use, in a hundred' 40 50 60 70 80 86
+table by_share cost_by_share 'Share of rows in use' 'rows in use, in a hundred' 40 50 60 80 86
 table by_skew cost_by_skew 'Stores to the other share of pages' 'stores in a hundred that go to the hot part of the pages' \
     50 70 80 90 95
