@@ -1,17 +1,18 @@
 #!/usr/bin/env bash
-# The cost of cleaning under each policy: programs by the cleaner for each page that was flushed. On a board of 16
-# segments of 32 rows, first by the share of rows in use, under a bank's transfers (the word tpca); then by skew, under
-# drawn stores to an array that takes 80 rows in a hundred, of which a hot part gets the greater part of the stores.
+# The cost of cleaning under each policy: programs by the cleaner for each page that was flushed. First by the share of
+# rows in use, under a bank's transfers (the word tpca), on a board of 16 segments of 32 rows; then by skew, under drawn
+# stores to an array that takes 70 rows in a hundred, of which a hot part gets the greater part of the stores, on a board
+# of 8 segments of 16 rows.
 #
 #   examples/cleaning_cost.sh [--transfers N] [--every N] [--stores N] [--to FOLDER] [--compare FOLDER]
 #
 # Each load has N transfers (--transfers, 1000); with --every N power is cut before each N-th. Each skewed trace has N
-# stores (--stores, 4000). Prints two tables. With --to the numbers stand in that folder too, and pictures as PNG and SVG
+# stores (--stores, 1500). Prints two tables. With --to the numbers stand in that folder too, and pictures as PNG and SVG
 # where gnuplot is on the path. With --compare the numbers must be those in the folder. Wants the proved program; ENVY
 # names another one.
 set -eu
 top=$(cd "$(dirname "$0")/.." && pwd)
-transfers=1000 every=0 stores=4000 to='' compare=''
+transfers=1000 every=0 stores=1500 to='' compare=''
 while [ $# -gt 0 ]; do
     case $1 in
     --transfers) transfers=$2 ;;
@@ -19,7 +20,7 @@ while [ $# -gt 0 ]; do
     --stores) stores=$2 ;;
     --to) to=$2 ;;
     --compare) compare=$2 ;;
-    *) sed -n '2,12s/^# \{0,1\}//p' "$0" >&2 && exit 2 ;;
+    *) sed -n '2,13s/^# \{0,1\}//p' "$0" >&2 && exit 2 ;;
     esac
     shift 2
 done
@@ -44,7 +45,8 @@ by_share() {
 
 # by_skew SHARE POLICY: of stores, of which so many in a hundred go to the other share of the pages: 90 to 10, 80 to 20
 by_skew() {
-    local pages=$((segments * rows * 80 / 100))
+    local segments=8 rows=16
+    local pages=$((segments * rows * 70 / 100))
     awk -v pages=$pages -v share="$1" -v stores="$stores" '
         # a generator of Lehmer, whose products are exact in a double
         function drawn(most) { seed = seed * 16807 % 2147483647; return int(seed / 2147483647 * most) }
@@ -57,7 +59,7 @@ by_skew() {
             }
             print "stat"
         }' |
-        "$program" run --segments $segments --rows $rows --pages $pages --shadows $shadows --frames 16 --entries 16 \
+        "$program" run --segments $segments --rows $rows --pages $pages --shadows $shadows --frames 8 --entries 8 \
             --policy "$2" | cost_told
 }
 
@@ -76,7 +78,7 @@ table() {
     done
     echo
     [ -z "$to" ] || picture "$file" "$label"
-    [ -z "$compare" ] || diff "$compare/$file.txt" "$work/$file.txt"
+    [ -z "$compare" ] || [ ! -e "$compare/$file.txt" ] || diff "$compare/$file.txt" "$work/$file.txt"
 }
 
 # picture FILE LABEL: the numbers and their pictures, in the folder
@@ -93,6 +95,6 @@ picture() {
 }
 
 # the spare, one segment more and the shadows stay free: 86 in a hundred is the most
-table by_share cost_by_share 'Share of rows in use' 'rows in use, in a hundred' 40 50 60 70 80 86
+table by_share cost_by_share 'Share of rows in use' 'rows in use, in a hundred' 40 50 60 80 86
 table by_skew cost_by_skew 'Stores to the other share of pages' 'stores in a hundred that go to the hot part of the pages' \
     50 70 80 90 95

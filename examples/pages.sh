@@ -20,8 +20,8 @@ for page in README.md docs/*.md; do
         [ -e "$named" ] || [ -e "docs/$named" ] || fail "$page names $named, which isn't there"
     done
 done
-for kind in png svg txt; do
-    for picture in cost_by_share cost_by_skew; do [ -s "docs/pictures/$picture.$kind" ] || fail "no $picture.$kind"; done
+for kind in png svg; do
+    for picture in docs/pictures/*.txt; do [ -s "${picture%.txt}.$kind" ] || fail "no ${picture%.txt}.$kind"; done
 done
 
 # a call behind `$`, and what it prints up to the next blank line; in the place of ./envy the program that is asked for

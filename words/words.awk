@@ -182,7 +182,9 @@ function whole_page(    i, j, who) {
     for (i = 1; i <= option_count; i++) {
         who = ""
         for (j = 1; j <= word_count; j++) if (index(takes[words[j]], " " options[i] " ")) who = who " " words[j]
-        printf "  --%-9s %s (%s)\n              of%s\n", options[i], meaning[options[i]], default_of[options[i]], who
+        printf "  --%-9s %s (%s)\n", options[i], meaning[options[i]], default_of[options[i]]
+        if (kind_of[options[i]] !~ /^[0-9]/) printf "  %11s one of %s\n", "", kind_of[options[i]]
+        printf "  %11s of%s\n", "", who
     }
 }
 
