@@ -1,3 +1,4 @@
 pub mod Choice
+pub mod Deciding
 pub mod History
 pub mod Setup

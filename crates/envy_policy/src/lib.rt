@@ -3,6 +3,7 @@
 
 mod choice;
 mod chooser;
+mod deciding;
 mod laws;
 mod rows;
 mod setup;
@@ -11,6 +12,7 @@ mod tests;
 
 pub use choice::Choice;
 pub use chooser::Chooser;
+pub use deciding::nearer;
 pub use laws::{
     a_choice_has_rows, greedy_looks_at_all_positions, heats_count_flushes, notes_keep_the_sizes,
     rows_leave_one_choice,

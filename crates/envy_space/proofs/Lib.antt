@@ -1,4 +1,5 @@
 pub mod CountLemmas
+pub mod FlagLemmas
 pub mod FollowLemmas
 pub mod EmptyLemmas
 pub mod NodeLemmas

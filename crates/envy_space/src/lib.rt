@@ -6,6 +6,8 @@
 #![tactic(auto)]
 
 mod claim;
+mod finding;
+mod flags;
 mod following;
 mod laws;
 mod nodes;
