@@ -13,7 +13,7 @@ returns-clause-ready g c =
     record {
       on = on;
       sound = c.requires.sound;
-      fits = Fits-staged now.shape c.args.parts.now _ c.requires.fits (no-stages now.shape _ c.clear.ensures) c.rebuild-2.ensures.shape c.rebuild.ensures.count c.empty.ensures.size (ap (λ (h : History). h.positions) c.reset.ensures) refl;
+      fits = Fits-staged now.shape c.args.parts.now _ c.requires.fits (no-stages now.shape _ c.clear.ensures) c.rebuild-2.ensures.shape c.rebuild.ensures.count c.empty.ensures.size (ap (λ (h : History). h.positions) c.reset.ensures);
       agrees = record {
         pool = c.in_ok-rebuild-2.ensures.agrees;
         held = c.in_ok-rebuild.ensures.agrees;
