@@ -97,4 +97,4 @@ picture() {
 # the spare, one segment more and the shadows stay free: 86 in a hundred is the most
 table by_share cost_by_share 'Share of rows in use' 'rows in use, in a hundred' 40 50 60 80 86
 table by_skew cost_by_skew 'Stores to the other share of pages' 'stores in a hundred that go to the hot part of the pages' \
-    50 70 80 90 95
+    50 80 90 95
