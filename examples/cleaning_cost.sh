@@ -88,7 +88,7 @@ picture() {
     cp "$work/$1.txt" "$to/$1.txt"
     command -v gnuplot >/dev/null || return 0
     for kind in png svg; do
-        gnuplot -e "set term $kind size 640,400; set output '$to/$1.$kind'; set key left; set grid; set yrange [0:]; \
+        gnuplot -e "set term $kind size 720,400; set output '$to/$1.$kind'; set key outside right top; set grid; set yrange [0:]; \
             set xlabel '$2'; set ylabel 'programs by the cleaner for each flush'; \
             plot for [i=2:5] '$to/$1.txt' using 1:i with linespoints linewidth 2 title word('$policies', i - 1)"
     done
