@@ -88,7 +88,7 @@ picture() {
     cp "$work/$1.txt" "$to/$1.txt"
     command -v gnuplot >/dev/null || return 0
     for kind in png svg; do
-        gnuplot -e "set term $kind size 640,400; set output '$to/$1.$kind'; set key left; set grid; set yrange [0:]; \
+        gnuplot -e "set term $kind size 720,400; set output '$to/$1.$kind'; set key outside right top; set grid; set yrange [0:]; \
             set xlabel '$2'; set ylabel 'programs by the cleaner for each flush'; \
             plot for [i=2:5] '$to/$1.txt' using 1:i with linespoints linewidth 2 title word('$policies', i - 1)"
     done
@@ -97,4 +97,4 @@ picture() {
 # the spare, one segment more and the shadows stay free: 86 in a hundred is the most
 table by_share cost_by_share 'Share of rows in use' 'rows in use, in a hundred' 40 50 60 80 86
 table by_skew cost_by_skew 'Stores to the other share of pages' 'stores in a hundred that go to the hot part of the pages' \
-    50 70 80 90 95
+    50 80 90 95
