@@ -86,7 +86,7 @@ impl Lifetime {
     }
 
     /// Chooses for a page by rows that are asked for one by one: where a row is free at the position that is
-    /// open for the page's class, or at one that is open for none, by at most six questions, else by three for
+    /// open for the page's class, or at one that is open for none, by at most seven questions, else by three for
     /// each position.
     pub fn choose_among<R: Rows>(&self, rows: &R, page: u32) -> Choice
         requires rows { IsCounted (length self.now.cleaned) (R.counts rows.now) }

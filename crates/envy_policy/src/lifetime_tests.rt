@@ -1,4 +1,4 @@
-ghost use Rattle.std.specs.Prelude.{◌≡◌, ◌≤◌, ℕ, length, slice_index, IfOk};
+ghost use Rattle.std.specs.Prelude.{◌≡◌, ◌<◌, ◌≤◌, ℕ, length, slice_index, IfOk};
 
 use crate::counted::Listed;
 use crate::{Choice, Class, Lifetime};
@@ -90,6 +90,7 @@ fn a_cleaning_comes_before_another_class(rt: HostRuntime) -> Result<(), Fail> {
 fn cleaned_for(alloc: Global, page: u32, dead: [u32; 3]) -> Result<Option<u32>, Fail>
     requires page { page ≤ 15 }
     requires few { (k : ℕ) → slice_index dead k ≤ 16 }
+    requires some { 0 < slice_index dead 0 }
 {
     let mut lifetime = unnoted(alloc)?;
     flush_others(&mut lifetime, 4);
