@@ -154,6 +154,7 @@ fn power_that_does_not_return_ends_the_run(rt: HostRuntime) -> Result<(), Fail> 
     let place = peek(&rt, board, TABLE) % (1 << 32);
     assert_eq!(rt; place % 4, 2);
     let word = FRAMES + 32 * (place / 4) + 5;
+    assert!(&rt; word < 1 << 32);
     assert_eq!(rt; peek(&rt, board, word as u32), 1);
     Ok(())
 }
