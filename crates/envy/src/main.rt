@@ -1,5 +1,4 @@
-//! The program: `envy run` answers a trace on standard input over a board in memory, `envy plain` on the
-//! plain machine, and `envy gen` writes one.
+//! The program: does what its words say over standard input and output, writes the last line, and exits.
 #![tactic(auto)]
 
 ghost use Rattle.std.specs.Prelude.{◌≤◌, IfOk};
