@@ -1,7 +1,5 @@
-ghost use Rattle.std.specs.Prelude.{◌≡◌, ◌+◌, ◌-◌, ◌<◌, ◌≤◌, ℕ, IfOk, IsTrue, ◌↔◌};
-ghost use Rattle.envy_policy.specs.Setup.{IsSetup};
+ghost use Rattle.std.specs.Prelude.{◌≡◌, ◌+◌, ◌-◌, ◌<◌, ◌≤◌, ℕ, IfOk};
 ghost use Rattle.envy_space.specs.Pool.{free_at, dead_at};
-ghost use Rattle.envy_choosing.specs.Choosing.{ChoiceFor};
 
 use crate::choosing::choose_row;
 use envy_base::Shape;
@@ -29,7 +27,11 @@ impl Draws {
 }
 
 /// A board of 4 to 20 segments of 4 rows.
-fn shape(draws: &mut Draws) -> Shape {
+fn shape(draws: &mut Draws) -> Shape
+    ensures rows { result.rows ≡ 4 }
+    ensures some { 4 ≤ result.segments }
+    ensures few { result.segments ≤ 20 }
+{
     Shape {
         segments: 4 + draws.below(17),
         rows: 4,
@@ -63,8 +65,7 @@ fn made(alloc: Global, setup: &Setup) -> Result<(Space, Chooser), Fail>
     ))
 }
 
-/// A drawn fill of a segment, of which some rows are kept, at a drawn position. Of four segments one is full of
-/// kept rows.
+/// A drawn fill of a segment, of which some rows are kept, at a drawn position.
 fn change(space: &mut Space, draws: &mut Draws, segment: u32)
     requires segment { segment < space.old.shape.segments }
     requires rows { space.old.shape.rows ≡ 4 }
@@ -96,6 +97,26 @@ fn warm(chooser: &mut Chooser, draws: &mut Draws, positions: u32)
     }
 }
 
+/// A drawn pool, and a chooser over its positions.
+fn drawn(alloc: Global, draws: &mut Draws) -> Result<(Space, Chooser), Fail>
+    ensures { IfOk result (λ drawn. drawn.1.positions ≡ drawn.0.shape.segments - 1) }
+{
+    let shape = shape(draws);
+    let policy = policy(draws, shape.segments - 1);
+    let setup = Setup {
+        shape,
+        policy,
+        limit: 1,
+        mark: 1,
+    };
+    let (mut space, mut chooser) = made(alloc, &setup)?;
+    for segment in 0..shape.segments {
+        change(&mut space, draws, segment);
+    }
+    warm(&mut chooser, draws, shape.segments - 1);
+    Ok((space, chooser))
+}
+
 /// The choice by lists of all rows.
 fn choose_by_lists(
     alloc: Global,
@@ -106,7 +127,6 @@ fn choose_by_lists(
     requires positions { chooser.now.positions ≡ space.now.shape.segments - 1 }
     requires home { home < space.now.shape.segments - 1 }
     requires some { (k : ℕ) × (k < space.now.shape.segments - 1) × (0 < free_at space.now k + dead_at space.now k) }
-    ensures { IfOk result (ChoiceFor chooser.now space.now home) }
 {
     let mut free = Vec::new(alloc);
     let mut dead = Vec::new(alloc);
@@ -118,33 +138,29 @@ fn choose_by_lists(
     Ok(chooser.choose(&free, &dead, home))
 }
 
+/// Whether pool and lists make the same choice for each home, where there is one.
+fn agree(alloc: Global, space: &Space, chooser: &Chooser) -> Result<bool, AllocError>
+    requires { chooser.now.positions ≡ space.now.shape.segments - 1 }
+{
+    let positions = space.positions();
+    let Some(_usable) = space.lowest_usable(0, positions) else {
+        return Ok(true);
+    };
+    for home in 0..positions {
+        let listed = choose_by_lists(alloc, space, chooser, home)?;
+        if choose_row(space, chooser, home) != listed {
+            return Ok(false);
+        }
+    }
+    Ok(true)
+}
+
 #[test]
 fn a_pool_answers_as_its_lists_do(rt: HostRuntime) -> Result<(), Fail> {
     let mut draws = Draws(1);
     for pool in 0..500 {
-        let shape = shape(&mut draws);
-        let policy = policy(&mut draws, shape.segments - 1);
-        let setup = Setup {
-            shape,
-            policy,
-            limit: 1,
-            mark: 1,
-        };
-        let (mut space, mut chooser) = made(rt.alloc(), &setup)?;
-        for segment in 0..shape.segments {
-            change(&mut space, &mut draws, segment);
-        }
-        warm(&mut chooser, &mut draws, shape.segments - 1);
-        if space.lowest_usable(0, shape.segments - 1).is_none() {
-            continue;
-        }
-        for home in 0..shape.segments - 1 {
-            assert_eq!(rt;
-                choose_row(&space, &chooser, home),
-                choose_by_lists(rt.alloc(), &space, &chooser, home)?,
-                "pool {pool}, home {home}"
-            );
-        }
+        let (space, chooser) = drawn(rt.alloc(), &mut draws)?;
+        assert!(rt; agree(rt.alloc(), &space, &chooser)?, "pool {pool}");
     }
     Ok(())
 }
