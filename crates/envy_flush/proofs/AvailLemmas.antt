@@ -1,5 +1,5 @@
 -- The lowest position of a home's partition with a free row that the job leaves free.
-use Rattle.std.proofs.Common.{◌≡◌, ◌≢◌, ℕ, ◌-◌, ◌<◌, List, get_or, Option, None, Some, MatchOption, sym, ◌∙◌, ap, subst, arith}
+use Rattle.std.proofs.Common.{◌≡◌, ◌≢◌, ℕ, ◌-◌, List, get_or, Option, None, Some, MatchOption, sym, ◌∙◌, ap, subst, arith}
 use Rattle.envy_base.specs.declared.shape.Shape.{Shape}
 use Rattle.envy_map.specs.Fields.{Chart}
 use Rattle.envy_policy.specs.Choice.{IsLeast}

@@ -1,4 +1,4 @@
-use Rattle.std.proofs.Common.{refl, ap}
+use Rattle.std.proofs.Common.{ap}
 use Rattle.envy_map.specs.Fields.{chart}
 use Rattle.envy_policy.specs.History.{History}
 use Rattle.envy_flush.proofs.AgreeLemmas.{Fits-staged, no-stages}

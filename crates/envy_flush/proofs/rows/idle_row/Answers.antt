@@ -5,8 +5,6 @@ use Rattle.envy_map.specs.Fields.{Chart, chart}
 use Rattle.envy_policy.specs.declared.choice.Choice.{Choice}
 use Rattle.envy_policy.specs.declared.choice.Choice.TheVariants.{Free, Clean}
 use Rattle.envy_choosing.specs.Choosing.{ChoiceFor}
-use Rattle.envy_flush.specs.Cleaning.{StopsClean}
-use Rattle.envy_flush.specs.Flushing.{Follows}
 use Rattle.envy_flush.proofs.FlushLemmas.{if-done-two, never-idle}
 use Rattle.envy_flush.proofs.RowLemmas.{some-rows, free-room, clean-room, dead-cleaned}
 use Rattle.envy_flush.specs.declared.parts.Parts.{Parts}
