@@ -17,9 +17,6 @@
    5. A store to the SRAM is there when a later one is, and before a later order begins: the memory is uncached or
       written through, or the callbacks begin with what makes it so.
 
-   Each row is programmed at most once between two erases of its segment, and the rows of a segment in rising order,
-   so parts with words that correct errors and parts of NAND take the orders as they come.
-
    When power fails inside a callback, the row or the segment that it is handed may hold anything, and nothing else. */
 #ifndef ENVY_PART_H
 #define ENVY_PART_H

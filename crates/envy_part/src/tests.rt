@@ -1,9 +1,6 @@
 use super::*;
-use crate::orders;
-use envy_base::{Board, Shape, Trouble};
-use std::alloc::Global;
-use std::process::Abort;
-use std::test::Fail;
+use crate::{orders, rows};
+use envy_base::Shape;
 
 const SHAPE: Shape = Shape {
     segments: 4,
@@ -91,96 +88,57 @@ impl Port for Fake {
     }
 }
 
-fn program(board: &mut PartBoard<Fake>, row: u32, page: &[u64; 32]) -> Option<Result<(), Trouble>> {
-    if row as usize >= board.flash.len() {
-        return None;
-    }
-    Some(board.program(row, page))
-}
-
-fn erase(board: &mut PartBoard<Fake>, segment: u32) -> Option<Result<(), Trouble>> {
-    if segment >= board.shape.segments {
-        return None;
-    }
-    Some(board.erase(segment))
-}
-
-// What a program of row 3 answers, what the board counts, and whether all other rows stayed.
-fn program_by(
-    rt: &(impl Abort + Alloc<A = Global>),
-    manner: Manner,
-) -> (Option<Result<(), Trouble>>, u64, bool) {
-    let mut flash = [[0; 256]; 8];
-    let mut port = Fake::new(Manner::Right);
-    orders::erase(&mut port, &mut flash);
-    port.manner = manner;
-    let mut sram = [0; 161];
-    let Ok(mut board) = PartBoard::over(rt.alloc(), SHAPE, &mut flash, &mut sram, port) else {
-        panic!(rt; "no board");
-    };
+// The page that is ordered: its words are neither alike nor all ones.
+fn page() -> [u64; 32] {
     let mut page = [3; 32];
     page[31] = 5;
-    let answer = program(&mut board, 3, &page);
-    let bads = board.bads;
-    drop(board);
-    let stayed = flash[..3] == [[0xFF; 256]; 3] && flash[4..] == [[0xFF; 256]; 4];
-    (answer, bads, stayed)
+    page
+}
+
+// Whether the program of an erased row is found done, and whether the row is the page then.
+fn program_by(manner: Manner) -> (bool, bool) {
+    let mut port = Fake::new(manner);
+    let mut row = [0xFF; 256];
+    let done = orders::program(&mut port, &mut row, &page());
+    (done, row == rows::bytes_of(&page()))
 }
 
 #[test]
-fn a_program_is_done_where_its_row_is_right_and_nowhere_else(rt: HostRuntime) {
+fn a_program_is_done_where_its_row_is_the_page(rt: HostRuntime) {
     let table = [
-        (Manner::Right, Ok(()), 0),
-        (Manner::ToldBad, Ok(()), 0),
-        (Manner::Bad, Err(Trouble::Bad), 1),
-        (Manner::Late, Err(Trouble::Bad), 1),
-        (Manner::Half, Err(Trouble::Bad), 1),
-        (Manner::Elsewhere, Err(Trouble::Bad), 1),
-        (Manner::Upward, Err(Trouble::Bad), 1),
+        (Manner::Right, true),
+        (Manner::ToldBad, true),
+        (Manner::Bad, false),
+        (Manner::Late, false),
+        (Manner::Half, false),
+        (Manner::Elsewhere, false),
+        (Manner::Upward, false),
     ];
-    for (manner, answer, bads) in table {
-        assert_eq!(rt;
-            program_by(&rt, manner),
-            (Some(answer), bads, true),
-            "{manner:?}"
-        );
+    for (manner, done) in table {
+        assert_eq!(rt; program_by(manner), (done, done), "{manner:?}");
     }
 }
 
-// What an erase of segment 1, whose rows are clear, answers, what the board counts, and whether all other rows stayed.
-fn erase_by(
-    rt: &(impl Abort + Alloc<A = Global>),
-    manner: Manner,
-) -> (Option<Result<(), Trouble>>, u64, bool) {
-    let mut flash = [[0; 256]; 8];
-    let mut port = Fake::new(Manner::Bad);
-    orders::erase(&mut port, &mut flash);
-    port.manner = manner;
-    let mut sram = [0; 161];
-    let Ok(mut board) = PartBoard::over(rt.alloc(), SHAPE, &mut flash, &mut sram, port) else {
-        panic!(rt; "no board");
-    };
-    let answer = erase(&mut board, 1);
-    let bads = board.bads;
-    drop(board);
-    let stayed = flash[..2] == [[0; 256]; 2] && flash[4..] == [[0; 256]; 4];
-    (answer, bads, stayed)
+// Whether the erase of four rows of zeros is found done, and whether all of them are ones then.
+fn erase_by(manner: Manner) -> (bool, bool) {
+    let mut port = Fake::new(manner);
+    let mut rows = [[0; 256]; 4];
+    let done = orders::erase(&mut port, &mut rows);
+    (done, rows == [[0xFF; 256]; 4])
 }
 
 #[test]
 fn an_erase_is_done_where_each_row_is_ones(rt: HostRuntime) {
     let table = [
-        (Manner::Right, Ok(()), 0),
-        (Manner::Bad, Err(Trouble::Bad), 1),
-        (Manner::Half, Err(Trouble::Bad), 1),
-        (Manner::Elsewhere, Err(Trouble::Bad), 1),
+        (Manner::Right, true),
+        (Manner::ToldBad, true),
+        (Manner::Bad, false),
+        (Manner::Late, false),
+        (Manner::Half, false),
+        (Manner::Elsewhere, false),
     ];
-    for (manner, answer, bads) in table {
-        assert_eq!(rt;
-            erase_by(&rt, manner),
-            (Some(answer), bads, true),
-            "{manner:?}"
-        );
+    for (manner, done) in table {
+        assert_eq!(rt; erase_by(manner), (done, done), "{manner:?}");
     }
 }
 
