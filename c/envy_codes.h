@@ -45,7 +45,9 @@ enum envy_code {
     ENVY_SETUP_LIMIT = 29,    /* a limit of at least 1 */
     ENVY_SETUP_MARK = 30,     /* a mark of 1 to the number of frames */
 
-    /* what was found is damaged: the first point of soundness that fails */
+    /* what was found is damaged: the first point of soundness that fails. The audit behind these looks at the map, at
+       the rows that are free and at copies of the cleaner's. A byte of a page's data that was changed it can't see: the
+       memory keeps no sums over data. */
     ENVY_BROKEN_FIELDS = 31,     /* a field of the map doesn't decode, or is out of its range */
     ENVY_BROKEN_POSITIONS = 32,  /* two positions name one segment */
     ENVY_BROKEN_FRAMES = 33,     /* two places name one frame */

@@ -62,8 +62,9 @@ uint32_t envy_mapped_new(envy_mapped *m);
 uint32_t envy_mapped_format(envy_mapped *m, const envy_setup *setup, envy_rows flash, envy_words sram,
                             envy_words erases);
 
-/* Takes up the memory that the regions hold. It takes nothing on trust: sizes, version and shape are compared and
-   the whole is audited first, in a time that grows with the regions. Transactions that were open are undone then, and
+/* Takes up the memory that the regions hold. Sizes, version and shape are compared, and the map is audited first, with
+   the rows that must be free and a cleaner's copies, in a time that grows with the regions. A byte of a page's data
+   that was changed it can't see: the memory keeps no sums over data. Transactions that were open are undone then, and
    no flash operation is begun. Policy, part, limit and mark may differ from those of before.
    ENVY_DONE; ENVY_OPEN; ENVY_POLICY, ENVY_SETUP_*; ENVY_FLASH_SIZE, ENVY_SRAM_SIZE, ENVY_ERASES_SIZE;
    ENVY_UNFORMATTED; ENVY_OLDER; ENVY_OTHER_SHAPE; ENVY_BROKEN_*; ENVY_NO_MEMORY.

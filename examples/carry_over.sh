@@ -3,6 +3,7 @@
 # answered over it. What was stored is there, and what an open transaction put isn't.
 set -eu
 cd "$(dirname "$0")/.."
+./envy --stands || echo "carry_over: so each of its four calls is a trial of a minute or more" >&2
 work=$(mktemp -d "${TMPDIR:-/tmp}/envy-carry.XXXXXX")
 trap 'rm -rf "$work"' EXIT
 

@@ -4,10 +4,7 @@
 # Then 2,000 images with one to three bytes changed: each has a verdict, and where it is sound a trace is served.
 set -eu
 cd "$(dirname "$0")/.."
-if [ -n "$(./envy gen --lines 0 2>&1)" ]; then
-    echo "images: no proved program stands for these sources: ./envy --prove makes one" >&2
-    exit 1
-fi
+./envy --stands || exit 1
 exec python3 - "$@" <<'TEXT'
 import random
 import subprocess

@@ -4,6 +4,7 @@
 # starts at once (./envy --prove, or .ci/run). A word is the number that the kills are drawn from.
 set -eu
 cd "$(dirname "$0")"
+../envy --stands || exit 1
 for tool in gcc rustc; do
     if ! $tool --version >/dev/null 2>&1; then
         echo "library: $tool doesn't run here, so nothing was tried" >&2
@@ -14,6 +15,18 @@ library/build.py envy_mapped envy_c
 make -s all tests
 work=$(mktemp -d "${TMPDIR:-/tmp}/envy-library.XXXXXX")
 trap 'rm -rf "$work"' EXIT
+
+# the six lines of C that README and docs/LIBRARY.md show, as they stand there
+for page in ../README.md ../docs/LIBRARY.md; do
+    {
+        printf '#include "envy.h"\nint main(void) {\n'
+        sed -n '/^    envy_setup setup/,/^    envy_load/p' "$page"
+        printf '    return word == 7 ? 0 : 1;\n}\n'
+    } >"$work/six.c"
+    gcc -Wall -Wextra -I ../c -o "$work/six" "$work/six.c" ../c/heap.c ../crates/envy_c/out/libenvy_c.a
+    "$work/six"
+done
+echo "library: the six lines of C do what the pages say"
 
 # 10,000 commands that are drawn, some loads made looks, and a failure of power before every thousandth
 ../envy gen --start 20 --lines 10000 |

@@ -8,6 +8,7 @@
 # Of the words that the program loads and stores the first N (--skip, 0) are passed over and then so many taken
 # (--accesses, 1000000). With --transaction N each N stores are one transaction. Pages are numbered as they are met,
 # and the array has as many; the board is filled to four fifths. Frames of SRAM (--frames) are an eighth of the pages.
+# Wants the proved program.
 set -eu
 top=$(cd "$(dirname "$0")/.." && pwd)
 skip=0 accesses=1000000 transaction=0 frames=0
@@ -21,9 +22,10 @@ while [ $# -gt 0 ]; do
     esac
 done
 if [ $# -eq 0 ]; then
-    sed -n '2,10s/^# \{0,1\}//p' "$0" >&2
+    sed -n '2,11s/^# \{0,1\}//p' "$0" >&2
     exit 2
 fi
+"$top/envy" --stands || exit 1
 if ! command -v valgrind >/dev/null; then
     echo "real_memory: valgrind is not there, so no program can be traced" >&2
     exit 1

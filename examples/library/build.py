@@ -3,7 +3,8 @@
 
 `rt ci` leaves each crate below them proved and built in its out/, but without the mark by which `rt lib` knows its own
 work, so a plain `rt lib` would prove all of them a second time. Where they stand so, and no source is newer, this takes
-them as they are and proves the libraries alone. Everywhere else it calls `rt lib`.
+them as they are and proves the libraries alone. Everywhere else, and where the kit's modules answer something that isn't
+expected, it calls `rt lib`, and says so.
 
   build.py NAME.."""
 
@@ -53,16 +54,33 @@ def build(rtlib, crate):
     return status
 
 
-def main(names):
+def by_kit(names):
+    """Has `rt lib` prove and build each library."""
+    return any([subprocess.run(["rt", "lib"], cwd=f"{ROOT}/crates/{name}").returncode for name in names])
+
+
+def taken(names):
+    """Builds the libraries over the crates below as they stand, or returns None where they don't stand so."""
     rtlib = kit_library()
     crates = [rtlib.Crate(f"{ROOT}/crates/{name}", ROOT, {}) for name in names]
     if not all(stands(it) for crate in crates for it in crate.below()):
-        print("build.py: the crates below don't stand as rt ci leaves them, so rt lib proves what it needs", flush=True)
-        return any([subprocess.run(["rt", "lib"], cwd=it.folder).returncode for it in crates])
+        return None
     # (its first call sets a handler, which only the main thread may)
     rtlib.guarded()
     with ThreadPoolExecutor(len(crates)) as pool:
         return any(list(pool.map(lambda it: build(rtlib, it), crates)))
+
+
+def main(names):
+    why = "the crates below don't stand as rt ci leaves them"
+    try:
+        status = taken(names)
+    except Exception as error:  # the kit's own modules promise nothing, and another kit's may be others
+        status, why = None, f"the kit's modules answer {type(error).__name__}: {error}"
+    if status is None:
+        print(f"build.py: {why}, so rt lib proves what it needs", flush=True)
+        status = by_kit(names)
+    return status
 
 
 if __name__ == "__main__":

@@ -1,15 +1,14 @@
-//! The program: `envy run` answers a trace on standard input over a board in memory, `envy plain` on the
-//! plain machine, and `envy gen` writes one.
+//! The program: does what its words say over standard input and output, writes the last line, and exits.
 #![tactic(auto)]
 
-ghost use Rattle.std.specs.Prelude.{◌≤◌, IfOk};
+ghost use Rattle.std.specs.Prelude.{◌≡◌, ◌≢◌, ◌≤◌, IfOk, IsErr, IsOk};
 
 mod streams;
 mod words;
 
 use arrayvec::ArrayVec;
 use envy_bench::{MemBoard, MemMaker};
-use envy_io::Sink;
+use envy_io::{Failed, Sink};
 use envy_run::{Ended, end_text, run};
 use envy_streams::{BufferedSink, BufferedSource, NoMemory};
 use std::cell::RefCell;
@@ -30,6 +29,20 @@ fn say(rt: &HostRuntime, text: &[u8]) {
     }
 }
 
+/// The end that is told, once the last replies were handed on or weren't. Only of a run that was done to its end a
+/// failure to hand them on is told: what else ended it stays, so that power that was lost is told as lost.
+fn handed_on(mut ended: Ended<MemBoard>, handing: Result<(), Failed>) -> Ended<MemBoard>
+    ensures stays { ended.status ≢ 0 → result ≡ ended }
+    ensures handed { IsOk handing → result ≡ ended }
+    ensures fails { ended.status ≡ 0 → IsErr handing → result ≡ record ended { status = 4; why = 0 } }
+{
+    if ended.status == 0 && handing.is_err() {
+        ended.status = WRITE_FAULT;
+        ended.why = 0;
+    }
+    ended
+}
+
 /// Does what the words say over standard input and output, and hands on every reply, however it ends.
 fn serve(rt: &HostRuntime, words: &[String]) -> Result<Ended<MemBoard>, NoMemory>
     ensures { IfOk result (λ ended. ended.lines ≤ 1099511627777) }
@@ -38,18 +51,14 @@ fn serve(rt: &HostRuntime, words: &[String]) -> Result<Ended<MemBoard>, NoMemory
     let input = AskedSource::new(StdSource::new(rt.stdin()), &output);
     let mut source = BufferedSource::new(rt.alloc(), input)?;
     let mut sink = HeldSink::new(&output);
-    let mut ended = run(
+    let ended = run(
         rt.alloc(),
         words,
         &mut source,
         &mut sink,
         &mut MemMaker::new(),
     );
-    if sink.flush().is_err() {
-        ended.status = WRITE_FAULT;
-        ended.why = 0;
-    }
-    Ok(ended)
+    Ok(handed_on(ended, sink.flush()))
 }
 
 fn main(rt: HostRuntime) -> ExitCode {

@@ -34,34 +34,32 @@ use Rattle.envy_space.specs.Noting.{Rowed}
 use Rattle.envy_space.proofs.PlaceLemmas.{PoolAgrees-rowed}
 
 -- the sizes of parts stay
-pub Fits-moved : (sh sh2 : Shape) (x y : Parts) → sh2 ≡ sh → Fits sh x → y.space.shape ≡ x.space.shape → y.frames.count ≡ x.frames.count → length y.cache.entries ≡ length x.cache.entries → y.chooser.positions ≡ x.chooser.positions → y.survey ≡ x.survey → y.stages ≡ x.stages → Fits sh2 y
-Fits-moved sh sh2 x y shape fits space frames cache chooser survey stages = rw shape (record {
+pub Fits-moved : (sh sh2 : Shape) (x y : Parts) → sh2 ≡ sh → Fits sh x → y.space.shape ≡ x.space.shape → y.frames.count ≡ x.frames.count → length y.cache.entries ≡ length x.cache.entries → y.chooser.positions ≡ x.chooser.positions → y.stages ≡ x.stages → Fits sh2 y
+Fits-moved sh sh2 x y shape fits space frames cache chooser stages = rw shape (record {
   pool = space ∙ fits.pool;
   frames = frames ∙ fits.frames;
   entries = cache ∙ fits.entries;
   positions = chooser ∙ fits.positions;
-  survey = survey ∙ fits.survey;
   stages = rw stages fits.stages;
 })
 
 -- and the stages are others
-pub Fits-staged : (sh : Shape) (x y : Parts) → Fits sh x → AreStages sh y.stages → y.space.shape ≡ x.space.shape → y.frames.count ≡ x.frames.count → length y.cache.entries ≡ length x.cache.entries → y.chooser.positions ≡ x.chooser.positions → y.survey ≡ x.survey → Fits sh y
-Fits-staged sh x y fits stages space frames cache chooser survey = record {
+pub Fits-staged : (sh : Shape) (x y : Parts) → Fits sh x → AreStages sh y.stages → y.space.shape ≡ x.space.shape → y.frames.count ≡ x.frames.count → length y.cache.entries ≡ length x.cache.entries → y.chooser.positions ≡ x.chooser.positions → Fits sh y
+Fits-staged sh x y fits stages space frames cache chooser = record {
   pool = space ∙ fits.pool;
   frames = frames ∙ fits.frames;
   entries = cache ∙ fits.entries;
   positions = chooser ∙ fits.positions;
-  survey = survey ∙ fits.survey;
   stages = stages;
 }
 
 -- one stage fewer is left
-pub Fits-next : (sh sh2 : Shape) (x y : Parts) → sh2 ≡ sh → Fits sh x → y.stages ≡ drop 1 x.stages → All (λ k. k < sh.segments - 1) y.stages → y.space.shape ≡ x.space.shape → y.frames.count ≡ x.frames.count → length y.cache.entries ≡ length x.cache.entries → y.chooser.positions ≡ x.chooser.positions → y.survey ≡ x.survey → Fits sh2 y
-Fits-next sh sh2 x y shape fits rest within space frames cache chooser survey =
+pub Fits-next : (sh sh2 : Shape) (x y : Parts) → sh2 ≡ sh → Fits sh x → y.stages ≡ drop 1 x.stages → All (λ k. k < sh.segments - 1) y.stages → y.space.shape ≡ x.space.shape → y.frames.count ≡ x.frames.count → length y.cache.entries ≡ length x.cache.entries → y.chooser.positions ≡ x.chooser.positions → Fits sh2 y
+Fits-next sh sh2 x y shape fits rest within space frames cache chooser =
     let few = AreStages.few (Fits.stages fits) in
     let less = length-drop 1 x.stages in
     let long : length y.stages ≡ length (drop 1 x.stages) = ap (λ (xs : List ℕ). length xs) rest in
-    rw shape (Fits-staged sh x y fits (record { within = within; few = omega arith }) space frames cache chooser survey)
+    rw shape (Fits-staged sh x y fits (record { within = within; few = omega arith }) space frames cache chooser)
 
 pub no-stages : (sh : Shape) (stages : List ℕ) → stages ≡ [] → AreStages sh stages
 no-stages sh stages none = rw none (record { within = All-nil (λ k. k < sh.segments - 1); few = omega arith })

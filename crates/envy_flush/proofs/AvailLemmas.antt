@@ -1,41 +1,51 @@
 -- The lowest position of a home's partition with a free row that the job leaves free.
-use Rattle.std.proofs.Common.{◌≡◌, ◌⊎◌, inl, inr, ℕ, ◌+◌, ◌-◌, ◌<◌, ◌≤◌, get_or, sym, subst, arith}
-use Rattle.std.proofs.lemmas.Bool.{cases_lt}
+use Rattle.std.proofs.Common.{◌≡◌, ◌≢◌, ℕ, ◌-◌, List, get_or, Option, None, Some, MatchOption, sym, ◌∙◌, ap, subst, arith}
+use Rattle.envy_base.specs.declared.shape.Shape.{Shape}
 use Rattle.envy_map.specs.Fields.{Chart}
-use Rattle.envy_policy.specs.History.{History, IsHistory, partition_of, first_of, end_of}
-use Rattle.envy_policy.proofs.Choosing.{within-first, within-end, within-is}
+use Rattle.envy_policy.specs.Choice.{IsLeast}
+use Rattle.envy_policy.specs.History.{History, partition_of}
 use Rattle.envy_reloc.specs.Plan.{IsFreeOf}
+use Rattle.envy_space.specs.Pool.{Pool, PoolAgrees}
+use Rattle.envy_choosing.specs.Choosing.{IsFreeBeside}
 use Rattle.envy_flush.specs.Flushing.{IsAvailable, IsNoneAvailable, IsLowestAvailable}
 
--- none of the positions from the partition's first on, and below m, is available
-pub record NoneBelow (h : History) (home : ℕ) (c : Chart) (first m : ℕ) : Type 0 where
-  pub none : (j : ℕ) → first ≤ j → j < m → IsAvailable h home c j → ⊥
+-- what the job leaves free is where another segment stands than the one that it relocates
+abbrev pub Spares : Chart → Option ℕ → Type 0
+Spares c avoided = (s : ℕ) → avoided ≢ Some s → IsFreeOf c.fields.job s
 
-pub NoneBelow-start : (h : History) (home : ℕ) (c : Chart) (first : ℕ) → NoneBelow h home c first first
-NoneBelow-start h home c first = record { none = λ j low high is. omega arith }
+abbrev pub Takes : Chart → Option ℕ → Type 0
+Takes c avoided = (s : ℕ) → avoided ≡ Some s → IsFreeOf c.fields.job s → ⊥
 
-pub NoneBelow-more : (h : History) (home : ℕ) (c : Chart) (first m : ℕ) → (IsAvailable h home c m → ⊥) → NoneBelow h home c first m → NoneBelow h home c first (m + 1)
-NoneBelow-more h home c first m lack below = record { none = λ j low high is. at j low high is (cases_lt j m) }
-  where
-    at : (j : ℕ) → first ≤ j → j < m + 1 → IsAvailable h home c j → (j < m) ⊎ (m ≤ j) → ⊥
-    at j low high is (inl less) = below.none j low less is
-    at j low high is (inr more) = let same : j ≡ m = omega arith in lack (subst (λ (k : ℕ). IsAvailable h home c k) same is)
+pub available : (h : History) (home : ℕ) (c : Chart) (pool : Pool) (avoided : Option ℕ) (k : ℕ) → PoolAgrees c.shape c.fields pool → Spares c avoided → IsFreeBeside h pool (partition_of h home) avoided k → IsAvailable h home c k
+available h home c pool avoided k agrees spares is =
+    let at : get_or pool.positions k 0 ≡ get_or c.fields.positions k 0 = ap (λ (xs : List ℕ). get_or xs k 0) agrees.positions in
+    let fill : get_or pool.fills (get_or pool.positions k 0) 0 ≡ get_or c.fields.fills (get_or c.fields.positions k 0) 0 = ap (λ (xs : List ℕ). get_or xs (get_or pool.positions k 0) 0) agrees.fills ∙ ap (λ (s : ℕ). get_or c.fields.fills s 0) at in
+    let segments = ap (λ (sh : Shape). sh.segments) agrees.shape in
+    let rows = ap (λ (sh : Shape). sh.rows) agrees.shape in
+    record {
+      position = let low = is.position in omega arith;
+      near = is.near;
+      room = let some = is.free in omega arith;
+      free = subst (λ (s : ℕ). IsFreeOf c.fields.job s) at (spares (get_or pool.positions k 0) is.other);
+    }
 
--- the first that is available is the lowest
-pub lowest-found : (h : History) (home : ℕ) (c : Chart) (first end k : ℕ) → IsHistory h → first ≡ first_of h (partition_of h home) → end ≡ end_of h (partition_of h home) → h.positions ≡ c.shape.segments - 1
-    → first ≤ k → k < end → get_or c.fields.fills (get_or c.fields.positions k 0) 0 < c.shape.rows → IsFreeOf c.fields.job (get_or c.fields.positions k 0) → NoneBelow h home c first k → IsLowestAvailable h home c k
-lowest-found h home c first end k whole begins ends size low high room free below = record {
-  is = record { position = omega arith; near = near; room = room; free = free };
-  lowest = λ j less is. below.none j (let from = within-first h (partition_of h home) j whole (IsAvailable.near is) in omega arith) less is;
+pub beside : (h : History) (home : ℕ) (c : Chart) (pool : Pool) (avoided : Option ℕ) (k : ℕ) → PoolAgrees c.shape c.fields pool → Takes c avoided → IsAvailable h home c k → IsFreeBeside h pool (partition_of h home) avoided k
+beside h home c pool avoided k agrees takes is =
+    let at : get_or pool.positions k 0 ≡ get_or c.fields.positions k 0 = ap (λ (xs : List ℕ). get_or xs k 0) agrees.positions in
+    let fill : get_or pool.fills (get_or pool.positions k 0) 0 ≡ get_or c.fields.fills (get_or c.fields.positions k 0) 0 = ap (λ (xs : List ℕ). get_or xs (get_or pool.positions k 0) 0) agrees.fills ∙ ap (λ (s : ℕ). get_or c.fields.fills s 0) at in
+    let segments = ap (λ (sh : Shape). sh.segments) agrees.shape in
+    let rows = ap (λ (sh : Shape). sh.rows) agrees.shape in
+    record {
+      position = let low = is.position in omega arith;
+      near = is.near;
+      free = let room = is.room in omega arith;
+      other = λ e. takes (get_or pool.positions k 0) e (subst (λ (s : ℕ). IsFreeOf c.fields.job s) (sym at) is.free);
+    }
+
+-- the answer of the pool, said of the board
+pub found-available : (h : History) (home : ℕ) (c : Chart) (pool : Pool) (avoided found : Option ℕ) → PoolAgrees c.shape c.fields pool → Spares c avoided → Takes c avoided → MatchOption found ((k : ℕ) → IsFreeBeside h pool (partition_of h home) avoided k → ⊥) (IsLeast (IsFreeBeside h pool (partition_of h home) avoided) (λ k. k)) → MatchOption found (IsNoneAvailable h home c) (IsLowestAvailable h home c)
+found-available h home c pool avoided None agrees spares takes none = λ k is. none k (beside h home c pool avoided k agrees takes is)
+found-available h home c pool avoided (Some k) agrees spares takes least = record {
+  is = available h home c pool avoided k agrees spares least.holds;
+  lowest = λ j less is. let at_least = least.least j (beside h home c pool avoided j agrees takes is) in omega arith;
 }
-  where
-    near : partition_of h k ≡ partition_of h home
-    near = within-is h (partition_of h home) k whole (subst (λ (x : ℕ). x ≤ k) begins low) (subst (λ (x : ℕ). k < x) ends high)
-
--- none is available
-pub none-found : (h : History) (home : ℕ) (c : Chart) (first end m : ℕ) → IsHistory h → first ≡ first_of h (partition_of h home) → end ≡ end_of h (partition_of h home) → h.positions ≡ c.shape.segments - 1 → end ≤ m → NoneBelow h home c first m → IsNoneAvailable h home c
-none-found h home c first end m whole begins ends size past below k is =
-    let from : first ≤ k = subst (λ (x : ℕ). x ≤ k) (sym begins) (within-first h (partition_of h home) k whole (IsAvailable.near is)) in
-    let position : k < h.positions = subst (λ (x : ℕ). k < x) (sym size) (IsAvailable.position is) in
-    let to : k < end = subst (λ (x : ℕ). k < x) (sym ends) (within-end h (partition_of h home) k whole position (IsAvailable.near is)) in
-    below.none k from (omega arith) is

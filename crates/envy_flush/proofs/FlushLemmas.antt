@@ -11,7 +11,7 @@ use Rattle.envy_map.specs.Writes.{Writes}
 use Rattle.envy_policy.specs.declared.choice.Choice.{Choice}
 use Rattle.envy_policy.specs.declared.choice.Choice.TheVariants.{Free, Clean}
 use Rattle.envy_reloc.specs.Plan.{Plan}
-use Rattle.envy_flush.specs.Choosing.{ChoiceFor}
+use Rattle.envy_choosing.specs.Choosing.{ChoiceFor}
 use Rattle.envy_flush.specs.Cleaning.{StopsClean}
 use Rattle.envy_flush.specs.Flushing.{IsLastAt, Claims, Follows, Ends, IsBusy, ClaimsBeside, ClaimsAfter, FinishesFirst, GetsRow, NotesBad, ChoosesBad, Settles, StopsRow, StopsFor}
 use Rattle.envy_flush.specs.declared.parts.Parts.{Parts}

@@ -13,7 +13,7 @@ use Rattle.envy_policy.specs.History.{History, flushed, cleaned}
 use Rattle.envy_space.specs.Pool.{Pool}
 use Rattle.envy_table.specs.Entries.{Translations}
 use Rattle.envy_table.specs.Hits.{Accesses, Rests}
-use Rattle.envy_flush.specs.Choosing.{ChoiceFor}
+use Rattle.envy_choosing.specs.Choosing.{ChoiceFor}
 use Rattle.envy_flush.specs.Counts.{Counting}
 use Rattle.envy_flush.specs.Flushing.{NotesBad, ChoosesBad, MakesRoom, IsProgrammed, StopsFor, Stops}
 use Rattle.envy_flush.specs.Putting.{undo_for, PutsBy}

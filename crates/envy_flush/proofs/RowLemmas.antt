@@ -3,7 +3,7 @@ use Rattle.std.proofs.Common.{◌≡◌, ◌≢◌, ◌⊎◌, inl, inr, ℕ, ze
 use Rattle.std.specs.Prelude.{map, sum_by, ◌==◌, if◌then◌else◌}
 use Rattle.std.specs.List.{range_with_len}
 use Rattle.std.proofs.lemmas.Bool.{cases_lt, cases_eq, eq-eqb, ne_eqb}
-use Rattle.std.proofs.lemmas.List.{ext_get_or, get_or_past, get_or-set_same, get_or-set_other}
+use Rattle.std.proofs.lemmas.List.{get_or_past, get_or-set_same, get_or-set_other}
 use Rattle.std.proofs.lemmas.List.FromFn.{get_or-map-range_with_len, length-map-range_with_len}
 use Rattle.envy_base.specs.Shape.{IsShape}
 use Rattle.envy_base.specs.declared.shape.Shape.{Shape}
@@ -26,15 +26,11 @@ use Rattle.envy_space.specs.Pool.{Pool, PoolAgrees, free_at, dead_at}
 use Rattle.envy_space.proofs.SpaceLemmas.{sum_by-range_more}
 use Rattle.envy_layout.specs.RowKinds.{kept_in}
 use Rattle.envy_layout.proofs.KeptRows.{dead-row}
-use Rattle.envy_flush.specs.Choosing.{ChoiceFor, frees, deads}
+use Rattle.envy_choosing.specs.Choosing.{ChoiceFor, frees, deads}
 
 -- the same positions of the same shape
 pub placed-pool : (sh sh2 : Shape) (positions positions2 : List ℕ) (s : ℕ) → sh2 ≡ sh → positions2 ≡ positions → IsPlaced sh positions s → IsPlaced sh2 positions2 s
 placed-pool sh sh2 positions positions2 s shape same placed = subst (λ (x : Shape). IsPlaced x positions2 s) (sym shape) (subst (λ (xs : List ℕ). IsPlaced sh xs s) (sym same) placed)
-
--- a list that is told at each index
-pub is-map-range : (xs : List ℕ) (f : ℕ → ℕ) (n : ℕ) → length xs ≡ n → ((k : ℕ) → k < n → get_or xs k 0 ≡ f k) → xs ≡ map f (range_with_len 0 n)
-is-map-range xs f n long at = ext_get_or 0 xs (map f (range_with_len 0 n)) (long ∙ sym (length-map-range_with_len f 0 n)) (λ k lt. let low : k < n = omega arith in at k low ∙ sym (get_or-map-range_with_len f 0 n k k 0 low (omega arith)))
 
 -- a kept row lies at a position, but where the job is switching to the spare
 pub placed-row : (sh : Shape) (f : Fields) (flash : List (List ℕ)) (p q e : ℕ) → Sound sh f flash → place f p ≡ Some (Row q) → IsSpare sh f.positions e → q / sh.rows ≢ e → IsPlaced sh f.positions (q / sh.rows)

@@ -13,7 +13,7 @@ use Rattle.envy_policy.specs.History.{History, flushed, cleaned, partition_of}
 use Rattle.envy_layout.specs.Sound.{Names, IsPlaced, IsSpare}
 use Rattle.envy_reloc.specs.Plan.{IsFreeOf}
 use Rattle.envy_space.specs.Pool.{PoolAgrees}
-use Rattle.envy_flush.specs.Choosing.{ChoiceFor}
+use Rattle.envy_choosing.specs.Choosing.{ChoiceFor}
 use Rattle.envy_flush.specs.Cleaning.{CleansAll, StopsClean}
 use Rattle.envy_flush.specs.Steps.{Finishes, StopsStep}
 use Rattle.envy_flush.specs.declared.parts.Parts.{Parts}

@@ -1,6 +1,5 @@
 pub mod Agreement
 pub mod Budgets
-pub mod Choosing
 pub mod Cleaning
 pub mod Counts
 pub mod Ending

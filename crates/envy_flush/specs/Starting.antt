@@ -14,7 +14,6 @@ started_parts setup = record {
   chooser = started setup.policy (setup.shape.segments - 1);
   reloc = record { moves = []; aside = None; mark = 0; copied = 0; moved = 0; erased = 0; since = 0 };
   stages = [];
-  survey = setup.shape.segments - 1;
   flushes = 0;
   swaps = 0;
 }

@@ -8,7 +8,7 @@ use Rattle.envy_map.specs.Writes.{with_job}
 use Rattle.envy_policy.specs.declared.choice.Choice.{Choice}
 use Rattle.envy_policy.specs.declared.choice.Choice.TheVariants.{Free, Clean}
 use Rattle.envy_policy.specs.History.{flushed, cleaned}
-use Rattle.envy_flush.specs.Choosing.{ChoiceFor}
+use Rattle.envy_choosing.specs.Choosing.{ChoiceFor}
 use Rattle.envy_flush.specs.Cleaning.{BeginsClean}
 use Rattle.envy_flush.specs.Counts.{Tallies}
 use Rattle.envy_flush.specs.Flushing.{FlushesOldest}

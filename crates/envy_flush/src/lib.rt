@@ -19,7 +19,6 @@ mod restarting;
 mod rows;
 mod shading;
 mod storing;
-mod survey;
 mod ticking;
 
 pub use did::Did;
@@ -29,5 +28,4 @@ pub use parts::Parts;
 pub use putting::put_first;
 pub use restarting::restart;
 pub use storing::store_word;
-pub use survey::Survey;
 pub use ticking::tick_ruled;

@@ -2,7 +2,6 @@ ghost use Rattle.std.specs.Prelude.{◌≡◌, IfOk};
 ghost use Rattle.envy_policy.specs.Setup.{IsSetup};
 ghost use Rattle.envy_flush.specs.Starting.{started_parts};
 
-use crate::survey::Survey;
 use envy_base::NoMemory;
 use envy_frames::Frames;
 use envy_policy::{Chooser, Setup};
@@ -21,7 +20,6 @@ pub struct Parts {
     pub chooser: Chooser,
     pub reloc: Reloc,
     pub stages: Stages,
-    pub survey: Survey,
     /// Programs begun by flushes, and swaps begun.
     pub flushes: u64,
     pub swaps: u64,
@@ -38,7 +36,6 @@ impl Parts {
         let space = Space::new(alloc, &shape)?;
         let cache = Cache::new(alloc, shape.entries)?;
         let chooser = Chooser::new(alloc, setup)?;
-        let survey = Survey::new(alloc, shape.segments - 1)?;
         Ok(Parts {
             frames,
             space,
@@ -46,7 +43,6 @@ impl Parts {
             chooser,
             reloc: Reloc::new(),
             stages: Stages::new(),
-            survey,
             flushes: 0,
             swaps: 0,
         })

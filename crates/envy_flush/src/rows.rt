@@ -17,6 +17,7 @@ use crate::finishing::finish;
 use crate::jobs::runs;
 use crate::parts::Parts;
 use envy_base::{Board, Job, Off, Trouble};
+use envy_choosing::{choose_row, free_beside};
 use envy_map::job;
 use envy_policy::Choice;
 
@@ -44,14 +45,7 @@ fn usable<B: Board>(board: &B, parts: &Parts, home: u32) -> Result<Option<u32>, 
     ensures off { OnErr result ((B.state board.now).on ≡ false) }
 {
     let relocated = relocated(board)?;
-    let (first, end) = parts.chooser.bounds(parts.chooser.partition_of(home));
-    for position in first..end {
-        let segment = parts.space.segment_at(position);
-        if relocated != Some(segment) && parts.space.free(segment) > 0 {
-            return Ok(Some(position));
-        }
-    }
-    Ok(None)
+    Ok(free_beside(&parts.space, &parts.chooser, home, relocated))
 }
 
 /// A row for a page with this home, where nothing runs.
@@ -82,7 +76,7 @@ fn idle_row<B: Board>(
     ensures off { (result ≡ Err Trouble.Off) ↔ ((B.state board.new).on ≡ false) }
     ensures bad { IsErrOf result Trouble.Bad → (B.state board.old).bads < 2 ^ 64 - 1 → (B.state board.old).bads < (B.state board.new).bads }
 {
-    match parts.survey.choose(&parts.space, &parts.chooser, home) {
+    match choose_row(&parts.space, &parts.chooser, home) {
         Choice::Free { position } => Ok(claim_at(board, parts, position, page)?),
         Choice::Clean { position, aside } => clean(board, parts, position, aside, page),
     }

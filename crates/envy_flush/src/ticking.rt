@@ -7,7 +7,7 @@ ghost use Rattle.envy_table.specs.Hits.{Rests};
 ghost use Rattle.envy_reloc.specs.Phases.{SameOnce};
 ghost use Rattle.envy_flush.specs.Agreement.{Ready, Steady};
 ghost use Rattle.envy_flush.specs.Counts.{Counting};
-ghost use Rattle.envy_flush.specs.Choosing.{ChoiceFor};
+ghost use Rattle.envy_choosing.specs.Choosing.{ChoiceFor};
 ghost use Rattle.envy_flush.specs.Ticks.{IsNoneDue, TicksChoice, TicksFlush, TicksSwap, TicksNone, TicksBy, TicksBad, StopsFlush, CountsTick};
 
 use crate::claiming::claim_at;
@@ -19,6 +19,7 @@ use crate::parts::Parts;
 use crate::programming::one_more;
 use arrayvec::ArrayVec;
 use envy_base::{Board, Off, Trouble};
+use envy_choosing::choose_row;
 use envy_frames::Held;
 use envy_policy::Choice;
 use envy_wear::due;
@@ -69,7 +70,7 @@ pub fn tick_flush<B: Board>(board: &mut B, parts: &mut Parts) -> Result<Did, Tro
     let Some(held) = parts.frames.oldest() else {
         unreachable!();
     };
-    match parts.survey.choose(&parts.space, &parts.chooser, held.home) {
+    match choose_row(&parts.space, &parts.chooser, held.home) {
         Choice::Free { position } => {
             flush_at(board, parts, held, position)?;
             Ok(Did::Flushed)

@@ -10,12 +10,11 @@ use Rattle.envy_base.specs.declared.fields.Place.{Place}
 use Rattle.envy_base.specs.declared.fields.Place.TheVariants.{Absent, Row, Frame}
 use Rattle.envy_base.specs.Shape.{IsShape}
 use Rattle.envy_layout.specs.Sound.{Places}
-use Rattle.circular_buffer.specs.Buffer.{Buffer, buffer}
 use Rattle.envy_frames.specs.declared.held.Held.{Held}
 use Rattle.envy_frames.specs.Order.{IsApart, IsOrder}
 use Rattle.envy_frames.specs.Agreement.{IsHeld, AreHeld, default_home, held_at, held_by_default}
 use Rattle.envy_frames.proofs.Agreeing.{place-in}
-use Rattle.envy_frames.proofs.Lists.{Any-left, range_more, length-le_apart}
+use Rattle.envy_frames.proofs.Lists.{AllPairs-last, Any-left, range_more, length-le_apart}
 
 -- the first n pages
 abbrev pub held_before : Shape → List (Option Place) → ℕ → List Held
@@ -121,9 +120,8 @@ order_before sh places shape ok n le = record { below = below; apart = all.apart
     below : All (λ h. h.frame < sh.frames) held
     below i d lt = ok.frames (get_or held i d).page (get_or held i d).frame (IsHeld.here (all.each i d lt))
 
--- the ring that holds them is in order
-pub IsOrder-default : (sh : Shape) (places : List (Option Place)) (ring : Buffer Held) (n : ℕ) → IsShape sh → Places sh places → ring ≡ buffer (held_by_default sh places) n → n ≡ sh.frames → IsOrder (record { held = ring.items; count = ring.capacity })
-IsOrder-default sh places ring n shape ok is count = rw (is, count) (order_before sh places shape ok sh.pages (omega arith))
+pub order-default : (sh : Shape) (places : List (Option Place)) → IsShape sh → Places sh places → IsOrder (record { held = held_by_default sh places; count = sh.frames })
+order-default sh places shape ok = order_before sh places shape ok sh.pages (omega arith)
 
 -- where the next page's place is a frame, there is room for it
 pub room_before : (sh : Shape) (places : List (Option Place)) → IsShape sh → Places sh places → (n k : ℕ) → n < sh.pages → get_or places n None ≡ Some (Frame k) → length (held_before sh places n) < sh.frames
@@ -143,3 +141,10 @@ held_before_same sh places n elsewhere = held_before_more sh places n ∙ at (ge
 
 pub held_before_next : (sh : Shape) (places : List (Option Place)) (n k : ℕ) → get_or places n None ≡ Some (Frame k) → held_before sh places (n + 1) ≡ held_before sh places n ++ (record { frame = k; page = n; home = default_home sh n }) ∷ []
 held_before_next sh places n k is = held_before_more sh places n ∙ ap (λ (x : Option Place). held_before sh places n ++ cons_option (held_at sh n x) []) is
+
+-- no page before has the frame of the next
+pub apart_before : (sh : Shape) (places : List (Option Place)) → IsShape sh → Places sh places → (n k : ℕ) → n < sh.pages → get_or places n None ≡ Some (Frame k) → All (λ h. h.frame ≢ k) (held_before sh places n)
+apart_before sh places shape ok n k lt is =
+    let new : Held = record { frame = k; page = n; home = default_home sh n } in
+    let more : held_before sh places (n + 1) ≡ held_before sh places n ++ new ∷ [] = held_before_next sh places n k is in
+    AllPairs-last IsApart (held_before sh places n) new (subst (AllPairs IsApart) more (order_before sh places shape ok (n + 1) (omega arith)).apart)

@@ -2,6 +2,8 @@ pub mod Agreeing
 pub mod CountLemmas
 pub mod Defaults
 pub mod Lists
+pub mod Live
 pub mod Marks
+pub mod Rings
 pub mod Rotation
 pub mod Stacks

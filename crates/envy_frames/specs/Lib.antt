@@ -1,4 +1,5 @@
 pub mod Agreement
+pub mod Entries
 pub mod Order
 pub use Rattle.envy_base.specs.Shape
 pub use Rattle.envy_base.specs.State

@@ -6,8 +6,9 @@ ghost use Rattle.envy_frames.specs.Agreement.{AreHeld, held_by_default};
 ghost use Rattle.envy_frames.specs.Order.{IsOrder, IsUnheld, is_other};
 
 use crate::Held;
+use crate::entry::Entry;
 use crate::free::free_others;
-use crate::ring::{item_of, remove};
+use crate::ring::{append, drop_stale, make_stale};
 use crate::table::hold_named;
 use circular_buffer::HeapCircularBuffer;
 use envy_base::{Board, NoMemory, Off};
@@ -17,8 +18,13 @@ use std::marker::Model;
 /// The frames of a board, and in which order pages are held in them.
 #[derive(Drop)]
 pub struct Frames {
-    /// The oldest first.
-    held: HeapCircularBuffer<Held>,
+    /// The oldest first. An entry is stale once its frame was given back; it leaves when it comes to the
+    /// front, or when the ring is full, which has room for two entries a frame.
+    entries: HeapCircularBuffer<Entry>,
+    /// Of each frame a number that changes when it is given back.
+    stamps: Vec<u32>,
+    /// Of each frame the home of the page that it holds.
+    homes: Vec<u32>,
     /// A stack of the frames that aren't held.
     free: Vec<u32>,
     /// Room for one mark to each frame, for `rebuild`.
@@ -26,15 +32,17 @@ pub struct Frames {
 }
 
 impl Model for Frames {
-    ghost use Rattle.std.specs.Prelude.{vec_capacity};
+    ghost use Rattle.std.specs.Prelude.{length, vec_capacity};
+    ghost use Rattle.envy_frames.specs.Entries.{IsRing, held_in};
     ghost use Rattle.envy_frames.specs.Order.{Order, IsFrames};
 
     ghost Value = { Order };
 
-    ghost view = { λ a. record { held = a.held.items; count = a.held.capacity } };
+    ghost view = { λ a. record { held = held_in a.stamps.items a.entries.items; count = length a.stamps.items } };
 
     ghost invariant = { λ a.
-        IsFrames (record { held = a.held.items; count = a.held.capacity }) a.free.items (vec_capacity a.free) a.marks.items };
+        IsFrames (record { held = held_in a.stamps.items a.entries.items; count = length a.stamps.items }) a.free.items (vec_capacity a.free) a.marks.items
+        × IsRing a.entries a.stamps.items a.homes.items };
 }
 
 impl Frames {
@@ -43,11 +51,19 @@ impl Frames {
         requires { 1 ≤ count }
         ensures { IfOk result (λ frames. frames ≡ record { held = []; count = count }) }
     {
-        let held = HeapCircularBuffer::with_capacity(alloc, count as usize)?;
+        let entries = HeapCircularBuffer::with_capacity(alloc, 2 * count as usize)?;
+        let stamps = vec![in alloc; 0; count as usize]?;
+        let homes = vec![in alloc; 0; count as usize]?;
         let mut free = Vec::with_capacity(alloc, count as usize)?;
         let mut marks = vec![in alloc; false; count as usize]?;
-        free_others(&mut free, &mut marks, &held);
-        Ok(Frames { held, free, marks })
+        free_others(&mut free, &mut marks, &entries);
+        Ok(Frames {
+            entries,
+            stamps,
+            homes,
+            free,
+            marks,
+        })
     }
 
     /// How many frames are held.
@@ -55,7 +71,7 @@ impl Frames {
         ensures value { result ≡ length self.now.held }
         ensures whole { IsOrder self.now }
     {
-        self.held.len() as u32
+        (self.stamps.len() - self.free.len()) as u32
     }
 
     /// The frame that has been held longest.
@@ -64,7 +80,8 @@ impl Frames {
         ensures none { IsNone result ↔ (self.now.held ≡ []) }
         ensures whole { IsOrder self.now }
     {
-        self.held.front().copied()
+        let entry = self.entries.front().copied()?;
+        Some(entry.held)
     }
 
     /// Holds a page in a frame that isn't held, which becomes the newest. `None` where all are held.
@@ -77,7 +94,8 @@ impl Frames {
         ensures none { IfNone result (self.new ≡ self.old) }
     {
         let frame = self.free.pop()?;
-        let _newest = self.held.try_push_back(Held { frame, page, home });
+        self.homes[frame as usize] = home;
+        append(&mut self.entries, &self.stamps, Held { frame, page, home });
         Some(frame)
     }
 
@@ -86,7 +104,8 @@ impl Frames {
         requires held { Any (λ h. h.frame ≡ frame) self.old.held }
         ensures { self.new ≡ record self.old { held = filter (is_other frame) self.old.held } }
     {
-        remove(&mut self.held, frame);
+        make_stale(&mut self.entries, &mut self.stamps, frame);
+        drop_stale(&mut self.entries, &self.stamps);
         let _room = self.free.push(frame);
     }
 
@@ -96,10 +115,7 @@ impl Frames {
         ensures value { Any (λ h. (h.frame ≡ frame) × (h.home ≡ result)) self.now.held }
         ensures whole { IsOrder self.now }
     {
-        match item_of(&self.held, frame) {
-            Some(h) => h.home,
-            None => unreachable!(),
-        }
+        self.homes[frame as usize]
     }
 
     /// Holds the frames that the map of the board names, in rising order of page, each with its default
@@ -116,9 +132,10 @@ impl Frames {
         if !board.powered() {
             return Err(Off);
         }
-        self.held.clear();
-        hold_named(&mut self.held, board)?;
-        free_others(&mut self.free, &mut self.marks, &self.held);
+        self.entries.clear();
+        self.stamps.fill(0);
+        hold_named(&mut self.entries, &mut self.homes, board)?;
+        free_others(&mut self.free, &mut self.marks, &self.entries);
         Ok(())
     }
 }

@@ -4,6 +4,7 @@
 //! programmed into flash and given back. After a restart the order is that of the pages' numbers.
 #![tactic(auto)]
 
+mod entry;
 mod frames;
 mod free;
 mod held;

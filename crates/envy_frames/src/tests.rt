@@ -65,3 +65,25 @@ fn the_others_keep_their_order(rt: HostRuntime) -> Result<(), Fail> {
     }
     Ok(())
 }
+
+/// Page 1 stays the oldest while many others come and go, more than the ring has room for. Then pages 30
+/// and 31 are taken.
+fn after_many_rounds(alloc: Global) -> Result<Vec<u32>, Fail> {
+    let mut frames = Frames::new(alloc, 3)?;
+    let _oldest = frames.take(1, 0);
+    for page in 2..30 {
+        if let Some(frame) = frames.take(page, 0) {
+            frames.give_back(frame);
+        }
+    }
+    let _next = frames.take(30, 0);
+    let _newest = frames.take(31, 0);
+    drained(alloc, &mut frames)
+}
+
+#[test]
+fn frames_given_back_from_the_middle_make_room(rt: HostRuntime) -> Result<(), Fail> {
+    let pages = after_many_rounds(rt.alloc())?;
+    assert_eq!(rt; pages.as_slice(), [1, 30, 31].as_slice());
+    Ok(())
+}

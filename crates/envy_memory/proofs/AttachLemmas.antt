@@ -103,7 +103,6 @@ Fits-new setup = record {
   frames = refl;
   entries = length-replicate setup.shape.entries None;
   positions = refl;
-  survey = refl;
   stages = record { within = All-nil (λ k. k < setup.shape.segments - 1); few = omega arith };
 }
 

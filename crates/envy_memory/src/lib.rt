@@ -16,22 +16,6 @@ mod memory;
 mod one_tx;
 mod putting;
 mod storing;
-#[cfg(test)]
-mod tests_attach;
-#[cfg(test)]
-mod tests_cuts;
-#[cfg(test)]
-mod tests_format;
-#[cfg(test)]
-mod tests_orders;
-#[cfg(test)]
-mod tests_random;
-#[cfg(test)]
-mod tests_rules;
-#[cfg(test)]
-mod tests_setup;
-#[cfg(test)]
-mod tests_upgrade;
 mod ticking;
 
 pub use envy_flush::Did;

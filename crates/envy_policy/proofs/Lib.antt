@@ -1,7 +1,11 @@
+pub mod Asking
 pub mod Choosing
 pub mod HeatCounts
 pub mod HistoryLemmas
+pub mod LifetimeRules
+pub mod Noting
 pub mod OneChoice
 pub mod OnePartition
 pub mod Partitions
+pub mod Weighing
 pub mod Within

@@ -7,7 +7,7 @@ use Rattle.envy_policy.specs.declared.setup.Policy.TheVariants.{Greedy, Fifo, Lo
 use Rattle.envy_policy.specs.History.{History, partition_of}
 use Rattle.envy_policy.specs.Choice.{IsLeast, IsMost, IsUsable, IsNeighbour, HasRows, IsVictim, IsAside, IsChoice, distance, steps}
 
-least-one : (P : ℕ → Type 0) (f : ℕ → ℕ) (x y : ℕ) → IsLeast P f x → IsLeast P f y → x ≡ y
+pub least-one : (P : ℕ → Type 0) (f : ℕ → ℕ) (x y : ℕ) → IsLeast P f x → IsLeast P f y → x ≡ y
 least-one P f x y a b =
     let low = a.least y b.holds in
     let high = b.least x a.holds in

@@ -1,3 +1,5 @@
 pub mod Choice
+pub mod Deciding
 pub mod History
+pub mod Lifetime
 pub mod Setup

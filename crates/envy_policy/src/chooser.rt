@@ -13,7 +13,7 @@ use std::marker::Model;
 /// Chooses the position that a page is written to, by heats and turns of the partitions.
 #[derive(Drop)]
 pub struct Chooser {
-    policy: Policy,
+    pub(crate) policy: Policy,
     positions: u32,
     heats: Vec<u32>,
     turns: Vec<u32>,
@@ -207,7 +207,8 @@ impl Chooser {
         first_with(dead, after, end).or(first_with(dead, first, after))
     }
 
-    fn turn(&self, partition: u32) -> u32
+    /// The position at which the last cleaning in turn of a partition began.
+    pub fn turn(&self, partition: u32) -> u32
         requires { partition < length self.now.heats }
         ensures value { result ≡ slice_index self.now.turns partition }
         ensures below { result < self.now.positions }
@@ -216,7 +217,8 @@ impl Chooser {
         self.turns[partition as usize]
     }
 
-    fn aside(&self, partition: u32) -> Option<u32>
+    /// The partition that takes rows out of this one: its cooler neighbour, where it is hot.
+    pub fn aside(&self, partition: u32) -> Option<u32>
         requires partition { partition < length self.now.heats }
         ensures { IsAside self.now partition result }
     {

@@ -3,7 +3,15 @@
 
 mod choice;
 mod chooser;
+mod class;
+mod counted;
+mod deciding;
+mod fraction;
 mod laws;
+mod lifetime;
+mod lifetime_laws;
+#[cfg(test)]
+mod lifetime_tests;
 mod rows;
 mod setup;
 #[cfg(test)]
@@ -11,8 +19,15 @@ mod tests;
 
 pub use choice::Choice;
 pub use chooser::Chooser;
+pub use class::Class;
+pub use counted::Rows;
+pub use deciding::nearer;
 pub use laws::{
     a_choice_has_rows, greedy_looks_at_all_positions, heats_count_flushes, notes_keep_the_sizes,
     rows_leave_one_choice,
+};
+pub use lifetime::Lifetime;
+pub use lifetime_laws::{
+    a_lifetime_choice_has_rows, rows_leave_one_lifetime_choice, some_lifetime_rule_applies,
 };
 pub use setup::{Policy, Setup, SetupFault};

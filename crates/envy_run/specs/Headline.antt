@@ -41,7 +41,7 @@ use Rattle.envy_run.specs.Turns.{TraceTurn, trace_grammar, is_power, is_plan, is
 abbrev pub command_in : {Z : Type 0} → List (String Z) → Result Command WordsFault
 command_in words = command_of (map string_bytes words)
 
--- status 2: the words aren't understood, name a command that isn't built, or break the rule of this number
+-- status 2: the words aren't understood, or break the rule of this number
 pub record IsRefused (why : ℕ) (o : Outcome) : Type 0 where
   pub status : o.status ≡ 2
   pub why_is : o.why ≡ why

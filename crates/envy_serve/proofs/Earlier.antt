@@ -1,7 +1,7 @@
 -- What is said from a source on may be said from an earlier count of its faults on.
-use Rattle.std.proofs.Common.{◌≡◌, ℕ, ◌≤◌, List, sym, ◌∙◌, arith}
-use Rattle.std.specs.Prelude.{Option, Result}
-use Rattle.envy_io.specs.Streams.{Feed, Rises}
+use Rattle.std.proofs.Common.{ℕ, ◌≤◌, List, arith}
+use Rattle.std.specs.Prelude.{Result}
+use Rattle.envy_io.specs.Streams.{Feed}
 use Rattle.envy_io.specs.Taking.{Taking}
 use Rattle.envy_io.proofs.Counts.{Rises-after}
 use Rattle.envy_trace.specs.declared.fault.LineFault.{LineFault}
@@ -28,7 +28,7 @@ module _ {Line : Type 0} (reads : List ℕ → Result Line LineFault) (skipped :
 
   all-earlier : ReadAll reads skipped from feed reader lines → ReadAll reads skipped (record { left = from.left; faults = faults }) feed reader lines
   unfolding read-earlier
-  all-earlier r = record { read = read-earlier r.read; ended = r.ended; all_lines = r.all_lines }
+  all-earlier r = record { read = read-earlier r.read; ended = r.ended; below = r.below; all_lines = r.all_lines }
 
   between-earlier : ReadBetween reads skipped from feed reader lines → ReadBetween reads skipped (record { left = from.left; faults = faults }) feed reader lines
   unfolding read-earlier
@@ -40,7 +40,7 @@ module _ {Line : Type 0} (reads : List ℕ → Result Line LineFault) (skipped :
   read-to-earlier : (end : End) → HasReadTo end reads skipped from feed reader lines → HasReadTo end reads skipped (record { left = from.left; faults = faults }) feed reader lines
   read-to-earlier EndDone r = all-earlier r
   read-to-earlier FlushFault r = all-earlier r
-  read-to-earlier ReadFault (r, rises) = (between-earlier r, Rises-after faults from.faults feed.faults le rises)
+  read-to-earlier ReadFault (r, rises, below) = (between-earlier r, Rises-after faults from.faults feed.faults le rises, below)
   read-to-earlier TooLong (r, spent) = (between-earlier r, spent)
   read-to-earlier (Refused fault) r = stuck-earlier fault r
   read-to-earlier WriteFault r = read-earlier r

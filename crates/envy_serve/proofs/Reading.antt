@@ -107,6 +107,7 @@ read-ended reads skipped from feed then_feed reader then_reader lines piece read
     record {
       read = record { bytes = m.bytes; pieces = m.pieces; source = m.source; faults = m.faults; dry = m.dry; given = given; count = m.count; says = m.says };
       ended = ended;
+      below = Takes.below next.takes ended;
       all_lines = all;
     }
 
@@ -117,7 +118,7 @@ rises-from from feed then_feed le r = record { kept = let more = r.kept in omega
     at lt (inl below) = let more = r.more below in omega arith
     at lt (inr top) = let more = r.kept in omega arith
 
-pub read-failed : {Line : Type 0} (reads : List ℕ → Result Line LineFault) (skipped : ℕ) (from feed then_feed : Feed) (reader then_reader : Taking) (lines : List Line) (piece : List ℕ) → HasRead reads skipped from feed reader lines → NextLine reader feed NextFailed piece then_reader then_feed → ReadBetween reads skipped from then_feed then_reader lines × Rises from.faults then_feed.faults
+pub read-failed : {Line : Type 0} (reads : List ℕ → Result Line LineFault) (skipped : ℕ) (from feed then_feed : Feed) (reader then_reader : Taking) (lines : List Line) (piece : List ℕ) → HasRead reads skipped from feed reader lines → NextLine reader feed NextFailed piece then_reader then_feed → ReadBetween reads skipped from then_feed then_reader lines × Rises from.faults then_feed.faults × (then_reader.taken < then_reader.cap)
 read-failed reads skipped from feed then_feed reader then_reader lines piece read next =
     let m = met reads skipped from feed then_feed reader then_reader lines NextFailed piece read next in
     let (given, rest, open_rest) = HasMet.met_reads m in
@@ -129,6 +130,7 @@ read-failed reads skipped from feed then_feed reader then_reader lines piece rea
         short_rest = (Wants.line wants).short;
       },
       rises-from from feed then_feed (HasRead.faults read) rises,
+      Wants.below wants,
     )
 
 pub read-spent : {Line : Type 0} (reads : List ℕ → Result Line LineFault) (skipped : ℕ) (from feed then_feed : Feed) (reader then_reader : Taking) (lines : List Line) (piece : List ℕ) → HasRead reads skipped from feed reader lines → NextLine reader feed Spent piece then_reader then_feed → ReadBetween reads skipped from then_feed then_reader lines × (then_reader.taken ≡ then_reader.cap)

@@ -19,10 +19,11 @@ pub record HasRead {Line : Type 0} (reads : List ℕ → Result Line LineFault) 
   pub count : skipped + length bytes ≡ reader.taken
   pub says : map reads pieces ≡ map Ok lines
 
--- the source was read to its end, and these are all its lines
+-- the source was read to its end, which more bytes could have been taken from, and these are all its lines
 pub record ReadAll {Line : Type 0} (reads : List ℕ → Result Line LineFault) (skipped : ℕ) (from feed : Feed) (reader : Taking) (lines : List Line) : Type 0 where
   pub read : HasRead reads skipped from feed reader lines
   pub ended : IsTrue reader.ended
+  pub below : reader.taken < reader.cap
   pub all_lines : lines_of read.bytes ≡ read.pieces
 
 -- these are all whole lines among the bytes taken
@@ -57,7 +58,7 @@ pub record ReadStuck {Line : Type 0} (fault : LineFault) (reads : List ℕ → R
 abbrev pub Stopped : {Line : Type 0} → Stop → (List ℕ → Result Line LineFault) → ℕ → Feed → Feed → Taking → List Line → Type 0
 Stopped Finished reads skipped from feed reader lines = ReadAll reads skipped from feed reader lines
 Stopped (Refused fault) reads skipped from feed reader lines = ReadStuck fault reads skipped from feed reader lines
-Stopped Failed reads skipped from feed reader lines = ReadBetween reads skipped from feed reader lines × Rises from.faults feed.faults
+Stopped Failed reads skipped from feed reader lines = ReadBetween reads skipped from feed reader lines × Rises from.faults feed.faults × (reader.taken < reader.cap)
 Stopped Spent reads skipped from feed reader lines = ReadBetween reads skipped from feed reader lines × (reader.taken ≡ reader.cap)
 
 -- a line comes after these, or none

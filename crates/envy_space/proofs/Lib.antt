@@ -1,4 +1,5 @@
 pub mod CountLemmas
+pub mod FlagLemmas
 pub mod FollowLemmas
 pub mod EmptyLemmas
 pub mod NodeLemmas
@@ -6,5 +7,6 @@ pub mod NotingLemmas
 pub mod OrderLemmas
 pub mod PlaceLemmas
 pub mod PoolLemmas
+pub mod RisingLemmas
 pub mod RunLemmas
 pub mod SpaceLemmas

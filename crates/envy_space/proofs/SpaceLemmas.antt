@@ -1,15 +1,17 @@
 -- What a space keeps, when two segments change places or all is cleared.
-use Rattle.std.proofs.Common.{◌≡◌, ◌⊎◌, inl, inr, ℕ, ◌+◌, ◌-◌, ◌<◌, ◌≤◌, List, length, get_or, take, replicate, refl, sym, ◌∙◌, ap, arith}
+use Rattle.std.proofs.Common.{◌≡◌, ◌≢◌, ◌⊎◌, inl, inr, ℕ, ◌+◌, ◌-◌, ◌<◌, ◌≤◌, List, length, get_or, set, take, replicate, refl, sym, ◌∙◌, ap, arith}
 use Rattle.std.specs.Prelude.{swap, sum_by}
 use Rattle.std.specs.List.{range_with_len}
-use Rattle.std.proofs.lemmas.Bool.{cases_lt}
-use Rattle.std.proofs.lemmas.List.{get_or-replicate, get_or-take, get_or_past, length-replicate, length-take, map-id, ext_get_or}
+use Rattle.std.proofs.lemmas.Bool.{cases_eq, cases_lt}
+use Rattle.std.proofs.lemmas.List.{get_or-replicate, get_or-set_other, get_or-set_same, get_or-take, get_or_past, length-replicate, length-set, length-take, map-id, ext_get_or}
 use Rattle.std.proofs.lemmas.List.Edits.{length-swap}
+use Rattle.std.proofs.lemmas.Option.{get_or_from_slice_get, slice_get-get_or}
 use Rattle.std.proofs.lemmas.List.FromFn.{get_or-range_with_len, length-range_with_len, sum_by-map-range_with_len_more}
 use Rattle.envy_base.specs.declared.shape.Shape.{Shape}
 use Rattle.envy_base.specs.Shape.{IsShape}
 use Rattle.envy_space.specs.Order.{IsOrder}
-use Rattle.envy_space.specs.Pool.{Pool, IsPool, IsSpace, StandsAt, empty_pool}
+use Rattle.envy_space.specs.Pool.{Pool, IsPool, IsSpace, StandsAt, empty_pool, free_at, dead_at}
+use Rattle.envy_space.specs.Winners.{flag}
 use Rattle.envy_space.proofs.OrderLemmas.{IsOrder-places, ArePlaces-range, swapped, swapped_first, swapped_other}
 
 -- one number more in a sum
@@ -38,7 +40,7 @@ take-range m n le =
 abbrev pub pool_of : Shape → List ℕ → List ℕ → List ℕ → Pool
 pool_of sh fills kept order = record { shape = sh; fills = fills; kept = kept; positions = take (sh.segments - 1) order }
 
-pub IsSpace-empty : (sh : Shape) → IsShape sh → IsSpace sh (replicate sh.segments 0) (replicate sh.segments 0) (range_with_len 0 sh.segments) (replicate sh.segments 0)
+pub IsSpace-empty : (sh : Shape) → IsShape sh → IsSpace sh (replicate sh.segments 0) (replicate sh.segments 0) (range_with_len 0 sh.segments) (replicate sh.segments 0) (replicate sh.segments (flag sh.rows)) (replicate sh.segments (flag 0))
 IsSpace-empty sh shape = record {
   shape = shape;
   fills_long = length-replicate sh.segments 0;
@@ -49,11 +51,15 @@ IsSpace-empty sh shape = record {
   kept_fit = λ s. omega arith;
   ordered = IsOrder-places _ _ (ArePlaces-range sh.segments (let few = shape.few_segments in omega arith));
   scores = λ k lt. zeros_at sh.segments k ∙ (let none = zeros_at sh.segments (get_or (range_with_len 0 sh.segments) k 0) in omega arith);
+  has_free_long = length-replicate sh.segments (flag sh.rows);
+  has_dead_long = length-replicate sh.segments (flag 0);
+  free_flags = λ k lt. let at = get_or-replicate sh.segments k (flag sh.rows) 0 lt in let none = zeros_at sh.segments (get_or (range_with_len 0 sh.segments) k 0) in omega arith;
+  dead_flags = λ k lt. let at = get_or-replicate sh.segments k (flag 0) 0 lt in let none = zeros_at sh.segments (get_or (range_with_len 0 sh.segments) k 0) in omega arith;
 }
 
 -- a space that was cleared
-pub IsSpace-cleared : (sh : Shape) (fills kept order dead : List ℕ) → IsShape sh → fills ≡ replicate sh.segments 0 → kept ≡ replicate sh.segments 0 → order ≡ range_with_len 0 sh.segments → dead ≡ replicate sh.segments 0 → IsSpace sh fills kept order dead
-IsSpace-cleared sh fills kept order dead shape fills_is kept_is order_is dead_is = rw (fills_is, kept_is, order_is, dead_is) (IsSpace-empty sh shape)
+pub IsSpace-cleared : (sh : Shape) (fills kept order dead has_free has_dead : List ℕ) → IsShape sh → fills ≡ replicate sh.segments 0 → kept ≡ replicate sh.segments 0 → order ≡ range_with_len 0 sh.segments → dead ≡ replicate sh.segments 0 → has_free ≡ replicate sh.segments (flag sh.rows) → has_dead ≡ replicate sh.segments (flag 0) → IsSpace sh fills kept order dead has_free has_dead
+IsSpace-cleared sh fills kept order dead has_free has_dead shape fills_is kept_is order_is dead_is free_is has_is = rw (fills_is, kept_is, order_is, dead_is, free_is, has_is) (IsSpace-empty sh shape)
 
 pub pool-cleared : (sh : Shape) (fills kept order : List ℕ) → fills ≡ replicate sh.segments 0 → kept ≡ replicate sh.segments 0 → order ≡ range_with_len 0 sh.segments → pool_of sh fills kept order ≡ empty_pool sh
 pool-cleared sh fills kept order fills_is kept_is order_is =
@@ -61,8 +67,8 @@ pool-cleared sh fills kept order fills_is kept_is order_is =
     rw (fills_is, kept_is, front) refl
 
 -- two segments have changed places
-pub IsSpace-swap : (sh : Shape) (fills kept order dead then_order then_dead : List ℕ) (i j : ℕ) → i < sh.segments → j < sh.segments → IsSpace sh fills kept order dead → then_order ≡ swap order i j → IsOrder then_order → then_dead ≡ swap dead i j → IsSpace sh fills kept then_order then_dead
-IsSpace-swap sh fills kept order dead then_order then_dead i j low lower was order_is ordered dead_is = record {
+pub IsSpace-swap : (sh : Shape) (fills kept order dead has_free has_dead then_order then_dead then_free then_has : List ℕ) (i j : ℕ) → i < sh.segments → j < sh.segments → IsSpace sh fills kept order dead has_free has_dead → then_order ≡ swap order i j → IsOrder then_order → then_dead ≡ swap dead i j → then_free ≡ swap has_free i j → then_has ≡ swap has_dead i j → IsSpace sh fills kept then_order then_dead then_free then_has
+IsSpace-swap sh fills kept order dead has_free has_dead then_order then_dead then_free then_has i j low lower was order_is ordered dead_is free_is has_is = record {
   shape = was.shape;
   fills_long = was.fills_long;
   kept_long = was.kept_long;
@@ -76,10 +82,22 @@ IsSpace-swap sh fills kept order dead then_order then_dead i j low lower was ord
       let order_at : get_or then_order k 0 ≡ get_or order from.0 0 = ap (λ (xs : List ℕ). get_or xs k 0) order_is ∙ from.2 order was.order_long in
       let dead_at : get_or then_dead k 0 ≡ get_or dead from.0 0 = ap (λ (xs : List ℕ). get_or xs k 0) dead_is ∙ from.2 dead was.dead_long in
       dead_at ∙ was.scores from.0 from.1 ∙ ap (λ (s : ℕ). get_or fills s 0 - get_or kept s 0) (sym order_at);
+  has_free_long = ap length free_is ∙ length-swap has_free i j ∙ was.has_free_long;
+  has_dead_long = ap length has_is ∙ length-swap has_dead i j ∙ was.has_dead_long;
+  free_flags = λ k lt.
+      let from = swapped sh.segments i j k low lower lt in
+      let order_at : get_or then_order k 0 ≡ get_or order from.0 0 = ap (λ (xs : List ℕ). get_or xs k 0) order_is ∙ from.2 order was.order_long in
+      let flag_at : get_or then_free k 0 ≡ get_or has_free from.0 0 = ap (λ (xs : List ℕ). get_or xs k 0) free_is ∙ from.2 has_free was.has_free_long in
+      flag_at ∙ was.free_flags from.0 from.1 ∙ ap (λ (s : ℕ). flag (sh.rows - get_or fills s 0)) (sym order_at);
+  dead_flags = λ k lt.
+      let from = swapped sh.segments i j k low lower lt in
+      let order_at : get_or then_order k 0 ≡ get_or order from.0 0 = ap (λ (xs : List ℕ). get_or xs k 0) order_is ∙ from.2 order was.order_long in
+      let flag_at : get_or then_has k 0 ≡ get_or has_dead from.0 0 = ap (λ (xs : List ℕ). get_or xs k 0) has_is ∙ from.2 has_dead was.has_dead_long in
+      flag_at ∙ was.dead_flags from.0 from.1 ∙ ap (λ (s : ℕ). flag (get_or fills s 0 - get_or kept s 0)) (sym order_at);
 }
 
-pub IsPool-space : (sh : Shape) (fills kept order dead : List ℕ) → IsSpace sh fills kept order dead → IsPool (pool_of sh fills kept order)
-IsPool-space sh fills kept order dead are =
+pub IsPool-space : (sh : Shape) (fills kept order dead has_free has_dead : List ℕ) → IsSpace sh fills kept order dead has_free has_dead → IsPool (pool_of sh fills kept order)
+IsPool-space sh fills kept order dead has_free has_dead are =
     let long = are.order_long in
     record {
       shape = are.shape;
@@ -93,11 +111,11 @@ IsPool-space sh fills kept order dead are =
     }
 
 -- the segment of place j stands at position i
-pub StandsAt-swap : (sh : Shape) (fills kept order dead then_order then_dead : List ℕ) (i j s : ℕ) → i < sh.segments - 1 → j < sh.segments → get_or order j 0 ≡ s → IsSpace sh fills kept order dead → then_order ≡ swap order i j → IsOrder then_order → then_dead ≡ swap dead i j → StandsAt i s (pool_of sh fills kept order) (pool_of sh fills kept then_order)
-StandsAt-swap sh fills kept order dead then_order then_dead i j s low lower here was order_is ordered dead_is =
+pub StandsAt-swap : (sh : Shape) (fills kept order dead has_free has_dead then_order then_dead then_free then_has : List ℕ) (i j s : ℕ) → i < sh.segments - 1 → j < sh.segments → get_or order j 0 ≡ s → IsSpace sh fills kept order dead has_free has_dead → then_order ≡ swap order i j → IsOrder then_order → IsSpace sh fills kept then_order then_dead then_free then_has → StandsAt i s (pool_of sh fills kept order) (pool_of sh fills kept then_order)
+StandsAt-swap sh fills kept order dead has_free has_dead then_order then_dead then_free then_has i j s low lower here was order_is ordered now =
     let long = was.order_long in
     record {
-      is_pool = IsPool-space sh fills kept then_order then_dead (IsSpace-swap sh fills kept order dead then_order then_dead i j (omega arith) lower was order_is ordered dead_is);
+      is_pool = IsPool-space sh fills kept then_order then_dead then_free then_has now;
       shape = refl;
       fills = refl;
       kept = refl;
@@ -107,3 +125,97 @@ StandsAt-swap sh fills kept order dead then_order then_dead i j s low lower here
           ∙ swapped_other order i j k (omega arith) (omega arith) apart (λ same. other (get_or-take (sh.segments - 1) order k 0 lt ∙ ap (λ (p : ℕ). get_or order p 0) same ∙ here))
           ∙ sym (get_or-take (sh.segments - 1) order k 0 lt);
     }
+
+-- what the flags say of a position
+pub free-flags : (sh : Shape) (fills kept order dead has_free has_dead : List ℕ) → IsSpace sh fills kept order dead has_free has_dead → (k : ℕ) → k < sh.segments - 1 → get_or has_free k 0 ≡ flag (free_at (pool_of sh fills kept order) k)
+free-flags sh fills kept order dead has_free has_dead are k lt = are.free_flags k (omega arith) ∙ ap (λ (s : ℕ). flag (sh.rows - get_or fills s 0)) (sym (get_or-take (sh.segments - 1) order k 0 lt))
+
+pub dead-flags : (sh : Shape) (fills kept order dead has_free has_dead : List ℕ) → IsSpace sh fills kept order dead has_free has_dead → (k : ℕ) → k < sh.segments - 1 → get_or has_dead k 0 ≡ flag (dead_at (pool_of sh fills kept order) k)
+dead-flags sh fills kept order dead has_free has_dead are k lt = are.dead_flags k (omega arith) ∙ ap (λ (s : ℕ). flag (get_or fills s 0 - get_or kept s 0)) (sym (get_or-take (sh.segments - 1) order k 0 lt))
+
+-- a number that was read
+pub read-at : (xs : List ℕ) (s m : ℕ) → s < length xs → m ≡ get_or xs s m → m ≡ get_or xs s 0
+read-at xs s m lt is = is ∙ sym (get_or_from_slice_get xs s (get_or xs s m) 0 (slice_get-get_or xs s m lt))
+
+-- one place has another number, and so does the segment that stands there
+written-at : (n place v : ℕ) (xs ys : List ℕ) (f g : ℕ → ℕ) → length xs ≡ n → place < n → ys ≡ set xs place v → g place ≡ v → ((k : ℕ) → k < n → k ≢ place → g k ≡ f k) → ((k : ℕ) → k < n → get_or xs k 0 ≡ f k) → (k : ℕ) → k < n → get_or ys k 0 ≡ g k
+written-at n place v xs ys f g long low ys_is here others was k lt = ap (λ (zs : List ℕ). get_or zs k 0) ys_is ∙ at (cases_eq k place)
+  where
+    at : (k ≡ place) ⊎ (k ≡ place → ⊥) → get_or (set xs place v) k 0 ≡ g k
+    at (inl same) = ap (λ (i : ℕ). get_or (set xs place v) i 0) same ∙ get_or-set_same xs place v 0 (omega arith) ∙ sym here ∙ ap g (sym same)
+    at (inr other) = get_or-set_other xs place k v 0 other ∙ was k lt ∙ sym (others k lt other)
+
+-- the number of the segment at a place
+number-here : (xs order : List ℕ) (place s n : ℕ) → s < length xs → get_or order place 0 ≡ s → get_or (set xs s n) (get_or order place 0) 0 ≡ n
+number-here xs order place s n lt stands = ap (λ (i : ℕ). get_or (set xs s n) i 0) stands ∙ get_or-set_same xs s n 0 lt
+
+number-other : (xs order : List ℕ) (place s n k : ℕ) → IsOrder order → place < length order → k < length order → get_or order place 0 ≡ s → k ≢ place → get_or (set xs s n) (get_or order k 0) 0 ≡ get_or xs (get_or order k 0) 0
+number-other xs order place s n k ordered low lt stands other = get_or-set_other xs s (get_or order k 0) n 0 (λ same. other (ordered.apart k place lt low (same ∙ sym stands)))
+
+-- the fill of a segment is another
+pub IsSpace-filled : (sh : Shape) (fills kept order dead has_free has_dead then_dead then_free then_has : List ℕ) (s n m place : ℕ) → s < sh.segments → n ≤ sh.rows → m ≡ get_or kept s 0 → m ≤ n → place < sh.segments → get_or order place 0 ≡ s → IsSpace sh fills kept order dead has_free has_dead → then_dead ≡ set dead place (n - m) → then_free ≡ set has_free place (flag (sh.rows - n)) → then_has ≡ set has_dead place (flag (n - m)) → IsSpace sh (set fills s n) kept order then_dead then_free then_has
+IsSpace-filled sh fills kept order dead has_free has_dead then_dead then_free then_has s n m place lt fits m_is le low stands was dead_is free_is has_is =
+    let fills_long = was.fills_long in
+    let order_long = was.order_long in
+    let here : get_or (set fills s n) (get_or order place 0) 0 ≡ n = number-here fills order place s n (omega arith) stands in
+    let kept_here : get_or kept (get_or order place 0) 0 ≡ m = ap (λ (i : ℕ). get_or kept i 0) stands ∙ sym m_is in
+    record {
+      shape = was.shape;
+      fills_long = length-set fills s n ∙ fills_long;
+      kept_long = was.kept_long;
+      order_long = order_long;
+      dead_long = ap length dead_is ∙ length-set dead place (n - m) ∙ was.dead_long;
+      fills_fit = λ t. fit t (cases_eq t s);
+      kept_fit = λ t. below t (cases_eq t s);
+      ordered = was.ordered;
+      scores = written-at sh.segments place (n - m) dead then_dead (λ k. get_or fills (get_or order k 0) 0 - get_or kept (get_or order k 0) 0) (λ k. get_or (set fills s n) (get_or order k 0) 0 - get_or kept (get_or order k 0) 0)
+          was.dead_long low dead_is (omega arith) (λ k k_lt other. ap (λ (x : ℕ). x - get_or kept (get_or order k 0) 0) (others k k_lt other)) was.scores;
+      has_free_long = ap length free_is ∙ length-set has_free place (flag (sh.rows - n)) ∙ was.has_free_long;
+      has_dead_long = ap length has_is ∙ length-set has_dead place (flag (n - m)) ∙ was.has_dead_long;
+      free_flags = written-at sh.segments place (flag (sh.rows - n)) has_free then_free (λ k. flag (sh.rows - get_or fills (get_or order k 0) 0)) (λ k. flag (sh.rows - get_or (set fills s n) (get_or order k 0) 0))
+          was.has_free_long low free_is (ap (λ (x : ℕ). flag (sh.rows - x)) here) (λ k k_lt other. ap (λ (x : ℕ). flag (sh.rows - x)) (others k k_lt other)) was.free_flags;
+      dead_flags = written-at sh.segments place (flag (n - m)) has_dead then_has (λ k. flag (get_or fills (get_or order k 0) 0 - get_or kept (get_or order k 0) 0)) (λ k. flag (get_or (set fills s n) (get_or order k 0) 0 - get_or kept (get_or order k 0) 0))
+          was.has_dead_long low has_is (ap (λ (x : ℕ). flag (x - get_or kept (get_or order place 0) 0)) here ∙ ap (λ (x : ℕ). flag (n - x)) kept_here) (λ k k_lt other. ap (λ (x : ℕ). flag (x - get_or kept (get_or order k 0) 0)) (others k k_lt other)) was.dead_flags;
+    }
+  where
+    others : (k : ℕ) → k < sh.segments → k ≢ place → get_or (set fills s n) (get_or order k 0) 0 ≡ get_or fills (get_or order k 0) 0
+    others k k_lt other = number-other fills order place s n k was.ordered (rw was.order_long low) (rw was.order_long k_lt) stands other
+
+    fit : (t : ℕ) → (t ≡ s) ⊎ (t ≡ s → ⊥) → get_or (set fills s n) t 0 ≤ sh.rows
+    fit t (inl same) = let long = was.fills_long in let at = ap (λ (i : ℕ). get_or (set fills s n) i 0) same in let is = get_or-set_same fills s n 0 (omega arith) in omega arith
+    fit t (inr other) = let is = get_or-set_other fills s t n 0 other in let le = was.fills_fit t in omega arith
+
+    below : (t : ℕ) → (t ≡ s) ⊎ (t ≡ s → ⊥) → get_or kept t 0 ≤ get_or (set fills s n) t 0
+    below t (inl same) = let long = was.fills_long in let at = ap (λ (i : ℕ). get_or (set fills s n) i 0) same in let is = get_or-set_same fills s n 0 (omega arith) in let k_at = ap (λ (i : ℕ). get_or kept i 0) same in omega arith
+    below t (inr other) = let is = get_or-set_other fills s t n 0 other in let le = was.kept_fit t in omega arith
+
+-- another number of its rows is kept
+pub IsSpace-kept : (sh : Shape) (fills kept order dead has_free has_dead then_dead then_has : List ℕ) (s n m place : ℕ) → s < sh.segments → m ≡ get_or fills s 0 → n ≤ m → place < sh.segments → get_or order place 0 ≡ s → IsSpace sh fills kept order dead has_free has_dead → then_dead ≡ set dead place (m - n) → then_has ≡ set has_dead place (flag (m - n)) → IsSpace sh fills (set kept s n) order then_dead has_free then_has
+IsSpace-kept sh fills kept order dead has_free has_dead then_dead then_has s n m place lt m_is le low stands was dead_is has_is =
+    let kept_long = was.kept_long in
+    let here : get_or (set kept s n) (get_or order place 0) 0 ≡ n = number-here kept order place s n (omega arith) stands in
+    let fill_here : get_or fills (get_or order place 0) 0 ≡ m = ap (λ (i : ℕ). get_or fills i 0) stands ∙ sym m_is in
+    record {
+      shape = was.shape;
+      fills_long = was.fills_long;
+      kept_long = length-set kept s n ∙ kept_long;
+      order_long = was.order_long;
+      dead_long = ap length dead_is ∙ length-set dead place (m - n) ∙ was.dead_long;
+      fills_fit = was.fills_fit;
+      kept_fit = λ t. below t (cases_eq t s);
+      ordered = was.ordered;
+      scores = written-at sh.segments place (m - n) dead then_dead (λ k. get_or fills (get_or order k 0) 0 - get_or kept (get_or order k 0) 0) (λ k. get_or fills (get_or order k 0) 0 - get_or (set kept s n) (get_or order k 0) 0)
+          was.dead_long low dead_is (omega arith) (λ k k_lt other. ap (λ (x : ℕ). get_or fills (get_or order k 0) 0 - x) (others k k_lt other)) was.scores;
+      has_free_long = was.has_free_long;
+      has_dead_long = ap length has_is ∙ length-set has_dead place (flag (m - n)) ∙ was.has_dead_long;
+      free_flags = was.free_flags;
+      dead_flags = written-at sh.segments place (flag (m - n)) has_dead then_has (λ k. flag (get_or fills (get_or order k 0) 0 - get_or kept (get_or order k 0) 0)) (λ k. flag (get_or fills (get_or order k 0) 0 - get_or (set kept s n) (get_or order k 0) 0))
+          was.has_dead_long low has_is (ap (λ (x : ℕ). flag (x - get_or (set kept s n) (get_or order place 0) 0)) fill_here ∙ ap (λ (x : ℕ). flag (m - x)) here) (λ k k_lt other. ap (λ (x : ℕ). flag (get_or fills (get_or order k 0) 0 - x)) (others k k_lt other)) was.dead_flags;
+    }
+  where
+    others : (k : ℕ) → k < sh.segments → k ≢ place → get_or (set kept s n) (get_or order k 0) 0 ≡ get_or kept (get_or order k 0) 0
+    others k k_lt other = number-other kept order place s n k was.ordered (rw was.order_long low) (rw was.order_long k_lt) stands other
+
+    below : (t : ℕ) → (t ≡ s) ⊎ (t ≡ s → ⊥) → get_or (set kept s n) t 0 ≤ get_or fills t 0
+    below t (inl same) = let long = was.kept_long in let at = ap (λ (i : ℕ). get_or (set kept s n) i 0) same in let is = get_or-set_same kept s n 0 (omega arith) in let f_at = ap (λ (i : ℕ). get_or fills i 0) same in omega arith
+    below t (inr other) = let is = get_or-set_other kept s t n 0 other in let le = was.kept_fit t in omega arith

@@ -14,6 +14,7 @@ use Rattle.envy_layout.specs.RowKinds.{kept_in}
 use Rattle.envy_layout.specs.PageRows.{page_kept_in}
 use Rattle.envy_layout.specs.Sound.{Names, IsSpare}
 use Rattle.envy_space.specs.Order.{IsOrder}
+use Rattle.envy_space.specs.Winners.{flag}
 
 -- what a client sees of a `Space`: of each segment its fill and how many of its rows are kept, and the
 -- segment at each position
@@ -45,6 +46,9 @@ free_at p k = free_rows p (slice_index p.positions k)
 
 abbrev pub dead_at : Pool → ℕ → ℕ
 dead_at p k = dead_rows p (slice_index p.positions k)
+
+abbrev pub usable_at : Pool → ℕ → ℕ
+usable_at p k = free_at p k + dead_at p k
 
 -- the free rows at the positions from first to last
 abbrev pub free_between : Pool → ℕ → ℕ → ℕ
@@ -130,8 +134,9 @@ pub record Replaces (old : Chart) (old_pool : Pool) (k e : ℕ) (new : Chart) (n
   pub pool : new_pool ≡ with_segment_at k e old_pool
   pub freed : IsSpare new.shape new.fields.positions (slice_index old.fields.positions k)
 
--- what is kept of a space: the dead rows of each segment in the order of their positions, the spare last
-pub record IsSpace (sh : Shape) (fills kept order dead : List ℕ) : Type 0 where
+-- What is kept of a space: the dead rows of each segment in the order of their positions, the spare last, and
+-- in that order which have free rows, and which have dead ones.
+pub record IsSpace (sh : Shape) (fills kept order dead has_free has_dead : List ℕ) : Type 0 where
   pub shape : IsShape sh
   pub fills_long : length fills ≡ sh.segments
   pub kept_long : length kept ≡ sh.segments
@@ -141,3 +146,7 @@ pub record IsSpace (sh : Shape) (fills kept order dead : List ℕ) : Type 0 wher
   pub kept_fit : (s : ℕ) → slice_index kept s ≤ slice_index fills s
   pub ordered : IsOrder order
   pub scores : (k : ℕ) → k < sh.segments → slice_index dead k ≡ slice_index fills (slice_index order k) - slice_index kept (slice_index order k)
+  pub has_free_long : length has_free ≡ sh.segments
+  pub has_dead_long : length has_dead ≡ sh.segments
+  pub free_flags : (k : ℕ) → k < sh.segments → slice_index has_free k ≡ flag (sh.rows - slice_index fills (slice_index order k))
+  pub dead_flags : (k : ℕ) → k < sh.segments → slice_index has_dead k ≡ flag (slice_index fills (slice_index order k) - slice_index kept (slice_index order k))

@@ -1,5 +1,5 @@
--- The place with the highest score among several.
-use Rattle.std.specs.Prelude.{◌≡◌, ℕ, ◌+◌, ◌*◌, ◌^◌, ◌<◌, ◌≤◌, nat_lt, List, length, map, drop, Option, None, Some, slice_index_or, if◌then◌else◌}
+-- The place with the highest score among several, and the lowest and the highest place with a score.
+use Rattle.std.specs.Prelude.{◌≡◌, ℕ, ◌+◌, ◌-◌, ◌*◌, ◌^◌, ◌<◌, ◌≤◌, nat_lt, min, List, length, map, drop, Option, None, Some, slice_index, slice_index_or, if◌then◌else◌}
 use Rattle.envy_space.specs.declared.nodes.Entry.{Entry}
 
 -- from first to last, place k has the highest score, which isn't 0, and is the lowest of those with as much
@@ -14,6 +14,43 @@ pub record IsWinner (score : ℕ → ℕ) (first last k : ℕ) : Type 0 where
 abbrev pub Wins : (ℕ → ℕ) → ℕ → ℕ → Option ℕ → Type 0
 Wins score first last (Some k) = IsWinner score first last k
 Wins score first last None = (j : ℕ) → first ≤ j → j ≤ last → score j ≡ 0
+
+-- from first to below end, place k is the lowest with a score other than 0
+pub record IsLowest (score : ℕ → ℕ) (first end k : ℕ) : Type 0 where
+  pub above : first ≤ k
+  pub below : k < end
+  pub some : 0 < score k
+  pub none : (j : ℕ) → first ≤ j → j < k → score j ≡ 0
+
+-- from first to below end, place k is the highest with a score other than 0
+pub record IsHighest (score : ℕ → ℕ) (first end k : ℕ) : Type 0 where
+  pub above : first ≤ k
+  pub below : k < end
+  pub some : 0 < score k
+  pub none : (j : ℕ) → k < j → j < end → score j ≡ 0
+
+-- the lowest place from first to below end with a score, where some place there has one
+abbrev pub Lowest : (ℕ → ℕ) → ℕ → ℕ → Option ℕ → Type 0
+Lowest score first end (Some k) = IsLowest score first end k
+Lowest score first end None = (j : ℕ) → first ≤ j → j < end → score j ≡ 0
+
+-- and the highest
+abbrev pub Highest : (ℕ → ℕ) → ℕ → ℕ → Option ℕ → Type 0
+Highest score first end (Some k) = IsHighest score first end k
+Highest score first end None = (j : ℕ) → first ≤ j → j < end → score j ≡ 0
+
+-- 1 where there are rows, and 0 where there is none
+abbrev pub flag : ℕ → ℕ
+flag rows = min rows 1
+
+-- The flags of n places, from the lowest place up and from the highest down.
+pub record AreFlags (n : ℕ) (rising falling : List ℕ) : Type 0 where
+  pub some : 1 ≤ n
+  pub few : n < 2 ^ 31
+  pub long : length rising ≡ n
+  pub long_down : length falling ≡ n
+  pub fit : (k : ℕ) → slice_index rising k ≤ 1
+  pub down : (k : ℕ) → k < n → slice_index falling (n - 1 - k) ≡ slice_index rising k
 
 abbrev pub nobody : Entry
 nobody = record { place = 0; score = 0 }

@@ -6,11 +6,14 @@
 #![tactic(auto)]
 
 mod claim;
+mod finding;
+mod flags;
 mod following;
 mod laws;
 mod nodes;
 mod order;
 mod rebuild;
+mod rising;
 mod space;
 #[cfg(test)]
 mod tests;
@@ -18,4 +21,5 @@ mod winners;
 
 pub use following::notes_follow_a_row;
 pub use laws::{notes_follow_a_page, notes_follow_a_place};
+pub use rising::no_row_is_claimed_twice;
 pub use space::Space;

@@ -31,28 +31,28 @@ fn node(nodes: &[Entry], i: u32) -> Entry
     nodes[i as usize]
 }
 
-/// Makes the nodes those of so many places, each with the score 0.
-pub fn lay(nodes: &mut [Entry], places: u32)
+/// Makes the nodes those of so many places, each with this score.
+pub fn lay(nodes: &mut [Entry], places: u32, score: u32)
     requires some { 1 ≤ places }
     requires few { places < 2 ^ 31 }
     requires long { length nodes.old ≡ 2 * places }
     ensures tree { IsTree places nodes.new }
-    ensures scores { scores_of places nodes.new ≡ replicate places 0 }
+    ensures scores { scores_of places nodes.new ≡ replicate places score }
 {
-    lay_places(nodes, places);
+    lay_places(nodes, places, score);
     mend_all(nodes, places);
 }
 
 /// Writes the nodes of the places.
-fn lay_places(nodes: &mut [Entry], places: u32)
+fn lay_places(nodes: &mut [Entry], places: u32, score: u32)
     requires some { 1 ≤ places }
     requires few { places < 2 ^ 31 }
     requires long { length nodes.old ≡ 2 * places }
     ensures nodes { AreNodes places nodes.new }
-    ensures scores { scores_of places nodes.new ≡ replicate places 0 }
+    ensures scores { scores_of places nodes.new ≡ replicate places score }
 {
     for place in 0..places {
-        nodes[(places + place) as usize] = Entry { place, score: 0 };
+        nodes[(places + place) as usize] = Entry { place, score };
     }
 }
 

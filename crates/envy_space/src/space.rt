@@ -6,6 +6,7 @@ ghost use Rattle.envy_layout.specs.Sound.{IsPlaced, IsSpare};
 ghost use Rattle.envy_space.specs.Pool.{Pool, IsPool, PoolAgrees, empty_pool, free_rows, dead_rows, free_between, dead_at, with_filled, with_kept, noted_kept, noted_dead, StandsAt};
 ghost use Rattle.envy_space.specs.Winners.{Wins};
 
+use crate::flags::Flags;
 use crate::order::Order;
 use crate::winners::Winners;
 use envy_base::{NoMemory, Shape};
@@ -22,6 +23,9 @@ pub struct Space {
     order: Order,
     /// The dead rows of each segment in that order.
     dead: Winners,
+    /// Which have free rows, and which have dead ones, in that order.
+    pub(crate) has_free: Flags,
+    pub(crate) has_dead: Flags,
 }
 
 impl Model for Space {
@@ -32,7 +36,7 @@ impl Model for Space {
 
     ghost view = { λ a. record { shape = a.shape; fills = a.fills.items; kept = a.kept.items; positions = take (a.shape.segments - 1) a.order } };
 
-    ghost invariant = { λ a. IsSpace a.shape a.fills.items a.kept.items a.order a.dead };
+    ghost invariant = { λ a. IsSpace a.shape a.fills.items a.kept.items a.order a.dead a.has_free a.has_dead };
 }
 
 impl Space {
@@ -46,13 +50,17 @@ impl Space {
         let fills = vec![in alloc; 0; shape.segments as usize]?;
         let kept = vec![in alloc; 0; shape.segments as usize]?;
         let order = Order::new(alloc, shape.segments)?;
-        let dead = Winners::new(alloc, shape.segments)?;
+        let dead = Winners::new(alloc, shape.segments, 0)?;
+        let has_free = Flags::new(alloc, shape.segments, shape.rows)?;
+        let has_dead = Flags::new(alloc, shape.segments, 0)?;
         Ok(Space {
             shape,
             fills,
             kept,
             order,
             dead,
+            has_free,
+            has_dead,
         })
     }
 
@@ -102,6 +110,14 @@ impl Space {
             free += self.free(self.segment_at(position));
         }
         free
+    }
+
+    /// How many positions there are.
+    pub fn positions(&self) -> u32
+        ensures positions { result ≡ self.now.shape.segments - 1 }
+        ensures pool { IsPool self.now }
+    {
+        self.shape.segments - 1
     }
 
     /// The segment at a position.
@@ -179,11 +195,13 @@ impl Space {
         self.fills.fill(0);
         self.kept.fill(0);
         self.order.clear();
-        self.dead.clear();
+        self.dead.fill(0);
+        self.has_free.fill(self.shape.rows);
+        self.has_dead.fill(0);
     }
 
     /// Lets a segment stand at a position. The segment of the position stands where that one stood.
-    pub(crate) fn stand(&mut self, position: u32, segment: u32)
+    pub fn stand(&mut self, position: u32, segment: u32)
         requires position { position < self.old.shape.segments - 1 }
         requires segment { segment < self.old.shape.segments }
         ensures { StandsAt position segment self.old self.new }
@@ -191,10 +209,12 @@ impl Space {
         let place = self.order.place_of(segment);
         self.order.exchange(position, place);
         self.dead.exchange(position, place);
+        self.has_free.exchange(position, place);
+        self.has_dead.exchange(position, place);
     }
 
     /// Writes the fill of a segment.
-    pub(crate) fn set_fill(&mut self, segment: u32, fill: u32)
+    pub fn set_fill(&mut self, segment: u32, fill: u32)
         requires segment { segment < self.old.shape.segments }
         requires fits { fill ≤ self.old.shape.rows }
         requires kept { slice_index self.old.kept segment ≤ fill }
@@ -202,7 +222,10 @@ impl Space {
     {
         self.fills[segment as usize] = fill;
         let dead = fill - self.kept[segment as usize];
-        self.dead.set(self.order.place_of(segment), dead);
+        let place = self.order.place_of(segment);
+        self.dead.set(place, dead);
+        self.has_free.set(place, self.shape.rows - fill);
+        self.has_dead.set(place, dead);
     }
 
     /// Writes how many rows of a segment are kept.
@@ -213,6 +236,8 @@ impl Space {
     {
         self.kept[segment as usize] = kept;
         let dead = self.fills[segment as usize] - kept;
-        self.dead.set(self.order.place_of(segment), dead);
+        let place = self.order.place_of(segment);
+        self.dead.set(place, dead);
+        self.has_dead.set(place, dead);
     }
 }

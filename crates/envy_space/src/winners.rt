@@ -29,22 +29,22 @@ impl Model for Winners {
 }
 
 impl Winners {
-    /// So many places, each with the score 0.
-    pub fn new(alloc: Global, places: u32) -> Result<Winners, NoMemory>
+    /// So many places, each with this score.
+    pub fn new(alloc: Global, places: u32, score: u32) -> Result<Winners, NoMemory>
         requires some { 1 ≤ places }
         requires few { places < 2 ^ 31 }
-        ensures { IfOk result (λ winners. winners ≡ replicate places 0) }
+        ensures { IfOk result (λ winners. winners ≡ replicate places score) }
     {
         let mut nodes = vec![in alloc; Entry::NOBODY; 2 * places as usize]?;
-        lay(&mut nodes, places);
+        lay(&mut nodes, places, score);
         Ok(Winners { places, nodes })
     }
 
-    /// Makes each score 0.
-    pub fn clear(&mut self)
-        ensures { self.new ≡ replicate (length self.old) 0 }
+    /// Gives each place this score.
+    pub fn fill(&mut self, score: u32)
+        ensures { self.new ≡ replicate (length self.old) score }
     {
-        lay(&mut self.nodes, self.places);
+        lay(&mut self.nodes, self.places, score);
     }
 
     /// Writes the score of a place.

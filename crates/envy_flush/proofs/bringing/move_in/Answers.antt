@@ -19,7 +19,7 @@ returns-clause-steady g c =
     let n = c.requires.near in
     let e = c.in_ok-move_to_frame.ensures in
     record {
-      fits = Fits-near old new x _ c.args.page c.args.frame c.args.from n e.writes.1 c.note_left.ensures c.retarget.ensures.size refl refl refl refl;
+      fits = Fits-near old new x _ c.args.page c.args.frame c.args.from n e.writes.1 c.note_left.ensures c.retarget.ensures.size refl refl refl;
       agrees = λ on. Agrees-near old new x _ c.args.page c.args.frame c.args.from n e.writes.1 c.note_left.ensures (c.retarget.ensures.agrees old.shape.pages old.fields.places (Near.current n)) refl refl;
     }
 

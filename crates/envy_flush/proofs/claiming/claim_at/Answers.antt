@@ -18,7 +18,7 @@ returns-clause-steady g c =
     let free : IsFreeOf old.fields.job c.segment_at.result = subst (λ (s : ℕ). IsFreeOf old.fields.job s) (sym c.segment_at.ensures.segment) c.requires.free in
     let chooser = ap (λ (h : History). h.positions) c.note_flush.ensures ∙ flushed-positions c.args.parts.now.chooser c.args.position in
     record {
-      fits = Fits-moved old.shape new.shape c.args.parts.now _ shape r.fits e.shape refl refl chooser refl refl;
+      fits = Fits-moved old.shape new.shape c.args.parts.now _ shape r.fits e.shape refl refl chooser refl;
       agrees = λ on. Agrees-claimed old new c.args.parts.now _ c.segment_at.result c.in_ok-row.row c.args.page r.sound r.agrees placed free e.claims e.claimed (e.agrees on) refl refl refl;
     }
 

@@ -65,6 +65,6 @@ returns-clause-steady g c =
     let o = c.in_ok-restore_all.ensures in
     let shape = SameWords.shape e.same ∙ SameDurable.shape (a.durable r.sound) in
     record {
-      fits = Fits-moved old.shape new.shape c.args.parts.now _ shape r.fits a.shape a.count (Rests.size a.rests) refl refl refl;
+      fits = Fits-moved old.shape new.shape c.args.parts.now _ shape r.fits a.shape a.count (Rests.size a.rests) refl refl;
       agrees = λ on. let moved = if-on c.set_unused_slot.result new.on _ e.fields e.off on in let was : IsTrue mid.on = ap (λ (z : Chart). z.on) (sym moved) ∙ on in PartsAgree-restored old mid new c.args.parts.now _ c.args.t r.agrees o.restores o.unused (a.pool was) (a.held was) (a.current was) (a.parted was) moved refl;
     }

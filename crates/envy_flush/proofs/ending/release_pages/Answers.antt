@@ -42,7 +42,7 @@ returns-clause-steady g c =
     let o = c.in_ok-release_all.ensures in
     let shape = SameWords.shape e.same ∙ SameWords.shape (a.same r.sound) in
     record {
-      fits = Fits-moved old.shape new.shape c.args.parts.now _ shape r.fits a.shape refl refl refl refl refl;
+      fits = Fits-moved old.shape new.shape c.args.parts.now _ shape r.fits a.shape refl refl refl refl;
       agrees = λ on. let moved = if-on c.set_unused_slot.result new.on _ e.fields e.off on in let was : IsTrue mid.on = ap (λ (z : Chart). z.on) (sym moved) ∙ on in PartsAgree-released old mid new c.args.parts.now _ c.args.t r.agrees o.releases o.unused (a.pool was) (a.parted was) moved refl;
     }
 

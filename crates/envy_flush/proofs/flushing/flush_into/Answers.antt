@@ -14,7 +14,7 @@ returns-in_err-program_copy-clause-steady g c =
     let e = c.program_copy.ensures in
     let shape : new.shape ≡ old.shape = Framed.shape (Stays.framed (Same.stays e.same)) in
     record {
-      fits = Fits-moved old.shape new.shape x _ shape r.fits refl refl refl refl refl refl;
+      fits = Fits-moved old.shape new.shape x _ shape r.fits refl refl refl refl refl;
       agrees = λ on. Agrees-programmed old new x _ c.args.page c.args.row r.sound r.agrees c.requires.granted shape e.fields e.others refl refl refl refl;
     }
 
@@ -29,7 +29,7 @@ move_out-requires-clause-ready g c =
     record {
       on = c.in_ok-program_copy.ensures.on;
       sound = Stays.sound (Same.stays e.same);
-      fits = Fits-moved old.shape new.shape x _ shape r.fits refl refl refl refl refl refl;
+      fits = Fits-moved old.shape new.shape x _ shape r.fits refl refl refl refl refl;
       agrees = Agrees-programmed old new x _ c.args.page c.args.row r.sound r.agrees c.requires.granted shape e.fields e.others refl refl refl refl;
     }
 

@@ -33,7 +33,7 @@ returns-clause-steady g c =
     let long = Places.long (Sound.places r.sound) in
     let shape : new.shape ≡ old.shape = ap (λ (z : Chart). z.shape) e.fields in
     record {
-      fits = Fits-moved old.shape new.shape x _ shape r.fits (ap (λ (p : Pool). p.shape) c.note_kept.ensures) (ap (λ (o : Order). o.count) c.give_back.ensures) c.retarget.ensures.size refl refl refl;
+      fits = Fits-moved old.shape new.shape x _ shape r.fits (ap (λ (p : Pool). p.shape) c.note_kept.ensures) (ap (λ (o : Order). o.count) c.give_back.ensures) c.retarget.ensures.size refl refl;
       agrees = λ on. Agrees-rowed old new x _ c.args.page c.args.frame c.args.row r.agrees long c.requires.page c.requires.here c.requires.granted e.fields c.note_kept.ensures (c.retarget.ensures.agrees old.shape.pages old.fields.places r.agrees.current) (ap (λ (o : Order). o.held) c.give_back.ensures) refl;
     }
 

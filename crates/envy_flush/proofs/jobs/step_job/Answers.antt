@@ -14,7 +14,7 @@ returns-clause-steady g c =
     let e = c.step.ensures in
     let shape = shape-step old new (e.same r.sound) in
     record {
-      fits = Fits-moved old.shape new.shape c.args.parts.now _ shape r.fits e.shape refl (Rests.size e.rests) refl refl refl;
+      fits = Fits-moved old.shape new.shape c.args.parts.now _ shape r.fits e.shape refl (Rests.size e.rests) refl refl;
       agrees = λ on. Agrees-stepped old new c.args.parts.now _ r.agrees shape (e.pool on) (e.cache on) (e.plan on) (e.parted on) (e.frames on) refl;
     }
 

@@ -16,7 +16,7 @@ returns-then-not-erasing-clause-steady g c =
     let new = chart (g.B.Board.state c.step_job.new.board) in
     let s = c.step_job.ensures.steady in
     record {
-      fits = Fits-staged new.shape c.step_job.new.parts _ s.fits (no-stages new.shape _ c.clear.ensures) refl refl refl refl refl;
+      fits = Fits-staged new.shape c.step_job.new.parts _ s.fits (no-stages new.shape _ c.clear.ensures) refl refl refl refl;
       agrees = λ on. let a = s.agrees on in record { pool = a.pool; held = a.held; current = a.current; job = a.job; two = a.two };
     }
 

@@ -18,7 +18,7 @@ returns-in_err-begin-clause-steady g c =
     let r = c.requires.ready in
     let shape : new.shape ≡ old.shape = Framed.shape (Stays.framed (Same.stays (c.begin.ensures.same r.sound))) in
     record {
-      fits = Fits-next old.shape new.shape c.args.parts.now _ shape r.fits c.next.ensures.rest (c.next.ensures.below _ (AreStages.within (Fits.stages r.fits))).1 refl refl refl refl refl;
+      fits = Fits-next old.shape new.shape c.args.parts.now _ shape r.fits c.next.ensures.rest (c.next.ensures.below _ (AreStages.within (Fits.stages r.fits))).1 refl refl refl refl;
       agrees = λ on. absurd (let no : false ≡ true = sym c.in_err-begin.ensures.off ∙ on in cc);
     }
 
@@ -29,6 +29,6 @@ returns-clause-steady g c =
     let r = c.requires.ready in
     let shape : new.shape ≡ old.shape = Framed.shape (Stays.framed (Same.stays (c.begin.ensures.same r.sound))) in
     record {
-      fits = Fits-next old.shape new.shape c.args.parts.now _ shape r.fits c.next.ensures.rest (c.next.ensures.below _ (AreStages.within (Fits.stages r.fits))).1 refl refl refl refl refl;
+      fits = Fits-next old.shape new.shape c.args.parts.now _ shape r.fits c.next.ensures.rest (c.next.ensures.below _ (AreStages.within (Fits.stages r.fits))).1 refl refl refl refl;
       agrees = λ on. Agrees-begun old new c.args.parts.now _ _ r.agrees c.in_ok-begin.ensures.fields (c.begin.ensures.agrees on) refl refl refl;
     }

@@ -13,6 +13,6 @@ returns-clause-steady g c =
     let e = c.in_ok-shade_places.ensures in
     let shape : new.shape ≡ old.shape = ap (λ (z : Chart). z.shape) e.fields in
     record {
-      fits = Fits-moved old.shape new.shape c.args.parts.now _ shape n.fits refl refl c.retarget.ensures.size refl refl refl;
+      fits = Fits-moved old.shape new.shape c.args.parts.now _ shape n.fits refl refl c.retarget.ensures.size refl refl;
       agrees = λ on. Agrees-shaded old new c.args.parts.now _ c.args.owned.now c.args.slot c.args.page c.args.frame c.args.from n c.requires.may e.fields (c.retarget.ensures.agrees old.shape.pages old.fields.places (Near.current n)) refl refl refl;
     }

@@ -1,48 +1,50 @@
-use Rattle.std.proofs.Common.{◌≡◌, ◌≢◌, ◌∙◌, ◌-◌, ◌<◌, Bool, true, false, List, get_or, Some, Option, ℕ, arith, refl, subst, ap}
+use Rattle.std.proofs.Common.{◌≡◌, ◌<◌, ◌-◌, ℕ, Option, None, Some, MatchOption, IfSome, get_or, ap, arith}
 use Rattle.envy_base.specs.declared.shape.Shape.{Shape}
-use Rattle.envy_policy.specs.History.{first_of, end_of}
-use Rattle.envy_flush.proofs.AvailLemmas.{NoneBelow-start, lowest-found}
-use Rattle.std.specs.Prelude.{◌==◌, not}
-use Rattle.std.specs.Option.{option_eq}
-use Rattle.std.proofs.lemmas.Bool.{eq-eqb}
-use Rattle.envy_map.specs.Fields.{chart}
+use Rattle.envy_map.specs.Fields.{Chart, chart}
+use Rattle.envy_policy.specs.Choice.{IsLeast}
+use Rattle.envy_policy.specs.History.{History, partition_of}
 use Rattle.envy_reloc.specs.Plan.{IsFreeOf}
+use Rattle.envy_space.specs.Pool.{Pool}
+use Rattle.envy_choosing.specs.Choosing.{IsFreeBeside}
+use Rattle.envy_flush.specs.Flushing.{IsNoneAvailable, IsLowestAvailable}
+use Rattle.envy_flush.proofs.AvailLemmas.{Spares, found-available}
 use Rattle.envy_flush.proofs.rows.usable.Goals as goal
 
-pub returns-then-free-gt0-clause-free : goal.returns-then-free-gt0-clause-free
-returns-then-free-gt0-clause-free g c =
-    let old = chart (g.B.Board.state c.args.board.now) in
-    let s = c.segment_at-segment.result in
-    let differs : c.in_ok-relocated.relocated ≢ Some s = (λ is.
-    let at = ap (λ (r : Option ℕ). not (option_eq (λ (x y : ℕ). x == y) r (Some s))) is in
-    let same : (s == s) ≡ true = eq-eqb s s refl in
-    let no : true ≡ false = c.if-ne.ensures ∙ at ∙ ap (λ (b : Bool). not b) same in
-    cc) in
-    subst (λ (x : ℕ). IsFreeOf old.fields.job x) c.segment_at-segment.ensures.segment (c.in_ok-relocated.ensures.others s differs)
+within : (h : History) (home : ℕ) (c : Chart) (found : Option ℕ) → MatchOption found (IsNoneAvailable h home c) (IsLowestAvailable h home c) → IfSome found (λ k. k < c.shape.segments - 1)
+within h home c None none = tt
+within h home c (Some k) is = is.is.position
 
-pub loop-position-init : goal.loop-position-init
-loop-position-init g c = NoneBelow-start c.args.parts.now.chooser c.args.home (chart (g.B.Board.state c.args.board.now)) c.bounds-first.result.0
+abbrev Answer : History → Pool → ℕ → Option ℕ → Option ℕ → Type 0
+Answer h pool home avoided found = MatchOption found ((k : ℕ) → IsFreeBeside h pool (partition_of h home) avoided k → ⊥) (IsLeast (IsFreeBeside h pool (partition_of h home) avoided) (λ k. k))
 
-pub returns-then-free-gt0-clause-lowest : goal.returns-then-free-gt0-clause-lowest
-returns-then-free-gt0-clause-lowest g c =
-    let old = chart (g.B.Board.state c.args.board.now) in
+room : (h : History) (pool : Pool) (home rows : ℕ) (avoided found : Option ℕ) → Answer h pool home avoided found → pool.shape.rows ≡ rows → IfSome found (λ k. get_or pool.fills (get_or pool.positions k 0) 0 < rows)
+room h pool home rows avoided None none same = tt
+room h pool home rows avoided (Some k) is same = let some = IsFreeBeside.free is.holds in omega arith
+
+free : (h : History) (pool : Pool) (home : ℕ) (c : Chart) (avoided found : Option ℕ) → Answer h pool home avoided found → Spares c avoided → IfSome found (λ k. IsFreeOf c.fields.job (get_or pool.positions k 0))
+free h pool home c avoided None none spares = tt
+free h pool home c avoided (Some k) is spares = spares (get_or pool.positions k 0) (IsFreeBeside.other is.holds)
+
+pub returns-clause-lowest : goal.returns-clause-lowest
+returns-clause-lowest g c =
     let x = c.args.parts.now in
-    let h = x.chooser in
-    let r = c.requires.ready in
-    let pool = r.agrees.pool in
-    let k = c.loop-position.position in
-    let s = c.segment_at-segment.result in
-    let e = c.bounds-first.ensures in
-    let differs : c.in_ok-relocated.relocated ≢ Some s = (λ is.
-    let at = ap (λ (r : Option ℕ). not (option_eq (λ (x y : ℕ). x == y) r (Some s))) is in
-    let same : (s == s) ≡ true = eq-eqb s s refl in
-    let no : true ≡ false = c.if-ne.ensures ∙ at ∙ ap (λ (b : Bool). not b) same in
-    cc) in
-    let own : s ≡ get_or old.fields.positions k 0 = c.segment_at-segment.ensures.segment ∙ ap (λ (xs : List ℕ). get_or xs k 0) pool.positions in
-    let free : IsFreeOf old.fields.job (get_or old.fields.positions k 0) = subst (λ (y : ℕ). IsFreeOf old.fields.job y) own (c.in_ok-relocated.ensures.others s differs) in
-    let some : 0 < x.space.shape.rows - get_or x.space.fills s 0 = subst (λ (n : ℕ). 0 < n) c.free.ensures c.if-free-gt0.true in
-    let rows : x.space.shape.rows ≡ old.shape.rows = ap (λ (sh : Shape). sh.rows) r.fits.pool in
-    let same : get_or x.space.fills s 0 ≡ get_or old.fields.fills s 0 = ap (λ (xs : List ℕ). get_or xs s 0) pool.fills in
-    let room : get_or old.fields.fills (get_or old.fields.positions k 0) 0 < old.shape.rows = subst (λ (y : ℕ). get_or old.fields.fills y 0 < old.shape.rows) own (omega arith) in
-    lowest-found h c.args.home old c.bounds-first.result.0 c.bounds-first.result.1 k e.whole (e.first ∙ ap (λ (n : ℕ). first_of h n) c.partition_of.ensures.value) (e.end ∙ ap (λ (n : ℕ). end_of h n) c.partition_of.ensures.value) r.fits.positions
-    c.loop-position.auto.position (let test = c.loop-position-test.true in test) room free c.loop-position.invariant
+    let e = c.in_ok-relocated.ensures in
+    found-available x.chooser c.args.home (chart (g.B.Board.state c.args.board.now)) x.space c.in_ok-relocated.relocated c.free_beside.result c.requires.ready.agrees.pool e.others e.is c.free_beside.ensures
+
+pub returns-clause-within : goal.returns-clause-within
+returns-clause-within g c =
+    let x = c.args.parts.now in
+    let old = chart (g.B.Board.state c.args.board.now) in
+    let e = c.in_ok-relocated.ensures in
+    within x.chooser c.args.home old c.free_beside.result (found-available x.chooser c.args.home old x.space c.in_ok-relocated.relocated c.free_beside.result c.requires.ready.agrees.pool e.others e.is c.free_beside.ensures)
+
+pub returns-clause-room : goal.returns-clause-room
+returns-clause-room g c =
+    let x = c.args.parts.now in
+    let old = chart (g.B.Board.state c.args.board.now) in
+    room x.chooser x.space c.args.home old.shape.rows c.in_ok-relocated.relocated c.free_beside.result c.free_beside.ensures (ap (λ (sh : Shape). sh.rows) c.requires.ready.fits.pool)
+
+pub returns-clause-free : goal.returns-clause-free
+returns-clause-free g c =
+    let x = c.args.parts.now in
+    free x.chooser x.space c.args.home (chart (g.B.Board.state c.args.board.now)) c.in_ok-relocated.relocated c.free_beside.result c.free_beside.ensures c.in_ok-relocated.ensures.others

@@ -30,7 +30,7 @@ returns-clause-steady g c =
     let s : Shades old c.args.page c.args.frame c.args.row c.args.slot = Shades-given old c.args.page c.args.frame c.args.row c.args.slot c.args.owned.now r.sound c.requires.may c.requires.here c.requires.granted c.requires.copy in
     let shape : new.shape ≡ old.shape = ap (λ (z : Chart). z.shape) e.fields in
     record {
-      fits = Fits-moved old.shape new.shape x _ shape r.fits (ap (λ (p : Pool). p.shape) c.note_kept.ensures) refl refl refl refl refl;
+      fits = Fits-moved old.shape new.shape x _ shape r.fits (ap (λ (p : Pool). p.shape) c.note_kept.ensures) refl refl refl refl;
       agrees = λ on. Agrees-shade old new x _ c.args.page c.args.frame c.args.row c.args.slot s r.agrees e.fields c.note_kept.ensures refl refl refl;
     }
 

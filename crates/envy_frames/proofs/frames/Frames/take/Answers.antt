@@ -1,11 +1,29 @@
-use Rattle.std.proofs.Common.{◌≡◌, ◌++◌, ◌∷◌, [], length, ap, arith}
-use Rattle.std.proofs.lemmas.List.{length_push}
-use Rattle.circular_buffer.specs.Buffer.{buffer}
+use Rattle.std.proofs.Common.{◌≡◌, ◌<◌, ◌++◌, ◌∷◌, [], ℕ, List, length, sym, subst}
+use Rattle.std.specs.List.{All}
+use Rattle.envy_frames.specs.declared.held.Held.{Held}
+use Rattle.envy_frames.specs.Entries.{AreStamped, IsLiveFirst, held_in}
+use Rattle.envy_frames.specs.Order.{IsUnheld, IsFrames}
+use Rattle.envy_frames.proofs.Lists.{All-last}
 use Rattle.envy_frames.proofs.Stacks.{IsFrames-taken}
-use Rattle.envy_frames.proofs.Marks.{with_placed}
+use Rattle.envy_frames.proofs.Rings.{IsRing-taken}
 use Rattle.envy_frames.proofs.frames.Frames.take.Goals as goal
 
 pub invariant_of-self-2 : goal.invariant_of-self-2
 invariant_of-self-2 c =
-    let put : c.try_push_back-newest.new.self ≡ buffer (c.self.inside.held.items ++ (record { frame = c.in_ok-frame.frame; page = c.args.page; home = c.args.home }) ∷ []) c.self.inside.held.capacity = with_placed c.self.inside.held c.try_push_back-newest.new.self (record { frame = c.in_ok-frame.frame; page = c.args.page; home = c.args.home }) c.try_push_back-newest.result c.try_push_back-newest.ensures.variant c.try_push_back-newest.ensures.ok (omega (arith, c.self.invariant.whole, ap length c.in_ok-frame.ensures.items, length_push c.pop.new.self.items c.in_ok-frame.frame)) in
-    rw (put, c.pop.ensures.capacity) (IsFrames-taken (record { held = c.self.inside.held.items; count = c.self.inside.held.capacity }) c.self.inside.free.items c.pop.new.self.items _ _ c.in_ok-frame.frame c.args.page c.args.home c.in_ok-frame.ensures.items c.self.invariant)
+    let inside = c.self.inside in
+    let stamps = inside.stamps.items in
+    let held = held_in stamps inside.entries.items in
+    let new : Held = record { frame = c.in_ok-frame.frame; page = c.args.page; home = c.args.home } in
+    let order = c.self.invariant.0 in
+    let top = c.in_ok-frame.ensures.items in
+    let unheld : IsUnheld held new.frame = All-last (IsUnheld held) c.pop.new.self.items new.frame (subst (All (IsUnheld held)) top order.unheld) in
+    let low : new.frame < length stamps = All-last (λ x. x < length stamps) c.pop.new.self.items new.frame (subst (All (λ x. x < length stamps)) top order.below) in
+    let read = c.deref.ensures.value in
+    let joined : held_in stamps c.append.new.entries.items ≡ held ++ new ∷ [] = subst (λ (ss : List ℕ). held_in ss c.append.new.entries.items ≡ held_in ss inside.entries.items ++ new ∷ []) read c.append.ensures.held in
+    let frames : IsFrames (record { held = held ++ new ∷ []; count = length stamps }) c.pop.new.self.items _ inside.marks.items = IsFrames-taken (record { held = held; count = length stamps }) inside.free.items c.pop.new.self.items _ _ new.frame new.page new.home top order in (
+      rw (joined, c.pop.ensures.capacity) frames,
+      IsRing-taken inside.entries c.append.new.entries stamps inside.homes.items new c.self.invariant.1 low unheld
+          (subst (AreStamped c.append.new.entries) read c.append.ensures.stamped) joined
+          (subst (λ (ss : List ℕ). IsLiveFirst ss c.append.new.entries.items) read (c.append.ensures.live (subst (λ (ss : List ℕ). IsLiveFirst ss inside.entries.items) (sym read) c.self.invariant.1.live)))
+          c.append.ensures.capacity,
+    )

@@ -1,0 +1,33 @@
+use Rattle.std.proofs.Common.{◌∙◌, slice_index, sym, subst}
+use Rattle.envy_policy.specs.declared.setup.Policy.{Policy}
+use Rattle.envy_policy.specs.Choice.{HasRows, IsLeast, IsMost, IsVictim, steps}
+use Rattle.envy_policy.proofs.Choosing.{in-turn}
+use Rattle.envy_choosing.specs.Choosing.{deads}
+use Rattle.envy_choosing.proofs.ChoosingLemmas.{found-some}
+use Rattle.envy_choosing.proofs.choosing.victim.Goals as goal
+
+pub unwrap-requires : goal.unwrap-requires
+unwrap-requires c =
+    let h = c.args.chooser.now in
+    let dead = deads c.args.space.now in
+    found-some (HasRows h dead c.args.partition) (IsMost (HasRows h dead c.args.partition) (slice_index dead)) c.most_dead.result c.most_dead.ensures c.requires.some
+
+pub unwrap-requires-in_default : goal.unwrap-requires-in_default
+unwrap-requires-in_default c =
+    let h = c.args.chooser.now in
+    let dead = deads c.args.space.now in
+    found-some (HasRows h dead c.args.partition) (IsLeast (HasRows h dead c.args.partition) (steps h c.args.partition)) c.next_in_turn.result c.next_in_turn.ensures c.requires.some
+
+pub returns-in-Greedy : goal.returns-in-Greedy
+returns-in-Greedy c =
+    let h = c.args.chooser.now in
+    let dead = deads c.args.space.now in
+    let most : IsMost (HasRows h dead c.args.partition) (slice_index dead) c.unwrap.result = rw c.unwrap.ensures at c.most_dead.ensures in
+    subst (λ (p : Policy). IsVictim p h dead c.args.partition c.unwrap.result) (sym (sym c.policy.ensures ∙ c.in-Greedy.is)) most
+
+pub returns-in_default : goal.returns-in_default
+returns-in_default c =
+    let h = c.args.chooser.now in
+    let dead = deads c.args.space.now in
+    let next : IsLeast (HasRows h dead c.args.partition) (steps h c.args.partition) c.unwrap-in_default.result = rw c.unwrap-in_default.ensures at c.next_in_turn.ensures in
+    in-turn h.policy h dead c.args.partition c.unwrap-in_default.result (λ e. c.in_default.not-Greedy (c.policy.ensures ∙ e)) next

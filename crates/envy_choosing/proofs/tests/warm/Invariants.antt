@@ -1,0 +1,8 @@
+use Rattle.std.proofs.Common.{◌≡◌}
+use Rattle.envy_choosing.proofs.tests.warm.Given as goal
+
+abbrev pub invariant-loop-flush : goal.invariant-loop-flush
+invariant-loop-flush l = l.chooser.positions ≡ l.initial.chooser.positions
+
+abbrev pub invariant-loop-clean : goal.invariant-loop-clean
+invariant-loop-clean l = l.chooser.positions ≡ l.initial.chooser.positions

@@ -1,0 +1,2 @@
+pub mod AnyBoard
+pub mod Counted

@@ -1,0 +1,5 @@
+use Rattle.envy_part.proofs.RowLaws.{Anded}
+use Rattle.envy_part.proofs.rows.anded.Given as goal
+
+abbrev pub invariant-loop-i : goal.invariant-loop-i
+invariant-loop-i l = Anded l.i l.row l.page l.both

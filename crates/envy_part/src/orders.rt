@@ -1,0 +1,34 @@
+// Orders to a port, each of which is looked at when the port returns.
+ghost use Rattle.std.specs.Prelude.{◌≡◌, ◌<◌, IsTrue, length};
+ghost use Rattle.envy_base.specs.State.{IsPage};
+ghost use Rattle.envy_bank.specs.Lanes.{row_from};
+ghost use Rattle.envy_part.specs.Part.{ArePages, AreOnes};
+
+use crate::Port;
+use crate::rows::{bytes_of, words};
+
+const ONES: [u64; 32] = [u64::MAX; 32];
+
+/// Orders that a row become the page, and answers whether it is.
+pub fn program<P: Port>(port: &mut P, row: &mut [u8; 256], page: &[u64; 32]) -> bool
+    ensures page { IsPage (row_from row.new) }
+    ensures held { IsTrue result → row_from row.new ≡ page.now }
+{
+    port.program(row, &bytes_of(page));
+    let found = words(row);
+    found == *page
+}
+
+/// Orders that the rows become all ones, and answers whether they are.
+pub fn erase<P: Port>(port: &mut P, rows: &mut [[u8; 256]]) -> bool
+    ensures long { length rows.new ≡ length rows.old }
+    ensures pages { ArePages rows.new }
+    ensures held { IsTrue result → AreOnes rows.new }
+{
+    port.erase(rows);
+    let mut held = true;
+    for q in 0..rows.len() {
+        held &= words(&rows[q]) == ONES;
+    }
+    held
+}

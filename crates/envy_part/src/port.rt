@@ -1,0 +1,37 @@
+ghost use Rattle.std.specs.Prelude.{◌≡◌, length};
+
+/// What carries out orders on a part that is mapped into memory.
+///
+/// Nothing is asked of it but that it keeps to the row or the rows that it is lent: no clause says what they hold
+/// afterwards, and whoever orders looks. A port returns nothing, so it has nothing to tell that could be believed.
+pub trait Port {
+    /// Orders that a row become a page, of 256 bytes; each bit that the page sets is set in the row already. When it
+    /// returns, the row reads as the part holds it.
+    fn program(&mut self, row: &mut [u8; 256], page: &[u8; 256]);
+
+    /// Orders that rows become all ones. When it returns, they read as the part holds them.
+    fn erase(&mut self, rows: &mut [[u8; 256]])
+        ensures { length rows.new ≡ length rows.old };
+}
+
+/// The port of a program in C, which serves two calls in the manner of `write` and `read`.
+///
+/// The first brings the order: 256 bytes, a page, or one byte of ones, an erase. The second has it carried out, and
+/// its buffer is the map itself: the row, or the rows.
+#[derive(Drop)]
+pub struct IoPort {
+    /// The number that tells one part from another.
+    pub number: i32,
+}
+
+impl Port for IoPort {
+    fn program(&mut self, row: &mut [u8; 256], page: &[u8; 256]) {
+        io::write_all(self.number, page);
+        io::read_full(self.number, row);
+    }
+
+    fn erase(&mut self, rows: &mut [[u8; 256]]) {
+        io::write_all(self.number, &[0xFF]);
+        io::read_full(self.number, rows.as_flattened_mut());
+    }
+}

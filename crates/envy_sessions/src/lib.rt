@@ -1,0 +1,24 @@
+//! Sessions with a memory: tables of calls, failures of power among them, and the answer that each must have.
+//!
+//! One function makes the steps of all sessions. The board under them also sees whether a row is programmed twice
+//! between erases, or out of order within its segment.
+#![tactic(auto)]
+
+#[cfg(test)]
+mod cuts;
+#[cfg(test)]
+mod drawn;
+#[cfg(test)]
+mod formats;
+#[cfg(test)]
+mod ordered;
+#[cfg(test)]
+mod orders;
+#[cfg(test)]
+mod rules;
+#[cfg(test)]
+mod session;
+#[cfg(test)]
+mod setups;
+#[cfg(test)]
+mod steps;
