@@ -1,5 +1,5 @@
 -- A file while a journal is made in it.
-use Rattle.std.proofs.Common.{◌≡◌, ◌≢◌, ◌⊎◌, inl, inr, ℕ, ◌≤◌, false, List, [], ◌∷◌, ◌++◌, length, get_or, take, drop, refl, sym, ◌∙◌, ap, subst, arith, length-append, length-take}
+use Rattle.std.proofs.Common.{◌≡◌, ◌≢◌, inl, inr, ℕ, ◌≤◌, false, List, [], ◌∷◌, ◌++◌, length, get_or, take, drop, refl, sym, ◌∙◌, ap, subst, arith, length-append, length-take}
 use Rattle.std.proofs.lemmas.Bool.{cases_eq}
 use Rattle.std.proofs.lemmas.List.{take_at, take_all}
 use Rattle.envy_base.specs.declared.shape.Shape.{Shape}
@@ -7,7 +7,6 @@ use Rattle.envy_device.specs.Device.{Holds, Torn, Follows, Only}
 use Rattle.envy_journal.specs.Head.{StandsFor, IsUnmade, IsNewOrUnmade, head_bytes}
 use Rattle.envy_journal.specs.Log.{IsMending}
 use Rattle.envy_journal.specs.Making.{HasFirst}
-use Rattle.envy_journal.specs.Reading.{operations}
 use Rattle.envy_journal.proofs.Bytes.{gate_torn, gate_written}
 use Rattle.envy_journal.proofs.Parsed.{shut, leads_over, leads_end}
 

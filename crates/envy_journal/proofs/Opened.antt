@@ -1,12 +1,11 @@
 -- A file that was mended, as a journal begins with it.
-use Rattle.std.proofs.Common.{◌≡◌, ℕ, ◌+◌, ◌≤◌, false, List, [], ◌∷◌, ◌++◌, length, take, refl, sym, ◌∙◌, ap, subst, arith}
+use Rattle.std.proofs.Common.{◌≡◌, ℕ, ◌≤◌, false, List, [], ◌∷◌, ◌++◌, length, take, refl, sym, ◌∙◌, ap, subst, arith}
 use Rattle.std.proofs.lemmas.List.{take-take, take_at}
 use Rattle.envy_base.specs.declared.shape.Shape.{Shape}
 use Rattle.envy_device.specs.Device.{Only, LeavesOnly}
 use Rattle.envy_journal.specs.declared.operation.Operation.{Operation}
 use Rattle.envy_journal.specs.Found.{IsMended, ReadsAlike}
 use Rattle.envy_journal.specs.Head.{StandsFor, head_bytes}
-use Rattle.envy_journal.specs.Journal.{IsAtRest}
 use Rattle.envy_journal.specs.Log.{Begins}
 use Rattle.envy_journal.specs.Reading.{operations, Leads}
 use Rattle.envy_journal.proofs.Moments.{started, widened}

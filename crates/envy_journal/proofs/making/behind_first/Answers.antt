@@ -1,4 +1,4 @@
-use Rattle.std.proofs.Common.{◌∙◌, ℕ, ◌≤◌, drop, take, arith, length-drop}
+use Rattle.std.proofs.Common.{◌∙◌, drop, take, arith, length-drop}
 use Rattle.std.proofs.lemmas.List.{take_all}
 use Rattle.envy_journal.proofs.Headed.{slid}
 use Rattle.envy_journal.proofs.making.behind_first.Goals as goal

@@ -1,4 +1,4 @@
-use Rattle.std.proofs.Common.{◌≡◌, ◌∙◌, ◌∷◌, [], ◌++◌, ℕ, List, ap, take, subst}
+use Rattle.std.proofs.Common.{◌≡◌, ◌∷◌, [], ℕ, subst}
 use Rattle.envy_device.specs.Device.{LeavesOnly}
 use Rattle.envy_journal.specs.Head.{IsUnmade}
 use Rattle.envy_journal.specs.Log.{IsMending}

@@ -1,4 +1,4 @@
-use Rattle.std.proofs.Common.{◌∙◌, ℕ, List, drop, sym, refl}
+use Rattle.std.proofs.Common.{◌∙◌, drop, sym}
 use Rattle.envy_journal.specs.Making.{HasFirst}
 use Rattle.envy_journal.proofs.Moments.{started, goes_on}
 use Rattle.envy_journal.proofs.Made.{first_before, first_torn, first_written}

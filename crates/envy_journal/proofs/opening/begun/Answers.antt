@@ -1,9 +1,9 @@
-use Rattle.std.proofs.Common.{◌≡◌, ◌∙◌, ◌+◌, ℕ, List, refl, sym, take}
+use Rattle.std.proofs.Common.{◌+◌, refl, take}
 use Rattle.std.proofs.lemmas.Bool.{false≢true}
 use Rattle.envy_journal.specs.declared.log.Log.{Log}
 use Rattle.envy_journal.specs.Reading.{operations}
 use Rattle.envy_journal.proofs.Logged.{stands_tied}
-use Rattle.envy_journal.proofs.Settled.{logged_begun, kept_begun, done_begun}
+use Rattle.envy_journal.proofs.Settled.{logged_begun, done_begun}
 use Rattle.envy_journal.proofs.opening.begun.Goals as goal
 
 pub invariant_of-result : goal.invariant_of-result

@@ -1,4 +1,4 @@
-use Rattle.std.proofs.Common.{◌≡◌, ◌∙◌, ◌∷◌, [], ◌++◌, List, ℕ, refl, sym, ap, subst}
+use Rattle.std.proofs.Common.{◌∙◌, ◌∷◌, [], ◌++◌, List, sym, ap, subst}
 use Rattle.envy_base.specs.declared.shape.Shape.{Shape}
 use Rattle.envy_device.specs.Device.{LeavesOnly}
 use Rattle.envy_journal.specs.declared.operation.Operation.{Operation}
