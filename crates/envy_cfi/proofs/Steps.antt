@@ -77,7 +77,7 @@ byte_step (Some c) b b2 b3 addr byte r first second ends same = λ lt idle calm.
     let two : b2 ≡ Some (programmed s addr byte) = subst (λ x. Writes x addr byte b2) one second lt in
     let long : length (slice_set c.bytes addr (cleared c addr byte)) ≡ length c.bytes = length-set c.bytes addr (cleared c addr byte) in
     let how : EndsAs (programmed s addr byte) r = subst (λ x. Ends x addr r) two ends (omega arith) refl in
-    record { left = programmed s addr byte; is = same ∙ two; rows = refl; long = long; idle = inr refl; calm = how; made = byte_as c addr byte r calm how }
+    record { left = programmed s addr byte; is = same ∙ two; rows = refl; long = long; idle = inr refl; told = how; made = byte_as c addr byte r calm how }
 
 held_more : (addr k : ℕ) (row old held : List ℕ) → addr + k < length old → Holds addr k row old held → Holds addr (k + 1) row old (slice_set held (addr + k) (slice_index row k))
 held_more addr k row old held lt is = record {
@@ -101,30 +101,15 @@ none_held c addr row idle calm = record {
   rows = refl;
   long = refl;
   idle = idle;
-  calm = calm;
+  told = calm;
   made = record { long = refl; inside = λ j low. absurd (omega arith); below = λ q low. refl; above = λ q high. refl };
 }
-
-pub next_held : (c : ChipState) (a b : Option ChipState) (addr k : ℕ) (row : List ℕ) (done : Unit) → addr + 256 ≤ length c.bytes → k < 256
-    → Going c a addr k row → OrdersByte a (addr + k) (slice_index row k) (Ok done) b → Going c b addr (k + 1) row
-next_held c a b addr k row done fits low at order =
-    let step : Leaves at.left (Ok done) b (ByteAs (addr + k) (slice_index row k) at.left.bytes (Ok done))
-    = subst (λ x. OrdersByte x (addr + k) (slice_index row k) (Ok done) b) at.is order (let long = at.long in omega arith) at.idle at.calm in
-    record {
-      left = step.left;
-      is = step.is;
-      rows = step.rows ∙ at.rows;
-      long = step.long ∙ at.long;
-      idle = step.idle;
-      calm = step.calm;
-      made = subst (λ xs. Holds addr (k + 1) row c.bytes xs) (sym step.made.1) (held_more addr k row c.bytes at.left.bytes (omega arith) at.made);
-    }
 
 pub row_fails : (c : ChipState) (a b : Option ChipState) (addr k : ℕ) (row : List ℕ) (fault : DriverFault) → addr + 256 ≤ length c.bytes → k < 256
     → Going c a addr k row → OrdersByte a (addr + k) (slice_index row k) (Err fault) b → Leaves c (Err fault) b (RowAs addr row c.bytes (Err fault))
 row_fails c a b addr k row Failed fits low at order =
     let step : Leaves at.left (Err Failed) b (ByteAs (addr + k) (slice_index row k) at.left.bytes (Err Failed))
-    = subst (λ x. OrdersByte x (addr + k) (slice_index row k) (Err Failed) b) at.is order (let long = at.long in omega arith) at.idle at.calm in
+    = subst (λ x. OrdersByte x (addr + k) (slice_index row k) (Err Failed) b) at.is order (let long = at.long in omega arith) at.idle at.told in
     let old : slice_index at.left.bytes (addr + k) ≡ slice_index c.bytes (addr + k) = at.made.above (addr + k) (omega arith) in
     let both : bit_and (slice_index at.left.bytes (addr + k)) (slice_index row k) ≡ bit_and (slice_index c.bytes (addr + k)) (slice_index row k) = ap (λ n. bit_and n (slice_index row k)) old in
     record {
@@ -133,7 +118,7 @@ row_fails c a b addr k row Failed fits low at order =
       rows = step.rows ∙ at.rows;
       long = step.long ∙ at.long;
       idle = step.idle;
-      calm = step.calm;
+      told = step.told;
       made = record {
         k = k;
         low = low;
@@ -145,7 +130,7 @@ row_fails c a b addr k row Failed fits low at order =
     }
 row_fails c a b addr k row Late fits low at order =
     let step : Leaves at.left (Err Late) b (ByteAs (addr + k) (slice_index row k) at.left.bytes (Err Late))
-    = subst (λ x. OrdersByte x (addr + k) (slice_index row k) (Err Late) b) at.is order (let long = at.long in omega arith) at.idle at.calm in
+    = subst (λ x. OrdersByte x (addr + k) (slice_index row k) (Err Late) b) at.is order (let long = at.long in omega arith) at.idle at.told in
     absurd step.made
 
 -- what is so of a row under way

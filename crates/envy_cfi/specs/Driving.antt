@@ -82,14 +82,14 @@ abbrev pub EraseAs : ℕ → ℕ → List ℕ → Result Unit DriverFault → Li
 EraseAs rows addr old (Ok done) new = new ≡ with_erased_block rows (addr / rows) old
 EraseAs rows addr old (Err fault) new = ⊥
 
--- the chip that an order leaves, which waits for a command and tells of no error where the answer is Ok
+-- the chip that an order leaves, which waits for a command and tells what the answer says
 pub record Leaves (c : ChipState) (answer : Result Unit DriverFault) (new : Option ChipState) (Made : List ℕ → Type 0) : Type 0 where
   pub left : ChipState
   pub is : new ≡ Some left
   pub rows : left.rows ≡ c.rows
   pub long : length left.bytes ≡ length c.bytes
   pub idle : IsIdle left
-  pub calm : EndsAs left answer
+  pub told : EndsAs left answer
   pub made : Made left.bytes
 
 -- from a chip that waits for a command, with no error told
