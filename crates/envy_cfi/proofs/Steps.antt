@@ -1,45 +1,16 @@
 -- What each step of the driver makes of a chip that is known.
 use Rattle.std.proofs.Common.{◌≡◌, ◌≢◌, ◌⊎◌, inl, inr, ◌+◌, ◌/◌, ◌<◌, ◌≤◌, ◌==◌, ℕ, Bool, true, false, if◌then◌else◌, List, Option, None, Some, Result, Ok, Err, length, slice_index, slice_set, bit_and, subst, refl, sym, ◌∙◌, ap, arith, eqb-true}
-use Rattle.std.proofs.lemmas.Bool.{cases_eq, eqb-false}
+use Rattle.std.proofs.lemmas.Bool.{eqb-false}
 use Rattle.std.proofs.lemmas.Grind.{common_steps}
-use Rattle.std.proofs.lemmas.List.{get_or-set_same, get_or-set_other, length-set}
-use Rattle.envy_chip.specs.Commands.{ChipState, written, commanded, programmed, read_of, status_of, with_erased_block}
+use Rattle.std.proofs.lemmas.List.{length-set}
+use Rattle.envy_chip.specs.Commands.{ChipState, written, commanded, programmed, with_erased_block}
 use Rattle.envy_chip.specs.declared.chip.Mode.TheVariants.{Status, ProgramSetup, EraseSetup}
-use Rattle.envy_cfi.specs.Driving.{Writes, Reads, Tells, Ends, EndsAs, IsCalm, IsIdle, at_rest, Settles, ByteAs, Holds, RowAs, EraseAs, Leaves, OrdersByte, OrdersRow, Rests, ProgramsByte, ProgramsRow, Erases}
+use Rattle.envy_cfi.specs.Driving.{Writes, Ends, EndsAs, IsCalm, IsIdle, at_rest, Settles, ByteAs, Holds, RowAs, EraseAs, Leaves, OrdersByte, OrdersRow, Rests, ProgramsByte, ProgramsRow, Erases}
 use Rattle.envy_cfi.specs.declared.driver.DriverFault.{DriverFault}
 use Rattle.envy_cfi.specs.declared.driver.DriverFault.TheVariants.{Failed, Late}
 
--- what the status of a chip tells is so
-abbrev Told : Bool → Bool → Result Unit DriverFault → Type 0
-Told e p (Ok done) = (e ≡ false) × (p ≡ false)
-Told e p (Err Failed) = (e ≡ true) ⊎ (p ≡ true)
-Told e p (Err Late) = ⊥
-
-told_so : (e p : Bool) (r : Result Unit DriverFault) → Tells (0x80 + (if e then 0x20 else 0) + (if p then 0x10 else 0)) r → Told e p r
-told_so false false (Ok done) t = (refl, refl)
-told_so false true (Ok done) t = absurd (let no : 16 ≡ 0 = t.1 in cc)
-told_so true false (Ok done) t = absurd (let no : 32 ≡ 0 = t.1 in cc)
-told_so true true (Ok done) t = absurd (let no : 48 ≡ 0 = t.1 in cc)
-told_so false false (Err Failed) t = absurd (t.1 refl)
-told_so false true (Err Failed) t = inr refl
-told_so true p (Err Failed) t = inl refl
-told_so false false (Err Late) t = absurd (let no : 128 ≡ 0 = t in cc)
-told_so false true (Err Late) t = absurd (let no : 128 ≡ 0 = t in cc)
-told_so true false (Err Late) t = absurd (let no : 128 ≡ 0 = t in cc)
-told_so true true (Err Late) t = absurd (let no : 128 ≡ 0 = t in cc)
-
-ends_told : (c : ChipState) (r : Result Unit DriverFault) → Told c.erase_error c.program_error r → EndsAs c r
-ends_told c (Ok done) t = record { erase = t.0; program = t.1 }
-ends_told c (Err Failed) t = t
-ends_told c (Err Late) t = t
-
-pub ends_as_told : (b : Option ChipState) (addr s : ℕ) (r : Result Unit DriverFault) → Reads b addr s → Tells s r → Ends b addr r
-ends_as_told None addr s r reads tells = tt
-ends_as_told (Some c) addr s r reads tells = λ lt m.
-    let status : read_of c addr ≡ status_of c = rw m refl in
-    ends_told c r (told_so c.erase_error c.program_error r (subst (λ x. Tells x r) (reads lt ∙ status) tells))
-
-pub idle_write : (c : ChipState) (addr byte : ℕ) → IsIdle c → written c addr byte ≡ commanded c byte
+-- a byte that comes where a command is waited for is one
+idle_write : (c : ChipState) (addr byte : ℕ) → IsIdle c → written c addr byte ≡ commanded c byte
 idle_write c addr byte (inl m) = rw m refl
 idle_write c addr byte (inr m) = rw m refl
 
@@ -54,6 +25,7 @@ compared x y f quiet = go (x == y) refl where
 abbrev cleared : ChipState → ℕ → ℕ → ℕ
 cleared c addr byte = bit_and (slice_index c.bytes addr) byte
 
+-- what the bytes are after the program of one, by what the status told of it
 byte_as : (c : ChipState) (addr byte : ℕ) (r : Result Unit DriverFault) → IsCalm c → EndsAs (programmed (record c { mode = ProgramSetup }) addr byte) r
     → ByteAs addr byte c.bytes r (slice_set c.bytes addr (cleared c addr byte))
 byte_as c addr byte (Ok done) calm ends = elim (compared (cleared c addr byte) byte c.program_error calm.program) [
@@ -79,33 +51,11 @@ byte_step (Some c) b b2 b3 addr byte r first second ends same = λ lt idle calm.
     let how : EndsAs (programmed s addr byte) r = subst (λ x. Ends x addr r) two ends (omega arith) refl in
     record { left = programmed s addr byte; is = same ∙ two; rows = refl; long = long; idle = inr refl; told = how; made = byte_as c addr byte r calm how }
 
-held_more : (addr k : ℕ) (row old held : List ℕ) → addr + k < length old → Holds addr k row old held → Holds addr (k + 1) row old (slice_set held (addr + k) (slice_index row k))
-held_more addr k row old held lt is = record {
-  long = length-set held (addr + k) (slice_index row k) ∙ is.long;
-  inside = λ j low. elim (cases_eq j k) [
-    | inl e ↦ subst (λ n. slice_index (slice_set held (addr + k) (slice_index row k)) (addr + n) ≡ slice_index row n) (sym e) (get_or-set_same held (addr + k) (slice_index row k) 0 (let long = is.long in omega arith))
-    | inr ne ↦ get_or-set_other held (addr + k) (addr + j) (slice_index row k) 0 (λ e. ne (omega arith)) ∙ is.inside j (omega arith)
-  ];
-  below = λ q low. get_or-set_other held (addr + k) q (slice_index row k) 0 (λ e. absurd (omega arith)) ∙ is.below q low;
-  above = λ q high. get_or-set_other held (addr + k) q (slice_index row k) 0 (λ e. absurd (omega arith)) ∙ is.above q (omega arith);
-}
-
 -- the first k bytes of a row are programmed
 abbrev pub Going : ChipState → Option ChipState → ℕ → ℕ → List ℕ → Type 0
 Going c new addr k row = Leaves c (Ok tt) new (Holds addr k row c.bytes)
 
-pub none_held : (c : ChipState) (addr : ℕ) (row : List ℕ) → IsIdle c → IsCalm c → Going c (Some c) addr 0 row
-none_held c addr row idle calm = record {
-  left = c;
-  is = refl;
-  rows = refl;
-  long = refl;
-  idle = idle;
-  told = calm;
-  made = record { long = refl; inside = λ j low. absurd (omega arith); below = λ q low. refl; above = λ q high. refl };
-}
-
-pub row_fails : (c : ChipState) (a b : Option ChipState) (addr k : ℕ) (row : List ℕ) (fault : DriverFault) → addr + 256 ≤ length c.bytes → k < 256
+row_fails : (c : ChipState) (a b : Option ChipState) (addr k : ℕ) (row : List ℕ) (fault : DriverFault) → addr + 256 ≤ length c.bytes → k < 256
     → Going c a addr k row → OrdersByte a (addr + k) (slice_index row k) (Err fault) b → Leaves c (Err fault) b (RowAs addr row c.bytes (Err fault))
 row_fails c a b addr k row Failed fits low at order =
     let step : Leaves at.left (Err Failed) b (ByteAs (addr + k) (slice_index row k) at.left.bytes (Err Failed))
@@ -164,7 +114,7 @@ row_made (Some c) b d e addr row r begins order ends = λ fits m.
     let lt : addr < length c.bytes = omega arith in
     rests c r d e addr (RowAs addr row c.bytes r) lt (subst (λ x. OrdersRow x addr row r d) (begins lt (inl m)) order fits (inl refl) (record { erase = refl; program = refl })) ends
 
-pub erased_long : (rows addr : ℕ) (bytes : List ℕ) → addr < length bytes → addr < length (with_erased_block rows (addr / rows) bytes)
+erased_long : (rows addr : ℕ) (bytes : List ℕ) → addr < length bytes → addr < length (with_erased_block rows (addr / rows) bytes)
 erased_long rows addr bytes lt = grind (arith, common_steps)
 
 erase_as : (rows addr : ℕ) (old : List ℕ) (c : ChipState) (r : Result Unit DriverFault) → c.erase_error ≡ false → c.program_error ≡ false → EndsAs c r
