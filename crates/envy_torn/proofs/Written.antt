@@ -1,0 +1,166 @@
+-- What the calls of a file in memory mean for a crash.
+use Rattle.std.proofs.Common.{◌≡◌, ◌⊎◌, inl, inr, ℕ, ◌≤◌, List, [], ◌∷◌, ◌++◌, length, Bool, true, false, Result, Ok, Err, OnOk, OnErr, refl, sym, ◌∙◌, ap, subst, arith, length-append}
+use Rattle.std.proofs.lemmas.Bool.{false≢true}
+use Rattle.std.proofs.lemmas.List.{take_all}
+use Rattle.envy_device.specs.Device.{Torn, Cut, Follows, Elapses, Serves}
+use Rattle.envy_device.specs.declared.device.DeviceFailed.{DeviceFailed}
+use Rattle.envy_torn.specs.declared.torn.Call.{Call}
+use Rattle.envy_torn.specs.declared.torn.Call.TheVariants.{Sync}
+use Rattle.envy_torn.specs.declared.torn.TornFile.{TornFile}
+use Rattle.envy_torn.specs.Calls.{seen_by, seen_after, Leaves, OutcomeOf, LeftBy}
+use Rattle.envy_torn.specs.Torn.{file_bytes, file_outcome, file_left, Kept, Noted, Finished}
+use Rattle.envy_torn.proofs.Outcomes.{seen_more, outcome_more, time_same, time_more}
+
+-- a step that does nothing
+pub torn_none : (at n : ℕ) (d : List ℕ) → Torn at n d d
+torn_none at n d = record { before = refl; after = refl; no_shorter = omega arith; no_longer = omega arith }
+
+pub cut_none : (n : ℕ) (d : List ℕ) → Cut n d d
+cut_none n d = record { no_shorter = omega arith; front = take_all (length d) d (omega arith) }
+
+pub noted_after : (call : Call) (old mid new : TornFile) → Kept old mid → Noted call mid new → Noted call old new
+noted_after call old mid new kept noted = record {
+  calls = noted.calls ∙ ap (λ (l : List Call). l ++ call ∷ []) kept.calls;
+  first = noted.first ∙ kept.first;
+  synced = noted.synced ∙ kept.synced;
+}
+
+pub kept_after : (old mid new : TornFile) → Kept old mid → Kept mid new → Kept old new
+kept_after old mid new a b = record { calls = b.calls ∙ a.calls; first = b.first ∙ a.first; synced = b.synced ∙ a.synced }
+
+pub bytes_kept : (old new : TornFile) → Kept old new → file_bytes new ≡ file_bytes old
+bytes_kept old new kept =
+    new.seen ∙ ap (λ (l : List Call). seen_after l new.first.items) kept.calls ∙ ap (λ (f : List ℕ). seen_after old.calls.items f) kept.first ∙ sym old.seen
+
+pub outcome_kept : (old new : TornFile) → Kept old new → (c : List ℕ) → file_outcome new c → file_outcome old c
+outcome_kept old new kept c left =
+    subst (λ (f : List ℕ). OutcomeOf f old.calls.items c) kept.first (subst (λ (l : List Call). OutcomeOf new.first.items l c) kept.calls left)
+
+Times : List ℕ → List Call → List ℕ → List Call → Type 0
+Times first calls first' calls' = Elapses (length calls) (length calls') (LeftBy first calls) (LeftBy first' calls') (OutcomeOf first' calls')
+
+pub time_kept : (old new : TornFile) → Kept old new → Elapses (length old.calls.items) (length new.calls.items) (file_left old) (file_left new) (file_outcome new)
+unfolding Times
+time_kept old new kept =
+    let first = old.first.items in
+    let calls = old.calls.items in
+    subst (λ (f : List ℕ). Times first calls f new.calls.items) (sym kept.first) (subst (λ (l : List Call). Times first calls first l) (sym kept.calls) (time_same first calls))
+
+-- one call more
+module _ (call : Call) (old : TornFile) (calls : List Call) (first : List ℕ) (more : calls ≡ old.calls.items ++ call ∷ []) (same : first ≡ old.first.items) where
+  pub seen_once_more : seen_after calls first ≡ seen_by call (file_bytes old)
+  seen_once_more =
+      ap (λ (l : List Call). seen_after l first) more
+      ∙ ap (λ (f : List ℕ). seen_after (old.calls.items ++ call ∷ []) f) same
+      ∙ seen_more old.calls.items call old.first.items
+      ∙ ap (λ (b : List ℕ). seen_by call b) (sym old.seen)
+
+  pub left_more : (c : List ℕ) → OutcomeOf first calls c → (d : List ℕ) × file_outcome old d × Leaves call (file_bytes old) d c
+  left_more c left =
+      let before = old.first.items in
+      let here : OutcomeOf before (old.calls.items ++ call ∷ []) c = subst (λ (f : List ℕ). OutcomeOf f (old.calls.items ++ call ∷ []) c) same (subst (λ (l : List Call). OutcomeOf first l c) more left) in
+      let from = outcome_more old.calls.items call before (λ e. e ≡ before) c here in
+      (from.0, from.1, subst (λ (b : List ℕ). Leaves call b from.0 c) (sym old.seen) from.2)
+
+  pub time_goes : Elapses (length old.calls.items) (length calls) (file_left old) (LeftBy first calls) (OutcomeOf first calls)
+  unfolding Times
+  time_goes =
+      let before = old.first.items in
+      let was = old.calls.items in
+      subst (λ (f : List ℕ). Times before was f calls) (sym same) (subst (λ (l : List Call). Times before was before l) (sym more) (time_more before was call))
+
+module _ (call : Call) (old new : TornFile) (noted : Noted call old new) where
+  pub bytes_noted : file_bytes new ≡ seen_by call (file_bytes old)
+  bytes_noted = new.seen ∙ seen_once_more call old new.calls.items new.first.items noted.calls noted.first
+
+  pub outcome_noted : (c : List ℕ) → file_outcome new c → (d : List ℕ) × file_outcome old d × Leaves call (file_bytes old) d c
+  outcome_noted = left_more call old new.calls.items new.first.items noted.calls noted.first
+
+  pub time_noted : Elapses (length old.calls.items) (length new.calls.items) (file_left old) (file_left new) (file_outcome new)
+  time_noted = time_goes call old new.calls.items new.first.items noted.calls noted.first
+
+-- where a call is finished, whatever its result
+pub time_finished : (call : Call) (old mid new : TornFile) (result : Result Unit DeviceFailed) → Kept old mid → Finished call mid result new → Elapses (length old.calls.items) (length new.calls.items) (file_left old) (file_left new) (file_outcome new)
+time_finished call old mid new (Ok done) kept is = time_noted call old new (noted_after call old mid new kept is.0)
+time_finished call old mid new (Err failed) kept is = time_kept old new (kept_after old mid new kept is.0)
+
+pub synced_finished : (call : Call) (old mid new : TornFile) (result : Result Unit DeviceFailed) → Kept old mid → Finished call mid result new → new.synced ≡ old.synced
+synced_finished call old mid new (Ok done) kept (noted, same) = noted.synced ∙ kept.synced
+synced_finished call old mid new (Err failed) kept (none, now) = none.synced ∙ kept.synced
+
+pub crash_finished : (call : Call) (old mid new : TornFile) (result : Result Unit DeviceFailed) (step : List ℕ → List ℕ → Type 0) → Kept old mid → Finished call mid result new
+    → ((d c : List ℕ) → Leaves call (file_bytes old) d c → step d c) → ((c : List ℕ) → file_outcome old c → step c c) → Follows step (file_outcome old) (file_outcome new)
+crash_finished call old mid new (Ok done) step kept is leaves none c left =
+    let from = outcome_noted call old new (noted_after call old mid new kept is.0) c left in
+    (from.0, from.1, leaves from.0 c from.2)
+crash_finished call old mid new (Err failed) step kept is leaves none c left =
+    let was = outcome_kept old new (kept_after old mid new kept is.0) c left in
+    (c, was, none c was)
+
+-- where it failed
+pub time_failed : (call : Call) (old mid new : TornFile) → Kept old mid → Noted call mid new ⊎ Kept mid new → Elapses (length old.calls.items) (length new.calls.items) (file_left old) (file_left new) (file_outcome new)
+time_failed call old mid new kept (inl noted) = time_noted call old new (noted_after call old mid new kept noted)
+time_failed call old mid new kept (inr none) = time_kept old new (kept_after old mid new kept none)
+
+pub synced_failed : (call : Call) (old mid new : TornFile) → Kept old mid → Noted call mid new ⊎ Kept mid new → new.synced ≡ old.synced
+synced_failed call old mid new kept (inl noted) = noted.synced ∙ kept.synced
+synced_failed call old mid new kept (inr none) = none.synced ∙ kept.synced
+
+pub bytes_failed : (call : Call) (old mid new : TornFile) → ((seen : List ℕ) → seen_by call seen ≡ seen) → Kept old mid → Noted call mid new ⊎ Kept mid new → file_bytes new ≡ file_bytes old
+bytes_failed call old mid new same kept (inl noted) = bytes_noted call old new (noted_after call old mid new kept noted) ∙ same (file_bytes old)
+bytes_failed call old mid new same kept (inr none) = bytes_kept old new (kept_after old mid new kept none)
+
+pub crash_failed : (call : Call) (old mid new : TornFile) (step : List ℕ → List ℕ → Type 0) → Kept old mid → Noted call mid new ⊎ Kept mid new
+    → ((d c : List ℕ) → Leaves call (file_bytes old) d c → step d c) → ((c : List ℕ) → file_outcome old c → step c c) → Follows step (file_outcome old) (file_outcome new)
+crash_failed call old mid new step kept (inl noted) leaves none c left =
+    let from = outcome_noted call old new (noted_after call old mid new kept noted) c left in
+    (from.0, from.1, leaves from.0 c from.2)
+crash_failed call old mid new step kept (inr same) leaves none c left =
+    let was = outcome_kept old new (kept_after old mid new kept same) c left in
+    (c, was, none c was)
+
+-- the clauses that ask for the result
+pub bytes_finished : (call : Call) (old mid new : TornFile) (result : Result Unit DeviceFailed) (bytes : List ℕ) → Kept old mid → Finished call mid result new → seen_by call (file_bytes old) ≡ bytes → OnOk result (file_bytes new ≡ bytes)
+bytes_finished call old mid new (Ok done) bytes kept is same = bytes_noted call old new (noted_after call old mid new kept is.0) ∙ same
+bytes_finished call old mid new (Err failed) bytes kept is same = tt
+
+pub same_finished : (call : Call) (old mid new : TornFile) (result : Result Unit DeviceFailed) (step : List ℕ → List ℕ → Type 0) → Kept old mid → Finished call mid result new → step (file_bytes old) (file_bytes old) → OnErr result (step (file_bytes old) (file_bytes new))
+same_finished call old mid new (Ok done) step kept is none = tt
+same_finished call old mid new (Err failed) step kept is none =
+    subst (λ (b : List ℕ). step (file_bytes old) b) (sym (bytes_kept old new (kept_after old mid new kept is.0))) none
+
+pub serves_finished : (call : Call) (old mid new : TornFile) (result : Result Unit DeviceFailed) → Finished call mid result new → mid.failed ≡ old.failed → mid.failed ≡ false → Serves old.failed new.failed result
+serves_finished call old mid new (Ok done) is same none = record { stays = λ was. absurd (false≢true (sym none ∙ same ∙ was)); ok = is.1 ∙ none; err = tt }
+serves_finished call old mid new (Err failed) is same none = record { stays = λ was. is.1; ok = tt; err = is.1 }
+
+-- a sync
+module _ (old mid : TornFile) (kept : Kept old mid) (calls : List Call) (added : calls ≡ mid.calls.items ++ Sync ∷ []) where
+  grown : calls ≡ old.calls.items ++ Sync ∷ []
+  grown = added ∙ ap (λ (l : List Call). l ++ Sync ∷ []) kept.calls
+
+  pub sync_seen : mid.bytes.items ≡ seen_after calls mid.first.items
+  sync_seen = bytes_kept old mid kept ∙ sym (seen_once_more Sync old calls mid.first.items grown kept.first)
+
+  pub sync_only : (c : List ℕ) → OutcomeOf mid.first.items calls c → c ≡ file_bytes old
+  sync_only c left = let from = left_more Sync old calls mid.first.items grown kept.first c left in from.2.0
+
+  pub sync_crash : (c : List ℕ) → OutcomeOf mid.first.items calls c → file_outcome old c
+  sync_crash c left = let from = left_more Sync old calls mid.first.items grown kept.first c left in subst (λ (e : List ℕ). file_outcome old e) from.2.1 from.1
+
+  pub sync_time : Elapses (length old.calls.items) (length calls) (file_left old) (LeftBy mid.first.items calls) (OutcomeOf mid.first.items calls)
+  sync_time = time_goes Sync old calls mid.first.items grown kept.first
+
+-- a call that was added, and where memory ran out
+module _ (old : TornFile) (call : Call) (calls : List Call) (still : (seen : List ℕ) → seen_by call seen ≡ seen) where
+  pub seen_added : (added : Bool) → (added ≡ true → calls ≡ old.calls.items ++ call ∷ []) → (added ≡ false → calls ≡ old.calls.items) → old.bytes.items ≡ seen_after calls old.first.items
+  seen_added true more same =
+      old.seen ∙ sym (still (seen_after old.calls.items old.first.items)) ∙ sym (seen_more old.calls.items call old.first.items) ∙ ap (λ (l : List Call). seen_after l old.first.items) (sym (more refl))
+  seen_added false more same = old.seen ∙ ap (λ (l : List Call). seen_after l old.first.items) (sym (same refl))
+
+  pub synced_added : (added : Bool) → (added ≡ true → calls ≡ old.calls.items ++ call ∷ []) → (added ≡ false → calls ≡ old.calls.items) → old.synced ≤ length calls
+  synced_added true more same = omega (arith, old.synced_before, ap length (more refl), length-append old.calls.items (call ∷ []))
+  synced_added false more same = omega (arith, old.synced_before, ap length (same refl))
+
+pub seen_grown : (old : TornFile) (call : Call) (calls : List Call) (next : List ℕ) → calls ≡ old.calls.items ++ call ∷ [] → next ≡ seen_by call old.bytes.items → next ≡ seen_after calls old.first.items
+seen_grown old call calls next more is =
+    is ∙ ap (λ (b : List ℕ). seen_by call b) old.seen ∙ sym (seen_more old.calls.items call old.first.items) ∙ ap (λ (l : List Call). seen_after l old.first.items) (sym more)

@@ -1,0 +1,20 @@
+use Rattle.std.proofs.Common.{rules}
+use Rattle.envy_torn.proofs.Written.{sync_seen, sync_only, sync_crash, sync_time}
+use Rattle.envy_torn.proofs.torn.TornFileDevice.sync.Goals as goal
+
+pub invariant_of-self-2 : goal.invariant_of-self-2
+invariant_of-self-2 c =
+    let mid = c.may_pass.new.self in
+    record {
+      seen = sync_seen c.args.self.now mid c.may_pass.ensures.kept c.add_call.new.calls.items (c.add_call.ensures.added c.if-not-add_call.false);
+      synced_before = search rules;
+    }
+
+pub returns-clause-durable : goal.returns-clause-durable
+returns-clause-durable c = sync_only c.args.self.now c.may_pass.new.self c.may_pass.ensures.kept c.add_call.new.calls.items (c.add_call.ensures.added c.if-not-add_call.false)
+
+pub returns-clause-crash : goal.returns-clause-crash
+returns-clause-crash c = sync_crash c.args.self.now c.may_pass.new.self c.may_pass.ensures.kept c.add_call.new.calls.items (c.add_call.ensures.added c.if-not-add_call.false)
+
+pub returns-clause-time : goal.returns-clause-time
+returns-clause-time c = sync_time c.args.self.now c.may_pass.new.self c.may_pass.ensures.kept c.add_call.new.calls.items (c.add_call.ensures.added c.if-not-add_call.false)

@@ -1,0 +1,43 @@
+-- What a file that keeps all its calls holds, and what a crash may leave of it.
+use Rattle.std.specs.Prelude.{◌≡◌, ℕ, ◌+◌, ◌≤◌, List, [], ◌∷◌, ◌++◌, length, take, drop}
+use Rattle.envy_torn.specs.declared.torn.Call.{Call}
+use Rattle.envy_torn.specs.declared.torn.Call.TheVariants.{Write, Cut as CutCall, Sync, BadWrite, BadCut}
+use Rattle.envy_device.specs.Device.{Torn, Cut}
+
+-- old with these bytes at this offset
+abbrev pub written : List ℕ → ℕ → List ℕ → List ℕ
+written old at bytes = take at old ++ bytes ++ drop (at + length bytes) old
+
+-- the bytes of a file after a call
+abbrev pub seen_by : Call → List ℕ → List ℕ
+seen_by (Write at bytes) seen = written seen at bytes.items
+seen_by (CutCall len) seen = take len seen
+seen_by Sync seen = seen
+seen_by (BadWrite at len) seen = seen
+seen_by (BadCut len) seen = seen
+
+-- the bytes after these calls, the first of them first
+abbrev pub seen_after : List Call → List ℕ → List ℕ
+seen_after [] seen = seen
+seen_after (call ∷ calls) seen = seen_after calls (seen_by call seen)
+
+-- what a crash may leave after a call, where it might have left d before it and the file held these bytes
+abbrev pub Leaves : Call → List ℕ → List ℕ → List ℕ → Type 0
+Leaves (Write at bytes) seen d e = Torn at (length bytes.items) d e
+Leaves (CutCall len) seen d e = Cut len d e
+Leaves Sync seen d e = (e ≡ seen) × (d ≡ e)
+Leaves (BadWrite at len) seen d e = Torn at len d e
+Leaves (BadCut len) seen d e = Cut len d e
+
+-- what a crash may leave after these calls, where it might have left what has this property before them
+abbrev pub Outcome : List Call → List ℕ → (List ℕ → Type 0) → List ℕ → Type 0
+Outcome [] seen may c = may c
+Outcome (call ∷ calls) seen may c = Outcome calls (seen_by call seen) (λ e. (d : List ℕ) × may d × Leaves call seen d e) c
+
+-- what a crash may leave of a file that held these bytes at first, all of them on the disk
+abbrev pub OutcomeOf : List ℕ → List Call → List ℕ → Type 0
+OutcomeOf first calls c = Outcome calls first (λ e. e ≡ first) c
+
+-- what a crash after so many of the calls, or later, might have left
+abbrev pub LeftBy : List ℕ → List Call → ℕ → List ℕ → Type 0
+LeftBy first calls t c = (k : ℕ) × (t ≤ k) × (k ≤ length calls) × OutcomeOf first (take k calls) c

@@ -1,0 +1,293 @@
+// A file in memory that a crash tears. It keeps what it held at first and every call, so that what a crash at any
+// moment might have left can be told from what it is.
+ghost use Rattle.std.specs.Prelude.{◌≡◌, ◌≤◌, ℕ, List, [], ◌∷◌, ◌++◌, true, false, IfOk, length, take};
+ghost use Rattle.envy_torn.specs.Calls.{seen_after, written};
+
+use crate::Dice;
+use envy_device::{Device, DeviceFailed};
+use std::alloc::{AllocError, Global};
+
+/// What was asked of a file.
+#[derive(Drop)]
+pub enum Call {
+    Write { at: usize, bytes: Vec<u8> },
+    Cut { len: usize },
+    Sync,
+    /// A write or a cut that failed, of which any part may be done.
+    BadWrite { at: usize, len: usize },
+    BadCut { len: usize },
+}
+
+/// A file in memory, whose calls fail from a planned one on.
+#[derive(Drop)]
+pub struct TornFile {
+    alloc: Global,
+    bytes: Vec<u8>,
+    first: Vec<u8>,
+    calls: Vec<Call>,
+    // how many calls there were when the last sync succeeded
+    synced: usize,
+    failed: bool,
+    // how many calls can still succeed
+    left: usize,
+    ghost seen: { bytes.items ≡ seen_after calls.items first.items },
+    ghost synced_before: { synced ≤ length calls.items },
+}
+
+impl TornFile {
+    ghost use Rattle.std.specs.Prelude.{◌⊎◌, IfSome};
+    ghost use Rattle.envy_device.specs.Device.{Only};
+    ghost use Rattle.envy_torn.specs.Calls.{seen_by};
+    ghost use Rattle.envy_torn.specs.Torn.{file_bytes, file_calls, file_outcome, Kept, Noted, Finished};
+
+    /// A file with these bytes, all of them on the disk. So many calls succeed, and every later one fails.
+    pub fn new(alloc: Global, bytes: Vec<u8>, left: usize) -> Result<TornFile, AllocError>
+        ensures bytes { IfOk result (λ file. file_bytes file ≡ bytes.items) }
+        ensures durable { IfOk result (λ file. Only (file_bytes file) (file_outcome file)) }
+    {
+        let first = bytes.to_vec(alloc)?;
+        Ok(TornFile {
+            alloc,
+            bytes,
+            first,
+            calls: Vec::new(alloc),
+            synced: 0,
+            failed: false,
+            left,
+        })
+    }
+
+    /// The bytes of the file.
+    pub fn bytes(&self) -> &[u8]
+        ensures { result.now ≡ file_bytes self.now }
+    {
+        &self.bytes
+    }
+
+    /// What a crash at this moment leaves, drawn: each write since the last sync is done, lost or torn.
+    pub fn crash(&self, alloc: Global, dice: &mut Dice) -> Result<Vec<u8>, AllocError> {
+        let mut seen = self.first.to_vec(alloc)?;
+        let mut disk = self.first.to_vec(alloc)?;
+        for call in &self.calls {
+            match call {
+                Call::Write { at, bytes } => {
+                    write_over(&mut seen, *at, bytes)?;
+                    tear(&mut disk, *at, bytes, dice)?;
+                }
+                Call::Cut { len } => {
+                    seen.truncate(*len);
+                    cut_some(&mut disk, *len, dice);
+                }
+                Call::Sync => disk = seen.to_vec(alloc)?,
+                Call::BadWrite { at, len } => {
+                    let junk = vec![in alloc; 1; *len]?;
+                    tear(&mut disk, *at, &junk, dice)?;
+                }
+                Call::BadCut { len } => cut_some(&mut disk, *len, dice),
+            }
+        }
+        Ok(disk)
+    }
+
+    // Whether this call may succeed.
+    fn may_pass(&mut self) -> bool
+        ensures kept { Kept self.old self.new }
+        ensures failed { self.new.failed ≡ self.old.failed }
+        ensures passes { result ≡ true → self.new.failed ≡ false }
+    {
+        if self.failed || self.left == 0 {
+            return false;
+        }
+        self.left -= 1;
+        true
+    }
+
+    // The bytes again, and the file with them, where this write may succeed and there is memory.
+    fn planned_write(&mut self, at: usize, bytes: &[u8]) -> Option<(Vec<u8>, Vec<u8>)>
+        requires { at ≤ length (file_bytes self.old) }
+        ensures kept { Kept self.old self.new }
+        ensures failed { self.new.failed ≡ self.old.failed }
+        ensures passes { IfSome result (λ both. (self.new.failed ≡ false) × (both.0.items ≡ bytes.now)
+            × (both.1.items ≡ written (file_bytes self.old) at bytes.now)) }
+    {
+        if !self.may_pass() {
+            return None;
+        }
+        overwritten(self.alloc, &self.bytes, at, bytes).ok()
+    }
+
+    // The file cut to a length, where this cut may succeed and there is memory.
+    fn planned_cut(&mut self, len: usize) -> Option<Vec<u8>>
+        requires { len ≤ length (file_bytes self.old) }
+        ensures kept { Kept self.old self.new }
+        ensures failed { self.new.failed ≡ self.old.failed }
+        ensures passes { IfSome result (λ next. (self.new.failed ≡ false) × (next.items ≡ take len (file_bytes self.old))) }
+    {
+        if !self.may_pass() {
+            return None;
+        }
+        self.bytes[..len].to_vec(self.alloc).ok()
+    }
+
+    // Notes a call that makes the file these bytes.
+    fn finish(&mut self, call: Call, next: Vec<u8>) -> Result<(), DeviceFailed>
+        requires { next.items ≡ seen_by call (file_bytes self.old) }
+        ensures { Finished call self.old result self.new }
+    {
+        if !add_call(&mut self.calls, call) {
+            self.failed = true;
+            return Err(DeviceFailed);
+        }
+        self.bytes = next;
+        Ok(())
+    }
+
+    // Notes a call that failed, where there is memory for it.
+    fn fail(&mut self, call: Call)
+        requires { (seen : List ℕ) → seen_by call seen ≡ seen }
+        ensures call { Noted call self.old self.new ⊎ Kept self.old self.new }
+        ensures failed { self.new.failed ≡ true }
+    {
+        self.failed = true;
+        add_call(&mut self.calls, call);
+    }
+}
+
+// Adds a call, where there is memory for it.
+fn add_call(calls: &mut Vec<Call>, call: Call) -> bool
+    ensures added { result ≡ true → calls.new.items ≡ calls.old.items ++ call ∷ [] }
+    ensures full { result ≡ false → calls.new.items ≡ calls.old.items }
+{
+    calls.push(call).is_ok()
+}
+
+// The bytes again, and a file with them at this offset.
+fn overwritten(
+    alloc: Global,
+    file: &[u8],
+    at: usize,
+    bytes: &[u8],
+) -> Result<(Vec<u8>, Vec<u8>), AllocError>
+    requires { at ≤ length file.now }
+    ensures { IfOk result (λ both. (both.0.items ≡ bytes.now) × (both.1.items ≡ written file.now at bytes.now)) }
+{
+    let mut next = file[..at].to_vec(alloc)?;
+    next.extend_from_slice(bytes)?;
+    if bytes.len() < file.len() - at {
+        next.extend_from_slice(&file[at + bytes.len()..])?;
+    }
+    Ok((bytes.to_vec(alloc)?, next))
+}
+
+// Bytes over what is there, and past the end.
+fn write_over(file: &mut Vec<u8>, at: usize, bytes: &[u8]) -> Result<(), AllocError> {
+    for i in 0..bytes.len() {
+        match at.checked_add(i) {
+            Some(place) if place < file.len() => file[place] = bytes[i],
+            _ => file.push(bytes[i])?,
+        }
+    }
+    Ok(())
+}
+
+// The same, done in part: to any length, and each byte old, new or neither.
+fn tear(file: &mut Vec<u8>, at: usize, bytes: &[u8], dice: &mut Dice) -> Result<(), AllocError> {
+    if at > file.len() {
+        return Ok(());
+    }
+    let way = dice.below(6);
+    if way == 0 {
+        return Ok(());
+    }
+    let most = if way <= 2 {
+        bytes.len()
+    } else {
+        dice.below(bytes.len().saturating_add(1))
+    };
+    for i in 0..most.min(bytes.len()) {
+        let byte = match (way, dice.below(4)) {
+            (5, 0) => (dice.below(256) % 256) as u8,
+            (4 | 5, 1) => 0,
+            _ => bytes[i],
+        };
+        match at.checked_add(i) {
+            Some(place) if place < file.len() => {
+                if way == 1 || dice.below(3) > 0 {
+                    file[place] = byte;
+                }
+            }
+            _ => file.push(byte)?,
+        }
+    }
+    Ok(())
+}
+
+fn cut_some(file: &mut Vec<u8>, len: usize, dice: &mut Dice) {
+    if len < file.len() {
+        let more = dice.below((file.len() - len).saturating_add(1));
+        let keep = len.saturating_add(more);
+        if dice.below(3) > 0 {
+            file.truncate(keep);
+        } else {
+            file.truncate(len);
+        }
+    }
+}
+
+impl Device for TornFile {
+    ghost use Rattle.envy_torn.specs.Torn.{file_bytes, file_calls, file_outcome, file_left, file_synced, file_failed, counts_now_lem, only_now_lem, synced_before_lem};
+
+    ghost seen = { file_bytes };
+
+    ghost may_leave = { file_outcome };
+
+    ghost moment = { λ file. length (file_calls file) };
+
+    ghost left_since = { file_left };
+
+    ghost synced = { file_synced };
+
+    ghost has_failed = { file_failed };
+
+    ghost counts_now = { counts_now_lem };
+
+    ghost only_now = { only_now_lem };
+
+    ghost synced_before = { synced_before_lem };
+
+    fn write_at(&mut self, at: usize, bytes: &[u8]) -> Result<(), DeviceFailed> {
+        match self.planned_write(at, bytes) {
+            Some((copy, next)) => self.finish(Call::Write { at, bytes: copy }, next),
+            None => {
+                self.fail(Call::BadWrite {
+                    at,
+                    len: bytes.len(),
+                });
+                Err(DeviceFailed)
+            }
+        }
+    }
+
+    fn cut(&mut self, len: usize) -> Result<(), DeviceFailed> {
+        match self.planned_cut(len) {
+            Some(next) => self.finish(Call::Cut { len }, next),
+            None => {
+                self.fail(Call::BadCut { len });
+                Err(DeviceFailed)
+            }
+        }
+    }
+
+    fn sync(&mut self) -> Result<(), DeviceFailed> {
+        if !self.may_pass() {
+            self.failed = true;
+            return Err(DeviceFailed);
+        }
+        if !add_call(&mut self.calls, Call::Sync) {
+            self.failed = true;
+            return Err(DeviceFailed);
+        }
+        self.synced = self.calls.len();
+        Ok(())
+    }
+}
