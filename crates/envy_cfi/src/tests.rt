@@ -48,7 +48,7 @@ impl Bus for Fake {
     }
 }
 
-// The commands of the data sheet: clear status 50, read array FF, program 40, erase 20 and D0.
+// The commands of the data sheet: clear status 0x50, read array 0xFF, program 0x40, erase 0x20 and 0xD0.
 #[test]
 fn orders_are_those_of_the_data_sheet(rt: HostRuntime) {
     let mut bus = Fake::new(3, 0x80);
