@@ -10,10 +10,6 @@
 mod any_board;
 mod counted;
 mod maker;
-#[cfg(test)]
-mod mending;
-#[cfg(test)]
-mod tests;
 
 pub use any_board::{AnyBench, AnyBoard, AnyMaker};
 pub use counted::Counted;
