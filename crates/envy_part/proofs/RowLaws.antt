@@ -1,5 +1,5 @@
 -- Rows that were anded word by word, and rows that were read word by word.
-use Rattle.std.proofs.Common.{◌≡◌, inl, inr, ◌+◌, ◌-◌, ◌*◌, ◌/◌, ◌%◌, ◌<◌, ◌≤◌, ℕ, zero, suc, List, [], ◌∷◌, length, get_or, slice_index, bit_and, subst, refl, sym, ◌∙◌, ap, arith}
+use Rattle.std.proofs.Common.{◌≡◌, ◌≢◌, inl, inr, ◌+◌, ◌-◌, ◌*◌, ◌/◌, ◌%◌, ◌<◌, ◌≤◌, ℕ, zero, suc, List, [], ◌∷◌, length, get_or, slice_index, bit_and, subst, refl, sym, ◌∙◌, ap, arith}
 use Rattle.std.proofs.Common.{rules, take, drop, min, slice_set, map}
 use Rattle.std.proofs.lemmas.Grind.{same_number_lists}
 use Rattle.std.proofs.lemmas.Bool.{cases_lt, cases_eq}
@@ -11,7 +11,7 @@ use Rattle.envy_base.specs.Counting.{up}
 use Rattle.envy_base.specs.Map.{words_of}
 use Rattle.envy_base.specs.Shape.{IsShape}
 use Rattle.envy_base.specs.State.{ands, AreWords, Only, IsPage, IsBoard, with_row}
-use Rattle.envy_part.specs.Part.{part_state, ArePages}
+use Rattle.envy_part.specs.Part.{part_state, ArePages, HasZeros, MissesOnes, MissesPage}
 use Rattle.envy_bank.specs.Lanes.{lane_of, row_from}
 use Rattle.envy_bank.specs.Rows.{IsPage as WholePage}
 use Rattle.envy_bank.proofs.LaneLaws.{length-row_from, lanes_of, length-lanes_of, get_or-lanes_of, row_from-lanes_of}
@@ -48,6 +48,7 @@ read_all bytes found is = same_number_lists found (row_from bytes) (is.long ∙ 
 
 -- a part of the rows, from row a on, is these now
 pub record Put (a k : ℕ) (old mid new : List (List ℕ)) : Type 0 where
+  pub fits : a + k ≤ length old
   pub long : length new ≡ length old
   pub below : (q : ℕ) → q < a → get_or new q [] ≡ get_or old q []
   pub above : (q : ℕ) → a + k ≤ q → get_or new q [] ≡ get_or old q []
@@ -55,6 +56,7 @@ pub record Put (a k : ℕ) (old mid new : List (List ℕ)) : Type 0 where
 
 pub put_there : (a k : ℕ) (old mid : List (List ℕ)) → a + k ≤ length old → length mid ≡ k → Put a k old mid (put_mid a k old mid)
 put_there a k old mid fits long = record {
+  fits = fits;
   long = search (rules, places);
   below = λ q lt. search (rules, places);
   above = λ q le. search (rules, places);
@@ -99,6 +101,14 @@ programmed_there sh flash sram erases begun bads n q row read both page more lt 
     let there : row_from row ≡ ands (get_or (map row_from flash) q []) page = held ∙ anded ∙ ap (λ xs. ands xs page) (is ∙ sym (row_read flash q (in_part flash q lt))) in
     programmed_state sh flash sram erases begun bads n q row more ∙ ap (with_row (part_state sh flash sram erases begun bads) q) there
 
+-- a row that isn't what was asked for
+pub programmed_missed : (flash : List (List ℕ)) (q : ℕ) (row read both page : List ℕ) → q < length (map row_from flash) → read ≡ row_from (get_or flash q []) → both ≡ ands read page → row_from row ≢ both
+    → MissesPage flash q page (slice_set flash q row)
+programmed_missed flash q row read both page lt is anded differs same =
+    let now : row_from (get_or (slice_set flash q row) q []) ≡ row_from row = ap row_from (get_or-set_same flash q row [] (in_part flash q lt)) in
+    let asked : both ≡ ands (row_from (get_or flash q [])) page = anded ∙ ap (λ xs. ands xs page) is in
+    differs (sym now ∙ same ∙ sym asked)
+
 inside_of : (rows e k : ℕ) → 1 ≤ rows → k / rows ≡ e → (e * rows ≤ k) × (k < e * rows + rows)
 inside_of rows e k some is =
     let split : k / rows * rows + k % rows ≡ k = div-add-mod' k rows in
@@ -134,6 +144,16 @@ only_put rows e k old mid new P some is long put each = record {
   ]);
   inside = λ q lt here. let at = inside_of rows e q some here in put_words (e * rows) k old mid new P q long put each at.0 (let high = at.1 in omega arith) (in_part old q lt);
 }
+
+-- a row that isn't all ones, of those that were put
+pub put_missed : (rows e k : ℕ) (old mid new : List (List ℕ)) → k ≡ rows → length mid ≡ k → Put (e * rows) k old mid new → HasZeros mid → MissesOnes rows e new
+put_missed rows e k old mid new whole long put (j, lt, zeros) =
+    let a = e * rows in
+    let within : j < rows = omega (lt, long, whole, arith) in
+    let here : a + j < length new = (let fits = put.fits in let same = put.long in omega (fits, same, within, whole, arith)) in
+    let at : a + j - a ≡ j = omega arith in
+    let read : row_from (get_or new (a + j) []) ≡ row_from (get_or mid j []) = ap row_from (put.inside (a + j) (omega arith) (omega (within, whole, arith)) ∙ ap (λ n. get_or mid n []) at) in
+    (a + j, here, block_of rows e (a + j) (omega arith) (omega (within, arith)), λ same. zeros (sym read ∙ same))
 
 pub put_board : (sh : Shape) (old mid new : List (List ℕ)) (sram erases counted : List ℕ) (a k begun bads begun' bads' e n : ℕ) → IsBoard (part_state sh old sram erases begun bads) → length mid ≡ k → Put a k old mid new → ArePages mid → counted ≡ slice_set erases e n
     → IsBoard (part_state sh new sram counted begun' bads')

@@ -1,9 +1,9 @@
-ghost use Rattle.std.specs.Prelude.{◌≡◌, ◌+◌, ◌<◌, ◌≤◌, ℕ, List, MatchResult, length, slice_set, slice_index};
+ghost use Rattle.std.specs.Prelude.{◌≡◌, ◌+◌, ◌<◌, ◌≤◌, ℕ, List, MatchResult, OnErr, length, slice_set, slice_index};
 ghost use Rattle.std.proofs.Props.{props};
 ghost use Rattle.envy_base.specs.Counting.{up};
 ghost use Rattle.envy_base.specs.Shape.{IsShape};
-ghost use Rattle.envy_base.specs.State.{AreWords, IsBoard};
-ghost use Rattle.envy_part.specs.Part.{ArePages, part_state};
+ghost use Rattle.envy_base.specs.State.{AreWords, IsBoard, Programs, Erases};
+ghost use Rattle.envy_part.specs.Part.{ArePages, MissesOnes, MissesPage, part_state};
 
 use crate::places::sram_words;
 use crate::rows::{anded, word, words};
@@ -119,7 +119,11 @@ impl<'a, P: Port> Board for PartBoard<'a, P> {
     /// # Errors
     ///
     /// `Bad` where the row isn't that AND.
-    fn program(&mut self, row: u32, page: &[u64; 32]) -> Result<(), Trouble> {
+    fn program(&mut self, row: u32, page: &[u64; 32]) -> Result<(), Trouble>
+        requires { row < length (⟦<PartBoard<'a, P> as Board>⟧.state self.old).flash }
+        ensures does { Programs (⟦<PartBoard<'a, P> as Board>⟧.state self.old) row page.now result (⟦<PartBoard<'a, P> as Board>⟧.state self.new) }
+        ensures bad { OnErr result (MissesPage self.old.flash.now row page.now self.new.flash.now) }
+    {
         let held = self.flash[row as usize];
         let both = anded(&words(&held), page);
         let begun = more(self.begun);
@@ -138,7 +142,11 @@ impl<'a, P: Port> Board for PartBoard<'a, P> {
     /// # Errors
     ///
     /// `Bad` where a row of the segment isn't all ones.
-    fn erase(&mut self, segment: u32) -> Result<(), Trouble> {
+    fn erase(&mut self, segment: u32) -> Result<(), Trouble>
+        requires { segment < (⟦<PartBoard<'a, P> as Board>⟧.state self.old).shape.segments }
+        ensures does { Erases (⟦<PartBoard<'a, P> as Board>⟧.state self.old) segment result (⟦<PartBoard<'a, P> as Board>⟧.state self.new) }
+        ensures bad { OnErr result (MissesOnes self.new.shape.rows segment self.new.flash.now) }
+    {
         let rows = self.shape.rows as usize;
         let first = segment as usize * rows;
         let done = orders::erase(&mut self.port, &mut self.flash[first..first + rows]);

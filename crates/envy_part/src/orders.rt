@@ -1,8 +1,8 @@
 // Orders to a port, each of which is looked at when the port returns.
-ghost use Rattle.std.specs.Prelude.{◌≡◌, ◌<◌, IsTrue, length};
+ghost use Rattle.std.specs.Prelude.{◌≡◌, ◌≢◌, IsTrue, IsFalse, length};
 ghost use Rattle.envy_base.specs.State.{IsPage};
 ghost use Rattle.envy_bank.specs.Lanes.{row_from};
-ghost use Rattle.envy_part.specs.Part.{ArePages, AreOnes};
+ghost use Rattle.envy_part.specs.Part.{ArePages, AreOnes, HasZeros};
 
 use crate::Port;
 use crate::rows::{bytes_of, words};
@@ -13,6 +13,7 @@ const ONES: [u64; 32] = [u64::MAX; 32];
 pub fn program<P: Port>(port: &mut P, row: &mut [u8; 256], page: &[u64; 32]) -> bool
     ensures page { IsPage (row_from row.new) }
     ensures held { IsTrue result → row_from row.new ≡ page.now }
+    ensures bad { IsFalse result → row_from row.new ≢ page.now }
 {
     port.program(row, &bytes_of(page));
     let found = words(row);
@@ -24,11 +25,14 @@ pub fn erase<P: Port>(port: &mut P, rows: &mut [[u8; 256]]) -> bool
     ensures long { length rows.new ≡ length rows.old }
     ensures pages { ArePages rows.new }
     ensures held { IsTrue result → AreOnes rows.new }
+    ensures bad { IsFalse result → HasZeros rows.new }
 {
     port.erase(rows);
     let mut held = true;
     for q in 0..rows.len() {
-        held &= words(&rows[q]) == ONES;
+        if words(&rows[q]) != ONES {
+            held = false;
+        }
     }
     held
 }

@@ -3,7 +3,7 @@ use Rattle.envy_base.specs.Counting.{up}
 use Rattle.envy_bank.specs.Lanes.{row_from}
 use Rattle.envy_base.specs.State.{IsPage, IsOnes}
 use Rattle.envy_part.specs.Part.{part_state}
-use Rattle.envy_part.proofs.RowLaws.{segment_put, put_board, only_put}
+use Rattle.envy_part.proofs.RowLaws.{segment_put, put_board, put_missed, only_put}
 use borrow.Rule.Slice.PartMut.{put_mid}
 use Rattle.envy_part.proofs.board.PartBoardBoard.erase.Goals as goal
 
@@ -23,8 +23,8 @@ invariant_of-self-else-not-done g c =
     let put = segment_put s.shape s.flash.now c.erase-done.new.rows s.sram.now s.erases.items s.begun s.bads c.args.segment k s.sound c.requires (omega arith) c.erase-done.ensures.long in
     record { sound = put_board s.shape s.flash.now c.erase-done.new.rows _ s.sram.now s.erases.items c.count_erase.new.erases.items a k s.begun s.bads _ _ c.args.segment _ s.sound put.0 put.1 c.erase-done.ensures.pages c.count_erase.ensures }
 
-pub returns-then-not-done : goal.returns-then-not-done
-returns-then-not-done g c =
+pub returns-then-not-done-clause-does : goal.returns-then-not-done-clause-does
+returns-then-not-done-clause-does g c =
     let s = c.args.self.now in
     let a = c.args.segment * s.shape.rows in
     let k = a + s.shape.rows - a in
@@ -38,8 +38,16 @@ returns-then-not-done g c =
           ∙ ap (λ n. part_state s.shape new s.sram.now (slice_set s.erases.items c.args.segment (up (slice_index s.erases.items c.args.segment))) s.begun n) c.more-self.ensures,
     )
 
-pub returns : goal.returns
-returns g c =
+pub returns-then-not-done-clause-bad : goal.returns-then-not-done-clause-bad
+returns-then-not-done-clause-bad g c =
+    let s = c.args.self.now in
+    let a = c.args.segment * s.shape.rows in
+    let k = a + s.shape.rows - a in
+    let put = segment_put s.shape s.flash.now c.erase-done.new.rows s.sram.now s.erases.items s.begun s.bads c.args.segment k s.sound c.requires (omega arith) c.erase-done.ensures.long in
+    put_missed s.shape.rows c.args.segment k s.flash.now c.erase-done.new.rows (put_mid a k s.flash.now c.erase-done.new.rows) (omega arith) put.0 put.1 (c.erase-done.ensures.bad c.if-not-done.true)
+
+pub returns-clause-does : goal.returns-clause-does
+returns-clause-does g c =
     let s = c.args.self.now in
     let a = c.args.segment * s.shape.rows in
     let k = a + s.shape.rows - a in
