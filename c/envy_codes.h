@@ -1,4 +1,4 @@
-/* What envy.h and envy_mapped.h share: the numbers of answers, the setup of a memory, and its counters. */
+/* What envy_sim.h, envy_mapped.h and envy_parted.h share: the numbers of answers, the setup of a memory, and its counters. */
 #ifndef ENVY_CODES_H
 #define ENVY_CODES_H
 
@@ -74,11 +74,23 @@ enum envy_code {
     ENVY_IMAGE_FRAMES = 50,
     ENVY_IMAGE_ENTRIES = 51,
     ENVY_IMAGE_SHARE = 52,
-    ENVY_IMAGE_TOTAL = 53
+    ENVY_IMAGE_TOTAL = 53,
+
+    /* maps */
+    ENVY_ABSENT = 54,    /* the map has no such pair */
+    ENVY_MAP_FULL = 55,  /* the map has as many pairs as it may have */
+    ENVY_SLOT_OPEN = 56, /* a transaction is open, which is to be committed or aborted first */
+    ENVY_MAP_SETUP = 57, /* the setup has fewer than 20 pages or 32 shadows, so no map fits */
+
+    /* where a flash part and SRAM lie; over a part alone */
+    ENVY_FLASH_ADDRESS = 64, /* the part's map begins at 0, or at no multiple of 256 */
+    ENVY_SRAM_ADDRESS = 65,  /* the SRAM begins at 0, or at no multiple of 8 */
+    ENVY_PAST = 66,          /* one of them reaches past the last address */
+    ENVY_OVERLAP = 67        /* they overlap */
 };
 
 /* How the cleaner chooses what to clean. */
-enum envy_policy { ENVY_GREEDY = 0, ENVY_FIFO = 1, ENVY_LOCALITY = 2, ENVY_HYBRID = 3 };
+enum envy_policy { ENVY_GREEDY = 0, ENVY_FIFO = 1, ENVY_LOCALITY = 2, ENVY_HYBRID = 3, ENVY_LIFETIME = 4 };
 
 /* What a background step did. */
 enum envy_did {
@@ -105,6 +117,12 @@ typedef struct envy_setup {
     uint64_t limit;    /* how far wear may differ before two segments are swapped: at least 1 */
     uint32_t mark;     /* held frames from which on a background step writes pages back */
 } envy_setup;
+
+/* A region of so many words. */
+typedef struct envy_words {
+    uint64_t *at;
+    size_t len;
+} envy_words;
 
 /* What a memory has done since it was formatted or attached. Each counter stops at 2^64 - 1. */
 typedef struct envy_counts {

@@ -1,20 +1,30 @@
 /* A memory over regions that the program gives, as of a file that it maps: a plain array of 64-bit words, with
-   transactions. A process that is killed at any moment is a failure of power: the next one attaches to the regions,
-   and finds every word that was stored and every transaction that was committed, and of others nothing. Of the call
-   in which the process died it finds the whole or nothing.
+   transactions.
+
+   Isolation. There is one array, which is owned by pages of 32 words: addresses 32 k to 32 k + 31. The first put of a
+   transaction to a word makes it the owner of the word's page until it commits or aborts. Until then a store, or a put
+   of another transaction, to any word of that page is answered ENVY_HELD with the owner's slot, also to a word that the
+   owner never put, and changes nothing. Transactions aren't hidden from one another: load and read see what any open
+   transaction put; look sees what is committed, the words that a restart would leave; view sees what the transaction of
+   one slot put, and else what is committed. Nothing waits: who is refused tries again, or aborts.
+
+   A process that is killed at any moment is a failure of power: the next one attaches to the regions, and finds every
+   word that was stored and every transaction that was committed, and of others nothing. Of the call in which the
+   process died it finds the whole or nothing.
 
    What the program promises, and nothing checks:
-   - It makes a handle with ENVY_NO_MAPPED, calls envy_mapped_new on it once, and gives every other call a handle of
+   - It makes a handle with ENVY_MAPPED_INIT, calls envy_mapped_new on it once, and gives every other call a handle of
      which envy_mapped_new answered ENVY_DONE. It neither copies nor changes a handle.
    - One call at a time uses a handle. It may use it from any thread if it orders the calls itself.
-   - Every pointer is to memory that is there, aligned, of the size that is said, and in no two arguments at once.
+   - Every pointer is to memory that is there, aligned, of the size that is said, and in no two arguments at once. None
+     is NULL, also not that of no words, nor `holder` and `done` where the program doesn't ask for them.
    - From the call that gives regions until envy_mapped_close, or until a call that gave them is refused, it neither
      reads nor writes the regions, and no other process does; nor does it unmap them or shorten their file.
    - rattle_alloc, rattle_realloc and rattle_dealloc are those of heap.c, or do the same.
 
-   Where a call answers anything but ENVY_DONE, what its pointers point to is as before, but for ENVY_HELD. Where several
-   answers would be right, it is the first of them in the order in which the call names them, but that ENVY_NO_MEMORY may
-   come in place of an ENVY_BROKEN_*. */
+   Where a call answers anything but ENVY_DONE, what its pointers point to is as before, but for ENVY_HELD and *done of
+   envy_mapped_write. Where several answers would be right, it is the first of them in the order in which the call
+   names them, but that ENVY_NO_MEMORY may come in place of an ENVY_BROKEN_*. */
 #ifndef ENVY_MAPPED_H
 #define ENVY_MAPPED_H
 
@@ -28,14 +38,11 @@ extern "C" {
 typedef struct envy_mapped {
     void *at;
 } envy_mapped;
-#define ENVY_NO_MAPPED {0}
+#define ENVY_MAPPED_INIT {0}
+/* the name of before, for programs that have it */
+#define ENVY_NO_MAPPED ENVY_MAPPED_INIT
 
-/* A region of so many words, and one of so many rows of 32 words. */
-typedef struct envy_words {
-    uint64_t *at;
-    size_t len;
-} envy_words;
-
+/* A region of so many rows of 32 words. */
 typedef struct envy_rows {
     uint64_t (*at)[32];
     size_t len;
@@ -50,6 +57,13 @@ typedef struct envy_sizes {
 
 /* Writes the sizes that a setup asks for. ENVY_DONE, ENVY_POLICY or an ENVY_SETUP_*. */
 uint32_t envy_mapped_sizes(const envy_setup *setup, envy_sizes *sizes);
+
+/* Writes the shape of the memory whose SRAM begins with these n words, before a handle is made. It reads 5 of them.
+   Policy, part, limit and mark aren't kept there: they become ENVY_GREEDY, 2, 100 and the number of frames. Whether the
+   regions hold a sound memory is for envy_mapped_attach to say.
+   ENVY_DONE; ENVY_UNFORMATTED, also where n is less than 5; ENVY_OLDER; or an ENVY_SETUP_*, where the shape that is told
+   breaks a rule. Refused, the setup is as before. */
+uint32_t envy_mapped_shape(const uint64_t *sram, size_t n, envy_setup *setup);
 
 /* Makes a place that holds no memory. ENVY_DONE or ENVY_NO_MEMORY. The place, a few hundred bytes, stays until the
    process ends, and serves for any number of memories, one after another. */
@@ -82,6 +96,10 @@ uint32_t envy_mapped_load(envy_mapped *m, uint32_t address, uint64_t *word);
 /* Writes the committed word at an address: what a restart would leave. ENVY_DONE, ENVY_EMPTY, ENVY_RANGE. */
 uint32_t envy_mapped_look(envy_mapped *m, uint32_t address, uint64_t *word);
 
+/* Writes the n words from an address on, also where open transactions put them: as n loads. ENVY_DONE, ENVY_EMPTY, or
+   ENVY_RANGE where one of the addresses lies past the last page, and then none is written. */
+uint32_t envy_mapped_read(envy_mapped *m, uint32_t address, uint64_t *words, size_t n);
+
 /* Makes the word at an address this. From then on it outlives the process. ENVY_DONE, ENVY_EMPTY, ENVY_RANGE, or
    ENVY_HELD with the slot that owns the page at *holder. Refused, it changes no word. */
 uint32_t envy_mapped_store(envy_mapped *m, uint32_t address, uint64_t word, uint32_t *holder);
@@ -94,6 +112,16 @@ uint32_t envy_mapped_begin(envy_mapped *m, uint32_t *slot);
    other transactions are kept from it. ENVY_DONE, ENVY_EMPTY, ENVY_RANGE, ENVY_CLOSED, ENVY_FULL, or ENVY_HELD with the
    slot that owns the page at *holder. Refused, it changes no word. */
 uint32_t envy_mapped_put(envy_mapped *m, uint32_t slot, uint32_t address, uint64_t word, uint32_t *holder);
+
+/* Makes the n words from an address on these within the transaction of a slot: puts word after word. The first put that
+   is refused ends it and is answered, and the words of before it stay put: *done says how many, n where all are.
+   ENVY_DONE, ENVY_EMPTY (*done is 0), or what envy_mapped_put answers. Of no words it is done at once. */
+uint32_t envy_mapped_write(envy_mapped *m, uint32_t slot, uint32_t address, const uint64_t *words, size_t n,
+                           size_t *done, uint32_t *holder);
+
+/* Writes the word at an address as the transaction of a slot sees it: where the slot owns the page as envy_mapped_load
+   does, else as envy_mapped_look does. A slot that isn't open owns nothing. ENVY_DONE, ENVY_EMPTY, ENVY_RANGE. */
+uint32_t envy_mapped_view(envy_mapped *m, uint32_t slot, uint32_t address, uint64_t *word);
 
 /* Closes a slot and keeps all that it put. From then on it outlives the process. ENVY_DONE, ENVY_EMPTY, ENVY_CLOSED. */
 uint32_t envy_mapped_commit(envy_mapped *m, uint32_t slot);

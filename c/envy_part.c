@@ -3,7 +3,7 @@
    In the library they are the `write` and the `read` of a port. The archive's names are changed, so that they don't
    meet those of a C library:
 
-       objcopy --redefine-sym write=envy_part_order --redefine-sym read=envy_part_work libenvy_parted.a */
+       objcopy --redefine-sym write=envy_part_order --redefine-sym read=envy_part_work LIBRARY.a */
 #include "envy_part.h"
 #include <string.h>
 

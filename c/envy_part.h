@@ -17,7 +17,14 @@
    5. A store to the SRAM is there when a later one is, and before a later order begins: the memory is uncached or
       written through, or the callbacks begin with what makes it so.
 
-   When power fails inside a callback, the row or the segment that it is handed may hold anything, and nothing else. */
+   When power fails inside a callback, the row or the segment that it is handed may hold anything, and nothing else.
+
+   What the memory does over a part, as flash with error-correcting words and NAND ask for: between two erases of a
+   segment each of its rows is ordered once at most, a later one lies higher than an earlier one, and a row is ordered
+   only where it reads as all ones, so that the AND is the page. (Once and rising is proved of the pool of rows, also
+   over failures of power; all of it is tested over failures of power and of flash.) Each order is made once: one call of
+   `program` for the program of a row, one of `erase` for the erase of a segment, and a read of the part or a store to
+   SRAM makes none (proved). */
 #ifndef ENVY_PART_H
 #define ENVY_PART_H
 #include <stddef.h>
@@ -35,9 +42,10 @@ enum {
 
 typedef struct envy_part {
     void *context;
-    /* Makes the 256 bytes at `row`, in the map, those of the page. Each bit that the page sets is set there already. */
+    /* Makes the 256 bytes at `row`, in the map, those of the page, which is the AND of the row and what is wanted there:
+       each bit that it sets is set there already. */
     void (*program)(void *context, volatile uint8_t *row, const uint8_t page[ENVY_ROW_BYTES]);
-    /* Makes the bytes from `at` on, a segment of the map, all ones. */
+    /* Makes the bytes from `at` on, a whole segment of the map, all ones. */
     void (*erase)(void *context, volatile uint8_t *at, size_t bytes);
 } envy_part;
 

@@ -5,9 +5,16 @@
      book FILE move A B AMOUNT  moves an amount from account A to account B
      book FILE show A           prints what account A holds
      book FILE sum              prints the number of transfers and the sum of all accounts */
-#include "book.h"
+#include "../c/envy_file.h"
+#include "../c/envy_text.h"
+#include <stdio.h>
+#include <stdlib.h>
+#include <string.h>
+#include <unistd.h>
 
 enum { ACCOUNTS = 100, START = 1000 };
+/* what is said beside the codes of the library */
+enum { NO_ACCOUNT = 2000, TOO_LITTLE };
 
 /* Word 0 counts the transfers. Each account has a page of its own, so that its balance is word 32 * (A + 1). */
 static uint32_t account(uint32_t a) { return 32 * (a + 1); }
@@ -17,11 +24,24 @@ static const envy_setup setup = {
     .policy = ENVY_LOCALITY, .limit = 100, .mark = 12,
 };
 
-static mapping book;
+static envy_file book = ENVY_FILE_INIT;
+
+static const char *text(uint32_t code) {
+    switch (code) {
+    case NO_ACCOUNT: return "there is no such account";
+    case TOO_LITTLE: return "it hasn't so much";
+    default: return envy_error_text(code);
+    }
+}
 
 static int failed(const char *what, uint32_t code) {
-    fprintf(stderr, "book: %s: code %u\n", what, code);
+    fprintf(stderr, "book: %s: %s\n", what, text(code));
     return 1;
+}
+
+static int usage(void) {
+    fputs("book: FILE new|move A B AMOUNT|show A|sum\n", stderr);
+    return 2;
 }
 
 static uint32_t put(uint32_t slot, uint32_t address, uint64_t word) {
@@ -46,7 +66,7 @@ static uint32_t move(uint32_t from, uint32_t to, uint64_t amount) {
     uint32_t slot, code = envy_mapped_begin(&book.memory, &slot);
     if (code != ENVY_DONE) return code;
     code = envy_mapped_load(&book.memory, account(from), &source);
-    if (code == ENVY_DONE && source < amount) code = ENVY_RANGE;
+    if (code == ENVY_DONE && source < amount) code = TOO_LITTLE;
     if (code == ENVY_DONE) code = put(slot, account(from), source - amount);
     if (code == ENVY_DONE) code = envy_mapped_load(&book.memory, account(to), &target);
     if (code == ENVY_DONE) code = put(slot, account(to), target + amount);
@@ -73,13 +93,13 @@ static int run(int words, char **word) {
     if (!strcmp(word[2], "new") && words == 3) return (code = fill()) ? failed("new", code) : 0;
     if (!strcmp(word[2], "move") && words == 6) {
         uint32_t from = strtoul(word[3], NULL, 10), to = strtoul(word[4], NULL, 10);
-        if (from >= ACCOUNTS || to >= ACCOUNTS) return failed("no such account", ENVY_RANGE);
+        if (from >= ACCOUNTS || to >= ACCOUNTS) return failed("move", NO_ACCOUNT);
         return (code = move(from, to, strtoull(word[5], NULL, 10))) ? failed("move", code) : 0;
     }
     if (!strcmp(word[2], "show") && words == 4) {
         uint64_t held = 0;
         uint32_t a = strtoul(word[3], NULL, 10);
-        if (a >= ACCOUNTS) return failed("no such account", ENVY_RANGE);
+        if (a >= ACCOUNTS) return failed("show", NO_ACCOUNT);
         if ((code = envy_mapped_load(&book.memory, account(a), &held))) return failed("show", code);
         printf("%llu\n", (unsigned long long)held);
         return 0;
@@ -90,14 +110,19 @@ static int run(int words, char **word) {
         printf("%llu transfers, %llu in all\n", (unsigned long long)count, (unsigned long long)total);
         return 0;
     }
-    return failed("words", 2);
+    return usage();
 }
 
 int main(int words, char **word) {
-    if (words < 3) return failed("book FILE new|move A B AMOUNT|show A|sum", 2);
-    uint32_t code = open_book(&book, word[1], &setup, !strcmp(word[2], "new"));
+    if (words < 3) return usage();
+    /* only a new book may be made */
+    if (!strcmp(word[2], "new") == !access(word[1], F_OK)) {
+        fprintf(stderr, "book: %s: %s\n", word[1], access(word[1], F_OK) ? "there is no such book" : "it is there already");
+        return 1;
+    }
+    uint32_t code = envy_file_open(&book, word[1], &setup);
     if (code != ENVY_DONE) return failed(word[1], code);
     int status = run(words, word);
-    close_book(&book);
-    return status;
+    code = envy_file_close(&book);
+    return code == ENVY_DONE ? status : failed(word[1], code);
 }

@@ -1,7 +1,8 @@
 #!/usr/bin/env bash
-# How the cost of a call grows with the board: instructions by valgrind's callgrind, which don't depend on how busy the
-# machine is, less those of the same trace without the calls. Takes the program, or the proved one; writes a table.
-# With --to FOLDER it draws the table too, where gnuplot is there (growth.png, growth.svg and growth.dat).
+# How the cost of a call grows with the board, its frames and what other transactions own: instructions by valgrind's
+# callgrind, which don't depend on how busy the machine is, less those of the same trace without the calls. Takes the
+# program, or the proved one, and writes tables; some minutes. With --to FOLDER the first table is drawn too, where gnuplot
+# is there (growth.png, growth.svg), and its numbers stand in growth.txt.
 set -eu
 cd "$(dirname "$0")/.."
 to=
@@ -11,49 +12,100 @@ program=${1-$PWD/crates/envy/out/envy}
 command -v valgrind >/dev/null || { echo "growth: valgrind is not on the path" >&2; exit 1; }
 work=$(mktemp -d "${TMPDIR:-/tmp}/envy-growth.XXXXXX")
 trap 'rm -rf "$work"' EXIT
-stores=20000
 
 # counted TRACE WORDS..: the instructions of a run
 counted() {
     local trace=$1
     shift
-    valgrind --tool=callgrind --callgrind-out-file=/dev/null "$program" run "$@" <"$trace" 2>"$work/said" >/dev/null
+    valgrind --tool=callgrind --callgrind-out-file=/dev/null "$program" "$@" <"$trace" 2>"$work/said" >/dev/null
     awk '/Collected/ { print $NF }' "$work/said"
 }
 
-# Fills every page once, so that the board is at 80 % use, and then makes so many stores to drawn pages.
+# trace KIND CALLS PAGES OWNED: every page is stored once, so that the board is at 80 % use; a transaction puts OWNED pages
+# and stays open; background steps go on until nothing is left to do; then come so many calls of the kind, on drawn pages.
 trace() {
-    awk -v pages="$1" -v stores="$2" 'BEGIN {
-        for (p = 0; p < pages; p++) print "store", 32 * p, p + 1
-        x = 12345
-        for (i = 0; i < stores; i++) { x = (x * 1103515245 + 12345) % 2147483648; print "store", 32 * (int(x / 8) % pages) + i % 32, i }
-    }'
+    awk -v kind="$1" -v calls="$2" -v pages="$3" -v owned="$4" '
+        function drawn(most) { x = (x * 1103515245 + 12345) % 2147483648; return int(x / 8) % most }
+        function transaction(end,    k, first) {
+            print "begin"
+            first = owned + drawn(pages - owned - 8)
+            for (k = 0; k < 8; k++) print "put", (owned > 0), 32 * (first + k) + k, k
+            print end, (owned > 0)
+        }
+        BEGIN {
+            x = 12345
+            for (p = 0; p < pages; p++) print "store", 32 * p, p + 1
+            if (owned) { print "begin"; for (p = 0; p < owned; p++) print "put", 0, 32 * p, p }
+            if (kind == "tick") for (i = 0; i < 4000; i++) print "tick"
+            for (i = 0; i < calls; i++) {
+                if (kind == "store") print "store", 32 * drawn(pages) + i % 32, i
+                else if (kind == "tick") print "tick"
+                else transaction(kind)
+            }
+        }'
 }
 
-echo '| Segments x rows | Instructions a store, greedy | hybrid |'
-echo '|---|---|---|'
+# cost KIND CALLS PAGES OWNED OPTIONS..: instructions a call
+cost() {
+    local kind=$1 calls=$2 pages=$3 owned=$4 none all
+    shift 4
+    trace "$kind" 0 "$pages" "$owned" >"$work/none"
+    trace "$kind" "$calls" "$pages" "$owned" >"$work/all"
+    none=$(counted "$work/none" run --pages "$pages" "$@")
+    all=$(counted "$work/all" run --pages "$pages" "$@")
+    echo $(((all - none) / calls))
+}
+
+# transfer PAGES OPTIONS..: instructions a transfer of the bank, over eight accounts a page
+transfer() {
+    local pages=$1 none all
+    shift
+    set -- --pages "$pages" --accounts $((pages * 8)) "$@"
+    none=$(counted /dev/null tpca --transfers 0 "$@")
+    all=$(counted /dev/null tpca --transfers 200 "$@")
+    echo $(((all - none) / 200))
+}
+
+# pages_of SEGMENTS ROWS SHADOWS: at most 80 % of the rows, and what the rules of a shape leave
+pages_of() {
+    local pages=$(($1 * $2 * 8 / 10)) most=$((($1 - 2) * $2 - $3))
+    echo $((pages < most ? pages : most))
+}
+
+echo '| Segments x rows | store, greedy | hybrid | lifetime | transfer | idle tick | abort of 8 pages | commit of 8 pages |'
+echo '|---|---|---|---|---|---|---|---|'
 for shape in 8x16 64x128 512x256 4096x256; do
     segments=${shape%x*} rows=${shape#*x}
-    pages=$((segments * rows * 8 / 10))
-    most=$(((segments - 2) * rows - 16))
-    [ "$pages" -le "$most" ] || pages=$most
-    sizes="--segments $segments --rows $rows --pages $pages --shadows 16 --frames 64 --entries 64 --mark 64"
-    trace "$pages" 0 >"$work/none"
-    trace "$pages" $stores >"$work/all"
-    cells=
-    for policy in greedy hybrid; do
-        # shellcheck disable=SC2086
-        none=$(counted "$work/none" $sizes --policy $policy)
-        # shellcheck disable=SC2086
-        all=$(counted "$work/all" $sizes --policy $policy)
-        cells="$cells $(((all - none) / stores))"
-    done
-    set -- $cells
-    printf '| %s | %d | %d |\n' "$shape" "$1" "$2"
-    echo "$((segments * rows)) $1 $2" >>"$work/growth.dat"
+    pages=$(pages_of "$segments" "$rows" 16)
+    sizes="--segments $segments --rows $rows --shadows 16 --frames 64 --entries 64 --mark 64"
+    # shellcheck disable=SC2086
+    {
+        cells=
+        for policy in greedy hybrid lifetime; do
+            cells="$cells $(cost store 20000 "$pages" 0 $sizes --policy $policy)"
+        done
+        cells="$cells $(transfer "$pages" $sizes) $(cost tick 2000 "$pages" 0 $sizes)"
+        cells="$cells $(cost abort 500 "$pages" 0 $sizes) $(cost commit 500 "$pages" 0 $sizes)"
+    }
+    # shellcheck disable=SC2086
+    printf '| %s | %d | %d | %d | %d | %d | %d | %d |\n' "$shape" $cells
+    echo "$((segments * rows))$cells" >>"$work/growth.txt"
 done
+
+echo
+echo '| 1,024 x 256, frames | pages that another transaction owns | abort of 8 pages | commit of 8 pages |'
+echo '|---|---|---|---|'
+for frames in 64 65536; do
+    for owned in 10 50000; do
+        sizes="--segments 1024 --rows 256 --shadows 50064 --frames $frames --entries 64 --mark $frames"
+        pages=$(pages_of 1024 256 50064)
+        # shellcheck disable=SC2086
+        printf '| %d | %d | %d | %d |\n' $frames $owned "$(cost abort 500 "$pages" $owned $sizes)" "$(cost commit 500 "$pages" $owned $sizes)"
+    done
+done
+
 [ -n "$to" ] || exit 0
-cp "$work/growth.dat" "$to/growth.dat"
+cp "$work/growth.txt" "$to/growth.txt"
 command -v gnuplot >/dev/null || exit 0
 for kind in png svg; do
     gnuplot <<GNUPLOT
@@ -61,9 +113,10 @@ set terminal $kind size 800,500
 set output "$to/growth.$kind"
 set logscale x 2
 set xlabel "rows of the board"
-set ylabel "instructions a store"
+set ylabel "instructions"
 set yrange [0:*]
 set key outside right
-plot "$to/growth.dat" using 1:2 with linespoints title "greedy", "" using 1:3 with linespoints title "hybrid"
+plot "$to/growth.txt" using 1:2 with linespoints title "a store, greedy", "" using 1:3 with linespoints title "hybrid", "" using 1:4 with linespoints title "lifetime", \
+    "" using 1:6 with linespoints title "an idle tick", "" using 1:7 with linespoints title "an abort of 8 pages", "" using 1:8 with linespoints title "a commit"
 GNUPLOT
 done

@@ -1,7 +1,9 @@
 #!/usr/bin/env bash
 # The libraries that C and Rust programs link, tried by such programs: the answers of `envy run`, every number, images,
-# kills at drawn moments, and the account book in both languages. It needs gcc and rustc, and a program that `envy`
-# starts at once (./envy --prove, or .ci/run). A word is the number that the kills are drawn from.
+# kills at drawn moments, an ordered map, the account book in both languages, the Rust package, and what is installed. It needs gcc and
+# rustc, and a program that `envy` starts at once (./envy --prove, or .ci/run). Where a compiler for 64-bit ARM and its
+# emulator are (Debian: gcc-aarch64-linux-gnu libc6-dev-arm64-cross qemu-user), the same is tried of the library for that
+# processor. A word is the number that the kills are drawn from.
 set -eu
 cd "$(dirname "$0")"
 ../envy --stands || exit 1
@@ -11,22 +13,48 @@ for tool in gcc rustc; do
         exit 2
     fi
 done
-library/build.py envy_mapped envy_c
+arm=
+if aarch64-linux-gnu-gcc --version >/dev/null 2>&1 && qemu-aarch64 --version >/dev/null 2>&1; then arm=aarch64; fi
+library/build.py envy_mapped envy_sim ${arm:+--also=$arm}
 make -s all tests
 work=$(mktemp -d "${TMPDIR:-/tmp}/envy-library.XXXXXX")
 trap 'rm -rf "$work"' EXIT
 
-# the six lines of C that README and docs/LIBRARY.md show, as they stand there
+# the lines of C that README and docs/LIBRARY.md show, as they stand there
 for page in ../README.md ../docs/LIBRARY.md; do
     {
-        printf '#include "envy.h"\nint main(void) {\n'
-        sed -n '/^    envy_setup setup/,/^    envy_load/p' "$page"
+        printf '#include "envy_sim.h"\nint main(void) {\n'
+        sed -n '/^    envy_setup setup/,/^    envy_sim_load/p' "$page"
         printf '    return word == 7 ? 0 : 1;\n}\n'
-    } >"$work/six.c"
-    gcc -Wall -Wextra -I ../c -o "$work/six" "$work/six.c" ../c/heap.c ../crates/envy_c/out/libenvy_c.a
-    "$work/six"
+    } >"$work/lines.c"
+    gcc -Wall -Wextra -I ../c -o "$work/lines" "$work/lines.c" ../c/heap.c ../crates/envy_sim/out/libenvy_sim.a
+    "$work/lines"
 done
-echo "library: the six lines of C do what the pages say"
+echo "library: the lines of C do what the pages say"
+
+# what is installed links by its own words, by pkg-config's where that is, and moves
+make -s -C ../c install PREFIX="$work/installed"
+config=$work/installed/bin/envy-config
+[ "$($config --version)" = "$(cat ../VERSION)" ]
+# shellcheck disable=SC2046
+gcc $($config --cflags) -o "$work/lines" "$work/lines.c" $($config --libs-sim)
+"$work/lines"
+# shellcheck disable=SC2046
+sed 's|"../c/|"|' book.c >"$work/book.c" && gcc $($config --cflags) -o "$work/book" "$work/book.c" $($config --libs)
+if pkg-config --version >/dev/null 2>&1; then
+    export PKG_CONFIG_PATH=$work/installed/lib/pkgconfig
+    # shellcheck disable=SC2046
+    gcc $(pkg-config --cflags envy) -o "$work/book" "$work/book.c" $(pkg-config --libs envy)
+fi
+"$work/book" "$work/installed.book" new
+[ "$("$work/book" "$work/installed.book" sum)" = "0 transfers, 100000 in all" ]
+# and the program that is shown to those who link it
+sed -n 's/^    //; /^#include "envy_file.h"/,/^}/p' ../c/LINKING.md >"$work/counter.c"
+# shellcheck disable=SC2046
+gcc -Wall -Wextra $($config --cflags) -o "$work/runs" "$work/counter.c" $($config --libs)
+(cd "$work" && ./runs && ./runs) >"$work/told"
+[ "$(cat "$work/told")" = "$(printf 'run 1: done\nrun 2: done')" ]
+echo "library: what is installed links and runs"
 
 # 10,000 commands that are drawn, some loads made looks, and a failure of power before every thousandth
 ../envy gen --start 20 --lines 10000 |
@@ -56,7 +84,12 @@ cmp "$work/wanted" "$work/words"
 echo "library: the $(wc -l <"$work/words") words of an image are those of envy run"
 
 out/refused-asan "$work/refused.file"
+out/sized "$work/sized.file"
 out/killed "$work/killed.file" 200 "${1-1}"
+ASAN_OPTIONS=detect_leaks=0 out/ordered-asan "$work/ordered-asan.file" 50000 "${1-1}" # a handle lasts as long as the process
+out/ordered "$work/ordered.file" 1000000 "${1-1}"
+ASAN_OPTIONS=detect_leaks=0 out/files-asan "$work/files.file" # a handle lasts as long as the process
+TMPDIR=$work out/rust-tests --quiet
 
 for program in book book-asan book-rust; do
     book() { out/$program "$work/$program.book" "$@"; }
@@ -70,3 +103,25 @@ done
 # each opens what the other wrote
 [ "$(out/book "$work/book-rust.book" sum)" = "$(out/book-rust "$work/book.book" sum)" ]
 echo "library: the account book is the same in C and in Rust"
+
+if [ -z "$arm" ]; then
+    echo "library: for 64-bit ARM nothing was tried: aarch64-linux-gnu-gcc or qemu-aarch64 doesn't run here"
+    exit 0
+fi
+make -s CC=aarch64-linux-gnu-gcc CFLAGS="-O2 -std=gnu11 -Wall -Wextra -Wpedantic -static" OUT=out/$arm \
+    LIBRARY=../crates/envy_mapped/out/$arm/libenvy_mapped.a programs
+emulated() { program=$1 && shift && qemu-aarch64 "out/$arm/$program" "$@"; }
+../envy run <"$work/trace" >"$work/wanted"
+emulated replay "$work/arm.file" <"$work/trace" >"$work/arm.replies"
+cmp "$work/wanted" "$work/arm.replies"
+emulated refused "$work/arm-refused.file"
+emulated sized "$work/arm-sized.file"
+emulated killed "$work/arm-killed.file" 50 "${1-1}"
+emulated files "$work/arm-files.file" >"$work/told"
+emulated book "$work/arm.book" new
+emulated book "$work/arm.book" move 3 4 250
+[ "$(out/book "$work/arm.book" sum)" = "1 transfers, 100000 in all" ]
+out/book "$work/arm.book" move 4 5 100
+[ "$(emulated book "$work/arm.book" sum)" = "2 transfers, 100000 in all" ]
+[ "$(emulated book "$work/book.book" sum)" = "$(out/book "$work/book.book" sum)" ]
+echo "library: the same for 64-bit ARM under the emulator, and each processor opens what the other wrote"

@@ -1,7 +1,7 @@
 #!/usr/bin/env bash
 # What no contract can say of the program's streams: each reply comes before the next line is waited for, every
-# exit leaves the replies of the lines before it, a reader that closes early gives status 4, and the system is
-# asked seldom. Takes the program, or the proved one. Each step has a limit of time.
+# exit leaves the replies of the lines before it, a reader that closes early gives status 4, what stands behind an
+# image is left to the next reader, and the system is asked seldom. Takes the program, or the proved one. Each step has a limit of time.
 set -u
 cd "$(dirname "$0")/.."
 program=${1-$PWD/crates/envy/out/envy}
@@ -76,6 +76,24 @@ PY
     status=$?
     ends "a source that fails after two lines" 3 'ok\n7\n'
 fi
+
+# leaves NAME SKIPPED WORDS..: the program stops within or behind the image, and the next reader finds what it didn't
+# need, all but the first bytes, whether the bytes stand in a file or come through a pipe
+leaves() {
+    local name=$1 skipped=$2
+    shift 2
+    tail -c "+$((skipped + 1))" "$work/joined" >"$work/wanted"
+    { timeout 60 "$program" "$@" >"$work/out" 2>"$work/err"; cat >"$work/left"; } <"$work/joined"
+    cmp -s "$work/wanted" "$work/left" || fail "$name: the next reader of a file finds $(stat -c %s "$work/left") bytes"
+    cat "$work/joined" | { timeout 60 "$program" "$@" >"$work/out" 2>"$work/err"; cat >"$work/left"; }
+    cmp -s "$work/wanted" "$work/left" || fail "$name: the next reader of a pipe finds $(stat -c %s "$work/left") bytes"
+}
+runs save --pages 8 < <(printf 'store 0 7\n')
+cp "$work/out" "$work/image"
+{ cat "$work/image"; seq 100000; } >"$work/joined"
+leaves "an audit" "$(stat -c %s "$work/image")" audit
+[ "$(cat "$work/out")" = sound ] || fail "an audit with bytes behind the image: $(cat "$work/out")"
+leaves "options that don't fit an image" 32 resume --mark 65536
 
 timeout 60 "$program" gen --lines 100000 >/dev/full 2>"$work/err"
 [ $? = 4 ] || fail "a full device: another status than 4"

@@ -64,7 +64,7 @@ while IFS='|' read -r given wanted; do
     [ "$took" -le 1000000000 ] || fail "${given[*]}: told after more than a second"
     understood "${given[@]}" && fail "${given[*]}: the program understands them"
 done <<'TEXT'
-|no word (run plain gen save audit resume index mirror tpca)
+|no word (run plain gen save audit map resume index mirror tpca)
 rum|rum is no word (is it run?)
 Run|Run is no word (is it run?)
 --frob|--frob is no word (is it --prove?)
@@ -75,6 +75,8 @@ run --polcy fifo|--polcy is no option (is it --policy?)
 run --ROWS 3|--ROWS is no option (is it --rows?)
 run 16|16 is no option
 audit 16|16 is no option (audit takes none)
+map --rows 16|map takes no --rows
+gen --hott 5|--hott is no option (is it --hot?)
 run --pages ten|--pages: ten is no number
 run --pages=|--pages: nothing is no number
 run --pages +3|--pages: +3 is no number
@@ -82,8 +84,8 @@ run --pages 3e4|--pages: 3e4 is no number
 run --pages --rows|--pages: --rows is no number
 run --pages 4294967296|--pages: 4294967296 is above 4294967295
 run --limit 18446744073709551616|--limit: 18446744073709551616 is above 18446744073709551615
-run --policy lru|--policy: lru (greedy, fifo, locality, hybrid)
-run --policy Greedy|--policy: Greedy (greedy, fifo, locality, hybrid)
+run --policy lru|--policy: lru (greedy, fifo, locality, hybrid, lifetime)
+run --policy Greedy|--policy: Greedy (greedy, fifo, locality, hybrid, lifetime)
 run --rows 3 --rows 3|--rows twice
 run --rows=3 --rows 4|--rows twice
 run --rows|--rows has no value

@@ -3,9 +3,14 @@
    was answered, or that and the one piece of work that was in flight.
 
      killed FILE ROUNDS SEED */
-#include "../book.h"
+#include "../../c/envy_file.h"
+#include "../../c/envy_text.h"
 #include <signal.h>
+#include <stdio.h>
+#include <stdlib.h>
+#include <string.h>
 #include <sys/wait.h>
+#include <unistd.h>
 
 enum { PAGES = 64, WORDS = 32 * PAGES, MOST = 12 };
 
@@ -14,7 +19,7 @@ static envy_setup setup = {
     .policy = ENVY_GREEDY, .part = 2, .limit = 3, .mark = 6,
 };
 
-static mapping map;
+static envy_file map = ENVY_FILE_INIT;
 
 static uint64_t draw(uint64_t *state) {
     *state += 0x9E3779B97F4A7C15;
@@ -56,7 +61,7 @@ static void apply(uint64_t *words, const piece *p) {
 
 static void must(uint32_t code, const char *what) {
     if (code == ENVY_DONE) return;
-    fprintf(stderr, "killed: %s: code %u\n", what, code);
+    fprintf(stderr, "killed: %s: %s\n", what, envy_error_text(code));
     _exit(1);
 }
 
@@ -77,7 +82,7 @@ static void do_piece(const piece *p, uint64_t *state) {
 /* Works from piece n on until it is killed, and writes the number of each piece once it was answered. */
 static void work(const char *path, uint64_t seed, uint64_t n, int pipe) {
     uint64_t state = seed + n;
-    must(open_book(&map, path, &setup, 0), "attach");
+    must(envy_file_open(&map, path, &setup), "attach");
     for (;; n++) {
         piece p = piece_of(seed, n);
         do_piece(&p, &state);
@@ -134,10 +139,10 @@ int main(int words, char **word) {
     if (words != 4) return 2;
     int rounds = atoi(word[2]), in_flight = 0;
     uint64_t seed = strtoull(word[3], NULL, 10), state = seed, last = 0;
-    must(open_book(&map, word[1], &setup, 1), "format");
-    close_book(&map);
+    must(envy_file_open(&map, word[1], &setup), "format");
+    envy_file_close(&map);
     for (int round = 1; round <= rounds; round++) {
-        setup.policy = draw(&state) % 4;
+        setup.policy = draw(&state) % 5;
         uint64_t answered = killed_after(word[1], seed, last, (useconds_t)(draw(&state) % 12000));
         for (; last < answered; last++) {
             piece p = piece_of(seed, last + 1);
@@ -146,7 +151,7 @@ int main(int words, char **word) {
         piece next = piece_of(seed, last + 1);
         memcpy(after, before, sizeof after);
         apply(after, &next);
-        must(open_book(&map, word[1], &setup, 0), "attach after a kill");
+        must(envy_file_open(&map, word[1], &setup), "attach after a kill");
         if (!holds(before)) {
             if (!holds(after)) {
                 fprintf(stderr, "killed: round %d: the words are neither those of piece %llu nor of the next\n", round,
@@ -157,7 +162,7 @@ int main(int words, char **word) {
             last++;
             in_flight++;
         }
-        close_book(&map);
+        envy_file_close(&map);
     }
     printf("%d kills, %llu pieces of work, %d of them done but not yet answered\n", rounds, (unsigned long long)last,
            in_flight);

@@ -1,8 +1,12 @@
-/* Every answer of the library but ENVY_NO_MEMORY: what is opened that is truncated, foreign, older, of another shape
+/* Every answer of envy_mapped.h but ENVY_NO_MEMORY: what is opened that is truncated, foreign, older, of another shape
    or damaged is refused by its own number, and not a byte of it changes.
 
      refused FILE */
-#include "../book.h"
+#include "../../c/envy_file.h"
+#include "../../c/envy_text.h"
+#include <stdio.h>
+#include <stdlib.h>
+#include <string.h>
 
 /* Of this shape the map of SRAM has the fields at these words. */
 enum { SEGMENTS = 8, ROWS = 16, PAGES = 64, SHADOWS = 16 };
@@ -13,7 +17,7 @@ static const envy_setup setup = {
     .policy = ENVY_GREEDY, .part = 2, .limit = 100, .mark = 8,
 };
 
-static mapping map;
+static envy_file map = ENVY_FILE_INIT;
 static char *whole, *changed;
 static size_t bytes;
 static const char *path;
@@ -40,7 +44,7 @@ static void refuses(int line, const envy_setup *given, size_t n, uint32_t code) 
     char *found = malloc(n + 1);
     uint64_t word = 77;
     write_file(changed, n);
-    want(line, open_book(&map, path, given, 0), code);
+    want(line, envy_file_open(&map, path, given), code);
     read_file(found, n);
     want(line, memcmp(found, changed, n) == 0, 1);
     want(line, envy_mapped_load(&map.memory, 0, &word), ENVY_EMPTY);
@@ -167,12 +171,12 @@ static void setups(void) {
     bad[10].limit = 0;
     bad[11].mark = 0;
     bad[12].mark = 9;
-    bad[13].policy = 4;
+    bad[13].policy = 5;
     for (int i = 0; i < 14; i++) {
         envy_sizes sizes = {1, 2, 3};
         WANT(envy_mapped_sizes(&bad[i], &sizes), code[i]);
         WANT(sizes.rows == 1 && sizes.words == 2 && sizes.erases == 3, 1);
-        /* open_book asks for the sizes first, so the regions are given here */
+        /* envy_file_open asks for the sizes first, so the regions are given here */
         envy_rows flash = {(uint64_t (*)[32])changed, SEGMENTS * ROWS};
         envy_words sram = {word_at(0), 559}, erases = {word_at(559), SEGMENTS};
         WANT(envy_mapped_attach(&map.memory, &bad[i], flash, sram, erases), code[i]);
@@ -228,6 +232,94 @@ static void calls(void) {
     WANT(envy_mapped_tick(m, &holder), ENVY_DONE);
 }
 
+/* Several words in one call, and what each transaction sees. */
+static void several(void) {
+    enum { LAST = 32 * PAGES - 1 };
+    envy_mapped *m = &map.memory;
+    uint64_t words[80], found[80], word = 5;
+    uint32_t slot, other, holder = 99;
+    size_t done = 99;
+    for (int i = 0; i < 80; i++) words[i] = 1000 + i;
+    for (int i = 0; i < 80; i++) found[i] = 7;
+    WANT(envy_mapped_begin(m, &slot), ENVY_DONE);
+    WANT(envy_mapped_begin(m, &other), ENVY_DONE);
+    /* from within a page over the next into a third */
+    WANT(envy_mapped_write(m, slot, 20, words, 80, &done, &holder), ENVY_DONE);
+    WANT(done == 80 && holder == 99, 1);
+    WANT(envy_mapped_read(m, 20, found, 80), ENVY_DONE);
+    WANT(memcmp(words, found, sizeof words), 0);
+    WANT(envy_mapped_view(m, slot, 21, &word), ENVY_DONE);
+    WANT(word, 1001);
+    WANT(envy_mapped_view(m, other, 21, &word), ENVY_DONE);
+    WANT(word, 21);
+    WANT(envy_mapped_view(m, 64, 21, &word), ENVY_DONE);
+    WANT(word, 21);
+    WANT(envy_mapped_view(m, slot, LAST + 1, &word), ENVY_RANGE);
+    WANT(word, 21);
+    /* two words are put before the first of a page that another slot owns */
+    WANT(envy_mapped_write(m, other, 32 * 4, words, 1, &done, &holder), ENVY_DONE);
+    WANT(envy_mapped_abort(m, slot), ENVY_DONE);
+    WANT(envy_mapped_begin(m, &slot), ENVY_DONE);
+    WANT(envy_mapped_put(m, slot, 96, 5, &holder), ENVY_DONE);
+    WANT(envy_mapped_write(m, other, 94, words, 80, &done, &holder), ENVY_HELD);
+    WANT(done == 2 && holder == slot, 1);
+    WANT(envy_mapped_load(m, 94, &word), ENVY_DONE);
+    WANT(word, 1000);
+    WANT(envy_mapped_load(m, 95, &word), ENVY_DONE);
+    WANT(word, 1001);
+    WANT(envy_mapped_load(m, 97, &word), ENVY_DONE);
+    WANT(word, 97);
+    holder = 99;
+    WANT(envy_mapped_write(m, other, LAST, words, 3, &done, &holder), ENVY_RANGE);
+    WANT(done == 1 && holder == 99, 1);
+    WANT(envy_mapped_write(m, other, UINT32_MAX, words, 3, &done, &holder), ENVY_RANGE);
+    WANT(done, 0);
+    WANT(envy_mapped_write(m, 64, 0, words, 3, &done, &holder), ENVY_CLOSED);
+    WANT(done, 0);
+    WANT(envy_mapped_write(m, 64, UINT32_MAX, words, 0, &done, &holder), ENVY_DONE);
+    WANT(envy_mapped_abort(m, other), ENVY_DONE);
+    WANT(envy_mapped_abort(m, slot), ENVY_DONE);
+    /* a read is whole or not at all */
+    memset(found, 0, sizeof found);
+    WANT(envy_mapped_read(m, LAST - 78, found, 80), ENVY_RANGE);
+    WANT(envy_mapped_read(m, UINT32_MAX, found, 80), ENVY_RANGE);
+    for (int i = 0; i < 80; i++) WANT(found[i], 0);
+    WANT(envy_mapped_read(m, LAST - 79, found, 80), ENVY_DONE);
+    for (int i = 0; i < 80; i++) WANT(found[i], LAST - 79 + i);
+    WANT(envy_mapped_read(m, UINT32_MAX, found, 0), ENVY_DONE);
+}
+
+/* The shape of a file, by its first words of SRAM and by the file. */
+static void shapes(void) {
+    envy_setup found = {0}, none = {0};
+    WANT(envy_mapped_shape(word_at(0), 5, &found), ENVY_DONE);
+    WANT(found.segments == SEGMENTS && found.rows == ROWS && found.pages == PAGES && found.shadows == SHADOWS, 1);
+    WANT(found.frames == 8 && found.entries == 4 && found.policy == ENVY_GREEDY && found.limit == 100, 1);
+    WANT(found.part == 2 && found.mark == 8, 1);
+    write_file(changed, bytes);
+    found = none;
+    WANT(envy_file_shape(path, &found), ENVY_DONE);
+    WANT(found.segments == SEGMENTS && found.entries == 4, 1);
+    found = none;
+    WANT(envy_mapped_shape(word_at(0), 4, &found), ENVY_UNFORMATTED);
+    WANT(envy_mapped_shape(word_at(1), 5, &found), ENVY_UNFORMATTED);
+    *word_at(4) += 1ull << 48;
+    WANT(envy_mapped_shape(word_at(0), 5, &found), ENVY_SETUP_FRAMES);
+    *word_at(VERSION) = 1;
+    WANT(envy_mapped_shape(word_at(0), 5, &found), ENVY_OLDER);
+    write_file(changed, bytes);
+    WANT(envy_file_shape(path, &found), ENVY_OLDER);
+    *word_at(VERSION) = 3;
+    WANT(envy_mapped_shape(word_at(0), 5, &found), ENVY_UNFORMATTED);
+    memcpy(changed, whole, bytes);
+    write_file(changed, bytes - 8);
+    WANT(envy_file_shape(path, &found), ENVY_UNFORMATTED);
+    write_file(changed, 0);
+    WANT(envy_file_shape(path, &found), ENVY_UNFORMATTED);
+    WANT(envy_file_shape("/nowhere/at/all", &found), ENVY_SYSTEM);
+    WANT(memcmp(&found, &none, sizeof found), 0);
+}
+
 static void open_and_empty(void) {
     envy_mapped *m = &map.memory;
     uint64_t word = 5;
@@ -238,7 +330,7 @@ static void open_and_empty(void) {
     WANT(envy_mapped_attach(m, &setup, flash, sram, erases), ENVY_OPEN);
     WANT(envy_mapped_format(m, &setup, flash, sram, erases), ENVY_OPEN);
     WANT(memcmp(changed, whole, bytes), 0);
-    close_book(&map);
+    envy_file_close(&map);
     envy_mapped_close(m);
     WANT(envy_mapped_load(m, 0, &word), ENVY_EMPTY);
     WANT(envy_mapped_look(m, 0, &word), ENVY_EMPTY);
@@ -249,6 +341,11 @@ static void open_and_empty(void) {
     WANT(envy_mapped_abort(m, 0), ENVY_EMPTY);
     WANT(envy_mapped_tick(m, &number), ENVY_EMPTY);
     WANT(envy_mapped_counts(m, &counts), ENVY_EMPTY);
+    WANT(envy_mapped_read(m, 0, &word, 1), ENVY_EMPTY);
+    WANT(envy_mapped_view(m, 0, 0, &word), ENVY_EMPTY);
+    size_t done = 99;
+    WANT(envy_mapped_write(m, 0, 0, &word, 1, &done, &number), ENVY_EMPTY);
+    WANT(done, 0);
     WANT(word == 5 && number == 99, 1);
 }
 
@@ -256,10 +353,10 @@ int main(int words, char **word) {
     uint32_t holder;
     if (words != 2) return 2;
     path = word[1];
-    WANT(open_book(&map, path, &setup, 1), ENVY_DONE);
+    WANT(envy_file_open(&map, path, &setup), ENVY_DONE);
     for (uint32_t a = 0; a < 32 * PAGES; a++) WANT(envy_mapped_store(&map.memory, a, a, &holder), ENVY_DONE);
     bytes = map.bytes;
-    close_book(&map);
+    envy_file_close(&map);
     whole = malloc(bytes);
     changed = malloc(bytes);
     read_file(whole, bytes);
@@ -268,8 +365,10 @@ int main(int words, char **word) {
     copied_twice();
     truncated_and_foreign();
     setups();
+    shapes();
     write_file(whole, bytes);
-    WANT(open_book(&map, path, &setup, 0), ENVY_DONE);
+    WANT(envy_file_open(&map, path, &setup), ENVY_DONE);
+    several();
     calls();
     open_and_empty();
     free(whole);

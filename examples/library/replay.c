@@ -3,17 +3,18 @@
    be planned too.
 
      replay FILE | replay-memory */
-#ifdef IN_MEMORY
-#include "../../c/envy.h"
+#include "../../c/envy_text.h"
 #include <stdio.h>
 #include <stdlib.h>
 #include <string.h>
-#define CALL(name) envy_##name
-static struct { envy_memory memory; } map;
+#ifdef IN_MEMORY
+#include "../../c/envy_sim.h"
+#define CALL(name) envy_sim_##name
+static struct { envy_sim memory; } map;
 #else
-#include "../book.h"
+#include "../../c/envy_file.h"
 #define CALL(name) envy_mapped_##name
-static mapping map;
+static envy_file map = ENVY_FILE_INIT;
 #endif
 
 static const envy_setup setup = {
@@ -24,7 +25,7 @@ static const envy_setup setup = {
 #ifdef IN_MEMORY
 static void restart(void) {
     uint32_t code;
-    while ((code = envy_revive(&map.memory)) == ENVY_OFF) {}
+    while ((code = envy_sim_revive(&map.memory)) == ENVY_OFF) {}
     if (code != ENVY_DONE) exit(6);
     puts("restarted");
 }
@@ -42,7 +43,7 @@ static void reply(uint32_t code, uint32_t holder) {
     case ENVY_BAD: puts("fault"); break;
     case ENVY_OFF: puts("lost"); restart(); break;
 #endif
-    default: printf("code %u\n", code); exit(1);
+    default: puts(envy_error_text(code)); exit(1);
     }
 }
 
@@ -72,15 +73,15 @@ static void answer(const char *command, const unsigned long long *x, const char 
     } else if (!strcmp(command, "power")) {
 #ifdef IN_MEMORY
         (void)path;
-        if (envy_cut_now(&map.memory) != ENVY_DONE) exit(1);
+        if (envy_sim_cut_now(&map.memory) != ENVY_DONE) exit(1);
         restart();
     } else if (!strcmp(command, "cut") || !strcmp(command, "bad")) {
-        code = command[0] == 'c' ? envy_arm_cut(&map.memory, x[0], x[1]) : envy_arm_bad(&map.memory, x[0], x[1]);
+        code = command[0] == 'c' ? envy_sim_arm_cut(&map.memory, x[0], x[1]) : envy_sim_arm_bad(&map.memory, x[0], x[1]);
         if (code != ENVY_DONE) exit(1);
         puts("armed");
 #else
-        close_book(&map);
-        code = open_book(&map, path, &setup, 0);
+        envy_file_close(&map);
+        code = envy_file_open(&map, path, &setup);
         if (code != ENVY_DONE) reply(code, 0);
         puts("restarted");
 #endif
@@ -92,19 +93,19 @@ static void answer(const char *command, const unsigned long long *x, const char 
 int main(int words, char **word) {
     char line[128], command[16];
 #ifdef IN_MEMORY
-    if (words != 1 || envy_new(&map.memory) != ENVY_DONE) return 2;
-    if (envy_format(&map.memory, &setup, UINT32_MAX) != ENVY_DONE) return 2;
+    if (words != 1 || envy_sim_new(&map.memory) != ENVY_DONE) return 2;
+    if (envy_sim_format(&map.memory, &setup, UINT32_MAX) != ENVY_DONE) return 2;
 #else
-    if (words != 2 || open_book(&map, word[1], &setup, 1) != ENVY_DONE) return 2;
+    if (words != 2 || envy_file_open(&map, word[1], &setup) != ENVY_DONE) return 2;
 #endif
     while (fgets(line, sizeof line, stdin)) {
         unsigned long long x[3] = {0, 0, 0};
         if (sscanf(line, "%15s %llu %llu %llu", command, x, x + 1, x + 2) > 0) answer(command, x, word[1]);
     }
 #ifdef IN_MEMORY
-    envy_close(&map.memory);
+    envy_sim_close(&map.memory);
 #else
-    close_book(&map);
+    envy_file_close(&map);
 #endif
     return 0;
 }

@@ -8,12 +8,14 @@ use Rattle.envy_base.specs.declared.area.Area.{Area}
 use Rattle.envy_base.specs.declared.shape.Shape.{Shape}
 use Rattle.envy_base.specs.Area.{history_at}
 use Rattle.envy_policy.specs.declared.setup.Policy.{Policy}
-use Rattle.envy_policy.specs.declared.setup.Policy.TheVariants.{Greedy, Fifo, Locality, Hybrid}
+use Rattle.envy_gen.specs.declared.mix.Mix.{Mix}
+use Rattle.envy_gen.specs.declared.mix.Skew.{Skew}
+use Rattle.envy_policy.specs.declared.setup.Policy.TheVariants.{Greedy, Fifo, Locality, Hybrid, Lifetime}
 use Rattle.envy_policy.specs.declared.setup.Setup.{Setup}
 use Rattle.envy_policy.specs.declared.setup.SetupFault.{SetupFault}
 use Rattle.envy_policy.specs.Setup.{checked, rule_of}
 use Rattle.envy_args.specs.declared.command.Command.{Command}
-use Rattle.envy_args.specs.declared.command.Command.TheVariants.{Run, Plain, Tpca, Gen, Save, Resume, Audit, Index, Mirror}
+use Rattle.envy_args.specs.declared.command.Command.TheVariants.{Run, Plain, Tpca, Gen, Save, Resume, Audit, Segments, Index, Mirror}
 use Rattle.envy_args.specs.declared.command.WordsFault.{WordsFault}
 use Rattle.envy_args.specs.declared.command.WordsFault.TheVariants.{Form, Setup as Rule}
 
@@ -74,7 +76,8 @@ policy_named part text =
     if bytes_eq text (codes "greedy") then Some Greedy
     else (if bytes_eq text (codes "fifo") then Some Fifo
     else (if bytes_eq text (codes "locality") then Some Locality
-    else (if bytes_eq text (codes "hybrid") then Some (Hybrid part) else None)))
+    else (if bytes_eq text (codes "hybrid") then Some (Hybrid part)
+    else (if bytes_eq text (codes "lifetime") then Some Lifetime else None))))
 
 abbrev pub bits_of : Text → ℕ
 bits_of name = if bytes_eq name (codes "limit") || bytes_eq name (codes "start") then 64 else 32
@@ -109,6 +112,10 @@ value_of options name = option_map (λ option. option.1) (find (λ option. bytes
 -- a number that isn't given has its default
 abbrev pub number_of : Options → Text → ℕ → ℕ
 number_of options name default = option_map_or (digits_value 10) (value_of options name) default
+
+-- a number that isn't given is none
+abbrev pub given_number : Options → Text → Option ℕ
+given_number options name = option_map (digits_value 10) (value_of options name)
 
 abbrev pub policy_of : Options → Policy
 policy_of options =
@@ -190,11 +197,38 @@ abbrev pub tpca_of : Options → Result Command WordsFault
 tpca_of options = let setup = setup_of usual_of_load options in
     after_check (checked setup) (load_of setup options)
 
-abbrev pub gen_of : Options → Result Command WordsFault
-gen_of options = let pages = number_of options (codes "pages") 64 in
+-- a number of per cent, where it is given
+abbrev pub is_per_cent : Option ℕ → Bool
+is_per_cent None = true
+is_per_cent (Some n) = nat_lt 0 n && nat_lt n 100
+
+-- hot pages and the share of accesses that they get are given together, or neither is
+abbrev pub skew_of : Option ℕ → Option ℕ → Result (Option Skew) WordsFault
+skew_of None None = Ok None
+skew_of None (Some share) = Err (Rule 16)
+skew_of (Some hot) None = Err (Rule 16)
+skew_of (Some hot) (Some share) = Ok (Some (record { hot = hot; share = share }))
+
+abbrev pub mixed : ℕ → Option ℕ → Result (Option Skew) WordsFault → Result Mix WordsFault
+mixed pages stores (Ok skew) = Ok (record { pages = pages; skew = skew; stores = stores })
+mixed pages stores (Err fault) = Err fault
+
+-- what lines are drawn, of pages, hot pages, their share and the share of stores; or the first rule that fails
+abbrev pub mix_of : ℕ → Option ℕ → Option ℕ → Option ℕ → Result Mix WordsFault
+mix_of pages hot share stores =
     if pages == 0 then Err (Rule 3)
     else (if nat_lt 1048576 pages then Err (Rule 7)
-    else Ok (Gen (start_of options) (number_of options (codes "lines") 1000) pages))
+    else (if not (is_per_cent hot && (is_per_cent share && is_per_cent stores)) then Err (Rule 15)
+    else mixed pages stores (skew_of hot share)))
+
+abbrev pub generating : ℕ → ℕ → Result Mix WordsFault → Result Command WordsFault
+generating start lines (Ok mix) = Ok (Gen start lines mix)
+generating start lines (Err fault) = Err fault
+
+abbrev pub gen_of : Options → Result Command WordsFault
+gen_of options = generating (start_of options) (number_of options (codes "lines") 1000)
+    (mix_of (number_of options (codes "pages") 64) (given_number options (codes "hot")) (given_number options (codes "share"))
+    (given_number options (codes "stores")))
 
 abbrev pub save_of : Options → Result Command WordsFault
 save_of options = let setup = setup_of usual options in
@@ -203,10 +237,13 @@ save_of options = let setup = setup_of usual options in
 -- a mark that isn't given stands open; no rule is asked before the image is read
 abbrev pub resume_of : Options → Result Command WordsFault
 resume_of options = Ok (Resume (policy_of options) (number_of options (codes "limit") 100)
-    (option_map (digits_value 10) (value_of options (codes "mark"))) (lives_of options))
+    (given_number options (codes "mark")) (lives_of options))
 
 abbrev pub audit_of : Options → Result Command WordsFault
 audit_of options = Ok Audit
+
+abbrev pub segments_of : Options → Result Command WordsFault
+segments_of options = Ok Segments
 
 abbrev pub tree_of : Setup → Options → Result Command WordsFault
 tree_of setup options =
@@ -240,7 +277,7 @@ tpca_options = run_options
     ++ codes "start" ∷ codes "branches" ∷ codes "accounts" ∷ codes "transfers" ∷ codes "every" ∷ []
 
 abbrev pub gen_options : List Text
-gen_options = codes "start" ∷ codes "lines" ∷ codes "pages" ∷ []
+gen_options = codes "start" ∷ codes "lines" ∷ codes "pages" ∷ codes "hot" ∷ codes "share" ∷ codes "stores" ∷ []
 
 abbrev pub resume_options : List Text
 resume_options = codes "part" ∷ codes "policy" ∷ codes "limit" ∷ codes "mark" ∷ codes "lives" ∷ []
@@ -257,6 +294,7 @@ commands =
     ∷ record { name = codes "save"; options = run_options; make = save_of }
     ∷ record { name = codes "resume"; options = resume_options; make = resume_of }
     ∷ record { name = codes "audit"; options = audit_options; make = audit_of }
+    ∷ record { name = codes "map"; options = audit_options; make = segments_of }
     ∷ record { name = codes "index"; options = run_options; make = index_of }
     ∷ record { name = codes "mirror"; options = run_options; make = mirror_of }
     ∷ []

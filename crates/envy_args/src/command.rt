@@ -1,4 +1,5 @@
 use envy_base::Area;
+use envy_gen::Mix;
 use envy_policy::{Policy, Setup};
 
 /// What the program is asked to do.
@@ -22,11 +23,11 @@ pub enum Command {
         area: Area,
         every: u32,
     },
-    /// Write a trace of so many lines over so many pages, drawn from `start`.
+    /// Write a trace of so many lines, drawn from `start` by the mix.
     Gen {
         start: u64,
         lines: u32,
-        pages: u32,
+        mix: Mix,
     },
     /// Answer a trace without a reply, and write the board's image where the trace was done to its end.
     Save {
@@ -42,6 +43,8 @@ pub enum Command {
     },
     /// Read an image and judge it.
     Audit,
+    /// Read an image and tell its segments.
+    Segments,
     /// Keep an index tree in the memory: a trace of its operations is answered.
     Index {
         setup: Setup,
@@ -61,7 +64,8 @@ pub enum WordsFault {
     Form,
     /// They are, but break a rule. This is the number of the first: 1 to 10 those of a setup, 11 that
     /// the records of the load fit, 12 that it has shadows enough, 13 that an index has shadows enough, 14
-    /// that it has pages enough.
+    /// that it has pages enough, 15 that a number of per cent is 1 to 99, 16 that hot pages and their share are
+    /// given together.
     Setup(u8),
     /// Out of memory.
     Memory,

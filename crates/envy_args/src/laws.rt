@@ -2,7 +2,7 @@ ghost use Rattle.std.specs.Prelude.{◌≡◌, ◌↔◌, ℕ, None, [], ◌∷�
 ghost use Rattle.envy_base.specs.Area.{Fits};
 ghost use Rattle.envy_base.specs.declared.area.Area.{Area};
 ghost use Rattle.envy_policy.specs.declared.setup.Policy.TheVariants.{Greedy};
-ghost use Rattle.envy_args.specs.declared.command.Command.TheVariants.{Run, Resume, Audit};
+ghost use Rattle.envy_args.specs.declared.command.Command.TheVariants.{Run, Resume, Audit, Segments};
 ghost use Rattle.envy_args.specs.declared.command.WordsFault.TheVariants.{Form, Setup as Rule};
 ghost use Rattle.envy_args.specs.Words.{command_of, fits, usual};
 
@@ -21,6 +21,7 @@ pub fn words_name_commands()
     ensures total { command_of (codes "run" ∷ codes "--segments" ∷ codes "17" ∷ codes "--rows=65536" ∷ []) ≡ Err (Rule 7) }
     ensures transfers { command_of (codes "tpca" ∷ codes "--transfers" ∷ codes "1070" ∷ []) ≡ Err (Rule 11) }
     ensures judged { command_of (codes "audit" ∷ []) ≡ Ok Audit }
+    ensures mapped { command_of (codes "map" ∷ []) ≡ Ok Segments }
     ensures open { command_of (codes "resume" ∷ []) ≡ Ok (Resume Greedy 100 None 4294967295) }
     ensures tree { command_of (codes "index" ∷ codes "--pages=19" ∷ codes "--shadows=31" ∷ []) ≡ Err (Rule 13) }
     ensures heap { command_of (codes "index" ∷ codes "--pages=19" ∷ []) ≡ Err (Rule 14) }

@@ -7,8 +7,6 @@ mod command;
 mod laws;
 mod options;
 mod read;
-#[cfg(test)]
-mod tests;
 mod values;
 mod word;
 

@@ -1,10 +1,9 @@
 ghost use Rattle.std.specs.Prelude.{◌≡◌, ◌⊎◌, map, None, Some, true, IfOk, MatchResult};
 ghost use Rattle.std.specs.Option.{option_map};
-ghost use Rattle.std.specs.Str.Parse.{digits_value};
 ghost use Rattle.std.specs.String.{string_bytes};
 ghost use Rattle.clap.specs.Words.{app_of};
 ghost use Rattle.envy_args.specs.Parser.{app_of_names};
-ghost use Rattle.envy_args.specs.Words.{options_in, are_known, accepted, value_of, number_of, policy_of};
+ghost use Rattle.envy_args.specs.Words.{options_in, are_known, accepted, value_of, number_of, given_number, policy_of};
 ghost use Rattle.envy_args.specs.Reading.{GivesIf, has_number, are_readable, policy_options};
 
 use crate::command::WordsFault;
@@ -104,7 +103,7 @@ impl<'a> Options<'a> {
 
     /// The number within 32 bits that an option is given, or none. The fault is `Form`.
     pub(crate) fn given_number(&self, name: &str) -> Result<Option<u32>, WordsFault>
-        ensures { GivesIf (has_number 32 self.now name.now) (option_map (digits_value 10) (value_of self.now name.now)) result }
+        ensures { GivesIf (has_number 32 self.now name.now) (given_number self.now name.now) result }
     {
         match self.value(name) {
             Some(_) => Ok(Some(self.number(name, 0)?)),

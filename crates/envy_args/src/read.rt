@@ -1,12 +1,13 @@
 ghost use Rattle.std.specs.Prelude.{◌≡◌, ◌⊎◌, map, Err};
 ghost use Rattle.std.specs.String.{string_bytes};
-ghost use Rattle.envy_args.specs.Words.{command_of, run_of, plain_of, tpca_of, gen_of, save_of, resume_of, index_of, mirror_of, lives_of, setup_of, shape_of, area_of, run_options, plain_options, tpca_options, gen_options, resume_options};
+ghost use Rattle.envy_args.specs.Words.{command_of, run_of, plain_of, tpca_of, gen_of, mix_of, skew_of, is_per_cent, save_of, resume_of, index_of, mirror_of, lives_of, setup_of, shape_of, area_of, run_options, plain_options, tpca_options, gen_options, resume_options};
 ghost use Rattle.envy_args.specs.Reading.{GivesIf, are_readable, shape_options, area_options, made, make_of, options_of};
 
 use crate::command::{Command, WordsFault};
 use crate::options::Options;
 use crate::word::Word;
 use envy_base::{Area, Shape};
+use envy_gen::{Mix, Skew};
 use envy_policy::{Setup, SetupFault};
 use std::alloc::Global;
 
@@ -68,7 +69,7 @@ const INDEX_PAGES: u32 = 20;
 
 /// Reads the words behind the program's name.
 ///
-/// The first is a command: `run`, `plain`, `tpca`, `gen`, `save`, `resume`, `audit`, `index` or `mirror`. Its options follow in any order, each at most
+/// The first is a command: `run`, `plain`, `tpca`, `gen`, `save`, `resume`, `audit`, `map`, `index` or `mirror`. Its options follow in any order, each at most
 /// once, as `--name value` or `--name=value`, and behind them may stand one `--`. `Form` where the words
 /// are others, and `Setup` with the number of the first rule that the command breaks.
 pub fn read_words(alloc: Global, words: &[String]) -> Result<Command, WordsFault>
@@ -96,6 +97,7 @@ fn make(word: Word, options: &Options) -> Result<Command, WordsFault>
         Word::Save => save(options),
         Word::Resume => resume(options),
         Word::Audit => Ok(Command::Audit),
+        Word::Segments => Ok(Command::Segments),
         Word::Index => index(options),
         Word::Mirror => mirror(options),
     }
@@ -191,17 +193,58 @@ fn generate(options: &Options) -> Result<Command, WordsFault>
     let start = options.wide_number("start", 1)?;
     let lines = options.number("lines", 1000)?;
     let pages = options.number("pages", 64)?;
+    let hot = options.given_number("hot")?;
+    let share = options.given_number("share")?;
+    let stores = options.given_number("stores")?;
+    let mix = mix(pages, hot, share, stores)?;
+    Ok(Command::Gen { start, lines, mix })
+}
+
+/// What lines are drawn. The fault is `Setup`.
+fn mix(
+    pages: u32,
+    hot: Option<u32>,
+    share: Option<u32>,
+    stores: Option<u32>,
+) -> Result<Mix, WordsFault>
+    ensures { result ≡ mix_of pages hot share stores }
+{
     if pages == 0 {
         return Err(WordsFault::Setup(3));
     }
     if pages > MOST_PAGES {
         return Err(WordsFault::Setup(7));
     }
-    Ok(Command::Gen {
-        start,
-        lines,
+    if !(is_per_cent(hot) && is_per_cent(share) && is_per_cent(stores)) {
+        return Err(WordsFault::Setup(15));
+    }
+    let skew = skew(hot, share)?;
+    Ok(Mix {
         pages,
+        skew,
+        stores,
     })
+}
+
+/// Whether a number that is given is one of per cent, 1 to 99.
+fn is_per_cent(number: Option<u32>) -> bool
+    ensures { result ≡ is_per_cent number }
+{
+    match number {
+        Some(number) => number > 0 && number < 100,
+        None => true,
+    }
+}
+
+/// The skew of hot pages and their share, which are given together.
+fn skew(hot: Option<u32>, share: Option<u32>) -> Result<Option<Skew>, WordsFault>
+    ensures { result ≡ skew_of hot share }
+{
+    match (hot, share) {
+        (None, None) => Ok(None),
+        (Some(hot), Some(share)) => Ok(Some(Skew { hot, share })),
+        _ => Err(WordsFault::Setup(16)),
+    }
 }
 
 /// A setup over a board whose power can fail, with how often it returns.

@@ -1,4 +1,4 @@
-ghost use Rattle.std.specs.Prelude.{◌≡◌, IsTrue};
+ghost use Rattle.std.specs.Prelude.{◌≡◌, ◌+◌, IsTrue};
 ghost use Rattle.std.specs.Option.{SomeIff};
 ghost use Rattle.std.specs.Str.Parse.{digits_value};
 ghost use Rattle.envy_args.specs.Words.{is_number, policy_named};
@@ -27,6 +27,7 @@ pub(crate) fn policy(name: &str, part: u32) -> Option<Policy>
         "fifo" => Some(Policy::Fifo),
         "locality" => Some(Policy::Locality),
         "hybrid" => Some(Policy::Hybrid(part)),
+        "lifetime" => Some(Policy::Lifetime),
         _ => None,
     }
 }

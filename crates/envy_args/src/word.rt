@@ -10,6 +10,7 @@ pub(crate) enum Word {
     Save,
     Resume,
     Audit,
+    Segments,
     Index,
     Mirror,
 }
@@ -40,7 +41,7 @@ impl Word {
     ghost use Rattle.std.specs.Str.{bytes_eq};
     ghost use Rattle.envy_args.specs.Reading.{word_of, options_of, all};
 
-    const ALL: [Word; 9] = [
+    const ALL: [Word; 10] = [
         Word::Run,
         Word::Plain,
         Word::Tpca,
@@ -48,6 +49,7 @@ impl Word {
         Word::Save,
         Word::Resume,
         Word::Audit,
+        Word::Segments,
         Word::Index,
         Word::Mirror,
     ];
@@ -63,6 +65,7 @@ impl Word {
             Word::Save => b"save",
             Word::Resume => b"resume",
             Word::Audit => b"audit",
+            Word::Segments => b"map",
             Word::Index => b"index",
             Word::Mirror => b"mirror",
         }
@@ -83,9 +86,9 @@ impl Word {
             Word::Run | Word::Save | Word::Index | Word::Mirror => &OPTIONS[..11],
             Word::Plain => &OPTIONS[..10],
             Word::Tpca => &OPTIONS,
-            Word::Gen => &["start", "lines", "pages"],
+            Word::Gen => &["start", "lines", "pages", "hot", "share", "stores"],
             Word::Resume => &OPTIONS[6..11],
-            Word::Audit => &[],
+            Word::Audit | Word::Segments => &[],
         }
     }
 }

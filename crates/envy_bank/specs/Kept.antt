@@ -1,4 +1,5 @@
--- Rows that are kept as pages, of which those that are marked stand for erased rows.
+-- Rows that are kept as pages, of which those that are marked stand for erased rows. Rows behind the last page
+-- that was needed yet have none.
 use Rattle.std.specs.Prelude.{◌≡◌, ℕ, ◌<◌, ◌≤◌, Bool, true, false, List, [], ◌∷◌, length, slice_index_or}
 use Rattle.envy_bank.specs.Rows.{ones}
 
@@ -10,8 +11,13 @@ kept_row false page = page
 -- the rows of marks and pages
 abbrev pub kept_rows : List Bool → List (List ℕ) → List (List ℕ)
 kept_rows [] pages = []
-kept_rows (mark ∷ marks) [] = []
+kept_rows (mark ∷ marks) [] = ones ∷ kept_rows marks []
 kept_rows (mark ∷ marks) (page ∷ pages) = kept_row mark page ∷ kept_rows marks pages
+
+-- there is no page without a row, and a row without a page is marked
+pub record ArePaged (marks : List Bool) (pages : List (List ℕ)) : Type 0 where
+  pub fits : length pages ≤ length marks
+  pub beyond : (q : ℕ) → length pages ≤ q → q < length marks → slice_index_or marks q false ≡ true
 
 -- the rows from `first` on up to the one before `end` are erased, and the others are as before
 pub record ErasesRange (first end : ℕ) (old new : List (List ℕ)) : Type 0 where

@@ -1,4 +1,4 @@
-ghost use Rattle.std.specs.Prelude.{◌≡◌, ◌<◌, ◌≤◌, ◌↔◌, IsTrue, IfOk, [], length, replicate, slice_index, slice_index_or, slice_set};
+ghost use Rattle.std.specs.Prelude.{◌≡◌, ◌+◌, ◌-◌, ◌<◌, ◌≤◌, ◌↔◌, ◌++◌, IsTrue, IfOk, [], length, replicate, slice_index, slice_index_or, slice_set, vec_capacity};
 ghost use Rattle.envy_bank.specs.Rows.{ands, ones};
 ghost use Rattle.envy_bank.specs.Kept.{MarksRange, ErasesRange};
 
@@ -6,7 +6,8 @@ use std::alloc::{AllocError, Global};
 use std::marker::Model;
 
 /// Rows of 32 words, each a page in one run of memory. An erased row is marked, and its page isn't
-/// touched until the row is written.
+/// touched until the row is written: pages are made up to the last row that was written yet, in memory that was
+/// taken for all of them at the start.
 #[derive(Drop)]
 pub struct KeptRows {
     pages: Vec<[u64; 32]>,
@@ -14,14 +15,14 @@ pub struct KeptRows {
 }
 
 impl Model for KeptRows {
-    ghost use Rattle.std.specs.Prelude.{◌≡◌, ℕ, List, length};
-    ghost use Rattle.envy_bank.specs.Kept.{kept_rows};
+    ghost use Rattle.std.specs.Prelude.{◌≤◌, ℕ, List, length, vec_capacity};
+    ghost use Rattle.envy_bank.specs.Kept.{kept_rows, ArePaged};
 
     ghost Value = { List (List ℕ) };
 
     ghost view = { λ a. kept_rows a.erased.items a.pages.items };
 
-    ghost invariant = { λ a. length a.erased.items ≡ length a.pages.items };
+    ghost invariant = { λ a. ArePaged a.erased.items a.pages.items × (length a.erased.items ≤ vec_capacity a.pages) };
 }
 
 // Clears in the row the bits that are clear in the page. Answers whether it is the page then.
@@ -49,13 +50,24 @@ fn mark_range(marks: &mut [bool], first: usize, end: usize)
     }
 }
 
+// Makes the pages up to a row's, where they aren't there yet.
+fn reach(pages: &mut Vec<[u64; 32]>, row: usize)
+    requires { row < vec_capacity pages.old }
+    ensures pages { pages.new.items ≡ pages.old.items ++ replicate (row + 1 - length pages.old.items) (replicate 32 0) }
+    ensures capacity { vec_capacity pages.old ≤ vec_capacity pages.new }
+{
+    if pages.len() <= row && pages.resize(row + 1, [0; 32]).is_err() {
+        unreachable!();
+    }
+}
+
 impl KeptRows {
     /// Erased rows, so many.
     pub fn new(alloc: Global, count: usize) -> Result<KeptRows, AllocError>
         ensures { IfOk result (λ rows. rows ≡ replicate count ones) }
     {
         Ok(KeptRows {
-            pages: vec![in alloc; [0; 32]; count]?,
+            pages: Vec::with_capacity(alloc, count)?,
             erased: vec![in alloc; true; count]?,
         })
     }
@@ -78,8 +90,9 @@ impl KeptRows {
         requires { row < length self.old }
         ensures { self.new ≡ slice_set self.old row page.now }
     {
-        self.erased[row] = false;
+        reach(&mut self.pages, row);
         self.pages[row] = *page;
+        self.erased[row] = false;
     }
 
     /// Makes a row its AND with the page. Answers whether it is the page then.

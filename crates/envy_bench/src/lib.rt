@@ -4,8 +4,6 @@
 mod board;
 mod flash;
 mod maker;
-#[cfg(test)]
-mod tests;
 mod torn;
 
 pub use board::MemBoard;

@@ -2,6 +2,9 @@ pub mod Maps
 pub mod Trees
 pub mod Descent
 pub mod Writing
+pub mod Nearest
+pub mod Beside
+pub mod Seeing
 pub mod Setting
 pub mod Framing
 pub mod Spreading
@@ -11,6 +14,7 @@ pub mod Counting
 pub mod Joining
 pub mod Rooting
 pub mod Calls
+pub mod Calling
 pub mod Going
 pub mod Planting
 pub mod Merging

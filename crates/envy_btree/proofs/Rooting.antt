@@ -28,5 +28,13 @@ none-of ws es key x e (inr t) = absurd (omega (arith, t.2.root))
 pub Root-none : (ws : List ℕ) (es : List (ℕ × ℕ)) (key : ℕ) → IsPlanted ws es → get_or ws 0 0 ≡ 0 → assoc key es ≡ None
 Root-none ws es key x e = none-of ws es key x e x.tree
 
+empty-of : (ws : List ℕ) (es : List (ℕ × ℕ)) (x : IsPlanted ws es) → get_or ws 0 0 ≡ 0 → Rooted ws x.free es → es ≡ []
+empty-of ws es x e (inl n) = n.1
+empty-of ws es x e (inr t) = absurd (omega (arith, t.2.root))
+
+-- a map without a root has no pair
+pub Root-empty : (ws : List ℕ) (es : List (ℕ × ℕ)) → IsPlanted ws es → get_or ws 0 0 ≡ 0 → es ≡ []
+Root-empty ws es x e = empty-of ws es x e x.tree
+
 pub root-fits : (ws : List ℕ) (es : List (ℕ × ℕ)) (p : ℕ) → length ws < 2 ^ 32 → Roots ws es p → p < 2 ^ 32
 root-fits ws es p few r = let w = Rests-within ws p 5 r.rests in omega (arith, w.0)

@@ -18,6 +18,16 @@ abbrev pub Gets : ℕ → List (ℕ × ℕ) → Sheet → Result (Option ℕ) Of
 Gets key es old (Ok value) new = IsTrue new.on × (value ≡ assoc key es) × IsIndex new.words es
 Gets key es old (Err off) new = (new.on ≡ false) × IsIndex new.kept es
 
+-- how many pairs a map has that stays
+abbrev pub Counts : List (ℕ × ℕ) → Result ℕ Off → Sheet → Type 0
+Counts es (Ok n) new = IsTrue new.on × (n ≡ length es) × IsIndex new.words es
+Counts es (Err off) new = (new.on ≡ false) × IsIndex new.kept es
+
+-- a pair of a map that stays, or none: which of its pairs, P says
+abbrev pub Finds : (Option (ℕ × ℕ) → Type 0) → List (ℕ × ℕ) → Result (Option (ℕ × ℕ)) Off → Sheet → Type 0
+Finds P es (Ok found) new = IsTrue new.on × P found × IsIndex new.words es
+Finds P es (Err off) new = (new.on ≡ false) × IsIndex new.kept es
+
 -- The old value of the key, which has the new one from then on. Where power fails it has either.
 abbrev pub Inserts : ℕ → ℕ → List (ℕ × ℕ) → Sheet → Result (Option ℕ) TreeFault → Sheet → Type 0
 Inserts key value es old (Ok was) new = IsTrue new.on × (was ≡ assoc key es) × (IsFull old.words key es → ⊥) × IsIndex new.words (with_pair key value es)

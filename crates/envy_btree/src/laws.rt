@@ -6,6 +6,7 @@ ghost use Rattle.envy_btree.specs.Spelling.{ReadsIndex};
 ghost use Rattle.envy_heap.specs.Pieces.{IsHeap};
 ghost use Rattle.envy_btree.specs.Examples.{one_leaf, two_levels, row_of, named_twice, uneven, idle_piece, free_root, too_many, crowded, one_child, crossed, three_levels};
 ghost use Rattle.envy_btree.specs.Index.{IsIndex};
+ghost use Rattle.envy_btree.specs.Nearest.{Scans, pairs_from};
 ghost use Rattle.envy_btree.specs.Rules.{ObeysRules};
 
 /// What is read is spelled so, and what is spelled so is read. Only its length makes a line too long.
@@ -45,6 +46,13 @@ pub fn broken_words_are_no_map()
     ensures one_child { (es : List (ℕ × ℕ)) → IsIndex one_child es → ⊥ }
     ensures falling_above { (es : List (ℕ × ℕ)) → IsIndex crossed es → ⊥ }
     ensures inner_of_15 { (es : List (ℕ × ℕ)) → IsIndex (three_levels 15) es → ⊥ }
+{}
+
+/// A loop that asks for the least pair from a key on, and then each time for the least above the key that it saw,
+/// until there is none, sees the pairs from that key on, each once and in their order: from 0 on all of the map.
+pub fn a_scan_sees_every_pair_once()
+    ensures from { (words : List ℕ) (es seen : List (ℕ × ℕ)) (key : ℕ) → IsIndex words es → Scans key es seen → seen ≡ pairs_from key es }
+    ensures all { (words : List ℕ) (es seen : List (ℕ × ℕ)) → IsIndex words es → Scans 0 es seen → seen ≡ es }
 {}
 
 /// Words that are all 0 stand for the empty map.

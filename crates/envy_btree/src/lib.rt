@@ -12,12 +12,14 @@ mod inserting;
 mod laws;
 mod line;
 mod mending;
+mod nearing;
 mod node;
 mod ranks;
 mod reading;
 mod removing;
 mod reply;
 mod saving;
+mod scanning;
 mod shrinking;
 #[cfg(test)]
 mod tests;
@@ -29,10 +31,11 @@ pub use fault::TreeFault;
 pub use getting::get;
 pub use inserting::insert;
 pub use laws::{
-    broken_words_are_no_map, hand_made_words_are_maps, index_grammar_holds_both_ways,
-    maps_obey_the_rules, zeros_are_the_empty_map,
+    a_scan_sees_every_pair_once, broken_words_are_no_map, hand_made_words_are_maps,
+    index_grammar_holds_both_ways, maps_obey_the_rules, zeros_are_the_empty_map,
 };
 pub use line::IndexLine;
 pub use reading::read_index_line;
 pub use removing::remove;
 pub use reply::{IndexReply, index_text};
+pub use scanning::{count, last, next, next_above};

@@ -2,7 +2,10 @@ ghost use Rattle.std.specs.Prelude.{◌≡◌, ◌≤◌, ◌<◌, ◌^◌, IfOk
 ghost use Rattle.envy_heap.specs.Vectors.{vec_sheet};
 ghost use Rattle.envy_btree.specs.Testing.{IsReady};
 
-use crate::{IndexLine, IndexReply, TreeFault, get, index_text, insert, read_index_line, remove};
+use crate::{
+    IndexLine, IndexReply, TreeFault, count, get, index_text, insert, last, next, next_above,
+    read_index_line, remove,
+};
 use arrayvec::ArrayVec;
 use envy_base::{NoMemory, Off, Words};
 use envy_heap::VecWords;
@@ -43,6 +46,43 @@ fn take_out(words: &mut VecWords, key: u64) -> Result<Option<u64>, TreeFault>
     remove(words, key)
 }
 
+fn pairs(words: &mut VecWords) -> Result<u64, Off>
+    requires { IsReady (vec_sheet words.old) }
+    ensures { IsReady (vec_sheet words.new) }
+{
+    count(words)
+}
+
+// The pairs that are nearest to a key: from it on, above it, and up to it.
+type Nearest = Result<[Option<(u64, u64)>; 3], Off>;
+
+fn nearest(words: &mut VecWords, key: u64) -> Nearest
+    requires { IsReady (vec_sheet words.old) }
+    ensures { IsReady (vec_sheet words.new) }
+{
+    let from = next(words, key)?;
+    let above = next_above(words, key)?;
+    let to = last(words, key)?;
+    Ok([from, above, to])
+}
+
+fn nearest_in(map: &BTreeMap<u64, u64>, key: u64) -> Nearest {
+    let mut found = [None; 3];
+    for (k, value) in map {
+        let pair = Some((*k, *value));
+        if *k >= key && found[0].is_none() {
+            found[0] = pair;
+        }
+        if *k > key && found[1].is_none() {
+            found[1] = pair;
+        }
+        if *k <= key {
+            found[2] = pair;
+        }
+    }
+    Ok(found)
+}
+
 #[test]
 fn pairs_go_in_and_out(rt: HostRuntime) -> Result<(), Fail> {
     let mut words = empty_index(rt.alloc(), 640)?;
@@ -52,6 +92,20 @@ fn pairs_go_in_and_out(rt: HostRuntime) -> Result<(), Fail> {
     assert_eq!(rt; take_out(&mut words, 5), Ok(Some(51)));
     assert_eq!(rt; value_of(&mut words, 5), Ok(None));
     assert_eq!(rt; take_out(&mut words, 5), Ok(None));
+    Ok(())
+}
+
+#[test]
+fn the_ends_of_a_map_have_one_neighbour(rt: HostRuntime) -> Result<(), Fail> {
+    let (low, high) = (Some((0, 7)), Some((u64::MAX, 8)));
+    let mut words = empty_index(rt.alloc(), 640)?;
+    assert_eq!(rt; nearest(&mut words, 9), Ok([None, None, None]));
+    assert_eq!(rt; set(&mut words, 0, 7), Ok(None));
+    assert_eq!(rt; nearest(&mut words, 0), Ok([low, None, low]));
+    assert_eq!(rt; set(&mut words, u64::MAX, 8), Ok(None));
+    assert_eq!(rt; nearest(&mut words, 0), Ok([low, high, low]));
+    assert_eq!(rt; nearest(&mut words, 9), Ok([high, high, low]));
+    assert_eq!(rt; nearest(&mut words, u64::MAX), Ok([high, None, high]));
     Ok(())
 }
 
@@ -84,6 +138,8 @@ fn agrees(
 {
     let key = u64::from(draw / 4 % 512);
     assert_eq!(rt; value_of(words, key), Ok(map.get(&key).copied()));
+    assert_eq!(rt; nearest(words, key), nearest_in(map, key));
+    assert_eq!(rt; pairs(words), Ok(map.len() as u64));
     if draw % 4 == 0 {
         assert_eq!(rt; take_out(words, key), Ok(map.remove(&key)));
         return Ok(());
@@ -104,9 +160,13 @@ fn the_tree_agrees_with_a_map(rt: HostRuntime) -> Result<(), Fail> {
     for i in 0..2000 {
         agrees(&rt, &mut words, &mut map, generator.next_u32(), i)?;
     }
+    let mut seen = nearest(&mut words, 0)?[0];
     for (key, value) in &map {
         assert_eq!(rt; value_of(&mut words, *key), Ok(Some(*value)));
+        assert_eq!(rt; seen, Some((*key, *value)));
+        seen = nearest(&mut words, *key)?[1];
     }
+    assert_eq!(rt; seen, None);
     Ok(())
 }
 

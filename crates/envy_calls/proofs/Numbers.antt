@@ -5,7 +5,7 @@ use Rattle.envy_audit.specs.declared.verdict.Rule.TheVariants.{A, B, C, D, E, F,
 use Rattle.envy_policy.specs.declared.setup.SetupFault.TheVariants.{Shape as OfShape, Part, Limit, Mark}
 use Rattle.envy_calls.specs.Codes.{number_of}
 use Rattle.envy_calls.specs.declared.code.Code.{Code}
-use Rattle.envy_calls.specs.declared.code.Code.TheVariants.{Done, Empty, Off, Range, Held, Full, Busy, Closed, Bad, NoMemory, Open, Zero, Dead, Powered, FlashSize, SramSize, ErasesSize, Policy, Unformatted, Older, OtherShape, Setup, Broken, Small, ImageShort, ImageMark, ImageOther, ImageShape}
+use Rattle.envy_calls.specs.declared.code.Code.TheVariants.{Done, Empty, Off, Range, Held, Full, Busy, Closed, Bad, NoMemory, Open, Zero, Dead, Powered, FlashSize, SramSize, ErasesSize, Policy, Unformatted, Older, OtherShape, Setup, Broken, Small, ImageShort, ImageMark, ImageOther, ImageShape, Absent, MapFull, SlotOpen, MapSetup}
 
 abbrev code_at : ℕ → Code
 code_at n =
@@ -62,7 +62,11 @@ code_at n =
     else (if n == 50 then ImageShape Frames
     else (if n == 51 then ImageShape Entries
     else (if n == 52 then ImageShape Share
-    else ImageShape Total))))))))))))))))))))))))))))))))))))))))))))))))))))
+    else (if n == 53 then ImageShape Total
+    else (if n == 54 then Absent
+    else (if n == 55 then MapFull
+    else (if n == 56 then SlotOpen
+    else MapSetup))))))))))))))))))))))))))))))))))))))))))))))))))))))))
 
 code_at-number_of : (x : Code) → code_at (number_of x) ≡ x
 code_at-number_of Done = refl
@@ -119,6 +123,10 @@ code_at-number_of (ImageShape Frames) = refl
 code_at-number_of (ImageShape Entries) = refl
 code_at-number_of (ImageShape Share) = refl
 code_at-number_of (ImageShape Total) = refl
+code_at-number_of Absent = refl
+code_at-number_of MapFull = refl
+code_at-number_of SlotOpen = refl
+code_at-number_of MapSetup = refl
 
 pub same_number : (x y : Code) → number_of x ≡ number_of y → x ≡ y
 same_number x y is = sym (code_at-number_of x) ∙ (ap code_at is ∙ code_at-number_of y)

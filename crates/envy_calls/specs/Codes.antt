@@ -20,7 +20,7 @@ use Rattle.envy_memory.specs.declared.faults.EndFault.TheVariants.{Off as EndOff
 use Rattle.envy_memory.specs.declared.faults.FormatFault.{FormatFault}
 use Rattle.envy_memory.specs.declared.faults.FormatFault.TheVariants.{Off as FormatOff, Setup as FormatSetup, OtherShape as FormatShape, Memory as FormatMemory, Bad as FormatBad}
 use Rattle.envy_calls.specs.declared.code.Code.{Code}
-use Rattle.envy_calls.specs.declared.code.Code.TheVariants.{Done, Empty, Off, Range, Held, Full, Busy, Closed, Bad, NoMemory, Open, Zero, Dead, Powered, FlashSize, SramSize, ErasesSize, Policy, Unformatted, Older, OtherShape, Setup, Broken, Small, ImageShort, ImageMark, ImageOther, ImageShape}
+use Rattle.envy_calls.specs.declared.code.Code.TheVariants.{Done, Empty, Off, Range, Held, Full, Busy, Closed, Bad, NoMemory, Open, Zero, Dead, Powered, FlashSize, SramSize, ErasesSize, Policy, Unformatted, Older, OtherShape, Setup, Broken, Small, ImageShort, ImageMark, ImageOther, ImageShape, Absent, MapFull, SlotOpen, MapSetup}
 
 -- the place of a point of soundness in the order of the audit
 abbrev pub number_of_rule : Rule → ℕ
@@ -55,6 +55,10 @@ number_of ImageShort = 44
 number_of ImageMark = 45
 number_of ImageOther = 46
 number_of (ImageShape fault) = 46 + shape_rule fault
+number_of Absent = 54
+number_of MapFull = 55
+number_of SlotOpen = 56
+number_of MapSetup = 57
 
 -- the code of what a call of the memory answers
 

@@ -1,4 +1,7 @@
 pub mod Answers
+pub mod Bulk
 pub mod Codes
 pub mod Making
 pub mod Setups
+pub mod Shapes
+pub mod Views

@@ -2,7 +2,7 @@
 use Rattle.std.specs.Prelude.{ℕ, ◌==◌, Option, None, Some, if◌then◌else◌}
 use Rattle.envy_base.specs.declared.shape.Shape.{Shape}
 use Rattle.envy_policy.specs.declared.setup.Policy.{Policy}
-use Rattle.envy_policy.specs.declared.setup.Policy.TheVariants.{Greedy, Fifo, Locality, Hybrid}
+use Rattle.envy_policy.specs.declared.setup.Policy.TheVariants.{Greedy, Fifo, Locality, Hybrid, Lifetime}
 use Rattle.envy_policy.specs.declared.setup.Setup.{Setup}
 use Rattle.envy_calls.specs.declared.setup.EnvySetup.{EnvySetup}
 
@@ -12,7 +12,8 @@ policy_of n part =
     if n == 0 then Some Greedy
     else (if n == 1 then Some Fifo
     else (if n == 2 then Some Locality
-    else (if n == 3 then Some (Hybrid part) else None)))
+    else (if n == 3 then Some (Hybrid part)
+    else (if n == 4 then Some Lifetime else None))))
 
 abbrev pub shape_given : EnvySetup → Shape
 shape_given s = record {

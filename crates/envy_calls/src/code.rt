@@ -65,6 +65,14 @@ pub enum Code {
     ImageOther,
     /// The image has a shape that breaks this rule.
     ImageShape(ShapeFault),
+    /// The map has no such pair.
+    Absent,
+    /// The map has as many pairs as it may have.
+    MapFull,
+    /// A slot is open.
+    SlotOpen,
+    /// The memory has too few pages or shadows for a map.
+    MapSetup,
 }
 
 // The place of a point in the order of the audit.
@@ -136,6 +144,10 @@ impl Code {
             Code::ImageMark => 45,
             Code::ImageOther => 46,
             Code::ImageShape(fault) => 46 + shape_number(fault),
+            Code::Absent => 54,
+            Code::MapFull => 55,
+            Code::SlotOpen => 56,
+            Code::MapSetup => 57,
         }
     }
 }

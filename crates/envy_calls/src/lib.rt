@@ -4,6 +4,7 @@
 //! Each call says all that the call of `Memory` says, and that its number stands for the answer.
 #![tactic(auto)]
 
+mod bulk;
 mod code;
 mod counting;
 mod ending;
@@ -12,9 +13,12 @@ mod laws;
 mod loading;
 mod making;
 mod setup;
+mod shaping;
 mod storing;
 mod ticking;
+mod viewing;
 
+pub use bulk::{read, write};
 pub use code::Code;
 pub use counting::{EnvyCounts, counts};
 pub use ending::{abort, begin, commit};
@@ -23,5 +27,7 @@ pub use laws::no_two_answers_share_a_number;
 pub use loading::{load, look};
 pub use making::attach;
 pub use setup::{EnvySetup, checked_setup};
+pub use shaping::shape;
 pub use storing::{put, store};
 pub use ticking::tick;
+pub use viewing::view;

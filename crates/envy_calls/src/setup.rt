@@ -23,7 +23,7 @@ pub struct EnvySetup {
     pub frames: u32,
     /// Entries of the translation cache: 1 to 65,536.
     pub entries: u32,
-    /// How the cleaner chooses: 0 greedy, 1 first in first out, 2 locality, 3 hybrid.
+    /// How the cleaner chooses: 0 greedy, 1 first in first out, 2 locality, 3 hybrid, 4 lifetime.
     pub policy: u32,
     /// Positions of a partition, where the policy is hybrid.
     pub part: u32,
@@ -42,6 +42,7 @@ fn policy(number: u32, part: u32) -> Option<Policy>
         1 => Some(Policy::Fifo),
         2 => Some(Policy::Locality),
         3 => Some(Policy::Hybrid(part)),
+        4 => Some(Policy::Lifetime),
         _ => None,
     }
 }

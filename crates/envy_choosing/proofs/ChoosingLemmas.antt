@@ -8,7 +8,7 @@ use Rattle.std.proofs.lemmas.Nat.{le-div, div_below}
 use Rattle.std.proofs.lemmas.List.FromFn.{get_or-map-range_with_len, length-map-range_with_len}
 use Rattle.envy_policy.specs.declared.choice.Choice.TheVariants.{Free, Clean}
 use Rattle.envy_policy.specs.declared.setup.Policy.{Policy}
-use Rattle.envy_policy.specs.declared.setup.Policy.TheVariants.{Greedy, Fifo, Locality, Hybrid}
+use Rattle.envy_policy.specs.declared.setup.Policy.TheVariants.{Greedy, Fifo, Locality, Hybrid, Lifetime}
 use Rattle.envy_policy.specs.Choice.{HasRows, IsAside, IsChoice, IsLeast, IsMost, IsNearest, IsVictim, distance}
 use Rattle.envy_policy.specs.Deciding.{Nearer}
 use Rattle.envy_policy.specs.History.{History, IsHistory, run, partition_of, first_of, end_of}
@@ -351,6 +351,7 @@ victim-in Greedy h dead g k victim = victim.holds.0
 victim-in Fifo h dead g k victim = victim.holds.0
 victim-in Locality h dead g k victim = victim.holds.0
 victim-in (Hybrid part) h dead g k victim = victim.holds.0
+victim-in Lifetime h dead g k victim = victim.holds.0
 
 -- the choice within the nearest usable partition
 pub choice-free : (h : History) (free dead : List ℕ) (home g k : ℕ) → IsNearest h free dead home g → IsLeast (HasRows h free g) (λ x. x) k → IsChoice h free dead home (Free k)

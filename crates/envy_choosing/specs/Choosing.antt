@@ -1,20 +1,30 @@
 -- The choice by the rows of a pool.
-use Rattle.std.specs.Prelude.{◌≡◌, ◌≢◌, ℕ, ◌-◌, ◌<◌, ◌≤◌, List, map, Option, Some, slice_index}
+use Rattle.std.specs.Prelude.{◌≡◌, ◌≢◌, ℕ, ◌-◌, ◌<◌, ◌≤◌, List, map, Option, Some, slice_index, MatchOption}
 use Rattle.std.specs.List.{range_with_len}
 use Rattle.envy_policy.specs.declared.choice.Choice.{Choice}
 use Rattle.envy_policy.specs.Choice.{IsChoice, IsUsable}
 use Rattle.envy_policy.specs.History.{History, partition_of}
+use Rattle.envy_policy.specs.Lifetime.{RowCounts, IsLifetimeChoice}
 use Rattle.envy_space.specs.Pool.{Pool, free_at, dead_at}
 
--- the free, and the dead rows at each position
+-- the free, the dead, and the kept rows at each position
 abbrev pub frees : Pool → List ℕ
 frees pool = map (free_at pool) (range_with_len 0 (pool.shape.segments - 1))
 
 abbrev pub deads : Pool → List ℕ
 deads pool = map (dead_at pool) (range_with_len 0 (pool.shape.segments - 1))
 
-abbrev pub ChoiceFor : History → Pool → ℕ → Choice → Type 0
-ChoiceFor h pool home choice = IsChoice h (frees pool) (deads pool) home choice
+abbrev pub kepts : Pool → List ℕ
+kepts pool = map (λ k. slice_index pool.kept (slice_index pool.positions k)) (range_with_len 0 (pool.shape.segments - 1))
+
+abbrev pub counts_in : Pool → RowCounts
+counts_in pool = record { free = frees pool; dead = deads pool; kept = kepts pool }
+
+-- by the page's home, or where lives are noted by the page's own
+abbrev pub ChoiceFor : History → Pool → ℕ → ℕ → Choice → Type 0
+ChoiceFor h pool home page choice = MatchOption h.lives
+    (IsChoice h (frees pool) (deads pool) home choice)
+    (λ n. IsLifetimeChoice n (counts_in pool) page choice)
 
 -- partition g has a free or a dead row
 abbrev pub IsUsableIn : History → Pool → ℕ → Type 0

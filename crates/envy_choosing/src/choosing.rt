@@ -1,19 +1,34 @@
 ghost use Rattle.std.specs.Prelude.{◌≡◌, ◌↔◌, ◌-◌, ◌+◌, ◌<◌, ℕ, IsTrue, MatchOption, length, slice_index};
-ghost use Rattle.envy_policy.specs.Choice.{HasRows, IsLeast, IsMost, IsNearest, IsVictim, steps};
+ghost use Rattle.envy_policy.specs.Choice.{HasRows, IsChoice, IsLeast, IsMost, IsNearest, IsVictim, steps};
 ghost use Rattle.envy_space.specs.Pool.{free_at, dead_at};
 ghost use Rattle.envy_choosing.specs.Choosing.{ChoiceFor, IsAbove, IsBelow, IsFreeBeside, IsUsableIn, deads, frees};
 ghost use Rattle.envy_policy.specs.History.{IsHistory, partition_of};
 
+use crate::pooled::choose_by_lives;
 use envy_policy::{Choice, Chooser, Policy, nearer};
 use envy_space::Space;
 
-/// Chooses a position for a page whose home this is, by the rows of a pool. Where a row is free in the
-/// page's own partition nothing else is asked.
-pub fn choose_row(space: &Space, chooser: &Chooser, home: u32) -> Choice
+/// Chooses a position for a page whose home this is, by the rows of a pool: under `Lifetime` by the lives of
+/// the pages' copies, else by the home.
+pub fn choose_row(space: &Space, chooser: &Chooser, home: u32, page: u32) -> Choice
+    requires positions { chooser.now.positions ≡ space.now.shape.segments - 1 }
+    requires home { home < space.now.shape.segments - 1 }
+    requires page { page < chooser.now.pages }
+    requires some { (k : ℕ) × (k < space.now.shape.segments - 1) × (0 < free_at space.now k + dead_at space.now k) }
+    ensures { ChoiceFor chooser.now space.now home page result }
+{
+    match chooser.lives() {
+        Some(lives) => choose_by_lives(space, lives, page),
+        None => choose_near(space, chooser, home),
+    }
+}
+
+/// The choice by the home. Where a row is free in the page's own partition nothing else is asked.
+fn choose_near(space: &Space, chooser: &Chooser, home: u32) -> Choice
     requires positions { chooser.now.positions ≡ space.now.shape.segments - 1 }
     requires home { home < space.now.shape.segments - 1 }
     requires some { (k : ℕ) × (k < space.now.shape.segments - 1) × (0 < free_at space.now k + dead_at space.now k) }
-    ensures { ChoiceFor chooser.now space.now home result }
+    ensures { IsChoice chooser.now (frees space.now) (deads space.now) home result }
 {
     let own = chooser.partition_of(home);
     match free_in(space, chooser, own) {
@@ -27,7 +42,7 @@ fn free_or_clean(space: &Space, chooser: &Chooser, partition: u32) -> Choice
     requires positions { chooser.now.positions ≡ space.now.shape.segments - 1 }
     requires partition { partition < length chooser.now.heats }
     requires usable { IsUsableIn chooser.now space.now partition }
-    ensures { (home : ℕ) → IsNearest chooser.now (frees space.now) (deads space.now) home partition → ChoiceFor chooser.now space.now home result }
+    ensures { (home : ℕ) → IsNearest chooser.now (frees space.now) (deads space.now) home partition → IsChoice chooser.now (frees space.now) (deads space.now) home result }
 {
     match free_in(space, chooser, partition) {
         Some(position) => Choice::Free { position },
@@ -131,7 +146,7 @@ fn victim(space: &Space, chooser: &Chooser, partition: u32) -> u32
     ensures { IsVictim chooser.now.policy chooser.now (deads space.now) partition result }
 {
     match chooser.policy() {
-        Policy::Greedy => most_dead(space, chooser, partition).unwrap(),
+        Policy::Greedy | Policy::Lifetime => most_dead(space, chooser, partition).unwrap(),
         _ => next_in_turn(space, chooser, partition).unwrap(),
     }
 }

@@ -31,6 +31,7 @@ fn shape(draws: &mut Draws) -> Shape
     ensures rows { result.rows ≡ 4 }
     ensures some { 4 ≤ result.segments }
     ensures few { result.segments ≤ 20 }
+    ensures pages { result.pages ≡ 4 }
 {
     Shape {
         segments: 4 + draws.below(17),
@@ -56,7 +57,7 @@ fn policy(draws: &mut Draws, positions: u32) -> Policy
 
 /// An empty pool, and a chooser over its positions.
 fn made(alloc: Global, setup: &Setup) -> Result<(Space, Chooser), Fail>
-    ensures { IfOk result (λ made. (made.0.shape ≡ setup.now.shape) × (made.1.positions ≡ setup.now.shape.segments - 1)) }
+    ensures { IfOk result (λ made. (made.0.shape ≡ setup.now.shape) × (made.1.positions ≡ setup.now.shape.segments - 1) × (made.1.pages ≡ setup.now.shape.pages)) }
 {
     setup.check().map_err(|_| "the setup doesn't check")?;
     Ok((
@@ -87,7 +88,8 @@ fn change(space: &mut Space, draws: &mut Draws, segment: u32)
 fn warm(chooser: &mut Chooser, draws: &mut Draws, positions: u32)
     requires positions { chooser.old.positions ≡ positions }
     requires some { 0 < positions }
-    ensures { chooser.new.positions ≡ chooser.old.positions }
+    ensures positions { chooser.new.positions ≡ chooser.old.positions }
+    ensures pages { chooser.new.pages ≡ chooser.old.pages }
 {
     for _flush in 0..draws.below(60) {
         chooser.note_flush(draws.below(positions));
@@ -99,7 +101,7 @@ fn warm(chooser: &mut Chooser, draws: &mut Draws, positions: u32)
 
 /// A drawn pool, and a chooser over its positions.
 fn drawn(alloc: Global, draws: &mut Draws) -> Result<(Space, Chooser), Fail>
-    ensures { IfOk result (λ drawn. drawn.1.positions ≡ drawn.0.shape.segments - 1) }
+    ensures { IfOk result (λ drawn. (drawn.1.positions ≡ drawn.0.shape.segments - 1) × (drawn.1.pages ≡ 4)) }
 {
     let shape = shape(draws);
     let policy = policy(draws, shape.segments - 1);
@@ -140,7 +142,8 @@ fn choose_by_lists(
 
 /// Whether pool and lists make the same choice for each home, where there is one.
 fn agree(alloc: Global, space: &Space, chooser: &Chooser) -> Result<bool, AllocError>
-    requires { chooser.now.positions ≡ space.now.shape.segments - 1 }
+    requires positions { chooser.now.positions ≡ space.now.shape.segments - 1 }
+    requires pages { chooser.now.pages ≡ 4 }
 {
     let positions = space.positions();
     let Some(_usable) = space.lowest_usable(0, positions) else {
@@ -148,7 +151,7 @@ fn agree(alloc: Global, space: &Space, chooser: &Chooser) -> Result<bool, AllocE
     };
     for home in 0..positions {
         let listed = choose_by_lists(alloc, space, chooser, home)?;
-        if choose_row(space, chooser, home) != listed {
+        if choose_row(space, chooser, home, 0) != listed {
             return Ok(false);
         }
     }

@@ -17,7 +17,9 @@ use Rattle.std.proofs.lemmas.List.Elements.{All-nil}
 use Rattle.envy_layout.specs.May.{MayTake, HasPage}
 use Rattle.envy_layout.specs.Sound.{Sound, IsSound, Numbers, IsPlaced}
 use Rattle.envy_layout.specs.Words.{word_at}
-use Rattle.envy_policy.specs.History.{History, flushed, warmed}
+use Rattle.std.specs.Option.{option_map}
+use Rattle.envy_policy.specs.History.{History, claimed, warmed}
+use Rattle.envy_policy.specs.Notes.{noted_flush}
 use Rattle.envy_space.specs.Pool.{Pool, PoolAgrees, Claims, Claimed, noted_kept}
 use Rattle.envy_table.specs.Agreement.{AreCurrent}
 use Rattle.envy_flush.specs.Agreement.{Agrees, PartsAgree, Fits, AreStages}
@@ -33,28 +35,34 @@ use Rattle.envy_flush.proofs.JobLemmas.{IsPlanOf-claimed, IsPlanOf-programmed, I
 use Rattle.envy_space.specs.Noting.{Rowed}
 use Rattle.envy_space.proofs.PlaceLemmas.{PoolAgrees-rowed}
 
+-- the pages and positions of a chooser
+abbrev pub sizes_of : History → ℕ × ℕ
+sizes_of h = (h.pages, h.positions)
+
 -- the sizes of parts stay
-pub Fits-moved : (sh sh2 : Shape) (x y : Parts) → sh2 ≡ sh → Fits sh x → y.space.shape ≡ x.space.shape → y.frames.count ≡ x.frames.count → length y.cache.entries ≡ length x.cache.entries → y.chooser.positions ≡ x.chooser.positions → y.stages ≡ x.stages → Fits sh2 y
+pub Fits-moved : (sh sh2 : Shape) (x y : Parts) → sh2 ≡ sh → Fits sh x → y.space.shape ≡ x.space.shape → y.frames.count ≡ x.frames.count → length y.cache.entries ≡ length x.cache.entries → sizes_of y.chooser ≡ sizes_of x.chooser → y.stages ≡ x.stages → Fits sh2 y
 Fits-moved sh sh2 x y shape fits space frames cache chooser stages = rw shape (record {
   pool = space ∙ fits.pool;
   frames = frames ∙ fits.frames;
   entries = cache ∙ fits.entries;
-  positions = chooser ∙ fits.positions;
+  positions = ap (λ (z : ℕ × ℕ). z.1) chooser ∙ fits.positions;
+  pages = ap (λ (z : ℕ × ℕ). z.0) chooser ∙ fits.pages;
   stages = rw stages fits.stages;
 })
 
 -- and the stages are others
-pub Fits-staged : (sh : Shape) (x y : Parts) → Fits sh x → AreStages sh y.stages → y.space.shape ≡ x.space.shape → y.frames.count ≡ x.frames.count → length y.cache.entries ≡ length x.cache.entries → y.chooser.positions ≡ x.chooser.positions → Fits sh y
+pub Fits-staged : (sh : Shape) (x y : Parts) → Fits sh x → AreStages sh y.stages → y.space.shape ≡ x.space.shape → y.frames.count ≡ x.frames.count → length y.cache.entries ≡ length x.cache.entries → sizes_of y.chooser ≡ sizes_of x.chooser → Fits sh y
 Fits-staged sh x y fits stages space frames cache chooser = record {
   pool = space ∙ fits.pool;
   frames = frames ∙ fits.frames;
   entries = cache ∙ fits.entries;
-  positions = chooser ∙ fits.positions;
+  positions = ap (λ (z : ℕ × ℕ). z.1) chooser ∙ fits.positions;
+  pages = ap (λ (z : ℕ × ℕ). z.0) chooser ∙ fits.pages;
   stages = stages;
 }
 
 -- one stage fewer is left
-pub Fits-next : (sh sh2 : Shape) (x y : Parts) → sh2 ≡ sh → Fits sh x → y.stages ≡ drop 1 x.stages → All (λ k. k < sh.segments - 1) y.stages → y.space.shape ≡ x.space.shape → y.frames.count ≡ x.frames.count → length y.cache.entries ≡ length x.cache.entries → y.chooser.positions ≡ x.chooser.positions → Fits sh2 y
+pub Fits-next : (sh sh2 : Shape) (x y : Parts) → sh2 ≡ sh → Fits sh x → y.stages ≡ drop 1 x.stages → All (λ k. k < sh.segments - 1) y.stages → y.space.shape ≡ x.space.shape → y.frames.count ≡ x.frames.count → length y.cache.entries ≡ length x.cache.entries → sizes_of y.chooser ≡ sizes_of x.chooser → Fits sh2 y
 Fits-next sh sh2 x y shape fits rest within space frames cache chooser =
     let few = AreStages.few (Fits.stages fits) in
     let less = length-drop 1 x.stages in
@@ -64,10 +72,10 @@ Fits-next sh sh2 x y shape fits rest within space frames cache chooser =
 pub no-stages : (sh : Shape) (stages : List ℕ) → stages ≡ [] → AreStages sh stages
 no-stages sh stages none = rw none (record { within = All-nil (λ k. k < sh.segments - 1); few = omega arith })
 
-pub flushed-positions : (h : History) (k : ℕ) → (flushed h k).positions ≡ h.positions
-flushed-positions h k = at ((warmed h k).flushes == 1024)
+pub claimed-sizes : (h : History) (k page : ℕ) → sizes_of (claimed h k page) ≡ sizes_of h
+claimed-sizes h k page = at ((warmed h k).flushes == 1024)
   where
-    at : (b : Bool) → (if b then record (warmed h k) { heats = map (λ x. x / 2) (warmed h k).heats; flushes = 0 } else warmed h k).positions ≡ h.positions
+    at : (b : Bool) → sizes_of (record (if b then record (warmed h k) { heats = map (λ x. x / 2) (warmed h k).heats; flushes = 0 } else warmed h k) { lives = option_map (noted_flush k page) h.lives }) ≡ sizes_of h
     at true = refl
     at false = refl
 

@@ -38,43 +38,43 @@ Ends-after old was mid y new z job stages (a, b) = (first a, second b)
 pub IsLastAt-after : (k q : ℕ) (c d : Chart) → d.shape ≡ c.shape → d.fields.fills ≡ c.fields.fills → d.fields.positions ≡ c.fields.positions → IsLastAt c k q → IsLastAt d k q
 IsLastAt-after k q c d shape fills positions a = record { segment = rw (shape, positions) a.segment; last = rw (shape, positions, fills) a.last }
 
-pub Claims-after : (k q : ℕ) (old : Chart) (was : Parts) (mid : Chart) (y : Parts) (new : Chart) (z : Parts) → new.shape ≡ mid.shape → new.fields.fills ≡ mid.fields.fills → new.fields.positions ≡ mid.fields.positions → new.erases ≡ mid.erases → z.chooser ≡ y.chooser → Claims k q old was mid y → Claims k q old was new z
-Claims-after k q old was mid y new z shape fills positions erases chooser (at, a, b, c, d) = (IsLastAt-after k q mid new shape fills positions at, fills ∙ a, positions ∙ b, erases ∙ c, chooser ∙ d)
+pub Claims-after : (k page q : ℕ) (old : Chart) (was : Parts) (mid : Chart) (y : Parts) (new : Chart) (z : Parts) → new.shape ≡ mid.shape → new.fields.fills ≡ mid.fields.fills → new.fields.positions ≡ mid.fields.positions → new.erases ≡ mid.erases → z.chooser ≡ y.chooser → Claims k page q old was mid y → Claims k page q old was new z
+Claims-after k page q old was mid y new z shape fills positions erases chooser (at, a, b, c, d) = (IsLastAt-after k q mid new shape fills positions at, fills ∙ a, positions ∙ b, erases ∙ c, chooser ∙ d)
 
-pub Follows-after : (choice : Choice) (q : ℕ) (old : Chart) (was : Parts) (mid : Chart) (y : Parts) (new : Chart) (z : Parts) → new.shape ≡ mid.shape → new.fields.fills ≡ mid.fields.fills → new.fields.positions ≡ mid.fields.positions → new.erases ≡ mid.erases → z.chooser ≡ y.chooser → z.reloc.erased ≡ y.reloc.erased → Follows choice q old was mid y → Follows choice q old was new z
-Follows-after (Free k) q old was mid y new z shape fills positions erases chooser counted claims = Claims-after k q old was mid y new z shape fills positions erases chooser claims
-Follows-after (Clean k aside) q old was mid y new z shape fills positions erases chooser counted (at, s, b, d, whole) = (
+pub Follows-after : (choice : Choice) (page q : ℕ) (old : Chart) (was : Parts) (mid : Chart) (y : Parts) (new : Chart) (z : Parts) → new.shape ≡ mid.shape → new.fields.fills ≡ mid.fields.fills → new.fields.positions ≡ mid.fields.positions → new.erases ≡ mid.erases → z.chooser ≡ y.chooser → z.reloc.erased ≡ y.reloc.erased → Follows choice page q old was mid y → Follows choice page q old was new z
+Follows-after (Free k) page q old was mid y new z shape fills positions erases chooser counted claims = Claims-after k page q old was mid y new z shape fills positions erases chooser claims
+Follows-after (Clean k aside) page q old was mid y new z shape fills positions erases chooser counted (at, s, b, d, whole) = (
   IsLastAt-after k q mid new shape fills positions at,
   record { spare = s.spare; is_spare = s.is_spare; positions = positions ∙ s.positions },
   counted ∙ b,
   chooser ∙ d,
-  record { mid = whole.mid; between = whole.between; cleans = whole.cleans; claims = Claims-after k q whole.mid whole.between mid y new z shape fills positions erases chooser whole.claims },
+  record { mid = whole.mid; between = whole.between; cleans = whole.cleans; claims = Claims-after k page q whole.mid whole.between mid y new z shape fills positions erases chooser whole.claims },
 )
 
 -- a row that was claimed for a page, seen after its program and the writes that name it
-pub GetsRow-after : (home q : ℕ) (old : Chart) (was : Parts) (mid : Chart) (y : Parts) (new : Chart) (z : Parts) → new.shape ≡ mid.shape → new.fields.job ≡ mid.fields.job → new.fields.fills ≡ mid.fields.fills → new.fields.positions ≡ mid.fields.positions → new.erases ≡ mid.erases → z.chooser ≡ y.chooser → z.reloc ≡ y.reloc → z.stages ≡ y.stages → GetsRow home q old was mid y → GetsRow home q old was new z
-GetsRow-after home q old was mid y new z shape job fills positions erases chooser task stages g = record {
-  chooses = λ idle none. let c = g.chooses idle none in (c.0, c.1, Follows-after c.0 q old was mid y new z shape fills positions erases chooser (ap (λ (p : Plan). p.erased) task) c.2);
+pub GetsRow-after : (home page q : ℕ) (old : Chart) (was : Parts) (mid : Chart) (y : Parts) (new : Chart) (z : Parts) → new.shape ≡ mid.shape → new.fields.job ≡ mid.fields.job → new.fields.fills ≡ mid.fields.fills → new.fields.positions ≡ mid.fields.positions → new.erases ≡ mid.erases → z.chooser ≡ y.chooser → z.reloc ≡ y.reloc → z.stages ≡ y.stages → GetsRow home page q old was mid y → GetsRow home page q old was new z
+GetsRow-after home page q old was mid y new z shape job fills positions erases chooser task stages g = record {
+  chooses = λ idle none. let c = g.chooses idle none in (c.0, c.1, Follows-after c.0 page q old was mid y new z shape fills positions erases chooser (ap (λ (p : Plan). p.erased) task) c.2);
   busy = λ some. at (g.busy some);
   ends = Ends-after old was mid y new z job stages g.ends;
 }
   where
-    at : ClaimsBeside home q old was mid y ⊎ ClaimsAfter home q old was mid y → ClaimsBeside home q old was new z ⊎ ClaimsAfter home q old was new z
-    at (inl b) = inl (record { position = b.position; lowest = b.lowest; claims = Claims-after b.position q old was mid y new z shape fills positions erases chooser b.claims; job = job ∙ b.job; stages = stages ∙ b.stages; reloc = task ∙ b.reloc })
-    at (inr a) = inr (record { mid = a.mid; between = a.between; first = a.first; choice = a.choice; chosen = a.chosen; follows = Follows-after a.choice q a.mid a.between mid y new z shape fills positions erases chooser (ap (λ (p : Plan). p.erased) task) a.follows })
+    at : ClaimsBeside home page q old was mid y ⊎ ClaimsAfter home page q old was mid y → ClaimsBeside home page q old was new z ⊎ ClaimsAfter home page q old was new z
+    at (inl b) = inl (record { position = b.position; lowest = b.lowest; claims = Claims-after b.position page q old was mid y new z shape fills positions erases chooser b.claims; job = job ∙ b.job; stages = stages ∙ b.stages; reloc = task ∙ b.reloc })
+    at (inr a) = inr (record { mid = a.mid; between = a.between; first = a.first; choice = a.choice; chosen = a.chosen; follows = Follows-after a.choice page q a.mid a.between mid y new z shape fills positions erases chooser (ap (λ (p : Plan). p.erased) task) a.follows })
 
-pub NotesBad-follows : (choice : Choice) (q : ℕ) (old : Chart) (was : Parts) (mid : Chart) (y z : Parts) → z.chooser ≡ y.chooser → Follows choice q old was mid y → NotesBad choice was z
-NotesBad-follows (Free k) q old was mid y z same (at, a, b, c, d) = same ∙ d
-NotesBad-follows (Clean k aside) q old was mid y z same (at, s, b, d, whole) = inr (same ∙ d)
+pub NotesBad-follows : (choice : Choice) (page q : ℕ) (old : Chart) (was : Parts) (mid : Chart) (y z : Parts) → z.chooser ≡ y.chooser → Follows choice page q old was mid y → NotesBad choice page was z
+NotesBad-follows (Free k) page q old was mid y z same (at, a, b, c, d) = same ∙ d
+NotesBad-follows (Clean k aside) page q old was mid y z same (at, s, b, d, whole) = inr (same ∙ d)
 
-pub ChoosesBad-gets : (home q : ℕ) (old : Chart) (was : Parts) (mid : Chart) (y z : Parts) → z.chooser ≡ y.chooser → GetsRow home q old was mid y → ChoosesBad home old was z
-ChoosesBad-gets home q old was mid y z same g idle none = let c = g.chooses idle none in (c.0, c.1, NotesBad-follows c.0 q old was mid y z same c.2)
+pub ChoosesBad-gets : (home page q : ℕ) (old : Chart) (was : Parts) (mid : Chart) (y z : Parts) → z.chooser ≡ y.chooser → GetsRow home page q old was mid y → ChoosesBad home page old was z
+ChoosesBad-gets home page q old was mid y z same g idle none = let c = g.chooses idle none in (c.0, c.1, NotesBad-follows c.0 page q old was mid y z same c.2)
 
 -- the program of a row that was claimed was bad
-pub StopsFor-gets : (home q : ℕ) (old : Chart) (was : Parts) (mid : Chart) (y : Parts) (new : Chart) (z : Parts) → new.shape ≡ mid.shape → new.fields ≡ mid.fields → new.erases ≡ mid.erases → z.chooser ≡ y.chooser → z.reloc ≡ y.reloc → z.stages ≡ y.stages → z.flushes ≡ up was.flushes → GetsRow home q old was mid y → StopsFor home old was new z
-StopsFor-gets home q old was mid y new z shape fields erases chooser task stages flushes g = record {
-  noted = ChoosesBad-gets home q old was mid y z chooser g;
-  halted = inr (record { row = q; gets = GetsRow-after home q old was mid y new z shape (ap (λ (f : Fields). f.job) fields) (ap (λ (f : Fields). f.fills) fields) (ap (λ (f : Fields). f.positions) fields) erases chooser task stages g; flushes = flushes });
+pub StopsFor-gets : (home page q : ℕ) (old : Chart) (was : Parts) (mid : Chart) (y : Parts) (new : Chart) (z : Parts) → new.shape ≡ mid.shape → new.fields ≡ mid.fields → new.erases ≡ mid.erases → z.chooser ≡ y.chooser → z.reloc ≡ y.reloc → z.stages ≡ y.stages → z.flushes ≡ up was.flushes → GetsRow home page q old was mid y → StopsFor home page old was new z
+StopsFor-gets home page q old was mid y new z shape fields erases chooser task stages flushes g = record {
+  noted = ChoosesBad-gets home page q old was mid y z chooser g;
+  halted = inr (record { row = q; gets = GetsRow-after home page q old was mid y new z shape (ap (λ (f : Fields). f.job) fields) (ap (λ (f : Fields). f.fills) fields) (ap (λ (f : Fields). f.positions) fields) erases chooser task stages g; flushes = flushes });
 }
 
 pub bad-rises : (a b : ℕ) → a ≤ b → a < 2 ^ 64 - 1 → a < up b
@@ -112,15 +112,15 @@ none-of None A B other a = a
 none-of (Some x) A B other b = absurd (other x refl)
 
 -- once job and stages were finished, a step of the cleaning was bad
-pub stops-after : (home : ℕ) (old : Chart) (was : Parts) (mid : Chart) (y : Parts) (new : Chart) (z : Parts) → IsBusy old was → mid.fields.job ≡ Some Idle → y.stages ≡ [] → FinishesFirst home old was mid y → StopsRow home mid y new z → StopsRow home old was new z
-stops-after home old was mid y new z busy idle none first (inl (more, lack, stops)) = absurd (never-idle mid.fields.job y.stages more idle none)
-stops-after home old was mid y new z busy idle none first (inr s) = inr (record { mid = mid; between = y; settles = inr (busy, first); position = s.position; aside = s.aside; chosen = chosen s.settles; stops = stops s.settles })
+pub stops-after : (home page : ℕ) (old : Chart) (was : Parts) (mid : Chart) (y : Parts) (new : Chart) (z : Parts) → IsBusy old was → mid.fields.job ≡ Some Idle → y.stages ≡ [] → FinishesFirst home page old was mid y → StopsRow home page mid y new z → StopsRow home page old was new z
+stops-after home page old was mid y new z busy idle none first (inl (more, lack, stops)) = absurd (never-idle mid.fields.job y.stages more idle none)
+stops-after home page old was mid y new z busy idle none first (inr s) = inr (record { mid = mid; between = y; settles = inr (busy, first); position = s.position; aside = s.aside; chosen = chosen s.settles; stops = stops s.settles })
   where
-    chosen : Settles home mid y s.mid s.between → ChoiceFor y.chooser y.space home (Clean s.position s.aside)
-    chosen (inl (a, b, c, same)) = subst (λ (x : Parts). ChoiceFor x.chooser x.space home (Clean s.position s.aside)) same s.chosen
+    chosen : Settles home page mid y s.mid s.between → ChoiceFor y.chooser y.space home page (Clean s.position s.aside)
+    chosen (inl (a, b, c, same)) = subst (λ (x : Parts). ChoiceFor x.chooser x.space home page (Clean s.position s.aside)) same s.chosen
     chosen (inr (more, next)) = absurd (never-idle mid.fields.job y.stages more idle none)
 
-    stops : Settles home mid y s.mid s.between → StopsClean s.position s.aside mid y new z
+    stops : Settles home page mid y s.mid s.between → StopsClean s.position s.aside mid y new z
     stops (inl (a, b, is, same)) = subst (λ (c : Chart). StopsClean s.position s.aside c y new z) is (subst (λ (x : Parts). StopsClean s.position s.aside s.mid x new z) same s.stops)
     stops (inr (more, next)) = absurd (never-idle mid.fields.job y.stages more idle none)
 

@@ -9,7 +9,7 @@ use Rattle.envy_frames.specs.declared.held.Held.{Held}
 use Rattle.envy_map.specs.Fields.{Chart, place, undo}
 use Rattle.envy_policy.specs.declared.choice.Choice.{Choice}
 use Rattle.envy_policy.specs.declared.choice.Choice.TheVariants.{Free, Clean}
-use Rattle.envy_policy.specs.History.{History, flushed, cleaned}
+use Rattle.envy_policy.specs.History.{History, claimed, cleaned}
 use Rattle.envy_space.specs.Pool.{Pool}
 use Rattle.envy_table.specs.Entries.{Translations}
 use Rattle.envy_table.specs.Hits.{Accesses, Rests}
@@ -21,42 +21,44 @@ use Rattle.envy_flush.specs.Storing.{Brings, StoresBy}
 use Rattle.envy_flush.specs.declared.parts.Parts.{Parts}
 use Rattle.envy_flush.proofs.FlushLemmas.{on-ok}
 
-NotesBad-same : (choice : Choice) (x y now : Parts) → x.chooser ≡ y.chooser → NotesBad choice x now → NotesBad choice y now
-NotesBad-same (Free k) x y now same noted = subst (λ (h : History). now.chooser ≡ flushed h k) same noted
-NotesBad-same (Clean k aside) x y now same (inl noted) = inl (subst (λ (h : History). now.chooser ≡ cleaned h k) same noted)
-NotesBad-same (Clean k aside) x y now same (inr noted) = inr (subst (λ (h : History). now.chooser ≡ flushed (cleaned h k) k) same noted)
+NotesBad-same : (choice : Choice) (page : ℕ) (x y now : Parts) → x.chooser ≡ y.chooser → NotesBad choice page x now → NotesBad choice page y now
+NotesBad-same (Free k) page x y now same noted = subst (λ (h : History). now.chooser ≡ claimed h k page) same noted
+NotesBad-same (Clean k aside) page x y now same (inl noted) = inl (subst (λ (h : History). now.chooser ≡ cleaned h k) same noted)
+NotesBad-same (Clean k aside) page x y now same (inr noted) = inr (subst (λ (h : History). now.chooser ≡ claimed (cleaned h k) k page) same noted)
 
-ChoosesBad-same : (home : ℕ) (old : Chart) (x y now : Parts) → x ≡ record y { cache = x.cache } → ChoosesBad home old x now → ChoosesBad home old y now
-ChoosesBad-same home old x y now is noted idle none =
+ChoosesBad-same : (home page : ℕ) (old : Chart) (x y now : Parts) → x ≡ record y { cache = x.cache } → ChoosesBad home page old x now → ChoosesBad home page old y now
+ChoosesBad-same home page old x y now is noted idle none =
     let chooser : x.chooser ≡ y.chooser = ap (λ (z : Parts). z.chooser) is in
     let space : x.space ≡ y.space = ap (λ (z : Parts). z.space) is in
     let c = noted idle (ap (λ (z : Parts). z.stages) is ∙ none) in
-    (c.0, subst (λ (h : History). ChoiceFor h y.space home c.0) chooser (subst (λ (s : Pool). ChoiceFor x.chooser s home c.0) space c.1), NotesBad-same c.0 x y now chooser c.2)
+    (c.0, subst (λ (h : History). ChoiceFor h y.space home page c.0) chooser (subst (λ (s : Pool). ChoiceFor x.chooser s home page c.0) space c.1), NotesBad-same c.0 page x y now chooser c.2)
 
-pub Stops-framed : (p k : ℕ) (old : Chart) (was x : Parts) (new : Chart) (now : Parts) → x ≡ record was { cache = x.cache } → place old.fields p ≡ Some (Frame k) → now.frames ≡ x.frames → ((home : ℕ) × Any (λ h. (h.frame ≡ k) × (h.home ≡ home)) x.frames.held × StopsFor home old x new now) → Stops p old was new now
+pub Stops-framed : (p k : ℕ) (old : Chart) (was x : Parts) (new : Chart) (now : Parts) → x ≡ record was { cache = x.cache } → place old.fields p ≡ Some (Frame k) → now.frames ≡ x.frames → ((home : ℕ) × Any (λ h. (h.frame ≡ k) × (h.home ≡ home)) x.frames.held × StopsFor home p old x new now) → Stops p old was new now
 Stops-framed p k old was x new now looked here frames (home, held, stops) = record {
   frames = frames ∙ ap (λ (z : Parts). z.frames) looked;
   home = home;
-  programmed = subst (λ (y : Option Place). IsProgrammed y was.frames.held home) (sym here)
-      (subst (λ (hs : List Held). Any (λ h. (h.frame ≡ k) × (h.home ≡ home)) hs) (ap (λ (z : Parts). z.frames.held) looked) held);
-  noted = ChoosesBad-same home old x was now looked stops.noted;
+  page = p;
+  programmed = subst (λ (y : Option Place). IsProgrammed p y was.frames.held home p) (sym here)
+      (subst (λ (hs : List Held). Any (λ h. (h.frame ≡ k) × (h.home ≡ home)) hs) (ap (λ (z : Parts). z.frames.held) looked) held, refl);
+  noted = ChoosesBad-same home p old x was now looked stops.noted;
   looked = x;
   after_look = looked;
   halted = stops.halted;
 }
 
-programmed-oldest : (from : Place) (hs : List Held) (h : Held) → IsElsewhere (Some from) → slice_get hs 0 ≡ Some h → IsProgrammed (Some from) hs h.home
-programmed-oldest Absent hs h elsewhere first = (h, first, refl)
-programmed-oldest (Row q) hs h elsewhere first = (h, first, refl)
-programmed-oldest (Frame k) hs h elsewhere first = absurd (elsewhere k refl)
+programmed-oldest : (p : ℕ) (from : Place) (hs : List Held) (h : Held) → IsElsewhere (Some from) → slice_get hs 0 ≡ Some h → IsProgrammed p (Some from) hs h.home h.page
+programmed-oldest p Absent hs h elsewhere first = (h, first, refl, refl)
+programmed-oldest p (Row q) hs h elsewhere first = (h, first, refl, refl)
+programmed-oldest p (Frame k) hs h elsewhere first = absurd (elsewhere k refl)
 
-pub Stops-elsewhere : (p : ℕ) (from : Place) (old : Chart) (was x : Parts) (new : Chart) (now : Parts) → x ≡ record was { cache = x.cache } → place old.fields p ≡ Some from → IsElsewhere (place old.fields p) → now.frames ≡ x.frames → ((h : Held) × (slice_get x.frames.held 0 ≡ Some h) × StopsFor h.home old x new now) → Stops p old was new now
+pub Stops-elsewhere : (p : ℕ) (from : Place) (old : Chart) (was x : Parts) (new : Chart) (now : Parts) → x ≡ record was { cache = x.cache } → place old.fields p ≡ Some from → IsElsewhere (place old.fields p) → now.frames ≡ x.frames → ((h : Held) × (slice_get x.frames.held 0 ≡ Some h) × StopsFor h.home h.page old x new now) → Stops p old was new now
 Stops-elsewhere p from old was x new now looked here elsewhere frames (h, first, stops) = record {
   frames = frames ∙ ap (λ (z : Parts). z.frames) looked;
   home = h.home;
-  programmed = subst (λ (y : Option Place). IsProgrammed y was.frames.held h.home) (sym here)
-      (programmed-oldest from was.frames.held h (subst (λ (y : Option Place). IsElsewhere y) here elsewhere) (subst (λ (hs : List Held). slice_get hs 0 ≡ Some h) (ap (λ (z : Parts). z.frames.held) looked) first));
-  noted = ChoosesBad-same h.home old x was now looked stops.noted;
+  page = h.page;
+  programmed = subst (λ (y : Option Place). IsProgrammed p y was.frames.held h.home h.page) (sym here)
+      (programmed-oldest p from was.frames.held h (subst (λ (y : Option Place). IsElsewhere y) here elsewhere) (subst (λ (hs : List Held). slice_get hs 0 ≡ Some h) (ap (λ (z : Parts). z.frames.held) looked) first));
+  noted = ChoosesBad-same h.home h.page old x was now looked stops.noted;
   looked = x;
   after_look = looked;
   halted = stops.halted;

@@ -24,7 +24,7 @@ use Rattle.envy_base.specs.declared.fields.Undo.{Undo}
 use Rattle.envy_flush.specs.Putting.{undo_for}
 use Rattle.envy_flush.specs.Storing.{Brings, IsHome, IsNotable, left_pool, Near}
 use Rattle.envy_flush.specs.declared.parts.Parts.{Parts}
-use Rattle.envy_flush.proofs.AgreeLemmas.{Fits-moved}
+use Rattle.envy_flush.proofs.AgreeLemmas.{Fits-moved, sizes_of}
 use Rattle.envy_flush.proofs.JobLemmas.{IsPlanOf-framed, IsPlanOf-words, AreParted-framed}
 use Rattle.envy_space.specs.Noting.{Leaving}
 use Rattle.envy_space.proofs.PlaceLemmas.{PoolAgrees-left, PoolAgrees-absent}
@@ -74,7 +74,7 @@ left-shape (Row q) pool = refl
 
 pub Fits-near : (c new : Chart) (x y : Parts) (p k : ℕ) (from : Place) → Near c x p k from → new ≡ with_fields c (with_place p (Some (Frame k)) c.fields) → y.space ≡ left_pool from x.space → length y.cache.entries ≡ length x.cache.entries → y.frames ≡ x.frames → y.chooser ≡ x.chooser → y.stages ≡ x.stages → Fits new.shape y
 Fits-near c new x y p k from n is space entries frames chooser stages =
-    Fits-moved c.shape new.shape x y (ap (λ (z : Chart). z.shape) is) n.fits (ap (λ (z : Pool). z.shape) space ∙ left-shape from x.space) (ap (λ (o : Order). o.count) frames) entries (ap (λ (h : History). h.positions) chooser) stages
+    Fits-moved c.shape new.shape x y (ap (λ (z : Chart). z.shape) is) n.fits (ap (λ (z : Pool). z.shape) space ∙ left-shape from x.space) (ap (λ (o : Order). o.count) frames) entries (ap sizes_of chooser) stages
 
 -- a frame was taken for the page and filled
 pub Near-filled : (c new : Chart) (x y : Parts) (p k home : ℕ) (from : Place) (ws : List ℕ) → Ready c x → IsTrue new.on → IsSound new → new ≡ with_fields c (with_frame k ws 32 c.fields) → p < c.shape.pages → k < c.shape.frames → home < c.shape.segments - 1 → place c.fields p ≡ Some from → IsElsewhere (Some from) → IsUnnamed new.fields k → IsUnheld x.frames.held k → y.frames.held ≡ x.frames.held ++ (record { frame = k; page = p; home = home }) ∷ [] → y.frames.count ≡ x.frames.count → y ≡ record x { frames = y.frames } → Near new y p k from
@@ -89,7 +89,7 @@ Near-filled c new x y p k home from ws r on sound is page frame position here el
     record {
       on = on;
       sound = sound;
-      fits = Fits-moved c.shape new.shape x y shape r.fits (ap (λ (z : Pool). z.shape) space) count (ap (λ (z : Translations). length z.entries) cache) (ap (λ (z : Parts). z.chooser.positions) parts) (ap (λ (z : Parts). z.stages) parts);
+      fits = Fits-moved c.shape new.shape x y shape r.fits (ap (λ (z : Pool). z.shape) space) count (ap (λ (z : Translations). length z.entries) cache) (ap (λ (z : Parts). sizes_of z.chooser) parts) (ap (λ (z : Parts). z.stages) parts);
       page = rw shape page;
       frame = rw shape frame;
       here = subst (λ (z : Chart). place z.fields p ≡ Some from) (sym is) here;

@@ -1,6 +1,6 @@
 -- Where pages and free rows are.
-use Rattle.std.proofs.Common.{◌≡◌, ◌≢◌, ◌⊎◌, inl, inr, ℕ, zero, suc, ◌+◌, ◌-◌, ◌/◌, ◌<◌, ◌≤◌, List, length, get_or, set, Option, Some, sym, ◌∙◌, ap, subst, arith, add-one}
-use Rattle.std.specs.Prelude.{map, sum_by, ◌==◌, if◌then◌else◌}
+use Rattle.std.proofs.Common.{◌≡◌, ◌≢◌, ◌⊎◌, inl, inr, ℕ, zero, suc, ◌+◌, ◌-◌, ◌/◌, ◌<◌, ◌≤◌, List, length, get_or, set, Option, None, Some, sym, ◌∙◌, ap, subst, arith, add-one}
+use Rattle.std.specs.Prelude.{map, sum_by, ◌==◌, if◌then◌else◌, IfSome, MatchOption}
 use Rattle.std.specs.List.{range_with_len}
 use Rattle.std.proofs.lemmas.Bool.{cases_lt, cases_eq, eq-eqb, ne_eqb}
 use Rattle.std.proofs.lemmas.List.{get_or_past, get_or-set_same, get_or-set_other}
@@ -19,14 +19,16 @@ use Rattle.envy_layout.proofs.References.{apart-spare}
 use Rattle.envy_layout.proofs.SpareLemmas.{one-spare}
 use Rattle.envy_policy.specs.declared.choice.Choice.TheVariants.{Free, Clean}
 use Rattle.envy_policy.specs.declared.setup.Policy.{Policy}
-use Rattle.envy_policy.specs.declared.setup.Policy.TheVariants.{Greedy, Fifo, Locality, Hybrid}
+use Rattle.envy_policy.specs.declared.setup.Policy.TheVariants.{Greedy, Fifo, Locality, Hybrid, Lifetime}
 use Rattle.envy_policy.specs.History.{History, partition_of}
-use Rattle.envy_policy.specs.Choice.{IsLeast, IsMost, IsVictim}
+use Rattle.envy_policy.specs.Choice.{IsChoice, IsLeast, IsMost, IsVictim}
+use Rattle.envy_policy.specs.Lifetime.{IsGreatest, IsLifetimeChoice}
+use Rattle.envy_policy.specs.Notes.{Notes}
 use Rattle.envy_space.specs.Pool.{Pool, PoolAgrees, free_at, dead_at}
 use Rattle.envy_space.proofs.SpaceLemmas.{sum_by-range_more}
 use Rattle.envy_layout.specs.RowKinds.{kept_in}
 use Rattle.envy_layout.proofs.KeptRows.{dead-row}
-use Rattle.envy_choosing.specs.Choosing.{ChoiceFor, frees, deads}
+use Rattle.envy_choosing.specs.Choosing.{ChoiceFor, counts_in, frees, deads}
 
 -- the same positions of the same shape
 pub placed-pool : (sh sh2 : Shape) (positions positions2 : List ℕ) (s : ℕ) → sh2 ≡ sh → positions2 ≡ positions → IsPlaced sh positions s → IsPlaced sh2 positions2 s
@@ -79,45 +81,59 @@ some-rows sh f flash pool shape sound agrees =
     let kept = agrees.kept (get_or f.positions k 0) fits in
     (k, rw agrees.shape lt, rw (agrees.fills, agrees.positions, agrees.shape, kept) found.2)
 
--- a choice of a free row
-pub free-room : (h : History) (pool : Pool) (home k : ℕ) → ChoiceFor h pool home (Free k) → (k < pool.shape.segments - 1) × (get_or pool.fills (get_or pool.positions k 0) 0 < pool.shape.rows)
-free-room h pool home k choice = at (cases_lt k (pool.shape.segments - 1))
+-- a choice of a free row is of one that there is
+free-some : (lives : Option Notes) (h : History) (pool : Pool) (home page k : ℕ) → MatchOption lives (IsChoice h (frees pool) (deads pool) home (Free k)) (λ n. IsLifetimeChoice n (counts_in pool) page (Free k)) → 0 < get_or (frees pool) k 0
+free-some None h pool home page k choice = (IsLeast.holds choice.1).1
+free-some (Some n) h pool home page k (inl (inl own)) = own.1.0
+free-some (Some n) h pool home page k (inl (inr fresh)) = (IsLeast.holds fresh.1).0
+free-some (Some n) h pool home page k (inr last) = IsLeast.holds last.2
+
+pub free-room : (h : History) (pool : Pool) (home page k : ℕ) → ChoiceFor h pool home page (Free k) → (k < pool.shape.segments - 1) × (get_or pool.fills (get_or pool.positions k 0) 0 < pool.shape.rows)
+free-room h pool home page k choice = at (cases_lt k (pool.shape.segments - 1))
   where
     some : 0 < get_or (frees pool) k 0
-    some = (IsLeast.holds choice.1).1
+    some = free-some h.lives h pool home page k choice
 
     at : (k < pool.shape.segments - 1) ⊎ (pool.shape.segments - 1 ≤ k) → (k < pool.shape.segments - 1) × (get_or pool.fills (get_or pool.positions k 0) 0 < pool.shape.rows)
     at (inl lt) = let is = get_or-map-range_with_len (free_at pool) 0 (pool.shape.segments - 1) k k 0 lt (omega arith) in (lt, omega (arith, some))
     at (inr past) = absurd (let none : get_or (frees pool) k 0 ≡ 0 = get_or_past (frees pool) k 0 (rw length-map-range_with_len past) in omega (arith, some))
 
--- a position that is cleaned
-pub clean-room : (h : History) (pool : Pool) (home k : ℕ) (aside : Option ℕ) → ChoiceFor h pool home (Clean k aside) → k < pool.shape.segments - 1
-clean-room h pool home k aside choice = at (cases_lt k (pool.shape.segments - 1))
-  where
-    some : (policy : Policy) → IsVictim policy h (deads pool) (partition_of h k) k → 0 < get_or (deads pool) k 0
-    some Greedy v = (IsMost.holds v).1
-    some Fifo v = (IsLeast.holds v).1
-    some Locality v = (IsLeast.holds v).1
-    some (Hybrid part) v = (IsLeast.holds v).1
+-- a position that is cleaned has dead rows
+victim-some : (policy : Policy) (h : History) (pool : Pool) (k : ℕ) → IsVictim policy h (deads pool) (partition_of h k) k → 0 < get_or (deads pool) k 0
+victim-some Greedy h pool k v = (IsMost.holds v).1
+victim-some Fifo h pool k v = (IsLeast.holds v).1
+victim-some Locality h pool k v = (IsLeast.holds v).1
+victim-some (Hybrid part) h pool k v = (IsLeast.holds v).1
+victim-some Lifetime h pool k v = (IsMost.holds v).1
 
+dead-some : (lives : Option Notes) (h : History) (pool : Pool) (home page k : ℕ) (aside : Option ℕ) → MatchOption lives (IsChoice h (frees pool) (deads pool) home (Clean k aside)) (λ n. IsLifetimeChoice n (counts_in pool) page (Clean k aside)) → 0 < get_or (deads pool) k 0
+dead-some None h pool home page k aside choice = victim-some h.policy h pool k choice.2
+dead-some (Some n) h pool home page k aside choice = (IsGreatest.holds choice.1).0
+
+pub clean-room : (h : History) (pool : Pool) (home page k : ℕ) (aside : Option ℕ) → ChoiceFor h pool home page (Clean k aside) → k < pool.shape.segments - 1
+clean-room h pool home page k aside choice = at (cases_lt k (pool.shape.segments - 1))
+  where
     at : (k < pool.shape.segments - 1) ⊎ (pool.shape.segments - 1 ≤ k) → k < pool.shape.segments - 1
     at (inl lt) = lt
-    at (inr past) = absurd (let none : get_or (deads pool) k 0 ≡ 0 = get_or_past (deads pool) k 0 (rw length-map-range_with_len past) in let more = some h.policy choice.2 in omega arith)
+    at (inr past) = absurd (let none : get_or (deads pool) k 0 ≡ 0 = get_or_past (deads pool) k 0 (rw length-map-range_with_len past) in let more = dead-some h.lives h pool home page k aside choice in omega arith)
+
+-- the partition beside is one that there is
+aside-some : (lives : Option Notes) (h : History) (pool : Pool) (home page k : ℕ) (aside : Option ℕ) → MatchOption lives (IsChoice h (frees pool) (deads pool) home (Clean k aside)) (λ n. IsLifetimeChoice n (counts_in pool) page (Clean k aside)) → IfSome aside (λ g. g < length h.heats)
+aside-some lives h pool home page k None choice = tt
+aside-some None h pool home page k (Some g) choice = let near = IsLeast.holds choice.3.1 in near.0
+aside-some (Some n) h pool home page k (Some g) choice = absurd (let no : Some g ≡ None = choice.2 in cc)
+
+pub aside-in : (h : History) (pool : Pool) (home page k : ℕ) (aside : Option ℕ) → ChoiceFor h pool home page (Clean k aside) → IfSome aside (λ g. g < length h.heats)
+aside-in h pool home page k aside choice = aside-some h.lives h pool home page k aside choice
 
 -- a position that is cleaned has a dead row
-pub dead-cleaned : (sh : Shape) (f : Fields) (flash : List (List ℕ)) (h : History) (pool : Pool) (home k : ℕ) (aside : Option ℕ) → Sound sh f flash → PoolAgrees sh f pool → ChoiceFor h pool home (Clean k aside) → (d : ℕ) × (d / sh.rows ≡ get_or f.positions k 0) × ((p : ℕ) → Names f p d → ⊥)
-dead-cleaned sh f flash h pool home k aside sound agrees choice =
-    let low = clean-room h pool home k aside choice in
+pub dead-cleaned : (sh : Shape) (f : Fields) (flash : List (List ℕ)) (h : History) (pool : Pool) (home page k : ℕ) (aside : Option ℕ) → Sound sh f flash → PoolAgrees sh f pool → ChoiceFor h pool home page (Clean k aside) → (d : ℕ) × (d / sh.rows ≡ get_or f.positions k 0) × ((p : ℕ) → Names f p d → ⊥)
+dead-cleaned sh f flash h pool home page k aside sound agrees choice =
+    let low = clean-room h pool home page k aside choice in
     let is = get_or-map-range_with_len (dead_at pool) 0 (pool.shape.segments - 1) k k 0 low (omega arith) in
-    let more = some h.policy choice.2 in
+    let more = dead-some h.lives h pool home page k aside choice in
     let low2 : k < sh.segments - 1 = subst (λ (z : Shape). k < z.segments - 1) agrees.shape low in
     let kept = agrees.kept (get_or f.positions k 0) (Numbers.positions_fit (Sound.numbers sound) k low2) in
     let dead : 0 < dead_at pool k = subst (λ (x : ℕ). 0 < x) is more in
     let there : 0 < get_or f.fills (get_or f.positions k 0) 0 - kept_in sh f.slots f.undos f.places (get_or f.positions k 0) = rw (← kept, ← agrees.fills, ← agrees.positions) dead in
     dead-row sh f flash (get_or f.positions k 0) sound (omega arith)
-  where
-    some : (policy : Policy) → IsVictim policy h (deads pool) (partition_of h k) k → 0 < get_or (deads pool) k 0
-    some Greedy v = (IsMost.holds v).1
-    some Fifo v = (IsLeast.holds v).1
-    some Locality v = (IsLeast.holds v).1
-    some (Hybrid part) v = (IsLeast.holds v).1

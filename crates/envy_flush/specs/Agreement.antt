@@ -21,6 +21,7 @@ pub record Fits (sh : Shape) (x : Parts) : Type 0 where
   pub frames : x.frames.count ≡ sh.frames
   pub entries : length x.cache.entries ≡ sh.entries
   pub positions : x.chooser.positions ≡ sh.segments - 1
+  pub pages : x.chooser.pages ≡ sh.pages
   pub stages : AreStages sh x.stages
 
 -- and what they say of it is so

@@ -1,5 +1,5 @@
 -- What a flush does.
-use Rattle.std.specs.Prelude.{◌≡◌, ◌≢◌, ◌⊎◌, ℕ, ◌+◌, ◌-◌, ◌*◌, ◌/◌, ◌%◌, ◌<◌, List, [], length, drop, Option, None, Some, slice_get, slice_index, slice_set, Any}
+use Rattle.std.specs.Prelude.{◌≡◌, ◌≢◌, ◌⊎◌, ℕ, ◌+◌, ◌-◌, ◌*◌, ◌/◌, ◌%◌, ◌<◌, List, [], length, drop, Option, None, Some, slice_get, slice_index, slice_set, Any, MatchOption}
 use Rattle.envy_base.specs.Counting.{up}
 use Rattle.envy_base.specs.declared.fields.Job.TheVariants.{Idle}
 use Rattle.envy_base.specs.declared.fields.Place.{Place}
@@ -9,11 +9,13 @@ use Rattle.envy_frames.specs.declared.held.Held.{Held}
 use Rattle.envy_map.specs.Fields.{Fields, Chart, place}
 use Rattle.envy_policy.specs.declared.choice.Choice.{Choice}
 use Rattle.envy_policy.specs.declared.choice.Choice.TheVariants.{Free, Clean}
-use Rattle.envy_policy.specs.History.{History, flushed, cleaned, partition_of}
+use Rattle.envy_policy.specs.History.{History, claimed, cleaned, partition_of}
+use Rattle.envy_policy.specs.Lifetime.{IsBeside}
+use Rattle.envy_policy.specs.Notes.{Notes}
 use Rattle.envy_layout.specs.Sound.{Names, IsPlaced, IsSpare}
 use Rattle.envy_reloc.specs.Plan.{IsFreeOf}
-use Rattle.envy_space.specs.Pool.{PoolAgrees}
-use Rattle.envy_choosing.specs.Choosing.{ChoiceFor}
+use Rattle.envy_space.specs.Pool.{Pool, PoolAgrees}
+use Rattle.envy_choosing.specs.Choosing.{ChoiceFor, counts_in}
 use Rattle.envy_flush.specs.Cleaning.{CleansAll, StopsClean}
 use Rattle.envy_flush.specs.Steps.{Finishes, StopsStep}
 use Rattle.envy_flush.specs.declared.parts.Parts.{Parts}
@@ -38,32 +40,32 @@ pub record HasSpare (old : Chart) (k : ℕ) (new : Chart) : Type 0 where
   pub is_spare : IsSpare old.shape old.fields.positions spare
   pub positions : new.fields.positions ≡ slice_set old.fields.positions k spare
 
--- Row q is claimed at position k, which heats and turns note, and nothing else is done.
-abbrev pub Claims : ℕ → ℕ → Chart → Parts → Chart → Parts → Type 0
-Claims k q old was new now =
+-- Row q is claimed at position k for a page, which heats, turns and lives note, and nothing else is done.
+abbrev pub Claims : ℕ → ℕ → ℕ → Chart → Parts → Chart → Parts → Type 0
+Claims k page q old was new now =
     IsLastAt new k q
     × (new.fields.fills ≡ slice_set old.fields.fills (slice_index old.fields.positions k) (slice_index old.fields.fills (slice_index old.fields.positions k) + 1))
-    × (new.fields.positions ≡ old.fields.positions) × (new.erases ≡ old.erases) × (now.chooser ≡ flushed was.chooser k)
+    × (new.fields.positions ≡ old.fields.positions) × (new.erases ≡ old.erases) × (now.chooser ≡ claimed was.chooser k page)
 
 -- position k is cleaned, and then row q is claimed there
-pub record ClaimsCleaned (k : ℕ) (aside : Option ℕ) (q : ℕ) (old : Chart) (was : Parts) (new : Chart) (now : Parts) : Type 0 where
+pub record ClaimsCleaned (k : ℕ) (aside : Option ℕ) (page q : ℕ) (old : Chart) (was : Parts) (new : Chart) (now : Parts) : Type 0 where
   pub mid : Chart
   pub between : Parts
   pub cleans : CleansAll k aside old was mid between
-  pub claims : Claims k q mid between new now
+  pub claims : Claims k page q mid between new now
 
 -- What a choice does, where nothing ran: `Free` claims row q at its position; `Clean` cleans its position, which
--- has the spare then, and claims row q there. Heats and turns note it.
-abbrev pub Follows : Choice → ℕ → Chart → Parts → Chart → Parts → Type 0
-Follows (Free k) q old was new now = Claims k q old was new now
-Follows (Clean k aside) q old was new now =
-    IsLastAt new k q × HasSpare old k new × (now.reloc.erased ≡ up was.reloc.erased) × (now.chooser ≡ flushed (cleaned was.chooser k) k)
-    × ClaimsCleaned k aside q old was new now
+-- has the spare then, and claims row q there. Heats, turns and lives note it.
+abbrev pub Follows : Choice → ℕ → ℕ → Chart → Parts → Chart → Parts → Type 0
+Follows (Free k) page q old was new now = Claims k page q old was new now
+Follows (Clean k aside) page q old was new now =
+    IsLastAt new k q × HasSpare old k new × (now.reloc.erased ≡ up was.reloc.erased) × (now.chooser ≡ claimed (cleaned was.chooser k) k page)
+    × ClaimsCleaned k aside page q old was new now
 
 -- row q was claimed for a page with this home by the choice, where nothing ran
-abbrev pub Chooses : ℕ → ℕ → Chart → Parts → Chart → Parts → Type 0
-Chooses home q old was new now =
-    old.fields.job ≡ Some Idle → was.stages ≡ [] → (choice : Choice) × ChoiceFor was.chooser was.space home choice × Follows choice q old was new now
+abbrev pub Chooses : ℕ → ℕ → ℕ → Chart → Parts → Chart → Parts → Type 0
+Chooses home page q old was new now =
+    old.fields.job ≡ Some Idle → was.stages ≡ [] → (choice : Choice) × ChoiceFor was.chooser was.space home page choice × Follows choice page q old was new now
 
 -- the job and the stages are those of before, or nothing is left
 abbrev pub Ends : Chart → Parts → Chart → Parts → Type 0
@@ -81,42 +83,60 @@ pub record IsAvailable (h : History) (home : ℕ) (c : Chart) (k : ℕ) : Type 0
   pub room : slice_index c.fields.fills (slice_index c.fields.positions k) < c.shape.rows
   pub free : IsFreeOf c.fields.job (slice_index c.fields.positions k)
 
-abbrev pub IsNoneAvailable : History → ℕ → Chart → Type 0
-IsNoneAvailable h home c = (k : ℕ) → IsAvailable h home c k → ⊥
+abbrev pub IsNoneNear : History → ℕ → Chart → Type 0
+IsNoneNear h home c = (k : ℕ) → IsAvailable h home c k → ⊥
 
-pub record IsLowestAvailable (h : History) (home : ℕ) (c : Chart) (k : ℕ) : Type 0 where
+pub record IsLowestNear (h : History) (home : ℕ) (c : Chart) (k : ℕ) : Type 0 where
   pub is : IsAvailable h home c k
   pub lowest : (j : ℕ) → j < k → IsAvailable h home c j → ⊥
 
--- Beside a job or a stage that is left row q was claimed at the lowest such position. Nothing else was done.
-pub record ClaimsBeside (home q : ℕ) (old : Chart) (was : Parts) (new : Chart) (now : Parts) : Type 0 where
+-- the position whose rows the job takes away, or none
+abbrev pub IsEmptied : Chart → Option ℕ → Type 0
+IsEmptied c emptied = MatchOption emptied
+    ((k : ℕ) → k < c.shape.segments - 1 → IsFreeOf c.fields.job (slice_index c.fields.positions k))
+    (λ k. (k < c.shape.segments - 1) × (IsFreeOf c.fields.job (slice_index c.fields.positions k) → ⊥))
+
+-- where lives are noted, this is the position for the page beside the job
+abbrev pub GoesBeside : Notes → Pool → ℕ → Chart → Option ℕ → Type 0
+GoesBeside n pool page c found = (emptied : Option ℕ) × IsEmptied c emptied × IsBeside n (counts_in pool) emptied page found
+
+-- beside a job there is no position for the page with this home, or k is it: the lowest of the home's partition,
+-- or where lives are noted the one by them
+abbrev pub IsNoneAvailable : Parts → ℕ → ℕ → Chart → Type 0
+IsNoneAvailable x home page c = MatchOption x.chooser.lives (IsNoneNear x.chooser home c) (λ n. GoesBeside n x.space page c None)
+
+abbrev pub IsLowestAvailable : Parts → ℕ → ℕ → Chart → ℕ → Type 0
+IsLowestAvailable x home page c k = MatchOption x.chooser.lives (IsLowestNear x.chooser home c k) (λ n. GoesBeside n x.space page c (Some k))
+
+-- Beside a job or a stage that is left row q was claimed at that position. Nothing else was done.
+pub record ClaimsBeside (home page q : ℕ) (old : Chart) (was : Parts) (new : Chart) (now : Parts) : Type 0 where
   pub position : ℕ
-  pub lowest : IsLowestAvailable was.chooser home old position
-  pub claims : Claims position q old was new now
+  pub lowest : IsLowestAvailable was home page old position
+  pub claims : Claims position page q old was new now
   pub job : new.fields.job ≡ old.fields.job
   pub stages : now.stages ≡ was.stages
   pub reloc : now.reloc ≡ was.reloc
 
--- there is no such position, so the job and the stages were finished, which heats and turns don't note
-pub record FinishesFirst (home : ℕ) (old : Chart) (was : Parts) (new : Chart) (now : Parts) : Type 0 where
-  pub none : IsNoneAvailable was.chooser home old
+-- there is no such position, so the job and the stages were finished, which heats, turns and lives don't note
+pub record FinishesFirst (home page : ℕ) (old : Chart) (was : Parts) (new : Chart) (now : Parts) : Type 0 where
+  pub none : IsNoneAvailable was home page old
   pub finishes : Finishes old was new now
   pub chooser : now.chooser ≡ was.chooser
   pub pool : PoolAgrees new.shape new.fields now.space
 
 -- and then row q was claimed by the choice
-pub record ClaimsAfter (home q : ℕ) (old : Chart) (was : Parts) (new : Chart) (now : Parts) : Type 0 where
+pub record ClaimsAfter (home page q : ℕ) (old : Chart) (was : Parts) (new : Chart) (now : Parts) : Type 0 where
   pub mid : Chart
   pub between : Parts
-  pub first : FinishesFirst home old was mid between
+  pub first : FinishesFirst home page old was mid between
   pub choice : Choice
-  pub chosen : ChoiceFor between.chooser between.space home choice
-  pub follows : Follows choice q mid between new now
+  pub chosen : ChoiceFor between.chooser between.space home page choice
+  pub follows : Follows choice page q mid between new now
 
 -- a row was claimed for a page, by the choice where nothing ran
-pub record GetsRow (home q : ℕ) (old : Chart) (was : Parts) (new : Chart) (now : Parts) : Type 0 where
-  pub chooses : Chooses home q old was new now
-  pub busy : IsBusy old was → ClaimsBeside home q old was new now ⊎ ClaimsAfter home q old was new now
+pub record GetsRow (home page q : ℕ) (old : Chart) (was : Parts) (new : Chart) (now : Parts) : Type 0 where
+  pub chooses : Chooses home page q old was new now
+  pub busy : IsBusy old was → ClaimsBeside home page q old was new now ⊎ ClaimsAfter home page q old was new now
   pub ends : Ends old was new now
 
 -- the oldest held page was programmed into a row that was claimed for it and stands there, and its frame is free
@@ -124,7 +144,7 @@ pub record FlushesOldest (old : Chart) (was : Parts) (new : Chart) (now : Parts)
   pub oldest : Held
   pub first : slice_get was.frames.held 0 ≡ Some oldest
   pub row : ℕ
-  pub gets : GetsRow oldest.home row old was new now
+  pub gets : GetsRow oldest.home oldest.page row old was new now
   pub here : place new.fields oldest.page ≡ Some (Row row)
   pub held : now.frames.held ≡ drop 1 was.frames.held
   pub flushes : now.flushes ≡ up was.flushes
@@ -135,61 +155,62 @@ MakesRoom old was new now =
     ((length was.frames.held < was.frames.count) × (new ≡ old) × (now ≡ was))
     ⊎ ((length was.frames.held ≡ was.frames.count) × FlushesOldest old was new now)
 
--- What a try that a bad operation ended has noted, where nothing ran: the position of a row that was claimed, and
--- a cleaning that began.
-abbrev pub NotesBad : Choice → Parts → Parts → Type 0
-NotesBad (Free k) was now = now.chooser ≡ flushed was.chooser k
-NotesBad (Clean k aside) was now = (now.chooser ≡ cleaned was.chooser k) ⊎ (now.chooser ≡ flushed (cleaned was.chooser k) k)
+-- What a try that a bad operation ended has noted, where nothing ran: the position of a row that was claimed and
+-- the page, and a cleaning that began.
+abbrev pub NotesBad : Choice → ℕ → Parts → Parts → Type 0
+NotesBad (Free k) page was now = now.chooser ≡ claimed was.chooser k page
+NotesBad (Clean k aside) page was now = (now.chooser ≡ cleaned was.chooser k) ⊎ (now.chooser ≡ claimed (cleaned was.chooser k) k page)
 
-abbrev pub ChoosesBad : ℕ → Chart → Parts → Parts → Type 0
-ChoosesBad home old was now =
-    old.fields.job ≡ Some Idle → was.stages ≡ [] → (choice : Choice) × ChoiceFor was.chooser was.space home choice × NotesBad choice was now
+abbrev pub ChoosesBad : ℕ → ℕ → Chart → Parts → Parts → Type 0
+ChoosesBad home page old was now =
+    old.fields.job ≡ Some Idle → was.stages ≡ [] → (choice : Choice) × ChoiceFor was.chooser was.space home page choice × NotesBad choice page was now
 
--- the home of the page that a flash operation is made for: of a page in a frame its own, else the oldest held page's
-abbrev pub IsProgrammed : Option Place → List Held → ℕ → Type 0
-IsProgrammed (Some (Frame k)) held home = Any (λ h. (h.frame ≡ k) × (h.home ≡ home)) held
-IsProgrammed (Some (Row q)) held home = (h : Held) × (slice_get held 0 ≡ Some h) × (h.home ≡ home)
-IsProgrammed (Some Absent) held home = (h : Held) × (slice_get held 0 ≡ Some h) × (h.home ≡ home)
-IsProgrammed None held home = ⊥
+-- the page that a flash operation is made for, and its home: a page in a frame itself, else the oldest held page
+abbrev pub IsProgrammed : ℕ → Option Place → List Held → ℕ → ℕ → Type 0
+IsProgrammed p (Some (Frame k)) held home page = Any (λ h. (h.frame ≡ k) × (h.home ≡ home)) held × (page ≡ p)
+IsProgrammed p (Some (Row q)) held home page = (h : Held) × (slice_get held 0 ≡ Some h) × (h.home ≡ home) × (h.page ≡ page)
+IsProgrammed p (Some Absent) held home page = (h : Held) × (slice_get held 0 ≡ Some h) × (h.home ≡ home) × (h.page ≡ page)
+IsProgrammed p None held home page = ⊥
 
 -- nothing ran, or the job and the stages were finished
-abbrev pub Settles : ℕ → Chart → Parts → Chart → Parts → Type 0
-Settles home old was new now =
+abbrev pub Settles : ℕ → ℕ → Chart → Parts → Chart → Parts → Type 0
+Settles home page old was new now =
     ((old.fields.job ≡ Some Idle) × (was.stages ≡ []) × (new ≡ old) × (now ≡ was))
-    ⊎ (IsBusy old was × FinishesFirst home old was new now)
+    ⊎ (IsBusy old was × FinishesFirst home page old was new now)
 
 -- the choice was a cleaning, and a step of it was bad
-pub record StopsChosen (home : ℕ) (old : Chart) (was : Parts) (new : Chart) (now : Parts) : Type 0 where
+pub record StopsChosen (home page : ℕ) (old : Chart) (was : Parts) (new : Chart) (now : Parts) : Type 0 where
   pub mid : Chart
   pub between : Parts
-  pub settles : Settles home old was mid between
+  pub settles : Settles home page old was mid between
   pub position : ℕ
   pub aside : Option ℕ
-  pub chosen : ChoiceFor between.chooser between.space home (Clean position aside)
+  pub chosen : ChoiceFor between.chooser between.space home page (Clean position aside)
   pub stops : StopsClean position aside mid between new now
 
 -- no row was claimed: a step of the job that ran, of a stage that was left or of the cleaning was bad
-abbrev pub StopsRow : ℕ → Chart → Parts → Chart → Parts → Type 0
-StopsRow home old was new now = (IsBusy old was × IsNoneAvailable was.chooser home old × StopsStep old was new now) ⊎ StopsChosen home old was new now
+abbrev pub StopsRow : ℕ → ℕ → Chart → Parts → Chart → Parts → Type 0
+StopsRow home page old was new now = (IsBusy old was × IsNoneAvailable was home page old × StopsStep old was new now) ⊎ StopsChosen home page old was new now
 
 -- a row was claimed, and its program was bad, which counts as a flush
-pub record StopsProgram (home : ℕ) (old : Chart) (was : Parts) (new : Chart) (now : Parts) : Type 0 where
+pub record StopsProgram (home page : ℕ) (old : Chart) (was : Parts) (new : Chart) (now : Parts) : Type 0 where
   pub row : ℕ
-  pub gets : GetsRow home row old was new now
+  pub gets : GetsRow home page row old was new now
   pub flushes : now.flushes ≡ up was.flushes
 
 -- a bad operation ended a flush, or a shadow's program, of a page with this home
-pub record StopsFor (home : ℕ) (old : Chart) (was : Parts) (new : Chart) (now : Parts) : Type 0 where
-  pub noted : ChoosesBad home old was now
-  pub halted : StopsRow home old was new now ⊎ StopsProgram home old was new now
+pub record StopsFor (home page : ℕ) (old : Chart) (was : Parts) (new : Chart) (now : Parts) : Type 0 where
+  pub noted : ChoosesBad home page old was now
+  pub halted : StopsRow home page old was new now ⊎ StopsProgram home page old was new now
 
--- A bad operation ended a store or put to page p: frames are held as before, and heats and turns have noted what
--- was claimed and cleaned for the page that was to be programmed. The look at page p came first.
+-- A bad operation ended a store or put to page p: frames are held as before, and heats, turns and lives have noted
+-- what was claimed and cleaned for the page that was to be programmed. The look at page p came first.
 pub record Stops (p : ℕ) (old : Chart) (was : Parts) (new : Chart) (now : Parts) : Type 0 where
   pub frames : now.frames ≡ was.frames
   pub home : ℕ
-  pub programmed : IsProgrammed (place old.fields p) was.frames.held home
-  pub noted : ChoosesBad home old was now
+  pub page : ℕ
+  pub programmed : IsProgrammed p (place old.fields p) was.frames.held home page
+  pub noted : ChoosesBad home page old was now
   pub looked : Parts
   pub after_look : looked ≡ record was { cache = looked.cache }
-  pub halted : StopsRow home old looked new now ⊎ StopsProgram home old looked new now
+  pub halted : StopsRow home page old looked new now ⊎ StopsProgram home page old looked new now

@@ -62,7 +62,7 @@ pub record ShadesFramed (t p : ℕ) (old : Chart) (was : Parts) (new : Chart) (n
   pub looked : Parts
   pub after_look : looked ≡ record was { cache = looked.cache }
   pub row : ℕ
-  pub gets : GetsRow home row old looked new now
+  pub gets : GetsRow home p row old looked new now
   pub shadow : undo new.fields p ≡ Some (Shadow t row)
   pub frames : now.frames ≡ was.frames
   pub flushes : now.flushes ≡ up was.flushes

@@ -11,7 +11,7 @@ started_parts setup = record {
   frames = record { held = []; count = setup.shape.frames };
   space = empty_pool setup.shape;
   cache = record { entries = vacant setup.shape.entries; hits = 0; misses = 0 };
-  chooser = started setup.policy (setup.shape.segments - 1);
+  chooser = started setup.policy setup.shape.pages (setup.shape.segments - 1);
   reloc = record { moves = []; aside = None; mark = 0; copied = 0; moved = 0; erased = 0; since = 0 };
   stages = [];
   flushes = 0;

@@ -7,7 +7,7 @@ use Rattle.envy_map.specs.Fields.{Chart, with_fields}
 use Rattle.envy_map.specs.Writes.{with_job}
 use Rattle.envy_policy.specs.declared.choice.Choice.{Choice}
 use Rattle.envy_policy.specs.declared.choice.Choice.TheVariants.{Free, Clean}
-use Rattle.envy_policy.specs.History.{flushed, cleaned}
+use Rattle.envy_policy.specs.History.{claimed, cleaned}
 use Rattle.envy_choosing.specs.Choosing.{ChoiceFor}
 use Rattle.envy_flush.specs.Cleaning.{BeginsClean}
 use Rattle.envy_flush.specs.Counts.{Tallies}
@@ -19,7 +19,7 @@ use Rattle.envy_wear.specs.declared.swap.Swap.{Swap}
 use Rattle.envy_flush.specs.declared.did.Did.{Did}
 use Rattle.envy_flush.specs.declared.did.Did.TheVariants.{Idle, Flushed, Began}
 
--- the third rule, by the choice for the oldest held page's home: it is flushed, or a cleaning begins
+-- the third rule, by the choice for the oldest held page: it is flushed, or a cleaning begins
 abbrev pub TicksChoice : Choice → Did → Chart → Parts → Chart → Parts → Type 0
 TicksChoice (Free k) did old was new now = (did ≡ Flushed) × FlushesOldest old was new now × CountsNone was now × (now.swaps ≡ was.swaps)
 TicksChoice (Clean k aside) did old was new now =
@@ -29,7 +29,7 @@ pub record TicksFlush (did : Did) (old : Chart) (was : Parts) (new : Chart) (now
   pub oldest : Held
   pub first : slice_get was.frames.held 0 ≡ Some oldest
   pub choice : Choice
-  pub chosen : ChoiceFor was.chooser was.space oldest.home choice
+  pub chosen : ChoiceFor was.chooser was.space oldest.home oldest.page choice
   pub does : TicksChoice choice did old was new now
   pub stages : now.stages ≡ was.stages
 
@@ -62,11 +62,11 @@ pub record StopsFlush (old : Chart) (was : Parts) (new : Chart) (now : Parts) : 
   pub oldest : Held
   pub first : slice_get was.frames.held 0 ≡ Some oldest
   pub position : ℕ
-  pub chosen : ChoiceFor was.chooser was.space oldest.home (Free position)
+  pub chosen : ChoiceFor was.chooser was.space oldest.home oldest.page (Free position)
   pub fills : new.fields.fills ≡ slice_set old.fields.fills (slice_index old.fields.positions position) (slice_index old.fields.fills (slice_index old.fields.positions position) + 1)
   pub places : new.fields.places ≡ old.fields.places
   pub job : new.fields.job ≡ old.fields.job
-  pub chooser : now.chooser ≡ flushed was.chooser position
+  pub chooser : now.chooser ≡ claimed was.chooser position oldest.page
   pub flushes : now.flushes ≡ up was.flushes
   pub frames : now.frames ≡ was.frames
   pub stages : now.stages ≡ was.stages

@@ -2,7 +2,7 @@ ghost use Rattle.std.specs.Prelude.{◌≡◌, ◌≢◌, ◌-◌, ◌+◌, ◌<
 ghost use Rattle.envy_base.specs.State.{ones, row_of};
 ghost use Rattle.envy_map.specs.Fields.{chart};
 ghost use Rattle.envy_layout.specs.Same.{Same};
-ghost use Rattle.envy_policy.specs.History.{flushed};
+ghost use Rattle.envy_policy.specs.History.{claimed};
 ghost use Rattle.envy_space.specs.Pool.{Claims, with_filled};
 ghost use Rattle.envy_flush.specs.Agreement.{Ready, Steady};
 ghost use Rattle.envy_reloc.specs.Plan.{IsFreeOf};
@@ -30,7 +30,7 @@ pub fn claim_at<B: Board>(
     ensures last { IfOk result (IsLastAt (chart (B.state board.new)) position) }
     ensures granted { IfOk result (λ row. Granted (B.state board.new).shape (chart (B.state board.new)).fields page row) }
     ensures erased { IfOk result (λ row. row_of (B.state board.new) row ≡ ones) }
-    ensures warmed { OnOk result (parts.new.chooser ≡ flushed parts.old.chooser position) }
+    ensures warmed { OnOk result (parts.new.chooser ≡ claimed parts.old.chooser position page) }
     ensures parts { parts.new ≡ record parts.old { space = parts.new.space; chooser = parts.new.chooser } }
     ensures on { OnOk result (IsTrue (B.state board.new).on) }
     ensures off { OnErr result ((B.state board.new).on ≡ false) }
@@ -38,6 +38,6 @@ pub fn claim_at<B: Board>(
     let row = parts
         .space
         .claim(board, parts.space.segment_at(position), page)?;
-    parts.chooser.note_flush(position);
+    parts.chooser.note_claim(position, page);
     Ok(row)
 }

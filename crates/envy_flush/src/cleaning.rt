@@ -206,9 +206,9 @@ pub fn clean<B: Board>(
     ensures here { IsTrue (B.state board.new).on → FramesStay (chart (B.state board.old)).fields.places (chart (B.state board.new)).fields.places }
     ensures flushes { parts.new.flushes ≡ parts.old.flushes }
     ensures rests { Rests parts.old.cache parts.new.cache }
-    ensures noted { IsErrOf result Trouble.Bad → NotesBad (Clean position aside) parts.old parts.new }
+    ensures noted { IsErrOf result Trouble.Bad → NotesBad (Clean position aside) page parts.old parts.new }
     ensures stops { IsErrOf result Trouble.Bad → StopsClean position aside (chart (B.state board.old)) parts.old (chart (B.state board.new)) parts.new }
-    ensures follows { IfOk result (λ row. Follows (Clean position aside) row (chart (B.state board.old)) parts.old (chart (B.state board.new)) parts.new) }
+    ensures follows { IfOk result (λ row. Follows (Clean position aside) page row (chart (B.state board.old)) parts.old (chart (B.state board.new)) parts.new) }
     ensures ends { OnOk result (Ends (chart (B.state board.old)) parts.old (chart (B.state board.new)) parts.new) }
     ensures on { OnOk result (IsTrue (B.state board.new).on) }
     ensures off { (result ≡ Err Trouble.Off) ↔ ((B.state board.new).on ≡ false) }

@@ -2,6 +2,7 @@
 //! pages come into frames, and background steps are made. No array is spoken of, only the words of a board.
 #![tactic(auto)]
 
+mod beside;
 mod bringing;
 mod claiming;
 mod cleaning;

@@ -159,7 +159,7 @@ fn put_elsewhere<B: Board>(
     ensures owners { OwnersAgree (chart (B.state board.new)) owned.new }
     ensures stays { IsErrOf result Trouble.Bad → owned.new ≡ owned.old }
     ensures stops { IsErrOf result Trouble.Bad → parts.new.frames ≡ parts.old.frames }
-    ensures noted { IsErrOf result Trouble.Bad → (h : Held) × (slice_get parts.old.frames.held 0 ≡ Some h) × StopsFor h.home (chart (B.state board.old)) parts.old (chart (B.state board.new)) parts.new }
+    ensures noted { IsErrOf result Trouble.Bad → (h : Held) × (slice_get parts.old.frames.held 0 ≡ Some h) × StopsFor h.home h.page (chart (B.state board.old)) parts.old (chart (B.state board.new)) parts.new }
     ensures off { (result ≡ Err Trouble.Off) ↔ ((B.state board.new).on ≡ false) }
     ensures bad { IsErrOf result Trouble.Bad → (B.state board.old).bads < 2 ^ 64 - 1 → (B.state board.old).bads < (B.state board.new).bads }
 {

@@ -22,7 +22,7 @@ pub fn rebuild<B: Board>(board: &B, parts: &mut Parts) -> Result<(), Off>
     ensures ready { OnOk result (Ready (chart (B.state board.now)) parts.new) }
     ensures fits { Fits (B.state board.now).shape parts.new }
     ensures held { OnOk result (parts.new.frames.held ≡ held_by_default (B.state board.now).shape (chart (B.state board.now)).fields.places) }
-    ensures heats { OnOk result (parts.new.chooser ≡ started parts.old.chooser.policy parts.old.chooser.positions) }
+    ensures heats { OnOk result (parts.new.chooser ≡ started parts.old.chooser.policy parts.old.chooser.pages parts.old.chooser.positions) }
     ensures stages { OnOk result (parts.new.stages ≡ []) }
     ensures empties { OnOk result (Empties parts.old.cache parts.new.cache) }
     ensures since { OnOk result (parts.new.reloc ≡ record parts.old.reloc { moves = []; aside = None; mark = 0; since = 0 }) }
@@ -68,7 +68,7 @@ pub fn restart<B: Board>(board: &mut B, parts: &mut Parts) -> Result<(), Off>
     ensures restarted { OnOk result (IsRestarted (chart (B.state board.old)) (chart (B.state board.new))) }
     ensures ready { OnOk result (Ready (chart (B.state board.new)) parts.new) }
     ensures fits { Fits (B.state board.new).shape parts.new }
-    ensures heats { OnOk result (parts.new.chooser ≡ started parts.old.chooser.policy parts.old.chooser.positions) }
+    ensures heats { OnOk result (parts.new.chooser ≡ started parts.old.chooser.policy parts.old.chooser.pages parts.old.chooser.positions) }
     ensures stages { OnOk result (parts.new.stages ≡ []) }
     ensures empties { OnOk result (Empties parts.old.cache parts.new.cache) }
     ensures since { OnOk result (parts.new.reloc ≡ record parts.old.reloc { moves = []; aside = None; mark = 0; since = 0 }) }

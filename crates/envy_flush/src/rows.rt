@@ -1,4 +1,4 @@
-ghost use Rattle.std.specs.Prelude.{◌≡◌, ◌≢◌, ◌⊎◌, ◌↔◌, ◌*◌, ◌+◌, ◌-◌, ◌^◌, ◌<◌, ◌≤◌, ℕ, false, IsTrue, [], Some, Err, IfOk, IfSome, MatchOption, OnOk, OnErr, IsErrOf, slice_index, length};
+ghost use Rattle.std.specs.Prelude.{◌≡◌, ◌↔◌, ◌*◌, ◌+◌, ◌-◌, ◌^◌, ◌<◌, false, IsTrue, [], Some, Err, IfOk, OnOk, OnErr, IsErrOf};
 ghost use Rattle.envy_base.specs.State.{ones, row_of};
 ghost use Rattle.envy_base.specs.declared.fields.Job.TheVariants.{Idle};
 ghost use Rattle.envy_map.specs.Fields.{chart};
@@ -8,45 +8,18 @@ ghost use Rattle.envy_layout.specs.Frames.{FramesStay};
 ghost use Rattle.envy_table.specs.Hits.{Rests};
 ghost use Rattle.envy_flush.specs.Agreement.{Ready, Steady};
 ghost use Rattle.envy_flush.specs.Counts.{Counting};
-ghost use Rattle.envy_reloc.specs.Plan.{IsFreeOf};
-ghost use Rattle.envy_flush.specs.Flushing.{Granted, Chooses, ChoosesBad, Ends, GetsRow, IsBusy, IsNoneAvailable, IsLowestAvailable, StopsRow};
+ghost use Rattle.envy_flush.specs.Flushing.{Granted, ChoosesBad, GetsRow, IsBusy, StopsRow};
 
+use crate::beside::usable;
 use crate::claiming::claim_at;
 use crate::cleaning::clean;
 use crate::finishing::finish;
 use crate::jobs::runs;
 use crate::parts::Parts;
 use envy_base::{Board, Job, Off, Trouble};
-use envy_choosing::{choose_row, free_beside};
+use envy_choosing::choose_row;
 use envy_map::job;
 use envy_policy::Choice;
-
-/// The segment that is being relocated, if one is.
-fn relocated<B: Board>(board: &B) -> Result<Option<u32>, Off>
-    requires sound { IsSound (chart (B.state board.now)) }
-    ensures others { IfOk result (λ found. (s : ℕ) → found ≢ Some s → IsFreeOf (chart (B.state board.now)).fields.job s) }
-    ensures is { IfOk result (λ found. (s : ℕ) → found ≡ Some s → IsFreeOf (chart (B.state board.now)).fields.job s → ⊥) }
-    ensures off { OnErr result ((B.state board.now).on ≡ false) }
-{
-    match job(board)? {
-        Job::Copy(v) | Job::Switch(v) => Ok(Some(v)),
-        _ => Ok(None),
-    }
-}
-
-/// The lowest position of the home partition that has a free row which the job leaves free.
-fn usable<B: Board>(board: &B, parts: &Parts, home: u32) -> Result<Option<u32>, Off>
-    requires ready { Ready (chart (B.state board.now)) parts.now }
-    requires home { home < (B.state board.now).shape.segments - 1 }
-    ensures within { IfOk result (λ found. IfSome found (λ k. k < (B.state board.now).shape.segments - 1)) }
-    ensures room { IfOk result (λ found. IfSome found (λ k. slice_index parts.now.space.fills (slice_index parts.now.space.positions k) < (B.state board.now).shape.rows)) }
-    ensures free { IfOk result (λ found. IfSome found (λ k. IsFreeOf (chart (B.state board.now)).fields.job (slice_index parts.now.space.positions k))) }
-    ensures lowest { IfOk result (λ found. MatchOption found (IsNoneAvailable parts.now.chooser home (chart (B.state board.now))) (λ k. IsLowestAvailable parts.now.chooser home (chart (B.state board.now)) k)) }
-    ensures off { OnErr result ((B.state board.now).on ≡ false) }
-{
-    let relocated = relocated(board)?;
-    Ok(free_beside(&parts.space, &parts.chooser, home, relocated))
-}
 
 /// A row for a page with this home, where nothing runs.
 fn idle_row<B: Board>(
@@ -69,14 +42,14 @@ fn idle_row<B: Board>(
     ensures here { IsTrue (B.state board.new).on → FramesStay (chart (B.state board.old)).fields.places (chart (B.state board.new)).fields.places }
     ensures flushes { parts.new.flushes ≡ parts.old.flushes }
     ensures rests { Rests parts.old.cache parts.new.cache }
-    ensures gets { IfOk result (λ row. GetsRow home row (chart (B.state board.old)) parts.old (chart (B.state board.new)) parts.new) }
-    ensures noted { IsErrOf result Trouble.Bad → ChoosesBad home (chart (B.state board.old)) parts.old parts.new }
-    ensures stops { IsErrOf result Trouble.Bad → StopsRow home (chart (B.state board.old)) parts.old (chart (B.state board.new)) parts.new }
+    ensures gets { IfOk result (λ row. GetsRow home page row (chart (B.state board.old)) parts.old (chart (B.state board.new)) parts.new) }
+    ensures noted { IsErrOf result Trouble.Bad → ChoosesBad home page (chart (B.state board.old)) parts.old parts.new }
+    ensures stops { IsErrOf result Trouble.Bad → StopsRow home page (chart (B.state board.old)) parts.old (chart (B.state board.new)) parts.new }
     ensures on { OnOk result (IsTrue (B.state board.new).on) }
     ensures off { (result ≡ Err Trouble.Off) ↔ ((B.state board.new).on ≡ false) }
     ensures bad { IsErrOf result Trouble.Bad → (B.state board.old).bads < 2 ^ 64 - 1 → (B.state board.old).bads < (B.state board.new).bads }
 {
-    match choose_row(&parts.space, &parts.chooser, home) {
+    match choose_row(&parts.space, &parts.chooser, home, page) {
         Choice::Free { position } => Ok(claim_at(board, parts, position, page)?),
         Choice::Clean { position, aside } => clean(board, parts, position, aside, page),
     }
@@ -115,14 +88,14 @@ fn busy_row<B: Board>(
     ensures here { IsTrue (B.state board.new).on → FramesStay (chart (B.state board.old)).fields.places (chart (B.state board.new)).fields.places }
     ensures flushes { parts.new.flushes ≡ parts.old.flushes }
     ensures rests { Rests parts.old.cache parts.new.cache }
-    ensures gets { IfOk result (λ row. GetsRow home row (chart (B.state board.old)) parts.old (chart (B.state board.new)) parts.new) }
-    ensures noted { IsErrOf result Trouble.Bad → ChoosesBad home (chart (B.state board.old)) parts.old parts.new }
-    ensures stops { IsErrOf result Trouble.Bad → StopsRow home (chart (B.state board.old)) parts.old (chart (B.state board.new)) parts.new }
+    ensures gets { IfOk result (λ row. GetsRow home page row (chart (B.state board.old)) parts.old (chart (B.state board.new)) parts.new) }
+    ensures noted { IsErrOf result Trouble.Bad → ChoosesBad home page (chart (B.state board.old)) parts.old parts.new }
+    ensures stops { IsErrOf result Trouble.Bad → StopsRow home page (chart (B.state board.old)) parts.old (chart (B.state board.new)) parts.new }
     ensures on { OnOk result (IsTrue (B.state board.new).on) }
     ensures off { (result ≡ Err Trouble.Off) ↔ ((B.state board.new).on ≡ false) }
     ensures bad { IsErrOf result Trouble.Bad → (B.state board.old).bads < 2 ^ 64 - 1 → (B.state board.old).bads < (B.state board.new).bads }
 {
-    if let Some(position) = usable(board, parts, home)? {
+    if let Some(position) = usable(board, parts, home, page)? {
         return Ok(claim_at(board, parts, position, page)?);
     }
     finish(board, parts)?;
@@ -148,9 +121,9 @@ pub fn get_row<B: Board>(
     ensures here { IsTrue (B.state board.new).on → FramesStay (chart (B.state board.old)).fields.places (chart (B.state board.new)).fields.places }
     ensures flushes { parts.new.flushes ≡ parts.old.flushes }
     ensures rests { Rests parts.old.cache parts.new.cache }
-    ensures gets { IfOk result (λ row. GetsRow home row (chart (B.state board.old)) parts.old (chart (B.state board.new)) parts.new) }
-    ensures noted { IsErrOf result Trouble.Bad → ChoosesBad home (chart (B.state board.old)) parts.old parts.new }
-    ensures stops { IsErrOf result Trouble.Bad → StopsRow home (chart (B.state board.old)) parts.old (chart (B.state board.new)) parts.new }
+    ensures gets { IfOk result (λ row. GetsRow home page row (chart (B.state board.old)) parts.old (chart (B.state board.new)) parts.new) }
+    ensures noted { IsErrOf result Trouble.Bad → ChoosesBad home page (chart (B.state board.old)) parts.old parts.new }
+    ensures stops { IsErrOf result Trouble.Bad → StopsRow home page (chart (B.state board.old)) parts.old (chart (B.state board.new)) parts.new }
     ensures on { OnOk result (IsTrue (B.state board.new).on) }
     ensures off { (result ≡ Err Trouble.Off) ↔ ((B.state board.new).on ≡ false) }
     ensures bad { IsErrOf result Trouble.Bad → (B.state board.old).bads < 2 ^ 64 - 1 → (B.state board.old).bads < (B.state board.new).bads }

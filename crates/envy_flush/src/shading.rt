@@ -132,7 +132,7 @@ pub fn put_framed<B: Board>(
     ensures counting { Counting (chart (B.state board.old)) parts.old (chart (B.state board.new)) parts.new }
     ensures rests { Rests parts.old.cache parts.new.cache }
     ensures puts { OnOk result ((home row : ℕ) × Any (λ h. (h.frame ≡ frame) × (h.home ≡ home)) parts.old.frames.held
-        × GetsRow home row (chart (B.state board.old)) parts.old (chart (B.state board.new)) parts.new
+        × GetsRow home page row (chart (B.state board.old)) parts.old (chart (B.state board.new)) parts.new
         × (place_of (chart (B.state board.new)).fields page ≡ Some (Place.Frame frame))
         × (undo_of (chart (B.state board.new)).fields page ≡ Some (Undo.Shadow slot row))) }
     ensures flushes { OnOk result (parts.new.flushes ≡ up parts.old.flushes) }
@@ -141,7 +141,7 @@ pub fn put_framed<B: Board>(
     ensures limit { owned.new.limit ≡ owned.old.limit }
     ensures owners { OwnersAgree (chart (B.state board.new)) owned.new }
     ensures stays { IsErrOf result Trouble.Bad → owned.new ≡ owned.old }
-    ensures noted { IsErrOf result Trouble.Bad → (home : ℕ) × Any (λ h. (h.frame ≡ frame) × (h.home ≡ home)) parts.old.frames.held × StopsFor home (chart (B.state board.old)) parts.old (chart (B.state board.new)) parts.new }
+    ensures noted { IsErrOf result Trouble.Bad → (home : ℕ) × Any (λ h. (h.frame ≡ frame) × (h.home ≡ home)) parts.old.frames.held × StopsFor home page (chart (B.state board.old)) parts.old (chart (B.state board.new)) parts.new }
     ensures off { (result ≡ Err Trouble.Off) ↔ ((B.state board.new).on ≡ false) }
     ensures bad { IsErrOf result Trouble.Bad → (B.state board.old).bads < 2 ^ 64 - 1 → (B.state board.old).bads < (B.state board.new).bads }
 {

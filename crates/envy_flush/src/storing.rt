@@ -29,7 +29,7 @@ pub fn make_room<B: Board>(board: &mut B, parts: &mut Parts) -> Result<(), Troub
     ensures rests { Rests parts.old.cache parts.new.cache }
     ensures makes { OnOk result (MakesRoom (chart (B.state board.old)) parts.old (chart (B.state board.new)) parts.new) }
     ensures stops { IsErrOf result Trouble.Bad → parts.new.frames ≡ parts.old.frames }
-    ensures noted { IsErrOf result Trouble.Bad → (h : Held) × (slice_get parts.old.frames.held 0 ≡ Some h) × StopsFor h.home (chart (B.state board.old)) parts.old (chart (B.state board.new)) parts.new }
+    ensures noted { IsErrOf result Trouble.Bad → (h : Held) × (slice_get parts.old.frames.held 0 ≡ Some h) × StopsFor h.home h.page (chart (B.state board.old)) parts.old (chart (B.state board.new)) parts.new }
     ensures on { OnOk result (IsTrue (B.state board.new).on) }
     ensures off { (result ≡ Err Trouble.Off) ↔ ((B.state board.new).on ≡ false) }
     ensures bad { IsErrOf result Trouble.Bad → (B.state board.old).bads < 2 ^ 64 - 1 → (B.state board.old).bads < (B.state board.new).bads }
@@ -61,7 +61,7 @@ fn store_elsewhere<B: Board>(
     ensures rests { Rests parts.old.cache parts.new.cache }
     ensures makes { OnOk result ((mid : Chart) × (between : TheParts) × MakesRoom (chart (B.state board.old)) parts.old mid between × Brings page mid between (chart (B.state board.new)) parts.new) }
     ensures stops { IsErrOf result Trouble.Bad → parts.new.frames ≡ parts.old.frames }
-    ensures noted { IsErrOf result Trouble.Bad → (h : Held) × (slice_get parts.old.frames.held 0 ≡ Some h) × StopsFor h.home (chart (B.state board.old)) parts.old (chart (B.state board.new)) parts.new }
+    ensures noted { IsErrOf result Trouble.Bad → (h : Held) × (slice_get parts.old.frames.held 0 ≡ Some h) × StopsFor h.home h.page (chart (B.state board.old)) parts.old (chart (B.state board.new)) parts.new }
     ensures off { (result ≡ Err Trouble.Off) ↔ ((B.state board.new).on ≡ false) }
     ensures bad { IsErrOf result Trouble.Bad → (B.state board.old).bads < 2 ^ 64 - 1 → (B.state board.old).bads < (B.state board.new).bads }
 {

@@ -37,7 +37,7 @@ fn flush_at<B: Board>(
     requires oldest { slice_get parts.old.frames.held 0 ≡ Some held }
     requires position { position < (B.state board.old).shape.segments - 1 }
     requires room { slice_index parts.old.space.fills (slice_index parts.old.space.positions position) < (B.state board.old).shape.rows }
-    requires chosen { ChoiceFor parts.old.chooser parts.old.space held.home (Free position) }
+    requires chosen { ChoiceFor parts.old.chooser parts.old.space held.home held.page (Free position) }
     ensures same { Same 1 0 (chart (B.state board.old)) (chart (B.state board.new)) }
     ensures steady { Steady (chart (B.state board.new)) parts.new }
     ensures counting { Counting (chart (B.state board.old)) parts.old (chart (B.state board.new)) parts.new }
@@ -70,7 +70,7 @@ pub fn tick_flush<B: Board>(board: &mut B, parts: &mut Parts) -> Result<Did, Tro
     let Some(held) = parts.frames.oldest() else {
         unreachable!();
     };
-    match choose_row(&parts.space, &parts.chooser, held.home) {
+    match choose_row(&parts.space, &parts.chooser, held.home, held.page) {
         Choice::Free { position } => {
             flush_at(board, parts, held, position)?;
             Ok(Did::Flushed)

@@ -1,9 +1,10 @@
 -- What is drawn is a line that the grammar can say.
 use Rattle.std.proofs.Common.{◌≡◌, ◌≢◌, ℕ, ◌*◌, ◌/◌, ◌%◌, ◌^◌, ◌<◌, ◌≤◌, zero, suc, Bool, true, false, List, [], ◌∷◌, ◌++◌, length, map, refl, sym, ap, subst, ◌∙◌, arith, append-nil, Ok}
-use Rattle.std.specs.Prelude.{Result, if◌then◌else◌, bit_xor}
+use Rattle.std.specs.Prelude.{Result, Option, None, Some, IfSome, ◌+◌, ◌-◌, ◌==◌, ◌||◌, max, if◌then◌else◌, bit_xor}
 use Rattle.std.specs.Int.{w64, rotate_right}
 use Rattle.std.specs.List.{All, AllByRecursion}
-use Rattle.std.proofs.Math.Nat.{div-le_self}
+use Rattle.std.proofs.lemmas.Bool.Decides.{nat_tests}
+use Rattle.std.proofs.Math.Nat.{div-le_self, mul-le-mul_left}
 use Rattle.std.proofs.lemmas.List.Elements.{recursion_from_All}
 use Rattle.std.proofs.lemmas.Nat.{or_lt, xor_lt}
 use Rattle.rand_core.specs.Steps.{stream_of, steps_u64_low}
@@ -18,7 +19,9 @@ use Rattle.envy_trace.specs.declared.line.Line.{Line}
 use Rattle.envy_trace.specs.declared.line.Line.TheVariants.{Load, Store, Begin, Put, Commit, Abort, Tick}
 use Rattle.envy_trace.specs.Grammar.{line_of}
 use Rattle.envy_trace.specs.Spelling.{IsLine, line_bytes}
-use Rattle.envy_gen.specs.Traces.{answers_of, drawn, generated, next_line, next_lines}
+use Rattle.envy_gen.specs.declared.mix.Mix.{Mix}
+use Rattle.envy_gen.specs.declared.mix.Skew.{Skew}
+use Rattle.envy_gen.specs.Traces.{IsMix, IsPerCent, address_in, address_of, answers_of, drawn, drawn_by, generated, next_line, next_lines}
 
 -- a word of 64 bits stays one when it is rotated
 rotate_right-fits : (n by : ℕ) → n < 2 ^ 64 → rotate_right w64 n by < 2 ^ 64
@@ -49,40 +52,66 @@ chosen a t z false false false false true abort address slot word = slot
 chosen a t z false false false false false true address slot word = slot
 chosen a t z false false false false false false address slot word = tt
 
-drawn-IsLine : (x y z pages : ℕ) → 1 ≤ pages → pages ≤ 1048576 → z < 2 ^ 64 → IsLine (drawn x y z pages)
+chosen_of_two : (a z : ℕ) (store : Bool) → a < 2 ^ 32 → z < 2 ^ 64 → IsLine (if store then Store a z else Load a)
+chosen_of_two a z true address word = (address, word)
+chosen_of_two a z false address word = address
+
+-- an address is one of the array
+either-fits : (a b : ℕ) (none hot : Bool) → a < 2 ^ 32 → (none ≡ false → b < 2 ^ 32) → (if none || hot then a else b) < 2 ^ 32
+either-fits a b true hot low high = low
+either-fits a b false true low high = low
+either-fits a b false false low high = high refl
+
+some-cold : (n : ℕ) → (n == 0) ≡ false → 1 ≤ n
+some-cold n e = grind (arith, nat_tests)
+
+address_in-fits : (y pages : ℕ) (skew : Option Skew) → 1 ≤ pages → pages ≤ 1048576 → IfSome skew (λ s. IsPerCent s.hot) → address_in y pages skew < 2 ^ 32
+address_in-fits y pages None some few hot = omega arith
+address_in-fits y pages (Some skew) some few (low, high) =
+    let h : ℕ = max 1 (pages * skew.hot / 100) in
+    let scaled : pages * skew.hot ≤ pages * 99 = mul-le-mul_left pages high in
+    let least : 1 ≤ h = omega arith in
+    let most : h ≤ 1048576 = omega arith in
+    either-fits (y % (32 * h)) (32 * h + y % (32 * (pages - h))) (pages - h == 0) _ (omega arith)
+    (λ cold. let some : 1 ≤ pages - h = some-cold (pages - h) cold in omega arith)
+
+drawn_by-IsLine : (stores : Option ℕ) (x t a z : ℕ) → a < 2 ^ 32 → t < 256 → z < 2 ^ 64 → IsLine (drawn_by stores x t a z)
+drawn_by-IsLine None x t a z address slot word = chosen a t z _ _ _ _ _ _ address slot word
+drawn_by-IsLine (Some stores) x t a z address slot word = chosen_of_two a z _ address word
+
+drawn-IsLine : (x y z : ℕ) (mix : Mix) → IsMix mix → z < 2 ^ 64 → IsLine (drawn x y z mix)
 unfolding drawn
-drawn-IsLine x y z pages low high word =
-    let address : y % (32 * pages) < 2 ^ 32 = omega arith in
+drawn-IsLine x y z mix is word =
     let slot : y / 2 ^ 32 % 4 < 256 = omega arith in
-    chosen (y % (32 * pages)) (y / 2 ^ 32 % 4) z _ _ _ _ _ _ address slot word
+    drawn_by-IsLine mix.stores x (y / 2 ^ 32 % 4) (address_of y mix) z (address_in-fits y mix.pages mix.skew is.some is.few is.hot) slot word
 
 -- the next line of a generator of words, and the words after it
-next_line-stream_of : {S : Type 0} (step : S → ℕ × S) (pages : ℕ) (s : S)
-    → next_line pages (stream_of (steps_u64_low step) s)
-    ≡ (drawn (step s).0 (step (step s).1).0 (step (step (step s).1).1).0 pages, stream_of (steps_u64_low step) (step (step (step s).1).1).1)
+next_line-stream_of : {S : Type 0} (step : S → ℕ × S) (mix : Mix) (s : S)
+    → next_line mix (stream_of (steps_u64_low step) s)
+    ≡ (drawn (step s).0 (step (step s).1).0 (step (step (step s).1).1).0 mix, stream_of (steps_u64_low step) (step (step (step s).1).1).1)
 unfolding next_line next_u64 stream_of
-next_line-stream_of step pages s = refl
+next_line-stream_of step mix s = refl
 
-next_lines-IsLine : {S : Type 0} (step : S → ℕ × S) → ((s : S) → (step s).0 < 2 ^ 64) → (pages : ℕ) → 1 ≤ pages → pages ≤ 1048576
-    → (n : ℕ) (s : S) → AllByRecursion IsLine (next_lines pages n (stream_of (steps_u64_low step) s))
+next_lines-IsLine : {S : Type 0} (step : S → ℕ × S) → ((s : S) → (step s).0 < 2 ^ 64) → (mix : Mix) → IsMix mix
+    → (n : ℕ) (s : S) → AllByRecursion IsLine (next_lines mix n (stream_of (steps_u64_low step) s))
 unfolding next_lines
-next_lines-IsLine step fits pages low high zero s = tt
-next_lines-IsLine {S} step fits pages low high (suc n) s =
+next_lines-IsLine step fits mix is zero s = tt
+next_lines-IsLine {S} step fits mix is (suc n) s =
     let t : S = (step (step s).1).1 in
-    subst (λ (p : Line × Stream). IsLine p.0 × AllByRecursion IsLine (next_lines pages n p.1)) (sym (next_line-stream_of step pages s))
-    (drawn-IsLine (step s).0 (step (step s).1).0 (step t).0 pages low high (fits t), next_lines-IsLine step fits pages low high n (step t).1)
+    subst (λ (p : Line × Stream). IsLine p.0 × AllByRecursion IsLine (next_lines mix n p.1)) (sym (next_line-stream_of step mix s))
+    (drawn-IsLine (step s).0 (step (step s).1).0 (step t).0 mix is (fits t), next_lines-IsLine step fits mix is n (step t).1)
 
-pub generated-IsLine : (start lines pages : ℕ) → 1 ≤ pages → pages ≤ 1048576 → AllByRecursion IsLine (generated start lines pages)
+pub generated-IsLine : (start lines : ℕ) (mix : Mix) → IsMix mix → AllByRecursion IsLine (generated start lines mix)
 unfolding answers_of
-generated-IsLine start lines pages low high = next_lines-IsLine pcg64 pcg64-fits pages low high lines (pcg64_of_seed (pcg32_seed 32 start))
+generated-IsLine start lines mix is = next_lines-IsLine pcg64 pcg64-fits mix is lines (pcg64_of_seed (pcg32_seed 32 start))
 
-next_lines-count : (pages n : ℕ) (words : Stream) → length (next_lines pages n words) ≡ n
+next_lines-count : (mix : Mix) (n : ℕ) (words : Stream) → length (next_lines mix n words) ≡ n
 unfolding next_lines
-next_lines-count pages zero words = refl
-next_lines-count pages (suc n) words = ap suc (next_lines-count pages n (next_line pages words).1)
+next_lines-count mix zero words = refl
+next_lines-count mix (suc n) words = ap suc (next_lines-count mix n (next_line mix words).1)
 
-pub generated-count : (start lines pages : ℕ) → length (generated start lines pages) ≡ lines
-generated-count start lines pages = next_lines-count pages lines (answers_of start)
+pub generated-count : (start lines : ℕ) (mix : Mix) → length (generated start lines mix) ≡ lines
+generated-count start lines mix = next_lines-count mix lines (answers_of start)
 
 -- no newline stands in a written line
 whole_lines : ((line : Line) → IsLine line → All (λ byte. byte ≢ 10) (line_bytes line)) → (lines : List Line) → AllByRecursion IsLine lines → AllByRecursion NoNewline (map line_bytes lines)

@@ -1,7 +1,8 @@
 ghost use Rattle.std.specs.Prelude.{◌≡◌, ◌≤◌};
 ghost use Rattle.envy_trace.specs.Spelling.{HasPlace};
-ghost use Rattle.envy_gen.specs.Traces.{drawn, next_line};
+ghost use Rattle.envy_gen.specs.Traces.{IsMix, address_of, drawn, hot_pages, next_line};
 
+use crate::mix::{Mix, Skew};
 use envy_trace::Line;
 use rand_core::Rng;
 
@@ -11,16 +12,49 @@ const PAGE_WORDS: u64 = 32;
 /// How many slots are drawn from.
 const SLOTS: u64 = 4;
 
+/// The hot pages among so many.
+fn hot_pages(pages: u32, skew: &Skew) -> u32
+    requires some { 1 ≤ pages }
+    requires few { pages ≤ 1048576 }
+    requires hot { skew.now.hot ≤ 99 }
+    ensures value { result ≡ hot_pages pages skew.now }
+    ensures some { 1 ≤ result }
+    ensures all { result ≤ pages }
+{
+    (pages * skew.hot / 100).max(1)
+}
+
+/// The address that a word chooses.
+fn address(y: u64, mix: &Mix) -> u32
+    requires { IsMix mix.now }
+    ensures { result ≡ address_of y mix.now }
+{
+    let Some(skew) = mix.skew else {
+        return (y % (PAGE_WORDS * u64::from(mix.pages))) as u32;
+    };
+    let hot = u64::from(hot_pages(mix.pages, &skew));
+    let cold = u64::from(mix.pages) - hot;
+    if cold == 0 || (y >> 34) % 100 < u64::from(skew.share) {
+        return (y % (PAGE_WORDS * hot)) as u32;
+    }
+    (PAGE_WORDS * hot + y % (PAGE_WORDS * cold)) as u32
+}
+
 /// The line of three words. The first chooses its kind, the second its address and slot, and the third is the
 /// word that it writes.
 #[tactic(auto, unfolding(crate::specs::Traces::drawn))]
-fn draw(x: u64, y: u64, z: u64, pages: u32) -> Line
-    requires low { 1 ≤ pages }
-    requires high { pages ≤ 1048576 }
-    ensures line { result ≡ drawn x y z pages }
+fn draw(x: u64, y: u64, z: u64, mix: &Mix) -> Line
+    requires { IsMix mix.now }
+    ensures line { result ≡ drawn x y z mix.now }
     ensures place { HasPlace result }
 {
-    let address = (y % (PAGE_WORDS * u64::from(pages))) as u32;
+    let address = address(y, mix);
+    if let Some(stores) = mix.stores {
+        if x % 100 < u64::from(stores) {
+            return Line::Store { address, word: z };
+        }
+        return Line::Load { address };
+    }
     let slot = ((y >> 32) % SLOTS) as u8;
     match x % 16 {
         0..=5 => Line::Load { address },
@@ -39,14 +73,13 @@ fn draw(x: u64, y: u64, z: u64, pages: u32) -> Line
 
 /// Draws the next line.
 #[tactic(auto, unfolding(crate::specs::Traces::next_line))]
-pub fn next_line<R: Rng>(words: &mut R, pages: u32) -> Line
-    requires low { 1 ≤ pages }
-    requires high { pages ≤ 1048576 }
-    ensures line { (result, R.stream words.new) ≡ next_line pages (R.stream words.old) }
+pub fn next_line<R: Rng>(words: &mut R, mix: &Mix) -> Line
+    requires { IsMix mix.now }
+    ensures line { (result, R.stream words.new) ≡ next_line mix.now (R.stream words.old) }
     ensures place { HasPlace result }
 {
     let x = words.next_u64();
     let y = words.next_u64();
     let z = words.next_u64();
-    draw(x, y, z, pages)
+    draw(x, y, z, mix)
 }

@@ -5,9 +5,11 @@
 
 mod draws;
 mod laws;
+mod mix;
 mod writing;
 
 pub use laws::generated_traces_read_back;
+pub use mix::{Mix, Skew};
 pub use writing::generate;
 
 #[cfg(test)]

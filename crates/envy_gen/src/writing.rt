@@ -2,9 +2,10 @@ ghost use Rattle.std.specs.Prelude.{◌≡◌, ◌≤◌, [], ◌∷◌, ◌++�
 ghost use Rattle.envy_io.specs.Lines.{newline};
 ghost use Rattle.envy_io.specs.Streams.{WritesAll};
 ghost use Rattle.envy_trace.specs.Spelling.{HasPlace, line_bytes};
-ghost use Rattle.envy_gen.specs.Traces.{trace_bytes};
+ghost use Rattle.envy_gen.specs.Traces.{IsMix, trace_bytes};
 
 use crate::draws::next_line;
+use crate::mix::Mix;
 use arrayvec::ArrayVec;
 use envy_io::{Failed, Sink, write_all};
 use envy_trace::{Line, line_text};
@@ -27,21 +28,20 @@ fn write_line<K: Sink>(
 }
 
 /// Writes `lines` generated lines, each with its newline as one piece. The draws begin with the number
-/// `start`; the addresses are those of an array of `pages` pages.
+/// `start`, and the mix says what is drawn.
 ///
 /// # Errors
 ///
 /// `Failed` where the sink failed, which it counts. A proper prefix of the trace was written then.
-pub fn generate<K: Sink>(sink: &mut K, start: u64, lines: u32, pages: u32) -> Result<(), Failed>
-    requires low { 1 ≤ pages }
-    requires high { pages ≤ 1048576 }
-    ensures writes { WritesAll (K.drain sink.old) (trace_bytes start lines pages) result (K.drain sink.new) }
+pub fn generate<K: Sink>(sink: &mut K, start: u64, lines: u32, mix: &Mix) -> Result<(), Failed>
+    requires { IsMix mix.now }
+    ensures writes { WritesAll (K.drain sink.old) (trace_bytes start lines mix.now) result (K.drain sink.new) }
     ensures uncalled { lines ≡ 0 → sink.new ≡ sink.old }
 {
     let mut words = Lcg128Xsl64::seed_from_u64(start);
     let mut piece = ArrayVec::new();
     for _line in 0..lines {
-        let line = next_line(&mut words, pages);
+        let line = next_line(&mut words, mix);
         write_line(sink, &line, &mut piece)?;
     }
     Ok(())

@@ -1,5 +1,7 @@
 -- Pieces that are written one after another.
-use Rattle.std.proofs.Common.{◌≡◌, ℕ, ◌+◌, ◌<◌, ◌≤◌, Bool, IsTrue, List, [], ◌∷◌, ◌++◌, length, take, drop, get_or, Option, Ok, Err, Result, refl, sym, ◌∙◌, ap, subst, arith, length-append, flat_map}
+use Rattle.std.proofs.Common.{◌≡◌, ℕ, ◌+◌, ◌*◌, ◌<◌, ◌≤◌, Bool, IsTrue, List, [], ◌∷◌, ◌++◌, length, take, drop, get_or, Option, Ok, Err, Result, refl, sym, ◌∙◌, ap, ap₂, subst, arith, length-append, flat_map}
+use Rattle.std.proofs.lemmas.Slice.{take-put_mid}
+use borrow.Rule.Slice.PartMut.{put_mid}
 use Rattle.std.proofs.lemmas.Bool.{false≢true}
 use Rattle.std.proofs.lemmas.List.{append-nil, take_more, drop_more, take_all, take-append-le, take-append-drop}
 use Rattle.std.proofs.Math.Seq.{take-append-add}
@@ -13,7 +15,7 @@ use Rattle.envy_image.specs.declared.writing.OutFault.TheVariants.{Off, Failed}
 use Rattle.envy_base.specs.declared.shape.Shape.{Shape}
 use Rattle.envy_base.specs.Map.{words_of}
 use Rattle.envy_base.specs.State.{State}
-use Rattle.envy_image.specs.Image.{head_of, body_of, image_of}
+use Rattle.envy_image.specs.Image.{head_of, body_of, image_of, word_bytes, words_bytes}
 use Rattle.envy_image.specs.Writing.{WritesOut}
 
 pub written-none : (d : Drain) → WritesAll d [] (Ok tt) d
@@ -95,3 +97,12 @@ body-out s r old mid new power first second = second-out s.on (head_of s.shape) 
 
 pub words-are : (sh told : Shape) {n : ℕ} → told ≡ sh → n ≡ words_of told → n ≡ words_of sh
 words-are sh told same is = is ∙ ap words_of same
+
+-- one more word's bytes, behind those of the words before it
+pub bytes-more : (out row ys : List ℕ) (i k w : ℕ) → take (8 * i) out ≡ words_bytes (take i row) → 8 * i ≤ length out → i < length row → w ≡ get_or row i 0 → ys ≡ word_bytes w → take (8 * (i + 1)) (put_mid (8 * i) k out ys) ≡ words_bytes (take (i + 1) row)
+bytes-more out row ys i k w held fits within is spelt =
+    let long : length ys ≡ 8 = rw spelt (length-word w) in
+    take-put_mid (8 * i) k out ys (8 * (i + 1)) (omega (arith, long)) fits ∙ ap₂ (λ (a b : List ℕ). a ++ b) held (spelt ∙ ap word_bytes is) ∙ sym (split-more word_bytes row 0 i within)
+  where
+    length-word : (w : ℕ) → length (word_bytes w) ≡ 8
+    length-word w = refl

@@ -1,4 +1,4 @@
-ghost use Rattle.std.specs.Prelude.{◌<◌, [], IsTrue, length, slice_index_or};
+ghost use Rattle.std.specs.Prelude.{◌≡◌, ◌<◌, [], IsTrue, IsOk, IfOk, length, slice_index_or};
 ghost use Rattle.envy_io.specs.Streams.{WritesAll};
 ghost use Rattle.envy_image.specs.Image.{image_of, head_of, body_of, rows_bytes, words_bytes, word_bytes, numbers_bytes, number_bytes};
 ghost use Rattle.envy_image.specs.Writing.{WritesOut};
@@ -80,16 +80,30 @@ fn write_head<K: Sink>(shape: &Shape, sink: &mut K) -> Result<(), Failed>
     write_numbers(&numbers, sink)
 }
 
-// Writes the words of a row.
+// The bytes of a row.
+fn bytes_of_row<B: Board>(board: &B, row: u32) -> Result<[u8; 256], Off>
+    requires on { IsTrue (B.state board.now).on }
+    requires row { row < length (B.state board.now).flash }
+    ensures read { IfOk result (λ bytes. bytes ≡ words_bytes (slice_index_or (B.state board.now).flash row [])) }
+    ensures on { IsOk result }
+{
+    let mut bytes = [0; 256];
+    for i in 0..32 {
+        let word = board.read(row, i)?;
+        let at = 8 * i as usize;
+        bytes[at..at + 8].copy_from_slice(&word.to_le_bytes());
+    }
+    Ok(bytes)
+}
+
+// Writes the words of a row, in one piece.
 fn write_row<B: Board, K: Sink>(board: &B, row: u32, sink: &mut K) -> Result<(), OutFault>
     requires on { IsTrue (B.state board.now).on }
     requires row { row < length (B.state board.now).flash }
     ensures { WritesOut (B.state board.now).on (K.drain sink.old) (words_bytes (slice_index_or (B.state board.now).flash row [])) result (K.drain sink.new) }
 {
-    for i in 0..32 {
-        let word = board.read(row, i)?;
-        write_word(word, sink)?;
-    }
+    let bytes = bytes_of_row(board, row)?;
+    write_all(sink, &bytes)?;
     Ok(())
 }
 

@@ -3,6 +3,7 @@ pub mod Fetched
 pub mod FillsLemmas
 pub mod FrontLemmas
 pub mod LinesLemmas
+pub mod Pieces
 pub mod ReadsLemmas
 pub mod TakesLemmas
 pub mod WritesLemmas

@@ -10,6 +10,3 @@ mod source;
 pub use lines::{Got, Lines, Next};
 pub use sink::{MemSink, NoMemory, Sink, write_all};
 pub use source::{Failed, MemSource, Source};
-
-#[cfg(test)]
-mod tests;

@@ -22,6 +22,19 @@ pub trait Source {
     fn fill(&mut self, into: &mut [u8]) -> Result<usize, Failed>
         requires { 0 < length into.old }
         ensures { Fills (feed self.old) into.new result (feed self.new) };
+
+    /// The same, where no byte behind those that are given is wanted yet: a source that stands over another asks it
+    /// for no more than the slice has room for.
+    ///
+    /// # Errors
+    ///
+    /// Those of `fill`.
+    fn fill_only(&mut self, into: &mut [u8]) -> Result<usize, Failed>
+        requires { 0 < length into.old }
+        ensures { Fills (feed self.old) into.new result (feed self.new) }
+    {
+        self.fill(into)
+    }
 }
 
 /// A source in memory. It gives its bytes in pieces, and fails at the calls that it was told.

@@ -1,15 +1,15 @@
 -- Claims: the page of a free row, a fill that rises by one, and the row that one is copied from.
-use Rattle.std.proofs.Common.{◌≡◌, ◌≢◌, ◌⊎◌, inl, inr, ℕ, ◌+◌, ◌*◌, ◌/◌, ◌%◌, ◌<◌, ◌≤◌, List, length, get_or, set, Some, refl, sym, ◌∙◌, subst, arith}
-use Rattle.std.specs.Prelude.{IsTrue, Result}
-use Rattle.std.proofs.lemmas.List.{get_or-set_same, get_or-set_other, length-set}
-use Rattle.std.proofs.lemmas.Bool.{cases_eq}
+use Rattle.std.proofs.Common.{◌≡◌, ◌≢◌, ◌⊎◌, inl, inr, ℕ, ◌+◌, ◌*◌, ◌/◌, ◌%◌, ◌<◌, ◌≤◌, List, length, get_or, set, Some, refl, sym, ◌∙◌, ap, subst, arith}
+use Rattle.std.specs.Prelude.{IsTrue, Result, Ok, Err}
+use Rattle.std.proofs.lemmas.List.{get_or-set_same, get_or-set_other, get_or_past, length-set}
+use Rattle.std.proofs.lemmas.Bool.{cases_eq, cases_lt}
 use Rattle.envy_base.specs.declared.board.Off.{Off}
 use Rattle.envy_base.specs.declared.shape.Shape.{Shape}
 use Rattle.envy_base.specs.declared.fields.Job.TheVariants.{Idle, Copy, Switch}
 use Rattle.envy_map.specs.Fields.{Fields, Chart}
 use Rattle.envy_map.specs.Writes.{Writes, with_back, with_fill, with_origin}
 use Rattle.envy_layout.specs.Sound.{Sound, Rows, Numbers, Blanks, Jobs, Copies, IsSound, IsFree, IsSpare, Names}
-use Rattle.envy_layout.specs.Claims.{IsCopying, IsUsable}
+use Rattle.envy_layout.specs.Claims.{IsCopying, IsUsable, FillsRise}
 use Rattle.envy_layout.specs.Same.{Same}
 use Rattle.envy_layout.proofs.References.{apart-spare, copy-low, row-of}
 use Rattle.envy_layout.proofs.Composition.{Keeps, Same-put}
@@ -162,6 +162,27 @@ Sound-raised sh f flash t n lt room is usable s =
 
 pub Same-raised : (c new : Chart) (t n : ℕ) (r : Result Unit Off) → IsSound c → t < c.shape.segments → n < c.shape.rows → (IsTrue c.on → get_or c.fields.fills t 0 ≡ n) → (IsTrue c.on → IsUsable c.shape c.fields t) → Writes (with_fill t (n + 1)) c r new → Same 0 0 c new
 Same-raised c new t n r sound lt room is usable writes = Same-put c new (with_fill t (n + 1)) r sound (λ on. Keeps-unread c (set c.fields.fills t (n + 1)) c.fields.backs c.fields.origins (Sound-raised c.shape c.fields c.flash t n lt room (is on) (usable on) sound)) refl writes
+
+-- fills at each exit: a back that is written leaves them, and a fill that is raised, or not, is no lower
+pub fills-backed : (c new : Chart) (q p : ℕ) (r : Result Unit Off) → Writes (with_back q p) c r new → new.fields.fills ≡ c.fields.fills
+fills-backed c new q p (Ok done) writes = ap (λ (x : Chart). x.fields.fills) writes.1
+fills-backed c new q p (Err off) (inl (dead, same)) = ap (λ (x : Chart). x.fields.fills) same
+fills-backed c new q p (Err off) (inr (on, f, (inl stays), is)) = ap (λ (x : Chart). x.fields.fills) is ∙ ap (λ (x : Fields). x.fills) stays
+fills-backed c new q p (Err off) (inr (on, f, (inr made), is)) = ap (λ (x : Chart). x.fields.fills) is ∙ ap (λ (x : Fields). x.fills) made
+
+raised-here : (fills : List ℕ) (t n x : ℕ) → get_or fills t 0 ≡ n → (x ≡ t) ⊎ (x ≡ t → ⊥) → get_or fills x 0 ≤ get_or (set fills t (n + 1)) x 0
+raised-here fills t n x is (inr other) = rw (get_or-set_other fills t x (n + 1) 0 other) (omega arith)
+raised-here fills t n x is (inl same) = at (cases_lt t (length fills))
+  where
+    at : (t < length fills) ⊎ (length fills ≤ t) → get_or fills x 0 ≤ get_or (set fills t (n + 1)) x 0
+    at (inl lt) = rw (same, get_or-set_same fills t (n + 1) 0 lt) (omega arith)
+    at (inr ge) = let none : get_or fills x 0 ≡ 0 = get_or_past fills x 0 (omega arith) in omega arith
+
+pub FillsRise-raised : (c new : Chart) (t n : ℕ) (r : Result Unit Off) → (IsTrue c.on → get_or c.fields.fills t 0 ≡ n) → Writes (with_fill t (n + 1)) c r new → FillsRise c new
+FillsRise-raised c new t n (Ok done) is writes s = subst (λ (x : List ℕ). get_or c.fields.fills s 0 ≤ get_or x s 0) (sym (ap (λ (x : Chart). x.fields.fills) writes.1)) (raised-here c.fields.fills t n s (is writes.0) (cases_eq s t))
+FillsRise-raised c new t n (Err off) is (inl (dead, same)) s = rw same (omega arith)
+FillsRise-raised c new t n (Err off) is (inr (on, f, (inl stays), now)) s = subst (λ (x : List ℕ). get_or c.fields.fills s 0 ≤ get_or x s 0) (sym (ap (λ (x : Chart). x.fields.fills) now ∙ ap (λ (x : Fields). x.fills) stays)) (omega arith)
+FillsRise-raised c new t n (Err off) is (inr (on, f, (inr made), now)) s = subst (λ (x : List ℕ). get_or c.fields.fills s 0 ≤ get_or x s 0) (sym (ap (λ (x : Chart). x.fields.fills) now ∙ ap (λ (x : Fields). x.fills) made)) (raised-here c.fields.fills t n s (is on) (cases_eq s t))
 
 Sound-noted : (sh : Shape) (f : Fields) (flash : List (List ℕ)) (i q : ℕ) → q < sh.segments * sh.rows → IsCopying f → Sound sh f flash → Sound sh (with_origin i q f) flash
 Sound-noted sh f flash i q range (v, copy) s =

@@ -1,7 +1,7 @@
 ghost use Rattle.std.specs.Prelude.{◌≡◌, ◌+◌, ◌*◌, ◌<◌, false, IsTrue, OnOk, OnErr, slice_index};
 ghost use Rattle.envy_map.specs.Fields.{chart, with_fields};
 ghost use Rattle.envy_map.specs.Writes.{with_back, with_fill, with_origin};
-ghost use Rattle.envy_layout.specs.Claims.{IsCopying, IsUsable};
+ghost use Rattle.envy_layout.specs.Claims.{IsCopying, IsUsable, FillsRise};
 ghost use Rattle.envy_layout.specs.Same.{Same};
 ghost use Rattle.envy_layout.specs.Sound.{IsSound, IsFree};
 
@@ -17,6 +17,7 @@ pub fn claim_back<B: Board>(board: &mut B, row: u32, page: u32) -> Result<(), Of
     requires free { IsTrue (B.state board.old).on → IsFree (B.state board.old).shape (chart (B.state board.old)).fields row }
     ensures same { Same 0 0 (chart (B.state board.old)) (chart (B.state board.new)) }
     ensures fields { OnOk result (chart (B.state board.new) ≡ with_fields (chart (B.state board.old)) (with_back row page (chart (B.state board.old)).fields)) }
+    ensures fills { (chart (B.state board.new)).fields.fills ≡ (chart (B.state board.old)).fields.fills }
     ensures on { OnOk result (IsTrue (B.state board.new).on) }
     ensures off { OnErr result ((B.state board.new).on ≡ false) }
 {
@@ -33,6 +34,7 @@ pub fn raise_fill<B: Board>(board: &mut B, segment: u32, fill: u32) -> Result<()
     requires usable { IsTrue (B.state board.old).on → IsUsable (B.state board.old).shape (chart (B.state board.old)).fields segment }
     ensures same { Same 0 0 (chart (B.state board.old)) (chart (B.state board.new)) }
     ensures fields { OnOk result (chart (B.state board.new) ≡ with_fields (chart (B.state board.old)) (with_fill segment (fill + 1) (chart (B.state board.old)).fields)) }
+    ensures rises { FillsRise (chart (B.state board.old)) (chart (B.state board.new)) }
     ensures on { OnOk result (IsTrue (B.state board.new).on) }
     ensures off { OnErr result ((B.state board.new).on ≡ false) }
 {

@@ -1,4 +1,5 @@
 pub mod Held
+pub mod Indexed
 pub mod Opening
 pub mod Regions
 pub mod Steady

@@ -103,6 +103,7 @@ Fits-new setup = record {
   frames = refl;
   entries = length-replicate setup.shape.entries None;
   positions = refl;
+  pages = refl;
   stages = record { within = All-nil (λ k. k < setup.shape.segments - 1); few = omega arith };
 }
 

@@ -9,5 +9,6 @@ pub mod LoadLemmas
 pub mod Owning
 pub mod PutLemmas
 pub mod Standing
+pub mod SyncLemmas
 pub mod TickLemmas
 pub mod Transacting

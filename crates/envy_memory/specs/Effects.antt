@@ -1,4 +1,4 @@
--- What calls do to the parts of a memory: accesses, counters, held frames, heats, turns, job and stages.
+-- What calls do to the parts of a memory: accesses, counters, held frames, heats, turns, lives, job and stages.
 use Rattle.std.specs.Prelude.{◌≡◌, ◌⊎◌, ℕ, ◌<◌, ◌==◌, Bool, true, false, IsTrue, [], ◌∷◌, ◌++◌, length, Option, None, Some, is_none, Result, Ok, Err, if◌then◌else◌}
 use Rattle.envy_base.specs.Counting.{up}
 use Rattle.envy_base.specs.declared.fields.Job.TheVariants.{Idle as IdleJob}

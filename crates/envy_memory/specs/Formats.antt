@@ -20,14 +20,14 @@ use Rattle.envy_memory.specs.declared.faults.FormatFault.TheVariants.{Off, Setup
 abbrev pub no_counts : Counts
 no_counts = record { hits = 0; misses = 0; flushes = 0; copies = 0; moves = 0; erases = 0; swaps = 0 }
 
--- A memory that was just made by this setup: all counters are 0, no page is in the cache, heats and turns are at
+-- A memory that was just made by this setup: all counters are 0, no page is in the cache, heats, turns and lives are at
 -- their start, no stage or move is pending, no page has an owner, and the held frames are those that the table
 -- names, in rising order of page with their default homes.
 pub record IsStarted (setup : Setup) (p : Picture) : Type 0 where
   pub counts : counts_of p.parts ≡ no_counts
   pub since : p.parts.reloc.since ≡ 0
   pub entries : p.parts.cache.entries ≡ vacant setup.shape.entries
-  pub chooser : p.parts.chooser ≡ started setup.policy (setup.shape.segments - 1)
+  pub chooser : p.parts.chooser ≡ started setup.policy setup.shape.pages (setup.shape.segments - 1)
   pub stages : p.parts.stages ≡ []
   pub moves : p.parts.reloc.moves ≡ []
   pub held : p.parts.frames.held ≡ held_by_default p.chart.shape p.chart.fields.places

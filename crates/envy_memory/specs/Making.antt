@@ -10,7 +10,7 @@ use Rattle.envy_flush.specs.declared.parts.Parts.{Parts}
 -- Parts that were read anew from a board: the counts stay.
 pub record StartsAnew (was : Parts) (c : Chart) (now : Parts) : Type 0 where
   pub empties : Empties was.cache now.cache
-  pub chooser : now.chooser ≡ started was.chooser.policy was.chooser.positions
+  pub chooser : now.chooser ≡ started was.chooser.policy was.chooser.pages was.chooser.positions
   pub stages : now.stages ≡ []
   pub moves : now.reloc.moves ≡ []
   pub since : now.reloc.since ≡ 0

@@ -9,7 +9,7 @@ use Rattle.envy_flush.specs.Agreement.{Fits, PartsAgree}
 use Rattle.envy_flush.specs.declared.parts.Parts.{Parts}
 use Rattle.envy_txn.specs.Owners.{Ownership, AreOwned}
 
--- The board read by its map; the held frames, the pool, the cache's entries, heats and turns, the moves and the
+-- The board read by its map; the held frames, the pool, the cache's entries, heats, turns and lives, the moves and the
 -- stages that are left, and the counts (`parts`); the owner pairs; the limit of a swap and the mark of a flush.
 pub record Picture : Type 0 where
   pub chart : Chart

@@ -7,13 +7,13 @@ use Rattle.envy_flush.specs.Restarts.{IsRestarted}
 use Rattle.envy_memory.specs.Calls.{lit}
 use Rattle.envy_memory.specs.Picture.{Picture}
 
--- The board was restarted as power came back to it. The counters stay, and the cache is empty. Heats and turns are at
--- their start, no stage or move is pending, no erase has begun since, no page has an owner, and the held frames are
+-- The board was restarted as power came back to it. The counters stay, and the cache is empty. Heats, turns and lives are
+-- at their start, no stage or move is pending, no erase has begun since, no page has an owner, and the held frames are
 -- those that the table names, in rising order of page with their default homes.
 pub record Restarts (old new : Picture) : Type 0 where
   pub restarted : IsRestarted (lit old.chart) new.chart
   pub empties : Empties old.parts.cache new.parts.cache
-  pub chooser : new.parts.chooser ≡ started old.parts.chooser.policy old.parts.chooser.positions
+  pub chooser : new.parts.chooser ≡ started old.parts.chooser.policy old.parts.chooser.pages old.parts.chooser.positions
   pub stages : new.parts.stages ≡ []
   pub moves : new.parts.reloc.moves ≡ []
   pub since : new.parts.reloc.since ≡ 0

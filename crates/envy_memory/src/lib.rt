@@ -16,6 +16,7 @@ mod memory;
 mod one_tx;
 mod putting;
 mod storing;
+mod syncing;
 mod ticking;
 
 pub use envy_flush::Did;

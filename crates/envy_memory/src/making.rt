@@ -15,6 +15,6 @@ pub fn make_parts(alloc: Global, setup: &Setup) -> Result<(Parts, Owned), NoMemo
     ensures owned { IfOk result (λ made. made.1 ≡ record { pairs = []; limit = setup.now.shape.shadows }) }
 {
     let parts = Parts::new(alloc, setup)?;
-    let owned = Owned::new(alloc, setup.shape.shadows)?;
+    let owned = Owned::of_pages(alloc, setup.shape.shadows, setup.shape.pages)?;
     Ok((parts, owned))
 }

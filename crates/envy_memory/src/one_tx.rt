@@ -16,14 +16,14 @@ use crate::memory::Memory;
 use envy_base::{Bench, Board, Off, Trouble, Words};
 
 /// A memory with one transaction at a time, which has the first slot.
-pub struct OneTx<B: Bench> {
+pub struct OneTx<B: Board> {
     memory: Memory<B>,
     begun: bool,
     ghost few: { 32 * memory.chart.shape.pages < 2 ^ 32 },
     ghost held: { ∥ (IsTrue memory.chart.on → IsHeld memory.chart begun) ∥₁ },
 }
 
-impl<B: Bench> OneTx<B> {
+impl<B: Board> OneTx<B> {
     /// A memory that has power and no open slot.
     pub fn new(memory: Memory<B>) -> OneTx<B>
         requires { (m : Array) × Stands memory.chart m × (m.slots ≡ replicate 64 None) }
@@ -49,7 +49,9 @@ impl<B: Bench> OneTx<B> {
         let OneTx { memory, begun: _ } = self;
         memory
     }
+}
 
+impl<B: Bench> OneTx<B> {
     /// Asks for power, as `Memory::revive` does. The kept words stay, and no transaction is open.
     ///
     /// # Errors
@@ -115,7 +117,7 @@ fn trouble(answer: Result<(), PutFault>) -> Result<(), Trouble>
     }
 }
 
-impl<B: Bench> Words for OneTx<B> {
+impl<B: Board> Words for OneTx<B> {
     ghost use Rattle.envy_memory.specs.Sheets.{sheet_of};
     ghost use Rattle.envy_memory.specs.Lawful.{lawful_sheet};
 

@@ -24,12 +24,12 @@ side-returned (Err Off) old s stale left side r = subst (λ (g : Standing). IsSi
 shape-returned : (result : Result Unit ReviveFault) (old s : Side) (stale left : List Bool) → Returns result old stale s left → s.memory.chart.shape ≡ old.memory.chart.shape
 shape-returned (Ok done) old s stale left r = Kept.shape (Wakes.kept r.3)
 shape-returned (Err Dead) old s stale left r = ap (λ (x : Side). x.memory.chart.shape) r.1
-shape-returned (Err Off) old s stale left r = Kept.shape (Wakes.kept r.3)
+shape-returned (Err Off) old s stale left r = Kept.shape (Wakes.kept r.2)
 
 length-returned : (result : Result Unit ReviveFault) (old s : Side) (stale left : List Bool) → Returns result old stale s left → length left ≡ length stale
 length-returned (Ok done) old s stale left r = ap length r.4 ∙ length-replicate (length stale) true
 length-returned (Err Dead) old s stale left r = ap length r.2
-length-returned (Err Off) old s stale left r = ap length r.5
+length-returned (Err Off) old s stale left r = ap length r.4
 
 gone-leads : (g other : Standing) → is_good_by g ≡ false → MayLead g other → MayLead Gone other
 gone-leads Good other not_good leads = cc

@@ -34,8 +34,9 @@ pub record IsLowestStale (stale : List Bool) (p : ℕ) : Type 0 where
 abbrev pub NoneStale : List Bool → Type 0
 NoneStale stale = (q : ℕ) → is_stale stale q ≡ false
 
--- power was asked for, and all else that a restart keeps stayed
+-- power was asked for while lives were left, and all else that a restart keeps stayed
 pub record Wakes (old new : Picture) : Type 0 where
+  pub lives : 0 < old.chart.lives
   pub kept : Kept (lit old.chart) new.chart
   pub counts : counts_of new.parts ≡ counts_of old.parts
 

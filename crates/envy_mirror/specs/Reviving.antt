@@ -22,7 +22,7 @@ use Rattle.envy_mirror.specs.declared.standing.Which.TheVariants.{First, Second}
 abbrev pub Returns : Result Unit ReviveFault → Side → List Bool → Side → List Bool → Type 0
 Returns (Ok done) old stale new left = (new.standing ≡ Good) × Stands new.memory.chart (fresh old.memory.chart.shape.shadows (durable old.memory.chart)) × Restarts old.memory new.memory × Wakes old.memory new.memory × (left ≡ replicate (length stale) true)
 Returns (Err Dead) old stale new left = (old.memory.chart.lives ≡ 0) × (new ≡ old) × (left ≡ stale)
-Returns (Err Off) old stale new left = (new.standing ≡ Gone) × (new.memory.chart.on ≡ false) × (0 < old.memory.chart.lives) × Wakes old.memory new.memory × (old.memory.chart.cuts < 2 ^ 64 - 1 → old.memory.chart.cuts < new.memory.chart.cuts) × (left ≡ stale)
+Returns (Err Off) old stale new left = (new.standing ≡ Gone) × (new.memory.chart.on ≡ false) × Wakes old.memory new.memory × (old.memory.chart.cuts < 2 ^ 64 - 1 → old.memory.chart.cuts < new.memory.chart.cuts) × (left ≡ stale)
 
 -- the side that was Good last is revived, and the other stays
 abbrev pub RevivesBy : Which → Result Unit ReviveFault → Pair → Pair → Type 0

@@ -18,6 +18,10 @@ mod reviving;
 mod standing;
 #[cfg(test)]
 mod tests;
+#[cfg(test)]
+mod tests_calls;
+#[cfg(test)]
+mod tests_clients;
 
 pub use catching::{CatchFault, Caught};
 pub use mirror::Mirror;

@@ -1,42 +1,17 @@
 //! A pair over two boards in memory beside the plain machine, while power and flash operations fail.
 
-ghost use Rattle.std.specs.Prelude.{◌≡◌};
-ghost use Rattle.envy_base.specs.Array.{zeros};
-ghost use Rattle.envy_layout.specs.Stands.{Stands};
-
+use crate::Caught;
 use crate::half::Half;
-use crate::{CatchFault, Caught, Mirror};
-use envy_base::{Bench, Shape, Trouble};
-use envy_bench::MemBoard;
-use envy_memory::{BeginFault, EndFault, LoadFault, Memory, PutFault, StoreFault};
-use envy_plain::{Plain, Refusal};
-use envy_policy::{Policy, Setup};
+use crate::tests_calls::{Call, Pair, Reply, SMALL, made, made_plainly, paired};
+use envy_base::Bench;
+use envy_memory::LoadFault;
+use envy_plain::Plain;
+use envy_policy::Policy;
 use std::alloc::Global;
 use std::process::Abort;
 use std::test::Fail;
 
-const SMALL: Shape = Shape {
-    segments: 6,
-    rows: 4,
-    pages: 10,
-    shadows: 4,
-    frames: 3,
-    entries: 2,
-};
-
 const WORDS: u32 = 320;
-
-type Pair = Mirror<MemBoard, MemBoard>;
-
-#[derive(Clone, Copy)]
-enum Call {
-    Store(u32, u64),
-    Begin,
-    Put(u8, u32, u64),
-    Commit(u8),
-    Abort(u8),
-    Tick,
-}
 
 /// The next of a sequence of numbers below 65,536.
 fn draw(seed: &mut u64) -> u32 {
@@ -57,37 +32,6 @@ fn drawn_call(seed: &mut u64) -> Call {
         4 | 5 => Call::Tick,
         6 | 7 | 8 => Call::Put(t, a, w),
         _ => Call::Store(a, w),
-    }
-}
-
-fn formatted(rt: &impl Abort, alloc: Global, board: MemBoard, policy: Policy) -> Memory<MemBoard>
-    ensures shape { result.chart.shape ≡ SMALL }
-    ensures zeros { Stands result.chart (zeros result.chart.shape.pages result.chart.shape.shadows) }
-{
-    let setup = Setup {
-        shape: SMALL,
-        policy,
-        limit: 2,
-        mark: 2,
-    };
-    match Memory::format(alloc, board, setup) {
-        Ok(memory) => memory,
-        Err((_, fault)) => panic!(rt; "not formatted: {fault:?}"),
-    }
-}
-
-fn paired(rt: &impl Abort, alloc: Global, policy: Policy) -> Result<Pair, Fail> {
-    SMALL.check()?;
-    let a = MemBoard::new(alloc, &SMALL, u32::MAX)?;
-    let b = MemBoard::new(alloc, &SMALL, u32::MAX)?;
-    let a = formatted(rt, alloc, a, policy);
-    let b = formatted(rt, alloc, b, policy);
-    match Mirror::new(alloc, a, b) {
-        Ok(mirror) => Ok(mirror),
-        Err((a, b, _)) => {
-            let (_a, _b) = (a.into_board(), b.into_board());
-            panic!(rt; "no memory")
-        }
     }
 }
 
@@ -138,75 +82,21 @@ fn is_found(mirror: &Pair, plain: &Plain) -> bool {
 fn lose(rt: &impl Abort, mirror: &mut Pair, plain: &mut Plain, call: Call) {
     revive(rt, mirror);
     if !is_found(mirror, plain) {
-        match call {
-            Call::Store(a, w) => assert_eq!(rt; plain.store(a, w), Ok(())),
-            Call::Commit(t) => assert_eq!(rt; plain.commit(t), Ok(())),
-            _ => panic!(rt; "a call is half done"),
-        }
+        assert!(rt;
+            matches!(call, Call::Store(_, _) | Call::Commit(_)),
+            "a call is half done"
+        );
+        assert_eq!(rt; made_plainly(plain, call), Reply::Done);
     }
     plain.power();
 }
 
-fn store(rt: &impl Abort, mirror: &mut Pair, plain: &mut Plain, a: u32, w: u64) {
-    match mirror.store(a, w) {
-        Ok(()) => assert_eq!(rt; plain.store(a, w), Ok(())),
-        Err(StoreFault::Range) => assert_eq!(rt; plain.store(a, w), Err(Refusal::Range)),
-        Err(StoreFault::Held(u)) => assert_eq!(rt; plain.store(a, w), Err(Refusal::Held(u))),
-        Err(StoreFault::Bad) => {}
-        Err(StoreFault::Off) => lose(rt, mirror, plain, Call::Store(a, w)),
-    }
-}
-
-fn put(rt: &impl Abort, mirror: &mut Pair, plain: &mut Plain, t: u8, a: u32, w: u64) {
-    match mirror.put(t, a, w) {
-        Ok(()) => assert_eq!(rt; plain.put(t, a, w), Ok(())),
-        Err(PutFault::Range) => assert_eq!(rt; plain.put(t, a, w), Err(Refusal::Range)),
-        Err(PutFault::Closed) => assert_eq!(rt; plain.put(t, a, w), Err(Refusal::Closed)),
-        Err(PutFault::Held(u)) => assert_eq!(rt; plain.put(t, a, w), Err(Refusal::Held(u))),
-        Err(PutFault::Full) => assert_eq!(rt; plain.put(t, a, w), Err(Refusal::Full)),
-        Err(PutFault::Bad) => {}
-        Err(PutFault::Off) => lose(rt, mirror, plain, Call::Put(t, a, w)),
-    }
-}
-
-fn end(rt: &impl Abort, mirror: &mut Pair, plain: &mut Plain, call: Call) {
-    let (told, done) = match call {
-        Call::Commit(t) => (mirror.commit(t), true),
-        Call::Abort(t) => (mirror.abort(t), false),
-        _ => return,
-    };
-    let slot = match call {
-        Call::Commit(t) | Call::Abort(t) => t,
-        _ => 0,
-    };
-    if told == Err(EndFault::Off) {
-        return lose(rt, mirror, plain, call);
-    }
-    let plainly = if done {
-        plain.commit(slot)
-    } else {
-        plain.abort(slot)
-    };
-    match told {
-        Ok(()) => assert_eq!(rt; plainly, Ok(())),
-        Err(_) => assert_eq!(rt; plainly, Err(Refusal::Closed)),
-    }
-}
-
+/// Makes a call of both machines, which answer alike but for failures.
 fn make(rt: &impl Abort, mirror: &mut Pair, plain: &mut Plain, call: Call) {
-    match call {
-        Call::Store(a, w) => store(rt, mirror, plain, a, w),
-        Call::Put(t, a, w) => put(rt, mirror, plain, t, a, w),
-        Call::Begin => match mirror.begin() {
-            Ok(t) => assert_eq!(rt; plain.begin(), Ok(t)),
-            Err(BeginFault::Busy) => assert_eq!(rt; plain.begin(), Err(Refusal::Busy)),
-            Err(BeginFault::Off) => lose(rt, mirror, plain, call),
-        },
-        Call::Commit(_) | Call::Abort(_) => end(rt, mirror, plain, call),
-        Call::Tick => match mirror.tick() {
-            Ok(_) | Err(Trouble::Bad) => {}
-            Err(Trouble::Off) => lose(rt, mirror, plain, call),
-        },
+    match made(mirror, call) {
+        Reply::Bad => {}
+        Reply::Off => lose(rt, mirror, plain, call),
+        told => assert_eq!(rt; made_plainly(plain, call), told, "{call:?}"),
     }
 }
 
@@ -272,50 +162,4 @@ fn pair_is_the_plain_machine_under_locality(rt: HostRuntime) -> Result<(), Fail>
 #[test]
 fn pair_is_the_plain_machine_under_hybrid(rt: HostRuntime) -> Result<(), Fail> {
     run(&rt, rt.alloc(), Policy::Hybrid(2), 800)
-}
-
-/// Catching up, both sides cut, and waiting for a slot, as a client would do it.
-#[test]
-fn side_catches_up_page_by_page(rt: HostRuntime) -> Result<(), Fail> {
-    let mut mirror = paired(&rt, rt.alloc(), Policy::Greedy)?;
-    assert_eq!(rt; mirror.store(5, 1), Ok(()));
-    mirror.cut_now(0);
-    assert!(rt; !mirror.good(0) && mirror.good(1));
-    assert_eq!(rt; mirror.store(5, 2), Ok(()));
-    assert_eq!(rt; mirror.load(5), Ok(2));
-    assert_eq!(rt; mirror.catch_up(), Ok(Caught::Woken));
-    for page in 0..10 {
-        assert_eq!(rt; mirror.catch_up(), Ok(Caught::Copied(page)));
-    }
-    assert_eq!(rt; mirror.store(70, 9), Ok(()));
-    assert_eq!(rt; mirror.catch_up(), Ok(Caught::Copied(2)));
-    assert_eq!(rt; mirror.catch_up(), Ok(Caught::Joined));
-    assert_eq!(rt; mirror.catch_up(), Ok(Caught::Whole));
-    mirror.cut_now(1);
-    assert_eq!(rt; (mirror.load(5), mirror.load(70)), (Ok(2), Ok(9)));
-    mirror.cut_now(0);
-    assert_eq!(rt; mirror.load(5), Err(LoadFault::Off));
-    assert_eq!(rt; mirror.catch_up(), Err(CatchFault::Off));
-    if !mirror.good(0) && !mirror.good(1) {
-        assert_eq!(rt; mirror.revive(), Ok(()));
-    }
-    assert!(rt; mirror.good(0) && !mirror.good(1));
-    assert_eq!(rt; mirror.load(5), Ok(2));
-    let (_a, _b) = mirror.into_boards();
-    Ok(())
-}
-
-#[test]
-fn catching_up_waits_for_an_open_slot(rt: HostRuntime) -> Result<(), Fail> {
-    let mut mirror = paired(&rt, rt.alloc(), Policy::Greedy)?;
-    assert_eq!(rt; mirror.begin(), Ok(0));
-    assert_eq!(rt; mirror.put(0, 5, 7), Ok(()));
-    mirror.cut_now(0);
-    assert_eq!(rt; mirror.catch_up(), Ok(Caught::Woken));
-    assert_eq!(rt; mirror.catch_up(), Ok(Caught::Waiting(0)));
-    assert_eq!(rt; mirror.commit(0), Ok(()));
-    assert_eq!(rt; mirror.catch_up(), Ok(Caught::Copied(0)));
-    assert_eq!(rt; mirror.counts(1).misses, 1);
-    let (_a, _b) = mirror.into_boards();
-    Ok(())
 }

@@ -79,6 +79,14 @@ plus-none n = omega arith
 same-spent : (k : Past) (old new : Side) → new ≡ old → IsSpent k old → IsSpent k new
 same-spent k old new e spent = subst (λ (s : Side). IsSpent k s) (sym e) spent
 
+-- a side with lives left wasn't found without
+alive : (k : Past) (old : Side) → IsSpent k old → 0 < old.memory.chart.lives → k.dead ≡ false
+alive k old spent some = at k.dead refl
+  where
+    at : (b : Bool) → k.dead ≡ b → k.dead ≡ false
+    at true is = absurd (let none = spent is in omega arith)
+    at false is = is
+
 slipped : (m : Array) (from : Side) (k : Past) (g : Standing) (old : Side) (stale : List Bool) (new : Side) (left : List Bool) → old.standing ≡ g → Stands from.memory.chart m → IsSpent k old → new.standing ≡ Gone → SlipsBy g from.memory.chart stale old.memory new.memory → left ≡ stale → (old.memory.chart.cuts < 2 ^ 64 - 1 → old.memory.chart.cuts < new.memory.chart.cuts) → Followed m (caught (Err CatchSlipped)) k old stale new left
 slipped m from k Good old stale new left is s spent stood never same rose = absurd never
 slipped m from k Behind old stale new left is s spent stood (none, p, lowest, reckons) same rose = record {
@@ -100,7 +108,7 @@ slipped m from k Behind old stale new left is s spent stood (none, p, lowest, re
 }
 slipped m from k Gone old stale new left is s spent stood wakes same rose = record {
   past = past_if true k;
-  follows = (inl is, ap (stood_as (past_if true k)) stood, same);
+  follows = (inl (is, alive k old spent wakes.lives), ap (stood_as (past_if true k)) stood, same);
   toll = one_fail;
   charged = Charged-slipped old.memory new.memory wakes rose;
   pulls = refl;
@@ -136,7 +144,7 @@ followed (Err CatchDead) m from k old stale new left s spent (is, lives, same, m
 }
 followed (Ok CaughtWoken) m from k old stale new left s spent (is, stood, wakes, marks) = record {
   past = k;
-  follows = (is, ap (stood_as k) stood, marks);
+  follows = ((is, alive k old spent wakes.lives), ap (stood_as k) stood, marks);
   toll = no_toll;
   charged = Charged-woken old.memory new.memory wakes;
   pulls = refl;

@@ -83,7 +83,7 @@ gone-firm old new n is same firm = λ none. let good = firm (sym same ∙ none) 
 
 firm-follows : (m : Array) (reply : MirrorReply) (old new : SideState) (stale left : List Bool) → Follows m reply old stale new left → IsFirm old → IsFirm new
 firm-follows m Dead old new stale left (is, same, marks) firm = gone-firm old new 0 is (ap (λ (x : SideState). x.falls) same) firm
-firm-follows m Woken old new stale left (is, same, marks) firm = gone-firm old new 0 is (ap (λ (x : SideState). x.falls) same) firm
+firm-follows m Woken old new stale left (may, same, marks) firm = gone-firm old new 0 may.0 (ap (λ (x : SideState). x.falls) same) firm
 firm-follows m (Waiting t) old new stale left (is, low, (same, marks)) firm = behind-firm old new same firm
 firm-follows m (Copied p) old new stale left (may, same, marks) firm = behind-firm old new same firm
 firm-follows m Slipped old new stale left (why, same, marks) firm = subst IsFirm (sym same) (firm-gone old)

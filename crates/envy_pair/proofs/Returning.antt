@@ -96,7 +96,7 @@ none-more n = omega arith
 pub still-again : (old now new : Pair) → IsStillDark old now → RevivesBy now.last (Err Off) now new → IsStillDark old new
 still-again old now new still by =
     let asks = asked-since (Err Off) old now new still by in
-    let (stood, off, some, wakes, rose, marks) = asks.returns in
+    let (stood, off, wakes, rose, marks) = asks.returns in
     record {
       same = same-since (Err Off) old now new old.stale still asks (marks ∙ stale-same old now still);
       standing = stood;
@@ -106,15 +106,15 @@ still-again old now new still by =
       charged = Charged-trans no_toll no_toll (last_side old).memory (side_at old.last now).memory (side_at old.last new).memory still.charged (Charged-woken (side_at old.last now).memory (side_at old.last new).memory wakes);
     }
 
-lives-fewer : (a b : Picture) → Wakes a b → 0 < a.chart.lives → b.chart.lives < a.chart.lives
-lives-fewer a b w some = let e = Counted.lives (Kept.counted w.kept) in omega arith
+lives-fewer : (a b : Picture) → Wakes a b → b.chart.lives < a.chart.lives
+lives-fewer a b w = let some = w.lives in let e = Counted.lives (Kept.counted w.kept) in omega arith
 
 -- a life was spent
 pub lives-again : (old now new : Pair) → IsStillDark old now → RevivesBy now.last (Err Off) now new → (side_at old.last new).memory.chart.lives < (side_at old.last now).memory.chart.lives
 lives-again old now new still by =
     let asks = asked-since (Err Off) old now new still by in
-    let (stood, off, some, wakes, rose, marks) = asks.returns in
-    lives-fewer (side_at old.last now).memory (side_at old.last new).memory wakes some
+    let (stood, off, wakes, rose, marks) = asks.returns in
+    lives-fewer (side_at old.last now).memory (side_at old.last new).memory wakes
 
 -- it doesn't return
 pub for-good : (old now new : Pair) → IsStillDark old now → RevivesBy now.last (Err Dead) now new → IsForGood old new

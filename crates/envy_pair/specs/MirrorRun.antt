@@ -119,14 +119,18 @@ pub record MayCopy (m : Array) (side : SideState) (stale : List Bool) (p : ℕ) 
 abbrev pub Stays : SideState → List Bool → SideState → List Bool → Type 0
 Stays old stale new left = (new ≡ old) × (left ≡ stale)
 
+-- a Gone side that power may come to: it wasn't found without lives
+abbrev pub MayWake : SideState → Type 0
+MayWake side = (side.standing ≡ IsGone) × (side.dead ≡ false)
+
 -- Power of a side that follows failed: where it was asked for, or where a page was being copied. The side is Gone.
 abbrev pub Slips : Array → SideState → List Bool → SideState → List Bool → Type 0
-Slips m old stale new left = ((old.standing ≡ IsGone) ⊎ ((p : ℕ) × MayCopy m old stale p)) × (new ≡ gone old) × (left ≡ stale)
+Slips m old stale new left = (MayWake old ⊎ ((p : ℕ) × MayCopy m old stale p)) × (new ≡ gone old) × (left ≡ stale)
 
 -- one step by which a side follows the other, which is Good
 abbrev pub Follows : Array → MirrorReply → SideState → List Bool → SideState → List Bool → Type 0
 Follows m Dead old stale new left = (old.standing ≡ IsGone) × (new ≡ record old { dead = true }) × (left ≡ stale)
-Follows m Woken old stale new left = (old.standing ≡ IsGone) × (new ≡ record old { standing = Behind }) × (left ≡ replicate (length stale) true)
+Follows m Woken old stale new left = MayWake old × (new ≡ record old { standing = Behind }) × (left ≡ replicate (length stale) true)
 Follows m (Waiting t) old stale new left = (old.standing ≡ Behind) × IsLowestOpen m t × Stays old stale new left
 Follows m (Copied p) old stale new left = MayCopy m old stale p × (new ≡ old) × (left ≡ slice_set stale p false)
 Follows m (Plain Fault) old stale new left = (p : ℕ) × MayCopy m old stale p × Stays old stale new left

@@ -1,8 +1,11 @@
-ghost use Rattle.std.specs.Prelude.{◌≡◌, ◌+◌, ◌<◌, ◌≤◌, ℕ, List, MatchResult, OnErr, length, slice_set, slice_index};
+ghost use Rattle.std.specs.Prelude.{◌≡◌, ◌+◌, ◌<◌, ◌≤◌, ℕ, List, [], IfOk, MatchResult, OnErr, length, slice_set, slice_index, slice_index_or};
 ghost use Rattle.std.proofs.Props.{props};
 ghost use Rattle.envy_base.specs.Counting.{up};
 ghost use Rattle.envy_base.specs.Shape.{IsShape};
-ghost use Rattle.envy_base.specs.State.{AreWords, IsBoard, Programs, Erases};
+ghost use Rattle.envy_bank.specs.Lanes.{row_from};
+ghost use Rattle.envy_base.specs.State.{AreWords, IsBoard, Puts, Programs, Erases, ands};
+ghost use Rattle.envy_part.specs.Orders.{Adds};
+ghost use Rattle.envy_part.specs.Orders.Order.{Programs as ToProgram, Erases as ToErase};
 ghost use Rattle.envy_part.specs.Part.{ArePages, MissesOnes, MissesPage, part_state};
 
 use crate::places::sram_words;
@@ -66,9 +69,10 @@ impl<'a, P: Port + Drop> PartBoard<'a, P> {
         requires shape { IsShape shape }
         requires pages { ArePages flash.old }
         requires words { AreWords sram.old }
-        ensures { MatchResult result
+        ensures makes { MatchResult result
             (λ board. part_state board.shape board.flash.now board.sram.now board.erases.items board.begun board.bads ≡ new_part shape flash.old sram.old)
             (Misfits shape flash.old sram.old) }
+        ensures ordered { IfOk result (λ board. P.orders board.port ≡ P.orders port) }
     {
         if flash.len() != (shape.segments * shape.rows) as usize {
             return Err(PartFault::FlashSize);
@@ -114,7 +118,7 @@ impl<'a, P: Port> Board for PartBoard<'a, P> {
         Ok(self.sram[w as usize])
     }
 
-    /// Orders the AND of the row and the page, and looks at what the row is afterwards.
+    /// Orders the AND of the row and the page, once, and looks at what the row is afterwards.
     ///
     /// # Errors
     ///
@@ -123,6 +127,7 @@ impl<'a, P: Port> Board for PartBoard<'a, P> {
         requires { row < length (⟦<PartBoard<'a, P> as Board>⟧.state self.old).flash }
         ensures does { Programs (⟦<PartBoard<'a, P> as Board>⟧.state self.old) row page.now result (⟦<PartBoard<'a, P> as Board>⟧.state self.new) }
         ensures bad { OnErr result (MissesPage self.old.flash.now row page.now self.new.flash.now) }
+        ensures ordered { Adds (ToProgram (ands (row_from (slice_index_or self.old.flash.now row [])) page.now)) (P.orders self.old.port) (P.orders self.new.port) }
     {
         let held = self.flash[row as usize];
         let both = anded(&words(&held), page);
@@ -137,7 +142,7 @@ impl<'a, P: Port> Board for PartBoard<'a, P> {
         Ok(())
     }
 
-    /// Orders that the segment become all ones, and looks at each of its rows afterwards.
+    /// Orders that the segment become all ones, once, and looks at each of its rows afterwards.
     ///
     /// # Errors
     ///
@@ -146,6 +151,7 @@ impl<'a, P: Port> Board for PartBoard<'a, P> {
         requires { segment < (⟦<PartBoard<'a, P> as Board>⟧.state self.old).shape.segments }
         ensures does { Erases (⟦<PartBoard<'a, P> as Board>⟧.state self.old) segment result (⟦<PartBoard<'a, P> as Board>⟧.state self.new) }
         ensures bad { OnErr result (MissesOnes self.new.shape.rows segment self.new.flash.now) }
+        ensures ordered { Adds (ToErase self.old.shape.rows) (P.orders self.old.port) (P.orders self.new.port) }
     {
         let rows = self.shape.rows as usize;
         let first = segment as usize * rows;
@@ -160,7 +166,11 @@ impl<'a, P: Port> Board for PartBoard<'a, P> {
 
     /// One store of 64 bits to an aligned address: where power fails, the word must be the old one or the new one.
     /// A compiler may join the stores of neighbouring words into one of 128 bits, which must halve only at words.
-    fn put(&mut self, w: u32, v: u64) -> Result<(), Off> {
+    fn put(&mut self, w: u32, v: u64) -> Result<(), Off>
+        requires { w < length (⟦<PartBoard<'a, P> as Board>⟧.state self.old).sram }
+        ensures does { Puts (⟦<PartBoard<'a, P> as Board>⟧.state self.old) w v result (⟦<PartBoard<'a, P> as Board>⟧.state self.new) }
+        ensures ordered { P.orders self.new.port ≡ P.orders self.old.port }
+    {
         self.sram[w as usize] = v;
         Ok(())
     }

@@ -2,6 +2,8 @@
 ghost use Rattle.std.specs.Prelude.{◌≡◌, ◌≢◌, IsTrue, IsFalse, length};
 ghost use Rattle.envy_base.specs.State.{IsPage};
 ghost use Rattle.envy_bank.specs.Lanes.{row_from};
+ghost use Rattle.envy_part.specs.Orders.{Adds};
+ghost use Rattle.envy_part.specs.Orders.Order.{Programs, Erases};
 ghost use Rattle.envy_part.specs.Part.{ArePages, AreOnes, HasZeros};
 
 use crate::Port;
@@ -9,23 +11,25 @@ use crate::rows::{bytes_of, words};
 
 const ONES: [u64; 32] = [u64::MAX; 32];
 
-/// Orders that a row become the page, and answers whether it is.
+/// Orders that a row become the page, once, and answers whether it is.
 pub fn program<P: Port>(port: &mut P, row: &mut [u8; 256], page: &[u64; 32]) -> bool
     ensures page { IsPage (row_from row.new) }
     ensures held { IsTrue result → row_from row.new ≡ page.now }
     ensures bad { IsFalse result → row_from row.new ≢ page.now }
+    ensures ordered { Adds (Programs page.now) (P.orders port.old) (P.orders port.new) }
 {
     port.program(row, &bytes_of(page));
     let found = words(row);
     found == *page
 }
 
-/// Orders that the rows become all ones, and answers whether they are.
+/// Orders that the rows become all ones, once, and answers whether they are.
 pub fn erase<P: Port>(port: &mut P, rows: &mut [[u8; 256]]) -> bool
     ensures long { length rows.new ≡ length rows.old }
     ensures pages { ArePages rows.new }
     ensures held { IsTrue result → AreOnes rows.new }
     ensures bad { IsFalse result → HasZeros rows.new }
+    ensures ordered { Adds (Erases (length rows.old)) (P.orders port.old) (P.orders port.new) }
 {
     port.erase(rows);
     let mut held = true;

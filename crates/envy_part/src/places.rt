@@ -10,6 +10,7 @@ const ROW_BYTES: u64 = 256;
 const WORD_BYTES: u64 = 8;
 
 /// Where a part's map and the SRAM lie: addresses and lengths in bytes.
+#[repr(C)]
 #[derive(Clone, Copy, Debug, PartialEq, Eq)]
 pub struct Places {
     /// The address of the map.

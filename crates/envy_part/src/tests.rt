@@ -1,3 +1,5 @@
+ghost use Rattle.std.specs.Prelude.{None};
+
 use super::*;
 use crate::{orders, rows};
 use envy_base::Shape;
@@ -56,6 +58,8 @@ fn clear(row: &mut [u8; 256], page: &[u8; 256], count: usize, shift: usize) {
 }
 
 impl Port for Fake {
+    ghost orders = { λ _. None };
+
     fn program(&mut self, row: &mut [u8; 256], page: &[u8; 256]) {
         match self.manner {
             Manner::Right => clear(row, page, 256, 0),

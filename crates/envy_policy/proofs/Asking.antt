@@ -1,11 +1,12 @@
 -- The search for a position that isn't taken asks at most six times: each that it passes is another of the five
 -- that may be taken.
-use Rattle.std.proofs.Common.{◌≡◌, ◌⊎◌, inl, inr, ℕ, ◌+◌, ◌<◌, ◌≤◌, Option, None, Some, cond, slice_index, subst, sym, refl, arith}
+use Rattle.std.proofs.Common.{◌≡◌, inl, inr, ℕ, ◌+◌, ◌<◌, ◌≤◌, Option, None, Some, slice_index, subst, sym, arith}
 use Rattle.std.specs.Prelude.{nat_lt, if◌then◌else◌}
 use Rattle.std.proofs.lemmas.Bool.{cases_lt, lt-ltb, le-ltb}
 use Rattle.envy_policy.specs.declared.class.Class.{Class}
 use Rattle.envy_policy.specs.declared.class.Class.TheVariants.{Brief, Short, Long, Lasting}
-use Rattle.envy_policy.specs.Lifetime.{Notes, RowCounts, IsFresh, IsLowest, IsTaken, open_for}
+use Rattle.envy_policy.specs.Lifetime.{RowCounts, IsFresh, IsLowest, IsTaken}
+use Rattle.envy_policy.specs.Notes.{Notes, open_for}
 
 -- whether the position lies at the start or beyond
 abbrev pub ahead : Option ℕ → ℕ → ℕ

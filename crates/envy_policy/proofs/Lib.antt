@@ -3,9 +3,11 @@ pub mod Choosing
 pub mod HeatCounts
 pub mod HistoryLemmas
 pub mod LifetimeRules
+pub mod LivesLemmas
 pub mod Noting
 pub mod OneChoice
 pub mod OnePartition
 pub mod Partitions
+pub mod Warming
 pub mod Weighing
 pub mod Within

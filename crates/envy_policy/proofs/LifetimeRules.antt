@@ -1,5 +1,5 @@
 -- Some rule applies, one at most does, and what it chooses has rows.
-use Rattle.std.proofs.Common.{◌≡◌, ◌⊎◌, inl, inr, ℕ, zero, suc, ◌+◌, ◌*◌, ◌<◌, ◌≤◌, Option, None, Some, length, slice_index, ap, ap₂, refl, sym, subst, arith}
+use Rattle.std.proofs.Common.{◌≡◌, ◌⊎◌, inl, inr, ℕ, zero, suc, ◌+◌, ◌*◌, ◌<◌, ◌≤◌, Option, None, Some, length, slice_index, ap, ap₂, refl, subst, arith}
 use Rattle.std.proofs.lemmas.Bool.{cases_lt, cases_eq}
 use Rattle.envy_policy.specs.declared.choice.Choice.{Choice}
 use Rattle.envy_policy.specs.declared.choice.Choice.TheVariants.{Free, Clean}
@@ -7,8 +7,8 @@ use Rattle.envy_policy.specs.declared.class.Class.{Class}
 use Rattle.envy_policy.specs.declared.class.Class.TheVariants.{Brief, Short, Long, Lasting}
 use Rattle.envy_policy.specs.declared.fraction.Fraction.{Fraction}
 use Rattle.envy_policy.specs.declared.fraction.Weighed.{Weighed}
-use Rattle.envy_policy.specs.Choice.{IsLeast}
-use Rattle.envy_policy.specs.Lifetime.{Notes, RowCounts, IsCounted, IsAtMost, IsLowest, HasRoom, HasRowsFor, IsOwn, IsTaken, IsFresh, IsBeside, IsFull, IsGreatest, IsVictim, IsBestBelow, IsLifetimeChoice, class_of, open_for, worth}
+use Rattle.envy_policy.specs.Lifetime.{RowCounts, IsCounted, IsLowest, HasRowsFor, IsOwn, IsTaken, IsFresh, IsBeside, IsFull, IsGreatest, IsVictim, IsBestBelow, IsLifetimeChoice, worth}
+use Rattle.envy_policy.specs.Notes.{Notes, class_of, open_for}
 use Rattle.envy_policy.proofs.Choosing.{rows-below}
 use Rattle.envy_policy.proofs.OneChoice.{least-one}
 use Rattle.envy_policy.proofs.Weighing.{best-passed, best-first, best-stays, best-found}

@@ -1,11 +1,11 @@
 -- What is noted keeps what is known of all notes.
-use Rattle.std.proofs.Common.{◌≡◌, ℕ, ◌+◌, ◌^◌, ◌<◌, ◌≤◌, inl, inr, Option, None, Some, List, length, slice_index, slice_set, subst, sym, refl, arith}
+use Rattle.std.proofs.Common.{◌≡◌, ℕ, ◌^◌, ◌<◌, ◌≤◌, inl, inr, Some, List, length, slice_index, slice_set, subst, sym, arith}
 use Rattle.std.proofs.lemmas.Bool.{cases_eq}
 use Rattle.std.proofs.lemmas.List.{get_or-set_same, get_or-set_other, length-set}
 use Rattle.envy_policy.specs.declared.class.Class.{Class}
 use Rattle.envy_policy.specs.declared.class.Class.TheVariants.{Brief, Short, Long, Lasting}
 use Rattle.envy_policy.specs.declared.class.OpenPositions.{OpenPositions}
-use Rattle.envy_policy.specs.Lifetime.{Notes, IsNotes, open_for, with_open}
+use Rattle.envy_policy.specs.Notes.{Notes, IsNotes, open_for, with_open}
 
 -- a position that is open afterwards was so, or is the one
 opened-below : (end position : ℕ) (o : OpenPositions) (class : Class) → position < end → ((other : Class) (k : ℕ) → open_for o other ≡ Some k → k < end) → (other : Class) (k : ℕ) → open_for (with_open class position o) other ≡ Some k → k < end

@@ -3,7 +3,7 @@ use Rattle.std.proofs.Common.{◌≡◌, ℕ, List, Option, None, Some, refl, sy
 use Rattle.envy_policy.specs.declared.choice.Choice.{Choice}
 use Rattle.envy_policy.specs.declared.choice.Choice.TheVariants.{Free, Clean}
 use Rattle.envy_policy.specs.declared.setup.Policy.{Policy}
-use Rattle.envy_policy.specs.declared.setup.Policy.TheVariants.{Greedy, Fifo, Locality, Hybrid}
+use Rattle.envy_policy.specs.declared.setup.Policy.TheVariants.{Greedy, Fifo, Locality, Hybrid, Lifetime}
 use Rattle.envy_policy.specs.History.{History, partition_of}
 use Rattle.envy_policy.specs.Choice.{IsLeast, IsMost, IsUsable, IsNeighbour, HasRows, IsVictim, IsAside, IsChoice, distance, steps}
 
@@ -28,6 +28,7 @@ victim-one Greedy h dead g x y a b = most-one (HasRows h dead g) (slice_index de
 victim-one Fifo h dead g x y a b = least-one (HasRows h dead g) (steps h g) x y a b
 victim-one Locality h dead g x y a b = least-one (HasRows h dead g) (steps h g) x y a b
 victim-one (Hybrid part) h dead g x y a b = least-one (HasRows h dead g) (steps h g) x y a b
+victim-one Lifetime h dead g x y a b = most-one (HasRows h dead g) (slice_index dead) x y a b
 
 aside-one : (h : History) (g : ℕ) (a b : Option ℕ) → IsAside h g a → IsAside h g b → a ≡ b
 aside-one h g None None a b = refl

@@ -1,5 +1,5 @@
 -- What cleanings are worth, and the best of the positions below a bound.
-use Rattle.std.proofs.Common.{◌≡◌, ◌⊎◌, inl, inr, ℕ, ◌+◌, ◌-◌, ◌*◌, ◌^◌, ◌<◌, ◌≤◌, Option, None, Some, slice_index, refl, sym, subst, arith}
+use Rattle.std.proofs.Common.{◌≡◌, inl, inr, ℕ, ◌+◌, ◌-◌, ◌*◌, ◌^◌, ◌<◌, ◌≤◌, Option, None, Some, slice_index, sym, subst, arith}
 use Rattle.std.proofs.Math.Nat.{le_of_mul-le-mul_left}
 use Rattle.std.proofs.lemmas.Nat.{mul-le}
 use Rattle.std.proofs.lemmas.Bool.{cases_lt}
@@ -7,7 +7,8 @@ use Rattle.envy_policy.specs.declared.class.Class.{Class}
 use Rattle.envy_policy.specs.declared.class.Class.TheVariants.{Brief, Short, Long, Lasting}
 use Rattle.envy_policy.specs.declared.fraction.Fraction.{Fraction}
 use Rattle.envy_policy.specs.declared.fraction.Weighed.{Weighed}
-use Rattle.envy_policy.specs.Lifetime.{Notes, IsNotes, RowCounts, IsCounted, IsAtMost, IsFull, IsGreatest, IsBestBelow, aged, worth}
+use Rattle.envy_policy.specs.Lifetime.{RowCounts, IsCounted, IsAtMost, IsFull, IsGreatest, IsBestBelow, aged, worth}
+use Rattle.envy_policy.specs.Notes.{Notes, IsNotes}
 
 at_most-trans : (a b c : Fraction) → 1 ≤ b.under → IsAtMost a b → IsAtMost b c → IsAtMost a c
 at_most-trans a b c some low high =

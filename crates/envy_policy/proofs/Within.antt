@@ -5,9 +5,9 @@ use Rattle.std.proofs.Math.ListN.{length-set, length-map}
 use Rattle.envy_policy.specs.declared.choice.Choice.{Choice}
 use Rattle.envy_policy.specs.declared.choice.Choice.TheVariants.{Free, Clean}
 use Rattle.envy_policy.specs.declared.setup.Policy.{Policy}
-use Rattle.envy_policy.specs.declared.setup.Policy.TheVariants.{Greedy, Fifo, Locality, Hybrid}
+use Rattle.envy_policy.specs.declared.setup.Policy.TheVariants.{Greedy, Fifo, Locality, Hybrid, Lifetime}
 use Rattle.envy_policy.specs.Choice.{IsChoice, IsWithin, IsLeast, IsMost, IsVictim, IsAside}
-use Rattle.envy_policy.specs.History.{History, SameSizes, warmed, flushed, cleaned, partition_of}
+use Rattle.envy_policy.specs.History.{History, SameSizes, warmed, flushed, claimed, cleaned, partition_of}
 use Rattle.envy_policy.proofs.Choosing.{rows-below}
 
 -- a victim has dead rows
@@ -16,6 +16,7 @@ victim-dead Greedy h dead g k is = let has = IsMost.holds is in has.1
 victim-dead Fifo h dead g k is = let has = IsLeast.holds is in has.1
 victim-dead Locality h dead g k is = let has = IsLeast.holds is in has.1
 victim-dead (Hybrid part) h dead g k is = let has = IsLeast.holds is in has.1
+victim-dead Lifetime h dead g k is = let has = IsMost.holds is in has.1
 
 pub aside-below : (h : History) (g : ℕ) (aside : Option ℕ) → IsAside h g aside → (k : ℕ) → aside ≡ Some k → k < length h.heats
 aside-below h g None is k e = cc
@@ -36,8 +37,11 @@ flushed-sizes h k = at ((warmed h k).flushes == 1024)
     long = simp length-set
 
     at : (b : Bool) → SameSizes h (if b then record (warmed h k) { heats = map (λ x. x / 2) (warmed h k).heats; flushes = 0 } else warmed h k)
-    at true = record { policy = refl; positions = refl; heats = simp length-map long; turns = refl }
-    at false = record { policy = refl; positions = refl; heats = long; turns = refl }
+    at true = record { policy = refl; pages = refl; positions = refl; heats = simp length-map long; turns = refl }
+    at false = record { policy = refl; pages = refl; positions = refl; heats = long; turns = refl }
+
+pub claimed-sizes : (h : History) (k page : ℕ) → SameSizes h (claimed h k page)
+claimed-sizes h k page = let same = flushed-sizes h k in record { policy = same.policy; pages = same.pages; positions = same.positions; heats = same.heats; turns = same.turns }
 
 pub cleaned-sizes : (h : History) (k : ℕ) → SameSizes h (cleaned h k)
-cleaned-sizes h k = record { policy = refl; positions = refl; heats = refl; turns = simp length-set }
+cleaned-sizes h k = record { policy = refl; pages = refl; positions = refl; heats = refl; turns = simp length-set }

@@ -4,7 +4,7 @@ use Rattle.std.specs.Prelude.{◌≡◌, ◌⊎◌, ℕ, ◌+◌, ◌-◌, ◌*�
 use Rattle.envy_policy.specs.declared.choice.Choice.{Choice}
 use Rattle.envy_policy.specs.declared.choice.Choice.TheVariants.{Free, Clean}
 use Rattle.envy_policy.specs.declared.setup.Policy.{Policy}
-use Rattle.envy_policy.specs.declared.setup.Policy.TheVariants.{Greedy, Fifo, Locality, Hybrid}
+use Rattle.envy_policy.specs.declared.setup.Policy.TheVariants.{Greedy, Fifo, Locality, Hybrid, Lifetime}
 use Rattle.envy_policy.specs.History.{History, partition_of, first_of, end_of}
 
 -- among the numbers that P holds of, x has the least f, and is the lowest of those with as much
@@ -40,12 +40,14 @@ steps h g position =
     let turn = slice_index h.turns g in
     if nat_lt turn position then position - turn else position + (end_of h g - first_of h g) - turn
 
--- greedy cleans the position with most dead rows, the others the next in turn that has one
+-- greedy cleans the position with most dead rows, and so does the policy that notes lives, where it is asked
+-- for a home; the others the next in turn that has one
 abbrev pub IsVictim : Policy → History → List ℕ → ℕ → ℕ → Type 0
 IsVictim Greedy h dead g position = IsMost (HasRows h dead g) (slice_index dead) position
 IsVictim Fifo h dead g position = IsLeast (HasRows h dead g) (steps h g) position
 IsVictim Locality h dead g position = IsLeast (HasRows h dead g) (steps h g) position
 IsVictim (Hybrid part) h dead g position = IsLeast (HasRows h dead g) (steps h g) position
+IsVictim Lifetime h dead g position = IsMost (HasRows h dead g) (slice_index dead) position
 
 -- partition g is warmer than the mean of several
 abbrev pub IsHot : History → ℕ → Type 0
@@ -55,7 +57,7 @@ abbrev pub IsNeighbour : History → ℕ → ℕ → Type 0
 IsNeighbour h g other = (other < length h.heats) × ((other + 1 ≡ g) ⊎ (other ≡ g + 1))
 
 -- the neighbour that takes rows out of partition g: the cooler one, where g is hot.
--- Under greedy and first-in first-out there is one partition, and so none
+-- Where there is one partition, there is none
 abbrev pub IsAside : History → ℕ → Option ℕ → Type 0
 IsAside h g (Some other) = IsHot h g × IsLeast (IsNeighbour h g) (slice_index h.heats) other
 IsAside h g None = IsHot h g → ⊥

@@ -1,17 +1,23 @@
 -- What a chooser remembers of flushes and cleanings.
-use Rattle.std.specs.Prelude.{◌≡◌, ℕ, ◌+◌, ◌-◌, ◌*◌, ◌/◌, ◌<◌, ◌≤◌, ◌==◌, min, List, length, map, replicate, sum, slice_set, slice_index, if◌then◌else◌}
+use Rattle.std.specs.Prelude.{◌≡◌, ◌≢◌, ℕ, ◌+◌, ◌-◌, ◌*◌, ◌/◌, ◌<◌, ◌≤◌, ◌==◌, min, List, length, map, replicate, sum, slice_set, slice_index, Option, None, Some, if◌then◌else◌}
 use Rattle.std.specs.List.{range_with_len}
+use Rattle.std.specs.Option.{option_map}
 use Rattle.envy_policy.specs.declared.setup.Policy.{Policy}
+use Rattle.envy_policy.specs.declared.setup.Policy.TheVariants.{Greedy, Fifo, Locality, Hybrid, Lifetime}
+use Rattle.envy_policy.specs.Notes.{Notes, unnoted, noted_flush, noted_clean}
 use Rattle.envy_policy.specs.Setup.{run_of}
 
 pub record History : Type 0 where
   pub policy : Policy
+  pub pages : ℕ
   pub positions : ℕ
   -- of each partition: its heat, and the position where its last cleaning in turn began
   pub heats : List ℕ
   pub turns : List ℕ
   -- flushes since the start or the last halving of the heats
   pub flushes : ℕ
+  -- how long the pages' copies live, which one policy notes
+  pub lives : Option Notes
 
 -- positions of a partition; the last partition may have fewer
 abbrev pub run : History → ℕ
@@ -34,14 +40,24 @@ count_in n run = (n - 1) / run + 1
 abbrev pub last_in : ℕ → ℕ → ℕ → ℕ
 last_in n run g = min (g * run + run) n - 1
 
--- at the start no partition is warm, and each turn stands at the partition's last position
-abbrev pub started : Policy → ℕ → History
-started policy n = record {
+-- what a policy has noted of lives at the start
+abbrev pub lives_of : Policy → ℕ → ℕ → Option Notes
+lives_of Greedy pages n = None
+lives_of Fifo pages n = None
+lives_of Locality pages n = None
+lives_of (Hybrid part) pages n = None
+lives_of Lifetime pages n = Some (unnoted pages n)
+
+-- at the start no partition is warm, each turn stands at the partition's last position, and no life is noted
+abbrev pub started : Policy → ℕ → ℕ → History
+started policy pages n = record {
   policy = policy;
+  pages = pages;
   positions = n;
   heats = replicate (count_in n (run_of policy n)) 0;
   turns = map (last_in n (run_of policy n)) (range_with_len 0 (count_in n (run_of policy n)));
   flushes = 0;
+  lives = lives_of policy pages n;
 }
 
 -- one flush more, and its partition is warmer by one
@@ -59,9 +75,21 @@ halved h = if h.flushes == 1024 then record h { heats = map (λ x. x / 2) h.heat
 abbrev pub flushed : History → ℕ → History
 flushed h position = halved (warmed h position)
 
+-- after a row at the position was claimed for a flush of the page
+abbrev pub claimed : History → ℕ → ℕ → History
+claimed h position page = record (flushed h position) { lives = option_map (noted_flush position page) h.lives }
+
 -- after a cleaning of the position has begun
 abbrev pub cleaned : History → ℕ → History
-cleaned h position = record h { turns = slice_set h.turns (partition_of h position) position }
+cleaned h position = record h {
+  turns = slice_set h.turns (partition_of h position) position;
+  lives = option_map (noted_clean position) h.lives;
+}
+
+-- one policy notes lives, of so many pages at so many positions
+abbrev pub AreLives : Policy → ℕ → ℕ → Option Notes → Type 0
+AreLives policy pages positions None = policy ≢ Lifetime
+AreLives policy pages positions (Some n) = (policy ≡ Lifetime) × (length n.born ≡ pages) × (length n.cleaned ≡ positions)
 
 pub record IsHistory (h : History) : Type 0 where
   pub part : 1 ≤ run h
@@ -74,10 +102,12 @@ pub record IsHistory (h : History) : Type 0 where
   pub inside : (g : ℕ) → g < length h.turns → slice_index h.turns g < h.positions
   pub flushes : h.flushes < 1024
   pub warmth : sum h.heats ≤ 1024 + h.flushes
+  pub lives : AreLives h.policy h.pages h.positions h.lives
 
 -- the policy and the sizes are those of before
 pub record SameSizes (old new : History) : Type 0 where
   pub policy : new.policy ≡ old.policy
+  pub pages : new.pages ≡ old.pages
   pub positions : new.positions ≡ old.positions
   pub heats : length new.heats ≡ length old.heats
   pub turns : length new.turns ≡ length old.turns

@@ -4,7 +4,7 @@ use Rattle.envy_base.specs.declared.shape.ShapeFault.{ShapeFault}
 use Rattle.envy_base.specs.declared.shape.ShapeFault.TheVariants.{Segments, Rows, Pages, Frames, Entries, Share, Total}
 use Rattle.envy_base.specs.Shape.{IsShape, checked as shape_checked}
 use Rattle.envy_policy.specs.declared.setup.Policy.{Policy}
-use Rattle.envy_policy.specs.declared.setup.Policy.TheVariants.{Greedy, Fifo, Locality, Hybrid}
+use Rattle.envy_policy.specs.declared.setup.Policy.TheVariants.{Greedy, Fifo, Locality, Hybrid, Lifetime}
 use Rattle.envy_policy.specs.declared.setup.Setup.{Setup}
 use Rattle.envy_policy.specs.declared.setup.SetupFault.{SetupFault}
 use Rattle.envy_policy.specs.declared.setup.SetupFault.TheVariants.{Shape as OfShape, Part, Limit, Mark}
@@ -15,6 +15,7 @@ run_of Greedy n = n
 run_of Fifo n = n
 run_of Locality n = 1
 run_of (Hybrid part) n = part
+run_of Lifetime n = n
 
 -- hybrid partitions of no position, or of more than there are
 abbrev pub fails_part : Policy → ℕ → Bool
@@ -22,6 +23,7 @@ fails_part Greedy n = false
 fails_part Fifo n = false
 fails_part Locality n = false
 fails_part (Hybrid part) n = part == 0 || nat_lt n part
+fails_part Lifetime n = false
 
 -- the shape's fault, or else what the other rules say
 abbrev pub shape_first : Result Unit ShapeFault → Result Unit SetupFault → Result Unit SetupFault

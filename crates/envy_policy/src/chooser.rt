@@ -1,57 +1,61 @@
-ghost use Rattle.std.specs.Prelude.{◌≡◌, ◌↔◌, ℕ, ◌+◌, ◌-◌, ◌/◌, ◌<◌, ◌≤◌, length, map, slice_index, IsTrue, IfOk, MatchOption};
+ghost use Rattle.std.specs.Prelude.{◌≡◌, ◌↔◌, ℕ, ◌+◌, ◌-◌, ◌<◌, ◌≤◌, length, map, slice_index, slice_set, IsTrue, IfOk, MatchOption};
 ghost use Rattle.std.specs.List.{range_with_len};
 ghost use Rattle.envy_policy.specs.Setup.{IsSetup};
-ghost use Rattle.envy_policy.specs.History.{IsHistory, run, started, flushed, cleaned, partition_of, first_of, end_of, last_in};
+ghost use Rattle.envy_policy.specs.History.{IsHistory, run, started, flushed, claimed, cleaned, partition_of, first_of, end_of, last_in};
 ghost use Rattle.envy_policy.specs.Choice.{IsChoice, IsWithin, IsLeast, IsNearest, IsUsable, HasRows, IsVictim, IsAside, steps};
 
+use crate::heats::Heats;
+use crate::lives::{note_claim, note_clean, reset, started};
 use crate::rows::{first_with, most};
-use crate::{Choice, Policy, Setup};
+use crate::{Choice, Lifetime, Policy, Setup};
 use envy_base::NoMemory;
 use std::alloc::Global;
 use std::marker::Model;
 
-/// Chooses the position that a page is written to, by heats and turns of the partitions.
+/// Chooses the position that a page is written to, by heats and turns of the partitions or by the lives of
+/// the pages' copies.
 #[derive(Drop)]
 pub struct Chooser {
     pub(crate) policy: Policy,
+    pages: u32,
     positions: u32,
-    heats: Vec<u32>,
+    heats: Heats,
     turns: Vec<u32>,
-    flushes: u32,
+    pub(crate) lives: Option<Lifetime>,
 }
-
-/// Flushes from one halving of all heats to the next.
-const HALVING: u32 = 1024;
 
 impl Model for Chooser {
     ghost use Rattle.envy_policy.specs.History.{History, IsHistory};
 
     ghost Value = { History };
 
-    ghost view = { λ a. record { policy = a.policy; positions = a.positions; heats = a.heats.items; turns = a.turns.items; flushes = a.flushes } };
+    ghost view = { λ a. record { policy = a.policy; pages = a.pages; positions = a.positions; heats = a.heats.heats; turns = a.turns.items; flushes = a.heats.flushes; lives = a.lives } };
 
-    ghost invariant = { λ a. IsHistory (record { policy = a.policy; positions = a.positions; heats = a.heats.items; turns = a.turns.items; flushes = a.flushes }) };
+    ghost invariant = { λ a. IsHistory (record { policy = a.policy; pages = a.pages; positions = a.positions; heats = a.heats.heats; turns = a.turns.items; flushes = a.heats.flushes; lives = a.lives }) };
 }
 
 impl Chooser {
-    /// No partition is warm, and each turn stands at its partition's last position.
+    /// No partition is warm, each turn stands at its partition's last position, and no life is noted. It takes
+    /// all memory that is ever needed: under `Lifetime` 8 bytes for each page more.
     pub fn new(alloc: Global, setup: &Setup) -> Result<Chooser, NoMemory>
         requires { IsSetup setup.now }
-        ensures { IfOk result (λ chooser. chooser ≡ started setup.now.policy (setup.now.shape.segments - 1)) }
+        ensures { IfOk result (λ chooser. chooser ≡ started setup.now.policy setup.now.shape.pages (setup.now.shape.segments - 1)) }
     {
         let policy = setup.policy;
         let positions = setup.shape.segments - 1;
         let run = policy.run(positions);
         let count = ((positions - 1) / run + 1) as usize;
-        let heats = vec![in alloc; 0; count]?;
+        let heats = Heats::new(alloc, count)?;
         let mut turns = vec![in alloc; 0; count]?;
         start_turns(&mut turns, positions, run);
+        let lives = started(alloc, setup)?;
         Ok(Chooser {
             policy,
+            pages: setup.shape.pages,
             positions,
             heats,
             turns,
-            flushes: 0,
+            lives,
         })
     }
 
@@ -83,31 +87,46 @@ impl Chooser {
         ensures { self.new ≡ flushed self.old position }
     {
         let partition = self.partition_of(position);
-        self.heats[partition as usize] += 1;
-        self.flushes += 1;
-        if self.flushes == HALVING {
-            self.flushes = 0;
-            halve(&mut self.heats);
-        }
+        self.heats.note(partition);
     }
 
-    /// Sets the turn of the position's partition to the position, whose cleaning has begun.
+    /// Notes that a row at a position was claimed for a flush of a page: as `note_flush`, and under `Lifetime`
+    /// in the page's life too.
+    pub fn note_claim(&mut self, position: u32, page: u32)
+        requires position { position < self.old.positions }
+        requires page { page < self.old.pages }
+        ensures { self.new ≡ claimed self.old position page }
+    {
+        self.note_flush(position);
+        note_claim(&mut self.lives, position, page);
+    }
+
+    /// Sets the turn of the position's partition to the position, whose cleaning has begun, and notes it under
+    /// `Lifetime`.
     pub fn note_clean(&mut self, position: u32)
         requires { position < self.old.positions }
         ensures { self.new ≡ cleaned self.old position }
+    {
+        self.set_turn(position);
+        note_clean(&mut self.lives, position);
+    }
+
+    fn set_turn(&mut self, position: u32)
+        requires { position < self.old.positions }
+        ensures { self.new ≡ record self.old { turns = slice_set self.old.turns (partition_of self.old position) position } }
     {
         let partition = self.partition_of(position);
         self.turns[partition as usize] = position;
     }
 
-    /// Makes heats, turns and the count of flushes as they were at the start.
+    /// Makes heats, turns, the count of flushes and lives as they were at the start.
     pub fn reset(&mut self)
-        ensures { self.new ≡ started self.old.policy self.old.positions }
+        ensures { self.new ≡ started self.old.policy self.old.pages self.old.positions }
     {
         let run = self.policy.run(self.positions);
-        self.heats.fill(0);
-        self.flushes = 0;
+        self.heats.reset();
         start_turns(&mut self.turns, self.positions, run);
+        reset(&mut self.lives);
     }
 
     /// The first position of a partition, and the one after its last.
@@ -137,7 +156,7 @@ impl Chooser {
         ensures value { result ≡ length self.now.heats }
         ensures whole { IsHistory self.now }
     {
-        self.heats.len() as u32
+        self.heats.count()
     }
 
     fn first_in(&self, rows: &[u32], partition: u32) -> Option<u32>
@@ -188,7 +207,7 @@ impl Chooser {
         requires some { (k : ℕ) × HasRows self.now dead.now partition k }
         ensures { IsVictim self.now.policy self.now dead.now partition result }
     {
-        if let Policy::Greedy = self.policy {
+        if let Policy::Greedy | Policy::Lifetime = self.policy {
             let (first, end) = self.bounds(partition);
             return most(dead, first, end);
         }
@@ -222,18 +241,15 @@ impl Chooser {
         requires partition { partition < length self.now.heats }
         ensures { IsAside self.now partition result }
     {
-        let count = self.heats.len() as u32;
-        let warmth: u32 = self.heats.iter().sum();
-        if count == 1 || self.heats[partition as usize] * count <= warmth {
+        let count = self.heats.count();
+        if count == 1 || self.heats.heat(partition) * count <= self.heats.sum() {
             return None;
         }
         if partition == 0 {
             return Some(1);
         }
         let below = partition - 1;
-        if partition + 1 == count
-            || self.heats[below as usize] <= self.heats[partition as usize + 1]
-        {
+        if partition + 1 == count || self.heats.heat(below) <= self.heats.heat(partition + 1) {
             return Some(below);
         }
         Some(partition + 1)
@@ -250,13 +266,5 @@ fn start_turns(turns: &mut [u32], positions: u32, run: u32)
 {
     for (g, turn) in turns.iter_mut().enumerate() {
         *turn = positions.min(g as u32 * run + run) - 1;
-    }
-}
-
-fn halve(heats: &mut [u32])
-    ensures { heats.new ≡ map (λ x. x / 2) heats.old }
-{
-    for heat in heats.iter_mut() {
-        *heat /= 2;
     }
 }

@@ -1,6 +1,6 @@
 ghost use Rattle.std.specs.Prelude.{◌≡◌, ◌≢◌, IsTrue, false, Some};
 ghost use Rattle.envy_policy.specs.declared.class.Class.{Class};
-ghost use Rattle.envy_policy.specs.Lifetime.{class_by, open_for, with_open};
+ghost use Rattle.envy_policy.specs.Notes.{class_by, open_for, with_open};
 
 /// How long the last copy of a page lived: by the flushes of other pages up to its next own.
 #[derive(Clone, Copy, Debug, PartialEq, Eq)]

@@ -1,7 +1,9 @@
 ghost use Rattle.std.specs.Prelude.{◌≡◌, ◌<◌, IfSome};
+ghost use Rattle.std.specs.Option.{option_copied};
 ghost use Rattle.envy_policy.specs.Deciding.{Nearer};
+ghost use Rattle.envy_policy.specs.History.{IsHistory};
 
-use crate::{Chooser, Policy};
+use crate::{Chooser, Lifetime, Policy};
 
 impl Chooser {
     /// How a position is chosen.
@@ -9,6 +11,14 @@ impl Chooser {
         ensures { result ≡ self.now.policy }
     {
         self.policy
+    }
+
+    /// What is noted of the lives of the pages' copies, under `Lifetime` alone.
+    pub fn lives(&self) -> Option<&Lifetime>
+        ensures lives { option_copied result ≡ self.now.lives }
+        ensures whole { IsHistory self.now }
+    {
+        self.lives.as_ref()
     }
 }
 

@@ -2,7 +2,7 @@ ghost use Rattle.std.specs.Prelude.{◌≡◌, ℕ, ◌+◌, ◌/◌, ◌<◌, �
 ghost use Rattle.envy_policy.specs.declared.choice.Choice.{Choice};
 ghost use Rattle.envy_policy.specs.declared.choice.Choice.TheVariants.{Free, Clean};
 ghost use Rattle.envy_policy.specs.declared.setup.Policy.TheVariants.{Greedy};
-ghost use Rattle.envy_policy.specs.History.{History, IsHistory, SameSizes, partition_of, flushed, cleaned};
+ghost use Rattle.envy_policy.specs.History.{History, IsHistory, SameSizes, partition_of, flushed, claimed, cleaned};
 ghost use Rattle.envy_policy.specs.Choice.{IsChoice, IsLeast, IsMost, IsWithin};
 
 /// Heats, turns, rows and home leave one choice.
@@ -42,8 +42,9 @@ pub fn a_choice_has_rows()
         → length free ≡ h.positions → length dead ≡ h.positions → IsChoice h free dead home choice → IsWithin h free dead choice }
 {}
 
-/// A flush or a cleaning that is noted changes heats and turns alone, and not how many there are.
+/// A flush or a cleaning that is noted changes heats, turns and lives alone, and not how many there are.
 pub fn notes_keep_the_sizes()
     ensures flushed { (h : History) (position : ℕ) → SameSizes h (flushed h position) }
+    ensures claimed { (h : History) (position page : ℕ) → SameSizes h (claimed h position page) }
     ensures cleaned { (h : History) (position : ℕ) → SameSizes h (cleaned h position) }
 {}

@@ -7,11 +7,13 @@ mod class;
 mod counted;
 mod deciding;
 mod fraction;
+mod heats;
 mod laws;
 mod lifetime;
 mod lifetime_laws;
 #[cfg(test)]
 mod lifetime_tests;
+mod lives;
 mod rows;
 mod setup;
 #[cfg(test)]

@@ -2,7 +2,8 @@ ghost use Rattle.std.specs.Prelude.{◌≡◌, ◌≢◌, ℕ, ◌+◌, ◌-◌,
 ghost use Rattle.envy_base.specs.Counting.{up};
 ghost use Rattle.envy_base.specs.Shape.{IsShape};
 ghost use Rattle.envy_policy.specs.declared.fraction.Fraction.{Fraction};
-ghost use Rattle.envy_policy.specs.Lifetime.{RowCounts, IsCounted, IsNotes, HasRoom, HasRowsFor, IsBeside, IsFresh, IsFull, IsLifetimeChoice, IsLowest, IsVictim, class_of, noted_clean, noted_flush, unnoted, worth, IsBestBelow, IsTaken};
+ghost use Rattle.envy_policy.specs.Lifetime.{RowCounts, IsCounted, HasRoom, HasRowsFor, IsBeside, IsFresh, IsFull, IsLifetimeChoice, IsLowest, IsVictim, worth, IsBestBelow, IsTaken};
+ghost use Rattle.envy_policy.specs.Notes.{IsNotes, class_of, noted_clean, noted_flush, unnoted};
 
 use crate::class::OpenPositions;
 use crate::counted::Listed;
@@ -26,7 +27,7 @@ pub struct Lifetime {
 }
 
 impl Model for Lifetime {
-    ghost use Rattle.envy_policy.specs.Lifetime.{Notes, IsNotes};
+    ghost use Rattle.envy_policy.specs.Notes.{Notes, IsNotes};
 
     ghost Value = { Notes };
 
@@ -86,7 +87,7 @@ impl Lifetime {
     }
 
     /// Chooses for a page by rows that are asked for one by one: where a row is free at the position that is
-    /// open for the page's class, or at one that is open for none, by at most seven questions, else by three for
+    /// open for the page's class, or at one that is open for none, by at most seven questions, else by four for
     /// each position.
     pub fn choose_among<R: Rows>(&self, rows: &R, page: u32) -> Choice
         requires rows { IsCounted (length self.now.cleaned) (R.counts rows.now) }

@@ -1,6 +1,7 @@
 ghost use Rattle.std.specs.Prelude.{◌≡◌, ℕ, ◌+◌, ◌<◌, length, slice_index};
 ghost use Rattle.envy_policy.specs.declared.choice.Choice.{Choice};
-ghost use Rattle.envy_policy.specs.Lifetime.{Notes, RowCounts, IsCounted, IsLifetimeChoice, HasRowsFor};
+ghost use Rattle.envy_policy.specs.Lifetime.{RowCounts, IsCounted, IsLifetimeChoice, HasRowsFor};
+ghost use Rattle.envy_policy.specs.Notes.{Notes};
 
 /// Whatever was noted, one of the four rules applies wherever some position has a free or a dead row.
 pub fn some_lifetime_rule_applies()

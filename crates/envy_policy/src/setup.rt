@@ -17,6 +17,8 @@ pub enum Policy {
     Locality,
     /// Partitions of so many positions, each cleaned in turn.
     Hybrid(u32),
+    /// One partition; pages whose copies live about as long lie together.
+    Lifetime,
 }
 
 /// What a memory is made with.
@@ -63,7 +65,7 @@ impl Policy {
         ensures { result ≡ run_of self.now positions }
     {
         match self {
-            Policy::Greedy | Policy::Fifo => positions,
+            Policy::Greedy | Policy::Fifo | Policy::Lifetime => positions,
             Policy::Locality => 1,
             Policy::Hybrid(part) => *part,
         }

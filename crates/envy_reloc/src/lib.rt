@@ -13,12 +13,6 @@ mod reloc;
 mod settle;
 mod step;
 mod switching;
-#[cfg(test)]
-mod tests;
-#[cfg(test)]
-mod tests_look;
-#[cfg(test)]
-mod tests_rig;
 
 pub use laws::{a_cleaning_leaves_room, writes_keep_the_plan};
 pub use reloc::Reloc;

@@ -3,7 +3,7 @@ use Rattle.std.proofs.Common.{◌≡◌, ◌⊎◌, inl, inr, ℕ, ◌<◌, ◌�
 use Rattle.std.specs.Option.{option_map}
 use Rattle.std.specs.Prelude.{IsTrue, Option, Result, Ok, Err}
 use Rattle.envy_args.specs.declared.command.Command.{Command}
-use Rattle.envy_args.specs.declared.command.Command.TheVariants.{Run, Plain, Tpca, Gen, Save, Resume, Audit, Index, Mirror}
+use Rattle.envy_args.specs.declared.command.Command.TheVariants.{Run, Plain, Tpca, Gen, Save, Resume, Audit, Segments, Index, Mirror}
 use Rattle.envy_args.specs.declared.command.WordsFault.{WordsFault}
 use Rattle.envy_args.specs.declared.command.WordsFault.TheVariants.{Memory}
 use Rattle.envy_args.specs.Words.{Text, command_of}
@@ -21,6 +21,8 @@ use Rattle.envy_serve.specs.Streams.{Streams}
 use Rattle.envy_serve.specs.Turns.{Turn}
 use Rattle.envy_serve.proofs.GoodTraces.{good-ends, still-written}
 use Rattle.envy_trace.specs.declared.fault.LineFault.TheVariants.{Long}
+use Rattle.envy_gen.specs.declared.mix.Mix.{Mix}
+use Rattle.envy_run.specs.Audits.{IsMap, IsVerdict}
 use Rattle.envy_run.specs.Complete.{HoldsImage, HoldsTrace, IsWell, IsWellInstalled, IsComplete, Completes}
 use Rattle.envy_run.specs.Done.{HasDied, DiesIn}
 use Rattle.envy_run.specs.Drives.{Breaks, Drives, Reports, report}
@@ -34,7 +36,7 @@ use Rattle.envy_run.specs.Runs.{IsAlone, Runs}
 use Rattle.envy_run.specs.Task.{Task, IsServed, DoesTask}
 use Rattle.envy_run.specs.Tracing.{long_any}
 use Rattle.envy_run.specs.Turns.{TraceTurn, trace_grammar}
-use Rattle.envy_run.proofs.Audited.{completes-audit, image-taken}
+use Rattle.envy_run.proofs.Audited.{completes-tells, image-taken}
 use Rattle.envy_run.proofs.MirrorWell.{completes-mirror}
 use Rattle.envy_run.proofs.Resumed.{good-behind, never-unruly, never-unsound}
 
@@ -103,12 +105,12 @@ completes-plain setup o io d good = at d.answers
     at (inl served) = inl (task-well (plain_task setup) d.turns o io long_any served good (λ never. never))
     at (inr (none, (quiet, out))) = inr (IsOutOfMemory.status out)
 
-completes-gen : (start count pages : ℕ) (o : Outcome) (io : Streams) → Generates start count pages o io → StaysLow io.to.faults io.sink.faults → IsComplete o
-completes-gen start count pages o io g low = at g.writes
+completes-gen : (start count : ℕ) (mix : Mix) (o : Outcome) (io : Streams) → Generates start count mix o io → StaysLow io.to.faults io.sink.faults → IsComplete o
+completes-gen start count mix o io g low = at g.writes
   where
-    at : WritesTrace (trace_bytes start count pages) o.status io.to io.sink → IsComplete o
+    at : WritesTrace (trace_bytes start count mix) o.status io.to io.sink → IsComplete o
     at (inl (done, written, flushed)) = inl done
-    at (inr (failed, front)) = absurd (still-written (trace_bytes start count pages) io.to io.to io.sink low (omega arith) front)
+    at (inr (failed, front)) = absurd (still-written (trace_bytes start count mix) io.to io.to io.sink low (omega arith) front)
 
 completes-tpca : (setup : Setup) (returns start : ℕ) (area : Area) (every : ℕ) (o : Outcome) (io : Streams) → Drives setup returns start area every o io → StaysLow io.to.faults io.sink.faults → IsWell o → IsComplete o
 completes-tpca setup returns start area every o io d low well = at d.ends
@@ -135,7 +137,7 @@ completes-resume setup returns o io (inl t) holds trace well = at (DoesTask.answ
         cause : IsOutOfMemory o ⊎ IsDark o → IsComplete o
         cause (inl out) = inr out.status
         cause (inr dark) = absurd (dark-off dark (well.returns dark.now dark.board_is))
-completes-resume setup returns o io (inr (inl (refusal, d))) holds trace well = inr (image-taken refusal returns o io holds well.installed d.refuses)
+completes-resume setup returns o io (inr (inl (refusal, d))) holds trace well = inr (image-taken refusal d.bytes returns o io holds well.installed d.refuses)
 completes-resume setup returns o io (inr (inr (inl b))) holds trace well = absurd (never-unruly setup returns o io holds trace b)
 completes-resume setup returns o io (inr (inr (inr u))) holds trace well = absurd (never-unsound setup returns o io holds trace u)
 
@@ -145,16 +147,18 @@ completes (Ok (Run setup returns)) o io (inl runs) = λ good well. completes-run
 completes (Ok (Run setup returns)) o io (inr without) = λ good well. inr (IsOutOfMemory.status (IsWithoutMemory.memory without))
 completes (Ok (Plain setup)) o io (inl calm) = λ good. completes-plain setup o io calm good
 completes (Ok (Plain setup)) o io (inr without) = λ good. inr (IsOutOfMemory.status (IsWithoutMemory.memory without))
-completes (Ok (Gen start count pages)) o io (inl generates) = λ low. completes-gen start count pages o io generates low
-completes (Ok (Gen start count pages)) o io (inr without) = λ low. inr (IsOutOfMemory.status (IsWithoutMemory.memory without))
+completes (Ok (Gen start count mix)) o io (inl generates) = λ low. completes-gen start count mix o io generates low
+completes (Ok (Gen start count mix)) o io (inr without) = λ low. inr (IsOutOfMemory.status (IsWithoutMemory.memory without))
 completes (Ok (Tpca setup returns start area every)) o io (inl drives) = λ low well. completes-tpca setup returns start area every o io drives low well
 completes (Ok (Tpca setup returns start area every)) o io (inr without) = λ low well. inr (IsOutOfMemory.status (IsWithoutMemory.memory without))
 completes (Ok (Save setup returns)) o io (inl saves) = λ good well. completes-save setup returns o io saves good well
 completes (Ok (Save setup returns)) o io (inr without) = λ good well. inr (IsOutOfMemory.status (IsWithoutMemory.memory without))
 completes (Ok (Resume policy limit mark returns)) o io (inl resumes) = λ holds trace well. completes-resume (setup_found policy limit mark) returns o io resumes holds trace well
 completes (Ok (Resume policy limit mark returns)) o io (inr without) = λ holds trace well. inr (IsOutOfMemory.status (IsWithoutMemory.memory without))
-completes (Ok Audit) o io (inl audits) = λ holds calm. completes-audit o io audits holds calm
+completes (Ok Audit) o io (inl audits) = λ holds calm. completes-tells IsVerdict o io audits holds calm
 completes (Ok Audit) o io (inr without) = λ holds calm. inr (IsOutOfMemory.status (IsWithoutMemory.memory without))
+completes (Ok Segments) o io (inl maps) = λ holds calm. completes-tells IsMap o io maps holds calm
+completes (Ok Segments) o io (inr without) = λ holds calm. inr (IsOutOfMemory.status (IsWithoutMemory.memory without))
 completes (Ok (Index setup returns)) o io (inl indexes) = λ good well. completes-index setup returns o io indexes good well
 completes (Ok (Index setup returns)) o io (inr without) = λ good well. inr (IsOutOfMemory.status (IsWithoutMemory.memory without))
 completes (Ok (Mirror setup returns)) o io (inl mirrors) = λ good well. completes-mirror setup returns o io mirrors good well
@@ -166,11 +170,12 @@ pub alone-mapped : {X Y : Type 0} (command : Command) (f : X → Y) (second : Op
 alone-mapped (Mirror setup returns) f second alone = tt
 alone-mapped (Run setup returns) f second alone = ap (option_map f) alone
 alone-mapped (Plain setup) f second alone = ap (option_map f) alone
-alone-mapped (Gen start count pages) f second alone = ap (option_map f) alone
+alone-mapped (Gen start count mix) f second alone = ap (option_map f) alone
 alone-mapped (Tpca setup returns start area every) f second alone = ap (option_map f) alone
 alone-mapped (Save setup returns) f second alone = ap (option_map f) alone
 alone-mapped (Resume policy limit mark returns) f second alone = ap (option_map f) alone
 alone-mapped Audit f second alone = ap (option_map f) alone
+alone-mapped Segments f second alone = ap (option_map f) alone
 alone-mapped (Index setup returns) f second alone = ap (option_map f) alone
 
 -- the command is that of the words

@@ -4,7 +4,7 @@ use Rattle.std.specs.Prelude.{IfSome, Option, None, Some, Result, Ok, Err, slice
 use Rattle.std.specs.Option.{option_map}
 use Rattle.std.proofs.lemmas.Bool.{cases_lt}
 use Rattle.envy_args.specs.declared.command.Command.{Command}
-use Rattle.envy_args.specs.declared.command.Command.TheVariants.{Run, Plain, Tpca, Gen, Save, Resume, Audit, Index, Mirror}
+use Rattle.envy_args.specs.declared.command.Command.TheVariants.{Run, Plain, Tpca, Gen, Save, Resume, Audit, Segments, Index, Mirror}
 use Rattle.envy_args.specs.declared.command.WordsFault.{WordsFault}
 use Rattle.envy_args.specs.declared.command.WordsFault.TheVariants.{Memory}
 use Rattle.envy_args.specs.Words.{Text, command_of}
@@ -81,6 +81,12 @@ module _ (setup : Setup) (returns start : ℕ) (area : Area) (every : ℕ) (firs
         sums = HasTold.sums told;
         adds_up = IsDriven.adds_up d;
         counts = counts-told _ (counts_of now.parts) now.chart (IsToldBefore.others (IsDriven.counts d)) (adds-up 0 setup returns first now b keeps.shape keeps.cuts keeps.tallies);
+        accesses = λ none_cut low_hits low_misses.
+            let first_cuts = keeps.cuts in
+            let none_hit = ap (λ (c : Counts). c.hits) (Began.counts b) in
+            let none_missed = ap (λ (c : Counts). c.misses) (Began.counts b) in
+            let e = IsDriven.accesses d (omega arith) (omega arith) low_hits low_misses in
+            omega arith;
         cuts = omega arith;
         plans = let exact = Rises.exact plans (omega arith) in omega arith;
         writes = HasTold.writes told;
@@ -175,10 +181,11 @@ tells-unserved : (command : Result Command WordsFault) (o : Outcome) (io : Strea
 tells-unserved (Ok (Tpca setup returns start area every)) o io u = inr u
 tells-unserved (Ok (Run setup returns)) o io u = tt
 tells-unserved (Ok (Plain setup)) o io u = tt
-tells-unserved (Ok (Gen start count pages)) o io u = tt
+tells-unserved (Ok (Gen start count mix)) o io u = tt
 tells-unserved (Ok (Save setup returns)) o io u = tt
 tells-unserved (Ok (Resume policy limit mark returns)) o io u = tt
 tells-unserved (Ok Audit) o io u = tt
+tells-unserved (Ok Segments) o io u = tt
 tells-unserved (Ok (Index setup returns)) o io u = tt
 tells-unserved (Ok (Mirror setup returns)) o io u = tt
 tells-unserved (Err fault) o io u = tt

@@ -1,6 +1,6 @@
 -- Images that are taken from a source, and boards that hold them.
-use Rattle.std.proofs.Common.{◌≡◌, inl, inr, ℕ, ◌+◌, ◌*◌, ◌<◌, ◌≤◌, List, [], ◌++◌, length, refl, sym, ◌∙◌, ap, subst, arith, length-append}
-use Rattle.std.specs.Prelude.{IsTrue, Ok, Option, None, Some, slice_index}
+use Rattle.std.proofs.Common.{◌≡◌, ◌≢◌, ◌⊎◌, inl, inr, ℕ, ◌+◌, ◌*◌, ◌<◌, ◌≤◌, List, [], ◌++◌, length, refl, sym, ◌∙◌, ap, subst, arith, length-append}
+use Rattle.std.specs.Prelude.{IsTrue, Ok, Err, Option, None, Some, Result, slice_index}
 use Rattle.std.specs.Option.{option_map}
 use Rattle.std.proofs.lemmas.List.{append-nil}
 use Rattle.envy_base.specs.Counting.{up}
@@ -9,23 +9,25 @@ use Rattle.envy_base.specs.State.{State, IsBoard, IsMade}
 use Rattle.envy_base.specs.declared.shape.Shape.{Shape}
 use Rattle.envy_audit.specs.Judging.{Judges}
 use Rattle.envy_audit.specs.declared.verdict.Verdict.{Verdict}
-use Rattle.envy_image.specs.Image.{head_of, body_of, image_of}
+use Rattle.envy_image.specs.Image.{mark, head_of, body_of, image_of}
 use Rattle.envy_image.specs.Reading.{Consumes, Ends}
 use Rattle.envy_image.specs.Installing.{Goes, Upsets, IsUpset, Installed, StopsAs, FailsInBody, body_size, count_after}
 use Rattle.envy_image.specs.declared.installing.InFault.TheVariants.{Short as InShort, Failed as InFailed, Spent as InSpent}
-use Rattle.envy_image.proofs.Backwards.{length-head}
+use Rattle.envy_image.proofs.Backwards.{fit-numbers, length-head, same-head}
 use Rattle.envy_io.specs.Streams.{Feed, Drain, with_front}
 use Rattle.envy_io.specs.Taking.{Taking}
 use Rattle.envy_io.proofs.Counts.{Rises-after}
 use Rattle.envy_io.proofs.TakesLemmas.{with_front-with_front}
-use Rattle.envy_map.specs.Fields.{chart}
-use Rattle.envy_run.specs.Audits.{Audits, audit_lives, verdict_line}
-use Rattle.envy_run.specs.Loading.{HasFailed, HasTaken, IsFlawless, IsInstalled, IsUnharmed, Loaded, ReachesBehindHead, RefusesImage, StopsBehindHead, StopsWithin, Unloaded, status_for, why_for}
+use Rattle.envy_map.specs.Fields.{Chart, chart}
+use Rattle.envy_serve.specs.Ends.{most_bytes}
+use Rattle.envy_run.specs.Audits.{Tells, audit_lives}
+use Rattle.envy_run.specs.Loading.{Cause, HasFailed, HasTaken, IsFlawless, IsInstalled, IsUnharmed, Loaded, ReachesBehindHead, RefusesImage, StopsBehindHead, StopsInHead, StopsWithin, Unloaded, status_for, why_for}
 use Rattle.envy_run.specs.Outcome.{outcome}
 use Rattle.envy_run.specs.Writing.{WritesTrace}
 use Rattle.envy_run.specs.declared.ended.Ended.{Ended}
 use Rattle.envy_run.specs.declared.loading.Refusal.{Refusal}
-use Rattle.envy_run.specs.declared.loading.Refusal.TheVariants.{Failed, Early, Memory, Upset}
+use Rattle.envy_run.specs.declared.loading.Refusal.TheVariants.{Failed, Memory, Early, Unmarked, Misshapen, Upset}
+use Rattle.envy_run.proofs.Checked.{shape-is}
 
 -- more bytes are taken behind those that were
 pub taken-more : (a b : List ℕ) (from feed to : Feed) (was now : Taking) → HasTaken a from was feed → Consumes was feed b now to → HasTaken (a ++ b) from now to
@@ -70,12 +72,13 @@ body-short sh s =
 
 -- memory ran out before a byte behind the head was taken
 pub memory-unmade : (sh : Shape) (returns : ℕ) (from feed : Feed) (was : Taking) → checked sh ≡ Ok tt → HasTaken (head_of sh) from was feed → Unloaded sh returns from None Memory was feed
-memory-unmade sh returns from feed was checks head = record { shape = tt; bytes = head_of sh; taken = head; cause = (sh, checks, refl, tt); unharmed = tt }
+memory-unmade sh returns from feed was checks head = record { shape = tt; bytes = head_of sh; head = ([], sym (append-nil (head_of sh))); taken = head; cause = (sh, checks, refl, tt); unharmed = tt }
 
 pub memory-made : (sh : Shape) (returns : ℕ) (from feed : Feed) (old : State) (was : Taking) → checked sh ≡ Ok tt → IsMade sh returns old → HasTaken (head_of sh) from was feed → Unloaded sh returns from (Some old) Memory was feed
 memory-made sh returns from feed old was checks made head = record {
   shape = made.shape;
   bytes = head_of sh;
+  head = ([], sym (append-nil (head_of sh)));
   taken = head;
   cause = (sh, checks, refl, record { shape = made.shape; flawless = record { on = made.on; cuts = made.cuts; bads = made.bads }; begun = made.begun; erases = made.erases });
   unharmed = record { given = made.given; lives = made.lives; pulled = made.pulled; plans = made.plans };
@@ -114,6 +117,7 @@ module _ (sh : Shape) (returns : ℕ) (from feed to : Feed) (old new : State) (w
       record {
         shape = went s.goes;
         bytes = head_of sh ++ s.bytes;
+        head = (s.bytes, refl);
         taken = taken;
         cause = (taken.dry s.stops, within s.goes s.bytes s.few);
         unharmed = unharmed-goes sh returns old new made s.goes;
@@ -125,6 +129,7 @@ module _ (sh : Shape) (returns : ℕ) (from feed to : Feed) (old new : State) (w
       record {
         shape = went s.goes;
         bytes = head_of sh ++ s.bytes;
+        head = (s.bytes, refl);
         taken = taken-ends (head_of sh) s.bytes from feed to was now head s.ends;
         cause = (Rises-after from.faults feed.faults to.faults head.faults rises, within s.goes s.bytes s.few);
         unharmed = unharmed-goes sh returns old new made s.goes;
@@ -155,6 +160,7 @@ module _ (sh : Shape) (returns : ℕ) (from feed to : Feed) (old new : State) (w
   upset-unloaded f = record {
     shape = upset-shape f;
     bytes = head_of sh ++ f.bytes;
+    head = (f.bytes, refl);
     taken = taken-more (head_of sh) f.bytes from feed to was now head f.read;
     cause = (chart new, refl, upset-reach f, upset-cause (Upsets.failed f.upset));
     unharmed = record {
@@ -199,21 +205,43 @@ module _ (sh : Shape) (returns : ℕ) (from feed to : Feed) (old new : State) (w
 pub installed-itself : (sh : Shape) (returns : ℕ) (s : State) → IsInstalled sh returns s → IsInstalled s.shape returns s
 installed-itself sh returns s i = subst (λ (x : Shape). IsInstalled x returns s) (sym i.shape) i
 
+no-stop : (bytes : List ℕ) → StopsInHead bytes → (sh : Shape) (rest : List ℕ) → bytes ≡ head_of sh ++ rest → ⊥
+no-stop bytes (inl short) sh rest is = omega (arith, ap length is, length-append (head_of sh) rest, length-head sh)
+no-stop bytes (inr (behind, marked, short)) sh rest is = omega (arith, ap length is, ap length marked, length-append mark behind, length-append (head_of sh) rest, length-head sh)
+
 -- no image was taken up
-pub image-refused : {B : Type 0} (state : B → State) (sh : Shape) (refusal : Refusal) (returns taken : ℕ) (board : Option B) (from feed : Feed) (sink : Drain) (now : Taking) → taken ≡ now.taken → Unloaded sh returns from (option_map state board) refusal now feed → RefusesImage refusal returns (outcome state (record { status = status_for refusal; why = why_for refusal; lines = 0; taken = taken; board = board; second = None })) (record { from = from; feed = feed; to = sink; sink = sink })
-image-refused {B} state sh refusal returns taken None from feed sink now same u = record { status = refl; why = refl; bytes = u.bytes; took = record { lines = refl; taken = same ∙ u.taken.taken; source = u.taken.left; sink = refl }; cause = u.cause; unharmed = u.unharmed }
-image-refused {B} state sh refusal returns taken (Some board) from feed sink now same u = record { status = refl; why = refl; bytes = u.bytes; took = record { lines = refl; taken = same ∙ u.taken.taken; source = u.taken.left; sink = refl }; cause = u.cause; unharmed = u.unharmed }
+pub image-refused : {B : Type 0} (state : B → State) (sh : Shape) (refusal : Refusal) (returns taken : ℕ) (board : Option B) (from feed : Feed) (sink : Drain) (now : Taking) → taken ≡ now.taken → (u : Unloaded sh returns from (option_map state board) refusal now feed) → RefusesImage refusal (Unloaded.bytes u) returns (outcome state (record { status = status_for refusal; why = why_for refusal; lines = 0; taken = taken; board = board; second = None })) (record { from = from; feed = feed; to = sink; sink = sink })
+image-refused {B} state sh refusal returns taken None from feed sink now same u = record { status = refl; why = refl; took = record { lines = refl; taken = same ∙ u.taken.taken; source = u.taken.left; sink = refl }; cause = u.cause; unharmed = u.unharmed }
+image-refused {B} state sh refusal returns taken (Some board) from feed sink now same u = record { status = refl; why = refl; took = record { lines = refl; taken = same ∙ u.taken.taken; source = u.taken.left; sink = refl }; cause = u.cause; unharmed = u.unharmed }
 
--- the word `audit`
+-- bytes that stop in the head, or don't begin with the mark, or tell a shape that doesn't check, hold no head that serves
+pub no-head : (refusal : Refusal) (bytes : List ℕ) (from feed : Feed) → refusal ≢ Memory → Cause refusal bytes None from feed → (sh : Shape) (rest : List ℕ) → bytes ≡ head_of sh ++ rest → checked sh ≡ Ok tt → ⊥
+no-head Failed bytes from feed other (rose, stops) sh rest is ok = no-stop bytes stops sh rest is
+no-head Memory bytes from feed other cause sh rest is ok = other refl
+no-head Early bytes from feed other (dry, stops) sh rest is ok = no-stop bytes stops sh rest is
+no-head Unmarked bytes from feed other (none, eight, unmarked) sh rest is ok = omega (arith, ap length is, length-append (head_of sh) rest, length-head sh)
+no-head Misshapen bytes from feed other (none, bad, fault, told, fails, fit) sh rest is ok =
+    let same : bad ≡ sh = same-head bad sh [] rest fit (fit-numbers sh (shape-is sh ok)) (append-nil (head_of bad) ∙ (sym told ∙ is)) in
+    let clash : Ok tt ≡ Err fault = sym ok ∙ (ap checked (sym same) ∙ fails) in
+    cc
+no-head Upset bytes from feed other (now, none, reach, failed) sh rest is ok = let clash : Option Chart = None in cc
 
-pub audit-refused : {B : Type 0} (state : B → State) (sh : Shape) (refusal : Refusal) (taken : ℕ) (board : Option B) (e : Ended B) (from feed : Feed) (sink : Drain) (now : Taking) → e ≡ record { status = status_for refusal; why = why_for refusal; lines = 0; taken = taken; board = board; second = None } → taken ≡ now.taken → Unloaded sh audit_lives from (option_map state board) refusal now feed → Audits (outcome state e) (record { from = from; feed = feed; to = sink; sink = sink })
-audit-refused {B} state sh refusal taken board e from feed sink now is same u =
-    subst (λ (x : Ended B). Audits (outcome state x) (record { from = from; feed = feed; to = sink; sink = sink })) (sym is)
-    (inr (refusal, image-refused state sh refusal audit_lives taken board from feed sink now same u))
+-- where no more was taken than may be, the end tells no more
+pub refused-within : {B : Type 0} {status why taken : ℕ} (e : Ended B) (board : Option B) (now : Taking) → e ≡ record { status = status; why = why; lines = 0; taken = taken; board = board; second = None }
+    → taken ≡ now.taken → now.taken ≤ now.cap → now.cap ≡ most_bytes → e.taken ≤ most_bytes
+refused-within {B} {status} {why} {taken} e board now is same below cap =
+    let told : e.taken ≡ taken = ap (λ (x : Ended B). x.taken) is in omega (arith, told, same, below, cap)
 
-pub audit-told : {B : Type 0} (state : B → State) (sh : Shape) (verdict : Verdict) (status taken : ℕ) (board : B) (e : Ended B) (from feed : Feed) (to sink : Drain) (now : Taking) → e ≡ record { status = status; why = 0; lines = 0; taken = taken; board = Some board; second = None } → taken ≡ now.taken → Loaded sh audit_lives from (state board) verdict now feed → WritesTrace (verdict_line verdict) status to sink → Audits (outcome state e) (record { from = from; feed = feed; to = to; sink = sink })
-audit-told {B} state sh verdict status taken board e from feed to sink now is same l writes =
-    subst (λ (x : Ended B). Audits (outcome state x) (record { from = from; feed = feed; to = to; sink = sink })) (sym is)
+-- the words `audit` and `map`
+
+pub tells-refused : {B : Type 0} (Says : Verdict → Chart → List ℕ → Type 0) (state : B → State) (sh : Shape) (refusal : Refusal) (taken : ℕ) (board : Option B) (e : Ended B) (from feed : Feed) (sink : Drain) (now : Taking) → e ≡ record { status = status_for refusal; why = why_for refusal; lines = 0; taken = taken; board = board; second = None } → taken ≡ now.taken → Unloaded sh audit_lives from (option_map state board) refusal now feed → Tells Says (outcome state e) (record { from = from; feed = feed; to = sink; sink = sink })
+tells-refused {B} Says state sh refusal taken board e from feed sink now is same u =
+    subst (λ (x : Ended B). Tells Says (outcome state x) (record { from = from; feed = feed; to = sink; sink = sink })) (sym is)
+    (inr (refusal, u.bytes, image-refused state sh refusal audit_lives taken board from feed sink now same u))
+
+pub tells-judged : {B : Type 0} (Says : Verdict → Chart → List ℕ → Type 0) (state : B → State) (sh : Shape) (verdict : Verdict) (text : List ℕ) (status taken : ℕ) (board : B) (e : Ended B) (from feed : Feed) (to sink : Drain) (now : Taking) → e ≡ record { status = status; why = 0; lines = 0; taken = taken; board = Some board; second = None } → taken ≡ now.taken → Loaded sh audit_lives from (state board) verdict now feed → Says verdict (chart (state board)) text → WritesTrace text status to sink → Tells Says (outcome state e) (record { from = from; feed = feed; to = to; sink = sink })
+tells-judged {B} Says state sh verdict text status taken board e from feed to sink now is same l says writes =
+    subst (λ (x : Ended B). Tells Says (outcome state x) (record { from = from; feed = feed; to = to; sink = sink })) (sym is)
     (inl (record {
       found = state board;
       installed = installed-itself sh audit_lives (state board) l.installed;
@@ -224,6 +252,8 @@ audit-told {B} state sh verdict status taken board e from feed to sink now is sa
       lines = refl;
       verdict = verdict;
       judges = l.judges;
+      text = text;
+      says = says;
       writes = writes;
       why = refl;
     }))

@@ -26,7 +26,8 @@ use Rattle.envy_serve.proofs.Advancing.{Serves-as, served-either}
 use Rattle.envy_run.specs.declared.ended.Ended.{Ended}
 use Rattle.envy_run.specs.declared.prepare.Unready.{Unready}
 use Rattle.envy_run.specs.declared.prepare.Unready.TheVariants.{Memory, Bad, Dead}
-use Rattle.envy_run.specs.MirrorTask.{OnBoards, IsMadeFor, MirrorLicences, IsMirrorUnserved, mirror_task, status_of_unready}
+use Rattle.envy_run.specs.Loading.{IsFlawless, IsNew, IsUnharmed}
+use Rattle.envy_run.specs.MirrorTask.{OnBoards, IsAsMade, IsMadeFor, MirrorLicences, IsMirrorUnserved, mirror_task, status_of_unready}
 use Rattle.envy_run.specs.Outcome.{Outcome, outcome, status_of, why_of}
 use Rattle.envy_run.specs.Prepares.{IsPrepared, IsReady, Unprepared}
 use Rattle.envy_run.specs.Task.{DoesTask}
@@ -51,15 +52,28 @@ licences-of : (setup : Setup) (returns : ℕ) (o : Outcome) (turns : List Mirror
 licences-of setup returns o turns first second e f made made_second licences = record {
   first = subst (λ (b : Option Chart). IfSome b (IsMadeFor setup returns)) (sym e) made;
   second = subst (λ (b : Option Chart). IfSome b (IsMadeFor setup returns)) (sym f) made_second;
+  alone = λ none. absurd (let clash : None ≡ Some second = sym none ∙ f in let never : Option Chart = None in cc);
   both = λ boards is is_second.
       let same : first ≡ boards.first = ap (λ (b : Option Chart). unwrap_or b first) (sym e ∙ is) in
       let same_second : second ≡ boards.second = ap (λ (b : Option Chart). unwrap_or b second) (sym f ∙ is_second) in
       subst (λ (c : Chart). PairLicences turns (record { first = c; second = boards.second })) same (subst (λ (c : Chart). PairLicences turns (record { first = first; second = c })) same_second licences);
 }
 
-licences-alone : (setup : Setup) (returns : ℕ) (o : Outcome) → IfSome o.board (IsMadeFor setup returns) → o.second ≡ None → MirrorLicences setup returns o []
-licences-alone setup returns o made none = record {
-  first = made;
+-- what is said of a board that is as it was made
+made-of : (setup : Setup) (returns : ℕ) (board : Option Chart) → IfSome board (IsAsMade setup returns) → IfSome board (IsMadeFor setup returns) × IfSome board (λ now. IsTrue now.on)
+made-of setup returns None as_made = (tt, tt)
+made-of setup returns (Some now) (new, unharmed) = (record { shape = IsNew.shape new; given = IsUnharmed.given unharmed }, IsFlawless.on (IsNew.flawless new))
+
+pub as-made : (setup : Setup) (returns : ℕ) (s : State) → IsMade setup.shape returns s → IsAsMade setup returns (chart s)
+as-made setup returns s m = (
+  record { shape = m.shape; flawless = record { on = m.on; cuts = m.cuts; bads = m.bads }; begun = m.begun; erases = m.erases },
+  record { given = m.given; lives = m.lives; pulled = m.pulled; plans = m.plans },
+)
+
+licences-alone : (setup : Setup) (returns : ℕ) (o : Outcome) → IfSome o.board (IsAsMade setup returns) → o.second ≡ None → MirrorLicences setup returns o []
+licences-alone setup returns o as_made none = record {
+  first = (made-of setup returns o.board as_made).0;
+  alone = λ still_none. as_made;
   second = subst (λ (b : Option Chart). IfSome b (IsMadeFor setup returns)) (sym none) tt;
   both = λ boards is is_second. absurd (let clash : None ≡ Some boards.second = sym none ∙ is_second in let never : Option Chart = None in cc);
 }
@@ -71,10 +85,10 @@ mirror-quiet {B} state setup returns e f feed sink is unserved licences =
     (record { turns = []; answers = inr (refl, unserved); licences = licences })
 
 -- no board, or the first alone, was made
-pub mirror-unmade : {B : Type 0} (state : B → State) (setup : Setup) (returns : ℕ) (board : Option B) (e : Ended B) (feed : Feed) (sink : Drain) → e ≡ record { status = 8; why = 0; lines = 0; taken = 0; board = board; second = None } → IfSome (option_map (λ b. chart (state b)) board) (IsMadeFor setup returns) → IfSome (option_map (λ b. chart (state b)) board) (λ now. IsTrue now.on) → DoesTask (mirror_task setup returns) (outcome state e) (record { from = feed; feed = feed; to = sink; sink = sink })
-mirror-unmade {B} state setup returns board e feed sink is made on =
+pub mirror-unmade : {B : Type 0} (state : B → State) (setup : Setup) (returns : ℕ) (board : Option B) (e : Ended B) (feed : Feed) (sink : Drain) → e ≡ record { status = 8; why = 0; lines = 0; taken = 0; board = board; second = None } → IfSome (option_map (λ b. chart (state b)) board) (IsAsMade setup returns) → DoesTask (mirror_task setup returns) (outcome state e) (record { from = feed; feed = feed; to = sink; sink = sink })
+mirror-unmade {B} state setup returns board e feed sink is as_made =
     let f : Ended B = record { status = 8; why = 0; lines = 0; taken = 0; board = board; second = None } in
-    mirror-quiet state setup returns e f feed sink is (record { lines = refl; taken = refl; source = refl; sink = refl }, inl (record { status = refl; why = refl; first = on; second = tt })) (licences-alone setup returns (outcome state f) made refl)
+    mirror-quiet state setup returns e f feed sink is (record { lines = refl; taken = refl; source = refl; sink = refl }, inl (record { status = refl; why = refl; first = (made-of setup returns (option_map (λ b. chart (state b)) board) as_made).1; second = tt })) (licences-alone setup returns (outcome state f) as_made refl)
 
 abbrev pub two_boards : {B : Type 0} → ℕ → B → B → Ended B
 two_boards status one two = record { status = status; why = 0; lines = 0; taken = 0; board = Some one; second = Some two }

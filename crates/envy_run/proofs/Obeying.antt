@@ -72,7 +72,7 @@ no-power (BadLine k g) call = (refl, refl)
 no-power StatLine call = (refl, refl)
 
 -- where power is on, the answer isn't `lost`
-answered : (May : Counts → Type 0) (m : Array) (line : Line) (reply : Reply) (c : Chart) → IsTrue c.on → AnswersTo May m line reply c → (n : Array) × Replies May m line reply n × Stands c n
+pub answered : (May : Counts → Type 0) (m : Array) (line : Line) (reply : Reply) (c : Chart) → IsTrue c.on → AnswersTo May m line reply c → (n : Array) × Replies May m line reply n × Stands c n
 answered May m line (Word w) c on a = a
 answered May m line Said c on a = a
 answered May m line (Started t) c on a = a

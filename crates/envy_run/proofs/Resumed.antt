@@ -34,7 +34,7 @@ use Rattle.envy_serve.proofs.GoodTraces.{front-taken}
 use Rattle.envy_run.specs.Attached.{IsUntouched, KeepsImage, IsAttached}
 use Rattle.envy_run.specs.Complete.{HoldsImage, HoldsTrace}
 use Rattle.envy_run.specs.Done.{Start, HasDone, HasDied, OnBoard}
-use Rattle.envy_run.specs.Loading.{HasTaken, IsInstalled, Loaded, TookOnly, Unloaded, status_for, why_for}
+use Rattle.envy_run.specs.Loading.{HasTaken, IsInstalled, Loaded, TakesHead, TookOnly, Unloaded, status_for, why_for}
 use Rattle.envy_run.specs.Outcome.{Outcome, outcome, status_of, why_of}
 use Rattle.envy_run.specs.Resumes.{BreaksRule, IsUnattached, IsUnsound, Resumes, TakesUp, resume_task, words_found}
 use Rattle.envy_run.specs.Task.{DoesTask, IsServed}
@@ -44,7 +44,7 @@ use Rattle.envy_run.specs.Unserved.{IsDark, IsOutOfMemory}
 use Rattle.envy_run.specs.declared.ended.Ended.{Ended}
 use Rattle.envy_run.specs.declared.loading.Refusal.{Refusal}
 use Rattle.envy_run.proofs.Checked.{shape-is}
-use Rattle.envy_run.proofs.Loaded.{image-refused, installed-itself}
+use Rattle.envy_run.proofs.Loaded.{image-refused, installed-itself, no-head}
 use Rattle.envy_run.proofs.Traced.{Began, licences-behind, ones-sum, thrifty-none, traced-first}
 
 -- a memory that was attached to the board of an image
@@ -175,14 +175,30 @@ unsound (Broken x) s board other judges sound = judges.fails (sound-points s boa
 
 -- the ends of `resume` without a trace
 
-pub resume-declined : {B : Type 0} (state : B → State) (words : Shape → Setup) (sh : Shape) (refusal : Refusal) (returns taken : ℕ) (board : Option B) (e : Ended B) (from feed : Feed) (sink : Drain) (now : Taking) → e ≡ record { status = status_for refusal; why = why_for refusal; lines = 0; taken = taken; board = board; second = None } → taken ≡ now.taken → checked (words sh) ≡ Ok tt → Unloaded sh returns from (option_map state board) refusal now feed → Resumes words returns (outcome state e) (record { from = from; feed = feed; to = sink; sink = sink })
-resume-declined {B} state words sh refusal returns taken board e from feed sink now is same checks u =
+pub resume-declined : {B : Type 0} (state : B → State) (words : Shape → Setup) (sh : Shape) (refusal : Refusal) (returns taken : ℕ) (board : Option B) (e : Ended B) (from feed : Feed) (sink : Drain) (now : Taking) → e ≡ record { status = status_for refusal; why = why_for refusal; lines = 0; taken = taken; board = board; second = None } → taken ≡ now.taken → shape_checked sh ≡ Ok tt → checked (words sh) ≡ Ok tt → Unloaded sh returns from (option_map state board) refusal now feed → Resumes words returns (outcome state e) (record { from = from; feed = feed; to = sink; sink = sink })
+resume-declined {B} state words sh refusal returns taken board e from feed sink now is same shape checks u =
     subst (λ (x : Ended B). Resumes words returns (outcome state x) (record { from = from; feed = feed; to = sink; sink = sink })) (sym is)
-    (inr (inl (refusal, record { refuses = image-refused state sh refusal returns taken board from feed sink now same u; rules = at board u.shape })))
-  where
-    at : (b : Option B) → IfSome (option_map state b) (λ s. s.shape ≡ sh) → IfSome (option_map (λ x. chart (state x)) b) (λ c. checked (words c.shape) ≡ Ok tt)
-    at None same_shape = tt
-    at (Some b) same_shape = subst (λ (x : Shape). checked (words x) ≡ Ok tt) (sym same_shape) checks
+    (inr (inl (
+      refusal,
+      record {
+        bytes = u.bytes;
+        refuses = image-refused state sh refusal returns taken board from feed sink now same u;
+        rules = λ other rest told ok. subst (λ (x : Shape). checked (words x) ≡ Ok tt) (same-head sh other u.head.0 rest (fit-numbers sh (shape-is sh shape)) (fit-numbers other (shape-is other ok)) (sym u.head.1 ∙ told)) checks;
+      },
+    )))
+
+-- the head itself wasn't read
+pub resume-headless : {B : Type 0} (state : B → State) (words : Shape → Setup) (refusal : Refusal) (returns taken : ℕ) (e : Ended B) (from feed : Feed) (sink : Drain) (now : Taking) → e ≡ record { status = status_for refusal; why = why_for refusal; lines = 0; taken = taken; board = None; second = None } → taken ≡ now.taken → TakesHead from (Err refusal) now feed → Resumes words returns (outcome state e) (record { from = from; feed = feed; to = sink; sink = sink })
+resume-headless {B} state words refusal returns taken e from feed sink now is same (bytes, t, cause, other) =
+    subst (λ (x : Ended B). Resumes words returns (outcome state x) (record { from = from; feed = feed; to = sink; sink = sink })) (sym is)
+    (inr (inl (
+      refusal,
+      record {
+        bytes = bytes;
+        refuses = record { status = refl; why = refl; took = record { lines = refl; taken = same ∙ t.taken; source = t.left; sink = refl }; cause = cause; unharmed = tt };
+        rules = λ sh rest told ok. absurd (no-head refusal bytes from feed other cause sh rest told ok);
+      },
+    )))
 
 pub resume-unruly : {B : Type 0} (state : B → State) (words : Shape → Setup) (setup : Setup) (sh : Shape) (returns taken : ℕ) (e : Ended B) (from feed : Feed) (sink : Drain) (now : Taking) → e ≡ record { status = 10; why = 4; lines = 0; taken = taken; board = None; second = None } → taken ≡ now.taken → setup ≡ words sh → IsErr (checked setup) → shape_checked sh ≡ Ok tt → HasTaken (head_of sh) from now feed → Resumes words returns (outcome state e) (record { from = from; feed = feed; to = sink; sink = sink })
 resume-unruly {B} state words setup sh returns taken e from feed sink now is same found fails shape t =

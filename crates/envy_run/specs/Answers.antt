@@ -21,6 +21,14 @@ IsCall (Cut k g) = 1 ≤ k
 IsCall (Bad k g) = 1 ≤ k
 IsCall line = ⊤
 
+-- and plans no failure
+abbrev pub IsBoardCall : Line → Type 0
+IsBoardCall Empty = ⊥
+IsBoardCall Power = ⊥
+IsBoardCall (Cut k g) = ⊥
+IsBoardCall (Bad k g) = ⊥
+IsBoardCall line = ⊤
+
 -- or it says that power is cut, or nothing
 abbrev pub IsServed : Line → Type 0
 IsServed Empty = ⊤

@@ -1,4 +1,4 @@
--- The word `audit`: the verdict on the image that the source begins with.
+-- The words `audit` and `map`: the verdict on the image that the source begins with, and its segments.
 use Rattle.std.specs.Prelude.{◌≡◌, ◌⊎◌, ℕ, List, [], ◌∷◌, ◌++◌, length, Some, codes}
 use Rattle.envy_audit.specs.Judging.{Judges}
 use Rattle.envy_audit.specs.declared.verdict.Rule.{Rule}
@@ -9,7 +9,8 @@ use Rattle.envy_base.specs.State.{State}
 use Rattle.envy_image.specs.Image.{image_of}
 use Rattle.envy_io.specs.Lines.{newline}
 use Rattle.envy_io.specs.Streams.{with_front}
-use Rattle.envy_map.specs.Fields.{chart}
+use Rattle.envy_map.specs.Fields.{Chart, chart}
+use Rattle.envy_segments.specs.Segments.{TellsSegments}
 use Rattle.envy_serve.specs.Streams.{Streams}
 use Rattle.envy_run.specs.Loading.{IsInstalled, RefusesImage}
 use Rattle.envy_run.specs.Outcome.{Outcome}
@@ -43,9 +44,19 @@ verdict_line verdict = verdict_text verdict ++ newline ∷ []
 abbrev pub audit_lives : ℕ
 audit_lives = 4294967295
 
--- The bytes taken are the image of a board, which is handed back as installing left it, and the verdict on it is
+-- what `audit` writes of a board with this verdict
+abbrev pub IsVerdict : Verdict → Chart → List ℕ → Type 0
+IsVerdict verdict c text = text ≡ verdict_line verdict
+
+-- what `map` writes: its segments, or the verdict where it isn't sound
+abbrev pub IsMap : Verdict → Chart → List ℕ → Type 0
+IsMap Sound c text = TellsSegments c text
+IsMap Unformatted c text = text ≡ verdict_line Unformatted
+IsMap (Broken rule) c text = text ≡ verdict_line (Broken rule)
+
+-- The bytes taken are the image of a board, which is handed back as installing left it, and what is to be said of it is
 -- written; no line is read.
-pub record Judged (o : Outcome) (io : Streams) : Type 0 where
+pub record Judged (Says : Verdict → Chart → List ℕ → Type 0) (o : Outcome) (io : Streams) : Type 0 where
   pub found : State
   pub installed : IsInstalled found.shape audit_lives found
   pub board : o.board ≡ Some (chart found)
@@ -55,8 +66,17 @@ pub record Judged (o : Outcome) (io : Streams) : Type 0 where
   pub lines : o.lines ≡ 0
   pub verdict : Verdict
   pub judges : Judges verdict (chart found)
-  pub writes : WritesTrace (verdict_line verdict) o.status io.to io.sink
+  pub text : List ℕ
+  pub says : Says verdict (chart found) text
+  pub writes : WritesTrace text o.status io.to io.sink
   pub why : o.why ≡ 0
 
+-- or there is no such board
+abbrev pub Tells : (Verdict → Chart → List ℕ → Type 0) → Outcome → Streams → Type 0
+Tells Says o io = Judged Says o io ⊎ ((refusal : Refusal) × (bytes : List ℕ) × RefusesImage refusal bytes audit_lives o io)
+
 abbrev pub Audits : Outcome → Streams → Type 0
-Audits o io = Judged o io ⊎ ((refusal : Refusal) × RefusesImage refusal audit_lives o io)
+Audits o io = Tells IsVerdict o io
+
+abbrev pub Maps : Outcome → Streams → Type 0
+Maps o io = Tells IsMap o io

@@ -1,7 +1,7 @@
 -- A command for which all goes well is done to its end, or memory runs out.
 use Rattle.std.specs.Prelude.{◌≡◌, ◌⊎◌, ℕ, ◌<◌, IsTrue, ⊤, List, ◌++◌, length, Some, Result, Ok}
 use Rattle.envy_args.specs.declared.command.Command.{Command}
-use Rattle.envy_args.specs.declared.command.Command.TheVariants.{Run, Plain, Tpca, Gen, Save, Resume, Audit, Index, Mirror}
+use Rattle.envy_args.specs.declared.command.Command.TheVariants.{Run, Plain, Tpca, Gen, Save, Resume, Audit, Segments, Index, Mirror}
 use Rattle.envy_args.specs.declared.command.WordsFault.{WordsFault}
 use Rattle.envy_audit.specs.Judging.{Judges}
 use Rattle.envy_audit.specs.declared.verdict.Verdict.TheVariants.{Sound}
@@ -57,10 +57,11 @@ abbrev pub Completes : Result Command WordsFault → Outcome → Streams → Typ
 Completes (Ok (Run setup returns)) o io = IsGoodTrace trace_grammar 0 io → IsWell o → IsComplete o
 Completes (Ok (Plain setup)) o io = IsGoodTrace trace_grammar 0 io → IsComplete o
 Completes (Ok (Index setup returns)) o io = IsGoodTrace index_grammar 0 io → IsWell o → IsComplete o
-Completes (Ok (Gen start count pages)) o io = StaysLow io.to.faults io.sink.faults → IsComplete o
+Completes (Ok (Gen start count mix)) o io = StaysLow io.to.faults io.sink.faults → IsComplete o
 Completes (Ok (Tpca setup returns start area every)) o io = StaysLow io.to.faults io.sink.faults → IsWell o → IsComplete o
 Completes (Ok (Save setup returns)) o io = IsGoodTrace trace_grammar 0 io → IsWell o → IsComplete o
 Completes (Ok (Resume policy limit mark returns)) o io = (holds : HoldsImage io) → HoldsTrace (setup_found policy limit mark) io holds → IsWellInstalled o → IsComplete o
 Completes (Ok Audit) o io = HoldsImage io → NeverFailed o → IsComplete o
+Completes (Ok Segments) o io = HoldsImage io → NeverFailed o → IsComplete o
 Completes (Ok (Mirror setup returns)) o io = IsGoodTrace mirror_grammar 0 io → AreWell o → IsComplete o ⊎ HasDiedOut o
 Completes command o io = ⊤

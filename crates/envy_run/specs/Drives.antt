@@ -16,10 +16,10 @@ use Rattle.envy_policy.specs.declared.setup.Setup.{Setup}
 use Rattle.envy_report.specs.Stat.{stat_bytes}
 use Rattle.envy_serve.specs.Streams.{Streams}
 use Rattle.envy_tpca.specs.declared.sums.Sums.{Sums}
-use Rattle.envy_tpca.specs.Driving.{AddsUp, plans_in}
+use Rattle.envy_tpca.specs.Driving.{AddsUp, accesses_of, plans_in}
 use Rattle.envy_tpca.specs.Load.{Draws, seeded}
 use Rattle.envy_tpca.specs.Tpc.{Tpc}
-use Rattle.envy_run.specs.Counters.{AddsUp as CountsAddUp}
+use Rattle.envy_run.specs.Counters.{AddsUp as CountsAddUp, IsLow}
 use Rattle.envy_run.specs.Outcome.{Outcome}
 use Rattle.envy_run.specs.Unserved.{IsUnserved}
 use Rattle.envy_run.specs.Writing.{WritesTrace}
@@ -50,7 +50,8 @@ abbrev pub load_of : ℕ → Area → Draws
 load_of start area = record { branches = area.branches; accounts = area.accounts; words = seeded start }
 
 -- All transfers are done, and no slot is open. The report tells their sums, and what the board counts: flushes, copies
--- and moves add up to the programs that began. Power returned no more often than it could, formatting included. The report
+-- and moves add up to the programs that began. Where power never failed, hits and misses add up to the loads and puts of
+-- the transfers, eleven for each. Power returned no more often than it could, formatting included. The report
 -- is written whole and the sink is flushed, or the sink failed behind a front of it.
 pub record Reports (setup : Setup) (returns start : ℕ) (area : Area) (every : ℕ) (o : Outcome) (io : Streams) : Type 0 where
   pub now : Chart
@@ -60,6 +61,7 @@ pub record Reports (setup : Setup) (returns start : ℕ) (area : Area) (every : 
   pub sums : Sums
   pub adds_up : AddsUp area (load_of start area) sums
   pub counts : CountsAddUp 0 sums.counts now
+  pub accesses : now.cuts ≡ 0 → IsLow sums.counts.hits → IsLow sums.counts.misses → sums.counts.hits + sums.counts.misses ≡ accesses_of area
   pub cuts : sums.cuts + now.lives ≤ returns
   pub plans : now.plans ≡ plans_in every area.transfers
   pub writes : WritesTrace (report area sums) o.status io.to io.sink

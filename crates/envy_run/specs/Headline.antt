@@ -3,7 +3,7 @@ use Rattle.std.specs.Prelude.{◌≡◌, ◌⊎◌, ℕ, ◌+◌, ◌≤◌, Lis
 use Rattle.std.specs.String.{string_bytes}
 use Rattle.std.specs.declared.string.String.{String}
 use Rattle.envy_args.specs.declared.command.Command.{Command}
-use Rattle.envy_args.specs.declared.command.Command.TheVariants.{Run, Plain, Tpca, Gen, Save, Resume, Audit, Index, Mirror}
+use Rattle.envy_args.specs.declared.command.Command.TheVariants.{Run, Plain, Tpca, Gen, Save, Resume, Audit, Segments, Index, Mirror}
 use Rattle.envy_args.specs.declared.command.WordsFault.{WordsFault}
 use Rattle.envy_args.specs.declared.command.WordsFault.TheVariants.{Form, Setup as Rule, Memory}
 use Rattle.envy_args.specs.Words.{command_of}
@@ -12,6 +12,7 @@ use Rattle.envy_base.specs.State.{State}
 use Rattle.envy_btree.specs.declared.line.IndexLine.{IndexLine}
 use Rattle.envy_btree.specs.declared.reply.IndexReply.{IndexReply}
 use Rattle.envy_gen.specs.Traces.{trace_bytes}
+use Rattle.envy_gen.specs.declared.mix.Mix.{Mix}
 use Rattle.envy_image.specs.Image.{image_of}
 use Rattle.envy_map.specs.Fields.{Chart}
 use Rattle.envy_policy.specs.declared.setup.Setup.{Setup}
@@ -20,7 +21,7 @@ use Rattle.envy_trace.specs.declared.reply.Reply.{Reply}
 use Rattle.envy_serve.specs.Grammar.{silent}
 use Rattle.envy_serve.specs.Streams.{Streams}
 use Rattle.envy_serve.specs.Turns.{count_lines, count_replies}
-use Rattle.envy_run.specs.Audits.{Audits}
+use Rattle.envy_run.specs.Audits.{Audits, Maps}
 use Rattle.envy_run.specs.Counters.{AddsUp, just_told}
 use Rattle.envy_run.specs.Calm.{HasDoneCalmly, NeverDies}
 use Rattle.envy_run.specs.Done.{HasDone, HasDied}
@@ -116,8 +117,8 @@ pub record IsWithoutMemory (o : Outcome) (io : Streams) : Type 0 where
   pub board_none : o.board ≡ None
 
 -- the word `gen`: no board, and nothing is read
-pub record Generates (start count pages : ℕ) (o : Outcome) (io : Streams) : Type 0 where
-  pub writes : WritesTrace (trace_bytes start count pages) o.status io.to io.sink
+pub record Generates (start count : ℕ) (mix : Mix) (o : Outcome) (io : Streams) : Type 0 where
+  pub writes : WritesTrace (trace_bytes start count mix) o.status io.to io.sink
   pub why : o.why ≡ 0
   pub lines : o.lines ≡ 0
   pub taken : o.taken ≡ 0
@@ -133,11 +134,12 @@ pub record Refuses (why : ℕ) (o : Outcome) (io : Streams) : Type 0 where
 abbrev pub DoesCommand : Result Command WordsFault → Outcome → Streams → Type 0
 DoesCommand (Ok (Run setup returns)) o io = DoesTask (run_task setup returns) o io
 DoesCommand (Ok (Plain setup)) o io = DoesTask (plain_task setup) o io
-DoesCommand (Ok (Gen start count pages)) o io = Generates start count pages o io
+DoesCommand (Ok (Gen start count mix)) o io = Generates start count mix o io
 DoesCommand (Ok (Tpca setup returns start area every)) o io = Drives setup returns start area every o io
 DoesCommand (Ok (Save setup returns)) o io = DoesTask (save_task setup returns) o io
 DoesCommand (Ok (Resume policy limit mark returns)) o io = Resumes (setup_found policy limit mark) returns o io
 DoesCommand (Ok Audit) o io = Audits o io
+DoesCommand (Ok Segments) o io = Maps o io
 DoesCommand (Ok (Index setup returns)) o io = DoesTask (index_task setup returns) o io
 DoesCommand (Ok (Mirror setup returns)) o io = DoesTask (mirror_task setup returns) o io
 DoesCommand (Err Form) o io = Refuses 0 o io

@@ -84,10 +84,10 @@ pub record IsUnharmed (returns : ℕ) (c : Chart) : Type 0 where
   pub pulled : c.pulled ≡ 0
   pub plans : c.plans ≡ 0
 
--- the head is read, and its shape checks
+-- the head is read, and its shape checks; no memory is needed for it
 abbrev pub TakesHead : Feed → Result Shape Refusal → Taking → Feed → Type 0
 TakesHead from (Ok sh) now feed = HasTaken (head_of sh) from now feed × (checked sh ≡ Ok tt) × HasReadHead sh now feed
-TakesHead from (Err refusal) now feed = (bytes : List ℕ) × HasTaken bytes from now feed × Cause refusal bytes None from feed
+TakesHead from (Err refusal) now feed = (bytes : List ℕ) × HasTaken bytes from now feed × Cause refusal bytes None from feed × (refusal ≢ Memory)
 
 -- An image was installed on a new board of this shape: each row was programmed once, and each segment erased once.
 pub record IsInstalled (sh : Shape) (returns : ℕ) (s : State) : Type 0 where
@@ -109,10 +109,11 @@ pub record Loaded (sh : Shape) (returns : ℕ) (from : Feed) (found : State) (ve
   pub installed : IsInstalled sh returns found
   pub judges : Judges verdict (chart found)
 
--- or there is no such board; one that was made has this shape
+-- or there is no such board; one that was made has this shape, which is that of the head
 pub record Unloaded (sh : Shape) (returns : ℕ) (from : Feed) (board : Option State) (refusal : Refusal) (now : Taking) (feed : Feed) : Type 0 where
   pub shape : IfSome board (λ s. s.shape ≡ sh)
   pub bytes : List ℕ
+  pub head : (rest : List ℕ) × (bytes ≡ head_of sh ++ rest)
   pub taken : HasTaken bytes from now feed
   pub cause : Cause refusal bytes (option_map chart board) from feed
   pub unharmed : IfSome (option_map chart board) (IsUnharmed returns)
@@ -138,11 +139,10 @@ pub record TookOnly (bytes : List ℕ) (o : Outcome) (io : Streams) : Type 0 whe
   pub source : io.from.left ≡ with_front bytes io.feed.left
   pub sink : io.sink ≡ io.to
 
--- no image was taken up, for this reason
-pub record RefusesImage (refusal : Refusal) (returns : ℕ) (o : Outcome) (io : Streams) : Type 0 where
+-- no image was taken up, for this reason; these bytes were taken
+pub record RefusesImage (refusal : Refusal) (bytes : List ℕ) (returns : ℕ) (o : Outcome) (io : Streams) : Type 0 where
   pub status : o.status ≡ status_for refusal
   pub why : o.why ≡ why_for refusal
-  pub bytes : List ℕ
   pub took : TookOnly bytes o io
   pub cause : Cause refusal bytes o.board io.from io.feed
   pub unharmed : IfSome o.board (IsUnharmed returns)

@@ -1,5 +1,5 @@
 -- The word `mirror`: a trace over a pair of boards.
-use Rattle.std.specs.Prelude.{◌≡◌, ◌⊎◌, ℕ, ◌<◌, false, IsTrue, List, [], Some, IfSome}
+use Rattle.std.specs.Prelude.{◌≡◌, ◌⊎◌, ℕ, ◌<◌, false, IsTrue, List, [], None, Some, IfSome}
 use Rattle.envy_base.specs.Array.{zeros}
 use Rattle.envy_map.specs.Fields.{Chart}
 use Rattle.envy_pair.specs.Ending.{Boards, HasMirrored, HasFallen, PairLicences}
@@ -10,6 +10,7 @@ use Rattle.envy_trace.specs.declared.mirror_line.MirrorLine.{MirrorLine}
 use Rattle.envy_trace.specs.declared.mirror_reply.MirrorReply.{MirrorReply}
 use Rattle.envy_run.specs.declared.prepare.Unready.{Unready}
 use Rattle.envy_run.specs.declared.prepare.Unready.TheVariants.{Memory, Bad, Dead}
+use Rattle.envy_run.specs.Loading.{IsNew, IsUnharmed}
 use Rattle.envy_run.specs.Outcome.{Outcome, IsQuiet}
 use Rattle.envy_run.specs.Task.{Task}
 
@@ -22,10 +23,15 @@ pub record IsMadeFor (setup : Setup) (returns : ℕ) (now : Chart) : Type 0 wher
   pub shape : now.shape ≡ setup.shape
   pub given : now.given ≡ returns
 
--- what the counts of the boards say of the turns
+-- a board as it was made: nothing began or failed on it, no failure was planned, and nobody cut its power
+abbrev pub IsAsMade : Setup → ℕ → Chart → Type 0
+IsAsMade setup returns now = IsNew setup.shape now × IsUnharmed returns now
+
+-- what the counts of the boards say of the turns; a first board to which no second was made is as it was made
 pub record MirrorLicences (setup : Setup) (returns : ℕ) (o : Outcome) (turns : List MirrorTurn) : Type 0 where
   pub first : IfSome o.board (IsMadeFor setup returns)
   pub second : IfSome o.second (IsMadeFor setup returns)
+  pub alone : o.second ≡ None → IfSome o.board (IsAsMade setup returns)
   pub both : (boards : Boards) → o.board ≡ Some boards.first → o.second ≡ Some boards.second → PairLicences turns boards
 
 -- this is so of one of the boards

@@ -1,5 +1,5 @@
 -- The word `resume`: an image is installed on a new board, and the trace behind it is answered as under `run`.
-use Rattle.std.specs.Prelude.{◌≡◌, ◌⊎◌, ℕ, ◌+◌, ◌*◌, ◌≤◌, List, [], length, Option, None, Some, IfSome, unwrap_or, IsErr, Ok}
+use Rattle.std.specs.Prelude.{◌≡◌, ◌⊎◌, ℕ, ◌+◌, ◌*◌, ◌≤◌, List, [], ◌++◌, length, Option, None, Some, IfSome, unwrap_or, IsErr, Ok}
 use Rattle.envy_audit.specs.Judging.{Judges}
 use Rattle.envy_audit.specs.declared.verdict.Verdict.TheVariants.{Sound}
 use Rattle.envy_base.specs.Array.{Array}
@@ -105,10 +105,12 @@ pub record IsUnsound (setup : Shape → Setup) (returns : ℕ) (o : Outcome) (io
   pub rules : checked (setup found.shape) ≡ Ok tt
   pub fails : Judges Sound (chart found) → ⊥
 
--- no image was taken up, for this reason; where a board was made, the rules hold of its shape
+-- No image was taken up, for this reason. Where the bytes taken begin with the head of a shape that checks, the words
+-- break no rule with it: such a rule is told before all that comes behind the head.
 pub record DeclinesImage (refusal : Refusal) (setup : Shape → Setup) (returns : ℕ) (o : Outcome) (io : Streams) : Type 0 where
-  pub refuses : RefusesImage refusal returns o io
-  pub rules : IfSome o.board (λ now. checked (setup now.shape) ≡ Ok tt)
+  pub bytes : List ℕ
+  pub refuses : RefusesImage refusal bytes returns o io
+  pub rules : (sh : Shape) (rest : List ℕ) → bytes ≡ head_of sh ++ rest → shape_checked sh ≡ Ok tt → checked (setup sh) ≡ Ok tt
 
 abbrev pub Resumes : (Shape → Setup) → ℕ → Outcome → Streams → Type 0
 Resumes setup returns o io =

@@ -1,18 +1,19 @@
-ghost use Rattle.std.specs.Prelude.{◌≡◌, ◌↔◌, List, [], ◌∷◌, false, IsTrue};
+ghost use Rattle.std.specs.Prelude.{◌≡◌, ◌≢◌, ◌↔◌, List, [], ◌∷◌, false, IsTrue};
 ghost use Rattle.envy_base.specs.Array.{Array};
 ghost use Rattle.envy_layout.specs.Stands.{Stands};
-ghost use Rattle.envy_run.specs.Answers.{Answered, IsCall, AnswersTo, AnswerLicence};
+ghost use Rattle.envy_memory.specs.Picture.{counts_of};
+ghost use Rattle.envy_run.specs.Answers.{Answered, IsBoardCall, IsCall, AnswersTo, AnswerLicence};
 ghost use Rattle.envy_run.specs.Below.{WorksOf, FollowsRules};
 ghost use Rattle.envy_run.specs.Hits.{MayTell};
 ghost use Rattle.envy_run.specs.Tells.{CanTell, Notes};
 ghost use Rattle.envy_run.specs.Turns.{TraceTurn};
-ghost use Rattle.envy_trace.specs.declared.line.Line.TheVariants.{Load, Look, Store, Begin, Put, Commit, Abort, Tick};
+ghost use Rattle.envy_trace.specs.declared.line.Line.TheVariants.{Load, Look, Store, Begin, Put, Commit, Abort, Tick, Stat};
 
-use envy_base::{Bench, Trouble};
+use envy_base::{Bench, Board, Trouble};
 use envy_memory::{BeginFault, EndFault, LoadFault, Memory, PutFault, StoreFault};
 use envy_trace::{Line, Reply};
 
-fn load<B: Bench>(memory: &mut Memory<B>, address: u32) -> Reply
+fn load<B: Board>(memory: &mut Memory<B>, address: u32) -> Reply
     requires { IsTrue memory.old.chart.on }
     ensures step { (m : Array) → Stands memory.old.chart m → Answered m (Load address) result memory.new.chart }
     ensures lost { (result ≡ Reply.Lost) ↔ (memory.new.chart.on ≡ false) }
@@ -28,7 +29,7 @@ fn load<B: Bench>(memory: &mut Memory<B>, address: u32) -> Reply
     }
 }
 
-fn look<B: Bench>(memory: &Memory<B>, address: u32) -> Reply
+fn look<B: Board>(memory: &Memory<B>, address: u32) -> Reply
     requires { IsTrue memory.now.chart.on }
     ensures step { (m : Array) → Stands memory.now.chart m → Answered m (Look address) result memory.now.chart }
     ensures lost { (result ≡ Reply.Lost) ↔ (memory.now.chart.on ≡ false) }
@@ -42,7 +43,7 @@ fn look<B: Bench>(memory: &Memory<B>, address: u32) -> Reply
     }
 }
 
-fn store<B: Bench>(memory: &mut Memory<B>, address: u32, word: u64) -> Reply
+fn store<B: Board>(memory: &mut Memory<B>, address: u32, word: u64) -> Reply
     requires { IsTrue memory.old.chart.on }
     ensures step { (m : Array) → Stands memory.old.chart m → Answered m (Store address word) result memory.new.chart }
     ensures lost { (result ≡ Reply.Lost) ↔ (memory.new.chart.on ≡ false) }
@@ -60,7 +61,7 @@ fn store<B: Bench>(memory: &mut Memory<B>, address: u32, word: u64) -> Reply
     }
 }
 
-fn begin<B: Bench>(memory: &mut Memory<B>) -> Reply
+fn begin<B: Board>(memory: &mut Memory<B>) -> Reply
     requires { IsTrue memory.old.chart.on }
     ensures step { (m : Array) → Stands memory.old.chart m → Answered m Begin result memory.new.chart }
     ensures lost { (result ≡ Reply.Lost) ↔ (memory.new.chart.on ≡ false) }
@@ -76,7 +77,7 @@ fn begin<B: Bench>(memory: &mut Memory<B>) -> Reply
     }
 }
 
-fn put<B: Bench>(memory: &mut Memory<B>, slot: u8, address: u32, word: u64) -> Reply
+fn put<B: Board>(memory: &mut Memory<B>, slot: u8, address: u32, word: u64) -> Reply
     requires { IsTrue memory.old.chart.on }
     ensures step { (m : Array) → Stands memory.old.chart m → Answered m (Put slot address word) result memory.new.chart }
     ensures lost { (result ≡ Reply.Lost) ↔ (memory.new.chart.on ≡ false) }
@@ -96,7 +97,7 @@ fn put<B: Bench>(memory: &mut Memory<B>, slot: u8, address: u32, word: u64) -> R
     }
 }
 
-fn commit<B: Bench>(memory: &mut Memory<B>, slot: u8) -> Reply
+fn commit<B: Board>(memory: &mut Memory<B>, slot: u8) -> Reply
     requires { IsTrue memory.old.chart.on }
     ensures step { (m : Array) → Stands memory.old.chart m → Answered m (Commit slot) result memory.new.chart }
     ensures lost { (result ≡ Reply.Lost) ↔ (memory.new.chart.on ≡ false) }
@@ -112,7 +113,7 @@ fn commit<B: Bench>(memory: &mut Memory<B>, slot: u8) -> Reply
     }
 }
 
-fn abort<B: Bench>(memory: &mut Memory<B>, slot: u8) -> Reply
+fn abort<B: Board>(memory: &mut Memory<B>, slot: u8) -> Reply
     requires { IsTrue memory.old.chart.on }
     ensures step { (m : Array) → Stands memory.old.chart m → Answered m (Abort slot) result memory.new.chart }
     ensures lost { (result ≡ Reply.Lost) ↔ (memory.new.chart.on ≡ false) }
@@ -128,7 +129,7 @@ fn abort<B: Bench>(memory: &mut Memory<B>, slot: u8) -> Reply
     }
 }
 
-fn tick<B: Bench>(memory: &mut Memory<B>) -> Reply
+fn tick<B: Board>(memory: &mut Memory<B>) -> Reply
     requires { IsTrue memory.old.chart.on }
     ensures step { (m : Array) → Stands memory.old.chart m → Answered m Tick result memory.new.chart }
     ensures lost { (result ≡ Reply.Lost) ↔ (memory.new.chart.on ≡ false) }
@@ -144,14 +145,17 @@ fn tick<B: Bench>(memory: &mut Memory<B>) -> Reply
     }
 }
 
-/// Does one line: the call of the memory that it names, and the reply. `Lost` is the answer exactly
+/// Does one line that is a call of a memory over any board, and the reply. Each line but one of counters is answered by the
+/// array, whatever was done before; a line of counters tells the memory's, and nothing changes. `Lost` is the answer exactly
 /// where power failed in this call, `Fault` only where a flash operation failed in it. It begins as much flash
 /// work as that call may, by the memory's own rules.
-pub fn answer<B: Bench>(memory: &mut Memory<B>, line: &Line) -> Reply
+pub fn answer_board<B: Board>(memory: &mut Memory<B>, line: &Line) -> Reply
     requires on { IsTrue memory.old.chart.on }
-    requires call { IsCall line.now }
+    requires call { IsBoardCall line.now }
     ensures step { (earlier : List TraceTurn) (m : Array) → Stands memory.old.chart m → CanTell memory.old.chart.shape.entries earlier memory.old.parts
         → AnswersTo (MayTell memory.old.chart.shape.entries earlier) m line.now result memory.new.chart }
+    ensures alone { (m : Array) → Stands memory.old.chart m → line.now ≢ Stat → Answered m line.now result memory.new.chart }
+    ensures tells { line.now ≡ Stat → (result ≡ Reply.Stat (counts_of memory.old.parts)) × (memory.new ≡ memory.old) }
     ensures lost { (result ≡ Reply.Lost) ↔ (memory.new.chart.on ≡ false) }
     ensures licence { AnswerLicence line.now result memory.old.chart memory.new.chart }
     ensures notes { Notes line.now (result ∷ []) memory.old memory.new }
@@ -171,6 +175,28 @@ pub fn answer<B: Bench>(memory: &mut Memory<B>, line: &Line) -> Reply
         Line::Commit { slot } => commit(memory, slot),
         Line::Abort { slot } => abort(memory, slot),
         Line::Tick => tick(memory),
+        Line::Stat => Reply::Stat(memory.counts()),
+        Line::Empty | Line::Power | Line::Cut { k: _, g: _ } | Line::Bad { k: _, g: _ } => {
+            unreachable!()
+        }
+    }
+}
+
+/// The same of a line that may plan a failure besides.
+pub fn answer<B: Bench>(memory: &mut Memory<B>, line: &Line) -> Reply
+    requires on { IsTrue memory.old.chart.on }
+    requires call { IsCall line.now }
+    ensures step { (earlier : List TraceTurn) (m : Array) → Stands memory.old.chart m → CanTell memory.old.chart.shape.entries earlier memory.old.parts
+        → AnswersTo (MayTell memory.old.chart.shape.entries earlier) m line.now result memory.new.chart }
+    ensures alone { (m : Array) → Stands memory.old.chart m → line.now ≢ Stat → Answered m line.now result memory.new.chart }
+    ensures tells { line.now ≡ Stat → (result ≡ Reply.Stat (counts_of memory.old.parts)) × (memory.new ≡ memory.old) }
+    ensures lost { (result ≡ Reply.Lost) ↔ (memory.new.chart.on ≡ false) }
+    ensures licence { AnswerLicence line.now result memory.old.chart memory.new.chart }
+    ensures notes { Notes line.now (result ∷ []) memory.old memory.new }
+    ensures works { WorksOf line.now memory.old.chart memory.new.chart }
+    ensures rules { FollowsRules line.now result memory.old memory.new }
+{
+    match *line {
         Line::Cut { k, g } => {
             memory.arm_cut(k, g);
             Reply::Armed
@@ -179,7 +205,6 @@ pub fn answer<B: Bench>(memory: &mut Memory<B>, line: &Line) -> Reply
             memory.arm_bad(k, g);
             Reply::Armed
         }
-        Line::Stat => Reply::Stat(memory.counts()),
-        Line::Empty | Line::Power => unreachable!(),
+        _ => answer_board(memory, line),
     }
 }

@@ -16,7 +16,7 @@ use envy_serve::MOST_BYTES;
 use std::alloc::Global;
 
 /// How often power of an audited board can return.
-const LIVES: u32 = u32::MAX;
+pub(crate) const AUDIT_LIVES: u32 = u32::MAX;
 
 /// The letter of a rule.
 fn letter(rule: Rule) -> &'static [u8]
@@ -55,7 +55,7 @@ fn put_verdict(verdict: Verdict, out: &mut ArrayVec<u8, 16>)
 }
 
 /// Writes a verdict on a line of its own, and flushes the sink.
-fn write_verdict<K: Sink>(verdict: Verdict, sink: &mut K) -> Result<(), Failed>
+pub(crate) fn write_verdict<K: Sink>(verdict: Verdict, sink: &mut K) -> Result<(), Failed>
     ensures { WritesOut (verdict_line verdict) result (K.drain sink.old) (K.drain sink.new) }
 {
     let mut text = ArrayVec::new();
@@ -82,7 +82,7 @@ pub fn run_audit<S: Source, K: Sink, M: Maker>(
         Ok(shape) => shape,
         Err(refusal) => return refused(refusal, lines.taken(), None),
     };
-    match take_image(alloc, &shape, LIVES, &mut lines, source, maker) {
+    match take_image(alloc, &shape, AUDIT_LIVES, &mut lines, source, maker) {
         Ok((board, verdict)) => {
             let status = match write_verdict(verdict, sink) {
                 Ok(()) => 0,

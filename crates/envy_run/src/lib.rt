@@ -13,6 +13,7 @@ mod index_run;
 mod indexing;
 mod laws;
 mod loading;
+mod map_run;
 mod mirror_run;
 mod obey;
 mod plain_run;
@@ -27,7 +28,7 @@ mod tests;
 mod tpca_run;
 mod tracing;
 
-pub use answering::answer;
+pub use answering::{answer, answer_board};
 pub use ended::{Ended, end_text};
 pub use laws::memory_and_plain_machine_write_alike;
 pub use running::run;

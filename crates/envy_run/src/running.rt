@@ -11,6 +11,7 @@ use crate::audit_run::run_audit;
 use crate::ended::Ended;
 use crate::gen_run::run_gen;
 use crate::index_run::run_index;
+use crate::map_run::run_map;
 use crate::mirror_run::run_mirror;
 use crate::plain_run::run_plain;
 use crate::prepare::{Unready, prepare};
@@ -125,13 +126,10 @@ fn perform<S: Source, K: Sink, M: Maker>(
     match command {
         Command::Run { setup, lives } => run_trace(alloc, setup, lives, source, sink, maker),
         Command::Plain { setup } => run_plain(alloc, &setup, source, sink),
-        Command::Gen {
-            start,
-            lines,
-            pages,
-        } => run_gen(sink, start, lines, pages),
+        Command::Gen { start, lines, mix } => run_gen(sink, start, lines, &mix),
         Command::Save { setup, lives } => run_save(alloc, setup, lives, source, sink, maker),
         Command::Audit => run_audit(alloc, source, sink, maker),
+        Command::Segments => run_map(alloc, source, sink, maker),
         Command::Index { setup, lives } => run_index(alloc, setup, lives, source, sink, maker),
         Command::Tpca {
             setup,

@@ -176,11 +176,12 @@ fn run(rt: &impl Abort, alloc: Global, name: &str, policy: Policy, calls: u32) -
     Ok(())
 }
 
-const POLICIES: [(&str, Policy); 4] = [
+const POLICIES: [(&str, Policy); 5] = [
     ("greedy", Policy::Greedy),
     ("fifo", Policy::Fifo),
     ("locality", Policy::Locality),
     ("hybrid", Policy::Hybrid(2)),
+    ("lifetime", Policy::Lifetime),
 ];
 
 #[test]

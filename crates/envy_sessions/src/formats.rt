@@ -8,12 +8,12 @@ ghost use Rattle.envy_memory.specs.Attaching.{IsAttachable};
 
 use crate::ordered::OrderedBoard;
 use crate::session::{Session, check_all, check_from, check_part, formatted, new_board};
-use crate::setups::COMMON;
+use crate::setups::{COMMON, THREE_GREEDY};
 use crate::steps::Step::{Attach, Begin, Load, Put, Store};
 use crate::steps::{Step, Tested};
 use envy_base::{Bench, Board, Shape, Slot, Trouble, Undo};
 use envy_layout::{format_board_1, move_to_frame, own_page, set_unused_slot, write_free_frame};
-use envy_map::is_formatted;
+use envy_map::{is_formatted, words};
 use envy_memory::{AttachFault, FormatFault, Memory, StoreFault};
 use envy_policy::Setup;
 use std::alloc::Global;
@@ -171,12 +171,12 @@ fn put_on_version_1<B: Board>(board: &mut B) -> Result<(), Trouble>
 }
 
 fn put<B: Board>(rt: &impl Abort, board: &mut B, w: u32, v: u64) {
-    assert!(rt; w < 72);
+    assert!(rt; w < words(&board.shape()));
     assert_eq!(rt; board.put(w, v), Ok(()));
 }
 
 fn get<B: Board>(rt: &impl Abort, board: &B, w: u32) -> u64 {
-    assert!(rt; w < 72);
+    assert!(rt; w < words(&board.shape()));
     match board.get(w) {
         Ok(word) => word,
         Err(_) => panic!(rt; "no power"),
@@ -234,6 +234,21 @@ fn upgrade_that_was_cut_is_made_again(rt: HostRuntime) -> Result<(), Fail> {
             (0, 2),
             "with {k}"
         );
+    }
+    Ok(())
+}
+
+// Behind 8 words of the header, 64 slots, 4 wears, 4 fills and 3 positions stand the places of three pages in two words,
+// and their undos in two: the high half of the second word of each belongs to no page.
+#[test]
+fn halves_that_no_page_uses_are_zero_once_formatted(rt: HostRuntime) -> Result<(), Fail> {
+    let mut board = new_board(rt.alloc(), &THREE_GREEDY, 0)?;
+    for w in 0..words(&board.shape()) {
+        put(&rt, &mut board, w, u64::MAX);
+    }
+    let board = formatted(&rt, rt.alloc(), board, THREE_GREEDY).into_board();
+    for w in 83..87 {
+        assert_eq!(rt; get(&rt, &board, w), 0, "word {w}");
     }
     Ok(())
 }

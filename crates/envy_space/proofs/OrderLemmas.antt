@@ -143,6 +143,12 @@ swapped_first xs i j low lower = ap (λ (ys : List ℕ). get_or ys i 0) (sym (sw
     at (first apart same is) = is
     at (other apart still is) = absurd (still refl)
 
+-- at the second
+pub swapped_second : (xs : List ℕ) (i j : ℕ) → i < length xs → j < length xs → get_or (swap xs i j) j 0 ≡ get_or xs i 0
+swapped_second xs i j low lower =
+    ap (λ (ys : List ℕ). get_or ys j 0) (sym (swap_is xs i j 0 low lower))
+    ∙ get_or-set_same (set xs i (get_or xs j 0)) j (get_or xs i 0) 0 (rw (length-set xs i (get_or xs j 0)) lower)
+
 -- and at neither
 pub swapped_other : (xs : List ℕ) (i j k : ℕ) → i < length xs → j < length xs → k ≢ i → k ≢ j → get_or (swap xs i j) k 0 ≡ get_or xs k 0
 swapped_other xs i j k low lower apart still =

@@ -2,7 +2,7 @@
 use Rattle.std.proofs.Common.{◌≡◌, ℕ, ◌+◌, ◌*◌, ◌<◌, ◌≤◌, List, [], ◌∷◌, ◌++◌, slice_index, ap, arith}
 use Rattle.envy_base.specs.declared.shape.Shape.{Shape}
 use Rattle.envy_space.specs.Pool.{Pool}
-use Rattle.envy_space.specs.Rising.{Call, Claims, Erases, Leaves, Linked, KeepsRows}
+use Rattle.envy_space.specs.Rising.{Call, Claims, Erases, Leaves, Breaks, Linked, KeepsRows}
 
 -- a row that is claimed behind calls that keep the segment's rows is at the fill of before or above it
 above : (s low r : ℕ) (calls : List Call) (old new : Pool) → KeepsRows calls → low ≤ slice_index old.fills s → Linked s (calls ++ (Claims r ∷ [])) old new → s * old.shape.rows + low ≤ r
@@ -14,6 +14,12 @@ above s low r (Claims q ∷ calls) old new keeps le (next, made, rest) =
     omega arith
 above s low r (Leaves ∷ calls) old new keeps le (next, made, rest) =
     let more : low ≤ slice_index next.fills s = rw made.0 le in
+    let same : s * next.shape.rows ≡ s * old.shape.rows = ap (λ (sh : Shape). s * sh.rows) made.1 in
+    let later : s * next.shape.rows + low ≤ r = above s low r calls next new keeps more rest in
+    omega arith
+above s low r (Breaks ∷ calls) old new keeps le (next, made, rest) =
+    let grown = made.0 in
+    let more : low ≤ slice_index next.fills s = omega arith in
     let same : s * next.shape.rows ≡ s * old.shape.rows = ap (λ (sh : Shape). s * sh.rows) made.1 in
     let later : s * next.shape.rows + low ≤ r = above s low r calls next new keeps more rest in
     omega arith

@@ -12,7 +12,7 @@ use Rattle.envy_base.specs.Shape.{IsShape}
 use Rattle.envy_space.specs.Order.{IsOrder}
 use Rattle.envy_space.specs.Pool.{Pool, IsPool, IsSpace, StandsAt, empty_pool, free_at, dead_at}
 use Rattle.envy_space.specs.Winners.{flag}
-use Rattle.envy_space.proofs.OrderLemmas.{IsOrder-places, ArePlaces-range, swapped, swapped_first, swapped_other}
+use Rattle.envy_space.proofs.OrderLemmas.{IsOrder-places, ArePlaces-range, swapped, swapped_first, swapped_second, swapped_other}
 
 -- one number more in a sum
 pub sum_by-range_more : (g : ℕ → ℕ) (a n j : ℕ) → a + n ≡ j → sum_by g (range_with_len a (n + 1)) ≡ sum_by g (range_with_len a n) + g j
@@ -124,6 +124,12 @@ StandsAt-swap sh fills kept order dead has_free has_dead then_order then_dead th
           get_or-take (sh.segments - 1) then_order k 0 lt ∙ ap (λ (xs : List ℕ). get_or xs k 0) order_is
           ∙ swapped_other order i j k (omega arith) (omega arith) apart (λ same. other (get_or-take (sh.segments - 1) order k 0 lt ∙ ap (λ (p : ℕ). get_or order p 0) same ∙ here))
           ∙ sym (get_or-take (sh.segments - 1) order k 0 lt);
+      there = λ k lt stood.
+          let same : k ≡ j = was.ordered.apart k j (omega arith) (omega arith) (sym (get_or-take (sh.segments - 1) order k 0 lt) ∙ stood ∙ sym here) in
+          get_or-take (sh.segments - 1) then_order k 0 lt ∙ ap (λ (xs : List ℕ). get_or xs k 0) order_is
+          ∙ ap (λ (p : ℕ). get_or (swap order i j) p 0) same
+          ∙ swapped_second order i j (omega arith) (omega arith)
+          ∙ sym (get_or-take (sh.segments - 1) order i 0 low);
     }
 
 -- what the flags say of a position

@@ -79,7 +79,7 @@ noted_dead q p = with_kept (q / p.shape.rows) (slice_index p.kept (q / p.shape.r
 abbrev pub with_segment_at : ℕ → ℕ → Pool → Pool
 with_segment_at k s p = record p { positions = slice_set p.positions k s }
 
--- segment s stands at position k, and each segment that stands elsewhere and isn't s stays
+-- segment s stands at position k, the segment of that position where s stood, and each other stays
 pub record StandsAt (k s : ℕ) (old new : Pool) : Type 0 where
   pub is_pool : IsPool new
   pub shape : new.shape ≡ old.shape
@@ -87,6 +87,7 @@ pub record StandsAt (k s : ℕ) (old new : Pool) : Type 0 where
   pub kept : new.kept ≡ old.kept
   pub here : slice_index new.positions k ≡ s
   pub others : (j : ℕ) → j < old.shape.segments - 1 → j ≢ k → slice_index old.positions j ≢ s → slice_index new.positions j ≡ slice_index old.positions j
+  pub there : (j : ℕ) → j < old.shape.segments - 1 → slice_index old.positions j ≡ s → slice_index new.positions j ≡ slice_index old.positions k
 
 -- how many kept rows of segment s the first n pages name
 abbrev pub kept_in_first : Shape → Fields → ℕ → ℕ → ℕ

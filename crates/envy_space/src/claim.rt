@@ -1,7 +1,7 @@
 ghost use Rattle.std.specs.Prelude.{◌≡◌, ◌+◌, ◌-◌, ◌<◌, false, ℕ, IsTrue, Some, IfOk, OnOk, OnErr, slice_index};
 ghost use Rattle.envy_base.specs.declared.fields.Job.TheVariants.{Switch};
 ghost use Rattle.envy_map.specs.Fields.{chart};
-ghost use Rattle.envy_layout.specs.Claims.{IsUsable};
+ghost use Rattle.envy_layout.specs.Claims.{IsUsable, FillsRise};
 ghost use Rattle.envy_layout.specs.Jobs.{IsClear};
 ghost use Rattle.envy_layout.specs.Same.{Same};
 ghost use Rattle.envy_layout.specs.Sound.{IsSound, IsSpare};
@@ -14,7 +14,8 @@ use envy_layout::{claim_back, raise_fill, replace_segment};
 impl Space {
     /// Claims the row at the fill of a segment for a page. The segment stands at a position, or is the
     /// spare that another is being copied to. The row's page is written first, so that power that fails
-    /// before the fill is raised leaves the row free. The array stays. Without power nothing changes.
+    /// before the fill is raised leaves the row free, and no fill is ever lowered. The array stays. Without
+    /// power nothing changes.
     pub fn claim<B: Board>(&mut self, board: &mut B, segment: u32, page: u32) -> Result<u32, Off>
         requires sound { IsTrue (B.state board.old).on → IsSound (chart (B.state board.old)) }
         requires agrees { IsTrue (B.state board.old).on → PoolAgrees (B.state board.old).shape (chart (B.state board.old)).fields self.old }
@@ -29,6 +30,7 @@ impl Space {
         ensures shape { self.new.shape ≡ self.old.shape }
         ensures claims { IfOk result (λ row. Claims (chart (B.state board.old)) segment page row (chart (B.state board.new))) }
         ensures claimed { IfOk result (λ row. Claimed (chart (B.state board.new)) segment page row) }
+        ensures rises { FillsRise (chart (B.state board.old)) (chart (B.state board.new)) }
         ensures pool { IfOk result (λ _. self.new ≡ with_filled segment (slice_index self.old.fills segment + 1) self.old) }
         ensures on { OnOk result (IsTrue (B.state board.new).on) }
         ensures off { OnErr result ((B.state board.new).on ≡ false) }
@@ -53,6 +55,7 @@ impl Space {
         ensures shape { self.new.shape ≡ self.old.shape }
         ensures claims { IfOk result (λ row. Claims (chart (B.state board.old)) segment page row (chart (B.state board.new))) }
         ensures claimed { IfOk result (λ row. Claimed (chart (B.state board.new)) segment page row) }
+        ensures rises { FillsRise (chart (B.state board.old)) (chart (B.state board.new)) }
         ensures pool { IfOk result (λ _. self.new ≡ with_filled segment (slice_index self.old.fills segment + 1) self.old) }
         ensures on { OnOk result (IsTrue (B.state board.new).on) }
         ensures off { OnErr result ((B.state board.new).on ≡ false) }

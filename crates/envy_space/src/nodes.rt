@@ -1,4 +1,4 @@
-ghost use Rattle.std.specs.Prelude.{◌≡◌, ◌≢◌, ◌+◌, ◌-◌, ◌*◌, ◌/◌, ◌^◌, ◌<◌, ◌≤◌, ℕ, length, replicate, map, drop, slice_index};
+ghost use Rattle.std.specs.Prelude.{IsTrue, ◌≡◌, ◌≢◌, ◌+◌, ◌-◌, ◌*◌, ◌/◌, ◌^◌, ◌<◌, ◌≤◌, ℕ, length, replicate, map, drop, slice_index};
 ghost use Rattle.envy_space.specs.Winners.{AreNodes, IsTree, IsRight, IsRun, better, node as node_of, score_in, scores_of};
 
 /// A place and its score.
@@ -11,6 +11,13 @@ pub struct Entry {
 impl Entry {
     /// The best of no places.
     pub const NOBODY: Entry = Entry { place: 0, score: 0 };
+
+    /// Whether it is the same place with the same score.
+    fn is(self, other: Entry) -> bool
+        ensures { IsTrue result → self ≡ other }
+    {
+        self.place == other.place && self.score == other.score
+    }
 
     /// The other entry, if its score is higher.
     fn or_better(self, other: Entry) -> Entry
@@ -70,7 +77,7 @@ fn mend_all(nodes: &mut [Entry], places: u32)
 }
 
 /// Makes each node on the way from node `at` to node 1 the better of its two, where only the next one
-/// may not be.
+/// may not be. It ends at a node that stays as it was, since none above it changes then.
 pub fn mend_above(nodes: &mut [Entry], places: u32, mut at: u32)
     requires nodes { AreNodes places nodes.old }
     requires some { 1 ≤ at }
@@ -81,7 +88,11 @@ pub fn mend_above(nodes: &mut [Entry], places: u32, mut at: u32)
 {
     while at > 1 {
         at /= 2;
-        nodes[at as usize] = better_below(nodes, at);
+        let entry = better_below(nodes, at);
+        if node(nodes, at).is(entry) {
+            return;
+        }
+        nodes[at as usize] = entry;
     }
 }
 

@@ -3,7 +3,7 @@ ghost use Rattle.envy_space.specs.Pool.{Pool};
 ghost use Rattle.envy_space.specs.Rising.{Call, Claims, Linked, KeepsRows};
 
 /// Between two erases of a segment no row of it is claimed twice: a later claim answers a higher row
-/// than an earlier one, whatever calls lie between them.
+/// than an earlier one, whatever calls lie between them, failures of power and restarts among them.
 pub fn no_row_is_claimed_twice()
     ensures { (s q r : ℕ) (calls : List Call) (old new : Pool) → KeepsRows calls
         → Linked s (Claims q ∷ calls ++ (Claims r ∷ [])) old new → q < r }

@@ -1,6 +1,6 @@
 -- Bytes that are held and given on in pieces.
 use Rattle.std.proofs.Common.{◌≡◌, ◌∙◌, ℕ, ◌+◌, ◌-◌, ◌<◌, ◌≤◌, List, ◌++◌, length, take, drop, min, Option, Some, None, Ok, sym, ap, subst, refl, arith}
-use Rattle.std.proofs.lemmas.List.{take-append-drop, append_assoc, drop-drop, drop-take, length-append, length-take-le, length-drop, take_at}
+use Rattle.std.proofs.lemmas.List.{take-append-drop, append_assoc, drop-drop, drop-take, length-append, length-take-le, length-drop, take_at, take_all}
 use Rattle.envy_io.specs.Streams.{Feed, Fills, with_front}
 use Rattle.envy_streams.specs.Asked.{Asked, MakesSome, Gives, feed_of}
 
@@ -25,6 +25,18 @@ fills_given old mid new slice filled n (bytes, (fits, left, dry, faults), same) 
       λ none. dry (omega arith),
       counted,
     )
+
+-- what is held is there already
+makes-some : (s : Asked) → 0 < length s.held → MakesSome s (Ok tt) s
+makes-some s some =
+    let all : take (length s.held) s.held ≡ s.held = take_all (length s.held) s.held (omega arith) in
+    (s.held, (omega arith, ap (λ (h : List ℕ). with_front h s.inner.left) (sym all), λ none. absurd (omega arith), refl), sym all)
+
+-- bytes were held, and are given on without asking
+pub given-alone : (inner : Feed) (buffer : List ℕ) (start end : ℕ) (old new : Asked) (slice filled : List ℕ) (n : ℕ) → record { inner = inner; held = take (end - start) (drop start buffer) } ≡ old → start < end → end ≤ length buffer → Gives old slice n new filled → 0 < length slice → Fills (feed_of old) filled (Ok n) (feed_of new)
+given-alone inner buffer start end old new slice filled n is lt within gave some =
+    let size : length old.held ≡ end - start = ap (λ (s : Asked). length s.held) (sym is) ∙ length-take-le (end - start) (drop start buffer) (let rest = length-drop start buffer in omega arith) in
+    fills_given old old new slice filled n (makes-some old (omega arith)) gave some
 
 -- the bytes behind those that were given on
 held_rest : (buffer : List ℕ) (start end n : ℕ) → n ≤ end - start → take (end - (start + n)) (drop (start + n) buffer) ≡ drop n (take (end - start) (drop start buffer))

@@ -40,3 +40,7 @@ pub record Gives (old : Asked) (slice : List ℕ) (n : ℕ) (new : Asked) (fille
   pub given : take n filled ≡ take n old.held
   pub long : length filled ≡ length slice
   pub rest : new ≡ record old { held = drop n old.held }
+
+-- nothing is held but what was held before, without a front that was given on
+abbrev pub ReadsNoFurther : Asked → Asked → Type 0
+ReadsNoFurther old new = (n : ℕ) × (new.held ≡ drop n old.held)

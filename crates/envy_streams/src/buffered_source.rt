@@ -7,7 +7,8 @@ use envy_io::{Failed, Source};
 use std::alloc::Global;
 use std::marker::Model;
 
-/// A source that asks the one below it for 65,536 bytes at a time, and only where it holds none.
+/// A source that asks the one below it for 65,536 bytes at a time, and only where it holds none. By `fill_only` it asks
+/// for as many as the slice has room for.
 #[derive(Drop)]
 pub struct BufferedSource<S: Source + Drop> {
     source: S,
@@ -84,7 +85,7 @@ impl<S: Source + Drop> BufferedSource<S> {
 impl<S: Source + Drop> Source for BufferedSource<S> {
     ghost use Rattle.std.specs.Prelude.{◌<◌, length};
     ghost use Rattle.envy_io.specs.Streams.{Fills};
-    ghost use Rattle.envy_streams.specs.Asked.{feed_of};
+    ghost use Rattle.envy_streams.specs.Asked.{feed_of, ReadsNoFurther};
 
     ghost feed = { feed_of };
 
@@ -94,5 +95,16 @@ impl<S: Source + Drop> Source for BufferedSource<S> {
     {
         self.make_some()?;
         Ok(self.give(into))
+    }
+
+    fn fill_only(&mut self, into: &mut [u8]) -> Result<usize, Failed>
+        requires { 0 < length into.old }
+        ensures fills { Fills (feed_of self.old) into.new result (feed_of self.new) }
+        ensures ahead { ReadsNoFurther self.old self.new }
+    {
+        if self.start < self.end {
+            return Ok(self.give(into));
+        }
+        self.source.fill_only(into)
     }
 }

@@ -49,6 +49,19 @@ fn bytes_come_in_order_and_a_failure_between_them_is_told(rt: HostRuntime) -> Re
     Ok(())
 }
 
+// The second call of the source below fails: so it came, since the first took eight bytes alone.
+#[test]
+fn exact_asking_takes_no_byte_ahead(rt: HostRuntime) -> Result<(), Fail> {
+    let mut source = source_of(rt.alloc(), 100, &[2, 4])?;
+    let mut piece = [0; 8];
+    assert_eq!(rt; source.fill_only(&mut piece), Ok(8));
+    assert_eq!(rt; source.fill_only(&mut piece), Err(Failed));
+    assert_eq!(rt; source.fill(&mut piece), Ok(8));
+    assert_eq!(rt; source.fill_only(&mut piece), Ok(8));
+    assert_eq!(rt; piece, [16, 17, 18, 19, 20, 21, 22, 23]);
+    Ok(())
+}
+
 #[test]
 fn a_sink_that_is_flushed_handed_all_on(rt: HostRuntime) -> Result<(), Fail> {
     let mut sink = sink_with(rt.alloc(), 100_000, &[])?;

@@ -12,3 +12,4 @@ pub mod Since
 pub mod Stepping
 pub mod Totals
 pub mod Trying
+pub mod Uncut

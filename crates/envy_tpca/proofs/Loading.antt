@@ -1,6 +1,6 @@
 -- Loads of a memory that rests.
-use Rattle.std.proofs.Common.{◌≡◌, ℕ, ◌<◌, ◌≤◌, ◌+◌, Bool, true, false, cond, List, length, Err, refl, sym, ◌∙◌, ap, subst, arith}
-use Rattle.std.specs.Prelude.{◌^◌, ◌-◌, slice_index}
+use Rattle.std.proofs.Common.{◌≡◌, ℕ, ◌<◌, ◌≤◌, ◌+◌, Bool, true, false, cond, List, length, Result, Ok, Err, refl, sym, ◌∙◌, ap, subst, arith}
+use Rattle.std.specs.Prelude.{◌^◌, ◌-◌, OnOk, slice_index}
 use Rattle.envy_base.proofs.Counting.{up-least, up-below}
 use Rattle.envy_base.specs.Counting.{up}
 use Rattle.envy_base.specs.Step.{Load, Word}
@@ -46,3 +46,23 @@ loaded-chart n old new loaded = ap (λ (p : Picture). p.chart) loaded.same
 
 pub rests-same : (old new : Picture) → new.chart ≡ old.chart → Rests (durable old.chart) old → Rests (durable new.chart) new
 rests-same old new same rests = subst (λ (ch : Chart). Stands ch (fresh ch.shape.shadows (durable ch))) (sym same) rests
+
+pub accessed-none : (old new : Translations) → new.hits ≡ old.hits → new.misses ≡ old.misses → Accessed 0 old new
+accessed-none old new hits misses = record { hits = omega arith; misses = omega arith; sum = λ lh lm. omega arith }
+
+pub accessed-same : (old new : Translations) → new ≡ old → Accessed 0 old new
+accessed-same old new same = accessed-none old new (ap (λ (t : Translations). t.hits) same) (ap (λ (t : Translations). t.misses) same)
+
+pub accessed-more : (n k : ℕ) (a b c : Translations) → Accessed n a b → Accessed k b c → Accessed (n + k) a c
+accessed-more n k a b c x y =
+    let p = x.hits in let q = y.hits in let r = x.misses in let s = y.misses in
+    record { hits = omega arith; misses = omega arith; sum = λ lh lm. let e = x.sum (omega arith) (omega arith) in let f = y.sum lh lm in omega arith }
+
+-- what holds where a call is done, and what follows from it there
+pub where-done : {T E : Type 0} {P Q : Type 0} (r : Result T E) → (P → Q) → OnOk r P → OnOk r Q
+where-done (Ok x) f p = f p
+where-done (Err e) f p = p
+
+pub done-always : {T E : Type 0} {P : Type 0} (r : Result T E) → P → OnOk r P
+done-always (Ok x) p = p
+done-always (Err e) p = tt

@@ -49,6 +49,16 @@ pub record AddsUp (area : Area) (load : Draws) (sums : Sums) : Type 0 where
   pub history : sums.history ≡ deltas (first area.transfers load)
   pub deltas : sums.deltas ≡ deltas (first area.transfers load)
 
+-- a transfer loads three balances, and puts them, four words of its history and the number of transfers
+abbrev pub accesses_of : Area → ℕ
+accesses_of area = 11 * area.transfers
+
+-- Where power never failed, the hits and misses told are those of before and the accesses of the transfers. Silent where
+-- one of them stopped at the top.
+abbrev pub CountsAccesses : Area → Picture → Counts → Picture → Type 0
+CountsAccesses area old told new =
+    old.chart.cuts < 2 ^ 64 - 1 → new.chart.cuts ≡ old.chart.cuts → told.hits < 2 ^ 64 - 1 → told.misses < 2 ^ 64 - 1 → told.hits + told.misses ≡ (counts_of old.parts).hits + (counts_of old.parts).misses + accesses_of area
+
 -- All transfers are done: the board stands for the words after them, with no slot open. Power returned so often as
 -- lives were used, and a cut was planned before each transfer that is a multiple of `every`.
 pub record IsDriven (area : Area) (load : Draws) (every : ℕ) (old : Picture) (sums : Sums) (new : Picture) : Type 0 where
@@ -58,3 +68,4 @@ pub record IsDriven (area : Area) (load : Draws) (every : ℕ) (old : Picture) (
   pub cuts : sums.cuts + new.chart.lives ≡ old.chart.lives
   pub plans : Rises (plans_in every area.transfers) old.chart.plans new.chart.plans
   pub counts : IsToldBefore (loads_of area) sums.counts (counts_of new.parts)
+  pub accesses : CountsAccesses area old sums.counts new

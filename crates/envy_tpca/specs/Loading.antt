@@ -13,3 +13,7 @@ pub record Accessed (n : ℕ) (old new : Translations) : Type 0 where
 pub record Loaded (n : ℕ) (old new : Picture) : Type 0 where
   pub same : new ≡ record old { parts = record old.parts { cache = new.parts.cache } }
   pub accessed : Accessed n old.parts.cache new.parts.cache
+
+-- where power never failed, so many accesses were counted
+abbrev pub CountsUncut : ℕ → Picture → Picture → Type 0
+CountsUncut n old new = old.chart.cuts < 2 ^ 64 - 1 → new.chart.cuts ≡ old.chart.cuts → Accessed n old.parts.cache new.parts.cache

@@ -9,6 +9,7 @@ ghost use Rattle.envy_tpca.specs.declared.places.Places.{Places as APlaces};
 ghost use Rattle.envy_tpca.specs.declared.transfer.Transfer.{Transfer as ATransfer};
 ghost use Rattle.envy_tpca.specs.Driving.{IsLoadOf, HasCounted, IsDriven, is_planned, plans_in};
 ghost use Rattle.envy_tpca.specs.Load.{after};
+ghost use Rattle.envy_tpca.specs.Loading.{CountsUncut};
 ghost use Rattle.envy_tpca.specs.Running.{MayDrive, AfterAll};
 ghost use Rattle.envy_tpca.specs.Since.{IsPast, Keeps, Since};
 ghost use Rattle.envy_tpca.specs.Trial.{IsTried, writes};
@@ -22,7 +23,8 @@ use crate::{DriveFault, Fault, Load, Places, Spots, Sums, Transfer};
 use envy_base::{Area, Bench};
 use envy_memory::Memory;
 
-/// Tries transfer `i` until it is done, and ticks. After a restart address 0 tells whether it is done.
+/// Tries transfer `i` until it is done, and ticks. After a restart address 0 tells whether it is done. Where power never
+/// fails it makes three loads and eight puts.
 pub fn transfer_once<B: Bench>(
     memory: &mut Memory<B>,
     at: Spots,
@@ -31,7 +33,8 @@ pub fn transfer_once<B: Bench>(
 ) -> Result<(), DriveFault>
     requires trial { Trial i t at memory.old }
     requires row { at.row < 2 ^ 31 }
-    ensures { (l : APlaces) (size : ℕ) (ts : List ATransfer) → IsTried memory.old.chart.shape.shadows l size ts (durable memory.old.chart) i t at → AfterTransfer 0 memory.old (durable memory.old.chart) (put_back (writes l ts t) (durable memory.old.chart)) result memory.new }
+    ensures after { (l : APlaces) (size : ℕ) (ts : List ATransfer) → IsTried memory.old.chart.shape.shadows l size ts (durable memory.old.chart) i t at → AfterTransfer 0 memory.old (durable memory.old.chart) (put_back (writes l ts t) (durable memory.old.chart)) result memory.new }
+    ensures uncut { OnOk result (CountsUncut 11 memory.old memory.new) }
 {
     loop {
         match try_transfer(memory, at, i, t) {
@@ -59,6 +62,7 @@ pub fn plan_cut<B: Bench>(memory: &mut Memory<B>, every: u32, i: u32)
     ensures since { Since (if is_planned every i then 1 else 0) memory.old memory.new }
     ensures stands { (m : Array) → Stands memory.old.chart m → Stands memory.new.chart m }
     ensures same { durable memory.new.chart ≡ durable memory.old.chart }
+    ensures parts { memory.new.parts ≡ memory.old.parts }
 {
     if every != 0 && i % every == 0 {
         memory.arm_cut(place_of(i), u64::from(i));
@@ -74,7 +78,8 @@ fn transfer_all<B: Bench>(
     every: u32,
 ) -> Result<i64, DriveFault>
     requires { MayDrive area.now places load.old memory.old }
-    ensures { AfterAll area.now load.old every memory.old result load.new memory.new }
+    ensures after { AfterAll area.now load.old every memory.old result load.new memory.new }
+    ensures uncut { OnOk result (CountsUncut (11 * area.now.transfers) memory.old memory.new) }
 {
     let mut deltas: i64 = 0;
     for i in 0..area.transfers {

@@ -8,8 +8,6 @@
 mod calls;
 mod draw;
 mod driving;
-#[cfg(test)]
-mod driving_tests;
 mod fault;
 mod layout;
 mod load;
@@ -17,8 +15,6 @@ mod places;
 mod restart;
 mod summing;
 mod sums;
-#[cfg(test)]
-mod tests;
 mod transfer;
 mod trial;
 

@@ -1,7 +1,9 @@
 //! Work between transfers.
 
-ghost use Rattle.std.specs.Prelude.{◌≡◌, false, Ok};
+ghost use Rattle.std.specs.Prelude.{◌≡◌, false, OnOk, Ok};
 ghost use Rattle.envy_layout.specs.Words.{durable};
+ghost use Rattle.envy_memory.specs.Picture.{counts_of};
+ghost use Rattle.envy_tpca.specs.Loading.{Accessed};
 ghost use Rattle.envy_tpca.specs.Trying.{Rests, Returns, AfterTransfer};
 
 use crate::DriveFault;
@@ -11,7 +13,8 @@ use envy_memory::{Memory, ReviveFault};
 /// Asks for power until the memory is back.
 pub fn restart<B: Bench>(memory: &mut Memory<B>) -> Result<(), DriveFault>
     requires { memory.old.chart.on ≡ false }
-    ensures { Returns memory.old result memory.new }
+    ensures after { Returns memory.old result memory.new }
+    ensures counts { counts_of memory.new.parts ≡ counts_of memory.old.parts }
 {
     loop {
         match memory.revive() {
@@ -25,7 +28,8 @@ pub fn restart<B: Bench>(memory: &mut Memory<B>) -> Result<(), DriveFault>
 /// The four ticks after a transfer. After a restart those that are left are dropped.
 pub fn tick_four_times<B: Bench>(memory: &mut Memory<B>) -> Result<(), DriveFault>
     requires { Rests (durable memory.old.chart) memory.old }
-    ensures { AfterTransfer 0 memory.old (durable memory.old.chart) (durable memory.old.chart) result memory.new }
+    ensures after { AfterTransfer 0 memory.old (durable memory.old.chart) (durable memory.old.chart) result memory.new }
+    ensures accessed { OnOk result (Accessed 0 memory.old.parts.cache memory.new.parts.cache) }
 {
     for _tick in 0..4 {
         match memory.tick() {

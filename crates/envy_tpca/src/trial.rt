@@ -1,10 +1,11 @@
 //! One try of a transfer.
 
-ghost use Rattle.std.specs.Prelude.{◌≡◌, ℕ, ◌^◌, ◌<◌, ◌≤◌, List, length};
+ghost use Rattle.std.specs.Prelude.{◌≡◌, ℕ, ◌^◌, ◌<◌, ◌≤◌, List, OnOk, length};
 ghost use Rattle.envy_base.specs.Array.{page_of, put_back};
 ghost use Rattle.envy_memory.specs.Picture.{Picture};
 ghost use Rattle.envy_tpca.specs.declared.places.Places.{Places};
 ghost use Rattle.envy_tpca.specs.declared.transfer.Transfer.{Transfer as ATransfer};
+ghost use Rattle.envy_tpca.specs.Loading.{Accessed};
 ghost use Rattle.envy_tpca.specs.Since.{Since};
 ghost use Rattle.envy_tpca.specs.Trial.{IsTried, IsRoomy, writes, balances_of, row_of};
 ghost use Rattle.envy_tpca.specs.Trying.{Rests, Running, AfterPut, AfterTry};
@@ -21,7 +22,8 @@ pub fn put_balances<B: Bench>(
     at: Spots,
     t: Transfer,
 ) -> Result<(), Fault>
-    ensures { (n : ℕ) (first : Picture) (l : Places) (size : ℕ) (ts : List ATransfer) (before : List ℕ) → Running n first before before slot 0 0 memory.old → IsTried first.chart.shape.shadows l size ts before (length ts) t at → AfterPut n first before (put_back (balances_of at ts t) before) slot 3 (page_of at.branch) result memory.new }
+    ensures after { (n : ℕ) (first : Picture) (l : Places) (size : ℕ) (ts : List ATransfer) (before : List ℕ) → Running n first before before slot 0 0 memory.old → IsTried first.chart.shape.shadows l size ts before (length ts) t at → AfterPut n first before (put_back (balances_of at ts t) before) slot 3 (page_of at.branch) result memory.new }
+    ensures accessed { OnOk result (Accessed 6 memory.old.parts.cache memory.new.parts.cache) }
 {
     add(memory, slot, at.account, t.delta)?;
     add(memory, slot, at.teller, t.delta)?;
@@ -36,7 +38,8 @@ pub fn put_row<B: Bench>(
     t: Transfer,
 ) -> Result<(), Fault>
     requires row { row < 2 ^ 31 }
-    ensures { (n : ℕ) (first : Picture) (before now : List ℕ) (last : ℕ) → Running n first before now slot 3 last memory.old → IsRoomy first.chart.shape.shadows now row t → AfterPut n first before (put_back (row_of row t) now) slot 4 (page_of row) result memory.new }
+    ensures after { (n : ℕ) (first : Picture) (before now : List ℕ) (last : ℕ) → Running n first before now slot 3 last memory.old → IsRoomy first.chart.shape.shadows now row t → AfterPut n first before (put_back (row_of row t) now) slot 4 (page_of row) result memory.new }
+    ensures accessed { OnOk result (Accessed 4 memory.old.parts.cache memory.new.parts.cache) }
 {
     put_word(memory, slot, row, u64::from(t.account))?;
     put_word(memory, slot, row + 1, u64::from(t.teller))?;
@@ -53,7 +56,8 @@ pub fn try_transfer<B: Bench>(
     t: Transfer,
 ) -> Result<(), Fault>
     requires row { at.row < 2 ^ 31 }
-    ensures { (n : ℕ) (first : Picture) (l : Places) (size : ℕ) (ts : List ATransfer) (before : List ℕ) → Rests before memory.old → Since n first memory.old → IsTried first.chart.shape.shadows l size ts before i t at → AfterTry n first before (put_back (writes l ts t) before) result memory.new }
+    ensures after { (n : ℕ) (first : Picture) (l : Places) (size : ℕ) (ts : List ATransfer) (before : List ℕ) → Rests before memory.old → Since n first memory.old → IsTried first.chart.shape.shadows l size ts before i t at → AfterTry n first before (put_back (writes l ts t) before) result memory.new }
+    ensures accessed { OnOk result (Accessed 11 memory.old.parts.cache memory.new.parts.cache) }
 {
     let slot = open(memory)?;
     put_balances(memory, slot, at, t)?;

@@ -28,6 +28,3 @@ pub use numbers::{no_number, one_number, read_number, three_numbers, two_numbers
 pub use read::read_line;
 pub use reply::Reply;
 pub use write::{line_text, reply_text};
-
-#[cfg(test)]
-mod tests;

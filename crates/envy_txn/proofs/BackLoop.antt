@@ -22,7 +22,7 @@ use Rattle.envy_txn.specs.Ending.{Restores}
 use Rattle.envy_txn.specs.Owners.{AreApart, AreOwned, names_slot, others_of}
 use Rattle.envy_txn.specs.Turns.{RestoredIn, is_among}
 use Rattle.envy_txn.proofs.HeldLemmas.{filter-same, is_kept_by}
-use Rattle.envy_txn.proofs.TurnLemmas.{among-skip, among-other, among-here, named-among, unnamed-among, AreOwned-left, unused-left}
+use Rattle.envy_txn.proofs.TurnLemmas.{among-other, among-here, named-among, unnamed-among, AreOwned-left, unused-left}
 
 -- a page goes back
 pub record Returns (p : ℕ) (back : Place) (d new : Chart) : Type 0 where
@@ -45,13 +45,6 @@ undo-other p back d new o r other = ap (λ (z : Chart). undo z.fields o) r.field
 
 pub RestoredIn-none : (t : ℕ) (c : Chart) → RestoredIn [] t c c
 RestoredIn-none t c = record { own = λ p is. absurd (let no : false ≡ true = is in cc); others = λ p is. (refl, refl); rest = refl }
-
-pub RestoredIn-skip : (ps : List Pair) (e : Pair) (t : ℕ) (c d : Chart) → e.slot ≢ t → RestoredIn ps t c d → RestoredIn (ps ++ e ∷ []) t c d
-RestoredIn-skip ps e t c d other r = record {
-  own = λ p is. r.own p (sym (among-skip ps e t p other) ∙ is);
-  others = λ p is. r.others p (sym (among-skip ps e t p other) ∙ is);
-  rest = r.rest;
-}
 
 -- what changed of the fields is the places and the undos alone
 pub rest-more : (c d new : Chart) (p : ℕ) (back : Place) → Returns p back d new → d ≡ with_fields c (record c.fields { places = d.fields.places; undos = d.fields.undos }) → new ≡ with_fields c (record c.fields { places = new.fields.places; undos = new.fields.undos })

@@ -1,5 +1,5 @@
 -- The held frames, when pages go back to where a restart reads them.
-use Rattle.std.proofs.Common.{◌≡◌, ◌≢◌, ◌⊎◌, inl, inr, Bool, true, false, cond, not, ℕ, suc, ◌||◌, ◌&&◌, List, [], ◌∷◌, ◌++◌, get_or, set, Option, None, Some, refl, sym, ◌∙◌, ap, arith}
+use Rattle.std.proofs.Common.{◌≡◌, ◌⊎◌, inl, inr, Bool, true, false, cond, not, ℕ, suc, ◌||◌, ◌&&◌, List, [], ◌∷◌, ◌++◌, get_or, set, Option, None, Some, refl, sym, ◌∙◌, ap, arith}
 use Rattle.std.specs.Prelude.{◌==◌}
 use Rattle.std.specs.List.{filter, All}
 use Rattle.std.proofs.lemmas.Bool.{cases_eq, eq-eqb, ne_eqb}
@@ -18,7 +18,7 @@ use Rattle.envy_frames.proofs.Lists.{filter_all, filter-filter}
 use Rattle.envy_txn.specs.declared.pair.Pair.{Pair}
 use Rattle.envy_txn.specs.Turns.{gives, is_among, left_held}
 use Rattle.envy_txn.proofs.BackLemmas.{Backs}
-use Rattle.envy_txn.proofs.TurnLemmas.{among-push, gives-other}
+use Rattle.envy_txn.proofs.TurnLemmas.{among-push}
 
 module _ {X : Type 0} where
   -- tests that agree on each element keep the same
@@ -78,10 +78,6 @@ held-more ps e t first now new before is =
 
 pub held-none : (t : ℕ) (held : List Held) → held ≡ filter (is_kept_by [] t) held
 held-none t held = sym (filter_all (is_kept_by [] t) held (λ k d lt. refl))
-
--- a pair of another slot leaves the held frames
-pub held-skip : (e : Pair) (t : ℕ) (held : List Held) → e.slot ≢ t → held ≡ filter (λ h. not (gives t h.page e)) held
-held-skip e t held other = sym (filter_all (λ h. not (gives t h.page e)) held (λ k d lt. ap not (gives-other e t (get_or held k d).page (inl other))))
 
 pub held-one : (e : Pair) (t : ℕ) (held : List Held) → e.slot ≡ t → filter (is_not_page e.page) held ≡ filter (λ h. not (gives t h.page e)) held
 held-one e t held own = filter-same (is_not_page e.page) (λ h. not (gives t h.page e)) held (λ k d lt. at (e.page == (get_or held k d).page))

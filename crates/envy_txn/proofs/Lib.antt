@@ -1,11 +1,13 @@
 pub mod BackLemmas
 pub mod BackLoop
 pub mod BackReady
+pub mod ChainLemmas
+pub mod EntryLemmas
 pub mod HeldLemmas
-pub mod IndexLemmas
+pub mod LedgerLemmas
+pub mod OwnLemmas
 pub mod OwnerLemmas
 pub mod ReleaseLemmas
 pub mod ReleaseLoop
-pub mod SearchLemmas
 pub mod SettleLemmas
 pub mod TurnLemmas

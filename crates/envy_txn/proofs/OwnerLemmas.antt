@@ -1,14 +1,10 @@
 -- Who owns a page, by a list of pairs, and how many pages are owned.
-use Rattle.std.proofs.Common.{◌≡◌, ◌≢◌, ◌⊎◌, inl, inr, ℕ, zero, suc, ◌<◌, ◌≤◌, eqb, Bool, true, false, List, [], ◌∷◌, ◌++◌, map, length, get_or, set, take, drop, Option, None, Some, refl, sym, ◌∙◌, ap, subst, arith}
+use Rattle.std.proofs.Common.{◌≡◌, ◌≢◌, ◌⊎◌, inl, inr, ℕ, zero, suc, ◌<◌, ◌≤◌, Bool, true, false, List, [], ◌∷◌, ◌++◌, map, length, get_or, set, Option, None, Some, refl, sym, ◌∙◌, ap, subst, arith}
 use Rattle.std.specs.Prelude.{◌==◌, ◌↔◌, IsNone, count_by, if◌then◌else◌}
-use Rattle.std.specs.List.{list_any, All, AllPairs, Any}
+use Rattle.std.specs.List.{All, AllPairs, Any}
 use Rattle.std.specs.Option.{is_some, option_or}
-use Rattle.std.proofs.lemmas.Bool.{cases_eq, cases_lt, eq-eqb, ne_eqb, eqb-true}
-use Rattle.std.proofs.lemmas.Bool.Decides.{Decides-eqb}
-use Rattle.std.proofs.lemmas.Cmp.{nat_eq_equiv}
-use Rattle.std.proofs.lemmas.List.{get_or-map, get_or-set_same, get_or-set_other, length-map, get_or_past, take-append-drop}
-use Rattle.std.proofs.lemmas.List.Folds.{Any-from_list_any, list_any-from_Any}
-use Rattle.std.proofs.lemmas.Map.Made.{length-from_same_keys, IsDistinct-from_AllPairs}
+use Rattle.std.proofs.lemmas.Bool.{cases_eq, cases_lt, eq-eqb, ne_eqb}
+use Rattle.std.proofs.lemmas.List.{get_or-map, get_or-set_same, get_or-set_other, length-map, get_or_past}
 use Rattle.envy_base.specs.declared.fields.Slot.{Slot}
 use Rattle.envy_base.specs.declared.fields.Undo.{Undo}
 use Rattle.envy_base.specs.declared.fields.Undo.TheVariants.{Clear, Blank, Shadow}
@@ -18,8 +14,8 @@ use Rattle.envy_map.specs.Fields.{Fields}
 use Rattle.envy_layout.specs.May.{MayUndo, IsOpen}
 use Rattle.envy_layout.specs.Sound.{owned_by, slot_named}
 use Rattle.envy_layout.proofs.KeptLemmas.{owned_by-active}
-use Rattle.envy_frames.proofs.CountLemmas.{length-numbers, same_tests}
-use Rattle.envy_frames.proofs.Lists.{AllPairs-head, AllPairs-tail, Any-weaker}
+use Rattle.envy_frames.proofs.CountLemmas.{length-numbers}
+use Rattle.envy_frames.proofs.Lists.{AllPairs-head, AllPairs-tail}
 use Rattle.envy_txn.specs.declared.pair.Pair.{Pair}
 use Rattle.envy_txn.specs.Owners.{AreApart, AreOwned, owner_of, owner_in, others_of, without}
 
@@ -74,26 +70,7 @@ owner_of-append (e ∷ rest) ys p = at (e.page == p) (owner_of-append rest ys p)
     at true same = refl
     at false same = same
 
--- one pair more, of a page that had none, at the end or in between
-pub owner_of-insert : (xs : List Pair) (i : ℕ) (y : Pair) (p : ℕ) → owner_of xs y.page ≡ None → owner_of (take i xs ++ y ∷ drop i xs) p ≡ (if y.page == p then Some y.slot else owner_of xs p)
-owner_of-insert xs i y p none = owner_of-append (take i xs) (y ∷ drop i xs) p ∙ at (cases_eq y.page p)
-  where
-    whole : (q : ℕ) → owner_of xs q ≡ option_or (owner_of (take i xs) q) (owner_of (drop i xs) q)
-    whole q = ap (λ (zs : List Pair). owner_of zs q) (sym (take-append-drop i xs)) ∙ owner_of-append (take i xs) (drop i xs) q
-
-    front : (a b : Option ℕ) → option_or a b ≡ None → a ≡ None
-    front None b e = refl
-    front (Some t) b e = cc
-
-    at : (y.page ≡ p) ⊎ (y.page ≡ p → ⊥) → option_or (owner_of (take i xs) p) (owner_of (y ∷ drop i xs) p) ≡ (if y.page == p then Some y.slot else owner_of xs p)
-    at (inl same) =
-        let is : (y.page == p) ≡ true = eq-eqb y.page p same in
-        let empty : owner_of (take i xs) p ≡ None = front (owner_of (take i xs) p) (owner_of (drop i xs) p) (sym (whole p) ∙ ap (λ (q : ℕ). owner_of xs q) (sym same) ∙ none) in
-        rw (is, empty) refl
-    at (inr other) =
-        let is : (y.page == p) ≡ false = ne_eqb y.page p other in
-        rw is (sym (whole p))
-
+-- one pair more, of a page that had none
 pub owner_of-push : (xs : List Pair) (y : Pair) (p : ℕ) → owner_of xs y.page ≡ None → owner_of (xs ++ y ∷ []) p ≡ (if y.page == p then Some y.slot else owner_of xs p)
 owner_of-push xs y p none = owner_of-append xs (y ∷ []) p ∙ at (cases_eq y.page p)
   where
@@ -188,21 +165,6 @@ pairs-counted slots undos pairs apart owned =
 
     outside : (n : ℕ) → n < length undos → owned_by slots (get_or undos n None) ≡ true → Any (λ x. x ≡ n) (pages_of pairs)
     outside n lt test = let some = owned-owner_in slots (get_or undos n None) test in any-pages pairs n some.0 (owner_of-some pairs n some.0 (owned n ∙ some.1))
-
--- two lists of pairs with the same owners are as long
-pub same-long : (xs ys : List Pair) → AllPairs AreApart xs → AllPairs AreApart ys → ((p : ℕ) → owner_of xs p ≡ owner_of ys p) → length xs ≡ length ys
-same-long xs ys left right same =
-    sym (length-map xs (λ e. e.page)) ∙ length-from_same_keys nat_eq_equiv (pages_of xs) (pages_of ys) (IsDistinct-from_AllPairs Decides-eqb (pages_of xs) (pages-apart xs left)) (IsDistinct-from_AllPairs Decides-eqb (pages_of ys) (pages-apart ys right)) tests ∙ length-map ys (λ e. e.page)
-  where
-    goes : (ds bs : List Pair) (p : ℕ) → AllPairs AreApart ds → ((q : ℕ) → owner_of ds q ≡ owner_of bs q) → list_any (eqb p) (pages_of ds) ≡ true → list_any (eqb p) (pages_of bs) ≡ true
-    goes ds bs p apart alike has =
-        let any : Any (λ x. x ≡ p) (pages_of ds) = Any-weaker (λ x. eqb p x ≡ true) (λ x. x ≡ p) (pages_of ds) (λ x e. sym (eqb-true p x e)) (Any-from_list_any (eqb p) (pages_of ds) has) in
-        let found = pages-any ds p any in
-        let some : owner_of bs p ≡ Some (get_or ds found.0 some_pair).slot = sym (alike p) ∙ owner_of-at ds found.0 p some_pair apart found.1 found.2 in
-        list_any-from_Any (eqb p) (pages_of bs) (Any-weaker (λ x. x ≡ p) (λ x. eqb p x ≡ true) (pages_of bs) (λ x e. eq-eqb p x (sym e)) (any-pages bs p (get_or ds found.0 some_pair).slot (owner_of-some bs p (get_or ds found.0 some_pair).slot some)))
-
-    tests : (p : ℕ) → list_any (eqb p) (pages_of xs) ≡ list_any (eqb p) (pages_of ys)
-    tests p = same_tests (list_any (eqb p) (pages_of xs)) (list_any (eqb p) (pages_of ys)) (goes xs ys p left same) (goes ys xs p right (λ q. sym (same q)))
 
 -- an undo that may be written names an open slot
 pub may-open : (sh : Shape) (f : Fields) (flash : List (List ℕ)) (p t : ℕ) (u : Undo) → MayUndo sh f flash p u → slot_named (Some u) ≡ Some t → IsOpen f t

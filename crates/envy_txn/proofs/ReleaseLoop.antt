@@ -20,7 +20,7 @@ use Rattle.envy_txn.specs.declared.pair.Pair.{Pair}
 use Rattle.envy_txn.specs.Ending.{Releases}
 use Rattle.envy_txn.specs.Owners.{AreApart, AreOwned, others_of}
 use Rattle.envy_txn.specs.Turns.{Releasing, ReleasedIn, is_among}
-use Rattle.envy_txn.proofs.TurnLemmas.{among-skip, among-other, among-here, named-among, unnamed-among, AreOwned-left, unused-left}
+use Rattle.envy_txn.proofs.TurnLemmas.{among-other, among-here, named-among, unnamed-among, AreOwned-left, unused-left}
 
 pub Releasing-after : (c new : Chart) (pool then_pool : Pool) (p t : ℕ) → Releasing c pool t → p < c.shape.pages → IsTrue new.on → SameWords 0 0 c new → new ≡ with_fields c (with_undo p (Some Clear) c.fields) → PoolAgrees new.shape (with_slot t (Some Active) new.fields) then_pool → Releasing new then_pool t
 Releasing-after c new pool then_pool p t r lt on same is agrees = record {
@@ -38,13 +38,6 @@ Releasing-after c new pool then_pool p t r lt on same is agrees = record {
 
 pub ReleasedIn-none : (t : ℕ) (c : Chart) → ReleasedIn [] t c c
 ReleasedIn-none t c = record { own = λ p is. cc; others = λ p is. refl; rest = refl }
-
-pub ReleasedIn-skip : (ps : List Pair) (e : Pair) (t : ℕ) (c d : Chart) → e.slot ≢ t → ReleasedIn ps t c d → ReleasedIn (ps ++ e ∷ []) t c d
-ReleasedIn-skip ps e t c d other r = record {
-  own = λ p is. r.own p (sym (among-skip ps e t p other) ∙ is);
-  others = λ p is. r.others p (sym (among-skip ps e t p other) ∙ is);
-  rest = r.rest;
-}
 
 pub ReleasedIn-more : (ps : List Pair) (e : Pair) (t : ℕ) (c d new : Chart) → e.slot ≡ t → e.page < length d.fields.undos → new ≡ with_fields d (with_undo e.page (Some Clear) d.fields) → ReleasedIn ps t c d → ReleasedIn (ps ++ e ∷ []) t c new
 ReleasedIn-more ps e t c d new slot low is r = record {

@@ -43,10 +43,6 @@ gives-other e t p other = at (gives t p e) refl other
     at true is (inl differs) = absurd (differs (gives-page e t p is).1)
     at true is (inr differs) = absurd (differs (gives-page e t p is).0)
 
--- a pair of another slot gives it nothing
-pub among-skip : (ps : List Pair) (e : Pair) (t p : ℕ) → e.slot ≢ t → is_among (ps ++ e ∷ []) t p ≡ is_among ps t p
-among-skip ps e t p other = among-push ps e t p ∙ ap (λ (b : Bool). is_among ps t p || b) (gives-other e t p (inl other)) ∙ or-none (is_among ps t p)
-
 pub among-other : (ps : List Pair) (e : Pair) (t p : ℕ) → e.page ≢ p → is_among (ps ++ e ∷ []) t p ≡ is_among ps t p
 among-other ps e t p other = among-push ps e t p ∙ ap (λ (b : Bool). is_among ps t p || b) (gives-other e t p (inr other)) ∙ or-none (is_among ps t p)
 

@@ -1,4 +1,5 @@
 pub mod Ending
+pub mod Entries
 pub mod Owners
 pub mod Turns
 pub use Rattle.envy_base.specs.Shape

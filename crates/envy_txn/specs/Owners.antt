@@ -1,5 +1,5 @@
 -- Which pages open transactions own, and when the list of them is the map's.
-use Rattle.std.specs.Prelude.{◌≡◌, ◌≢◌, ℕ, ◌^◌, ◌==◌, ◌<◌, ◌≤◌, not, Bool, false, List, [], ◌∷◌, length, Option, None, Some, slice_index_or, if◌then◌else◌, AllPairs}
+use Rattle.std.specs.Prelude.{◌≡◌, ◌≢◌, ℕ, ◌==◌, ◌≤◌, not, Bool, false, List, [], ◌∷◌, length, Option, None, Some, slice_index_or, if◌then◌else◌, AllPairs}
 use Rattle.std.specs.List.{filter}
 use Rattle.envy_base.specs.declared.fields.Slot.{Slot}
 use Rattle.envy_base.specs.declared.fields.Undo.{Undo}
@@ -51,15 +51,3 @@ names_slot t (Some (Shadow s q)) = s == t
 abbrev pub without : ℕ → Option ℕ → Option ℕ
 without t None = None
 without t (Some s) = if s == t then None else Some s
-
-abbrev pub IsBelow : Pair → Pair → Type 0
-IsBelow d e = d.page < e.page
-
--- what is kept of the pairs: they, and the same in rising order of page, with room for all that there may be
-pub record IsOwned (pairs by_page : List Pair) (limit capacity page_capacity : ℕ) : Type 0 where
-  pub owners : IsOwnership (record { pairs = pairs; limit = limit })
-  pub sorted : AllPairs IsBelow by_page
-  pub same : (p : ℕ) → owner_of by_page p ≡ owner_of pairs p
-  pub fits : limit ≤ capacity
-  pub page_fits : limit ≤ page_capacity
-  pub few : limit < 2 ^ 32

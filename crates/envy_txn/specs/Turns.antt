@@ -1,6 +1,6 @@
 -- The pages of a slot, one pair at a time: what the pairs so far have done, and what holds in between.
-use Rattle.std.specs.Prelude.{◌≡◌, ℕ, ◌*◌, ◌/◌, ◌==◌, ◌&&◌, ◌<◌, ◌≤◌, IsTrue, Bool, true, false, List, Some, slice_index, slice_set}
-use Rattle.std.specs.List.{filter, list_any}
+use Rattle.std.specs.Prelude.{◌≡◌, ℕ, ◌*◌, ◌/◌, ◌==◌, ◌&&◌, ◌<◌, ◌≤◌, IsTrue, Bool, true, false, List, Option, None, Some, slice_index, slice_index_or, slice_set}
+use Rattle.std.specs.List.{All, filter, list_any}
 use Rattle.envy_base.specs.declared.fields.Slot.TheVariants.{Vacant, Active, Committed}
 use Rattle.envy_base.specs.declared.fields.Place.{Place}
 use Rattle.envy_base.specs.declared.fields.Place.TheVariants.{Absent, Row, Frame}
@@ -9,7 +9,7 @@ use Rattle.envy_base.specs.declared.fields.Undo.TheVariants.{Clear, Blank, Shado
 use Rattle.envy_map.specs.Fields.{Chart, with_fields, place, undo, slot}
 use Rattle.envy_map.specs.Writes.{with_slot}
 use Rattle.envy_layout.specs.Naming.{AreParted}
-use Rattle.envy_layout.specs.Sound.{IsSound}
+use Rattle.envy_layout.specs.Sound.{IsSound, slot_named}
 use Rattle.envy_layout.specs.Words.{kept}
 use Rattle.envy_frames.specs.Agreement.{AreHeld}
 use Rattle.envy_frames.specs.declared.held.Held.{Held}
@@ -25,6 +25,10 @@ gives t p e = (e.page == p) && (e.slot == t)
 
 abbrev pub is_among : List Pair → ℕ → ℕ → Bool
 is_among pairs t p = list_any (gives t p) pairs
+
+-- the pairs are the slot's, and the undos of their pages name it
+abbrev pub AreNamed : ℕ → List (Option Undo) → List Pair → Type 0
+AreNamed t undos pairs = All (λ e. (e.slot ≡ t) × (slot_named (slice_index_or undos e.page None) ≡ Some t)) pairs
 
 -- The slot has committed. Rows and references agree with the map as if it were active.
 pub record Releasing (c : Chart) (pool : Pool) (t : ℕ) : Type 0 where

@@ -5,14 +5,16 @@
 //! order in which the pages came to be owned.
 #![tactic(auto)]
 
+mod chain;
+mod entry;
 mod laws;
+mod ledger;
 mod owned;
 mod pair;
 mod release;
 mod restore;
+mod search;
 mod settling;
-#[cfg(test)]
-mod tests;
 mod undos;
 
 pub use laws::{

@@ -1,13 +1,13 @@
-ghost use Rattle.std.specs.Prelude.{◌≡◌, ◌≢◌, ◌↔◌, ◌<◌, ◌≤◌, ℕ, false, IsTrue, [], ◌∷◌, ◌++◌, length, slice_index_or, None, Some, IsErr, All, AllPairs, IsNone, IfOk, MatchResult, OnOk, OnErr};
+ghost use Rattle.std.specs.Prelude.{◌≡◌, ◌≢◌, ◌↔◌, ◌<◌, ◌≤◌, ℕ, false, IsTrue, [], ◌∷◌, ◌++◌, length, None, Some, IsErr, All, IsNone, IfOk, OnOk, OnErr};
 ghost use Rattle.envy_map.specs.Codes.{IsUndo};
 ghost use Rattle.envy_map.specs.Fields.{chart, with_fields};
 ghost use Rattle.envy_map.specs.Writes.{with_undo};
 ghost use Rattle.envy_layout.specs.May.{MayUndo};
 ghost use Rattle.envy_layout.specs.Same.{SameWords};
 ghost use Rattle.envy_layout.specs.Sound.{IsSound, slot_named};
-ghost use Rattle.envy_txn.specs.declared.pair.Pair.{Pair as APair};
-ghost use Rattle.envy_txn.specs.Owners.{IsBelow, IsOwnership, AreOwned, owner_of, others_of};
+ghost use Rattle.envy_txn.specs.Owners.{IsOwnership, AreOwned, owner_of, others_of};
 
+use crate::ledger::Ledger;
 use crate::pair::Pair;
 use crate::undos::slot_in;
 use envy_base::{Board, NoMemory, Off, Undo};
@@ -18,34 +18,44 @@ use std::marker::Model;
 /// The pages that open transactions own, in the order in which they came to be owned.
 #[derive(Drop)]
 pub struct Owned {
-    pairs: Vec<Pair>,
-    /// The same pairs in rising order of page.
-    by_page: Vec<Pair>,
+    pub(crate) ledger: Ledger,
+    /// Lent to what goes over pairs. It has room for all that there may be.
+    pub(crate) list: Vec<Pair>,
     limit: u32,
 }
 
 impl Model for Owned {
     ghost use Rattle.std.specs.Prelude.{vec_capacity};
-    ghost use Rattle.envy_txn.specs.Owners.{Ownership, IsOwned};
+    ghost use Rattle.envy_txn.specs.Entries.{IsOwned};
+    ghost use Rattle.envy_txn.specs.Owners.{Ownership};
 
     ghost Value = { Ownership };
 
-    ghost view = { λ a. record { pairs = a.pairs.items; limit = a.limit } };
+    ghost view = { λ a. record { pairs = a.ledger.pairs; limit = a.limit } };
 
-    ghost invariant = { λ a. IsOwned a.pairs.items a.by_page.items a.limit (vec_capacity a.pairs) (vec_capacity a.by_page) };
+    ghost invariant = { λ a. IsOwned a.ledger a.limit (vec_capacity a.list) };
 }
 
 impl Owned {
     /// No page is owned, and so many may be. It takes all memory that is ever needed; no other call takes
-    /// any.
+    /// any. The owner of a page is searched for among all entries.
     pub fn new(alloc: Global, limit: u32) -> Result<Owned, NoMemory>
         ensures { IfOk result (λ owned. owned ≡ record { pairs = []; limit = limit }) }
     {
-        let pairs = Vec::with_capacity(alloc, limit as usize)?;
-        let by_page = Vec::with_capacity(alloc, limit as usize)?;
+        Owned::of_pages(alloc, limit, 0)
+    }
+
+    /// The same, where the owner of a page below `pages` is found at once.
+    pub fn of_pages(alloc: Global, limit: u32, pages: u32) -> Result<Owned, NoMemory>
+        ensures { IfOk result (λ owned. owned ≡ record { pairs = []; limit = limit }) }
+    {
+        // Twice the limit, so that as many pages as may be owned come to be owned between two packings. No board has
+        // so many shadows that twice their number doesn't fit.
+        let ledger = Ledger::new(alloc, limit.saturating_mul(2), pages)?;
+        let list = Vec::with_capacity(alloc, limit as usize)?;
         Ok(Owned {
-            pairs,
-            by_page,
+            ledger,
+            list,
             limit,
         })
     }
@@ -56,7 +66,7 @@ impl Owned {
         ensures none { IsNone result ↔ All (λ e. e.page ≢ page) self.now.pairs }
         ensures whole { IsOwnership self.now }
     {
-        look_up(&self.by_page, page)
+        self.ledger.owner(page)
     }
 
     /// How many pages are owned.
@@ -64,7 +74,7 @@ impl Owned {
         ensures value { result ≡ length self.now.pairs }
         ensures whole { IsOwnership self.now }
     {
-        self.pairs.len() as u32
+        self.ledger.count()
     }
 
     /// Whether one more page may be owned.
@@ -97,7 +107,7 @@ impl Owned {
         ensures unchanged { OnErr result (self.new ≡ self.old) }
         ensures off { IsErr result ↔ ((B.state board.new).on ≡ false) }
     {
-        let _ = &self.pairs;
+        let _ = &self.ledger;
         if !board.powered() {
             return Err(Off);
         }
@@ -113,8 +123,7 @@ impl Owned {
     pub fn forget(&mut self)
         ensures { self.new ≡ record self.old { pairs = [] } }
     {
-        self.pairs.clear();
-        self.by_page.clear();
+        self.ledger.clear();
     }
 
     /// A page is owned that wasn't.
@@ -123,48 +132,14 @@ impl Owned {
         requires free { owner_of self.old.pairs pair.page ≡ None }
         ensures { self.new ≡ record self.old { pairs = self.old.pairs ++ pair ∷ [] } }
     {
-        let at = match find(&self.by_page, pair.page) {
-            Ok(_) => unreachable!(),
-            Err(i) => i,
-        };
-        let _room = self.pairs.push(pair);
-        let _room = self.by_page.insert(at, pair);
+        self.ledger.make_room(&mut self.list);
+        self.ledger.append(pair);
     }
 
     /// The slot owns no page any more.
     pub(crate) fn leave(&mut self, t: u8)
         ensures { self.new ≡ record self.old { pairs = others_of t self.old.pairs } }
     {
-        self.pairs.retain(|pair| pair.slot != t);
-        self.by_page.retain(|pair| pair.slot != t);
+        self.ledger.leave(t);
     }
-
-    /// The pairs in order of owning.
-    pub(crate) fn pairs(&self) -> &[Pair]
-        ensures pairs { result.now ≡ self.now.pairs }
-        ensures whole { IsOwnership self.now }
-    {
-        &self.pairs
-    }
-}
-
-/// The slot that a page has, of pairs in rising order of page.
-fn look_up(pairs: &[Pair], page: u32) -> Option<u8>
-    requires { AllPairs IsBelow pairs.now }
-    ensures { result ≡ owner_of pairs.now page }
-{
-    match find(pairs, page) {
-        Ok(i) => Some(pairs[i].slot),
-        Err(_) => None,
-    }
-}
-
-/// Where the pair of a page stands, of pairs in rising order of page, or where it would stand.
-fn find(pairs: &[Pair], page: u32) -> Result<usize, usize>
-    requires sorted { AllPairs IsBelow pairs.now }
-    ensures { MatchResult result
-        (λ i. (i < length pairs.now) × ((d : APair) → (slice_index_or pairs.now i d).page ≡ page))
-        (λ i. (i ≤ length pairs.now) × ((k : ℕ) (d : APair) → k < i → (slice_index_or pairs.now k d).page < page) × ((k : ℕ) (d : APair) → i ≤ k → k < length pairs.now → page < (slice_index_or pairs.now k d).page)) }
-{
-    pairs.binary_search_by_key(&page, |pair| pair.page)
 }

@@ -1,16 +1,15 @@
-ghost use Rattle.std.specs.Prelude.{◌≡◌, ◌↔◌, ◌<◌, ℕ, false, IsTrue, List, [], ◌∷◌, ◌++◌, Some, IsErr, AllPairs, OnOk, OnErr};
+ghost use Rattle.std.specs.Prelude.{◌≡◌, ◌↔◌, ◌<◌, false, IsTrue, Some, IsErr, AllPairs, OnOk, OnErr};
 ghost use Rattle.envy_base.specs.declared.fields.Slot.TheVariants.{Active, Committed};
-ghost use Rattle.envy_map.specs.Fields.{Chart, chart, with_fields, slot as slot_of, undo as undo_of};
+ghost use Rattle.envy_map.specs.Fields.{chart, with_fields, slot as slot_of, undo as undo_of};
 ghost use Rattle.envy_map.specs.Writes.{with_slot, with_undo};
 ghost use Rattle.envy_layout.specs.May.{IsUnused};
 ghost use Rattle.envy_layout.specs.Naming.{AreParted};
 ghost use Rattle.envy_layout.specs.Same.{SameWords};
 ghost use Rattle.envy_layout.specs.Sound.{IsSound, slot_named};
 ghost use Rattle.envy_space.specs.Pool.{PoolAgrees};
-ghost use Rattle.envy_txn.specs.declared.pair.Pair.{Pair as APair};
 ghost use Rattle.envy_txn.specs.Owners.{AreApart, AreOwned, others_of};
 ghost use Rattle.envy_txn.specs.Ending.{Releases};
-ghost use Rattle.envy_txn.specs.Turns.{Releasing, ReleasedIn, IsDroppable, dropped_pool};
+ghost use Rattle.envy_txn.specs.Turns.{AreNamed, Releasing, ReleasedIn, IsDroppable, dropped_pool};
 
 use crate::owned::Owned;
 use crate::pair::Pair;
@@ -58,13 +57,14 @@ impl Owned {
         if !board.powered() {
             return Err(Off);
         }
-        release_pairs(board, space, self.pairs(), t)?;
+        self.ledger.list(t, &mut self.list);
+        release_pairs(board, space, &self.list, t)?;
         self.leave(t);
         Ok(())
     }
 }
 
-/// Lets the slot go of its pages among the pairs of all owned pages.
+/// Lets the slot go of the pages of its pairs.
 fn release_pairs<B: Board>(
     board: &mut B,
     space: &mut Space,
@@ -72,7 +72,7 @@ fn release_pairs<B: Board>(
     t: u8,
 ) -> Result<(), Off>
     requires releasing { Releasing (chart (B.state board.old)) space.old t }
-    requires owned { let f = with_slot t (Some Active) (chart (B.state board.old)).fields in AreOwned f.slots f.undos pairs.now }
+    requires named { AreNamed t (chart (B.state board.old)).fields.undos pairs.now }
     requires apart { AllPairs AreApart pairs.now }
     ensures same { SameWords 0 0 (chart (B.state board.old)) (chart (B.state board.new)) }
     ensures releasing { OnOk result (Releasing (chart (B.state board.new)) space.new t) }
@@ -81,25 +81,7 @@ fn release_pairs<B: Board>(
     ensures off { OnErr result ((B.state board.new).on ≡ false) }
 {
     for pair in pairs {
-        release_pair(board, space, *pair, t)?;
-    }
-    Ok(())
-}
-
-/// Lets the slot go of the page of a pair, where it is the slot's.
-fn release_pair<B: Board>(board: &mut B, space: &mut Space, pair: Pair, t: u8) -> Result<(), Off>
-    requires releasing { Releasing (chart (B.state board.old)) space.old t }
-    requires page { pair.page < (B.state board.old).shape.pages }
-    requires names { pair.slot ≡ t → slot_named (undo_of (chart (B.state board.old)).fields pair.page) ≡ Some t }
-    ensures same { SameWords 0 0 (chart (B.state board.old)) (chart (B.state board.new)) }
-    ensures releasing { OnOk result (Releasing (chart (B.state board.new)) space.new t) }
-    ensures released { OnOk result ((c : Chart) (so_far : List APair) → ReleasedIn so_far t c (chart (B.state board.old)) → ReleasedIn (so_far ++ pair ∷ []) t c (chart (B.state board.new))) }
-    ensures shape { space.new.shape ≡ space.old.shape }
-    ensures off { OnErr result ((B.state board.new).on ≡ false) }
-{
-    if pair.slot == t {
         release_page(board, space, pair.page, t)?;
-        return Ok(());
     }
     Ok(())
 }

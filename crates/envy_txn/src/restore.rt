@@ -1,8 +1,8 @@
-ghost use Rattle.std.specs.Prelude.{◌≡◌, ◌≢◌, ◌↔◌, ◌<◌, ◌==◌, ℕ, not, false, IsTrue, List, [], ◌∷◌, ◌++◌, Some, IsErr, AllPairs, Any, OnOk, OnErr, length};
+ghost use Rattle.std.specs.Prelude.{◌≡◌, ◌↔◌, ◌<◌, ◌==◌, ℕ, not, false, IsTrue, Some, IsErr, AllPairs, Any, OnOk, OnErr};
 ghost use Rattle.std.specs.List.{filter};
 ghost use Rattle.envy_base.specs.declared.fields.Place.{Place as APlace};
 ghost use Rattle.envy_base.specs.declared.fields.Slot.TheVariants.{Active};
-ghost use Rattle.envy_map.specs.Fields.{Chart, chart, with_fields, slot as slot_of, undo as undo_of};
+ghost use Rattle.envy_map.specs.Fields.{chart, with_fields, slot as slot_of, undo as undo_of};
 ghost use Rattle.envy_map.specs.Writes.{with_place, with_undo};
 ghost use Rattle.envy_layout.specs.May.{IsUnused};
 ghost use Rattle.envy_layout.specs.Naming.{AreParted};
@@ -13,10 +13,9 @@ ghost use Rattle.envy_frames.specs.Agreement.{AreHeld};
 ghost use Rattle.envy_space.specs.Pool.{PoolAgrees};
 ghost use Rattle.envy_table.specs.Agreement.{AreCurrent};
 ghost use Rattle.envy_table.specs.Hits.{Rests};
-ghost use Rattle.envy_txn.specs.declared.pair.Pair.{Pair as APair};
 ghost use Rattle.envy_txn.specs.Owners.{AreApart, AreOwned, names_slot, others_of};
 ghost use Rattle.envy_txn.specs.Ending.{Restores};
-ghost use Rattle.envy_txn.specs.Turns.{Restoring, RestoredIn, IsLeavable, gives, is_among, left_pool, left_held};
+ghost use Rattle.envy_txn.specs.Turns.{AreNamed, Restoring, RestoredIn, IsLeavable, is_among, left_pool, left_held};
 
 use crate::owned::Owned;
 use crate::pair::Pair;
@@ -75,13 +74,14 @@ impl Owned {
         if !board.powered() {
             return Err(Off);
         }
-        restore_pairs(board, space, frames, cache, self.pairs(), t)?;
+        self.ledger.list(t, &mut self.list);
+        restore_pairs(board, space, frames, cache, &self.list, t)?;
         self.leave(t);
         Ok(())
     }
 }
 
-/// Puts the pages of the slot back among the pairs of all owned pages.
+/// Puts the pages of the slot's pairs back.
 fn restore_pairs<B: Board>(
     board: &mut B,
     space: &mut Space,
@@ -91,7 +91,7 @@ fn restore_pairs<B: Board>(
     t: u8,
 ) -> Result<(), Off>
     requires restoring { Restoring (chart (B.state board.old)) space.old frames.old.held cache.old.entries t }
-    requires owned { let f = (chart (B.state board.old)).fields in AreOwned f.slots f.undos pairs.now }
+    requires named { AreNamed t (chart (B.state board.old)).fields.undos pairs.now }
     requires apart { AllPairs AreApart pairs.now }
     ensures durable { SameDurable 0 0 (chart (B.state board.old)) (chart (B.state board.new)) }
     ensures restoring { OnOk result (Restoring (chart (B.state board.new)) space.new frames.new.held cache.new.entries t) }
@@ -103,36 +103,7 @@ fn restore_pairs<B: Board>(
     ensures off { OnErr result ((B.state board.new).on ≡ false) }
 {
     for pair in pairs {
-        restore_pair(board, space, frames, cache, *pair, t)?;
-    }
-    Ok(())
-}
-
-/// Puts the page of a pair back, where it is the slot's.
-fn restore_pair<B: Board>(
-    board: &mut B,
-    space: &mut Space,
-    frames: &mut Frames,
-    cache: &mut Cache,
-    pair: Pair,
-    t: u8,
-) -> Result<(), Off>
-    requires restoring { Restoring (chart (B.state board.old)) space.old frames.old.held cache.old.entries t }
-    requires page { pair.page < (B.state board.old).shape.pages }
-    requires names { pair.slot ≡ t → slot_named (undo_of (chart (B.state board.old)).fields pair.page) ≡ Some t }
-    ensures durable { SameDurable 0 0 (chart (B.state board.old)) (chart (B.state board.new)) }
-    ensures restoring { OnOk result (Restoring (chart (B.state board.new)) space.new frames.new.held cache.new.entries t) }
-    ensures restored { OnOk result ((c : Chart) (so_far : List APair) → is_among so_far t pair.page ≡ false
-        → RestoredIn so_far t c (chart (B.state board.old)) → RestoredIn (so_far ++ pair ∷ []) t c (chart (B.state board.new))) }
-    ensures left { OnOk result (frames.new.held ≡ filter (λ h. not (gives t h.page pair)) frames.old.held) }
-    ensures count { frames.new.count ≡ frames.old.count }
-    ensures rests { Rests cache.old cache.new }
-    ensures shape { space.new.shape ≡ space.old.shape }
-    ensures off { OnErr result ((B.state board.new).on ≡ false) }
-{
-    if pair.slot == t {
         restore_page(board, space, frames, cache, pair.page, t)?;
-        return Ok(());
     }
     Ok(())
 }

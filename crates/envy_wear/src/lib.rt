@@ -5,8 +5,6 @@ mod laws;
 mod overdue;
 mod stages;
 mod swap;
-#[cfg(test)]
-mod tests;
 
 pub use laws::one_swap_is_due;
 pub use overdue::due;

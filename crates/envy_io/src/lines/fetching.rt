@@ -43,14 +43,14 @@ impl Lines {
         ensures pulls { Pulls self.old (S.feed source.old) into.old count result into.new self.new (S.feed source.new) }
     {
         let room = (self.cap - self.taken).min((into.len() - count) as u64) as usize;
-        let more = source.fill(&mut into[count..count + room])?;
+        let more = source.fill_only(&mut into[count..count + room])?;
         self.taken += more as u64;
         self.ended = more == 0;
         Ok(more)
     }
 
     /// Fills the slice with the next bytes. Those held come first, and the source is asked for no more than
-    /// is missing then. After every answer but `Whole` the bytes that came are used up, and the slice may
+    /// is missing then, which reads no further ahead. After every answer but `Whole` the bytes that came are used up, and the slice may
     /// hold anything.
     pub fn next_bytes<S: Source>(&mut self, source: &mut S, into: &mut [u8]) -> Got
         requires { 0 < length into.old }

@@ -23,8 +23,12 @@ const NONE: [&str; 8] = [
     "stat hits 0 misses 0 flushes 0 copies 0 moves 0 erases 0 swaps 0 cost 0\n",
 ];
 
+/// The counters of a thousand transfers under `lifetime`, where power fails before each seventh.
+const FORGETFUL: &str =
+    "stat hits 9914 misses 1711 flushes 2996 copies 1954 moves 0 erases 149 swaps 0 cost 65\n";
+
 /// The policies' names.
-const POLICIES: [&str; 4] = ["greedy", "fifo", "locality", "hybrid"];
+const POLICIES: [&str; 5] = ["greedy", "fifo", "locality", "hybrid", "lifetime"];
 
 const REPORTS: &[Row] = &[
     Row {
@@ -113,6 +117,18 @@ const OF_POLICIES: &[Row] = &[
         ],
         ends: Ends::Unread,
     },
+    Row {
+        name: "where pages are parted by their lives",
+        commands: &["tpca --policy lifetime", "tpca --policy lifetime --part 0"],
+        script: &[
+            Says("", SUMS),
+            Says(
+                "",
+                "cuts 0\nstat hits 9695 misses 1305 flushes 2990 copies 2049 moves 0 erases 143 swaps 0 cost 68\n",
+            ),
+        ],
+        ends: Ends::Unread,
+    },
 ];
 
 #[test]
@@ -123,6 +139,20 @@ fn counters_are_those_of_the_policy(rt: HostRuntime) -> Result<(), Fail> {
 #[test]
 fn transfers_are_reported(rt: HostRuntime) -> Result<(), Fail> {
     check_rows(&rt, REPORTS)
+}
+
+// What lives are noted is forgotten at each restart. How often power fails is read off the board.
+#[test]
+fn lives_are_forgotten_where_power_fails(rt: HostRuntime) -> Result<(), Fail> {
+    let alloc = rt.alloc();
+    let played = play(alloc, &calm("tpca --policy lifetime --every 7", b""))?;
+    assert_eq!(rt; played.ended.status, 0);
+    let Some(board) = &played.ended.board else {
+        return Err(Fail::new("no board"));
+    };
+    let report = format!(in alloc; "{SUMS}cuts {}\n{FORGETFUL}", board.cuts())?;
+    assert!(rt; played.sink.written() == report.as_bytes());
+    Ok(())
 }
 
 #[test]

@@ -53,6 +53,28 @@ const HYBRIDS: [Value; 4] = [
     },
 ];
 
+/// What a longer trace counts where pages are parted by their lives, and under greedy beside it.
+const LIFETIMES: [Value; 3] = [
+    Value {
+        shape: "",
+        options: "--policy lifetime",
+        told: "\nstat hits 785 misses 12637 flushes 5104 copies 2898 moves 0 erases 494 swaps 0 cost 56\n",
+        erases: 8 + 494,
+    },
+    Value {
+        shape: "--segments 6 --rows 24",
+        options: "--policy lifetime --mark 3",
+        told: "\nstat hits 785 misses 12637 flushes 5114 copies 3680 moves 0 erases 363 swaps 0 cost 71\n",
+        erases: 6 + 363,
+    },
+    Value {
+        shape: "--segments 6 --rows 24",
+        options: "--policy greedy --mark 3",
+        told: "\nstat hits 785 misses 12637 flushes 5114 copies 1410 moves 0 erases 267 swaps 0 cost 27\n",
+        erases: 6 + 267,
+    },
+];
+
 /// What the trace over the small array counts where segments change places.
 const SWAPPING: Value = Value {
     shape: "--segments 6 --rows 8 --pages 26 --shadows 4 --frames 4 --entries 3",
@@ -124,6 +146,15 @@ fn part_and_mark_are_handed_on_to_a_memory(rt: HostRuntime) -> Result<(), Fail> 
 }
 
 #[test]
+fn lives_are_noted_by_a_memory(rt: HostRuntime) -> Result<(), Fail> {
+    let trace = written(&rt, "gen --start 7 --lines 20000", b"")?;
+    for value in &LIFETIMES {
+        check_value(&rt, value, &trace)?;
+    }
+    Ok(())
+}
+
+#[test]
 fn limit_and_mark_are_handed_on_to_a_memory(rt: HostRuntime) -> Result<(), Fail> {
     let trace = written(&rt, "gen --start 11 --lines 20000 --pages 26", b"")?;
     check_value(&rt, &SWAPPING, &trace)
@@ -178,6 +209,7 @@ fn policy_and_part_are_handed_on_to_an_index(rt: HostRuntime) -> Result<(), Fail
         "index --policy locality",
         "index --policy hybrid --part 3",
         "index --policy hybrid --part 15",
+        "index --policy lifetime",
     ] {
         let map = map_of(&rt, command, &trace)?;
         assert!(rt; map.as_slice() != greedy.as_slice(), "{command}");

@@ -51,3 +51,7 @@ returns-clause-tree c = refl
 pub returns-clause-heap : goal.returns-clause-heap
 unfolding command_of options_in are_known checked shape_checked
 returns-clause-heap c = refl
+
+pub returns-clause-mapped : goal.returns-clause-mapped
+unfolding command_of options_in are_known checked shape_checked
+returns-clause-mapped c = refl

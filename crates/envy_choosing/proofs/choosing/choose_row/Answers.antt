@@ -1,18 +1,16 @@
-use Rattle.std.proofs.Common.{inl}
-use Rattle.envy_choosing.specs.Choosing.{frees, deads}
-use Rattle.envy_choosing.proofs.ChoosingLemmas.{choice-free, nearest-own}
+use Rattle.std.proofs.Common.{◌≡◌, ◌∙◌, Some, sym, ap, arith}
+use Rattle.std.specs.Option.{option_copied}
+use Rattle.envy_choosing.proofs.PooledLemmas.{lives-long}
 use Rattle.envy_choosing.proofs.choosing.choose_row.Goals as goal
 
-pub returns-in-Some : goal.returns-in-Some
-returns-in-Some c =
-    let h = c.args.chooser.now in
-    let pool = c.args.space.now in
-    let least = c.in-Some.ensures in
-    choice-free h (frees pool) (deads pool) c.args.home c.partition_of-own.result c.in-Some.position
-    (nearest-own h pool c.args.home c.partition_of-own.result c.partition_of-own.ensures.value (c.in-Some.position, inl least.holds)) least
+pub choose_by_lives-requires-clause-positions : goal.choose_by_lives-requires-clause-positions
+choose_by_lives-requires-clause-positions c =
+    let same : c.args.chooser.now.lives ≡ Some c.in-Some.lives.now = sym c.lives.ensures.lives ∙ ap option_copied c.in-Some.is in
+    let long = lives-long c.args.chooser.now c.in-Some.lives.now c.lives.ensures.whole same in
+    long.1 ∙ c.requires.positions
 
-pub returns-in-None : goal.returns-in-None
-returns-in-None c = c.free_or_clean.ensures c.args.home c.nearest.ensures.nearest
-
-pub free_or_clean-requires-clause-usable : goal.free_or_clean-requires-clause-usable
-free_or_clean-requires-clause-usable c = let nearest = c.nearest.ensures.nearest in nearest.holds
+pub choose_by_lives-requires-clause-page : goal.choose_by_lives-requires-clause-page
+choose_by_lives-requires-clause-page c =
+    let same : c.args.chooser.now.lives ≡ Some c.in-Some.lives.now = sym c.lives.ensures.lives ∙ ap option_copied c.in-Some.is in
+    let long = lives-long c.args.chooser.now c.in-Some.lives.now c.lives.ensures.whole same in
+    omega (arith, long.0, c.requires.page)

@@ -1,10 +1,9 @@
 use Rattle.std.proofs.Common.{◌≡◌, ◌<◌, refl, sym, ap, subst, ◌∙◌, List, ℕ, get_or}
 use Rattle.envy_map.specs.Fields.{Chart, chart}
 use Rattle.envy_layout.specs.Sound.{IsPlaced}
-use Rattle.envy_policy.specs.History.{History}
 use Rattle.envy_reloc.specs.Plan.{IsFreeOf}
 use Rattle.envy_space.specs.Pool.{Claims}
-use Rattle.envy_flush.proofs.AgreeLemmas.{Agrees-claimed, Granted-claimed, IsLastAt-claimed, Fits-moved, flushed-positions}
+use Rattle.envy_flush.proofs.AgreeLemmas.{Agrees-claimed, Granted-claimed, IsLastAt-claimed, Fits-moved, claimed-sizes, sizes_of}
 use Rattle.envy_flush.proofs.claiming.claim_at.Goals as goal
 
 pub returns-clause-steady : goal.returns-clause-steady
@@ -16,7 +15,7 @@ returns-clause-steady g c =
     let shape : new.shape ≡ old.shape = ap (λ (z : Chart). z.shape) e.claims.fields in
     let placed : IsPlaced old.shape old.fields.positions c.segment_at.result = (c.args.position, c.requires.position, ap (λ (xs : List ℕ). get_or xs c.args.position 0) (sym r.agrees.pool.positions) ∙ sym c.segment_at.ensures.segment) in
     let free : IsFreeOf old.fields.job c.segment_at.result = subst (λ (s : ℕ). IsFreeOf old.fields.job s) (sym c.segment_at.ensures.segment) c.requires.free in
-    let chooser = ap (λ (h : History). h.positions) c.note_flush.ensures ∙ flushed-positions c.args.parts.now.chooser c.args.position in
+    let chooser = ap sizes_of c.note_claim.ensures ∙ claimed-sizes c.args.parts.now.chooser c.args.position c.args.page in
     record {
       fits = Fits-moved old.shape new.shape c.args.parts.now _ shape r.fits e.shape refl refl chooser refl;
       agrees = λ on. Agrees-claimed old new c.args.parts.now _ c.segment_at.result c.in_ok-row.row c.args.page r.sound r.agrees placed free e.claims e.claimed (e.agrees on) refl refl refl;

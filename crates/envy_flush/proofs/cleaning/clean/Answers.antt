@@ -2,7 +2,7 @@ use Rattle.std.proofs.Common.{◌≡◌, ◌∙◌, ◌+◌, ℕ, List, get_or, 
 use Rattle.envy_base.specs.declared.shape.Shape.{Shape}
 use Rattle.envy_map.specs.Fields.{Chart, chart}
 use Rattle.envy_layout.specs.Same.{Same, Stays, Framed}
-use Rattle.envy_policy.specs.History.{flushed}
+use Rattle.envy_policy.specs.History.{claimed}
 use Rattle.envy_flush.specs.Agreement.{Steady}
 use Rattle.envy_reloc.specs.Cleaning.{Cleans}
 use Rattle.envy_flush.specs.declared.parts.Parts.{Parts}
@@ -60,7 +60,7 @@ returns-clause-follows g c =
       f.last,
       record { spare = Cleans.e e.cleans; is_spare = Cleans.spare e.cleans; positions = ap (λ (z : Chart). z.fields.positions) f.claims.fields ∙ end.0 },
       ap (λ (z : Parts). z.reloc.erased) f.parts ∙ end.1,
-      f.warmed ∙ ap (λ (h : _). flushed h c.args.position) e.chooser,
+      f.warmed ∙ ap (λ (h : _). claimed h c.args.position c.args.page) e.chooser,
       record {
         mid = mid;
         between = c.run_clean.new.parts;

@@ -58,7 +58,7 @@ returns-clause-flushes g c =
       oldest = held;
       first = sym c.in-Some.ensures.first;
       row = row;
-      gets = GetsRow-after held.home row old x mid y new z shape (ap (λ (f : Fields). f.job) fields) (ap (λ (f : Fields). f.fills) fields) (ap (λ (f : Fields). f.positions) fields) erases (ap (λ (p : Parts). p.chooser) e.parts) (ap (λ (p : Parts). p.reloc) e.parts) (ap (λ (p : Parts). p.stages) e.parts) c.in_ok-row.ensures.gets;
+      gets = GetsRow-after held.home held.page row old x mid y new z shape (ap (λ (f : Fields). f.job) fields) (ap (λ (f : Fields). f.fills) fields) (ap (λ (f : Fields). f.positions) fields) erases (ap (λ (p : Parts). p.chooser) e.parts) (ap (λ (p : Parts). p.reloc) e.parts) (ap (λ (p : Parts). p.stages) e.parts) c.in_ok-row.ensures.gets;
       here = ap (λ (f : Fields). place f held.page) fields ∙ get_or-set_same mid.fields.places held.page (Some (Row row)) None (rw long page);
       held = is ∙ ap (λ (o : Order). filter (is_other held.frame) o.held) c.get_row.ensures.frames ∙ filter-oldest x.frames.held held (sym c.in-Some.ensures.first) (AreHeld.apart r.agrees.held);
       flushes = e.flushes ∙ ap up c.get_row.ensures.flushes;
@@ -70,7 +70,7 @@ returns-clause-noted g c is =
     let e = c.flush_into.ensures in (
       c.in-Some.held,
       sym c.in-Some.ensures.first,
-      StopsFor-gets c.in-Some.held.home c.in_ok-row.row (chart (g.B.Board.state c.args.board.now)) c.args.parts.now (chart (g.B.Board.state c.get_row.new.board)) c.get_row.new.parts (chart (g.B.Board.state c.flush_into.new.board)) c.flush_into.new.parts
+      StopsFor-gets c.in-Some.held.home c.in-Some.held.page c.in_ok-row.row (chart (g.B.Board.state c.args.board.now)) c.args.parts.now (chart (g.B.Board.state c.get_row.new.board)) c.get_row.new.parts (chart (g.B.Board.state c.flush_into.new.board)) c.flush_into.new.parts
           (Framed.shape (Stays.framed (Same.stays e.same))) (e.stays is) (e.unerased is) (ap (λ (p : Parts). p.chooser) e.parts) (ap (λ (p : Parts). p.reloc) e.parts) (ap (λ (p : Parts). p.stages) e.parts) (e.flushes ∙ ap up c.get_row.ensures.flushes) c.in_ok-row.ensures.gets,
     )
 

@@ -1,7 +1,6 @@
 use Rattle.std.proofs.Common.{ap}
 use Rattle.envy_map.specs.Fields.{chart}
-use Rattle.envy_policy.specs.History.{History}
-use Rattle.envy_flush.proofs.AgreeLemmas.{Fits-staged, no-stages}
+use Rattle.envy_flush.proofs.AgreeLemmas.{Fits-staged, no-stages, sizes_of}
 use Rattle.envy_flush.proofs.RestartLemmas.{IsPlanOf-settled, AreParted-settled}
 use Rattle.envy_flush.proofs.restarting.rebuild.Goals as goal
 
@@ -13,7 +12,7 @@ returns-clause-ready g c =
     record {
       on = on;
       sound = c.requires.sound;
-      fits = Fits-staged now.shape c.args.parts.now _ c.requires.fits (no-stages now.shape _ c.clear.ensures) c.rebuild-2.ensures.shape c.rebuild.ensures.count c.empty.ensures.size (ap (λ (h : History). h.positions) c.reset.ensures);
+      fits = Fits-staged now.shape c.args.parts.now _ c.requires.fits (no-stages now.shape _ c.clear.ensures) c.rebuild-2.ensures.shape c.rebuild.ensures.count c.empty.ensures.size (ap sizes_of c.reset.ensures);
       agrees = record {
         pool = c.in_ok-rebuild-2.ensures.agrees;
         held = c.in_ok-rebuild.ensures.agrees;

@@ -54,7 +54,7 @@ returns-in-Some-clause-gets g c =
       chooses = λ idle none. absurd (never-idle _ _ c.requires.busy idle none);
       busy = λ some. inl (record {
         position = k;
-        lowest = subst (λ (o : Option ℕ). MatchOption o (IsNoneAvailable c.args.parts.now.chooser c.args.home old) (λ k. IsLowestAvailable c.args.parts.now.chooser c.args.home old k)) c.in-Some.is c.in_ok-position.ensures.lowest;
+        lowest = subst (λ (o : Option ℕ). MatchOption o (IsNoneAvailable c.args.parts.now c.args.home c.args.page old) (λ k. IsLowestAvailable c.args.parts.now c.args.home c.args.page old k)) c.in-Some.is c.in_ok-position.ensures.lowest;
         claims = (e.last, fills, ap (λ (w : Chart). w.fields.positions) e.claims.fields, ap (λ (w : Chart). w.erases) e.claims.fields, e.warmed);
         job = job;
         stages = stages;
@@ -69,7 +69,7 @@ returns-clause-gets g c =
     let mid = chart (g.B.Board.state c.finish.new.board) in
     let new = chart (g.B.Board.state c.idle_row.new.board) in
     let e = c.in_ok-finish.ensures in
-    let first : FinishesFirst c.args.home old c.args.parts.now mid c.finish.new.parts = record { none = none-of c.in_ok-position.field-0 _ _ c.in_default.not-Some c.in_ok-position.ensures.lowest; finishes = e.finishes; chooser = e.chooser; pool = (Steady.agrees e.steady e.on).pool } in
+    let first : FinishesFirst c.args.home c.args.page old c.args.parts.now mid c.finish.new.parts = record { none = none-of c.in_ok-position.field-0 _ _ c.in_default.not-Some c.in_ok-position.ensures.lowest; finishes = e.finishes; chooser = e.chooser; pool = (Steady.agrees e.steady e.on).pool } in
     if-done c.idle_row.result _ _ c.idle_row.ensures.gets
     (λ row gets. record {
       chooses = λ idle none. absurd (never-idle _ _ c.requires.busy idle none);
@@ -93,5 +93,5 @@ returns-clause-stops g c is =
     let old = chart (g.B.Board.state c.args.board.now) in
     let mid = chart (g.B.Board.state c.finish.new.board) in
     let e = c.in_ok-finish.ensures in
-    let first : FinishesFirst c.args.home old c.args.parts.now mid c.finish.new.parts = record { none = none-of c.in_ok-position.field-0 _ _ c.in_default.not-Some c.in_ok-position.ensures.lowest; finishes = e.finishes; chooser = e.chooser; pool = (Steady.agrees e.steady e.on).pool } in
-    stops-after c.args.home old c.args.parts.now mid c.finish.new.parts (chart (g.B.Board.state c.idle_row.new.board)) c.idle_row.new.parts c.requires.busy e.idle e.none first (c.idle_row.ensures.stops is)
+    let first : FinishesFirst c.args.home c.args.page old c.args.parts.now mid c.finish.new.parts = record { none = none-of c.in_ok-position.field-0 _ _ c.in_default.not-Some c.in_ok-position.ensures.lowest; finishes = e.finishes; chooser = e.chooser; pool = (Steady.agrees e.steady e.on).pool } in
+    stops-after c.args.home c.args.page old c.args.parts.now mid c.finish.new.parts (chart (g.B.Board.state c.idle_row.new.board)) c.idle_row.new.parts c.requires.busy e.idle e.none first (c.idle_row.ensures.stops is)

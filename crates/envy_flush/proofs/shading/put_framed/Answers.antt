@@ -106,7 +106,7 @@ returns-in_err-shadow-clause-noted g c =
     rw (p.1, p.2) (λ is. let kept = c.in_err-shadow.ensures.spoils is in (
       c.home-home.result,
       c.home-home.ensures.value,
-      StopsFor-gets c.home-home.result c.in_ok-row.row old c.args.parts.now mid c.get_row.new.parts new c.shadow.new.parts (Shadows-shape 1 0 c.args.slot c.args.page mid c.shadow.result new e.shadows) kept.0 kept.1 (ap (λ (z : Parts). z.chooser) e.parts) (ap (λ (z : Parts). z.reloc) e.parts) (ap (λ (z : Parts). z.stages) e.parts) (e.flushes ∙ ap up c.get_row.ensures.flushes) c.in_ok-row.ensures.gets,
+      StopsFor-gets c.home-home.result c.args.page c.in_ok-row.row old c.args.parts.now mid c.get_row.new.parts new c.shadow.new.parts (Shadows-shape 1 0 c.args.slot c.args.page mid c.shadow.result new e.shadows) kept.0 kept.1 (ap (λ (z : Parts). z.chooser) e.parts) (ap (λ (z : Parts). z.reloc) e.parts) (ap (λ (z : Parts). z.stages) e.parts) (e.flushes ∙ ap up c.get_row.ensures.flushes) c.in_ok-row.ensures.gets,
     ))
 
 pub change_frame_word-requires-clause-here : goal.change_frame_word-requires-clause-here
@@ -136,7 +136,7 @@ returns-clause-puts g c =
       c.home-home.result,
       row,
       c.home-home.ensures.value,
-      GetsRow-after c.home-home.result row old x mid y new z shape (ap (λ (f : Fields). f.job) fields) (ap (λ (f : Fields). f.fills) fields) (ap (λ (f : Fields). f.positions) fields) (ap (λ (w : Chart). w.erases) done ∙ e.erases) (ap (λ (w : Parts). w.chooser) parts) (ap (λ (w : Parts). w.reloc) parts) (ap (λ (w : Parts). w.stages) parts) c.in_ok-row.ensures.gets,
+      GetsRow-after c.home-home.result p row old x mid y new z shape (ap (λ (f : Fields). f.job) fields) (ap (λ (f : Fields). f.fills) fields) (ap (λ (f : Fields). f.positions) fields) (ap (λ (w : Chart). w.erases) done ∙ e.erases) (ap (λ (w : Parts). w.chooser) parts) (ap (λ (w : Parts). w.reloc) parts) (ap (λ (w : Parts). w.stages) parts) c.in_ok-row.ensures.gets,
       ap (λ (f : Fields). place f p) fields ∙ (c.get_row.ensures.here c.in_ok-row.ensures.on p c.args.frame).1 c.requires.here,
       ap (λ (f : Fields). undo f p) fields ∙ get_or-set_same mid.fields.undos p (Some (Shadow c.args.slot row)) None low,
     )

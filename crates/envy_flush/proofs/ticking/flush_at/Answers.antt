@@ -9,6 +9,7 @@ use Rattle.envy_map.specs.Fields.{Fields, Chart, chart, place}
 use Rattle.envy_layout.specs.Same.{Same, Stays, Framed, Counted}
 use Rattle.envy_base.specs.Counting.{up}
 use Rattle.envy_policy.specs.declared.choice.Choice.TheVariants.{Free}
+use Rattle.envy_flush.specs.Agreement.{Steady}
 use Rattle.envy_flush.specs.Flushing.{Follows, GetsRow}
 use Rattle.std.proofs.lemmas.List.{get_or-set_same}
 use Rattle.envy_base.specs.declared.fields.Place.TheVariants.{Row}
@@ -24,6 +25,20 @@ flush_into-requires-clause-here g c =
     let old = chart (g.B.Board.state c.args.board.now) in
     let held = (oldest-held old.shape old.fields.places c.args.parts.now.frames.held c.args.held c.requires.ready.agrees.held c.requires.oldest).0 in
     subst (λ (z : Chart). place z.fields c.args.held.page ≡ Some (Frame c.args.held.frame)) (sym c.in_ok-row.ensures.claims.fields) (IsHeld.here held)
+
+pub flush_into-requires-clause-ready : goal.flush_into-requires-clause-ready
+flush_into-requires-clause-ready g c =
+    let e = c.claim_at.ensures in
+    let on = c.in_ok-row.ensures.on in
+    record { on = on; sound = Stays.sound (Same.stays e.same); fits = Steady.fits e.steady; agrees = Steady.agrees e.steady on }
+
+pub flush_into-requires-clause-page : goal.flush_into-requires-clause-page
+flush_into-requires-clause-page g c =
+    let old = chart (g.B.Board.state c.args.board.now) in
+    let mid = chart (g.B.Board.state c.claim_at.new.board) in
+    let before : mid.shape ≡ old.shape = ap (λ (w : Chart). w.shape) c.in_ok-row.ensures.claims.fields in
+    let own = (oldest-held old.shape old.fields.places c.args.parts.now.frames.held c.args.held c.requires.ready.agrees.held c.requires.oldest).0 in
+    rw before (IsHeld.page own)
 
 pub returns-clause-same : goal.returns-clause-same
 returns-clause-same g c = Same-two 0 0 1 0 1 0 _ _ _ (omega arith) (omega arith) c.claim_at.ensures.same c.flush_into.ensures.same
@@ -55,8 +70,8 @@ returns-clause-does g c =
     let r = c.requires.ready in
     let fills : mid.fields.fills ≡ set old.fields.fills (get_or old.fields.positions k 0) (get_or old.fields.fills (get_or old.fields.positions k 0) 0 + 1) =
     subst (λ (s : ℕ). mid.fields.fills ≡ set old.fields.fills s (get_or old.fields.fills s 0 + 1)) (ap (λ (xs : List ℕ). get_or xs k 0) r.agrees.pool.positions) (ap (λ (w : Chart). w.fields.fills) e.claims.fields) in
-    let follows : Follows (Free k) c.in_ok-row.row old x mid y = (e.last, fills, ap (λ (w : Chart). w.fields.positions) e.claims.fields, ap (λ (w : Chart). w.erases) e.claims.fields, e.warmed) in
-    let gets : GetsRow c.args.held.home c.in_ok-row.row old x mid y = record {
+    let follows : Follows (Free k) c.args.held.page c.in_ok-row.row old x mid y = (e.last, fills, ap (λ (w : Chart). w.fields.positions) e.claims.fields, ap (λ (w : Chart). w.erases) e.claims.fields, e.warmed) in
+    let gets : GetsRow c.args.held.home c.args.held.page c.in_ok-row.row old x mid y = record {
       chooses = λ idle none. (Free k, c.requires.chosen, follows);
       busy = λ some. absurd (never-idle _ _ some c.requires.idle c.requires.stages);
       ends = (inl (ap (λ (w : Chart). w.fields.job) e.claims.fields), inl (ap (λ (w : Parts). w.stages) e.parts));
@@ -73,7 +88,7 @@ returns-clause-does g c =
         oldest = c.args.held;
         first = c.requires.oldest;
         row = c.in_ok-row.row;
-        gets = GetsRow-after c.args.held.home c.in_ok-row.row old x mid y new z shape (ap (λ (w : Fields). w.job) fields) (ap (λ (w : Fields). w.fills) fields) (ap (λ (w : Fields). w.positions) fields) erases (ap (λ (w : Parts). w.chooser) f.parts) (ap (λ (w : Parts). w.reloc) f.parts) (ap (λ (w : Parts). w.stages) f.parts) gets;
+        gets = GetsRow-after c.args.held.home c.args.held.page c.in_ok-row.row old x mid y new z shape (ap (λ (w : Fields). w.job) fields) (ap (λ (w : Fields). w.fills) fields) (ap (λ (w : Fields). w.positions) fields) erases (ap (λ (w : Parts). w.chooser) f.parts) (ap (λ (w : Parts). w.reloc) f.parts) (ap (λ (w : Parts). w.stages) f.parts) gets;
         here = ap (λ (w : Fields). place w c.args.held.page) fields ∙ get_or-set_same mid.fields.places c.args.held.page (Some (Row c.in_ok-row.row)) None (rw long page);
         held = held ∙ ap (λ (w : Parts). filter (is_other c.args.held.frame) w.frames.held) e.parts ∙ filter-oldest x.frames.held c.args.held c.requires.oldest (AreHeld.apart r.agrees.held);
         flushes = f.flushes ∙ ap (λ (w : Parts). up w.flushes) e.parts;

@@ -6,5 +6,5 @@ pub returns-clause-count : goal.returns-clause-count
 returns-clause-count c = generated-count
 
 pub returns-clause-reads_back : goal.returns-clause-reads_back
-returns-clause-reads_back c = λ start lines pages low high.
-    spelled-reads c.grammar_holds_both_ways.ensures.reads_back c.grammar_holds_both_ways.ensures.one_line (generated start lines pages) (generated-IsLine start lines pages low high)
+returns-clause-reads_back c = λ start lines mix is.
+    spelled-reads c.grammar_holds_both_ways.ensures.reads_back c.grammar_holds_both_ways.ensures.one_line (generated start lines mix) (generated-IsLine start lines mix is)

@@ -6,6 +6,6 @@ use Rattle.envy_gen.proofs.writing.generate.Given as goal
 
 abbrev pub invariant-loop-line : goal.invariant-loop-line
 invariant-loop-line g l = record {
-  written : Written (g.K.Sink.drain l.initial.sink) (trace_bytes l.start l.lines l.pages) (bytes_left l.pages (l.lines - l._line) (answers l.words)) (g.K.Sink.drain l.sink);
+  written : Written (g.K.Sink.drain l.initial.sink) (trace_bytes l.start l.lines l.mix) (bytes_left l.mix (l.lines - l._line) (answers l.words)) (g.K.Sink.drain l.sink);
   uncalled : l._line ≡ 0 → l.sink ≡ l.initial.sink;
 }

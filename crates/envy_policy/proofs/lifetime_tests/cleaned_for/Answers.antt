@@ -1,4 +1,4 @@
-use Rattle.std.proofs.Common.{◌<◌, ◌+◌, List, [], ◌∷◌, ℕ, slice_index, arith}
+use Rattle.std.proofs.Common.{◌<◌, slice_index, arith}
 use Rattle.envy_policy.proofs.lifetime_tests.cleaned_for.Goals as goal
 
 pub choose-requires-clause-some : goal.choose-requires-clause-some

@@ -6,7 +6,7 @@ use Rattle.envy_map.specs.Fields.{chart}
 use Rattle.envy_mirror.specs.Pair.{Pair}
 use Rattle.envy_run.proofs.Checked.{shape-of-checked}
 use Rattle.envy_run.specs.declared.prepare.Unready.TheVariants.{Memory}
-use Rattle.envy_run.proofs.Mirrored.{IsBlank, blank-made, blank-prepared, blank-board, Stopped, stopped-by, lit-board, not-stopped, mirror-unmade, mirror-unready, are-ready, start_of, begins-as, numbered, mirror-ended}
+use Rattle.envy_run.proofs.Mirrored.{as-made, blank-made, blank-prepared, blank-board, Stopped, stopped-by, lit-board, not-stopped, mirror-unmade, mirror-unready, are-ready, start_of, begins-as, numbered, mirror-ended}
 use Rattle.envy_run.proofs.mirror_run.run_mirror.Goals as goal
 
 pub make-requires : goal.make-requires
@@ -14,11 +14,11 @@ make-requires g c = shape-of-checked c.args.setup c.requires
 
 pub returns-in_default-clause-runs : goal.returns-in_default-clause-runs
 returns-in_default-clause-runs g c =
-    mirror-unmade g.M.Made.Board.state c.args.setup c.args.lives None c.unserved.result (g.S.Source.feed c.args.source.now) (g.K.Sink.drain c.args.sink.now) c.unserved.ensures tt tt
+    mirror-unmade g.M.Made.Board.state c.args.setup c.args.lives None c.unserved.result (g.S.Source.feed c.args.source.now) (g.K.Sink.drain c.args.sink.now) c.unserved.ensures tt
 
 pub returns-in_default-make-clause-runs : goal.returns-in_default-make-clause-runs
 returns-in_default-make-clause-runs g c =
-    mirror-unmade g.M.Made.Board.state c.args.setup c.args.lives (Some c.in-Ok.one) c.unserved-in_default-make.result (g.S.Source.feed c.args.source.now) (g.K.Sink.drain c.args.sink.now) c.unserved-in_default-make.ensures (IsBlank.made (blank-made c.args.setup c.args.lives (g.M.Made.Board.state c.in-Ok.one) c.in-Ok.ensures)) (IsMade.on c.in-Ok.ensures)
+    mirror-unmade g.M.Made.Board.state c.args.setup c.args.lives (Some c.in-Ok.one) c.unserved-in_default-make.result (g.S.Source.feed c.args.source.now) (g.K.Sink.drain c.args.sink.now) c.unserved-in_default-make.ensures (as-made c.args.setup c.args.lives (g.M.Made.Board.state c.in-Ok.one) c.in-Ok.ensures)
 
 pub returns-in-Err-clause-runs : goal.returns-in-Err-clause-runs
 returns-in-Err-clause-runs g c =

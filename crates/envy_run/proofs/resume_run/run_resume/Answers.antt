@@ -6,7 +6,7 @@ use Rattle.envy_policy.specs.declared.setup.Setup.{Setup}
 use Rattle.envy_run.specs.Loading.{Loaded}
 use Rattle.envy_run.specs.Outcome.{outcome}
 use Rattle.envy_run.specs.Resumes.{setup_found}
-use Rattle.envy_run.proofs.Resumed.{checks-ok, installed-given, judged-sound, resume-declined, resume-sound, resume-unsound, stopped-ends}
+use Rattle.envy_run.proofs.Resumed.{checks-ok, installed-given, judged-sound, resume-declined, resume-headless, resume-sound, resume-unsound, stopped-ends}
 use Rattle.envy_run.proofs.resume_run.run_resume.Goals as goal
 
 pub serve_image-requires-clause-installed : goal.serve_image-requires-clause-installed
@@ -44,4 +44,8 @@ returns-in_default g c =
 pub returns-in-Err-take_image-clause-resumes : goal.returns-in-Err-take_image-clause-resumes
 returns-in-Err-take_image-clause-resumes g c =
     let from = g.S.Source.feed c.args.source.now in
-    resume-declined g.M.Made.Board.state (setup_found c.args.words.now.policy c.args.words.now.limit c.args.words.now.mark) c.in-Ok.shape c.in-Err-take_image.refusal c.args.words.now.lives c.taken-in-Err-take_image.result c.in-Err-take_image.board c.refused-in-Err-take_image.result from (g.S.Source.feed c.take_image.new.source) (g.K.Sink.drain c.args.sink.now) c.take_image.new.lines c.refused-in-Err-take_image.ensures c.taken-in-Err-take_image.ensures (ap checked (sym c.setup_over-setup.ensures) ∙ (sym c.check.ensures.table ∙ checks-ok c.check.result (sym c.if-is_err.ensures.value))) (c.in-Err-take_image.ensures from c.in-Ok.ensures.0)
+    resume-declined g.M.Made.Board.state (setup_found c.args.words.now.policy c.args.words.now.limit c.args.words.now.mark) c.in-Ok.shape c.in-Err-take_image.refusal c.args.words.now.lives c.taken-in-Err-take_image.result c.in-Err-take_image.board c.refused-in-Err-take_image.result from (g.S.Source.feed c.take_image.new.source) (g.K.Sink.drain c.args.sink.now) c.take_image.new.lines c.refused-in-Err-take_image.ensures c.taken-in-Err-take_image.ensures c.in-Ok.ensures.1 (ap checked (sym c.setup_over-setup.ensures) ∙ (sym c.check.ensures.table ∙ checks-ok c.check.result (sym c.if-is_err.ensures.value))) (c.in-Err-take_image.ensures from c.in-Ok.ensures.0)
+
+pub returns-in-Err-clause-resumes : goal.returns-in-Err-clause-resumes
+returns-in-Err-clause-resumes g c =
+    resume-headless g.M.Made.Board.state (setup_found c.args.words.now.policy c.args.words.now.limit c.args.words.now.mark) c.in-Err.refusal c.args.words.now.lives c.taken.result c.refused.result (g.S.Source.feed c.args.source.now) (g.S.Source.feed c.take_head.new.source) (g.K.Sink.drain c.args.sink.now) c.take_head.new.lines c.refused.ensures c.taken.ensures c.in-Err.ensures

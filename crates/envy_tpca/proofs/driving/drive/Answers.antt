@@ -13,6 +13,7 @@ use Rattle.envy_tpca.proofs.Driven.{Sized, has-counted, counted-within, few-plan
 use Rattle.envy_tpca.proofs.Loading.{loaded-more, loaded-chart, rests-same}
 use Rattle.envy_tpca.proofs.Since.{Keeps-trans, since-load}
 use Rattle.envy_tpca.proofs.Stepping.{all-ok, all-err, zeros-words}
+use Rattle.envy_tpca.proofs.Uncut.{told-uncut}
 use Rattle.envy_tpca.proofs.driving.drive.Goals as goal
 
 pub transfer_all-requires : goal.transfer_all-requires
@@ -38,12 +39,12 @@ transfer_all-requires g c =
 pub returns-in_err-deltas-clause-counted : goal.returns-in_err-deltas-clause-counted
 returns-in_err-deltas-clause-counted g c =
     counted-within c.args.area.now c.args.load.now c.args.every c.args.memory.now c.transfer_all.new.memory
-    (all-err c.args.area.now c.args.load.now c.args.every c.args.memory.now c.transfer_all.new.memory c.transfer_all.result c.transfer_all.new.load c.in_err-deltas.field-0.0 c.transfer_all.ensures c.in_err-deltas.was).1
+    (all-err c.args.area.now c.args.load.now c.args.every c.args.memory.now c.transfer_all.new.memory c.transfer_all.result c.transfer_all.new.load c.in_err-deltas.field-0.0 c.transfer_all.ensures.after c.in_err-deltas.was).1
 
 pub returns-in_err-deltas-clause-few_plans : goal.returns-in_err-deltas-clause-few_plans
 returns-in_err-deltas-clause-few_plans g c =
     few-plans c.args.area.now c.args.load.now c.args.every c.args.memory.now c.transfer_all.new.memory
-    (all-err c.args.area.now c.args.load.now c.args.every c.args.memory.now c.transfer_all.new.memory c.transfer_all.result c.transfer_all.new.load c.in_err-deltas.field-0.0 c.transfer_all.ensures c.in_err-deltas.was).1
+    (all-err c.args.area.now c.args.load.now c.args.every c.args.memory.now c.transfer_all.new.memory c.transfer_all.result c.transfer_all.new.load c.in_err-deltas.field-0.0 c.transfer_all.ensures.after c.in_err-deltas.was).1
 
 pub sum_balances-branches-requires-clause-small : goal.sum_balances-branches-requires-clause-small
 sum_balances-branches-requires-clause-small g c =
@@ -56,7 +57,7 @@ sum_balances-branches-requires-clause-small g c =
     let low : pages ≤ 2 ^ 20 = omega (arith, c.lay_out-places.ensures.low) in
     let sized : Sized area l load pages = record { fits = c.requires.fits; low = low; sizes = c.requires.load; places = c.lay_out-places.ensures.places } in
     let one = c.transfer_all.new.memory in
-    let all = all-ok area load c.args.every old one c.transfer_all.result c.transfer_all.new.load c.in_ok-deltas.deltas c.transfer_all.ensures c.in_ok-deltas.was in
+    let all = all-ok area load c.args.every old one c.transfer_all.result c.transfer_all.new.load c.in_ok-deltas.deltas c.transfer_all.ensures.after c.in_ok-deltas.was in
     branches-small area l load pages (durable one.chart) sized all.3.words
 
 pub sum_balances-tellers-requires-clause-rests : goal.sum_balances-tellers-requires-clause-rests
@@ -70,7 +71,7 @@ sum_balances-tellers-requires-clause-rests g c =
     let low : pages ≤ 2 ^ 20 = omega (arith, c.lay_out-places.ensures.low) in
     let sized : Sized area l load pages = record { fits = c.requires.fits; low = low; sizes = c.requires.load; places = c.lay_out-places.ensures.places } in
     let one = c.transfer_all.new.memory in
-    let all = all-ok area load c.args.every old one c.transfer_all.result c.transfer_all.new.load c.in_ok-deltas.deltas c.transfer_all.ensures c.in_ok-deltas.was in
+    let all = all-ok area load c.args.every old one c.transfer_all.result c.transfer_all.new.load c.in_ok-deltas.deltas c.transfer_all.ensures.after c.in_ok-deltas.was in
     let e2 = loaded-chart _ _ _ c.sum_balances-branches.ensures.loaded in
     rests-same one c.sum_balances-branches.new.memory e2 all.2
 
@@ -85,7 +86,7 @@ sum_balances-tellers-requires-clause-small g c =
     let low : pages ≤ 2 ^ 20 = omega (arith, c.lay_out-places.ensures.low) in
     let sized : Sized area l load pages = record { fits = c.requires.fits; low = low; sizes = c.requires.load; places = c.lay_out-places.ensures.places } in
     let one = c.transfer_all.new.memory in
-    let all = all-ok area load c.args.every old one c.transfer_all.result c.transfer_all.new.load c.in_ok-deltas.deltas c.transfer_all.ensures c.in_ok-deltas.was in
+    let all = all-ok area load c.args.every old one c.transfer_all.result c.transfer_all.new.load c.in_ok-deltas.deltas c.transfer_all.ensures.after c.in_ok-deltas.was in
     let e2 = loaded-chart _ _ _ c.sum_balances-branches.ensures.loaded in
     subst (λ (ch : Chart). (n : ℕ) → n ≤ 10 * c.lay_out-places.result.branches → Small (balances_in (durable ch) (1 + c.lay_out-places.result.branches) n)) (sym e2) (tellers-small area l load pages (durable one.chart) sized all.3.words)
 
@@ -100,7 +101,7 @@ sum_balances-accounts-requires-clause-rests g c =
     let low : pages ≤ 2 ^ 20 = omega (arith, c.lay_out-places.ensures.low) in
     let sized : Sized area l load pages = record { fits = c.requires.fits; low = low; sizes = c.requires.load; places = c.lay_out-places.ensures.places } in
     let one = c.transfer_all.new.memory in
-    let all = all-ok area load c.args.every old one c.transfer_all.result c.transfer_all.new.load c.in_ok-deltas.deltas c.transfer_all.ensures c.in_ok-deltas.was in
+    let all = all-ok area load c.args.every old one c.transfer_all.result c.transfer_all.new.load c.in_ok-deltas.deltas c.transfer_all.ensures.after c.in_ok-deltas.was in
     let e2 = loaded-chart _ _ _ c.sum_balances-branches.ensures.loaded in
     let e3 = loaded-chart _ _ _ c.sum_balances-tellers.ensures.loaded ∙ e2 in
     rests-same one c.sum_balances-tellers.new.memory e3 all.2
@@ -116,7 +117,7 @@ sum_balances-accounts-requires-clause-small g c =
     let low : pages ≤ 2 ^ 20 = omega (arith, c.lay_out-places.ensures.low) in
     let sized : Sized area l load pages = record { fits = c.requires.fits; low = low; sizes = c.requires.load; places = c.lay_out-places.ensures.places } in
     let one = c.transfer_all.new.memory in
-    let all = all-ok area load c.args.every old one c.transfer_all.result c.transfer_all.new.load c.in_ok-deltas.deltas c.transfer_all.ensures c.in_ok-deltas.was in
+    let all = all-ok area load c.args.every old one c.transfer_all.result c.transfer_all.new.load c.in_ok-deltas.deltas c.transfer_all.ensures.after c.in_ok-deltas.was in
     let e2 = loaded-chart _ _ _ c.sum_balances-branches.ensures.loaded in
     let e3 = loaded-chart _ _ _ c.sum_balances-tellers.ensures.loaded ∙ e2 in
     subst (λ (ch : Chart). (n : ℕ) → n ≤ c.lay_out-places.result.accounts → Small (balances_in (durable ch) (1 + 11 * c.lay_out-places.result.branches) n)) (sym e3) (accounts-small area l load pages (durable one.chart) sized all.3.words)
@@ -132,7 +133,7 @@ sum_history-history-requires-clause-rests g c =
     let low : pages ≤ 2 ^ 20 = omega (arith, c.lay_out-places.ensures.low) in
     let sized : Sized area l load pages = record { fits = c.requires.fits; low = low; sizes = c.requires.load; places = c.lay_out-places.ensures.places } in
     let one = c.transfer_all.new.memory in
-    let all = all-ok area load c.args.every old one c.transfer_all.result c.transfer_all.new.load c.in_ok-deltas.deltas c.transfer_all.ensures c.in_ok-deltas.was in
+    let all = all-ok area load c.args.every old one c.transfer_all.result c.transfer_all.new.load c.in_ok-deltas.deltas c.transfer_all.ensures.after c.in_ok-deltas.was in
     let e2 = loaded-chart _ _ _ c.sum_balances-branches.ensures.loaded in
     let e3 = loaded-chart _ _ _ c.sum_balances-tellers.ensures.loaded ∙ e2 in
     let e4 = loaded-chart _ _ _ c.sum_balances-accounts.ensures.loaded ∙ e3 in
@@ -149,7 +150,7 @@ sum_history-history-requires-clause-small g c =
     let low : pages ≤ 2 ^ 20 = omega (arith, c.lay_out-places.ensures.low) in
     let sized : Sized area l load pages = record { fits = c.requires.fits; low = low; sizes = c.requires.load; places = c.lay_out-places.ensures.places } in
     let one = c.transfer_all.new.memory in
-    let all = all-ok area load c.args.every old one c.transfer_all.result c.transfer_all.new.load c.in_ok-deltas.deltas c.transfer_all.ensures c.in_ok-deltas.was in
+    let all = all-ok area load c.args.every old one c.transfer_all.result c.transfer_all.new.load c.in_ok-deltas.deltas c.transfer_all.ensures.after c.in_ok-deltas.was in
     let e2 = loaded-chart _ _ _ c.sum_balances-branches.ensures.loaded in
     let e3 = loaded-chart _ _ _ c.sum_balances-tellers.ensures.loaded ∙ e2 in
     let e4 = loaded-chart _ _ _ c.sum_balances-accounts.ensures.loaded ∙ e3 in
@@ -166,7 +167,7 @@ returns-clause-counted g c =
     let low : pages ≤ 2 ^ 20 = omega (arith, c.lay_out-places.ensures.low) in
     let sized : Sized area l load pages = record { fits = c.requires.fits; low = low; sizes = c.requires.load; places = c.lay_out-places.ensures.places } in
     let one = c.transfer_all.new.memory in
-    let all = all-ok area load c.args.every old one c.transfer_all.result c.transfer_all.new.load c.in_ok-deltas.deltas c.transfer_all.ensures c.in_ok-deltas.was in
+    let all = all-ok area load c.args.every old one c.transfer_all.result c.transfer_all.new.load c.in_ok-deltas.deltas c.transfer_all.ensures.after c.in_ok-deltas.was in
     let e2 = loaded-chart _ _ _ c.sum_balances-branches.ensures.loaded in
     let e3 = loaded-chart _ _ _ c.sum_balances-tellers.ensures.loaded ∙ e2 in
     let e4 = loaded-chart _ _ _ c.sum_balances-accounts.ensures.loaded ∙ e3 in
@@ -185,7 +186,7 @@ returns-clause-driven g c =
     let low : pages ≤ 2 ^ 20 = omega (arith, c.lay_out-places.ensures.low) in
     let sized : Sized area l load pages = record { fits = c.requires.fits; low = low; sizes = c.requires.load; places = c.lay_out-places.ensures.places } in
     let one = c.transfer_all.new.memory in
-    let all = all-ok area load c.args.every old one c.transfer_all.result c.transfer_all.new.load c.in_ok-deltas.deltas c.transfer_all.ensures c.in_ok-deltas.was in
+    let all = all-ok area load c.args.every old one c.transfer_all.result c.transfer_all.new.load c.in_ok-deltas.deltas c.transfer_all.ensures.after c.in_ok-deltas.was in
     let e2 = loaded-chart _ _ _ c.sum_balances-branches.ensures.loaded in
     let e3 = loaded-chart _ _ _ c.sum_balances-tellers.ensures.loaded ∙ e2 in
     let e4 = loaded-chart _ _ _ c.sum_balances-accounts.ensures.loaded ∙ e3 in
@@ -219,6 +220,7 @@ returns-clause-driven g c =
       cuts = omega arith;
       plans = subst (λ (ch : Chart). Rises (plans_in c.args.every area.transfers) old.chart.plans ch.plans) (sym e5) all.3.since.plans;
       counts = told-before _ _ one last c.counts-counts.result c.counts-counts.ensures loads (omega arith);
+      accesses = told-uncut area old one last c.counts-counts.result c.counts-counts.ensures e5 c.in_ok-deltas.ensures.uncut;
     }
 
 pub returns-clause-keeps : goal.returns-clause-keeps
@@ -232,7 +234,7 @@ returns-clause-keeps g c =
     let low : pages ≤ 2 ^ 20 = omega (arith, c.lay_out-places.ensures.low) in
     let sized : Sized area l load pages = record { fits = c.requires.fits; low = low; sizes = c.requires.load; places = c.lay_out-places.ensures.places } in
     let one = c.transfer_all.new.memory in
-    let all = all-ok area load c.args.every old one c.transfer_all.result c.transfer_all.new.load c.in_ok-deltas.deltas c.transfer_all.ensures c.in_ok-deltas.was in
+    let all = all-ok area load c.args.every old one c.transfer_all.result c.transfer_all.new.load c.in_ok-deltas.deltas c.transfer_all.ensures.after c.in_ok-deltas.was in
     let e2 = loaded-chart _ _ _ c.sum_balances-branches.ensures.loaded in
     let e3 = loaded-chart _ _ _ c.sum_balances-tellers.ensures.loaded ∙ e2 in
     let e4 = loaded-chart _ _ _ c.sum_balances-accounts.ensures.loaded ∙ e3 in

@@ -1,14 +1,17 @@
-use Rattle.std.proofs.Common.{◌≡◌, ◌<◌, ◌+◌, ◌*◌, arith, ap, sym, ◌∙◌}
+use Rattle.std.proofs.Common.{◌≡◌, ℕ, subst, ◌<◌, ◌+◌, ◌*◌, arith, ap, refl, sym, ◌∙◌}
 use Rattle.std.specs.Prelude.{◌^◌}
 use Rattle.envy_base.specs.Array.{put_back}
 use Rattle.envy_layout.specs.Words.{durable}
 use Rattle.envy_memory.specs.Calls.{fresh}
 use Rattle.envy_tpca.specs.declared.transfer.Transfer.{Transfer}
 use Rattle.envy_tpca.specs.Load.{Draws, next_transfer, after, first}
+use Rattle.envy_tpca.specs.Running.{IsAt}
 use Rattle.envy_tpca.specs.Tpc.{deltas}
 use Rattle.envy_tpca.specs.Trial.{writes}
 use Rattle.envy_tpca.proofs.Chaining.{small-delta}
 use Rattle.envy_tpca.proofs.Drawing.{after-none, after-more, first-none, length-first}
+use Rattle.envy_tpca.proofs.Loading.{accessed-same}
+use Rattle.envy_tpca.proofs.Uncut.{next-uncut}
 use Rattle.envy_tpca.proofs.Since.{Since-refl}
 use Rattle.envy_tpca.proofs.Stepping.{step-range, range-wide, step-tried, step-done, step-ended, at-first, rests-planned, all-fails, once-ok, once-err, load-small}
 use Rattle.envy_tpca.proofs.Totals.{delta-step, small-deltas}
@@ -20,6 +23,7 @@ loop-i-init g c = record {
   sum = sym (ap deltas (first-none c.args.load.now));
   rests = c.requires.rests;
   reached = at-first c.args.area.now c.args.places c.args.load.now c.args.every c.args.memory.now c.requires (Since-refl c.args.memory.now);
+  uncut = λ low same. accessed-same c.args.memory.now.parts.cache c.args.memory.now.parts.cache refl;
 }
 
 pub spots-requires : goal.spots-requires
@@ -56,8 +60,8 @@ transfer_once-requires-clause-trial g c =
       tried = tried;
     }
 
-pub returns-in_err-transfer_once : goal.returns-in_err-transfer_once
-returns-in_err-transfer_once g c =
+pub returns-in_err-transfer_once-clause-after : goal.returns-in_err-transfer_once-clause-after
+returns-in_err-transfer_once-clause-after g c =
     let old = c.args.memory.now in
     let load = c.args.load.now in
     let mid = c.loop-i.memory in
@@ -70,7 +74,7 @@ returns-in_err-transfer_once g c =
     let p = c.plan_cut.new.memory in
     let tried = step-tried c.args.area.now c.args.places load c.args.every c.loop-i.i old mid p c.next-t.result c.spots.result may c.loop-i.invariant.reached c.plan_cut.ensures.same c.plan_cut.ensures.since.keeps.shape lt few is c.spots.ensures in
     let now = put_back (writes c.args.places (first c.loop-i.i load) c.next-t.result) (durable p.chart) in
-    let a = once-err 0 p (durable p.chart) now c.transfer_once.result c.transfer_once.new.memory c.in_err-transfer_once.field-0.0 (c.transfer_once.ensures c.args.places (32 * old.chart.shape.pages) (first c.loop-i.i load) tried) c.in_err-transfer_once.was in
+    let a = once-err 0 p (durable p.chart) now c.transfer_once.result c.transfer_once.new.memory c.in_err-transfer_once.field-0.0 (c.transfer_once.ensures.after c.args.places (32 * old.chart.shape.pages) (first c.loop-i.i load) tried) c.in_err-transfer_once.was in
     all-fails c.args.area.now load c.args.every old c.transfer_once.new.memory c.from_residual.result c.next-t.new.self c.in_err-transfer_once.field-0.0
     (step-ended c.args.area.now c.args.places load c.args.every c.loop-i.i old mid p c.transfer_once.new.memory c.next-t.result c.spots.result c.in_err-transfer_once.field-0.0 may c.loop-i.invariant.reached c.plan_cut.ensures.since c.plan_cut.ensures.same lt tried is a)
     c.from_residual.ensures.0 c.from_residual.ensures.1
@@ -89,7 +93,7 @@ loop-i-preserved g c =
     let p = c.plan_cut.new.memory in
     let tried = step-tried c.args.area.now c.args.places load c.args.every c.loop-i.i old mid p c.next-t.result c.spots.result may c.loop-i.invariant.reached c.plan_cut.ensures.same c.plan_cut.ensures.since.keeps.shape lt few is c.spots.ensures in
     let now = put_back (writes c.args.places (first c.loop-i.i load) c.next-t.result) (durable p.chart) in
-    let a = once-ok 0 p (durable p.chart) now c.transfer_once.result c.transfer_once.new.memory _ (c.transfer_once.ensures c.args.places (32 * old.chart.shape.pages) (first c.loop-i.i load) tried) c.in_ok-transfer_once.was in
+    let a = once-ok 0 p (durable p.chart) now c.transfer_once.result c.transfer_once.new.memory _ (c.transfer_once.ensures.after c.args.places (32 * old.chart.shape.pages) (first c.loop-i.i load) tried) c.in_ok-transfer_once.was in
     let d = step-done c.args.area.now c.args.places load c.args.every c.loop-i.i old mid p c.transfer_once.new.memory c.next-t.result c.spots.result _ may c.loop-i.invariant.reached c.plan_cut.ensures.since tried is a in
     let long = length-first (c.loop-i.i + 1) load in
     record {
@@ -98,4 +102,18 @@ loop-i-preserved g c =
           (small-deltas (first (c.loop-i.i + 1) load) (load-small c.args.area.now load old.chart.shape.pages (c.loop-i.i + 1) may.fits may.sizes) (omega arith));
       rests = d.1;
       reached = d.0;
+      uncut = next-uncut _ _ c.loop-i.i old mid p c.transfer_once.new.memory c.loop-i.invariant.reached.since c.loop-i.invariant.uncut c.plan_cut.ensures.since c.plan_cut.ensures.parts a.1 c.in_ok-transfer_once.ensures.uncut;
     }
+
+pub returns-clause-after : goal.returns-clause-after
+returns-clause-after g c =
+    let load = c.args.load.now in
+    let past = c.loop-i-test.false in
+    let end = c.loop-i.auto.i-end in
+    let is : c.loop-i.i ≡ c.args.area.now.transfers = omega arith in
+    let at = c.loop-i.invariant in (
+      at.sum ∙ ap (λ (n : ℕ). deltas (first n load)) is,
+      at.load ∙ ap (λ (n : ℕ). after n load) is,
+      at.rests,
+      subst (λ (n : ℕ). IsAt c.args.area.now load c.args.every n c.args.memory.now c.loop-i.memory) is at.reached,
+    )

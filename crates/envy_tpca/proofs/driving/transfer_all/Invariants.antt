@@ -1,6 +1,7 @@
-use Rattle.std.proofs.Common.{◌≡◌}
+use Rattle.std.proofs.Common.{◌≡◌, ◌*◌}
 use Rattle.envy_layout.specs.Words.{durable}
 use Rattle.envy_tpca.specs.Load.{after, first}
+use Rattle.envy_tpca.specs.Loading.{CountsUncut}
 use Rattle.envy_tpca.specs.Running.{IsAt}
 use Rattle.envy_tpca.specs.Tpc.{deltas}
 use Rattle.envy_tpca.specs.Trying.{Rests}
@@ -12,4 +13,5 @@ invariant-loop-i g l = record {
   sum : l.deltas ≡ deltas (first l.i l.initial.load);
   rests : Rests (durable l.memory.chart) l.memory;
   reached : IsAt l.area l.initial.load l.every l.i l.initial.memory l.memory;
+  uncut : CountsUncut (11 * l.i) l.initial.memory l.memory;
 }

@@ -1,4 +1,5 @@
 use Rattle.envy_layout.specs.Words.{durable}
+use Rattle.envy_tpca.specs.Loading.{CountsUncut}
 use Rattle.envy_tpca.specs.Since.{Since}
 use Rattle.envy_tpca.specs.Trying.{Rests}
 use Rattle.envy_tpca.proofs.driving.transfer_once.Given as goal
@@ -7,6 +8,7 @@ abbrev pub invariant-loop-memory : goal.invariant-loop-memory
 invariant-loop-memory g l = record {
   rests : Rests (durable l.initial.memory.chart) l.memory;
   since : Since 0 l.initial.memory l.memory;
+  uncut : CountsUncut 0 l.initial.memory l.memory;
 }
 
 abbrev pub decreases-loop-memory : goal.decreases-loop-memory

@@ -1,11 +1,27 @@
-use Rattle.envy_bank.proofs.KeptLaws.{in_marks, in_pages, kept_after_write}
+use Rattle.std.proofs.Common.{◌<◌, false, length, refl, arith}
+use Rattle.std.proofs.lemmas.List.{length-set}
+use Rattle.envy_bank.proofs.KeptLaws.{in_marks, kept_after_write, paged-written}
 use Rattle.envy_bank.proofs.kept.KeptRows.write.Goals as goal
 
-pub index_mut-requires : goal.index_mut-requires
-index_mut-requires c = let a = c.self.inside in in_marks a.erased.len a.erased.items a.pages.items _ c.args.row a.erased.ok.0 c.self.invariant c.self.view_is c.requires
+pub reach-requires : goal.reach-requires
+reach-requires c =
+    let a = c.self.inside in
+    let low : c.args.row < length a.erased.items = in_marks _ a.erased.items a.pages.items _ c.args.row refl c.self.view_is c.requires in
+    omega (arith, low, c.self.invariant.1)
 
 pub index_mut-requires-2 : goal.index_mut-requires-2
-index_mut-requires-2 c = let a = c.self.inside in in_pages a.pages.len a.erased.items a.pages.items _ c.args.row a.pages.ok.0 c.self.invariant c.self.view_is c.requires
+index_mut-requires-2 c = let a = c.self.inside in in_marks a.erased.len a.erased.items a.pages.items _ c.args.row a.erased.ok.0 c.self.view_is c.requires
+
+pub invariant_of-self : goal.invariant_of-self
+invariant_of-self c =
+    let a = c.self.inside in
+    let low : c.args.row < length a.erased.items = in_marks _ a.erased.items a.pages.items _ c.args.row refl c.self.view_is c.requires in
+    let long = length-set a.erased.items c.args.row false in (
+      paged-written a.erased.items a.pages.items c.reach.new.pages.items c.args.row _ c.args.page.now _ c.self.invariant.0 c.reach.ensures.pages refl low,
+      omega (arith, long, c.self.invariant.1, c.reach.ensures.capacity),
+    )
 
 pub returns : goal.returns
-returns c = let a = c.self.inside in kept_after_write a.erased.items a.pages.items _ c.args.row c.args.page.now c.self.view_is
+returns c =
+    let a = c.self.inside in
+    kept_after_write a.erased.items a.pages.items _ c.reach.new.pages.items c.args.row _ c.args.page.now _ c.self.invariant.0 c.self.view_is c.reach.ensures.pages refl

@@ -1,5 +1,6 @@
-use Rattle.std.proofs.Common.{◌-◌, ℕ, map, replicate, arith, ap, ap₂, ◌∙◌}
+use Rattle.std.proofs.Common.{◌-◌, ℕ, map, arith, ap, ap₂, ◌∙◌}
 use Rattle.std.specs.List.{range_with_len}
+use Rattle.envy_policy.specs.Heats.{cold}
 use Rattle.envy_policy.specs.History.{last_in, count_in}
 use Rattle.envy_policy.proofs.HistoryLemmas.{IsHistory-start, written}
 use Rattle.envy_policy.proofs.chooser.Chooser.new.Goals as goal
@@ -8,6 +9,7 @@ pub invariant_of-result : goal.invariant_of-result
 invariant_of-result c =
     let positions = c.args.setup.now.shape.segments - 1 in
     let count = ap (count_in positions) c.run-run.ensures in
-    IsHistory-start c.args.setup.now.policy positions _ _ c.requires.part c.requires.few_part (omega arith)
-    (c.in_ok-heats.ensures.items_if_clones_equal (λ y e. e) ∙ ap (λ (n : ℕ). replicate n 0) count)
+    IsHistory-start c.args.setup.now.policy c.args.setup.now.shape.pages positions _ _ _ c.requires.part c.requires.few_part (omega arith)
+    (c.in_ok-heats.ensures ∙ ap cold count)
     (written _ _ _ (omega arith) ∙ c.start_turns.ensures ∙ ap₂ (λ (run n : ℕ). map (last_in positions run) (range_with_len 0 n)) c.run-run.ensures (c.deref_mut.ensures.len ∙ c.in_ok-turns.ensures.len ∙ count))
+    c.in_ok-lives.ensures

@@ -1,11 +1,14 @@
-use Rattle.std.proofs.Common.{ℕ, map, replicate, arith, ap, ap₂, ◌∙◌}
+use Rattle.std.proofs.Common.{ℕ, map, arith, ap, ap₂, ◌∙◌}
 use Rattle.std.specs.List.{range_with_len}
+use Rattle.envy_policy.specs.Heats.{cold}
 use Rattle.envy_policy.specs.History.{last_in}
 use Rattle.envy_policy.proofs.HistoryLemmas.{IsHistory-start, written}
+use Rattle.envy_policy.proofs.LivesLemmas.{lives-reset}
 use Rattle.envy_policy.proofs.chooser.Chooser.reset.Goals as goal
 
 pub invariant_of-self : goal.invariant_of-self
 invariant_of-self c =
-    IsHistory-start c.self.inside.policy c.self.inside.positions _ _ c.self.invariant.part c.self.invariant.few_part c.self.invariant.few
-    (c.fill.ensures.items (λ y e. e) ∙ ap (λ (n : ℕ). replicate n 0) (omega (arith, c.self.invariant.heats)))
+    IsHistory-start c.self.inside.policy c.self.inside.pages c.self.inside.positions _ _ _ c.self.invariant.part c.self.invariant.few_part c.self.invariant.few
+    (c.reset.ensures ∙ ap cold c.self.invariant.heats)
     (written _ _ _ (omega arith) ∙ c.start_turns.ensures ∙ ap₂ (λ (run n : ℕ). map (last_in c.self.inside.positions run) (range_with_len 0 n)) c.run-run.ensures (omega arith))
+    (c.reset-2.ensures ∙ lives-reset c.self.inside.policy c.self.inside.pages c.self.inside.positions c.self.inside.lives c.self.invariant.lives)

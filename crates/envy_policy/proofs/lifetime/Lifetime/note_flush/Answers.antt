@@ -1,6 +1,6 @@
-use Rattle.std.proofs.Common.{◌≡◌, ◌<◌, length, slice_set, subst, sym}
+use Rattle.std.proofs.Common.{◌<◌, length, slice_set, subst, sym}
 use Rattle.envy_policy.specs.declared.class.OpenPositions.{OpenPositions}
-use Rattle.envy_policy.specs.Lifetime.{Notes, IsNotes}
+use Rattle.envy_policy.specs.Notes.{Notes, IsNotes}
 use Rattle.envy_policy.proofs.Noting.{notes-flush}
 use Rattle.envy_policy.proofs.lifetime.Lifetime.note_flush.Goals as goal
 

@@ -1,8 +1,8 @@
-use Rattle.std.proofs.Common.{arith, subst, sym, ◌≡◌, ◌∙◌, ap, Option, Some}
+use Rattle.std.proofs.Common.{arith, subst, sym, ◌∙◌, Option, Some}
 use Rattle.std.proofs.lemmas.Bool.{ltb-true}
-use Rattle.envy_policy.specs.declared.fraction.Fraction.{Fraction}
 use Rattle.envy_policy.specs.declared.fraction.Weighed.{Weighed}
-use Rattle.envy_policy.specs.Lifetime.{Notes, IsNotes, RowCounts, IsBestBelow, worth}
+use Rattle.envy_policy.specs.Lifetime.{IsBestBelow}
+use Rattle.envy_policy.specs.Notes.{Notes, IsNotes}
 use Rattle.envy_policy.proofs.Weighing.{best-small, best-found, IsSmall}
 use Rattle.envy_policy.proofs.lifetime.Lifetime.weigh.Goals as goal
 

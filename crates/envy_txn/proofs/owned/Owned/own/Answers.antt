@@ -15,9 +15,9 @@ unreachable-requires g c =
 pub own_page-requires-clause-few : goal.own_page-requires-clause-few
 own_page-requires-clause-few g c = λ on.
     let f = (chart (g.B.Board.state c.args.board.now)).fields in
-    let pairs : c.self.inside.pairs.items ≡ c.args.self.now.pairs = ap (λ (o : Ownership). o.pairs) c.self.view_is in
-    let long : length c.self.inside.pairs.items ≡ length c.args.self.now.pairs = ap (λ (xs : List Pair). length xs) pairs in
-    let count = pairs-counted f.slots f.undos c.self.inside.pairs.items c.self.invariant.owners.apart (subst (AreOwned f.slots f.undos) (sym pairs) (c.requires.agrees on)) in
+    let pairs : c.self.inside.ledger.pairs ≡ c.args.self.now.pairs = ap (λ (o : Ownership). o.pairs) c.self.view_is in
+    let long : length c.self.inside.ledger.pairs ≡ length c.args.self.now.pairs = ap (λ (xs : List Pair). length xs) pairs in
+    let count = pairs-counted f.slots f.undos c.self.inside.ledger.pairs c.self.invariant.owners.apart (subst (AreOwned f.slots f.undos) (sym pairs) (c.requires.agrees on)) in
     let room = c.requires.room in let limit = c.requires.limit in
     omega arith
 

@@ -1,0 +1,207 @@
+//! What a test asks of a board in memory, step by step, and what it is answered.
+
+use envy_base::{Bench, Board, Off, Shape, Trouble};
+use envy_bench::MemBoard;
+use envy_power::Torn;
+use std::process::Abort;
+
+/// A page by what it is.
+#[derive(Clone, Copy, Debug, PartialEq, Eq)]
+pub(crate) enum Page {
+    Ones,
+    Zeros,
+    /// A page that tells its row.
+    Marked(u32),
+    /// The page that is drawn from a number behind so many others.
+    Torn(u64, u32),
+}
+
+/// The page that is drawn from a number behind so many others.
+fn torn_page(g: u64, before: u32) -> [u64; 32] {
+    let mut torn = Torn::new(g);
+    let mut page = [0; 32];
+    for _page in 0..before.saturating_add(1) {
+        for word in page.iter_mut() {
+            *word = torn.next();
+        }
+    }
+    page
+}
+
+/// A page that tells its row.
+pub(crate) fn marked(row: u32) -> [u64; 32] {
+    [u64::MAX - row as u64; 32]
+}
+
+/// The words of a page.
+fn words_of(page: Page) -> [u64; 32] {
+    match page {
+        Page::Ones => [u64::MAX; 32],
+        Page::Zeros => [0; 32],
+        Page::Marked(row) => marked(row),
+        Page::Torn(g, before) => torn_page(g, before),
+    }
+}
+
+/// A call, and its answer.
+#[derive(Clone, Copy, Debug, PartialEq, Eq)]
+pub(crate) enum Step {
+    Is(Shape),
+    Put(u32, u64, Result<(), Off>),
+    Get(u32, Result<u64, Off>),
+    /// A word of SRAM, with power on or off.
+    Peek(u32, u64),
+    Program(u32, Page, Result<(), Trouble>),
+    Erase(u32, Result<(), Trouble>),
+    Read(u32, u32, Result<u64, Off>),
+    /// A row holds this page.
+    Holds(u32, Page),
+    /// Rows from the first to behind the last are each programmed with a page that tells it, or hold that.
+    ProgramMarked(u32, u32),
+    HoldMarked(u32, u32),
+    /// Power is to fail at an operation from now, 1 for the next, or a flash operation is to be bad.
+    PlanCut(u32, u64),
+    PlanBad(u32, u64),
+    CutNow,
+    /// Power returns, or not.
+    PowerOn(bool),
+    IsOn(bool),
+    /// How often power can return.
+    Lives(u32),
+    /// Failures of power and bad operations.
+    Failed(u64, u64),
+    /// The board has no such row or word, or the call may not be made now.
+    Unknown,
+}
+
+/// Programs a row, if the board has it.
+pub(crate) fn program<B: Board>(
+    board: &mut B,
+    row: u32,
+    page: &[u64; 32],
+) -> Option<Result<(), Trouble>> {
+    let shape = board.shape();
+    if row >= shape.segments * shape.rows {
+        return None;
+    }
+    Some(board.program(row, page))
+}
+
+/// Reads a word of a row, if the board has it.
+fn read<B: Board>(board: &B, row: u32, i: u32) -> Option<Result<u64, Off>> {
+    let shape = board.shape();
+    if row >= shape.segments * shape.rows || i >= 32 {
+        return None;
+    }
+    Some(board.read(row, i))
+}
+
+/// Reads a row, if the board has it.
+pub(crate) fn read_row<B: Board>(board: &B, row: u32) -> Option<Result<[u64; 32], Off>> {
+    let shape = board.shape();
+    if row >= shape.segments * shape.rows {
+        return None;
+    }
+    let mut page = [0; 32];
+    for i in 0..32u32 {
+        match board.read(row, i) {
+            Ok(word) => page[i as usize] = word,
+            Err(Off) => return Some(Err(Off)),
+        }
+    }
+    Some(Ok(page))
+}
+
+/// Erases a segment, if the board has it.
+pub(crate) fn erase<B: Board>(board: &mut B, segment: u32) -> Option<Result<(), Trouble>> {
+    if segment >= board.shape().segments {
+        return None;
+    }
+    Some(board.erase(segment))
+}
+
+/// Whether a row holds this page.
+fn holds<B: Board>(board: &B, row: u32, page: &[u64; 32]) -> bool {
+    read_row(board, row) == Some(Ok(*page))
+}
+
+/// Programs each of these rows with a page that tells it, and tells whether all were.
+fn program_marked<B: Board>(board: &mut B, first: u32, behind: u32) -> bool {
+    for row in first..behind {
+        if program(board, row, &marked(row)) != Some(Ok(())) {
+            return false;
+        }
+    }
+    true
+}
+
+/// Whether each of these rows holds a page that tells it.
+fn hold_marked<B: Board>(board: &B, first: u32, behind: u32) -> bool {
+    for row in first..behind {
+        if !holds(board, row, &marked(row)) {
+            return false;
+        }
+    }
+    true
+}
+
+/// A step, where it went as it says.
+fn told(is: bool, step: Step) -> Step {
+    if is { step } else { Step::Unknown }
+}
+
+/// Makes a step that is a call of any board.
+fn made_of_board<B: Board>(board: &mut B, step: Step) -> Step {
+    match step {
+        Step::Is(_) => Step::Is(board.shape()),
+        Step::Put(w, v, _) if w < 71 => Step::Put(w, v, board.put(w, v)),
+        Step::Get(w, _) if w < 71 => Step::Get(w, board.get(w)),
+        Step::Program(row, page, _) => match program(board, row, &words_of(page)) {
+            Some(answer) => Step::Program(row, page, answer),
+            None => Step::Unknown,
+        },
+        Step::Erase(segment, _) => match erase(board, segment) {
+            Some(answer) => Step::Erase(segment, answer),
+            None => Step::Unknown,
+        },
+        Step::Read(row, i, _) => match read(board, row, i) {
+            Some(answer) => Step::Read(row, i, answer),
+            None => Step::Unknown,
+        },
+        Step::Holds(row, page) => told(holds(board, row, &words_of(page)), step),
+        Step::ProgramMarked(first, behind) => told(program_marked(board, first, behind), step),
+        Step::HoldMarked(first, behind) => told(hold_marked(board, first, behind), step),
+        Step::IsOn(_) => Step::IsOn(board.powered()),
+        _ => Step::Unknown,
+    }
+}
+
+/// Makes a step, and tells it with the answer that it got.
+fn made(board: &mut MemBoard, step: Step) -> Step {
+    match step {
+        Step::Peek(w, _) if w < 71 => Step::Peek(w, board.peek(w)),
+        Step::PlanCut(k, g) if k >= 1 => {
+            board.arm_cut(k, g);
+            step
+        }
+        Step::PlanBad(k, g) if k >= 1 => {
+            board.arm_bad(k, g);
+            step
+        }
+        Step::CutNow if board.powered() => {
+            board.cut_now();
+            step
+        }
+        Step::PowerOn(_) if !board.powered() => Step::PowerOn(board.power_on()),
+        Step::Lives(_) => Step::Lives(board.lives()),
+        Step::Failed(_, _) => Step::Failed(board.cuts(), board.bads()),
+        _ => made_of_board(board, step),
+    }
+}
+
+/// Tests that each step is answered as it says.
+pub(crate) fn check_steps(rt: &impl Abort, board: &mut MemBoard, name: &str, steps: &[Step]) {
+    for step in steps {
+        assert_eq!(rt; made(board, *step), *step, "{name}");
+    }
+}

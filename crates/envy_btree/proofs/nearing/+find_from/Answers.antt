@@ -1,0 +1,78 @@
+use Rattle.std.proofs.Common.{◌≡◌, ◌≢◌, ◌⊎◌, ◌-◌, ◌+◌, ◌<◌, ◌≤◌, ℕ, List, ◌∙◌, ap, IfOk, Option, arith, length, subst, sym, get_or}
+use Rattle.envy_btree.specs.Nearest.{first_from}
+use Rattle.envy_btree.specs.Tree.{pairs_of}
+use Rattle.envy_btree.specs.Changes.{Rests}
+use Rattle.envy_btree.proofs.Descent.{Rests-within, Rests-few}
+use Rattle.envy_btree.proofs.Beside.{From-made, any-here, none-here, child-says, child-rests, rests-fits, leaf-long, leaf-says}
+use Rattle.envy_btree.proofs.nearing.+find_from.Goals as goal
+
+pub read_node-requires-clause-within : goal.read_node-requires-clause-within
+read_node-requires-clause-within g t c = (Rests-within _ _ _ c.requires.rests).0
+
+pub read_node-requires-clause-few : goal.read_node-requires-clause-few
+read_node-requires-clause-few g t c = Rests-few _ _ _ c.requires.rests
+
+pub first_in_leaf-requires-clause-long : goal.first_in_leaf-requires-clause-long
+first_in_leaf-requires-clause-long g t c = leaf-long _ _ _ _ _ _ c.requires.rests c.in_ok-node.ensures.node c.if-not-node.true
+
+pub returns-then-not-node-clause-answer : goal.returns-then-not-node-clause-answer
+returns-then-not-node-clause-answer g t c r = leaf-says _ _ _ _ _ _ _ (first_from c.args.key) r c.in_ok-node.ensures.node c.if-not-node.true c.first_in_leaf.ensures
+
+pub slot-child-requires : goal.slot-child-requires
+slot-child-requires g t c = (From-made _ _ _ _ _ _ _ _ _ c.requires.rests c.in_ok-node.ensures.node c.if-not-node.false c.deref.ensures.0 c.rank-i.ensures).place
+
+pub overflow_cast-child : goal.overflow_cast-child
+overflow_cast-child g t c =
+    let s = From-made _ _ _ _ _ _ _ _ _ c.requires.rests c.in_ok-node.ensures.node c.if-not-node.false c.deref.ensures.0 c.rank-i.ensures in
+    let fits = rests-fits _ _ _ (g.met.W.Words.lawful c.args.words.now).few s.child in
+    omega (arith, c.slot-child.ensures, fits)
+
+pub overflow_sub-level : goal.overflow_sub-level
+overflow_sub-level g t c = (From-made _ _ _ _ _ _ _ _ _ c.requires.rests c.in_ok-node.ensures.node c.if-not-node.false c.deref.ensures.0 c.rank-i.ensures).lower
+
+pub find_from-requires : goal.find_from-requires
+find_from-requires g t c κs within =
+    let s = From-made _ _ _ _ _ _ _ _ _ c.requires.rests c.in_ok-node.ensures.node c.if-not-node.false c.deref.ensures.0 c.rank-i.ensures in
+    (omega (arith, s.lower, c.decreases), (within, child-rests _ _ _ _ _ c.in_ok-node.ensures.same c.slot-child.ensures s.child))
+
+pub returns-then-is_some-clause-answer : goal.returns-then-is_some-clause-answer
+returns-then-is_some-clause-answer g t c r =
+    let s = From-made _ _ _ _ _ _ _ _ _ r c.in_ok-node.ensures.node c.if-not-node.false c.deref.ensures.0 c.rank-i.ensures in
+    let says = child-says (g.W.Words.sheet c.args.words.now).words (g.W.Words.sheet c.read_node.new.words).words c.slot-child.result _ (c.args.level - 1) (λ z. c.in_ok-found.found ≡ first_from c.args.key z) c.in_ok-node.ensures.same c.slot-child.ensures c.in_ok-found.ensures.answer s.child in
+    any-here _ _ _ says (sym c.is_some.ensures ∙ c.if-is_some.true) s.here
+
+pub returns-then-i-len-clause-answer : goal.returns-then-i-len-clause-answer
+returns-then-i-len-clause-answer g t c r =
+    let s = From-made _ _ _ _ _ _ _ _ _ r c.in_ok-node.ensures.node c.if-not-node.false c.deref.ensures.0 c.rank-i.ensures in
+    let says = child-says (g.W.Words.sheet c.args.words.now).words (g.W.Words.sheet c.read_node.new.words).words c.slot-child.result _ (c.args.level - 1) (λ z. c.in_ok-found.found ≡ first_from c.args.key z) c.in_ok-node.ensures.same c.slot-child.ensures c.in_ok-found.ensures.answer s.child in
+    sym (s.ended (omega (arith, c.if-i-len.true, c.len.ensures.value)) (none-here _ _ says (sym c.is_some.ensures ∙ c.if-is_some.false)))
+
+pub slot-next_child-requires : goal.slot-next_child-requires
+slot-next_child-requires g t c =
+    let s = From-made _ _ _ _ _ _ _ _ _ c.requires.rests c.in_ok-node.ensures.node c.if-not-node.false c.deref.ensures.0 c.rank-i.ensures in
+    omega (arith, s.long, c.rank-i.ensures.within, c.if-i-len.false, c.len.ensures.value, ap length c.deref.ensures.0)
+
+pub overflow_cast-next_child : goal.overflow_cast-next_child
+overflow_cast-next_child g t c =
+    let s = From-made _ _ _ _ _ _ _ _ _ c.requires.rests c.in_ok-node.ensures.node c.if-not-node.false c.deref.ensures.0 c.rank-i.ensures in
+    let other = (let lt : c.rank-i.result < length c.in_ok-node.node.keys.items = omega (arith, c.rank-i.ensures.within, c.if-i-len.false, c.len.ensures.value, ap length c.deref.ensures.0) in lt) in
+    let fits = rests-fits _ _ _ (g.met.W.Words.lawful c.args.words.now).few (s.after other) in
+    omega (arith, c.slot-next_child.ensures, fits)
+
+pub overflow_sub-level-2 : goal.overflow_sub-level-2
+overflow_sub-level-2 g t c = (From-made _ _ _ _ _ _ _ _ _ c.requires.rests c.in_ok-node.ensures.node c.if-not-node.false c.deref.ensures.0 c.rank-i.ensures).lower
+
+pub find_from-requires-2 : goal.find_from-requires-2
+find_from-requires-2 g t c κs within =
+    let s = From-made _ _ _ _ _ _ _ _ _ c.requires.rests c.in_ok-node.ensures.node c.if-not-node.false c.deref.ensures.0 c.rank-i.ensures in
+    let other = (let lt : c.rank-i.result < length c.in_ok-node.node.keys.items = omega (arith, c.rank-i.ensures.within, c.if-i-len.false, c.len.ensures.value, ap length c.deref.ensures.0) in lt) in
+    (omega (arith, s.lower, c.decreases), (within, child-rests _ _ _ _ _ (c.in_ok-found.ensures.same ∙ c.in_ok-node.ensures.same) c.slot-next_child.ensures (s.after other)))
+
+pub returns-clause-answer : goal.returns-clause-answer
+returns-clause-answer g t c r =
+    let s = From-made _ _ _ _ _ _ _ _ _ r c.in_ok-node.ensures.node c.if-not-node.false c.deref.ensures.0 c.rank-i.ensures in
+    let other = (let lt : c.rank-i.result < length c.in_ok-node.node.keys.items = omega (arith, c.rank-i.ensures.within, c.if-i-len.false, c.len.ensures.value, ap length c.deref.ensures.0) in lt) in
+    let says = child-says (g.W.Words.sheet c.args.words.now).words (g.W.Words.sheet c.read_node.new.words).words c.slot-child.result _ (c.args.level - 1) (λ z. c.in_ok-found.found ≡ first_from c.args.key z) c.in_ok-node.ensures.same c.slot-child.ensures c.in_ok-found.ensures.answer s.child in
+    let none = none-here _ _ says (sym c.is_some.ensures ∙ c.if-is_some.false) in
+    let found = child-says (g.W.Words.sheet c.args.words.now).words (g.W.Words.sheet c.find_from.new.words).words c.slot-next_child.result _ (c.args.level - 1) (λ z. IfOk c.find_from-2.result (λ x. x ≡ first_from c.args.key z)) (c.in_ok-found.ensures.same ∙ c.in_ok-node.ensures.same) c.slot-next_child.ensures c.find_from-2.ensures.answer (s.after other) in
+    subst (λ z. IfOk c.find_from-2.result (λ x. x ≡ z)) (sym (s.there other none)) found

@@ -1,0 +1,72 @@
+-- What reading and putting several words answer by a number, and what they leave in the place for a memory: so many
+-- loads or puts of one word each, at an address and behind it.
+use Rattle.std.specs.Prelude.{◌≡◌, ◌≢◌, ◌↔◌, ◌⊎◌, ◌+◌, ◌*◌, ◌<◌, ℕ, zero, suc, false, IsTrue, OnOk, OnErr, length, slice_index, List, Option, None, Some, Result, Ok, Err}
+use Rattle.envy_base.specs.Array.{Array}
+use Rattle.envy_base.specs.Step.{Step, Put, Done as DoneOf}
+use Rattle.envy_layout.specs.Stands.{Stands}
+use Rattle.envy_memory.specs.Picture.{Picture}
+use Rattle.envy_memory.specs.declared.faults.LoadFault.{LoadFault}
+use Rattle.envy_memory.specs.declared.faults.LoadFault.TheVariants.{Off as LoadOff, Range as LoadRange}
+use Rattle.envy_calls.specs.Answers.{LoadsTo, PutsTo, slot_named}
+use Rattle.envy_calls.specs.Codes.{number_of}
+use Rattle.envy_calls.specs.declared.code.Code.{Code}
+use Rattle.envy_calls.specs.declared.code.Code.TheVariants.{Done, Empty, Off, Range}
+
+-- the first k of these words were loaded, one after another
+abbrev pub Loaded : ℕ → List ℕ → ℕ → Picture → Picture → Type 0
+Loaded zero words a p q = q ≡ p
+Loaded (suc k) words a p q = (r : Picture) × Loaded k words a p r × LoadsTo r q (a + k) (number_of Done) 0 (slice_index words k)
+
+-- slot t put the first k of these words, one after another
+abbrev pub Wrote : ℕ → List ℕ → ℕ → ℕ → ℕ → Picture → Picture → Type 0
+Wrote zero words t a holder p q = q ≡ p
+Wrote (suc k) words t a holder p q = (r : Picture) × Wrote k words t a holder p r × PutsTo r q t (a + k) (slice_index words k) (number_of Done) holder holder
+
+-- the same of a plain array
+abbrev pub Written : ℕ → List ℕ → ℕ → ℕ → Array → Array → Type 0
+Written zero words t a m n = n ≡ m
+Written (suc k) words t a m n = (l : Array) × Written k words t a m l × Step l (Put t (a + k) (slice_index words k)) DoneOf n
+
+abbrev pub read_code : Result Unit LoadFault → Code
+read_code (Ok done) = Done
+read_code (Err LoadOff) = Off
+read_code (Err LoadRange) = Range
+
+-- there are words, and the last one's address lies past the last page
+abbrev pub GoesPast : Picture → ℕ → ℕ → Type 0
+GoesPast p a n = (0 < n) × (32 * p.chart.shape.pages < a + n)
+
+-- Each word is the array's at its address. Refused, nothing was read.
+pub record ReadsTo (p q : Picture) (a code : ℕ) (before after : List ℕ) : Type 0 where
+  pub answer : Result Unit LoadFault
+  pub coded : code ≡ number_of (read_code answer)
+  pub long : length after ≡ length before
+  pub words : OnOk answer ((m : Array) → Stands p.chart m → (i : ℕ) → i < length after → (a + i < length m.words) × (slice_index after i ≡ slice_index m.words (a + i)))
+  pub loads : OnOk answer (Loaded (length after) after a p q)
+  pub off : (answer ≡ Err LoadOff) ↔ (p.chart.on ≡ false)
+  pub range : (answer ≡ Err LoadRange) ↔ (IsTrue p.chart.on × GoesPast p a (length before))
+  pub kept : q ≡ record p { parts = record p.parts { cache = q.parts.cache } }
+  pub refused : OnErr answer ((q ≡ p) × (after ≡ before))
+
+-- All words were put, or the next one was refused, which ended it.
+abbrev pub EndsWith : Picture → Picture → ℕ → ℕ → List ℕ → ℕ → ℕ → ℕ → ℕ → Type 0
+EndsWith r q t a words done code before after =
+    ((done ≡ length words) × (q ≡ r) × (code ≡ number_of Done) × (after ≡ before))
+    ⊎ ((done < length words) × (code ≢ number_of Done) × PutsTo r q t (a + done) (slice_index words done) code before after)
+
+-- so many were put, and what ended it
+pub record WritesTo (p q : Picture) (t a : ℕ) (words : List ℕ) (code done before after : ℕ) : Type 0 where
+  pub between : Picture
+  pub puts : Wrote done words t a before p between
+  pub array : (m : Array) → Stands p.chart m → (n : Array) × Written done words t a m n × Stands between.chart n
+  pub ends : EndsWith between q t a words done code before after
+
+-- In a place: the calls of the memory that it holds.
+
+abbrev pub DoesRead : Option Picture → Option Picture → ℕ → ℕ → List ℕ → List ℕ → Type 0
+DoesRead None new a code before after = (new ≡ None) × (code ≡ number_of Empty) × (after ≡ before)
+DoesRead (Some p) new a code before after = (q : Picture) × (new ≡ Some q) × ReadsTo p q a code before after
+
+abbrev pub DoesWrite : Option Picture → Option Picture → ℕ → ℕ → List ℕ → ℕ → ℕ → ℕ → ℕ → Type 0
+DoesWrite None new t a words code done before after = (new ≡ None) × (code ≡ number_of Empty) × (done ≡ 0) × (after ≡ before)
+DoesWrite (Some p) new t a words code done before after = (q : Picture) × (new ≡ Some q) × WritesTo p q (slot_named t) a words code done before after

@@ -1,0 +1,17 @@
+ghost use Rattle.std.specs.Prelude.{OnOk};
+ghost use Rattle.envy_disk.specs.Disk.{Syncs};
+ghost use Rattle.envy_map.specs.Fields.{Chart, chart};
+
+use envy_base::{Board, Off};
+
+/// A board that can be brought to a disk. Four numbers that no call of a memory changes (the cuts by hand, the plans, and
+/// the returns of power that are left and were given) tell what its last syncs brought there.
+pub trait OnDisk: Board {
+    /// What the numbers tell is on the disk is what the board holds.
+    ghost is_synced: { Chart → Type 0 };
+
+    /// Brings the board to the disk. Where it fails, power is off.
+    fn sync(&mut self) -> Result<(), Off>
+        ensures answer { Syncs (Self.state self.old) result (Self.state self.new) }
+        ensures synced { OnOk result (is_synced (chart (Self.state self.new))) };
+}

@@ -1,0 +1,13 @@
+-- A call as a record notes it.
+use Rattle.envy_hostfile.specs.declared.made.Made.{Made}
+use Rattle.envy_hostfile.specs.declared.made.Made.TheVariants as made
+use Rattle.envy_hostfile.specs.Calls.{Call, Found, Wrote, WriteFailed, CutTo, CutFailed, Synced, SyncFailed}
+
+abbrev pub call_of : Made → Call
+call_of (made.Found bytes) = Found bytes.now
+call_of (made.Wrote at bytes) = Wrote at bytes.now
+call_of (made.WriteFailed at size) = WriteFailed at size
+call_of (made.CutTo size) = CutTo size
+call_of (made.CutFailed size) = CutFailed size
+call_of made.Synced = Synced
+call_of made.SyncFailed = SyncFailed

@@ -1,0 +1,36 @@
+-- A memory that is kept in a file, before its first line.
+use Rattle.std.specs.Prelude.{◌≡◌, ℕ, ◌+◌, ◌^◌, ◌<◌, ⊤, IsTrue, Bool, List, length}
+use Rattle.envy_base.specs.Array.{Array, undone}
+use Rattle.envy_keep.specs.declared.beginning.Unbegun.{Unbegun}
+use Rattle.envy_keep.specs.declared.beginning.Unbegun.TheVariants.{Failed}
+use Rattle.envy_kept.specs.Disk.{IsLast, IsSynced}
+use Rattle.envy_layout.specs.Sound.{IsSound}
+use Rattle.envy_layout.specs.Stands.{Stands}
+use Rattle.envy_layout.specs.Words.{durable}
+use Rattle.envy_map.specs.Codes.{the_magic}
+use Rattle.envy_map.specs.Fields.{Chart}
+use Rattle.envy_memory.specs.Formats.{IsStarted}
+use Rattle.envy_memory.specs.Picture.{Picture}
+use Rattle.envy_policy.specs.declared.setup.Setup.{Setup}
+
+-- A memory of this setup that stands for an array, which a restart would find. The board was on the disk as it was behind
+-- the last sync, and a restart would have found the same words on it.
+pub record HasBegun (setup : Setup) (array : Array) (p : Picture) : Type 0 where
+  pub was : Chart
+  pub synced : IsSynced was
+  pub last : IsLast was p.chart
+  pub magic : was.fields.magic ≡ the_magic
+  pub version : was.fields.version ≡ 2
+  pub sound : IsSound was
+  pub words : durable was ≡ undone array
+  pub stands : Stands p.chart array
+  pub begins : IsStarted setup p
+  pub shape : p.chart.shape ≡ setup.shape
+
+-- the file failed, or with so many bytes held back from it is at the end of its range
+abbrev pub HasStopped : {D : Type 0} → (D → List ℕ) → (D → Bool) → ℕ → D → Type 0
+HasStopped seen has_failed held device = length (seen device) + held < 2 ^ 60 → IsTrue (has_failed device)
+
+abbrev pub IsStopped : {D : Type 0} → (D → List ℕ) → (D → Bool) → Unbegun → D → Type 0
+IsStopped seen has_failed (Failed held) device = HasStopped seen has_failed held device
+IsStopped seen has_failed other device = ⊤

@@ -1,0 +1,98 @@
+-- What holds at the end of a kept memory's trace, and which array each crash of the machine leaves.
+use Rattle.std.specs.Prelude.{◌≡◌, ◌⊎◌, ℕ, ◌≤◌, List, [], ◌∷◌}
+use Rattle.envy_base.specs.Array.{Array, undone}
+use Rattle.envy_base.specs.State.{State}
+use Rattle.envy_base.specs.declared.shape.Shape.{Shape}
+use Rattle.envy_disk.specs.Disk.{with_numbers}
+use Rattle.envy_journal.specs.Content.{content_of, holds}
+use Rattle.envy_journal.specs.Head.{head_bytes}
+use Rattle.envy_journal.specs.Log.{Begins}
+use Rattle.envy_journal.specs.Reading.{operations}
+use Rattle.envy_kept.specs.Disk.{IsSynced}
+use Rattle.envy_layout.specs.Sound.{IsSound}
+use Rattle.envy_layout.specs.Words.{durable}
+use Rattle.envy_map.specs.Codes.{the_magic}
+use Rattle.envy_map.specs.Fields.{chart, failed}
+use Rattle.envy_memory.specs.Picture.{Picture}
+use Rattle.envy_trace.specs.declared.reply.Reply.TheVariants.{Lost}
+use Rattle.envy_keep_trace.specs.declared.keep_reply.KeepReply.TheVariants.{Trace as TraceReply}
+use Rattle.envy_serve.specs.declared.serving.End.{End}
+use Rattle.envy_serve.specs.declared.serving.End.TheVariants.{Done as EndDone, Dead as EndDead}
+use Rattle.envy_serve.specs.Ends.{Serves}
+use Rattle.envy_serve.specs.Streams.{Streams}
+use Rattle.envy_run.specs.Outcome.{status_of, why_of}
+use Rattle.envy_keep.specs.Turns.{KeepRun, KeepTurn, LosesKeep, keep_grammar, synced_turns}
+
+-- The file is a journal of a board of these sizes. A board on which its operations are done anew is formatted and sound,
+-- and a restart finds these words on it.
+pub record OpensAs (sh : Shape) (words : List ℕ) (file : List ℕ) : Type 0 where
+  pub head : Begins (head_bytes sh) file
+  pub finds : (s : State) → s.shape ≡ sh → content_of s ≡ holds s.shape (operations file) → durable (chart s) ≡ words
+  pub magic : (s : State) → s.shape ≡ sh → content_of s ≡ holds s.shape (operations file) → (chart s).fields.magic ≡ the_magic
+  pub version : (s : State) → s.shape ≡ sh → content_of s ≡ holds s.shape (operations file) → (chart s).fields.version ≡ 2
+  pub sound : (s : State) → s.shape ≡ sh → content_of s ≡ holds s.shape (operations file) → IsSound (chart s)
+
+-- Each file that a crash has left since some sync opens as these words, or as some later ones.
+pub record Survives (sh : Shape) (left_since : ℕ → List ℕ → Type 0) (now : ℕ) (words : List ℕ) (Later : List ℕ → Type 0) : Type 0 where
+  -- the moment of that sync
+  pub moment : ℕ
+  pub before : moment ≤ now
+  pub opens : (file : List ℕ) → left_since moment file → ∥ OpensAs sh words file ⊎ ((other : List ℕ) × Later other × OpensAs sh other file) ∥₁
+
+abbrev pub NoneLater : List ℕ → Type 0
+NoneLater words = ⊥
+
+-- The turns lead to an array, and the crashes since the last line that was answered `synced` leave the array of that line,
+-- or what is later.
+pub record SurvivesSynced (first : Array) (sh : Shape) (turns : List KeepTurn) (left_since : ℕ → List ℕ → Type 0) (now : ℕ) (Later : List ℕ → Type 0) : Type 0 where
+  pub array : Array
+  pub run : KeepRun sh.entries first (synced_turns turns) array
+  pub survives : Survives sh left_since now (undone array) Later
+
+-- the same of all turns: behind the last of them a sync succeeded
+pub record SurvivesWhole (first : Array) (sh : Shape) (turns : List KeepTurn) (left_since : ℕ → List ℕ → Type 0) (now : ℕ) : Type 0 where
+  pub array : Array
+  pub run : KeepRun sh.entries first turns array
+  pub survives : Survives sh left_since now (undone array) NoneLater
+
+-- the turns lead to an array
+abbrev pub HasKept : Array → Shape → List KeepTurn → Type 0
+HasKept first sh turns = (array : Array) × KeepRun sh.entries first turns array
+
+-- and the words of that, where a restart finds it
+abbrev pub IsWhole : Array → Shape → List KeepTurn → List ℕ → Type 0
+IsWhole first sh turns words = (array : Array) × KeepRun sh.entries first turns array × (words ≡ undone array)
+
+-- power failed in the last line, which was answered `lost`
+abbrev pub HasLost : Array → Shape → List KeepTurn → Type 0
+HasLost first sh [] = ⊥
+HasLost first sh (turn ∷ earlier) = HasKept first sh earlier × (turn.replies ≡ TraceReply Lost ∷ [])
+
+-- the words of the array that the lost line left, done or not done
+abbrev pub IsLostLine : Array → Shape → List KeepTurn → List ℕ → Type 0
+IsLostLine first sh [] words = ⊥
+IsLostLine first sh (turn ∷ earlier) words = (array left : Array) × KeepRun sh.entries first earlier array × LosesKeep array turn.line left × (words ≡ left.words)
+
+-- What each crash left, by the end and the status. Where all lines were done a sync comes before status 0; where that
+-- fails, the status is 6.
+abbrev pub EndsKept : End → ℕ → Array → Shape → List KeepTurn → (ℕ → List ℕ → Type 0) → ℕ → Type 0
+EndsKept EndDone status first sh turns left_since now =
+    ((status ≡ 0) × SurvivesWhole first sh turns left_since now)
+    ⊎ ((status ≡ 6) × SurvivesSynced first sh turns left_since now (IsWhole first sh turns))
+EndsKept EndDead status first sh turns left_since now = (status ≡ 6) × SurvivesSynced first sh turns left_since now (IsLostLine first sh turns)
+EndsKept end status first sh turns left_since now = (status ≡ status_of end) × SurvivesSynced first sh turns left_since now NoneLater
+
+-- a trace was served over a kept memory that stood for an array of these sizes
+pub record KeepsServed (first : Array) (sh : Shape) (status why lines taken : ℕ) (left_since : ℕ → List ℕ → Type 0) (now : ℕ) (io : Streams) : Type 0 where
+  pub turns : List KeepTurn
+  pub end : End
+  pub serves : Serves end lines taken keep_grammar 0 (HasKept first sh) (HasLost first sh) [] turns io
+  pub why_is : why ≡ why_of end
+  pub ends : EndsKept end status first sh turns left_since now
+
+-- the status at an end, and one sync more where all lines were done
+abbrev pub Concludes : End → ℕ → Picture → Picture → Type 0
+Concludes EndDone status old new =
+    ((status ≡ 0) × IsSynced new.chart × (plans given : ℕ) × (new ≡ record old { chart = with_numbers old.chart plans given old.chart.plans old.chart.given }))
+    ⊎ ((status ≡ 6) × (new ≡ record old { chart = failed old.chart }))
+Concludes end status old new = (status ≡ status_of end) × (new ≡ old)

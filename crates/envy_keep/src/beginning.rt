@@ -1,0 +1,88 @@
+ghost use Rattle.std.specs.Prelude.{◌≡◌, false, IfOk, IfErr};
+ghost use Rattle.envy_base.specs.Array.{zeros};
+ghost use Rattle.envy_device.specs.Device.{Only};
+ghost use Rattle.envy_journal.specs.Content.{blank, content_of};
+ghost use Rattle.envy_journal.specs.Head.{IsUnmade};
+ghost use Rattle.envy_keep.specs.Beginning.{HasBegun, HasStopped, IsStopped};
+ghost use Rattle.envy_layout.specs.Stands.{Stands};
+ghost use Rattle.envy_memory.specs.Formats.{IsStarted};
+
+use envy_base::Off;
+use envy_device::Device;
+use envy_journal::{OpenError, Steady, create};
+use envy_kept::Kept;
+use envy_memory::{FormatFault, Memory};
+use envy_policy::Setup;
+use envy_saved::close;
+use std::alloc::Global;
+
+/// So many bytes of operations are held back between writes of the file.
+pub(crate) const ROOM: usize = 65536;
+
+/// Why there is no memory to serve.
+#[derive(Clone, Copy, Debug, PartialEq, Eq)]
+pub enum Unbegun {
+    /// Memory ran out.
+    Memory,
+    /// The file failed, or came to the end of its range. So many bytes of operations were held back from it.
+    Failed(usize),
+}
+
+// Gives the file under a board back, and how many bytes of operations were held back from it.
+fn closed<B: Steady + Drop, D: Device>(kept: Kept<B, D>) -> (D, usize)
+    ensures { (⟦<Kept<B, D> as envy_base::Board>⟧.state kept).on ≡ false → HasStopped D.seen D.has_failed result.1 result.0 }
+{
+    let journal = kept.into_journal();
+    let held = journal.held();
+    (journal.close(), held)
+}
+
+// Brings a memory that was just made to the disk.
+fn sync_first<B: Steady + Drop, D: Device>(
+    mut memory: Memory<Kept<B, D>>,
+    _setup: Setup,
+) -> Result<Memory<Kept<B, D>>, (Unbegun, D)>
+    requires stands { Stands memory.chart (zeros _setup.shape.pages _setup.shape.shadows) }
+    requires begins { IsStarted _setup memory }
+    requires shape { memory.chart.shape ≡ _setup.shape }
+    ensures begun { IfOk result (HasBegun _setup (zeros _setup.shape.pages _setup.shape.shadows)) }
+    ensures failed { IfErr result (λ e. IsStopped D.seen D.has_failed e.0 e.1) }
+{
+    match memory.sync() {
+        Ok(()) => Ok(memory),
+        Err(Off) => {
+            let (device, held) = close(memory);
+            Err((Unbegun::Failed(held), device))
+        }
+    }
+}
+
+/// Makes a journal in a file that is empty, or in which making one was cut short, and a memory of zeros in it, which is on
+/// the disk then.
+pub fn begin_new<B: Steady + Drop, D: Device + Drop>(
+    alloc: Global,
+    board: B,
+    device: D,
+    setup: Setup,
+) -> Result<Memory<Kept<B, D>>, (Unbegun, D)>
+    requires durable { Only (D.seen device) (D.may_leave device) }
+    requires blank { content_of (B.state board) ≡ blank (B.state board).shape }
+    requires unmade { IsUnmade (D.seen device) }
+    requires shape { (B.state board).shape ≡ setup.shape }
+    ensures begun { IfOk result (HasBegun setup (zeros setup.shape.pages setup.shape.shadows)) }
+    ensures failed { IfErr result (λ e. IsStopped D.seen D.has_failed e.0 e.1) }
+{
+    let journal = match create(alloc, board, device, ROOM) {
+        Ok(journal) => journal,
+        Err((OpenError::Failed, device)) => return Err((Unbegun::Failed(0), device)),
+        Err((_, device)) => return Err((Unbegun::Memory, device)),
+    };
+    match Memory::format(alloc, Kept::new(journal), setup) {
+        Ok(memory) => sync_first(memory, setup),
+        Err((kept, FormatFault::Off)) => {
+            let (device, held) = closed(kept);
+            Err((Unbegun::Failed(held), device))
+        }
+        Err((kept, _)) => Err((Unbegun::Memory, closed(kept).0)),
+    }
+}

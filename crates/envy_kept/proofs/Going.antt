@@ -1,0 +1,207 @@
+-- How a kept board goes on.
+use Rattle.std.specs.Prelude.{IsTrue, Result, OnOk}
+use Rattle.std.proofs.Common.{◌≡◌, ◌⊎◌, ◌∙◌, inl, inr, ⊎_elim, ℕ, ◌≤◌, Bool, true, false, List, Ok, Err, refl, sym, ap, subst, arith}
+use Rattle.std.proofs.Math.Logic.{∥∥₁_map}
+use Rattle.std.proofs.lemmas.Bool.{false≢true}
+use Rattle.envy_base.specs.declared.board.Off.{Off}
+use Rattle.envy_base.specs.declared.board.Trouble.{Trouble}
+use Rattle.envy_base.specs.declared.board.Trouble.TheVariants.{Off as TroubleOff, Bad}
+use Rattle.envy_base.specs.declared.shape.Shape.{Shape}
+use Rattle.envy_base.specs.Counting.{up}
+use Rattle.envy_base.specs.State.{State, Puts, Programs, Erases, cut}
+use Rattle.envy_device.specs.Device.{LeavesOnly}
+use Rattle.envy_journal.specs.declared.log.Log.{Log}
+use Rattle.envy_journal.specs.declared.operation.Operation.{Operation}
+use Rattle.envy_journal.specs.Content.{Content, content_of, holds}
+use Rattle.envy_journal.specs.Head.{StandsFor, head_bytes}
+use Rattle.envy_journal.proofs.Logged.{crash_kept}
+use Rattle.envy_journal.specs.Journal.{IsLogged, journal_state, kept, done}
+use Rattle.envy_journal.specs.Log.{Begins}
+use Rattle.envy_journal.specs.Reading.{operations}
+use Rattle.envy_journal.specs.Steady.{IsSteady}
+use Rattle.envy_disk.specs.Disk.{Syncs, with_disk}
+use Rattle.envy_kept.specs.Disk.{IsFileOf, Ends, IsKept}
+
+-- a journaled board and the one in it
+pub journal_on : (dead : Bool) (s : State) → IsTrue (journal_state dead s).on → dead ≡ false
+journal_on true s on = absurd (false≢true on)
+journal_on false s on = refl
+
+pub journal_off : (dead : Bool) (s : State) → IsTrue s.on → (journal_state dead s).on ≡ false → IsTrue dead
+journal_off true s on off = refl
+journal_off false s on off = absurd (false≢true (sym off ∙ on))
+
+pub journal_shape : (dead : Bool) (s : State) → (journal_state dead s).shape ≡ s.shape
+journal_shape true s = refl
+journal_shape false s = refl
+
+pub journal_content : (dead : Bool) (s : State) → content_of (journal_state dead s) ≡ content_of s
+journal_content true s = refl
+journal_content false s = refl
+
+journal_bads : (dead : Bool) (s : State) → (journal_state dead s).bads ≡ s.bads
+journal_bads true s = refl
+journal_bads false s = refl
+
+up-zero : up 0 ≡ 1
+unfolding up
+up-zero = refl
+
+apart : (n : ℕ) → n ≡ 0 → n ≡ 1 → ⊥
+apart n none one = omega arith
+
+-- nothing is ever bad on it
+bads-never : (d e : Bool) (s t : State) → IsSteady s → IsSteady t → (journal_state e t).bads ≡ up (journal_state d s).bads → ⊥
+bads-never d e s t was is rose = apart t.bads is.bads (sym (journal_bads e t) ∙ rose ∙ ap up (journal_bads d s ∙ was.bads) ∙ up-zero)
+
+-- What an operation says of the sizes and of power. `K` is what holds where it succeeded.
+pub record Goes (K : Type 0) (s t : State) : Type 0 where
+  pub shape : t.shape ≡ s.shape
+  pub still : s.on ≡ false → t ≡ s
+  pub on : IsTrue t.on → K
+
+module _ (K : Type 0) where
+  pub puts_go : (s t : State) (w v : ℕ) (r : Result Unit Off) → Puts s w v r t → OnOk r K → Goes K s t
+  puts_go s t w v (Ok done) (on, is) k = record { shape = ap (λ (x : State). x.shape) is; still = λ off. absurd (false≢true (sym off ∙ on)); on = λ lit. k }
+  puts_go s t w v (Err off) (inl (dark, is)) k = record { shape = ap (λ (x : State). x.shape) is; still = λ off. is; on = λ lit. absurd (false≢true (sym dark ∙ ap (λ (x : State). x.on) (sym is) ∙ lit)) }
+  puts_go s t w v (Err off) (inr (on, inl is)) k = record { shape = ap (λ (x : State). x.shape) is; still = λ off. absurd (false≢true (sym off ∙ on)); on = λ lit. absurd (false≢true (sym (ap (λ (x : State). x.on) is) ∙ lit)) }
+  puts_go s t w v (Err off) (inr (on, inr is)) k = record { shape = ap (λ (x : State). x.shape) is; still = λ off. absurd (false≢true (sym off ∙ on)); on = λ lit. absurd (false≢true (sym (ap (λ (x : State). x.on) is) ∙ lit)) }
+
+  module _ (d e : Bool) (a b : State) (was : IsSteady a) (now : IsSteady b) where
+    abbrev s : State
+    s = journal_state d a
+
+    abbrev t : State
+    t = journal_state e b
+
+    pub programs_go : (q : ℕ) (page : List ℕ) (r : Result Unit Trouble) → Programs s q page r t → OnOk r K → Goes K s t
+    programs_go q page (Ok done) (on, is) k = record { shape = ap (λ (x : State). x.shape) is; still = λ off. absurd (false≢true (sym off ∙ on)); on = λ lit. k }
+    programs_go q page (Err TroubleOff) (inl (dark, is)) k = record { shape = ap (λ (x : State). x.shape) is; still = λ off. is; on = λ lit. absurd (false≢true (sym dark ∙ ap (λ (x : State). x.on) (sym is) ∙ lit)) }
+    programs_go q page (Err TroubleOff) (inr (on, xs, fits, is)) k = record { shape = ap (λ (x : State). x.shape) is; still = λ off. absurd (false≢true (sym off ∙ on)); on = λ lit. absurd (false≢true (sym (ap (λ (x : State). x.on) is) ∙ lit)) }
+    programs_go q page (Err Bad) (on, xs, fits, is) k = absurd (bads-never d e a b was now (ap (λ (x : State). x.bads) is))
+
+    pub erases_go : (n : ℕ) (r : Result Unit Trouble) → Erases s n r t → OnOk r K → Goes K s t
+    erases_go n (Ok done) (on, rows, only, is) k = record { shape = ap (λ (x : State). x.shape) is; still = λ off. absurd (false≢true (sym off ∙ on)); on = λ lit. k }
+    erases_go n (Err TroubleOff) (inl (dark, is)) k = record { shape = ap (λ (x : State). x.shape) is; still = λ off. is; on = λ lit. absurd (false≢true (sym dark ∙ ap (λ (x : State). x.on) (sym is) ∙ lit)) }
+    erases_go n (Err TroubleOff) (inr (on, rows, only, is)) k = record { shape = ap (λ (x : State). x.shape) is; still = λ off. absurd (false≢true (sym off ∙ on)); on = λ lit. absurd (false≢true (sym (ap (λ (x : State). x.on) is) ∙ lit)) }
+    erases_go n (Err Bad) (on, rows, only, is) k = absurd (bads-never d e a b was now (ap (λ (x : State). x.bads) is))
+
+-- the same operation on the board that tells
+module _ (plans given pulled lives : ℕ) (s t : State) where
+  abbrev told : State → State
+  told x = with_disk x plans given pulled lives
+
+  pub puts_told : (w v : ℕ) (r : Result Unit Off) → Puts s w v r t → Puts (told s) w v r (told t)
+  puts_told w v (Ok done) (on, is) = (on, ap told is)
+  puts_told w v (Err off) (inl (dark, is)) = inl (dark, ap told is)
+  puts_told w v (Err off) (inr (on, inl is)) = inr (on, inl (ap told is))
+  puts_told w v (Err off) (inr (on, inr is)) = inr (on, inr (ap told is))
+
+  pub programs_told : (q : ℕ) (page : List ℕ) (r : Result Unit Trouble) → Programs s q page r t → Programs (told s) q page r (told t)
+  programs_told q page (Ok done) (on, is) = (on, ap told is)
+  programs_told q page (Err TroubleOff) (inl (dark, is)) = inl (dark, ap told is)
+  programs_told q page (Err TroubleOff) (inr (on, xs, fits, is)) = inr (on, xs, fits, ap told is)
+  programs_told q page (Err Bad) (on, xs, fits, is) = (on, xs, fits, ap told is)
+
+  pub erases_told : (e : ℕ) (r : Result Unit Trouble) → Erases s e r t → Erases (told s) e r (told t)
+  erases_told e (Ok done) (on, rows, only, is) = (on, rows, only, ap told is)
+  erases_told e (Err TroubleOff) (inl (dark, is)) = inl (dark, ap told is)
+  erases_told e (Err TroubleOff) (inr (on, rows, only, is)) = inr (on, rows, only, ap told is)
+  erases_told e (Err Bad) (on, rows, only, is) = (on, rows, only, ap told is)
+
+-- what a crash leaves now, of a board whose power is on
+pub stands_now : {D : Type 0} (seen : D → List ℕ) (may_leave : D → List ℕ → Type 0) (moment : D → ℕ) (left_since : D → ℕ → List ℕ → Type 0) (last : D → ℕ) (log : Log D) (s : State)
+    → ((file : List ℕ) → left_since log.device (moment log.device) file → may_leave log.device file) → IsLogged seen may_leave left_since last log s
+    → (file : List ℕ) → left_since log.device (moment log.device) file → StandsFor s.shape (kept seen log) file
+stands_now seen may_leave moment left_since last log s only is file left = crash_kept seen may_leave left_since last log s is file (is.sound.durable file (only file left))
+
+module _ {D : Type 0} (seen : D → List ℕ) (moment : D → ℕ) (left_since : D → ℕ → List ℕ → Type 0) where
+  -- just made or opened
+  pub kept_new : (log : Log D) (s : State) → ((file : List ℕ) → left_since log.device (moment log.device) file → StandsFor s.shape (kept seen log) file) → IsKept seen moment left_since log log log s
+  kept_new log s stands = record {
+    same = λ on. refl;
+    later = omega arith;
+    earlier = omega arith;
+    each = λ file left. ∣ inl (stands file left) ∣₁;
+    since = λ file left. ∣ inl (stands file left) ∣₁;
+  }
+
+  module _ (now was before : Log D) (s : State) (is : IsKept seen moment left_since now was before s) (on : IsTrue s.on) where
+    -- while power is on, only what the syncs brought to the disk
+    lit : (t : State) (file : List ℕ) → t.shape ≡ s.shape → Ends s (kept seen was) file → Ends t (kept seen was) file
+    lit t file shape (inl stands) = inl (subst (λ (sh : Shape). StandsFor sh (kept seen was) file) (sym shape) stands)
+    lit t file shape (inr dark) = absurd (false≢true (sym dark.0 ∙ on))
+
+    lit_before : (t : State) (file : List ℕ) → t.shape ≡ s.shape → StandsFor s.shape (kept seen before) file ⊎ Ends s (kept seen was) file → StandsFor t.shape (kept seen before) file ⊎ Ends t (kept seen was) file
+    lit_before t file shape (inl stands) = inl (subst (λ (sh : Shape). StandsFor sh (kept seen before) file) (sym shape) stands)
+    lit_before t file shape (inr ends) = inr (lit t file shape ends)
+
+    last : (file : List ℕ) → StandsFor s.shape (kept seen now) file → StandsFor s.shape (kept seen was) file
+    last file stands = subst (λ (p : List Operation). StandsFor s.shape p file) (is.same on) stands
+
+    earliest : moment before.device ≤ moment now.device
+    earliest = omega (arith, is.later, is.earlier)
+
+    -- an operation
+    operated : (new : Log D) (t : State) → t.shape ≡ s.shape → LeavesOnly moment left_since now.device new.device (StandsFor s.shape (kept seen now)) → (IsTrue t.on → kept seen new ≡ kept seen now) → IsKept seen moment left_since new was before t
+    operated new t shape only more = record {
+      same = λ up. more up ∙ is.same on;
+      later = omega (arith, is.later, only.later);
+      earlier = is.earlier;
+      each = λ file left. ⊎_elim (λ old. ∥∥₁_map (is.each file old) (λ e. lit t file shape e)) (λ stands. ∣ lit t file shape (inl (last file stands)) ∣₁) (only.before (moment was.device) file is.later left);
+      since = λ file left. ⊎_elim (λ old. ∥∥₁_map (is.since file old) (λ e. lit_before t file shape e)) (λ stands. ∣ inr (lit t file shape (inl (last file stands))) ∣₁) (only.before (moment before.device) file earliest left);
+    }
+
+    only_last : (file : List ℕ) (new : Log D) → Ends s (kept seen was) file → StandsFor s.shape (kept seen was) file ⊎ Ends s (kept seen new) file
+    only_last file new (inl stands) = inl stands
+    only_last file new (inr dark) = absurd (false≢true (sym dark.0 ∙ on))
+
+    -- a sync that succeeded
+    pub synced : (new : Log D) → LeavesOnly moment left_since now.device new.device (λ file. StandsFor s.shape (kept seen now) file ⊎ StandsFor s.shape (done seen now) file) → kept seen new ≡ done seen now
+        → ((file : List ℕ) → left_since new.device (moment new.device) file → StandsFor s.shape (kept seen new) file) → IsKept seen moment left_since new new was s
+    synced new only all stands = record {
+      same = λ up. refl;
+      later = omega arith;
+      earlier = omega (arith, is.later, only.later);
+      each = λ file left. ∣ inl (stands file left) ∣₁;
+      since = λ file left. ⊎_elim (λ old. ∥∥₁_map (is.each file old) (λ e. only_last file new e)) (λ p. ∣ ⊎_elim (λ k. inl (last file k)) (λ d. inr (inl (subst (λ (l : List Operation). StandsFor s.shape l file) (sym all) d))) p ∣₁) (only.before (moment was.device) file is.later left);
+    }
+
+    -- a sync that failed
+    module _ (new : Log D) (t : State) (shape : t.shape ≡ s.shape) (content : content_of t ≡ content_of s) (off : t.on ≡ false) (holding : content_of s ≡ holds s.shape (done seen now)) where
+      all_of : (file : List ℕ) → StandsFor s.shape (done seen now) file → IsFileOf t file
+      all_of file stands = record {
+        head = subst (λ (sh : Shape). Begins (head_bytes sh) file) (sym shape) stands.head;
+        content = content ∙ holding ∙ ap (λ (p : List Operation). holds s.shape p) (sym stands.reads) ∙ ap (λ (sh : Shape). holds sh (operations file)) (sym shape);
+      }
+
+      either : (file : List ℕ) → StandsFor s.shape (kept seen now) file ⊎ StandsFor s.shape (done seen now) file → Ends t (kept seen was) file
+      either file (inl stands) = lit t file shape (inl (last file stands))
+      either file (inr stands) = inr (off, all_of file stands)
+
+      pub unsynced : LeavesOnly moment left_since now.device new.device (λ file. StandsFor s.shape (kept seen now) file ⊎ StandsFor s.shape (done seen now) file) → IsKept seen moment left_since new was before t
+      unsynced only = record {
+        same = λ up. absurd (false≢true (sym off ∙ up));
+        later = omega (arith, is.later, only.later);
+        earlier = is.earlier;
+        each = λ file left. ⊎_elim (λ old. ∥∥₁_map (is.each file old) (λ e. lit t file shape e)) (λ p. ∣ either file p ∣₁) (only.before (moment was.device) file is.later left);
+        since = λ file left. ⊎_elim (λ old. ∥∥₁_map (is.since file old) (λ e. lit_before t file shape e)) (λ p. ∣ inr (either file p) ∣₁) (only.before (moment before.device) file earliest left);
+      }
+
+  -- an operation on a board whose power may be off
+  pub went : (dead : Bool) (a : State) (now new was before : Log D) (t : State) → IsTrue a.on → IsKept seen moment left_since now was before (journal_state dead a) → Goes (kept seen new ≡ kept seen now) (journal_state dead a) t
+      → (dead ≡ false → LeavesOnly moment left_since now.device new.device (StandsFor a.shape (kept seen now))) → (IsTrue dead → new ≡ now) → IsKept seen moment left_since new was before t
+  went true a now new was before t on is goes only still =
+      subst (λ (l : Log D). IsKept seen moment left_since l was before t) (sym (still refl)) (subst (λ (x : State). IsKept seen moment left_since now was before x) (sym (goes.still refl)) is)
+  went false a now new was before t on is goes only still = operated now was before a is on new t goes.shape (only refl) goes.on
+
+  -- a sync that failed, on a board whose power may be off
+  pub failed : (dead : Bool) (a : State) (now new was before : Log D) → IsTrue a.on → IsKept seen moment left_since now was before (journal_state dead a)
+      → (dead ≡ false → LeavesOnly moment left_since now.device new.device (λ file. StandsFor a.shape (kept seen now) file ⊎ StandsFor a.shape (done seen now) file))
+      → (IsTrue dead → new ≡ now) → (dead ≡ false → content_of a ≡ holds a.shape (done seen now)) → IsKept seen moment left_since new was before (cut a)
+  failed true a now new was before on is only still holding = subst (λ (l : Log D). IsKept seen moment left_since l was before (cut a)) (sym (still refl)) is
+  failed false a now new was before on is only still holding = unsynced now was before a is on new (cut a) refl refl refl (holding refl) (only refl)
+
+pub fails_told : (plans given pulled lives : ℕ) (dead : Bool) (a : State) (off : Off) → IsTrue a.on → Syncs (with_disk (journal_state dead a) plans given pulled lives) (Err off) (with_disk (cut a) plans given pulled lives)
+fails_told plans given pulled lives true a off on = inl (refl, refl)
+fails_told plans given pulled lives false a off on = inr (on, refl)

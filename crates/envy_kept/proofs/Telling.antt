@@ -1,0 +1,60 @@
+-- What the numbers of a kept board tell.
+use Rattle.std.proofs.Common.{◌≡◌, ◌⊎◌, ◌∙◌, inl, inr, ℕ, List, false, refl, sym, ap, subst}
+use Rattle.std.proofs.Math.Logic.{∥∥₁_map}
+use Rattle.envy_base.specs.declared.shape.Shape.{Shape}
+use Rattle.envy_base.specs.State.{State}
+use Rattle.envy_map.specs.Fields.{Chart, Fields, chart, map_fields}
+use Rattle.envy_journal.specs.declared.log.Log.{Log}
+use Rattle.envy_journal.specs.declared.operation.Operation.{Operation}
+use Rattle.envy_journal.specs.Content.{Content, content_of, holds}
+use Rattle.envy_journal.specs.Head.{StandsFor, head_bytes}
+use Rattle.envy_journal.specs.Journal.{kept, done}
+use Rattle.envy_journal.specs.Log.{Begins, kept_bytes}
+use Rattle.envy_journal.specs.Reading.{operations}
+use Rattle.envy_kept.specs.Number.{number}
+use Rattle.envy_kept.specs.Disk.{disk_state, IsFileOf, Ends, IsKept, Reopens, IsSynced, IsLast, IsBefore}
+use Rattle.envy_kept.proofs.Numbers.{number_one}
+
+-- the operations that a sync brought to the disk open as the board was
+reopens_synced : (was : Chart) (sh : Shape) (bytes file : List ℕ) → IsSynced was → was.shape ≡ sh → number bytes ≡ was.given → StandsFor sh (operations bytes) file → Reopens was file
+reopens_synced was sh bytes file is shape given stands =
+    let same : operations file ≡ operations is.bytes = stands.reads ∙ ap operations (number_one bytes is.bytes (given ∙ is.coded)) in
+    record {
+      head = subst (λ (x : Shape). Begins (head_bytes x) file) (sym shape) stands.head;
+      fields = ap (λ (p : List Operation). map_fields was.shape (holds was.shape p).sram) same ∙ is.fields;
+      flash = ap (λ (p : List Operation). (holds was.shape p).flash) same ∙ is.flash;
+    }
+
+reopens_now : (s t : State) (file : List ℕ) → IsFileOf s file → t.shape ≡ s.shape → content_of t ≡ content_of s → Reopens (chart t) file
+reopens_now s t file is shape content = record {
+  head = subst (λ (x : Shape). Begins (head_bytes x) file) (sym shape) is.head;
+  fields = subst (λ (x : Shape). map_fields x (holds x (operations file)).sram ≡ map_fields x t.sram) (sym shape) (ap (λ (x : Content). map_fields s.shape x.sram) (sym (content ∙ is.content)));
+  flash = subst (λ (x : Shape). (holds x (operations file)).flash ≡ t.flash) (sym shape) (ap (λ (x : Content). x.flash) (sym (content ∙ is.content)));
+}
+
+-- a board just behind a sync
+pub synced_now : {D : Type 0} (seen : D → List ℕ) (moment : D → ℕ) (log before : Log D) (s : State) → content_of s ≡ holds s.shape (kept seen log) → IsSynced (chart (disk_state seen moment log before s))
+synced_now seen moment log before s content = record {
+  bytes = kept_bytes seen log;
+  coded = refl;
+  fields = ap (λ (x : Content). map_fields s.shape x.sram) (sym content);
+  flash = ap (λ (x : Content). x.flash) (sym content);
+}
+
+module _ {D : Type 0} (seen : D → List ℕ) (moment : D → ℕ) (left_since : D → ℕ → List ℕ → Type 0) (now was before : Log D) (s : State) (is : IsKept seen moment left_since now was before s) where
+  abbrev told : State
+  told = disk_state seen moment was before s
+
+  told_ends : (c : Chart) (file : List ℕ) → IsSynced c → IsLast c (chart told) → Ends s (kept seen was) file → Reopens c file ⊎ ((told.on ≡ false) × Reopens (chart told) file)
+  told_ends c file good last (inl stands) = inl (reopens_synced c s.shape (kept_bytes seen was) file good last.shape last.bytes stands)
+  told_ends c file good last (inr (off, holding)) = inr (off, reopens_now s told file holding refl refl)
+
+  pub told_last : (c : Chart) (file : List ℕ) → IsSynced c → IsLast c (chart told) → left_since now.device c.plans file → ∥ Reopens c file ⊎ ((told.on ≡ false) × Reopens (chart told) file) ∥₁
+  told_last c file good last left = ∥∥₁_map (is.each file (subst (λ (t : ℕ). left_since now.device t file) (sym last.moment) left)) (λ e. told_ends c file good last e)
+
+  told_either : (b c : Chart) (file : List ℕ) → IsSynced b → IsSynced c → IsBefore b (chart told) → IsLast c (chart told) → StandsFor s.shape (kept seen before) file ⊎ Ends s (kept seen was) file → Reopens b file ⊎ (Reopens c file ⊎ ((told.on ≡ false) × Reopens (chart told) file))
+  told_either b c file fine good first last (inl stands) = inl (reopens_synced b s.shape (kept_bytes seen before) file fine first.shape first.bytes stands)
+  told_either b c file fine good first last (inr ends) = inr (told_ends c file good last ends)
+
+  pub told_before : (b c : Chart) (file : List ℕ) → IsSynced b → IsSynced c → IsBefore b (chart told) → IsLast c (chart told) → left_since now.device b.plans file → ∥ Reopens b file ⊎ (Reopens c file ⊎ ((told.on ≡ false) × Reopens (chart told) file)) ∥₁
+  told_before b c file fine good first last left = ∥∥₁_map (is.since file (subst (λ (t : ℕ). left_since now.device t file) (sym first.moment) left)) (λ e. told_either b c file fine good first last e)

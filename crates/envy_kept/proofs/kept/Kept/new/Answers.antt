@@ -1,0 +1,33 @@
+use Rattle.std.proofs.Common.{◌∙◌, ℕ, List, ap, sym, subst}
+use Rattle.envy_journal.specs.declared.log.Log.{Log}
+use Rattle.envy_journal.specs.declared.operation.Operation.{Operation}
+use Rattle.envy_journal.specs.Content.{holds}
+use Rattle.envy_journal.specs.Journal.{journal_state, kept}
+use Rattle.envy_map.specs.Fields.{chart}
+use Rattle.envy_kept.specs.Disk.{IsKept, IsSynced, disk_state}
+use Rattle.envy_kept.proofs.Going.{kept_new, stands_now}
+use Rattle.envy_kept.proofs.Telling.{synced_now}
+use Rattle.envy_kept.proofs.kept.Kept.new.Goals as goal
+
+pub invariant_of-result : goal.invariant_of-result
+invariant_of-result g c =
+    let j = c.args.journal in
+    let seen = g.D.Device.seen in
+    let moment = g.D.Device.moment in
+    let left = g.D.Device.left_since in
+    let a = g.B.Board.state j.board in
+    let alive = c.requires.alive in
+    let is = j.logged alive in
+    let fresh : IsKept seen moment left j.log j.log j.log a = kept_new seen moment left j.log a (stands_now seen g.D.Device.may_leave moment left g.D.Device.synced j.log a (g.met.D.Device.only_now j.log.device) is) in
+    record { kept = rw (c.of-synced.ensures, c.of-before.ensures, alive) fresh }
+
+pub returns-clause-synced : goal.returns-clause-synced
+returns-clause-synced g c =
+    let j = c.args.journal in
+    let seen = g.D.Device.seen in
+    let moment = g.D.Device.moment in
+    let a = g.B.Board.state j.board in
+    let alive = c.requires.alive in
+    let is = j.logged alive in
+    rw (c.of-synced.ensures, c.of-before.ensures, alive)
+    (synced_now seen moment j.log j.log a (is.content ∙ ap (λ (p : List Operation). holds a.shape p) c.requires.rests))

@@ -1,0 +1,122 @@
+ghost use Rattle.std.specs.Prelude.{◌≡◌, ◌⊎◌, ◌<◌, ◌≤◌, ℕ, List, false, IsTrue, length};
+ghost use Rattle.std.proofs.Props.{props};
+ghost use Rattle.envy_base.specs.State.{Puts, Programs, Erases};
+ghost use Rattle.envy_map.specs.Fields.{Chart, chart};
+ghost use Rattle.envy_journal.specs.Journal.{journal_state, kept, done};
+ghost use Rattle.envy_journal.specs.Log.{HasEnded};
+ghost use Rattle.envy_kept.specs.Disk.{IsKept, IsLast, IsBefore, IsSynced, Reopens, disk_state};
+
+use envy_base::{Board, Off, Shape, Trouble};
+use envy_device::Device;
+use envy_disk::OnDisk;
+use envy_journal::{Journaled, Steady};
+use std::mem;
+use std::snapshot::Snapshot;
+
+/// A journaled board that tells what is on the disk.
+#[derive(Drop)]
+pub struct Kept<B: Steady, D: Device> {
+    journal: Journaled<B, D>,
+    // as it was behind the last sync that succeeded, and behind the one before
+    synced: Snapshot<Journaled<B, D>>,
+    before: Snapshot<Journaled<B, D>>,
+    ghost kept: { IsKept D.seen D.moment D.left_since journal.log synced.value.log before.value.log (journal_state journal.dead (B.state journal.board)) } by { Prim.hlevel props },
+}
+
+impl<B: Steady, D: Device> Kept<B, D> {
+    /// A board that was just made or opened: all its operations are on the disk.
+    pub fn new(journal: Journaled<B, D>) -> Kept<B, D>
+        requires alive { journal.dead ≡ false }
+        requires rests { done D.seen journal.log ≡ kept D.seen journal.log }
+        ensures journal { result.journal ≡ journal }
+        ensures synced { IsSynced (chart (⟦<Kept<B, D> as Board>⟧.state result)) }
+    {
+        let synced = Snapshot::of(&journal);
+        let before = Snapshot::of(&journal);
+        Kept {
+            journal,
+            synced,
+            before,
+        }
+    }
+
+    /// The device. A crash of the machine at any moment since the last sync that succeeded leaves a file that opens as
+    /// the board was behind it, or, where power is off, as it is now: then a later sync may have done its work and failed.
+    /// One since the sync before leaves what that one brought to the disk, or one of these.
+    pub fn device(&self) -> &D
+        ensures here { result.now ≡ self.now.journal.log.device }
+        ensures time { (⟦<Kept<B, D> as Board>⟧.state self.now).plans ≤ D.moment result.now }
+        ensures last { (was : Chart) → IsSynced was → IsLast was (chart (⟦<Kept<B, D> as Board>⟧.state self.now))
+            → (file : List ℕ) → D.left_since result.now was.plans file
+            → ∥ Reopens was file ⊎ (((⟦<Kept<B, D> as Board>⟧.state self.now).on ≡ false) × Reopens (chart (⟦<Kept<B, D> as Board>⟧.state self.now)) file) ∥₁ }
+        ensures one_before { (first was : Chart) → IsSynced first → IsSynced was → IsBefore first (chart (⟦<Kept<B, D> as Board>⟧.state self.now)) → IsLast was (chart (⟦<Kept<B, D> as Board>⟧.state self.now))
+            → (file : List ℕ) → D.left_since result.now first.plans file
+            → ∥ Reopens first file ⊎ (Reopens was file ⊎ (((⟦<Kept<B, D> as Board>⟧.state self.now).on ≡ false) × Reopens (chart (⟦<Kept<B, D> as Board>⟧.state self.now)) file)) ∥₁ }
+    {
+        self.journal.device()
+    }
+
+    /// Gives the journal back. Where power is off the device has failed, or the file is at the end of its range.
+    pub fn into_journal(self) -> Journaled<B, D>
+        ensures journal { result ≡ self.journal }
+        ensures ended { (⟦<Kept<B, D> as Board>⟧.state self).on ≡ false → HasEnded D.seen D.has_failed result.log }
+    {
+        let Kept {
+            journal,
+            synced: _synced,
+            before: _before,
+        } = self;
+        journal
+    }
+}
+
+impl<B: Steady, D: Device> Board for Kept<B, D> {
+    ghost use Rattle.envy_kept.specs.Disk.{lawful_disk};
+    ghost use Rattle.envy_journal.specs.Journal.{lawful_lem};
+
+    ghost state = { λ k. disk_state D.seen D.moment k.synced.value.log k.before.value.log (journal_state k.journal.dead (B.state k.journal.board)) };
+
+    ghost lawful = { λ k. lawful_disk _ _ _ _ _ (lawful_lem k.journal.dead (B.state k.journal.board) (B.lawful k.journal.board)) };
+
+    fn shape(&self) -> Shape {
+        self.journal.shape()
+    }
+
+    fn powered(&self) -> bool {
+        self.journal.powered()
+    }
+
+    fn read(&self, row: u32, i: u32) -> Result<u64, Off> {
+        self.journal.read(row, i)
+    }
+
+    fn get(&self, w: u32) -> Result<u64, Off> {
+        self.journal.get(w)
+    }
+
+    fn program(&mut self, row: u32, page: &[u64; 32]) -> Result<(), Trouble> {
+        self.journal.program(row, page)
+    }
+
+    fn erase(&mut self, segment: u32) -> Result<(), Trouble> {
+        self.journal.erase(segment)
+    }
+
+    fn put(&mut self, w: u32, v: u64) -> Result<(), Off> {
+        self.journal.put(w, v)
+    }
+}
+
+impl<B: Steady, D: Device> OnDisk for Kept<B, D> {
+    ghost is_synced = { IsSynced };
+
+    fn sync(&mut self) -> Result<(), Off> {
+        match self.journal.sync() {
+            Ok(()) => {
+                self.before = mem::replace(&mut self.synced, Snapshot::of(&self.journal));
+                Ok(())
+            }
+            Err(_) => Err(Off),
+        }
+    }
+}

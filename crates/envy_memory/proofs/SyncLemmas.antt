@@ -1,0 +1,39 @@
+-- A board that was brought to a disk is a memory's still.
+use Rattle.std.specs.Prelude.{Result}
+use Rattle.std.proofs.Common.{inl, inr, ℕ, Ok, Err, sym, ap, subst}
+use Rattle.std.proofs.lemmas.Bool.{false≢true}
+use Rattle.envy_base.specs.declared.board.Off.{Off}
+use Rattle.envy_base.specs.State.{State}
+use Rattle.envy_disk.specs.Disk.{Syncs, SyncsChart, with_numbers}
+use Rattle.envy_flush.specs.declared.parts.Parts.{Parts}
+use Rattle.envy_map.specs.Fields.{Chart, chart, failed}
+use Rattle.envy_memory.specs.Picture.{IsMemory}
+use Rattle.envy_txn.specs.Owners.{Ownership}
+
+pub synced_chart : (old new : State) (r : Result Unit Off) → Syncs old r new → SyncsChart (chart old) r (chart new)
+synced_chart old new (Ok done) (on, plans, given, is) = (on, plans, given, ap chart is)
+synced_chart old new (Err off) (inl (dark, is)) = inl (dark, ap chart is)
+synced_chart old new (Err off) (inr (on, is)) = inr (on, ap chart is)
+
+module _ (c : Chart) (x : Parts) (o : Ownership) (limit mark : ℕ) (is : IsMemory c x o limit mark) where
+  with_numbers_memory : (plans given pulled lives : ℕ) → IsMemory (with_numbers c plans given pulled lives) x o limit mark
+  with_numbers_memory plans given pulled lives = record { magic = is.magic; version = is.version; sound = is.sound; fits = is.fits; shadows = is.shadows; some = is.some; some_limit = is.some_limit; agrees = is.agrees; owned = is.owned; settled = is.settled }
+
+  failed_memory : IsMemory (failed c) x o limit mark
+  failed_memory = record {
+    magic = is.magic;
+    version = is.version;
+    sound = is.sound;
+    fits = is.fits;
+    shadows = is.shadows;
+    some = is.some;
+    some_limit = is.some_limit;
+    agrees = λ on. absurd (false≢true on);
+    owned = λ on. absurd (false≢true on);
+    settled = λ on. absurd (false≢true on);
+  }
+
+  pub synced_memory : (new : Chart) (r : Result Unit Off) → SyncsChart c r new → IsMemory new x o limit mark
+  synced_memory new (Ok done) (on, plans, given, same) = subst (λ (d : Chart). IsMemory d x o limit mark) (sym same) (with_numbers_memory plans given c.plans c.given)
+  synced_memory new (Err off) (inl (dark, same)) = subst (λ (d : Chart). IsMemory d x o limit mark) (sym same) is
+  synced_memory new (Err off) (inr (on, same)) = subst (λ (d : Chart). IsMemory d x o limit mark) (sym same) failed_memory

@@ -1,0 +1,19 @@
+use Rattle.std.proofs.Common.{subst}
+use Rattle.envy_disk.specs.Disk.{SyncsChart}
+use Rattle.envy_map.specs.Fields.{chart}
+use Rattle.envy_memory.specs.Picture.{Picture}
+use Rattle.envy_memory.proofs.SyncLemmas.{synced_chart, synced_memory}
+use Rattle.envy_memory.proofs.memory.Memory.sync.Goals as goal
+
+pub invariant_of-self : goal.invariant_of-self
+invariant_of-self g c =
+    let m = c.self.inside in
+    let old = g.B.Board.state m.board in
+    let new = g.B.Board.state c.sync.new.self in
+    synced_memory (chart old) m.parts m.owned m.limit m.mark c.self.invariant (chart new) c.sync.result (synced_chart old new c.sync.result c.sync.ensures.answer)
+
+pub returns-clause-answer : goal.returns-clause-answer
+returns-clause-answer g c =
+    let old = g.B.Board.state c.self.inside.board in
+    let new = g.B.Board.state c.sync.new.self in
+    subst (λ (p : Picture). SyncsChart p.chart c.sync.result (chart new)) c.self.view_is (synced_chart old new c.sync.result c.sync.ensures.answer)

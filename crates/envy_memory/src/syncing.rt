@@ -1,0 +1,22 @@
+ghost use Rattle.std.specs.Prelude.{◌≡◌, OnOk};
+ghost use Rattle.envy_disk.specs.Disk.{SyncsChart};
+
+use crate::memory::Memory;
+use envy_base::Off;
+use envy_disk::OnDisk;
+
+impl<B: OnDisk> Memory<B> {
+    /// Brings all that the board holds to the disk, with what open transactions put. It is no access, and nothing else
+    /// changes.
+    ///
+    /// # Errors
+    ///
+    /// `Off`: power is off then.
+    pub fn sync(&mut self) -> Result<(), Off>
+        ensures answer { SyncsChart self.old.chart result self.new.chart }
+        ensures kept { self.new ≡ record self.old { chart = self.new.chart } }
+        ensures synced { OnOk result (B.is_synced self.new.chart) }
+    {
+        self.board.sync()
+    }
+}

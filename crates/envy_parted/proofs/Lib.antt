@@ -1,0 +1,4 @@
+mod Boards
+mod Declining
+mod Filling
+mod Numbers

@@ -1,0 +1,187 @@
+//! A board whose segment at position 0 has rows of each kind, and what is asked of a board beside its words.
+
+ghost use Rattle.std.specs.Prelude.{◌≡◌, ◌⊎◌, ◌<◌, ℕ, Some, OnOk};
+ghost use Rattle.envy_map.specs.Fields.{chart, undo as undo_of};
+ghost use Rattle.envy_layout.specs.Naming.{AreParted};
+ghost use Rattle.envy_layout.specs.Sound.{IsSound};
+ghost use Rattle.envy_bench.specs.Board.{board_state};
+
+use crate::facts::page_of;
+use envy_audit::{Audit, Verdict};
+use envy_base::{Board, Job, Off, Place, Shape, Slot, Trouble, Undo};
+use envy_bench::MemBoard;
+use envy_layout::format_board;
+use envy_map::{job, place, set_back, set_fill, set_place, set_slot, set_undo, undo, write_frame};
+use std::alloc::Global;
+use std::process::Abort;
+use std::test::Fail;
+
+pub(crate) const SHAPE: Shape = Shape {
+    segments: 4,
+    rows: 6,
+    pages: 6,
+    shadows: 2,
+    frames: 2,
+    entries: 2,
+};
+
+/// What a test writes on a board.
+#[derive(Clone, Copy, Debug)]
+enum Write {
+    /// A row is claimed for a page, and the page of a number is programmed into it.
+    Row(u32, u32, u32),
+    /// So many rows of a segment are claimed.
+    Fill(u32, u32),
+    /// The page of a number is in a frame.
+    Frame(u32, u32),
+    /// A page is in a row, or in a frame.
+    InRow(u32, u32),
+    InFrame(u32, u32),
+    /// Slot 0 owns a page, whose shadow is a row.
+    Shadow(u32, u32),
+    /// Nobody owns a page.
+    Clear(u32),
+    /// The state of slot 0.
+    Slot(Slot),
+}
+
+/// Of the six rows of segment 0 pages 0 and 3 keep rows 0 and 3, the shadows of pages 2 and 4, into which slot 0 put
+/// other words, are rows 2 and 4, and rows 1 and 5 are dead. Of segment 1 row 6 is that of page 5, and one row is free.
+const ROWS_OF_EACH_KIND: [Write; 19] = [
+    Write::Row(0, 0, 1000),
+    Write::Row(1, 1, 1100),
+    Write::Row(2, 2, 1200),
+    Write::Row(3, 3, 1300),
+    Write::Row(4, 4, 1400),
+    Write::Row(5, 5, 1900),
+    Write::Row(6, 5, 1500),
+    Write::Fill(0, 6),
+    Write::Fill(1, 5),
+    Write::InRow(0, 0),
+    Write::InRow(3, 3),
+    Write::InRow(5, 6),
+    Write::Slot(Slot::Active),
+    Write::Frame(0, 2200),
+    Write::Shadow(2, 2),
+    Write::InFrame(2, 0),
+    Write::Frame(1, 2400),
+    Write::Shadow(4, 4),
+    Write::InFrame(4, 1),
+];
+
+/// Makes a write, and tells whether the board has what it names.
+fn make<B: Board>(board: &mut B, write: Write) -> Result<bool, Trouble> {
+    let shape = board.shape();
+    match write {
+        Write::Row(row, page, number) if row < shape.segments * shape.rows && page < shape.pages =>
+            {
+                set_back(board, row, page)?;
+                board.program(row, &page_of(number))?;
+            }
+        Write::Fill(segment, rows) if segment < shape.segments && rows <= shape.rows => {
+            set_fill(board, segment, rows)?;
+        }
+        Write::Frame(frame, number) if frame < shape.frames => {
+            write_frame(board, frame, &page_of(number))?;
+        }
+        Write::InRow(page, row) if page < shape.pages && row < 24 => {
+            set_place(board, page, Place::Row(row))?;
+        }
+        Write::InFrame(page, frame) if page < shape.pages && frame < 2 => {
+            set_place(board, page, Place::Frame(frame))?;
+        }
+        Write::Shadow(page, row) if page < shape.pages && row < 24 => {
+            set_undo(board, page, Undo::Shadow { slot: 0, row })?;
+        }
+        Write::Clear(page) if page < shape.pages => set_undo(board, page, Undo::Clear)?,
+        Write::Slot(state) => set_slot(board, 0, state)?,
+        _ => return Ok(false),
+    }
+    Ok(true)
+}
+
+/// Makes each of these writes, which are done.
+fn make_all<B: Board>(rt: &impl Abort, board: &mut B, writes: &[Write]) {
+    for one in writes {
+        assert_eq!(rt; make(board, *one), Ok(true), "{one:?}");
+    }
+}
+
+/// Lays rows of each kind on a new board.
+pub(crate) fn lay<B: Board>(rt: &impl Abort, board: &mut B) {
+    assert_eq!(rt; format_board(board), Ok(()));
+    make_all(rt, board, &ROWS_OF_EACH_KIND);
+}
+
+/// The row of a page's shadow.
+fn shadow_of<B: Board>(rt: &impl Abort, board: &B, page: u32) -> Result<Option<u32>, Off>
+    requires { IsSound (chart (B.state board.now)) }
+{
+    assert!(rt; page < board.shape().pages);
+    match undo(board, page)? {
+        Undo::Shadow { slot: _, row } => Ok(Some(row)),
+        _ => Ok(None),
+    }
+}
+
+/// Puts pages 2 and 4, which slot 0 owns, back to their shadows.
+pub(crate) fn undo_all<B: Board>(rt: &impl Abort, board: &mut B) -> Result<(), Off>
+    requires { IsSound (chart (B.state board.old)) }
+{
+    let (second, fourth) = (shadow_of(rt, board, 2)?, shadow_of(rt, board, 4)?);
+    for (page, shadow) in [(2, second), (4, fourth)] {
+        if let Some(row) = shadow {
+            make_all(rt, board, &[Write::InRow(page, row), Write::Clear(page)]);
+        }
+    }
+    make_all(rt, board, &[Write::Slot(Slot::Vacant)]);
+    Ok(())
+}
+
+/// Tests that a board is sound.
+pub(crate) fn assert_sound(rt: &impl Abort, alloc: Global, board: &MemBoard) -> Result<(), Fail>
+    ensures { OnOk result (IsSound (chart (board_state board.now))) }
+{
+    let mut audit = Audit::new(alloc, &board.shape())?;
+    match audit.check(board) {
+        Ok(Verdict::Sound) => Ok(()),
+        found => panic!(rt; "the audit finds {found:?}"),
+    }
+}
+
+/// Tests that the place and the undo of no page name one row.
+pub(crate) fn assert_parted<B: Board>(rt: &impl Abort, board: &B) -> Result<(), Off>
+    requires { IsSound (chart (B.state board.now)) }
+    ensures { let f = (chart (B.state board.now)).fields in OnOk result (AreParted f.slots f.undos f.places) }
+{
+    for page in 0..board.shape().pages {
+        if let Undo::Shadow { slot: _, row } = undo(board, page)? {
+            let now = place(board, page)?;
+            assert!(rt; now != Place::Row(row));
+        }
+    }
+    Ok(())
+}
+
+/// Tests that nothing is copied or switched.
+pub(crate) fn assert_at_rest<B: Board>(rt: &impl Abort, board: &B) -> Result<(), Off>
+    requires { IsSound (chart (B.state board.now)) }
+    ensures { let job = (chart (B.state board.now)).fields.job in OnOk result ((job ≡ Some Job.Idle) ⊎ (job ≡ Some Job.Erase)) }
+{
+    match job(board)? {
+        Job::Idle | Job::Erase => Ok(()),
+        other => panic!(rt; "the job is {other:?}"),
+    }
+}
+
+/// Tests that no page has an owner.
+pub(crate) fn assert_clear<B: Board>(rt: &impl Abort, board: &B) -> Result<(), Off>
+    requires { IsSound (chart (B.state board.now)) }
+    ensures { OnOk result ((p : ℕ) → p < (B.state board.now).shape.pages → undo_of (chart (B.state board.now)).fields p ≡ Some Undo.Clear) }
+{
+    for page in 0..board.shape().pages {
+        let undo = undo(board, page)?;
+        assert!(rt; undo == Undo::Clear);
+    }
+    Ok(())
+}

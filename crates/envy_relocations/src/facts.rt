@@ -1,0 +1,117 @@
+//! What stands on a board.
+
+ghost use Rattle.envy_map.specs.Fields.{chart};
+ghost use Rattle.envy_layout.specs.Sound.{IsSound};
+
+use envy_base::{Board, Job, Off, Place, Undo};
+use envy_map::{back, fill, frame_word, job, origin, place, segment_at, undo, wear};
+
+/// What may stand on a board.
+#[derive(Clone, Copy, Debug, PartialEq, Eq)]
+pub(crate) enum Fact {
+    /// Loads read this page as the page of this number.
+    Reads(u32, u32),
+    /// A restart leaves this page as the page of this number.
+    Keeps(u32, u32),
+    /// A page is at this place, and has this undo.
+    At(u32, Place),
+    Undone(u32, Undo),
+    /// The page that a row was claimed for, and the row that a copy was made of.
+    Back(u32, u32),
+    Origin(u32, u32),
+    /// So many rows of a segment were claimed, or at least so many.
+    Fill(u32, u32),
+    FillAtLeast(u32, u32),
+    Wear(u32, u64),
+    /// The segment at a position.
+    Segment(u32, u32),
+    Works(Job),
+}
+
+/// Word `i` of the page of this number is the number and `i` more; page 0 is that of zeros.
+pub(crate) fn page_of(number: u32) -> [u64; 32] {
+    let mut page = [0; 32];
+    if number > 0 {
+        for (i, word) in page.iter_mut().enumerate() {
+            *word = number as u64 + i as u64;
+        }
+    }
+    page
+}
+
+/// A word of the page at a place, if the board has that place.
+fn word_at<B: Board>(board: &B, at: Place, i: u32) -> Result<Option<u64>, Off> {
+    let shape = board.shape();
+    match at {
+        Place::Absent => Ok(Some(0)),
+        Place::Row(row) if row < shape.segments * shape.rows && i < 32 => {
+            Ok(Some(board.read(row, i)?))
+        }
+        Place::Frame(frame) if frame < shape.frames && i < 32 => {
+            Ok(Some(frame_word(board, frame, i)?))
+        }
+        _ => Ok(None),
+    }
+}
+
+/// Whether the page at a place is that of this number.
+fn is_page<B: Board>(board: &B, at: Place, number: u32) -> Result<bool, Off> {
+    for (i, wanted) in page_of(number).iter().enumerate() {
+        if word_at(board, at, i as u32)? != Some(*wanted) {
+            return Ok(false);
+        }
+    }
+    Ok(true)
+}
+
+/// Where a restart reads a page, whose undo is that of an open transaction or clear.
+fn kept_place(now: Place, undo: Undo) -> Place {
+    match undo {
+        Undo::Clear => now,
+        Undo::Blank { slot: _ } => Place::Absent,
+        Undo::Shadow { slot: _, row } => Place::Row(row),
+    }
+}
+
+/// Whether a fact of a page holds.
+fn holds_of_page<B: Board>(board: &B, page: u32, fact: Fact) -> Result<bool, Off>
+    requires { IsSound (chart (B.state board.now)) }
+{
+    if page >= board.shape().pages {
+        return Ok(false);
+    }
+    let (now, undo) = (place(board, page)?, undo(board, page)?);
+    match fact {
+        Fact::Reads(_, number) => is_page(board, now, number),
+        Fact::Keeps(_, number) => is_page(board, kept_place(now, undo), number),
+        Fact::At(_, at) => Ok(now == at),
+        Fact::Undone(_, is) => Ok(undo == is),
+        _ => Ok(false),
+    }
+}
+
+/// Whether a fact holds.
+pub(crate) fn holds<B: Board>(board: &B, fact: Fact) -> Result<bool, Off>
+    requires { IsSound (chart (B.state board.now)) }
+{
+    let shape = board.shape();
+    match fact {
+        Fact::Reads(page, _) | Fact::Keeps(page, _) | Fact::At(page, _) | Fact::Undone(page, _) => {
+            holds_of_page(board, page, fact)
+        }
+        Fact::Back(row, page) if row < shape.segments * shape.rows => Ok(back(board, row)? == page),
+        Fact::Origin(i, row) if i < shape.rows => Ok(origin(board, i)? == row),
+        Fact::Fill(segment, rows) if segment < shape.segments => Ok(fill(board, segment)? == rows),
+        Fact::FillAtLeast(segment, rows) if segment < shape.segments => {
+            Ok(fill(board, segment)? >= rows)
+        }
+        Fact::Wear(segment, count) if segment < shape.segments => Ok(
+            wear(board, segment)? == count,
+        ),
+        Fact::Segment(position, segment) if position < shape.segments - 1 => {
+            Ok(segment_at(board, position)? == segment)
+        }
+        Fact::Works(now) => Ok(job(board)? == now),
+        _ => Ok(false),
+    }
+}

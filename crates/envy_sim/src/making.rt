@@ -1,0 +1,78 @@
+ghost use Rattle.std.specs.Prelude.{◌≡◌, MatchResult};
+ghost use Rattle.envy_sim.specs.Making.{Formatted, Opens, RefusesFormat, RefusesImage, Restored};
+
+use crate::board::PlannedBoard;
+use crate::handle::Slot;
+use crate::restoring::board_of_image;
+use envy_calls::{Code, EnvySetup, attach, checked_setup, format_answer};
+use envy_memory::Memory;
+use std::alloc::Global;
+
+// A memory of zeros over a new board.
+fn formatted(alloc: Global, given: &EnvySetup, lives: u32) -> Result<Memory<PlannedBoard>, Code>
+    ensures { MatchResult result (Formatted given.now lives) (RefusesFormat given.now) }
+{
+    let setup = checked_setup(given)?;
+    let Ok(board) = PlannedBoard::new(alloc, &setup.shape, lives) else {
+        return Err(Code::NoMemory);
+    };
+    match Memory::format(alloc, board, setup) {
+        Ok(memory) => Ok(memory),
+        Err(refused) => Err(format_answer(refused.1)),
+    }
+}
+
+// The memory that an image is, over a new board.
+fn restored(
+    alloc: Global,
+    given: &EnvySetup,
+    lives: u32,
+    image: &[u8],
+) -> Result<Memory<PlannedBoard>, Code>
+    ensures { MatchResult result (Restored given.now lives image.now) (RefusesImage given.now lives image.now) }
+{
+    let setup = checked_setup(given)?;
+    let board = board_of_image(alloc, &setup.shape, lives, image)?;
+    match attach(alloc, board, setup) {
+        Ok(memory) => Ok(memory),
+        Err(refused) => Err(refused.1),
+    }
+}
+
+/// Makes a memory of zeros over a new board, in a place that holds none.
+pub fn format_place(alloc: Global, slot: &mut Slot, given: &EnvySetup, lives: u32) -> Code
+    ensures { Opens (Formatted given.now lives) (RefusesFormat given.now) slot.old slot.new result }
+{
+    if slot.is_some() {
+        return Code::Open;
+    }
+    match formatted(alloc, given, lives) {
+        Ok(memory) => {
+            *slot = Some(memory);
+            Code::Done
+        }
+        Err(code) => code,
+    }
+}
+
+/// Takes up the memory that an image is, over a new board, in a place that holds none.
+pub fn restore_place(
+    alloc: Global,
+    slot: &mut Slot,
+    given: &EnvySetup,
+    lives: u32,
+    image: &[u8],
+) -> Code
+    ensures { Opens (Restored given.now lives image.now) (RefusesImage given.now lives image.now) slot.old slot.new result }
+{
+    if slot.is_some() {
+        return Code::Open;
+    }
+    match restored(alloc, given, lives, image) {
+        Ok(memory) => {
+            *slot = Some(memory);
+            Code::Done
+        }
+        Err(code) => code,
+    }
+}

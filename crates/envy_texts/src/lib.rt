@@ -1,0 +1,14 @@
+//! Texts: the words of a command line, the lines of a trace and their replies, and the lines of a source. Tests alone,
+//! as tables of texts and of what they say.
+#![tactic(auto)]
+
+#[cfg(test)]
+mod lines;
+#[cfg(test)]
+mod refusals;
+#[cfg(test)]
+mod replies;
+#[cfg(test)]
+mod streams;
+#[cfg(test)]
+mod words;

@@ -1,0 +1,187 @@
+//! What the lines of a trace say, and how they are written.
+
+ghost use Rattle.std.specs.Prelude.{IsTrue};
+ghost use Rattle.envy_trace.specs.Spelling.{HasPlace};
+
+use arrayvec::ArrayVec;
+use envy_trace::{Line, LineFault, line_text, read_line};
+use std::process::Abort;
+
+/// A line's text, and what it says.
+type Row = (&'static str, Result<Line, LineFault>);
+
+const COMMANDS: [Row; 12] = [
+    ("load 5", Ok(Line::Load { address: 5 })),
+    ("look 5", Ok(Line::Look { address: 5 })),
+    (
+        "store 5 1",
+        Ok(Line::Store {
+            address: 5,
+            word: 1,
+        }),
+    ),
+    ("begin", Ok(Line::Begin)),
+    (
+        "put 0 5 2",
+        Ok(Line::Put {
+            slot: 0,
+            address: 5,
+            word: 2,
+        }),
+    ),
+    ("commit 1", Ok(Line::Commit { slot: 1 })),
+    ("abort 2", Ok(Line::Abort { slot: 2 })),
+    ("tick", Ok(Line::Tick)),
+    ("power", Ok(Line::Power)),
+    ("cut 3 4", Ok(Line::Cut { k: 3, g: 4 })),
+    ("bad 5 6", Ok(Line::Bad { k: 5, g: 6 })),
+    ("stat", Ok(Line::Stat)),
+];
+
+// Blanks and comments are skipped. A form feed is no blank.
+const BLANKS: [Row; 8] = [
+    ("", Ok(Line::Empty)),
+    (" \t ", Ok(Line::Empty)),
+    ("\r", Ok(Line::Empty)),
+    ("# day one", Ok(Line::Empty)),
+    ("\t#day 1 2 3 4 5", Ok(Line::Empty)),
+    (
+        "\tstore  007 1\r",
+        Ok(Line::Store {
+            address: 7,
+            word: 1,
+        }),
+    ),
+    (" load\t \t7 ", Ok(Line::Load { address: 7 })),
+    ("load\x0c7", Err(LineFault::Word)),
+];
+
+// One carriage return at the very end is taken off.
+const RETURNS: [Row; 5] = [
+    ("load 1\r", Ok(Line::Load { address: 1 })),
+    ("load 1 \r", Ok(Line::Load { address: 1 })),
+    ("load 1\r ", Err(LineFault::Number)),
+    ("load 1\r\r", Err(LineFault::Number)),
+    ("tick\r \r", Err(LineFault::Word)),
+];
+
+// A refused line names its first fault: the count is asked before the numbers, and the word before the count.
+const FAULTS: [Row; 15] = [
+    ("load 5 6", Err(LineFault::Count)),
+    ("store 5", Err(LineFault::Count)),
+    ("load", Err(LineFault::Count)),
+    ("tick 1", Err(LineFault::Count)),
+    ("put 0 1 2 3", Err(LineFault::Count)),
+    ("load x y", Err(LineFault::Count)),
+    ("jump 1", Err(LineFault::Word)),
+    ("Load 1", Err(LineFault::Word)),
+    ("loads 1", Err(LineFault::Word)),
+    ("loa 1", Err(LineFault::Word)),
+    ("load +1", Err(LineFault::Number)),
+    ("load 1x", Err(LineFault::Number)),
+    ("load -", Err(LineFault::Number)),
+    ("cut 0 1", Err(LineFault::Number)),
+    ("bad 0 1", Err(LineFault::Number)),
+];
+
+// A number has a greatest value.
+const NUMBERS: [Row; 8] = [
+    (
+        "put 255 4294967295 18446744073709551615",
+        Ok(Line::Put {
+            slot: 255,
+            address: 4294967295,
+            word: 18446744073709551615,
+        }),
+    ),
+    ("put 256 0 0", Err(LineFault::Number)),
+    ("put 0 4294967296 0", Err(LineFault::Number)),
+    ("put 0 0 18446744073709551616", Err(LineFault::Number)),
+    (
+        "put 0 0 99999999999999999999999999999",
+        Err(LineFault::Number),
+    ),
+    ("load 4294967296", Err(LineFault::Number)),
+    ("cut 4294967296 0", Err(LineFault::Number)),
+    (
+        "commit 0000000000000000000000000000000000255",
+        Ok(Line::Commit { slot: 255 }),
+    ),
+];
+
+#[test]
+fn lines_are_read(rt: HostRuntime) {
+    for table in [COMMANDS.as_slice(), &BLANKS, &RETURNS, &FAULTS, &NUMBERS] {
+        for (text, wanted) in table {
+            assert_eq!(rt; read_line(text.as_bytes()), *wanted, "{text:?}");
+        }
+    }
+}
+
+#[test]
+fn a_line_has_120_bytes_at_most(rt: HostRuntime) {
+    assert_eq!(rt; read_line(&[b'#'; 120]), Ok(Line::Empty));
+    assert_eq!(rt; read_line(&[b'#'; 121]), Err(LineFault::Long));
+    assert_eq!(rt; read_line(&[b' '; 121]), Err(LineFault::Long));
+    // The carriage return counts.
+    let mut line = [b' '; 121];
+    line[120] = b'\r';
+    assert_eq!(rt; read_line(&line), Err(LineFault::Long));
+    assert_eq!(rt; read_line(&line[1..]), Ok(Line::Empty));
+}
+
+// Each line has one written form.
+const WRITTEN: [(Line, &str); 13] = [
+    (Line::Empty, ""),
+    (Line::Load { address: 10 }, "load 10"),
+    (Line::Look { address: 0 }, "look 0"),
+    (
+        Line::Store {
+            address: 4294967295,
+            word: 100,
+        },
+        "store 4294967295 100",
+    ),
+    (Line::Begin, "begin"),
+    (
+        Line::Put {
+            slot: 255,
+            address: 4294967295,
+            word: 18446744073709551615,
+        },
+        "put 255 4294967295 18446744073709551615",
+    ),
+    (Line::Commit { slot: 7 }, "commit 7"),
+    (Line::Abort { slot: 63 }, "abort 63"),
+    (Line::Tick, "tick"),
+    (Line::Power, "power"),
+    (Line::Cut { k: 1, g: 0 }, "cut 1 0"),
+    (
+        Line::Bad {
+            k: 4294967295,
+            g: 90,
+        },
+        "bad 4294967295 90",
+    ),
+    (Line::Stat, "stat"),
+];
+
+/// Whether a planned failure has a place from 1 on.
+fn has_place(line: &Line) -> bool
+    ensures { IsTrue result → HasPlace line.now }
+{
+    match line {
+        Line::Cut { k, g: _ } | Line::Bad { k, g: _ } => *k >= 1,
+        _ => true,
+    }
+}
+
+#[test]
+fn lines_are_written(rt: HostRuntime) {
+    for (line, wanted) in WRITTEN.as_slice() {
+        let mut out: ArrayVec<u8, 120> = ArrayVec::new();
+        assert!(rt; has_place(line), "{wanted}");
+        line_text(line, &mut out);
+        assert_eq!(rt; out.as_slice(), wanted.as_bytes(), "{wanted}");
+    }
+}

@@ -1,0 +1,139 @@
+//! Words of a command line that are refused.
+
+use crate::words::read;
+use envy_args::{WordsFault, read_words};
+use std::alloc::Global;
+use std::process::Abort;
+use std::test::Fail;
+
+// None of these is in the form.
+const OTHER_FORMS: [&str; 63] = [
+    "",
+    "fly",
+    "Run",
+    "ru",
+    "--rows 16",
+    "help",
+    "run run",
+    "run 16",
+    "run -",
+    "run --rows",
+    "run --rows=",
+    "run --rows ",
+    "run  --rows 16",
+    "run --rows=16=16",
+    "run --rows +16",
+    "run --rows=-16",
+    "run --rows -16",
+    "run --rows 1e1",
+    "run --rows 0x10",
+    "run --rows sixteen",
+    "run --rows --",
+    "run --rows=--",
+    "run --rows -- 16",
+    "run -- --rows 16",
+    "run -- --",
+    "run --rows --shadows 16",
+    "run --rows 16 16",
+    "run --rows 16 --rows 16",
+    "run --rows=16 --rows 17",
+    "run --row 16",
+    "run --ROWS 16",
+    "run -rows 16",
+    "run -r 16",
+    "run rows 16",
+    "run --=16",
+    "run ---rows 16",
+    "run 16--rows",
+    "run --policy lifo",
+    "run --policy=",
+    "run --policy Greedy",
+    "run --policy 1",
+    "run --part greedy",
+    "run --help",
+    "run -h",
+    "run --version",
+    "run -V",
+    "run --start 1",
+    "run --lines 1",
+    "run --every 1",
+    "plain --lives 1",
+    "gen --rows 16",
+    "gen --lives 1",
+    "tpca --lines 1",
+    "save --start 1",
+    "resume --rows 16",
+    "resume --mark 4294967296",
+    "resume --policy lifo",
+    "audit --rows 16",
+    "audit --lives 1",
+    "map --rows 16",
+    "run --hot 5",
+    "index --pairs 1",
+    "mirror --side 1",
+];
+
+// The first rule that fails is told.
+const RULES: [(&str, u8); 32] = [
+    ("run --segments 3", 1),
+    ("run --segments=3 --pages 0 --mark 9", 1),
+    ("run --rows 1", 2),
+    ("run --pages 0", 3),
+    ("run --frames 1", 4),
+    ("run --entries 0", 5),
+    ("run --pages 81", 6),
+    ("run --segments 17 --rows 65536", 7),
+    ("run --policy hybrid --part 8", 8),
+    ("run --limit 0", 9),
+    ("run --mark 9", 10),
+    ("plain --mark 0", 10),
+    ("tpca --transfers 1070", 11),
+    ("tpca --branches 0", 11),
+    ("tpca --shadows 4", 12),
+    ("tpca --shadows 4 --transfers 1070", 11),
+    ("tpca --mark 17 --shadows 4", 10),
+    ("gen --pages 0", 3),
+    ("gen --pages 1048577", 7),
+    ("gen --hot 0 --share 10", 15),
+    ("gen --hot 10 --share 100", 15),
+    ("gen --stores 0", 15),
+    ("gen --stores 100 --hot 5", 15),
+    ("gen --hot 5", 16),
+    ("gen --share 5", 16),
+    ("gen --pages 0 --hot 0", 3),
+    ("save --limit 0", 9),
+    ("mirror --pages 0", 3),
+    ("index --shadows 31", 13),
+    ("index --pages 19", 14),
+    ("index --pages 19 --shadows 31", 13),
+    ("index --rows 1 --shadows 31", 2),
+];
+
+/// Tests that each of these lines is refused by its form.
+fn check_forms(rt: &impl Abort, alloc: Global, lines: &[&str]) -> Result<(), Fail> {
+    for line in lines {
+        assert_eq!(rt; read(alloc, line)?, Err(WordsFault::Form), "at {line:?}");
+    }
+    Ok(())
+}
+
+/// Tests that each of these lines is refused by a rule.
+fn check_rules(rt: &impl Abort, alloc: Global, table: &[(&str, u8)]) -> Result<(), Fail> {
+    for (line, rule) in table {
+        assert_eq!(rt;
+            read(alloc, line)?,
+            Err(WordsFault::Setup(*rule)),
+            "at {line:?}"
+        );
+    }
+    Ok(())
+}
+
+#[test]
+fn words_are_refused(rt: HostRuntime) -> Result<(), Fail> {
+    check_forms(&rt, rt.alloc(), &OTHER_FORMS)?;
+    check_rules(&rt, rt.alloc(), &RULES)?;
+    let none: Vec<String> = Vec::new(rt.alloc());
+    assert_eq!(rt; read_words(rt.alloc(), &none), Err(WordsFault::Form));
+    Ok(())
+}

@@ -1,0 +1,338 @@
+//! Lines and bytes of a source whatever its pieces, and what a sink takes, with calls that fail on the way.
+
+use arrayvec::ArrayVec;
+use envy_io::{Failed, Got, Lines, MemSink, MemSource, Next, Sink, Source, write_all};
+use std::alloc::{AllocError, Global};
+use std::process::Abort;
+use std::test::Fail;
+
+/// What the lines of a source are asked for, and what they answer.
+#[derive(Clone, Copy)]
+enum Ask {
+    /// The next line, with its text.
+    Line(Next, &'static str),
+    /// The next four bytes, and which they are, where that is said.
+    Bytes(Got, Option<&'static str>),
+    /// How many bytes were taken from the source.
+    Taken(u64),
+}
+
+/// A source in pieces of so many bytes, in which these calls fail, and of which at most `cap` bytes are taken.
+#[derive(Clone, Copy)]
+struct Reading {
+    name: &'static str,
+    pieces: &'static [usize],
+    fails: &'static [u64],
+    cap: u64,
+    asks: &'static [Ask],
+}
+
+/// A source of these bytes, in pieces of at most `piece` bytes, in which these calls fail.
+fn source_of(
+    alloc: Global,
+    bytes: &[u8],
+    piece: usize,
+    fails: &[u64],
+) -> Result<MemSource, AllocError> {
+    let bytes = bytes.to_vec(alloc)?;
+    let fails = fails.to_vec(alloc)?;
+    Ok(MemSource::new(bytes, piece.max(1), fails))
+}
+
+/// Tests that an ask is answered as it says.
+fn check_ask(rt: &impl Abort, name: &str, lines: &mut Lines, source: &mut MemSource, ask: &Ask) {
+    match ask {
+        Ask::Line(next, text) => {
+            let mut line = ArrayVec::new();
+            let answer = lines.next_line(source, &mut line);
+            assert!(rt; answer == *next, "{name}: {text}");
+            assert!(rt; line.as_slice() == text.as_bytes(), "{name}: {text}");
+        }
+        Ask::Bytes(got, text) => {
+            let mut bytes = [0; 4];
+            let answer = lines.next_bytes(source, &mut bytes);
+            assert!(rt; answer == *got, "{name}");
+            if let Some(text) = text {
+                assert!(rt; bytes.as_slice() == text.as_bytes(), "{name}: {text}");
+            }
+        }
+        Ask::Taken(count) => assert_eq!(rt; lines.taken(), *count, "{name}"),
+    }
+}
+
+/// Tests each ask of a source of these bytes.
+fn check(rt: &impl Abort, alloc: Global, bytes: &[u8], reading: &Reading) -> Result<(), Fail> {
+    for piece in reading.pieces {
+        let mut source = source_of(alloc, bytes, *piece, reading.fails)?;
+        let mut lines = Lines::new(reading.cap.max(1));
+        for ask in reading.asks {
+            check_ask(rt, reading.name, &mut lines, &mut source, ask);
+        }
+    }
+    Ok(())
+}
+
+const ONE_TO_ELEVEN: [usize; 11] = [1, 2, 3, 4, 5, 6, 7, 8, 9, 10, 11];
+
+// The bytes of a source, and what is read of it.
+const READINGS: [(&str, Reading); 9] = [
+    (
+        "load 0\nload 1\n",
+        Reading {
+            name: "lines end at the cap",
+            pieces: &[100],
+            fails: &[],
+            cap: 7,
+            asks: &[
+                Ask::Line(Next::Line, "load 0"),
+                Ask::Line(Next::Spent, ""),
+                Ask::Taken(7),
+            ],
+        },
+    ),
+    (
+        "ab\n\nc\r\nlast",
+        Reading {
+            name: "lines are the same in any pieces",
+            pieces: &ONE_TO_ELEVEN,
+            fails: &[],
+            cap: 1000,
+            asks: &[
+                Ask::Line(Next::Line, "ab"),
+                Ask::Line(Next::Line, ""),
+                Ask::Line(Next::Line, "c\r"),
+                Ask::Line(Next::Line, "last"),
+                Ask::Line(Next::End, ""),
+                Ask::Taken(11),
+            ],
+        },
+    ),
+    (
+        "a\n",
+        Reading {
+            name: "newline at the end begins no line",
+            pieces: &[100],
+            fails: &[],
+            cap: 100,
+            asks: &[
+                Ask::Line(Next::Line, "a"),
+                Ask::Line(Next::End, ""),
+                Ask::Taken(2),
+            ],
+        },
+    ),
+    (
+        "load 0\nload 1\n",
+        Reading {
+            name: "failed read loses nothing",
+            pieces: &[4],
+            fails: &[2, 3, 5],
+            cap: 100,
+            asks: &[
+                Ask::Line(Next::Failed, ""),
+                Ask::Line(Next::Failed, ""),
+                Ask::Line(Next::Line, "load 0"),
+                Ask::Line(Next::Failed, ""),
+                Ask::Line(Next::Line, "load 1"),
+                Ask::Line(Next::End, ""),
+                Ask::Taken(14),
+            ],
+        },
+    ),
+    (
+        "load 0\n",
+        Reading {
+            name: "whole line is given before the source is asked",
+            pieces: &[64],
+            fails: &[2],
+            cap: 100,
+            asks: &[
+                Ask::Line(Next::Line, "load 0"),
+                Ask::Line(Next::Failed, ""),
+                Ask::Taken(7),
+            ],
+        },
+    ),
+    (
+        "a",
+        Reading {
+            name: "source is not asked behind its end",
+            pieces: &[10],
+            fails: &[3],
+            cap: 100,
+            asks: &[
+                Ask::Line(Next::Line, "a"),
+                Ask::Line(Next::End, ""),
+                Ask::Line(Next::End, ""),
+                Ask::Taken(1),
+            ],
+        },
+    ),
+    (
+        "ab\ncdefgh\nij",
+        Reading {
+            name: "bytes are the same in any pieces",
+            pieces: &ONE_TO_ELEVEN,
+            fails: &[],
+            cap: 1000,
+            asks: &[
+                Ask::Line(Next::Line, "ab"),
+                Ask::Bytes(Got::Whole, Some("cdef")),
+                Ask::Line(Next::Line, "gh"),
+                Ask::Bytes(Got::Short, None),
+                Ask::Line(Next::End, ""),
+            ],
+        },
+    ),
+    (
+        "abcdef",
+        Reading {
+            name: "no byte is taken beyond what is asked",
+            pieces: &[100],
+            fails: &[],
+            cap: 5,
+            asks: &[
+                Ask::Bytes(Got::Whole, None),
+                Ask::Taken(4),
+                Ask::Bytes(Got::Spent, None),
+                Ask::Taken(5),
+            ],
+        },
+    ),
+    (
+        "abcdefgh",
+        Reading {
+            name: "bytes before a failed read are used up",
+            pieces: &[2],
+            fails: &[2],
+            cap: 100,
+            asks: &[
+                Ask::Bytes(Got::Failed, None),
+                Ask::Taken(2),
+                Ask::Bytes(Got::Whole, Some("cdef")),
+            ],
+        },
+    ),
+];
+
+#[test]
+fn lines_and_bytes_of_a_source(rt: HostRuntime) -> Result<(), Fail> {
+    for (text, reading) in READINGS.as_slice() {
+        check(&rt, rt.alloc(), text.as_bytes(), reading)?;
+    }
+    Ok(())
+}
+
+const LONGEST: &str =
+    "xxxxxxxxxxxxxxxxxxxxxxxxxxxxxxxxxxxxxxxxxxxxxxxxxxxxxxxxxxxxxxxxxxxxxxxxxxxxxxxxxxxxxxxxxxxxxxxxxxxxxxxxxxxxxxxxxxxxxxxx";
+
+const LONGEST_AND_LONGER: Reading = Reading {
+    name: "line has 120 bytes and not 121",
+    pieces: &[7],
+    fails: &[],
+    cap: 1000,
+    asks: &[
+        Ask::Line(Next::Line, LONGEST),
+        Ask::Line(Next::Long, ""),
+        Ask::Line(Next::Long, ""),
+        Ask::Taken(242),
+    ],
+};
+
+const ASKED_ONCE: Reading = Reading {
+    name: "source is asked for 128 bytes at once",
+    pieces: &[1000],
+    fails: &[2],
+    cap: 1000,
+    asks: &[Ask::Line(Next::Long, ""), Ask::Taken(128)],
+};
+
+#[test]
+fn long_lines_of_a_source(rt: HostRuntime) -> Result<(), Fail> {
+    let mut text = [b'x'; 242];
+    text[120] = b'\n';
+    check(&rt, rt.alloc(), &text, &LONGEST_AND_LONGER)?;
+    check(&rt, rt.alloc(), &[b'x'; 300], &ASKED_ONCE)
+}
+
+#[test]
+fn a_source_gives_the_fewest_of_three(rt: HostRuntime) -> Result<(), Fail> {
+    let mut source = source_of(rt.alloc(), b"abcdef", 3, &[2])?;
+    let mut two = [b'.'; 2];
+    let mut five = [b'.'; 5];
+    assert!(rt; source.fill(&mut two) == Ok(2));
+    for (answer, text) in [
+        (Err(Failed), None),
+        (Ok(3), Some("cde..")),
+        (Ok(1), None),
+        (Ok(0), None),
+    ] {
+        assert!(rt; source.fill(&mut five) == answer);
+        if let Some(text) = text {
+            assert!(rt; five.as_slice() == text.as_bytes(), "{text}");
+        }
+    }
+    Ok(())
+}
+
+/// What a sink is asked, and what it answers.
+#[derive(Clone, Copy)]
+enum Push {
+    Write(&'static str, Result<(), Failed>),
+    Flush(Result<(), Failed>),
+}
+
+/// A sink that takes `room` bytes, in which these calls fail, and what it took.
+#[derive(Clone, Copy)]
+struct Writing {
+    name: &'static str,
+    room: usize,
+    fails: &'static [u64],
+    pushes: &'static [Push],
+    written: &'static str,
+}
+
+const WRITINGS: [Writing; 2] = [
+    Writing {
+        name: "sink of eight bytes takes eight",
+        room: 8,
+        fails: &[],
+        pushes: &[
+            Push::Write("ok\n", Ok(())),
+            Push::Write("range\n", Err(Failed)),
+        ],
+        written: "ok\nrange",
+    },
+    Writing {
+        name: "writes and flushes are counted together",
+        room: 100,
+        fails: &[2, 4],
+        pushes: &[
+            Push::Write("ok\n", Ok(())),
+            Push::Flush(Err(Failed)),
+            Push::Write("7\n", Ok(())),
+            Push::Write("range\n", Err(Failed)),
+        ],
+        written: "ok\n7\n",
+    },
+];
+
+#[test]
+fn writes_of_a_sink(rt: HostRuntime) -> Result<(), Fail> {
+    for writing in WRITINGS.as_slice() {
+        let mut sink = MemSink::new(rt.alloc(), writing.room, writing.fails.to_vec(rt.alloc())?)?;
+        for push in writing.pushes {
+            let (told, wanted) = match push {
+                Push::Write(text, wanted) => (write_all(&mut sink, text.as_bytes()), wanted),
+                Push::Flush(wanted) => (sink.flush(), wanted),
+            };
+            assert!(rt; told == *wanted, "{}", writing.name);
+        }
+        assert!(rt;
+            sink.written() == writing.written.as_bytes(),
+            "{}",
+            writing.name
+        );
+    }
+    Ok(())
+}

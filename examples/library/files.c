@@ -1,0 +1,117 @@
+/* What envy_file answers of files that are there or not, locked, cut short, too long, of another shape or foreign, and
+   that nothing of a refused file is changed. Each answer is shown by its text.
+
+     files FILE */
+#include "../../c/envy_file.h"
+#include "../../c/envy_text.h"
+#include <fcntl.h>
+#include <stdio.h>
+#include <stdlib.h>
+#include <string.h>
+#include <sys/wait.h>
+#include <unistd.h>
+
+static const envy_setup setup = {
+    .segments = 8, .rows = 16, .pages = 64, .shadows = 16, .frames = 8, .entries = 4,
+    .policy = ENVY_GREEDY, .part = 2, .limit = 3, .mark = 6,
+};
+
+static void must(int holds, const char *what) {
+    if (holds) return;
+    fprintf(stderr, "files: %s\n", what);
+    exit(1);
+}
+
+/* The bytes of a file, and how many. */
+static char *bytes_of(const char *path, size_t *length) {
+    FILE *file = fopen(path, "rb");
+    must(file != NULL, "a file that was refused is gone");
+    fseek(file, 0, SEEK_END);
+    *length = (size_t)ftell(file);
+    rewind(file);
+    char *bytes = malloc(*length + 1);
+    must(fread(bytes, 1, *length, file) == *length, "a file can't be read");
+    fclose(file);
+    return bytes;
+}
+
+/* A call on the file answers this code, and leaves each byte. */
+static void refused(const char *path, const envy_setup *by, uint32_t wanted, const char *what) {
+    envy_file f = ENVY_FILE_INIT;
+    size_t length, length_then;
+    char *before = bytes_of(path, &length);
+    uint32_t code = envy_file_open(&f, path, by);
+    printf("%s: %s\n", what, envy_error_text(code));
+    must(code == wanted, "another code was wanted");
+    char *after = bytes_of(path, &length_then);
+    must(length == length_then && !memcmp(before, after, length), "a refused file was changed");
+    free(before);
+    free(after);
+}
+
+/* The file with another length is refused, and then gets its bytes again. */
+static void resized(const char *path, off_t length, uint32_t wanted, const char *what) {
+    size_t full;
+    char *bytes = bytes_of(path, &full);
+    must(!truncate(path, length), "truncate");
+    refused(path, &setup, wanted, what);
+    FILE *file = fopen(path, "wb");
+    must(file && fwrite(bytes, 1, full, file) == full && !fclose(file), "a file can't be written");
+    free(bytes);
+}
+
+static void word_is(const char *path, uint64_t wanted) {
+    envy_file f = ENVY_FILE_INIT;
+    uint64_t word;
+    must(envy_file_open(&f, path, &setup) == ENVY_DONE, "the file doesn't open");
+    must(envy_mapped_load(&f.memory, 9, &word) == ENVY_DONE && word == wanted, "the file lost a word");
+    must(envy_file_close(&f) == ENVY_DONE, "close");
+}
+
+int main(int words, char **word) {
+    if (words != 2) return 2;
+    const char *path = word[1];
+    envy_file f = ENVY_FILE_INIT;
+    uint32_t holder;
+    must(envy_file_close(&f) == ENVY_DONE, "a place without a file doesn't close");
+    must(envy_file_open(&f, path, &setup) == ENVY_DONE, "no file is made");
+    must(envy_mapped_store(&f.memory, 9, 11, &holder) == ENVY_DONE, "store");
+    must(envy_file_sync(&f) == ENVY_DONE, "sync");
+    refused(path, &setup, ENVY_LOCKED, "open in this process");
+    fflush(stdout);
+    pid_t child = fork();
+    if (child == 0) {
+        refused(path, &setup, ENVY_LOCKED, "open in another process");
+        fflush(stdout);
+        _exit(0);
+    }
+    int status;
+    must(waitpid(child, &status, 0) == child && WIFEXITED(status) && !WEXITSTATUS(status), "the other process");
+    must(envy_file_close(&f) == ENVY_DONE, "close");
+    word_is(path, 11);
+
+    size_t full;
+    free(bytes_of(path, &full));
+    off_t erases = (off_t)(full - 8 * 8), rows = 8 * 16 * 256;
+    resized(path, 0, ENVY_FLASH_SIZE, "empty");
+    resized(path, rows - 8, ENVY_FLASH_SIZE, "cut within the flash");
+    resized(path, erases - 8, ENVY_SRAM_SIZE, "cut within the SRAM");
+    resized(path, (off_t)full - 8, ENVY_ERASES_SIZE, "cut within the counts");
+    resized(path, (off_t)full + 8, ENVY_ERASES_SIZE, "longer by a word");
+    resized(path, (off_t)full + 1, ENVY_ERASES_SIZE, "longer by a byte");
+    envy_setup other = setup;
+    other.entries = 5;
+    refused(path, &other, ENVY_OTHER_SHAPE, "another shape");
+    other.mark = 9;
+    refused(path, &other, ENVY_SETUP_MARK, "a setup that breaks a rule");
+    word_is(path, 11);
+    must(!truncate(path, 0) && !truncate(path, (off_t)full), "truncate");
+    refused(path, &setup, ENVY_UNFORMATTED, "zeros");
+
+    must(envy_file_open(&f, "/nowhere/at/all", &setup) == ENVY_SYSTEM, "a file is made nowhere");
+    printf("no such folder: %s\n", envy_error_text(ENVY_SYSTEM));
+    for (uint32_t a = 0; a <= ENVY_MAP_SETUP; a++)
+        for (uint32_t b = 0; b < a; b++) must(strcmp(envy_error_text(a), envy_error_text(b)), "two codes share a text");
+    printf("version %s\n", envy_version());
+    return 0;
+}

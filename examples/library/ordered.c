@@ -1,0 +1,303 @@
+/* A million drawn operations on a map in a mapped file, whose process is killed at drawn moments. Each answer is compared
+   with that of a sorted array, and after each kill the whole map, upward and downward: it is just what was answered, or
+   that and the one operation that was in flight.
+
+     ordered FILE OPERATIONS SEED */
+#include "../../c/envy_file.h"
+#include "../../c/envy_index.h"
+#include <signal.h>
+#include <stdio.h>
+#include <stdlib.h>
+#include <string.h>
+#include <sys/wait.h>
+#include <unistd.h>
+
+/* A map of 400 pages has at most 2,674 pairs; keys are drawn from 4,096. */
+enum { PAGES = 400, KEYS = 4096, MOST = 14 * ((32 * PAGES - 64) / 64 - 8), SWING = 40000 };
+
+static envy_setup setup = {
+    .segments = 16, .rows = 64, .pages = PAGES, .shadows = 32, .frames = 16, .entries = 64,
+    .policy = ENVY_GREEDY, .part = 2, .limit = 3, .mark = 12,
+};
+
+static envy_file map = ENVY_FILE_INIT;
+
+static void must(int holds, const char *what) {
+    if (holds) return;
+    fprintf(stderr, "ordered: %s\n", what);
+    _exit(1);
+}
+
+static uint64_t draw(uint64_t *state) {
+    *state += 0x9E3779B97F4A7C15;
+    uint64_t z = *state;
+    z = (z ^ (z >> 30)) * 0xBF58476D1CE4E5B9;
+    z = (z ^ (z >> 27)) * 0x94D049BB133111EB;
+    return z ^ (z >> 31);
+}
+
+/* ---- the sorted array */
+
+typedef struct model {
+    int count;
+    envy_pair pair[KEYS];
+} model;
+
+/* The place of the first pair whose key is at least this one. */
+static int place_of(const model *m, uint64_t key) {
+    int low = 0, high = m->count;
+    while (low < high) {
+        int middle = (low + high) / 2;
+        if (m->pair[middle].key < key) low = middle + 1;
+        else high = middle;
+    }
+    return low;
+}
+
+static int has(const model *m, uint64_t key) {
+    int i = place_of(m, key);
+    return i < m->count && m->pair[i].key == key;
+}
+
+static void set(model *m, uint64_t key, uint64_t value) {
+    int i = place_of(m, key);
+    if (!has(m, key)) {
+        memmove(m->pair + i + 1, m->pair + i, (size_t)(m->count - i) * sizeof *m->pair);
+        m->count++;
+    }
+    m->pair[i] = (envy_pair){key, value};
+}
+
+static void take_out(model *m, uint64_t key) {
+    int i = place_of(m, key);
+    if (!has(m, key)) return;
+    m->count--;
+    memmove(m->pair + i, m->pair + i + 1, (size_t)(m->count - i) * sizeof *m->pair);
+}
+
+/* ---- operations */
+
+enum kind { GET, INSERT, REMOVE, NEXT, ABOVE, LAST, COUNT };
+
+typedef struct operation {
+    enum kind kind;
+    uint64_t key, value;
+} operation;
+
+/* Operation n. The map grows for a while, up to its most pairs, and then shrinks for a while, down to few. */
+static operation operation_of(uint64_t seed, uint64_t n) {
+    uint64_t state = seed ^ (n * 0xD1B54A32D192ED03);
+    uint64_t drawn = draw(&state) % 16, number = draw(&state) % KEYS;
+    int grows = n / SWING % 2 == 0;
+    operation o;
+    o.kind = drawn < 8 ? (grows ? INSERT : REMOVE) : drawn < 9 ? (grows ? REMOVE : INSERT) : (enum kind[]){GET, GET, NEXT,
+        ABOVE, LAST, LAST, COUNT}[drawn - 9];
+    /* from 0 to the greatest number, and for the neighbours also numbers between the keys */
+    o.key = number == KEYS - 1 ? UINT64_MAX : number * 0x000F83E0F83E0F83;
+    if (o.kind >= NEXT) o.key += draw(&state) % 3 - 1;
+    o.value = draw(&state);
+    return o;
+}
+
+static int is_full(const model *m, const operation *o) { return !has(m, o->key) && m->count == MOST; }
+
+static void apply(model *m, const operation *o) {
+    if (o->kind == INSERT && !is_full(m, o)) set(m, o->key, o->value);
+    if (o->kind == REMOVE) take_out(m, o->key);
+}
+
+/* A call that looks for a pair answers the one at this place of the array, or that there is none. */
+static void tells(const model *m, int place, uint32_t code, const envy_pair *pair, const char *what) {
+    int there = place >= 0 && place < m->count;
+    must(code == (there ? ENVY_DONE : ENVY_ABSENT), what);
+    if (there) must(pair->key == m->pair[place].key && pair->value == m->pair[place].value, what);
+    else must(pair->key == 77 && pair->value == 78, what);
+}
+
+/* Does an operation, and compares its answer with the array's. */
+static void do_operation(const model *m, const operation *o) {
+    int place = place_of(m, o->key), there = has(m, o->key);
+    uint64_t word = 77;
+    envy_old before = {77, 78};
+    envy_pair pair = {77, 78};
+    uint32_t code;
+    switch (o->kind) {
+    case GET:
+        code = envy_index_get(&map.memory, o->key, &word);
+        must(code == (there ? ENVY_DONE : ENVY_ABSENT) && word == (there ? m->pair[place].value : 77), "get");
+        break;
+    case INSERT:
+        code = envy_index_insert(&map.memory, o->key, o->value, &before);
+        if (is_full(m, o)) {
+            must(code == ENVY_MAP_FULL && before.value == 77 && before.had == 78, "insert into a full map");
+            break;
+        }
+        must(code == ENVY_DONE && before.had == (uint32_t)there, "insert");
+        must(before.value == (there ? m->pair[place].value : 0), "the value before an insert");
+        break;
+    case REMOVE:
+        code = envy_index_remove(&map.memory, o->key, &word);
+        must(code == (there ? ENVY_DONE : ENVY_ABSENT) && word == (there ? m->pair[place].value : 77), "remove");
+        break;
+    case NEXT:
+        code = envy_index_next(&map.memory, o->key, &pair);
+        tells(m, place, code, &pair, "next");
+        break;
+    case ABOVE:
+        code = envy_index_above(&map.memory, o->key, &pair);
+        tells(m, place + there, code, &pair, "above");
+        break;
+    case LAST:
+        code = envy_index_last(&map.memory, o->key, &pair);
+        tells(m, place - !there, code, &pair, "last");
+        break;
+    case COUNT:
+        code = envy_index_count(&map.memory, &word);
+        must(code == ENVY_DONE && word == (uint64_t)m->count, "count");
+        break;
+    }
+}
+
+/* Whether the map has just the pairs of the array, upward and downward. */
+static int holds(const model *m) {
+    envy_pair pair = {0, 0};
+    int i = 0;
+    uint32_t code = envy_index_next(&map.memory, 0, &pair);
+    for (; code == ENVY_DONE; code = envy_index_above(&map.memory, pair.key, &pair), i++)
+        if (i == m->count || pair.key != m->pair[i].key || pair.value != m->pair[i].value) return 0;
+    must(code == ENVY_ABSENT, "a scan upward");
+    if (i != m->count) return 0;
+    code = envy_index_last(&map.memory, UINT64_MAX, &pair);
+    while (code == ENVY_DONE) {
+        if (i == 0 || pair.key != m->pair[i - 1].key) return 0;
+        i--;
+        if (pair.key == 0) break;
+        code = envy_index_last(&map.memory, pair.key - 1, &pair);
+    }
+    must(code == ENVY_DONE || code == ENVY_ABSENT, "a scan downward");
+    return i == 0;
+}
+
+/* ---- kills */
+
+static void work(const char *path, uint64_t seed, uint64_t n, uint64_t end, model *m, int pipe) {
+    uint32_t did;
+    must(envy_file_open(&map, path, &setup) == ENVY_DONE, "attach");
+    for (; n <= end; n++) {
+        operation o = operation_of(seed, n);
+        do_operation(m, &o);
+        apply(m, &o);
+        if (write(pipe, &n, sizeof n) != sizeof n) _exit(1);
+        if (n % 4 == 0) must(envy_mapped_tick(&map.memory, &did) == ENVY_DONE, "tick");
+    }
+    pause();
+}
+
+/* Runs a worker from where the array stands, kills it, and answers the last number that it wrote. */
+static uint64_t killed_after(const char *path, uint64_t seed, uint64_t last, uint64_t end, model *m, useconds_t moment) {
+    int ends[2], status;
+    if (pipe(ends)) exit(1);
+    pid_t worker = fork();
+    if (worker < 0) exit(1);
+    if (worker == 0) {
+        close(ends[0]);
+        work(path, seed, last + 1, end, m, ends[1]);
+    }
+    close(ends[1]);
+    pid_t killer = fork();
+    if (killer < 0) exit(1);
+    if (killer == 0) {
+        usleep(moment);
+        kill(worker, SIGKILL);
+        _exit(0);
+    }
+    for (uint64_t n; read(ends[0], &n, sizeof n) == sizeof n; last++) must(n == last + 1, "numbers are answered in order");
+    close(ends[0]);
+    waitpid(killer, NULL, 0);
+    waitpid(worker, &status, 0);
+    must(WIFSIGNALED(status) && WTERMSIG(status) == SIGKILL, "the worker ended by itself");
+    return last;
+}
+
+/* ---- answers of a map that isn't there, or may not be asked */
+
+static void all_answer(uint32_t code) {
+    uint64_t word = 77;
+    envy_old before = {77, 78};
+    envy_pair pair = {77, 78};
+    must(envy_index_create(&map.memory) == code, "create is refused");
+    must(envy_index_get(&map.memory, 5, &word) == code, "get is refused");
+    must(envy_index_insert(&map.memory, 5, 50, &before) == code, "insert is refused");
+    must(envy_index_remove(&map.memory, 5, &word) == code, "remove is refused");
+    must(envy_index_count(&map.memory, &word) == code, "count is refused");
+    must(envy_index_next(&map.memory, 5, &pair) == code, "next is refused");
+    must(envy_index_above(&map.memory, 5, &pair) == code, "above is refused");
+    must(envy_index_last(&map.memory, 5, &pair) == code, "last is refused");
+    must(word == 77 && before.value == 77 && before.had == 78 && pair.key == 77 && pair.value == 78, "a refusal writes");
+}
+
+static void refusals(const char *path) {
+    uint32_t slot, holder;
+    uint64_t word;
+    envy_old before;
+    must(envy_mapped_new(&map.memory) == ENVY_DONE, "a place is made");
+    all_answer(ENVY_EMPTY);
+    for (int other = 0; other < 2; other++) {
+        envy_setup small = setup;
+        if (other) small.pages = 19;
+        else small.shadows = 31;
+        must(envy_file_open(&map, path, &small) == ENVY_DONE, "format");
+        if (other) must(envy_index_create(&map.memory) == ENVY_MAP_SETUP, "19 pages");
+        else all_answer(ENVY_MAP_SETUP);
+        envy_file_close(&map);
+        must(!unlink(path), "unlink");
+    }
+    must(envy_file_open(&map, path, &setup) == ENVY_DONE, "format");
+    must(envy_index_insert(&map.memory, 5, 50, &before) == ENVY_DONE && !before.had, "zeros are a map");
+    must(envy_mapped_begin(&map.memory, &slot) == ENVY_DONE, "begin");
+    must(envy_mapped_put(&map.memory, slot, 0, 99, &holder) == ENVY_DONE, "put");
+    all_answer(ENVY_SLOT_OPEN);
+    must(envy_mapped_abort(&map.memory, slot) == ENVY_DONE, "abort");
+    must(envy_index_get(&map.memory, 5, &word) == ENVY_DONE && word == 50, "an aborted transaction");
+    /* over other words a map begins without pairs, and leaves them */
+    for (uint32_t a = 0; a < 32 * PAGES; a++)
+        must(envy_mapped_store(&map.memory, a, a * 0x0123456789ABCDEFull, &holder) == ENVY_DONE, "store");
+    must(envy_index_create(&map.memory) == ENVY_DONE, "create");
+    for (uint32_t a = 0; a < 32 * PAGES; a++) {
+        must(envy_mapped_look(&map.memory, a, &word) == ENVY_DONE, "look");
+        must(word == (a < 4 ? 0 : a * 0x0123456789ABCDEFull), "create leaves other words");
+    }
+    must(envy_index_count(&map.memory, &word) == ENVY_DONE && word == 0, "no pairs");
+    envy_file_close(&map);
+}
+
+int main(int words, char **word) {
+    static model before, after;
+    if (words != 4) return 2;
+    uint64_t end = strtoull(word[2], NULL, 10), seed = strtoull(word[3], NULL, 10), state = seed, last = 0;
+    int kills = 0, in_flight = 0, most = 0;
+    refusals(word[1]);
+    while (last < end) {
+        uint64_t answered = killed_after(word[1], seed, last, end, &before, (useconds_t)(draw(&state) % 100000));
+        for (; last < answered; last++) {
+            operation o = operation_of(seed, last + 1);
+            apply(&before, &o);
+            if (before.count > most) most = before.count;
+        }
+        operation next = operation_of(seed, last + 1);
+        after = before;
+        apply(&after, &next);
+        kills++;
+        must(envy_file_open(&map, word[1], &setup) == ENVY_DONE, "attach after a kill");
+        if (!holds(&before)) {
+            must(holds(&after), "the map is neither that of the last answer nor that of the next operation");
+            before = after;
+            last++;
+            in_flight++;
+        }
+        envy_file_close(&map);
+    }
+    printf("%llu operations on a map of up to %d pairs, %d kills, %d operations done but not yet answered\n",
+           (unsigned long long)last, most, kills, in_flight);
+    return 0;
+}

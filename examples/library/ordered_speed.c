@@ -1,0 +1,216 @@
+/* Pairs of words in a map of this library, in LMDB and in SQLite, each in a file, each change a transaction of its own.
+   None of the three waits for the disk: a process that is killed loses nothing, a machine that stops may.
+
+     ordered_speed ENGINE FILE PAIRS PHASES
+
+   Phases, in this order: 1 inserts the pairs, 2 looks each up, 3 goes over all by rising key, 4 takes each out. It writes a line for
+   each, with its microseconds for each pair. */
+#include "../../c/envy_index.h"
+#include "../book.h"
+#include <lmdb.h>
+#include <sqlite3.h>
+#include <time.h>
+
+static void must(int holds, const char *what) {
+    if (holds) return;
+    fprintf(stderr, "ordered_speed: %s\n", what);
+    exit(1);
+}
+
+/* Keys are all different, and in no order. */
+static uint64_t key_of(uint64_t i) { return (i * 0x9E3779B97F4A7C15) >> 1; }
+
+typedef struct engine {
+    const char *name;
+    void (*open)(const char *path, uint64_t pairs);
+    void (*insert)(uint64_t key, uint64_t value);
+    uint64_t (*get)(uint64_t key);
+    uint64_t (*scan)(uint64_t *sum);
+    void (*take_out)(uint64_t key);
+} engine;
+
+/* ---- this library */
+
+static mapping map;
+
+static void envy_open(const char *path, uint64_t pairs) {
+    uint32_t pages = (uint32_t)(2 * (pairs / 14 + 16) + 2), rows = 256;
+    /* half of the rows are in use */
+    envy_setup setup = {
+        .segments = 2 * pages / rows + 4, .rows = rows, .pages = pages, .shadows = 32, .frames = 256, .entries = 4096,
+        .policy = ENVY_GREEDY, .part = 2, .limit = 100, .mark = 256,
+    };
+    must(open_book(&map, path, &setup, 1) == ENVY_DONE, "format");
+}
+
+static void map_insert(uint64_t key, uint64_t value) {
+    envy_old before;
+    must(envy_index_insert(&map.memory, key, value, &before) == ENVY_DONE, "insert");
+}
+
+static uint64_t map_get(uint64_t key) {
+    uint64_t value;
+    must(envy_index_get(&map.memory, key, &value) == ENVY_DONE, "get");
+    return value;
+}
+
+static uint64_t map_scan(uint64_t *sum) {
+    envy_pair pair;
+    uint64_t n = 0;
+    uint32_t code = envy_index_next(&map.memory, 0, &pair);
+    for (; code == ENVY_DONE; code = envy_index_above(&map.memory, pair.key, &pair), n++) *sum += pair.value;
+    return n;
+}
+
+static void map_remove(uint64_t key) {
+    uint64_t value;
+    must(envy_index_remove(&map.memory, key, &value) == ENVY_DONE, "remove");
+}
+
+/* ---- LMDB */
+
+static MDB_env *environment;
+static MDB_dbi table;
+static MDB_txn *reading;
+
+static void lmdb_open(const char *path, uint64_t pairs) {
+    MDB_txn *txn;
+    must(!mdb_env_create(&environment) && !mdb_env_set_mapsize(environment, 1 << 20 | (pairs * 256 & ~4095ull)), "create");
+    must(!mdb_env_open(environment, path, MDB_NOSUBDIR | MDB_NOSYNC | MDB_WRITEMAP, 0600), "open");
+    must(!mdb_txn_begin(environment, NULL, 0, &txn), "begin");
+    must(!mdb_dbi_open(txn, NULL, MDB_INTEGERKEY, &table) && !mdb_txn_commit(txn), "table");
+    must(!mdb_txn_begin(environment, NULL, MDB_RDONLY, &reading), "begin to read");
+    mdb_txn_reset(reading);
+}
+
+static void lmdb_insert(uint64_t key, uint64_t value) {
+    MDB_txn *txn;
+    MDB_val k = {sizeof key, &key}, v = {sizeof value, &value};
+    must(!mdb_txn_begin(environment, NULL, 0, &txn) && !mdb_put(txn, table, &k, &v, 0) && !mdb_txn_commit(txn), "put");
+}
+
+static uint64_t lmdb_get(uint64_t key) {
+    MDB_val k = {sizeof key, &key}, v;
+    uint64_t value;
+    must(!mdb_txn_renew(reading) && !mdb_get(reading, table, &k, &v), "get");
+    memcpy(&value, v.mv_data, sizeof value);
+    mdb_txn_reset(reading);
+    return value;
+}
+
+static uint64_t lmdb_scan(uint64_t *sum) {
+    MDB_cursor *cursor;
+    MDB_val k, v;
+    uint64_t n = 0, value;
+    must(!mdb_txn_renew(reading) && !mdb_cursor_open(reading, table, &cursor), "cursor");
+    for (; !mdb_cursor_get(cursor, &k, &v, MDB_NEXT); n++) {
+        memcpy(&value, v.mv_data, sizeof value);
+        *sum += value;
+    }
+    mdb_cursor_close(cursor);
+    mdb_txn_reset(reading);
+    return n;
+}
+
+static void lmdb_remove(uint64_t key) {
+    MDB_txn *txn;
+    MDB_val k = {sizeof key, &key};
+    must(!mdb_txn_begin(environment, NULL, 0, &txn) && !mdb_del(txn, table, &k, NULL) && !mdb_txn_commit(txn), "del");
+}
+
+/* ---- SQLite */
+
+static sqlite3 *base;
+static sqlite3_stmt *put_one, *get_one, *take_one, *all;
+
+static sqlite3_stmt *prepared(const char *text) {
+    sqlite3_stmt *made;
+    must(sqlite3_prepare_v2(base, text, -1, &made, NULL) == SQLITE_OK, text);
+    return made;
+}
+
+static void sqlite_open(const char *path, uint64_t pairs) {
+    (void)pairs;
+    must(sqlite3_open(path, &base) == SQLITE_OK, "open");
+    must(sqlite3_exec(base, "pragma journal_mode = wal; pragma synchronous = off; create table t(k integer primary key, v integer)",
+                      NULL, NULL, NULL) == SQLITE_OK, "table");
+    put_one = prepared("insert or replace into t values (?, ?)");
+    get_one = prepared("select v from t where k = ?");
+    take_one = prepared("delete from t where k = ?");
+    all = prepared("select k, v from t order by k");
+}
+
+static void sqlite_insert(uint64_t key, uint64_t value) {
+    sqlite3_bind_int64(put_one, 1, (int64_t)key);
+    sqlite3_bind_int64(put_one, 2, (int64_t)value);
+    must(sqlite3_step(put_one) == SQLITE_DONE && sqlite3_reset(put_one) == SQLITE_OK, "insert");
+}
+
+static uint64_t sqlite_get(uint64_t key) {
+    sqlite3_bind_int64(get_one, 1, (int64_t)key);
+    must(sqlite3_step(get_one) == SQLITE_ROW, "select");
+    uint64_t value = (uint64_t)sqlite3_column_int64(get_one, 0);
+    sqlite3_reset(get_one);
+    return value;
+}
+
+static uint64_t sqlite_scan(uint64_t *sum) {
+    uint64_t n = 0;
+    for (; sqlite3_step(all) == SQLITE_ROW; n++) *sum += (uint64_t)sqlite3_column_int64(all, 1);
+    sqlite3_reset(all);
+    return n;
+}
+
+static void sqlite_remove(uint64_t key) {
+    sqlite3_bind_int64(take_one, 1, (int64_t)key);
+    must(sqlite3_step(take_one) == SQLITE_DONE && sqlite3_reset(take_one) == SQLITE_OK, "delete");
+}
+
+/* ---- phases */
+
+static const engine engines[] = {
+    {"envy", envy_open, map_insert, map_get, map_scan, map_remove},
+    {"lmdb", lmdb_open, lmdb_insert, lmdb_get, lmdb_scan, lmdb_remove},
+    {"sqlite", sqlite_open, sqlite_insert, sqlite_get, sqlite_scan, sqlite_remove},
+};
+
+static double seconds(void) {
+    struct timespec now;
+    clock_gettime(CLOCK_MONOTONIC, &now);
+    return (double)now.tv_sec + 1e-9 * (double)now.tv_nsec;
+}
+
+static void run(const engine *e, uint64_t pairs, int phase) {
+    uint64_t sum = 0;
+    switch (phase) {
+    case 1:
+        for (uint64_t i = 0; i < pairs; i++) e->insert(key_of(i), i);
+        break;
+    case 2:
+        for (uint64_t i = 0; i < pairs; i++) must(e->get(key_of(i * 7919 % pairs)) == i * 7919 % pairs, "a wrong value");
+        break;
+    case 3:
+        must(e->scan(&sum) == pairs && sum == pairs * (pairs - 1) / 2, "a scan misses pairs");
+        break;
+    case 4:
+        for (uint64_t i = 0; i < pairs; i++) e->take_out(key_of(i * 7919 % pairs));
+        break;
+    }
+}
+
+int main(int words, char **word) {
+    static const char *const names[] = {"", "insert", "get", "scan", "remove"};
+    if (words != 5) return 2;
+    uint64_t pairs = strtoull(word[3], NULL, 10);
+    for (size_t i = 0; i < sizeof engines / sizeof *engines; i++) {
+        if (strcmp(engines[i].name, word[1])) continue;
+        engines[i].open(word[2], pairs);
+        for (int phase = 1; phase <= atoi(word[4]); phase++) {
+            double began = seconds();
+            run(&engines[i], pairs, phase);
+            printf("%s %s %.3f\n", word[1], names[phase], 1e6 * (seconds() - began) / (double)pairs);
+        }
+        return 0;
+    }
+    return 2;
+}

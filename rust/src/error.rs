@@ -1,0 +1,232 @@
+//! Why a call wasn't done.
+
+use crate::sys;
+use std::ffi::CStr;
+use std::{fmt, io};
+
+/// Why a call wasn't done. Nothing changed then, but as [`Stopped`] says.
+#[derive(Debug)]
+#[non_exhaustive]
+pub enum Error {
+    /// The address lies past the last page.
+    Range,
+    /// The transaction of another slot owns the page.
+    Held { slot: u32 },
+    /// The page has no owner, and no more pages may be owned.
+    Full,
+    /// All 64 slots are open.
+    Busy,
+    /// The slot isn't open.
+    Closed,
+    /// The heap gave nothing.
+    NoMemory,
+    /// The file's flash hasn't as many rows as the setup asks.
+    FlashSize,
+    /// The file's SRAM hasn't as many words as the setup asks.
+    SramSize,
+    /// The file hasn't as many counts of erases as the setup has segments.
+    ErasesSize,
+    /// No policy has the setup's number.
+    Policy,
+    /// The file isn't formatted.
+    Unformatted,
+    /// The file is of an older version.
+    Older,
+    /// The file has another shape than the setup.
+    OtherShape,
+    /// The setup breaks this rule.
+    Setup(Rule),
+    /// The file is damaged: the first point of soundness that fails.
+    Damaged(Point),
+    /// The map has as many pairs as it may have.
+    MapFull,
+    /// A transaction is open, which is to be ended first.
+    SlotOpen,
+    /// The setup has fewer than 20 pages or 32 shadows, so no map fits.
+    MapSetup,
+    /// Another process, or another `Memory`, has the file open.
+    Locked,
+    /// The system refused a call.
+    System(io::Error),
+    /// A number that this package doesn't know.
+    Other(u32),
+}
+
+/// A rule of setups, in the order in which they are checked.
+#[derive(Clone, Copy, Debug, PartialEq, Eq)]
+pub enum Rule {
+    Segments,
+    Rows,
+    Pages,
+    Frames,
+    Entries,
+    Share,
+    Total,
+    Part,
+    Limit,
+    Mark,
+}
+
+/// A point of soundness, in the order in which an audit asks them.
+#[derive(Clone, Copy, Debug, PartialEq, Eq)]
+pub enum Point {
+    Fields,
+    Positions,
+    Frames,
+    Rows,
+    Claims,
+    Free,
+    Spare,
+    Places,
+    Job,
+    Copies,
+    Owned,
+    Undos,
+}
+
+const RULES: [Rule; 10] = [
+    Rule::Segments,
+    Rule::Rows,
+    Rule::Pages,
+    Rule::Frames,
+    Rule::Entries,
+    Rule::Share,
+    Rule::Total,
+    Rule::Part,
+    Rule::Limit,
+    Rule::Mark,
+];
+
+const POINTS: [Point; 12] = [
+    Point::Fields,
+    Point::Positions,
+    Point::Frames,
+    Point::Rows,
+    Point::Claims,
+    Point::Free,
+    Point::Spare,
+    Point::Places,
+    Point::Job,
+    Point::Copies,
+    Point::Owned,
+    Point::Undos,
+];
+
+/// A write of several words that was ended: the words before the one that was refused are put.
+#[derive(Debug)]
+pub struct Stopped {
+    pub done: usize,
+    pub error: Error,
+}
+
+impl Error {
+    /// The number in envy_codes.h or envy_file.h.
+    pub fn code(&self) -> u32 {
+        match self {
+            Error::Range => sys::RANGE,
+            Error::Held { .. } => sys::HELD,
+            Error::Full => sys::FULL,
+            Error::Busy => sys::BUSY,
+            Error::Closed => sys::CLOSED,
+            Error::NoMemory => sys::NO_MEMORY,
+            Error::FlashSize => sys::FLASH_SIZE,
+            Error::SramSize => sys::SRAM_SIZE,
+            Error::ErasesSize => sys::ERASES_SIZE,
+            Error::Policy => sys::POLICY,
+            Error::Unformatted => sys::UNFORMATTED,
+            Error::Older => sys::OLDER,
+            Error::OtherShape => sys::OTHER_SHAPE,
+            Error::Setup(rule) => sys::FIRST_RULE + *rule as u32,
+            Error::Damaged(point) => sys::FIRST_POINT + *point as u32,
+            Error::MapFull => sys::MAP_FULL,
+            Error::SlotOpen => sys::SLOT_OPEN,
+            Error::MapSetup => sys::MAP_SETUP,
+            Error::Locked => sys::LOCKED,
+            Error::System(_) => sys::SYSTEM,
+            Error::Other(code) => *code,
+        }
+    }
+
+    /// The error of a number other than that of a call that was done.
+    pub(crate) fn of(code: u32, holder: u32) -> Error {
+        match code {
+            sys::RANGE => Error::Range,
+            sys::HELD => Error::Held { slot: holder },
+            sys::FULL => Error::Full,
+            sys::BUSY => Error::Busy,
+            sys::CLOSED => Error::Closed,
+            sys::NO_MEMORY => Error::NoMemory,
+            sys::FLASH_SIZE => Error::FlashSize,
+            sys::SRAM_SIZE => Error::SramSize,
+            sys::ERASES_SIZE => Error::ErasesSize,
+            sys::POLICY => Error::Policy,
+            sys::UNFORMATTED => Error::Unformatted,
+            sys::OLDER => Error::Older,
+            sys::OTHER_SHAPE => Error::OtherShape,
+            sys::MAP_FULL => Error::MapFull,
+            sys::SLOT_OPEN => Error::SlotOpen,
+            sys::MAP_SETUP => Error::MapSetup,
+            sys::SYSTEM => Error::System(io::Error::last_os_error()),
+            sys::LOCKED => Error::Locked,
+            _ => Error::of_list(code),
+        }
+    }
+
+    fn of_list(code: u32) -> Error {
+        let rule = code.checked_sub(sys::FIRST_RULE).and_then(|at| RULES.get(at as usize));
+        let point = code.checked_sub(sys::FIRST_POINT).and_then(|at| POINTS.get(at as usize));
+        match (rule, point) {
+            (Some(rule), _) => Error::Setup(*rule),
+            (None, Some(point)) => Error::Damaged(*point),
+            (None, None) => Error::Other(code),
+        }
+    }
+
+    pub(crate) fn check(code: u32) -> Result<(), Error> {
+        if code == sys::DONE {
+            Ok(())
+        } else {
+            Err(Error::of(code, 0))
+        }
+    }
+}
+
+impl fmt::Display for Error {
+    fn fmt(&self, f: &mut fmt::Formatter<'_>) -> fmt::Result {
+        // SAFETY: the text is a string that lasts as long as the program.
+        let text = unsafe { CStr::from_ptr(sys::envy_error_text(self.code())) };
+        f.write_str(&text.to_string_lossy())?;
+        match self {
+            Error::Held { slot } => write!(f, ": that of slot {slot}"),
+            Error::System(error) => write!(f, ": {error}"),
+            _ => Ok(()),
+        }
+    }
+}
+
+impl std::error::Error for Error {
+    fn source(&self) -> Option<&(dyn std::error::Error + 'static)> {
+        match self {
+            Error::System(error) => Some(error),
+            _ => None,
+        }
+    }
+}
+
+impl fmt::Display for Stopped {
+    fn fmt(&self, f: &mut fmt::Formatter<'_>) -> fmt::Result {
+        write!(f, "behind {} words: {}", self.done, self.error)
+    }
+}
+
+impl std::error::Error for Stopped {
+    fn source(&self) -> Option<&(dyn std::error::Error + 'static)> {
+        Some(&self.error)
+    }
+}
+
+impl From<Stopped> for Error {
+    fn from(stopped: Stopped) -> Error {
+        stopped.error
+    }
+}

@@ -1,0 +1,122 @@
+//! The calls of envy_mapped.h, envy_index.h, envy_file.h, envy_setup.h and envy_text.h, and what crosses by them.
+
+use std::ffi::{c_char, c_int, c_void};
+
+#[repr(C)]
+#[derive(Clone, Copy, Default)]
+pub struct Setup {
+    pub segments: u32,
+    pub rows: u32,
+    pub pages: u32,
+    pub shadows: u32,
+    pub frames: u32,
+    pub entries: u32,
+    pub policy: u32,
+    pub part: u32,
+    pub limit: u64,
+    pub mark: u32,
+}
+
+#[repr(C)]
+#[derive(Clone, Copy, Default)]
+pub struct Counts {
+    pub hits: u64,
+    pub misses: u64,
+    pub flushes: u64,
+    pub copies: u64,
+    pub moves: u64,
+    pub erases: u64,
+    pub swaps: u64,
+}
+
+/// A pair of a map.
+#[repr(C)]
+#[derive(Clone, Copy, Default)]
+pub struct Pair {
+    pub key: u64,
+    pub value: u64,
+}
+
+/// The value that a key had, where it had one.
+#[repr(C)]
+#[derive(Clone, Copy, Default)]
+pub struct Old {
+    pub value: u64,
+    pub had: u32,
+}
+
+/// A place for a memory.
+#[repr(C)]
+pub struct Handle {
+    pub at: *mut c_void,
+}
+
+/// A place for a file.
+#[repr(C)]
+pub struct File {
+    pub memory: Handle,
+    pub at: *mut c_void,
+    pub bytes: usize,
+    pub descriptor: c_int,
+}
+
+pub const DONE: u32 = 0;
+pub const RANGE: u32 = 3;
+pub const HELD: u32 = 4;
+pub const FULL: u32 = 5;
+pub const BUSY: u32 = 6;
+pub const CLOSED: u32 = 7;
+pub const NO_MEMORY: u32 = 9;
+pub const FLASH_SIZE: u32 = 14;
+pub const SRAM_SIZE: u32 = 15;
+pub const ERASES_SIZE: u32 = 16;
+pub const POLICY: u32 = 17;
+pub const UNFORMATTED: u32 = 18;
+pub const OLDER: u32 = 19;
+pub const OTHER_SHAPE: u32 = 20;
+pub const FIRST_RULE: u32 = 21;
+pub const FIRST_POINT: u32 = 31;
+pub const ABSENT: u32 = 54;
+pub const MAP_FULL: u32 = 55;
+pub const SLOT_OPEN: u32 = 56;
+pub const MAP_SETUP: u32 = 57;
+pub const SYSTEM: u32 = 1000;
+pub const LOCKED: u32 = 1001;
+
+extern "C" {
+    pub fn envy_version() -> *const c_char;
+    pub fn envy_error_text(code: u32) -> *const c_char;
+    pub fn envy_setup_for(words: u64, owned_pages: u32, setup: *mut Setup) -> u32;
+    pub fn envy_file_shape(path: *const c_char, setup: *mut Setup) -> u32;
+    pub fn envy_file_open(file: *mut File, path: *const c_char, setup: *const Setup) -> u32;
+    pub fn envy_file_sync(file: *mut File) -> u32;
+    pub fn envy_file_close(file: *mut File) -> u32;
+    pub fn envy_mapped_load(m: *mut Handle, address: u32, word: *mut u64) -> u32;
+    pub fn envy_mapped_look(m: *mut Handle, address: u32, word: *mut u64) -> u32;
+    pub fn envy_mapped_read(m: *mut Handle, address: u32, words: *mut u64, n: usize) -> u32;
+    pub fn envy_mapped_store(m: *mut Handle, address: u32, word: u64, holder: *mut u32) -> u32;
+    pub fn envy_mapped_begin(m: *mut Handle, slot: *mut u32) -> u32;
+    pub fn envy_mapped_put(m: *mut Handle, slot: u32, address: u32, word: u64, holder: *mut u32) -> u32;
+    pub fn envy_mapped_write(
+        m: *mut Handle,
+        slot: u32,
+        address: u32,
+        words: *const u64,
+        n: usize,
+        done: *mut usize,
+        holder: *mut u32,
+    ) -> u32;
+    pub fn envy_mapped_view(m: *mut Handle, slot: u32, address: u32, word: *mut u64) -> u32;
+    pub fn envy_mapped_commit(m: *mut Handle, slot: u32) -> u32;
+    pub fn envy_mapped_abort(m: *mut Handle, slot: u32) -> u32;
+    pub fn envy_mapped_tick(m: *mut Handle, did: *mut u32) -> u32;
+    pub fn envy_mapped_counts(m: *mut Handle, counts: *mut Counts) -> u32;
+    pub fn envy_index_create(m: *mut Handle) -> u32;
+    pub fn envy_index_get(m: *mut Handle, key: u64, value: *mut u64) -> u32;
+    pub fn envy_index_insert(m: *mut Handle, key: u64, value: u64, before: *mut Old) -> u32;
+    pub fn envy_index_remove(m: *mut Handle, key: u64, value: *mut u64) -> u32;
+    pub fn envy_index_count(m: *mut Handle, count: *mut u64) -> u32;
+    pub fn envy_index_next(m: *mut Handle, key: u64, pair: *mut Pair) -> u32;
+    pub fn envy_index_above(m: *mut Handle, key: u64, pair: *mut Pair) -> u32;
+    pub fn envy_index_last(m: *mut Handle, key: u64, pair: *mut Pair) -> u32;
+}
