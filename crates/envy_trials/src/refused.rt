@@ -174,8 +174,8 @@ fn a_source_may_fail_within_an_image(rt: HostRuntime) -> Result<(), Fail> {
 #[test]
 fn a_sink_may_fail_within_an_image(rt: HostRuntime) -> Result<(), Fail> {
     let image = written(&rt, &SMALLEST, b"store 3 4\n")?;
-    // the mark, six numbers, 256 words of rows and 161 of SRAM, and the flush
-    for call in 1..426 {
+    // the mark, six numbers, 8 rows, 161 words of SRAM, and the flush
+    for call in 1..178 {
         let fails = Given {
             sink_fails: call,
             ..calm(b"store 3 4\n")
@@ -183,7 +183,7 @@ fn a_sink_may_fail_within_an_image(rt: HostRuntime) -> Result<(), Fail> {
         let told = told(rt.alloc(), &SMALLEST, &fails)?;
         assert!(&rt; told.end.status == 4 && told.end.lines == 1);
         assert!(&rt; image.starts_with(&told.text));
-        assert!(&rt; (told.text.len() == SIZE) == (call == 425));
+        assert!(&rt; (told.text.len() == SIZE) == (call == 177));
     }
     Ok(())
 }
