@@ -16,6 +16,23 @@ pub fn frame_word<B: Board>(board: &B, frame: u32, i: u32) -> Result<u64, Off>
     board.get(frame_start(&board.shape()) + 32 * frame + i)
 }
 
+/// Writes word `i`, of 32, of a frame that begins at word `first` of SRAM.
+fn put_frame_word<B: Board>(
+    board: &mut B,
+    first: u32,
+    frame: u32,
+    i: u32,
+    word: u64,
+) -> Result<(), Off>
+    requires first { first ≡ frames_at (B.state board.old).shape + 32 * frame }
+    requires frame { frame < (B.state board.old).shape.frames }
+    requires place { i < 32 }
+    ensures writes { Writes (with_frame_word frame i word) (chart (B.state board.old)) result (chart (B.state board.new)) }
+    ensures put { Puts (B.state board.old) (frames_at (B.state board.old).shape + (32 * frame + i)) word result (B.state board.new) }
+{
+    board.put(first + i, word)
+}
+
 /// Writes word `i`, of 32, of a frame.
 pub fn set_frame_word<B: Board>(board: &mut B, frame: u32, i: u32, word: u64) -> Result<(), Off>
     requires frame { frame < (B.state board.old).shape.frames }
@@ -23,8 +40,8 @@ pub fn set_frame_word<B: Board>(board: &mut B, frame: u32, i: u32, word: u64) ->
     ensures writes { Writes (with_frame_word frame i word) (chart (B.state board.old)) result (chart (B.state board.new)) }
     ensures put { Puts (B.state board.old) (frames_at (B.state board.old).shape + (32 * frame + i)) word result (B.state board.new) }
 {
-    let at = frame_start(&board.shape());
-    board.put(at + 32 * frame + i, word)
+    let first = frame_start(&board.shape()) + 32 * frame;
+    put_frame_word(board, first, frame, i, word)
 }
 
 /// Writes the 32 words of a frame, from the first. Where power fails some of them are written.
@@ -36,8 +53,9 @@ pub fn write_frame<B: Board>(board: &mut B, frame: u32, page: &[u64; 32]) -> Res
     ensures off { OnErr result (Stopped (λ f. (n : ℕ) × (n ≤ 32) × (f ≡ with_frame frame page.now n (chart (B.state board.old)).fields)) (chart (B.state board.old)) (chart (B.state board.new))) }
     ensures below { (w : ℕ) → w < frames_at (B.state board.old).shape → slice_index (B.state board.new).sram w ≡ slice_index (B.state board.old).sram w }
 {
+    let first = frame_start(&board.shape()) + 32 * frame;
     for i in 0..32u32 {
-        set_frame_word(board, frame, i, page[i as usize])?;
+        put_frame_word(board, first, frame, i, page[i as usize])?;
     }
     Ok(())
 }

@@ -55,9 +55,12 @@ fn count(plan: &mut Option<Plan>) -> Option<u64>
     ensures rest { plan.new ≡ nearer plan.old }
     ensures ahead { IfSome plan.new (λ plan. 1 ≤ plan.left) }
 {
-    match plan.take() {
+    match *plan {
         None => None,
-        Some(Plan { left: 1, seed }) => Some(seed),
+        Some(Plan { left: 1, seed }) => {
+            *plan = None;
+            Some(seed)
+        }
         Some(Plan { left, seed }) => {
             *plan = Some(Plan {
                 left: left - 1,
