@@ -22,6 +22,7 @@ pub fn word<B: Board>(board: &B, from: Place, i: u32) -> Result<u64, Off>
 }
 
 /// The words of a page that is there.
+#[inline(always)]
 pub fn words<B: Board>(board: &B, from: Place) -> Result<[u64; 32], Off>
     requires range { InRange (B.state board.now) from }
     ensures long { IfOk result (λ ws. length ws ≡ 32) }
