@@ -102,3 +102,12 @@ IsQuiet-same k j c d x y limit quiet same counting = IsQuiet-counted c d x y lim
 pub IsQuiet-step : (c d : Chart) (x y : Parts) (limit quiet : ℕ) → SameOnce c d → Counting c x d y → IsTrue d.on → IsQuiet c.shape c.fields limit x.reloc.since quiet → IsQuiet d.shape d.fields limit y.reloc.since quiet
 IsQuiet-step c d x y limit quiet (inl same) counting = IsQuiet-same 1 0 c d x y limit quiet same counting
 IsQuiet-step c d x y limit quiet (inr same) counting = IsQuiet-same 0 1 c d x y limit quiet same counting
+
+-- the wear words stay
+pub IsQuiet-still : (c d : Chart) (x y : Parts) (limit quiet : ℕ) → d.shape ≡ c.shape → d.fields.wears ≡ c.fields.wears → y.reloc.since ≡ x.reloc.since → IsQuiet c.shape c.fields limit x.reloc.since quiet → IsQuiet d.shape d.fields limit y.reloc.since quiet
+IsQuiet-still c d x y limit quiet shape wears since q = record {
+  few = q.few;
+  near = λ lt a b la lb.
+    let was = q.near (subst (λ (n : ℕ). n < quiet) since lt) a b (subst (λ (sh : Shape). a < sh.segments) shape la) (subst (λ (sh : Shape). b < sh.segments) shape lb) in
+    rw (wears, since) was;
+}
