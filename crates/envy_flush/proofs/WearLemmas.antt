@@ -85,11 +85,11 @@ pub IsQuiet-worn : (c d : Chart) (x y : Parts) (limit quiet : ℕ) → d.shape �
 IsQuiet-worn c d x y limit quiet shape wears rises wearing on q = record {
   few = q.few;
   near = λ lt a b la lb.
-    let few = q.few in
-    let was = q.near (omega arith) a b (subst (λ (sh : Shape). a < sh.segments) shape la) (subst (λ (sh : Shape). b < sh.segments) shape lb) in
-    let most = wearing.most on (omega arith) a in
-    let least = Worn.rises (wears b (subst (λ (sh : Shape). b < sh.segments) shape lb)) in
-    omega arith;
+      let few = q.few in
+      let was = q.near (omega arith) a b (subst (λ (sh : Shape). a < sh.segments) shape la) (subst (λ (sh : Shape). b < sh.segments) shape lb) in
+      let most = wearing.most on (omega arith) a in
+      let least = Worn.rises (wears b (subst (λ (sh : Shape). b < sh.segments) shape lb)) in
+      omega arith;
 }
 
 -- what counts its erases, and begins no swap, leaves the board as quiet as it was
@@ -108,6 +108,6 @@ pub IsQuiet-still : (c d : Chart) (x y : Parts) (limit quiet : ℕ) → d.shape 
 IsQuiet-still c d x y limit quiet shape wears since q = record {
   few = q.few;
   near = λ lt a b la lb.
-    let was = q.near (subst (λ (n : ℕ). n < quiet) since lt) a b (subst (λ (sh : Shape). a < sh.segments) shape la) (subst (λ (sh : Shape). b < sh.segments) shape lb) in
-    rw (wears, since) was;
+      let was = q.near (subst (λ (n : ℕ). n < quiet) since lt) a b (subst (λ (sh : Shape). a < sh.segments) shape la) (subst (λ (sh : Shape). b < sh.segments) shape lb) in
+      rw (wears, since) was;
 }

@@ -222,10 +222,7 @@ fn a_store_into_a_frame_reads_as_much_beside_owned_pages(rt: HostRuntime) -> Res
 
 /// How often two ticks read the board that find nothing to do, one after the other, where one erase has begun and that
 /// is the limit.
-fn idle_reads(
-    rt: &(impl Abort + Alloc<A = Global>),
-    segments: u32,
-) -> Result<(u64, u64), Fail> {
+fn idle_reads(rt: &(impl Abort + Alloc<A = Global>), segments: u32) -> Result<(u64, u64), Fail> {
     let mut memory = memory_by(
         rt,
         Setup {
