@@ -137,10 +137,10 @@ Closes-restored c e new t res last = let is = restored-is c e new t res last in 
 }
 
 pub Rows-released : (c e new : Chart) (t : ℕ) → Releases t c e → new ≡ with_fields e (with_slot t (Some Vacant) e.fields) → Rows c new
-Rows-released c e new t rel last = let is = released-is c e new t rel last in record { job = ap (λ (z : Chart). z.fields.job) is; fills = ap (λ (z : Chart). z.fields.fills) is; positions = ap (λ (z : Chart). z.fields.positions) is; erases = ap (λ (z : Chart). z.erases) is }
+Rows-released c e new t rel last = let is = released-is c e new t rel last in record { job = ap (λ (z : Chart). z.fields.job) is; fills = ap (λ (z : Chart). z.fields.fills) is; positions = ap (λ (z : Chart). z.fields.positions) is; wears = ap (λ (z : Chart). z.fields.wears) is; erases = ap (λ (z : Chart). z.erases) is }
 
 pub Rows-restored : (c e new : Chart) (t : ℕ) → Restores t c e → new ≡ with_fields e (with_slot t (Some Vacant) e.fields) → Rows c new
-Rows-restored c e new t res last = let is = restored-is c e new t res last in record { job = ap (λ (z : Chart). z.fields.job) is; fills = ap (λ (z : Chart). z.fields.fills) is; positions = ap (λ (z : Chart). z.fields.positions) is; erases = ap (λ (z : Chart). z.erases) is }
+Rows-restored c e new t res last = let is = restored-is c e new t res last in record { job = ap (λ (z : Chart). z.fields.job) is; fills = ap (λ (z : Chart). z.fields.fills) is; positions = ap (λ (z : Chart). z.fields.positions) is; wears = ap (λ (z : Chart). z.fields.wears) is; erases = ap (λ (z : Chart). z.erases) is }
 
 -- the slots of before, where an active slot has committed and counts as active
 alike : (ss : List (Option Slot)) (t : ℕ) → get_or ss t None ≡ Some Active → set (set ss t (Some Committed)) t (Some Active) ≡ ss

@@ -16,3 +16,4 @@ pub mod RowLemmas
 pub mod ShadeLemmas
 pub mod StepLemmas
 pub mod StoreLemmas
+pub mod WearLemmas

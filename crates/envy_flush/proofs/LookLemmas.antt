@@ -85,4 +85,4 @@ Accesses-rests p a b c x r = record { size = r.size ∙ x.size; pages = λ i. r.
 
 -- the entries of the cache are no count of flash work
 pub Counting-looked : (c d : Chart) (y z : Parts) (t : Translations) → Counting c (record y { cache = t }) d z → Counting c y d z
-Counting-looked c d y z t w = record { tallies = record { programs = w.tallies.programs; erases = w.tallies.erases }; since = w.since; swaps = w.swaps }
+Counting-looked c d y z t w = record { tallies = record { programs = w.tallies.programs; erases = w.tallies.erases }; since = w.since; swaps = w.swaps; wearing = record { on = w.wearing.on; most = w.wearing.most } }

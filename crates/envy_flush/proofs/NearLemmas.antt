@@ -115,7 +115,7 @@ Brings-into old mid new x y z p k home from ws us here unheld homed held lt is t
     held = ap (λ (w : Parts). w.frames.held) followed ∙ held;
     there = ap (λ (c : Chart). place c.fields p) is ∙ get_or-set_same old.fields.places p (Some (Frame k)) None lt;
     others = λ r other. ap (λ (c : Chart). place c.fields r) is ∙ get_or-set_other old.fields.places p r (Some (Frame k)) None other;
-    rows = record { job = ap (λ (c : Chart). c.fields.job) is; fills = ap (λ (c : Chart). c.fields.fills) is; positions = ap (λ (c : Chart). c.fields.positions) is; erases = ap (λ (c : Chart). c.erases) is };
+    rows = record { job = ap (λ (c : Chart). c.fields.job) is; fills = ap (λ (c : Chart). c.fields.fills) is; positions = ap (λ (c : Chart). c.fields.positions) is; wears = ap (λ (c : Chart). c.fields.wears) is; erases = ap (λ (c : Chart). c.erases) is };
     parts = parts-moved x y z taken followed;
   },
   refl,

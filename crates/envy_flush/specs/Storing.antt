@@ -75,11 +75,12 @@ pub record Leaves (k j : ℕ) (old new : Chart) : Type 0 where
   pub counted : Counted k j old new
   pub worn : Wears old new
 
--- nothing that a policy looks at changed
+-- nothing that a policy or a swap looks at changed
 pub record Rows (old new : Chart) : Type 0 where
   pub job : new.fields.job ≡ old.fields.job
   pub fills : new.fields.fills ≡ old.fields.fills
   pub positions : new.fields.positions ≡ old.fields.positions
+  pub wears : new.fields.wears ≡ old.fields.wears
   pub erases : new.erases ≡ old.erases
 
 -- page p, which stood elsewhere, came into a frame that wasn't held and is the newest, with the home of the

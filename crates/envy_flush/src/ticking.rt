@@ -8,6 +8,7 @@ ghost use Rattle.envy_reloc.specs.Phases.{SameOnce};
 ghost use Rattle.envy_flush.specs.Agreement.{Ready, Steady};
 ghost use Rattle.envy_flush.specs.Counts.{Counting};
 ghost use Rattle.envy_choosing.specs.Choosing.{ChoiceFor};
+ghost use Rattle.envy_wear.specs.Swaps.{IsQuiet};
 ghost use Rattle.envy_flush.specs.Ticks.{IsNoneDue, TicksChoice, TicksFlush, TicksSwap, TicksNone, TicksBy, TicksBad, StopsFlush, CountsTick};
 
 use crate::claiming::claim_at;
@@ -22,7 +23,7 @@ use envy_base::{Board, Off, Trouble};
 use envy_choosing::choose_row;
 use envy_frames::Held;
 use envy_policy::Choice;
-use envy_wear::due;
+use envy_wear::due_after;
 
 /// Programs the oldest held page into the next free row of a position.
 fn flush_at<B: Board>(
@@ -82,11 +83,18 @@ pub fn tick_flush<B: Board>(board: &mut B, parts: &mut Parts) -> Result<Did, Tro
     }
 }
 
-/// The fourth rule: a swap begins where one is due. Else nothing is done.
-pub fn tick_swap<B: Board>(board: &mut B, parts: &mut Parts, limit: u64) -> Result<Did, Trouble>
+/// The fourth rule: a swap begins where one is due. Else nothing is done. None is due before `quiet` erases have begun
+/// since the last one, and what is known of that is known anew.
+pub fn tick_swap<B: Board>(
+    board: &mut B,
+    parts: &mut Parts,
+    limit: u64,
+    quiet: &mut u64,
+) -> Result<Did, Trouble>
     requires ready { Ready (chart (B.state board.old)) parts.old }
     requires idle { (chart (B.state board.old)).fields.job ≡ Some Idle }
     requires stages { parts.old.stages ≡ [] }
+    requires quiet { IsQuiet (B.state board.old).shape (chart (B.state board.old)).fields limit parts.old.reloc.since quiet.old }
     ensures same { Same 0 0 (chart (B.state board.old)) (chart (B.state board.new)) }
     ensures steady { Steady (chart (B.state board.new)) parts.new }
     ensures does { IfOk result (λ did. TicksSwap limit did (chart (B.state board.old)) parts.old (chart (B.state board.new)) parts.new ⊎ TicksNone limit did (chart (B.state board.old)) parts.old (chart (B.state board.new)) parts.new) }
@@ -94,10 +102,11 @@ pub fn tick_swap<B: Board>(board: &mut B, parts: &mut Parts, limit: u64) -> Resu
     ensures idle { IsNoneDue limit (chart (B.state board.old)) parts.old.reloc.since → result ≡ Ok Did.Idle }
     ensures still { OnErr result (Counting (chart (B.state board.old)) parts.old (chart (B.state board.new)) parts.new) }
     ensures never { IsErrOf result Trouble.Bad → ⊥ }
+    ensures quiet { IsTrue (B.state board.new).on → IsQuiet (B.state board.new).shape (chart (B.state board.new)).fields limit parts.new.reloc.since quiet.new }
     ensures rests { Rests parts.old.cache parts.new.cache }
     ensures off { (result ≡ Err Trouble.Off) ↔ ((B.state board.new).on ≡ false) }
 {
-    let Some(swap) = due(board, limit, parts.reloc.since())? else {
+    let Some(swap) = due_after(board, limit, parts.reloc.since(), quiet)? else {
         return Ok(Did::Idle);
     };
     parts
@@ -110,15 +119,17 @@ pub fn tick_swap<B: Board>(board: &mut B, parts: &mut Parts, limit: u64) -> Resu
     Ok(Did::Began)
 }
 
-/// The first rule that applies.
+/// The first rule that applies, of a board that is so quiet.
 pub fn tick_ruled<B: Board>(
     board: &mut B,
     parts: &mut Parts,
     limit: u64,
     mark: u32,
+    quiet: &mut u64,
 ) -> Result<Did, Trouble>
     requires ready { Ready (chart (B.state board.old)) parts.old }
     requires some { 1 ≤ mark }
+    requires quiet { IsQuiet (B.state board.old).shape (chart (B.state board.old)).fields limit parts.old.reloc.since quiet.old }
     ensures step { SameOnce (chart (B.state board.old)) (chart (B.state board.new)) }
     ensures steady { Steady (chart (B.state board.new)) parts.new }
     ensures does { IfOk result (λ did. TicksBy limit mark did (chart (B.state board.old)) parts.old (chart (B.state board.new)) parts.new) }
@@ -126,6 +137,7 @@ pub fn tick_ruled<B: Board>(
     ensures counts { CountsTick (chart (B.state board.old)) parts.old (chart (B.state board.new)) parts.new }
     ensures idle { (chart (B.state board.old)).fields.job ≡ Some Idle → parts.old.stages ≡ [] → length parts.old.frames.held < mark → IsNoneDue limit (chart (B.state board.old)) parts.old.reloc.since → result ≡ Ok Did.Idle }
     ensures still { OnErr result (Counting (chart (B.state board.old)) parts.old (chart (B.state board.new)) parts.new) }
+    ensures quiet { IsTrue (B.state board.new).on → IsQuiet (B.state board.new).shape (chart (B.state board.new)).fields limit parts.new.reloc.since quiet.new }
     ensures rests { Rests parts.old.cache parts.new.cache }
     ensures off { (result ≡ Err Trouble.Off) ↔ ((B.state board.new).on ≡ false) }
     ensures bad { IsErrOf result Trouble.Bad → (B.state board.old).bads < 2 ^ 64 - 1 → (B.state board.old).bads < (B.state board.new).bads }
@@ -139,5 +151,5 @@ pub fn tick_ruled<B: Board>(
     if parts.frames.used() >= mark {
         return tick_flush(board, parts);
     }
-    tick_swap(board, parts, limit)
+    tick_swap(board, parts, limit, quiet)
 }

@@ -1,6 +1,6 @@
 -- A board that was brought to a disk is a memory's still.
-use Rattle.std.specs.Prelude.{Result}
-use Rattle.std.proofs.Common.{inl, inr, ℕ, Ok, Err, sym, ap, subst}
+use Rattle.std.specs.Prelude.{Result, IsTrue}
+use Rattle.std.proofs.Common.{inl, inr, ℕ, Ok, Err, sym, ◌∙◌, ap, subst}
 use Rattle.std.proofs.lemmas.Bool.{false≢true}
 use Rattle.envy_base.specs.declared.board.Off.{Off}
 use Rattle.envy_base.specs.State.{State}
@@ -9,6 +9,7 @@ use Rattle.envy_flush.specs.declared.parts.Parts.{Parts}
 use Rattle.envy_map.specs.Fields.{Chart, chart, failed}
 use Rattle.envy_memory.specs.Picture.{IsMemory}
 use Rattle.envy_txn.specs.Owners.{Ownership}
+use Rattle.envy_wear.specs.Swaps.{IsQuiet}
 
 pub synced_chart : (old new : State) (r : Result Unit Off) → Syncs old r new → SyncsChart (chart old) r (chart new)
 synced_chart old new (Ok done) (on, plans, given, is) = (on, plans, given, ap chart is)
@@ -37,3 +38,9 @@ module _ (c : Chart) (x : Parts) (o : Ownership) (limit mark : ℕ) (is : IsMemo
   synced_memory new (Ok done) (on, plans, given, same) = subst (λ (d : Chart). IsMemory d x o limit mark) (sym same) (with_numbers_memory plans given c.plans c.given)
   synced_memory new (Err off) (inl (dark, same)) = subst (λ (d : Chart). IsMemory d x o limit mark) (sym same) is
   synced_memory new (Err off) (inr (on, same)) = subst (λ (d : Chart). IsMemory d x o limit mark) (sym same) failed_memory
+
+-- and as quiet
+pub synced_quiet : (c : Chart) (x : Parts) (limit quiet : ℕ) → (IsTrue c.on → IsQuiet c.shape c.fields limit x.reloc.since quiet) → (new : Chart) (r : Result Unit Off) → SyncsChart c r new → IsTrue new.on → IsQuiet new.shape new.fields limit x.reloc.since quiet
+synced_quiet c x limit quiet was new (Ok done) (on, plans, given, same) lit = subst (λ (d : Chart). IsQuiet d.shape d.fields limit x.reloc.since quiet) (sym same) (was on)
+synced_quiet c x limit quiet was new (Err off) (inl (dark, same)) lit = subst (λ (d : Chart). IsTrue d.on → IsQuiet d.shape d.fields limit x.reloc.since quiet) (sym same) was lit
+synced_quiet c x limit quiet was new (Err off) (inr (on, same)) lit = absurd (false≢true (sym (ap (λ (d : Chart). d.on) same) ∙ lit))

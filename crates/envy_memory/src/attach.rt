@@ -105,6 +105,7 @@ impl<B: Board> Memory<B> {
                 owned,
                 limit: setup.limit,
                 mark: setup.mark,
+                quiet: 0,
             }),
             Err(_) => Err((board, AttachFault::Off)),
         }

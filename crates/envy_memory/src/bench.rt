@@ -70,6 +70,7 @@ impl<B: Bench> Memory<B> {
         if !self.board.power_on() {
             return Err(ReviveFault::Dead);
         }
+        self.quiet = 0;
         restart(&mut self.board, &mut self.parts)?;
         self.owned.forget();
         Ok(())

@@ -51,6 +51,7 @@ impl<B: Board> Memory<B> {
                 owned,
                 limit: setup.limit,
                 mark: setup.mark,
+                quiet: 0,
             }),
             Err(Trouble::Off) => Err((board, FormatFault::Off)),
             Err(Trouble::Bad) => Err((board, FormatFault::Bad)),

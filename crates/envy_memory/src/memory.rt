@@ -25,17 +25,21 @@ pub struct Memory<B: Board> {
     pub(crate) owned: Owned,
     pub(crate) limit: u64,
     pub(crate) mark: u32,
+    /// No swap is due before so many erases have begun since the last one.
+    pub(crate) quiet: u64,
 }
 
 impl<B: Board> Model for Memory<B> {
     ghost use Rattle.envy_map.specs.Fields.{chart};
+    ghost use Rattle.std.specs.Prelude.{IsTrue};
+    ghost use Rattle.envy_wear.specs.Swaps.{IsQuiet};
     ghost use Rattle.envy_memory.specs.Picture.{Picture, IsMemory};
 
     ghost Value = { Picture };
 
     ghost view = { λ a. record { chart = chart (B.state a.board); parts = a.parts; owned = a.owned; limit = a.limit; mark = a.mark } };
 
-    ghost invariant = { λ a. IsMemory (chart (B.state a.board)) a.parts a.owned a.limit a.mark };
+    ghost invariant = { λ a. IsMemory (chart (B.state a.board)) a.parts a.owned a.limit a.mark × (IsTrue (B.state a.board).on → IsQuiet (B.state a.board).shape (chart (B.state a.board)).fields a.limit a.parts.reloc.since a.quiet) };
 }
 
 impl<B: Board> Memory<B> {
@@ -135,6 +139,7 @@ impl<B: Board> Memory<B> {
             owned: _owned,
             limit: _limit,
             mark: _mark,
+            quiet: _quiet,
         } = self;
         board
     }

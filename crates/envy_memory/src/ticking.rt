@@ -36,6 +36,12 @@ impl<B: Board> Memory<B> {
         if !self.board.powered() {
             return Err(Trouble::Off);
         }
-        tick_ruled(&mut self.board, &mut self.parts, self.limit, self.mark)
+        tick_ruled(
+            &mut self.board,
+            &mut self.parts,
+            self.limit,
+            self.mark,
+            &mut self.quiet,
+        )
     }
 }

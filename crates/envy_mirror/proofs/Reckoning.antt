@@ -8,7 +8,7 @@ use Rattle.envy_flush.specs.Counts.{Tallies, Counting}
 use Rattle.envy_flush.specs.Ticks.{CountsTick}
 use Rattle.envy_flush.specs.declared.did.Did.{Did}
 use Rattle.envy_flush.specs.declared.parts.Parts.{Parts}
-use Rattle.envy_flush.proofs.CountLemmas.{Tallies-trans, Counting-still}
+use Rattle.envy_flush.proofs.CountLemmas.{Tallies-trans, Tallies-quiet}
 use Rattle.envy_base.specs.declared.board.Trouble.{Trouble}
 use Rattle.envy_memory.specs.Calls.{Works}
 use Rattle.envy_memory.specs.Effects.{TicksOnce}
@@ -31,7 +31,7 @@ Reckons-works k j old new w tallies =
 
 -- a call that begins no flash work
 pub Reckons-still : (old new : Picture) → Works 0 0 old.chart new.chart → new.parts.flushes ≡ old.parts.flushes → new.parts.swaps ≡ old.parts.swaps → new.parts.reloc ≡ old.parts.reloc → Reckons old new
-Reckons-still old new w flushes swaps reloc = Reckons-works 0 0 old new w (Counting.tallies (Counting-still old.chart new.chart old.parts new.parts w.counted flushes swaps reloc))
+Reckons-still old new w flushes swaps reloc = Reckons-works 0 0 old new w (Tallies-quiet old.chart new.chart old.parts new.parts w.counted flushes (record { copied = rw reloc refl; moved = rw reloc refl; erased = rw reloc refl }))
 
 pub Reckons-tick : (old new : Picture) (r : Result Did Trouble) → TicksOnce old.chart new.chart → MatchResult r (λ (d : Did). CountsTick old.chart old.parts new.chart new.parts) (λ (t : Trouble). Counting old.chart old.parts new.chart new.parts) → Reckons old new
 Reckons-tick old new (Ok did) (inl w) counts = Reckons-works 1 0 old new w (CountsTick.tallies counts)

@@ -8,6 +8,19 @@ use std::alloc::Global;
 use std::process::Abort;
 use std::test::Fail;
 
+/// A memory by this setup.
+fn memory_by(
+    rt: &(impl Abort + Alloc<A = Global>),
+    setup: Setup,
+) -> Result<Memory<CountingBoard>, Fail> {
+    setup.shape.check()?;
+    let board = CountingBoard::new(rt.alloc(), &setup.shape)?;
+    match Memory::format(rt.alloc(), board, setup) {
+        Ok(memory) => Ok(memory),
+        Err((_, fault)) => panic!(rt; "not formatted: {fault:?}"),
+    }
+}
+
 /// A memory of 33 positions, which are cleaned in turn.
 fn memory_of(
     rt: &(impl Abort + Alloc<A = Global>),
@@ -15,26 +28,22 @@ fn memory_of(
     pages: u32,
     mark: u32,
 ) -> Result<Memory<CountingBoard>, Fail> {
-    let shape = Shape {
-        segments: 34,
-        rows,
-        pages,
-        shadows: 200,
-        frames: 4,
-        entries: 4,
-    };
-    let setup = Setup {
-        shape,
-        policy: Policy::Fifo,
-        limit: 100,
-        mark,
-    };
-    shape.check()?;
-    let board = CountingBoard::new(rt.alloc(), &shape)?;
-    match Memory::format(rt.alloc(), board, setup) {
-        Ok(memory) => Ok(memory),
-        Err((_, fault)) => panic!(rt; "not formatted: {fault:?}"),
-    }
+    memory_by(
+        rt,
+        Setup {
+            shape: Shape {
+                segments: 34,
+                rows,
+                pages,
+                shadows: 200,
+                frames: 4,
+                entries: 4,
+            },
+            policy: Policy::Fifo,
+            limit: 100,
+            mark,
+        },
+    )
 }
 
 /// A page is stored, and goes to the next free row.
@@ -208,5 +217,55 @@ fn a_store_into_a_frame_reads_as_much_beside_owned_pages(rt: HostRuntime) -> Res
     assert!(rt; held <= 1 && sought <= 1, "{held}, {sought}");
     assert_eq!(rt; store_reads(&rt, 1)?, (held, sought));
     assert_eq!(rt; store_reads(&rt, 8)?, (held, sought));
+    Ok(())
+}
+
+/// How often two ticks read the board that find nothing to do, one after the other, where one erase has begun and that
+/// is the limit.
+fn idle_reads(rt: &(impl Abort + Alloc<A = Global>), segments: u32) -> Result<(u64, u64), Fail> {
+    let mut memory = memory_by(
+        rt,
+        Setup {
+            shape: Shape {
+                segments,
+                rows: 2,
+                pages: 8,
+                shadows: 0,
+                frames: 2,
+                entries: 1,
+            },
+            policy: Policy::Locality,
+            limit: 1,
+            mark: 1,
+        },
+    )?;
+    // both rows of the page's home are left, so the home is cleaned for the page
+    flush(rt, &mut memory, 0);
+    flush(rt, &mut memory, 0);
+    assert_eq!(rt; memory.store(0, 1), Ok(()));
+    for did in [
+        Did::Began,
+        Did::Switched,
+        Did::Placed,
+        Did::Erased,
+        Did::Flushed,
+    ] {
+        assert_eq!(rt; memory.tick(), Ok(did));
+    }
+    let _before = memory.board().take_reads();
+    assert_eq!(rt; memory.tick(), Ok(Did::Idle));
+    let first = memory.board().take_reads();
+    assert_eq!(rt; memory.tick(), Ok(Did::Idle));
+    Ok((first, memory.board().take_reads()))
+}
+
+// A tick looks whether a job runs, which is one word. As many erases have begun as the limit says, so the first tick
+// that finds nothing else to do looks which segment is at each position but the spare's, and at the wear of that, and
+// then at the wear of each segment. One segment is worn once more than the others, which is no more than the limit, so
+// no swap can be due until another erase has begun: the next tick doesn't look at any segment.
+#[test]
+fn an_idle_tick_looks_at_wear_once(rt: HostRuntime) -> Result<(), Fail> {
+    assert_eq!(rt; idle_reads(&rt, 16)?, (1 + 2 * 15 + 16, 1));
+    assert_eq!(rt; idle_reads(&rt, 4096)?, (1 + 2 * 4095 + 4096, 1));
     Ok(())
 }

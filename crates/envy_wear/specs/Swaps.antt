@@ -1,5 +1,5 @@
 -- When the segments of two positions are to change places, so that segments wear alike.
-use Rattle.std.specs.Prelude.{ℕ, ◌-◌, ◌<◌, ◌≤◌, List, [], ◌∷◌, drop, slice_index}
+use Rattle.std.specs.Prelude.{ℕ, ◌+◌, ◌-◌, ◌^◌, ◌<◌, ◌≤◌, List, [], ◌∷◌, drop, slice_index}
 use Rattle.envy_base.specs.declared.shape.Shape.{Shape}
 use Rattle.envy_map.specs.Fields.{Fields}
 use Rattle.envy_wear.specs.declared.swap.Swap.{Swap}
@@ -27,6 +27,12 @@ pub record IsDue (sh : Shape) (f : Fields) (limit since : ℕ) (s : Swap) : Type
   pub young : IsLeastWorn (sh.segments - 1) (wear_at f) s.young
   pub apart : limit < wear_at f s.worn - wear_at f s.young
   pub enough : limit ≤ since
+
+-- Before so many erases have begun since the last swap none can be due: what each wear word, of the spare too, lacks to
+-- be further above another than the limit is at least what the erases lack to be so many. Each raises one word by one.
+pub record IsQuiet (sh : Shape) (f : Fields) (limit since quiet : ℕ) : Type 0 where
+  pub few : quiet < 2 ^ 64
+  pub near : since < quiet → (a b : ℕ) → a < sh.segments → b < sh.segments → slice_index f.wears a + quiet ≤ slice_index f.wears b + limit + 1 + since
 
 -- the positions whose relocations make a swap, in turn
 abbrev pub stages_of : Swap → List ℕ

@@ -3,10 +3,12 @@
 
 mod laws;
 mod overdue;
+mod quiet;
 mod stages;
 mod swap;
 
 pub use laws::one_swap_is_due;
 pub use overdue::due;
+pub use quiet::due_after;
 pub use stages::Stages;
 pub use swap::Swap;

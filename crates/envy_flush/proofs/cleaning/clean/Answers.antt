@@ -1,4 +1,4 @@
-use Rattle.std.proofs.Common.{◌≡◌, ◌∙◌, ◌+◌, ℕ, List, get_or, set, sym, ap, subst, arith}
+use Rattle.std.proofs.Common.{◌≡◌, ◌∙◌, ◌+◌, ℕ, false, true, List, get_or, set, sym, ap, subst, arith}
 use Rattle.envy_base.specs.declared.shape.Shape.{Shape}
 use Rattle.envy_map.specs.Fields.{Chart, chart}
 use Rattle.envy_layout.specs.Same.{Same, Stays, Framed}
@@ -34,7 +34,7 @@ pub returns-in_err-claim_at-clause-counting : goal.returns-in_err-claim_at-claus
 returns-in_err-claim_at-clause-counting g c =
     let f = c.claim_at.ensures in
     Counting-trans _ (chart (g.B.Board.state c.run_clean.new.board)) _ _ c.run_clean.new.parts _ c.run_clean.ensures.counting
-    (Counting-still _ _ _ _ (Stays.counted (Same.stays f.same)) (ap (λ (z : Parts). z.flushes) f.parts) (ap (λ (z : Parts). z.swaps) f.parts) (ap (λ (z : Parts). z.reloc) f.parts))
+    (Counting-still _ _ _ _ (Stays.counted (Same.stays f.same)) (ap (λ (z : Parts). z.flushes) f.parts) (ap (λ (z : Parts). z.swaps) f.parts) (ap (λ (z : Parts). z.reloc) f.parts) (λ on. absurd (let no : false ≡ true = sym c.in_err-claim_at.ensures.off ∙ on in cc)))
 
 pub returns-clause-same : goal.returns-clause-same
 returns-clause-same g c = let p = (g.B.Board.state c.args.board.now).shape.rows in Same-two (p + 5) 2 0 0 (p + 5) 2 _ _ _ (omega arith) (omega arith) c.run_clean.ensures.same c.claim_at.ensures.same
@@ -73,4 +73,4 @@ pub returns-clause-counting : goal.returns-clause-counting
 returns-clause-counting g c =
     let f = c.claim_at.ensures in
     Counting-trans _ (chart (g.B.Board.state c.run_clean.new.board)) _ _ c.run_clean.new.parts _ c.run_clean.ensures.counting
-    (Counting-still _ _ _ _ (Stays.counted (Same.stays f.same)) (ap (λ (z : Parts). z.flushes) f.parts) (ap (λ (z : Parts). z.swaps) f.parts) (ap (λ (z : Parts). z.reloc) f.parts))
+    (Counting-still _ _ _ _ (Stays.counted (Same.stays f.same)) (ap (λ (z : Parts). z.flushes) f.parts) (ap (λ (z : Parts). z.swaps) f.parts) (ap (λ (z : Parts). z.reloc) f.parts) (λ on. ap (λ (w : Chart). w.fields.wears) c.in_ok-claim_at.ensures.claims.fields))

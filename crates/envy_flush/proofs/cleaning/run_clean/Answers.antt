@@ -8,7 +8,7 @@ use Rattle.envy_reloc.specs.Cleaning.{Cleans}
 use Rattle.envy_flush.specs.declared.parts.Parts.{Parts}
 use Rattle.envy_flush.proofs.BudgetLemmas.{Budget-begun}
 use Rattle.envy_flush.proofs.CleanLemmas.{cleans-begun}
-use Rattle.envy_flush.proofs.FlushLemmas.{on-ok}
+use Rattle.envy_flush.proofs.FlushLemmas.{on-ok, if-on}
 use Rattle.envy_flush.proofs.StoreLemmas.{Same-two}
 use Rattle.envy_flush.proofs.CountLemmas.{Counting-trans, Counting-quiet}
 use Rattle.envy_flush.proofs.cleaning.run_clean.Goals as goal
@@ -53,7 +53,7 @@ returns-clause-cleans g c =
 pub returns-in_err-begin_clean-clause-counting : goal.returns-in_err-begin_clean-clause-counting
 returns-in_err-begin_clean-clause-counting g c =
     let e = c.begin_clean.ensures in
-    Counting-quiet (chart (g.B.Board.state c.args.board.now)) (chart (g.B.Board.state c.begin_clean.new.board)) c.args.parts.now c.begin_clean.new.parts (Stays.counted (Same.stays e.same)) (ap (λ (z : Parts). z.flushes) e.parts) (ap (λ (z : Parts). z.swaps) e.parts) e.none e.since
+    Counting-quiet (chart (g.B.Board.state c.args.board.now)) (chart (g.B.Board.state c.begin_clean.new.board)) c.args.parts.now c.begin_clean.new.parts (Stays.counted (Same.stays e.same)) (ap (λ (z : Parts). z.flushes) e.parts) (ap (λ (z : Parts). z.swaps) e.parts) e.none e.since (if-on c.begin_clean.result _ _ (on-ok c.begin_clean.result _ _ (λ f. ap (λ (z : Chart). z.fields.wears) f) e.fields) e.off)
 
 pub returns-clause-counting : goal.returns-clause-counting
 returns-clause-counting g c =
@@ -62,7 +62,7 @@ returns-clause-counting g c =
     let new = chart (g.B.Board.state c.finish_clean.new.board) in
     let e = c.begin_clean.ensures in
     Counting-trans old mid new c.args.parts.now c.begin_clean.new.parts c.finish_clean.new.parts
-    (Counting-quiet old mid c.args.parts.now c.begin_clean.new.parts (Stays.counted (Same.stays e.same)) (ap (λ (z : Parts). z.flushes) e.parts) (ap (λ (z : Parts). z.swaps) e.parts) e.none e.since)
+    (Counting-quiet old mid c.args.parts.now c.begin_clean.new.parts (Stays.counted (Same.stays e.same)) (ap (λ (z : Parts). z.flushes) e.parts) (ap (λ (z : Parts). z.swaps) e.parts) e.none e.since (if-on c.begin_clean.result _ _ (on-ok c.begin_clean.result _ _ (λ f. ap (λ (z : Chart). z.fields.wears) f) e.fields) e.off))
     c.finish_clean.ensures.counting
 
 pub returns-clause-whole : goal.returns-clause-whole

@@ -21,7 +21,7 @@ loop-turn-init g c =
     record {
       ready = c.requires.ready;
       going = Going-start _ _ b.0 b.1 b.2 (3 * c.args.rows + 4) 3 (3 * c.args.rows + 15) (Ready.sound c.requires.ready) b.3 b.4 b.5 b.6;
-      counting = Counting-still now now c.args.parts.now c.args.parts.now (Stays.counted (Same.stays (Same-refl now (Ready.sound c.requires.ready)))) refl refl refl;
+      counting = Counting-still now now c.args.parts.now c.args.parts.now (Stays.counted (Same.stays (Same-refl now (Ready.sound c.requires.ready)))) refl refl refl (λ on. refl);
       here = λ p k. ((λ h. h), (λ h. h));
       parts = refl;
       rests = Rests-refl c.args.parts.now.cache;

@@ -13,8 +13,8 @@ use Rattle.envy_map.specs.Fields.{Fields, chart}
 use Rattle.envy_layout.specs.Same.{Same, Stays, Framed, Counted}
 use Rattle.envy_base.specs.Counting.{up}
 use Rattle.envy_flush.specs.declared.parts.Parts.{Parts}
-use Rattle.envy_flush.proofs.CountLemmas.{Counting-trans, Counting-flushed}
-use Rattle.envy_flush.proofs.FlushLemmas.{err-at, on-three, GetsRow-after, StopsFor-gets, bad-rises}
+use Rattle.envy_flush.proofs.CountLemmas.{Counting-trans, Counting-flushed, if-lit}
+use Rattle.envy_flush.proofs.FlushLemmas.{err-at, on-ok, on-three, GetsRow-after, StopsFor-gets, bad-rises}
 use Rattle.envy_table.proofs.HitLemmas.{Rests-trans}
 use Rattle.envy_flush.proofs.StoreLemmas.{Same-two}
 use Rattle.envy_flush.proofs.flushing.flush_oldest.Goals as goal
@@ -26,7 +26,7 @@ pub returns-clause-counting : goal.returns-clause-counting
 returns-clause-counting g c =
     let e = c.flush_into.ensures in
     Counting-trans _ (chart (g.B.Board.state c.get_row.new.board)) _ _ c.get_row.new.parts _ c.get_row.ensures.counting
-    (Counting-flushed _ _ _ _ (Stays.counted (Same.stays e.same)) e.tally (ap (λ (z : Parts). z.swaps) e.parts) (ap (λ (z : Parts). z.reloc) e.parts))
+    (Counting-flushed _ _ _ _ (Stays.counted (Same.stays e.same)) e.tally (ap (λ (z : Parts). z.swaps) e.parts) (ap (λ (z : Parts). z.reloc) e.parts) (if-lit c.flush_into.result _ _ (on-ok c.flush_into.result _ _ (λ f. ap (λ (z : Fields). z.wears) f) e.fields) (λ is. ap (λ (z : Fields). z.wears) (e.stays is)) e.off.0))
 
 pub returns-clause-rests : goal.returns-clause-rests
 returns-clause-rests g c = Rests-trans _ _ _ c.get_row.ensures.rests c.flush_into.ensures.rests

@@ -3,6 +3,7 @@ use Rattle.envy_map.specs.Fields.{chart}
 use Rattle.envy_table.specs.Hits.{Rests}
 use Rattle.envy_flush.proofs.AgreeLemmas.{Agrees-stepped, Fits-moved}
 use Rattle.envy_flush.proofs.CountLemmas.{Counting-begun}
+use Rattle.envy_flush.proofs.WearLemmas.{Wearing-begun}
 use Rattle.envy_flush.proofs.StoreLemmas.{shape-step, begun-step}
 use Rattle.envy_flush.proofs.jobs.step_job.Goals as goal
 
@@ -23,4 +24,4 @@ returns-clause-counting g c =
     let old = chart (g.B.Board.state c.args.board.now) in
     let new = chart (g.B.Board.state c.step.new.board) in
     let e = c.step.ensures in
-    Counting-begun old new c.args.parts.now _ (begun-step old new (e.same c.requires.ready.sound)) e.counts refl refl
+    Counting-begun old new c.args.parts.now _ (begun-step old new (e.same c.requires.ready.sound)) e.counts refl refl (Wearing-begun old new c.args.parts.now _ c.step.result c.requires.ready.sound c.requires.ready.on e.does e.spoils e.off.0)

@@ -16,7 +16,7 @@ use Rattle.envy_flush.proofs.rows.busy_row.Goals as goal
 pub returns-in-Some-clause-counting : goal.returns-in-Some-clause-counting
 returns-in-Some-clause-counting g c =
     let e = c.claim_at.ensures in
-    Counting-still _ _ _ _ (Stays.counted (Same.stays e.same)) (ap (λ (z : Parts). z.flushes) e.parts) (ap (λ (z : Parts). z.swaps) e.parts) (ap (λ (z : Parts). z.reloc) e.parts)
+    Counting-still _ _ _ _ (Stays.counted (Same.stays e.same)) (ap (λ (z : Parts). z.flushes) e.parts) (ap (λ (z : Parts). z.swaps) e.parts) (ap (λ (z : Parts). z.reloc) e.parts) (λ on. ap (λ (w : Chart). w.fields.wears) c.in_ok-claim_at.ensures.claims.fields)
 
 pub returns-clause-same : goal.returns-clause-same
 returns-clause-same g c =

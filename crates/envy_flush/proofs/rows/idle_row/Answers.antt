@@ -67,7 +67,7 @@ returns-in-Clean-clause-noted g c is idle none =
 pub returns-in_ok-claim_at-in-Free-clause-counting : goal.returns-in_ok-claim_at-in-Free-clause-counting
 returns-in_ok-claim_at-in-Free-clause-counting g c =
     let e = c.claim_at.ensures in
-    Counting-still (chart (g.B.Board.state c.args.board.now)) (chart (g.B.Board.state c.claim_at.new.board)) c.args.parts.now c.claim_at.new.parts (Stays.counted (Same.stays e.same)) (ap (λ (z : Parts). z.flushes) e.parts) (ap (λ (z : Parts). z.swaps) e.parts) (ap (λ (z : Parts). z.reloc) e.parts)
+    Counting-still (chart (g.B.Board.state c.args.board.now)) (chart (g.B.Board.state c.claim_at.new.board)) c.args.parts.now c.claim_at.new.parts (Stays.counted (Same.stays e.same)) (ap (λ (z : Parts). z.flushes) e.parts) (ap (λ (z : Parts). z.swaps) e.parts) (ap (λ (z : Parts). z.reloc) e.parts) (λ on. ap (λ (w : Chart). w.fields.wears) c.in_ok-claim_at-in-Free.ensures.claims.fields)
 
 pub returns-in-Clean-clause-stops : goal.returns-in-Clean-clause-stops
 returns-in-Clean-clause-stops g c is =

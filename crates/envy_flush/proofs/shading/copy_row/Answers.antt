@@ -1,5 +1,5 @@
-use Rattle.std.proofs.Common.{◌≡◌, refl}
-use Rattle.envy_map.specs.Fields.{chart}
+use Rattle.std.proofs.Common.{◌≡◌, refl, ap}
+use Rattle.envy_map.specs.Fields.{Fields, chart}
 use Rattle.envy_layout.specs.Same.{Same, Stays, Framed}
 use Rattle.envy_flush.proofs.AgreeLemmas.{Agrees-programmed, Fits-moved}
 use Rattle.envy_flush.proofs.CountLemmas.{Counting-flushed}
@@ -33,7 +33,7 @@ returns-clause-ready g c =
     record { on = c.in_ok-program_copy.ensures.on; sound = Stays.sound (Same.stays e.same); fits = Fits-moved old.shape new.shape c.args.parts.now _ shape r.fits refl refl refl refl refl; agrees = Agrees-programmed old new c.args.parts.now _ c.args.page c.args.row r.sound r.agrees c.requires.granted shape e.fields e.others refl refl refl refl }
 
 pub returns-in_err-program_copy-clause-counting : goal.returns-in_err-program_copy-clause-counting
-returns-in_err-program_copy-clause-counting g c = Counting-flushed _ _ _ _ (Stays.counted (Same.stays c.program_copy.ensures.same)) c.program_copy.ensures.tally refl refl
+returns-in_err-program_copy-clause-counting g c = Counting-flushed _ _ _ _ (Stays.counted (Same.stays c.program_copy.ensures.same)) c.program_copy.ensures.tally refl refl (λ on. ap (λ (f : Fields). f.wears) c.program_copy.ensures.fields)
 
 pub returns-clause-counting : goal.returns-clause-counting
-returns-clause-counting g c = Counting-flushed _ _ _ _ (Stays.counted (Same.stays c.program_copy.ensures.same)) c.program_copy.ensures.tally refl refl
+returns-clause-counting g c = Counting-flushed _ _ _ _ (Stays.counted (Same.stays c.program_copy.ensures.same)) c.program_copy.ensures.tally refl refl (λ on. ap (λ (f : Fields). f.wears) c.program_copy.ensures.fields)

@@ -13,7 +13,7 @@ use Rattle.envy_layout.specs.Sound.{Sound, Slots}
 use Rattle.envy_txn.specs.Owners.{AreOwned}
 use Rattle.envy_layout.specs.Same.{Same, SameWords, Stays, Framed, Counted}
 use Rattle.envy_flush.specs.declared.parts.Parts.{Parts}
-use Rattle.envy_flush.proofs.CountLemmas.{Counting-trans, Counting-still}
+use Rattle.envy_flush.proofs.CountLemmas.{Counting-trans, Counting-still, wears-put}
 use Rattle.envy_flush.proofs.FlushLemmas.{bad-rises, err-at, GetsRow-after, StopsFor-gets}
 use Rattle.envy_layout.proofs.Owners.{owned_by-owns}
 use Rattle.envy_layout.proofs.Putting.{PutDone-more, PutDone-shadowed}
@@ -69,7 +69,7 @@ returns-in_err-change_frame_word-clause-counting g c =
     let new = chart (g.B.Board.state c.change_frame_word.new.board) in
     Counting-trans _ next _ _ c.shadow.new.parts _
     (Counting-trans _ (chart (g.B.Board.state c.get_row.new.board)) _ _ c.get_row.new.parts _ c.get_row.ensures.counting c.shadow.ensures.counting)
-    (Counting-still next new _ _ (Counted-put next new (with_frame_word c.args.frame c.args.i c.args.w) c.change_frame_word.result c.change_frame_word.ensures.writes) refl refl refl)
+    (Counting-still next new _ _ (Counted-put next new (with_frame_word c.args.frame c.args.i c.args.w) c.change_frame_word.result c.change_frame_word.ensures.writes) refl refl refl (wears-put next new (with_frame_word c.args.frame c.args.i c.args.w) c.change_frame_word.result refl c.change_frame_word.ensures.writes))
 
 pub returns-clause-put : goal.returns-clause-put
 returns-clause-put g c =
@@ -94,7 +94,7 @@ returns-clause-counting g c =
     let new = chart (g.B.Board.state c.change_frame_word.new.board) in
     Counting-trans _ next _ _ c.shadow.new.parts _
     (Counting-trans _ (chart (g.B.Board.state c.get_row.new.board)) _ _ c.get_row.new.parts _ c.get_row.ensures.counting c.shadow.ensures.counting)
-    (Counting-still next new _ _ (Counted-put next new (with_frame_word c.args.frame c.args.i c.args.w) c.change_frame_word.result c.change_frame_word.ensures.writes) refl refl refl)
+    (Counting-still next new _ _ (Counted-put next new (with_frame_word c.args.frame c.args.i c.args.w) c.change_frame_word.result c.change_frame_word.ensures.writes) refl refl refl (wears-put next new (with_frame_word c.args.frame c.args.i c.args.w) c.change_frame_word.result refl c.change_frame_word.ensures.writes))
 
 pub returns-in_err-shadow-clause-noted : goal.returns-in_err-shadow-clause-noted
 returns-in_err-shadow-clause-noted g c =

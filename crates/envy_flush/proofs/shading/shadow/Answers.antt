@@ -1,9 +1,10 @@
 use Rattle.std.proofs.Common.{ap}
-use Rattle.envy_map.specs.Fields.{chart}
+use Rattle.envy_map.specs.Fields.{Chart, chart}
 use Rattle.envy_layout.specs.Same.{Same, Stays, SameWords}
 use Rattle.envy_layout.proofs.Composition.{SameWords-trans, SameWords-same}
 use Rattle.envy_flush.specs.declared.parts.Parts.{Parts}
 use Rattle.envy_flush.proofs.CountLemmas.{Counting-trans, Counting-still}
+use Rattle.envy_flush.proofs.FlushLemmas.{on-ok, if-on}
 use Rattle.envy_layout.proofs.Putting.{Owns-after}
 use Rattle.envy_flush.proofs.PutLemmas.{MayGive-framed}
 use Rattle.envy_flush.proofs.shading.shadow.Goals as goal
@@ -15,13 +16,13 @@ pub returns-in_err-shade-clause-counting : goal.returns-in_err-shade-clause-coun
 returns-in_err-shade-clause-counting g c =
     let e = c.shade.ensures in
     Counting-trans _ (chart (g.B.Board.state c.copy_row.new.board)) _ _ c.copy_row.new.parts _ c.copy_row.ensures.counting
-    (Counting-still _ _ _ _ (SameWords.counted e.same) (ap (λ (z : Parts). z.flushes) e.parts) (ap (λ (z : Parts). z.swaps) e.parts) (ap (λ (z : Parts). z.reloc) e.parts))
+    (Counting-still _ _ _ _ (SameWords.counted e.same) (ap (λ (z : Parts). z.flushes) e.parts) (ap (λ (z : Parts). z.swaps) e.parts) (ap (λ (z : Parts). z.reloc) e.parts) (if-on c.shade.result _ _ (on-ok c.shade.result _ _ (λ f. ap (λ (z : Chart). z.fields.wears) f) e.fields) e.off))
 
 pub returns-clause-counting : goal.returns-clause-counting
 returns-clause-counting g c =
     let e = c.shade.ensures in
     Counting-trans _ (chart (g.B.Board.state c.copy_row.new.board)) _ _ c.copy_row.new.parts _ c.copy_row.ensures.counting
-    (Counting-still _ _ _ _ (SameWords.counted e.same) (ap (λ (z : Parts). z.flushes) e.parts) (ap (λ (z : Parts). z.swaps) e.parts) (ap (λ (z : Parts). z.reloc) e.parts))
+    (Counting-still _ _ _ _ (SameWords.counted e.same) (ap (λ (z : Parts). z.flushes) e.parts) (ap (λ (z : Parts). z.swaps) e.parts) (ap (λ (z : Parts). z.reloc) e.parts) (if-on c.shade.result _ _ (on-ok c.shade.result _ _ (λ f. ap (λ (z : Chart). z.fields.wears) f) e.fields) e.off))
 
 pub returns-clause-shadows : goal.returns-clause-shadows
 returns-clause-shadows g c =

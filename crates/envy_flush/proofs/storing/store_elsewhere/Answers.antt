@@ -3,8 +3,10 @@ use Rattle.std.proofs.lemmas.Result.{err_from_is_err_and}
 use Rattle.envy_map.specs.Fields.{chart, undo}
 use Rattle.envy_layout.specs.Same.{Same, Stays}
 use Rattle.envy_layout.specs.Sound.{owned_by}
+use Rattle.envy_flush.specs.Storing.{Brings, Rows}
 use Rattle.envy_flush.specs.declared.parts.Parts.{Parts}
 use Rattle.envy_flush.proofs.CountLemmas.{Counting-trans, Counting-still}
+use Rattle.envy_flush.proofs.FlushLemmas.{on-ok, if-on}
 use Rattle.envy_layout.proofs.Owners.{owned_by-framed}
 use Rattle.envy_flush.proofs.StoreLemmas.{Stored-after, Stored-more, Interrupted-after, Interrupted-more, Shadowed-after, Shadowed-more, Dropped-after, Dropped-more}
 use Rattle.envy_flush.proofs.storing.store_elsewhere.Goals as goal
@@ -35,7 +37,7 @@ pub returns-in_err-bring-clause-counting : goal.returns-in_err-bring-clause-coun
 returns-in_err-bring-clause-counting g c =
     let e = c.bring.ensures in
     Counting-trans _ (chart (g.B.Board.state c.make_room.new.board)) _ _ c.make_room.new.parts _ c.make_room.ensures.counting
-    (Counting-still _ _ _ _ e.counted (ap (λ (z : Parts). z.flushes) e.parts) (ap (λ (z : Parts). z.swaps) e.parts) (ap (λ (z : Parts). z.reloc) e.parts))
+    (Counting-still _ _ _ _ e.counted (ap (λ (z : Parts). z.flushes) e.parts) (ap (λ (z : Parts). z.swaps) e.parts) (ap (λ (z : Parts). z.reloc) e.parts) (if-on c.bring.result _ _ (on-ok c.bring.result _ _ (λ b. Rows.wears (Brings.rows b)) e.brings) e.off))
 
 pub returns-clause-free : goal.returns-clause-free
 returns-clause-free g c unowned =
@@ -61,7 +63,7 @@ pub returns-clause-counting : goal.returns-clause-counting
 returns-clause-counting g c =
     let e = c.bring.ensures in
     Counting-trans _ (chart (g.B.Board.state c.make_room.new.board)) _ _ c.make_room.new.parts _ c.make_room.ensures.counting
-    (Counting-still _ _ _ _ e.counted (ap (λ (z : Parts). z.flushes) e.parts) (ap (λ (z : Parts). z.swaps) e.parts) (ap (λ (z : Parts). z.reloc) e.parts))
+    (Counting-still _ _ _ _ e.counted (ap (λ (z : Parts). z.flushes) e.parts) (ap (λ (z : Parts). z.swaps) e.parts) (ap (λ (z : Parts). z.reloc) e.parts) (if-on c.bring.result _ _ (on-ok c.bring.result _ _ (λ b. Rows.wears (Brings.rows b)) e.brings) e.off))
 
 pub returns-clause-makes : goal.returns-clause-makes
 returns-clause-makes g c = (chart (g.B.Board.state c.make_room.new.board), c.make_room.new.parts, c.in_ok-make_room.ensures.makes, c.in_ok-bring.ensures.brings)

@@ -15,8 +15,8 @@ use Rattle.std.proofs.lemmas.List.{get_or-set_same}
 use Rattle.envy_base.specs.declared.fields.Place.TheVariants.{Row}
 use Rattle.envy_layout.specs.Sound.{Sound, Places}
 use Rattle.envy_flush.specs.declared.parts.Parts.{Parts}
-use Rattle.envy_flush.proofs.CountLemmas.{Counting-trans, Counting-still, Counting-flushed}
-use Rattle.envy_flush.proofs.FlushLemmas.{bad-rises, never-idle, on-three, GetsRow-after}
+use Rattle.envy_flush.proofs.CountLemmas.{Counting-trans, Counting-still, Counting-flushed, if-lit}
+use Rattle.envy_flush.proofs.FlushLemmas.{bad-rises, never-idle, on-ok, on-three, GetsRow-after}
 use Rattle.envy_flush.proofs.StoreLemmas.{Same-two}
 use Rattle.envy_flush.proofs.ticking.flush_at.Goals as goal
 
@@ -48,8 +48,8 @@ returns-clause-counting g c =
     let e = c.claim_at.ensures in
     let f = c.flush_into.ensures in
     Counting-trans _ (chart (g.B.Board.state c.claim_at.new.board)) _ _ c.claim_at.new.parts _
-    (Counting-still _ _ _ _ (Stays.counted (Same.stays e.same)) (ap (λ (z : Parts). z.flushes) e.parts) (ap (λ (z : Parts). z.swaps) e.parts) (ap (λ (z : Parts). z.reloc) e.parts))
-    (Counting-flushed _ _ _ _ (Stays.counted (Same.stays f.same)) f.tally (ap (λ (z : Parts). z.swaps) f.parts) (ap (λ (z : Parts). z.reloc) f.parts))
+    (Counting-still _ _ _ _ (Stays.counted (Same.stays e.same)) (ap (λ (z : Parts). z.flushes) e.parts) (ap (λ (z : Parts). z.swaps) e.parts) (ap (λ (z : Parts). z.reloc) e.parts) (λ on. ap (λ (w : Chart). w.fields.wears) c.in_ok-row.ensures.claims.fields))
+    (Counting-flushed _ _ _ _ (Stays.counted (Same.stays f.same)) f.tally (ap (λ (z : Parts). z.swaps) f.parts) (ap (λ (z : Parts). z.reloc) f.parts) (if-lit c.flush_into.result _ _ (on-ok c.flush_into.result _ _ (λ f. ap (λ (z : Fields). z.wears) f) f.fields) (λ is. ap (λ (z : Fields). z.wears) (f.stays is)) f.off.0))
 
 pub returns-clause-bad : goal.returns-clause-bad
 returns-clause-bad g c is low =

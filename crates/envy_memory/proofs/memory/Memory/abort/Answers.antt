@@ -1,14 +1,17 @@
-use Rattle.std.proofs.Common.{◌≡◌, ◌<◌, Some, sym, subst, arith}
+use Rattle.std.proofs.Common.{◌≡◌, ◌<◌, Some, sym, subst, arith, refl, ap, rules}
 use Rattle.std.proofs.lemmas.Result.{err_from_is_err_and}
 use Rattle.envy_base.specs.declared.fields.Slot.TheVariants.{Active}
-use Rattle.envy_map.specs.Fields.{chart, slot}
+use Rattle.envy_map.specs.Fields.{Chart, chart, slot}
 use Rattle.envy_layout.specs.Same.{SameDurable}
 use Rattle.envy_layout.specs.Stands.{Stands}
 use Rattle.envy_layout.proofs.Composition.{cause}
 use Rattle.envy_layout.proofs.Ending.{Steps-abort, IsLost-abort}
+use Rattle.envy_flush.specs.Storing.{Rows}
+use Rattle.envy_flush.specs.declared.parts.Parts.{Parts}
 use Rattle.envy_memory.specs.Calls.{IsCut, Undisturbed}
 use Rattle.envy_memory.specs.Picture.{Picture}
 use Rattle.envy_memory.proofs.EndLemmas.{undisturbed-on}
+use Rattle.envy_flush.proofs.WearLemmas.{IsQuiet-still}
 use Rattle.envy_memory.proofs.memory.Memory.abort.Goals as goal
 
 pub returns-in_err-abort_pages-clause-step : goal.returns-in_err-abort_pages-clause-step
@@ -44,3 +47,10 @@ returns-in_err-abort_pages-clause-complete g c calm is =
     let old = chart (g.B.Board.state c.self.inside.board) in
     let new = chart (g.B.Board.state c.abort_pages.new.board) in
     undisturbed-on old new (cause 0 0 old new (SameDurable.counted c.in_err-abort_pages.ensures.durable)) c.in_err-abort_pages.ensures.off (subst (λ (p : Picture). Undisturbed p.chart new) (sym c.self.view_is) calm)
+
+pub invariant_of-self-2 : goal.invariant_of-self-2
+invariant_of-self-2 g c =
+    let old = chart (g.B.Board.state c.self.inside.board) in
+    let new = chart (g.B.Board.state c.abort_pages.new.board) in
+    let o = c.in_ok-abort_pages.ensures in
+    (search rules, λ on. IsQuiet-still old new c.self.inside.parts c.abort_pages.new.parts c.self.inside.limit c.self.inside.quiet (SameDurable.shape o.durable) (Rows.wears o.rows) (ap (λ (z : Parts). z.reloc.since) o.parts) (c.self.invariant.1 (sym c.if-not-powered.ensures)))

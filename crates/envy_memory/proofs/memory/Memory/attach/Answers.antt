@@ -11,6 +11,7 @@ use Rattle.envy_txn.specs.Owners.{Ownership}
 use Rattle.envy_memory.specs.Attaching.{MayAttach}
 use Rattle.envy_memory.specs.Making.{StartsAnew}
 use Rattle.envy_memory.proofs.AttachLemmas.{Fits-attached, kept-shape, IsMemory-settled, IsStarted-anew, Stands-settled}
+use Rattle.envy_flush.proofs.WearLemmas.{IsQuiet-none}
 use Rattle.envy_memory.proofs.memory.Memory.attach.Goals as goal
 
 pub take_up-requires-clause-fits : goal.take_up-requires-clause-fits
@@ -30,8 +31,11 @@ invariant_of-result g c =
     let sizes = c.in_default.ensures.sizes refl in
     let o = c.in-Ok-take_up.ensures in
     let shape = Kept.shape o.kept ∙ kept-shape old c.args.setup.shape (IsBoard.shape board) sound (MayAttach.shape may) in
-    IsMemory-settled new c.take_up.new.parts c.in-Ok.owned c.args.setup.limit c.args.setup.mark (Kept.magic o.kept ∙ (MayAttach.formatted may).0) o.version o.ready o.settled
-    (ap (λ (z : Ownership). z.pairs) c.in-Ok.ensures.owned) (ap (λ (z : Ownership). z.limit) c.in-Ok.ensures.owned ∙ ap (λ (sh : Shape). sh.shadows) (sym shape)) (IsSetup.limit sizes) (IsSetup.mark sizes)
+    (
+      IsMemory-settled new c.take_up.new.parts c.in-Ok.owned c.args.setup.limit c.args.setup.mark (Kept.magic o.kept ∙ (MayAttach.formatted may).0) o.version o.ready o.settled
+    (ap (λ (z : Ownership). z.pairs) c.in-Ok.ensures.owned) (ap (λ (z : Ownership). z.limit) c.in-Ok.ensures.owned ∙ ap (λ (sh : Shape). sh.shadows) (sym shape)) (IsSetup.limit sizes) (IsSetup.mark sizes),
+      λ on. IsQuiet-none new.shape new.fields c.args.setup.limit c.take_up.new.parts.reloc.since 0 refl,
+    )
 
 pub returns-in-Ok-take_up : goal.returns-in-Ok-take_up
 returns-in-Ok-take_up g c =

@@ -1,8 +1,8 @@
-use Rattle.std.proofs.Common.{◌≡◌, ◌∙◌, Some, refl, sym, subst, ap}
+use Rattle.std.proofs.Common.{◌≡◌, ◌∙◌, Some, refl, sym, subst, ap, rules}
 use Rattle.std.specs.Prelude.{Err}
 use Rattle.std.proofs.lemmas.Result.{err_from_is_err_and}
 use Rattle.envy_base.specs.declared.fields.Slot.TheVariants.{Active, Vacant}
-use Rattle.envy_map.specs.Fields.{chart, slot}
+use Rattle.envy_map.specs.Fields.{Chart, chart, slot}
 use Rattle.envy_layout.specs.Same.{SameWords}
 use Rattle.envy_layout.specs.Stands.{Stands}
 use Rattle.envy_layout.proofs.Composition.{cause}
@@ -11,6 +11,7 @@ use Rattle.envy_memory.specs.Calls.{IsCut, Undisturbed}
 use Rattle.envy_memory.specs.Picture.{Picture}
 use Rattle.envy_memory.specs.declared.faults.BeginFault.{BeginFault}
 use Rattle.envy_memory.proofs.EndLemmas.{undisturbed-on}
+use Rattle.envy_flush.proofs.WearLemmas.{IsQuiet-still}
 use Rattle.envy_memory.proofs.memory.Memory.begin.Goals as goal
 
 pub returns-in_default-clause-step : goal.returns-in_default-clause-step
@@ -68,3 +69,10 @@ returns-clause-busy g c =
     let low = c.in_ok-t.ensures.low t c.in-Some.is in
     let vacant : slot c.args.self.now.chart.fields t ≡ Some Vacant = subst (λ (p : Picture). slot p.chart.fields t ≡ Some Vacant) c.self.view_is low.1 in
     ((λ is. cc), (λ all. absurd (let clash : Some Vacant ≡ Some Active = sym vacant ∙ all.1 t low.0 in cc)))
+
+pub invariant_of-self-2 : goal.invariant_of-self-2
+invariant_of-self-2 g c =
+    let old = chart (g.B.Board.state c.self.inside.board) in
+    let new = chart (g.B.Board.state c.open_slot.new.board) in
+    let o = c.in_ok-open_slot.ensures in
+    (search rules, λ on. IsQuiet-still old new c.self.inside.parts c.self.inside.parts c.self.inside.limit c.self.inside.quiet (SameWords.shape c.open_slot.ensures.same) (ap (λ (z : Chart). z.fields.wears) o.fields) refl (c.self.invariant.1 (sym c.if-not-powered.ensures)))

@@ -1,13 +1,17 @@
-use Rattle.std.proofs.Common.{◌≡◌, ◌<◌, Some, sym, subst, arith}
+use Rattle.std.proofs.Common.{◌≡◌, ◌<◌, Some, sym, subst, arith, refl, ap, rules}
 use Rattle.std.proofs.lemmas.Result.{err_from_is_err_and}
 use Rattle.envy_base.specs.declared.fields.Slot.TheVariants.{Active}
-use Rattle.envy_map.specs.Fields.{chart, slot}
+use Rattle.envy_map.specs.Fields.{Chart, chart, slot}
+use Rattle.envy_layout.specs.Same.{Commits}
 use Rattle.envy_layout.specs.Stands.{Stands}
 use Rattle.envy_layout.proofs.Composition.{cause}
 use Rattle.envy_layout.proofs.Ending.{Steps-commit, IsLost-commit}
+use Rattle.envy_flush.specs.Storing.{Rows}
+use Rattle.envy_flush.specs.declared.parts.Parts.{Parts}
 use Rattle.envy_memory.specs.Calls.{IsCut, Undisturbed}
 use Rattle.envy_memory.specs.Picture.{Picture}
 use Rattle.envy_memory.proofs.EndLemmas.{Counted-commit, undisturbed-on}
+use Rattle.envy_flush.proofs.WearLemmas.{IsQuiet-still}
 use Rattle.envy_memory.proofs.memory.Memory.commit.Goals as goal
 
 pub returns-in_err-commit_pages-clause-step : goal.returns-in_err-commit_pages-clause-step
@@ -43,3 +47,10 @@ returns-in_err-commit_pages-clause-complete g c calm is =
     let old = chart (g.B.Board.state c.self.inside.board) in
     let new = chart (g.B.Board.state c.commit_pages.new.board) in
     undisturbed-on old new (cause 0 0 old new (Counted-commit c.args.t old new c.in_err-commit_pages.ensures.commits)) c.in_err-commit_pages.ensures.off (subst (λ (p : Picture). Undisturbed p.chart new) (sym c.self.view_is) calm)
+
+pub invariant_of-self-2 : goal.invariant_of-self-2
+invariant_of-self-2 g c =
+    let old = chart (g.B.Board.state c.self.inside.board) in
+    let new = chart (g.B.Board.state c.commit_pages.new.board) in
+    let o = c.in_ok-commit_pages.ensures in
+    (search rules, λ on. IsQuiet-still old new c.self.inside.parts c.commit_pages.new.parts c.self.inside.limit c.self.inside.quiet (Commits.shape o.commits) (Rows.wears o.rows) (ap (λ (z : Parts). z.reloc.since) o.parts) (c.self.invariant.1 (sym c.if-not-powered.ensures)))

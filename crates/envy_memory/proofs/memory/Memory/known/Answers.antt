@@ -9,4 +9,4 @@ pub returns-clause-unowned : goal.returns-clause-unowned
 returns-clause-unowned g c m stood shut =
     let old = chart (g.B.Board.state c.self.inside.board) in
     let stands : Stands old m = subst (λ (p : Picture). Stands p.chart m) (sym c.self.view_is) stood in
-    subst (λ (p : Picture). p.owned.pairs ≡ []) c.self.view_is (unowned-shut old m c.self.inside.owned.pairs stands shut (c.self.invariant.owned (Stands.on stands)))
+    subst (λ (p : Picture). p.owned.pairs ≡ []) c.self.view_is (unowned-shut old m c.self.inside.owned.pairs stands shut (c.self.invariant.0.owned (Stands.on stands)))

@@ -9,6 +9,7 @@ use Rattle.envy_base.specs.declared.fields.Slot.TheVariants.{Active}
 use Rattle.envy_layout.proofs.Ending.{closed-inactive, closed-past}
 use Rattle.envy_flush.specs.Storing.{Leaves}
 use Rattle.envy_flush.proofs.StoreLemmas.{Leaves-wrote}
+use Rattle.envy_layout.specs.Same.{Framed}
 use Rattle.envy_memory.specs.Calls.{Works, IsCut, Undisturbed}
 use Rattle.envy_memory.specs.Effects.{flushes_after, is_unowned, PutEffect}
 use Rattle.envy_memory.specs.Picture.{Picture}
@@ -17,6 +18,7 @@ use Rattle.envy_memory.proofs.Owning.{IsMemory-left, Works-left, owner-pairs}
 use Rattle.envy_memory.proofs.PutLemmas.{full-of, Meets, MeetsFree, is-open, counted-pairs, Puts-done, Puts-ended, Puts-again, Puts-again_ended, Counted-first, Works-first, IsMemory-first, owned-free}
 use Rattle.envy_memory.proofs.Standing.{beyond, inside}
 use Rattle.envy_memory.proofs.TickLemmas.{never-ended}
+use Rattle.envy_flush.proofs.WearLemmas.{IsQuiet-counted}
 use Rattle.envy_memory.proofs.memory.Memory.put.Goals as goal
 
 pub returns-then-page-shape-clause-step : goal.returns-then-page-shape-clause-step
@@ -32,7 +34,7 @@ returns-then-t-ge64-clause-step g c m stood =
     let stands : Stands old m = subst (λ (p : Picture). Stands p.chart m) (sym c.self.view_is) stood in
     let pages = ap (λ (sh : Shape). sh.pages) c.shape.ensures in
     let lt : c.args.a / 32 < old.shape.pages = omega arith in
-    let owned = c.self.invariant.owned (sym c.if-not-powered.ensures) in
+    let owned = c.self.invariant.0.owned (sym c.if-not-powered.ensures) in
     (m, (inside old m c.args.a stands lt, closed-past old m c.args.t (Stands.holds stands) c.if-t-ge64.true, refl), stood)
 
 pub returns-then-not-branch-clause-step : goal.returns-then-not-branch-clause-step
@@ -41,7 +43,7 @@ returns-then-not-branch-clause-step g c m stood =
     let stands : Stands old m = subst (λ (p : Picture). Stands p.chart m) (sym c.self.view_is) stood in
     let pages = ap (λ (sh : Shape). sh.pages) c.shape.ensures in
     let lt : c.args.a / 32 < old.shape.pages = omega arith in
-    let owned = c.self.invariant.owned (sym c.if-not-powered.ensures) in
+    let owned = c.self.invariant.0.owned (sym c.if-not-powered.ensures) in
     let ge = c.if-t-ge64.false in
     (m, (inside old m c.args.a stands lt, closed-inactive old m c.args.t (Stands.holds stands) (omega arith) (c.in_ok-is_open.ensures.never c.if-not-branch.true), refl), stood)
 
@@ -51,7 +53,7 @@ returns-then-slot-t-clause-step g c m stood =
     let stands : Stands old m = subst (λ (p : Picture). Stands p.chart m) (sym c.self.view_is) stood in
     let pages = ap (λ (sh : Shape). sh.pages) c.shape.ensures in
     let lt : c.args.a / 32 < old.shape.pages = omega arith in
-    let owned = c.self.invariant.owned (sym c.if-not-powered.ensures) in
+    let owned = c.self.invariant.0.owned (sym c.if-not-powered.ensures) in
     let ge = c.if-t-ge64.false in
     let low : c.args.t < 64 = omega arith in
     let active : slot old.fields c.args.t ≡ Some Active = c.in_ok-is_open.ensures.yes c.if-not-branch.false in
@@ -65,7 +67,10 @@ invariant_of-self g c =
     let k = 4 * old.shape.rows + 13 in
     let e = c.store_word.ensures in
     let leaves = Leaves-wrote k 6 old new (32 * (c.args.a / 32) + c.args.a % 32) c.args.value (c.args.a / 32) c.store_word.result e.free e.owned in
-    IsMemory-left k 6 c.self.inside.limit c.self.inside.mark old new c.self.inside.parts c.store_word.new.parts c.self.inside.owned (sym c.if-not-powered.ensures) c.self.invariant leaves e.steady
+    (
+      IsMemory-left k 6 c.self.inside.limit c.self.inside.mark old new c.self.inside.parts c.store_word.new.parts c.self.inside.owned (sym c.if-not-powered.ensures) c.self.invariant.0 leaves e.steady,
+      λ on. IsQuiet-counted old new c.self.inside.parts c.store_word.new.parts c.self.inside.limit c.self.inside.quiet (Framed.shape (Leaves.framed leaves)) (Leaves.worn leaves) e.counting on (c.self.invariant.1 (sym c.if-not-powered.ensures)),
+    )
 
 pub returns-in_err-store_word-clause-step : goal.returns-in_err-store_word-clause-step
 returns-in_err-store_word-clause-step g c m stood =
@@ -75,7 +80,7 @@ returns-in_err-store_word-clause-step g c m stood =
     let k = 4 * old.shape.rows + 13 in
     let pages = ap (λ (sh : Shape). sh.pages) c.shape.ensures in
     let lt : c.args.a / 32 < old.shape.pages = omega arith in
-    let owned = c.self.invariant.owned (sym c.if-not-powered.ensures) in
+    let owned = c.self.invariant.0.owned (sym c.if-not-powered.ensures) in
     let ge = c.if-t-ge64.false in
     let low : c.args.t < 64 = omega arith in
     let active : slot old.fields c.args.t ≡ Some Active = c.in_ok-is_open.ensures.yes c.if-not-branch.false in
@@ -120,7 +125,10 @@ invariant_of-self-in-Some g c =
     let k = 4 * old.shape.rows + 13 in
     let e = c.store_word.ensures in
     let leaves = Leaves-wrote k 6 old new (32 * (c.args.a / 32) + c.args.a % 32) c.args.value (c.args.a / 32) c.store_word.result e.free e.owned in
-    IsMemory-left k 6 c.self.inside.limit c.self.inside.mark old new c.self.inside.parts c.store_word.new.parts c.self.inside.owned (sym c.if-not-powered.ensures) c.self.invariant leaves e.steady
+    (
+      IsMemory-left k 6 c.self.inside.limit c.self.inside.mark old new c.self.inside.parts c.store_word.new.parts c.self.inside.owned (sym c.if-not-powered.ensures) c.self.invariant.0 leaves e.steady,
+      λ on. IsQuiet-counted old new c.self.inside.parts c.store_word.new.parts c.self.inside.limit c.self.inside.quiet (Framed.shape (Leaves.framed leaves)) (Leaves.worn leaves) e.counting on (c.self.invariant.1 (sym c.if-not-powered.ensures)),
+    )
 
 pub returns-in-Some-clause-step : goal.returns-in-Some-clause-step
 returns-in-Some-clause-step g c m stood =
@@ -130,7 +138,7 @@ returns-in-Some-clause-step g c m stood =
     let k = 4 * old.shape.rows + 13 in
     let pages = ap (λ (sh : Shape). sh.pages) c.shape.ensures in
     let lt : c.args.a / 32 < old.shape.pages = omega arith in
-    let owned = c.self.invariant.owned (sym c.if-not-powered.ensures) in
+    let owned = c.self.invariant.0.owned (sym c.if-not-powered.ensures) in
     let ge = c.if-t-ge64.false in
     let low : c.args.t < 64 = omega arith in
     let active : slot old.fields c.args.t ≡ Some Active = c.in_ok-is_open.ensures.yes c.if-not-branch.false in
@@ -153,7 +161,7 @@ returns-in-Some-clause-flushes g c =
     let new = chart (g.B.Board.state c.store_word.new.board) in
     let own : owner_of c.self.inside.owned.pairs (c.args.a / 32) ≡ Some c.in-Some.slot = sym c.in-Some.ensures.value in
     subst (λ (p : Picture). c.store_word.new.parts.flushes ≡ flushes_after (is_unowned p.owned (c.args.a / 32)) (c.args.a / 32) p) c.self.view_is
-    (rw own (flushes-stored (c.args.a / 32) (record { chart = old; parts = c.self.inside.parts; owned = c.self.inside.owned; limit = c.self.inside.limit; mark = c.self.inside.mark }) new c.store_word.new.parts c.self.invariant.fits c.in_ok-store_word.ensures.stores))
+    (rw own (flushes-stored (c.args.a / 32) (record { chart = old; parts = c.self.inside.parts; owned = c.self.inside.owned; limit = c.self.inside.limit; mark = c.self.inside.mark }) new c.store_word.new.parts c.self.invariant.0.fits c.in_ok-store_word.ensures.stores))
 
 pub returns-in-Some-clause-does : goal.returns-in-Some-clause-does
 returns-in-Some-clause-does g c =
@@ -169,7 +177,7 @@ returns-then-not-room-clause-step g c m stood =
     let stands : Stands old m = subst (λ (p : Picture). Stands p.chart m) (sym c.self.view_is) stood in
     let pages = ap (λ (sh : Shape). sh.pages) c.shape.ensures in
     let lt : c.args.a / 32 < old.shape.pages = omega arith in
-    let owned = c.self.invariant.owned (sym c.if-not-powered.ensures) in
+    let owned = c.self.invariant.0.owned (sym c.if-not-powered.ensures) in
     let ge = c.if-t-ge64.false in
     let low : c.args.t < 64 = omega arith in
     let active : slot old.fields c.args.t ≡ Some Active = c.in_ok-is_open.ensures.yes c.if-not-branch.false in
@@ -178,7 +186,7 @@ returns-then-not-room-clause-step g c m stood =
     let n = counted-pairs old m c.self.inside.owned stands c.owner.ensures.whole owned in
     let all = Stands.holds stands in
     let shadows = all.shadows in
-    let limit = c.self.invariant.shadows in
+    let limit = c.self.invariant.0.shadows in
     let few = c.owner.ensures.whole.few in
     let full : length c.self.inside.owned.pairs ≡ c.self.inside.owned.limit = full-of (length c.self.inside.owned.pairs) c.self.inside.owned.limit c.room.result c.room.ensures.value c.if-not-room.true few in
     (m, (inside old m c.args.a stands lt, is-open c.args.t c.args.a old m c.self.inside.owned meets, owner-pairs old m c.self.inside.owned (c.args.a / 32) stands owned lt ∙ none, omega arith, refl), stood)
@@ -189,7 +197,10 @@ invariant_of-self-in_err-put_first g c =
     let new = chart (g.B.Board.state c.put_first.new.board) in
     let k = 4 * old.shape.rows + 13 in
     let e = c.put_first.ensures in
-    IsMemory-first k 6 c.self.inside.limit c.self.inside.mark c.args.t (c.args.a / 32) old new c.self.inside.parts c.put_first.new.parts c.self.inside.owned c.put_first.new.owned (32 * (c.args.a / 32) + c.args.a % 32) c.args.value c.put_first.result (sym c.if-not-powered.ensures) c.self.invariant e.put e.steady e.owners e.limit
+    let works = Works-first k 6 k 6 c.args.t (c.args.a / 32) old new (32 * (c.args.a / 32) + c.args.a % 32) c.args.value c.put_first.result (omega arith) (omega arith) (sym c.if-not-powered.ensures) e.put in (
+      IsMemory-first k 6 c.self.inside.limit c.self.inside.mark c.args.t (c.args.a / 32) old new c.self.inside.parts c.put_first.new.parts c.self.inside.owned c.put_first.new.owned (32 * (c.args.a / 32) + c.args.a % 32) c.args.value c.put_first.result (sym c.if-not-powered.ensures) c.self.invariant.0 e.put e.steady e.owners e.limit,
+      λ on. IsQuiet-counted old new c.self.inside.parts c.put_first.new.parts c.self.inside.limit c.self.inside.quiet (Works.shape works) (Works.worn works) e.counting on (c.self.invariant.1 (sym c.if-not-powered.ensures)),
+    )
 
 pub returns-in_err-put_first-clause-step : goal.returns-in_err-put_first-clause-step
 returns-in_err-put_first-clause-step g c m stood =
@@ -199,13 +210,13 @@ returns-in_err-put_first-clause-step g c m stood =
     let k = 4 * old.shape.rows + 13 in
     let pages = ap (λ (sh : Shape). sh.pages) c.shape.ensures in
     let lt : c.args.a / 32 < old.shape.pages = omega arith in
-    let owned = c.self.invariant.owned (sym c.if-not-powered.ensures) in
+    let owned = c.self.invariant.0.owned (sym c.if-not-powered.ensures) in
     let ge = c.if-t-ge64.false in
     let low : c.args.t < 64 = omega arith in
     let active : slot old.fields c.args.t ≡ Some Active = c.in_ok-is_open.ensures.yes c.if-not-branch.false in
     let meets : Meets c.args.t c.args.a old m c.self.inside.owned = record { stands = stands; owned = owned; low = low; active = active; page = lt } in
     let none = sym c.in_default.ensures.value in
-    let free : MeetsFree c.args.t c.args.a old m c.self.inside.owned = record { meets = meets; whole = c.owner.ensures.whole; none = none; shadows = c.self.invariant.shadows; room = c.room.ensures.value.0 c.if-not-room.false } in
+    let free : MeetsFree c.args.t c.args.a old m c.self.inside.owned = record { meets = meets; whole = c.owner.ensures.whole; none = none; shadows = c.self.invariant.0.shadows; room = c.room.ensures.value.0 c.if-not-room.false } in
     let p = err_from_is_err_and c.from_residual-in_err-put_first.result c.from_residual-in_err-put_first.ensures.1 in
     rw (p.1, p.2) (Puts-ended k 6 c.args.t old new m c.self.inside.owned c.args.a c.args.value c.in_err-put_first.field-0.0 free c.in_err-put_first.ensures.put)
 
@@ -243,13 +254,13 @@ returns-clause-step g c m stood =
     let k = 4 * old.shape.rows + 13 in
     let pages = ap (λ (sh : Shape). sh.pages) c.shape.ensures in
     let lt : c.args.a / 32 < old.shape.pages = omega arith in
-    let owned = c.self.invariant.owned (sym c.if-not-powered.ensures) in
+    let owned = c.self.invariant.0.owned (sym c.if-not-powered.ensures) in
     let ge = c.if-t-ge64.false in
     let low : c.args.t < 64 = omega arith in
     let active : slot old.fields c.args.t ≡ Some Active = c.in_ok-is_open.ensures.yes c.if-not-branch.false in
     let meets : Meets c.args.t c.args.a old m c.self.inside.owned = record { stands = stands; owned = owned; low = low; active = active; page = lt } in
     let none = sym c.in_default.ensures.value in
-    let free : MeetsFree c.args.t c.args.a old m c.self.inside.owned = record { meets = meets; whole = c.owner.ensures.whole; none = none; shadows = c.self.invariant.shadows; room = c.room.ensures.value.0 c.if-not-room.false } in
+    let free : MeetsFree c.args.t c.args.a old m c.self.inside.owned = record { meets = meets; whole = c.owner.ensures.whole; none = none; shadows = c.self.invariant.0.shadows; room = c.room.ensures.value.0 c.if-not-room.false } in
     Puts-done k 6 c.args.t old new m c.self.inside.owned c.args.a c.args.value free c.in_ok-put_first.ensures.put
 
 pub returns-clause-works : goal.returns-clause-works
@@ -259,3 +270,14 @@ returns-clause-works g c =
     let k = 4 * old.shape.rows + 13 in
     let e = c.put_first.ensures in
     subst (λ (p : Picture). Works (4 * p.chart.shape.rows + 16) 6 p.chart new) c.self.view_is (Works-first k 6 (4 * old.shape.rows + 16) 6 c.args.t (c.args.a / 32) old new (32 * (c.args.a / 32) + c.args.a % 32) c.args.value c.put_first.result (omega arith) (omega arith) (sym c.if-not-powered.ensures) e.put)
+
+pub invariant_of-self-2 : goal.invariant_of-self-2
+invariant_of-self-2 g c =
+    let old = chart (g.B.Board.state c.self.inside.board) in
+    let new = chart (g.B.Board.state c.put_first.new.board) in
+    let k = 4 * old.shape.rows + 13 in
+    let e = c.put_first.ensures in
+    let works = Works-first k 6 k 6 c.args.t (c.args.a / 32) old new (32 * (c.args.a / 32) + c.args.a % 32) c.args.value c.put_first.result (omega arith) (omega arith) (sym c.if-not-powered.ensures) e.put in (
+      IsMemory-first k 6 c.self.inside.limit c.self.inside.mark c.args.t (c.args.a / 32) old new c.self.inside.parts c.put_first.new.parts c.self.inside.owned c.put_first.new.owned (32 * (c.args.a / 32) + c.args.a % 32) c.args.value c.put_first.result (sym c.if-not-powered.ensures) c.self.invariant.0 e.put e.steady e.owners e.limit,
+      λ on. IsQuiet-counted old new c.self.inside.parts c.put_first.new.parts c.self.inside.limit c.self.inside.quiet (Works.shape works) (Works.worn works) e.counting on (c.self.invariant.1 (sym c.if-not-powered.ensures)),
+    )

@@ -11,6 +11,7 @@ use Rattle.envy_txn.specs.Owners.{Ownership}
 use Rattle.envy_memory.specs.Calls.{fresh}
 use Rattle.envy_memory.specs.Picture.{Picture}
 use Rattle.envy_memory.proofs.AttachLemmas.{IsMemory-settled, Stands-settled}
+use Rattle.envy_flush.proofs.WearLemmas.{IsQuiet-none}
 use Rattle.envy_memory.proofs.memory.Memory.revive.Goals as goal
 
 pub returns-in_err-restart-clause-cut : goal.returns-in_err-restart-clause-cut
@@ -32,13 +33,16 @@ invariant_of-self-2 g c =
     let new = chart (g.B.Board.state c.restart.new.board) in
     let lights : mid ≡ lit_state old = c.if-not-power_on.ensures.state in
     let o = c.in_ok-restart.ensures in
-    let i = c.self.invariant in
+    let i = c.self.invariant.0 in
     let magic = SameDurable.magic o.durable ∙ ap (λ (s : State). (chart s).fields.magic) lights ∙ i.magic in
     let version = SameDurable.version o.durable ∙ ap (λ (s : State). (chart s).fields.version) lights ∙ i.version in
     let shape = SameDurable.shape o.durable ∙ ap (λ (s : State). s.shape) lights in
     let none = ap (λ (z : Ownership). z.pairs) c.forget.ensures in
     let shadows = ap (λ (z : Ownership). z.limit) c.forget.ensures ∙ i.shadows ∙ ap (λ (sh : Shape). sh.shadows) (sym shape) in
-    IsMemory-settled new c.restart.new.parts c.forget.new.self c.self.inside.limit c.self.inside.mark magic version o.ready o.settled none shadows i.some_limit i.some
+    (
+      IsMemory-settled new c.restart.new.parts c.forget.new.self c.self.inside.limit c.self.inside.mark magic version o.ready o.settled none shadows i.some_limit i.some,
+      λ on. IsQuiet-none new.shape new.fields c.self.inside.limit c.restart.new.parts.reloc.since 0 refl,
+    )
 
 pub returns-clause-ok : goal.returns-clause-ok
 returns-clause-ok g c =
@@ -47,7 +51,7 @@ returns-clause-ok g c =
     let new = chart (g.B.Board.state c.restart.new.board) in
     let lights : mid ≡ lit_state old = c.if-not-power_on.ensures.state in
     let o = c.in_ok-restart.ensures in
-    let i = c.self.invariant in
+    let i = c.self.invariant.0 in
     let magic = SameDurable.magic o.durable ∙ ap (λ (s : State). (chart s).fields.magic) lights ∙ i.magic in
     let version = SameDurable.version o.durable ∙ ap (λ (s : State). (chart s).fields.version) lights ∙ i.version in
     let stands = Stands-settled (chart mid) new o.on magic version (SameDurable.sound o.durable) o.settled (SameDurable.shape o.durable) (SameDurable.durable o.durable) o.live in

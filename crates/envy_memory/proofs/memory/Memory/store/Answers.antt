@@ -2,6 +2,7 @@ use Rattle.std.proofs.Common.{◌≡◌, ◌∙◌, ◌<◌, ◌*◌, ◌+◌, �
 use Rattle.std.proofs.lemmas.Result.{err_from_is_err_and}
 use Rattle.envy_base.specs.declared.shape.Shape.{Shape}
 use Rattle.envy_map.specs.Fields.{chart}
+use Rattle.envy_layout.specs.Same.{Framed}
 use Rattle.envy_layout.specs.Stands.{Stands}
 use Rattle.envy_layout.proofs.Composition.{cause}
 use Rattle.envy_flush.specs.Storing.{Leaves}
@@ -13,6 +14,7 @@ use Rattle.envy_memory.proofs.Effects.{flushes-stored}
 use Rattle.envy_memory.proofs.Owning.{IsMemory-left, Works-left, Stores-done, Stores-ended, owner-pairs, free-pairs}
 use Rattle.envy_memory.proofs.Standing.{beyond, inside}
 use Rattle.envy_memory.proofs.TickLemmas.{never-ended}
+use Rattle.envy_flush.proofs.WearLemmas.{IsQuiet-counted}
 use Rattle.envy_memory.proofs.memory.Memory.store.Goals as goal
 
 pub returns-then-page-shape-clause-step : goal.returns-then-page-shape-clause-step
@@ -28,7 +30,7 @@ returns-in-Some-clause-step g c m stood =
     let stands : Stands old m = subst (λ (p : Picture). Stands p.chart m) (sym c.self.view_is) stood in
     let pages = ap (λ (sh : Shape). sh.pages) c.shape.ensures in
     let lt : c.args.a / 32 < old.shape.pages = omega arith in
-    let owned = c.self.invariant.owned (sym c.if-not-powered.ensures) in
+    let owned = c.self.invariant.0.owned (sym c.if-not-powered.ensures) in
     (m, (inside old m c.args.a stands lt, owner-pairs old m c.self.inside.owned (c.args.a / 32) stands owned lt ∙ sym c.in-Some.ensures.value, refl), stood)
 
 pub invariant_of-self : goal.invariant_of-self
@@ -38,7 +40,10 @@ invariant_of-self g c =
     let k = 4 * old.shape.rows + 13 in
     let e = c.store_word.ensures in
     let leaves = Leaves-wrote k 6 old new (32 * (c.args.a / 32) + c.args.a % 32) c.args.value (c.args.a / 32) c.store_word.result e.free e.owned in
-    IsMemory-left k 6 c.self.inside.limit c.self.inside.mark old new c.self.inside.parts c.store_word.new.parts c.self.inside.owned (sym c.if-not-powered.ensures) c.self.invariant leaves e.steady
+    (
+      IsMemory-left k 6 c.self.inside.limit c.self.inside.mark old new c.self.inside.parts c.store_word.new.parts c.self.inside.owned (sym c.if-not-powered.ensures) c.self.invariant.0 leaves e.steady,
+      λ on. IsQuiet-counted old new c.self.inside.parts c.store_word.new.parts c.self.inside.limit c.self.inside.quiet (Framed.shape (Leaves.framed leaves)) (Leaves.worn leaves) e.counting on (c.self.invariant.1 (sym c.if-not-powered.ensures)),
+    )
 
 pub returns-in_err-store_word-clause-step : goal.returns-in_err-store_word-clause-step
 returns-in_err-store_word-clause-step g c m stood =
@@ -48,7 +53,7 @@ returns-in_err-store_word-clause-step g c m stood =
     let k = 4 * old.shape.rows + 13 in
     let pages = ap (λ (sh : Shape). sh.pages) c.shape.ensures in
     let lt : c.args.a / 32 < old.shape.pages = omega arith in
-    let owned = c.self.invariant.owned (sym c.if-not-powered.ensures) in
+    let owned = c.self.invariant.0.owned (sym c.if-not-powered.ensures) in
     let none = sym c.in_default.ensures.value in
     let free = free-pairs old c.self.inside.owned (c.args.a / 32) owned none in
     let p = err_from_is_err_and c.from_residual.result c.from_residual.ensures.1 in
@@ -90,7 +95,10 @@ invariant_of-self-2 g c =
     let k = 4 * old.shape.rows + 13 in
     let e = c.store_word.ensures in
     let leaves = Leaves-wrote k 6 old new (32 * (c.args.a / 32) + c.args.a % 32) c.args.value (c.args.a / 32) c.store_word.result e.free e.owned in
-    IsMemory-left k 6 c.self.inside.limit c.self.inside.mark old new c.self.inside.parts c.store_word.new.parts c.self.inside.owned (sym c.if-not-powered.ensures) c.self.invariant leaves e.steady
+    (
+      IsMemory-left k 6 c.self.inside.limit c.self.inside.mark old new c.self.inside.parts c.store_word.new.parts c.self.inside.owned (sym c.if-not-powered.ensures) c.self.invariant.0 leaves e.steady,
+      λ on. IsQuiet-counted old new c.self.inside.parts c.store_word.new.parts c.self.inside.limit c.self.inside.quiet (Framed.shape (Leaves.framed leaves)) (Leaves.worn leaves) e.counting on (c.self.invariant.1 (sym c.if-not-powered.ensures)),
+    )
 
 pub returns-clause-step : goal.returns-clause-step
 returns-clause-step g c m stood =
@@ -100,7 +108,7 @@ returns-clause-step g c m stood =
     let k = 4 * old.shape.rows + 13 in
     let pages = ap (λ (sh : Shape). sh.pages) c.shape.ensures in
     let lt : c.args.a / 32 < old.shape.pages = omega arith in
-    let owned = c.self.invariant.owned (sym c.if-not-powered.ensures) in
+    let owned = c.self.invariant.0.owned (sym c.if-not-powered.ensures) in
     let none = sym c.in_default.ensures.value in
     let free = free-pairs old c.self.inside.owned (c.args.a / 32) owned none in
     Stores-done k 6 old new m c.self.inside.owned c.args.a c.args.value stands owned none lt (c.in_ok-store_word.ensures.free free)
@@ -119,4 +127,4 @@ returns-clause-flushes g c =
     let old = chart (g.B.Board.state c.self.inside.board) in
     let new = chart (g.B.Board.state c.store_word.new.board) in
     subst (λ (p : Picture). c.store_word.new.parts.flushes ≡ flushes_after false (c.args.a / 32) p) c.self.view_is
-    (flushes-stored (c.args.a / 32) (record { chart = old; parts = c.self.inside.parts; owned = c.self.inside.owned; limit = c.self.inside.limit; mark = c.self.inside.mark }) new c.store_word.new.parts c.self.invariant.fits c.in_ok-store_word.ensures.stores)
+    (flushes-stored (c.args.a / 32) (record { chart = old; parts = c.self.inside.parts; owned = c.self.inside.owned; limit = c.self.inside.limit; mark = c.self.inside.mark }) new c.store_word.new.parts c.self.invariant.0.fits c.in_ok-store_word.ensures.stores)
