@@ -121,11 +121,11 @@ unread o io quiet (inl out) = (quiet, inl (IsOutOfMemory.ending out))
 unread o io quiet (inr (inl spoilt)) = (quiet, inr (inl (IsSpoilt.ending spoilt)))
 unread o io quiet (inr (inr dark)) = (quiet, inr (inr (IsDark.ending dark)))
 
--- where all was done nothing was the cause of reading no line
-pub never-unready : (o : Outcome) → EndsBy Done o → IsUnready o → ⊥
-never-unready o done (inl out) = let zero = done.status in let other = EndsBy.status (IsOutOfMemory.ending out) in omega arith
-never-unready o done (inr (inl spoilt)) = let zero = done.status in let other = EndsBy.status (IsSpoilt.ending spoilt) in omega arith
-never-unready o done (inr (inr dark)) = let zero = done.status in let other = EndsBy.status (IsDark.ending dark) in omega arith
+-- what was the cause of reading no line has another status
+pub never-unready : (o : Outcome) → o.status ≡ 0 → IsUnready o → ⊥
+never-unready o zero (inl out) = let other = EndsBy.status (IsOutOfMemory.ending out) in omega arith
+never-unready o zero (inr (inl spoilt)) = let other = EndsBy.status (IsSpoilt.ending spoilt) in omega arith
+never-unready o zero (inr (inr dark)) = let other = EndsBy.status (IsDark.ending dark) in omega arith
 
 -- a run that has ended so tells it
 pub ends-as : {B : Type 0} (state : B → State) (finished : Finished B) (ending : Ending) → finished.ending ≡ ending → EndsBy ending (outcome_of state finished)

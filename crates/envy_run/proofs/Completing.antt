@@ -1,17 +1,18 @@
 -- Where nothing goes wrong, no end but the good one is left.
-use Rattle.std.proofs.Common.{◌≡◌, ◌⊎◌, inl, inr, ℕ, ◌<◌, ◌≤◌, List, [], ◌∷◌, length, sym, ◌∙◌, ap, subst, arith}
+use Rattle.std.proofs.Common.{◌≡◌, ◌⊎◌, inl, inr, ℕ, ◌<◌, ◌≤◌, List, [], ◌∷◌, length, refl, sym, ◌∙◌, ap, subst, arith}
 use Rattle.std.specs.Option.{option_map}
 use Rattle.std.specs.Prelude.{IsTrue, false, Option, None, Some, Result, Ok, Err}
 use Rattle.envy_args.specs.declared.command.Command.{Command}
 use Rattle.envy_args.specs.declared.command.Command.TheVariants.{Run, Plain, Tpca, Gen, Save, Resume, Audit, Segments, Index, Mirror}
 use Rattle.envy_args.specs.declared.command.WordsFault.{WordsFault}
-use Rattle.envy_args.specs.declared.command.WordsFault.TheVariants.{Memory}
+use Rattle.envy_args.specs.declared.command.WordsFault.TheVariants.{Form, Setup as Rule, Memory}
 use Rattle.envy_args.specs.Words.{Text, command_of}
 use Rattle.envy_base.specs.Array.{Array}
 use Rattle.envy_base.specs.State.{State}
 use Rattle.envy_base.specs.declared.area.Area.{Area}
 use Rattle.envy_base.specs.declared.shape.Shape.{Shape}
 use Rattle.envy_gen.specs.Traces.{trace_bytes}
+use Rattle.envy_io.specs.Streams.{Drain, Feed}
 use Rattle.envy_map.specs.Fields.{Chart}
 use Rattle.envy_policy.specs.declared.setup.Setup.{Setup}
 use Rattle.envy_serve.specs.declared.serving.End.{End}
@@ -31,13 +32,13 @@ use Rattle.envy_run.specs.Audits.{IsMap, IsVerdict}
 use Rattle.envy_run.specs.Complete.{HoldsImage, HoldsTrace, IsWell, IsWellInstalled, IsComplete, Completes}
 use Rattle.envy_run.specs.Done.{HoldsOff}
 use Rattle.envy_run.specs.Drives.{MaybePaid, MaybeTold, TellsSums, driving, report}
-use Rattle.envy_run.specs.Headline.{Headline, run_task, save_task, index_task, plain_task, IsWithoutMemory, Generates, meaning_of}
+use Rattle.envy_run.specs.Headline.{Headline, run_task, save_task, index_task, plain_task, IsWithoutMemory, Generates, Refuses, boardless, meaning_of}
 use Rattle.envy_run.specs.IndexDone.{HoldsIndexOff}
 use Rattle.envy_run.specs.IndexServing.{long_index}
 use Rattle.envy_run.specs.IndexTurns.{index_grammar}
 use Rattle.envy_run.specs.Meaning.{Meaning, Does}
 use Rattle.envy_run.specs.MirrorTask.{mirror_task}
-use Rattle.envy_run.specs.Outcome.{Outcome, EndsBy, IsQuiet, ending_of}
+use Rattle.envy_run.specs.Outcome.{Outcome, EndsBy, IsQuiet, ending_of, outcome_of}
 use Rattle.envy_run.specs.Resumes.{FoundUnsound, HoldsImageStill, IsLeftBy, IsUnattached, LicencesOf, Misfit, Refused, Resumes, Resumption, TakenUp, TakesUp, resume_task, resuming, setup_found}
 use Rattle.envy_run.specs.Task.{MaybeHeld, Session, Task, turns_of}
 use Rattle.envy_run.specs.Theorem.{IsAlone, IsAloneIn, Leaves, Prints}
@@ -45,7 +46,8 @@ use Rattle.envy_run.specs.Tracing.{long_any}
 use Rattle.envy_run.specs.Turns.{trace_grammar}
 use Rattle.envy_run.specs.Unserved.{IsDark, IsOutOfMemory, IsSpoilt, IsUnread, IsUnready}
 use Rattle.envy_run.specs.Writing.{WritesTrace}
-use Rattle.envy_run.specs.declared.ending.Ending.TheVariants.{Done, OutOfMemory}
+use Rattle.envy_run.specs.declared.ending.Ending.TheVariants.{Done, OutOfMemory, WordsRefused}
+use Rattle.envy_run.specs.declared.ending.Finished.{Finished}
 use Rattle.envy_run.proofs.Accounts.{Did, Died, WasDone, WasServed, done_of}
 use Rattle.envy_run.proofs.Audited.{completes-judging, image-taken}
 use Rattle.envy_run.proofs.MirrorWell.{completes-mirror}
@@ -197,6 +199,31 @@ headline-read words read command o io (inr is) e headline = subst (λ (x : Resul
 pub alone-read : (words : List Text) (read : Result Command WordsFault) (command : Command) (o : Outcome) → (read ≡ Err Memory) ⊎ (read ≡ command_of words) → read ≡ Ok command → IsAlone command o.second → IsAloneIn (command_of words) o
 alone-read words read command o (inl none) e alone = absurd (let never = none in cc)
 alone-read words read command o (inr is) e alone = subst (λ (x : Result Command WordsFault). IsAloneIn x o) (sym e ∙ is) alone
+
+-- words that are refused by the rule of this number
+pub words-refused : {B : Type 0} (state : B → State) (told rule : ℕ) (e : Finished B) (feed : Feed) (sink : Drain) → told ≡ rule → e ≡ record { ending = WordsRefused told; lines = 0; taken = 0; board = None; second = None } → Does (boardless (Refuses rule)) (outcome_of state e) (record { from = feed; feed = feed; to = sink; sink = sink })
+words-refused {B} state told rule e feed sink same is =
+    let io : Streams = record { from = feed; feed = feed; to = sink; sink = sink } in
+    subst (λ (n : ℕ). Does (boardless (Refuses n)) (outcome_of state e) io) same
+    (subst (λ (x : Finished B). Does (boardless (Refuses told)) (outcome_of state x) io) (sym is)
+    (record {
+      account = tt;
+      printed = record { ending = record { status = refl; why = refl }; quiet = record { lines = refl; taken = refl; source = refl; sink = refl } };
+      board = refl;
+      licences = tt;
+    }))
+
+-- and of those words
+pub headline-refused : (words : List Text) (read : Result Command WordsFault) (fault : WordsFault) (o : Outcome) (io : Streams) → (read ≡ Err Memory) ⊎ (read ≡ command_of words) → read ≡ Err fault → (fault ≡ Memory → ⊥) → Does (meaning_of (Err fault)) o io → Headline (command_of words) o io
+headline-refused words read fault o io (inl none) e other does = absurd (other cc)
+headline-refused words read fault o io (inr is) e other does = subst (λ (x : Result Command WordsFault). Headline x o io) (sym e ∙ is) (inl does)
+
+-- neither fault is want of memory
+pub form-known : Form ≡ Memory → ⊥
+form-known same = cc
+
+pub rule-known : (rule : ℕ) → Rule rule ≡ Memory → ⊥
+rule-known rule same = cc
 
 -- of what is done for a command, what is printed, and what is left
 

@@ -25,7 +25,7 @@ use Rattle.envy_run.specs.Headline.{Headline, IsWithoutMemory, Licences, run_tas
 use Rattle.envy_run.specs.Outcome.{Outcome, EndsBy, IsQuiet, ending_of, numbers_of}
 use Rattle.envy_run.specs.Task.{Task}
 use Rattle.envy_run.specs.Unserved.{IsUnread, IsUnready}
-use Rattle.envy_run.specs.declared.ending.Ending.TheVariants.{Done, OutOfMemory}
+use Rattle.envy_run.specs.declared.ending.Ending.TheVariants.{OutOfMemory}
 use Rattle.envy_run.proofs.Accounts.{Did, Died, WasDone, WasServed, done_of, never-unready}
 use Rattle.envy_run.specs.Turns.{TraceTurn, trace_grammar}
 use Rattle.envy_run.proofs.Alike.{OneAnswer, turns-alike}
@@ -57,8 +57,8 @@ done-served (Refused fault) w turns o io bytes zero told s = absurd (let never =
 done-served EndDead w turns o io bytes zero told s = absurd (let never = zero in omega arith)
 done-served TooLong w turns o io bytes zero told s = absurd (let never = zero in omega arith)
 
-pub is-done : {Line Reply Left : Type 0} (w : Task Line Reply Left) (turns : List (Turn Line Reply)) (o : Outcome) (io : Streams) (bytes : List ℕ) → EndsBy Done o → io.from.left ≡ Some bytes → WasServed w turns o io → IsDone w bytes turns o io
-is-done w turns o io bytes done told s = done-served s.end w turns o io bytes (sym (EndsBy.status s.ending) ∙ done.status) told s.serves
+pub is-done : {Line Reply Left : Type 0} (w : Task Line Reply Left) (turns : List (Turn Line Reply)) (o : Outcome) (io : Streams) (bytes : List ℕ) → o.status ≡ 0 → io.from.left ≡ Some bytes → WasServed w turns o io → IsDone w bytes turns o io
+is-done w turns o io bytes done told s = done-served s.end w turns o io bytes (sym (EndsBy.status s.ending) ∙ done) told s.serves
 
 ok-same : (x y : Line) → ◌≡◌ {A = Result Line LineFault} (Ok x) (Ok y) → x ≡ y
 ok-same x y e = cc
@@ -96,25 +96,25 @@ both-done one setup returns bytes o p io jo turns others run plain licences no_s
 
 -- a run that was done served its trace
 
-run-served : (setup : Setup) (returns : ℕ) (o : Outcome) (io : Streams) (turns : List TraceTurn) → EndsBy Done o → WasServed (run_task setup returns) turns o io ⊎ ((turns ≡ []) × IsUnread o io × IsUnready o) → WasServed (run_task setup returns) turns o io
+run-served : (setup : Setup) (returns : ℕ) (o : Outcome) (io : Streams) (turns : List TraceTurn) → o.status ≡ 0 → WasServed (run_task setup returns) turns o io ⊎ ((turns ≡ []) × IsUnread o io × IsUnready o) → WasServed (run_task setup returns) turns o io
 run-served setup returns o io turns done (inl served) = served
 run-served setup returns o io turns done (inr (none, unread, why)) = absurd (never-unready o done why)
 
-plain-served : (setup : Setup) (o : Outcome) (io : Streams) (turns : List TraceTurn) → EndsBy Done o → WasServed (plain_task setup) turns o io ⊎ ((turns ≡ []) × (IsQuiet o io × EndsBy OutOfMemory o) × (o.board ≡ None)) → WasServed (plain_task setup) turns o io
+plain-served : (setup : Setup) (o : Outcome) (io : Streams) (turns : List TraceTurn) → o.status ≡ 0 → WasServed (plain_task setup) turns o io ⊎ ((turns ≡ []) × (IsQuiet o io × EndsBy OutOfMemory o) × (o.board ≡ None)) → WasServed (plain_task setup) turns o io
 plain-served setup o io turns done (inl served) = served
-plain-served setup o io turns done (inr (none, (quiet, out), boardless)) = absurd (let zero = done.status in let eight = out.status in omega arith)
+plain-served setup o io turns done (inr (none, (quiet, out), boardless)) = absurd (let eight = out.status in omega arith)
 
-both-tasks : OneAnswer → (setup : Setup) (returns : ℕ) (bytes : List ℕ) (o p : Outcome) (io jo : Streams) → WasDone (run_task setup returns) o io → WasDone (plain_task setup) p jo → io.from.left ≡ Some bytes → jo.from.left ≡ Some bytes → HasNoStat bytes → EndsBy Done o → EndsBy Done p → NothingFailed o.board → (text : List ℕ) × Wrote text io × Wrote text jo
+both-tasks : OneAnswer → (setup : Setup) (returns : ℕ) (bytes : List ℕ) (o p : Outcome) (io jo : Streams) → WasDone (run_task setup returns) o io → WasDone (plain_task setup) p jo → io.from.left ≡ Some bytes → jo.from.left ≡ Some bytes → HasNoStat bytes → o.status ≡ 0 → p.status ≡ 0 → NothingFailed o.board → (text : List ℕ) × Wrote text io × Wrote text jo
 both-tasks one setup returns bytes o p io jo run plain told also no_stat done also_done well =
     both-done one setup returns bytes o p io jo run.turns plain.turns
     (is-done (run_task setup returns) run.turns o io bytes done told (run-served setup returns o io run.turns done run.answers))
     (is-done (plain_task setup) plain.turns p jo bytes also_done also (plain-served setup p jo plain.turns also_done plain.answers))
     run.licences no_stat well
 
-out-never : (o : Outcome) (io : Streams) → EndsBy Done o → IsWithoutMemory o io → ⊥
+out-never : (o : Outcome) (io : Streams) → o.status ≡ 0 → IsWithoutMemory o io → ⊥
 out-never o io done without = never-unready o done (inl (IsWithoutMemory.memory without))
 
-pub write-alike : OneAnswer → (setup : Setup) (returns : ℕ) (bytes : List ℕ) (o p : Outcome) (io jo : Streams) → Headline (Ok (RunWords setup returns)) o io → Headline (Ok (PlainWords setup)) p jo → io.from.left ≡ Some bytes → jo.from.left ≡ Some bytes → HasNoStat bytes → EndsBy Done o → EndsBy Done p → NothingFailed o.board → (text : List ℕ) × Wrote text io × Wrote text jo
+pub write-alike : OneAnswer → (setup : Setup) (returns : ℕ) (bytes : List ℕ) (o p : Outcome) (io jo : Streams) → Headline (Ok (RunWords setup returns)) o io → Headline (Ok (PlainWords setup)) p jo → io.from.left ≡ Some bytes → jo.from.left ≡ Some bytes → HasNoStat bytes → o.status ≡ 0 → p.status ≡ 0 → NothingFailed o.board → (text : List ℕ) × Wrote text io × Wrote text jo
 write-alike one setup returns bytes o p io jo (inl run) (inl plain) told also no_stat done also_done well = both-tasks one setup returns bytes o p io jo (done_of (run_task setup returns) o io run) (done_of (plain_task setup) p jo plain) told also no_stat done also_done well
 write-alike one setup returns bytes o p io jo (inr without) plain told also no_stat done also_done well = absurd (out-never o io done without)
 write-alike one setup returns bytes o p io jo (inl run) (inr without) told also no_stat done also_done well = absurd (out-never p jo also_done without)

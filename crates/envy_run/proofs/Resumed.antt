@@ -1,6 +1,6 @@
 -- A trace behind an image, from what was said of the image and of the memory that was attached to its board.
 use Rattle.std.proofs.Common.{◌≡◌, ◌⊎◌, inl, inr, ℕ, ◌*◌, ◌<◌, ◌≤◌, List, [], ◌++◌, length, refl, sym, ◌∙◌, ap, subst, arith}
-use Rattle.std.specs.Prelude.{IfSome, IsErr, IsTrue, false, Option, None, Some, Result, Ok, Err, slice_index, sum}
+use Rattle.std.specs.Prelude.{IfSome, IsErr, IsTrue, true, false, Option, None, Some, Result, Ok, Err, slice_index, sum}
 use Rattle.std.specs.Option.{option_map}
 use Rattle.std.specs.Result.{is_err}
 use Rattle.std.proofs.lemmas.List.{append_assoc}
@@ -184,6 +184,10 @@ judged-sound verdict c is judges = subst (λ (v : Verdict). Judges v c) is judge
 pub checks-ok : (r : Result Unit SetupFault) → is_err r ≡ false → r ≡ Ok tt
 checks-ok (Ok done) is = refl
 checks-ok (Err fault) is = absurd cc
+
+-- a rule is broken
+pub checks-err : (r found : Result Unit SetupFault) → r ≡ found → is_err r ≡ true → IsErr found
+checks-err r found same is = sym (ap is_err same) ∙ is
 
 -- a verdict that isn't `Sound`
 unsound : (verdict : Verdict) (s : State) → IsBoard s → (verdict ≡ Sound → ⊥) → Judges verdict (chart s) → Judges Sound (chart s) → ⊥

@@ -95,7 +95,7 @@ module _ (setup : Setup) (returns : ℕ) (o : Outcome) (io : Streams) (does : Do
     where
       at : WasServed (run_task setup returns) task.turns o io ⊎ ((task.turns ≡ []) × IsUnread o io × IsUnready o) → (s : WasServed (run_task setup returns) task.turns o io) × (s.end ≡ EndDone)
       at (inl s) = (s, done-end s.end done s.ending)
-      at (inr (empty, unread, why)) = absurd (never-unready o done why)
+      at (inr (empty, unread, why)) = absurd (never-unready o (EndsBy.status done) why)
 
   done-turns : EndsBy Done o → Did (run_task setup returns) o task.turns
   done-turns done =

@@ -15,8 +15,7 @@ use Rattle.envy_trace.specs.declared.line.Line.{Line}
 use Rattle.envy_trace.specs.declared.line.Line.TheVariants.{Empty, Load, Look, Store, Begin, Put, Commit, Abort, Tick, Power, Cut, Bad, Stat}
 use Rattle.envy_trace.specs.declared.reply.Reply.{Reply}
 use Rattle.envy_trace.specs.declared.reply.Reply.TheVariants.{Restarted, Armed}
-use Rattle.envy_run.specs.Outcome.{Outcome, EndsBy}
-use Rattle.envy_run.specs.declared.ending.Ending.TheVariants.{Done}
+use Rattle.envy_run.specs.Outcome.{Outcome}
 use Rattle.envy_run.specs.Theorem.{Licenses}
 use Rattle.envy_run.specs.Turns.{said}
 
@@ -58,5 +57,5 @@ abbrev pub WriteAlike : Type 0
 WriteAlike = (setup : Setup) (returns : ℕ) (bytes : List ℕ) (o p : Outcome) (io jo : Streams)
     → Licenses (Ok (RunWords setup returns)) o io → Licenses (Ok (PlainWords setup)) p jo
     → io.from.left ≡ Some bytes → jo.from.left ≡ Some bytes → HasNoStat bytes
-    → EndsBy Done o → EndsBy Done p → NothingFailed o.board
+    → o.status ≡ 0 → p.status ≡ 0 → NothingFailed o.board
     → (text : List ℕ) × Wrote text io × Wrote text jo

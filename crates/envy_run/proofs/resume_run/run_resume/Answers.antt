@@ -8,7 +8,7 @@ use Rattle.envy_run.specs.Outcome.{outcome_of}
 use Rattle.envy_run.specs.Resumes.{setup_found}
 use Rattle.envy_run.specs.declared.ending.Ending.TheVariants.{ImageRefused}
 use Rattle.envy_run.specs.declared.ending.ImageFault.TheVariants.{Unsound}
-use Rattle.envy_run.proofs.Resumed.{checks-ok, installed-given, judged-sound, resume-declined, resume-headless, resume-sound, resume-unsound, stopped-ends}
+use Rattle.envy_run.proofs.Resumed.{checks-err, checks-ok, installed-given, judged-sound, resume-declined, resume-headless, resume-sound, resume-unruly, resume-unsound, stopped-ends}
 use Rattle.envy_run.proofs.resume_run.run_resume.Goals as goal
 
 pub serve_image-requires-clause-installed : goal.serve_image-requires-clause-installed
@@ -25,6 +25,10 @@ pub serve_image-requires-clause-taken : goal.serve_image-requires-clause-taken
 serve_image-requires-clause-taken g c =
     let l = c.in-Ok-take_image.ensures (g.S.Source.feed c.args.source.now) c.in-Ok.ensures.0 in
     (g.S.Source.feed c.args.source.now, Loaded.taken l)
+
+pub returns-then-is_err-clause-resumes : goal.returns-then-is_err-clause-resumes
+returns-then-is_err-clause-resumes g c =
+    resume-unruly g.M.Made.Board.state (setup_found c.args.words.now.policy c.args.words.now.limit c.args.words.now.mark) c.setup_over-setup.result c.in-Ok.shape c.args.words.now.lives c.taken-then-is_err.result c.stopped_at.result (g.S.Source.feed c.args.source.now) (g.S.Source.feed c.take_head.new.source) (g.K.Sink.drain c.args.sink.now) c.take_head.new.lines c.stopped_at.ensures c.taken-then-is_err.ensures c.setup_over-setup.ensures (checks-err c.check.result (checked c.setup_over-setup.result) c.check.ensures.table (sym c.if-is_err.ensures.value)) c.in-Ok.ensures.1 c.in-Ok.ensures.0
 
 pub returns-in-Sound-clause-resumes : goal.returns-in-Sound-clause-resumes
 returns-in-Sound-clause-resumes g c =

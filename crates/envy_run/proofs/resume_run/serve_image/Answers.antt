@@ -25,4 +25,4 @@ serve-served-requires-clause-begun g c =
 pub returns-clause-does : goal.returns-clause-does
 returns-clause-does g c =
     let (from, t) = c.requires.taken in
-    image-ended c.args.setup (g.B.Board.state c.args.board) c.requires.installed g.B.Board.state c.in-Ok.memory c.serve-served.new.service.memory c.serve-served.result.end c.serve-served.result.lines c.serve-served.result.taken c.args.lines.taken c.into_board.result c.ended_with.result (record { from = g.S.Source.feed c.args.source.now; feed = g.S.Source.feed c.serve-served.new.source; to = g.K.Sink.drain c.args.sink.now; sink = g.K.Sink.drain c.serve-served.new.sink }) c.ended_with.ensures c.into_board.ensures.same (HasTaken.taken t) (let few = c.serve-served.ensures.few in let read = c.serve-served.ensures.read in omega arith) (IsShape.entries (shape-of-checked c.args.setup c.requires.setup)) c.in-Ok.ensures c.serve-served.ensures.serves
+    image-ended c.args.setup (g.B.Board.state c.args.board) c.requires.installed g.B.Board.state c.in-Ok.memory c.serve-served.new.service.memory c.serve-served.result.end c.serve-served.result.lines c.serve-served.result.taken c.args.lines.taken c.into_board.result c.finished_with.result (record { from = g.S.Source.feed c.args.source.now; feed = g.S.Source.feed c.serve-served.new.source; to = g.K.Sink.drain c.args.sink.now; sink = g.K.Sink.drain c.serve-served.new.sink }) c.finished_with.ensures c.into_board.ensures.same (HasTaken.taken t) (let few = c.serve-served.ensures.few in let read = c.serve-served.ensures.read in omega arith) (IsShape.entries (shape-of-checked c.args.setup c.requires.setup)) c.in-Ok.ensures c.serve-served.ensures.serves

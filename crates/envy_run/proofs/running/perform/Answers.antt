@@ -44,6 +44,13 @@ returns-in-Resume-clause-headline g c =
     let io : Streams = record { from = g.S.Source.feed c.args.source.now; feed = g.S.Source.feed c.run_resume.new.source; to = g.K.Sink.drain c.args.sink.now; sink = g.K.Sink.drain c.run_resume.new.sink } in
     subst (λ (x : Command). Headline (Ok x) o io) (sym c.in-Resume.is) (inl c.run_resume.ensures.resumes)
 
+pub returns-in-Tpca-clause-headline : goal.returns-in-Tpca-clause-headline
+returns-in-Tpca-clause-headline g c =
+    let o : Outcome = outcome_of g.M.Made.Board.state c.run_tpca.result in
+    let feed = g.S.Source.feed c.args.source.now in
+    let io : Streams = record { from = feed; feed = feed; to = g.K.Sink.drain c.args.sink.now; sink = g.K.Sink.drain c.run_tpca.new.sink } in
+    subst (λ (x : Command). Headline (Ok x) o io) (sym c.in-Tpca.is) (inl (c.run_tpca.ensures.drives feed))
+
 pub returns-in-Tpca-clause-told : goal.returns-in-Tpca-clause-told
 returns-in-Tpca-clause-told g c = λ kind.
     let o : Outcome = outcome_of g.M.Made.Board.state c.run_tpca.result in
