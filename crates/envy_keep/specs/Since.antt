@@ -13,8 +13,8 @@ use Rattle.envy_trace.specs.declared.fault.LineFault.TheVariants.{Long}
 use Rattle.envy_trace.specs.declared.reply.Reply.TheVariants.{Lost}
 use Rattle.envy_keep_trace.specs.declared.keep_reply.KeepReply.TheVariants.{Trace as TraceReply}
 use Rattle.envy_keep_trace.specs.Keep.{keep_line_of}
-use Rattle.envy_run.specs.Done.{Start as RunStart}
 use Rattle.envy_run.specs.Tells.{Telling}
+use Rattle.envy_run.specs.Tracing.{Start as RunStart}
 use Rattle.envy_keep.specs.Turns.{KeepTurn, KeepRun, LosesKeep, synced_turns, trace_turns}
 
 -- what a service over a kept memory begins with

@@ -1,18 +1,21 @@
 -- Where nothing goes wrong, no end but the good one is left.
-use Rattle.std.proofs.Common.{◌≡◌, ◌⊎◌, inl, inr, ℕ, ◌<◌, ◌≤◌, List, [], ◌∷◌, length, sym, ◌∙◌, ap, subst, arith}
+use Rattle.std.proofs.Common.{◌≡◌, ◌⊎◌, inl, inr, ℕ, ◌<◌, ◌≤◌, List, [], ◌∷◌, length, refl, sym, ◌∙◌, ap, subst, arith}
 use Rattle.std.specs.Option.{option_map}
-use Rattle.std.specs.Prelude.{IsTrue, Option, Result, Ok, Err}
+use Rattle.std.specs.Prelude.{IsTrue, false, Option, None, Some, Result, Ok, Err}
 use Rattle.envy_args.specs.declared.command.Command.{Command}
 use Rattle.envy_args.specs.declared.command.Command.TheVariants.{Run, Plain, Tpca, Gen, Save, Resume, Audit, Segments, Index, Mirror}
 use Rattle.envy_args.specs.declared.command.WordsFault.{WordsFault}
-use Rattle.envy_args.specs.declared.command.WordsFault.TheVariants.{Memory}
+use Rattle.envy_args.specs.declared.command.WordsFault.TheVariants.{Form, Setup as Rule, Memory}
 use Rattle.envy_args.specs.Words.{Text, command_of}
 use Rattle.envy_base.specs.Array.{Array}
+use Rattle.envy_base.specs.State.{State}
 use Rattle.envy_base.specs.declared.area.Area.{Area}
 use Rattle.envy_base.specs.declared.shape.Shape.{Shape}
 use Rattle.envy_gen.specs.Traces.{trace_bytes}
+use Rattle.envy_io.specs.Streams.{Drain, Feed}
 use Rattle.envy_map.specs.Fields.{Chart}
 use Rattle.envy_policy.specs.declared.setup.Setup.{Setup}
+use Rattle.envy_serve.specs.declared.serving.End.{End}
 use Rattle.envy_serve.specs.declared.serving.End.TheVariants.{Done as EndDone}
 use Rattle.envy_serve.specs.Ends.{most_bytes}
 use Rattle.envy_serve.specs.GoodTrace.{StaysLow, IsGoodTrace}
@@ -20,149 +23,159 @@ use Rattle.envy_serve.specs.Grammar.{Grammar, silent}
 use Rattle.envy_serve.specs.Streams.{Streams}
 use Rattle.envy_serve.specs.Turns.{Turn}
 use Rattle.envy_serve.proofs.GoodTraces.{good-ends, still-written}
+use Rattle.envy_tpca.specs.declared.sums.Sums.{Sums}
 use Rattle.envy_trace.specs.declared.fault.LineFault.TheVariants.{Long}
+use Rattle.envy_trace.specs.declared.line.Line.{Line}
+use Rattle.envy_trace.specs.declared.reply.Reply.{Reply}
 use Rattle.envy_gen.specs.declared.mix.Mix.{Mix}
 use Rattle.envy_run.specs.Audits.{IsMap, IsVerdict}
 use Rattle.envy_run.specs.Complete.{HoldsImage, HoldsTrace, IsWell, IsWellInstalled, IsComplete, Completes}
-use Rattle.envy_run.specs.Done.{HasDied, DiesIn}
-use Rattle.envy_run.specs.Drives.{Breaks, Drives, Reports, report}
-use Rattle.envy_run.specs.Headline.{Headline, IsUnserved, run_task, save_task, index_task, plain_task, WritesTrace, IsDark, IsSpoilt, IsOutOfMemory, IsWithoutMemory, Generates, zeros_of}
-use Rattle.envy_run.specs.IndexDone.{HasIndexDied, IndexDiesIn}
+use Rattle.envy_run.specs.Done.{HoldsOff}
+use Rattle.envy_run.specs.Drives.{MaybePaid, MaybeTold, TellsSums, driving, report}
+use Rattle.envy_run.specs.Headline.{Headline, run_task, save_task, index_task, plain_task, IsWithoutMemory, Generates, Refuses, boardless, meaning_of}
+use Rattle.envy_run.specs.IndexDone.{HoldsIndexOff}
 use Rattle.envy_run.specs.IndexServing.{long_index}
-use Rattle.envy_run.specs.IndexTurns.{IndexTurn, index_grammar}
-use Rattle.envy_run.specs.Outcome.{Outcome, IsQuiet, status_of}
-use Rattle.envy_run.specs.Resumes.{IsUnattached, Resumes, resume_task, setup_found, words_found}
-use Rattle.envy_run.specs.Runs.{IsAlone, Runs}
-use Rattle.envy_run.specs.Task.{Task, IsServed, DoesTask}
+use Rattle.envy_run.specs.IndexTurns.{index_grammar}
+use Rattle.envy_run.specs.Meaning.{Meaning, Does}
+use Rattle.envy_run.specs.MirrorTask.{mirror_task}
+use Rattle.envy_run.specs.Outcome.{Outcome, EndsBy, IsQuiet, ending_of, outcome_of}
+use Rattle.envy_run.specs.Resumes.{FoundUnsound, HoldsImageStill, IsLeftBy, IsUnattached, LicencesOf, Misfit, Refused, Resumes, Resumption, TakenUp, TakesUp, resume_task, resuming, setup_found}
+use Rattle.envy_run.specs.Task.{MaybeHeld, Session, Task, turns_of}
+use Rattle.envy_run.specs.Theorem.{IsAlone, IsAloneIn, Leaves, Prints}
 use Rattle.envy_run.specs.Tracing.{long_any}
-use Rattle.envy_run.specs.Turns.{TraceTurn, trace_grammar}
-use Rattle.envy_run.proofs.Audited.{completes-tells, image-taken}
+use Rattle.envy_run.specs.Turns.{trace_grammar}
+use Rattle.envy_run.specs.Unserved.{IsDark, IsOutOfMemory, IsSpoilt, IsUnread, IsUnready}
+use Rattle.envy_run.specs.Writing.{WritesTrace}
+use Rattle.envy_run.specs.declared.ending.Ending.TheVariants.{Done, OutOfMemory, WordsRefused}
+use Rattle.envy_run.specs.declared.ending.Finished.{Finished}
+use Rattle.envy_run.proofs.Accounts.{Did, Died, WasDone, WasServed, done_of}
+use Rattle.envy_run.proofs.Audited.{completes-judging, image-taken}
 use Rattle.envy_run.proofs.MirrorWell.{completes-mirror}
 use Rattle.envy_run.proofs.Resumed.{good-behind, never-unruly, never-unsound}
 
-died-off : (first : Array) (now : Chart) (turns : List TraceTurn) → IsTrue now.on ⊎ (0 < now.lives) → HasDied first now turns → ⊥
-died-off first now [] well died = died
-died-off first now (turn ∷ earlier) (inl on) died = let off = DiesIn.off died in cc
-died-off first now (turn ∷ earlier) (inr some) died = let none = DiesIn.dead died in omega arith
+-- a board that is off for good isn't one whose power is on or can return
+lit-dead : (now : Chart) → IsTrue now.on ⊎ (0 < now.lives) → now.on ≡ false → now.lives ≡ 0 → ⊥
+lit-dead now (inl on) off none = cc
+lit-dead now (inr some) off none = omega arith
 
 -- a task that served a good trace is done
-task-well : {Line Reply : Type 0} (w : Task Line Reply) (turns : List (Turn Line Reply)) (o : Outcome) (io : Streams) → ((p : List ℕ) → 120 < length p → Grammar.reads w.grammar p ≡ Err Long) → IsServed w turns o io → IsGoodTrace w.grammar w.skipped io → (w.Dead o turns → ⊥) → o.status ≡ 0
-task-well w turns o io long s good alive = at (good-ends s.end o.lines o.taken w.grammar w.skipped (w.Done o) (w.Dead o) (w.tail o) turns io long s.serves good)
+task-well : {Line Reply Left : Type 0} (w : Task Line Reply Left) (turns : List (Turn Line Reply)) (o : Outcome) (io : Streams) → ((p : List ℕ) → 120 < length p → Grammar.reads w.grammar p ≡ Err Long) → WasServed w turns o io → IsGoodTrace w.grammar w.skipped io → (Died w o turns → ⊥) → EndsBy Done o
+task-well w turns o io long s good alive = at (good-ends s.end o.lines o.taken w.grammar w.skipped (Did w o) (Died w o) (w.tail o) turns io long s.serves good)
   where
-    at : (s.end ≡ EndDone) ⊎ w.Dead o turns → o.status ≡ 0
-    at (inl done) = s.status ∙ ap status_of done
+    at : (s.end ≡ EndDone) ⊎ Died w o turns → EndsBy Done o
+    at (inl done) = subst (λ (end : End). EndsBy (ending_of end) o) done s.ending
     at (inr dead) = absurd (alive dead)
 
 -- no line was read for want of memory alone
-unserved-well : (o : Outcome) (io : Streams) → IsUnserved o io → IsWell o → IsComplete o
-unserved-well o io (quiet, inl out) well = inr (IsOutOfMemory.status out)
-unserved-well o io (quiet, inr (inl spoilt)) well = absurd (let (c, is, some) = IsSpoilt.cause spoilt in let none_bad = IsWell.bads well c is (IsQuiet.taken quiet) in omega arith)
-unserved-well o io (quiet, inr (inr dark)) well = absurd (dark-off dark (IsWell.returns well dark.now dark.board_is))
-  where
-    dark-off : (dark : IsDark o) → IsTrue dark.now.on ⊎ (0 < dark.now.lives) → ⊥
-    dark-off dark (inl on) = let off = IsDark.off dark in cc
-    dark-off dark (inr some) = let none_left = IsDark.lives dark in omega arith
+unready-well : (o : Outcome) → o.taken ≡ 0 → IsUnready o → IsWell o → IsComplete o
+unready-well o taken (inl out) well = inr (IsOutOfMemory.ending out)
+unready-well o taken (inr (inl spoilt)) well = absurd (let (c, is, some) = IsSpoilt.cause spoilt in let none_bad = IsWell.bads well c is taken in omega arith)
+unready-well o taken (inr (inr dark)) well = absurd (lit-dead dark.now (IsWell.returns well dark.now dark.board_is) dark.off dark.lives)
 
-completes-run : (setup : Setup) (returns : ℕ) (o : Outcome) (io : Streams) (d : DoesTask (run_task setup returns) o io) → IsGoodTrace trace_grammar 0 io → IsWell o → IsComplete o
+completes-run : (setup : Setup) (returns : ℕ) (o : Outcome) (io : Streams) (d : WasDone (run_task setup returns) o io) → IsGoodTrace trace_grammar 0 io → IsWell o → IsComplete o
 completes-run setup returns o io d good well = at d.answers
   where
-    at : IsServed (run_task setup returns) d.turns o io ⊎ ((d.turns ≡ []) × IsUnserved o io) → IsComplete o
-    at (inl served) = inl (task-well (run_task setup returns) d.turns o io long_any served good (λ (now, is, died). died-off (zeros_of setup) now d.turns (IsWell.returns well now is) died))
-    at (inr (none, unserved)) = unserved-well o io unserved well
+    at : WasServed (run_task setup returns) d.turns o io ⊎ ((d.turns ≡ []) × IsUnread o io × IsUnready o) → IsComplete o
+    at (inl served) = inl (task-well (run_task setup returns) d.turns o io long_any served good (λ (m, dies, (now, is, off)). lit-dead now (IsWell.returns well now is) (HoldsOff.off off) (HoldsOff.dead off)))
+    at (inr (none, (quiet, ending), why)) = unready-well o quiet.taken why well
 
-completes-save : (setup : Setup) (returns : ℕ) (o : Outcome) (io : Streams) (d : DoesTask (save_task setup returns) o io) → IsGoodTrace trace_grammar 0 io → IsWell o → IsComplete o
+completes-save : (setup : Setup) (returns : ℕ) (o : Outcome) (io : Streams) (d : WasDone (save_task setup returns) o io) → IsGoodTrace trace_grammar 0 io → IsWell o → IsComplete o
 completes-save setup returns o io d good well = at d.answers
   where
     silent-good : IsGoodTrace (silent trace_grammar) 0 io
     silent-good = record { bytes = good.bytes; told = good.told; short = good.short; lines = good.lines; reads = good.reads; writes = good.writes }
 
-    at : IsServed (save_task setup returns) d.turns o io ⊎ ((d.turns ≡ []) × IsUnserved o io) → IsComplete o
-    at (inl served) = inl (task-well (save_task setup returns) d.turns o io long_any served silent-good (λ (now, is, died). died-off (zeros_of setup) now d.turns (IsWell.returns well now is) died))
-    at (inr (none, unserved)) = unserved-well o io unserved well
+    at : WasServed (save_task setup returns) d.turns o io ⊎ ((d.turns ≡ []) × IsUnread o io × IsUnready o) → IsComplete o
+    at (inl served) = inl (task-well (save_task setup returns) d.turns o io long_any served silent-good (λ (m, dies, (now, is, off)). lit-dead now (IsWell.returns well now is) (HoldsOff.off off) (HoldsOff.dead off)))
+    at (inr (none, (quiet, ending), why)) = unready-well o quiet.taken why well
 
-fallen-off : (now : Chart) (turns : List IndexTurn) → IsTrue now.on ⊎ (0 < now.lives) → HasIndexDied now turns → ⊥
-fallen-off now [] well died = died
-fallen-off now (turn ∷ earlier) (inl on) died = let off = IndexDiesIn.off died in cc
-fallen-off now (turn ∷ earlier) (inr some) died = let none = IndexDiesIn.dead died in omega arith
-
-completes-index : (setup : Setup) (returns : ℕ) (o : Outcome) (io : Streams) (d : DoesTask (index_task setup returns) o io) → IsGoodTrace index_grammar 0 io → IsWell o → IsComplete o
+completes-index : (setup : Setup) (returns : ℕ) (o : Outcome) (io : Streams) (d : WasDone (index_task setup returns) o io) → IsGoodTrace index_grammar 0 io → IsWell o → IsComplete o
 completes-index setup returns o io d good well = at d.answers
   where
-    at : IsServed (index_task setup returns) d.turns o io ⊎ ((d.turns ≡ []) × IsUnserved o io) → IsComplete o
-    at (inl served) = inl (task-well (index_task setup returns) d.turns o io long_index served good (λ (now, is, died). fallen-off now d.turns (IsWell.returns well now is) died))
-    at (inr (none, (quiet, inl out))) = inr (IsOutOfMemory.status out)
-    at (inr (none, (quiet, inr (inl spoilt)))) = absurd (let (c, is, some) = IsSpoilt.cause spoilt in let none_bad = IsWell.bads well c is (IsQuiet.taken quiet) in omega arith)
-    at (inr (none, (quiet, inr (inr dark)))) = absurd (dark-off dark (IsWell.returns well dark.now dark.board_is))
-      where
-        dark-off : (dark : IsDark o) → IsTrue dark.now.on ⊎ (0 < dark.now.lives) → ⊥
-        dark-off dark (inl on) = let off = IsDark.off dark in cc
-        dark-off dark (inr some) = let none_left = IsDark.lives dark in omega arith
+    at : WasServed (index_task setup returns) d.turns o io ⊎ ((d.turns ≡ []) × IsUnread o io × IsUnready o) → IsComplete o
+    at (inl served) = inl (task-well (index_task setup returns) d.turns o io long_index served good (λ (pairs, dies, (now, is, off)). lit-dead now (IsWell.returns well now is) (HoldsIndexOff.off off) (HoldsIndexOff.dead off)))
+    at (inr (none, (quiet, ending), why)) = unready-well o quiet.taken why well
 
-completes-plain : (setup : Setup) (o : Outcome) (io : Streams) (d : DoesTask (plain_task setup) o io) → IsGoodTrace trace_grammar 0 io → IsComplete o
+completes-plain : (setup : Setup) (o : Outcome) (io : Streams) (d : WasDone (plain_task setup) o io) → IsGoodTrace trace_grammar 0 io → IsComplete o
 completes-plain setup o io d good = at d.answers
   where
-    at : IsServed (plain_task setup) d.turns o io ⊎ ((d.turns ≡ []) × (IsQuiet o io × IsOutOfMemory o)) → IsComplete o
-    at (inl served) = inl (task-well (plain_task setup) d.turns o io long_any served good (λ never. never))
-    at (inr (none, (quiet, out))) = inr (IsOutOfMemory.status out)
+    at : WasServed (plain_task setup) d.turns o io ⊎ ((d.turns ≡ []) × (IsQuiet o io × EndsBy OutOfMemory o) × (o.board ≡ None)) → IsComplete o
+    at (inl served) = inl (task-well (plain_task setup) d.turns o io long_any served good (λ (m, never, none). never))
+    at (inr (none, (quiet, out), boardless)) = inr out
 
 completes-gen : (start count : ℕ) (mix : Mix) (o : Outcome) (io : Streams) → Generates start count mix o io → StaysLow io.to.faults io.sink.faults → IsComplete o
 completes-gen start count mix o io g low = at g.writes
   where
-    at : WritesTrace (trace_bytes start count mix) o.status io.to io.sink → IsComplete o
+    at : WritesTrace (trace_bytes start count mix) o io.to io.sink → IsComplete o
     at (inl (done, written, flushed)) = inl done
     at (inr (failed, front)) = absurd (still-written (trace_bytes start count mix) io.to io.to io.sink low (omega arith) front)
 
-completes-tpca : (setup : Setup) (returns start : ℕ) (area : Area) (every : ℕ) (o : Outcome) (io : Streams) → Drives setup returns start area every o io → StaysLow io.to.faults io.sink.faults → IsWell o → IsComplete o
-completes-tpca setup returns start area every o io d low well = at d.ends
+completes-tpca : (setup : Setup) (returns start : ℕ) (area : Area) (every : ℕ) (o : Outcome) (io : Streams) → Does (driving setup returns start area every) o io → StaysLow io.to.faults io.sink.faults → IsWell o → IsComplete o
+completes-tpca setup returns start area every o io d low well = at d.account d.printed d.board
   where
-    told : (text : List ℕ) → WritesTrace text o.status io.to io.sink → IsComplete o
+    told : (text : List ℕ) → WritesTrace text o io.to io.sink → IsComplete o
     told text (inl (done, written, flushed)) = inl done
     told text (inr (failed, front)) = absurd (still-written text io.to io.to io.sink low (omega arith) front)
 
-    at : Reports setup returns start area every o io ⊎ Breaks setup start area o io → IsComplete o
-    at (inl r) = told (report area r.sums) r.writes
-    at (inr b) = unserved-well o io b.unserved well
+    at : (account : Option Sums) → MaybeTold start area account o io → MaybePaid setup start area account o → IsComplete o
+    at (Some sums) tells paid = told (report area sums) (TellsSums.writes tells)
+    at None (quiet, ending) (why, found) = unready-well o quiet.taken why well
 
-completes-resume : (setup : Shape → Setup) (returns : ℕ) (o : Outcome) (io : Streams) → Resumes setup returns o io → (holds : HoldsImage io) → HoldsTrace setup io holds → IsWellInstalled o → IsComplete o
-completes-resume setup returns o io (inl t) holds trace well = at (DoesTask.answers t.does)
+completes-resume : (setup : Shape → Setup) (returns : ℕ) (o : Outcome) (io : Streams) → Does (resuming setup returns) o io → (holds : HoldsImage io) → HoldsTrace setup io holds → IsWellInstalled o → IsComplete o
+completes-resume setup returns o io d holds trace well = at d.account d.printed d.board d.licences
   where
-    dark-off : (dark : IsDark o) → IsTrue dark.now.on ⊎ (0 < dark.now.lives) → ⊥
-    dark-off dark (inl on) = let off = dark.off in cc
-    dark-off dark (inr some) = let none_left = dark.lives in omega arith
+    cause : IsOutOfMemory o ⊎ IsDark o → IsComplete o
+    cause (inl out) = inr out.ending
+    cause (inr dark) = absurd (lit-dead dark.now (well.returns dark.now dark.board_is) dark.off dark.lives)
 
-    at : IsServed (resume_task t.found (setup t.found.shape) returns) (DoesTask.turns t.does) o (record io { from = record { left = t.behind; faults = io.from.faults } }) ⊎ ((DoesTask.turns t.does ≡ []) × IsUnattached t.found o (record io { from = record { left = t.behind; faults = io.from.faults } })) → IsComplete o
-    at (inl served) = inl (task-well (resume_task t.found (setup t.found.shape) returns) (DoesTask.turns t.does) o (record io { from = record { left = t.behind; faults = io.from.faults } }) long_any served (good-behind setup returns o io holds trace t.found t.behind t.whole t.image) (λ (now, is, died). died-off (words_found t.found) now (DoesTask.turns t.does) (well.returns now is) died))
-    at (inr (none, u)) = cause (IsUnattached.cause u)
+    taken : (found : State) (behind : Option (List ℕ)) (session : Option (Session Line Reply Array)) (t : TakesUp setup returns found behind session o io) → MaybeHeld (resume_task found (setup found.shape) returns) session o → Task.Licences (resume_task found (setup found.shape) returns) o (turns_of session) → IsComplete o
+    taken found behind session t held licences = each (WasDone.answers done)
       where
-        cause : IsOutOfMemory o ⊎ IsDark o → IsComplete o
-        cause (inl out) = inr out.status
-        cause (inr dark) = absurd (dark-off dark (well.returns dark.now dark.board_is))
-completes-resume setup returns o io (inr (inl (refusal, d))) holds trace well = inr (image-taken refusal d.bytes returns o io holds well.installed d.refuses)
-completes-resume setup returns o io (inr (inr (inl b))) holds trace well = absurd (never-unruly setup returns o io holds trace b)
-completes-resume setup returns o io (inr (inr (inr u))) holds trace well = absurd (never-unsound setup returns o io holds trace u)
+        w : Task Line Reply Array
+        w = resume_task found (setup found.shape) returns
+
+        jo : Streams
+        jo = record io { from = record { left = behind; faults = io.from.faults } }
+
+        done : WasDone w o jo
+        done = done_of w o jo (record { account = session; printed = t.served; board = held; licences = licences })
+
+        each : WasServed w done.turns o jo ⊎ ((done.turns ≡ []) × IsUnattached found o jo × HoldsImageStill found o) → IsComplete o
+        each (inl served) = inl (task-well w done.turns o jo long_any served (good-behind setup returns o io holds trace found behind t.whole t.image) (λ (m, dies, (now, is, off)). lit-dead now (well.returns now is) (HoldsOff.off off) (HoldsOff.dead off)))
+        each (inr (none, unread, still)) = cause still.cause
+
+    at : (account : Resumption) → Resumes setup returns account o io → IsLeftBy setup returns account o → LicencesOf setup returns account o → IsComplete o
+    at (TakenUp found behind session) t held licences = taken found behind session t held licences
+    at (Refused refusal bytes) declines unharmed none = inr (image-taken refusal bytes o io holds well.installed declines.refuses)
+    at (Misfit sh) breaks none also_none = absurd (never-unruly setup returns o io holds trace sh breaks)
+    at (FoundUnsound found) unsound left none = absurd (never-unsound setup returns o io holds trace found left unsound)
+
+-- for want of memory
+without-complete : (o : Outcome) (io : Streams) → IsWithoutMemory o io → IsComplete o
+without-complete o io without = inr (IsOutOfMemory.ending (IsWithoutMemory.memory without))
 
 -- what is done for a command is complete where all goes well
 pub completes : (command : Result Command WordsFault) (o : Outcome) (io : Streams) → Headline command o io → Completes command o io
-completes (Ok (Run setup returns)) o io (inl runs) = λ good well. completes-run setup returns o io runs good well
-completes (Ok (Run setup returns)) o io (inr without) = λ good well. inr (IsOutOfMemory.status (IsWithoutMemory.memory without))
-completes (Ok (Plain setup)) o io (inl calm) = λ good. completes-plain setup o io calm good
-completes (Ok (Plain setup)) o io (inr without) = λ good. inr (IsOutOfMemory.status (IsWithoutMemory.memory without))
-completes (Ok (Gen start count mix)) o io (inl generates) = λ low. completes-gen start count mix o io generates low
-completes (Ok (Gen start count mix)) o io (inr without) = λ low. inr (IsOutOfMemory.status (IsWithoutMemory.memory without))
+completes (Ok (Run setup returns)) o io (inl runs) = λ good well. completes-run setup returns o io (done_of (run_task setup returns) o io runs) good well
+completes (Ok (Run setup returns)) o io (inr without) = λ good well. without-complete o io without
+completes (Ok (Plain setup)) o io (inl calm) = λ good. completes-plain setup o io (done_of (plain_task setup) o io calm) good
+completes (Ok (Plain setup)) o io (inr without) = λ good. without-complete o io without
+completes (Ok (Gen start count mix)) o io (inl generates) = λ low. completes-gen start count mix o io generates.printed low
+completes (Ok (Gen start count mix)) o io (inr without) = λ low. without-complete o io without
 completes (Ok (Tpca setup returns start area every)) o io (inl drives) = λ low well. completes-tpca setup returns start area every o io drives low well
-completes (Ok (Tpca setup returns start area every)) o io (inr without) = λ low well. inr (IsOutOfMemory.status (IsWithoutMemory.memory without))
-completes (Ok (Save setup returns)) o io (inl saves) = λ good well. completes-save setup returns o io saves good well
-completes (Ok (Save setup returns)) o io (inr without) = λ good well. inr (IsOutOfMemory.status (IsWithoutMemory.memory without))
+completes (Ok (Tpca setup returns start area every)) o io (inr without) = λ low well. without-complete o io without
+completes (Ok (Save setup returns)) o io (inl saves) = λ good well. completes-save setup returns o io (done_of (save_task setup returns) o io saves) good well
+completes (Ok (Save setup returns)) o io (inr without) = λ good well. without-complete o io without
 completes (Ok (Resume policy limit mark returns)) o io (inl resumes) = λ holds trace well. completes-resume (setup_found policy limit mark) returns o io resumes holds trace well
-completes (Ok (Resume policy limit mark returns)) o io (inr without) = λ holds trace well. inr (IsOutOfMemory.status (IsWithoutMemory.memory without))
-completes (Ok Audit) o io (inl audits) = λ holds calm. completes-tells IsVerdict o io audits holds calm
-completes (Ok Audit) o io (inr without) = λ holds calm. inr (IsOutOfMemory.status (IsWithoutMemory.memory without))
-completes (Ok Segments) o io (inl maps) = λ holds calm. completes-tells IsMap o io maps holds calm
-completes (Ok Segments) o io (inr without) = λ holds calm. inr (IsOutOfMemory.status (IsWithoutMemory.memory without))
-completes (Ok (Index setup returns)) o io (inl indexes) = λ good well. completes-index setup returns o io indexes good well
-completes (Ok (Index setup returns)) o io (inr without) = λ good well. inr (IsOutOfMemory.status (IsWithoutMemory.memory without))
-completes (Ok (Mirror setup returns)) o io (inl mirrors) = λ good well. completes-mirror setup returns o io mirrors good well
-completes (Ok (Mirror setup returns)) o io (inr without) = λ good well. inl (inr (IsOutOfMemory.status (IsWithoutMemory.memory without)))
+completes (Ok (Resume policy limit mark returns)) o io (inr without) = λ holds trace well. without-complete o io without
+completes (Ok Audit) o io (inl audits) = λ holds calm. completes-judging IsVerdict o io audits holds calm
+completes (Ok Audit) o io (inr without) = λ holds calm. without-complete o io without
+completes (Ok Segments) o io (inl maps) = λ holds calm. completes-judging IsMap o io maps holds calm
+completes (Ok Segments) o io (inr without) = λ holds calm. without-complete o io without
+completes (Ok (Index setup returns)) o io (inl indexes) = λ good well. completes-index setup returns o io (done_of (index_task setup returns) o io indexes) good well
+completes (Ok (Index setup returns)) o io (inr without) = λ good well. without-complete o io without
+completes (Ok (Mirror setup returns)) o io (inl mirrors) = λ good well. completes-mirror setup returns o io (done_of (mirror_task setup returns) o io mirrors) good well
+completes (Ok (Mirror setup returns)) o io (inr without) = λ good well. inl (without-complete o io without)
 completes (Err fault) o io done = tt
 
 -- what is said of a second board is said of its chart
@@ -179,7 +192,51 @@ alone-mapped Segments f second alone = ap (option_map f) alone
 alone-mapped (Index setup returns) f second alone = ap (option_map f) alone
 
 -- the command is that of the words
-pub runs-read : (words : List Text) (read : Result Command WordsFault) (command : Command) (o : Outcome) (io : Streams) → (read ≡ Err Memory) ⊎ (read ≡ command_of words) → read ≡ Ok command → Headline (Ok command) o io → o.lines ≤ o.taken → o.taken ≤ most_bytes → IsAlone command o.second → Runs (command_of words) o io
-runs-read words read command o io (inl none) e headline few taken alone = absurd (let never = none in cc)
-runs-read words read command o io (inr is) e headline few taken alone =
-    subst (λ (x : Result Command WordsFault). Runs x o io) (sym e ∙ is) (record { headline = headline; completes = completes (Ok command) o io headline; few = few; read = taken; alone = alone })
+pub headline-read : (words : List Text) (read : Result Command WordsFault) (command : Command) (o : Outcome) (io : Streams) → (read ≡ Err Memory) ⊎ (read ≡ command_of words) → read ≡ Ok command → Headline (Ok command) o io → Headline (command_of words) o io
+headline-read words read command o io (inl none) e headline = absurd (let never = none in cc)
+headline-read words read command o io (inr is) e headline = subst (λ (x : Result Command WordsFault). Headline x o io) (sym e ∙ is) headline
+
+pub alone-read : (words : List Text) (read : Result Command WordsFault) (command : Command) (o : Outcome) → (read ≡ Err Memory) ⊎ (read ≡ command_of words) → read ≡ Ok command → IsAlone command o.second → IsAloneIn (command_of words) o
+alone-read words read command o (inl none) e alone = absurd (let never = none in cc)
+alone-read words read command o (inr is) e alone = subst (λ (x : Result Command WordsFault). IsAloneIn x o) (sym e ∙ is) alone
+
+-- words that are refused by the rule of this number
+pub words-refused : {B : Type 0} (state : B → State) (told rule : ℕ) (e : Finished B) (feed : Feed) (sink : Drain) → told ≡ rule → e ≡ record { ending = WordsRefused told; lines = 0; taken = 0; board = None; second = None } → Does (boardless (Refuses rule)) (outcome_of state e) (record { from = feed; feed = feed; to = sink; sink = sink })
+words-refused {B} state told rule e feed sink same is =
+    let io : Streams = record { from = feed; feed = feed; to = sink; sink = sink } in
+    subst (λ (n : ℕ). Does (boardless (Refuses n)) (outcome_of state e) io) same
+    (subst (λ (x : Finished B). Does (boardless (Refuses told)) (outcome_of state x) io) (sym is)
+    (record {
+      account = tt;
+      printed = record { ending = record { status = refl; why = refl }; quiet = record { lines = refl; taken = refl; source = refl; sink = refl } };
+      board = refl;
+      licences = tt;
+    }))
+
+-- and of those words
+pub headline-refused : (words : List Text) (read : Result Command WordsFault) (fault : WordsFault) (o : Outcome) (io : Streams) → (read ≡ Err Memory) ⊎ (read ≡ command_of words) → read ≡ Err fault → (fault ≡ Memory → ⊥) → Does (meaning_of (Err fault)) o io → Headline (command_of words) o io
+headline-refused words read fault o io (inl none) e other does = absurd (other cc)
+headline-refused words read fault o io (inr is) e other does = subst (λ (x : Result Command WordsFault). Headline x o io) (sym e ∙ is) (inl does)
+
+-- neither fault is want of memory
+pub form-known : Form ≡ Memory → ⊥
+form-known same = cc
+
+pub rule-known : (rule : ℕ) → Rule rule ≡ Memory → ⊥
+rule-known rule same = cc
+
+-- of what is done for a command, what is printed, and what is left
+
+pub prints : (command : Result Command WordsFault) (o : Outcome) (io : Streams) → Headline command o io → o.lines ≤ o.taken → o.taken ≤ most_bytes → Prints command o io
+prints command o io headline few read = record { answers = at headline; few = few; read = read }
+  where
+    at : Headline command o io → ((account : Meaning.Account (meaning_of command)) × Meaning.Printed (meaning_of command) account o io) ⊎ IsWithoutMemory o io
+    at (inl does) = inl (does.account, does.printed)
+    at (inr without) = inr without
+
+pub leaves : (command : Result Command WordsFault) (o : Outcome) (io : Streams) → Headline command o io → IsAloneIn command o → Leaves command o io
+leaves command o io headline alone = record { holds = at headline; alone = alone }
+  where
+    at : Headline command o io → ((account : Meaning.Account (meaning_of command)) × Meaning.Printed (meaning_of command) account o io × Meaning.Board (meaning_of command) account o) ⊎ IsWithoutMemory o io
+    at (inl does) = inl (does.account, does.printed, does.board)
+    at (inr without) = inr without

@@ -27,13 +27,18 @@ use Rattle.envy_tpca.specs.Since.{IsPast, Keeps, Rises}
 use Rattle.envy_tpca.specs.Tpc.{Tpc}
 use Rattle.envy_run.specs.Counters.{AddsUp}
 use Rattle.envy_run.specs.Driven.{AfterLoad, HasBroken, HasTold, IsCause}
-use Rattle.envy_run.specs.Drives.{Breaks, Drives, FailsAsPlanned, IsCounted, IsDriver, IsUnbegun, Reports, TellsAll, TellsReturns, load_of}
-use Rattle.envy_run.specs.Outcome.{Outcome, outcome}
+use Rattle.envy_run.specs.Drives.{FailsAsPlanned, IsCounted, IsDriver, IsUnbegun, TellsAll, TellsReturns, driving, load_of, report}
+use Rattle.envy_run.specs.Meaning.{Does}
+use Rattle.envy_run.specs.Outcome.{Outcome, EndsBy, IsQuiet, numbers_of, outcome_of}
 use Rattle.envy_run.specs.Licence.{RoseOver}
-use Rattle.envy_run.specs.Prepares.{HasTried, IsPrepared, IsReady}
-use Rattle.envy_run.specs.Unserved.{IsDark, IsOutOfMemory, IsSpoilt, IsUnserved}
-use Rattle.envy_run.specs.declared.ended.Ended.{Ended}
-use Rattle.envy_run.proofs.Traced.{Began, adds-up, began}
+use Rattle.envy_run.specs.Prepares.{HasTried, IsBegun, IsPrepared, IsReady, NoneBegun, WasMade}
+use Rattle.envy_run.specs.Unserved.{IsUnready, IsUnserved}
+use Rattle.envy_run.specs.Writing.{WritesAs, WritesTrace}
+use Rattle.envy_run.specs.declared.ending.Ending.{Ending}
+use Rattle.envy_run.specs.declared.ending.Ending.TheVariants.{Done, FlashFailed, PowerLost, WriteFault}
+use Rattle.envy_run.specs.declared.ending.Finished.{Finished}
+use Rattle.envy_run.proofs.Accounts.{unread}
+use Rattle.envy_run.proofs.Traced.{Began, adds-up, began-of}
 
 -- a load that fits is one that can be drawn
 pub few-records : (area : Area) (pages : ℕ) → Fits area pages → pages ≤ 2 ^ 20 → area.branches * (area.accounts + 11) < 2 ^ 25
@@ -53,43 +58,73 @@ plans-few every (suc n) = let rest = plans-few every n in at (is_planned every n
     at false le = omega arith
 
 -- the outcome of a run that read nothing
-abbrev pub ended : ℕ → Chart → State → Outcome
-ended status now whole = record { status = status; why = 0; lines = 0; taken = 0; board = Some now; state = Some whole; second = None }
+abbrev pub ended : Ending → Chart → State → Outcome
+ended ending now whole = record { status = (numbers_of ending).0; why = (numbers_of ending).1; lines = 0; taken = 0; board = Some now; state = Some whole; second = None }
 
-abbrev pub unread : Feed → Drain → Drain → Streams
-unread feed to sink = record { from = feed; feed = feed; to = to; sink = sink }
+abbrev pub unheard : Feed → Drain → Drain → Streams
+unheard feed to sink = record { from = feed; feed = feed; to = to; sink = sink }
 
 counts-told : (sums now : Counts) (c : Chart) → sums ≡ record now { hits = sums.hits; misses = sums.misses } → AddsUp 0 now c → AddsUp 0 sums c
 counts-told sums now c others a = subst (λ (x : Counts). AddsUp 0 x c) (sym others) (record { programs = a.programs; erases = a.erases })
 
-module _ (setup : Setup) (returns start : ℕ) (area : Area) (every : ℕ) (first now : Picture) (b : Began 0 setup returns first) (lives : first.chart.lives ≤ returns) (status : ℕ) (whole : State) (feed : Feed) (to sink : Drain) (keeps : Keeps first now) where
+module _ (setup : Setup) (returns start : ℕ) (area : Area) (every : ℕ) (first now : Picture) (b : Began 0 setup returns first) (lives : first.chart.lives ≤ returns) (ending : Ending) (whole : State) (feed : Feed) (to sink : Drain) (keeps : Keeps first now) where
   same-shape : now.chart.shape ≡ setup.shape
   same-shape = keeps.shape ∙ b.shape
 
-  reports : area.transfers < 2 ^ 32 → HasTold area (load_of start area) every first now status to sink → Reports setup returns start area every (ended status now.chart whole) (unread feed to sink)
-  reports few told =
+  -- the ending, as it is told
+  tells-it : (e : Ending) → ending ≡ e → EndsBy e (ended ending now.chart whole)
+  tells-it e is = record { status = ap (λ (x : Ending). (numbers_of x).0) is; why = ap (λ (x : Ending). (numbers_of x).1) is }
+
+  writes-it : (text : List ℕ) → WritesAs text ending to sink → WritesTrace text (ended ending now.chart whole) to sink
+  writes-it text (inl (is, whole_text, flushed)) = inl (tells-it Done is, whole_text, flushed)
+  writes-it text (inr (is, front)) = inr (tells-it WriteFault is, front)
+
+  driver : AfterLoad area (load_of start area) every first now ending to sink → IsDriver setup returns area every now.chart
+  driver after =
+      let none = Began.plans b in
+      let plans = AfterLoad.plans after in
+      record { shape = same-shape; given = keeps.given ∙ b.given; pulled = keeps.pulled ∙ b.pulled; plans = omega arith }
+
+  reports : area.transfers < 2 ^ 32 → IsDriver setup returns area every now.chart → HasTold area (load_of start area) every first now ending to sink → Does (driving setup returns start area every) (ended ending now.chart whole) (unheard feed to sink)
+  reports few so told =
       let d = HasTold.driven told in
       let cuts = IsDriven.cuts d in
       let fewer = plans-few every area.transfers in
       let plans = IsDriven.plans d in
       let none = Began.plans b in
       record {
-        now = now.chart;
-        board_is = refl;
-        stands = subst (λ (sh : Shape). Stands now.chart (fresh sh.shadows (durable now.chart))) same-shape (IsDriven.rests d);
-        words = subst (λ (sh : Shape). Tpc area sh.pages (load_of start area) area.transfers (durable now.chart)) same-shape (IsDriven.words d);
-        sums = HasTold.sums told;
-        adds_up = IsDriven.adds_up d;
-        counts = counts-told _ (counts_of now.parts) now.chart (IsToldBefore.others (IsDriven.counts d)) (adds-up 0 setup returns first now b keeps.shape keeps.cuts keeps.tallies);
-        accesses = λ none_cut low_hits low_misses.
-            let first_cuts = keeps.cuts in
-            let none_hit = ap (λ (c : Counts). c.hits) (Began.counts b) in
-            let none_missed = ap (λ (c : Counts). c.misses) (Began.counts b) in
-            let e = IsDriven.accesses d (omega arith) (omega arith) low_hits low_misses in
-            omega arith;
-        cuts = omega arith;
-        plans = let exact = Rises.exact plans (omega arith) in omega arith;
-        writes = HasTold.writes told;
+        account = Some (HasTold.sums told);
+        printed = record {
+          nothing = record { lines = refl; taken = refl; source = refl };
+          adds_up = IsDriven.adds_up d;
+          writes = writes-it (report area (HasTold.sums told)) (HasTold.writes told);
+        };
+        board = (
+          now.chart,
+          refl,
+          record {
+            stands = subst (λ (sh : Shape). Stands now.chart (fresh sh.shadows (durable now.chart))) same-shape (IsDriven.rests d);
+            words = subst (λ (sh : Shape). Tpc area sh.pages (load_of start area) area.transfers (durable now.chart)) same-shape (IsDriven.words d);
+          },
+        );
+        licences = (
+          so,
+          (
+            now.chart,
+            refl,
+            record {
+              counts = counts-told _ (counts_of now.parts) now.chart (IsToldBefore.others (IsDriven.counts d)) (adds-up 0 setup returns first now b keeps.shape keeps.cuts keeps.tallies);
+              accesses = λ none_cut low_hits low_misses.
+                  let first_cuts = keeps.cuts in
+                  let none_hit = ap (λ (c : Counts). c.hits) (Began.counts b) in
+                  let none_missed = ap (λ (c : Counts). c.misses) (Began.counts b) in
+                  let e = IsDriven.accesses d (omega arith) (omega arith) low_hits low_misses in
+                  omega arith;
+              cuts = omega arith;
+              plans = let exact = Rises.exact plans (omega arith) in omega arith;
+            },
+          ),
+        );
       }
 
   some-bads : IsPast first.chart.bads now.chart.bads → 0 < now.chart.bads
@@ -99,56 +134,56 @@ module _ (setup : Setup) (returns start : ℕ) (area : Area) (every : ℕ) (firs
       at (inl low) = let more = past low in omega arith
       at (inr top) = let kept = keeps.bads in omega arith
 
-  why-broken : IsCause status first now → IsOutOfMemory (ended status now.chart whole) ⊎ (IsSpoilt (ended status now.chart whole) ⊎ IsDark (ended status now.chart whole))
-  why-broken (inl (is, off, none)) = inr (inr (record { status = is; why = refl; now = now.chart; board_is = refl; off = off; lives = none }))
-  why-broken (inr (is, past)) = inr (inl (record { status = is; why = refl; cause = (now.chart, refl, some-bads past) }))
+  why-broken : IsCause ending first now → IsUnready (ended ending now.chart whole)
+  why-broken (inl (is, off, none)) = inr (inr (record { ending = tells-it PowerLost is; now = now.chart; board_is = refl; off = off; lives = none }))
+  why-broken (inr (is, past)) = inr (inl (record { ending = tells-it FlashFailed is; cause = (now.chart, refl, some-bads past) }))
 
-  breaks : IsSound now.chart → HasBroken area (load_of start area) first now status to sink → Breaks setup start area (ended status now.chart whole) (unread feed to sink)
-  breaks sound broken = record {
-    unserved = (record { lines = refl; taken = refl; source = refl; sink = HasBroken.sink_same broken }, why-broken (HasBroken.cause broken));
-    found = inr (record {
-      sound = sound;
-      few = HasCounted.few (HasBroken.counted broken);
-      words = subst (λ (sh : Shape). Tpc area sh.pages (load_of start area) (slice_index (durable now.chart) 0) (durable now.chart)) same-shape (HasCounted.words (HasBroken.counted broken));
-    });
-  }
+  quiet-broken : HasBroken area (load_of start area) first now ending to sink → IsQuiet (ended ending now.chart whole) (unheard feed to sink)
+  quiet-broken broken = record { lines = refl; taken = refl; source = refl; sink = HasBroken.sink_same broken }
 
-  either : area.transfers < 2 ^ 32 → IsSound now.chart → HasTold area (load_of start area) every first now status to sink ⊎ HasBroken area (load_of start area) first now status to sink → Reports setup returns start area every (ended status now.chart whole) (unread feed to sink) ⊎ Breaks setup start area (ended status now.chart whole) (unread feed to sink)
-  either few sound (inl told) = inl (reports few told)
-  either few sound (inr broken) = inr (breaks sound broken)
+  breaks : IsSound now.chart → IsDriver setup returns area every now.chart → HasBroken area (load_of start area) first now ending to sink → Does (driving setup returns start area every) (ended ending now.chart whole) (unheard feed to sink)
+  breaks sound so broken =
+      let why = why-broken (HasBroken.cause broken) in
+      record {
+        account = None;
+        printed = unread (ended ending now.chart whole) (unheard feed to sink) (quiet-broken broken) why;
+        board = (
+          why,
+          inr (record {
+            sound = sound;
+            few = HasCounted.few (HasBroken.counted broken);
+            words = subst (λ (sh : Shape). Tpc area sh.pages (load_of start area) (slice_index (durable now.chart) 0) (durable now.chart)) same-shape (HasCounted.words (HasBroken.counted broken));
+          }),
+        );
+        licences = (so, tt);
+      }
 
   -- where formatting used no life the report tells each return of power
-  tells-after : first.chart.lives ≡ returns → IsSound now.chart → HasTold area (load_of start area) every first now status to sink ⊎ HasBroken area (load_of start area) first now status to sink → TellsReturns returns area (ended status now.chart whole) (unread feed to sink) ⊎ IsUnserved (ended status now.chart whole) (unread feed to sink)
-  tells-after had sound (inl told) = inl (record {
+  tells-after : first.chart.lives ≡ returns → HasTold area (load_of start area) every first now ending to sink ⊎ HasBroken area (load_of start area) first now ending to sink → TellsReturns returns area (ended ending now.chart whole) (unheard feed to sink) ⊎ IsUnserved (ended ending now.chart whole) (unheard feed to sink)
+  tells-after had (inl told) = inl (record {
     now = now.chart;
     board_is = refl;
     sums = HasTold.sums told;
     cuts = IsDriven.cuts (HasTold.driven told) ∙ had;
-    writes = HasTold.writes told;
+    writes = writes-it (report area (HasTold.sums told)) (HasTold.writes told);
   })
-  tells-after had sound (inr broken) = inr (Breaks.unserved (breaks sound broken))
+  tells-after had (inr broken) = inr (quiet-broken broken, why-broken (HasBroken.cause broken))
 
-  drives-after : area.transfers < 2 ^ 32 → IsSound now.chart → AfterLoad area (load_of start area) every first now status to sink → Drives setup returns start area every (ended status now.chart whole) (unread feed to sink)
-  drives-after few sound after =
-      let none = Began.plans b in
-      let plans = AfterLoad.plans after in
-      record {
-        ends = either few sound (AfterLoad.ends after);
-        board = record { shape = same-shape; given = keeps.given ∙ b.given; pulled = keeps.pulled ∙ b.pulled; plans = omega arith };
-        why = refl;
-        lines = refl;
-        taken = refl;
-        source = refl;
-      }
+  drives-after : area.transfers < 2 ^ 32 → IsSound now.chart → AfterLoad area (load_of start area) every first now ending to sink → Does (driving setup returns start area every) (ended ending now.chart whole) (unheard feed to sink)
+  drives-after few sound after = at (AfterLoad.ends after)
+    where
+      at : HasTold area (load_of start area) every first now ending to sink ⊎ HasBroken area (load_of start area) first now ending to sink → Does (driving setup returns start area every) (ended ending now.chart whole) (unheard feed to sink)
+      at (inl told) = reports few (driver after) told
+      at (inr broken) = breaks sound (driver after) broken
 
 -- a run whose load was driven, to its end or not
-pub drives-ended : {B : Type 0} (state : B → State) (setup : Setup) (returns start : ℕ) (area : Area) (every : ℕ) (made : State) (first now : Picture) (status : ℕ) (board : B) (e : Ended B) (feed : Feed) (to sink : Drain) → e ≡ record { status = status; why = 0; lines = 0; taken = 0; board = Some board; second = None } → chart (state board) ≡ now.chart → IsSound (chart (state board)) → area.transfers < 2 ^ 32 → length made.erases ≡ setup.shape.segments → IsMade setup.shape returns made → IsReady (chart made) setup first → AfterLoad area (load_of start area) every first now status to sink → Drives setup returns start area every (outcome state e) (unread feed to sink)
-drives-ended {B} state setup returns start area every made first now status board e feed to sink is same sound few long m ready after =
-    let lives = IsPrepared.lives (IsReady.prepared ready) in
-    let had = IsMade.lives m in
-    subst (λ (x : Ended B). Drives setup returns start area every (outcome state x) (unread feed to sink)) (sym is)
-    (subst (λ (c : Chart). Drives setup returns start area every (ended status c (state board)) (unread feed to sink)) (sym same)
-    (drives-after setup returns start area every first now (began setup returns made first m long ready) (omega arith) status (state board) feed to sink (AfterLoad.keeps after) few (subst IsSound same sound) after))
+pub drives-ended : {B : Type 0} (state : B → State) (setup : Setup) (returns start : ℕ) (area : Area) (every : ℕ) (first now : Picture) (ending : Ending) (board : B) (e : Finished B) (feed : Feed) (to sink : Drain) → e ≡ record { ending = ending; lines = 0; taken = 0; board = Some board; second = None } → chart (state board) ≡ now.chart → IsSound (chart (state board)) → area.transfers < 2 ^ 32 → IsBegun setup returns first → AfterLoad area (load_of start area) every first now ending to sink → Does (driving setup returns start area every) (outcome_of state e) (unheard feed to sink)
+drives-ended {B} state setup returns start area every first now ending board e feed to sink is same sound few begun after =
+    let lives = IsPrepared.lives (IsReady.prepared begun.ready) in
+    let had = IsMade.lives begun.new in
+    subst (λ (x : Finished B). Does (driving setup returns start area every) (outcome_of state x) (unheard feed to sink)) (sym is)
+    (subst (λ (c : Chart). Does (driving setup returns start area every) (ended ending c (state board)) (unheard feed to sink)) (sym same)
+    (drives-after setup returns start area every first now (began-of setup returns first begun) (omega arith) ending (state board) feed to sink (AfterLoad.keeps after) few (subst IsSound same sound) after))
 
 -- a board whose power fails as planned alone was formatted without a failure
 no-life-used : {B : Type 0} (state : B → State) (setup : Setup) (returns : ℕ) (made : State) (first : Picture) (board : B) → FailsAsPlanned state → chart (state board) ≡ first.chart → IsMade setup.shape returns made → IsReady (chart made) setup first → first.chart.lives ≡ returns
@@ -164,18 +199,17 @@ no-life-used state setup returns made first board kind same m ready =
     omega arith
 
 -- what the report of a load tells, where one is written
-pub tells-ended : {B : Type 0} (state : B → State) (setup : Setup) (returns start : ℕ) (area : Area) (every : ℕ) (made : State) (first now : Picture) (status : ℕ) (board formatted : B) (e : Ended B) (feed : Feed) (to sink : Drain) → e ≡ record { status = status; why = 0; lines = 0; taken = 0; board = Some board; second = None } → chart (state board) ≡ now.chart → IsSound (chart (state board)) → length made.erases ≡ setup.shape.segments → IsMade setup.shape returns made → IsReady (chart made) setup first → FailsAsPlanned state → chart (state formatted) ≡ first.chart → AfterLoad area (load_of start area) every first now status to sink → TellsReturns returns area (outcome state e) (unread feed to sink) ⊎ IsUnserved (outcome state e) (unread feed to sink)
-tells-ended {B} state setup returns start area every made first now status board formatted e feed to sink is same sound long m ready kind before after =
-    let lives = IsPrepared.lives (IsReady.prepared ready) in
-    let had = IsMade.lives m in
-    subst (λ (x : Ended B). TellsReturns returns area (outcome state x) (unread feed to sink) ⊎ IsUnserved (outcome state x) (unread feed to sink)) (sym is)
-    (subst (λ (c : Chart). TellsReturns returns area (ended status c (state board)) (unread feed to sink) ⊎ IsUnserved (ended status c (state board)) (unread feed to sink)) (sym same)
-    (tells-after setup returns start area every first now (began setup returns made first m long ready) (omega arith) status (state board) feed to sink (AfterLoad.keeps after) (no-life-used state setup returns made first formatted kind before m ready) (subst IsSound same sound) (AfterLoad.ends after)))
+pub tells-ended : {B : Type 0} (state : B → State) (setup : Setup) (returns start : ℕ) (area : Area) (every : ℕ) (first now : Picture) (ending : Ending) (board formatted : B) (e : Finished B) (feed : Feed) (to sink : Drain) → e ≡ record { ending = ending; lines = 0; taken = 0; board = Some board; second = None } → chart (state board) ≡ now.chart → IsBegun setup returns first → FailsAsPlanned state → chart (state formatted) ≡ first.chart → AfterLoad area (load_of start area) every first now ending to sink → TellsReturns returns area (outcome_of state e) (unheard feed to sink) ⊎ IsUnserved (outcome_of state e) (unheard feed to sink)
+tells-ended {B} state setup returns start area every first now ending board formatted e feed to sink is same begun kind before after =
+    let lives = IsPrepared.lives (IsReady.prepared begun.ready) in
+    let had = IsMade.lives begun.new in
+    subst (λ (x : Finished B). TellsReturns returns area (outcome_of state x) (unheard feed to sink) ⊎ IsUnserved (outcome_of state x) (unheard feed to sink)) (sym is)
+    (subst (λ (c : Chart). TellsReturns returns area (ended ending c (state board)) (unheard feed to sink) ⊎ IsUnserved (ended ending c (state board)) (unheard feed to sink)) (sym same)
+    (tells-after setup returns start area every first now (began-of setup returns first begun) (omega arith) ending (state board) feed to sink (AfterLoad.keeps after) (no-life-used state setup returns begun.made first formatted kind before begun.new begun.ready) (AfterLoad.ends after)))
 
 -- a run that ended without a load, or without a board
-pub ends-unserved : {B : Type 0} (state : B → State) (status : ℕ) (board : Option B) (e : Ended B) (feed : Feed) (sink : Drain) → e ≡ record { status = status; why = 0; lines = 0; taken = 0; board = board; second = None } → (let o = outcome state (record { status = status; why = 0; lines = 0; taken = 0; board = board; second = None }) in IsOutOfMemory o ⊎ (IsSpoilt o ⊎ IsDark o)) → IsUnserved (outcome state e) (unread feed sink sink)
-ends-unserved {B} state status board e feed sink is cause =
-    subst (λ (x : Ended B). IsUnserved (outcome state x) (unread feed sink sink)) (sym is) (record { lines = refl; taken = refl; source = refl; sink = refl }, cause)
+pub ends-unserved : (setup : Setup) (returns : ℕ) (o : Outcome) (feed : Feed) (sink : Drain) → NoneBegun setup returns o → IsUnserved o (unheard feed sink sink)
+ends-unserved setup returns o feed sink n = (record { lines = n.lines; taken = n.taken; source = refl; sink = refl }, n.cause)
 
 tells-unserved : (command : Result Command WordsFault) (o : Outcome) (io : Streams) → IsUnserved o io → TellsAll command o io
 tells-unserved (Ok (Tpca setup returns start area every)) o io u = inr u
@@ -208,22 +242,18 @@ driver-prepared setup returns area every made now m p =
     (record { begun = p.begun ∙ m.begun; plans = p.plans ∙ m.plans }, record { shape = p.shape ∙ m.shape; given = p.given ∙ m.given; pulled = p.pulled ∙ m.pulled; plans = omega arith })
 
 -- a run that ended before the load was begun
-pub drives-quiet : {B : Type 0} (state : B → State) (setup : Setup) (returns start : ℕ) (area : Area) (every status : ℕ) (board : Option B) (e : Ended B) (feed : Feed) (sink : Drain) → e ≡ record { status = status; why = 0; lines = 0; taken = 0; board = board; second = None } → (let o = outcome state (record { status = status; why = 0; lines = 0; taken = 0; board = board; second = None }) in IsOutOfMemory o ⊎ (IsSpoilt o ⊎ IsDark o)) → IfSome (option_map (λ b. chart (state b)) board) (λ now. IsUnbegun now × IsDriver setup returns area every now) → Drives setup returns start area every (outcome state e) (unread feed sink sink)
-drives-quiet {B} state setup returns start area every status board e feed sink is cause bare =
-    subst (λ (x : Ended B). Drives setup returns start area every (outcome state x) (unread feed sink sink)) (sym is)
-    (record {
-      ends = inr (record { unserved = (record { lines = refl; taken = refl; source = refl; sink = refl }, cause); found = first-of (option_map (λ b. chart (state b)) board) bare });
-      board = second-of (option_map (λ b. chart (state b)) board) bare;
-      why = refl;
-      lines = refl;
-      taken = refl;
-      source = refl;
-    })
+pub drives-quiet : (setup : Setup) (returns start : ℕ) (area : Area) (every : ℕ) (o : Outcome) (feed : Feed) (sink : Drain) → NoneBegun setup returns o → Does (driving setup returns start area every) o (unheard feed sink sink)
+drives-quiet setup returns start area every o feed sink n = record {
+  account = None;
+  printed = unread o (unheard feed sink sink) (record { lines = n.lines; taken = n.taken; source = refl; sink = refl }) n.cause;
+  board = (n.cause, first-of o.board n.board);
+  licences = (second-of o.board n.board, tt);
+}
   where
-    first-of : (found : Option Chart) → IfSome found (λ now. IsUnbegun now × IsDriver setup returns area every now) → IfSome found (λ now. IsUnbegun now ⊎ IsCounted setup start area now)
+    first-of : (found : Option Chart) → IfSome found (WasMade setup returns) → IfSome found (λ now. IsUnbegun now ⊎ IsCounted setup start area now)
     first-of None none = tt
-    first-of (Some now) (unbegun, driver) = inl unbegun
+    first-of (Some now) m = inl (driver-prepared setup returns area every m.made now m.new m.prepared).0
 
-    second-of : (found : Option Chart) → IfSome found (λ now. IsUnbegun now × IsDriver setup returns area every now) → IfSome found (IsDriver setup returns area every)
+    second-of : (found : Option Chart) → IfSome found (WasMade setup returns) → IfSome found (IsDriver setup returns area every)
     second-of None none = tt
-    second-of (Some now) (unbegun, driver) = driver
+    second-of (Some now) m = (driver-prepared setup returns area every m.made now m.new m.prepared).1

@@ -1,6 +1,6 @@
 -- From what two runs that were done to their end say, to what both wrote.
 use Rattle.std.proofs.Common.{◌≡◌, ◌≢◌, ◌⊎◌, inl, inr, ℕ, List, [], ◌∷◌, ◌++◌, map, refl, sym, ◌∙◌, ap, subst, arith}
-use Rattle.std.specs.Prelude.{Option, Some, IfSome, Result, Ok}
+use Rattle.std.specs.Prelude.{Option, None, Some, IfSome, Result, Ok}
 use Rattle.std.specs.List.{AllByRecursion}
 use Rattle.std.proofs.lemmas.List.{append-nil}
 use Rattle.envy_args.specs.declared.command.Command.TheVariants.{Run as RunWords, Plain as PlainWords}
@@ -20,16 +20,18 @@ use Rattle.envy_trace.specs.declared.fault.LineFault.{LineFault}
 use Rattle.envy_trace.specs.declared.line.Line.{Line}
 use Rattle.envy_trace.specs.declared.line.Line.TheVariants.{Stat}
 use Rattle.envy_trace.specs.Grammar.{line_of}
-use Rattle.envy_run.specs.Done.{HasDone}
 use Rattle.envy_run.specs.Equal.{HasNoStat, NothingFailed, Wrote}
-use Rattle.envy_run.specs.Headline.{Headline, IsUnserved, IsWithoutMemory, IsOutOfMemory, IsSpoilt, IsDark, Licences, run_task, plain_task, zeros_of}
-use Rattle.envy_run.specs.Outcome.{Outcome, IsQuiet, status_of}
-use Rattle.envy_run.specs.Task.{Task, IsServed, DoesTask}
+use Rattle.envy_run.specs.Headline.{Headline, IsWithoutMemory, Licences, run_task, plain_task, zeros_of}
+use Rattle.envy_run.specs.Outcome.{Outcome, EndsBy, IsQuiet, ending_of, numbers_of}
+use Rattle.envy_run.specs.Task.{Task}
+use Rattle.envy_run.specs.Unserved.{IsUnread, IsUnready}
+use Rattle.envy_run.specs.declared.ending.Ending.TheVariants.{OutOfMemory}
+use Rattle.envy_run.proofs.Accounts.{Did, Died, WasDone, WasServed, done_of, never-unready}
 use Rattle.envy_run.specs.Turns.{TraceTurn, trace_grammar}
 use Rattle.envy_run.proofs.Alike.{OneAnswer, turns-alike}
 
-pub record IsDone {Line Reply : Type 0} (w : Task Line Reply) (bytes : List ℕ) (turns : List (Turn Line Reply)) (o : Outcome) (io : Streams) : Type 0 where
-  pub did : w.Done o turns
+pub record IsDone {Line Reply Left : Type 0} (w : Task Line Reply Left) (bytes : List ℕ) (turns : List (Turn Line Reply)) (o : Outcome) (io : Streams) : Type 0 where
+  pub did : Did w o turns
   pub says : map (Grammar.reads w.grammar) (lines_of bytes) ≡ map Ok (lines_done turns)
   pub wrote : Wrote (written w.grammar turns ++ w.tail o) io
 
@@ -42,7 +44,7 @@ read-all reads skipped io reader lines bytes told all =
     let same : bytes ≡ HasRead.bytes read = is ∙ ap (λ (r : List ℕ). HasRead.bytes read ++ r) none ∙ append-nil (HasRead.bytes read) in
     ap (λ (b : List ℕ). map reads (lines_of b)) same ∙ ap (map reads) (ReadAll.all_lines all) ∙ HasRead.says read
 
-done-served : {Line Reply : Type 0} (end : End) (w : Task Line Reply) (turns : List (Turn Line Reply)) (o : Outcome) (io : Streams) (bytes : List ℕ) → status_of end ≡ 0 → io.from.left ≡ Some bytes → Serves end o.lines o.taken w.grammar w.skipped (w.Done o) (w.Dead o) (w.tail o) turns io → IsDone w bytes turns o io
+done-served : {Line Reply Left : Type 0} (end : End) (w : Task Line Reply Left) (turns : List (Turn Line Reply)) (o : Outcome) (io : Streams) (bytes : List ℕ) → (numbers_of (ending_of end)).0 ≡ 0 → io.from.left ≡ Some bytes → Serves end o.lines o.taken w.grammar w.skipped (Did w o) (Died w o) (w.tail o) turns io → IsDone w bytes turns o io
 done-served EndDone w turns o io bytes zero told s = record {
   did = Ends.served (Serves.ends s);
   says = read-all (Grammar.reads w.grammar) w.skipped io s.reader (lines_done turns) bytes told (Ends.read (Serves.ends s));
@@ -55,8 +57,8 @@ done-served (Refused fault) w turns o io bytes zero told s = absurd (let never =
 done-served EndDead w turns o io bytes zero told s = absurd (let never = zero in omega arith)
 done-served TooLong w turns o io bytes zero told s = absurd (let never = zero in omega arith)
 
-pub is-done : {Line Reply : Type 0} (w : Task Line Reply) (turns : List (Turn Line Reply)) (o : Outcome) (io : Streams) (bytes : List ℕ) → o.status ≡ 0 → io.from.left ≡ Some bytes → IsServed w turns o io → IsDone w bytes turns o io
-is-done w turns o io bytes zero told s = done-served s.end w turns o io bytes (sym s.status ∙ zero) told s.serves
+pub is-done : {Line Reply Left : Type 0} (w : Task Line Reply Left) (turns : List (Turn Line Reply)) (o : Outcome) (io : Streams) (bytes : List ℕ) → o.status ≡ 0 → io.from.left ≡ Some bytes → WasServed w turns o io → IsDone w bytes turns o io
+is-done w turns o io bytes done told s = done-served s.end w turns o io bytes (sym (EndsBy.status s.ending) ∙ done) told s.serves
 
 ok-same : (x y : Line) → ◌≡◌ {A = Result Line LineFault} (Ok x) (Ok y) → x ≡ y
 ok-same x y e = cc
@@ -81,40 +83,38 @@ same-lines (p ∷ ps) (x ∷ xs) (y ∷ ys) e f (here, others_none) =
 -- what both wrote
 both-done : OneAnswer → (setup : Setup) (returns : ℕ) (bytes : List ℕ) (o p : Outcome) (io jo : Streams) (turns others : List TraceTurn) → IsDone (run_task setup returns) bytes turns o io → IsDone (plain_task setup) bytes others p jo → IfSome o.board (Licences setup returns turns) → HasNoStat bytes → NothingFailed o.board → (text : List ℕ) × Wrote text io × Wrote text jo
 both-done one setup returns bytes o p io jo turns others run plain licences no_stat well =
-    let (now, is, done) = run.did in
-    let (machine, calm) = plain.did in
+    let (array, lines_run, (now, is, stands)) = run.did in
+    let (machine, calm, boardless) = plain.did in
     let l : Licences setup returns turns now = subst (λ (b : Option Chart). IfSome b (Licences setup returns turns)) is licences in
     let (bads, cuts) : (now.bads ≡ 0) × (now.cuts ≡ now.pulled) = subst (λ (b : Option Chart). NothingFailed b) is well in
     let (lines, none) = same-lines (lines_of bytes) (lines_done turns) (lines_done others) run.says plain.says no_stat in
     let pulled = l.pulled in
     let losts = l.losts in
     let faults = l.faults in
-    let (texts_same, arrays) = turns-alike one now.shape.entries (zeros_of setup) (HasDone.array done) machine turns others lines none (omega arith) (omega arith) (HasDone.run done) calm in
+    let (texts_same, arrays) = turns-alike one setup.shape.entries (zeros_of setup) array machine turns others lines none (omega arith) (omega arith) lines_run calm in
     (written trace_grammar turns ++ [], run.wrote, subst (λ (t : List ℕ). Wrote (t ++ []) jo) (sym texts_same) plain.wrote)
 
--- a run with status 0 served its trace
+-- a run that was done served its trace
 
-run-served : (setup : Setup) (returns : ℕ) (o : Outcome) (io : Streams) (turns : List TraceTurn) → o.status ≡ 0 → IsServed (run_task setup returns) turns o io ⊎ ((turns ≡ []) × IsUnserved o io) → IsServed (run_task setup returns) turns o io
-run-served setup returns o io turns zero (inl served) = served
-run-served setup returns o io turns zero (inr (none, (quiet, inl out))) = absurd (let eight = IsOutOfMemory.status out in omega arith)
-run-served setup returns o io turns zero (inr (none, (quiet, inr (inl spoilt)))) = absurd (let seven = IsSpoilt.status spoilt in omega arith)
-run-served setup returns o io turns zero (inr (none, (quiet, inr (inr dark)))) = absurd (let six = IsDark.status dark in omega arith)
+run-served : (setup : Setup) (returns : ℕ) (o : Outcome) (io : Streams) (turns : List TraceTurn) → o.status ≡ 0 → WasServed (run_task setup returns) turns o io ⊎ ((turns ≡ []) × IsUnread o io × IsUnready o) → WasServed (run_task setup returns) turns o io
+run-served setup returns o io turns done (inl served) = served
+run-served setup returns o io turns done (inr (none, unread, why)) = absurd (never-unready o done why)
 
-plain-served : (setup : Setup) (o : Outcome) (io : Streams) (turns : List TraceTurn) → o.status ≡ 0 → IsServed (plain_task setup) turns o io ⊎ ((turns ≡ []) × (IsQuiet o io × IsOutOfMemory o)) → IsServed (plain_task setup) turns o io
-plain-served setup o io turns zero (inl served) = served
-plain-served setup o io turns zero (inr (none, (quiet, out))) = absurd (let eight = IsOutOfMemory.status out in omega arith)
+plain-served : (setup : Setup) (o : Outcome) (io : Streams) (turns : List TraceTurn) → o.status ≡ 0 → WasServed (plain_task setup) turns o io ⊎ ((turns ≡ []) × (IsQuiet o io × EndsBy OutOfMemory o) × (o.board ≡ None)) → WasServed (plain_task setup) turns o io
+plain-served setup o io turns done (inl served) = served
+plain-served setup o io turns done (inr (none, (quiet, out), boardless)) = absurd (let eight = out.status in omega arith)
 
-both-tasks : OneAnswer → (setup : Setup) (returns : ℕ) (bytes : List ℕ) (o p : Outcome) (io jo : Streams) → DoesTask (run_task setup returns) o io → DoesTask (plain_task setup) p jo → io.from.left ≡ Some bytes → jo.from.left ≡ Some bytes → HasNoStat bytes → o.status ≡ 0 → p.status ≡ 0 → NothingFailed o.board → (text : List ℕ) × Wrote text io × Wrote text jo
-both-tasks one setup returns bytes o p io jo run plain told also no_stat zero null well =
+both-tasks : OneAnswer → (setup : Setup) (returns : ℕ) (bytes : List ℕ) (o p : Outcome) (io jo : Streams) → WasDone (run_task setup returns) o io → WasDone (plain_task setup) p jo → io.from.left ≡ Some bytes → jo.from.left ≡ Some bytes → HasNoStat bytes → o.status ≡ 0 → p.status ≡ 0 → NothingFailed o.board → (text : List ℕ) × Wrote text io × Wrote text jo
+both-tasks one setup returns bytes o p io jo run plain told also no_stat done also_done well =
     both-done one setup returns bytes o p io jo run.turns plain.turns
-    (is-done (run_task setup returns) run.turns o io bytes zero told (run-served setup returns o io run.turns zero run.answers))
-    (is-done (plain_task setup) plain.turns p jo bytes null also (plain-served setup p jo plain.turns null plain.answers))
+    (is-done (run_task setup returns) run.turns o io bytes done told (run-served setup returns o io run.turns done run.answers))
+    (is-done (plain_task setup) plain.turns p jo bytes also_done also (plain-served setup p jo plain.turns also_done plain.answers))
     run.licences no_stat well
 
 out-never : (o : Outcome) (io : Streams) → o.status ≡ 0 → IsWithoutMemory o io → ⊥
-out-never o io zero without = let eight = IsOutOfMemory.status (IsWithoutMemory.memory without) in omega arith
+out-never o io done without = never-unready o done (inl (IsWithoutMemory.memory without))
 
 pub write-alike : OneAnswer → (setup : Setup) (returns : ℕ) (bytes : List ℕ) (o p : Outcome) (io jo : Streams) → Headline (Ok (RunWords setup returns)) o io → Headline (Ok (PlainWords setup)) p jo → io.from.left ≡ Some bytes → jo.from.left ≡ Some bytes → HasNoStat bytes → o.status ≡ 0 → p.status ≡ 0 → NothingFailed o.board → (text : List ℕ) × Wrote text io × Wrote text jo
-write-alike one setup returns bytes o p io jo (inl run) (inl plain) told also no_stat zero null well = both-tasks one setup returns bytes o p io jo run plain told also no_stat zero null well
-write-alike one setup returns bytes o p io jo (inr without) plain told also no_stat zero null well = absurd (out-never o io zero without)
-write-alike one setup returns bytes o p io jo (inl run) (inr without) told also no_stat zero null well = absurd (out-never p jo null without)
+write-alike one setup returns bytes o p io jo (inl run) (inl plain) told also no_stat done also_done well = both-tasks one setup returns bytes o p io jo (done_of (run_task setup returns) o io run) (done_of (plain_task setup) p jo plain) told also no_stat done also_done well
+write-alike one setup returns bytes o p io jo (inr without) plain told also no_stat done also_done well = absurd (out-never o io done without)
+write-alike one setup returns bytes o p io jo (inl run) (inr without) told also no_stat done also_done well = absurd (out-never p jo also_done without)

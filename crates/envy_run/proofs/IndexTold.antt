@@ -40,15 +40,17 @@ use Rattle.envy_serve.specs.Obeys.{Obeys}
 use Rattle.envy_serve.specs.Streams.{Streams, Written, FrontWritten}
 use Rattle.envy_serve.specs.Turns.{count_lines, count_replies, one_if, texts}
 use Rattle.envy_serve.proofs.Advancing.{Serves-as, served-either}
-use Rattle.envy_run.specs.Headline.{IsUnserved, index_task}
-use Rattle.envy_run.specs.IndexDone.{HasIndexed, HasIndexDied, IndexLicences}
+use Rattle.envy_run.specs.Done.{OnBoard}
+use Rattle.envy_run.specs.Headline.{index_task}
+use Rattle.envy_run.specs.IndexDone.{HoldsIndex, HoldsIndexOff, IndexDies, IndexLicences}
 use Rattle.envy_run.specs.IndexServing.{Serving, IsIndexCall, IsIndexServed, LostAt, AnswersIndex, ReplyLicence, LineLicence, IndexOff, IndexBack, RecoversIndex, IndexLineDone, IndexLineDead, ObeysIndex, IndexLicensed, IndexedSince, FellIn, FellSince}
 use Rattle.envy_run.specs.IndexTurns.{Pairs, IndexTurn, IndexRun, Says, Faults, DoesIndex, FailsIn, index_grammar, most_of, before_restart, is_power, is_plan, is_lost, is_fault}
 use Rattle.envy_run.specs.Licence.{Licence, RoseOver}
-use Rattle.envy_run.specs.Outcome.{outcome, status_of, why_of}
-use Rattle.envy_run.specs.Prepares.{IsPrepared, IsReady}
+use Rattle.envy_run.specs.Outcome.{Outcome, ending_of, outcome_of}
+use Rattle.envy_run.specs.Prepares.{IsPrepared, IsReady, NoneBegun, WasMade}
 use Rattle.envy_run.specs.Task.{DoesTask}
-use Rattle.envy_run.specs.declared.ended.Ended.{Ended}
+use Rattle.envy_run.specs.declared.ending.Finished.{Finished}
+use Rattle.envy_run.proofs.Accounts.{account_of, served_outcome, unread}
 use Rattle.envy_run.proofs.Obeying.{Licence-as, front-after, front-before, one-more}
 use Rattle.envy_run.proofs.Recovering.{Licence-trans, Licence-revived}
 use Rattle.envy_run.proofs.Replying.{Licence-refl, up-low}
@@ -360,61 +362,87 @@ pub record Back (p : Picture) (b : Bool) (now : Chart) : Type 0 where
   pub version : now.fields.version ≡ 2
   pub stands : IsTrue p.chart.on → (sheet_of p b).started ≡ false → Stands now (fresh now.shape.shadows (durable now))
 
-indexed : (first : Chart) (p : Picture) (b : Bool) (now : Chart) (turns : List IndexTurn) → Back p b now → IndexedSince first p b turns → HasIndexed now turns
-indexed first p b now turns x t = record {
-  pairs = IndexedSince.pairs t;
-  run = subst (λ (c : Chart). IndexRun (most_of c.shape.pages) turns (IndexedSince.pairs t)) (sym x.same) (IndexedSince.run t);
-  stands = x.stands (Serving.on (IndexedSince.serving t)) (Serving.shut (IndexedSince.serving t));
-  map = subst (λ (c : Chart). IsIndex (durable c) (IndexedSince.pairs t)) (sym x.same) (Serving.map (IndexedSince.serving t));
-}
-
-fallen : (first : Chart) (p : Picture) (b : Bool) (now : Chart) (turns : List IndexTurn) → Back p b now → FellSince first p.chart turns → HasIndexDied now turns
-fallen first p b now [] x d = FellSince.fell d
-fallen first p b now (turn ∷ earlier) x d =
-    let f = FellSince.fell d in
+indexed : (most : ℕ) (first : Chart) (p : Picture) (b : Bool) (now : Chart) (turns : List IndexTurn) (o : Outcome) → o.board ≡ Some now → most_of p.chart.shape.pages ≡ most → Back p b now → IndexedSince first p b turns → (pairs : Pairs) × IndexRun most turns pairs × OnBoard (HoldsIndex pairs) o
+indexed most first p b now turns o board same x t = (
+  IndexedSince.pairs t,
+  subst (λ (n : ℕ). IndexRun n turns (IndexedSince.pairs t)) same (IndexedSince.run t),
+  (
+    now,
+    board,
     record {
-      pairs = FellIn.pairs f;
-      run = subst (λ (c : Chart). IndexRun (most_of c.shape.pages) earlier (FellIn.pairs f)) (sym x.same) (FellIn.run f);
-      replies = FellIn.replies f;
-      found = subst (λ (c : Chart). (left : Pairs) × FailsIn (most_of c.shape.pages) (FellIn.pairs f) turn.line left × IsIndex (durable c) left) (sym x.same) (FellIn.found f);
-      magic = x.magic;
-      version = x.version;
-      sound = x.sound;
-      off = ap (λ (c : Chart). c.on) x.same ∙ FellIn.off f;
-      dead = ap (λ (c : Chart). c.lives) x.same ∙ FellIn.dead f;
-    }
+      stands = x.stands (Serving.on (IndexedSince.serving t)) (Serving.shut (IndexedSince.serving t));
+      map = subst (λ (c : Chart). IsIndex (durable c) (IndexedSince.pairs t)) (sym x.same) (Serving.map (IndexedSince.serving t));
+    },
+  ),
+)
+
+fallen : (most : ℕ) (first : Chart) (p : Picture) (b : Bool) (now : Chart) (turns : List IndexTurn) (o : Outcome) → o.board ≡ Some now → most_of p.chart.shape.pages ≡ most → Back p b now → FellSince first p.chart turns → (left : Pairs) × IndexDies most turns left × OnBoard (HoldsIndexOff left) o
+fallen most first p b now [] o board same x d = absurd (FellSince.fell d)
+fallen most first p b now (turn ∷ earlier) o board same x d =
+    let f = FellSince.fell d in
+    let (left, fails, map) = FellIn.found f in (
+      left,
+      record {
+        pairs = FellIn.pairs f;
+        run = subst (λ (n : ℕ). IndexRun n earlier (FellIn.pairs f)) same (FellIn.run f);
+        replies = FellIn.replies f;
+        fails = subst (λ (n : ℕ). FailsIn n (FellIn.pairs f) turn.line left) same fails;
+      },
+      (
+        now,
+        board,
+        record {
+          map = subst (λ (c : Chart). IsIndex (durable c) left) (sym x.same) map;
+          magic = x.magic;
+          version = x.version;
+          sound = x.sound;
+          off = ap (λ (c : Chart). c.on) x.same ∙ FellIn.off f;
+          dead = ap (λ (c : Chart). c.lives) x.same ∙ FellIn.dead f;
+        },
+      ),
+    )
 
 pub index-began : (setup : Setup) (returns : ℕ) (s : State) (c : Chart) → IsMade setup.shape returns s → IsPrepared (chart s) c → IndexBegan setup returns c
 index-began setup returns s c made p = record { shape = p.shape ∙ made.shape; given = p.given ∙ made.given; pulled = p.pulled ∙ made.pulled; plans = p.plans ∙ made.plans }
 
+index-made : (setup : Setup) (returns : ℕ) (board : Option Chart) → IfSome board (WasMade setup returns) → IfSome board (IndexLicences setup returns [])
+index-made setup returns None none = tt
+index-made setup returns (Some now) m = licences-none setup returns now (index-began setup returns m.made now m.new m.prepared)
+
 -- a run that ended before a line was read
-pub index-quiet : {B : Type 0} (state : B → State) (setup : Setup) (returns status why : ℕ) (board : Option B) (e : Ended B) (feed : Feed) (sink : Drain) → e ≡ record { status = status; why = why; lines = 0; taken = 0; board = board; second = None } → IsUnserved (outcome state (record { status = status; why = why; lines = 0; taken = 0; board = board; second = None })) (record { from = feed; feed = feed; to = sink; sink = sink }) → IfSome (option_map (λ b. chart (state b)) board) (IndexLicences setup returns []) → DoesTask (index_task setup returns) (outcome state e) (record { from = feed; feed = feed; to = sink; sink = sink })
-index-quiet {B} state setup returns status why board e feed sink is unserved licences =
-    subst (λ (x : Ended B). DoesTask (index_task setup returns) (outcome state x) (record { from = feed; feed = feed; to = sink; sink = sink })) (sym is)
-    (record { turns = []; answers = inr (refl, unserved); licences = licences })
+pub index-quiet : (setup : Setup) (returns : ℕ) (o : Outcome) (feed : Feed) (sink : Drain) → NoneBegun setup returns o → DoesTask (index_task setup returns) o (record { from = feed; feed = feed; to = sink; sink = sink })
+index-quiet setup returns o feed sink n =
+    let io : Streams = record { from = feed; feed = feed; to = sink; sink = sink } in
+    account_of (index_task setup returns) o io (record {
+      turns = [];
+      answers = inr (refl, unread o io (record { lines = n.lines; taken = n.taken; source = refl; sink = refl }) n.cause, n.cause);
+      licences = index-made setup returns o.board n.board;
+    })
 
-pub index-unread : (setup : Setup) (returns : ℕ) (s : State) (now : Chart) → IsMade setup.shape returns s → IsPrepared (chart s) now → IndexLicences setup returns [] now
-index-unread setup returns s now made p = licences-none setup returns now (index-began setup returns s now made p)
+index-pages : (setup : Setup) (returns : ℕ) (first : Chart) (p : Picture) (b : Bool) (turns : List IndexTurn) → IndexBegan setup returns first → IndexedSince first p b turns ⊎ FellSince first p.chart turns → most_of p.chart.shape.pages ≡ most_of setup.shape.pages
+index-pages setup returns first p b turns began (inl t) = ap (λ (sh : Shape). most_of sh.pages) (Licence.shape (IndexedSince.licensed t) ∙ IndexBegan.shape began)
+index-pages setup returns first p b turns began (inr d) = ap (λ (sh : Shape). most_of sh.pages) (Licence.shape (FellSince.licensed d) ∙ IndexBegan.shape began)
 
-index-ends : (whole : State) (setup : Setup) (returns : ℕ) (first : Chart) (p : Picture) (b : Bool) (now : Chart) (end : End) (lines taken : ℕ) (io : Streams) → Back p b now → IndexBegan setup returns first → lines ≤ most_bytes → (turns : List IndexTurn) × Serves end lines taken index_grammar 0 (IndexedSince first p b) (FellSince first p.chart) [] turns io → DoesTask (index_task setup returns) (record { status = status_of end; why = why_of end; lines = lines; taken = taken; board = Some now; state = Some whole; second = None }) io
+index-ends : (whole : State) (setup : Setup) (returns : ℕ) (first : Chart) (p : Picture) (b : Bool) (now : Chart) (end : End) (lines taken : ℕ) (io : Streams) → Back p b now → IndexBegan setup returns first → lines ≤ most_bytes → (turns : List IndexTurn) × Serves end lines taken index_grammar 0 (IndexedSince first p b) (FellSince first p.chart) [] turns io → DoesTask (index_task setup returns) (served_outcome end lines taken now whole) io
 index-ends whole setup returns first p b now end lines taken io x began few (turns, s) =
+    let o : Outcome = served_outcome end lines taken now whole in
     let either = served-either end (IndexedSince first p b) (FellSince first p.chart) turns (Ends.served (Serves.ends s)) in
-    record {
+    let same = index-pages setup returns first p b turns began either in
+    account_of (index_task setup returns) o io (record {
       turns = turns;
       answers = inl (record {
         end = end;
-        serves = Serves-as end lines taken index_grammar 0 (IndexedSince first p b) (FellSince first p.chart) _ _ [] turns io (λ t. (now, refl, indexed first p b now turns x t)) (λ d. (now, refl, fallen first p b now turns x d)) s;
-        status = refl;
-        why = refl;
+        serves = Serves-as end lines taken index_grammar 0 (IndexedSince first p b) (FellSince first p.chart) _ _ [] turns io (λ t. indexed (most_of setup.shape.pages) first p b now turns o refl same x t) (λ d. fallen (most_of setup.shape.pages) first p b now turns o refl same x d) s;
+        ending = record { status = refl; why = refl };
       });
       licences = subst (λ (c : Chart). IndexLicences setup returns turns c) (sym x.same) (licences-since setup returns first p b turns began (let same = Serves.lines_are s in omega arith) either);
-    }
+    })
 
 -- a run whose trace was served
-pub index-ended : {B : Type 0} (state : B → State) (setup : Setup) (returns : ℕ) (first : Chart) (p : Picture) (b : Bool) (now : Chart) (end : End) (lines taken skipped : ℕ) (board : B) (e : Ended B) (io : Streams) → e ≡ record { status = status_of end; why = why_of end; lines = lines; taken = taken; board = Some board; second = None } → chart (state board) ≡ now → skipped ≡ 0 → lines ≤ most_bytes → Back p b now → IndexBegan setup returns first → (turns : List IndexTurn) × Serves end lines taken index_grammar skipped (IndexedSince first p b) (FellSince first p.chart) [] turns io → DoesTask (index_task setup returns) (outcome state e) io
+pub index-ended : {B : Type 0} (state : B → State) (setup : Setup) (returns : ℕ) (first : Chart) (p : Picture) (b : Bool) (now : Chart) (end : End) (lines taken skipped : ℕ) (board : B) (e : Finished B) (io : Streams) → e ≡ record { ending = ending_of end; lines = lines; taken = taken; board = Some board; second = None } → chart (state board) ≡ now → skipped ≡ 0 → lines ≤ most_bytes → Back p b now → IndexBegan setup returns first → (turns : List IndexTurn) × Serves end lines taken index_grammar skipped (IndexedSince first p b) (FellSince first p.chart) [] turns io → DoesTask (index_task setup returns) (outcome_of state e) io
 index-ended {B} state setup returns first p b now end lines taken skipped board e io is same none few x began serves =
-    subst (λ (y : Ended B). DoesTask (index_task setup returns) (outcome state y) io) (sym is)
-    (subst (λ (c : Chart). DoesTask (index_task setup returns) (record { status = status_of end; why = why_of end; lines = lines; taken = taken; board = Some c; state = Some (state board); second = None }) io) (sym same)
+    subst (λ (y : Finished B). DoesTask (index_task setup returns) (outcome_of state y) io) (sym is)
+    (subst (λ (c : Chart). DoesTask (index_task setup returns) (served_outcome end lines taken c (state board)) io) (sym same)
     (index-ends (state board) setup returns first p b now end lines taken io x began few
     (subst (λ (k : ℕ). (turns : List IndexTurn) × Serves end lines taken index_grammar k (IndexedSince first p b) (FellSince first p.chart) [] turns io) none serves)))
 

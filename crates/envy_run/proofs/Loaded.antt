@@ -1,6 +1,6 @@
 -- Images that are taken from a source, and boards that hold them.
 use Rattle.std.proofs.Common.{◌≡◌, ◌≢◌, ◌⊎◌, inl, inr, ℕ, ◌+◌, ◌*◌, ◌<◌, ◌≤◌, List, [], ◌++◌, length, refl, sym, ◌∙◌, ap, subst, arith, length-append}
-use Rattle.std.specs.Prelude.{IsTrue, Ok, Err, Option, None, Some, Result, slice_index}
+use Rattle.std.specs.Prelude.{IsTrue, Ok, Err, Option, None, Some, Result, slice_index, IfSome}
 use Rattle.std.specs.Option.{option_map}
 use Rattle.std.proofs.lemmas.List.{append-nil}
 use Rattle.envy_base.specs.Counting.{up}
@@ -20,13 +20,16 @@ use Rattle.envy_io.proofs.Counts.{Rises-after}
 use Rattle.envy_io.proofs.TakesLemmas.{with_front-with_front}
 use Rattle.envy_map.specs.Fields.{Chart, chart}
 use Rattle.envy_serve.specs.Ends.{most_bytes}
-use Rattle.envy_run.specs.Audits.{Tells, audit_lives}
-use Rattle.envy_run.specs.Loading.{Cause, HasFailed, HasTaken, IsFlawless, IsInstalled, IsUnharmed, Loaded, ReachesBehindHead, RefusesImage, StopsBehindHead, StopsInHead, StopsWithin, Unloaded, status_for, why_for}
-use Rattle.envy_run.specs.Outcome.{outcome}
-use Rattle.envy_run.specs.Writing.{WritesTrace}
-use Rattle.envy_run.specs.declared.ended.Ended.{Ended}
+use Rattle.envy_run.specs.Audits.{Judged, Refused, audit_lives, judging}
+use Rattle.envy_run.specs.Loading.{Cause, HasFailed, HasTaken, IsFlawless, IsInstalled, IsUnharmed, Loaded, ReachesBehindHead, RefusesImage, StopsBehindHead, StopsInHead, StopsWithin, Unloaded, ending_for}
+use Rattle.envy_run.specs.Meaning.{Does}
+use Rattle.envy_run.specs.Outcome.{outcome_of}
+use Rattle.envy_run.specs.Writing.{WritesAs}
+use Rattle.envy_run.specs.declared.ending.Ending.{Ending}
+use Rattle.envy_run.specs.declared.ending.Finished.{Finished}
 use Rattle.envy_run.specs.declared.loading.Refusal.{Refusal}
 use Rattle.envy_run.specs.declared.loading.Refusal.TheVariants.{Failed, Memory, Early, Unmarked, Misshapen, Upset}
+use Rattle.envy_run.proofs.Accounts.{written-as}
 use Rattle.envy_run.proofs.Checked.{shape-is}
 
 -- more bytes are taken behind those that were
@@ -210,9 +213,13 @@ no-stop bytes (inl short) sh rest is = omega (arith, ap length is, length-append
 no-stop bytes (inr (behind, marked, short)) sh rest is = omega (arith, ap length is, ap length marked, length-append mark behind, length-append (head_of sh) rest, length-head sh)
 
 -- no image was taken up
-pub image-refused : {B : Type 0} (state : B → State) (sh : Shape) (refusal : Refusal) (returns taken : ℕ) (board : Option B) (from feed : Feed) (sink : Drain) (now : Taking) → taken ≡ now.taken → (u : Unloaded sh returns from (option_map state board) refusal now feed) → RefusesImage refusal (Unloaded.bytes u) returns (outcome state (record { status = status_for refusal; why = why_for refusal; lines = 0; taken = taken; board = board; second = None })) (record { from = from; feed = feed; to = sink; sink = sink })
-image-refused {B} state sh refusal returns taken None from feed sink now same u = record { status = refl; why = refl; took = record { lines = refl; taken = same ∙ u.taken.taken; source = u.taken.left; sink = refl }; cause = u.cause; unharmed = u.unharmed }
-image-refused {B} state sh refusal returns taken (Some board) from feed sink now same u = record { status = refl; why = refl; took = record { lines = refl; taken = same ∙ u.taken.taken; source = u.taken.left; sink = refl }; cause = u.cause; unharmed = u.unharmed }
+pub image-refused : {B : Type 0} (state : B → State) (sh : Shape) (refusal : Refusal) (returns taken : ℕ) (board : Option B) (from feed : Feed) (sink : Drain) (now : Taking) → taken ≡ now.taken → (u : Unloaded sh returns from (option_map state board) refusal now feed) → RefusesImage refusal (Unloaded.bytes u) (outcome_of state (record { ending = ending_for refusal; lines = 0; taken = taken; board = board; second = None })) (record { from = from; feed = feed; to = sink; sink = sink })
+image-refused {B} state sh refusal returns taken None from feed sink now same u = record { ending = record { status = refl; why = refl }; took = record { lines = refl; taken = same ∙ u.taken.taken; source = u.taken.left; sink = refl }; cause = u.cause }
+image-refused {B} state sh refusal returns taken (Some board) from feed sink now same u = record { ending = record { status = refl; why = refl }; took = record { lines = refl; taken = same ∙ u.taken.taken; source = u.taken.left; sink = refl }; cause = u.cause }
+
+pub refused-unharmed : {B : Type 0} (state : B → State) (sh : Shape) (refusal : Refusal) (returns : ℕ) (board : Option B) (from feed : Feed) (now : Taking) → Unloaded sh returns from (option_map state board) refusal now feed → IfSome (option_map (λ b. chart (state b)) board) (IsUnharmed returns)
+refused-unharmed {B} state sh refusal returns None from feed now u = u.unharmed
+refused-unharmed {B} state sh refusal returns (Some board) from feed now u = u.unharmed
 
 -- bytes that stop in the head, or don't begin with the mark, or tell a shape that doesn't check, hold no head that serves
 pub no-head : (refusal : Refusal) (bytes : List ℕ) (from feed : Feed) → refusal ≢ Memory → Cause refusal bytes None from feed → (sh : Shape) (rest : List ℕ) → bytes ≡ head_of sh ++ rest → checked sh ≡ Ok tt → ⊥
@@ -227,33 +234,36 @@ no-head Misshapen bytes from feed other (none, bad, fault, told, fails, fit) sh 
 no-head Upset bytes from feed other (now, none, reach, failed) sh rest is ok = let clash : Option Chart = None in cc
 
 -- where no more was taken than may be, the end tells no more
-pub refused-within : {B : Type 0} {status why taken : ℕ} (e : Ended B) (board : Option B) (now : Taking) → e ≡ record { status = status; why = why; lines = 0; taken = taken; board = board; second = None }
+pub refused-within : {B : Type 0} {ending : Ending} {taken : ℕ} (e : Finished B) (board : Option B) (now : Taking) → e ≡ record { ending = ending; lines = 0; taken = taken; board = board; second = None }
     → taken ≡ now.taken → now.taken ≤ now.cap → now.cap ≡ most_bytes → e.taken ≤ most_bytes
-refused-within {B} {status} {why} {taken} e board now is same below cap =
-    let told : e.taken ≡ taken = ap (λ (x : Ended B). x.taken) is in omega (arith, told, same, below, cap)
+refused-within {B} {ending} {taken} e board now is same below cap =
+    let told : e.taken ≡ taken = ap (λ (x : Finished B). x.taken) is in omega (arith, told, same, below, cap)
 
 -- the words `audit` and `map`
 
-pub tells-refused : {B : Type 0} (Says : Verdict → Chart → List ℕ → Type 0) (state : B → State) (sh : Shape) (refusal : Refusal) (taken : ℕ) (board : Option B) (e : Ended B) (from feed : Feed) (sink : Drain) (now : Taking) → e ≡ record { status = status_for refusal; why = why_for refusal; lines = 0; taken = taken; board = board; second = None } → taken ≡ now.taken → Unloaded sh audit_lives from (option_map state board) refusal now feed → Tells Says (outcome state e) (record { from = from; feed = feed; to = sink; sink = sink })
+pub tells-refused : {B : Type 0} (Says : Verdict → Chart → List ℕ → Type 0) (state : B → State) (sh : Shape) (refusal : Refusal) (taken : ℕ) (board : Option B) (e : Finished B) (from feed : Feed) (sink : Drain) (now : Taking) → e ≡ record { ending = ending_for refusal; lines = 0; taken = taken; board = board; second = None } → taken ≡ now.taken → Unloaded sh audit_lives from (option_map state board) refusal now feed → Does (judging Says) (outcome_of state e) (record { from = from; feed = feed; to = sink; sink = sink })
 tells-refused {B} Says state sh refusal taken board e from feed sink now is same u =
-    subst (λ (x : Ended B). Tells Says (outcome state x) (record { from = from; feed = feed; to = sink; sink = sink })) (sym is)
-    (inr (refusal, u.bytes, image-refused state sh refusal audit_lives taken board from feed sink now same u))
+    subst (λ (x : Finished B). Does (judging Says) (outcome_of state x) (record { from = from; feed = feed; to = sink; sink = sink })) (sym is)
+    (record {
+      account = Refused refusal u.bytes;
+      printed = image-refused state sh refusal audit_lives taken board from feed sink now same u;
+      board = refused-unharmed state sh refusal audit_lives board from feed now u;
+      licences = tt;
+    })
 
-pub tells-judged : {B : Type 0} (Says : Verdict → Chart → List ℕ → Type 0) (state : B → State) (sh : Shape) (verdict : Verdict) (text : List ℕ) (status taken : ℕ) (board : B) (e : Ended B) (from feed : Feed) (to sink : Drain) (now : Taking) → e ≡ record { status = status; why = 0; lines = 0; taken = taken; board = Some board; second = None } → taken ≡ now.taken → Loaded sh audit_lives from (state board) verdict now feed → Says verdict (chart (state board)) text → WritesTrace text status to sink → Tells Says (outcome state e) (record { from = from; feed = feed; to = to; sink = sink })
-tells-judged {B} Says state sh verdict text status taken board e from feed to sink now is same l says writes =
-    subst (λ (x : Ended B). Tells Says (outcome state x) (record { from = from; feed = feed; to = to; sink = sink })) (sym is)
-    (inl (record {
-      found = state board;
-      installed = installed-itself sh audit_lives (state board) l.installed;
-      board = refl;
-      state = refl;
-      source = l.taken.left;
-      taken = same ∙ l.taken.taken;
-      lines = refl;
-      verdict = verdict;
-      judges = l.judges;
-      text = text;
-      says = says;
-      writes = writes;
-      why = refl;
-    }))
+pub tells-judged : {B : Type 0} (Says : Verdict → Chart → List ℕ → Type 0) (state : B → State) (sh : Shape) (verdict : Verdict) (text : List ℕ) (ending : Ending) (taken : ℕ) (board : B) (e : Finished B) (from feed : Feed) (to sink : Drain) (now : Taking) → e ≡ record { ending = ending; lines = 0; taken = taken; board = Some board; second = None } → taken ≡ now.taken → Loaded sh audit_lives from (state board) verdict now feed → Says verdict (chart (state board)) text → WritesAs text ending to sink → Does (judging Says) (outcome_of state e) (record { from = from; feed = feed; to = to; sink = sink })
+tells-judged {B} Says state sh verdict text ending taken board e from feed to sink now is same l says writes =
+    subst (λ (x : Finished B). Does (judging Says) (outcome_of state x) (record { from = from; feed = feed; to = to; sink = sink })) (sym is)
+    (record {
+      account = Judged (state board) verdict text;
+      printed = record {
+        source = l.taken.left;
+        taken = same ∙ l.taken.taken;
+        lines = refl;
+        judges = l.judges;
+        says = says;
+        writes = written-as state (record { ending = ending; lines = 0; taken = taken; board = Some board; second = None }) text to sink writes;
+      };
+      board = record { installed = installed-itself sh audit_lives (state board) l.installed; board = refl; state = refl };
+      licences = tt;
+    })

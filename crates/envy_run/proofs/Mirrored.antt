@@ -12,7 +12,7 @@ use Rattle.envy_memory.specs.Formats.{IsFresh, IsStarted}
 use Rattle.envy_memory.specs.Picture.{Picture}
 use Rattle.envy_mirror.specs.Mirroring.{Mirrors}
 use Rattle.envy_mirror.specs.Pair.{Pair, started}
-use Rattle.envy_pair.specs.Ending.{HasMirrored, HasFallen, PairLicences}
+use Rattle.envy_pair.specs.Ending.{Boards, HasMirrored, HasFallen, PairLicences}
 use Rattle.envy_pair.specs.MirrorRun.{MirrorTurn, mirror_grammar}
 use Rattle.envy_pair.specs.Serving.{Start, MirroredSince, FellSince}
 use Rattle.envy_pair.specs.State.{begun}
@@ -23,14 +23,18 @@ use Rattle.envy_serve.specs.declared.serving.End.{End}
 use Rattle.envy_serve.specs.Ends.{Serves, Ends, most_bytes}
 use Rattle.envy_serve.specs.Streams.{Streams}
 use Rattle.envy_serve.proofs.Advancing.{Serves-as, served-either}
-use Rattle.envy_run.specs.declared.ended.Ended.{Ended}
+use Rattle.envy_run.specs.declared.ending.Ending.{Ending}
+use Rattle.envy_run.specs.declared.ending.Ending.TheVariants.{FlashFailed, OutOfMemory, PowerLost}
+use Rattle.envy_run.specs.declared.ending.Finished.{Finished}
 use Rattle.envy_run.specs.declared.prepare.Unready.{Unready}
 use Rattle.envy_run.specs.declared.prepare.Unready.TheVariants.{Memory, Bad, Dead}
 use Rattle.envy_run.specs.Loading.{IsFlawless, IsNew, IsUnharmed}
-use Rattle.envy_run.specs.MirrorTask.{OnBoards, IsAsMade, IsMadeFor, MirrorLicences, IsMirrorUnserved, mirror_task, status_of_unready}
-use Rattle.envy_run.specs.Outcome.{Outcome, outcome, status_of, why_of}
-use Rattle.envy_run.specs.Prepares.{IsPrepared, IsReady, Unprepared}
+use Rattle.envy_run.specs.MirrorTask.{AreHandedBack, IsAsMade, IsEitherDark, IsEitherSpoilt, IsMadeFor, IsPairOutOfMemory, MirrorLicences, IsMirrorUnready, mirror_task}
+use Rattle.envy_run.specs.Outcome.{Outcome, IsQuiet, ending_of, outcome_of}
+use Rattle.envy_run.specs.Prepares.{IsPrepared, IsReady, Unprepared, ending_of_unready}
 use Rattle.envy_run.specs.Task.{DoesTask}
+use Rattle.envy_run.specs.Unserved.{IsUnread}
+use Rattle.envy_run.proofs.Accounts.{account_of}
 
 -- a board that nothing was planned on and nobody cut
 pub record IsBlank (setup : Setup) (returns : ℕ) (now : Chart) : Type 0 where
@@ -78,23 +82,30 @@ licences-alone setup returns o as_made none = record {
   both = λ boards is is_second. absurd (let clash : None ≡ Some boards.second = sym none ∙ is_second in let never : Option Chart = None in cc);
 }
 
+-- why no line was read tells how the run ended
+mirror-unread : (o : Outcome) (io : Streams) → IsQuiet o io → IsMirrorUnready o → IsUnread o io
+mirror-unread o io quiet (inl out) = (quiet, inl (IsPairOutOfMemory.ending out))
+mirror-unread o io quiet (inr (inl spoilt)) = (quiet, inr (inl (IsEitherSpoilt.ending spoilt)))
+mirror-unread o io quiet (inr (inr dark)) = (quiet, inr (inr (IsEitherDark.ending dark)))
+
 -- a run that ended before a line was read
-pub mirror-quiet : {B : Type 0} (state : B → State) (setup : Setup) (returns : ℕ) (e f : Ended B) (feed : Feed) (sink : Drain) → e ≡ f → IsMirrorUnserved (outcome state f) (record { from = feed; feed = feed; to = sink; sink = sink }) → MirrorLicences setup returns (outcome state f) [] → DoesTask (mirror_task setup returns) (outcome state e) (record { from = feed; feed = feed; to = sink; sink = sink })
-mirror-quiet {B} state setup returns e f feed sink is unserved licences =
-    subst (λ (x : Ended B). DoesTask (mirror_task setup returns) (outcome state x) (record { from = feed; feed = feed; to = sink; sink = sink })) (sym is)
-    (record { turns = []; answers = inr (refl, unserved); licences = licences })
+pub mirror-quiet : {B : Type 0} (state : B → State) (setup : Setup) (returns : ℕ) (e f : Finished B) (feed : Feed) (sink : Drain) → e ≡ f → IsQuiet (outcome_of state f) (record { from = feed; feed = feed; to = sink; sink = sink }) → IsMirrorUnready (outcome_of state f) → MirrorLicences setup returns (outcome_of state f) [] → DoesTask (mirror_task setup returns) (outcome_of state e) (record { from = feed; feed = feed; to = sink; sink = sink })
+mirror-quiet {B} state setup returns e f feed sink is quiet why licences =
+    let io : Streams = record { from = feed; feed = feed; to = sink; sink = sink } in
+    subst (λ (x : Finished B). DoesTask (mirror_task setup returns) (outcome_of state x) io) (sym is)
+    (account_of (mirror_task setup returns) (outcome_of state f) io (record { turns = []; answers = inr (refl, mirror-unread (outcome_of state f) io quiet why, why); licences = licences }))
 
 -- no board, or the first alone, was made
-pub mirror-unmade : {B : Type 0} (state : B → State) (setup : Setup) (returns : ℕ) (board : Option B) (e : Ended B) (feed : Feed) (sink : Drain) → e ≡ record { status = 8; why = 0; lines = 0; taken = 0; board = board; second = None } → IfSome (option_map (λ b. chart (state b)) board) (IsAsMade setup returns) → DoesTask (mirror_task setup returns) (outcome state e) (record { from = feed; feed = feed; to = sink; sink = sink })
+pub mirror-unmade : {B : Type 0} (state : B → State) (setup : Setup) (returns : ℕ) (board : Option B) (e : Finished B) (feed : Feed) (sink : Drain) → e ≡ record { ending = OutOfMemory; lines = 0; taken = 0; board = board; second = None } → IfSome (option_map (λ b. chart (state b)) board) (IsAsMade setup returns) → DoesTask (mirror_task setup returns) (outcome_of state e) (record { from = feed; feed = feed; to = sink; sink = sink })
 mirror-unmade {B} state setup returns board e feed sink is as_made =
-    let f : Ended B = record { status = 8; why = 0; lines = 0; taken = 0; board = board; second = None } in
-    mirror-quiet state setup returns e f feed sink is (record { lines = refl; taken = refl; source = refl; sink = refl }, inl (record { status = refl; why = refl; first = (made-of setup returns (option_map (λ b. chart (state b)) board) as_made).1; second = tt })) (licences-alone setup returns (outcome state f) as_made refl)
+    let f : Finished B = record { ending = OutOfMemory; lines = 0; taken = 0; board = board; second = None } in
+    mirror-quiet state setup returns e f feed sink is (record { lines = refl; taken = refl; source = refl; sink = refl }) (inl (record { ending = record { status = refl; why = refl }; first = (made-of setup returns (option_map (λ b. chart (state b)) board) as_made).1; second = tt })) (licences-alone setup returns (outcome_of state f) as_made refl)
 
-abbrev pub two_boards : {B : Type 0} → ℕ → B → B → Ended B
-two_boards status one two = record { status = status; why = 0; lines = 0; taken = 0; board = Some one; second = Some two }
+abbrev pub two_boards : {B : Type 0} → Ending → B → B → Finished B
+two_boards ending one two = record { ending = ending; lines = 0; taken = 0; board = Some one; second = Some two }
 
-both-blank : {B : Type 0} (state : B → State) (setup : Setup) (returns status : ℕ) (one two : B) → IsBlank setup returns (chart (state one)) → IsBlank setup returns (chart (state two)) → MirrorLicences setup returns (outcome state (two_boards status one two)) []
-both-blank state setup returns status one two first second = licences-of setup returns (outcome state (two_boards status one two)) [] (chart (state one)) (chart (state two)) refl refl first.made second.made (blank-licences (chart (state one)) (chart (state two)) first.pulled second.pulled first.plans second.plans)
+both-blank : {B : Type 0} (state : B → State) (setup : Setup) (returns : ℕ) (ending : Ending) (one two : B) → IsBlank setup returns (chart (state one)) → IsBlank setup returns (chart (state two)) → MirrorLicences setup returns (outcome_of state (two_boards ending one two)) []
+both-blank state setup returns ending one two first second = licences-of setup returns (outcome_of state (two_boards ending one two)) [] (chart (state one)) (chart (state two)) refl refl first.made second.made (blank-licences (chart (state one)) (chart (state two)) first.pulled second.pulled first.plans second.plans)
 
 -- what stopped the preparing of a board that was made without a count
 pub record Stopped (unready : Unready) (now : Chart) : Type 0 where
@@ -108,18 +119,18 @@ stopped-by Bad old now none u = (u.0, record { bad = λ e. (let rise = u.1 (omeg
 stopped-by Dead old now none u = (u.0, record { bad = λ e. cc; dead = λ e. (u.1, u.2); on = λ e. cc })
 
 -- one of two boards couldn't be prepared
-pub mirror-unready : {B : Type 0} (state : B → State) (setup : Setup) (returns : ℕ) (unready : Unready) (one two : B) (e : Ended B) (feed : Feed) (sink : Drain) → e ≡ two_boards (status_of_unready unready) one two → Stopped unready (chart (state one)) ⊎ Stopped unready (chart (state two)) → (unready ≡ Memory → IsTrue (state one).on × IsTrue (state two).on) → IsBlank setup returns (chart (state one)) → IsBlank setup returns (chart (state two)) → DoesTask (mirror_task setup returns) (outcome state e) (record { from = feed; feed = feed; to = sink; sink = sink })
+pub mirror-unready : {B : Type 0} (state : B → State) (setup : Setup) (returns : ℕ) (unready : Unready) (one two : B) (e : Finished B) (feed : Feed) (sink : Drain) → e ≡ two_boards (ending_of_unready unready) one two → Stopped unready (chart (state one)) ⊎ Stopped unready (chart (state two)) → (unready ≡ Memory → IsTrue (state one).on × IsTrue (state two).on) → IsBlank setup returns (chart (state one)) → IsBlank setup returns (chart (state two)) → DoesTask (mirror_task setup returns) (outcome_of state e) (record { from = feed; feed = feed; to = sink; sink = sink })
 mirror-unready {B} state setup returns Memory one two e feed sink is stopped lit first second =
     let (on, also) = lit refl in
-    mirror-quiet state setup returns e (two_boards 8 one two) feed sink is (record { lines = refl; taken = refl; source = refl; sink = refl }, inl (record { status = refl; why = refl; first = on; second = also })) (both-blank state setup returns 8 one two first second)
+    mirror-quiet state setup returns e (two_boards OutOfMemory one two) feed sink is (record { lines = refl; taken = refl; source = refl; sink = refl }) (inl (record { ending = record { status = refl; why = refl }; first = on; second = also })) (both-blank state setup returns OutOfMemory one two first second)
 mirror-unready {B} state setup returns Bad one two e feed sink is stopped lit first second =
-    mirror-quiet state setup returns e (two_boards 7 one two) feed sink is (record { lines = refl; taken = refl; source = refl; sink = refl }, inr (inl (record { status = refl; why = refl; cause = at stopped }))) (both-blank state setup returns 7 one two first second)
+    mirror-quiet state setup returns e (two_boards FlashFailed one two) feed sink is (record { lines = refl; taken = refl; source = refl; sink = refl }) (inr (inl (record { ending = record { status = refl; why = refl }; cause = at stopped }))) (both-blank state setup returns FlashFailed one two first second)
   where
     at : Stopped Bad (chart (state one)) ⊎ Stopped Bad (chart (state two)) → (now : Chart) × ((Some (chart (state one)) ≡ Some now) ⊎ (Some (chart (state two)) ≡ Some now)) × (0 < now.bads)
     at (inl x) = (chart (state one), inl refl, x.bad refl)
     at (inr x) = (chart (state two), inr refl, x.bad refl)
 mirror-unready {B} state setup returns Dead one two e feed sink is stopped lit first second =
-    mirror-quiet state setup returns e (two_boards 6 one two) feed sink is (record { lines = refl; taken = refl; source = refl; sink = refl }, inr (inr (record { status = refl; why = refl; cause = at stopped }))) (both-blank state setup returns 6 one two first second)
+    mirror-quiet state setup returns e (two_boards PowerLost one two) feed sink is (record { lines = refl; taken = refl; source = refl; sink = refl }) (inr (inr (record { ending = record { status = refl; why = refl }; cause = at stopped }))) (both-blank state setup returns PowerLost one two first second)
   where
     at : Stopped Dead (chart (state one)) ⊎ Stopped Dead (chart (state two)) → (now : Chart) × ((Some (chart (state one)) ≡ Some now) ⊎ (Some (chart (state two)) ≡ Some now)) × ((now.on ≡ false) × (now.lives ≡ 0))
     at (inl x) = (chart (state one), inl refl, x.dead refl)
@@ -161,30 +172,30 @@ made-since setup returns a b p side turns ready since =
       record { shape = second.0 ∙ IsMadeFor.shape ready.second; given = second.1 ∙ IsMadeFor.given ready.second },
     )
 
-abbrev pub both_ended : {B : Type 0} → End → ℕ → ℕ → B → B → Ended B
-both_ended end lines taken one two = record { status = status_of end; why = why_of end; lines = lines; taken = taken; board = Some one; second = Some two }
+abbrev pub both_ended : {B : Type 0} → End → ℕ → ℕ → B → B → Finished B
+both_ended end lines taken one two = record { ending = ending_of end; lines = lines; taken = taken; board = Some one; second = Some two }
 
 -- of these boards, whose charts are the pair's
-mirror-served : {B : Type 0} (state : B → State) (setup : Setup) (returns : ℕ) (a b : Picture) (p : Pair) (side : ℕ) (end : End) (lines taken : ℕ) (one two : B) (io : Streams) → chart (state one) ≡ p.first.memory.chart → chart (state two) ≡ p.second.memory.chart → lines ≤ most_bytes → AreReady setup returns a b → (turns : List MirrorTurn) → Serves end lines taken mirror_grammar 0 (MirroredSince (start_of a b) p side) (FellSince (start_of a b) p) [] turns io → DoesTask (mirror_task setup returns) (outcome state (both_ended end lines taken one two)) io
+mirror-served : {B : Type 0} (state : B → State) (setup : Setup) (returns : ℕ) (a b : Picture) (p : Pair) (side : ℕ) (end : End) (lines taken : ℕ) (one two : B) (io : Streams) → chart (state one) ≡ p.first.memory.chart → chart (state two) ≡ p.second.memory.chart → lines ≤ most_bytes → AreReady setup returns a b → (turns : List MirrorTurn) → Serves end lines taken mirror_grammar 0 (MirroredSince (start_of a b) p side) (FellSince (start_of a b) p) [] turns io → DoesTask (mirror_task setup returns) (outcome_of state (both_ended end lines taken one two)) io
 mirror-served {B} state setup returns a b p side end lines taken one two io same same_second few ready turns s =
-    let o : Outcome = outcome state (both_ended end lines taken one two) in
+    let o : Outcome = outcome_of state (both_ended end lines taken one two) in
     let e : o.board ≡ Some p.first.memory.chart = ap (λ (c : Chart). Some c) same in
     let f : o.second ≡ Some p.second.memory.chart = ap (λ (c : Chart). Some c) same_second in
     let either = served-either end (MirroredSince (start_of a b) p side) (FellSince (start_of a b) p) turns (Ends.served (Serves.ends s)) in
     let many = Serves.lines_are s in
     let made = made-since setup returns a b p side turns ready either in
     let first_shape : a.chart.shape ≡ setup.shape = IsMadeFor.shape ready.first in
-    record {
+    let back : AreHandedBack (boards_of p) o = record { first = e; second = f } in
+    account_of (mirror_task setup returns) o io (record {
       turns = turns;
       answers = inl (record {
         end = end;
-        serves = subst (λ (sh : Shape). Serves end lines taken mirror_grammar 0 (OnBoards (HasMirrored (zeros sh.pages sh.shadows) sh.pages) o) (OnBoards (HasFallen (zeros sh.pages sh.shadows) sh.pages) o) [] turns io) first_shape
-            (Serves-as end lines taken mirror_grammar 0 (MirroredSince (start_of a b) p side) (FellSince (start_of a b) p) (OnBoards (HasMirrored (zeros a.chart.shape.pages a.chart.shape.shadows) a.chart.shape.pages) o) (OnBoards (HasFallen (zeros a.chart.shape.pages a.chart.shape.shadows) a.chart.shape.pages) o) [] turns io (λ t. (boards_of p, e, f, mirrored (zeros a.chart.shape.pages a.chart.shape.shadows) a.chart.shape.pages (started a b) p side turns ready.unused (omega arith) t)) (λ d. (boards_of p, e, f, fallen (zeros a.chart.shape.pages a.chart.shape.shadows) a.chart.shape.pages (started a b) p turns (omega arith) d)) s);
-        status = refl;
-        why = refl;
+        serves = subst (λ (sh : Shape). Serves end lines taken mirror_grammar 0 (λ t. (boards : Boards) × HasMirrored (zeros sh.pages sh.shadows) sh.pages boards t × AreHandedBack boards o) (λ t. (boards : Boards) × HasFallen (zeros sh.pages sh.shadows) sh.pages boards t × AreHandedBack boards o) [] turns io) first_shape
+            (Serves-as end lines taken mirror_grammar 0 (MirroredSince (start_of a b) p side) (FellSince (start_of a b) p) _ _ [] turns io (λ t. (boards_of p, mirrored (zeros a.chart.shape.pages a.chart.shape.shadows) a.chart.shape.pages (started a b) p side turns ready.unused (omega arith) t, back)) (λ d. (boards_of p, fallen (zeros a.chart.shape.pages a.chart.shape.shadows) a.chart.shape.pages (started a b) p turns (omega arith) d, back)) s);
+        ending = record { status = refl; why = refl };
       });
       licences = licences-of setup returns o turns p.first.memory.chart p.second.memory.chart e f made.0 made.1 (licences-either (start_of a b) p side turns ready.unused (omega arith) either);
-    }
+    })
 
 -- before the first line
 pub begins-as : (a b : Picture) (p : Pair) (side : ℕ) → p ≡ started a b → side ≡ 0 → Mirrors p (zeros a.chart.shape.pages a.chart.shape.shadows) → MirroredSince (start_of a b) p side []
@@ -193,15 +204,15 @@ begins-as a b p side is none mirrors =
     (subst (λ (n : ℕ). MirroredSince (start_of a b) (started a b) n []) (sym none)
     (begins (zeros a.chart.shape.pages a.chart.shape.shadows) a b (subst (λ (q : Pair). Mirrors q (zeros a.chart.shape.pages a.chart.shape.shadows)) is mirrors)))
 
-pub numbered : {B : Type 0} (status why : ℕ) (end : End) (lines taken : ℕ) (one two : B) (e : Ended B) → e ≡ record { status = status; why = why; lines = lines; taken = taken; board = Some one; second = Some two } → status ≡ status_of end → why ≡ why_of end → e ≡ both_ended end lines taken one two
-numbered {B} status why end lines taken one two e is same why_is =
-    let with_numbers : ℕ → ℕ → Ended B = λ s w. record { status = s; why = w; lines = lines; taken = taken; board = Some one; second = Some two } in
-    is ∙ ap (λ (s : ℕ). with_numbers s why) same ∙ ap (λ (w : ℕ). with_numbers (status_of end) w) why_is
+pub ended-so : {B : Type 0} (ending : Ending) (end : End) (lines taken : ℕ) (one two : B) (e : Finished B) → e ≡ record { ending = ending; lines = lines; taken = taken; board = Some one; second = Some two } → ending ≡ ending_of end → e ≡ both_ended end lines taken one two
+ended-so {B} ending end lines taken one two e is same =
+    let with_ending : Ending → Finished B = λ x. record { ending = x; lines = lines; taken = taken; board = Some one; second = Some two } in
+    is ∙ ap with_ending same
 
-pub mirror-ended : {B : Type 0} (state : B → State) (setup : Setup) (returns : ℕ) (a b : Picture) (first_pair p : Pair) (first_side side : ℕ) (end : End) (lines taken skipped : ℕ) (one two : B) (e : Ended B) (io : Streams) → e ≡ both_ended end lines taken one two → chart (state one) ≡ p.first.memory.chart → chart (state two) ≡ p.second.memory.chart → skipped ≡ 0 → lines ≤ most_bytes → AreReady setup returns a b → MirroredSince (start_of a b) first_pair first_side [] → ((start : Start) → MirroredSince start first_pair first_side [] → (turns : List MirrorTurn) × Serves end lines taken mirror_grammar skipped (MirroredSince start p side) (FellSince start p) [] turns io) → DoesTask (mirror_task setup returns) (outcome state e) io
+pub mirror-ended : {B : Type 0} (state : B → State) (setup : Setup) (returns : ℕ) (a b : Picture) (first_pair p : Pair) (first_side side : ℕ) (end : End) (lines taken skipped : ℕ) (one two : B) (e : Finished B) (io : Streams) → e ≡ both_ended end lines taken one two → chart (state one) ≡ p.first.memory.chart → chart (state two) ≡ p.second.memory.chart → skipped ≡ 0 → lines ≤ most_bytes → AreReady setup returns a b → MirroredSince (start_of a b) first_pair first_side [] → ((start : Start) → MirroredSince start first_pair first_side [] → (turns : List MirrorTurn) × Serves end lines taken mirror_grammar skipped (MirroredSince start p side) (FellSince start p) [] turns io) → DoesTask (mirror_task setup returns) (outcome_of state e) io
 mirror-ended {B} state setup returns a b first_pair p first_side side end lines taken skipped one two e io is same same_second none few ready first serves =
     let served = subst (λ (k : ℕ). (turns : List MirrorTurn) × Serves end lines taken mirror_grammar k (MirroredSince (start_of a b) p side) (FellSince (start_of a b) p) [] turns io) none (serves (start_of a b) first) in
-    subst (λ (x : Ended B). DoesTask (mirror_task setup returns) (outcome state x) io) (sym is)
+    subst (λ (x : Finished B). DoesTask (mirror_task setup returns) (outcome_of state x) io) (sym is)
     (mirror-served state setup returns a b p side end lines taken one two io same same_second few ready served.0 served.1)
 
 -- the board of a memory that was prepared

@@ -29,11 +29,11 @@ use Rattle.envy_trace.specs.Spelling.{Reads}
 use Rattle.envy_run.specs.Answers.{IsCall, IsServed, AnswersTo, AnswerLicence, LosesIn}
 use Rattle.envy_run.specs.Below.{WorksOf}
 use Rattle.envy_run.specs.Licence.{Licence, RoseOver}
-use Rattle.envy_run.specs.Obeys.{ObeysLine, Licensed, LineDone, LineDead, before_restart}
+use Rattle.envy_run.specs.Obeys.{ObeysLine, Licensed, LineDone, LineDead}
 use Rattle.envy_run.specs.Restarts.{Recovers, IsStillOff, IsBack}
 use Rattle.envy_serve.specs.Streams.{Written, FrontWritten}
 use Rattle.envy_serve.specs.Turns.{texts, one_if}
-use Rattle.envy_run.specs.Turns.{Replies, trace_grammar, is_power, is_plan, is_lost, is_fault}
+use Rattle.envy_run.specs.Turns.{Replies, trace_grammar, is_power, is_plan, is_lost, is_fault, before_restart}
 use Rattle.envy_base.specs.declared.counts.Counts.{Counts}
 use Rattle.envy_run.specs.Counters.{is_empty}
 use Rattle.envy_run.specs.Hits.{accessed}

@@ -1,6 +1,7 @@
 -- A board that is formatted until it is.
 use Rattle.std.proofs.Common.{◌≡◌, ◌⊎◌, inl, inr, ℕ, ◌+◌, ◌-◌, ◌^◌, ◌<◌, ◌≤◌, List, refl, sym, ◌∙◌, ap, subst, arith}
-use Rattle.std.specs.Prelude.{IsTrue, slice_index}
+use Rattle.std.specs.Prelude.{IsTrue, Option, None, Some, slice_index}
+use Rattle.std.specs.Option.{option_map}
 use Rattle.std.proofs.lemmas.Bool.{cases_lt}
 use Rattle.envy_base.specs.Counting.{up}
 use Rattle.envy_base.specs.State.{State, IsMade, lit}
@@ -12,7 +13,12 @@ use Rattle.envy_memory.specs.Picture.{Picture}
 use Rattle.envy_memory.specs.declared.faults.FormatFault.TheVariants.{Off}
 use Rattle.envy_policy.specs.declared.setup.Setup.{Setup}
 use Rattle.envy_run.specs.Licence.{RoseOver}
-use Rattle.envy_run.specs.Prepares.{HasTried, IsPrepared, IsReady, IsUnspent}
+use Rattle.envy_run.specs.Outcome.{outcome_of}
+use Rattle.envy_run.specs.Prepares.{HasTried, IsPrepared, IsReady, IsUnspent, NoneBegun, Unprepared, ending_of_unready}
+use Rattle.envy_run.specs.declared.ending.Ending.TheVariants.{OutOfMemory}
+use Rattle.envy_run.specs.declared.ending.Finished.{Finished}
+use Rattle.envy_run.specs.declared.prepare.Unready.{Unready}
+use Rattle.envy_run.specs.declared.prepare.Unready.TheVariants.{Memory, Bad, Dead}
 use Rattle.envy_run.specs.Unserved.{IsStanding}
 
 begun-same : (s t : Chart) → CountsFormat s t → t.begun ≡ s.begun
@@ -164,3 +170,42 @@ prepared-first old = record {
   returned = 0;
   tried = let t = tried-first old in let erases = t.erases in record { lives = t.lives; cuts = t.cuts; erases = omega arith };
 }
+
+-- no board was made
+pub none-made : {B : Type 0} (state : B → State) (setup : Setup) (returns : ℕ) (e : Finished B) → e ≡ record { ending = OutOfMemory; lines = 0; taken = 0; board = None; second = None } → NoneBegun setup returns (outcome_of state e)
+none-made {B} state setup returns e is =
+    subst (λ (x : Finished B). NoneBegun setup returns (outcome_of state x)) (sym is)
+    (record { lines = refl; taken = refl; second = refl; cause = inl (record { ending = record { status = refl; why = refl }; board = tt }); board = tt })
+
+-- no memory begins on a board that was made
+pub none-begun : {B : Type 0} (state : B → State) (setup : Setup) (returns : ℕ) (unready : Unready) (made : State) (board : B) (e : Finished B) → e ≡ record { ending = ending_of_unready unready; lines = 0; taken = 0; board = Some board; second = None } → IsMade setup.shape returns made → Unprepared unready (chart made) (chart (state board)) → NoneBegun setup returns (outcome_of state e)
+none-begun {B} state setup returns unready made board e is new u =
+    subst (λ (x : Finished B). NoneBegun setup returns (outcome_of state x)) (sym is) (at unready u)
+  where
+    at : (why : Unready) → Unprepared why (chart made) (chart (state board)) → NoneBegun setup returns (outcome_of state (record { ending = ending_of_unready why; lines = 0; taken = 0; board = Some board; second = None }))
+    at Memory (prepared, spent, on) = record {
+      lines = refl;
+      taken = refl;
+      second = refl;
+      cause = inl (record { ending = record { status = refl; why = refl }; board = unspent-standing setup returns made (chart (state board)) new spent on });
+      board = record { made = made; new = new; prepared = prepared };
+    }
+    at Bad (prepared, rose) = record {
+      lines = refl;
+      taken = refl;
+      second = refl;
+      cause = inr (inl (record { ending = record { status = refl; why = refl }; cause = (chart (state board), refl, let none = new.bads in let more = rose (omega arith) in omega arith) }));
+      board = record { made = made; new = new; prepared = prepared };
+    }
+    at Dead (prepared, off, lives) = record {
+      lines = refl;
+      taken = refl;
+      second = refl;
+      cause = inr (inr (record { ending = record { status = refl; why = refl }; now = chart (state board); board_is = refl; off = off; lives = lives }));
+      board = record { made = made; new = new; prepared = prepared };
+    }
+
+-- a board of which there is no chart isn't there
+pub no-second : {X Y : Type 0} (f : X → Y) (second : Option X) → option_map f second ≡ None → second ≡ None
+no-second f None none = refl
+no-second f (Some board) none = absurd (let never = none in cc)

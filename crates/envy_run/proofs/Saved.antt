@@ -1,7 +1,6 @@
 -- A trace whose replies go nowhere, and an image that is written behind it.
 use Rattle.std.proofs.Common.{◌≡◌, ◌⊎◌, inl, inr, ℕ, List, [], ◌∷◌, ◌++◌, refl, sym, ◌∙◌, ap, subst, arith}
-use Rattle.std.specs.Result.{is_err}
-use Rattle.std.specs.Prelude.{IsTrue, true, false, Option, None, Some, Result, Ok, Err}
+use Rattle.std.specs.Prelude.{IsTrue, Option, None, Some, Result, Ok, Err}
 use Rattle.std.specs.Option.{option_map}
 use Rattle.envy_base.specs.State.{State}
 use Rattle.envy_io.specs.declared.source.Failed.{Failed}
@@ -16,10 +15,12 @@ use Rattle.envy_serve.specs.Ends.{Serves, Ends, HasServed, HasReadTo, HasTold}
 use Rattle.envy_serve.specs.Grammar.{Grammar, silent}
 use Rattle.envy_serve.specs.Streams.{Streams, Written, FrontWritten}
 use Rattle.envy_serve.specs.Turns.{Turn, lines_done, texts, written}
-use Rattle.envy_run.specs.Done.{HasDone, HasDied}
-use Rattle.envy_run.specs.Headline.{IsUnserved, IsOutOfMemory, IsSpoilt, IsDark, OnBoard, run_task, save_task, image_in, zeros_of}
-use Rattle.envy_run.specs.Outcome.{Outcome, status_of, why_of}
-use Rattle.envy_run.specs.Task.{IsServed, DoesTask}
+use Rattle.envy_run.specs.Headline.{run_task, save_task, image_in}
+use Rattle.envy_run.specs.Outcome.{Outcome, EndsBy, ending_after, ending_of, numbers_of}
+use Rattle.envy_run.specs.Task.{DoesTask}
+use Rattle.envy_run.specs.Unserved.{IsUnread, IsUnready}
+use Rattle.envy_run.specs.declared.ending.Ending.TheVariants.{Done}
+use Rattle.envy_run.proofs.Accounts.{Did, Died, WasDone, WasServed, account_of, done_of, never-unready}
 use Rattle.envy_run.specs.Turns.{TraceTurn, trace_grammar}
 use Rattle.envy_run.specs.Writing.{WritesOut}
 
@@ -53,24 +54,15 @@ quiet-told ReadFault turns tail to sink d none other told = nothing-told trace_g
 quiet-told (Refused fault) turns tail to sink d none other told = nothing-told trace_grammar turns d
 quiet-told TooLong turns tail to sink d none other told = nothing-told trace_grammar turns d
 
-abbrev pub status_after : Result Unit Failed → ℕ
-status_after (Ok done) = 0
-status_after (Err failed) = 4
-
-pub after-err : (r : Result Unit Failed) → is_err r ≡ true → status_after r ≡ 4
-after-err (Ok done) is = absurd cc
-after-err (Err failed) is = refl
-
-pub after-ok : (r : Result Unit Failed) → is_err r ≡ false → status_after r ≡ 0
-after-ok (Ok done) is = refl
-after-ok (Err failed) is = absurd cc
-
 -- a trace that wasn't done to its end
-module _ (setup : Setup) (returns : ℕ) (o : Outcome) (io : Streams) (task : DoesTask (run_task setup returns) o io) (none : io.sink.faults ≡ 0) where
-  pub saves-nothing : (d : Drain) → (o.status ≡ 0 → ⊥) → DoesTask (save_task setup returns) o (record io { to = d; sink = d })
-  saves-nothing d undone = record { turns = task.turns; answers = at task.answers; licences = task.licences }
+module _ (setup : Setup) (returns : ℕ) (o : Outcome) (io : Streams) (does : DoesTask (run_task setup returns) o io) (none : io.sink.faults ≡ 0) where
+  task : WasDone (run_task setup returns) o io
+  task = done_of (run_task setup returns) o io does
+
+  pub saves-nothing : (d : Drain) → (EndsBy Done o → ⊥) → DoesTask (save_task setup returns) o (record io { to = d; sink = d })
+  saves-nothing d undone = account_of (save_task setup returns) o (record io { to = d; sink = d }) (record { turns = task.turns; answers = at task.answers; licences = task.licences })
     where
-      at : IsServed (run_task setup returns) task.turns o io ⊎ ((task.turns ≡ []) × IsUnserved o io) → IsServed (save_task setup returns) task.turns o (record io { to = d; sink = d }) ⊎ ((task.turns ≡ []) × IsUnserved o (record io { to = d; sink = d }))
+      at : WasServed (run_task setup returns) task.turns o io ⊎ ((task.turns ≡ []) × IsUnread o io × IsUnready o) → WasServed (save_task setup returns) task.turns o (record io { to = d; sink = d }) ⊎ ((task.turns ≡ []) × IsUnread o (record io { to = d; sink = d }) × IsUnready o)
       at (inl s) = inl (record {
         end = s.end;
         serves = record {
@@ -81,50 +73,44 @@ module _ (setup : Setup) (returns : ℕ) (o : Outcome) (io : Streams) (task : Do
           ends = record {
             served = Ends.served (Serves.ends s.serves);
             read = Ends.read (Serves.ends s.serves);
-            told = quiet-told s.end task.turns (image_in o.state) io.to io.sink d none (λ done. undone (s.status ∙ ap status_of done)) (Ends.told (Serves.ends s.serves));
+            told = quiet-told s.end task.turns (image_in o.state) io.to io.sink d none (λ done. undone (subst (λ (end : End). EndsBy (ending_of end) o) done s.ending)) (Ends.told (Serves.ends s.serves));
           };
         };
-        status = s.status;
-        why = s.why;
+        ending = s.ending;
       })
-      at (inr (empty, (quiet, cause))) = inr (empty, (record { lines = quiet.lines; taken = quiet.taken; source = quiet.source; sink = refl }, cause))
+      at (inr (empty, (quiet, ending), cause)) = inr (empty, (record { lines = quiet.lines; taken = quiet.taken; source = quiet.source; sink = refl }, ending), cause)
 
-  -- a status of 0 is that of a trace that was done
-  done-end : (end : End) → status_of end ≡ 0 → end ≡ EndDone
-  done-end EndDone is = refl
-  done-end ReadFault is = absurd cc
-  done-end WriteFault is = absurd cc
-  done-end FlushFault is = absurd cc
-  done-end (Refused fault) is = absurd cc
-  done-end EndDead is = absurd cc
-  done-end TooLong is = absurd cc
+  -- a trace that was done
+  done-end : (end : End) → EndsBy Done o → EndsBy (ending_of end) o → end ≡ EndDone
+  done-end EndDone done ends = refl
+  done-end ReadFault done ends = let zero = done.status in let other = ends.status in absurd (omega arith)
+  done-end WriteFault done ends = let zero = done.status in let other = ends.status in absurd (omega arith)
+  done-end FlushFault done ends = let zero = done.status in let other = ends.status in absurd (omega arith)
+  done-end (Refused fault) done ends = let zero = done.status in let other = ends.status in absurd (omega arith)
+  done-end EndDead done ends = let zero = done.status in let other = ends.status in absurd (omega arith)
+  done-end TooLong done ends = let zero = done.status in let other = ends.status in absurd (omega arith)
 
-  never-unserved : o.status ≡ 0 → IsUnserved o io → ⊥
-  never-unserved zero (quiet, inl out) = let is = IsOutOfMemory.status out in omega arith
-  never-unserved zero (quiet, inr (inl spoilt)) = let is = IsSpoilt.status spoilt in omega arith
-  never-unserved zero (quiet, inr (inr dark)) = let is = IsDark.status dark in omega arith
-
-  served-done : o.status ≡ 0 → (s : IsServed (run_task setup returns) task.turns o io) × (s.end ≡ EndDone)
-  served-done zero = at task.answers
+  served-done : EndsBy Done o → (s : WasServed (run_task setup returns) task.turns o io) × (s.end ≡ EndDone)
+  served-done done = at task.answers
     where
-      at : IsServed (run_task setup returns) task.turns o io ⊎ ((task.turns ≡ []) × IsUnserved o io) → (s : IsServed (run_task setup returns) task.turns o io) × (s.end ≡ EndDone)
-      at (inl s) = (s, done-end s.end (sym s.status ∙ zero))
-      at (inr (empty, unserved)) = absurd (never-unserved zero unserved)
+      at : WasServed (run_task setup returns) task.turns o io ⊎ ((task.turns ≡ []) × IsUnread o io × IsUnready o) → (s : WasServed (run_task setup returns) task.turns o io) × (s.end ≡ EndDone)
+      at (inl s) = (s, done-end s.end done s.ending)
+      at (inr (empty, unread, why)) = absurd (never-unready o (EndsBy.status done) why)
 
-  done-turns : o.status ≡ 0 → OnBoard (HasDone (zeros_of setup)) o task.turns
-  done-turns zero =
-      let (s, is) = served-done zero in
-      subst (λ (end : End). HasServed end (OnBoard (HasDone (zeros_of setup)) o) (OnBoard (HasDied (zeros_of setup)) o) task.turns) is (Ends.served (Serves.ends s.serves))
+  done-turns : EndsBy Done o → Did (run_task setup returns) o task.turns
+  done-turns done =
+      let (s, is) = served-done done in
+      subst (λ (end : End). HasServed end (Did (run_task setup returns) o) (Died (run_task setup returns) o) task.turns) is (Ends.served (Serves.ends s.serves))
 
   -- then there is a board with power
-  pub board-done : o.status ≡ 0 → (now : Chart) × (o.board ≡ Some now) × IsTrue now.on
-  board-done zero = let (now, is, done) = done-turns zero in (now, is, Stands.on (HasDone.stands done))
+  pub board-done : EndsBy Done o → (now : Chart) × (o.board ≡ Some now) × IsTrue now.on
+  board-done done = let (m, run, (now, is, stands)) = done-turns done in (now, is, Stands.on stands)
 
   -- the image is written behind a trace that was done
-  pub saves-image : (to sink : Drain) (r : Result Unit Failed) (status : ℕ) → o.status ≡ 0 → WritesOut (image_in o.state) r to sink → status ≡ status_after r → DoesTask (save_task setup returns) (record o { status = status }) (record io { to = to; sink = sink })
-  saves-image to sink (Ok done) status zero (whole, flushed) is =
-      let (s, end) = served-done zero in
-      record {
+  pub saves-image : (to sink : Drain) (r : Result Unit Failed) → EndsBy Done o → WritesOut (image_in o.state) r to sink → DoesTask (save_task setup returns) (record o { status = (numbers_of (ending_after r)).0; why = (numbers_of (ending_after r)).1 }) (record io { to = to; sink = sink })
+  saves-image to sink (Ok ok) done (whole, flushed) =
+      let (s, end) = served-done done in
+      account_of (save_task setup returns) (record o { status = 0; why = 0 }) (record io { to = to; sink = sink }) (record {
         turns = task.turns;
         answers = inl (record {
           end = EndDone;
@@ -134,19 +120,18 @@ module _ (setup : Setup) (returns : ℕ) (o : Outcome) (io : Streams) (task : Do
             taken_are = Serves.taken_are s.serves;
             cap = Serves.cap s.serves;
             ends = record {
-              served = done-turns zero;
+              served = done-turns done;
               read = subst (λ (e : End). HasReadTo e (Grammar.reads trace_grammar) 0 io.from io.feed (Serves.reader s.serves) (lines_done task.turns)) end (Ends.read (Serves.ends s.serves));
               told = (subst (λ (w : List ℕ). Written (w ++ image_in o.state) to sink) (sym (silent-all trace_grammar task.turns)) whole, flushed);
             };
           };
-          status = is;
-          why = s.why ∙ ap why_of end;
+          ending = record { status = refl; why = refl };
         });
         licences = task.licences;
-      }
-  saves-image to sink (Err failed) status zero front is =
-      let (s, end) = served-done zero in
-      record {
+      })
+  saves-image to sink (Err failed) done front =
+      let (s, end) = served-done done in
+      account_of (save_task setup returns) (record o { status = 4; why = 0 }) (record io { to = to; sink = sink }) (record {
         turns = task.turns;
         answers = inl (record {
           end = FlushFault;
@@ -156,16 +141,15 @@ module _ (setup : Setup) (returns : ℕ) (o : Outcome) (io : Streams) (task : Do
             taken_are = Serves.taken_are s.serves;
             cap = Serves.cap s.serves;
             ends = record {
-              served = done-turns zero;
+              served = done-turns done;
               read = subst (λ (e : End). HasReadTo e (Grammar.reads trace_grammar) 0 io.from io.feed (Serves.reader s.serves) (lines_done task.turns)) end (Ends.read (Serves.ends s.serves));
               told = (to, nothing-told trace_grammar task.turns to, front);
             };
           };
-          status = is;
-          why = s.why ∙ ap why_of end;
+          ending = record { status = refl; why = refl };
         });
         licences = task.licences;
-      }
+      })
 
 -- the board of a trace that was done
 pub saved-on : {B : Type 0} (state : B → State) (board : B) (found : Option B) → found ≡ Some board → (now : Chart) × (option_map (λ b. chart (state b)) found ≡ Some now) × IsTrue now.on → IsTrue (state board).on

@@ -4,7 +4,7 @@ use Rattle.std.specs.Prelude.{◌↔◌, IfSome, Option, None, Some, Ok, slice_i
 use Rattle.envy_base.specs.Array.{Array, zeros}
 use Rattle.envy_base.specs.declared.counts.Counts.{Counts}
 use Rattle.envy_base.specs.declared.shape.Shape.{Shape}
-use Rattle.envy_base.specs.State.{State, IsMade}
+use Rattle.envy_base.specs.State.{State, IsBoard, IsMade}
 use Rattle.std.proofs.Math.Nat.{mul-le-mul_left}
 use Rattle.std.proofs.lemmas.Bool.{cases_lt}
 use Rattle.std.proofs.lemmas.List.{length-replicate}
@@ -34,21 +34,22 @@ use Rattle.envy_serve.specs.Streams.{Streams}
 use Rattle.envy_serve.specs.Turns.{Turn, count_lines, count_of, count_replies, one_if}
 use Rattle.envy_serve.proofs.Advancing.{Serves-as, served-either}
 use Rattle.envy_run.specs.Answers.{IsServed as MayServe}
-use Rattle.envy_run.specs.Done.{Run, Start, HasDone, HasDied, DiesIn, LicensedTurns}
-use Rattle.envy_run.specs.Headline.{Licences, IsUnserved, OnBoard, run_task}
+use Rattle.envy_run.specs.Done.{Run, Dies, DiesIn, HoldsOff, OnBoard}
+use Rattle.envy_run.specs.Headline.{Licences, run_task, zeros_of}
 use Rattle.envy_run.specs.Task.{DoesTask}
 use Rattle.envy_run.specs.Counters.{AddsUp, just_told, told_in}
 use Rattle.envy_run.specs.Hits.{MayTell}
 use Rattle.envy_run.specs.Tells.{Telling}
 use Rattle.envy_run.specs.Licence.{Licence, RoseOver}
-use Rattle.envy_run.specs.Obeys.{FailsIn, ObeysLine, LineDone, before_restart}
-use Rattle.envy_run.specs.declared.ended.Ended.{Ended}
-use Rattle.envy_run.specs.Prepares.{HasTried, IsPrepared, IsReady}
+use Rattle.envy_run.specs.Obeys.{ObeysLine, LineDone}
+use Rattle.envy_run.specs.declared.ending.Finished.{Finished}
+use Rattle.envy_run.specs.Prepares.{HasTried, IsBegun, IsPrepared, IsReady, NoneBegun, WasMade}
 use Rattle.envy_run.specs.Resumes.{LicencesBehind}
-use Rattle.envy_run.specs.Outcome.{outcome, status_of, why_of}
+use Rattle.envy_run.specs.Outcome.{Outcome, ending_of, numbers_of, outcome_of}
 use Rattle.envy_run.specs.Spending.{IsThrifty, Spends, programs_in, programs_of, erases_in, erases_of, tries_of}
-use Rattle.envy_run.specs.Tracing.{SpentSince, TracedSince, DiedSince}
-use Rattle.envy_run.specs.Turns.{TraceTurn, Does, trace_grammar, is_power, is_plan, is_lost, is_fault}
+use Rattle.envy_run.specs.Tracing.{Start, HasDone, LicensedTurns, SpentSince, TracedSince, DiedSince}
+use Rattle.envy_run.specs.Turns.{TraceTurn, Does, trace_grammar, is_power, is_plan, is_lost, is_fault, FailsIn, before_restart}
+use Rattle.envy_run.proofs.Accounts.{account_of, served_outcome, unread}
 use Rattle.envy_run.proofs.Hitting.{telling-more}
 use Rattle.envy_run.proofs.Noting.{Tallies-stay}
 use Rattle.envy_run.proofs.Obeying.{served}
@@ -82,17 +83,17 @@ traced-obeys start old new turns line WriteFault sink then_sink t (replies, left
 traced-obeys start old new turns line Dead sink then_sink t (dead, told) = (
   _,
   record {
-    died = record {
-      array = HasDone.array t.done;
-      run = subst (λ (sh : Shape). Run sh.entries start.array turns (HasDone.array t.done)) (sym (Licence.shape dead.licensed)) (HasDone.run t.done);
-      replies = refl;
-      found = dead.found;
-      magic = dead.magic;
-      version = dead.version;
-      sound = dead.sound;
-      off = dead.off;
-      dead = dead.dead;
-    };
+    died =
+        let (left, fails, words) = dead.found in (
+          left,
+          record {
+            array = HasDone.array t.done;
+            run = subst (λ (sh : Shape). Run sh.entries start.array turns (HasDone.array t.done)) (sym (Licence.shape dead.licensed)) (HasDone.run t.done);
+            replies = refl;
+            fails = fails;
+          },
+          record { found = words; magic = dead.magic; version = dead.version; sound = dead.sound; off = dead.off; dead = dead.dead },
+        );
     licensed = Licence-trans (count_lines is_power turns) (count_lines is_plan turns) (count_replies is_lost turns) (count_replies is_fault turns) _ _ _ _ start.memory.chart old.chart new.chart t.licensed dead.licensed;
     spent = spent-more start old new turns line t.spent (Licence.shape t.licensed) dead.spent;
   },
@@ -221,10 +222,11 @@ pub traced-few : (test : Reply → Bool) (start : Start) (p : Picture) (turns : 
 traced-few test start p turns (inl t) = run-few test p.chart.shape.entries start.array turns (HasDone.array t.done) (HasDone.run t.done)
 traced-few test start p [] (inr d) = omega arith
 traced-few test start p (turn ∷ earlier) (inr d) =
-    let rest = run-few test p.chart.shape.entries start.array earlier (DiesIn.array d.died) (DiesIn.run d.died) in
+    let dies = d.died.1 in
+    let rest = run-few test p.chart.shape.entries start.array earlier (DiesIn.array dies) (DiesIn.run dies) in
     let here = count-of test turn.replies in
     let few = before-few turn.line in
-    let same = ap length (DiesIn.replies d.died) in
+    let same = ap length (DiesIn.replies dies) in
     omega arith
 
 -- what a memory was when its trace began, of whose board so many programs had begun
@@ -275,7 +277,7 @@ died-told array Stat replies earlier left is fails P = subst (λ (rs : List Repl
 since-told : (programs : ℕ) (setup : Setup) (returns : ℕ) (start : Start) (p : Picture) (turns : List TraceTurn) → Began programs setup returns start.memory → TracedSince start p turns ⊎ DiedSince start p turns → IfSome (just_told turns) (λ c. AddsUp programs c p.chart)
 since-told programs setup returns start p turns b (inl t) = told-so programs (just_told turns) p (Telling.last t.telling) (adds-up programs setup returns start.memory p b (Licence.shape t.licensed) (RoseOver.kept (Licence.cuts t.licensed)) (Telling.tallies t.telling))
 since-told programs setup returns start p [] b (inr d) = tt
-since-told programs setup returns start p (turn ∷ earlier) b (inr d) = let (left, fails, words) = DiesIn.found d.died in died-told (DiesIn.array d.died) turn.line turn.replies earlier left (DiesIn.replies d.died) fails (λ c. AddsUp programs c p.chart)
+since-told programs setup returns start p (turn ∷ earlier) b (inr d) = let dies = d.died.1 in died-told (DiesIn.array dies) turn.line turn.replies earlier d.died.0 (DiesIn.replies dies) (DiesIn.fails dies) (λ c. AddsUp programs c p.chart)
 
 licensed-either : (start : Start) (p : Picture) (turns : List TraceTurn) → TracedSince start p turns ⊎ DiedSince start p turns → LicensedTurns turns start.memory.chart p.chart
 licensed-either start p turns (inl t) = t.licensed
@@ -382,36 +384,66 @@ began setup returns s first made long ready = record {
   erases = λ none. once-sum s.erases first.chart.erases setup.shape.segments (ready.long ∙ long) made.erases (subst (λ (sh : Shape). (e : ℕ) → e < sh.segments → slice_index first.chart.erases e ≡ up (slice_index s.erases e)) made.shape (ready.once none));
 }
 
+pub began-of : (setup : Setup) (returns : ℕ) (first : Picture) → IsBegun setup returns first → Began 0 setup returns first
+began-of setup returns first begun = began setup returns begun.made first begun.new (IsBoard.erases begun.whole ∙ ap (λ (sh : Shape). sh.segments) (IsMade.shape begun.new)) begun.ready
+
+-- what the memory did is what the lines lead to, by the entries of the setup
+traced-left : (entries : ℕ) (start : Start) (p : Picture) (turns : List TraceTurn) → p.chart.shape.entries ≡ entries → TracedSince start p turns → (m : Array) × Run entries start.array turns m × Stands p.chart m
+traced-left entries start p turns same t = let d = t.done in (d.array, subst (λ (n : ℕ). Run n start.array turns d.array) same d.run, d.stands)
+
+died-left : (entries : ℕ) (start : Start) (p : Picture) (turns : List TraceTurn) → p.chart.shape.entries ≡ entries → DiedSince start p turns → (m : Array) × Dies entries start.array turns m × HoldsOff m.words p.chart
+died-left entries start p turns same d = let (m, dies, holds) = d.died in (m, subst (λ (n : ℕ). Dies n start.array turns m) same dies, holds)
+
+-- a trace that was served is told of the board that is handed back
+pub on-board : (entries : ℕ) (start : Start) (now : Picture) (o : Outcome) (end : End) (lines taken skipped : ℕ) (turns : List TraceTurn) (io : Streams) → o.board ≡ Some now.chart → now.chart.shape.entries ≡ entries
+    → Serves end lines taken trace_grammar skipped (TracedSince start now) (DiedSince start now) [] turns io
+    → Serves end lines taken trace_grammar skipped (λ t. (m : Array) × Run entries start.array t m × OnBoard (λ c. Stands c m) o) (λ t. (m : Array) × Dies entries start.array t m × OnBoard (HoldsOff m.words) o) [] turns io
+on-board entries start now o end lines taken skipped turns io board same s =
+    Serves-as end lines taken trace_grammar skipped (TracedSince start now) (DiedSince start now) _ _ [] turns io
+    (λ t. let (m, run, stands) = traced-left entries start now turns same t in (m, run, (now.chart, board, stands)))
+    (λ d. let (m, dies, holds) = died-left entries start now turns same d in (m, dies, (now.chart, board, holds)))
+    s
+
 -- the trace was served over a fresh memory
-pub runs-served : (whole : State) (setup : Setup) (returns : ℕ) (old : Chart) (first now : Picture) (end : End) (lines taken : ℕ) (io : Streams) → 0 < setup.shape.entries → IsReady old setup first → Began 0 setup returns first → IsTriedOn setup first.chart → lines ≤ most_bytes → ((start : Start) → TracedSince start first [] → (turns : List TraceTurn) × Serves end lines taken trace_grammar 0 (TracedSince start now) (DiedSince start now) [] turns io) → DoesTask (run_task setup returns) (record { status = status_of end; why = why_of end; lines = lines; taken = taken; board = Some now.chart; state = Some whole; second = None }) io
+pub runs-served : (whole : State) (setup : Setup) (returns : ℕ) (old : Chart) (first now : Picture) (end : End) (lines taken : ℕ) (io : Streams) → 0 < setup.shape.entries → IsReady old setup first → Began 0 setup returns first → IsTriedOn setup first.chart → lines ≤ most_bytes → ((start : Start) → TracedSince start first [] → (turns : List TraceTurn) × Serves end lines taken trace_grammar 0 (TracedSince start now) (DiedSince start now) [] turns io) → DoesTask (run_task setup returns) (served_outcome end lines taken now.chart whole) io
 runs-served whole setup returns old first now end lines taken io some ready b tried few serves =
-    let start : Start = record { array = zeros first.chart.shape.pages first.chart.shape.shadows; memory = first } in
-    let (turns, s) = serves start (traced-none old setup first some b.shape ready) in
+    let start : Start = record { array = zeros_of setup; memory = first } in
+    let zeros_are : zeros first.chart.shape.pages first.chart.shape.shadows ≡ zeros_of setup = ap (λ (sh : Shape). zeros sh.pages sh.shadows) b.shape in
+    let o : Outcome = served_outcome end lines taken now.chart whole in
+    let (turns, s) = serves start (subst (λ (m : Array). TracedSince (record { array = m; memory = first }) first []) zeros_are (traced-none old setup first some b.shape ready)) in
     let either = served-either end (TracedSince start now) (DiedSince start now) turns (Ends.served (Serves.ends s)) in
-    record {
+    let entries : now.chart.shape.entries ≡ setup.shape.entries = ap (λ (sh : Shape). sh.entries) (Licence.shape (licensed-either start now turns either) ∙ b.shape) in
+    account_of (run_task setup returns) o io (record {
       turns = turns;
       answers = inl (record {
         end = end;
-        serves = subst (λ (sh : Shape). Serves end lines taken trace_grammar 0 (OnBoard (HasDone (zeros sh.pages sh.shadows)) (record { status = status_of end; why = why_of end; lines = lines; taken = taken; board = Some now.chart; state = Some whole; second = None })) (OnBoard (HasDied (zeros sh.pages sh.shadows)) (record { status = status_of end; why = why_of end; lines = lines; taken = taken; board = Some now.chart; state = Some whole; second = None })) [] turns io) b.shape (Serves-as end lines taken trace_grammar 0 (TracedSince start now) (DiedSince start now) _ _ [] turns io (λ t. (now.chart, refl, TracedSince.done t)) (λ d. (now.chart, refl, DiedSince.died d)) s);
-        status = refl;
-        why = refl;
+        serves = on-board setup.shape.entries start now o end lines taken 0 turns io refl entries s;
+        ending = record { status = refl; why = refl };
       });
       licences = licences-since setup returns start now turns b tried (let same = Serves.lines_are s in omega arith) either;
-    }
+    })
 
 pub licences-prepared : (setup : Setup) (returns : ℕ) (s : State) (now : Chart) → returns < 2 ^ 32 → IsMade setup.shape returns s → IsPrepared (chart s) now → Licences setup returns [] now
 licences-prepared setup returns s now low made p = licences-none setup returns now (p.shape ∙ made.shape) (p.given ∙ made.given) (p.pulled ∙ made.pulled) (p.plans ∙ made.plans) (p.begun ∙ made.begun) (tried-on setup returns s now low made p)
 
+licences-made : (setup : Setup) (returns : ℕ) (board : Option Chart) → returns < 2 ^ 32 → IfSome board (WasMade setup returns) → IfSome board (Licences setup returns [])
+licences-made setup returns None low none = tt
+licences-made setup returns (Some now) low m = licences-prepared setup returns m.made now low m.new m.prepared
+
 -- a run that ended before a line was read
-pub runs-quiet : {B : Type 0} (state : B → State) (setup : Setup) (returns status why : ℕ) (board : Option B) (e : Ended B) (feed : Feed) (sink : Drain) → e ≡ record { status = status; why = why; lines = 0; taken = 0; board = board; second = None } → IsUnserved (outcome state (record { status = status; why = why; lines = 0; taken = 0; board = board; second = None })) (record { from = feed; feed = feed; to = sink; sink = sink }) → IfSome (option_map (λ b. chart (state b)) board) (Licences setup returns []) → DoesTask (run_task setup returns) (outcome state e) (record { from = feed; feed = feed; to = sink; sink = sink })
-runs-quiet {B} state setup returns status why board e feed sink is unserved licences =
-    subst (λ (x : Ended B). DoesTask (run_task setup returns) (outcome state x) (record { from = feed; feed = feed; to = sink; sink = sink })) (sym is)
-    (record { turns = []; answers = inr (refl, unserved); licences = licences })
+pub runs-quiet : (setup : Setup) (returns : ℕ) (o : Outcome) (feed : Feed) (sink : Drain) → returns < 2 ^ 32 → NoneBegun setup returns o → DoesTask (run_task setup returns) o (record { from = feed; feed = feed; to = sink; sink = sink })
+runs-quiet setup returns o feed sink low n =
+    let io : Streams = record { from = feed; feed = feed; to = sink; sink = sink } in
+    account_of (run_task setup returns) o io (record {
+      turns = [];
+      answers = inr (refl, unread o io (record { lines = n.lines; taken = n.taken; source = refl; sink = refl }) n.cause, n.cause);
+      licences = licences-made setup returns o.board low n.board;
+    })
 
 -- a run whose trace was served
-pub runs-ended : {B : Type 0} (state : B → State) (setup : Setup) (returns : ℕ) (made : State) (first now : Picture) (end : End) (lines taken skipped : ℕ) (board : B) (e : Ended B) (io : Streams) → e ≡ record { status = status_of end; why = why_of end; lines = lines; taken = taken; board = Some board; second = None } → chart (state board) ≡ now.chart → skipped ≡ 0 → lines ≤ most_bytes → 0 < setup.shape.entries → length made.erases ≡ setup.shape.segments → returns < 2 ^ 32 → IsMade setup.shape returns made → IsReady (chart made) setup first → ((start : Start) → TracedSince start first [] → (turns : List TraceTurn) × Serves end lines taken trace_grammar skipped (TracedSince start now) (DiedSince start now) [] turns io) → DoesTask (run_task setup returns) (outcome state e) io
-runs-ended {B} state setup returns made first now end lines taken skipped board e io is same none few some long low m ready serves =
-    subst (λ (x : Ended B). DoesTask (run_task setup returns) (outcome state x) io) (sym is)
-    (subst (λ (c : Chart). DoesTask (run_task setup returns) (record { status = status_of end; why = why_of end; lines = lines; taken = taken; board = Some c; state = Some (state board); second = None }) io) (sym same)
-    (runs-served (state board) setup returns (chart made) first now end lines taken io some ready (began setup returns made first m long ready) (tried-on setup returns made first.chart low m (IsReady.prepared ready)) few
+pub runs-ended : {B : Type 0} (state : B → State) (setup : Setup) (returns : ℕ) (first now : Picture) (end : End) (lines taken skipped : ℕ) (board : B) (e : Finished B) (io : Streams) → e ≡ record { ending = ending_of end; lines = lines; taken = taken; board = Some board; second = None } → chart (state board) ≡ now.chart → skipped ≡ 0 → lines ≤ most_bytes → 0 < setup.shape.entries → returns < 2 ^ 32 → IsBegun setup returns first → ((start : Start) → TracedSince start first [] → (turns : List TraceTurn) × Serves end lines taken trace_grammar skipped (TracedSince start now) (DiedSince start now) [] turns io) → DoesTask (run_task setup returns) (outcome_of state e) io
+runs-ended {B} state setup returns first now end lines taken skipped board e io is same none few some low begun serves =
+    subst (λ (x : Finished B). DoesTask (run_task setup returns) (outcome_of state x) io) (sym is)
+    (subst (λ (c : Chart). DoesTask (run_task setup returns) (served_outcome end lines taken c (state board)) io) (sym same)
+    (runs-served (state board) setup returns (chart begun.made) first now end lines taken io some begun.ready (began-of setup returns first begun) (tried-on setup returns begun.made first.chart low begun.new (IsReady.prepared begun.ready)) few
     (subst (λ (k : ℕ). (start : Start) → TracedSince start first [] → (turns : List TraceTurn) × Serves end lines taken trace_grammar k (TracedSince start now) (DiedSince start now) [] turns io) none serves)))

@@ -1,5 +1,5 @@
 -- The words `audit` and `map`: the verdict on the image that the source begins with, and its segments.
-use Rattle.std.specs.Prelude.{◌≡◌, ◌⊎◌, ℕ, List, [], ◌∷◌, ◌++◌, length, Some, codes}
+use Rattle.std.specs.Prelude.{◌≡◌, ℕ, ⊤, List, [], ◌∷◌, ◌++◌, length, Some, IfSome, codes}
 use Rattle.envy_audit.specs.Judging.{Judges}
 use Rattle.envy_audit.specs.declared.verdict.Rule.{Rule}
 use Rattle.envy_audit.specs.declared.verdict.Rule.TheVariants.{A, B, C, D, E, F, G, H, I, J, K, L}
@@ -12,7 +12,8 @@ use Rattle.envy_io.specs.Streams.{with_front}
 use Rattle.envy_map.specs.Fields.{Chart, chart}
 use Rattle.envy_segments.specs.Segments.{TellsSegments}
 use Rattle.envy_serve.specs.Streams.{Streams}
-use Rattle.envy_run.specs.Loading.{IsInstalled, RefusesImage}
+use Rattle.envy_run.specs.Loading.{IsInstalled, IsUnharmed, RefusesImage}
+use Rattle.envy_run.specs.Meaning.{Meaning}
 use Rattle.envy_run.specs.Outcome.{Outcome}
 use Rattle.envy_run.specs.Writing.{WritesTrace}
 use Rattle.envy_run.specs.declared.loading.Refusal.{Refusal}
@@ -54,29 +55,40 @@ IsMap Sound c text = TellsSegments c text
 IsMap Unformatted c text = text ≡ verdict_line Unformatted
 IsMap (Broken rule) c text = text ≡ verdict_line (Broken rule)
 
--- The bytes taken are the image of a board, which is handed back as installing left it, and what is to be said of it is
--- written; no line is read.
-pub record Judged (Says : Verdict → Chart → List ℕ → Type 0) (o : Outcome) (io : Streams) : Type 0 where
-  pub found : State
-  pub installed : IsInstalled found.shape audit_lives found
-  pub board : o.board ≡ Some (chart found)
-  pub state : o.state ≡ Some found
+-- what was found: a board that holds the image, the verdict on it and what is written of it; or why there is no such board,
+-- and the bytes that were taken
+pub data Judging : Type 0 where
+  Judged : (found : State) (verdict : Verdict) (text : List ℕ) → Judging
+  Refused : (refusal : Refusal) (bytes : List ℕ) → Judging
+
+-- The bytes taken are the image of the board, and what is to be said of it is written; no line is read.
+pub record IsJudged (Says : Verdict → Chart → List ℕ → Type 0) (found : State) (verdict : Verdict) (text : List ℕ) (o : Outcome) (io : Streams) : Type 0 where
   pub source : io.from.left ≡ with_front (image_of found) io.feed.left
   pub taken : o.taken ≡ length (image_of found)
   pub lines : o.lines ≡ 0
-  pub verdict : Verdict
   pub judges : Judges verdict (chart found)
-  pub text : List ℕ
   pub says : Says verdict (chart found) text
-  pub writes : WritesTrace text o.status io.to io.sink
-  pub why : o.why ≡ 0
+  pub writes : WritesTrace text o io.to io.sink
 
--- or there is no such board
-abbrev pub Tells : (Verdict → Chart → List ℕ → Type 0) → Outcome → Streams → Type 0
-Tells Says o io = Judged Says o io ⊎ ((refusal : Refusal) × (bytes : List ℕ) × RefusesImage refusal bytes audit_lives o io)
+-- that board is handed back as installing left it
+pub record IsLeftInstalled (returns : ℕ) (found : State) (o : Outcome) : Type 0 where
+  pub installed : IsInstalled found.shape returns found
+  pub board : o.board ≡ Some (chart found)
+  pub state : o.state ≡ Some found
 
-abbrev pub Audits : Outcome → Streams → Type 0
-Audits o io = Tells IsVerdict o io
+abbrev pub Tells : (Verdict → Chart → List ℕ → Type 0) → Judging → Outcome → Streams → Type 0
+Tells Says (Judged found verdict text) o io = IsJudged Says found verdict text o io
+Tells Says (Refused refusal bytes) o io = RefusesImage refusal bytes o io
 
-abbrev pub Maps : Outcome → Streams → Type 0
-Maps o io = Tells IsMap o io
+abbrev pub IsLeftBy : Judging → Outcome → Type 0
+IsLeftBy (Judged found verdict text) o = IsLeftInstalled audit_lives found o
+IsLeftBy (Refused refusal bytes) o = IfSome o.board (IsUnharmed audit_lives)
+
+-- the words `audit` and `map`
+abbrev pub judging : (Verdict → Chart → List ℕ → Type 0) → Meaning
+judging Says = record {
+  Account = Judging;
+  Printed = Tells Says;
+  Board = IsLeftBy;
+  Licences = λ account o. ⊤;
+}

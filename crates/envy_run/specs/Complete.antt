@@ -16,7 +16,8 @@ use Rattle.envy_serve.specs.GoodTrace.{StaysLow, IsGoodTrace}
 use Rattle.envy_serve.specs.Streams.{Streams}
 use Rattle.envy_run.specs.IndexTurns.{index_grammar}
 use Rattle.envy_run.specs.MirrorTask.{AreWell, HasDiedOut}
-use Rattle.envy_run.specs.Outcome.{Outcome}
+use Rattle.envy_run.specs.Outcome.{Outcome, EndsBy}
+use Rattle.envy_run.specs.declared.ending.Ending.TheVariants.{Done, NotInstalled, OutOfMemory}
 use Rattle.envy_run.specs.Resumes.{setup_found}
 use Rattle.envy_run.specs.Turns.{trace_grammar}
 
@@ -27,7 +28,7 @@ pub record IsWell (o : Outcome) : Type 0 where
 
 -- done to its end, or memory ran out
 abbrev pub IsComplete : Outcome → Type 0
-IsComplete o = (o.status ≡ 0) ⊎ (o.status ≡ 8)
+IsComplete o = EndsBy Done o ⊎ EndsBy OutOfMemory o
 
 -- The source tells its bytes, which begin with the image of a board whose shape checks. Neither stream fails.
 pub record HoldsImage (io : Streams) : Type 0 where
@@ -50,7 +51,7 @@ pub record HoldsTrace (setup : Shape → Setup) (io : Streams) (holds : HoldsIma
 
 -- where an image couldn't be installed nothing failed in it, and power isn't off for good
 pub record IsWellInstalled (o : Outcome) : Type 0 where
-  pub installed : o.status ≡ 11 → NeverFailed o
+  pub installed : EndsBy NotInstalled o → NeverFailed o
   pub returns : (c : Chart) → o.board ≡ Some c → IsTrue c.on ⊎ (0 < c.lives)
 
 abbrev pub Completes : Result Command WordsFault → Outcome → Streams → Type 0

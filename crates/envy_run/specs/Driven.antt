@@ -8,24 +8,26 @@ use Rattle.envy_tpca.specs.Driving.{HasCounted, IsDriven, plans_in}
 use Rattle.envy_tpca.specs.Load.{Draws}
 use Rattle.envy_tpca.specs.Since.{IsPast, Keeps}
 use Rattle.envy_run.specs.Drives.{report}
-use Rattle.envy_run.specs.Writing.{WritesTrace}
+use Rattle.envy_run.specs.Writing.{WritesAs}
+use Rattle.envy_run.specs.declared.ending.Ending.{Ending}
+use Rattle.envy_run.specs.declared.ending.Ending.TheVariants.{FlashFailed, PowerLost}
 
 -- the load was driven to its end, and its report is written, or a front of it
-pub record HasTold (area : Area) (load : Draws) (every : ℕ) (first now : Picture) (status : ℕ) (to sink : Drain) : Type 0 where
+pub record HasTold (area : Area) (load : Draws) (every : ℕ) (first now : Picture) (ending : Ending) (to sink : Drain) : Type 0 where
   pub sums : Sums
   pub driven : IsDriven area load every first sums now
-  pub writes : WritesTrace (report area sums) status to sink
+  pub writes : WritesAs (report area sums) ending to sink
 
 -- power doesn't return, or a flash operation failed; nothing is written
-abbrev pub IsCause : ℕ → Picture → Picture → Type 0
-IsCause status first now = ((status ≡ 6) × (now.chart.on ≡ false) × (now.chart.lives ≡ 0)) ⊎ ((status ≡ 7) × IsPast first.chart.bads now.chart.bads)
+abbrev pub IsCause : Ending → Picture → Picture → Type 0
+IsCause ending first now = ((ending ≡ PowerLost) × (now.chart.on ≡ false) × (now.chart.lives ≡ 0)) ⊎ ((ending ≡ FlashFailed) × IsPast first.chart.bads now.chart.bads)
 
-pub record HasBroken (area : Area) (load : Draws) (first now : Picture) (status : ℕ) (to sink : Drain) : Type 0 where
+pub record HasBroken (area : Area) (load : Draws) (first now : Picture) (ending : Ending) (to sink : Drain) : Type 0 where
   pub counted : HasCounted area load now
-  pub cause : IsCause status first now
+  pub cause : IsCause ending first now
   pub sink_same : sink ≡ to
 
-pub record AfterLoad (area : Area) (load : Draws) (every : ℕ) (first now : Picture) (status : ℕ) (to sink : Drain) : Type 0 where
-  pub ends : HasTold area load every first now status to sink ⊎ HasBroken area load first now status to sink
+pub record AfterLoad (area : Area) (load : Draws) (every : ℕ) (first now : Picture) (ending : Ending) (to sink : Drain) : Type 0 where
+  pub ends : HasTold area load every first now ending to sink ⊎ HasBroken area load first now ending to sink
   pub keeps : Keeps first now
   pub plans : now.chart.plans ≤ first.chart.plans + plans_in every area.transfers

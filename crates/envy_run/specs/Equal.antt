@@ -16,7 +16,7 @@ use Rattle.envy_trace.specs.declared.line.Line.TheVariants.{Empty, Load, Look, S
 use Rattle.envy_trace.specs.declared.reply.Reply.{Reply}
 use Rattle.envy_trace.specs.declared.reply.Reply.TheVariants.{Restarted, Armed}
 use Rattle.envy_run.specs.Outcome.{Outcome}
-use Rattle.envy_run.specs.Runs.{Runs}
+use Rattle.envy_run.specs.Theorem.{Licenses}
 use Rattle.envy_run.specs.Turns.{said}
 
 -- the array's own answer to the command
@@ -55,7 +55,7 @@ Wrote text io = io.sink.written ≡ with_end io.to.written text
 -- both do the trace to its end and nothing failed but power cut by hand.
 abbrev pub WriteAlike : Type 0
 WriteAlike = (setup : Setup) (returns : ℕ) (bytes : List ℕ) (o p : Outcome) (io jo : Streams)
-    → Runs (Ok (RunWords setup returns)) o io → Runs (Ok (PlainWords setup)) p jo
+    → Licenses (Ok (RunWords setup returns)) o io → Licenses (Ok (PlainWords setup)) p jo
     → io.from.left ≡ Some bytes → jo.from.left ≡ Some bytes → HasNoStat bytes
     → o.status ≡ 0 → p.status ≡ 0 → NothingFailed o.board
     → (text : List ℕ) × Wrote text io × Wrote text jo

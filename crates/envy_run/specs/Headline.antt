@@ -1,5 +1,5 @@
--- What a run of the program is.
-use Rattle.std.specs.Prelude.{◌≡◌, ◌⊎◌, ℕ, ◌+◌, ◌≤◌, List, [], map, Option, None, Some, IfSome, Result, Ok, Err}
+-- What each word of the program means.
+use Rattle.std.specs.Prelude.{◌≡◌, ◌⊎◌, ℕ, ◌+◌, ◌≤◌, ⊤, List, [], map, Option, None, Some, IfSome, Result, Ok, Err}
 use Rattle.std.specs.String.{string_bytes}
 use Rattle.std.specs.declared.string.String.{String}
 use Rattle.envy_args.specs.declared.command.Command.{Command}
@@ -14,6 +14,7 @@ use Rattle.envy_btree.specs.declared.reply.IndexReply.{IndexReply}
 use Rattle.envy_gen.specs.Traces.{trace_bytes}
 use Rattle.envy_gen.specs.declared.mix.Mix.{Mix}
 use Rattle.envy_image.specs.Image.{image_of}
+use Rattle.envy_layout.specs.Stands.{Stands}
 use Rattle.envy_map.specs.Fields.{Chart}
 use Rattle.envy_policy.specs.declared.setup.Setup.{Setup}
 use Rattle.envy_trace.specs.declared.line.Line.{Line}
@@ -21,32 +22,27 @@ use Rattle.envy_trace.specs.declared.reply.Reply.{Reply}
 use Rattle.envy_serve.specs.Grammar.{silent}
 use Rattle.envy_serve.specs.Streams.{Streams}
 use Rattle.envy_serve.specs.Turns.{count_lines, count_replies}
-use Rattle.envy_run.specs.Audits.{Audits, Maps}
+use Rattle.envy_run.specs.Audits.{IsMap, IsVerdict, judging}
 use Rattle.envy_run.specs.Counters.{AddsUp, just_told}
 use Rattle.envy_run.specs.Calm.{HasDoneCalmly, NeverDies}
-use Rattle.envy_run.specs.Done.{HasDone, HasDied}
-pub use Rattle.envy_run.specs.Done.{OnBoard}
-use Rattle.envy_run.specs.IndexDone.{HasIndexed, HasIndexDied, IndexLicences, OnIndexBoard}
-use Rattle.envy_run.specs.IndexTurns.{index_grammar}
-use Rattle.envy_run.specs.Drives.{Drives}
+use Rattle.envy_run.specs.Done.{Run as ArrayRun, Dies, HoldsOff, OnBoard}
+use Rattle.envy_run.specs.IndexDone.{HoldsIndex, HoldsIndexOff, IndexDies, IndexLicences}
+use Rattle.envy_run.specs.IndexTurns.{IndexRun, Pairs, index_grammar, most_of}
+use Rattle.envy_run.specs.Drives.{driving}
+use Rattle.envy_run.specs.Meaning.{Meaning, Does}
 use Rattle.envy_run.specs.MirrorTask.{mirror_task}
-use Rattle.envy_run.specs.Outcome.{Outcome, IsQuiet}
-use Rattle.envy_run.specs.Resumes.{Resumes, setup_found}
+use Rattle.envy_run.specs.Outcome.{Outcome, EndsBy, IsQuiet}
+use Rattle.envy_run.specs.Resumes.{resuming, setup_found}
 use Rattle.envy_run.specs.Spending.{IsThrifty, tries_of}
-pub use Rattle.envy_run.specs.Unserved.{IsOutOfMemory, IsSpoilt, IsDark, IsUnserved}
-pub use Rattle.envy_run.specs.Writing.{WritesOut, WritesTrace}
-use Rattle.envy_run.specs.Task.{Task, DoesTask}
+use Rattle.envy_run.specs.Unserved.{IsOutOfMemory, IsUnread, IsUnready}
+use Rattle.envy_run.specs.Writing.{WritesTrace}
+use Rattle.envy_run.specs.Task.{Task, serving}
 use Rattle.envy_run.specs.Turns.{TraceTurn, trace_grammar, is_power, is_plan, is_lost, is_fault}
+use Rattle.envy_run.specs.declared.ending.Ending.TheVariants.{OutOfMemory, WordsRefused}
 
 -- the command that the words name, or why they are refused
 abbrev pub command_in : {Z : Type 0} → List (String Z) → Result Command WordsFault
 command_in words = command_of (map string_bytes words)
-
--- status 2: the words aren't understood, or break the rule of this number
-pub record IsRefused (why : ℕ) (o : Outcome) : Type 0 where
-  pub status : o.status ≡ 2
-  pub why_is : o.why ≡ why
-  pub board_none : o.board ≡ None
 
 -- What a board that began with no counts says of the turns: power was cut by hand once for each line `power`, a failure
 -- was planned by each line `cut` and `bad`, each `lost` has a failure of power of its own besides, and each `fault` a
@@ -66,15 +62,18 @@ abbrev pub zeros_of : Setup → Array
 zeros_of setup = zeros setup.shape.pages setup.shape.shadows
 
 -- the word `run`, over a memory of zeros
-abbrev pub run_task : Setup → ℕ → Task Line Reply
+abbrev pub run_task : Setup → ℕ → Task Line Reply Array
 run_task setup returns = record {
   grammar = trace_grammar;
   skipped = 0;
-  Done = OnBoard (HasDone (zeros_of setup));
-  Dead = OnBoard (HasDied (zeros_of setup));
+  Leads = λ turns m. ArrayRun setup.shape.entries (zeros_of setup) turns m;
+  Dies = λ turns m. Dies setup.shape.entries (zeros_of setup) turns m;
   tail = λ o. [];
+  Unread = IsUnread;
+  HoldsLeft = λ o m. OnBoard (λ now. Stands now m) o;
+  HoldsDead = λ o m. OnBoard (HoldsOff m.words) o;
+  WhyUnread = IsUnready;
   Licences = λ o turns. IfSome o.board (Licences setup returns turns);
-  Unserved = IsUnserved;
 }
 
 -- the image of a board, where there is one
@@ -83,32 +82,75 @@ image_in None = []
 image_in (Some s) = image_of s
 
 -- the word `save`: the same without replies, and behind them the image of the board
-abbrev pub save_task : Setup → ℕ → Task Line Reply
+abbrev pub save_task : Setup → ℕ → Task Line Reply Array
 save_task setup returns = record (run_task setup returns) { grammar = silent trace_grammar; tail = λ o. image_in o.state }
 
 -- the word `index`, over the words of a memory of zeros
-abbrev pub index_task : Setup → ℕ → Task IndexLine IndexReply
+abbrev pub index_task : Setup → ℕ → Task IndexLine IndexReply Pairs
 index_task setup returns = record {
   grammar = index_grammar;
   skipped = 0;
-  Done = OnIndexBoard HasIndexed;
-  Dead = OnIndexBoard HasIndexDied;
+  Leads = λ turns pairs. IndexRun (most_of setup.shape.pages) turns pairs;
+  Dies = λ turns pairs. IndexDies (most_of setup.shape.pages) turns pairs;
   tail = λ o. [];
+  Unread = IsUnread;
+  HoldsLeft = λ o pairs. OnBoard (HoldsIndex pairs) o;
+  HoldsDead = λ o pairs. OnBoard (HoldsIndexOff pairs) o;
+  WhyUnread = IsUnready;
   Licences = λ o turns. IfSome o.board (IndexLicences setup returns turns);
-  Unserved = IsUnserved;
 }
 
 -- the word `plain`, on a machine of zeros; there is no board
-abbrev pub plain_task : Setup → Task Line Reply
+abbrev pub plain_task : Setup → Task Line Reply Array
 plain_task setup = record {
   grammar = trace_grammar;
   skipped = 0;
-  Done = λ o turns. (machine : Array) × HasDoneCalmly (zeros_of setup) machine turns;
-  Dead = λ o turns. NeverDies turns;
+  Leads = λ turns machine. HasDoneCalmly (zeros_of setup) machine turns;
+  Dies = λ turns machine. NeverDies turns;
   tail = λ o. [];
-  Licences = λ o turns. o.board ≡ None;
-  Unserved = λ o io. IsQuiet o io × IsOutOfMemory o;
+  Unread = λ o io. IsQuiet o io × EndsBy OutOfMemory o;
+  HoldsLeft = λ o machine. o.board ≡ None;
+  HoldsDead = λ o machine. o.board ≡ None;
+  WhyUnread = λ o. o.board ≡ None;
+  Licences = λ o turns. ⊤;
 }
+
+-- the word `gen`: nothing is read
+pub record Generates (start count : ℕ) (mix : Mix) (o : Outcome) (io : Streams) : Type 0 where
+  pub writes : WritesTrace (trace_bytes start count mix) o io.to io.sink
+  pub lines : o.lines ≡ 0
+  pub taken : o.taken ≡ 0
+  pub source : io.feed ≡ io.from
+
+-- of a word without a board, whose runs need no account
+abbrev pub boardless : (Outcome → Streams → Type 0) → Meaning
+boardless Printed = record {
+  Account = Unit;
+  Printed = λ account o io. Printed o io;
+  Board = λ account o. o.board ≡ None;
+  Licences = λ account o. ⊤;
+}
+
+-- the words aren't understood, or break the rule of this number
+pub record Refuses (rule : ℕ) (o : Outcome) (io : Streams) : Type 0 where
+  pub ending : EndsBy (WordsRefused rule) o
+  pub quiet : IsQuiet o io
+
+-- what each command means, and words that name none
+abbrev pub meaning_of : Result Command WordsFault → Meaning
+meaning_of (Ok (Run setup returns)) = serving (run_task setup returns)
+meaning_of (Ok (Plain setup)) = serving (plain_task setup)
+meaning_of (Ok (Gen start count mix)) = boardless (Generates start count mix)
+meaning_of (Ok (Tpca setup returns start area every)) = driving setup returns start area every
+meaning_of (Ok (Save setup returns)) = serving (save_task setup returns)
+meaning_of (Ok (Resume policy limit mark returns)) = resuming (setup_found policy limit mark) returns
+meaning_of (Ok Audit) = judging IsVerdict
+meaning_of (Ok Segments) = judging IsMap
+meaning_of (Ok (Index setup returns)) = serving (index_task setup returns)
+meaning_of (Ok (Mirror setup returns)) = serving (mirror_task setup returns)
+meaning_of (Err Form) = boardless (Refuses 0)
+meaning_of (Err (Rule rule)) = boardless (Refuses rule)
+meaning_of (Err Memory) = boardless (λ o io. ⊥)
 
 -- memory ran out before a line was read
 pub record IsWithoutMemory (o : Outcome) (io : Streams) : Type 0 where
@@ -116,36 +158,6 @@ pub record IsWithoutMemory (o : Outcome) (io : Streams) : Type 0 where
   pub quiet : IsQuiet o io
   pub board_none : o.board ≡ None
 
--- the word `gen`: no board, and nothing is read
-pub record Generates (start count : ℕ) (mix : Mix) (o : Outcome) (io : Streams) : Type 0 where
-  pub writes : WritesTrace (trace_bytes start count mix) o.status io.to io.sink
-  pub why : o.why ≡ 0
-  pub lines : o.lines ≡ 0
-  pub taken : o.taken ≡ 0
-  pub source : io.feed ≡ io.from
-  pub board_none : o.board ≡ None
-
--- words that are refused
-pub record Refuses (why : ℕ) (o : Outcome) (io : Streams) : Type 0 where
-  pub refused : IsRefused why o
-  pub quiet : IsQuiet o io
-
--- what is done for each command, where its words could be read
-abbrev pub DoesCommand : Result Command WordsFault → Outcome → Streams → Type 0
-DoesCommand (Ok (Run setup returns)) o io = DoesTask (run_task setup returns) o io
-DoesCommand (Ok (Plain setup)) o io = DoesTask (plain_task setup) o io
-DoesCommand (Ok (Gen start count mix)) o io = Generates start count mix o io
-DoesCommand (Ok (Tpca setup returns start area every)) o io = Drives setup returns start area every o io
-DoesCommand (Ok (Save setup returns)) o io = DoesTask (save_task setup returns) o io
-DoesCommand (Ok (Resume policy limit mark returns)) o io = Resumes (setup_found policy limit mark) returns o io
-DoesCommand (Ok Audit) o io = Audits o io
-DoesCommand (Ok Segments) o io = Maps o io
-DoesCommand (Ok (Index setup returns)) o io = DoesTask (index_task setup returns) o io
-DoesCommand (Ok (Mirror setup returns)) o io = DoesTask (mirror_task setup returns) o io
-DoesCommand (Err Form) o io = Refuses 0 o io
-DoesCommand (Err (Rule rule)) o io = Refuses rule o io
-DoesCommand (Err Memory) o io = ⊥
-
 -- the words say what is done; for want of memory nothing is
 abbrev pub Headline : Result Command WordsFault → Outcome → Streams → Type 0
-Headline command o io = DoesCommand command o io ⊎ IsWithoutMemory o io
+Headline command o io = Does (meaning_of command) o io ⊎ IsWithoutMemory o io

@@ -17,6 +17,7 @@ pub mod IndexServing
 pub mod IndexTurns
 pub mod Licence
 pub mod Loading
+pub mod Meaning
 pub mod MirrorTask
 pub mod Obeys
 pub mod Outcome
@@ -24,10 +25,10 @@ pub mod Planned
 pub mod Prepares
 pub mod Restarts
 pub mod Resumes
-pub mod Runs
 pub mod Spending
 pub mod Task
 pub mod Tells
+pub mod Theorem
 pub mod Texts
 pub mod Tracing
 pub mod Turns

@@ -14,7 +14,10 @@ use Rattle.envy_io.specs.Taking.{Taking}
 use Rattle.envy_map.specs.Fields.{Chart, chart}
 use Rattle.envy_serve.specs.Ends.{most_bytes}
 use Rattle.envy_serve.specs.Streams.{Streams}
-use Rattle.envy_run.specs.Outcome.{Outcome}
+use Rattle.envy_run.specs.Outcome.{Outcome, EndsBy}
+use Rattle.envy_run.specs.declared.ending.Ending.{Ending}
+use Rattle.envy_run.specs.declared.ending.Ending.TheVariants.{ImageRefused, NotInstalled, OutOfMemory, ReadFault}
+use Rattle.envy_run.specs.declared.ending.ImageFault.TheVariants.{Early as ImageEarly, Misshapen as ImageMisshapen, Unmarked as ImageUnmarked}
 use Rattle.envy_run.specs.declared.loading.Refusal.{Refusal}
 use Rattle.envy_run.specs.declared.loading.Refusal.TheVariants.{Failed, Memory, Early, Unmarked, Misshapen, Upset}
 
@@ -118,19 +121,14 @@ pub record Unloaded (sh : Shape) (returns : ℕ) (from : Feed) (board : Option S
   pub cause : Cause refusal bytes (option_map chart board) from feed
   pub unharmed : IfSome (option_map chart board) (IsUnharmed returns)
 
-abbrev pub status_for : Refusal → ℕ
-status_for Failed = 3
-status_for Memory = 8
-status_for Early = 10
-status_for Unmarked = 10
-status_for Misshapen = 10
-status_for Upset = 11
-
-abbrev pub why_for : Refusal → ℕ
-why_for Early = 1
-why_for Unmarked = 2
-why_for Misshapen = 3
-why_for refusal = 0
+-- the ending for each reason
+abbrev pub ending_for : Refusal → Ending
+ending_for Failed = ReadFault
+ending_for Memory = OutOfMemory
+ending_for Early = ImageRefused ImageEarly
+ending_for Unmarked = ImageRefused ImageUnmarked
+ending_for Misshapen = ImageRefused ImageMisshapen
+ending_for Upset = NotInstalled
 
 -- these bytes were taken, no line was read, and nothing was written
 pub record TookOnly (bytes : List ℕ) (o : Outcome) (io : Streams) : Type 0 where
@@ -140,9 +138,7 @@ pub record TookOnly (bytes : List ℕ) (o : Outcome) (io : Streams) : Type 0 whe
   pub sink : io.sink ≡ io.to
 
 -- no image was taken up, for this reason; these bytes were taken
-pub record RefusesImage (refusal : Refusal) (bytes : List ℕ) (returns : ℕ) (o : Outcome) (io : Streams) : Type 0 where
-  pub status : o.status ≡ status_for refusal
-  pub why : o.why ≡ why_for refusal
+pub record RefusesImage (refusal : Refusal) (bytes : List ℕ) (o : Outcome) (io : Streams) : Type 0 where
+  pub ending : EndsBy (ending_for refusal) o
   pub took : TookOnly bytes o io
   pub cause : Cause refusal bytes o.board io.from io.feed
-  pub unharmed : IfSome o.board (IsUnharmed returns)

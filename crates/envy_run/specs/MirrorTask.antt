@@ -5,18 +5,18 @@ use Rattle.envy_map.specs.Fields.{Chart}
 use Rattle.envy_pair.specs.Ending.{Boards, HasMirrored, HasFallen, PairLicences}
 use Rattle.envy_pair.specs.MirrorRun.{MirrorTurn, mirror_grammar}
 use Rattle.envy_policy.specs.declared.setup.Setup.{Setup}
-use Rattle.envy_serve.specs.Streams.{Streams}
 use Rattle.envy_trace.specs.declared.mirror_line.MirrorLine.{MirrorLine}
 use Rattle.envy_trace.specs.declared.mirror_reply.MirrorReply.{MirrorReply}
-use Rattle.envy_run.specs.declared.prepare.Unready.{Unready}
-use Rattle.envy_run.specs.declared.prepare.Unready.TheVariants.{Memory, Bad, Dead}
+use Rattle.envy_run.specs.declared.ending.Ending.TheVariants.{FlashFailed, OutOfMemory, PowerLost}
 use Rattle.envy_run.specs.Loading.{IsNew, IsUnharmed}
-use Rattle.envy_run.specs.Outcome.{Outcome, IsQuiet}
+use Rattle.envy_run.specs.Outcome.{Outcome, EndsBy}
 use Rattle.envy_run.specs.Task.{Task}
+use Rattle.envy_run.specs.Unserved.{IsUnread}
 
--- both boards exist, and this is said of them
-abbrev pub OnBoards : (Boards → List MirrorTurn → Type 0) → Outcome → List MirrorTurn → Type 0
-OnBoards Is o turns = (boards : Boards) × (o.board ≡ Some boards.first) × (o.second ≡ Some boards.second) × Is boards turns
+-- these are the boards that are handed back
+pub record AreHandedBack (boards : Boards) (o : Outcome) : Type 0 where
+  pub first : o.board ≡ Some boards.first
+  pub second : o.second ≡ Some boards.second
 
 -- a board of the shape and the lives of the words
 pub record IsMadeFor (setup : Setup) (returns : ℕ) (now : Chart) : Type 0 where
@@ -42,38 +42,39 @@ OfEither Is o = (now : Chart) × ((o.board ≡ Some now) ⊎ (o.second ≡ Some 
 abbrev pub IsOffForGood : Chart → Type 0
 IsOffForGood now = (now.on ≡ false) × (now.lives ≡ 0)
 
--- status 8, which is not told of a board without power
+-- memory ran out, which is not told of a board without power
 pub record IsPairOutOfMemory (o : Outcome) : Type 0 where
-  pub status : o.status ≡ 8
-  pub why : o.why ≡ 0
+  pub ending : EndsBy OutOfMemory o
   pub first : IfSome o.board (λ now. IsTrue now.on)
   pub second : IfSome o.second (λ now. IsTrue now.on)
 
--- status 7: a flash operation of one of the boards failed in formatting
+-- a flash operation of one of the boards failed in formatting
 pub record IsEitherSpoilt (o : Outcome) : Type 0 where
-  pub status : o.status ≡ 7
-  pub why : o.why ≡ 0
+  pub ending : EndsBy FlashFailed o
   pub cause : OfEither (λ now. 0 < now.bads) o
 
--- status 6 with no line read: power of one of the boards failed in formatting, and didn't return
+-- with no line read power of one of the boards failed in formatting, and didn't return
 pub record IsEitherDark (o : Outcome) : Type 0 where
-  pub status : o.status ≡ 6
-  pub why : o.why ≡ 0
+  pub ending : EndsBy PowerLost o
   pub cause : OfEither IsOffForGood o
 
-abbrev pub IsMirrorUnserved : Outcome → Streams → Type 0
-IsMirrorUnserved o io = IsQuiet o io × (IsPairOutOfMemory o ⊎ (IsEitherSpoilt o ⊎ IsEitherDark o))
+-- why no line was read
+abbrev pub IsMirrorUnready : Outcome → Type 0
+IsMirrorUnready o = IsPairOutOfMemory o ⊎ (IsEitherSpoilt o ⊎ IsEitherDark o)
 
 -- the word `mirror`, over two memories of zeros
-abbrev pub mirror_task : Setup → ℕ → Task MirrorLine MirrorReply
+abbrev pub mirror_task : Setup → ℕ → Task MirrorLine MirrorReply Boards
 mirror_task setup returns = record {
   grammar = mirror_grammar;
   skipped = 0;
-  Done = OnBoards (HasMirrored (zeros setup.shape.pages setup.shape.shadows) setup.shape.pages);
-  Dead = OnBoards (HasFallen (zeros setup.shape.pages setup.shape.shadows) setup.shape.pages);
+  Leads = λ turns boards. HasMirrored (zeros setup.shape.pages setup.shape.shadows) setup.shape.pages boards turns;
+  Dies = λ turns boards. HasFallen (zeros setup.shape.pages setup.shape.shadows) setup.shape.pages boards turns;
   tail = λ o. [];
+  Unread = IsUnread;
+  HoldsLeft = λ o boards. AreHandedBack boards o;
+  HoldsDead = λ o boards. AreHandedBack boards o;
+  WhyUnread = IsMirrorUnready;
   Licences = MirrorLicences setup returns;
-  Unserved = IsMirrorUnserved;
 }
 
 -- no flash operation of either board failed before a byte was taken
@@ -83,11 +84,5 @@ pub record AreWell (o : Outcome) : Type 0 where
 
 -- power of a board failed and doesn't return
 pub record HasDiedOut (o : Outcome) : Type 0 where
-  pub status : o.status ≡ 6
+  pub ending : EndsBy PowerLost o
   pub cause : OfEither IsOffForGood o
-
--- the status of a run without a pair
-abbrev pub status_of_unready : Unready → ℕ
-status_of_unready Memory = 8
-status_of_unready Bad = 7
-status_of_unready Dead = 6

@@ -1,6 +1,6 @@
 -- What doing one line does to the board and to what is written, from a board that stood for the array m.
-use Rattle.std.specs.Prelude.{◌≡◌, ◌⊎◌, false, List, [], ◌∷◌}
-use Rattle.envy_base.specs.Array.{Array, restarted}
+use Rattle.std.specs.Prelude.{◌≡◌, ◌⊎◌, false, List}
+use Rattle.envy_base.specs.Array.{Array}
 use Rattle.envy_map.specs.Codes.{the_magic}
 use Rattle.envy_map.specs.Fields.{Chart}
 use Rattle.envy_io.specs.Streams.{Drain}
@@ -8,9 +8,7 @@ use Rattle.envy_layout.specs.Sound.{IsSound}
 use Rattle.envy_layout.specs.Stands.{Stands}
 use Rattle.envy_layout.specs.Words.{durable}
 use Rattle.envy_trace.specs.declared.line.Line.{Line}
-use Rattle.envy_trace.specs.declared.line.Line.TheVariants.{Power}
 use Rattle.envy_trace.specs.declared.reply.Reply.{Reply}
-use Rattle.envy_trace.specs.declared.reply.Reply.TheVariants.{Lost as IsLost}
 use Rattle.envy_serve.specs.declared.service.Obeyed.{Obeyed}
 use Rattle.envy_serve.specs.declared.service.Obeyed.TheVariants.{Done, WriteFault, Dead}
 use Rattle.envy_memory.specs.Picture.{Picture}
@@ -18,7 +16,7 @@ use Rattle.envy_run.specs.Licence.{Licence}
 use Rattle.envy_run.specs.Spending.{Spends, programs_of, erases_of}
 use Rattle.envy_run.specs.Tells.{Notes}
 use Rattle.envy_base.specs.declared.counts.Counts.{Counts}
-use Rattle.envy_run.specs.Turns.{Does, Loses, trace_grammar, is_power, is_plan, is_lost, is_fault}
+use Rattle.envy_run.specs.Turns.{Does, FailsIn, before_restart, trace_grammar, is_power, is_plan, is_lost, is_fault}
 use Rattle.envy_serve.specs.Streams.{Written, FrontWritten}
 use Rattle.envy_serve.specs.Turns.{texts, one_if, count_of}
 
@@ -33,15 +31,6 @@ pub record LineDone (May : Counts → Type 0) (m : Array) (line : Line) (replies
   pub licensed : Licensed line replies old.chart new.chart
   pub spent : Spends (programs_of old.chart.shape.rows line) (erases_of line) old.chart new.chart
   pub notes : Notes line replies old new
-
--- the replies that stand before power is asked for
-abbrev pub before_restart : Line → List Reply
-before_restart Power = []
-before_restart line = IsLost ∷ []
-
--- power failed in the line, or the line cut it
-abbrev pub FailsIn : Array → Line → Array → Type 0
-FailsIn m line left = Loses m line left ⊎ ((line ≡ Power) × (left ≡ restarted m))
 
 -- power doesn't return: a restart would find the line done or not done
 pub record LineDead (m : Array) (line : Line) (old new : Chart) : Type 0 where

@@ -1,5 +1,5 @@
 -- The word `resume`: an image is installed on a new board, and the trace behind it is answered as under `run`.
-use Rattle.std.specs.Prelude.{◌≡◌, ◌⊎◌, ℕ, ◌+◌, ◌*◌, ◌≤◌, List, [], ◌++◌, length, Option, None, Some, IfSome, unwrap_or, IsErr, Ok}
+use Rattle.std.specs.Prelude.{◌≡◌, ◌⊎◌, ℕ, ◌+◌, ◌*◌, ◌≤◌, List, [], ◌++◌, length, Option, None, Some, IfSome, unwrap_or, IsErr, Ok, ⊤}
 use Rattle.envy_audit.specs.Judging.{Judges}
 use Rattle.envy_audit.specs.declared.verdict.Verdict.TheVariants.{Sound}
 use Rattle.envy_base.specs.Array.{Array}
@@ -8,6 +8,7 @@ use Rattle.envy_base.specs.State.{State, IsBoard}
 use Rattle.envy_base.specs.declared.shape.Shape.{Shape}
 use Rattle.envy_image.specs.Image.{head_of, image_of}
 use Rattle.envy_io.specs.Streams.{with_front}
+use Rattle.envy_layout.specs.Stands.{Stands}
 use Rattle.envy_layout.specs.Words.{durable}
 use Rattle.envy_map.specs.Fields.{Chart, chart}
 use Rattle.envy_memory.specs.Calls.{fresh}
@@ -20,13 +21,17 @@ use Rattle.envy_trace.specs.declared.line.Line.{Line}
 use Rattle.envy_trace.specs.declared.reply.Reply.{Reply}
 use Rattle.envy_run.specs.Attached.{HoldsStill}
 use Rattle.envy_run.specs.Counters.{AddsUp, just_told}
-use Rattle.envy_run.specs.Done.{HasDone, HasDied, OnBoard}
-use Rattle.envy_run.specs.Loading.{IsInstalled, RefusesImage, TookOnly}
-use Rattle.envy_run.specs.Outcome.{Outcome}
+use Rattle.envy_run.specs.Audits.{IsLeftInstalled}
+use Rattle.envy_run.specs.Done.{Run, Dies, HoldsOff, OnBoard}
+use Rattle.envy_run.specs.Loading.{IsUnharmed, RefusesImage, TookOnly}
+use Rattle.envy_run.specs.Meaning.{Meaning}
+use Rattle.envy_run.specs.Outcome.{Outcome, EndsBy}
 use Rattle.envy_run.specs.Spending.{IsThrifty}
-use Rattle.envy_run.specs.Task.{Task, DoesTask}
+use Rattle.envy_run.specs.Task.{MaybeHeld, MaybeServed, Session, Task, turns_of}
 use Rattle.envy_run.specs.Turns.{TraceTurn, trace_grammar, is_power, is_plan, is_lost, is_fault}
 use Rattle.envy_run.specs.Unserved.{IsOutOfMemory, IsDark}
+use Rattle.envy_run.specs.declared.ending.Ending.TheVariants.{ImageRefused, OutOfMemory, PowerLost}
+use Rattle.envy_run.specs.declared.ending.ImageFault.TheVariants.{Unruly, Unsound}
 use Rattle.envy_run.specs.declared.loading.Refusal.{Refusal}
 
 -- the setup that the words make of an image's shape; a mark that isn't given is its number of frames
@@ -57,63 +62,88 @@ pub record IsUnattached (found : State) (o : Outcome) (io : Streams) : Type 0 wh
   pub taken : o.taken ≡ length (image_of found)
   pub source : io.feed.left ≡ io.from.left
   pub sink : io.sink ≡ io.to
-  pub board : (now : Chart) × (o.board ≡ Some now) × HoldsStill (chart found) now
+  pub ending : EndsBy OutOfMemory o ⊎ EndsBy PowerLost o
+
+-- the board holds the image still
+pub record HoldsImageStill (found : State) (o : Outcome) : Type 0 where
+  pub board : OnBoard (HoldsStill (chart found)) o
   pub cause : IsOutOfMemory o ⊎ IsDark o
 
 -- the trace behind the image of this board
-abbrev pub resume_task : State → Setup → ℕ → Task Line Reply
+abbrev pub resume_task : State → Setup → ℕ → Task Line Reply Array
 resume_task found setup returns = record {
   grammar = trace_grammar;
   skipped = length (image_of found);
-  Done = OnBoard (HasDone (words_found found));
-  Dead = OnBoard (HasDied (words_found found));
+  Leads = λ turns m. Run setup.shape.entries (words_found found) turns m;
+  Dies = λ turns m. Dies setup.shape.entries (words_found found) turns m;
   tail = λ o. [];
+  Unread = IsUnattached found;
+  HoldsLeft = λ o m. OnBoard (λ now. Stands now m) o;
+  HoldsDead = λ o m. OnBoard (HoldsOff m.words) o;
+  WhyUnread = HoldsImageStill found;
   Licences = λ o turns. IfSome o.board (LicencesBehind (setup.shape.segments * setup.shape.rows) 1 setup returns turns);
-  Unserved = IsUnattached found;
 }
+
+-- What was found: a board that holds the image, the bytes behind it, and the session that they were served in, if any; why
+-- there is no such board, and the bytes that were taken; a shape with which the words break a rule; or a board that isn't
+-- sound.
+pub data Resumption : Type 0 where
+  TakenUp : (found : State) (behind : Option (List ℕ)) (session : Option (Session Line Reply Array)) → Resumption
+  Refused : (refusal : Refusal) (bytes : List ℕ) → Resumption
+  Misfit : (sh : Shape) → Resumption
+  FoundUnsound : (found : State) → Resumption
 
 -- The bytes taken first are the image of a board that is formatted and sound, and of whose shape the rules hold. What
 -- stands behind them is a trace that was served.
-pub record TakesUp (setup : Shape → Setup) (returns : ℕ) (o : Outcome) (io : Streams) : Type 0 where
-  pub found : State
+pub record TakesUp (setup : Shape → Setup) (returns : ℕ) (found : State) (behind : Option (List ℕ)) (session : Option (Session Line Reply Array)) (o : Outcome) (io : Streams) : Type 0 where
   pub whole : IsBoard found
-  pub behind : Option (List ℕ)
   pub image : io.from.left ≡ with_front (image_of found) behind
   pub rules : checked (setup found.shape) ≡ Ok tt
   pub sound : Judges Sound (chart found)
-  pub does : DoesTask (resume_task found (setup found.shape) returns) o (record io { from = record { left = behind; faults = io.from.faults } })
+  pub served : MaybeServed (resume_task found (setup found.shape) returns) session o (record io { from = record { left = behind; faults = io.from.faults } })
 
--- status 10, 4: a head was read, and the words break a rule with its shape; no board was made
-pub record BreaksRule (setup : Shape → Setup) (o : Outcome) (io : Streams) : Type 0 where
-  pub status : o.status ≡ 10
-  pub why : o.why ≡ 4
-  pub sh : Shape
+-- No image was taken up, for this reason. Where the bytes taken begin with the head of a shape that checks, the words
+-- break no rule with it: such a rule is told before all that comes behind the head.
+pub record DeclinesImage (refusal : Refusal) (bytes : List ℕ) (setup : Shape → Setup) (o : Outcome) (io : Streams) : Type 0 where
+  pub refuses : RefusesImage refusal bytes o io
+  pub rules : (sh : Shape) (rest : List ℕ) → bytes ≡ head_of sh ++ rest → shape_checked sh ≡ Ok tt → checked (setup sh) ≡ Ok tt
+
+-- a head was read, and the words break a rule with its shape
+pub record BreaksRule (setup : Shape → Setup) (sh : Shape) (o : Outcome) (io : Streams) : Type 0 where
+  pub ending : EndsBy (ImageRefused Unruly) o
   pub shape : shape_checked sh ≡ Ok tt
   pub took : TookOnly (head_of sh) o io
   pub fails : IsErr (checked (setup sh))
-  pub board_none : o.board ≡ None
 
--- status 10, 5: the image was installed, and its board, which is handed back so, isn't formatted and sound
-pub record IsUnsound (setup : Shape → Setup) (returns : ℕ) (o : Outcome) (io : Streams) : Type 0 where
-  pub status : o.status ≡ 10
-  pub why : o.why ≡ 5
-  pub found : State
-  pub installed : IsInstalled found.shape returns found
-  pub board : o.board ≡ Some (chart found)
-  pub state : o.state ≡ Some found
+-- the image was installed, and its board isn't formatted and sound
+pub record IsUnsound (setup : Shape → Setup) (found : State) (o : Outcome) (io : Streams) : Type 0 where
+  pub ending : EndsBy (ImageRefused Unsound) o
   pub took : TookOnly (image_of found) o io
   pub rules : checked (setup found.shape) ≡ Ok tt
   pub fails : Judges Sound (chart found) → ⊥
 
--- No image was taken up, for this reason. Where the bytes taken begin with the head of a shape that checks, the words
--- break no rule with it: such a rule is told before all that comes behind the head.
-pub record DeclinesImage (refusal : Refusal) (setup : Shape → Setup) (returns : ℕ) (o : Outcome) (io : Streams) : Type 0 where
-  pub bytes : List ℕ
-  pub refuses : RefusesImage refusal bytes returns o io
-  pub rules : (sh : Shape) (rest : List ℕ) → bytes ≡ head_of sh ++ rest → shape_checked sh ≡ Ok tt → checked (setup sh) ≡ Ok tt
+abbrev pub Resumes : (Shape → Setup) → ℕ → Resumption → Outcome → Streams → Type 0
+Resumes setup returns (TakenUp found behind session) o io = TakesUp setup returns found behind session o io
+Resumes setup returns (Refused refusal bytes) o io = DeclinesImage refusal bytes setup o io
+Resumes setup returns (Misfit sh) o io = BreaksRule setup sh o io
+Resumes setup returns (FoundUnsound found) o io = IsUnsound setup found o io
 
-abbrev pub Resumes : (Shape → Setup) → ℕ → Outcome → Streams → Type 0
-Resumes setup returns o io =
-    TakesUp setup returns o io
-    ⊎ (((refusal : Refusal) × DeclinesImage refusal setup returns o io)
-    ⊎ (BreaksRule setup o io ⊎ IsUnsound setup returns o io))
+-- no board was made with such a shape; one that isn't sound is handed back as installing left it
+abbrev pub IsLeftBy : (Shape → Setup) → ℕ → Resumption → Outcome → Type 0
+IsLeftBy setup returns (TakenUp found behind session) o = MaybeHeld (resume_task found (setup found.shape) returns) session o
+IsLeftBy setup returns (Refused refusal bytes) o = IfSome o.board (IsUnharmed returns)
+IsLeftBy setup returns (Misfit sh) o = o.board ≡ None
+IsLeftBy setup returns (FoundUnsound found) o = IsLeftInstalled returns found o
+
+abbrev pub LicencesOf : (Shape → Setup) → ℕ → Resumption → Outcome → Type 0
+LicencesOf setup returns (TakenUp found behind session) o = Task.Licences (resume_task found (setup found.shape) returns) o (turns_of session)
+LicencesOf setup returns resumption o = ⊤
+
+-- the word `resume`
+abbrev pub resuming : (Shape → Setup) → ℕ → Meaning
+resuming setup returns = record {
+  Account = Resumption;
+  Printed = Resumes setup returns;
+  Board = IsLeftBy setup returns;
+  Licences = LicencesOf setup returns;
+}

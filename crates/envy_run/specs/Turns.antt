@@ -109,3 +109,12 @@ is_lost reply = false
 abbrev pub is_fault : Reply → Bool
 is_fault Fault = true
 is_fault reply = false
+
+-- the replies that stand before power is asked for
+abbrev pub before_restart : Line → List Reply
+before_restart Power = []
+before_restart line = IsLost ∷ []
+
+-- power failed in the line, or the line cut it
+abbrev pub FailsIn : Array → Line → Array → Type 0
+FailsIn m line left = Loses m line left ⊎ ((line ≡ Power) × (left ≡ restarted m))

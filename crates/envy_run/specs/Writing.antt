@@ -3,12 +3,19 @@ use Rattle.std.specs.Prelude.{◌≡◌, ◌⊎◌, ℕ, IsTrue, List, Result, O
 use Rattle.envy_io.specs.declared.source.Failed.{Failed}
 use Rattle.envy_io.specs.Streams.{Drain}
 use Rattle.envy_serve.specs.Streams.{Written, FrontWritten}
+use Rattle.envy_run.specs.Outcome.{Outcome, EndsBy}
+use Rattle.envy_run.specs.declared.ending.Ending.{Ending}
+use Rattle.envy_run.specs.declared.ending.Ending.TheVariants.{Done, WriteFault}
 
 -- the text is written whole and the sink is flushed, or a front of it is written and the sink fails
 abbrev pub WritesOut : List ℕ → Result Unit Failed → Drain → Drain → Type 0
 WritesOut text (Ok done) old new = Written text old new × IsTrue new.flushed
 WritesOut text (Err failed) old new = FrontWritten text old new
 
--- status 0 where the text was written whole and the sink is flushed; status 4 where the sink failed
-abbrev pub WritesTrace : List ℕ → ℕ → Drain → Drain → Type 0
-WritesTrace text status to sink = ((status ≡ 0) × Written text to sink × IsTrue sink.flushed) ⊎ ((status ≡ 4) × FrontWritten text to sink)
+-- all is done where the text was written whole and the sink is flushed; else the sink failed
+abbrev pub WritesTrace : List ℕ → Outcome → Drain → Drain → Type 0
+WritesTrace text o to sink = (EndsBy Done o × Written text to sink × IsTrue sink.flushed) ⊎ (EndsBy WriteFault o × FrontWritten text to sink)
+
+-- the same of an ending
+abbrev pub WritesAs : List ℕ → Ending → Drain → Drain → Type 0
+WritesAs text ending to sink = ((ending ≡ Done) × Written text to sink × IsTrue sink.flushed) ⊎ ((ending ≡ WriteFault) × FrontWritten text to sink)

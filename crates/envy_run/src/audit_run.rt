@@ -1,12 +1,13 @@
 //! The verdict on an image as all that a run does.
 
 ghost use Rattle.std.specs.Prelude.{◌≡◌, ◌≤◌, [], None};
-ghost use Rattle.envy_run.specs.Audits.{Audits, verdict_text, verdict_line, letter_of};
-ghost use Rattle.envy_run.specs.Outcome.{outcome};
+ghost use Rattle.envy_run.specs.Audits.{IsVerdict, judging, verdict_text, verdict_line, letter_of};
+ghost use Rattle.envy_run.specs.Meaning.{Does};
+ghost use Rattle.envy_run.specs.Outcome.{outcome_of};
 ghost use Rattle.envy_run.specs.Writing.{WritesOut};
 
-use crate::ended::Ended;
-use crate::loading::{refused, stopped_at, take_head, take_image};
+use crate::ending::{Finished, stopped_at, written};
+use crate::loading::{refused, take_head, take_image};
 use arrayvec::ArrayVec;
 use envy_base::Maker;
 use envy_image::{Rule, Verdict};
@@ -70,8 +71,8 @@ pub fn run_audit<S: Source, K: Sink, M: Maker>(
     source: &mut S,
     sink: &mut K,
     maker: &mut M,
-) -> Ended<M::Made>
-    ensures audits { Audits (outcome M.Made.Board.state result)
+) -> Finished<M::Made>
+    ensures audits { Does (judging IsVerdict) (outcome_of M.Made.Board.state result)
         (record { from = S.feed source.old; feed = S.feed source.new; to = K.drain sink.old; sink = K.drain sink.new }) }
     ensures few { result.lines ≤ result.taken }
     ensures read { result.taken ≤ 1099511627776 }
@@ -84,11 +85,8 @@ pub fn run_audit<S: Source, K: Sink, M: Maker>(
     };
     match take_image(alloc, &shape, AUDIT_LIVES, &mut lines, source, maker) {
         Ok((board, verdict)) => {
-            let status = match write_verdict(verdict, sink) {
-                Ok(()) => 0,
-                Err(Failed) => 4,
-            };
-            stopped_at(status, 0, lines.taken(), Some(board))
+            let ending = written(write_verdict(verdict, sink));
+            stopped_at(ending, lines.taken(), Some(board))
         }
         Err((board, refusal)) => refused(refusal, lines.taken(), board),
     }

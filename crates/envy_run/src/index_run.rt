@@ -3,14 +3,13 @@
 ghost use Rattle.std.specs.Prelude.{◌≡◌, ◌≤◌, None, Ok};
 ghost use Rattle.envy_policy.specs.Setup.{checked};
 ghost use Rattle.envy_run.specs.Headline.{index_task};
-ghost use Rattle.envy_run.specs.Outcome.{outcome};
+ghost use Rattle.envy_run.specs.Outcome.{outcome_of};
 ghost use Rattle.envy_run.specs.Task.{DoesTask};
 
-use crate::ended::Ended;
+use crate::ending::{Finished, finished_with};
 use crate::indexing::Indexing;
-use crate::prepare::{Unready, prepare};
+use crate::prepare::make_memory;
 use crate::restart::ReplyBuffer;
-use crate::running::{ended_with, unserved};
 use envy_base::Maker;
 use envy_io::{Lines, Sink, Source};
 use envy_memory::OneTx;
@@ -27,24 +26,19 @@ pub fn run_index<S: Source, K: Sink, M: Maker>(
     source: &mut S,
     sink: &mut K,
     maker: &mut M,
-) -> Ended<M::Made>
+) -> Finished<M::Made>
     requires rules { checked setup ≡ Ok tt }
     requires room { 32 ≤ setup.shape.shadows }
     requires size { 20 ≤ setup.shape.pages }
-    ensures runs { DoesTask (index_task setup lives) (outcome M.Made.Board.state result)
+    ensures runs { DoesTask (index_task setup lives) (outcome_of M.Made.Board.state result)
         (record { from = S.feed source.old; feed = S.feed source.new; to = K.drain sink.old; sink = K.drain sink.new }) }
     ensures few { result.lines ≤ result.taken }
     ensures read { result.taken ≤ 1099511627776 }
     ensures second { result.second ≡ None }
 {
-    let Ok(board) = maker.make(alloc, &setup.shape, lives) else {
-        return unserved(8, 0, None);
-    };
-    let memory = match prepare(alloc, board, setup) {
+    let memory = match make_memory(alloc, setup, lives, maker) {
         Ok(memory) => memory,
-        Err((board, Unready::Memory)) => return unserved(8, 0, Some(board)),
-        Err((board, Unready::Bad)) => return unserved(7, 0, Some(board)),
-        Err((board, Unready::Dead)) => return unserved(6, 0, Some(board)),
+        Err(finished) => return finished,
     };
     let mut indexing = Indexing {
         words: OneTx::new(memory),
@@ -52,5 +46,5 @@ pub fn run_index<S: Source, K: Sink, M: Maker>(
     };
     let served = serve(&mut indexing, source, sink, Lines::new(MOST_BYTES));
     let Indexing { words, buffer: _ } = indexing;
-    ended_with(served, Some(words.into_memory().into_board()))
+    finished_with(served, Some(words.into_memory().into_board()))
 }

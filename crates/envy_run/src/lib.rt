@@ -6,6 +6,7 @@ mod answering;
 mod attach;
 mod audit_run;
 mod ended;
+mod ending;
 mod gen_run;
 mod index_answering;
 mod index_obey;

@@ -6,9 +6,9 @@ ghost use Rattle.envy_base.specs.Shape.{checked};
 ghost use Rattle.envy_image.specs.Image.{head_of};
 ghost use Rattle.envy_image.specs.Installing.{HasReadHead};
 ghost use Rattle.envy_io.specs.Streams.{Feed};
-ghost use Rattle.envy_run.specs.Loading.{HasTaken, TakesHead, Loaded, Unloaded, untouched, status_for, why_for};
+ghost use Rattle.envy_run.specs.Loading.{HasTaken, TakesHead, Loaded, Unloaded, untouched, ending_for};
 
-use crate::ended::Ended;
+use crate::ending::{Ending, Finished, ImageFault, stopped_at};
 use envy_base::{Maker, Shape};
 use envy_image::{Audit, HeadFault, InFault, Verdict, install, read_head};
 use envy_io::{Lines, Source};
@@ -31,41 +31,25 @@ pub enum Refusal {
     Upset,
 }
 
-/// The status of a refusal, and its second number.
-fn numbers(refusal: Refusal) -> (u8, u8)
-    ensures status { result.0 ≡ status_for refusal }
-    ensures why { result.1 ≡ why_for refusal }
+/// The ending for a reason.
+fn ending(refusal: Refusal) -> Ending
+    ensures { result ≡ ending_for refusal }
 {
     match refusal {
-        Refusal::Failed => (3, 0),
-        Refusal::Memory => (8, 0),
-        Refusal::Early => (10, 1),
-        Refusal::Unmarked => (10, 2),
-        Refusal::Misshapen => (10, 3),
-        Refusal::Upset => (11, 0),
+        Refusal::Failed => Ending::ReadFault,
+        Refusal::Memory => Ending::OutOfMemory,
+        Refusal::Early => Ending::ImageRefused(ImageFault::Early),
+        Refusal::Unmarked => Ending::ImageRefused(ImageFault::Unmarked),
+        Refusal::Misshapen => Ending::ImageRefused(ImageFault::Misshapen),
+        Refusal::Upset => Ending::NotInstalled,
     }
 }
 
-/// An end with no line read, so many bytes taken.
-pub(crate) fn stopped_at<B>(status: u8, why: u8, taken: u64, board: Option<B>) -> Ended<B>
-    ensures { result ≡ record { status = status; why = why; lines = 0; taken = taken; board = board; second = None } }
+/// The end where there is no board that holds an image.
+pub(crate) fn refused<B>(refusal: Refusal, taken: u64, board: Option<B>) -> Finished<B>
+    ensures { result ≡ record { ending = ending_for refusal; lines = 0; taken = taken; board = board; second = None } }
 {
-    Ended {
-        status,
-        why,
-        lines: 0,
-        taken,
-        board,
-        second: None,
-    }
-}
-
-/// The end where an image is refused.
-pub(crate) fn refused<B>(refusal: Refusal, taken: u64, board: Option<B>) -> Ended<B>
-    ensures { result ≡ record { status = status_for refusal; why = why_for refusal; lines = 0; taken = taken; board = board; second = None } }
-{
-    let (status, why) = numbers(refusal);
-    stopped_at(status, why, taken, board)
+    stopped_at(ending(refusal), taken, board)
 }
 
 /// Reads the head of the image that the source begins with.

@@ -3,13 +3,14 @@
 ghost use Rattle.std.specs.Prelude.{◌≡◌, ◌≤◌, ℕ, List, None, IsTrue};
 ghost use Rattle.envy_audit.specs.Judging.{Judges};
 ghost use Rattle.envy_map.specs.Fields.{chart};
-ghost use Rattle.envy_run.specs.Audits.{IsMap, Maps};
-ghost use Rattle.envy_run.specs.Outcome.{outcome};
+ghost use Rattle.envy_run.specs.Audits.{IsMap, judging};
+ghost use Rattle.envy_run.specs.Meaning.{Does};
+ghost use Rattle.envy_run.specs.Outcome.{outcome_of};
 ghost use Rattle.envy_run.specs.Writing.{WritesOut};
 
 use crate::audit_run::{AUDIT_LIVES, write_verdict};
-use crate::ended::Ended;
-use crate::loading::{Refusal, refused, stopped_at, take_head, take_image};
+use crate::ending::{Finished, stopped_at, written};
+use crate::loading::{Refusal, refused, take_head, take_image};
 use envy_base::{Board, Maker};
 use envy_image::Verdict;
 use envy_io::{Failed, Lines, Sink, Source};
@@ -57,8 +58,8 @@ pub fn run_map<S: Source, K: Sink, M: Maker>(
     source: &mut S,
     sink: &mut K,
     maker: &mut M,
-) -> Ended<M::Made>
-    ensures maps { Maps (outcome M.Made.Board.state result)
+) -> Finished<M::Made>
+    ensures maps { Does (judging IsMap) (outcome_of M.Made.Board.state result)
         (record { from = S.feed source.old; feed = S.feed source.new; to = K.drain sink.old; sink = K.drain sink.new }) }
     ensures few { result.lines ≤ result.taken }
     ensures read { result.taken ≤ 1099511627776 }
@@ -78,11 +79,8 @@ pub fn run_map<S: Source, K: Sink, M: Maker>(
     };
     match take_image(alloc, &shape, AUDIT_LIVES, &mut lines, source, maker) {
         Ok((board, verdict)) => {
-            let status = match write_map(&board, verdict, &mut space, sink) {
-                Ok(()) => 0,
-                Err(Failed) => 4,
-            };
-            stopped_at(status, 0, lines.taken(), Some(board))
+            let ending = written(write_map(&board, verdict, &mut space, sink));
+            stopped_at(ending, lines.taken(), Some(board))
         }
         Err((board, refusal)) => refused(refusal, lines.taken(), board),
     }

@@ -2,13 +2,13 @@
 
 ghost use Rattle.std.specs.Prelude.{◌≡◌, ◌≤◌, None, Ok, Some};
 ghost use Rattle.envy_policy.specs.Setup.{checked};
-ghost use Rattle.envy_run.specs.MirrorTask.{mirror_task, status_of_unready};
-ghost use Rattle.envy_run.specs.Outcome.{outcome};
+ghost use Rattle.envy_run.specs.MirrorTask.{mirror_task};
+ghost use Rattle.envy_run.specs.Outcome.{outcome_of};
+ghost use Rattle.envy_run.specs.Prepares.{ending_of_unready};
 ghost use Rattle.envy_run.specs.Task.{DoesTask};
 
-use crate::ended::Ended;
-use crate::prepare::{Unready, prepare};
-use crate::running::{numbers, unserved};
+use crate::ending::{Ending, Finished, after, unserved};
+use crate::prepare::{Unready, prepare, why_unready};
 use envy_base::Maker;
 use envy_io::{Lines, Sink, Source};
 use envy_mirror::Mirror;
@@ -18,17 +18,11 @@ use envy_serve::{MOST_BYTES, serve};
 use std::alloc::Global;
 
 /// An end with nothing read, since there is no pair to serve.
-fn unmirrored<B>(unready: Unready, first: B, second: B) -> Ended<B>
-    ensures { result ≡ record { status = status_of_unready unready; why = 0; lines = 0; taken = 0; board = Some first; second = Some second } }
+fn unmirrored<B>(unready: Unready, first: B, second: B) -> Finished<B>
+    ensures { result ≡ record { ending = ending_of_unready unready; lines = 0; taken = 0; board = Some first; second = Some second } }
 {
-    let status = match unready {
-        Unready::Memory => 8,
-        Unready::Bad => 7,
-        Unready::Dead => 6,
-    };
-    Ended {
-        status,
-        why: 0,
+    Finished {
+        ending: why_unready(unready),
         lines: 0,
         taken: 0,
         board: Some(first),
@@ -45,18 +39,18 @@ pub fn run_mirror<S: Source, K: Sink, M: Maker>(
     source: &mut S,
     sink: &mut K,
     maker: &mut M,
-) -> Ended<M::Made>
+) -> Finished<M::Made>
     requires { checked setup ≡ Ok tt }
-    ensures runs { DoesTask (mirror_task setup lives) (outcome M.Made.Board.state result)
+    ensures runs { DoesTask (mirror_task setup lives) (outcome_of M.Made.Board.state result)
         (record { from = S.feed source.old; feed = S.feed source.new; to = K.drain sink.old; sink = K.drain sink.new }) }
     ensures few { result.lines ≤ result.taken }
     ensures read { result.taken ≤ 1099511627776 }
 {
     let Ok(one) = maker.make(alloc, &setup.shape, lives) else {
-        return unserved(8, 0, None);
+        return unserved(Ending::OutOfMemory, None);
     };
     let Ok(two) = maker.make(alloc, &setup.shape, lives) else {
-        return unserved(8, 0, Some(one));
+        return unserved(Ending::OutOfMemory, Some(one));
     };
     let first = match prepare(alloc, one, setup) {
         Ok(memory) => memory,
@@ -75,10 +69,8 @@ pub fn run_mirror<S: Source, K: Sink, M: Maker>(
     let mut pairing = Pairing::new(mirror);
     let served = serve(&mut pairing, source, sink, Lines::new(MOST_BYTES));
     let (one, two) = pairing.into_mirror().into_boards();
-    let (status, why) = numbers(served.end);
-    Ended {
-        status,
-        why,
+    Finished {
+        ending: after(served.end),
         lines: served.lines,
         taken: served.taken,
         board: Some(one),

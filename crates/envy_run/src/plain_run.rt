@@ -6,13 +6,12 @@ ghost use Rattle.envy_plain.specs.Refusals.{answer_of};
 ghost use Rattle.envy_policy.specs.Setup.{checked};
 ghost use Rattle.envy_run.specs.Calm.{IsCommand, IsCalmReply, IsNoWork, ObeysCalmly};
 ghost use Rattle.envy_run.specs.Headline.{plain_task};
-ghost use Rattle.envy_run.specs.Outcome.{outcome};
+ghost use Rattle.envy_run.specs.Outcome.{outcome_of};
 ghost use Rattle.envy_run.specs.Task.{DoesTask};
 ghost use Rattle.envy_run.specs.Turns.{Replies, said};
 
-use crate::ended::Ended;
+use crate::ending::{Ending, Finished, finished_with, unserved};
 use crate::restart::{ReplyBuffer, write_reply};
-use crate::running::{ended_with, unserved};
 use crate::tracing::read_any;
 use envy_base::Counts;
 use envy_io::{Failed, Lines, Sink, Source};
@@ -168,21 +167,21 @@ pub fn run_plain<S: Source, K: Sink, B>(
     setup: &Setup,
     source: &mut S,
     sink: &mut K,
-) -> Ended<B>
+) -> Finished<B>
     requires { checked setup.now ≡ Ok tt }
-    ensures runs { (state : B → State) → DoesTask (plain_task setup.now) (outcome state result)
+    ensures runs { (state : B → State) → DoesTask (plain_task setup.now) (outcome_of state result)
         (record { from = S.feed source.old; feed = S.feed source.new; to = K.drain sink.old; sink = K.drain sink.new }) }
     ensures few { result.lines ≤ result.taken }
     ensures read { result.taken ≤ 1099511627776 }
     ensures second { result.second ≡ None }
 {
     let Ok(plain) = Plain::new(alloc, &setup.shape) else {
-        return unserved(8, 0, None);
+        return unserved(Ending::OutOfMemory, None);
     };
     let mut calm = Calm {
         plain,
         buffer: ReplyBuffer::new(),
     };
     let served = serve(&mut calm, source, sink, Lines::new(MOST_BYTES));
-    ended_with(served, None)
+    finished_with(served, None)
 }

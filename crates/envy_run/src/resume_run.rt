@@ -10,15 +10,15 @@ ghost use Rattle.envy_map.specs.Fields.{chart};
 ghost use Rattle.envy_policy.specs.Setup.{checked};
 ghost use Rattle.envy_policy.specs.declared.setup.Setup.{Setup};
 ghost use Rattle.envy_run.specs.Loading.{HasTaken, IsInstalled};
-ghost use Rattle.envy_run.specs.Outcome.{outcome};
-ghost use Rattle.envy_run.specs.Resumes.{Resumes, resume_task, setup_found};
+ghost use Rattle.envy_run.specs.Meaning.{Does};
+ghost use Rattle.envy_run.specs.Outcome.{outcome_of};
+ghost use Rattle.envy_run.specs.Resumes.{resume_task, resuming, setup_found};
 ghost use Rattle.envy_run.specs.Task.{DoesTask};
 
 use crate::attach::{Unattached, attach};
-use crate::ended::Ended;
-use crate::loading::{refused, stopped_at, take_head, take_image};
+use crate::ending::{Ending, Finished, ImageFault, finished_with, stopped_at};
+use crate::loading::{refused, take_head, take_image};
 use crate::restart::ReplyBuffer;
-use crate::running::ended_with;
 use crate::tracing::Tracing;
 use envy_base::{Bench, Maker, Shape};
 use envy_image::Verdict;
@@ -57,12 +57,12 @@ fn serve_image<B: Bench, S: Source, K: Sink>(
     lines: Lines,
     source: &mut S,
     sink: &mut K,
-) -> Ended<B>
+) -> Finished<B>
     requires installed { IsInstalled setup.shape (B.state board).given (B.state board) }
     requires sound { Judges Sound (chart (B.state board)) }
     requires setup { checked setup ≡ Ok tt }
     requires taken { (from : Feed) × HasTaken (image_of (B.state board)) from lines (S.feed source.old) }
-    ensures does { DoesTask (resume_task (B.state board) setup (B.state board).given) (outcome B.Board.state result)
+    ensures does { DoesTask (resume_task (B.state board) setup (B.state board).given) (outcome_of B.Board.state result)
         (record { from = S.feed source.old; feed = S.feed source.new; to = K.drain sink.old; sink = K.drain sink.new }) }
     ensures few { result.lines ≤ result.taken }
     ensures read { result.taken ≤ 1099511627776 }
@@ -71,8 +71,12 @@ fn serve_image<B: Bench, S: Source, K: Sink>(
     let taken = lines.taken();
     let memory = match attach(alloc, board, setup) {
         Ok(memory) => memory,
-        Err((board, Unattached::Memory)) => return stopped_at(8, 0, taken, Some(board)),
-        Err((board, Unattached::Dead)) => return stopped_at(6, 0, taken, Some(board)),
+        Err((board, Unattached::Memory)) => {
+            return stopped_at(Ending::OutOfMemory, taken, Some(board));
+        }
+        Err((board, Unattached::Dead)) => {
+            return stopped_at(Ending::PowerLost, taken, Some(board));
+        }
     };
     let mut tracing = Tracing {
         memory,
@@ -80,7 +84,7 @@ fn serve_image<B: Bench, S: Source, K: Sink>(
     };
     let served = serve(&mut tracing, source, sink, lines);
     let Tracing { memory, buffer: _ } = tracing;
-    ended_with(served, Some(memory.into_board()))
+    finished_with(served, Some(memory.into_board()))
 }
 
 /// Reads the image that the source begins with, installs and audits it, and does the lines behind it in order, with
@@ -91,8 +95,8 @@ pub fn run_resume<S: Source, K: Sink, M: Maker>(
     source: &mut S,
     sink: &mut K,
     maker: &mut M,
-) -> Ended<M::Made>
-    ensures resumes { Resumes (setup_found words.now.policy words.now.limit words.now.mark) words.now.lives (outcome M.Made.Board.state result)
+) -> Finished<M::Made>
+    ensures resumes { Does (resuming (setup_found words.now.policy words.now.limit words.now.mark) words.now.lives) (outcome_of M.Made.Board.state result)
         (record { from = S.feed source.old; feed = S.feed source.new; to = K.drain sink.old; sink = K.drain sink.new }) }
     ensures few { result.lines ≤ result.taken }
     ensures read { result.taken ≤ 1099511627776 }
@@ -105,12 +109,16 @@ pub fn run_resume<S: Source, K: Sink, M: Maker>(
     };
     let setup = setup_over(&shape, words);
     if setup.check().is_err() {
-        return stopped_at(10, 4, lines.taken(), None);
+        let ending = Ending::ImageRefused(ImageFault::Unruly);
+        return stopped_at(ending, lines.taken(), None);
     }
     match take_image(alloc, &shape, words.lives, &mut lines, source, maker) {
         Ok((board, verdict)) => match verdict {
             Verdict::Sound => serve_image(alloc, board, setup, lines, source, sink),
-            _ => stopped_at(10, 5, lines.taken(), Some(board)),
+            _ => {
+                let ending = Ending::ImageRefused(ImageFault::Unsound);
+                stopped_at(ending, lines.taken(), Some(board))
+            }
         },
         Err((board, refusal)) => refused(refusal, lines.taken(), board),
     }

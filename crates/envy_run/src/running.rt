@@ -1,20 +1,22 @@
 ghost use Rattle.std.specs.Prelude.{◌≡◌, ◌≤◌, None, Ok};
 ghost use Rattle.envy_policy.specs.Setup.{checked};
 ghost use Rattle.envy_run.specs.Allowed.{IsAllowed};
+ghost use Rattle.envy_run.specs.Complete.{Completes};
 ghost use Rattle.envy_run.specs.Drives.{FailsAsPlanned, TellsAll};
 ghost use Rattle.envy_run.specs.Headline.{Headline, run_task, command_in};
-ghost use Rattle.envy_run.specs.Runs.{IsAlone, Runs};
+ghost use Rattle.envy_run.specs.Outcome.{outcome, outcome_of};
 ghost use Rattle.envy_run.specs.Task.{DoesTask};
-ghost use Rattle.envy_run.specs.Outcome.{outcome, status_of, why_of};
+ghost use Rattle.envy_run.specs.Theorem.{IsAlone, IsAloneIn, Leaves, Licenses, Prints};
 
 use crate::audit_run::run_audit;
 use crate::ended::Ended;
+use crate::ending::{Ending, Finished, finished_with, hand_back, unserved};
 use crate::gen_run::run_gen;
 use crate::index_run::run_index;
 use crate::map_run::run_map;
 use crate::mirror_run::run_mirror;
 use crate::plain_run::run_plain;
-use crate::prepare::{Unready, prepare};
+use crate::prepare::make_memory;
 use crate::restart::ReplyBuffer;
 use crate::resume_run::{Resuming, run_resume};
 use crate::save_run::run_save;
@@ -24,52 +26,8 @@ use envy_args::{Command, WordsFault, read_words, the_area_is_asked_to_fit};
 use envy_base::Maker;
 use envy_io::{Lines, Sink, Source};
 use envy_policy::Setup;
-use envy_serve::{End, MOST_BYTES, Served, serve};
+use envy_serve::{MOST_BYTES, serve};
 use std::alloc::Global;
-
-/// The status of an end, and its second number.
-pub(crate) fn numbers(end: End) -> (u8, u8)
-    ensures status { result.0 ≡ status_of end }
-    ensures why { result.1 ≡ why_of end }
-{
-    match end {
-        End::Done => (0, 0),
-        End::ReadFault => (3, 0),
-        End::WriteFault | End::FlushFault => (4, 0),
-        End::Refused(fault) => (5, fault.number()),
-        End::Dead => (6, 0),
-        End::TooLong => (9, 0),
-    }
-}
-
-/// An end with nothing read.
-pub(crate) fn unserved<B>(status: u8, why: u8, board: Option<B>) -> Ended<B>
-    ensures { result ≡ record { status = status; why = why; lines = 0; taken = 0; board = board; second = None } }
-{
-    Ended {
-        status,
-        why,
-        lines: 0,
-        taken: 0,
-        board,
-        second: None,
-    }
-}
-
-/// An end of a trace that was served.
-pub(crate) fn ended_with<B>(served: Served, board: Option<B>) -> Ended<B>
-    ensures { result ≡ record { status = status_of served.end; why = why_of served.end; lines = served.lines; taken = served.taken; board = board; second = None } }
-{
-    let (status, why) = numbers(served.end);
-    Ended {
-        status,
-        why,
-        lines: served.lines,
-        taken: served.taken,
-        board,
-        second: None,
-    }
-}
 
 /// Makes a board, formats it, and does the lines of the source in order, with each reply written before
 /// the next line is read.
@@ -80,22 +38,17 @@ pub(crate) fn run_trace<S: Source, K: Sink, M: Maker>(
     source: &mut S,
     sink: &mut K,
     maker: &mut M,
-) -> Ended<M::Made>
+) -> Finished<M::Made>
     requires { checked setup ≡ Ok tt }
-    ensures runs { DoesTask (run_task setup lives) (outcome M.Made.Board.state result)
+    ensures runs { DoesTask (run_task setup lives) (outcome_of M.Made.Board.state result)
         (record { from = S.feed source.old; feed = S.feed source.new; to = K.drain sink.old; sink = K.drain sink.new }) }
     ensures few { result.lines ≤ result.taken }
     ensures read { result.taken ≤ 1099511627776 }
     ensures second { result.second ≡ None }
 {
-    let Ok(board) = maker.make(alloc, &setup.shape, lives) else {
-        return unserved(8, 0, None);
-    };
-    let memory = match prepare(alloc, board, setup) {
+    let memory = match make_memory(alloc, setup, lives, maker) {
         Ok(memory) => memory,
-        Err((board, Unready::Memory)) => return unserved(8, 0, Some(board)),
-        Err((board, Unready::Bad)) => return unserved(7, 0, Some(board)),
-        Err((board, Unready::Dead)) => return unserved(6, 0, Some(board)),
+        Err(finished) => return finished,
     };
     let mut tracing = Tracing {
         memory,
@@ -103,7 +56,7 @@ pub(crate) fn run_trace<S: Source, K: Sink, M: Maker>(
     };
     let served = serve(&mut tracing, source, sink, Lines::new(MOST_BYTES));
     let Tracing { memory, buffer: _ } = tracing;
-    ended_with(served, Some(memory.into_board()))
+    finished_with(served, Some(memory.into_board()))
 }
 
 /// Does a command.
@@ -113,11 +66,11 @@ fn perform<S: Source, K: Sink, M: Maker>(
     source: &mut S,
     sink: &mut K,
     maker: &mut M,
-) -> Ended<M::Made>
+) -> Finished<M::Made>
     requires { IsAllowed command }
-    ensures headline { Headline (Ok command) (outcome M.Made.Board.state result)
+    ensures headline { Headline (Ok command) (outcome_of M.Made.Board.state result)
         (record { from = S.feed source.old; feed = S.feed source.new; to = K.drain sink.old; sink = K.drain sink.new }) }
-    ensures told { FailsAsPlanned M.Made.Board.state → TellsAll (Ok command) (outcome M.Made.Board.state result)
+    ensures told { FailsAsPlanned M.Made.Board.state → TellsAll (Ok command) (outcome_of M.Made.Board.state result)
         (record { from = S.feed source.old; feed = S.feed source.new; to = K.drain sink.old; sink = K.drain sink.new }) }
     ensures few { result.lines ≤ result.taken }
     ensures read { result.taken ≤ 1099511627776 }
@@ -159,8 +112,35 @@ fn perform<S: Source, K: Sink, M: Maker>(
     }
 }
 
+/// Does what the words say, where they can be read and name a command.
+fn obey_words<S: Source, K: Sink, M: Maker>(
+    alloc: Global,
+    words: &[String],
+    source: &mut S,
+    sink: &mut K,
+    maker: &mut M,
+) -> Finished<M::Made>
+    ensures headline { Headline (command_in words.now) (outcome_of M.Made.Board.state result)
+        (record { from = S.feed source.old; feed = S.feed source.new; to = K.drain sink.old; sink = K.drain sink.new }) }
+    ensures told { FailsAsPlanned M.Made.Board.state → TellsAll (command_in words.now) (outcome_of M.Made.Board.state result)
+        (record { from = S.feed source.old; feed = S.feed source.new; to = K.drain sink.old; sink = K.drain sink.new }) }
+    ensures few { result.lines ≤ result.taken }
+    ensures read { result.taken ≤ 1099511627776 }
+    ensures alone { IsAloneIn (command_in words.now) (outcome_of M.Made.Board.state result) }
+{
+    match read_words(alloc, words) {
+        Ok(command) => perform(alloc, command, source, sink, maker),
+        Err(WordsFault::Form) => unserved(Ending::WordsRefused(0), None),
+        Err(WordsFault::Setup(rule)) => unserved(Ending::WordsRefused(rule), None),
+        Err(WordsFault::Memory) => unserved(Ending::OutOfMemory, None),
+    }
+}
+
 /// Does what the words say: answers the trace of the source over a board of the maker's or on a plain
 /// machine, writes a generated trace, or drives a load and reports its sums.
+///
+/// What it prints is what an array of words answers; the board that it hands back stands for that array; the board's
+/// counts license each `lost` and each `fault`; and where all goes well it is done to its end.
 pub fn run<S: Source, K: Sink, M: Maker>(
     alloc: Global,
     words: &[String],
@@ -168,15 +148,16 @@ pub fn run<S: Source, K: Sink, M: Maker>(
     sink: &mut K,
     maker: &mut M,
 ) -> Ended<M::Made>
-    ensures runs { Runs (command_in words.now) (outcome M.Made.Board.state result)
+    ensures printed { Prints (command_in words.now) (outcome M.Made.Board.state result)
+        (record { from = S.feed source.old; feed = S.feed source.new; to = K.drain sink.old; sink = K.drain sink.new }) }
+    ensures board { Leaves (command_in words.now) (outcome M.Made.Board.state result)
+        (record { from = S.feed source.old; feed = S.feed source.new; to = K.drain sink.old; sink = K.drain sink.new }) }
+    ensures licences { Licenses (command_in words.now) (outcome M.Made.Board.state result)
+        (record { from = S.feed source.old; feed = S.feed source.new; to = K.drain sink.old; sink = K.drain sink.new }) }
+    ensures completes { Completes (command_in words.now) (outcome M.Made.Board.state result)
         (record { from = S.feed source.old; feed = S.feed source.new; to = K.drain sink.old; sink = K.drain sink.new }) }
     ensures told { FailsAsPlanned M.Made.Board.state → TellsAll (command_in words.now) (outcome M.Made.Board.state result)
         (record { from = S.feed source.old; feed = S.feed source.new; to = K.drain sink.old; sink = K.drain sink.new }) }
 {
-    match read_words(alloc, words) {
-        Ok(command) => perform(alloc, command, source, sink, maker),
-        Err(WordsFault::Form) => unserved(2, 0, None),
-        Err(WordsFault::Setup(rule)) => unserved(2, rule, None),
-        Err(WordsFault::Memory) => unserved(8, 0, None),
-    }
+    hand_back(obey_words(alloc, words, source, sink, maker))
 }

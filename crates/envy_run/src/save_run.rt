@@ -4,11 +4,11 @@ ghost use Rattle.std.specs.Prelude.{◌≡◌, ◌≤◌, IsTrue, None, Ok};
 ghost use Rattle.envy_image.specs.Image.{image_of};
 ghost use Rattle.envy_policy.specs.Setup.{checked};
 ghost use Rattle.envy_run.specs.Headline.{save_task};
-ghost use Rattle.envy_run.specs.Outcome.{outcome};
+ghost use Rattle.envy_run.specs.Outcome.{outcome_of};
 ghost use Rattle.envy_run.specs.Task.{DoesTask};
 ghost use Rattle.envy_run.specs.Writing.{WritesOut};
 
-use crate::ended::Ended;
+use crate::ending::{Ending, Finished, written};
 use crate::running::run_trace;
 use envy_base::{Board, Maker};
 use envy_image::{OutFault, write_image};
@@ -39,25 +39,24 @@ pub fn run_save<S: Source, K: Sink, M: Maker>(
     source: &mut S,
     sink: &mut K,
     maker: &mut M,
-) -> Ended<M::Made>
+) -> Finished<M::Made>
     requires { checked setup ≡ Ok tt }
-    ensures runs { DoesTask (save_task setup lives) (outcome M.Made.Board.state result)
+    ensures runs { DoesTask (save_task setup lives) (outcome_of M.Made.Board.state result)
         (record { from = S.feed source.old; feed = S.feed source.new; to = K.drain sink.old; sink = K.drain sink.new }) }
     ensures few { result.lines ≤ result.taken }
     ensures read { result.taken ≤ 1099511627776 }
     ensures second { result.second ≡ None }
 {
-    let mut ended = run_trace(alloc, setup, lives, source, &mut Nothing::new(), maker);
-    if ended.status != 0 {
-        return ended;
+    let mut traced = run_trace(alloc, setup, lives, source, &mut Nothing::new(), maker);
+    match traced.ending {
+        Ending::Done => {}
+        _ => return traced,
     }
-    let written = match &ended.board {
+    let wrote = match &traced.board {
         Some(board) => write_board(board, sink),
         // a trace that was done has its board
         None => unreachable!(),
     };
-    if written.is_err() {
-        ended.status = 4;
-    }
-    ended
+    traced.ending = written(wrote);
+    traced
 }

@@ -6,30 +6,30 @@ ghost use Rattle.envy_base.specs.Array.{zeros};
 ghost use Rattle.envy_layout.specs.Stands.{Stands};
 ghost use Rattle.envy_policy.specs.Setup.{checked};
 ghost use Rattle.envy_run.specs.Driven.{AfterLoad};
-ghost use Rattle.envy_run.specs.Drives.{Drives, FailsAsPlanned, TellsReturns, load_of};
+ghost use Rattle.envy_run.specs.Drives.{FailsAsPlanned, TellsReturns, driving, load_of};
 ghost use Rattle.envy_io.specs.Streams.{Feed};
-ghost use Rattle.envy_run.specs.Outcome.{outcome};
+ghost use Rattle.envy_run.specs.Meaning.{Does};
+ghost use Rattle.envy_run.specs.Outcome.{outcome_of};
 ghost use Rattle.envy_run.specs.Unserved.{IsUnserved};
 
-use crate::ended::Ended;
-use crate::prepare::{Unready, prepare};
+use crate::ending::{Ending, Finished, unserved, written};
+use crate::prepare::make_memory;
 use crate::report::write_report;
-use crate::running::unserved;
 use envy_base::{Area, Bench, Maker};
-use envy_io::{Failed, Sink};
+use envy_io::Sink;
 use envy_memory::Memory;
 use envy_policy::Setup;
 use envy_tpca::{DriveFault, Load, drive};
 use std::alloc::Global;
 
-/// Drives the load that the number `start` draws, and writes the report of its sums. Answers the status of the run.
+/// Drives the load that the number `start` draws, and writes the report of its sums. Answers how the run ends.
 fn drive_load<B: Bench, K: Sink>(
     memory: &mut Memory<B>,
     start: u64,
     area: &Area,
     every: u32,
     sink: &mut K,
-) -> u8
+) -> Ending
     requires fits { Fits area.now memory.old.chart.shape.pages }
     requires low { memory.old.chart.shape.pages ≤ 2 ^ 20 }
     requires room { 5 ≤ memory.old.chart.shape.shadows }
@@ -38,12 +38,9 @@ fn drive_load<B: Bench, K: Sink>(
 {
     let mut load = Load::new(start, area.branches, area.accounts);
     match drive(memory, &mut load, area, every) {
-        Ok(sums) => match write_report(sink, area, &sums) {
-            Ok(()) => 0,
-            Err(Failed) => 4,
-        },
-        Err(DriveFault::Dead) => 6,
-        Err(DriveFault::Bad) => 7,
+        Ok(sums) => written(write_report(sink, area, &sums)),
+        Err(DriveFault::Dead) => Ending::PowerLost,
+        Err(DriveFault::Bad) => Ending::FlashFailed,
     }
 }
 
@@ -57,30 +54,25 @@ pub fn run_tpca<K: Sink, M: Maker>(
     every: u32,
     sink: &mut K,
     maker: &mut M,
-) -> Ended<M::Made>
+) -> Finished<M::Made>
     requires rules { checked setup ≡ Ok tt }
     requires fits { Fits area.now setup.shape.pages }
     requires room { 5 ≤ setup.shape.shadows }
-    ensures drives { (feed : Feed) → Drives setup lives start area.now every (outcome M.Made.Board.state result)
+    ensures drives { (feed : Feed) → Does (driving setup lives start area.now every) (outcome_of M.Made.Board.state result)
         (record { from = feed; feed = feed; to = K.drain sink.old; sink = K.drain sink.new }) }
     ensures told { FailsAsPlanned M.Made.Board.state → (feed : Feed) →
-        TellsReturns lives area.now (outcome M.Made.Board.state result) (record { from = feed; feed = feed; to = K.drain sink.old; sink = K.drain sink.new })
-        ⊎ IsUnserved (outcome M.Made.Board.state result) (record { from = feed; feed = feed; to = K.drain sink.old; sink = K.drain sink.new }) }
+        TellsReturns lives area.now (outcome_of M.Made.Board.state result) (record { from = feed; feed = feed; to = K.drain sink.old; sink = K.drain sink.new })
+        ⊎ IsUnserved (outcome_of M.Made.Board.state result) (record { from = feed; feed = feed; to = K.drain sink.old; sink = K.drain sink.new }) }
     ensures few { result.lines ≤ result.taken }
     ensures read { result.taken ≤ 1099511627776 }
     ensures second { result.second ≡ None }
 {
-    let Ok(board) = maker.make(alloc, &setup.shape, lives) else {
-        return unserved(8, 0, None);
-    };
-    let mut memory = match prepare(alloc, board, setup) {
+    let mut memory = match make_memory(alloc, setup, lives, maker) {
         Ok(memory) => memory,
-        Err((board, Unready::Memory)) => return unserved(8, 0, Some(board)),
-        Err((board, Unready::Bad)) => return unserved(7, 0, Some(board)),
-        Err((board, Unready::Dead)) => return unserved(6, 0, Some(board)),
+        Err(finished) => return finished,
     };
     // a board that was formatted: where power fails only as planned, it never failed so far
     memory.board();
-    let status = drive_load(&mut memory, start, area, every, sink);
-    unserved(status, 0, Some(memory.into_board()))
+    let ending = drive_load(&mut memory, start, area, every, sink);
+    unserved(ending, Some(memory.into_board()))
 }

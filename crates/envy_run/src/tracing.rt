@@ -52,8 +52,7 @@ fn obey_line<K: Sink, B: Bench>(
 
 impl<B: Bench> Service for Tracing<B> {
     ghost use Rattle.std.specs.Prelude.{IsTrue, [], length, ◌<◌};
-    ghost use Rattle.envy_run.specs.Done.{Start};
-    ghost use Rattle.envy_run.specs.Tracing.{TracedSince, DiedSince, long_any, on_since};
+    ghost use Rattle.envy_run.specs.Tracing.{Start, TracedSince, DiedSince, long_any, on_since};
     ghost use Rattle.envy_run.specs.Turns.{trace_grammar};
 
     type Line = Line;

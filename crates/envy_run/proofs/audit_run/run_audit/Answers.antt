@@ -1,21 +1,38 @@
-use Rattle.std.proofs.Common.{inl, inr, refl}
-use Rattle.envy_run.specs.Audits.{IsVerdict, verdict_line}
-use Rattle.envy_run.specs.Writing.{WritesTrace}
+use Rattle.std.proofs.Common.{refl, subst, sym, ◌∙◌}
+use Rattle.envy_serve.specs.Streams.{Streams}
+use Rattle.envy_run.specs.Audits.{IsVerdict, Refused, judging, verdict_line}
+use Rattle.envy_run.specs.Meaning.{Does}
+use Rattle.envy_run.specs.Outcome.{outcome_of}
+use Rattle.envy_run.specs.Writing.{WritesAs}
+use Rattle.envy_run.specs.declared.ending.Ending.{Ending}
+use Rattle.envy_run.specs.declared.ending.Finished.{Finished}
+use Rattle.envy_run.proofs.Accounts.{writes-as}
 use Rattle.envy_run.proofs.Loaded.{tells-refused, tells-judged}
 use Rattle.envy_run.proofs.audit_run.run_audit.Goals as goal
-use Rattle.envy_run.proofs.audit_run.run_audit.Goals.{in-Ok-write_verdict, in-Err-write_verdict}
 
-pub returns-after-write_verdict-clause-audits : goal.returns-after-write_verdict-clause-audits
-returns-after-write_verdict-clause-audits g c =
+pub returns-in-Ok-take_image-clause-audits : goal.returns-in-Ok-take_image-clause-audits
+returns-in-Ok-take_image-clause-audits g c =
     let from = g.S.Source.feed c.args.source.now in
-    let writes : WritesTrace (verdict_line c.in-Ok-take_image.verdict) c.match-write_verdict.status (g.K.Sink.drain c.args.sink.now) (g.K.Sink.drain c.write_verdict.new.sink) =
-    elim c.match-write_verdict.branch [
-      | in-Ok-write_verdict w ↦ inl (w.status-is, w.in-Ok-write_verdict.ensures.0, w.in-Ok-write_verdict.ensures.1)
-      | in-Err-write_verdict w ↦ inr (w.status-is, w.in-Err-write_verdict.ensures)
-    ] in
-    tells-judged IsVerdict g.M.Made.Board.state c.in-Ok.shape c.in-Ok-take_image.verdict (verdict_line c.in-Ok-take_image.verdict) c.match-write_verdict.status c.taken-in-Ok-take_image.result c.in-Ok-take_image.board c.stopped_at.result from (g.S.Source.feed c.take_image.new.source) (g.K.Sink.drain c.args.sink.now) (g.K.Sink.drain c.write_verdict.new.sink) c.take_image.new.lines c.stopped_at.ensures c.taken-in-Ok-take_image.ensures (c.in-Ok-take_image.ensures from c.in-Ok.ensures.0) refl writes
+    let to = g.K.Sink.drain c.args.sink.now in
+    let sink = g.K.Sink.drain c.write_verdict.new.sink in
+    let text = verdict_line c.in-Ok-take_image.verdict in
+    tells-judged IsVerdict g.M.Made.Board.state c.in-Ok.shape c.in-Ok-take_image.verdict text c.written-ending.result c.taken-in-Ok-take_image.result c.in-Ok-take_image.board c.stopped_at.result from (g.S.Source.feed c.take_image.new.source) to sink c.take_image.new.lines c.stopped_at.ensures c.taken-in-Ok-take_image.ensures (c.in-Ok-take_image.ensures from c.in-Ok.ensures.0) refl
+    (subst (λ (e : Ending). WritesAs text e to sink) (sym c.written-ending.ensures) (writes-as text c.write_verdict.result to sink c.write_verdict.ensures))
 
 pub returns-in-Err-take_image-clause-audits : goal.returns-in-Err-take_image-clause-audits
 returns-in-Err-take_image-clause-audits g c =
     let from = g.S.Source.feed c.args.source.now in
     tells-refused IsVerdict g.M.Made.Board.state c.in-Ok.shape c.in-Err-take_image.refusal c.taken-in-Err-take_image.result c.in-Err-take_image.board c.refused-in-Err-take_image.result from (g.S.Source.feed c.take_image.new.source) (g.K.Sink.drain c.args.sink.now) c.take_image.new.lines c.refused-in-Err-take_image.ensures c.taken-in-Err-take_image.ensures (c.in-Err-take_image.ensures from c.in-Ok.ensures.0)
+
+-- the head itself wasn't read
+pub returns-in-Err-clause-audits : goal.returns-in-Err-clause-audits
+returns-in-Err-clause-audits g c =
+    let io : Streams = record { from = g.S.Source.feed c.args.source.now; feed = g.S.Source.feed c.take_head.new.source; to = g.K.Sink.drain c.args.sink.now; sink = g.K.Sink.drain c.args.sink.now } in
+    let (bytes, t, cause, other) = c.in-Err.ensures in
+    subst (λ (x : Finished g.row.M-Made.Denot). Does (judging IsVerdict) (outcome_of g.M.Made.Board.state x) io) (sym c.refused.ensures)
+    (record {
+      account = Refused c.in-Err.refusal bytes;
+      printed = record { ending = record { status = refl; why = refl }; took = record { lines = refl; taken = c.taken.ensures ∙ t.taken; source = t.left; sink = refl }; cause = cause };
+      board = tt;
+      licences = tt;
+    })

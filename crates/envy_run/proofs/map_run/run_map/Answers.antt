@@ -1,13 +1,17 @@
-use Rattle.std.proofs.Common.{◌∙◌, inl, inr, sym, ap, arith, ◌≤◌}
-use Rattle.std.specs.Prelude.{ℕ, List, None, Some}
-use Rattle.envy_map.specs.Fields.{chart}
+use Rattle.std.proofs.Common.{◌∙◌, refl, sym, ap, subst}
+use Rattle.std.specs.Prelude.{None, Some}
 use Rattle.envy_space.specs.Pool.{Pool}
-use Rattle.envy_run.specs.Audits.{IsMap, audit_lives}
+use Rattle.envy_serve.specs.Streams.{Streams}
+use Rattle.envy_run.specs.Audits.{IsMap, Refused, audit_lives, judging}
+use Rattle.envy_run.specs.Meaning.{Does}
+use Rattle.envy_run.specs.Outcome.{outcome_of}
 use Rattle.envy_run.specs.declared.loading.Refusal.TheVariants.{Memory}
-use Rattle.envy_run.specs.Writing.{WritesTrace}
+use Rattle.envy_run.specs.Writing.{WritesAs}
+use Rattle.envy_run.specs.declared.ending.Ending.{Ending}
+use Rattle.envy_run.specs.declared.ending.Finished.{Finished}
+use Rattle.envy_run.proofs.Accounts.{writes-as}
 use Rattle.envy_run.proofs.Loaded.{memory-unmade, tells-judged, tells-refused, refused-within}
 use Rattle.envy_run.proofs.map_run.run_map.Goals as goal
-use Rattle.envy_run.proofs.map_run.run_map.Goals.{in-Ok-write_map, in-Err-write_map}
 
 pub write_map-requires-clause-on : goal.write_map-requires-clause-on
 write_map-requires-clause-on g c =
@@ -25,16 +29,8 @@ write_map-requires-clause-shape g c =
 pub returns-in-Ok-take_image-clause-maps : goal.returns-in-Ok-take_image-clause-maps
 returns-in-Ok-take_image-clause-maps g c =
     let from = g.S.Source.feed c.args.source.now in
-    let told : (text : List ℕ) × IsMap c.in-Ok-take_image.verdict (chart (g.M.Made.Board.state c.in-Ok-take_image.board)) text
-    × WritesTrace text c.match-write_map.status (g.K.Sink.drain c.args.sink.now) (g.K.Sink.drain c.write_map.new.sink) =
-    elim c.match-write_map.branch [
-      | in-Ok-write_map w ↦
-          let (text, says, writes) = w.in-Ok-write_map.ensures in (text, says, inl (w.status-is, writes.0, writes.1))
-      | in-Err-write_map w ↦
-          let (text, says, front) = w.in-Err-write_map.ensures in (text, says, inr (w.status-is, front))
-    ] in
-    let (text, says, writes) = told in
-    tells-judged IsMap g.M.Made.Board.state c.in-Ok.shape c.in-Ok-take_image.verdict text c.match-write_map.status c.taken-in-Ok-take_image.result c.in-Ok-take_image.board c.stopped_at.result from (g.S.Source.feed c.take_image.new.source) (g.K.Sink.drain c.args.sink.now) (g.K.Sink.drain c.write_map.new.sink) c.take_image.new.lines c.stopped_at.ensures c.taken-in-Ok-take_image.ensures (c.in-Ok-take_image.ensures from c.in-Ok.ensures.0) says writes
+    let (text, says, writes) = c.write_map.ensures in
+    tells-judged IsMap g.M.Made.Board.state c.in-Ok.shape c.in-Ok-take_image.verdict text c.written-ending.result c.taken-in-Ok-take_image.result c.in-Ok-take_image.board c.stopped_at.result from (g.S.Source.feed c.take_image.new.source) (g.K.Sink.drain c.args.sink.now) (g.K.Sink.drain c.write_map.new.sink) c.take_image.new.lines c.stopped_at.ensures c.taken-in-Ok-take_image.ensures (c.in-Ok-take_image.ensures from c.in-Ok.ensures.0) says (subst (λ (e : Ending). WritesAs text e (g.K.Sink.drain c.args.sink.now) (g.K.Sink.drain c.write_map.new.sink)) (sym c.written-ending.ensures) (writes-as text c.write_map.result (g.K.Sink.drain c.args.sink.now) (g.K.Sink.drain c.write_map.new.sink) writes))
 
 pub returns-in-Ok-take_image-clause-read : goal.returns-in-Ok-take_image-clause-read
 returns-in-Ok-take_image-clause-read g c =
@@ -57,3 +53,16 @@ pub returns-clause-read : goal.returns-clause-read
 returns-clause-read g c =
     let unloaded = c.in-Err-take_image.ensures (g.S.Source.feed c.args.source.now) c.in-Ok.ensures.0 in
     refused-within c.refused-in-Err-take_image.result c.in-Err-take_image.board c.take_image.new.lines c.refused-in-Err-take_image.ensures c.taken-in-Err-take_image.ensures unloaded.taken.within unloaded.taken.cap
+
+-- the head itself wasn't read
+pub returns-in-Err-clause-maps : goal.returns-in-Err-clause-maps
+returns-in-Err-clause-maps g c =
+    let io : Streams = record { from = g.S.Source.feed c.args.source.now; feed = g.S.Source.feed c.take_head.new.source; to = g.K.Sink.drain c.args.sink.now; sink = g.K.Sink.drain c.args.sink.now } in
+    let (bytes, t, cause, other) = c.in-Err.ensures in
+    subst (λ (x : Finished g.row.M-Made.Denot). Does (judging IsMap) (outcome_of g.M.Made.Board.state x) io) (sym c.refused.ensures)
+    (record {
+      account = Refused c.in-Err.refusal bytes;
+      printed = record { ending = record { status = refl; why = refl }; took = record { lines = refl; taken = c.taken.ensures ∙ t.taken; source = t.left; sink = refl }; cause = cause };
+      board = tt;
+      licences = tt;
+    })

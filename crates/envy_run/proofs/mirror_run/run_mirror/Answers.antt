@@ -6,7 +6,7 @@ use Rattle.envy_map.specs.Fields.{chart}
 use Rattle.envy_mirror.specs.Pair.{Pair}
 use Rattle.envy_run.proofs.Checked.{shape-of-checked}
 use Rattle.envy_run.specs.declared.prepare.Unready.TheVariants.{Memory}
-use Rattle.envy_run.proofs.Mirrored.{as-made, blank-made, blank-prepared, blank-board, Stopped, stopped-by, lit-board, not-stopped, mirror-unmade, mirror-unready, are-ready, start_of, begins-as, numbered, mirror-ended}
+use Rattle.envy_run.proofs.Mirrored.{as-made, blank-made, blank-prepared, blank-board, Stopped, stopped-by, lit-board, not-stopped, mirror-unmade, mirror-unready, are-ready, start_of, begins-as, ended-so, mirror-ended}
 use Rattle.envy_run.proofs.mirror_run.run_mirror.Goals as goal
 
 pub make-requires : goal.make-requires
@@ -62,7 +62,7 @@ returns-clause-runs g c =
     let b = c.in-Ok-prepare-2.memory in
     let first = begins-as a b c.new-pairing.result.mirror c.new-pairing.result.side (c.new-pairing.ensures.mirror ∙ c.in-Ok-new.ensures.pair) c.new-pairing.ensures.side (rw c.new-pairing.ensures.mirror c.in-Ok-new.ensures.mirrors) in
     mirror-ended g.M.Made.Board.state c.args.setup c.args.lives a b c.new-pairing.result.mirror c.serve-served.new.service.mirror c.new-pairing.result.side c.serve-served.new.service.side c.serve-served.result.end c.serve-served.result.lines c.serve-served.result.taken c.new-2.result.taken c.into_boards-one.result.0 c.into_boards-one.result.1 _ (record { from = g.S.Source.feed c.args.source.now; feed = g.S.Source.feed c.serve-served.new.source; to = g.K.Sink.drain c.args.sink.now; sink = g.K.Sink.drain c.serve-served.new.sink })
-    (numbered c.numbers-status.result.0 c.numbers-status.result.1 c.serve-served.result.end c.serve-served.result.lines c.serve-served.result.taken c.into_boards-one.result.0 c.into_boards-one.result.1 _ refl c.numbers-status.ensures.status c.numbers-status.ensures.why)
+    (ended-so c.after.result c.serve-served.result.end c.serve-served.result.lines c.serve-served.result.taken c.into_boards-one.result.0 c.into_boards-one.result.1 _ refl c.after.ensures)
     (c.into_boards-one.ensures.first ∙ ap (λ (p : Pair). p.first.memory.chart) c.into_mirror.ensures)
     (c.into_boards-one.ensures.second ∙ ap (λ (p : Pair). p.second.memory.chart) c.into_mirror.ensures)
     (ap (λ (t : Taking). t.taken) c.new-2.ensures)

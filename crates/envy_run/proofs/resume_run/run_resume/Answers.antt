@@ -4,9 +4,11 @@ use Rattle.envy_map.specs.Fields.{chart}
 use Rattle.envy_policy.specs.Setup.{checked}
 use Rattle.envy_policy.specs.declared.setup.Setup.{Setup}
 use Rattle.envy_run.specs.Loading.{Loaded}
-use Rattle.envy_run.specs.Outcome.{outcome}
+use Rattle.envy_run.specs.Outcome.{outcome_of}
 use Rattle.envy_run.specs.Resumes.{setup_found}
-use Rattle.envy_run.proofs.Resumed.{checks-ok, installed-given, judged-sound, resume-declined, resume-headless, resume-sound, resume-unsound, stopped-ends}
+use Rattle.envy_run.specs.declared.ending.Ending.TheVariants.{ImageRefused}
+use Rattle.envy_run.specs.declared.ending.ImageFault.TheVariants.{Unsound}
+use Rattle.envy_run.proofs.Resumed.{checks-err, checks-ok, installed-given, judged-sound, resume-declined, resume-headless, resume-sound, resume-unruly, resume-unsound, stopped-ends}
 use Rattle.envy_run.proofs.resume_run.run_resume.Goals as goal
 
 pub serve_image-requires-clause-installed : goal.serve_image-requires-clause-installed
@@ -24,16 +26,20 @@ serve_image-requires-clause-taken g c =
     let l = c.in-Ok-take_image.ensures (g.S.Source.feed c.args.source.now) c.in-Ok.ensures.0 in
     (g.S.Source.feed c.args.source.now, Loaded.taken l)
 
+pub returns-then-is_err-clause-resumes : goal.returns-then-is_err-clause-resumes
+returns-then-is_err-clause-resumes g c =
+    resume-unruly g.M.Made.Board.state (setup_found c.args.words.now.policy c.args.words.now.limit c.args.words.now.mark) c.setup_over-setup.result c.in-Ok.shape c.args.words.now.lives c.taken-then-is_err.result c.stopped_at.result (g.S.Source.feed c.args.source.now) (g.S.Source.feed c.take_head.new.source) (g.K.Sink.drain c.args.sink.now) c.take_head.new.lines c.stopped_at.ensures c.taken-then-is_err.ensures c.setup_over-setup.ensures (checks-err c.check.result (checked c.setup_over-setup.result) c.check.ensures.table (sym c.if-is_err.ensures.value)) c.in-Ok.ensures.1 c.in-Ok.ensures.0
+
 pub returns-in-Sound-clause-resumes : goal.returns-in-Sound-clause-resumes
 returns-in-Sound-clause-resumes g c =
     let from = g.S.Source.feed c.args.source.now in
-    resume-sound (setup_found c.args.words.now.policy c.args.words.now.limit c.args.words.now.mark) c.setup_over-setup.result c.args.words.now.lives c.in-Ok.shape c.in-Ok-take_image.verdict (g.M.Made.Board.state c.in-Ok-take_image.board) (outcome g.M.Made.Board.state c.serve_image.result) from (g.S.Source.feed c.take_image.new.source) (g.S.Source.feed c.serve_image.new.source) (g.K.Sink.drain c.args.sink.now) (g.K.Sink.drain c.serve_image.new.sink) c.take_image.new.lines c.setup_over-setup.ensures (sym c.check.ensures.table ∙ checks-ok c.check.result (sym c.if-is_err.ensures.value)) c.in-Sound.is (c.in-Ok-take_image.ensures from c.in-Ok.ensures.0) c.serve_image.ensures.does
+    resume-sound (setup_found c.args.words.now.policy c.args.words.now.limit c.args.words.now.mark) c.setup_over-setup.result c.args.words.now.lives c.in-Ok.shape c.in-Ok-take_image.verdict (g.M.Made.Board.state c.in-Ok-take_image.board) (outcome_of g.M.Made.Board.state c.serve_image.result) from (g.S.Source.feed c.take_image.new.source) (g.S.Source.feed c.serve_image.new.source) (g.K.Sink.drain c.args.sink.now) (g.K.Sink.drain c.serve_image.new.sink) c.take_image.new.lines c.setup_over-setup.ensures (sym c.check.ensures.table ∙ checks-ok c.check.result (sym c.if-is_err.ensures.value)) c.in-Sound.is (c.in-Ok-take_image.ensures from c.in-Ok.ensures.0) c.serve_image.ensures.does
 
 pub returns-in_default : goal.returns-in_default
 returns-in_default g c =
     let from = g.S.Source.feed c.args.source.now in
     let l = c.in-Ok-take_image.ensures from c.in-Ok.ensures.0 in
-    let (few, read, second) = stopped-ends 10 5 c.taken-in_default.result (Some c.in-Ok-take_image.board) c.stopped_at-in_default.result c.take_image.new.lines _ from (g.S.Source.feed c.take_image.new.source) c.stopped_at-in_default.ensures c.taken-in_default.ensures (Loaded.taken l) in
+    let (few, read, second) = stopped-ends (ImageRefused Unsound) c.taken-in_default.result (Some c.in-Ok-take_image.board) c.stopped_at-in_default.result c.take_image.new.lines _ from (g.S.Source.feed c.take_image.new.source) c.stopped_at-in_default.ensures c.taken-in_default.ensures (Loaded.taken l) in
     record {
       resumes = resume-unsound g.M.Made.Board.state (setup_found c.args.words.now.policy c.args.words.now.limit c.args.words.now.mark) c.setup_over-setup.result c.in-Ok.shape c.in-Ok-take_image.verdict c.args.words.now.lives c.taken-in_default.result c.in-Ok-take_image.board c.stopped_at-in_default.result from (g.S.Source.feed c.take_image.new.source) (g.K.Sink.drain c.args.sink.now) c.take_image.new.lines c.stopped_at-in_default.ensures c.taken-in_default.ensures c.setup_over-setup.ensures (sym c.check.ensures.table ∙ checks-ok c.check.result (sym c.if-is_err.ensures.value)) c.in_default.not-Sound l;
       few = few;

@@ -1,4 +1,4 @@
-use Rattle.envy_run.specs.Done.{HasDone}
+use Rattle.envy_run.specs.Tracing.{HasDone}
 use Rattle.envy_run.specs.Tells.{Telling}
 use Rattle.envy_run.specs.Tracing.{TracedSince}
 use Rattle.envy_run.proofs.Traced.{said-served, traced-obeys}
