@@ -25,15 +25,18 @@ understood() {
 }
 
 # value OPTION: one that is in every range
-value() { case $1 in policy) echo fifo ;; segments) echo 40 ;; rows) echo 40 ;; mark | branches) echo 1 ;; *) echo 32 ;; esac; }
+value() { case $1 in policy) echo fifo ;; file) echo "$work/kept" ;; segments) echo 40 ;; rows) echo 40 ;; mark | branches) echo 1 ;; *) echo 32 ;; esac; }
 
 pairs=0
 options=$(sed -n 's/^option | \([a-z]*\) .*/\1/p' words/table)
 while IFS='|' read -r word takes; do
-    quick=()
-    [ "$word" = tpca ] && quick=(--transfers=0)
     for option in $options; do
-        [ "$word $option" = "tpca transfers" ] && quick=()
+        quick=()
+        case "$word $option" in
+        "tpca transfers" | "keep file") ;;
+        tpca*) quick=(--transfers=0) ;;
+        keep*) quick=("--file=$work/kept") ;;
+        esac
         given=("$word" "${quick[@]}" "--$option" "$(value "$option")")
         case " $takes " in *" $option "*) wanted=0 ;; *) wanted=1 ;; esac
         understood "${given[@]}"
@@ -64,7 +67,7 @@ while IFS='|' read -r given wanted; do
     [ "$took" -le 1000000000 ] || fail "${given[*]}: told after more than a second"
     understood "${given[@]}" && fail "${given[*]}: the program understands them"
 done <<'TEXT'
-|no word (run plain gen save audit map resume index mirror tpca)
+|no word (run plain gen save audit map resume index mirror keep tpca)
 rum|rum is no word (is it run?)
 Run|Run is no word (is it run?)
 --frob|--frob is no word (is it --prove?)
@@ -93,6 +96,13 @@ gen --rows 3|gen takes no --rows
 plain --lives 3|plain takes no --lives
 resume --pages 3|resume takes no --pages
 run --lines 3|run takes no --lines
+run --file a|run takes no --file
+keep|keep needs --file
+keep --file|--file has no value
+keep --file=|--file: nothing is no path
+keep --file -a|--file: -a is no path
+keep --file a --file b|--file twice
+keep --file a --lives 3|keep takes no --lives
 run -- --rows 3|behind -- stands --rows
 TEXT
 echo "words: $mistakes mistakes are told, and the program refuses each"

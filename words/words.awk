@@ -48,10 +48,14 @@ function usual(option, word,    parts, count, i) {
     count = split(default_of[option], parts, /, */)
     for (i = 2; i <= count; i++) if (index(parts[i], word " ") == 1) return substr(parts[i], length(word) + 2)
     if (option == "mark" && word == "resume") return "the image's frames"
+    if (word == "keep" && index(" segments rows pages shadows frames entries ", " " option " ")) return "the file's; of a new one " parts[1]
     return parts[1]
 }
 
+function by_default(option, word) { return kind_of[option] == "path" ? "needed" : "by default " usual(option, word) }
+
 function shown_range(option) {
+    if (kind_of[option] == "path") return "a path that doesn't begin with -"
     if (kind_of[option] !~ /^[0-9]/) return kind_of[option]
     if (range[option] ~ /^[01] to (4294967295|18446744073709551615)$/) return range[option] ~ /^0/ ? "a number" : "1 and more"
     return range[option]
@@ -115,6 +119,10 @@ function above(one, other) {
 }
 
 function check_value(option, value,    bound) {
+    if (kind_of[option] == "path") {
+        if (value == "" || value ~ /^-/) mistake("--" option ": " (value == "" ? "nothing" : value) " is no path", 1)
+        return
+    }
     if (kind_of[option] !~ /^[0-9]/) {
         if (!index(" " kind_of[option] " ", " " value " ") || value == "" || value ~ / /) {
             bound = kind_of[option]
@@ -152,6 +160,7 @@ function check(first, last,    word, i, text, name, at, given, count, value) {
         value[name] = at ? substr(text, at + 1) : ARGV[++i]
         given[++count] = name
     }
+    if (index(takes[word], " file ") && !("file" in value)) mistake(word " needs --file", 1)
     for (i = 1; i <= count; i++) check_value(given[i], value[given[i]])
     if (out_of_range != "") mistake(out_of_range, 2)
 }
@@ -167,7 +176,7 @@ function word_page(word,    names, count, i) {
     print count ? "\nOptions, each at most once, as --name value or --name=value:" : "\nIt takes no options."
     for (i = 1; i <= count; i++) {
         printf "  --%-9s %s\n", names[i], meaning[names[i]]
-        printf "  %11s %s; by default %s\n", "", shown_range(names[i]), usual(names[i], word)
+        printf "  %11s %s; %s\n", "", shown_range(names[i]), by_default(names[i], word)
     }
     print "\ndocs/COMMANDS.md says how each is chosen."
 }
@@ -183,7 +192,7 @@ function whole_page(    i, j, who) {
         who = ""
         for (j = 1; j <= word_count; j++) if (index(takes[words[j]], " " options[i] " ")) who = who " " words[j]
         printf "  --%-9s %s (%s)\n", options[i], meaning[options[i]], default_of[options[i]]
-        if (kind_of[options[i]] !~ /^[0-9]/) printf "  %11s one of %s\n", "", kind_of[options[i]]
+        if (kind_of[options[i]] !~ /^[0-9]|^path/) printf "  %11s one of %s\n", "", kind_of[options[i]]
         printf "  %11s of%s\n", "", who
     }
 }

@@ -3,19 +3,24 @@
 
 ghost use Rattle.std.specs.Prelude.{◌≡◌, ◌≢◌, ◌≤◌, IfOk, IsErr, IsOk};
 
+mod keeping;
 mod streams;
 mod words;
 
 use arrayvec::ArrayVec;
 use envy_bench::{MemBoard, MemMaker};
 use envy_io::{Failed, Sink};
+use envy_keep::keep_end_text;
 use envy_run::{Ended, end_text, run};
 use envy_streams::{BufferedSink, BufferedSource, NoMemory};
+use keeping::keep_words;
 use std::cell::RefCell;
 use std::process::ExitCode;
 use streams::{AskedSource, HeldSink, StdSink, StdSource};
 use words::words;
 
+/// The command of a memory in a file.
+const KEEP: &[u8] = b"keep";
 /// The status of a run whose sink failed.
 const WRITE_FAULT: u8 = 4;
 /// The status of a run that lacked memory.
@@ -61,6 +66,31 @@ fn serve(rt: &HostRuntime, words: &[String]) -> Result<Ended<MemBoard>, NoMemory
     Ok(handed_on(ended, sink.flush()))
 }
 
+/// Serves the memory in a file, and says how it ended.
+fn main_of_keep(rt: &HostRuntime, words: &[String]) -> ExitCode {
+    let told = keep_words(rt, words);
+    if told.status != 0 {
+        let mut text = ArrayVec::new();
+        keep_end_text(told.status, told.why, told.lines, &mut text);
+        say(rt, &text);
+    }
+    ExitCode::from(told.status)
+}
+
+/// Does what the words say in memory, and says how it ended.
+fn main_of_run(rt: &HostRuntime, words: &[String]) -> ExitCode {
+    let Ok(ended) = serve(rt, words) else {
+        say(rt, b"envy: out of memory");
+        return ExitCode::from(NO_MEMORY);
+    };
+    if ended.status != 0 {
+        let mut text = ArrayVec::new();
+        end_text(&ended, &mut text);
+        say(rt, &text);
+    }
+    ExitCode::from(ended.status)
+}
+
 fn main(rt: HostRuntime) -> ExitCode {
     let words = match words(&rt) {
         Ok(words) => words,
@@ -69,14 +99,8 @@ fn main(rt: HostRuntime) -> ExitCode {
             return ExitCode::FAILURE;
         }
     };
-    let Ok(ended) = serve(&rt, &words) else {
-        say(&rt, b"envy: out of memory");
-        return ExitCode::from(NO_MEMORY);
-    };
-    if ended.status != 0 {
-        let mut text = ArrayVec::new();
-        end_text(&ended, &mut text);
-        say(&rt, &text);
+    match words.split_first() {
+        Some((first, others)) if first.as_bytes() == KEEP => main_of_keep(&rt, others),
+        _ => main_of_run(&rt, &words),
     }
-    ExitCode::from(ended.status)
 }

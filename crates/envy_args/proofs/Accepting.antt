@@ -6,7 +6,7 @@ use Rattle.clap.specs.Lexer.{long_of, short_of}
 use Rattle.clap.specs.Kinds.{or_else}
 use Rattle.clap.specs.Faults.{use_fault}
 use Rattle.clap.specs.Walk.{Row, Text, idle, option}
-use Rattle.envy_args.specs.Words.{Options, bits_of, has, have_values, is_number, is_value, name_in, options_in, value_in, with_option}
+use Rattle.envy_args.specs.Words.{Options, bits_of, has, have_values, is_number, is_path, is_value, name_in, options_in, value_in, with_option}
 use Rattle.envy_args.proofs.Finds.{rule, is_among}
 use Rattle.envy_args.proofs.Forms.{Form, form_of, dashes, pair, single, other}
 use Rattle.envy_args.proofs.Steps.{Pending, at, faults, idle-dashes, idle-pair, idle-single, no-words, settled-value, settled_with, unsettled, unsettled-value, use-new, used-row, waiting-plain}
@@ -20,12 +20,15 @@ pub record IsPlain (word : Text) : Type 0 where
   no_short : short_of word ≡ None
 
 no-hyphen : (name word : Text) → is_value name (45 ∷ word) ≡ true → {A : Type 0} → A
-no-hyphen name word e {A} = go (bytes_eq name (codes "policy")) refl
+no-hyphen name word e {A} = go (bytes_eq name (codes "policy")) refl (bytes_eq name (codes "file")) refl
   where
-    go : (b : Bool) → bytes_eq name (codes "policy") ≡ b → A
-    go true is = absurd (true≢false (sym (rw is at e)))
-    go false is =
-        let number : is_number (bits_of name) (45 ∷ word) ≡ true = rw is at e in
+    go : (b : Bool) → bytes_eq name (codes "policy") ≡ b → (d : Bool) → bytes_eq name (codes "file") ≡ d → A
+    go true is d also = absurd (true≢false (sym (rw is at e)))
+    go false is true also =
+        let path : is_path (45 ∷ word) ≡ true = rw (is, also) at e in
+        absurd (true≢false (sym path))
+    go false is false also =
+        let number : is_number (bits_of name) (45 ∷ word) ≡ true = rw (is, also) at e in
         absurd (true≢false (sym (and_parts (nat_lt 0 (length (45 ∷ word))) _ number).1))
 
 pub value-plain : (name word : Text) → is_value name word ≡ true → IsPlain word

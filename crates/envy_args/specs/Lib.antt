@@ -1,3 +1,4 @@
+pub mod Keep
 pub mod Parser
 pub mod Reading
 pub mod Words

@@ -1,5 +1,5 @@
 -- Which words are understood, and which command they name.
-use Rattle.std.specs.Prelude.{ℕ, ◌+◌, ◌*◌, ◌^◌, ◌==◌, nat_lt, nat_le, Bool, true, ◌&&◌, ◌||◌, not, if◌then◌else◌, List, [], ◌∷◌, ◌++◌, length, drop, find, codes, Option, None, Some, is_some, unwrap_or, Result, Ok, Err}
+use Rattle.std.specs.Prelude.{ℕ, ◌+◌, ◌*◌, ◌^◌, ◌==◌, nat_lt, nat_le, Bool, true, false, ◌&&◌, ◌||◌, not, if◌then◌else◌, List, [], ◌∷◌, ◌++◌, length, drop, find, codes, Option, None, Some, is_some, unwrap_or, Result, Ok, Err}
 use Rattle.std.specs.List.{list_any, list_all, starts_with, before_first, after_first}
 use Rattle.std.specs.Option.{option_map, option_map_or, option_and_then}
 use Rattle.std.specs.Str.{bytes_eq, all_ascii_digits}
@@ -82,10 +82,16 @@ policy_named part text =
 abbrev pub bits_of : Text → ℕ
 bits_of name = if bytes_eq name (codes "limit") || bytes_eq name (codes "start") then 64 else 32
 
+-- a path: it isn't empty, and doesn't begin with `-`
+abbrev pub is_path : Text → Bool
+is_path [] = false
+is_path (byte ∷ rest) = not (byte == 45)
+
 -- the text is a value of the option of this name
 abbrev pub is_value : Text → Text → Bool
 is_value name text =
-    if bytes_eq name (codes "policy") then is_some (policy_named 0 text) else is_number (bits_of name) text
+    if bytes_eq name (codes "policy") then is_some (policy_named 0 text)
+    else (if bytes_eq name (codes "file") then is_path text else is_number (bits_of name) text)
 
 abbrev pub has : Text → Options → Bool
 has name = list_any (λ option. bytes_eq name option.0)

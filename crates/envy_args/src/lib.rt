@@ -4,6 +4,7 @@
 #![tactic(auto)]
 
 mod command;
+mod keep;
 mod laws;
 mod options;
 mod read;
@@ -11,5 +12,6 @@ mod values;
 mod word;
 
 pub use command::{Command, WordsFault};
+pub use keep::{KeepOptions, KeepWords, Sizes, read_keep};
 pub use laws::{the_area_is_asked_to_fit, words_name_commands};
 pub use read::read_words;

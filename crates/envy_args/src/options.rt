@@ -1,13 +1,13 @@
-ghost use Rattle.std.specs.Prelude.{◌≡◌, ◌⊎◌, map, None, Some, true, IfOk, MatchResult};
-ghost use Rattle.std.specs.Option.{option_map};
+ghost use Rattle.std.specs.Prelude.{◌≡◌, ◌⊎◌, codes, map, None, Some, true, false, IfOk, IfErr, MatchResult};
+ghost use Rattle.std.specs.Option.{option_map, option_map_or};
 ghost use Rattle.std.specs.String.{string_bytes};
 ghost use Rattle.clap.specs.Words.{app_of};
 ghost use Rattle.envy_args.specs.Parser.{app_of_names};
-ghost use Rattle.envy_args.specs.Words.{options_in, are_known, accepted, value_of, number_of, given_number, policy_of};
+ghost use Rattle.envy_args.specs.Words.{options_in, are_known, accepted, value_of, number_of, given_number, is_path, policy_of};
 ghost use Rattle.envy_args.specs.Reading.{GivesIf, has_number, are_readable, policy_options};
 
 use crate::command::WordsFault;
-use crate::values::{number, policy};
+use crate::values::{is_path, number, policy};
 use clap::error::ErrorKind;
 use clap::{Arg, ArgMatches, Command, Error};
 use envy_policy::Policy;
@@ -108,6 +108,19 @@ impl<'a> Options<'a> {
         match self.value(name) {
             Some(_) => Ok(Some(self.number(name, 0)?)),
             None => Ok(None),
+        }
+    }
+
+    /// The path that the option `file` is given. The fault is `Form`.
+    pub(crate) fn path(&self) -> Result<&'a str, WordsFault>
+        ensures given { IfOk result (λ path. value_of self.now (codes "file") ≡ Some path.now) }
+        ensures path { IfOk result (λ path. is_path path.now ≡ true) }
+        ensures form { IfErr result (λ fault. fault ≡ WordsFault.Form) }
+        ensures none { IfErr result (λ _. option_map_or is_path (value_of self.now (codes "file")) false ≡ false) }
+    {
+        match self.value("file") {
+            Some(path) if is_path(path) => Ok(path),
+            _ => Err(WordsFault::Form),
         }
     }
 

@@ -24,7 +24,7 @@ impl From<SetupFault> for WordsFault {
 }
 
 /// The board of a run, where the words don't say otherwise.
-const USUAL: Shape = Shape {
+pub(crate) const USUAL: Shape = Shape {
     segments: 8,
     rows: 16,
     pages: 64,

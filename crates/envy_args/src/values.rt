@@ -1,7 +1,7 @@
 ghost use Rattle.std.specs.Prelude.{◌≡◌, ◌+◌, IsTrue};
 ghost use Rattle.std.specs.Option.{SomeIff};
 ghost use Rattle.std.specs.Str.Parse.{digits_value};
-ghost use Rattle.envy_args.specs.Words.{is_number, policy_named};
+ghost use Rattle.envy_args.specs.Words.{is_number, is_path, policy_named};
 
 use envy_policy::Policy;
 
@@ -30,4 +30,12 @@ pub(crate) fn policy(name: &str, part: u32) -> Option<Policy>
         "lifetime" => Some(Policy::Lifetime),
         _ => None,
     }
+}
+
+/// Whether the text is a path: it isn't empty, and doesn't begin with `-`.
+pub(crate) fn is_path(text: &str) -> bool
+    ensures { result ≡ is_path text.now }
+{
+    let bytes = text.as_bytes();
+    !bytes.is_empty() && bytes[0] != b'-'
 }

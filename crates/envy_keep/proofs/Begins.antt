@@ -1,45 +1,12 @@
 -- A kept memory before its first line.
-use Rattle.std.proofs.Common.{◌≡◌, inl, inr, ℕ, ◌<◌, false, [], refl, sym, ◌∙◌, ap, subst}
-use Rattle.std.specs.Prelude.{Result, Ok, Err}
-use Rattle.envy_base.specs.Array.{Array, zeros}
-use Rattle.envy_base.specs.declared.board.Off.{Off}
-use Rattle.envy_base.specs.declared.shape.Shape.{Shape}
-use Rattle.envy_disk.specs.Disk.{SyncsChart, with_numbers}
-use Rattle.envy_kept.specs.Disk.{IsSynced}
-use Rattle.envy_layout.specs.Stands.{Holds, Stands}
-use Rattle.envy_layout.specs.Words.{durable}
-use Rattle.envy_map.specs.Fields.{Chart}
-use Rattle.envy_memory.specs.Formats.{IsStarted}
+use Rattle.std.proofs.Common.{◌≡◌, ℕ, ◌<◌, [], refl}
+use Rattle.envy_base.specs.Array.{Array}
+use Rattle.envy_begun.specs.Beginning.{HasBegun}
 use Rattle.envy_memory.specs.Picture.{Picture}
 use Rattle.envy_policy.specs.declared.setup.Setup.{Setup}
 use Rattle.envy_run.specs.Tracing.{TracedSince}
 use Rattle.envy_run.proofs.Traced.{traced-first}
-use Rattle.envy_keep.specs.Beginning.{HasBegun}
 use Rattle.envy_keep.specs.Since.{KeptSince}
-use Rattle.envy_keep.proofs.Ends.{IsGood}
-use Rattle.envy_keep.proofs.Goes.{told-stands}
-
-pub err-off : (old new : Chart) (off : Off) → SyncsChart old (Err off) new → new.on ≡ false
-err-off old new off (inl (dark, is)) = ap (λ (c : Chart). c.on) is ∙ dark
-err-off old new off (inr (on, is)) = ap (λ (c : Chart). c.on) is
-
-pub new-begun : (setup : Setup) (array : Array) (old new : Picture) → IsSynced new.chart → SyncsChart old.chart (Ok tt) new.chart → new ≡ record old { chart = new.chart } → Stands old.chart array → IsStarted setup old → old.chart.shape ≡ setup.shape → HasBegun setup array new
-new-begun setup array old new good (on, plans, given, is) kept stood b shape =
-    let told = with_numbers old.chart plans given old.chart.plans old.chart.given in
-    let same : new ≡ record old { chart = told } = kept ∙ ap (λ (c : Chart). record old { chart = c }) is in
-    let sound = subst (λ (p : Picture). IsGood p.chart) (sym same) (record { magic = Holds.magic stood.holds; version = Holds.version stood.holds; sound = Holds.sound stood.holds }) in
-    record {
-      was = new.chart;
-      synced = good;
-      last = record { shape = refl; moment = refl; bytes = refl };
-      magic = IsGood.magic sound;
-      version = IsGood.version sound;
-      sound = IsGood.sound sound;
-      words = ap (λ (p : Picture). durable p.chart) same ∙ Holds.durable stood.holds;
-      stands = subst (λ (p : Picture). Stands p.chart array) (sym same) (told-stands old.chart plans given old.chart.plans old.chart.given array stood);
-      begins = subst (λ (p : Picture). IsStarted setup p) (sym same) (record { counts = b.counts; since = b.since; entries = b.entries; chooser = b.chooser; stages = b.stages; moves = b.moves; held = b.held; owners = b.owners; limit = b.limit; mark = b.mark });
-      shape = ap (λ (p : Picture). p.chart.shape) same ∙ shape;
-    }
 
 pub kept-first : (setup : Setup) (array : Array) (p : Picture) → 0 < setup.shape.entries → HasBegun setup array p → KeptSince (record { array = array; memory = p }) p []
 kept-first setup array p some h = record {
@@ -50,6 +17,3 @@ kept-first setup array p some h = record {
   shape = refl;
   saved = record { was = h.was; synced = h.synced; last = h.last; magic = h.magic; version = h.version; sound = h.sound; array = array; run = refl; words = h.words };
 }
-
-pub stands-as : (c : Chart) (sh : Shape) → c.shape ≡ sh → Stands c (zeros c.shape.pages c.shape.shadows) → Stands c (zeros sh.pages sh.shadows)
-stands-as c sh is stood = subst (λ (x : Shape). Stands c (zeros x.pages x.shadows)) is stood

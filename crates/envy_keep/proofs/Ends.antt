@@ -6,6 +6,8 @@ use Rattle.std.proofs.lemmas.Bool.{false≢true}
 use Rattle.envy_base.specs.Array.{Array, undone}
 use Rattle.envy_base.specs.declared.board.Off.{Off}
 use Rattle.envy_base.specs.declared.shape.Shape.{Shape}
+use Rattle.envy_begun.proofs.Opening.{IsGood, opens-as}
+use Rattle.envy_begun.specs.Opens.{OpensAs}
 use Rattle.envy_disk.specs.Disk.{SyncsChart, with_numbers}
 use Rattle.envy_kept.specs.Disk.{IsLast, IsSynced, Reopens}
 use Rattle.envy_layout.specs.Sound.{IsSound}
@@ -15,7 +17,6 @@ use Rattle.envy_map.specs.Codes.{the_magic}
 use Rattle.envy_map.specs.Fields.{Chart, Fields, failed}
 use Rattle.envy_memory.specs.Picture.{Picture}
 use Rattle.envy_keep_trace.specs.declared.keep_reply.KeepReply.{KeepReply}
-use Rattle.envy_saved.proofs.Reopened.{same_fields, same_sound, same_words}
 use Rattle.envy_serve.specs.declared.serving.End.{End}
 use Rattle.envy_serve.specs.declared.serving.End.TheVariants.{Done as EndDone, ReadFault, WriteFault, FlushFault, Refused, Dead as EndDead, TooLong}
 use Rattle.envy_serve.specs.Ends.{Ends, HasServed, Serves}
@@ -23,7 +24,7 @@ use Rattle.envy_serve.specs.Streams.{Streams}
 use Rattle.envy_serve.proofs.Advancing.{Serves-as}
 use Rattle.envy_run.specs.Outcome.{status_of, why_of}
 use Rattle.envy_keep.specs.Answers.{SyncsTo}
-use Rattle.envy_keep.specs.Ending.{Concludes, EndsKept, HasKept, HasLost, IsLostLine, IsWhole, KeepsServed, NoneLater, OpensAs, Survives, SurvivesSynced}
+use Rattle.envy_keep.specs.Ending.{Concludes, EndsKept, HasKept, HasLost, IsLostLine, IsWhole, KeepsServed, NoneLater, Survives, SurvivesSynced}
 use Rattle.envy_keep.specs.Since.{IsSaved, KeptSince, LostIn, LostSince, Start, on_since}
 use Rattle.envy_keep.specs.Turns.{KeepRun, KeepTurn, keep_grammar, says_synced, synced_turns}
 use Rattle.envy_keep.proofs.Goes.{syncs-ok, syncs-err}
@@ -51,23 +52,6 @@ off-at start old new WriteFault status turns t (is, same) six = let no : 4 ≡ 6
 off-at start old new FlushFault status turns t (is, same) six = let no : 4 ≡ 6 = sym is ∙ six in absurd (omega arith)
 off-at start old new (Refused fault) status turns t (is, same) six = let no : 5 ≡ 6 = sym is ∙ six in absurd (omega arith)
 off-at start old new TooLong status turns t (is, same) six = let no : 9 ≡ 6 = sym is ∙ six in absurd (omega arith)
-
--- a file that opens as a formatted and sound board opens as its words
-
--- formatted in the second version, and sound
-pub record IsGood (c : Chart) : Type 0 where
-  pub magic : c.fields.magic ≡ the_magic
-  pub version : c.fields.version ≡ 2
-  pub sound : IsSound c
-
-pub opens-as : (was : Chart) (file : List ℕ) → IsGood was → Reopens was file → OpensAs was.shape (durable was) file
-opens-as was file good opens = record {
-  head = opens.head;
-  finds = λ s shape content. same_words was s file opens shape content;
-  magic = λ s shape content. ap (λ (f : Fields). f.magic) (same_fields was s file opens shape content) ∙ good.magic;
-  version = λ s shape content. ap (λ (f : Fields). f.version) (same_fields was s file opens shape content) ∙ good.version;
-  sound = λ s shape content. same_sound was s file opens shape content good.sound;
-}
 
 opens-so : (was : Chart) (sh : Shape) (words file : List ℕ) → IsGood was → was.shape ≡ sh → durable was ≡ words → Reopens was file → OpensAs sh words file
 opens-so was sh words file good shape is opens =

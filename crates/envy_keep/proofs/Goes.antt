@@ -5,6 +5,7 @@ use Rattle.std.proofs.lemmas.Bool.{false≢true}
 use Rattle.envy_base.specs.Array.{Array, restarted}
 use Rattle.envy_base.specs.declared.board.Off.{Off}
 use Rattle.envy_base.specs.declared.shape.Shape.{Shape}
+use Rattle.envy_begun.proofs.Begins.{told-stands}
 use Rattle.envy_disk.specs.Disk.{SyncsChart, with_numbers}
 use Rattle.envy_flush.specs.Counts.{Tallies}
 use Rattle.envy_io.specs.declared.source.Failed.{Failed}
@@ -52,18 +53,6 @@ syncs-ok old new good (on, plans, given, is) kept = inl (refl, good, plans, give
 pub syncs-err : (old new : Picture) (off : Off) → IsTrue old.chart.on → SyncsChart old.chart (Err off) new.chart → new ≡ record old { chart = new.chart } → SyncsTo (TraceReply Lost) old new
 syncs-err old new off on (inl (dark, is)) kept = absurd (false≢true (sym dark ∙ on))
 syncs-err old new off on (inr (lit, is)) kept = inr (refl, kept ∙ ap (λ (c : Chart). record old { chart = c }) is)
-
--- other numbers on a board
-
-module _ (c : Chart) (plans given pulled lives : ℕ) where
-  abbrev told : Chart
-  told = with_numbers c plans given pulled lives
-
-  told-holds : (m : Array) → Holds c m → Holds told m
-  told-holds m h = record { magic = h.magic; version = h.version; sound = h.sound; array = h.array; shadows = h.shadows; live = h.live; durable = h.durable; slots = h.slots; owners = h.owners }
-
-  pub told-stands : (m : Array) → Stands c m → Stands told m
-  told-stands m s = record { on = s.on; holds = told-holds m s.holds }
 
 -- the last sync stays
 

@@ -1,18 +1,11 @@
 -- What holds at the end of a kept memory's trace, and which array each crash of the machine leaves.
 use Rattle.std.specs.Prelude.{◌≡◌, ◌⊎◌, ℕ, ◌≤◌, List, [], ◌∷◌}
 use Rattle.envy_base.specs.Array.{Array, undone}
-use Rattle.envy_base.specs.State.{State}
 use Rattle.envy_base.specs.declared.shape.Shape.{Shape}
+use Rattle.envy_begun.specs.Opens.{OpensAs}
 use Rattle.envy_disk.specs.Disk.{with_numbers}
-use Rattle.envy_journal.specs.Content.{content_of, holds}
-use Rattle.envy_journal.specs.Head.{head_bytes}
-use Rattle.envy_journal.specs.Log.{Begins}
-use Rattle.envy_journal.specs.Reading.{operations}
 use Rattle.envy_kept.specs.Disk.{IsSynced}
-use Rattle.envy_layout.specs.Sound.{IsSound}
-use Rattle.envy_layout.specs.Words.{durable}
-use Rattle.envy_map.specs.Codes.{the_magic}
-use Rattle.envy_map.specs.Fields.{chart, failed}
+use Rattle.envy_map.specs.Fields.{failed}
 use Rattle.envy_memory.specs.Picture.{Picture}
 use Rattle.envy_trace.specs.declared.reply.Reply.TheVariants.{Lost}
 use Rattle.envy_keep_trace.specs.declared.keep_reply.KeepReply.TheVariants.{Trace as TraceReply}
@@ -22,15 +15,6 @@ use Rattle.envy_serve.specs.Ends.{Serves}
 use Rattle.envy_serve.specs.Streams.{Streams}
 use Rattle.envy_run.specs.Outcome.{status_of, why_of}
 use Rattle.envy_keep.specs.Turns.{KeepRun, KeepTurn, LosesKeep, keep_grammar, synced_turns}
-
--- The file is a journal of a board of these sizes. A board on which its operations are done anew is formatted and sound,
--- and a restart finds these words on it.
-pub record OpensAs (sh : Shape) (words : List ℕ) (file : List ℕ) : Type 0 where
-  pub head : Begins (head_bytes sh) file
-  pub finds : (s : State) → s.shape ≡ sh → content_of s ≡ holds s.shape (operations file) → durable (chart s) ≡ words
-  pub magic : (s : State) → s.shape ≡ sh → content_of s ≡ holds s.shape (operations file) → (chart s).fields.magic ≡ the_magic
-  pub version : (s : State) → s.shape ≡ sh → content_of s ≡ holds s.shape (operations file) → (chart s).fields.version ≡ 2
-  pub sound : (s : State) → s.shape ≡ sh → content_of s ≡ holds s.shape (operations file) → IsSound (chart s)
 
 -- Each file that a crash has left since some sync opens as these words, or as some later ones.
 pub record Survives (sh : Shape) (left_since : ℕ → List ℕ → Type 0) (now : ℕ) (words : List ℕ) (Later : List ℕ → Type 0) : Type 0 where

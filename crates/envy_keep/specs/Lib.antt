@@ -1,5 +1,6 @@
 pub mod Answers
-pub mod Beginning
 pub mod Ending
+pub mod Keeping
 pub mod Since
+pub mod Texts
 pub mod Turns

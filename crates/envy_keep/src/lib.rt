@@ -6,13 +6,15 @@
 #![tactic(auto)]
 
 mod answering;
-mod beginning;
 mod ending;
 mod keeping;
 mod obeying;
 mod replying;
+mod serving;
+mod telling;
 
-pub use beginning::{Unbegun, begin_new};
 pub use ending::{KeepEnded, serve_kept};
 pub use keeping::Keeping;
 pub use replying::ReplyBuffer;
+pub use serving::keep;
+pub use telling::keep_end_text;

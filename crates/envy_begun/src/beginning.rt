@@ -3,10 +3,11 @@ ghost use Rattle.envy_base.specs.Array.{zeros};
 ghost use Rattle.envy_device.specs.Device.{Only};
 ghost use Rattle.envy_journal.specs.Content.{blank, content_of};
 ghost use Rattle.envy_journal.specs.Head.{IsUnmade};
-ghost use Rattle.envy_keep.specs.Beginning.{HasBegun, HasStopped, IsStopped};
+ghost use Rattle.envy_begun.specs.Beginning.{HasBegun, HasStopped, IsStopped};
 ghost use Rattle.envy_layout.specs.Stands.{Stands};
 ghost use Rattle.envy_memory.specs.Formats.{IsStarted};
 
+use crate::unbegun::Unbegun;
 use envy_base::Off;
 use envy_device::Device;
 use envy_journal::{OpenError, Steady, create};
@@ -19,17 +20,8 @@ use std::alloc::Global;
 /// So many bytes of operations are held back between writes of the file.
 pub(crate) const ROOM: usize = 65536;
 
-/// Why there is no memory to serve.
-#[derive(Clone, Copy, Debug, PartialEq, Eq)]
-pub enum Unbegun {
-    /// Memory ran out.
-    Memory,
-    /// The file failed, or came to the end of its range. So many bytes of operations were held back from it.
-    Failed(usize),
-}
-
 // Gives the file under a board back, and how many bytes of operations were held back from it.
-fn closed<B: Steady + Drop, D: Device>(kept: Kept<B, D>) -> (D, usize)
+pub(crate) fn closed<B: Steady + Drop, D: Device>(kept: Kept<B, D>) -> (D, usize)
     ensures { (⟦<Kept<B, D> as envy_base::Board>⟧.state kept).on ≡ false → HasStopped D.seen D.has_failed result.1 result.0 }
 {
     let journal = kept.into_journal();
@@ -57,6 +49,26 @@ fn sync_first<B: Steady + Drop, D: Device>(
     }
 }
 
+/// Makes a memory of zeros over a board that was just made or opened, and brings it to the disk.
+pub(crate) fn make_memory<B: Steady + Drop, D: Device>(
+    alloc: Global,
+    kept: Kept<B, D>,
+    setup: Setup,
+) -> Result<Memory<Kept<B, D>>, (Unbegun, D)>
+    requires shape { (⟦<Kept<B, D> as envy_base::Board>⟧.state kept).shape ≡ setup.shape }
+    ensures begun { IfOk result (HasBegun setup (zeros setup.shape.pages setup.shape.shadows)) }
+    ensures failed { IfErr result (λ e. IsStopped D.seen D.has_failed e.0 e.1) }
+{
+    match Memory::format(alloc, kept, setup) {
+        Ok(memory) => sync_first(memory, setup),
+        Err((kept, FormatFault::Off)) => {
+            let (device, held) = closed(kept);
+            Err((Unbegun::Failed(held), device))
+        }
+        Err((kept, _)) => Err((Unbegun::Memory, closed(kept).0)),
+    }
+}
+
 /// Makes a journal in a file that is empty, or in which making one was cut short, and a memory of zeros in it, which is on
 /// the disk then.
 pub fn begin_new<B: Steady + Drop, D: Device + Drop>(
@@ -77,12 +89,5 @@ pub fn begin_new<B: Steady + Drop, D: Device + Drop>(
         Err((OpenError::Failed, device)) => return Err((Unbegun::Failed(0), device)),
         Err((_, device)) => return Err((Unbegun::Memory, device)),
     };
-    match Memory::format(alloc, Kept::new(journal), setup) {
-        Ok(memory) => sync_first(memory, setup),
-        Err((kept, FormatFault::Off)) => {
-            let (device, held) = closed(kept);
-            Err((Unbegun::Failed(held), device))
-        }
-        Err((kept, _)) => Err((Unbegun::Memory, closed(kept).0)),
-    }
+    make_memory(alloc, Kept::new(journal), setup)
 }

@@ -1,6 +1,6 @@
 use Rattle.envy_base.specs.Array.{zeros}
-use Rattle.envy_keep.proofs.Begins.{err-off, new-begun}
-use Rattle.envy_keep.proofs.beginning.sync_first.Goals as goal
+use Rattle.envy_begun.proofs.Begins.{err-off, new-begun}
+use Rattle.envy_begun.proofs.beginning.sync_first.Goals as goal
 
 pub returns-in-Ok-clause-begun : goal.returns-in-Ok-clause-begun
 returns-in-Ok-clause-begun g c =

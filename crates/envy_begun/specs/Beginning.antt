@@ -1,8 +1,8 @@
 -- A memory that is kept in a file, before its first line.
 use Rattle.std.specs.Prelude.{◌≡◌, ℕ, ◌+◌, ◌^◌, ◌<◌, ⊤, IsTrue, Bool, List, length}
 use Rattle.envy_base.specs.Array.{Array, undone}
-use Rattle.envy_keep.specs.declared.beginning.Unbegun.{Unbegun}
-use Rattle.envy_keep.specs.declared.beginning.Unbegun.TheVariants.{Failed}
+use Rattle.envy_begun.specs.declared.unbegun.Unbegun.{Unbegun}
+use Rattle.envy_begun.specs.declared.unbegun.Unbegun.TheVariants.{Failed, Memory}
 use Rattle.envy_kept.specs.Disk.{IsLast, IsSynced}
 use Rattle.envy_layout.specs.Sound.{IsSound}
 use Rattle.envy_layout.specs.Stands.{Stands}
@@ -31,6 +31,8 @@ pub record HasBegun (setup : Setup) (array : Array) (p : Picture) : Type 0 where
 abbrev pub HasStopped : {D : Type 0} → (D → List ℕ) → (D → Bool) → ℕ → D → Type 0
 HasStopped seen has_failed held device = length (seen device) + held < 2 ^ 60 → IsTrue (has_failed device)
 
+-- why a new memory isn't there
 abbrev pub IsStopped : {D : Type 0} → (D → List ℕ) → (D → Bool) → Unbegun → D → Type 0
 IsStopped seen has_failed (Failed held) device = HasStopped seen has_failed held device
-IsStopped seen has_failed other device = ⊤
+IsStopped seen has_failed Memory device = ⊤
+IsStopped seen has_failed other device = ⊥

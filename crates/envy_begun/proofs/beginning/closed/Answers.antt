@@ -1,6 +1,6 @@
 use Rattle.std.proofs.Common.{◌+◌, ◌^◌, ◌<◌, ℕ, length, sym, subst}
 use Rattle.std.specs.Prelude.{IsTrue}
-use Rattle.envy_keep.proofs.beginning.closed.Goals as goal
+use Rattle.envy_begun.proofs.beginning.closed.Goals as goal
 
 pub returns : goal.returns
 returns g c off few =

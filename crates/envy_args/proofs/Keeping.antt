@@ -1,0 +1,53 @@
+-- The words behind `keep`, and what they name.
+use Rattle.std.proofs.Common.{◌≡◌, ◌∙◌, Bool, true, false, ◌&&◌, ap, sym, refl, List, Option, Some, None, Ok, Err, codes, option_and_then, if◌then◌else◌, true≢false}
+use Rattle.std.specs.Option.{option_map_or}
+use Rattle.std.proofs.lemmas.Bool.{and_from, false_from_ne_true}
+use Rattle.envy_args.specs.declared.command.WordsFault.TheVariants.{Form}
+use Rattle.envy_args.specs.Words.{Options, Text, accepted, are_known, have_values, is_path, is_value, options_in, plain_options, value_of}
+use Rattle.envy_args.specs.Reading.{are_readable, is_readable}
+use Rattle.envy_args.specs.Keep.{at_path, keep_names, keep_of, keep_options_of, keeping}
+use Rattle.envy_args.proofs.Valued.{all-readable, have-values}
+
+pub unread : (words : List Text) → accepted keep_names words ≡ None → keep_of words ≡ Err Form
+unfolding keep_of
+unread words none = ap (λ o. option_map_or keeping o (Err Form)) none
+
+module _ (words : List Text) (o : Options) (read : options_in words None ≡ Some o) (known : are_known keep_names o ≡ true) where
+  abbrev file : Option Text
+  file = value_of o (codes "file")
+
+  by-values : (b : Bool) → have_values o ≡ b → keep_of words ≡ (if b then keeping o else Err Form)
+  unfolding keep_of
+  by-values b is =
+      ap (λ r. option_map_or keeping (option_and_then (λ os. if are_known keep_names os && have_values os then Some os else None) r) (Err Form)) read
+      ∙ ap (λ k. option_map_or keeping (if k && have_values o then Some o else None) (Err Form)) known
+      ∙ go b is
+    where
+      go : (d : Bool) → have_values o ≡ d → option_map_or keeping (if have_values o then Some o else None) (Err Form) ≡ (if d then keeping o else Err Form)
+      go true e = rw e refl
+      go false e = rw e refl
+
+  unvalued : have_values o ≡ false → keep_of words ≡ Err Form
+  unvalued e = by-values false e
+
+  pub no-options : are_readable plain_options o ≡ false → keep_of words ≡ Err Form
+  no-options e = unvalued (false_from_ne_true (have_values o) (λ valued. true≢false (sym (all-readable plain_options o valued) ∙ e)))
+
+  pub no-path : option_map_or is_path (value_of o (codes "file")) false ≡ false → keep_of words ≡ Err Form
+  no-path e = go file refl e
+    where
+      none : (b : Bool) → file ≡ None → keep_of words ≡ (if b then keeping o else Err Form) → keep_of words ≡ Err Form
+      none true is all = all ∙ ap (λ (p : Option Text). at_path p (keep_options_of o)) is
+      none false is all = all
+
+      go : (v : Option Text) → file ≡ v → option_map_or is_path v false ≡ false → keep_of words ≡ Err Form
+      go None is bad = none (have_values o) is (by-values (have_values o) refl)
+      go (Some text) is bad =
+          let unread : is_readable o (codes "file") ≡ false = ap (λ (v : Option Text). option_map_or (is_value (codes "file")) v true) is ∙ bad in
+          unvalued (false_from_ne_true (have_values o) (λ valued. true≢false (sym (all-readable keep_names o valued) ∙ ap (λ b. b && are_readable plain_options o) unread)))
+
+  pub named : (path : Text) → value_of o (codes "file") ≡ Some path → is_path path ≡ true → are_readable plain_options o ≡ true → keep_of words ≡ Ok (path, keep_options_of o)
+  named path is good plain =
+      let readable : is_readable o (codes "file") ≡ true = ap (λ (v : Option Text). option_map_or (is_value (codes "file")) v true) is ∙ good in
+      by-values true (have-values keep_names o known (and_from (is_readable o (codes "file")) _ readable plain))
+      ∙ ap (λ (p : Option Text). at_path p (keep_options_of o)) is

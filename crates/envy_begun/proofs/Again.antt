@@ -1,0 +1,140 @@
+-- A journal that is opened again, and a memory that is attached to its board.
+use Rattle.std.proofs.Common.{◌≡◌, ◌≢◌, ◌⊎◌, ◌∙◌, inl, inr, ℕ, Bool, true, false, List, refl, sym, ap, subst, arith}
+use Rattle.std.specs.Prelude.{IsTrue, IfErr, Result, Ok, Err}
+use Rattle.std.proofs.lemmas.Bool.{false≢true}
+use Rattle.envy_audit.specs.Judging.{BreaksFirst}
+use Rattle.envy_audit.proofs.Sounding.{sound-points}
+use Rattle.envy_base.specs.State.{IsBoard, State}
+use Rattle.envy_base.specs.declared.shape.Shape.{Shape}
+use Rattle.envy_base.proofs.Undoing.{undo_all-closed}
+use Rattle.envy_begun.specs.Beginning.{HasBegun, HasStopped, IsStopped}
+use Rattle.envy_begun.specs.Opens.{OpensAs}
+use Rattle.envy_begun.specs.Plans.{IsOpened}
+use Rattle.envy_begun.specs.Unserved.{Declines, HasNoMemory, unopened_as}
+use Rattle.envy_begun.specs.declared.unbegun.Unbegun.{Unbegun}
+use Rattle.envy_begun.specs.declared.unbegun.Unbegun.TheVariants.{Failed, Memory, NoJournal}
+use Rattle.envy_begun.proofs.Opening.{IsGood, opens-as}
+use Rattle.envy_calls.specs.Making.{Declined, IsWhole}
+use Rattle.envy_calls.specs.declared.code.Code.{Code}
+use Rattle.envy_calls.specs.declared.code.Code.TheVariants.{Off, NoMemory, Unformatted, Older, OtherShape, Setup as OfSetup, Broken}
+use Rattle.envy_disk.specs.Disk.{with_disk}
+use Rattle.envy_journal.specs.Content.{Content, HasMisfit, content_of, holds}
+use Rattle.envy_journal.specs.Head.{head_bytes}
+use Rattle.envy_journal.specs.Journal.{journal_state}
+use Rattle.envy_journal.specs.Log.{Begins}
+use Rattle.envy_journal.specs.Reading.{operations}
+use Rattle.envy_journal.specs.declared.opening.OpenError.{OpenError}
+use Rattle.envy_journal.specs.declared.opening.OpenError.TheVariants.{Memory as OpenMemory, Failed as OpenFailed, Misfit}
+use Rattle.envy_kept.specs.Disk.{IsSynced, Reopens}
+use Rattle.envy_layout.specs.Same.{Kept}
+use Rattle.envy_layout.specs.Sound.{Head, IsSound, Sound}
+use Rattle.envy_layout.specs.Stands.{Stands}
+use Rattle.envy_layout.specs.Words.{durable}
+use Rattle.envy_map.specs.Codes.{the_magic}
+use Rattle.envy_map.specs.Fields.{chart, map_fields, shape_of}
+use Rattle.envy_map.proofs.Sizes.{shape_of-sizes_of}
+use Rattle.envy_memory.specs.Attaching.{Attaches}
+use Rattle.envy_memory.specs.Calls.{fresh}
+use Rattle.envy_memory.specs.Picture.{Picture}
+use Rattle.envy_policy.specs.Setup.{checked}
+use Rattle.envy_policy.specs.declared.setup.Setup.{Setup}
+
+one-two : (n : ℕ) → n ≡ 1 → n ≡ 2 → ⊥
+one-two n one two = absurd (omega (arith, one, two))
+
+module _ (sh : Shape) (file : List ℕ) (s : State) (o : IsOpened sh file s) where
+  here : content_of s ≡ holds s.shape (operations file)
+  here = o.content ∙ ap (λ (x : Shape). holds x (operations file)) (sym o.shape)
+
+  reopens : Reopens (chart s) file
+  reopens = record {
+    head = subst (λ (x : Shape). Begins (head_bytes x) file) (sym o.shape) o.head;
+    fields = ap (λ (y : Content). map_fields s.shape y.sram) (sym here);
+    flash = ap (λ (y : Content). y.flash) (sym here);
+  }
+
+  module _ (setup : Setup) (is : sh ≡ setup.shape) where
+    over : s.shape ≡ setup.shape
+    over = o.shape ∙ is
+
+    -- a memory was attached
+    pub taken-up : (p : Picture) → IsSynced (chart s) → IsWhole (chart s) setup → Attaches (chart s) setup p
+        → (words : List ℕ) × OpensAs setup.shape words file × HasBegun setup (fresh setup.shape.shadows words) p
+    taken-up p synced whole a =
+        let words = durable (chart s) in
+        let kept : Kept (chart s) p.chart = Attaches.kept a in
+        let good : IsGood (chart s) = record { magic = IsWhole.magic whole; version = IsWhole.version whole; sound = IsWhole.sound whole } in (
+          words,
+          subst (λ (x : Shape). OpensAs x words file) over (opens-as (chart s) file good reopens),
+          record {
+            was = chart s;
+            synced = synced;
+            last = record { shape = sym kept.shape; moment = kept.counted.plans; bytes = kept.counted.given };
+            magic = IsWhole.magic whole;
+            version = IsWhole.version whole;
+            sound = IsWhole.sound whole;
+            words = sym (undo_all-closed 64 words);
+            stands = subst (λ (x : Shape). Stands p.chart (fresh x.shadows words)) over (Attaches.stands a);
+            begins = Attaches.begins a;
+            shape = kept.shape ∙ over;
+          },
+        )
+
+    -- a board to which none was attached is none that opens as words
+    module _ (board : IsBoard s) (checks : checked setup ≡ Ok tt) (words : List ℕ) (opens : OpensAs setup.shape words file) where
+      magic : (chart s).fields.magic ≡ the_magic
+      magic = OpensAs.magic opens s over here
+
+      version : (chart s).fields.version ≡ 2
+      version = OpensAs.version opens s over here
+
+      sound : IsSound (chart s)
+      sound = OpensAs.sound opens s over here
+
+      pub not-declined : (code : Code) (new : State) → (code ≡ Off → ⊥) → (code ≡ NoMemory → ⊥) → Declined code s setup new → ⊥
+      not-declined Off new a b d = a refl
+      not-declined NoMemory new a b d = b refl
+      not-declined Unformatted new a b (same, never) = never (magic, inr version)
+      not-declined Older new a b (same, (m, one)) = one-two (chart s).fields.version one version
+      not-declined OtherShape new a b (same, (m, v, other)) = other (ap shape_of (Head.kept (Sound.head sound)) ∙ shape_of-sizes_of s.shape (IsBoard.shape board) ∙ over)
+      not-declined (Broken rule) new a b (same, (alike, breaks)) = BreaksFirst.fails breaks (sound-points s board sound rule)
+      not-declined (OfSetup fault) new a b (same, (whole, bad)) = absurd (let never = sym checks ∙ bad in cc)
+      not-declined other new a b (same, never) = absurd never
+
+-- why there is none
+
+module _ {D : Type 0} (seen : D → List ℕ) (has_failed : D → Bool) (sh : Shape) (file : List ℕ) (device : D) where
+  pub unopened-declines : (error : OpenError) (unbegun : Unbegun) → unbegun ≡ unopened_as error → (error ≡ Misfit → HasMisfit sh (operations file)) → (error ≡ OpenFailed → IsTrue (has_failed device)) → Declines seen has_failed sh file unbegun device
+  unopened-declines error unbegun is misfit failed = subst (λ (u : Unbegun). Declines seen has_failed sh file u device) (sym is) (go error misfit failed)
+    where
+      go : (error : OpenError) → (error ≡ Misfit → HasMisfit sh (operations file)) → (error ≡ OpenFailed → IsTrue (has_failed device)) → Declines seen has_failed sh file (unopened_as error) device
+      go OpenMemory misfit failed = tt
+      go OpenFailed misfit failed = λ few. failed refl
+      go Misfit misfit failed = inl (misfit refl)
+
+  pub stopped-declines : (unbegun : Unbegun) → IsStopped seen has_failed unbegun device → Declines seen has_failed sh file unbegun device
+  stopped-declines (Failed held) stopped = stopped
+  stopped-declines Memory stopped = tt
+  stopped-declines other stopped = absurd stopped
+
+  -- which one, by the code
+  abbrev Says : Code → ℕ → Unbegun → Type 0
+  Says code held unbegun = ((code ≡ Off) × (unbegun ≡ Failed held)) ⊎ (((code ≡ NoMemory) × (unbegun ≡ Memory)) ⊎ ((code ≢ Off) × (code ≢ NoMemory) × (unbegun ≡ NoJournal)))
+
+  pub code-declines : (code : Code) (held : ℕ) (unbegun : Unbegun) → Says code held unbegun → (code ≡ Off → HasStopped seen has_failed held device) → ((code ≡ Off → ⊥) → (code ≡ NoMemory → ⊥) → HasNoMemory sh file) → Declines seen has_failed sh file unbegun device
+  code-declines code held unbegun (inl (off, is)) stopped none = subst (λ (u : Unbegun). Declines seen has_failed sh file u device) (sym is) (stopped off)
+  code-declines code held unbegun (inr (inl (memory, is))) stopped none = subst (λ (u : Unbegun). Declines seen has_failed sh file u device) (sym is) tt
+  code-declines code held unbegun (inr (inr (on, enough, is))) stopped none = subst (λ (u : Unbegun). Declines seen has_failed sh file u device) (sym is) (none on enough)
+
+pub off-declined : (code : Code) (old new : State) (setup : Setup) → code ≡ Off → Declined code old setup new → new.on ≡ false
+off-declined code old new setup is d = (subst (λ (x : Code). Declined x old setup new) is d).0
+
+-- the state of a board that was opened
+pub opened-state : (b : State) (dead : Bool) (plans given pulled lives : ℕ) (sh : Shape) (file : List ℕ) → dead ≡ false → Begins (head_bytes sh) file → b.shape ≡ sh → content_of b ≡ holds sh (operations file) → IsOpened sh file (with_disk (journal_state dead b) plans given pulled lives)
+opened-state b true plans given pulled lives sh file is head shape content = absurd (false≢true (sym is))
+opened-state b false plans given pulled lives sh file is head shape content = record { head = head; shape = shape; content = content }
+
+-- the same of an answer
+pub all-declines : {M D : Type 0} (seen : D → List ℕ) (has_failed : D → Bool) (sh : Shape) (file : List ℕ) (result : Result M (Unbegun × D)) → IfErr result (λ e. IsStopped seen has_failed e.0 e.1) → IfErr result (λ e. Declines seen has_failed sh file e.0 e.1)
+all-declines seen has_failed sh file (Ok memory) stopped = tt
+all-declines seen has_failed sh file (Err e) stopped = stopped-declines seen has_failed sh file e.1 e.0 stopped

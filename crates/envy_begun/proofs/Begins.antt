@@ -1,0 +1,53 @@
+-- A memory that was just made, once it is on the disk.
+use Rattle.std.proofs.Common.{◌≡◌, inl, inr, ℕ, false, refl, sym, ◌∙◌, ap, subst}
+use Rattle.std.specs.Prelude.{Result, Ok, Err}
+use Rattle.envy_base.specs.Array.{Array, zeros}
+use Rattle.envy_base.specs.declared.board.Off.{Off}
+use Rattle.envy_base.specs.declared.shape.Shape.{Shape}
+use Rattle.envy_begun.specs.Beginning.{HasBegun}
+use Rattle.envy_begun.proofs.Opening.{IsGood}
+use Rattle.envy_disk.specs.Disk.{SyncsChart, with_numbers}
+use Rattle.envy_kept.specs.Disk.{IsSynced}
+use Rattle.envy_layout.specs.Stands.{Holds, Stands}
+use Rattle.envy_layout.specs.Words.{durable}
+use Rattle.envy_map.specs.Fields.{Chart}
+use Rattle.envy_memory.specs.Formats.{IsStarted}
+use Rattle.envy_memory.specs.Picture.{Picture}
+use Rattle.envy_policy.specs.declared.setup.Setup.{Setup}
+
+-- other numbers on a board
+
+module _ (c : Chart) (plans given pulled lives : ℕ) where
+  abbrev told : Chart
+  told = with_numbers c plans given pulled lives
+
+  told-holds : (m : Array) → Holds c m → Holds told m
+  told-holds m h = record { magic = h.magic; version = h.version; sound = h.sound; array = h.array; shadows = h.shadows; live = h.live; durable = h.durable; slots = h.slots; owners = h.owners }
+
+  pub told-stands : (m : Array) → Stands c m → Stands told m
+  told-stands m s = record { on = s.on; holds = told-holds m s.holds }
+
+pub err-off : (old new : Chart) (off : Off) → SyncsChart old (Err off) new → new.on ≡ false
+err-off old new off (inl (dark, is)) = ap (λ (c : Chart). c.on) is ∙ dark
+err-off old new off (inr (on, is)) = ap (λ (c : Chart). c.on) is
+
+pub new-begun : (setup : Setup) (array : Array) (old new : Picture) → IsSynced new.chart → SyncsChart old.chart (Ok tt) new.chart → new ≡ record old { chart = new.chart } → Stands old.chart array → IsStarted setup old → old.chart.shape ≡ setup.shape → HasBegun setup array new
+new-begun setup array old new good (on, plans, given, is) kept stood b shape =
+    let told = with_numbers old.chart plans given old.chart.plans old.chart.given in
+    let same : new ≡ record old { chart = told } = kept ∙ ap (λ (c : Chart). record old { chart = c }) is in
+    let sound = subst (λ (p : Picture). IsGood p.chart) (sym same) (record { magic = Holds.magic stood.holds; version = Holds.version stood.holds; sound = Holds.sound stood.holds }) in
+    record {
+      was = new.chart;
+      synced = good;
+      last = record { shape = refl; moment = refl; bytes = refl };
+      magic = IsGood.magic sound;
+      version = IsGood.version sound;
+      sound = IsGood.sound sound;
+      words = ap (λ (p : Picture). durable p.chart) same ∙ Holds.durable stood.holds;
+      stands = subst (λ (p : Picture). Stands p.chart array) (sym same) (told-stands old.chart plans given old.chart.plans old.chart.given array stood);
+      begins = subst (λ (p : Picture). IsStarted setup p) (sym same) (record { counts = b.counts; since = b.since; entries = b.entries; chooser = b.chooser; stages = b.stages; moves = b.moves; held = b.held; owners = b.owners; limit = b.limit; mark = b.mark });
+      shape = ap (λ (p : Picture). p.chart.shape) same ∙ shape;
+    }
+
+pub stands-as : (c : Chart) (sh : Shape) → c.shape ≡ sh → Stands c (zeros c.shape.pages c.shape.shadows) → Stands c (zeros sh.pages sh.shadows)
+stands-as c sh is stood = subst (λ (x : Shape). Stands c (zeros x.pages x.shadows)) is stood

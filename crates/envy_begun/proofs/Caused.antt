@@ -1,0 +1,59 @@
+-- Why a file isn't served, by where it was found.
+use Rattle.std.proofs.Common.{◌≡◌, inl, inr, ℕ, ◌+◌, ◌^◌, ◌<◌, Bool, List, length, refl, sym, ◌∙◌, subst, arith}
+use Rattle.std.specs.Prelude.{IsTrue, IfErr, Result, Ok, Err}
+use Rattle.envy_args.specs.declared.keep.KeepOptions.{KeepOptions}
+use Rattle.envy_begun.specs.Beginning.{IsStopped}
+use Rattle.envy_begun.specs.Plans.{IsFound}
+use Rattle.envy_begun.specs.Unserved.{Causes, Declines, IsOver, Refuses, status_for}
+use Rattle.envy_begun.specs.declared.unbegun.Unbegun.{Unbegun}
+use Rattle.envy_begun.specs.declared.unbegun.Unbegun.TheVariants.{Setup, NoJournal, OtherVersion, OtherSizes, Options, Memory, Failed}
+use Rattle.envy_policy.specs.declared.setup.Setup.{Setup as OfSetup}
+
+module _ {D : Type 0} (seen : D → List ℕ) (has_failed : D → Bool) (options : KeepOptions) (file : List ℕ) (old new : D) where
+  pub refused-causes : (unbegun : Unbegun) → Refuses options file unbegun → new ≡ old → Causes seen has_failed options file old new unbegun
+  refused-causes (Setup fault) r same = (r, same)
+  refused-causes NoJournal r same = r
+  refused-causes OtherVersion r same = (r, same)
+  refused-causes OtherSizes r same = (r, same)
+  refused-causes (Options fault) r same = (r, same)
+  refused-causes Memory r same = tt
+  refused-causes (Failed held) r same = absurd r
+
+  pub stopped-causes : (unbegun : Unbegun) → IsStopped seen has_failed unbegun new → Causes seen has_failed options file old new unbegun
+  stopped-causes (Setup fault) s = absurd s
+  stopped-causes NoJournal s = absurd s
+  stopped-causes OtherVersion s = absurd s
+  stopped-causes OtherSizes s = absurd s
+  stopped-causes (Options fault) s = absurd s
+  stopped-causes Memory s = tt
+  stopped-causes (Failed held) s = s
+
+  pub declined-causes : (setup : OfSetup) (unbegun : Unbegun) → IsFound options file setup → Declines seen has_failed setup.shape file unbegun new → Causes seen has_failed options file old new unbegun
+  declined-causes setup (Setup fault) f d = absurd d
+  declined-causes setup NoJournal f d = (IsFound.made f, inr (setup.shape, IsOver.head (IsFound.over f), inr d))
+  declined-causes setup OtherVersion f d = absurd d
+  declined-causes setup OtherSizes f d = absurd d
+  declined-causes setup (Options fault) f d = absurd d
+  declined-causes setup Memory f d = tt
+  declined-causes setup (Failed held) f d = d
+
+  -- at status 6 the file has failed, or is at the end of its range
+  pub stopped-unserved : (unbegun : Unbegun) (status held : ℕ) → status ≡ status_for unbegun → ((n : ℕ) → unbegun ≡ Failed n → held ≡ n) → Causes seen has_failed options file old new unbegun → status ≡ 6 → length (seen new) + held < 2 ^ 60 → IsTrue (has_failed new)
+  stopped-unserved (Setup fault) status held is held_is causes six few = let never : 2 ≡ 6 = sym is ∙ six in absurd (omega arith)
+  stopped-unserved NoJournal status held is held_is causes six few = let never : 10 ≡ 6 = sym is ∙ six in absurd (omega arith)
+  stopped-unserved OtherVersion status held is held_is causes six few = let never : 10 ≡ 6 = sym is ∙ six in absurd (omega arith)
+  stopped-unserved OtherSizes status held is held_is causes six few = let never : 10 ≡ 6 = sym is ∙ six in absurd (omega arith)
+  stopped-unserved (Options fault) status held is held_is causes six few = let never : 10 ≡ 6 = sym is ∙ six in absurd (omega arith)
+  stopped-unserved Memory status held is held_is causes six few = let never : 8 ≡ 6 = sym is ∙ six in absurd (omega arith)
+  stopped-unserved (Failed n) status held is held_is causes six few = causes (subst (λ (k : ℕ). length (seen new) + k < 2 ^ 60) (held_is n refl) few)
+
+-- the same of an answer
+pub all-stopped : {M D : Type 0} (seen : D → List ℕ) (has_failed : D → Bool) (options : KeepOptions) (file : List ℕ) (old : D) (result : Result M (Unbegun × D))
+    → IfErr result (λ e. IsStopped seen has_failed e.0 e.1) → IfErr result (λ e. Causes seen has_failed options file old e.1 e.0)
+all-stopped seen has_failed options file old (Ok memory) stopped = tt
+all-stopped seen has_failed options file old (Err e) stopped = stopped-causes seen has_failed options file old e.1 e.0 stopped
+
+pub all-declined : {M D : Type 0} (seen : D → List ℕ) (has_failed : D → Bool) (options : KeepOptions) (file : List ℕ) (old : D) (setup : OfSetup) (result : Result M (Unbegun × D)) → IsFound options file setup
+    → IfErr result (λ e. Declines seen has_failed setup.shape file e.0 e.1) → IfErr result (λ e. Causes seen has_failed options file old e.1 e.0)
+all-declined seen has_failed options file old setup (Ok memory) found declined = tt
+all-declined seen has_failed options file old setup (Err e) found declined = declined-causes seen has_failed options file old e.1 setup e.0 found declined

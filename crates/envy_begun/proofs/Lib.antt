@@ -1,0 +1,5 @@
+pub mod Again
+pub mod Begins
+pub mod Caused
+pub mod Opening
+pub mod Planned

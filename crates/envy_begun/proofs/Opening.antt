@@ -1,0 +1,24 @@
+-- What a file opens as that was a board behind a sync.
+use Rattle.std.proofs.Common.{◌≡◌, ◌∙◌, ℕ, List, ap}
+use Rattle.envy_begun.specs.Opens.{OpensAs}
+use Rattle.envy_kept.specs.Disk.{Reopens}
+use Rattle.envy_layout.specs.Sound.{IsSound}
+use Rattle.envy_layout.specs.Words.{durable}
+use Rattle.envy_map.specs.Codes.{the_magic}
+use Rattle.envy_map.specs.Fields.{Chart, Fields}
+use Rattle.envy_saved.proofs.Reopened.{same_fields, same_sound, same_words}
+
+-- formatted in the second version, and sound
+pub record IsGood (c : Chart) : Type 0 where
+  pub magic : c.fields.magic ≡ the_magic
+  pub version : c.fields.version ≡ 2
+  pub sound : IsSound c
+
+pub opens-as : (was : Chart) (file : List ℕ) → IsGood was → Reopens was file → OpensAs was.shape (durable was) file
+opens-as was file good opens = record {
+  head = opens.head;
+  finds = λ s shape content. same_words was s file opens shape content;
+  magic = λ s shape content. ap (λ (f : Fields). f.magic) (same_fields was s file opens shape content) ∙ good.magic;
+  version = λ s shape content. ap (λ (f : Fields). f.version) (same_fields was s file opens shape content) ∙ good.version;
+  sound = λ s shape content. same_sound was s file opens shape content good.sound;
+}

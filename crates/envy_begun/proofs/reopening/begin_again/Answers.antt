@@ -1,0 +1,24 @@
+use Rattle.std.proofs.Common.{inr, subst}
+use Rattle.envy_base.specs.State.{IsBoard}
+use Rattle.envy_base.specs.declared.shape.Shape.{Shape}
+use Rattle.envy_begun.specs.Unserved.{Declines}
+use Rattle.envy_begun.proofs.Again.{code-declines, not-declined, off-declined, taken-up}
+use Rattle.envy_journal.specs.Journal.{lawful_lem}
+use Rattle.envy_kept.specs.Disk.{lawful_disk}
+use Rattle.envy_begun.proofs.reopening.begin_again.Goals as goal
+
+pub returns-in-Err-clause-failed : goal.returns-in-Err-clause-failed
+returns-in-Err-clause-failed g c =
+    subst (λ (sh : Shape). Declines g.D.Device.seen g.D.Device.has_failed sh c.args.bytes.now c.in-Err.unbegun.0 c.in-Err.unbegun.1) c.requires.shape c.in-Err.ensures.failed
+
+pub returns-in-Ok-attach-clause-begun : goal.returns-in-Ok-attach-clause-begun
+returns-in-Ok-attach-clause-begun g c =
+    taken-up (g.B.Board.state c.args.board).shape c.args.bytes.now _ c.in-Ok.ensures.opened c.args.setup c.requires.shape c.in-Ok-attach.memory c.in-Ok.ensures.synced c.in-Ok-attach.ensures.0 c.in-Ok-attach.ensures.1
+
+pub returns-in-Err-attach-clause-failed : goal.returns-in-Err-attach-clause-failed
+returns-in-Err-attach-clause-failed g c =
+    let j = c.in-Ok.kept.journal in
+    let board = lawful_disk _ _ _ _ _ (lawful_lem j.dead (g.B.Board.state j.board) (g.met.B.Board.lawful j.board)) in
+    code-declines g.D.Device.seen g.D.Device.has_failed c.args.setup.shape c.args.bytes.now c.closed-device.result.0 c.in-Err-attach.code c.closed-device.result.1 c.declined.result c.declined.ensures
+    (λ off. c.closed-device.ensures (off-declined c.in-Err-attach.code _ _ c.args.setup off c.in-Err-attach.ensures))
+    (λ on enough. inr (λ words opens. not-declined (g.B.Board.state c.args.board).shape c.args.bytes.now _ c.in-Ok.ensures.opened c.args.setup c.requires.shape board c.requires.setup words opens c.in-Err-attach.code _ on enough c.in-Err-attach.ensures))

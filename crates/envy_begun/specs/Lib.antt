@@ -1,0 +1,4 @@
+pub mod Beginning
+pub mod Opens
+pub mod Plans
+pub mod Unserved

@@ -1,0 +1,41 @@
+-- What a file holds, and with which array a memory in it begins.
+use Rattle.std.specs.Prelude.{◌≡◌, ℕ, List, []}
+use Rattle.envy_args.specs.declared.keep.KeepOptions.{KeepOptions}
+use Rattle.envy_args.specs.Keep.{new_shape, setup_over}
+use Rattle.envy_base.specs.Array.{Array, zeros}
+use Rattle.envy_base.specs.State.{State}
+use Rattle.envy_base.specs.declared.shape.Shape.{Shape}
+use Rattle.envy_journal.specs.Content.{content_of, holds}
+use Rattle.envy_journal.specs.Head.{IsUnmade, head_bytes}
+use Rattle.envy_journal.specs.Log.{Begins}
+use Rattle.envy_journal.specs.Reading.{operations}
+use Rattle.envy_memory.specs.Calls.{fresh}
+use Rattle.envy_policy.specs.declared.setup.Setup.{Setup}
+use Rattle.envy_begun.specs.declared.planning.Holding.{Holding}
+use Rattle.envy_begun.specs.declared.planning.Holding.TheVariants.{Unmade, Blank, Written}
+use Rattle.envy_begun.specs.Opens.{OpensAs}
+use Rattle.envy_begun.specs.Unserved.{IsOver}
+
+-- a board on which the operations of a file were done
+pub record IsOpened (sh : Shape) (file : List ℕ) (s : State) : Type 0 where
+  pub head : Begins (head_bytes sh) file
+  pub shape : s.shape ≡ sh
+  pub content : content_of s ≡ holds sh (operations file)
+
+-- a journal whose sizes the options leave, with the setup over them
+pub record IsFound (options : KeepOptions) (file : List ℕ) (setup : Setup) : Type 0 where
+  pub made : IsUnmade file → ⊥
+  pub over : IsOver options setup.shape file
+  pub is : setup ≡ setup_over options setup.shape
+
+-- the setup of a memory in a file that holds these bytes
+abbrev pub Plans : Holding → KeepOptions → List ℕ → Setup → Type 0
+Plans Unmade options file setup = IsUnmade file × (setup ≡ setup_over options (new_shape options))
+Plans Blank options file setup = IsFound options file setup × (operations file ≡ [])
+Plans Written options file setup = IsFound options file setup
+
+-- The array with which a memory in a file begins: zeros where the file is no journal yet, or one in which nothing was done;
+-- else the words as which it opens, with no transaction open.
+abbrev pub BeginsAs : Holding → List ℕ → Setup → Array → Type 0
+BeginsAs Written file setup array = (words : List ℕ) × OpensAs setup.shape words file × (array ≡ fresh setup.shape.shadows words)
+BeginsAs other file setup array = array ≡ zeros setup.shape.pages setup.shape.shadows

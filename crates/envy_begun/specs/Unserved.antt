@@ -1,0 +1,78 @@
+-- Why a file isn't served.
+use Rattle.std.specs.Prelude.{◌≡◌, ◌≢◌, ◌⊎◌, ℕ, ⊤, Bool, List, Err}
+use Rattle.envy_args.specs.declared.keep.KeepOptions.{KeepOptions}
+use Rattle.envy_args.specs.Keep.{new_shape, setup_over, shape_named}
+use Rattle.envy_base.specs.declared.shape.Shape.{Shape}
+use Rattle.envy_base.specs.declared.shape.ShapeFault.{ShapeFault}
+use Rattle.envy_base.specs.Shape.{checked as shape_checked}
+use Rattle.envy_journal.specs.Content.{HasMisfit}
+use Rattle.envy_journal.specs.Head.{HasNoJournal, IsOtherVersion, IsUnmade, head_bytes}
+use Rattle.envy_journal.specs.Log.{Begins}
+use Rattle.envy_journal.specs.Reading.{operations}
+use Rattle.envy_journal.specs.declared.opening.OpenError.{OpenError}
+use Rattle.envy_journal.specs.declared.opening.OpenError.TheVariants.{Memory as OpenMemory, Failed as OpenFailed, Misfit}
+use Rattle.envy_policy.specs.Setup.{checked, rule_of}
+use Rattle.envy_begun.specs.Beginning.{HasStopped}
+use Rattle.envy_begun.specs.Opens.{OpensAs}
+use Rattle.envy_begun.specs.declared.unbegun.Unbegun.{Unbegun}
+use Rattle.envy_begun.specs.declared.unbegun.Unbegun.TheVariants.{Setup, NoJournal, OtherVersion, OtherSizes, Options, Memory, Failed}
+
+abbrev pub status_for : Unbegun → ℕ
+status_for (Setup fault) = 2
+status_for NoJournal = 10
+status_for OtherVersion = 10
+status_for OtherSizes = 10
+status_for (Options fault) = 10
+status_for Memory = 8
+status_for (Failed held) = 6
+
+abbrev pub why_for : Unbegun → ℕ
+why_for (Setup fault) = rule_of fault
+why_for NoJournal = 6
+why_for OtherVersion = 7
+why_for OtherSizes = 8
+why_for (Options fault) = 9
+why_for Memory = 0
+why_for (Failed held) = 0
+
+-- where a journal wasn't opened
+abbrev pub unopened_as : OpenError → Unbegun
+unopened_as OpenMemory = Memory
+unopened_as OpenFailed = Failed 0
+unopened_as Misfit = NoJournal
+
+-- a journal of these sizes that holds no memory: an operation isn't within them, or it opens as no words
+abbrev pub HasNoMemory : Shape → List ℕ → Type 0
+HasNoMemory sh file = HasMisfit sh (operations file) ⊎ ((words : List ℕ) → OpensAs sh words file → ⊥)
+
+-- no journal, or one of sizes that break a rule, or one that holds no memory
+abbrev pub IsNone : List ℕ → Type 0
+IsNone file = HasNoJournal file ⊎ ((sh : Shape) × Begins (head_bytes sh) file × (((fault : ShapeFault) × (shape_checked sh ≡ Err fault)) ⊎ HasNoMemory sh file))
+
+-- a journal whose sizes the options leave
+pub record IsOver (options : KeepOptions) (sh : Shape) (file : List ℕ) : Type 0 where
+  pub head : Begins (head_bytes sh) file
+  pub named : shape_named options.sizes sh ≡ sh
+
+-- what the bytes of a file say of a refusal
+abbrev pub Refuses : KeepOptions → List ℕ → Unbegun → Type 0
+Refuses options file (Setup fault) = IsUnmade file × (checked (setup_over options (new_shape options)) ≡ Err fault)
+Refuses options file NoJournal = (IsUnmade file → ⊥) × IsNone file
+Refuses options file OtherVersion = (IsUnmade file → ⊥) × IsOtherVersion file
+Refuses options file OtherSizes = (IsUnmade file → ⊥) × (sh : Shape) × Begins (head_bytes sh) file × (shape_named options.sizes sh ≢ sh)
+Refuses options file (Options fault) = (IsUnmade file → ⊥) × (sh : Shape) × IsOver options sh file × (checked (setup_over options sh) ≡ Err fault)
+Refuses options file other = ⊥
+
+-- why a file that held these bytes isn't served, and what became of it
+abbrev pub Causes : {D : Type 0} → (D → List ℕ) → (D → Bool) → KeepOptions → List ℕ → D → D → Unbegun → Type 0
+Causes seen has_failed options file old new (Failed held) = HasStopped seen has_failed held new
+Causes seen has_failed options file old new Memory = ⊤
+Causes seen has_failed options file old new NoJournal = Refuses options file NoJournal
+Causes seen has_failed options file old new unbegun = Refuses options file unbegun × (new ≡ old)
+
+-- why a journal of these sizes isn't taken up
+abbrev pub Declines : {D : Type 0} → (D → List ℕ) → (D → Bool) → Shape → List ℕ → Unbegun → D → Type 0
+Declines seen has_failed sh file (Failed held) device = HasStopped seen has_failed held device
+Declines seen has_failed sh file Memory device = ⊤
+Declines seen has_failed sh file NoJournal device = HasNoMemory sh file
+Declines seen has_failed sh file other device = ⊥

@@ -1,0 +1,125 @@
+// What a file holds, as far as its first bytes tell, and which memory the options ask for over it.
+ghost use Rattle.std.specs.Prelude.{◌≡◌, ◌↔◌, ◌⊎◌, ◌≤◌, [], IfOk, IfErr, IsTrue, length, Ok, Err};
+ghost use Rattle.envy_args.specs.Keep.{new_shape, setup_over};
+ghost use Rattle.envy_args.specs.declared.keep.KeepOptions.{KeepOptions as Options};
+ghost use Rattle.envy_policy.specs.declared.setup.SetupFault.{SetupFault};
+ghost use Rattle.envy_begun.specs.declared.unbegun.Unbegun.TheVariants.{Setup as OfSetup};
+ghost use Rattle.envy_base.specs.Shape.{IsShape};
+ghost use Rattle.envy_journal.specs.Head.{IsUnmade, head_bytes};
+ghost use Rattle.envy_journal.specs.Log.{Begins};
+ghost use Rattle.envy_journal.specs.Reading.{operations};
+ghost use Rattle.envy_begun.specs.Plans.{IsFound, Plans};
+ghost use Rattle.envy_begun.specs.Unserved.{Refuses};
+ghost use Rattle.envy_policy.specs.Setup.{checked};
+
+use crate::unbegun::Unbegun;
+use envy_args::KeepOptions;
+use envy_base::Shape;
+use envy_journal::{HeadError, read_head};
+use envy_policy::Setup;
+
+/// What a file holds.
+#[derive(Clone, Copy, Debug, PartialEq, Eq)]
+pub enum Holding {
+    /// No journal yet.
+    Unmade,
+    /// A journal in which nothing was done yet.
+    Blank,
+    /// A journal with operations.
+    Written,
+}
+
+/// So many bytes a file has at most before a journal is made: a head and a gate.
+const UNMADE: usize = 34;
+
+/// The byte at the front of a journal that is made.
+const MADE: u8 = 1;
+
+/// A gate that is open.
+const OPEN: u8 = 4;
+
+// Whether making a journal was cut short in a file, or wasn't begun.
+fn is_unmade(bytes: &[u8]) -> bool
+    ensures { IsTrue result ↔ IsUnmade bytes.now }
+{
+    bytes.len() < UNMADE || (bytes.len() == UNMADE && bytes[0] != MADE)
+}
+
+// What a journal holds: where its first gate isn't open nothing was done.
+fn holding_of(bytes: &[u8]) -> Holding
+    requires { 34 ≤ length bytes.now }
+    ensures { result ≡ Holding.Written ⊎ ((result ≡ Holding.Blank) × (operations bytes.now ≡ [])) }
+{
+    if bytes[UNMADE - 1] == OPEN {
+        Holding::Written
+    } else {
+        Holding::Blank
+    }
+}
+
+// The sizes that a journal has, where they break no rule.
+fn sizes(bytes: &[u8]) -> Result<Shape, Unbegun>
+    requires made { IsUnmade bytes.now → ⊥ }
+    ensures head { IfOk result (λ shape. Begins (head_bytes shape) bytes.now) }
+    ensures long { IfOk result (λ _. 34 ≤ length bytes.now) }
+    ensures refused { IfErr result (λ unbegun. (options : Options) → Refuses options bytes.now unbegun) }
+{
+    let shape = match read_head(bytes) {
+        Ok(shape) => shape,
+        Err(HeadError::NoJournal) => return Err(Unbegun::NoJournal),
+        Err(HeadError::OtherVersion) => return Err(Unbegun::OtherVersion),
+    };
+    match shape.check() {
+        Ok(()) => Ok(shape),
+        Err(_) => Err(Unbegun::NoJournal),
+    }
+}
+
+// The setup over a journal.
+fn found(options: &KeepOptions, bytes: &[u8]) -> Result<Setup, Unbegun>
+    requires made { IsUnmade bytes.now → ⊥ }
+    ensures found { IfOk result (IsFound options.now bytes.now) }
+    ensures long { IfOk result (λ _. 34 ≤ length bytes.now) }
+    ensures checks { IfOk result (λ setup. checked setup ≡ Ok tt) }
+    ensures shape { IfOk result (λ setup. IsShape setup.shape) }
+    ensures refused { IfErr result (λ unbegun. Refuses options.now bytes.now unbegun) }
+{
+    let shape = sizes(bytes)?;
+    if options.sizes.over(&shape) != shape {
+        return Err(Unbegun::OtherSizes);
+    }
+    let setup = options.setup(&shape);
+    match setup.check() {
+        Ok(()) => Ok(setup),
+        Err(fault) => Err(Unbegun::Options(fault)),
+    }
+}
+
+// The setup of a new file.
+fn new_setup(options: &KeepOptions) -> Result<Setup, Unbegun>
+    ensures setup { IfOk result (λ setup. setup ≡ setup_over options.now (new_shape options.now)) }
+    ensures checks { IfOk result (λ setup. checked setup ≡ Ok tt) }
+    ensures shape { IfOk result (λ setup. IsShape setup.shape) }
+    ensures refused { IfErr result (λ unbegun. (fault : SetupFault) × (unbegun ≡ OfSetup fault) × (checked (setup_over options.now (new_shape options.now)) ≡ Err fault)) }
+{
+    let setup = options.setup(&options.new_shape());
+    match setup.check() {
+        Ok(()) => Ok(setup),
+        Err(fault) => Err(Unbegun::Setup(fault)),
+    }
+}
+
+/// What a file holds and the setup of a memory in it, or why there is none.
+pub fn plan(options: &KeepOptions, bytes: &[u8]) -> Result<(Setup, Holding), Unbegun>
+    ensures plans { IfOk result (λ plan. Plans plan.1 options.now bytes.now plan.0) }
+    ensures checks { IfOk result (λ plan. checked plan.0 ≡ Ok tt) }
+    ensures shape { IfOk result (λ plan. IsShape plan.0.shape) }
+    ensures refused { IfErr result (λ unbegun. Refuses options.now bytes.now unbegun) }
+{
+    if is_unmade(bytes) {
+        let fresh = new_setup(options)?;
+        return Ok((fresh, Holding::Unmade));
+    }
+    let setup = found(options, bytes)?;
+    Ok((setup, holding_of(bytes)))
+}

@@ -1,0 +1,125 @@
+// A journal that a file holds is opened, and a memory is attached.
+ghost use Rattle.std.specs.Prelude.{◌≡◌, ◌≢◌, ◌⊎◌, [], List, ℕ, IfOk, IfErr, Ok};
+ghost use Rattle.envy_base.specs.Array.{zeros};
+ghost use Rattle.envy_calls.specs.declared.code.Code.TheVariants.{Off as CodeOff, NoMemory as CodeNoMemory};
+ghost use Rattle.envy_device.specs.Device.{Only};
+ghost use Rattle.envy_journal.specs.Content.{blank, content_of};
+ghost use Rattle.envy_journal.specs.Head.{head_bytes};
+ghost use Rattle.envy_journal.specs.Log.{Begins};
+ghost use Rattle.envy_journal.specs.Reading.{operations};
+ghost use Rattle.envy_begun.specs.Beginning.{HasBegun};
+ghost use Rattle.envy_begun.specs.Plans.{IsOpened};
+ghost use Rattle.envy_begun.specs.Opens.{OpensAs};
+ghost use Rattle.envy_begun.specs.Unserved.{Declines, unopened_as};
+ghost use Rattle.envy_begun.specs.declared.unbegun.Unbegun.TheVariants.{Failed, Memory as OfMemory, NoJournal};
+ghost use Rattle.envy_kept.specs.Disk.{IsSynced};
+ghost use Rattle.envy_map.specs.Fields.{chart};
+ghost use Rattle.envy_memory.specs.Calls.{fresh};
+ghost use Rattle.envy_policy.specs.Setup.{checked};
+
+use crate::beginning::{ROOM, closed, make_memory};
+use crate::unbegun::Unbegun;
+use envy_calls::{Code, attach};
+use envy_device::Device;
+use envy_journal::{OpenError, Steady, open};
+use envy_kept::Kept;
+use envy_memory::Memory;
+use envy_policy::Setup;
+use std::alloc::Global;
+
+// Why a journal wasn't opened.
+fn unopened(error: OpenError) -> Unbegun
+    ensures { result ≡ unopened_as error }
+{
+    match error {
+        OpenError::Memory => Unbegun::Memory,
+        OpenError::Failed => Unbegun::Failed(0),
+        OpenError::Misfit => Unbegun::NoJournal,
+    }
+}
+
+// Why a memory wasn't attached to a board.
+fn declined(code: Code, held: usize) -> Unbegun
+    ensures { ((code ≡ CodeOff) × (result ≡ Failed held)) ⊎ (((code ≡ CodeNoMemory) × (result ≡ OfMemory)) ⊎ ((code ≢ CodeOff) × (code ≢ CodeNoMemory) × (result ≡ NoJournal))) }
+{
+    match code {
+        Code::Off => Unbegun::Failed(held),
+        Code::NoMemory => Unbegun::Memory,
+        _ => Unbegun::NoJournal,
+    }
+}
+
+// Opens the journal that a file holds, on a blank board.
+fn opened<B: Steady + Drop, D: Device + Drop>(
+    alloc: Global,
+    board: B,
+    device: D,
+    bytes: &[u8],
+) -> Result<Kept<B, D>, (Unbegun, D)>
+    requires bytes { bytes.now ≡ D.seen device }
+    requires durable { Only (D.seen device) (D.may_leave device) }
+    requires blank { content_of (B.state board) ≡ blank (B.state board).shape }
+    requires head { Begins (head_bytes (B.state board).shape) bytes.now }
+    ensures synced { IfOk result (λ kept. IsSynced (chart (⟦<Kept<B, D> as envy_base::Board>⟧.state kept))) }
+    ensures opened { IfOk result (λ kept. IsOpened (B.state board).shape bytes.now (⟦<Kept<B, D> as envy_base::Board>⟧.state kept)) }
+    ensures failed { IfErr result (λ e. Declines D.seen D.has_failed (B.state board).shape bytes.now e.0 e.1) }
+{
+    match open(alloc, board, device, bytes, ROOM) {
+        Ok(journal) => Ok(Kept::new(journal)),
+        Err((error, device)) => Err((unopened(error), device)),
+    }
+}
+
+/// Opens a journal in which nothing was done yet, and makes a memory of zeros in it, which is on the disk then.
+pub(crate) fn begin_blank<B: Steady + Drop, D: Device + Drop>(
+    alloc: Global,
+    board: B,
+    device: D,
+    bytes: &[u8],
+    setup: Setup,
+) -> Result<Memory<Kept<B, D>>, (Unbegun, D)>
+    requires bytes { bytes.now ≡ D.seen device }
+    requires durable { Only (D.seen device) (D.may_leave device) }
+    requires blank { content_of (B.state board) ≡ blank (B.state board).shape }
+    requires head { Begins (head_bytes setup.shape) bytes.now }
+    requires shape { (B.state board).shape ≡ setup.shape }
+    ensures begun { IfOk result (HasBegun setup (zeros setup.shape.pages setup.shape.shadows)) }
+    ensures failed { IfErr result (λ e. Declines D.seen D.has_failed setup.shape bytes.now e.0 e.1) }
+{
+    let kept = match opened(alloc, board, device, bytes) {
+        Ok(kept) => kept,
+        Err(unbegun) => return Err(unbegun),
+    };
+    make_memory(alloc, kept, setup)
+}
+
+/// Opens a journal, and attaches a memory, which stands for the words that the file's last sync left, transactions undone.
+/// Nothing that the file holds is trusted.
+pub fn begin_again<B: Steady + Drop, D: Device + Drop>(
+    alloc: Global,
+    board: B,
+    device: D,
+    bytes: &[u8],
+    setup: Setup,
+) -> Result<Memory<Kept<B, D>>, (Unbegun, D)>
+    requires bytes { bytes.now ≡ D.seen device }
+    requires durable { Only (D.seen device) (D.may_leave device) }
+    requires blank { content_of (B.state board) ≡ blank (B.state board).shape }
+    requires head { Begins (head_bytes setup.shape) bytes.now }
+    requires shape { (B.state board).shape ≡ setup.shape }
+    requires setup { checked setup ≡ Ok tt }
+    ensures begun { IfOk result (λ memory. (words : List ℕ) × OpensAs setup.shape words bytes.now × HasBegun setup (fresh setup.shape.shadows words) memory) }
+    ensures failed { IfErr result (λ e. Declines D.seen D.has_failed setup.shape bytes.now e.0 e.1) }
+{
+    let kept = match opened(alloc, board, device, bytes) {
+        Ok(kept) => kept,
+        Err(unbegun) => return Err(unbegun),
+    };
+    match attach(alloc, kept, setup) {
+        Ok(memory) => Ok(memory),
+        Err((kept, code)) => {
+            let (device, held) = closed(kept);
+            Err((declined(code, held), device))
+        }
+    }
+}

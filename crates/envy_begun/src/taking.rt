@@ -1,0 +1,47 @@
+// A memory in a file is made or taken up, by what the file holds.
+ghost use Rattle.std.specs.Prelude.{◌≡◌, IfOk, IfErr, Ok};
+ghost use Rattle.envy_base.specs.Array.{Array};
+ghost use Rattle.envy_begun.specs.Beginning.{HasBegun};
+ghost use Rattle.envy_begun.specs.Plans.{BeginsAs, Plans};
+ghost use Rattle.envy_begun.specs.Unserved.{Causes};
+ghost use Rattle.envy_device.specs.Device.{Only};
+ghost use Rattle.envy_journal.specs.Content.{blank, content_of};
+ghost use Rattle.envy_policy.specs.Setup.{checked};
+
+use crate::beginning::begin_new;
+use crate::planning::Holding;
+use crate::reopening::{begin_again, begin_blank};
+use crate::unbegun::Unbegun;
+use envy_args::KeepOptions;
+use envy_device::Device;
+use envy_journal::Steady;
+use envy_kept::Kept;
+use envy_memory::Memory;
+use envy_policy::Setup;
+use std::alloc::Global;
+
+/// The memory in a file, over a blank board of its sizes.
+pub fn begin<B: Steady + Drop, D: Device + Drop>(
+    alloc: Global,
+    board: B,
+    device: D,
+    _options: &KeepOptions,
+    bytes: &[u8],
+    setup: Setup,
+    holding: Holding,
+) -> Result<Memory<Kept<B, D>>, (Unbegun, D)>
+    requires bytes { D.seen device ≡ bytes.now }
+    requires durable { Only (D.seen device) (D.may_leave device) }
+    requires blank { content_of (B.state board) ≡ blank (B.state board).shape }
+    requires shape { (B.state board).shape ≡ setup.shape }
+    requires plans { Plans holding _options.now bytes.now setup }
+    requires checks { checked setup ≡ Ok tt }
+    ensures begun { IfOk result (λ memory. (array : Array) × BeginsAs holding bytes.now setup array × HasBegun setup array memory) }
+    ensures failed { IfErr result (λ e. Causes D.seen D.has_failed _options.now bytes.now device e.1 e.0) }
+{
+    match holding {
+        Holding::Unmade => begin_new(alloc, board, device, setup),
+        Holding::Blank => begin_blank(alloc, board, device, bytes, setup),
+        Holding::Written => begin_again(alloc, board, device, bytes, setup),
+    }
+}

@@ -1,0 +1,52 @@
+ghost use Rattle.std.specs.Prelude.{◌≡◌, ℕ};
+ghost use Rattle.envy_begun.specs.declared.unbegun.Unbegun.TheVariants.{Failed};
+ghost use Rattle.envy_begun.specs.Unserved.{status_for, why_for};
+
+use envy_policy::SetupFault;
+
+/// Why there is no memory to serve.
+#[derive(Clone, Copy, Debug, PartialEq, Eq)]
+pub enum Unbegun {
+    /// The options break this rule of a setup, and the file is new.
+    Setup(SetupFault),
+    /// What the file holds is no journal of a memory.
+    NoJournal,
+    /// The file is a journal of a version that isn't known here.
+    OtherVersion,
+    /// The options name other sizes than the journal has.
+    OtherSizes,
+    /// The options break this rule over the sizes of the journal.
+    Options(SetupFault),
+    /// Memory ran out.
+    Memory,
+    /// The file failed, or came to the end of its range. So many bytes of operations were held back from it.
+    Failed(usize),
+}
+
+impl Unbegun {
+    /// The exit status, and the second number.
+    pub fn numbers(self) -> (u8, u8)
+        ensures status { result.0 ≡ status_for self }
+        ensures why { result.1 ≡ why_for self }
+    {
+        match self {
+            Unbegun::Setup(fault) => (2, fault.rule()),
+            Unbegun::NoJournal => (10, 6),
+            Unbegun::OtherVersion => (10, 7),
+            Unbegun::OtherSizes => (10, 8),
+            Unbegun::Options(_) => (10, 9),
+            Unbegun::Memory => (8, 0),
+            Unbegun::Failed(_) => (6, 0),
+        }
+    }
+
+    /// How many bytes of operations were held back from the file.
+    pub fn held(self) -> usize
+        ensures { (n : ℕ) → self ≡ Failed n → result ≡ n }
+    {
+        match self {
+            Unbegun::Failed(held) => held,
+            _ => 0,
+        }
+    }
+}

@@ -1,0 +1,50 @@
+-- The ends of the memory in a file.
+use Rattle.std.proofs.Common.{◌≡◌, ℕ, ◌+◌, ◌^◌, ◌<◌, Bool, List, length, refl, sym, ap, subst}
+use Rattle.std.specs.Prelude.{IsTrue, Ok}
+use Rattle.envy_args.specs.declared.keep.KeepOptions.{KeepOptions}
+use Rattle.envy_base.specs.Array.{Array}
+use Rattle.envy_base.specs.declared.shape.Shape.{Shape}
+use Rattle.envy_begun.specs.Beginning.{HasBegun}
+use Rattle.envy_begun.specs.Plans.{BeginsAs, Plans}
+use Rattle.envy_begun.specs.Unserved.{Causes, status_for, why_for}
+use Rattle.envy_begun.specs.declared.planning.Holding.{Holding}
+use Rattle.envy_begun.specs.declared.unbegun.Unbegun.{Unbegun}
+use Rattle.envy_begun.specs.declared.unbegun.Unbegun.TheVariants.{Failed}
+use Rattle.envy_begun.proofs.Caused.{stopped-unserved}
+use Rattle.envy_io.specs.Streams.{Drain, Feed}
+use Rattle.envy_memory.specs.Picture.{Picture}
+use Rattle.envy_policy.specs.Setup.{checked}
+use Rattle.envy_policy.specs.declared.setup.Setup.{Setup}
+use Rattle.envy_serve.specs.Streams.{Streams}
+use Rattle.envy_keep.specs.Ending.{KeepsServed}
+use Rattle.envy_keep.specs.Keeping.{IsServed, IsUnserved, Told, told}
+
+pub served-as : (options : KeepOptions) (file : List ℕ) (setup : Setup) (holding : Holding) (array : Array) (p : Picture) (status why lines taken : ℕ) (left : ℕ → List ℕ → Type 0) (now : ℕ) (io : Streams)
+    → Plans holding options file setup → checked setup ≡ Ok tt → BeginsAs holding file setup array → HasBegun setup array p
+    → KeepsServed array p.chart.shape status why lines taken left now io → IsServed options file (told status why lines taken) left now io
+served-as options file setup holding array p status why lines taken left now io plans checks begins begun served = record {
+  setup = setup;
+  holding = holding;
+  array = array;
+  plans = plans;
+  checks = checks;
+  begins = begins;
+  served = subst (λ (sh : Shape). KeepsServed array sh status why lines taken left now io) (HasBegun.shape begun) served;
+}
+
+pub unserved-as : {D : Type 0} (seen : D → List ℕ) (has_failed : D → Bool) (options : KeepOptions) (file : List ℕ) (old device new : D) (unbegun : Unbegun) (end : Told) (feed : Feed) (drain : Drain)
+    → end ≡ told (status_for unbegun) (why_for unbegun) 0 0 → new ≡ device → Causes seen has_failed options file old device unbegun
+    → IsUnserved seen has_failed options file old new end (record { from = feed; feed = feed; to = drain; sink = drain })
+unserved-as {D} seen has_failed options file old device new unbegun end feed drain says same causes = record {
+  unbegun = unbegun;
+  says = says;
+  causes = subst (λ (d : D). Causes seen has_failed options file old d unbegun) (sym same) causes;
+  source = refl;
+  sink = refl;
+}
+
+pub unserved-stopped : {D : Type 0} (seen : D → List ℕ) (has_failed : D → Bool) (options : KeepOptions) (file : List ℕ) (old device new : D) (unbegun : Unbegun) (status why lines taken held : ℕ)
+    → told status why lines taken ≡ told (status_for unbegun) (why_for unbegun) 0 0 → new ≡ device → ((n : ℕ) → unbegun ≡ Failed n → held ≡ n) → Causes seen has_failed options file old device unbegun
+    → status ≡ 6 → length (seen new) + held < 2 ^ 60 → IsTrue (has_failed new)
+unserved-stopped {D} seen has_failed options file old device new unbegun status why lines taken held says same held_is causes six few =
+    stopped-unserved seen has_failed options file old new unbegun status held (ap (λ (t : Told). t.status) says) held_is (subst (λ (d : D). Causes seen has_failed options file old d unbegun) (sym same) causes) six few

@@ -1,0 +1,40 @@
+-- What is served of the memory in a file.
+use Rattle.std.specs.Prelude.{◌≡◌, ℕ, Bool, List, Ok}
+use Rattle.envy_args.specs.declared.keep.KeepOptions.{KeepOptions}
+use Rattle.envy_base.specs.Array.{Array}
+use Rattle.envy_begun.specs.declared.planning.Holding.{Holding}
+use Rattle.envy_begun.specs.declared.unbegun.Unbegun.{Unbegun}
+use Rattle.envy_begun.specs.Plans.{BeginsAs, Plans}
+use Rattle.envy_begun.specs.Unserved.{Causes, status_for, why_for}
+use Rattle.envy_policy.specs.Setup.{checked}
+use Rattle.envy_policy.specs.declared.setup.Setup.{Setup}
+use Rattle.envy_serve.specs.Streams.{Streams}
+use Rattle.envy_keep.specs.Ending.{KeepsServed}
+
+-- what the program says at the end
+pub record Told : Type 0 where
+  pub status : ℕ
+  pub why : ℕ
+  pub lines : ℕ
+  pub taken : ℕ
+
+abbrev pub told : ℕ → ℕ → ℕ → ℕ → Told
+told status why lines taken = record { status = status; why = why; lines = lines; taken = taken }
+
+-- a trace was served over the memory in the file
+pub record IsServed (options : KeepOptions) (file : List ℕ) (end : Told) (left_since : ℕ → List ℕ → Type 0) (now : ℕ) (io : Streams) : Type 0 where
+  pub setup : Setup
+  pub holding : Holding
+  pub array : Array
+  pub plans : Plans holding options file setup
+  pub checks : checked setup ≡ Ok tt
+  pub begins : BeginsAs holding file setup array
+  pub served : KeepsServed array setup.shape end.status end.why end.lines end.taken left_since now io
+
+-- nothing was read or written on the streams
+pub record IsUnserved {D : Type 0} (seen : D → List ℕ) (has_failed : D → Bool) (options : KeepOptions) (file : List ℕ) (old new : D) (end : Told) (io : Streams) : Type 0 where
+  pub unbegun : Unbegun
+  pub says : end ≡ told (status_for unbegun) (why_for unbegun) 0 0
+  pub causes : Causes seen has_failed options file old new unbegun
+  pub source : io.feed ≡ io.from
+  pub sink : io.sink ≡ io.to

@@ -1,0 +1,111 @@
+// A trace over the memory in a file.
+ghost use Rattle.std.specs.Prelude.{◌≡◌, ◌⊎◌, ◌+◌, ◌^◌, ◌<◌, ◌≤◌, ℕ, length, IsTrue, Ok};
+ghost use Rattle.envy_begun.specs.Unserved.{status_for, why_for};
+ghost use Rattle.envy_begun.specs.declared.unbegun.Unbegun.TheVariants.{Failed};
+ghost use Rattle.envy_begun.specs.Plans.{Plans};
+ghost use Rattle.envy_device.specs.Device.{Only};
+ghost use Rattle.envy_journal.specs.Content.{blank, content_of};
+ghost use Rattle.envy_policy.specs.Setup.{checked};
+ghost use Rattle.envy_keep.specs.Keeping.{IsServed, IsUnserved, told};
+ghost use Rattle.envy_serve.specs.Streams.{Streams};
+
+use crate::ending::{KeepEnded, serve_kept};
+use envy_args::KeepOptions;
+use envy_begun::{Holding, Unbegun, begin, plan};
+use envy_cells::Cells;
+use envy_device::Device;
+use envy_io::{Sink, Source};
+use envy_journal::Steady;
+use envy_policy::Setup;
+use std::alloc::Global;
+
+// The end where nothing is served.
+fn unserved<D>(unbegun: Unbegun, device: D) -> KeepEnded<D>
+    ensures says { told result.status result.why result.lines result.taken ≡ told (status_for unbegun) (why_for unbegun) 0 0 }
+    ensures lines { result.lines ≡ 0 }
+    ensures taken { result.taken ≡ 0 }
+    ensures device { result.device ≡ device }
+    ensures held { (n : ℕ) → unbegun ≡ Failed n → result.held ≡ n }
+{
+    let (status, why) = unbegun.numbers();
+    KeepEnded {
+        status,
+        why,
+        lines: 0,
+        taken: 0,
+        device,
+        held: unbegun.held(),
+    }
+}
+
+// Serves a trace over the memory in a file, on a blank board of its sizes.
+fn serve_on<S: Source, K: Sink, B: Steady + Drop, D: Device + Drop>(
+    alloc: Global,
+    board: B,
+    device: D,
+    options: &KeepOptions,
+    bytes: &[u8],
+    setup: Setup,
+    holding: Holding,
+    source: &mut S,
+    sink: &mut K,
+) -> KeepEnded<D>
+    requires bytes { D.seen device ≡ bytes.now }
+    requires durable { Only (D.seen device) (D.may_leave device) }
+    requires blank { content_of (B.state board) ≡ blank (B.state board).shape }
+    requires shape { (B.state board).shape ≡ setup.shape }
+    requires plans { Plans holding options.now bytes.now setup }
+    requires checks { checked setup ≡ Ok tt }
+    requires entries { 0 < setup.shape.entries }
+    ensures keeps { let io : Streams = record { from = S.feed source.old; feed = S.feed source.new; to = K.drain sink.old; sink = K.drain sink.new } in
+        let end = told result.status result.why result.lines result.taken in
+        IsServed options.now bytes.now end (D.left_since result.device) (D.moment result.device) io
+        ⊎ IsUnserved D.seen D.has_failed options.now bytes.now device result.device end io }
+    ensures stopped { result.status ≡ 6 → length (D.seen result.device) + result.held < 2 ^ 60 → IsTrue (D.has_failed result.device) }
+    ensures few { result.lines ≤ result.taken }
+    ensures read { result.taken ≤ 1099511627776 }
+{
+    match begin(alloc, board, device, options, bytes, setup, holding) {
+        Ok(memory) => serve_kept(memory, source, sink),
+        Err((unbegun, device)) => unserved(unbegun, device),
+    }
+}
+
+/// Serves a trace over the memory in a file that holds these bytes. Where the file is empty, or making a journal was cut
+/// short in it, a journal is made by the options' sizes; else the journal gives its sizes, and options that name others
+/// are refused. A memory of zeros is made where nothing was done yet; else the memory stands for the words that the
+/// file's last sync left, transactions undone.
+///
+/// Every end but status 0 has its cause, but for want of memory. Where nothing is served nothing is read or written on the
+/// streams.
+pub fn keep<S: Source, K: Sink, D: Device + Drop>(
+    alloc: Global,
+    options: &KeepOptions,
+    device: D,
+    bytes: &[u8],
+    source: &mut S,
+    sink: &mut K,
+) -> KeepEnded<D>
+    requires bytes { D.seen device ≡ bytes.now }
+    requires durable { Only (D.seen device) (D.may_leave device) }
+    ensures keeps { let io : Streams = record { from = S.feed source.old; feed = S.feed source.new; to = K.drain sink.old; sink = K.drain sink.new } in
+        let end = told result.status result.why result.lines result.taken in
+        IsServed options.now bytes.now end (D.left_since result.device) (D.moment result.device) io
+        ⊎ IsUnserved D.seen D.has_failed options.now bytes.now device result.device end io }
+    // power is off only where the file failed, or came to the end of its range
+    ensures stopped { result.status ≡ 6 → length (D.seen result.device) + result.held < 2 ^ 60 → IsTrue (D.has_failed result.device) }
+    ensures few { result.lines ≤ result.taken }
+    ensures read { result.taken ≤ 1099511627776 }
+{
+    let (setup, holding) = match plan(options, bytes) {
+        Ok(plan) => plan,
+        Err(unbegun) => return unserved(unbegun, device),
+    };
+    let Ok(mut cells) = Cells::blank(alloc, &setup.shape) else {
+        return unserved(Unbegun::Memory, device);
+    };
+    let board = cells.board();
+    serve_on(
+        alloc, board, device, options, bytes, setup, holding, source, sink,
+    )
+}
