@@ -1,5 +1,5 @@
 -- A kept memory before its first line.
-use Rattle.std.proofs.Common.{◌≡◌, ℕ, ◌<◌, [], refl}
+use Rattle.std.proofs.Common.{◌<◌, [], refl}
 use Rattle.envy_base.specs.Array.{Array}
 use Rattle.envy_begun.specs.Beginning.{HasBegun}
 use Rattle.envy_memory.specs.Picture.{Picture}

@@ -1,6 +1,6 @@
 -- The end of a kept memory's trace, and what each crash leaves then.
-use Rattle.std.proofs.Common.{◌≡◌, ◌⊎◌, inl, inr, ℕ, ◌≤◌, false, true, List, [], ◌∷◌, refl, sym, ◌∙◌, ap, subst, arith}
-use Rattle.std.specs.Prelude.{IsTrue, Result, Ok, Err, if◌then◌else◌}
+use Rattle.std.proofs.Common.{◌≡◌, ◌⊎◌, inl, inr, ℕ, ◌≤◌, false, List, [], ◌∷◌, refl, sym, ◌∙◌, ap, subst, arith}
+use Rattle.std.specs.Prelude.{IsTrue, Ok, Err, if◌then◌else◌}
 use Rattle.std.proofs.Math.Logic.{∥∥₁_map}
 use Rattle.std.proofs.lemmas.Bool.{false≢true}
 use Rattle.envy_base.specs.Array.{Array, undone}
@@ -10,11 +10,9 @@ use Rattle.envy_begun.proofs.Opening.{IsGood, opens-as}
 use Rattle.envy_begun.specs.Opens.{OpensAs}
 use Rattle.envy_disk.specs.Disk.{SyncsChart, with_numbers}
 use Rattle.envy_kept.specs.Disk.{IsLast, IsSynced, Reopens}
-use Rattle.envy_layout.specs.Sound.{IsSound}
 use Rattle.envy_layout.specs.Stands.{Holds, Stands}
 use Rattle.envy_layout.specs.Words.{durable}
-use Rattle.envy_map.specs.Codes.{the_magic}
-use Rattle.envy_map.specs.Fields.{Chart, Fields, failed}
+use Rattle.envy_map.specs.Fields.{Chart, failed}
 use Rattle.envy_memory.specs.Picture.{Picture}
 use Rattle.envy_keep_trace.specs.declared.keep_reply.KeepReply.{KeepReply}
 use Rattle.envy_serve.specs.declared.serving.End.{End}
@@ -22,12 +20,10 @@ use Rattle.envy_serve.specs.declared.serving.End.TheVariants.{Done as EndDone, R
 use Rattle.envy_serve.specs.Ends.{Ends, HasServed, Serves}
 use Rattle.envy_serve.specs.Streams.{Streams}
 use Rattle.envy_serve.proofs.Advancing.{Serves-as}
-use Rattle.envy_run.specs.Outcome.{status_of, why_of}
-use Rattle.envy_keep.specs.Answers.{SyncsTo}
+use Rattle.envy_run.specs.Outcome.{why_of}
 use Rattle.envy_keep.specs.Ending.{Concludes, EndsKept, HasKept, HasLost, IsLostLine, IsWhole, KeepsServed, NoneLater, Survives, SurvivesSynced}
 use Rattle.envy_keep.specs.Since.{IsSaved, KeptSince, LostIn, LostSince, Start, on_since}
 use Rattle.envy_keep.specs.Turns.{KeepRun, KeepTurn, keep_grammar, says_synced, synced_turns}
-use Rattle.envy_keep.proofs.Goes.{syncs-ok, syncs-err}
 
 -- the last sync
 

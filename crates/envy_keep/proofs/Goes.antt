@@ -1,5 +1,5 @@
 -- How a kept memory goes on from line to line.
-use Rattle.std.proofs.Common.{◌≡◌, ◌⊎◌, inl, inr, ℕ, ◌+◌, ◌<◌, ◌≤◌, false, true, List, [], ◌∷◌, ◌++◌, take, length, refl, sym, ◌∙◌, ap, subst, arith, append-nil}
+use Rattle.std.proofs.Common.{◌≡◌, ◌⊎◌, inl, inr, ℕ, false, List, [], ◌∷◌, ◌++◌, take, refl, sym, ◌∙◌, ap, subst, arith, append-nil}
 use Rattle.std.specs.Prelude.{◌↔◌, IsTrue, Result, Ok, Err}
 use Rattle.std.proofs.lemmas.Bool.{false≢true}
 use Rattle.envy_base.specs.Array.{Array, restarted}
@@ -14,9 +14,7 @@ use Rattle.envy_io.specs.Streams.{Drain, WritesAll, with_end}
 use Rattle.envy_io.proofs.WritesLemmas.{with_end-nil}
 use Rattle.envy_kept.specs.Disk.{IsLast, IsSynced}
 use Rattle.envy_layout.specs.Stands.{Holds, Stands, IsLost as LostOn}
-use Rattle.envy_layout.specs.Words.{durable}
 use Rattle.envy_map.specs.Fields.{Chart, failed}
-use Rattle.envy_memory.specs.Calls.{Works}
 use Rattle.envy_memory.specs.Picture.{Picture}
 use Rattle.envy_trace.specs.declared.line.Line.{Line}
 use Rattle.envy_trace.specs.declared.line.Line.TheVariants.{Empty, Load, Look, Store, Begin, Put, Commit, Abort, Tick, Power, Cut, Bad, Stat}
@@ -37,13 +35,12 @@ use Rattle.envy_run.specs.Below.{WorksOf}
 use Rattle.envy_run.specs.Hits.{MayTell}
 use Rattle.envy_run.specs.Licence.{Licence}
 use Rattle.envy_run.specs.Tells.{Telling}
-use Rattle.envy_run.specs.Turns.{Loses}
 use Rattle.envy_run.proofs.Hitting.{telling-more}
 use Rattle.envy_run.proofs.Noting.{notes-empty}
 use Rattle.envy_run.proofs.Obeying.{answered}
 use Rattle.envy_keep.specs.Answers.{AnswersKeep, IsKeepCall, IsKeptLine, SyncsTo, TraceAnswers}
-use Rattle.envy_keep.specs.Since.{IsSaved, KeptSince, LostIn, LostSince, Start}
-use Rattle.envy_keep.specs.Turns.{KeepRun, KeepTurn, LosesKeep, keep_grammar, trace_turns}
+use Rattle.envy_keep.specs.Since.{IsSaved, KeptSince, LostSince, Start}
+use Rattle.envy_keep.specs.Turns.{KeepRun, KeepTurn, keep_grammar, trace_turns}
 
 -- what a sync answers
 

@@ -2,7 +2,6 @@
 use Rattle.std.specs.Prelude.{◌≡◌, ◌⊎◌, ℕ, Bool, true, false, List, [], ◌∷◌, ◌++◌, if◌then◌else◌}
 use Rattle.envy_base.specs.Array.{Array, restarted}
 use Rattle.envy_io.specs.Lines.{newline}
-use Rattle.envy_trace.specs.declared.line.Line.{Line}
 use Rattle.envy_trace.specs.declared.line.Line.TheVariants.{Empty}
 use Rattle.envy_trace.specs.declared.reply.Reply.{Reply}
 use Rattle.envy_keep_trace.specs.declared.keep_line.KeepLine.{KeepLine}
