@@ -30,10 +30,9 @@ invariant_of-result g c =
     let board = g.met.B.Board.lawful c.args.board in
     let sizes = c.in_default.ensures.sizes refl in
     let o = c.in-Ok-take_up.ensures in
-    let shape = Kept.shape o.kept ∙ kept-shape old c.args.setup.shape (IsBoard.shape board) sound (MayAttach.shape may) in
-    (
+    let shape = Kept.shape o.kept ∙ kept-shape old c.args.setup.shape (IsBoard.shape board) sound (MayAttach.shape may) in (
       IsMemory-settled new c.take_up.new.parts c.in-Ok.owned c.args.setup.limit c.args.setup.mark (Kept.magic o.kept ∙ (MayAttach.formatted may).0) o.version o.ready o.settled
-    (ap (λ (z : Ownership). z.pairs) c.in-Ok.ensures.owned) (ap (λ (z : Ownership). z.limit) c.in-Ok.ensures.owned ∙ ap (λ (sh : Shape). sh.shadows) (sym shape)) (IsSetup.limit sizes) (IsSetup.mark sizes),
+          (ap (λ (z : Ownership). z.pairs) c.in-Ok.ensures.owned) (ap (λ (z : Ownership). z.limit) c.in-Ok.ensures.owned ∙ ap (λ (sh : Shape). sh.shadows) (sym shape)) (IsSetup.limit sizes) (IsSetup.mark sizes),
       λ on. IsQuiet-none new.shape new.fields c.args.setup.limit c.take_up.new.parts.reloc.since 0 refl,
     )
 

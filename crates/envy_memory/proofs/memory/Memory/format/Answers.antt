@@ -10,8 +10,7 @@ pub invariant_of-result : goal.invariant_of-result
 invariant_of-result g c =
     let new = chart (g.B.Board.state c.format_board.new.board) in
     let o = c.in-Ok-format_board.ensures in
-    let may = c.in_default.ensures.reason in
-    (
+    let may = c.in_default.ensures.reason in (
       IsMemory-new new c.args.setup c.in-Ok.parts c.in-Ok.owned o.formats.0 o.formats.1 (o.shape ∙ MayFormat.shape may) (c.in_default.ensures.sizes refl) c.in-Ok.ensures.parts c.in-Ok.ensures.owned,
       λ on. IsQuiet-none new.shape new.fields c.args.setup.limit c.in-Ok.parts.reloc.since 0 refl,
     )

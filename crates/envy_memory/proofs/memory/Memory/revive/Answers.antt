@@ -38,8 +38,7 @@ invariant_of-self-2 g c =
     let version = SameDurable.version o.durable ∙ ap (λ (s : State). (chart s).fields.version) lights ∙ i.version in
     let shape = SameDurable.shape o.durable ∙ ap (λ (s : State). s.shape) lights in
     let none = ap (λ (z : Ownership). z.pairs) c.forget.ensures in
-    let shadows = ap (λ (z : Ownership). z.limit) c.forget.ensures ∙ i.shadows ∙ ap (λ (sh : Shape). sh.shadows) (sym shape) in
-    (
+    let shadows = ap (λ (z : Ownership). z.limit) c.forget.ensures ∙ i.shadows ∙ ap (λ (sh : Shape). sh.shadows) (sym shape) in (
       IsMemory-settled new c.restart.new.parts c.forget.new.self c.self.inside.limit c.self.inside.mark magic version o.ready o.settled none shadows i.some_limit i.some,
       λ on. IsQuiet-none new.shape new.fields c.self.inside.limit c.restart.new.parts.reloc.since 0 refl,
     )

@@ -39,8 +39,7 @@ invariant_of-self g c =
     let new = chart (g.B.Board.state c.store_word.new.board) in
     let k = 4 * old.shape.rows + 13 in
     let e = c.store_word.ensures in
-    let leaves = Leaves-wrote k 6 old new (32 * (c.args.a / 32) + c.args.a % 32) c.args.value (c.args.a / 32) c.store_word.result e.free e.owned in
-    (
+    let leaves = Leaves-wrote k 6 old new (32 * (c.args.a / 32) + c.args.a % 32) c.args.value (c.args.a / 32) c.store_word.result e.free e.owned in (
       IsMemory-left k 6 c.self.inside.limit c.self.inside.mark old new c.self.inside.parts c.store_word.new.parts c.self.inside.owned (sym c.if-not-powered.ensures) c.self.invariant.0 leaves e.steady,
       λ on. IsQuiet-counted old new c.self.inside.parts c.store_word.new.parts c.self.inside.limit c.self.inside.quiet (Framed.shape (Leaves.framed leaves)) (Leaves.worn leaves) e.counting on (c.self.invariant.1 (sym c.if-not-powered.ensures)),
     )
@@ -94,8 +93,7 @@ invariant_of-self-2 g c =
     let new = chart (g.B.Board.state c.store_word.new.board) in
     let k = 4 * old.shape.rows + 13 in
     let e = c.store_word.ensures in
-    let leaves = Leaves-wrote k 6 old new (32 * (c.args.a / 32) + c.args.a % 32) c.args.value (c.args.a / 32) c.store_word.result e.free e.owned in
-    (
+    let leaves = Leaves-wrote k 6 old new (32 * (c.args.a / 32) + c.args.a % 32) c.args.value (c.args.a / 32) c.store_word.result e.free e.owned in (
       IsMemory-left k 6 c.self.inside.limit c.self.inside.mark old new c.self.inside.parts c.store_word.new.parts c.self.inside.owned (sym c.if-not-powered.ensures) c.self.invariant.0 leaves e.steady,
       λ on. IsQuiet-counted old new c.self.inside.parts c.store_word.new.parts c.self.inside.limit c.self.inside.quiet (Framed.shape (Leaves.framed leaves)) (Leaves.worn leaves) e.counting on (c.self.invariant.1 (sym c.if-not-powered.ensures)),
     )
