@@ -20,7 +20,6 @@ pub mod Loading
 pub mod MirrorTask
 pub mod Obeys
 pub mod Outcome
-pub mod Planned
 pub mod Prepares
 pub mod Restarts
 pub mod Resumes

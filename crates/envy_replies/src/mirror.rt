@@ -1,8 +1,8 @@
 //! Traces over a mirrored pair of boards.
 
-use super::planned::{Plan, PlannedBoard};
-use super::rows::{Ends, Piece, Row, check_played, check_rows};
-use super::{Played, calm, play_planned};
+use crate::planned::{Plan, PlannedBoard};
+use crate::playing::{Played, calm, play_planned};
+use crate::rows::{Ends, Piece, Row, check_played, check_rows};
 use Piece::{Each, Says};
 use std::process::Abort;
 use std::test::Fail;

@@ -1,6 +1,6 @@
 //! Pages that go out to flash, cleaning, and wear: what is counted of them.
 
-use super::rows::{Ends, Piece, RUN, Row, check_rows};
+use crate::rows::{Ends, Piece, RUN, Row, check_rows};
 use Piece::{Each, Says};
 use std::test::Fail;
 

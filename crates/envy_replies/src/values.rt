@@ -1,12 +1,12 @@
 //! Options are handed on: each changes the counters, which a program that was written apart from this one made by the
 //! rules alone.
 
-use super::generated::{asking, written};
-use super::images::image;
-use super::index::operations;
-use super::rows::peek;
-use super::tpca::SUMS;
-use super::{calm, play};
+use crate::generated::{asking, written};
+use crate::images::image;
+use crate::index::operations;
+use crate::playing::{calm, play};
+use crate::rows::peek;
+use crate::tpca::SUMS;
 use envy_base::Board;
 use envy_map::words;
 use std::alloc::Global;

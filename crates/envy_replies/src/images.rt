@@ -1,8 +1,8 @@
 //! Images whose board or sink fails.
 
-use super::planned::Plan;
-use super::rows::{Ends, check_played};
-use super::{Given, calm, play, play_planned};
+use crate::planned::Plan;
+use crate::playing::{Given, calm, play, play_planned};
+use crate::rows::{Ends, check_played};
 use std::alloc::Global;
 use std::process::Abort;
 use std::test::Fail;

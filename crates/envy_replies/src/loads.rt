@@ -1,7 +1,7 @@
 //! Loads and stores, failures of power, and lines that are refused.
 
-use super::rows::{BOTH, Ends, Piece, RUN, Row, check_played, check_rows, peek};
-use super::{calm, play};
+use crate::playing::{calm, play};
+use crate::rows::{BOTH, Ends, Piece, RUN, Row, check_played, check_rows, peek};
 use Piece::Says;
 use std::test::Fail;
 

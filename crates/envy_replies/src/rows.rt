@@ -1,6 +1,6 @@
 //! Tables of traces with what is replied to them.
 
-use super::{Given, Played, calm, play};
+use crate::playing::{Given, Played, calm, play};
 use envy_base::Board;
 use envy_bench::MemBoard;
 use envy_map::words;

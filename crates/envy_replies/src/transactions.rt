@@ -1,6 +1,6 @@
 //! Transactions: what is held, what a commit keeps, and what a failure of power takes back.
 
-use super::rows::{BOTH, Ends, Piece, RUN, Row, check_rows};
+use crate::rows::{BOTH, Ends, Piece, RUN, Row, check_rows};
 use Piece::{Each, Says};
 use std::test::Fail;
 

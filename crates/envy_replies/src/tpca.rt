@@ -1,9 +1,9 @@
 //! Loads of transfers, and their reports. Sums and counters were made with an independent program, from the rules of
 //! the load, the policies and the order of device operations.
 
-use super::planned::Plan;
-use super::rows::{Ends, Piece, Row, check_played, check_rows, peek};
-use super::{Given, calm, play, play_planned};
+use crate::planned::Plan;
+use crate::playing::{Given, calm, play, play_planned};
+use crate::rows::{Ends, Piece, Row, check_played, check_rows, peek};
 use Piece::Says;
 use std::test::Fail;
 

@@ -1,7 +1,7 @@
 //! Generated traces, under each policy: the memory writes what the plain machine writes, and its counters are those of
 //! a program that was written apart from this one, by the rules alone.
 
-use super::images::image;
+use crate::images::image;
 use std::alloc::{AllocError, Global};
 use std::process::Abort;
 use std::test::Fail;

@@ -1,8 +1,8 @@
 //! What is seen of the board: how often it is read, and failures while it is formatted or restarted.
 
-use super::planned::Plan;
-use super::rows::{Ends, Piece, check_played, peek, written_out};
-use super::{calm, play, play_planned};
+use crate::planned::Plan;
+use crate::playing::{calm, play, play_planned};
+use crate::rows::{Ends, Piece, check_played, peek, written_out};
 use Piece::{Each, Says};
 use std::alloc::Global;
 use std::process::Abort;

@@ -1,7 +1,7 @@
 //! Sources that give few bytes at a time, streams that fail, and traces that stop anywhere.
 
-use super::rows::{BOTH, Ends, check_played, peek};
-use super::{Given, calm, play};
+use crate::playing::{Given, calm, play};
+use crate::rows::{BOTH, Ends, check_played, peek};
 use envy_base::Board;
 use envy_bench::MemBoard;
 use std::alloc::Global;

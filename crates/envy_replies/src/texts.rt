@@ -1,11 +1,11 @@
 //! Words that are refused, all texts of standard error, and traces that are generated.
 
-use super::rows::{Ends, Piece, Row, check_played, check_rows};
-use super::{Given, calm, play};
-use crate::ended::{Ended, end_text};
+use crate::playing::{Given, calm, play};
+use crate::rows::{Ends, Piece, Row, check_played, check_rows};
 use Piece::Says;
 use arrayvec::ArrayVec;
 use envy_bench::MemBoard;
+use envy_run::{Ended, end_text};
 use std::test::Fail;
 
 const REFUSED: &[Row] = &[

@@ -1,7 +1,7 @@
 //! Traces of an index.
 
-use super::rows::{Ends, Piece, Row, check_rows};
-use super::{calm, play};
+use crate::playing::{calm, play};
+use crate::rows::{Ends, Piece, Row, check_rows};
 use Piece::{Each, Says};
 use rand_core::{Rng, SeedableRng};
 use rand_pcg::Lcg64Xsh32;
