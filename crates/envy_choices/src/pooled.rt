@@ -1,8 +1,8 @@
 ghost use Rattle.std.specs.Prelude.{◌≡◌, ◌+◌, ◌-◌, ◌<◌, ◌≤◌, ℕ, IfOk};
 ghost use Rattle.envy_space.specs.Pool.{free_at, dead_at};
 
-use crate::choosing::choose_row;
 use envy_base::Shape;
+use envy_choosing::choose_row;
 use envy_policy::{Choice, Chooser, Policy, Setup};
 use envy_space::Space;
 use std::alloc::{AllocError, Global};

@@ -1,7 +1,7 @@
 ghost use Rattle.std.specs.Prelude.{◌≡◌, ◌<◌, ◌≤◌, IfOk};
 
-use crate::Space;
 use envy_base::Shape;
+use envy_space::Space;
 use std::alloc::Global;
 use std::test::Fail;
 

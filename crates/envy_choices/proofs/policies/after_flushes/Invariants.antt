@@ -1,5 +1,5 @@
 use Rattle.std.proofs.Common.{◌≡◌}
-use Rattle.envy_policy.proofs.tests.after_flushes.Given as goal
+use Rattle.envy_choices.proofs.policies.after_flushes.Given as goal
 
 abbrev pub invariant-loop-position : goal.invariant-loop-position
 invariant-loop-position l = l.chooser.positions ≡ 3

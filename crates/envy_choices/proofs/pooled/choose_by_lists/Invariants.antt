@@ -1,6 +1,6 @@
 use Rattle.std.proofs.Common.{◌≡◌, ℕ, ◌<◌, length, slice_index}
 use Rattle.envy_space.specs.Pool.{free_at, dead_at}
-use Rattle.envy_choosing.proofs.tests.choose_by_lists.Given as goal
+use Rattle.envy_choices.proofs.pooled.choose_by_lists.Given as goal
 
 abbrev pub invariant-loop-position : goal.invariant-loop-position
 invariant-loop-position l = record {

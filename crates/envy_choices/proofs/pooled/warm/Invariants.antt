@@ -1,5 +1,5 @@
 use Rattle.std.proofs.Common.{◌≡◌}
-use Rattle.envy_choosing.proofs.tests.warm.Given as goal
+use Rattle.envy_choices.proofs.pooled.warm.Given as goal
 
 abbrev pub invariant-loop-flush : goal.invariant-loop-flush
 invariant-loop-flush l = (l.chooser.positions ≡ l.initial.chooser.positions) × (l.chooser.pages ≡ l.initial.chooser.pages)

@@ -1,7 +1,7 @@
 use Rattle.std.proofs.Common.{◌≡◌, ◌∙◌, ℕ, ◌+◌, ◌<◌, List, [], ◌∷◌, ◌++◌, length, get_or, slice_index, ap, arith, below_more, length-append}
 use Rattle.std.proofs.lemmas.List.{get_or_append_left, get_or_push}
 use Rattle.envy_space.specs.Pool.{dead_at, dead_rows, free_at, free_rows}
-use Rattle.envy_choosing.proofs.tests.choose_by_lists.Goals as goal
+use Rattle.envy_choices.proofs.pooled.choose_by_lists.Goals as goal
 
 -- one number more
 more : (xs ys : List ℕ) (f : ℕ → ℕ) (i v : ℕ) → length xs ≡ i → ys ≡ xs ++ v ∷ [] → v ≡ f i → ((k : ℕ) → k < i → get_or xs k 0 ≡ f k) → (k : ℕ) → k < i + 1 → get_or ys k 0 ≡ f k

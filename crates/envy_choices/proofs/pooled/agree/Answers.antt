@@ -1,5 +1,5 @@
 use Rattle.std.proofs.Common.{arith}
-use Rattle.envy_choosing.proofs.tests.agree.Goals as goal
+use Rattle.envy_choices.proofs.pooled.agree.Goals as goal
 
 pub choose_by_lists-requires-clause-some : goal.choose_by_lists-requires-clause-some
 choose_by_lists-requires-clause-some c =
