@@ -1,7 +1,7 @@
 use Rattle.std.proofs.Common.{ℕ, Ok}
 use Rattle.envy_heap.specs.Vectors.{vec_sheet}
 use Rattle.envy_btree.proofs.Readiness.{ready-new}
-use Rattle.envy_btree.proofs.watched_tests.watched_index.Goals as goal
+use Rattle.envy_trees.proofs.watched.watched_index.Goals as goal
 
 pub returns : goal.returns
 returns c =

@@ -3,8 +3,8 @@ ghost use Rattle.std.specs.Prelude.{◌≡◌, ◌≤◌, ◌<◌, ◌^◌, IfOk
 ghost use Rattle.envy_heap.specs.Vectors.{vec_sheet};
 ghost use Rattle.envy_btree.specs.Testing.{IsReady};
 
-use crate::{TreeFault, get, insert, remove};
 use envy_base::{NoMemory, Off, Trouble, Words};
+use envy_btree::{TreeFault, get, insert, remove};
 use envy_heap::VecWords;
 use std::alloc::Global;
 use std::process::Abort;

@@ -1,5 +1,5 @@
-use crate::VecWords;
 use envy_base::Words;
+use envy_heap::VecWords;
 use std::process::Abort;
 use std::test::Fail;
 

@@ -2,12 +2,12 @@ ghost use Rattle.std.specs.Prelude.{◌≡◌, ◌≤◌, ◌<◌, ◌^◌, IfOk
 ghost use Rattle.envy_heap.specs.Vectors.{vec_sheet};
 ghost use Rattle.envy_btree.specs.Testing.{IsReady};
 
-use crate::{
+use arrayvec::ArrayVec;
+use envy_base::{NoMemory, Off, Words};
+use envy_btree::{
     IndexLine, IndexReply, TreeFault, count, get, index_text, insert, last, next, next_above,
     read_index_line, remove,
 };
-use arrayvec::ArrayVec;
-use envy_base::{NoMemory, Off, Words};
 use envy_heap::VecWords;
 use envy_trace::LineFault;
 use rand_core::{Rng, SeedableRng};
