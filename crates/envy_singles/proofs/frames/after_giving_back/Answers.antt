@@ -3,8 +3,8 @@ use Rattle.std.proofs.lemmas.List.Quantifiers.{Any-push}
 use Rattle.envy_frames.specs.declared.held.Held.{Held}
 use Rattle.envy_frames.specs.Order.{Order}
 use Rattle.envy_frames.proofs.Lists.{Any-left}
-use Rattle.envy_frames.proofs.tests.after_giving_back.Goals as goal
-use Rattle.envy_frames.proofs.tests.after_giving_back.Goals.{in-10, in-11, in_default-given}
+use Rattle.envy_singles.proofs.frames.after_giving_back.Goals as goal
+use Rattle.envy_singles.proofs.frames.after_giving_back.Goals.{in-10, in-11, in_default-given}
 
 -- each of the three is held
 pub home-requires : goal.home-requires

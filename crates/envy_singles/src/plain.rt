@@ -1,5 +1,5 @@
-use crate::{Plain, Refusal};
 use envy_base::Shape;
+use envy_plain::{Plain, Refusal};
 use std::process::Abort;
 use std::test::Fail;
 

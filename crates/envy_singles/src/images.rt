@@ -4,9 +4,9 @@ ghost use Rattle.std.specs.Prelude.{◌≡◌, IfOk};
 ghost use Rattle.envy_bench.specs.Board.{board_state};
 ghost use Rattle.envy_bench.specs.Parts.{new_state};
 
-use crate::{Audit, HeadFault, InFault, Rule, Verdict, install, read_head, write_image};
 use envy_base::{Board, Shape};
 use envy_bench::MemBoard;
+use envy_image::{Audit, HeadFault, InFault, Rule, Verdict, install, read_head, write_image};
 use envy_io::{Lines, MemSink, MemSource};
 use envy_layout::format_board;
 use std::alloc::{AllocError, Global};
@@ -139,12 +139,12 @@ const BROKEN: [(Rule, &[(usize, u64)]); 11] = [
 #[test]
 fn each_point_is_found_broken(rt: HostRuntime) -> Result<(), Fail> {
     let whole = image(&rt)?;
-    for (rule, words) in BROKEN {
+    for (rule, words) in BROKEN.as_slice() {
         let mut bytes = whole.to_vec(rt.alloc())?;
-        for (w, word) in words {
+        for (w, word) in *words {
             set_word(&rt, &mut bytes, *w, *word);
         }
-        assert_eq!(&rt; judge(&rt, bytes)?, Found::Judged(Verdict::Broken(rule)));
+        assert_eq!(&rt; judge(&rt, bytes)?, Found::Judged(Verdict::Broken(*rule)));
     }
     // a row that wasn't claimed isn't all ones
     let mut bytes = whole.to_vec(rt.alloc())?;

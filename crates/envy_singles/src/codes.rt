@@ -1,5 +1,5 @@
-use crate::{MAGIC, decode_job, decode_place, decode_slot, decode_undo, words};
 use envy_base::{Job, Place, Shape, Slot, Undo};
+use envy_map::{MAGIC, decode_job, decode_place, decode_slot, decode_undo, words};
 
 #[test]
 fn the_map_of_a_small_board_has_559_words(rt: HostRuntime) {

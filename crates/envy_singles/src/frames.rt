@@ -1,4 +1,4 @@
-use crate::Frames;
+use envy_frames::Frames;
 use std::alloc::Global;
 use std::test::Fail;
 
@@ -53,10 +53,13 @@ fn after_giving_back(alloc: Global, given: u32) -> Result<Vec<u32>, Fail> {
     drained(alloc, &mut frames)
 }
 
+/// The page that is given back, and those that are held then, the oldest first.
+const LEFT: [(u32, [u32; 3]); 3] = [(10, [11, 12, 13]), (11, [10, 12, 13]), (12, [10, 11, 13])];
+
 #[test]
 fn the_others_keep_their_order(rt: HostRuntime) -> Result<(), Fail> {
-    for (given, left) in [(10, [11, 12, 13]), (11, [10, 12, 13]), (12, [10, 11, 13])] {
-        let pages = after_giving_back(rt.alloc(), given)?;
+    for (given, left) in LEFT.as_slice() {
+        let pages = after_giving_back(rt.alloc(), *given)?;
         assert_eq!(rt;
             pages.as_slice(),
             left.as_slice(),
