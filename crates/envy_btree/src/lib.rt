@@ -21,11 +21,7 @@ mod reply;
 mod saving;
 mod scanning;
 mod shrinking;
-#[cfg(test)]
-mod tests;
 mod uprooting;
-#[cfg(test)]
-mod watched_tests;
 
 pub use fault::TreeFault;
 pub use getting::get;

@@ -6,8 +6,6 @@
 
 mod choosing;
 mod pooled;
-#[cfg(test)]
-mod tests;
 
 pub use choosing::{choose_row, free_beside};
 pub use pooled::beside_job;

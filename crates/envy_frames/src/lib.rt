@@ -12,8 +12,6 @@ mod home;
 mod laws;
 mod ring;
 mod table;
-#[cfg(test)]
-mod tests;
 
 pub use frames::Frames;
 pub use held::Held;

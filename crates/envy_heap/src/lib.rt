@@ -8,8 +8,6 @@
 
 mod laws;
 mod pieces;
-#[cfg(test)]
-mod tests;
 mod vec_words;
 
 pub use laws::{

@@ -11,6 +11,3 @@ pub use installing::{InFault, install};
 pub use laws::bytes_begin_with_one_image;
 pub use reading::{HeadFault, read_head};
 pub use writing::{OutFault, write_image};
-
-#[cfg(test)]
-mod tests;

@@ -26,6 +26,3 @@ pub use region::words;
 pub use row::{back, origin, set_back, set_origin};
 pub use segment::{fill, segment_at, set_fill, set_segment_at, set_wear, wear};
 pub use slots::{set_slot, slot};
-
-#[cfg(test)]
-mod tests;

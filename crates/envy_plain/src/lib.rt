@@ -6,8 +6,6 @@
 mod plain;
 mod refusal;
 mod saved_word;
-#[cfg(test)]
-mod tests;
 
 pub use plain::Plain;
 pub use refusal::Refusal;

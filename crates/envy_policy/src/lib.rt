@@ -11,13 +11,9 @@ mod heats;
 mod laws;
 mod lifetime;
 mod lifetime_laws;
-#[cfg(test)]
-mod lifetime_tests;
 mod lives;
 mod rows;
 mod setup;
-#[cfg(test)]
-mod tests;
 
 pub use choice::Choice;
 pub use chooser::Chooser;

@@ -124,16 +124,20 @@ fn shadow_of<B: Board>(rt: &impl Abort, board: &B, page: u32) -> Result<Option<u
     }
 }
 
+/// Puts a page back to its shadow, where it has one.
+fn put_back<B: Board>(rt: &impl Abort, board: &mut B, page: u32, shadow: Option<u32>) {
+    if let Some(row) = shadow {
+        make_all(rt, board, &[Write::InRow(page, row), Write::Clear(page)]);
+    }
+}
+
 /// Puts pages 2 and 4, which slot 0 owns, back to their shadows.
 pub(crate) fn undo_all<B: Board>(rt: &impl Abort, board: &mut B) -> Result<(), Off>
     requires { IsSound (chart (B.state board.old)) }
 {
     let (second, fourth) = (shadow_of(rt, board, 2)?, shadow_of(rt, board, 4)?);
-    for (page, shadow) in [(2, second), (4, fourth)] {
-        if let Some(row) = shadow {
-            make_all(rt, board, &[Write::InRow(page, row), Write::Clear(page)]);
-        }
-    }
+    put_back(rt, board, 2, second);
+    put_back(rt, board, 4, fourth);
     make_all(rt, board, &[Write::Slot(Slot::Vacant)]);
     Ok(())
 }

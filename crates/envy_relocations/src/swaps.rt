@@ -80,15 +80,18 @@ fn a_swap_is_due_above_the_limit(rt: HostRuntime) -> Result<(), Fail> {
     Ok(())
 }
 
+/// How often the segments were worn more, and the most and the least worn position then.
+const LOWEST: [([u32; 3], Swap); 4] = [
+    ([3, 0, 3], Swap { worn: 0, young: 1 }),
+    ([0, 3, 3], Swap { worn: 1, young: 0 }),
+    ([0, 0, 3], Swap { worn: 2, young: 0 }),
+    ([3, 0, 0], Swap { worn: 0, young: 1 }),
+];
+
 #[test]
 fn the_lowest_of_several_positions_is_swapped(rt: HostRuntime) -> Result<(), Fail> {
-    for (more, worn, young) in [
-        ([3, 0, 3], 0, 1),
-        ([0, 3, 3], 1, 0),
-        ([0, 0, 3], 2, 0),
-        ([3, 0, 0], 0, 1),
-    ] {
-        assert_eq!(rt; due_after(&rt, more, 1, 9)?, Some(Swap { worn, young }));
+    for (more, swap) in LOWEST.as_slice() {
+        assert_eq!(rt; due_after(&rt, *more, 1, 9)?, Some(*swap));
     }
     Ok(())
 }

@@ -21,7 +21,6 @@ pub mod Meaning
 pub mod MirrorTask
 pub mod Obeys
 pub mod Outcome
-pub mod Planned
 pub mod Prepares
 pub mod Restarts
 pub mod Resumes

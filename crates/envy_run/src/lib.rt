@@ -24,8 +24,6 @@ mod restart;
 mod resume_run;
 mod running;
 mod save_run;
-#[cfg(test)]
-mod tests;
 mod tpca_run;
 mod tracing;
 

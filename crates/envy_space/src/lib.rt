@@ -15,8 +15,6 @@ mod order;
 mod rebuild;
 mod rising;
 mod space;
-#[cfg(test)]
-mod tests;
 mod winners;
 
 pub use following::notes_follow_a_row;

@@ -46,10 +46,48 @@ fn memory_of(
     )
 }
 
+/// What is asked of a memory.
+#[derive(Clone, Copy, Debug)]
+enum Call {
+    Load(u32),
+    Look(u32),
+    Store(u32),
+    /// Begins a transaction in a slot, puts a word into it, commits and aborts it.
+    Begin(u8),
+    Put(u8, u32),
+    Commit(u8),
+    Abort(u8),
+    Tick(Did),
+}
+
+/// Whether a call isn't refused, and does what it names.
+fn is_done(memory: &mut Memory<CountingBoard>, call: Call) -> bool {
+    match call {
+        Call::Load(a) => memory.load(a).is_ok(),
+        Call::Look(a) => memory.look(a).is_ok(),
+        Call::Store(a) => memory.store(a, 1).is_ok(),
+        Call::Begin(t) => memory.begin() == Ok(t),
+        Call::Put(t, a) => memory.put(t, a, 2).is_ok(),
+        Call::Commit(t) => memory.commit(t).is_ok(),
+        Call::Abort(t) => memory.abort(t).is_ok(),
+        Call::Tick(did) => memory.tick() == Ok(did),
+    }
+}
+
+/// Makes a call, which is done.
+fn make(rt: &impl Abort, memory: &mut Memory<CountingBoard>, call: Call) {
+    assert!(rt; is_done(memory, call), "{call:?}");
+}
+
+/// How often the board was read since it was last asked.
+fn reads_since(memory: &Memory<CountingBoard>) -> u64 {
+    memory.board().take_reads()
+}
+
 /// A page is stored, and goes to the next free row.
 fn flush(rt: &impl Abort, memory: &mut Memory<CountingBoard>, page: u16) {
-    assert_eq!(rt; memory.store(32 * page as u32, 1), Ok(()));
-    assert_eq!(rt; memory.tick(), Ok(Did::Flushed));
+    make(rt, memory, Call::Store(32 * page as u32));
+    make(rt, memory, Call::Tick(Did::Flushed));
 }
 
 /// Lets the cleaning of position 0 begin, all of whose rows but the first are kept. No row is free at the others.
@@ -62,9 +100,12 @@ fn begin_cleaning(rt: &impl Abort, memory: &mut Memory<CountingBoard>, rows: u16
     for _row in 0..32 * rows as u32 {
         flush(rt, memory, 63);
     }
-    assert_eq!(rt; memory.store(32 * 63, 1), Ok(()));
-    assert_eq!(rt; memory.tick(), Ok(Did::Began));
+    make(rt, memory, Call::Store(32 * 63));
+    make(rt, memory, Call::Tick(Did::Began));
 }
+
+/// The steps of a cleaning behind its copies.
+const LAST_STEPS: [Did; 3] = [Did::Switched, Did::Placed, Did::Erased];
 
 /// How often all steps of the cleaning of a segment read the board, where so many rows but one are kept.
 fn cleaning_reads(
@@ -74,14 +115,14 @@ fn cleaning_reads(
 ) -> Result<u64, Fail> {
     let mut memory = memory_of(rt, rows as u32, pages, 1)?;
     begin_cleaning(rt, &mut memory, rows);
-    let _before = memory.board().take_reads();
+    let _before = reads_since(&memory);
     for _row in 1..rows {
-        assert_eq!(rt; memory.tick(), Ok(Did::Copied));
+        make(rt, &mut memory, Call::Tick(Did::Copied));
     }
-    for did in [Did::Switched, Did::Placed, Did::Erased] {
-        assert_eq!(rt; memory.tick(), Ok(did));
+    for did in LAST_STEPS.as_slice() {
+        make(rt, &mut memory, Call::Tick(*did));
     }
-    Ok(memory.board().take_reads())
+    Ok(reads_since(&memory))
 }
 
 // A row that is kept makes one step, which looks at the job three times (3), asks who keeps the row (4 at most: the
@@ -103,75 +144,74 @@ fn a_cleaning_looks_at_each_row_a_few_times(rt: HostRuntime) -> Result<(), Fail>
     Ok(())
 }
 
-/// What is asked of a memory.
-#[derive(Clone, Copy, Debug)]
-enum Call {
-    Load(u32),
-    Look(u32),
-    Store(u32),
-    Begin,
-    Put(u32),
-    Commit,
-    Abort,
-    Tick(Did),
-}
+/// Stands in a list of calls for the first word of the last page.
+const LAST: u32 = 0x10_0000;
 
-/// Whether a call, within slot 0 where it needs one, isn't refused.
-fn is_done(memory: &mut Memory<CountingBoard>, call: Call) -> bool {
-    match call {
-        Call::Load(a) => memory.load(a).is_ok(),
-        Call::Look(a) => memory.look(a).is_ok(),
-        Call::Store(a) => memory.store(a, 1).is_ok(),
-        Call::Begin => memory.begin() == Ok(0),
-        Call::Put(a) => memory.put(0, a, 2).is_ok(),
-        Call::Commit => memory.commit(0).is_ok(),
-        Call::Abort => memory.abort(0).is_ok(),
-        Call::Tick(did) => memory.tick() == Ok(did),
+/// Calls to a memory. No call cleans.
+const CALLS: [Call; 28] = [
+    Call::Tick(Did::Idle),
+    // an absent page comes to a frame, and is hit there
+    Call::Load(LAST),
+    Call::Look(LAST),
+    Call::Store(LAST),
+    Call::Store(LAST + 1),
+    Call::Load(LAST),
+    // the frames are full, so the first page is flushed, and then the next one is
+    Call::Store(0),
+    Call::Store(32),
+    Call::Store(64),
+    Call::Store(96),
+    Call::Load(LAST),
+    Call::Look(LAST),
+    Call::Tick(Did::Flushed),
+    // pages in a frame, in a row and absent get an owner; page 1 is flushed for the last of them
+    Call::Begin(0),
+    Call::Put(0, 64),
+    Call::Put(0, 65),
+    Call::Put(0, LAST),
+    Call::Put(0, 128),
+    Call::Look(64),
+    Call::Look(LAST),
+    Call::Look(128),
+    Call::Commit(0),
+    // pages in a frame and absent are put back
+    Call::Begin(0),
+    Call::Put(0, 64),
+    Call::Put(0, LAST),
+    Call::Put(0, 160),
+    Call::Abort(0),
+    Call::Tick(Did::Idle),
+];
+
+/// An address of the list, in a memory whose last page begins at this one.
+fn address(a: u32, last: u32) -> u32 {
+    if a < LAST {
+        a
+    } else {
+        (a - LAST).wrapping_add(last)
     }
 }
 
-/// How often each call of a list reads the board of a memory with this last page. No call cleans.
+/// A call of the list, to such a memory.
+fn placed(call: Call, last: u32) -> Call {
+    match call {
+        Call::Load(a) => Call::Load(address(a, last)),
+        Call::Look(a) => Call::Look(address(a, last)),
+        Call::Store(a) => Call::Store(address(a, last)),
+        Call::Put(t, a) => Call::Put(t, address(a, last)),
+        _ => call,
+    }
+}
+
+/// How often each call of the list reads the board of a memory with this last page.
 fn reads_by_call(rt: &(impl Abort + Alloc<A = Global>), last: u16) -> Result<Vec<u64>, Fail> {
     let mut memory = memory_of(rt, 32, last as u32 + 1, 4)?;
     let last = 32 * last as u32;
     let mut reads = Vec::new(rt.alloc());
-    let _before = memory.board().take_reads();
-    for call in [
-        Call::Tick(Did::Idle),
-        // an absent page comes to a frame, and is hit there
-        Call::Load(last),
-        Call::Look(last),
-        Call::Store(last),
-        Call::Store(last + 1),
-        Call::Load(last),
-        // the frames are full, so the first page is flushed, and then the next one is
-        Call::Store(0),
-        Call::Store(32),
-        Call::Store(64),
-        Call::Store(96),
-        Call::Load(last),
-        Call::Look(last),
-        Call::Tick(Did::Flushed),
-        // pages in a frame, in a row and absent get an owner; page 1 is flushed for the last of them
-        Call::Begin,
-        Call::Put(64),
-        Call::Put(65),
-        Call::Put(last),
-        Call::Put(128),
-        Call::Look(64),
-        Call::Look(last),
-        Call::Look(128),
-        Call::Commit,
-        // pages in a frame and absent are put back
-        Call::Begin,
-        Call::Put(64),
-        Call::Put(last),
-        Call::Put(160),
-        Call::Abort,
-        Call::Tick(Did::Idle),
-    ] {
-        assert!(rt; is_done(&mut memory, call), "{call:?}");
-        reads.push(memory.board().take_reads())?;
+    let _before = reads_since(&memory);
+    for call in CALLS.as_slice() {
+        make(rt, &mut memory, placed(*call, last));
+        reads.push(reads_since(&memory))?;
     }
     Ok(reads)
 }
@@ -187,26 +227,31 @@ fn calls_read_as_much_of_many_pages(rt: HostRuntime) -> Result<(), Fail> {
     Ok(())
 }
 
+/// Opens a slot, which then owns 25 pages.
+fn open(rt: &impl Abort, memory: &mut Memory<CountingBoard>, slot: u8) {
+    make(rt, memory, Call::Begin(slot));
+    let first = 4 + 25 * slot as u32;
+    for page in first..first + 25 {
+        make(rt, memory, Call::Put(slot, page.wrapping_mul(32)));
+    }
+}
+
 /// How often a store into a page in a frame reads the board: where the cache holds the page, and where it doesn't. So
 /// many slots are open, each of which owns 25 pages.
 fn store_reads(rt: &(impl Abort + Alloc<A = Global>), slots: u8) -> Result<(u64, u64), Fail> {
     let mut memory = memory_of(rt, 32, 512, 4)?;
     for slot in 0..slots {
-        assert_eq!(rt; memory.begin(), Ok(slot));
-        for i in 0..25 {
-            let page = 4 + 25 * slot as u32 + i;
-            assert_eq!(rt; memory.put(slot, 32 * page, 2), Ok(()));
-        }
+        open(rt, &mut memory, slot);
     }
-    assert_eq!(rt; memory.store(0, 1), Ok(()));
-    let _before = memory.board().take_reads();
-    assert_eq!(rt; memory.store(1, 1), Ok(()));
-    let held = memory.board().take_reads();
+    make(rt, &mut memory, Call::Store(0));
+    let _before = reads_since(&memory);
+    make(rt, &mut memory, Call::Store(1));
+    let held = reads_since(&memory);
     // page 4 uses the same entry
-    assert!(rt; memory.load(128).is_ok());
-    let _before = memory.board().take_reads();
-    assert_eq!(rt; memory.store(2, 1), Ok(()));
-    Ok((held, memory.board().take_reads()))
+    make(rt, &mut memory, Call::Load(128));
+    let _before = reads_since(&memory);
+    make(rt, &mut memory, Call::Store(2));
+    Ok((held, reads_since(&memory)))
 }
 
 // A store of one word into a frame needs to know but the page's place, which is one word, and whether the page has an

@@ -38,8 +38,8 @@ fn check_refused(
     bytes: &[u8],
     end: End,
 ) -> Result<(), Fail> {
-    for word in WORDS {
-        check_end(rt, &[word], &calm(bytes), end, b"")?;
+    for word in WORDS.as_slice() {
+        check_end(rt, &[*word], &calm(bytes), end, b"")?;
     }
     Ok(())
 }
@@ -98,26 +98,28 @@ fn an_image_may_stop_at_any_byte(rt: HostRuntime) -> Result<(), Fail> {
     Ok(())
 }
 
+/// A byte of a number of the shape, and what it becomes.
+const MISSHAPEN: [(usize, u8); 13] = [
+    (8, 3),
+    (9, 17),
+    (12, 1),
+    (14, 2),
+    (16, 0),
+    (16, 4),
+    (20, 2),
+    (23, 255),
+    (24, 1),
+    (26, 2),
+    (28, 0),
+    (30, 2),
+    (11, 255),
+];
+
 #[test]
 fn a_shape_is_checked(rt: HostRuntime) -> Result<(), Fail> {
     let image = written(&rt, &SMALLEST, b"")?;
-    // a byte of a number of the shape, and what it becomes
-    for (at, byte) in [
-        (8, 3),
-        (9, 17),
-        (12, 1),
-        (14, 2),
-        (16, 0),
-        (16, 4),
-        (20, 2),
-        (23, 255),
-        (24, 1),
-        (26, 2),
-        (28, 0),
-        (30, 2),
-        (11, 255),
-    ] {
-        let misshapen = with_byte(rt.alloc(), &image, at, byte)?;
+    for (at, byte) in MISSHAPEN.as_slice() {
+        let misshapen = with_byte(rt.alloc(), &image, *at, *byte)?;
         check_refused(&rt, &misshapen, refused(10, 3, 32, false))?;
     }
     for at in 0..8 {
@@ -127,26 +129,27 @@ fn a_shape_is_checked(rt: HostRuntime) -> Result<(), Fail> {
     Ok(())
 }
 
+/// Words that don't fit the smallest board.
+const UNFIT: [[&str; 3]; 5] = [
+    ["resume", "--policy=hybrid", "--part=4"],
+    ["resume", "--policy=hybrid", "--part=0"],
+    ["resume", "--policy=fifo", "--limit=0"],
+    ["resume", "--policy=greedy", "--mark=0"],
+    ["resume", "--policy=greedy", "--mark=3"],
+];
+
+/// For so many bytes of an image: why it is refused under such words.
+const FRONTS: [(usize, u8); 4] = [(31, 1), (32, 4), (SIZE - 1, 4), (SIZE, 4)];
+
 #[test]
 fn the_rules_of_the_words_come_before_the_rest(rt: HostRuntime) -> Result<(), Fail> {
     let image = written(&rt, &SMALLEST, b"")?;
-    for words in [
-        ["resume", "--policy=hybrid", "--part=4"],
-        ["resume", "--policy=hybrid", "--part=0"],
-        ["resume", "--policy=fifo", "--limit=0"],
-        ["resume", "--policy=greedy", "--mark=0"],
-        ["resume", "--policy=greedy", "--mark=3"],
-    ] {
-        for (n, why) in [(31, 1), (32, 4), (SIZE - 1, 4), (SIZE, 4)] {
-            if let Some(front) = image.get(..n) {
-                let taken = n.min(32) as u64;
-                check_end(
-                    &rt,
-                    &words,
-                    &calm(front),
-                    refused(10, why, taken, false),
-                    b"",
-                )?;
+    for words in UNFIT.as_slice() {
+        for (n, why) in FRONTS.as_slice() {
+            if let Some(front) = image.get(..*n) {
+                let taken = (*n).min(32) as u64;
+                let end = refused(10, *why, taken, false);
+                check_end(&rt, words.as_slice(), &calm(front), end, b"")?;
             }
         }
     }
@@ -162,8 +165,8 @@ fn a_source_may_fail_within_an_image(rt: HostRuntime) -> Result<(), Fail> {
             source_fails: call,
             ..calm(&image)
         };
-        for word in WORDS {
-            let end = told(rt.alloc(), &[word], &fails)?.end;
+        for word in WORDS.as_slice() {
+            let end = told(rt.alloc(), &[*word], &fails)?.end;
             assert!(&rt; end == refused(3, 0, end.taken, call > 2));
             assert!(&rt; end.taken < SIZE as u64);
         }

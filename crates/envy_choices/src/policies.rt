@@ -1,0 +1,243 @@
+ghost use Rattle.std.specs.Prelude.{◌≡◌, IfOk};
+
+use envy_base::Shape;
+use envy_policy::{Choice, Chooser, Policy, Setup};
+use std::alloc::Global;
+use std::test::Fail;
+
+/// A setup of 8 segments of 16 rows.
+fn setup(policy: Policy) -> Setup {
+    let shape = Shape {
+        segments: 8,
+        rows: 16,
+        pages: 64,
+        shadows: 16,
+        frames: 8,
+        entries: 4,
+    };
+    Setup {
+        shape,
+        policy,
+        limit: 100,
+        mark: 8,
+    }
+}
+
+/// What a chooser is told behind its flushes.
+#[derive(Clone, Copy, Debug)]
+enum Then {
+    Nothing,
+    /// A cleaning of this position.
+    Cleans(u32),
+    Resets,
+}
+
+/// A choice among three positions.
+#[derive(Clone, Copy, Debug)]
+struct Case {
+    name: &'static str,
+    policy: Policy,
+    /// How many flushes went to each.
+    flushes: [u8; 3],
+    then: Then,
+    /// How many rows of each are free, and dead.
+    free: [u32; 3],
+    dead: [u32; 3],
+    home: u32,
+    choice: Choice,
+}
+
+const CASES: [Case; 8] = [
+    Case {
+        name: "greedy cleans the most dead",
+        policy: Policy::Greedy,
+        flushes: [0, 0, 0],
+        then: Then::Nothing,
+        free: [0, 0, 0],
+        dead: [1, 4, 2],
+        home: 0,
+        choice: Choice::Clean {
+            position: 1,
+            aside: None,
+        },
+    },
+    Case {
+        name: "first in, first out begins at the first position",
+        policy: Policy::Fifo,
+        flushes: [0, 0, 0],
+        then: Then::Nothing,
+        free: [0, 0, 0],
+        dead: [1, 4, 2],
+        home: 0,
+        choice: Choice::Clean {
+            position: 0,
+            aside: None,
+        },
+    },
+    Case {
+        name: "first in, first out goes on behind its turn",
+        policy: Policy::Fifo,
+        flushes: [0, 0, 0],
+        then: Then::Cleans(0),
+        free: [0, 0, 0],
+        dead: [1, 0, 2],
+        home: 0,
+        choice: Choice::Clean {
+            position: 2,
+            aside: None,
+        },
+    },
+    Case {
+        name: "the lower of two near partitions has the page",
+        policy: Policy::Locality,
+        flushes: [0, 0, 0],
+        then: Then::Nothing,
+        free: [2, 0, 0],
+        dead: [0, 0, 3],
+        home: 1,
+        choice: Choice::Free { position: 0 },
+    },
+    Case {
+        name: "a hot partition sets rows aside",
+        policy: Policy::Locality,
+        flushes: [1, 9, 2],
+        then: Then::Nothing,
+        free: [2, 0, 1],
+        dead: [0, 1, 0],
+        home: 1,
+        choice: Choice::Clean {
+            position: 1,
+            aside: Some(0),
+        },
+    },
+    Case {
+        name: "a partition of mean heat sets none aside",
+        policy: Policy::Locality,
+        flushes: [4, 4, 4],
+        then: Then::Nothing,
+        free: [2, 0, 1],
+        dead: [0, 1, 0],
+        home: 1,
+        choice: Choice::Clean {
+            position: 1,
+            aside: None,
+        },
+    },
+    Case {
+        name: "hybrid looks at partitions of two",
+        policy: Policy::Hybrid(2),
+        flushes: [2, 3, 1],
+        then: Then::Nothing,
+        free: [0, 0, 1],
+        dead: [0, 3, 0],
+        home: 0,
+        choice: Choice::Clean {
+            position: 1,
+            aside: Some(1),
+        },
+    },
+    Case {
+        name: "a reset chooser is as at its start",
+        policy: Policy::Locality,
+        flushes: [1, 9, 2],
+        then: Then::Resets,
+        free: [2, 0, 1],
+        dead: [0, 1, 0],
+        home: 1,
+        choice: Choice::Clean {
+            position: 1,
+            aside: None,
+        },
+    },
+];
+
+/// A chooser over three positions, after so many flushes to each.
+fn after_flushes(alloc: Global, policy: Policy, flushes: [u8; 3]) -> Result<Chooser, Fail>
+    ensures { IfOk result (λ chooser. chooser.positions ≡ 3) }
+{
+    let mut setup = setup(policy);
+    setup.shape.segments = 4;
+    setup.shape.pages = 16;
+    setup.check().map_err(|_| "the setup doesn't check")?;
+    let mut chooser = Chooser::new(alloc, &setup)?;
+    for position in 0..3 {
+        for _flush in 0..flushes[position] {
+            chooser.note_flush(position as u32);
+        }
+    }
+    Ok(chooser)
+}
+
+fn tell(chooser: &mut Chooser, then: Then)
+    requires { chooser.old.positions ≡ 3 }
+    ensures { chooser.new.positions ≡ 3 }
+{
+    match then {
+        Then::Cleans(position) if position < 3 => chooser.note_clean(position),
+        Then::Resets => chooser.reset(),
+        _ => {}
+    }
+}
+
+/// The choice; none where no row is free or dead, or there is no such home.
+fn chosen(chooser: &Chooser, case: &Case) -> Option<Choice>
+    requires { chooser.now.positions ≡ 3 }
+{
+    for position in 0..3 {
+        let has_rows = case.free[position] > 0 || case.dead[position] > 0;
+        if has_rows && case.home < 3 {
+            return Some(chooser.choose(&case.free, &case.dead, case.home));
+        }
+    }
+    None
+}
+
+#[test]
+fn choices_are_made(rt: HostRuntime) -> Result<(), Fail> {
+    for case in CASES.as_slice() {
+        let mut chooser = after_flushes(rt.alloc(), case.policy, case.flushes)?;
+        tell(&mut chooser, case.then);
+        assert_eq!(rt; chosen(&chooser, case), Some(case.choice), "{}", case.name);
+    }
+    Ok(())
+}
+
+#[test]
+fn the_usual_setup_makes_a_chooser(rt: HostRuntime) -> Result<(), Fail> {
+    let setup = setup(Policy::Greedy);
+    setup.check().map_err(|_| "the setup doesn't check")?;
+    assert!(rt; Chooser::new(rt.alloc(), &setup).is_ok());
+    Ok(())
+}
+
+/// The number of the first rule that fails.
+fn first_fault(setup: Setup) -> Option<u8> {
+    setup.check().err().map(|fault| fault.rule())
+}
+
+#[test]
+fn rules_are_asked_in_order(rt: HostRuntime) {
+    let mut setup = setup(Policy::Greedy);
+    assert_eq!(rt; first_fault(setup), None);
+    setup.mark = 9;
+    assert_eq!(rt; first_fault(setup), Some(10));
+    setup.limit = 0;
+    assert_eq!(rt; first_fault(setup), Some(9));
+    setup.policy = Policy::Hybrid(8);
+    assert_eq!(rt; first_fault(setup), Some(8));
+    setup.shape.segments = 17;
+    setup.shape.rows = 65536;
+    assert_eq!(rt; first_fault(setup), Some(7));
+    setup.shape.shadows = 4294967295;
+    assert_eq!(rt; first_fault(setup), Some(6));
+    setup.shape.entries = 0;
+    assert_eq!(rt; first_fault(setup), Some(5));
+    setup.shape.frames = 1;
+    assert_eq!(rt; first_fault(setup), Some(4));
+    setup.shape.pages = 0;
+    assert_eq!(rt; first_fault(setup), Some(3));
+    setup.shape.rows = 1;
+    assert_eq!(rt; first_fault(setup), Some(2));
+    setup.shape.segments = 3;
+    assert_eq!(rt; first_fault(setup), Some(1));
+}

@@ -1,0 +1,109 @@
+ghost use Rattle.std.specs.Prelude.{◌≡◌, ◌<◌, ◌≤◌, IfOk};
+
+use envy_base::Shape;
+use envy_space::Space;
+use std::alloc::Global;
+use std::test::Fail;
+
+/// A shape of 10 segments, of which 9 stand at positions, of 4 rows each.
+const SHAPE: Shape = Shape {
+    segments: 10,
+    rows: 4,
+    pages: 16,
+    shadows: 4,
+    frames: 8,
+    entries: 4,
+};
+
+fn made(alloc: Global) -> Result<Space, Fail>
+    ensures { IfOk result (λ space. space.shape ≡ SHAPE) }
+{
+    SHAPE.check().map_err(|_| "the shape doesn't check")?;
+    Ok(Space::new(alloc, &SHAPE)?)
+}
+
+/// A linear congruential generator.
+#[derive(Drop)]
+struct Draws(u64);
+
+impl Draws {
+    /// A number below `end`.
+    fn below(&mut self, end: u32) -> u32
+        requires { 0 < end }
+        ensures { result < end }
+    {
+        self.0 = self
+            .0
+            .wrapping_mul(6364136223846793005)
+            .wrapping_add(1442695040888963407);
+        (self.0 >> 33) as u32 % end
+    }
+}
+
+/// One drawn change of a segment, or of the segment at a position.
+fn change(space: &mut Space, draws: &mut Draws)
+    requires { space.old.shape ≡ SHAPE }
+    ensures { space.new.shape ≡ SHAPE }
+{
+    let segment = draws.below(10);
+    let (fill, kept) = (space.fill(segment), space.kept(segment));
+    match draws.below(8) {
+        0 => space.stand(draws.below(9), segment),
+        1 if kept == 0 => space.note_erased(segment),
+        2 | 3 if kept < fill => space.note_kept(segment * 4),
+        4 | 5 if kept > 0 => space.note_dead(segment * 4 + 3),
+        _ if fill < 4 => space.set_fill(segment, fill + 1),
+        _ => {}
+    }
+}
+
+/// What `most_dead` answers, by looking at each position.
+fn scanned(space: &Space, first: u32, last: u32) -> Option<u32>
+    requires order { first ≤ last }
+    requires last { last < 9 }
+    requires shape { space.now.shape ≡ SHAPE }
+{
+    let mut found = None;
+    let mut most = 0;
+    for position in first..last + 1 {
+        let dead = space.dead(space.segment_at(position));
+        if dead > most {
+            most = dead;
+            found = Some(position);
+        }
+    }
+    found
+}
+
+#[test]
+fn a_new_pool_is_empty(rt: HostRuntime) -> Result<(), Fail> {
+    let space = made(rt.alloc())?;
+    assert_eq!(rt; space.fill(9), 0);
+    assert_eq!(rt; space.kept(9), 0);
+    assert_eq!(rt; space.free(9), 4);
+    assert_eq!(rt; space.dead(9), 0);
+    assert_eq!(rt; space.free_in(0, 8), 36);
+    assert_eq!(rt; space.segment_at(8), 8);
+    assert_eq!(rt; space.spare(), 9);
+    assert_eq!(rt; space.most_dead(0, 8), None);
+    Ok(())
+}
+
+#[test]
+fn most_dead_is_that_of_a_scan(rt: HostRuntime) -> Result<(), Fail> {
+    let mut space = made(rt.alloc())?;
+    let mut draws = Draws(1);
+    for turn in 0..500 {
+        change(&mut space, &mut draws);
+        for first in 0..9 {
+            for last in first..9 {
+                assert_eq!(rt;
+                    space.most_dead(first, last),
+                    scanned(&space, first, last),
+                    "from {first} to {last} in turn {turn}"
+                );
+            }
+        }
+    }
+    Ok(())
+}

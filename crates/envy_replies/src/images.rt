@@ -1,0 +1,180 @@
+//! Images whose board or sink fails.
+
+use crate::planned::Plan;
+use crate::playing::{Given, calm, play, play_planned};
+use crate::rows::{Ends, check_played};
+use std::alloc::Global;
+use std::process::Abort;
+use std::test::Fail;
+
+/// The image of a board after this trace, and lines behind it.
+pub(crate) fn image(
+    rt: &(impl Abort + Alloc<A = Global>),
+    command: &str,
+    trace: &[u8],
+    behind: &[u8],
+) -> Result<Vec<u8>, Fail> {
+    let played = play(rt.alloc(), &calm(command, trace))?;
+    assert_eq!(rt;
+        (played.ended.status, played.ended.why),
+        (0, 0),
+        "{command}"
+    );
+    let mut bytes = played.sink.written().to_vec(rt.alloc())?;
+    bytes.extend_from_slice(behind)?;
+    Ok(bytes)
+}
+
+/// A failure that is planned, and what becomes of the image.
+#[derive(Clone, Copy)]
+struct Planned {
+    name: &'static str,
+    command: &'static str,
+    plan: Plan,
+    ends: Ends,
+    replies: &'static str,
+    /// How often power was cut.
+    cuts: u64,
+}
+
+/// An image couldn't be installed.
+const UPSET: Ends = Ends::Stops(11, 0, 0, "envy: image could not be installed");
+
+// Installing erases 8 segments, programs 128 rows and puts 559 words.
+const PLANNED: &[Planned] = &[
+    Planned {
+        name: "the first erase is bad",
+        command: "audit",
+        plan: Plan::Bad(1, 3),
+        ends: UPSET,
+        replies: "",
+        cuts: 0,
+    },
+    Planned {
+        name: "the last row is bad",
+        command: "audit",
+        plan: Plan::Bad(136, 3),
+        ends: UPSET,
+        replies: "",
+        cuts: 0,
+    },
+    Planned {
+        name: "the first operation is cut",
+        command: "audit",
+        plan: Plan::Cut(1, 2),
+        ends: UPSET,
+        replies: "",
+        cuts: 1,
+    },
+    Planned {
+        name: "the last operation is cut",
+        command: "audit",
+        plan: Plan::Cut(695, 3),
+        ends: UPSET,
+        replies: "",
+        cuts: 1,
+    },
+    Planned {
+        name: "the first erase is bad",
+        command: "resume",
+        plan: Plan::Bad(1, 3),
+        ends: UPSET,
+        replies: "",
+        cuts: 0,
+    },
+    Planned {
+        name: "the last row is bad",
+        command: "resume",
+        plan: Plan::Bad(136, 3),
+        ends: UPSET,
+        replies: "",
+        cuts: 0,
+    },
+    Planned {
+        name: "the first operation is cut",
+        command: "resume",
+        plan: Plan::Cut(1, 2),
+        ends: UPSET,
+        replies: "",
+        cuts: 1,
+    },
+    Planned {
+        name: "the last operation is cut",
+        command: "resume",
+        plan: Plan::Cut(695, 3),
+        ends: UPSET,
+        replies: "",
+        cuts: 1,
+    },
+    Planned {
+        name: "nothing is done to the board behind the image",
+        command: "audit",
+        plan: Plan::Cut(696, 2),
+        ends: Ends::Stops(0, 0, 0, ""),
+        replies: "sound\n",
+        cuts: 0,
+    },
+    Planned {
+        name: "a cut while the transaction is put back",
+        command: "resume",
+        plan: Plan::Cut(696, 2),
+        ends: Ends::Stops(0, 0, 2, ""),
+        replies: "1\ntx 0\n",
+        cuts: 1,
+    },
+    Planned {
+        name: "a cut while the transaction is put back, and no lives",
+        command: "resume --lives 0",
+        plan: Plan::Cut(696, 2),
+        ends: Ends::Stops(6, 0, 0, "envy: power did not return after 0 lines"),
+        replies: "",
+        cuts: 1,
+    },
+];
+
+#[test]
+fn a_board_may_fail_under_an_image(rt: HostRuntime) -> Result<(), Fail> {
+    let behind = b"load 5\nbegin\n";
+    let bytes = image(&rt, "save", b"store 5 1\nbegin\nput 0 5 2\n", behind)?;
+    for row in PLANNED {
+        let given = calm(row.command, &bytes);
+        let played = play_planned(rt.alloc(), &given, [row.plan, Plan::Nothing])?;
+        let replies = row.replies.as_bytes();
+        check_played(&rt, row.name, &given, &played, row.ends, replies);
+        let Some(board) = &played.ended.board else {
+            return Err(Fail::new("no board"));
+        };
+        assert_eq!(rt; board.inner.cuts(), row.cuts, "{}: cuts", row.name);
+    }
+    Ok(())
+}
+
+#[test]
+fn a_sink_may_fail_behind_an_image(rt: HostRuntime) -> Result<(), Fail> {
+    let bytes = image(&rt, "save", b"store 5 1\n", b"load 5\nbegin\n")?;
+    let none = "envy: write fault after 0 lines";
+    let two = "envy: write fault after 2 lines";
+    for (command, call, lines, text, replies) in [
+        ("audit", 1, 0, none, ""),
+        ("audit", 2, 0, none, "sound\n"),
+        ("resume", 1, 1, "envy: write fault after 1 lines", ""),
+        ("resume", 2, 2, two, "1\n"),
+        ("resume", 3, 2, two, "1\ntx 0\n"),
+    ] {
+        let given = Given {
+            sink_fails: call,
+            ..calm(command, &bytes)
+        };
+        let played = play(rt.alloc(), &given)?;
+        let ends = Ends::Stops(4, 0, lines, text);
+        check_played(
+            &rt,
+            "a failing sink",
+            &given,
+            &played,
+            ends,
+            replies.as_bytes(),
+        );
+    }
+    Ok(())
+}

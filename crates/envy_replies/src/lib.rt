@@ -1,0 +1,36 @@
+//! Tests of what each word of the program does: tables of words and traces with their replies, over boards in memory and
+//! over boards on which failures are planned.
+#![tactic(auto)]
+
+#[cfg(test)]
+mod boards;
+#[cfg(test)]
+mod formatting;
+#[cfg(test)]
+mod generated;
+#[cfg(test)]
+mod images;
+#[cfg(test)]
+mod index;
+#[cfg(test)]
+mod loads;
+#[cfg(test)]
+mod mirror;
+#[cfg(test)]
+mod planned;
+#[cfg(test)]
+mod playing;
+#[cfg(test)]
+mod rows;
+#[cfg(test)]
+mod streams;
+#[cfg(test)]
+mod texts;
+#[cfg(test)]
+mod tpca;
+#[cfg(test)]
+mod transactions;
+#[cfg(test)]
+mod values;
+#[cfg(test)]
+mod work;

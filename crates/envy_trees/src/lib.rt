@@ -1,0 +1,10 @@
+//! Words over plain vectors, and the index tree over them: beside a map of the library, filled and emptied in several
+//! orders, with the transactions and the nodes that its calls take; and the lines of an index. Tests alone.
+#![tactic(auto)]
+
+#[cfg(test)]
+mod maps;
+#[cfg(test)]
+mod vectors;
+#[cfg(test)]
+mod watched;
