@@ -7,7 +7,7 @@ use Rattle.envy_flush.specs.Ticks.{TicksBy}
 use Rattle.envy_memory.specs.Calls.{IsCut, Undisturbed}
 use Rattle.envy_memory.specs.Picture.{Picture}
 use Rattle.envy_memory.proofs.EndLemmas.{undisturbed-on}
-use Rattle.envy_memory.proofs.TickLemmas.{Ticks-all, counted-once, undisturbed-bad}
+use Rattle.envy_memory.proofs.TickLemmas.{IsMemory-ticked, Ticks-all, counted-once, undisturbed-bad}
 use Rattle.envy_memory.proofs.memory.Memory.tick.Goals as goal
 
 pub returns-clause-step : goal.returns-clause-step
@@ -34,3 +34,10 @@ pub returns-clause-does : goal.returns-clause-does
 returns-clause-does g c =
     let new = chart (g.B.Board.state c.tick_ruled.new.board) in
     subst (λ (p : Picture). IfOk c.tick_ruled.result (λ did. TicksBy p.limit p.mark did p.chart p.parts new c.tick_ruled.new.parts)) c.self.view_is c.tick_ruled.ensures.does
+
+pub invariant_of-self : goal.invariant_of-self
+invariant_of-self g c =
+    let old = chart (g.B.Board.state c.self.inside.board) in
+    let new = chart (g.B.Board.state c.tick_ruled.new.board) in
+    let was = c.self.inside in
+    (IsMemory-ticked was.limit was.mark old new was.parts c.tick_ruled.new.parts was.owned (sym c.if-not-powered.ensures) c.self.invariant.0 c.tick_ruled.ensures.step c.tick_ruled.ensures.steady, c.tick_ruled.ensures.quiet)
