@@ -6,8 +6,8 @@
 set -u
 cd "$(dirname "$0")/.."
 program=${1-$PWD/crates/envy/out/envy}
-kills=${KILLS-200}
-files=${FILES-300}
+kills=${KILLS-60}
+files=${FILES-150}
 [ -x "$program" ] || { echo "kept: no program at $program; ./envy --prove builds it" >&2; exit 1; }
 work=$(mktemp -d "${TMPDIR:-/tmp}/envy-kept.XXXXXX") || exit 1
 trap 'rm -rf "$work"' EXIT
