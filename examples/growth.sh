@@ -112,7 +112,8 @@ for kind in png svg; do
 set terminal $kind size 800,500
 set output "$to/growth.$kind"
 set logscale x 2
-set xlabel "rows of the board"
+set xtics ("8 x 16" 128, "64 x 128" 8192, "512 x 256" 131072, "4,096 x 256" 1048576)
+set xlabel "segments x rows of the board"
 set ylabel "instructions"
 set yrange [0:*]
 set key outside right
