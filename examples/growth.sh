@@ -109,7 +109,7 @@ cp "$work/growth.txt" "$to/growth.txt"
 command -v gnuplot >/dev/null || exit 0
 for kind in png svg; do
     gnuplot <<GNUPLOT
-set terminal $kind size 800,500
+set terminal $kind size 1000,500
 set output "$to/growth.$kind"
 set logscale x 2
 set xtics ("8 x 16" 128, "64 x 128" 8192, "512 x 256" 131072, "4,096 x 256" 1048576)
