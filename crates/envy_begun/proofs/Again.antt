@@ -25,7 +25,7 @@ use Rattle.envy_journal.specs.Log.{Begins}
 use Rattle.envy_journal.specs.Reading.{operations}
 use Rattle.envy_journal.specs.declared.opening.OpenError.{OpenError}
 use Rattle.envy_journal.specs.declared.opening.OpenError.TheVariants.{Memory as OpenMemory, Failed as OpenFailed, Misfit}
-use Rattle.envy_kept.specs.Disk.{IsSynced, Reopens}
+use Rattle.envy_synced.specs.Disk.{IsSynced, Reopens}
 use Rattle.envy_layout.specs.Same.{Kept}
 use Rattle.envy_layout.specs.Sound.{Head, IsSound, Sound}
 use Rattle.envy_layout.specs.Stands.{Stands}

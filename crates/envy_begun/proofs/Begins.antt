@@ -7,7 +7,7 @@ use Rattle.envy_base.specs.declared.shape.Shape.{Shape}
 use Rattle.envy_begun.specs.Beginning.{HasBegun}
 use Rattle.envy_begun.proofs.Opening.{IsGood}
 use Rattle.envy_disk.specs.Disk.{SyncsChart, with_numbers}
-use Rattle.envy_kept.specs.Disk.{IsSynced}
+use Rattle.envy_synced.specs.Disk.{IsSynced}
 use Rattle.envy_layout.specs.Stands.{Holds, Stands}
 use Rattle.envy_layout.specs.Words.{durable}
 use Rattle.envy_map.specs.Fields.{Chart}

@@ -1,7 +1,7 @@
 -- What a file opens as that was a board behind a sync.
 use Rattle.std.proofs.Common.{◌≡◌, ◌∙◌, ℕ, List, ap}
 use Rattle.envy_begun.specs.Opens.{OpensAs}
-use Rattle.envy_kept.specs.Disk.{Reopens}
+use Rattle.envy_synced.specs.Disk.{Reopens}
 use Rattle.envy_layout.specs.Sound.{IsSound}
 use Rattle.envy_layout.specs.Words.{durable}
 use Rattle.envy_map.specs.Codes.{the_magic}

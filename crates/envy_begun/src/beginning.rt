@@ -11,7 +11,7 @@ use crate::unbegun::Unbegun;
 use envy_base::Off;
 use envy_device::Device;
 use envy_journal::{OpenError, Steady, create};
-use envy_kept::Kept;
+use envy_synced::Kept;
 use envy_memory::{FormatFault, Memory};
 use envy_policy::Setup;
 use envy_saved::close;

@@ -15,7 +15,7 @@ use crate::unbegun::Unbegun;
 use envy_args::KeepOptions;
 use envy_device::Device;
 use envy_journal::Steady;
-use envy_kept::Kept;
+use envy_synced::Kept;
 use envy_memory::Memory;
 use envy_policy::Setup;
 use std::alloc::Global;

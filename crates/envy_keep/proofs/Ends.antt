@@ -9,7 +9,7 @@ use Rattle.envy_base.specs.declared.shape.Shape.{Shape}
 use Rattle.envy_begun.proofs.Opening.{IsGood, opens-as}
 use Rattle.envy_begun.specs.Opens.{OpensAs}
 use Rattle.envy_disk.specs.Disk.{SyncsChart, with_numbers}
-use Rattle.envy_kept.specs.Disk.{IsLast, IsSynced, Reopens}
+use Rattle.envy_synced.specs.Disk.{IsLast, IsSynced, Reopens}
 use Rattle.envy_layout.specs.Stands.{Holds, Stands}
 use Rattle.envy_layout.specs.Words.{durable}
 use Rattle.envy_map.specs.Fields.{Chart, failed}

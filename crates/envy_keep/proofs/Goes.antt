@@ -12,7 +12,7 @@ use Rattle.envy_io.specs.declared.source.Failed.{Failed}
 use Rattle.envy_io.specs.Lines.{newline}
 use Rattle.envy_io.specs.Streams.{Drain, WritesAll, with_end}
 use Rattle.envy_io.proofs.WritesLemmas.{with_end-nil}
-use Rattle.envy_kept.specs.Disk.{IsLast, IsSynced}
+use Rattle.envy_synced.specs.Disk.{IsLast, IsSynced}
 use Rattle.envy_layout.specs.Stands.{Holds, Stands, IsLost as LostOn}
 use Rattle.envy_map.specs.Fields.{Chart, failed}
 use Rattle.envy_memory.specs.Picture.{Picture}

@@ -2,7 +2,7 @@
 use Rattle.std.specs.Prelude.{◌≡◌, ◌⊎◌, ◌↔◌, ℕ, false, ⊤, List, [], ◌∷◌}
 use Rattle.envy_base.specs.Array.{Array}
 use Rattle.envy_disk.specs.Disk.{with_numbers}
-use Rattle.envy_kept.specs.Disk.{IsSynced}
+use Rattle.envy_synced.specs.Disk.{IsSynced}
 use Rattle.envy_layout.specs.Stands.{Stands}
 use Rattle.envy_map.specs.Fields.{failed}
 use Rattle.envy_memory.specs.Picture.{Picture}

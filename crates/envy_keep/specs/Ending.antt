@@ -4,7 +4,7 @@ use Rattle.envy_base.specs.Array.{Array, undone}
 use Rattle.envy_base.specs.declared.shape.Shape.{Shape}
 use Rattle.envy_begun.specs.Opens.{OpensAs}
 use Rattle.envy_disk.specs.Disk.{with_numbers}
-use Rattle.envy_kept.specs.Disk.{IsSynced}
+use Rattle.envy_synced.specs.Disk.{IsSynced}
 use Rattle.envy_map.specs.Fields.{failed}
 use Rattle.envy_memory.specs.Picture.{Picture}
 use Rattle.envy_trace.specs.declared.reply.Reply.TheVariants.{Lost}

@@ -2,7 +2,7 @@
 use Rattle.std.specs.Prelude.{◌≡◌, ◌<◌, false, true, IsTrue, ℕ, List, [], ◌∷◌, length, nat_lt, refl, Err}
 use Rattle.std.proofs.lemmas.Bool.{lt-ltb}
 use Rattle.envy_base.specs.Array.{Array, undone}
-use Rattle.envy_kept.specs.Disk.{IsLast, IsSynced}
+use Rattle.envy_synced.specs.Disk.{IsLast, IsSynced}
 use Rattle.envy_layout.specs.Sound.{IsSound}
 use Rattle.envy_layout.specs.Stands.{Stands}
 use Rattle.envy_layout.specs.Words.{durable}

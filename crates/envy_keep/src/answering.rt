@@ -5,7 +5,7 @@ use envy_base::Off;
 use envy_device::Device;
 use envy_journal::Steady;
 use envy_keep_trace::{KeepLine, KeepReply};
-use envy_kept::Kept;
+use envy_synced::Kept;
 use envy_memory::Memory;
 use envy_run::answer_board;
 use envy_trace::Reply;

@@ -10,7 +10,7 @@ use envy_base::Off;
 use envy_device::Device;
 use envy_io::{Lines, Sink, Source};
 use envy_journal::Steady;
-use envy_kept::Kept;
+use envy_synced::Kept;
 use envy_memory::Memory;
 use envy_saved::close;
 use envy_serve::{End, MOST_BYTES, serve};

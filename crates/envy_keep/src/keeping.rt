@@ -4,7 +4,7 @@ use envy_device::Device;
 use envy_io::{Failed, Sink};
 use envy_journal::Steady;
 use envy_keep_trace::{KeepLine, KeepReply, keep_grammar_holds_both_ways, read_keep_line};
-use envy_kept::Kept;
+use envy_synced::Kept;
 use envy_memory::Memory;
 use envy_serve::{Obeyed, Service};
 use envy_trace::LineFault;

@@ -10,7 +10,7 @@ use envy_device::Device;
 use envy_io::{Failed, Sink};
 use envy_journal::Steady;
 use envy_keep_trace::KeepLine;
-use envy_kept::Kept;
+use envy_synced::Kept;
 use envy_memory::Memory;
 use envy_serve::Obeyed;
 use envy_trace::Line;

@@ -5,7 +5,7 @@ use Rattle.envy_base.specs.declared.shape.Shape.{Shape}
 use Rattle.envy_disk.specs.Disk.{SyncsChart}
 use Rattle.envy_journal.specs.Content.{Content, content_of, holds}
 use Rattle.envy_journal.specs.Reading.{operations}
-use Rattle.envy_kept.specs.Disk.{IsBefore, IsLast, Reopens}
+use Rattle.envy_synced.specs.Disk.{IsBefore, IsLast, Reopens}
 use Rattle.envy_layout.specs.Sound.{IsSound, Sound}
 use Rattle.envy_layout.specs.Words.{durable, durable_word, words}
 use Rattle.envy_map.specs.Fields.{Chart, Fields, chart, map_fields}

@@ -3,7 +3,7 @@ ghost use Rattle.envy_base.specs.State.{State};
 ghost use Rattle.envy_disk.specs.Disk.{SyncsChart};
 ghost use Rattle.envy_journal.specs.Content.{content_of, holds};
 ghost use Rattle.envy_journal.specs.Reading.{operations};
-ghost use Rattle.envy_kept.specs.Disk.{IsBefore, IsLast, Reopens};
+ghost use Rattle.envy_synced.specs.Disk.{IsBefore, IsLast, Reopens};
 ghost use Rattle.envy_layout.specs.Sound.{IsSound};
 ghost use Rattle.envy_layout.specs.Words.{durable};
 ghost use Rattle.envy_map.specs.Fields.{Chart, chart};

@@ -1,10 +1,10 @@
 ghost use Rattle.std.specs.Prelude.{◌≡◌, ◌⊎◌, ◌+◌, ◌^◌, ◌<◌, ◌≤◌, ℕ, List, length, false, IsTrue};
 ghost use Rattle.envy_map.specs.Fields.{Chart};
-ghost use Rattle.envy_kept.specs.Disk.{IsBefore, IsLast, IsSynced, Reopens};
+ghost use Rattle.envy_synced.specs.Disk.{IsBefore, IsLast, IsSynced, Reopens};
 
 use envy_device::Device;
 use envy_journal::Steady;
-use envy_kept::Kept;
+use envy_synced::Kept;
 use envy_memory::Memory;
 
 /// The device under a memory. A crash of the machine since the last sync that succeeded left a file that opens as the

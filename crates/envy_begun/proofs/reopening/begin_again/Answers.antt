@@ -4,7 +4,7 @@ use Rattle.envy_base.specs.declared.shape.Shape.{Shape}
 use Rattle.envy_begun.specs.Unserved.{Declines}
 use Rattle.envy_begun.proofs.Again.{code-declines, not-declined, off-declined, taken-up}
 use Rattle.envy_journal.specs.Journal.{lawful_lem}
-use Rattle.envy_kept.specs.Disk.{lawful_disk}
+use Rattle.envy_synced.specs.Disk.{lawful_disk}
 use Rattle.envy_begun.proofs.reopening.begin_again.Goals as goal
 
 pub returns-in-Err-clause-failed : goal.returns-in-Err-clause-failed

@@ -1,7 +1,7 @@
 use Rattle.std.proofs.Common.{◌⊎◌, ◌≡◌, ◌∙◌, ◌+◌, ◌^◌, ◌<◌, ◌≤◌, ℕ, List, length, false, sym, ap, subst}
 use Rattle.std.specs.Prelude.{IsTrue}
 use Rattle.envy_map.specs.Fields.{Chart}
-use Rattle.envy_kept.specs.Disk.{IsBefore, IsLast, Reopens}
+use Rattle.envy_synced.specs.Disk.{IsBefore, IsLast, Reopens}
 use Rattle.envy_saved.proofs.surviving.close.Goals as goal
 
 pub returns-clause-last : goal.returns-clause-last

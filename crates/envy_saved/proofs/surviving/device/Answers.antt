@@ -1,6 +1,6 @@
 use Rattle.std.proofs.Common.{◌⊎◌, ◌≡◌, ℕ, List, false, subst}
 use Rattle.envy_map.specs.Fields.{Chart}
-use Rattle.envy_kept.specs.Disk.{IsBefore, IsLast, Reopens}
+use Rattle.envy_synced.specs.Disk.{IsBefore, IsLast, Reopens}
 use Rattle.envy_saved.proofs.surviving.device.Goals as goal
 
 pub returns-clause-last : goal.returns-clause-last

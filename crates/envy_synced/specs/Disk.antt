@@ -10,7 +10,7 @@ use Rattle.envy_journal.specs.Journal.{kept}
 use Rattle.envy_journal.specs.Log.{Begins, kept_bytes}
 use Rattle.envy_journal.specs.Reading.{operations}
 use Rattle.envy_disk.specs.Disk.{with_disk}
-use Rattle.envy_kept.specs.Number.{number}
+use Rattle.envy_synced.specs.Number.{number}
 
 -- The numbers tell when the last sync succeeded and the bytes that it brought to the disk (`plans`, `given`), and the same
 -- of the sync before (`pulled`, `lives`).

@@ -11,9 +11,9 @@ use Rattle.envy_journal.specs.Head.{StandsFor, head_bytes}
 use Rattle.envy_journal.specs.Journal.{kept, done}
 use Rattle.envy_journal.specs.Log.{Begins, kept_bytes}
 use Rattle.envy_journal.specs.Reading.{operations}
-use Rattle.envy_kept.specs.Number.{number}
-use Rattle.envy_kept.specs.Disk.{disk_state, IsFileOf, Ends, IsKept, Reopens, IsSynced, IsLast, IsBefore}
-use Rattle.envy_kept.proofs.Numbers.{number_one}
+use Rattle.envy_synced.specs.Number.{number}
+use Rattle.envy_synced.specs.Disk.{disk_state, IsFileOf, Ends, IsKept, Reopens, IsSynced, IsLast, IsBefore}
+use Rattle.envy_synced.proofs.Numbers.{number_one}
 
 -- the operations that a sync brought to the disk open as the board was
 reopens_synced : (was : Chart) (sh : Shape) (bytes file : List ℕ) → IsSynced was → was.shape ≡ sh → number bytes ≡ was.given → StandsFor sh (operations bytes) file → Reopens was file

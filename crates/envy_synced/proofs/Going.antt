@@ -20,7 +20,7 @@ use Rattle.envy_journal.specs.Log.{Begins}
 use Rattle.envy_journal.specs.Reading.{operations}
 use Rattle.envy_journal.specs.Steady.{IsSteady}
 use Rattle.envy_disk.specs.Disk.{Syncs, with_disk}
-use Rattle.envy_kept.specs.Disk.{IsFileOf, Ends, IsKept}
+use Rattle.envy_synced.specs.Disk.{IsFileOf, Ends, IsKept}
 
 -- a journaled board and the one in it
 pub journal_on : (dead : Bool) (s : State) → IsTrue (journal_state dead s).on → dead ≡ false

@@ -1,9 +1,9 @@
 use Rattle.std.proofs.Common.{◌≡◌}
 use Rattle.envy_journal.specs.Journal.{journal_state, kept}
 use Rattle.envy_journal.specs.Log.{kept_bytes}
-use Rattle.envy_kept.specs.Number.{number}
-use Rattle.envy_kept.proofs.Going.{programs_go, programs_told, went}
-use Rattle.envy_kept.proofs.kept.KeptBoard.program.Goals as goal
+use Rattle.envy_synced.specs.Number.{number}
+use Rattle.envy_synced.proofs.Going.{programs_go, programs_told, went}
+use Rattle.envy_synced.proofs.kept.KeptBoard.program.Goals as goal
 
 pub invariant_of-self : goal.invariant_of-self
 invariant_of-self g c =

@@ -1,5 +1,5 @@
-use Rattle.envy_kept.proofs.Going.{journal_off}
-use Rattle.envy_kept.proofs.kept.Kept.into_journal.Goals as goal
+use Rattle.envy_synced.proofs.Going.{journal_off}
+use Rattle.envy_synced.proofs.kept.Kept.into_journal.Goals as goal
 
 pub returns-clause-ended : goal.returns-clause-ended
 returns-clause-ended g c off =

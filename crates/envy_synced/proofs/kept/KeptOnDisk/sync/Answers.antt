@@ -5,11 +5,11 @@ use Rattle.envy_journal.specs.Head.{StandsFor}
 use Rattle.envy_journal.specs.Journal.{journal_state, kept, done}
 use Rattle.envy_journal.specs.Log.{kept_bytes}
 use Rattle.envy_map.specs.Fields.{chart}
-use Rattle.envy_kept.specs.Disk.{IsKept, IsSynced, disk_state}
-use Rattle.envy_kept.specs.Number.{number}
-use Rattle.envy_kept.proofs.Going.{synced, failed, fails_told, stands_now}
-use Rattle.envy_kept.proofs.Telling.{synced_now}
-use Rattle.envy_kept.proofs.kept.KeptOnDisk.sync.Goals as goal
+use Rattle.envy_synced.specs.Disk.{IsKept, IsSynced, disk_state}
+use Rattle.envy_synced.specs.Number.{number}
+use Rattle.envy_synced.proofs.Going.{synced, failed, fails_told, stands_now}
+use Rattle.envy_synced.proofs.Telling.{synced_now}
+use Rattle.envy_synced.proofs.kept.KeptOnDisk.sync.Goals as goal
 
 pub invariant_of-self : goal.invariant_of-self
 invariant_of-self g c =

@@ -1,7 +1,7 @@
 use Rattle.std.proofs.Common.{◌≤◌, ℕ, List, subst, sym}
 use Rattle.envy_journal.specs.Journal.{journal_state}
-use Rattle.envy_kept.proofs.Telling.{told_last, told_before}
-use Rattle.envy_kept.proofs.kept.Kept.device.Goals as goal
+use Rattle.envy_synced.proofs.Telling.{told_last, told_before}
+use Rattle.envy_synced.proofs.kept.Kept.device.Goals as goal
 
 pub returns-clause-time : goal.returns-clause-time
 returns-clause-time g c =

@@ -1,6 +1,6 @@
 -- No two lists have the same number.
 use Rattle.std.proofs.Common.{◌≡◌, ◌≢◌, ℕ, zero, suc, ◌+◌, ◌*◌, List, [], ◌∷◌, refl, sym, ◌∙◌, ap, arith}
-use Rattle.envy_kept.specs.Number.{both, number}
+use Rattle.envy_synced.specs.Number.{both, number}
 
 some : (b n : ℕ) → both b n ≡ 0 → ⊥
 some zero n e = omega (arith, e)

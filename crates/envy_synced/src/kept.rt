@@ -4,7 +4,7 @@ ghost use Rattle.envy_base.specs.State.{Puts, Programs, Erases};
 ghost use Rattle.envy_map.specs.Fields.{Chart, chart};
 ghost use Rattle.envy_journal.specs.Journal.{journal_state, kept, done};
 ghost use Rattle.envy_journal.specs.Log.{HasEnded};
-ghost use Rattle.envy_kept.specs.Disk.{IsKept, IsLast, IsBefore, IsSynced, Reopens, disk_state};
+ghost use Rattle.envy_synced.specs.Disk.{IsKept, IsLast, IsBefore, IsSynced, Reopens, disk_state};
 
 use envy_base::{Board, Off, Shape, Trouble};
 use envy_device::Device;
@@ -71,7 +71,7 @@ impl<B: Steady, D: Device> Kept<B, D> {
 }
 
 impl<B: Steady, D: Device> Board for Kept<B, D> {
-    ghost use Rattle.envy_kept.specs.Disk.{lawful_disk};
+    ghost use Rattle.envy_synced.specs.Disk.{lawful_disk};
     ghost use Rattle.envy_journal.specs.Journal.{lawful_lem};
 
     ghost state = { λ k. disk_state D.seen D.moment k.synced.value.log k.before.value.log (journal_state k.journal.dead (B.state k.journal.board)) };

@@ -4,10 +4,10 @@ use Rattle.envy_journal.specs.declared.operation.Operation.{Operation}
 use Rattle.envy_journal.specs.Content.{holds}
 use Rattle.envy_journal.specs.Journal.{journal_state, kept}
 use Rattle.envy_map.specs.Fields.{chart}
-use Rattle.envy_kept.specs.Disk.{IsKept, IsSynced, disk_state}
-use Rattle.envy_kept.proofs.Going.{kept_new, stands_now}
-use Rattle.envy_kept.proofs.Telling.{synced_now}
-use Rattle.envy_kept.proofs.kept.Kept.new.Goals as goal
+use Rattle.envy_synced.specs.Disk.{IsKept, IsSynced, disk_state}
+use Rattle.envy_synced.proofs.Going.{kept_new, stands_now}
+use Rattle.envy_synced.proofs.Telling.{synced_now}
+use Rattle.envy_synced.proofs.kept.Kept.new.Goals as goal
 
 pub invariant_of-result : goal.invariant_of-result
 invariant_of-result g c =
