@@ -14,4 +14,9 @@ pub trait OnDisk: Board {
     fn sync(&mut self) -> Result<(), Off>
         ensures answer { Syncs (Self.state self.old) result (Self.state self.new) }
         ensures synced { OnOk result (is_synced (chart (Self.state self.new))) };
+
+    /// A sync that leaves no more on the disk than what the board holds takes, however much was done to it.
+    fn compact(&mut self) -> Result<(), Off>
+        ensures answer { Syncs (Self.state self.old) result (Self.state self.new) }
+        ensures synced { OnOk result (is_synced (chart (Self.state self.new))) };
 }

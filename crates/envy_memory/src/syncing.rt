@@ -19,4 +19,17 @@ impl<B: OnDisk> Memory<B> {
     {
         self.board.sync()
     }
+
+    /// A sync that leaves no more on the disk than what the board holds takes. It writes all of it, so it takes longer.
+    ///
+    /// # Errors
+    ///
+    /// `Off`: power is off then.
+    pub fn compact(&mut self) -> Result<(), Off>
+        ensures answer { SyncsChart self.old.chart result self.new.chart }
+        ensures kept { self.new ≡ record self.old { chart = self.new.chart } }
+        ensures synced { OnOk result (B.is_synced self.new.chart) }
+    {
+        self.board.compact()
+    }
 }

@@ -119,4 +119,8 @@ impl<B: Steady, D: Device> OnDisk for Kept<B, D> {
             Err(_) => Err(Off),
         }
     }
+
+    fn compact(&mut self) -> Result<(), Off> {
+        self.sync()
+    }
 }

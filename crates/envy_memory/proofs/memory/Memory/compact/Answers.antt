@@ -1,0 +1,20 @@
+use Rattle.std.proofs.Common.{subst}
+use Rattle.envy_disk.specs.Disk.{SyncsChart}
+use Rattle.envy_map.specs.Fields.{chart}
+use Rattle.envy_memory.specs.Picture.{Picture}
+use Rattle.envy_memory.proofs.SyncLemmas.{synced_chart, synced_memory, synced_quiet}
+use Rattle.envy_memory.proofs.memory.Memory.compact.Goals as goal
+
+pub invariant_of-self : goal.invariant_of-self
+invariant_of-self g c =
+    let m = c.self.inside in
+    let old = g.B.Board.state m.board in
+    let new = g.B.Board.state c.compact.new.self in
+    let synced = synced_chart old new c.compact.result c.compact.ensures.answer in
+    (synced_memory (chart old) m.parts m.owned m.limit m.mark c.self.invariant.0 (chart new) c.compact.result synced, synced_quiet (chart old) m.parts m.limit m.quiet c.self.invariant.1 (chart new) c.compact.result synced)
+
+pub returns-clause-answer : goal.returns-clause-answer
+returns-clause-answer g c =
+    let old = g.B.Board.state c.self.inside.board in
+    let new = g.B.Board.state c.compact.new.self in
+    subst (λ (p : Picture). SyncsChart p.chart c.compact.result (chart new)) c.self.view_is (synced_chart old new c.compact.result c.compact.ensures.answer)
