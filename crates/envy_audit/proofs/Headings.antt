@@ -6,12 +6,7 @@ use Rattle.std.proofs.lemmas.Bool.Decides.{nat_tests}
 use Rattle.std.proofs.lemmas.List.{get_or-drop, length-drop}
 use Rattle.envy_base.specs.declared.shape.Shape.{Shape}
 use Rattle.envy_base.specs.State.{State, IsBoard}
-use Rattle.envy_map.specs.Codes.{job_of}
 use Rattle.envy_map.specs.Fields.{chart, map_fields, sizes_of}
-
-pub job-is : (s : State) → (chart s).fields.job ≡ job_of (slice_index s.sram 5)
-unfolding map_fields
-job-is s = refl
 
 pub version-is : (s : State) → (chart s).fields.version ≡ slice_index s.sram 1
 unfolding map_fields

@@ -5,9 +5,8 @@ ghost use Rattle.envy_audit.specs.Finding.{Tells};
 ghost use Rattle.envy_audit.specs.Points.{Decodes, IsJobOf, IsPlaceOf, IsUndoOf, rows_of};
 ghost use Rattle.envy_audit.specs.Finding.{PagesDecode, NumbersFit};
 
-use crate::probe;
 use envy_base::{Board, Job, Off, Place, Shape, Undo};
-use envy_map::version;
+use envy_map::{probe, version};
 
 fn is_job_of(shape: &Shape, job: Option<Job>) -> bool
     ensures { IsTrue result ↔ IsJobOf shape.now job }

@@ -11,8 +11,6 @@ mod decoding;
 mod jobs;
 mod kept;
 mod laws;
-mod probe;
-mod region;
 mod segments;
 mod sequence;
 mod tables;

@@ -1,13 +1,13 @@
 ghost use Rattle.std.specs.Prelude.{◌≡◌, ◌<◌, ◌≤◌, IfOk, length, slice_index};
 ghost use Rattle.std.proofs.Props.{props};
 ghost use Rattle.envy_base.specs.Counting.{up};
-ghost use Rattle.envy_base.specs.Map.{words_of};
 ghost use Rattle.envy_base.specs.Shape.{IsShape};
 ghost use Rattle.envy_base.specs.State.{IsBoard};
 ghost use Rattle.envy_bench.specs.Parts.{state_of};
 
 use crate::flash::Flash;
 use envy_base::{Bench, Board, NoMemory, Off, Shape, Trouble};
+use envy_map::words;
 use envy_power::{Event, Sram, Supply};
 use std::alloc::Global;
 
@@ -36,20 +36,6 @@ fn more(count: u64) -> u64
     count.saturating_add(1)
 }
 
-// The number of SRAM words: 72 of header and slots; the wear, the fill and, but for one, the position
-// of each segment; the places and the undos of the pages, two to a word; a word for each row, and one
-// for each row of a segment; and the frames.
-fn sram_words(shape: &Shape) -> u32
-    requires { IsShape shape.now }
-    ensures { result ≡ words_of shape.now }
-{
-    71 + 3 * shape.segments
-        + 2 * shape.pages.div_ceil(2)
-        + shape.segments * shape.rows
-        + shape.rows
-        + 32 * shape.frames
-}
-
 impl MemBoard {
     ghost use Rattle.envy_power.specs.Power.{fresh};
     ghost use Rattle.envy_bench.specs.Parts.{new_state};
@@ -65,7 +51,7 @@ impl MemBoard {
         Ok(MemBoard {
             shape: *shape,
             flash: Flash::new(alloc, shape.segments, shape.rows)?,
-            sram: Sram::new(alloc, sram_words(shape))?,
+            sram: Sram::new(alloc, words(shape))?,
             supply: Supply::new(lives),
             begun: 0,
             pulled: 0,

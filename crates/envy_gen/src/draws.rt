@@ -10,7 +10,7 @@ use rand_core::Rng;
 const PAGE_WORDS: u64 = 32;
 
 /// How many slots are drawn from.
-const SLOTS: u64 = 4;
+const DRAWN_SLOTS: u64 = 4;
 
 /// The hot pages among so many.
 fn hot_pages(pages: u32, skew: &Skew) -> u32
@@ -55,7 +55,7 @@ fn draw(x: u64, y: u64, z: u64, mix: &Mix) -> Line
         }
         return Line::Load { address };
     }
-    let slot = ((y >> 32) % SLOTS) as u8;
+    let slot = ((y >> 32) % DRAWN_SLOTS) as u8;
     match x % 16 {
         0..=5 => Line::Load { address },
         6..=9 => Line::Store { address, word: z },

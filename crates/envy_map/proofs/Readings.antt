@@ -5,12 +5,16 @@ use Rattle.std.proofs.lemmas.List.{get_or-map}
 use Rattle.envy_base.specs.declared.board.Off.{Off}
 use Rattle.envy_base.specs.Map.{slots_at, wear_at, fill_at, position_at, table_at, undo_at, back_at, origin_at, frames_at}
 use Rattle.envy_base.specs.State.{State, Reads, IsBoard}
-use Rattle.envy_map.specs.Codes.{slot_of, place_of, undo_of, half_of}
+use Rattle.envy_map.specs.Codes.{job_of, slot_of, place_of, undo_of, half_of}
 use Rattle.envy_map.specs.Fields.{map_fields, region, packed}
 use Rattle.envy_map.proofs.Regions.{get_or-region, get_or-packed, length-region, length-packed}
 
 pub Reads-at : (s : State) (x y : ℕ) (r : Result ℕ Off) → x ≡ y → Reads s x r → Reads s y r
 Reads-at s x y r e reads = subst (λ (z : ℕ). Reads s z r) e reads
+
+pub job-is : (s : State) → (map_fields s.shape s.sram).job ≡ job_of (slice_index s.sram 5)
+unfolding map_fields
+job-is s = refl
 
 pub wear-is : (s : State) (w k : ℕ) → k < s.shape.segments → w ≡ wear_at + k → slice_index s.sram w ≡ slice_index (map_fields s.shape s.sram).wears k
 unfolding map_fields

@@ -4,7 +4,7 @@ ghost use Rattle.envy_base.specs.State.{Puts};
 ghost use Rattle.envy_map.specs.Fields.{chart};
 ghost use Rattle.envy_map.specs.Writes.{Writes, with_magic, with_version, with_size, with_places_clear, with_undos_clear};
 
-use crate::region::{table_start, undo_start};
+use crate::region::{MAGIC_AT, SIZES_START, VERSION_AT, table_start, undo_start};
 use envy_base::{Board, Off};
 
 /// Writes the first word of the map, which is `MAGIC` on a formatted board.
@@ -12,7 +12,7 @@ pub fn set_magic<B: Board>(board: &mut B, word: u64) -> Result<(), Off>
     ensures writes { Writes (with_magic word) (chart (B.state board.old)) result (chart (B.state board.new)) }
     ensures put { Puts (B.state board.old) 0 word result (B.state board.new) }
 {
-    board.put(0, word)
+    board.put(MAGIC_AT, word)
 }
 
 /// Writes the version of the map.
@@ -20,7 +20,7 @@ pub fn set_version<B: Board>(board: &mut B, version: u64) -> Result<(), Off>
     ensures writes { Writes (with_version version) (chart (B.state board.old)) result (chart (B.state board.new)) }
     ensures put { Puts (B.state board.old) 1 version result (B.state board.new) }
 {
-    board.put(1, version)
+    board.put(VERSION_AT, version)
 }
 
 /// Writes word `i`, of 3, of those that keep the shape.
@@ -29,7 +29,7 @@ pub fn set_size<B: Board>(board: &mut B, i: u32, word: u64) -> Result<(), Off>
     ensures writes { Writes (with_size i word) (chart (B.state board.old)) result (chart (B.state board.new)) }
     ensures put { Puts (B.state board.old) (2 + i) word result (B.state board.new) }
 {
-    board.put(2 + i, word)
+    board.put(SIZES_START + i, word)
 }
 
 /// Makes the places of both pages of word `i` of the table absent, by one write of 0.

@@ -11,6 +11,7 @@ mod half;
 mod header;
 mod jobs;
 mod page;
+pub mod probe;
 mod region;
 mod row;
 mod segment;

@@ -5,8 +5,9 @@ ghost use Rattle.envy_map.specs.Codes.{IsPlace, IsUndo, place_code, undo_code, w
 ghost use Rattle.envy_map.specs.Fields.{chart, place as place_of_page, undo as undo_of_page};
 ghost use Rattle.envy_map.specs.Writes.{Gives, Writes, with_place, with_undo};
 
-use crate::code::{decode_place, decode_undo, encode_place, encode_undo};
-use crate::half::{half, set_half};
+use crate::code::{encode_place, encode_undo};
+use crate::half::set_half;
+use crate::probe;
 use crate::region::{table_start, undo_start};
 use envy_base::{Board, Off, Place, Undo};
 
@@ -17,7 +18,7 @@ pub fn place<B: Board>(board: &B, page: u32) -> Result<Place, Off>
     ensures value { Gives (chart (B.state board.now)) (place_of_page (chart (B.state board.now)).fields page) result }
     ensures fits { IfOk result IsPlace }
 {
-    match decode_place(half(board, table_start(&board.shape()), page)?) {
+    match probe::place(board, page)? {
         Some(place) => Ok(place),
         None => unreachable!(),
     }
@@ -42,7 +43,7 @@ pub fn undo<B: Board>(board: &B, page: u32) -> Result<Undo, Off>
     ensures value { Gives (chart (B.state board.now)) (undo_of_page (chart (B.state board.now)).fields page) result }
     ensures fits { IfOk result IsUndo }
 {
-    match decode_undo(half(board, undo_start(&board.shape()), page)?) {
+    match probe::undo(board, page)? {
         Some(undo) => Ok(undo),
         None => unreachable!(),
     }

@@ -4,18 +4,30 @@ ghost use Rattle.envy_base.specs.Shape.{IsShape};
 
 use envy_base::Shape;
 
+/// The word by which a formatted board is known.
+pub const MAGIC_AT: u32 = 0;
+
+/// The word of the map's version.
+pub const VERSION_AT: u32 = 1;
+
+/// The first of the three words that keep the shape.
+pub const SIZES_START: u32 = 2;
+
+/// The word of the cleaner's job.
+pub const JOB_AT: u32 = 5;
+
 /// The first word of the slots.
-pub const SLOTS: u32 = 8;
+pub const SLOTS_START: u32 = 8;
 
 /// The first word of the wear of segments.
-pub const WEAR: u32 = 72;
+pub const WEAR_START: u32 = 72;
 
 /// The first word of the fills of segments.
 pub fn fill_start(shape: &Shape) -> u32
     requires { IsShape shape.now }
     ensures { result ≡ fill_at shape.now }
 {
-    72 + shape.segments
+    WEAR_START + shape.segments
 }
 
 /// The first word of the segments at positions.
@@ -23,7 +35,7 @@ pub fn position_start(shape: &Shape) -> u32
     requires { IsShape shape.now }
     ensures { result ≡ position_at shape.now }
 {
-    72 + 2 * shape.segments
+    fill_start(shape) + shape.segments
 }
 
 /// The first word of the places of pages.
@@ -31,7 +43,7 @@ pub fn table_start(shape: &Shape) -> u32
     requires { IsShape shape.now }
     ensures { result ≡ table_at shape.now }
 {
-    71 + 3 * shape.segments
+    position_start(shape) + (shape.segments - 1)
 }
 
 /// The first word of the undos of pages.

@@ -4,6 +4,7 @@ ghost use Rattle.envy_base.specs.State.{Puts, Reads};
 ghost use Rattle.envy_map.specs.Fields.{chart};
 ghost use Rattle.envy_map.specs.Writes.{Writes, with_back, with_origin};
 
+use crate::probe;
 use crate::region::{back_start, origin_start};
 use envy_base::{Board, Off};
 
@@ -13,7 +14,7 @@ pub fn back<B: Board>(board: &B, row: u32) -> Result<u32, Off>
     requires range { slice_index (chart (B.state board.now)).fields.backs row < (B.state board.now).shape.pages }
     ensures { Reads (B.state board.now) (slice_index (chart (B.state board.now)).fields.backs row) result }
 {
-    let page = board.get(back_start(&board.shape()) + row)?;
+    let page = probe::back(board, row)?;
     Ok(page as u32)
 }
 
@@ -34,7 +35,7 @@ pub fn origin<B: Board>(board: &B, i: u32) -> Result<u32, Off>
     requires range { slice_index (chart (B.state board.now)).fields.origins i < (B.state board.now).shape.segments * (B.state board.now).shape.rows }
     ensures { Reads (B.state board.now) (slice_index (chart (B.state board.now)).fields.origins i) result }
 {
-    let row = board.get(origin_start(&board.shape()) + i)?;
+    let row = probe::origin(board, i)?;
     Ok(row as u32)
 }
 

@@ -4,7 +4,8 @@ ghost use Rattle.envy_base.specs.State.{Puts, Reads};
 ghost use Rattle.envy_map.specs.Fields.{chart};
 ghost use Rattle.envy_map.specs.Writes.{Writes, with_wear, with_fill, with_position};
 
-use crate::region::{WEAR, fill_start, position_start};
+use crate::probe;
+use crate::region::{WEAR_START, fill_start, position_start};
 use envy_base::{Board, Off};
 
 /// The wear of a segment: how often it was erased, as the map counts it.
@@ -12,7 +13,7 @@ pub fn wear<B: Board>(board: &B, segment: u32) -> Result<u64, Off>
     requires { segment < (B.state board.now).shape.segments }
     ensures { Reads (B.state board.now) (slice_index (chart (B.state board.now)).fields.wears segment) result }
 {
-    board.get(WEAR + segment)
+    board.get(WEAR_START + segment)
 }
 
 /// Writes the wear of a segment.
@@ -21,7 +22,7 @@ pub fn set_wear<B: Board>(board: &mut B, segment: u32, count: u64) -> Result<(),
     ensures writes { Writes (with_wear segment count) (chart (B.state board.old)) result (chart (B.state board.new)) }
     ensures put { Puts (B.state board.old) (wear_at + segment) count result (B.state board.new) }
 {
-    board.put(WEAR + segment, count)
+    board.put(WEAR_START + segment, count)
 }
 
 /// The fill of a segment: how many of its rows have been claimed since it was erased.
@@ -30,7 +31,7 @@ pub fn fill<B: Board>(board: &B, segment: u32) -> Result<u32, Off>
     requires range { slice_index (chart (B.state board.now)).fields.fills segment ≤ (B.state board.now).shape.rows }
     ensures { Reads (B.state board.now) (slice_index (chart (B.state board.now)).fields.fills segment) result }
 {
-    let fill = board.get(fill_start(&board.shape()) + segment)?;
+    let fill = probe::fill(board, segment)?;
     Ok(fill as u32)
 }
 
@@ -51,7 +52,7 @@ pub fn segment_at<B: Board>(board: &B, position: u32) -> Result<u32, Off>
     requires range { slice_index (chart (B.state board.now)).fields.positions position < (B.state board.now).shape.segments }
     ensures { Reads (B.state board.now) (slice_index (chart (B.state board.now)).fields.positions position) result }
 {
-    let segment = board.get(position_start(&board.shape()) + position)?;
+    let segment = probe::segment_at(board, position)?;
     Ok(segment as u32)
 }
 

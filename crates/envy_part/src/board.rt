@@ -8,7 +8,6 @@ ghost use Rattle.envy_part.specs.Orders.{Adds};
 ghost use Rattle.envy_part.specs.Orders.Order.{Programs as ToProgram, Erases as ToErase};
 ghost use Rattle.envy_part.specs.Part.{ArePages, MissesOnes, MissesPage, part_state};
 
-use crate::places::sram_words;
 use crate::rows::{anded, word, words};
 use crate::{PartFault, Port, orders};
 use envy_base::{Board, Off, Shape, Trouble};
@@ -77,7 +76,7 @@ impl<'a, P: Port + Drop> PartBoard<'a, P> {
         if flash.len() != (shape.segments * shape.rows) as usize {
             return Err(PartFault::FlashSize);
         }
-        if sram.len() != sram_words(&shape) as usize {
+        if sram.len() != envy_map::words(&shape) as usize {
             return Err(PartFault::SramSize);
         }
         let Ok(erases) = vec![in alloc; 0; shape.segments as usize] else {

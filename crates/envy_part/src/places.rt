@@ -1,5 +1,4 @@
 ghost use Rattle.std.specs.Prelude.{◌≡◌, MatchResult};
-ghost use Rattle.envy_base.specs.Map.{words_of};
 ghost use Rattle.envy_base.specs.Shape.{IsShape};
 ghost use Rattle.envy_part.specs.Placing.{ArePlaced, AreApart, Misplaces, Mingles};
 
@@ -40,19 +39,6 @@ pub enum PlaceFault {
     Overlap,
 }
 
-// The words of SRAM: 71 of header and slots; the wear, the fill and the position of each segment; the places and the
-// undos of the pages, two to a word; a word for each row, and one for each row of a segment; and the frames.
-pub fn sram_words(shape: &Shape) -> u32
-    requires { IsShape shape.now }
-    ensures { result ≡ words_of shape.now }
-{
-    71 + 3 * shape.segments
-        + 2 * shape.pages.div_ceil(2)
-        + shape.segments * shape.rows
-        + shape.rows
-        + 32 * shape.frames
-}
-
 impl Places {
     /// Whether a board of this shape may stand here. It takes no port, so that nothing can be ordered.
     ///
@@ -73,7 +59,7 @@ impl Places {
         if places.flash_bytes != ROW_BYTES * (shape.segments * shape.rows) as u64 {
             return Err(PlaceFault::FlashSize);
         }
-        if places.sram_bytes != WORD_BYTES * sram_words(shape) as u64 {
+        if places.sram_bytes != WORD_BYTES * envy_map::words(shape) as u64 {
             return Err(PlaceFault::SramSize);
         }
         places.check_apart()

@@ -5,18 +5,18 @@ use crate::entry::Entry;
 use crate::pair::Pair;
 
 /// How many slots a number of 8 bits may name.
-pub const SLOTS: usize = 256;
+pub const SLOT_NUMBERS: usize = 256;
 
 /// No slot has an entry that owns.
-pub fn no_chains() -> [u32; SLOTS]
+pub fn no_chains() -> [u32; SLOT_NUMBERS]
     ensures none { (t : ℕ) → slice_index result t ≡ 0 }
     ensures long { length result ≡ 256 }
 {
-    [0; SLOTS]
+    [0; SLOT_NUMBERS]
 }
 
 /// Lists the pairs of a slot in order of owning.
-pub fn list_chain(entries: &[Entry], newest: &[u32; SLOTS], t: u8, list: &mut Vec<Pair>)
+pub fn list_chain(entries: &[Entry], newest: &[u32; SLOT_NUMBERS], t: u8, list: &mut Vec<Pair>)
     requires chained { IsChained entries.now newest.now }
     requires fits { length (pairs_in entries.now) ≤ vec_capacity list.old }
     ensures pairs { list.new.items ≡ own_of t (pairs_in entries.now) }
@@ -33,7 +33,7 @@ pub fn list_chain(entries: &[Entry], newest: &[u32; SLOTS], t: u8, list: &mut Ve
 }
 
 /// Lets the entries of a slot own no more, and tells how many they were.
-pub fn end_chain(entries: &mut [Entry], newest: &mut [u32; SLOTS], t: u8) -> u32
+pub fn end_chain(entries: &mut [Entry], newest: &mut [u32; SLOT_NUMBERS], t: u8) -> u32
     requires chained { IsChained entries.old newest.old }
     requires few { length entries.old < 2 ^ 32 }
     ensures entries { entries.new ≡ map (end_of t) entries.old }

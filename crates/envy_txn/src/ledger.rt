@@ -3,7 +3,7 @@ ghost use Rattle.std.specs.List.{AllPairs};
 ghost use Rattle.envy_txn.specs.Entries.{own_of};
 ghost use Rattle.envy_txn.specs.Owners.{AreApart, owner_of, others_of};
 
-use crate::chain::{SLOTS, end_chain, list_chain, no_chains};
+use crate::chain::{SLOT_NUMBERS, end_chain, list_chain, no_chains};
 use crate::entry::Entry;
 use crate::pair::Pair;
 use crate::search::{list_live, note, owner_among, owner_at};
@@ -20,7 +20,7 @@ use std::marker::Model;
 pub struct Ledger {
     entries: Vec<Entry>,
     /// One past the place of each slot's newest entry that owns, or 0.
-    newest: [u32; SLOTS],
+    newest: [u32; SLOT_NUMBERS],
     /// The place of the entry of each page that is owned. Of any other page it may be any number.
     places: Vec<u32>,
     /// How many entries own.

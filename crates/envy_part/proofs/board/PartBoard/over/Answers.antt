@@ -4,5 +4,5 @@ use Rattle.envy_part.proofs.board.PartBoard.over.Goals as goal
 pub invariant_of-result : goal.invariant_of-result
 invariant_of-result g c =
     let long = c.if-flash-shape.false in
-    let words = c.if-sram-sram_words.false in
-    record { sound = made_board c.args.shape c.args.flash.now c.args.sram.now c.in-Ok.erases.items c.requires.shape c.requires.pages c.requires.words (search (long)) (search (words, c.sram_words.ensures)) (search (c.in-Ok.ensures.len)) }
+    let words = c.if-sram-words.false in
+    record { sound = made_board c.args.shape c.args.flash.now c.args.sram.now c.in-Ok.erases.items c.requires.shape c.requires.pages c.requires.words (search (long)) (search (words, c.words.ensures)) (search (c.in-Ok.ensures.len)) }

@@ -1,7 +1,7 @@
 use Rattle.std.proofs.Common.{sym, ◌∙◌, arith}
 use Rattle.envy_map.proofs.Readings.{place-is}
-use Rattle.envy_audit.proofs.probe.place.Goals as goal
+use Rattle.envy_map.proofs.probe.place.Goals as goal
 
-pub returns : goal.returns
-returns g c =
+pub returns-clause-reads : goal.returns-clause-reads
+returns-clause-reads g c =
     (c.in_ok-word.ensures.0, c.decode_place.ensures.value ∙ sym (place-is (g.B.Board.state c.args.board.now) c.args.page _ c.in_ok-word.word (g.met.B.Board.lawful c.args.board.now) c.requires (grind arith) c.in_ok-word.ensures.1))

@@ -1,6 +1,6 @@
 use Rattle.std.proofs.Common.{arith}
 use Rattle.envy_map.proofs.Readings.{Reads-at, origin-is}
-use Rattle.envy_audit.proofs.probe.origin.Goals as goal
+use Rattle.envy_map.proofs.probe.origin.Goals as goal
 
 pub returns : goal.returns
 returns g c =

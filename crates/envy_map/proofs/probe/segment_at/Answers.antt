@@ -1,6 +1,6 @@
 use Rattle.std.proofs.Common.{arith}
 use Rattle.envy_map.proofs.Readings.{Reads-at, position-is}
-use Rattle.envy_audit.proofs.probe.segment_at.Goals as goal
+use Rattle.envy_map.proofs.probe.segment_at.Goals as goal
 
 pub returns : goal.returns
 returns g c =

@@ -1,7 +1,7 @@
 use Rattle.std.proofs.Common.{ap, sym, ◌∙◌, arith}
 use Rattle.envy_map.specs.Codes.{slot_of}
 use Rattle.envy_map.proofs.Readings.{slot-is}
-use Rattle.envy_audit.proofs.probe.slot.Goals as goal
+use Rattle.envy_map.proofs.probe.slot.Goals as goal
 
 pub returns : goal.returns
 returns g c =
