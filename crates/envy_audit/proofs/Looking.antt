@@ -12,6 +12,7 @@ use Rattle.envy_map.specs.Fields.{chart, place, undo}
 use Rattle.envy_layout.specs.Sound.{slot_named, owned_by, is_active}
 use Rattle.envy_audit.specs.Points.{FewAreOwned}
 use Rattle.envy_map.proofs.Sizes.{length-places, length-undos}
+use Rattle.envy_layout.proofs.KeptLemmas.{owned_by-none}
 
 looked-up : {A : Type 0} (xs : List (Option A)) (i : ℕ) (x : A) → get_or xs i None ≡ Some x → i < length xs
 looked-up xs i x is = by_place (cases_lt i (length xs))
@@ -32,13 +33,6 @@ named-within s board p t named = by_undo (undo (chart s).fields p) refl named
     by_undo : (u : Option Undo) → undo (chart s).fields p ≡ u → slot_named u ≡ Some t → p < s.shape.pages
     by_undo None e named = absurd (none-some t named)
     by_undo (Some u) e named = undo-within s board p u e
-
--- whether a page is owned, by the slot that its undo names
-pub owned_by-none : (slots : List (Option Slot)) (u : Option Undo) → slot_named u ≡ None → owned_by slots u ≡ false
-owned_by-none slots None e = refl
-owned_by-none slots (Some Clear) e = refl
-owned_by-none slots (Some (Blank t)) e = absurd (none-some t (sym e))
-owned_by-none slots (Some (Shadow t q)) e = absurd (none-some t (sym e))
 
 pub owned_by-some : (slots : List (Option Slot)) (u : Option Undo) (t : ℕ) (x : Slot) → slot_named u ≡ Some t → get_or slots t None ≡ Some x → owned_by slots u ≡ is_active (Some x)
 owned_by-some slots None t x e is = absurd (none-some t e)

@@ -7,8 +7,9 @@ use Rattle.std.proofs.lemmas.Bool.{cases_lt, cases_eq, ne_eqb}
 use Rattle.std.proofs.lemmas.Nat.{le-div, div_below}
 use Rattle.std.proofs.lemmas.List.FromFn.{get_or-map-range_with_len, length-map-range_with_len}
 use Rattle.envy_policy.specs.declared.choice.Choice.TheVariants.{Free, Clean}
-use Rattle.envy_policy.specs.declared.setup.Policy.{Policy}
-use Rattle.envy_policy.specs.declared.setup.Policy.TheVariants.{Greedy, Fifo, Locality, Hybrid, Lifetime}
+use Rattle.envy_policy.specs.declared.setup.Victims.{Victims}
+use Rattle.envy_policy.specs.declared.setup.Victims.TheVariants.{MostDead, InTurn}
+use Rattle.envy_policy.specs.Setup.{victims_of}
 use Rattle.envy_policy.specs.Choice.{HasRows, IsAside, IsChoice, IsLeast, IsMost, IsNearest, IsVictim, distance}
 use Rattle.envy_policy.specs.Deciding.{Nearer}
 use Rattle.envy_policy.specs.History.{History, IsHistory, run, partition_of, first_of, end_of}
@@ -22,7 +23,7 @@ use Rattle.envy_choosing.specs.Choosing.{IsAbove, IsBelow, IsFreeBeside, IsUsabl
 abbrev rows_of : (ℕ → ℕ) → ℕ → List ℕ
 rows_of f n = map f (range_with_len 0 n)
 
-long : (f : ℕ → ℕ) (n : ℕ) → length (rows_of f n) ≡ n
+pub long : (f : ℕ → ℕ) (n : ℕ) → length (rows_of f n) ≡ n
 long f n = length-map-range_with_len f 0 n
 
 at : (f : ℕ → ℕ) (n k : ℕ) → k < n → get_or (rows_of f n) k 0 ≡ f k
@@ -346,20 +347,17 @@ beside-next h pool g first end k avoided (Some p) whole are same low high lowest
     least y is (inr at_least) = at_least
 
 -- a victim stands in its partition
-victim-in : (policy : Policy) (h : History) (dead : List ℕ) (g k : ℕ) → IsVictim policy h dead g k → partition_of h k ≡ g
-victim-in Greedy h dead g k victim = victim.holds.0
-victim-in Fifo h dead g k victim = victim.holds.0
-victim-in Locality h dead g k victim = victim.holds.0
-victim-in (Hybrid part) h dead g k victim = victim.holds.0
-victim-in Lifetime h dead g k victim = victim.holds.0
+victim-in : (victims : Victims) (h : History) (dead : List ℕ) (g k : ℕ) → IsVictim victims h dead g k → partition_of h k ≡ g
+victim-in MostDead h dead g k victim = victim.holds.0
+victim-in InTurn h dead g k victim = victim.holds.0
 
 -- the choice within the nearest usable partition
 pub choice-free : (h : History) (free dead : List ℕ) (home g k : ℕ) → IsNearest h free dead home g → IsLeast (HasRows h free g) (λ x. x) k → IsChoice h free dead home (Free k)
 choice-free h free dead home g k nearest least = subst (λ (x : ℕ). IsNearest h free dead home x × IsLeast (HasRows h free x) (λ y. y) k) (sym least.holds.0) (nearest, least)
 
-pub choice-clean : (h : History) (free dead : List ℕ) (home g k : ℕ) (aside : Option ℕ) → IsNearest h free dead home g → ((x : ℕ) → HasRows h free g x → ⊥) → IsVictim h.policy h dead g k → IsAside h g aside → IsChoice h free dead home (Clean k aside)
+pub choice-clean : (h : History) (free dead : List ℕ) (home g k : ℕ) (aside : Option ℕ) → IsNearest h free dead home g → ((x : ℕ) → HasRows h free g x → ⊥) → IsVictim (victims_of h.policy) h dead g k → IsAside h g aside → IsChoice h free dead home (Clean k aside)
 choice-clean h free dead home g k aside nearest none victim beside =
-    subst (λ (x : ℕ). IsNearest h free dead home x × ((y : ℕ) → HasRows h free x y → ⊥) × IsVictim h.policy h dead x k × IsAside h x aside) (sym (victim-in h.policy h dead g k victim)) (nearest, none, victim, beside)
+    subst (λ (x : ℕ). IsNearest h free dead home x × ((y : ℕ) → HasRows h free x y → ⊥) × IsVictim (victims_of h.policy) h dead x k × IsAside h x aside) (sym (victim-in (victims_of h.policy) h dead g k victim)) (nearest, none, victim, beside)
 
 pub below-under : (h : History) (pool : Pool) (own : ℕ) (found : Option ℕ) → Below h pool own found → IfSome found (λ g. g < own)
 below-under h pool own None none = tt

@@ -3,9 +3,10 @@ ghost use Rattle.envy_policy.specs.Choice.{HasRows, IsChoice, IsLeast, IsMost, I
 ghost use Rattle.envy_space.specs.Pool.{free_at, dead_at};
 ghost use Rattle.envy_choosing.specs.Choosing.{ChoiceFor, IsAbove, IsBelow, IsFreeBeside, IsUsableIn, deads, frees};
 ghost use Rattle.envy_policy.specs.History.{IsHistory, partition_of};
+ghost use Rattle.envy_policy.specs.Setup.{victims_of};
 
 use crate::pooled::choose_by_lives;
-use envy_policy::{Choice, Chooser, Policy, nearer};
+use envy_policy::{Choice, Chooser, Victims, nearer};
 use envy_space::Space;
 
 /// Chooses a position for a page whose home this is, by the rows of a pool: under `Lifetime` by the lives of
@@ -143,11 +144,11 @@ fn victim(space: &Space, chooser: &Chooser, partition: u32) -> u32
     requires positions { chooser.now.positions ≡ space.now.shape.segments - 1 }
     requires partition { partition < length chooser.now.heats }
     requires some { (k : ℕ) × HasRows chooser.now (deads space.now) partition k }
-    ensures { IsVictim chooser.now.policy chooser.now (deads space.now) partition result }
+    ensures { IsVictim (victims_of chooser.now.policy) chooser.now (deads space.now) partition result }
 {
-    match chooser.policy() {
-        Policy::Greedy | Policy::Lifetime => most_dead(space, chooser, partition).unwrap(),
-        _ => next_in_turn(space, chooser, partition).unwrap(),
+    match chooser.policy().victims() {
+        Victims::MostDead => most_dead(space, chooser, partition).unwrap(),
+        Victims::InTurn => next_in_turn(space, chooser, partition).unwrap(),
     }
 }
 

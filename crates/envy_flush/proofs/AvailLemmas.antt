@@ -11,7 +11,8 @@ use Rattle.envy_policy.specs.Notes.{Notes}
 use Rattle.envy_reloc.specs.Plan.{IsFreeOf}
 use Rattle.envy_space.specs.Pool.{Pool, IsPool, PoolAgrees, free_at}
 use Rattle.envy_choosing.specs.Choosing.{IsFreeBeside, counts_in, frees}
-use Rattle.envy_choosing.proofs.PooledLemmas.{at, long}
+use Rattle.envy_choosing.proofs.PooledLemmas.{at}
+use Rattle.envy_choosing.proofs.ChoosingLemmas.{long}
 use Rattle.envy_flush.specs.Agreement.{PartsAgree}
 use Rattle.envy_flush.specs.declared.parts.Parts.{Parts}
 use Rattle.envy_flush.specs.Flushing.{IsAvailable, IsNoneNear, IsLowestNear, GoesBeside, IsEmptied, IsNoneAvailable, IsLowestAvailable}

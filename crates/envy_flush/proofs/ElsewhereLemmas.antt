@@ -34,6 +34,7 @@ use Rattle.envy_flush.specs.Putting.{MayGive, undo_for}
 use Rattle.envy_flush.specs.Storing.{Near}
 use Rattle.envy_flush.specs.declared.parts.Parts.{Parts}
 use Rattle.envy_flush.proofs.JobLemmas.{IsPlanOf-fewer}
+use Rattle.envy_flush.proofs.NearLemmas.{room-near as room}
 
 free : (c : Chart) (o : Ownership) (t p : ℕ) → MayGive t p c o → owned_by c.fields.slots (undo c.fields p) ≡ false
 free c o t p may = unowned c.fields.slots (undo c.fields p) (sym (may.owned p) ∙ may.free)
@@ -96,9 +97,6 @@ many sh slots u t k (Row q) s free active elsewhere =
     ∙ zero_more (if q / sh.rows == s then 1 else 0)
     ∙ sym (page_kept_in-free sh slots u (Some (Row q)) s free)
 many sh slots u t k (Frame j) s free active elsewhere = absurd (elsewhere j refl)
-
-room : (c : Chart) (x : Parts) (p k : ℕ) (from : Place) → Near c x p k from → p < length c.fields.places
-room c x p k from n = rw (Places.long (Sound.places n.sound)) n.page
 
 room-undos : (c : Chart) (x : Parts) (p k : ℕ) (from : Place) → Near c x p k from → p < length c.fields.undos
 room-undos c x p k from n = rw (Slots.undos_long (Sound.slots n.sound)) n.page

@@ -19,10 +19,7 @@ use Rattle.envy_layout.proofs.References.{apart-spare, copy-segment}
 use Rattle.envy_reloc.specs.Plan.{IsFreeOf}
 use Rattle.envy_layout.specs.Naming.{AreParted}
 use Rattle.envy_reloc.specs.Plan.{Plan, IsPlanOf, AreCopies, HasCopy}
-
--- a segment at a position is neither the spare nor the one that is copied
-other-spare : (sh : Shape) (positions : List ℕ) (s e : ℕ) → IsPlaced sh positions s → IsSpare sh positions e → e ≢ s
-other-spare sh positions s e placed spare same = apart-spare sh positions s placed (subst (λ (x : ℕ). IsSpare sh positions x) same spare)
+use Rattle.envy_reloc.proofs.WriteLemmas.{other-spare}
 
 -- a row of a segment that the job leaves free is claimed
 pub IsPlanOf-claimed : (sh : Shape) (f : Fields) (flash : List (List ℕ)) (t : Plan) (s q p n : ℕ) → Sound sh f flash → IsPlaced sh f.positions s → IsFreeOf f.job s → q / sh.rows ≡ s → IsPlanOf sh f flash t → IsPlanOf sh (with_fill s n (with_back q p f)) flash t

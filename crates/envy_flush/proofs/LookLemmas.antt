@@ -20,6 +20,7 @@ use Rattle.envy_flush.specs.Putting.{undo_for, PutsBy}
 use Rattle.envy_flush.specs.Storing.{Brings, StoresBy}
 use Rattle.envy_flush.specs.declared.parts.Parts.{Parts}
 use Rattle.envy_flush.proofs.FlushLemmas.{on-ok}
+use Rattle.envy_table.proofs.HitLemmas.{Accesses-then as Accesses-rests}
 
 NotesBad-same : (choice : Choice) (page : ℕ) (x y now : Parts) → x.chooser ≡ y.chooser → NotesBad choice page x now → NotesBad choice page y now
 NotesBad-same (Free k) page x y now same noted = subst (λ (h : History). now.chooser ≡ claimed h k page) same noted
@@ -79,9 +80,6 @@ value from (Some x) = x
 pub elsewhere-of : (x : Option Place) (from : Place) → x ≡ Some from → ((k : ℕ) → from ≢ Frame k) → IsElsewhere x
 unfolding value
 elsewhere-of x from is other k at = other k (ap (λ (o : Option Place). value from o) (sym is ∙ at))
-
-pub Accesses-rests : (p : ℕ) (a b c : Translations) → Accesses p a b → Rests b c → Accesses p a c
-Accesses-rests p a b c x r = record { size = r.size ∙ x.size; pages = λ i. r.pages i ∙ x.pages i; hits = r.hits ∙ x.hits; misses = r.misses ∙ x.misses }
 
 -- the entries of the cache are no count of flash work
 pub Counting-looked : (c d : Chart) (y z : Parts) (t : Translations) → Counting c (record y { cache = t }) d z → Counting c y d z

@@ -29,7 +29,7 @@ use Rattle.envy_flush.proofs.JobLemmas.{IsPlanOf-framed, IsPlanOf-words, ArePart
 use Rattle.envy_space.specs.Noting.{Leaving}
 use Rattle.envy_space.proofs.PlaceLemmas.{PoolAgrees-left, PoolAgrees-absent}
 
-room-near : (c : Chart) (x : Parts) (p k : ℕ) (from : Place) → Near c x p k from → p < length c.fields.places
+pub room-near : (c : Chart) (x : Parts) (p k : ℕ) (from : Place) → Near c x p k from → p < length c.fields.places
 room-near c x p k from n = rw (Places.long (Sound.places n.sound)) n.page
 
 leaving-near : (c : Chart) (x : Parts) (p k q : ℕ) → Near c x p k (Row q) → Leaving c.shape c.fields x.space p q

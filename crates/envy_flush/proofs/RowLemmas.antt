@@ -18,8 +18,9 @@ use Rattle.envy_layout.proofs.KeptCounts.{rows-left}
 use Rattle.envy_layout.proofs.References.{apart-spare}
 use Rattle.envy_layout.proofs.SpareLemmas.{one-spare}
 use Rattle.envy_policy.specs.declared.choice.Choice.TheVariants.{Free, Clean}
-use Rattle.envy_policy.specs.declared.setup.Policy.{Policy}
-use Rattle.envy_policy.specs.declared.setup.Policy.TheVariants.{Greedy, Fifo, Locality, Hybrid, Lifetime}
+use Rattle.envy_policy.specs.declared.setup.Victims.{Victims}
+use Rattle.envy_policy.specs.declared.setup.Victims.TheVariants.{MostDead, InTurn}
+use Rattle.envy_policy.specs.Setup.{victims_of}
 use Rattle.envy_policy.specs.History.{History, partition_of}
 use Rattle.envy_policy.specs.Choice.{IsChoice, IsLeast, IsMost, IsVictim}
 use Rattle.envy_policy.specs.Lifetime.{IsGreatest, IsLifetimeChoice}
@@ -99,15 +100,12 @@ free-room h pool home page k choice = at (cases_lt k (pool.shape.segments - 1))
     at (inr past) = absurd (let none : get_or (frees pool) k 0 ≡ 0 = get_or_past (frees pool) k 0 (rw length-map-range_with_len past) in omega (arith, some))
 
 -- a position that is cleaned has dead rows
-victim-some : (policy : Policy) (h : History) (pool : Pool) (k : ℕ) → IsVictim policy h (deads pool) (partition_of h k) k → 0 < get_or (deads pool) k 0
-victim-some Greedy h pool k v = (IsMost.holds v).1
-victim-some Fifo h pool k v = (IsLeast.holds v).1
-victim-some Locality h pool k v = (IsLeast.holds v).1
-victim-some (Hybrid part) h pool k v = (IsLeast.holds v).1
-victim-some Lifetime h pool k v = (IsMost.holds v).1
+victim-some : (victims : Victims) (h : History) (pool : Pool) (k : ℕ) → IsVictim victims h (deads pool) (partition_of h k) k → 0 < get_or (deads pool) k 0
+victim-some MostDead h pool k v = (IsMost.holds v).1
+victim-some InTurn h pool k v = (IsLeast.holds v).1
 
 dead-some : (lives : Option Notes) (h : History) (pool : Pool) (home page k : ℕ) (aside : Option ℕ) → MatchOption lives (IsChoice h (frees pool) (deads pool) home (Clean k aside)) (λ n. IsLifetimeChoice n (counts_in pool) page (Clean k aside)) → 0 < get_or (deads pool) k 0
-dead-some None h pool home page k aside choice = victim-some h.policy h pool k choice.2
+dead-some None h pool home page k aside choice = victim-some (victims_of h.policy) h pool k choice.2
 dead-some (Some n) h pool home page k aside choice = (IsGreatest.holds choice.1).0
 
 pub clean-room : (h : History) (pool : Pool) (home page k : ℕ) (aside : Option ℕ) → ChoiceFor h pool home page (Clean k aside) → k < pool.shape.segments - 1

@@ -10,6 +10,9 @@ use Rattle.envy_layout.specs.Same.{Counted, Framed, Stays, Same, Stored, Interru
 use Rattle.envy_layout.proofs.Composition.{Counted-trans, Counted-more, Framed-trans, Wears-trans, Same-more, Same-trans}
 use Rattle.envy_reloc.specs.Phases.{SameOnce}
 use Rattle.envy_flush.specs.Storing.{Wrote, Shaded, Leaves}
+use Rattle.envy_layout.proofs.WordPuts.{Dropped-after}
+use Rattle.envy_layout.proofs.WordPuts.{Dropped-more}
+use Rattle.envy_layout.proofs.Sames.{same_two as Same-two}
 
 pub Stored-after : (i j k l : ℕ) (a b c : Chart) (x w : ℕ) → Same i j a b → Stored k l b c x w → Stored (i + k) (j + l) a c x w
 Stored-after i j k l a b c x w s t =
@@ -59,29 +62,11 @@ Shadowed-after i j k l a b c x w s t =
       worn = Wears-trans k l a b c (Framed.shape y.framed) t.counted s.worn t.worn;
     }
 
-pub Dropped-after : (i j k l : ℕ) (a b c : Chart) → Same i j a b → Dropped k l b c → Dropped (i + k) (j + l) a c
-Dropped-after i j k l a b c s t =
-    let y = s.stays in record {
-      off = t.off;
-      framed = Framed-trans a b c y.framed t.framed;
-      sound = t.sound;
-      durable = t.durable ∙ y.durable;
-      counted = Counted-trans i j k l a b c y.counted t.counted;
-      worn = Wears-trans k l a b c (Framed.shape y.framed) t.counted s.worn t.worn;
-    }
-
 pub Dropped-same : (k j : ℕ) (a b : Chart) → b.on ≡ false → Same k j a b → Dropped k j a b
 Dropped-same k j a b off s = let y = s.stays in record { off = off; framed = y.framed; sound = y.sound; durable = y.durable; counted = y.counted; worn = s.worn }
 
--- two steps that leave the array, within a bound
-pub Same-two : (i j k l m n : ℕ) (a b c : Chart) → i + k ≤ m → j + l ≤ n → Same i j a b → Same k l b c → Same m n a c
-Same-two i j k l m n a b c le less s t = Same-more (i + k) (j + l) m n a c le less (Same-trans i j k l a b c s t)
-
 pub Shadowed-more : (i j k l : ℕ) (a b : Chart) (x w : ℕ) → i ≤ k → j ≤ l → Shadowed i j a b x w → Shadowed k l a b x w
 Shadowed-more i j k l a b x w le less s = record { on = s.on; framed = s.framed; sound = s.sound; live = s.live; durable = s.durable; counted = Counted-more i j k l a b le less s.counted; worn = s.worn }
-
-pub Dropped-more : (i j k l : ℕ) (a b : Chart) → i ≤ k → j ≤ l → Dropped i j a b → Dropped k l a b
-Dropped-more i j k l a b le less s = record { off = s.off; framed = s.framed; sound = s.sound; durable = s.durable; counted = Counted-more i j k l a b le less s.counted; worn = s.worn }
 
 leaves-same : (k j : ℕ) (c new : Chart) → Same k j c new → Leaves k j c new
 leaves-same k j c new s = let y = s.stays in record { framed = y.framed; sound = y.sound; counted = y.counted; worn = s.worn }

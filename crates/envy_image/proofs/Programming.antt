@@ -13,16 +13,7 @@ use Rattle.envy_image.specs.Image.{word_bytes, words_bytes, rows_bytes}
 use Rattle.envy_image.specs.Reading.{Consumes}
 use Rattle.envy_image.specs.Installing.{IsWithin, Goes, Programmed, Filled, count_after}
 use Rattle.envy_image.proofs.Consuming.{consumes-both, consumes-none}
-
--- an erased row takes what is programmed
-and-ones : (x : ℕ) → x < 2 ^ 64 → bit_and (2 ^ 64 - 1) x ≡ x
-and-ones x lt = and_comm (2 ^ 64 - 1) x ∙ and_mask x 64 ∙ omega arith
-
-ands-ones : (n : ℕ) (xs : List ℕ) → length xs ≡ n → AreWords xs → ands (replicate n (2 ^ 64 - 1)) xs ≡ xs
-ands-ones zero [] long words = refl
-ands-ones zero (x ∷ xs) long words = cc
-ands-ones (suc n) [] long words = cc
-ands-ones (suc n) (x ∷ xs) long words = rw (and-ones x (words 0)) (ap (λ (r : List ℕ). x ∷ r) (ands-ones n xs (omega arith) (λ i. words (suc i))))
+use Rattle.envy_base.proofs.Rows.{ands_ones as ands-ones}
 
 pub count-none : (count : ℕ) → count ≡ count_after 0 count
 unfolding count_after

@@ -20,6 +20,7 @@ use Rattle.envy_layout.specs.Same.{Same}
 use Rattle.envy_layout.proofs.References.{copy-segment}
 use Rattle.envy_layout.proofs.WordLists.{words-same}
 use Rattle.envy_layout.proofs.Composition.{Grows-refl, Wears-refl, Wears-failed, Keeps-refl, Stays-failed, Same-refl, Same-trans, Same-more}
+use Rattle.envy_base.proofs.Rows.{ands_ones}
 
 Sound-programmed : (sh : Shape) (f : Fields) (flash : List (List ℕ)) (q : ℕ) (xs : List ℕ) → MayProgram sh f q → Sound sh f flash → Sound sh f (set flash q xs)
 Sound-programmed sh f flash q xs may s = record {
@@ -104,16 +105,6 @@ Same-programmed old new q x (Err TroubleOff) sound may (inr (on, xs, page, is)) 
 Same-programmed old new q x (Err Bad) sound may (on, xs, page, is) =
     let written = Same-written (chart old) q xs sound (may on) in
     subst (λ (s : State). Same 1 0 (chart old) (chart s)) (sym is) (Same-trans 1 0 0 0 (chart old) (programmed (chart old) q xs) (spoilt (programmed (chart old) q xs)) written (Same-spoilt (programmed (chart old) q xs) (Sound-programmed old.shape (chart old).fields old.flash q xs (may on) sound)))
-
--- an erased row takes what is programmed
-and_ones : (x : ℕ) → x < 2 ^ 64 → bit_and (2 ^ 64 - 1) x ≡ x
-and_ones x lt = and_comm (2 ^ 64 - 1) x ∙ and_mask x 64 ∙ omega arith
-
-ands_ones : (n : ℕ) (xs : List ℕ) → length xs ≡ n → AreWords xs → ands (replicate n (2 ^ 64 - 1)) xs ≡ xs
-ands_ones zero [] long words = refl
-ands_ones zero (x ∷ xs) long words = cc
-ands_ones (suc n) [] long words = cc
-ands_ones (suc n) (x ∷ xs) long words = rw (and_ones x (words 0)) (ap (λ (r : List ℕ). x ∷ r) (ands_ones n xs (omega arith) (λ i. words (suc i))))
 
 pub written-programmed : (old new : State) (q : ℕ) (x : List ℕ) (r : Result Unit Trouble) → IsBoard old → q < old.shape.segments * old.shape.rows → length x ≡ 32 → AreWords x → Programs old q x r new → OnOk r (IsOnes (row_of old q) → row_of new q ≡ x)
 written-programmed old new q x (Ok done) board range long words (on, is) = λ erased. ap (λ (s : State). row_of s q) is ∙ get_or-set_same old.flash q (ands (row_of old q) x) [] (rw board.rows range) ∙ ap (λ (row : List ℕ). ands row x) erased ∙ ands_ones 32 x long words

@@ -15,28 +15,7 @@ use Rattle.envy_part.specs.Part.{part_state, ArePages, HasZeros, MissesOnes, Mis
 use Rattle.envy_bank.specs.Lanes.{lane_of, row_from}
 use Rattle.envy_bank.specs.Rows.{IsPage as WholePage}
 use Rattle.envy_bank.proofs.LaneLaws.{length-row_from, lanes_of, length-lanes_of, get_or-lanes_of, row_from-lanes_of}
-
--- the first n words are done
-pub record Anded (n : ℕ) (row page both : List ℕ) : Type 0 where
-  pub long : length both ≡ 32
-  pub done : (j : ℕ) → j < n → slice_index both j ≡ bit_and (slice_index row j) (slice_index page j)
-
-length-ands : (xs ys : List ℕ) → length xs ≡ length ys → length (ands xs ys) ≡ length xs
-length-ands [] ys e = refl
-length-ands (x ∷ xs) [] e = cc
-length-ands (x ∷ xs) (y ∷ ys) e = ap suc (length-ands xs ys (omega arith))
-
-get_or-ands : (xs ys : List ℕ) → length xs ≡ length ys → (i : ℕ) → get_or (ands xs ys) i 0 ≡ bit_and (get_or xs i 0) (get_or ys i 0)
-get_or-ands [] [] e i = refl
-get_or-ands [] (y ∷ ys) e i = absurd (let no : 0 ≡ suc (length ys) = e in cc)
-get_or-ands (x ∷ xs) [] e i = absurd (let no : suc (length xs) ≡ 0 = e in cc)
-get_or-ands (x ∷ xs) (y ∷ ys) e zero = refl
-get_or-ands (x ∷ xs) (y ∷ ys) e (suc i) = get_or-ands xs ys (omega arith) i
-
-pub anded_all : (row page both : List ℕ) → length row ≡ 32 → length page ≡ 32 → Anded 32 row page both → both ≡ ands row page
-anded_all row page both r p is =
-    let same : length row ≡ length page = r ∙ sym p in
-    same_number_lists both (ands row page) (is.long ∙ sym r ∙ sym (length-ands row page same)) (λ k lt. is.done k (omega (lt, is.long, arith)) ∙ sym (get_or-ands row page same k))
+use Rattle.envy_base.proofs.Rows.{block_of, inside_of}
 
 -- the first n words are read
 pub record Read (n : ℕ) (bytes found : List ℕ) : Type 0 where
@@ -108,19 +87,6 @@ programmed_missed flash q row read both page lt is anded differs same =
     let now : row_from (get_or (slice_set flash q row) q []) ≡ row_from row = ap row_from (get_or-set_same flash q row [] (in_part flash q lt)) in
     let asked : both ≡ ands (row_from (get_or flash q [])) page = anded ∙ ap (λ xs. ands xs page) is in
     differs (sym now ∙ same ∙ sym asked)
-
-inside_of : (rows e k : ℕ) → 1 ≤ rows → k / rows ≡ e → (e * rows ≤ k) × (k < e * rows + rows)
-inside_of rows e k some is =
-    let split : k / rows * rows + k % rows ≡ k = div-add-mod' k rows in
-    let rest : k % rows < rows = mod_below k rows some in
-    let at : e * rows + k % rows ≡ k = ap (λ n. n * rows + k % rows) (sym is) ∙ split in
-    (omega (at, arith), omega (at, rest, arith))
-
-block_of : (rows e k : ℕ) → e * rows ≤ k → k < e * rows + rows → k / rows ≡ e
-block_of rows e k low high =
-    let rest : k - e * rows < rows = omega arith in
-    let at : k ≡ e * rows + (k - e * rows) = omega arith in
-    ap (λ n. n / rows) at ∙ div-mul-add e rows (k - e * rows) rest
 
 -- the words of rows of which a part was put
 same_words : (old new : List (List ℕ)) (q : ℕ) → length new ≡ length old → get_or new q [] ≡ get_or old q [] → get_or (map row_from new) q [] ≡ get_or (map row_from old) q []

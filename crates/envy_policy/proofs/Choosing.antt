@@ -1,11 +1,9 @@
 -- Which rows a partition has, by its bounds; the nearest partition; the next in turn.
-use Rattle.std.proofs.Common.{◌≡◌, ◌⊎◌, inl, inr, ℕ, ◌+◌, ◌-◌, ◌*◌, ◌<◌, ◌≤◌, List, length, slice_index, Option, None, Some, MatchOption, subst, refl, arith}
+use Rattle.std.proofs.Common.{◌≡◌, inl, inr, ℕ, ◌+◌, ◌-◌, ◌*◌, ◌<◌, ◌≤◌, List, length, slice_index, Option, None, Some, MatchOption, subst, refl, arith}
 use Rattle.std.proofs.lemmas.List.{get_or_past}
 use Rattle.std.specs.Option.{option_or}
-use Rattle.envy_policy.specs.declared.setup.Policy.{Policy}
-use Rattle.envy_policy.specs.declared.setup.Policy.TheVariants.{Greedy, Fifo, Locality, Hybrid, Lifetime}
 use Rattle.std.proofs.lemmas.Bool.{cases_lt, lt-ltb, le-ltb}
-use Rattle.envy_policy.specs.Choice.{IsLeast, IsMost, IsNearest, HasRows, IsUsable, IsVictim, distance, steps}
+use Rattle.envy_policy.specs.Choice.{IsLeast, IsMost, IsNearest, HasRows, IsUsable, distance, steps}
 use Rattle.envy_policy.specs.History.{History, IsHistory, run, partition_of, first_of, end_of}
 use Rattle.envy_policy.proofs.Partitions.{run-holds, run-is, counted}
 
@@ -172,16 +170,8 @@ next-in-turn h dead g first end turn None None whole in_count long low high at n
       | inr behind ↦ let zero_k = none k (omega arith) (omega arith) in absurd (omega (arith, has.1))
     ]
 
--- every policy but two goes in turn
-pub in-turn : (policy : Policy) (h : History) (dead : List ℕ) (g position : ℕ) → (policy ≡ Greedy → ⊥) → (policy ≡ Lifetime → ⊥) → IsLeast (HasRows h dead g) (steps h g) position → IsVictim policy h dead g position
-in-turn Greedy h dead g position other another least = absurd (other refl)
-in-turn Fifo h dead g position other another least = least
-in-turn Locality h dead g position other another least = least
-in-turn (Hybrid part) h dead g position other another least = least
-in-turn Lifetime h dead g position other another least = absurd (another refl)
-
 -- the most of the positions between a partition's bounds
-most-in : (h : History) (dead : List ℕ) (g p first end : ℕ) → IsHistory h → length dead ≡ h.positions → first ≡ first_of h g → end ≡ end_of h g → (k : ℕ) × HasRows h dead g k → IsMost (λ k. (first ≤ k) × (k < end)) (slice_index dead) p → IsMost (HasRows h dead g) (slice_index dead) p
+pub most-in : (h : History) (dead : List ℕ) (g p first end : ℕ) → IsHistory h → length dead ≡ h.positions → first ≡ first_of h g → end ≡ end_of h g → (k : ℕ) × HasRows h dead g k → IsMost (λ k. (first ≤ k) × (k < end)) (slice_index dead) p → IsMost (HasRows h dead g) (slice_index dead) p
 most-in h dead g p first end whole long low high (k, has) is =
     let inside = range k has in
     let more = is.most k inside in
@@ -197,8 +187,3 @@ most-in h dead g p first end whole long low high (k, has) is =
         let from = within-first h g y whole other.0 in
         let to = within-end h g y whole (rows-below dead h.positions y long other.1) other.0 in
         (omega (arith, low, from), omega (arith, high, to))
-
--- two policies clean the most dead
-pub most-of : (policy : Policy) (h : History) (dead : List ℕ) (g p first end : ℕ) → IsHistory h → length dead ≡ h.positions → first ≡ first_of h g → end ≡ end_of h g → (policy ≡ Greedy) ⊎ (policy ≡ Lifetime) → (k : ℕ) × HasRows h dead g k → IsMost (λ k. (first ≤ k) × (k < end)) (slice_index dead) p → IsVictim policy h dead g p
-most-of policy h dead g p first end whole long low high (inl e) some is = rw e (most-in h dead g p first end whole long low high some is)
-most-of policy h dead g p first end whole long low high (inr e) some is = rw e (most-in h dead g p first end whole long low high some is)

@@ -2,8 +2,9 @@
 use Rattle.std.proofs.Common.{◌≡◌, ℕ, List, Option, None, Some, refl, sym, ap, ap₂, subst, slice_index, arith}
 use Rattle.envy_policy.specs.declared.choice.Choice.{Choice}
 use Rattle.envy_policy.specs.declared.choice.Choice.TheVariants.{Free, Clean}
-use Rattle.envy_policy.specs.declared.setup.Policy.{Policy}
-use Rattle.envy_policy.specs.declared.setup.Policy.TheVariants.{Greedy, Fifo, Locality, Hybrid, Lifetime}
+use Rattle.envy_policy.specs.declared.setup.Victims.{Victims}
+use Rattle.envy_policy.specs.declared.setup.Victims.TheVariants.{MostDead, InTurn}
+use Rattle.envy_policy.specs.Setup.{victims_of}
 use Rattle.envy_policy.specs.History.{History, partition_of}
 use Rattle.envy_policy.specs.Choice.{IsLeast, IsMost, IsUsable, IsNeighbour, HasRows, IsVictim, IsAside, IsChoice, distance, steps}
 
@@ -23,12 +24,9 @@ most-one P f x y a b =
     let above = b.lowest x a.holds (omega arith) in
     omega arith
 
-victim-one : (policy : Policy) (h : History) (dead : List ℕ) (g x y : ℕ) → IsVictim policy h dead g x → IsVictim policy h dead g y → x ≡ y
-victim-one Greedy h dead g x y a b = most-one (HasRows h dead g) (slice_index dead) x y a b
-victim-one Fifo h dead g x y a b = least-one (HasRows h dead g) (steps h g) x y a b
-victim-one Locality h dead g x y a b = least-one (HasRows h dead g) (steps h g) x y a b
-victim-one (Hybrid part) h dead g x y a b = least-one (HasRows h dead g) (steps h g) x y a b
-victim-one Lifetime h dead g x y a b = most-one (HasRows h dead g) (slice_index dead) x y a b
+victim-one : (victims : Victims) (h : History) (dead : List ℕ) (g x y : ℕ) → IsVictim victims h dead g x → IsVictim victims h dead g y → x ≡ y
+victim-one MostDead h dead g x y a b = most-one (HasRows h dead g) (slice_index dead) x y a b
+victim-one InTurn h dead g x y a b = least-one (HasRows h dead g) (steps h g) x y a b
 
 aside-one : (h : History) (g : ℕ) (a b : Option ℕ) → IsAside h g a → IsAside h g b → a ≡ b
 aside-one h g None None a b = refl
@@ -49,5 +47,5 @@ choice-one h free dead home (Clean x aside) (Free y) a b =
 choice-one h free dead home (Clean x other) (Clean y another) a b =
     let g = least-one (IsUsable h free dead) (distance (partition_of h home)) (partition_of h x) (partition_of h y) a.0 b.0 in
     ap₂ Clean
-    (victim-one h.policy h dead (partition_of h x) x y a.2 (subst (λ (p : ℕ). IsVictim h.policy h dead p y) (sym g) b.2))
+    (victim-one (victims_of h.policy) h dead (partition_of h x) x y a.2 (subst (λ (p : ℕ). IsVictim (victims_of h.policy) h dead p y) (sym g) b.2))
     (aside-one h (partition_of h x) other another a.3 (subst (λ (p : ℕ). IsAside h p another) (sym g) b.3))

@@ -6,6 +6,7 @@ use Rattle.envy_policy.specs.declared.setup.Policy.{Policy}
 use Rattle.envy_policy.specs.declared.setup.Policy.TheVariants.{Greedy}
 use Rattle.envy_policy.specs.Setup.{run_of}
 use Rattle.envy_policy.specs.History.{History, IsHistory, run, partition_of}
+use Rattle.envy_policy.specs.Setup.{victims_of}
 use Rattle.envy_policy.specs.Choice.{IsLeast, IsMost, IsNearest, HasRows, IsVictim, IsHot, IsChoice}
 use Rattle.envy_policy.proofs.Choosing.{rows-below}
 
@@ -49,4 +50,4 @@ greedy-clean h free dead home position whole greedy long home_below none most =
       most = λ y has. most.most y has.1;
       lowest = λ y has e. most.lowest y has.1 e;
     } in
-    (one-nearest h free dead home position greedy home_below (rows-below dead h.positions position long most.holds) (inr most.holds), λ x has. absurd (let zero_x = none x in omega (arith, has.1)), subst (λ (policy : Policy). IsVictim policy h dead (partition_of h position) position) (sym greedy) victim, cool h (partition_of h position) whole greedy)
+    (one-nearest h free dead home position greedy home_below (rows-below dead h.positions position long most.holds) (inr most.holds), λ x has. absurd (let zero_x = none x in omega (arith, has.1)), subst (λ (policy : Policy). IsVictim (victims_of policy) h dead (partition_of h position) position) (sym greedy) victim, cool h (partition_of h position) whole greedy)

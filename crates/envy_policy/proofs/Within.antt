@@ -4,19 +4,17 @@ use Rattle.std.specs.Prelude.{◌==◌, ◌/◌, if◌then◌else◌}
 use Rattle.std.proofs.Math.ListN.{length-set, length-map}
 use Rattle.envy_policy.specs.declared.choice.Choice.{Choice}
 use Rattle.envy_policy.specs.declared.choice.Choice.TheVariants.{Free, Clean}
-use Rattle.envy_policy.specs.declared.setup.Policy.{Policy}
-use Rattle.envy_policy.specs.declared.setup.Policy.TheVariants.{Greedy, Fifo, Locality, Hybrid, Lifetime}
+use Rattle.envy_policy.specs.declared.setup.Victims.{Victims}
+use Rattle.envy_policy.specs.declared.setup.Victims.TheVariants.{MostDead, InTurn}
+use Rattle.envy_policy.specs.Setup.{victims_of}
 use Rattle.envy_policy.specs.Choice.{IsChoice, IsWithin, IsLeast, IsMost, IsVictim, IsAside}
 use Rattle.envy_policy.specs.History.{History, SameSizes, warmed, flushed, claimed, cleaned, partition_of}
 use Rattle.envy_policy.proofs.Choosing.{rows-below}
 
 -- a victim has dead rows
-pub victim-dead : (policy : Policy) (h : History) (dead : List ℕ) (g k : ℕ) → IsVictim policy h dead g k → 0 < slice_index dead k
-victim-dead Greedy h dead g k is = let has = IsMost.holds is in has.1
-victim-dead Fifo h dead g k is = let has = IsLeast.holds is in has.1
-victim-dead Locality h dead g k is = let has = IsLeast.holds is in has.1
-victim-dead (Hybrid part) h dead g k is = let has = IsLeast.holds is in has.1
-victim-dead Lifetime h dead g k is = let has = IsMost.holds is in has.1
+pub victim-dead : (victims : Victims) (h : History) (dead : List ℕ) (g k : ℕ) → IsVictim victims h dead g k → 0 < slice_index dead k
+victim-dead MostDead h dead g k is = let has = IsMost.holds is in has.1
+victim-dead InTurn h dead g k is = let has = IsLeast.holds is in has.1
 
 pub aside-below : (h : History) (g : ℕ) (aside : Option ℕ) → IsAside h g aside → (k : ℕ) → aside ≡ Some k → k < length h.heats
 aside-below h g None is k e = cc
@@ -27,7 +25,7 @@ within-choice h free dead home (Free k) long_free long_dead is =
     let has = IsLeast.holds is.1 in
     (rows-below free h.positions k long_free has.1, has.1)
 within-choice h free dead home (Clean k aside) long_free long_dead is =
-    let some = victim-dead h.policy h dead (partition_of h k) k is.2 in
+    let some = victim-dead (victims_of h.policy) h dead (partition_of h k) k is.2 in
     (rows-below dead h.positions k long_dead some, some, aside-below h (partition_of h k) aside is.3)
 
 pub flushed-sizes : (h : History) (k : ℕ) → SameSizes h (flushed h k)

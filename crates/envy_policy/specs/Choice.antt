@@ -3,9 +3,10 @@
 use Rattle.std.specs.Prelude.{◌≡◌, ◌⊎◌, ℕ, ◌+◌, ◌-◌, ◌*◌, ◌<◌, ◌≤◌, nat_lt, List, length, sum, slice_index, Option, None, Some, if◌then◌else◌}
 use Rattle.envy_policy.specs.declared.choice.Choice.{Choice}
 use Rattle.envy_policy.specs.declared.choice.Choice.TheVariants.{Free, Clean}
-use Rattle.envy_policy.specs.declared.setup.Policy.{Policy}
-use Rattle.envy_policy.specs.declared.setup.Policy.TheVariants.{Greedy, Fifo, Locality, Hybrid, Lifetime}
+use Rattle.envy_policy.specs.declared.setup.Victims.{Victims}
+use Rattle.envy_policy.specs.declared.setup.Victims.TheVariants.{MostDead, InTurn}
 use Rattle.envy_policy.specs.History.{History, partition_of, first_of, end_of}
+use Rattle.envy_policy.specs.Setup.{victims_of}
 
 -- among the numbers that P holds of, x has the least f, and is the lowest of those with as much
 pub record IsLeast (P : ℕ → Type 0) (f : ℕ → ℕ) (x : ℕ) : Type 0 where
@@ -40,14 +41,10 @@ steps h g position =
     let turn = slice_index h.turns g in
     if nat_lt turn position then position - turn else position + (end_of h g - first_of h g) - turn
 
--- greedy cleans the position with most dead rows, and so does the policy that notes lives, where it is asked
--- for a home; the others the next in turn that has one
-abbrev pub IsVictim : Policy → History → List ℕ → ℕ → ℕ → Type 0
-IsVictim Greedy h dead g position = IsMost (HasRows h dead g) (slice_index dead) position
-IsVictim Fifo h dead g position = IsLeast (HasRows h dead g) (steps h g) position
-IsVictim Locality h dead g position = IsLeast (HasRows h dead g) (steps h g) position
-IsVictim (Hybrid part) h dead g position = IsLeast (HasRows h dead g) (steps h g) position
-IsVictim Lifetime h dead g position = IsMost (HasRows h dead g) (slice_index dead) position
+-- the position of partition g that is cleaned: the one with most dead rows, or the next in turn that has one
+abbrev pub IsVictim : Victims → History → List ℕ → ℕ → ℕ → Type 0
+IsVictim MostDead h dead g position = IsMost (HasRows h dead g) (slice_index dead) position
+IsVictim InTurn h dead g position = IsLeast (HasRows h dead g) (steps h g) position
 
 -- partition g is warmer than the mean of several
 abbrev pub IsHot : History → ℕ → Type 0
@@ -68,7 +65,7 @@ IsChoice h free dead home (Free position) =
     let g = partition_of h position in IsNearest h free dead home g × IsLeast (HasRows h free g) (λ x. x) position
 IsChoice h free dead home (Clean position aside) =
     let g = partition_of h position in
-    IsNearest h free dead home g × ((x : ℕ) → HasRows h free g x → ⊥) × IsVictim h.policy h dead g position × IsAside h g aside
+    IsNearest h free dead home g × ((x : ℕ) → HasRows h free g x → ⊥) × IsVictim (victims_of h.policy) h dead g position × IsAside h g aside
 
 -- the position is one that there is, with rows of the kind; and so is the partition beside it
 abbrev pub IsWithin : History → List ℕ → List ℕ → Choice → Type 0

@@ -7,6 +7,8 @@ use Rattle.envy_policy.specs.declared.setup.Policy.{Policy}
 use Rattle.envy_policy.specs.declared.setup.Policy.TheVariants.{Greedy, Fifo, Locality, Hybrid, Lifetime}
 use Rattle.envy_policy.specs.declared.setup.Setup.{Setup}
 use Rattle.envy_policy.specs.declared.setup.SetupFault.{SetupFault}
+use Rattle.envy_policy.specs.declared.setup.Victims.{Victims}
+use Rattle.envy_policy.specs.declared.setup.Victims.TheVariants.{MostDead, InTurn}
 use Rattle.envy_policy.specs.declared.setup.SetupFault.TheVariants.{Shape as OfShape, Part, Limit, Mark}
 
 -- how many consecutive positions, of n, make a partition
@@ -16,6 +18,14 @@ run_of Fifo n = n
 run_of Locality n = 1
 run_of (Hybrid part) n = part
 run_of Lifetime n = n
+
+-- which position of a partition is cleaned
+abbrev pub victims_of : Policy → Victims
+victims_of Greedy = MostDead
+victims_of Fifo = InTurn
+victims_of Locality = InTurn
+victims_of (Hybrid part) = InTurn
+victims_of Lifetime = MostDead
 
 -- hybrid partitions of no position, or of more than there are
 abbrev pub fails_part : Policy → ℕ → Bool

@@ -1,13 +1,13 @@
 ghost use Rattle.std.specs.Prelude.{◌≡◌, ◌↔◌, ℕ, ◌+◌, ◌-◌, ◌<◌, ◌≤◌, length, map, slice_index, slice_set, IsTrue, IfOk, MatchOption};
 ghost use Rattle.std.specs.List.{range_with_len};
-ghost use Rattle.envy_policy.specs.Setup.{IsSetup};
+ghost use Rattle.envy_policy.specs.Setup.{IsSetup, victims_of};
 ghost use Rattle.envy_policy.specs.History.{IsHistory, run, started, flushed, claimed, cleaned, partition_of, first_of, end_of, last_in};
-ghost use Rattle.envy_policy.specs.Choice.{IsChoice, IsWithin, IsLeast, IsNearest, IsUsable, HasRows, IsVictim, IsAside, steps};
+ghost use Rattle.envy_policy.specs.Choice.{IsChoice, IsWithin, IsLeast, IsNearest, IsUsable, HasRows, IsMost, IsVictim, IsAside, steps};
 
 use crate::heats::Heats;
 use crate::lives::{note_claim, note_clean, reset, started};
 use crate::rows::{first_with, most};
-use crate::{Choice, Lifetime, Policy, Setup};
+use crate::{Choice, Lifetime, Policy, Setup, Victims};
 use envy_base::NoMemory;
 use std::alloc::Global;
 use std::marker::Model;
@@ -205,13 +205,22 @@ impl Chooser {
         requires partition { partition < length self.now.heats }
         requires dead { length dead.now ≡ self.now.positions }
         requires some { (k : ℕ) × HasRows self.now dead.now partition k }
-        ensures { IsVictim self.now.policy self.now dead.now partition result }
+        ensures { IsVictim (victims_of self.now.policy) self.now dead.now partition result }
     {
-        if let Policy::Greedy | Policy::Lifetime = self.policy {
-            let (first, end) = self.bounds(partition);
-            return most(dead, first, end);
+        match self.policy.victims() {
+            Victims::MostDead => self.most_dead(dead, partition),
+            Victims::InTurn => self.next_in_turn(dead, partition).unwrap(),
         }
-        self.next_in_turn(dead, partition).unwrap()
+    }
+
+    fn most_dead(&self, dead: &[u32], partition: u32) -> u32
+        requires partition { partition < length self.now.heats }
+        requires dead { length dead.now ≡ self.now.positions }
+        requires some { (k : ℕ) × HasRows self.now dead.now partition k }
+        ensures { IsMost (HasRows self.now dead.now partition) (slice_index dead.now) result }
+    {
+        let (first, end) = self.bounds(partition);
+        most(dead, first, end)
     }
 
     fn next_in_turn(&self, dead: &[u32], partition: u32) -> Option<u32>

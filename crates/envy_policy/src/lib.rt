@@ -28,4 +28,4 @@ pub use lifetime::Lifetime;
 pub use lifetime_laws::{
     a_lifetime_choice_has_rows, rows_leave_one_lifetime_choice, some_lifetime_rule_applies,
 };
-pub use setup::{Policy, Setup, SetupFault};
+pub use setup::{Policy, Setup, SetupFault, Victims};

@@ -1,5 +1,5 @@
 ghost use Rattle.std.specs.Prelude.{◌≡◌, ◌≤◌, OnOk};
-ghost use Rattle.envy_policy.specs.Setup.{IsSetup, checked, rule_of, run_of};
+ghost use Rattle.envy_policy.specs.Setup.{IsSetup, checked, rule_of, run_of, victims_of};
 
 use envy_base::{Shape, ShapeFault};
 
@@ -19,6 +19,15 @@ pub enum Policy {
     Hybrid(u32),
     /// One partition; pages whose copies live about as long lie together.
     Lifetime,
+}
+
+/// Which of a partition's positions with dead rows is cleaned.
+#[derive(Clone, Copy, Debug, PartialEq, Eq)]
+pub enum Victims {
+    /// The one with most dead rows.
+    MostDead,
+    /// The next in turn.
+    InTurn,
 }
 
 /// What a memory is made with.
@@ -68,6 +77,16 @@ impl Policy {
             Policy::Greedy | Policy::Fifo | Policy::Lifetime => positions,
             Policy::Locality => 1,
             Policy::Hybrid(part) => *part,
+        }
+    }
+
+    /// Which position of a page's own partition is cleaned.
+    pub fn victims(&self) -> Victims
+        ensures { result ≡ victims_of self.now }
+    {
+        match self {
+            Policy::Greedy | Policy::Lifetime => Victims::MostDead,
+            Policy::Fifo | Policy::Locality | Policy::Hybrid(_) => Victims::InTurn,
         }
     }
 }

@@ -25,7 +25,7 @@ use Rattle.envy_reloc.specs.Switching.{SwitchesAll}
 use Rattle.envy_reloc.proofs.CopyLemmas.{room-left}
 use Rattle.envy_reloc.proofs.MoveLemmas.{names-moved}
 
-by-job : (sh : Shape) (k e v d : ℕ) (ps : List ℕ) (n : ℕ) (j : Job) (f : Fields) (m : ℕ) → f.job ≡ Some j → CleansBy sh k e v d ps n f.job f m → CleansBy sh k e v d ps n (Some j) f m
+pub by-job : (sh : Shape) (k e v d : ℕ) (ps : List ℕ) (n : ℕ) (j : Job) (f : Fields) (m : ℕ) → f.job ≡ Some j → CleansBy sh k e v d ps n f.job f m → CleansBy sh k e v d ps n (Some j) f m
 by-job sh k e v d ps n j f m is a = subst (λ (x : Option Job). CleansBy sh k e v d ps n x f m) is a
 
 to-job : (sh : Shape) (k e v d : ℕ) (ps : List ℕ) (n : ℕ) (j : Job) (f : Fields) (m : ℕ) → f.job ≡ Some j → CleansBy sh k e v d ps n (Some j) f m → CleansBy sh k e v d ps n f.job f m

@@ -21,7 +21,7 @@ use Rattle.envy_reloc.specs.Plan.{Plan, IsPlanOf, AreCopies, IsFreeOf}
 use Rattle.envy_reloc.proofs.SwitchLemmas.{Names-cases, Names-undo}
 
 -- a segment at a position isn't the spare
-other-spare : (sh : Shape) (positions : List ℕ) (s e : ℕ) → IsPlaced sh positions s → IsSpare sh positions e → e ≢ s
+pub other-spare : (sh : Shape) (positions : List ℕ) (s e : ℕ) → IsPlaced sh positions s → IsSpare sh positions e → e ≢ s
 other-spare sh positions s e placed spare same = apart-spare sh positions s placed (subst (λ (x : ℕ). IsSpare sh positions x) same spare)
 
 -- a row of a segment that the job leaves free is claimed

@@ -6,10 +6,10 @@ use Rattle.envy_policy.specs.History.{claimed}
 use Rattle.envy_flush.specs.Agreement.{Steady}
 use Rattle.envy_reloc.specs.Cleaning.{Cleans}
 use Rattle.envy_flush.specs.declared.parts.Parts.{Parts}
-use Rattle.envy_flush.proofs.CleanLemmas.{cleans-ended, room-cleaned}
+use Rattle.envy_reloc.proofs.CleanLemmas.{cleans-ended, room-cleaned}
 use Rattle.envy_flush.proofs.CountLemmas.{Counting-trans, Counting-still}
-use Rattle.envy_flush.proofs.StoreLemmas.{Same-two}
 use Rattle.envy_flush.proofs.cleaning.clean.Goals as goal
+use Rattle.envy_layout.proofs.Sames.{same_two as Same-two}
 
 pub claim_at-requires-clause-ready : goal.claim_at-requires-clause-ready
 claim_at-requires-clause-ready g c =

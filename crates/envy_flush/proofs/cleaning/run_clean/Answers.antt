@@ -7,11 +7,11 @@ use Rattle.envy_space.specs.Pool.{IsPoolOf}
 use Rattle.envy_reloc.specs.Cleaning.{Cleans}
 use Rattle.envy_flush.specs.declared.parts.Parts.{Parts}
 use Rattle.envy_flush.proofs.BudgetLemmas.{Budget-begun}
-use Rattle.envy_flush.proofs.CleanLemmas.{cleans-begun}
 use Rattle.envy_flush.proofs.FlushLemmas.{on-ok, if-on}
-use Rattle.envy_flush.proofs.StoreLemmas.{Same-two}
 use Rattle.envy_flush.proofs.CountLemmas.{Counting-trans, Counting-quiet}
 use Rattle.envy_flush.proofs.cleaning.run_clean.Goals as goal
+use Rattle.envy_reloc.proofs.CleanLemmas.{cleans-begun}
+use Rattle.envy_layout.proofs.Sames.{same_two as Same-two}
 
 pub finish_clean-requires-clause-budget : goal.finish_clean-requires-clause-budget
 finish_clean-requires-clause-budget g c =

@@ -2,8 +2,8 @@ use Rattle.std.proofs.Common.{◌≡◌, refl, arith}
 use Rattle.envy_map.specs.Fields.{chart}
 use Rattle.envy_layout.specs.Same.{Same, Stays, Framed}
 use Rattle.envy_flush.proofs.AgreeLemmas.{Agrees-programmed, Fits-moved}
-use Rattle.envy_flush.proofs.StoreLemmas.{Same-two}
 use Rattle.envy_flush.proofs.flushing.flush_into.Goals as goal
+use Rattle.envy_layout.proofs.Sames.{same_two as Same-two}
 
 pub returns-in_err-program_copy-clause-steady : goal.returns-in_err-program_copy-clause-steady
 returns-in_err-program_copy-clause-steady g c =

@@ -16,8 +16,8 @@ use Rattle.envy_flush.specs.declared.parts.Parts.{Parts}
 use Rattle.envy_flush.proofs.CountLemmas.{Counting-trans, Counting-flushed, if-lit}
 use Rattle.envy_flush.proofs.FlushLemmas.{err-at, on-ok, on-three, GetsRow-after, StopsFor-gets, bad-rises}
 use Rattle.envy_table.proofs.HitLemmas.{Rests-trans}
-use Rattle.envy_flush.proofs.StoreLemmas.{Same-two}
 use Rattle.envy_flush.proofs.flushing.flush_oldest.Goals as goal
+use Rattle.envy_layout.proofs.Sames.{same_two as Same-two}
 
 pub returns-clause-same : goal.returns-clause-same
 returns-clause-same g c = let p = (g.B.Board.state c.args.board.now).shape.rows in Same-two (4 * p + 12) 6 1 0 (4 * p + 13) 6 _ _ _ (omega arith) (omega arith) c.get_row.ensures.same c.flush_into.ensures.same

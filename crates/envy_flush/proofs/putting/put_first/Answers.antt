@@ -2,7 +2,8 @@ use Rattle.std.proofs.Common.{◌∙◌, Some, refl, ap}
 use Rattle.envy_base.specs.declared.fields.Place.{Place}
 use Rattle.envy_map.specs.Fields.{chart, place}
 use Rattle.envy_flush.specs.declared.parts.Parts.{Parts}
-use Rattle.envy_flush.proofs.LookLemmas.{Stops-framed, Stops-elsewhere, Puts-fetched, Accesses-rests, Counting-looked, elsewhere-of}
+use Rattle.envy_flush.proofs.LookLemmas.{Stops-framed, Stops-elsewhere, Puts-fetched, Counting-looked, elsewhere-of}
+use Rattle.envy_table.proofs.HitLemmas.{Accesses-then as Accesses-rests}
 use Rattle.envy_flush.proofs.putting.put_first.Goals as goal
 
 pub returns-in-Frame-clause-stops : goal.returns-in-Frame-clause-stops

@@ -7,11 +7,11 @@ use Rattle.envy_layout.specs.Same.{Same, Stays, Framed}
 use Rattle.envy_flush.specs.declared.parts.Parts.{Parts}
 use Rattle.envy_flush.proofs.CountLemmas.{Counting-trans, Counting-still}
 use Rattle.envy_layout.proofs.FrameStay.{FramesStay-trans}
-use Rattle.envy_flush.proofs.StoreLemmas.{Same-two}
 use Rattle.envy_flush.specs.Agreement.{Steady}
 use Rattle.envy_flush.specs.Flushing.{GetsRow, FinishesFirst, IsNoneAvailable, IsLowestAvailable}
 use Rattle.envy_flush.proofs.FlushLemmas.{err-at, if-done, never-idle, none-of, stops-after, none-left, no-stage-left}
 use Rattle.envy_flush.proofs.rows.busy_row.Goals as goal
+use Rattle.envy_layout.proofs.Sames.{same_two as Same-two}
 
 pub returns-in-Some-clause-counting : goal.returns-in-Some-clause-counting
 returns-in-Some-clause-counting g c =

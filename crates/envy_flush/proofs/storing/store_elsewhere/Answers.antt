@@ -8,7 +8,8 @@ use Rattle.envy_flush.specs.declared.parts.Parts.{Parts}
 use Rattle.envy_flush.proofs.CountLemmas.{Counting-trans, Counting-still}
 use Rattle.envy_flush.proofs.FlushLemmas.{on-ok, if-on}
 use Rattle.envy_layout.proofs.Owners.{owned_by-framed}
-use Rattle.envy_flush.proofs.StoreLemmas.{Stored-after, Stored-more, Interrupted-after, Interrupted-more, Shadowed-after, Shadowed-more, Dropped-after, Dropped-more}
+use Rattle.envy_flush.proofs.StoreLemmas.{Stored-after, Stored-more, Interrupted-after, Interrupted-more, Shadowed-after, Shadowed-more}
+use Rattle.envy_layout.proofs.WordPuts.{Dropped-after, Dropped-more}
 use Rattle.envy_flush.proofs.storing.store_elsewhere.Goals as goal
 
 pub returns-in_err-bring-clause-free : goal.returns-in_err-bring-clause-free

@@ -1,7 +1,8 @@
 use Rattle.std.proofs.Common.{refl}
 use Rattle.envy_map.specs.Fields.{chart, place}
 use Rattle.envy_flush.specs.declared.parts.Parts.{Parts}
-use Rattle.envy_flush.proofs.LookLemmas.{Stops-elsewhere, Stores-fetched, Accesses-rests, Counting-looked, elsewhere-of}
+use Rattle.envy_flush.proofs.LookLemmas.{Stops-elsewhere, Stores-fetched, Counting-looked, elsewhere-of}
+use Rattle.envy_table.proofs.HitLemmas.{Accesses-then as Accesses-rests}
 use Rattle.envy_flush.proofs.storing.store_word.Goals as goal
 
 pub returns-in_default : goal.returns-in_default

@@ -17,8 +17,8 @@ use Rattle.envy_layout.specs.Sound.{Sound, Places}
 use Rattle.envy_flush.specs.declared.parts.Parts.{Parts}
 use Rattle.envy_flush.proofs.CountLemmas.{Counting-trans, Counting-still, Counting-flushed, if-lit}
 use Rattle.envy_flush.proofs.FlushLemmas.{bad-rises, never-idle, on-ok, on-three, GetsRow-after}
-use Rattle.envy_flush.proofs.StoreLemmas.{Same-two}
 use Rattle.envy_flush.proofs.ticking.flush_at.Goals as goal
+use Rattle.envy_layout.proofs.Sames.{same_two as Same-two}
 
 pub flush_into-requires-clause-here : goal.flush_into-requires-clause-here
 flush_into-requires-clause-here g c =

@@ -1,5 +1,5 @@
 use Rattle.std.proofs.Common.{arith}
-use Rattle.envy_part.proofs.RowLaws.{anded_all}
+use Rattle.envy_base.proofs.Rows.{anded_all}
 use Rattle.envy_part.proofs.rows.anded.Goals as goal
 
 pub returns : goal.returns

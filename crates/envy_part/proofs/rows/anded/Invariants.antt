@@ -1,4 +1,4 @@
-use Rattle.envy_part.proofs.RowLaws.{Anded}
+use Rattle.envy_base.proofs.Rows.{Anded}
 use Rattle.envy_part.proofs.rows.anded.Given as goal
 
 abbrev pub invariant-loop-i : goal.invariant-loop-i
