@@ -1,5 +1,5 @@
 -- Which pages and rows the map speaks of.
-use Rattle.std.proofs.Common.{◌≡◌, ◌⊎◌, ℕ, ◌<◌, ◌≤◌, ◌↔◌, false, IsTrue, leb, leb-true, le-leb, take, count_by, List, length, get_or, Option, Some, None, refl, sym, ◌∙◌, ap, inl, inr, arith}
+use Rattle.std.proofs.Common.{◌≡◌, ◌⊎◌, ℕ, ◌<◌, ◌≤◌, ◌↔◌, IsTrue, leb, leb-true, le-leb, take, count_by, List, length, get_or, Option, Some, None, refl, sym, ◌∙◌, ap, inl, inr, arith}
 use Rattle.std.proofs.lemmas.Bool.{cases_lt}
 use Rattle.std.proofs.lemmas.List.{get_or_past, take_all}
 use Rattle.std.proofs.lemmas.Option.{none-some, same_Some}
@@ -12,7 +12,6 @@ use Rattle.envy_map.specs.Fields.{chart, place, undo}
 use Rattle.envy_layout.specs.Sound.{slot_named, owned_by, is_active}
 use Rattle.envy_audit.specs.Points.{FewAreOwned}
 use Rattle.envy_map.proofs.Sizes.{length-places, length-undos}
-use Rattle.envy_layout.proofs.KeptLemmas.{owned_by-none}
 
 looked-up : {A : Type 0} (xs : List (Option A)) (i : ℕ) (x : A) → get_or xs i None ≡ Some x → i < length xs
 looked-up xs i x is = by_place (cases_lt i (length xs))

@@ -4,7 +4,7 @@ use Rattle.std.specs.Prelude.{map, min}
 use Rattle.std.specs.List.{range_with_len}
 use Rattle.std.proofs.lemmas.Bool.{cases_lt}
 use Rattle.std.proofs.lemmas.List.{get_or_past}
-use Rattle.std.proofs.lemmas.List.FromFn.{get_or-map-range_with_len, length-map-range_with_len}
+use Rattle.std.proofs.lemmas.List.FromFn.{get_or-map-range_with_len}
 use Rattle.envy_policy.specs.Notes.{Notes}
 use Rattle.envy_policy.specs.History.{History, IsHistory, AreLives}
 use Rattle.envy_policy.specs.Lifetime.{IsCounted, IsLowest as IsLowestOf}

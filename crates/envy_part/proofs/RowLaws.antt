@@ -1,9 +1,9 @@
 -- Rows that were anded word by word, and rows that were read word by word.
-use Rattle.std.proofs.Common.{◌≡◌, ◌≢◌, inl, inr, ◌+◌, ◌-◌, ◌*◌, ◌/◌, ◌%◌, ◌<◌, ◌≤◌, ℕ, zero, suc, List, [], ◌∷◌, length, get_or, slice_index, bit_and, subst, refl, sym, ◌∙◌, ap, arith}
+use Rattle.std.proofs.Common.{◌≡◌, ◌≢◌, inl, inr, ◌+◌, ◌-◌, ◌*◌, ◌<◌, ◌≤◌, ℕ, List, [], length, get_or, slice_index, subst, refl, sym, ◌∙◌, ap, arith}
 use Rattle.std.proofs.Common.{rules, take, drop, min, slice_set, map}
 use Rattle.std.proofs.lemmas.Grind.{same_number_lists}
 use Rattle.std.proofs.lemmas.Bool.{cases_lt, cases_eq}
-use Rattle.std.proofs.lemmas.Nat.{div-mul-add, div-add-mod', mod_below, row_fits}
+use Rattle.std.proofs.lemmas.Nat.{row_fits}
 use Rattle.std.proofs.lemmas.List.{places, length-take, length-drop, map-set, get_or-set_same, get_or-set_other, get_or_past, get_or-map, length-map, length-set, ext_get_or}
 use borrow.Rule.Slice.PartMut.{put_mid}
 use Rattle.envy_base.specs.declared.shape.Shape.{Shape}

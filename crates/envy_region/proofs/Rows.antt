@@ -1,11 +1,9 @@
 -- Rows that were anded word by word, and rows that are erased from the first to the last.
-use Rattle.std.proofs.Common.{◌≡◌, inl, inr, ◌+◌, ◌-◌, ◌*◌, ◌/◌, ◌%◌, ◌<◌, ◌≤◌, ℕ, zero, suc, List, [], ◌∷◌, length, get_or, slice_index, bit_and, ◌^◌, subst, refl, sym, ◌∙◌, ap, arith}
-use Rattle.std.proofs.lemmas.Grind.{same_number_lists}
+use Rattle.std.proofs.Common.{inl, inr, ◌+◌, ◌-◌, ◌*◌, ◌<◌, ◌≤◌, ℕ, List, length, ◌^◌, subst, refl, sym, ◌∙◌, arith}
 use Rattle.std.proofs.lemmas.Bool.{cases_lt}
-use Rattle.std.proofs.lemmas.Nat.{div-mul-add, div-add-mod', mod_below}
 use Rattle.std.proofs.lemmas.List.{get_or-replicate, get_or_past}
 use Rattle.envy_base.specs.declared.shape.Shape.{Shape}
-use Rattle.envy_base.specs.State.{ands, ones, Only, IsOnes, IsPage, IsBoard}
+use Rattle.envy_base.specs.State.{ones, Only, IsOnes, IsPage, IsBoard}
 use Rattle.envy_region.specs.Region.{Erased, region_state}
 use Rattle.envy_base.proofs.Rows.{block_of, inside_of}
 
