@@ -1,16 +1,16 @@
 -- The lowest position of a home's partition with a free row that the job leaves free.
-use Rattle.std.proofs.Common.{◌≡◌, ◌≢◌, ◌⊎◌, inl, inr, ℕ, ◌-◌, ◌<◌, List, length, get_or, Option, None, Some, IfSome, MatchOption, refl, sym, ◌∙◌, ap, subst, arith}
+use Rattle.std.proofs.Common.{◌≡◌, ◌≢◌, ◌⊎◌, inl, inr, ℕ, ◌-◌, ◌<◌, List, get_or, Option, None, Some, IfSome, MatchOption, refl, sym, ◌∙◌, ap, subst, arith}
 use Rattle.envy_base.specs.declared.shape.Shape.{Shape}
 use Rattle.envy_map.specs.Fields.{Chart}
 use Rattle.envy_policy.specs.Choice.{IsLeast}
 use Rattle.envy_base.specs.declared.fields.Job.TheVariants.{Copy, Switch}
 use Rattle.envy_layout.specs.Sound.{IsPlaced, IsSound, Jobs, Sound}
-use Rattle.envy_policy.specs.History.{History, IsHistory, partition_of}
-use Rattle.envy_policy.specs.Lifetime.{HasRoom, IsBeside}
+use Rattle.envy_policy.specs.History.{History, partition_of}
+use Rattle.envy_policy.specs.Lifetime.{HasRoom}
 use Rattle.envy_policy.specs.Notes.{Notes}
 use Rattle.envy_reloc.specs.Plan.{IsFreeOf}
 use Rattle.envy_space.specs.Pool.{Pool, IsPool, PoolAgrees, free_at}
-use Rattle.envy_choosing.specs.Choosing.{IsFreeBeside, counts_in, frees}
+use Rattle.envy_choosing.specs.Choosing.{IsFreeBeside, counts_in}
 use Rattle.envy_choosing.proofs.PooledLemmas.{at}
 use Rattle.envy_choosing.proofs.ChoosingLemmas.{long}
 use Rattle.envy_flush.specs.Agreement.{PartsAgree}

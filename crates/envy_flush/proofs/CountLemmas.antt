@@ -7,7 +7,7 @@ use Rattle.envy_base.proofs.Counting.{Tally-trans}
 use Rattle.envy_base.specs.declared.board.Off.{Off}
 use Rattle.envy_base.specs.declared.board.Trouble.{Trouble}
 use Rattle.envy_base.specs.declared.board.Trouble.TheVariants.{Off as TroubleOff, Bad}
-use Rattle.envy_map.specs.Fields.{Fields, Chart, failed, with_fields}
+use Rattle.envy_map.specs.Fields.{Fields, Chart}
 use Rattle.envy_map.specs.Writes.{Writes}
 use Rattle.envy_layout.specs.Same.{Powers, Counted, Grows}
 use Rattle.envy_flush.specs.Counts.{Tally3, Tallies, Wearing, Counting}

@@ -1,5 +1,5 @@
 -- What changes of a map leave of the agreement with a relocation.
-use Rattle.std.proofs.Common.{◌≡◌, ◌≢◌, ◌⊎◌, inl, inr, ℕ, ◌+◌, ◌*◌, ◌/◌, ◌<◌, List, [], length, get_or, set, Option, None, Some, refl, sym, ◌∙◌, ap, subst}
+use Rattle.std.proofs.Common.{◌≡◌, ◌≢◌, ◌⊎◌, inl, inr, ℕ, ◌+◌, ◌*◌, ◌/◌, ◌<◌, List, [], length, get_or, set, Option, None, Some, refl, sym, ◌∙◌, ap}
 use Rattle.std.proofs.lemmas.Bool.{cases_eq}
 use Rattle.std.proofs.lemmas.List.{get_or-set_same, get_or-set_other}
 use Rattle.envy_base.specs.declared.shape.Shape.{Shape}
@@ -15,7 +15,7 @@ use Rattle.envy_layout.specs.Sound.{Sound, Names, IsPlaced, IsSpare}
 use Rattle.envy_layout.specs.Words.{kept_by}
 use Rattle.envy_layout.proofs.KeptLemmas.{kept_by-active}
 use Rattle.envy_layout.proofs.PlaceLaw.{Names-placed}
-use Rattle.envy_layout.proofs.References.{apart-spare, copy-segment}
+use Rattle.envy_layout.proofs.References.{copy-segment}
 use Rattle.envy_reloc.specs.Plan.{IsFreeOf}
 use Rattle.envy_layout.specs.Naming.{AreParted}
 use Rattle.envy_reloc.specs.Plan.{Plan, IsPlanOf, AreCopies, HasCopy}

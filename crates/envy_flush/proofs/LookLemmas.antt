@@ -12,7 +12,6 @@ use Rattle.envy_policy.specs.declared.choice.Choice.TheVariants.{Free, Clean}
 use Rattle.envy_policy.specs.History.{History, claimed, cleaned}
 use Rattle.envy_space.specs.Pool.{Pool}
 use Rattle.envy_table.specs.Entries.{Translations}
-use Rattle.envy_table.specs.Hits.{Accesses, Rests}
 use Rattle.envy_choosing.specs.Choosing.{ChoiceFor}
 use Rattle.envy_flush.specs.Counts.{Counting}
 use Rattle.envy_flush.specs.Flushing.{NotesBad, ChoosesBad, MakesRoom, IsProgrammed, StopsFor, Stops}
@@ -20,7 +19,6 @@ use Rattle.envy_flush.specs.Putting.{undo_for, PutsBy}
 use Rattle.envy_flush.specs.Storing.{Brings, StoresBy}
 use Rattle.envy_flush.specs.declared.parts.Parts.{Parts}
 use Rattle.envy_flush.proofs.FlushLemmas.{on-ok}
-use Rattle.envy_table.proofs.HitLemmas.{Accesses-then as Accesses-rests}
 
 NotesBad-same : (choice : Choice) (page : ℕ) (x y now : Parts) → x.chooser ≡ y.chooser → NotesBad choice page x now → NotesBad choice page y now
 NotesBad-same (Free k) page x y now same noted = subst (λ (h : History). now.chooser ≡ claimed h k page) same noted

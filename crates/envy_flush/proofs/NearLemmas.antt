@@ -15,7 +15,6 @@ use Rattle.envy_layout.proofs.KeptLemmas.{kept_by-shadow}
 use Rattle.envy_space.specs.Pool.{Pool, PoolAgrees}
 use Rattle.envy_table.specs.Agreement.{AreCurrent}
 use Rattle.envy_table.specs.Entries.{Translations}
-use Rattle.envy_policy.specs.History.{History}
 use Rattle.envy_flush.specs.Agreement.{Agrees, PartsAgree, Fits, Ready}
 use Rattle.envy_layout.specs.Naming.{AreParted}
 use Rattle.envy_reloc.specs.Plan.{IsPlanOf}

@@ -1,6 +1,6 @@
 -- Where pages and free rows are.
 use Rattle.std.proofs.Common.{◌≡◌, ◌≢◌, ◌⊎◌, inl, inr, ℕ, zero, suc, ◌+◌, ◌-◌, ◌/◌, ◌<◌, ◌≤◌, List, length, get_or, set, Option, None, Some, sym, ◌∙◌, ap, subst, arith, add-one}
-use Rattle.std.specs.Prelude.{map, sum_by, ◌==◌, if◌then◌else◌, IfSome, MatchOption}
+use Rattle.std.specs.Prelude.{sum_by, ◌==◌, if◌then◌else◌, IfSome, MatchOption}
 use Rattle.std.specs.List.{range_with_len}
 use Rattle.std.proofs.lemmas.Bool.{cases_lt, cases_eq, eq-eqb, ne_eqb}
 use Rattle.std.proofs.lemmas.List.{get_or_past, get_or-set_same, get_or-set_other}

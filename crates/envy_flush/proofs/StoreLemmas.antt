@@ -7,12 +7,9 @@ use Rattle.envy_map.specs.Fields.{Chart, undo}
 use Rattle.envy_layout.specs.Sound.{owned_by}
 use Rattle.envy_layout.specs.Words.{durable}
 use Rattle.envy_layout.specs.Same.{Counted, Framed, Stays, Same, Stored, Interrupted, Shadowed, Dropped}
-use Rattle.envy_layout.proofs.Composition.{Counted-trans, Counted-more, Framed-trans, Wears-trans, Same-more, Same-trans}
+use Rattle.envy_layout.proofs.Composition.{Counted-trans, Counted-more, Framed-trans, Wears-trans}
 use Rattle.envy_reloc.specs.Phases.{SameOnce}
 use Rattle.envy_flush.specs.Storing.{Wrote, Shaded, Leaves}
-use Rattle.envy_layout.proofs.WordPuts.{Dropped-after}
-use Rattle.envy_layout.proofs.WordPuts.{Dropped-more}
-use Rattle.envy_layout.proofs.Sames.{same_two as Same-two}
 
 pub Stored-after : (i j k l : ℕ) (a b c : Chart) (x w : ℕ) → Same i j a b → Stored k l b c x w → Stored (i + k) (j + l) a c x w
 Stored-after i j k l a b c x w s t =

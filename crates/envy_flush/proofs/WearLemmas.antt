@@ -1,5 +1,5 @@
 -- How wear words rise by the erases that are counted, and what is quiet stays so.
-use Rattle.std.proofs.Common.{◌≡◌, ◌≢◌, ◌⊎◌, inl, inr, ℕ, ◌+◌, ◌-◌, ◌^◌, ◌<◌, ◌≤◌, false, true, List, length, get_or, set, Option, None, Some, refl, sym, ◌∙◌, ap, subst, arith}
+use Rattle.std.proofs.Common.{◌≡◌, ◌⊎◌, inl, inr, ℕ, ◌+◌, ◌-◌, ◌^◌, ◌<◌, ◌≤◌, false, true, List, length, get_or, set, Option, None, Some, refl, sym, ◌∙◌, ap, subst, arith}
 use Rattle.std.specs.Prelude.{IsTrue, Result, Ok, Err, IfOk, IsErrOf}
 use Rattle.std.proofs.lemmas.Bool.{cases_eq}
 use Rattle.std.proofs.lemmas.List.{get_or-set_same, get_or-set_other}
@@ -12,7 +12,7 @@ use Rattle.envy_map.specs.Fields.{Fields, Chart}
 use Rattle.envy_layout.specs.Naming.{with_named}
 use Rattle.envy_layout.specs.Same.{Same, Stays, Framed, Worn, Wears}
 use Rattle.envy_layout.specs.Sound.{Sound, IsSound, Numbers, IsSpare}
-use Rattle.envy_reloc.specs.Phases.{SameOnce, Does, Spoils, MovesOne, MovesRow, CopiesOne, CopiesLeft, SwitchesSegment, PlacesSpare, ErasesSpare, SpoilsMove, SpoilsTarget, SpoilsCopy, SpoilsRow, SpoilsErase}
+use Rattle.envy_reloc.specs.Phases.{SameOnce, Does, Spoils, MovesRow, CopiesLeft, SpoilsTarget, SpoilsRow}
 use Rattle.envy_reloc.specs.Plan.{Plan}
 use Rattle.envy_reloc.specs.Switching.{SwitchesAll}
 use Rattle.envy_reloc.specs.declared.step.Phase.{Phase}

@@ -1,4 +1,4 @@
-use Rattle.std.proofs.Common.{ℕ, Option, subst, refl}
+use Rattle.std.proofs.Common.{ℕ, Option, subst}
 use Rattle.envy_map.specs.Fields.{chart}
 use Rattle.envy_flush.proofs.AvailLemmas.{Spares, Takes, emptied-none, emptied-some, others-none, others-some, relocated-placed}
 use Rattle.envy_flush.proofs.beside.emptied.Goals as goal
