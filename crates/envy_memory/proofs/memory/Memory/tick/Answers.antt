@@ -30,11 +30,6 @@ returns-clause-complete g c calm =
     let quiet = subst (λ (p : Picture). Undisturbed p.chart new) (sym c.self.view_is) calm in
     ((λ is. undisturbed-on old new (cause 1 1 old new (counted-once old new c.tick_ruled.ensures.step)) (c.tick_ruled.ensures.off.0 is) quiet), (λ is. undisturbed-bad old new (c.tick_ruled.ensures.bad is) quiet))
 
-pub returns-clause-does : goal.returns-clause-does
-returns-clause-does g c =
-    let new = chart (g.B.Board.state c.tick_ruled.new.board) in
-    subst (λ (p : Picture). IfOk c.tick_ruled.result (λ did. TicksBy p.limit p.mark did p.chart p.parts new c.tick_ruled.new.parts)) c.self.view_is c.tick_ruled.ensures.does
-
 pub invariant_of-self : goal.invariant_of-self
 invariant_of-self g c =
     let old = chart (g.B.Board.state c.self.inside.board) in
