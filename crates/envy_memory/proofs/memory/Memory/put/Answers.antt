@@ -242,7 +242,7 @@ returns-in_err-store_word-clause-below g c =
     let worked : Worked (c.args.a / 32) was new c.store_word.new.parts = record { on = sym c.if-not-powered.ensures; works = Works-left k 6 (4 * old.shape.rows + 16) 6 old new (omega arith) (omega arith) (sym c.if-not-powered.ensures) leaves; counts = e.counting; visits = e.accesses } in
     let p = err_from_is_err_and c.from_residual-in_err-store_word.result c.from_residual-in_err-store_word.ensures.1 in
     let fault = c.in_err-store_word.field-0.0 in
-    rw (p.1, p.2) (subst (λ (p : Picture). PutsBelow c.args.t c.args.a (Err (put_fault fault)) p (record p { chart = new; parts = c.store_word.new.parts })) c.self.view_is
+    rw (p.1, p.2) (subst (λ (p : Picture). PutsBelow c.args.t c.args.a (Err (put_fault fault)) p (record { chart = new; parts = c.store_word.new.parts; owned = c.self.inside.owned; limit = c.self.inside.limit; mark = c.self.inside.mark })) c.self.view_is
     (below-put_ended c.args.t c.args.a was new c.store_word.new.parts c.self.inside.owned fault worked c.in_err-store_word.ensures.stops (λ is. refl)))
 
 pub returns-in-Some-clause-below : goal.returns-in-Some-clause-below
@@ -255,7 +255,7 @@ returns-in-Some-clause-below g c =
     let leaves = Leaves-wrote k 6 old new (32 * (c.args.a / 32) + c.args.a % 32) c.args.value (c.args.a / 32) c.store_word.result e.free e.owned in
     let worked : Worked (c.args.a / 32) was new c.store_word.new.parts = record { on = sym c.if-not-powered.ensures; works = Works-left k 6 (4 * old.shape.rows + 16) 6 old new (omega arith) (omega arith) (sym c.if-not-powered.ensures) leaves; counts = e.counting; visits = e.accesses } in
     let own : owner_of c.self.inside.owned.pairs (c.args.a / 32) ≡ Some c.args.t = sym c.in-Some.ensures.value ∙ ap (λ (x : _). Some x) c.if-slot-t.false in
-    subst (λ (p : Picture). PutsBelow c.args.t c.args.a (Ok tt) p (record p { chart = new; parts = c.store_word.new.parts })) c.self.view_is
+    subst (λ (p : Picture). PutsBelow c.args.t c.args.a (Ok tt) p (record { chart = new; parts = c.store_word.new.parts; owned = c.self.inside.owned; limit = c.self.inside.limit; mark = c.self.inside.mark })) c.self.view_is
     (below-put_again c.args.t c.args.a was new c.store_word.new.parts worked c.self.invariant.0.fits own c.in_ok-store_word.ensures.stores)
 
 pub returns-in_err-put_first-clause-below : goal.returns-in_err-put_first-clause-below
@@ -269,7 +269,7 @@ returns-in_err-put_first-clause-below g c =
     let worked : Worked (c.args.a / 32) was new c.put_first.new.parts = record { on = sym c.if-not-powered.ensures; works = works; counts = e.counting; visits = e.accesses } in
     let p = err_from_is_err_and c.from_residual-in_err-put_first.result c.from_residual-in_err-put_first.ensures.1 in
     let fault = c.in_err-put_first.field-0.0 in
-    rw (p.1, p.2) (subst (λ (p : Picture). PutsBelow c.args.t c.args.a (Err (put_fault fault)) p (record p { chart = new; parts = c.put_first.new.parts; owned = c.put_first.new.owned })) c.self.view_is
+    rw (p.1, p.2) (subst (λ (p : Picture). PutsBelow c.args.t c.args.a (Err (put_fault fault)) p (record { chart = new; parts = c.put_first.new.parts; owned = c.put_first.new.owned; limit = c.self.inside.limit; mark = c.self.inside.mark })) c.self.view_is
     (below-put_ended c.args.t c.args.a was new c.put_first.new.parts c.put_first.new.owned fault worked c.in_err-put_first.ensures.stops c.in_err-put_first.ensures.stays))
 
 pub returns-clause-below : goal.returns-clause-below
@@ -281,5 +281,5 @@ returns-clause-below g c =
     let e = c.put_first.ensures in
     let works = Works-first k 6 (4 * old.shape.rows + 16) 6 c.args.t (c.args.a / 32) old new (32 * (c.args.a / 32) + c.args.a % 32) c.args.value c.put_first.result (omega arith) (omega arith) (sym c.if-not-powered.ensures) e.put in
     let worked : Worked (c.args.a / 32) was new c.put_first.new.parts = record { on = sym c.if-not-powered.ensures; works = works; counts = e.counting; visits = e.accesses } in
-    subst (λ (p : Picture). PutsBelow c.args.t c.args.a (Ok tt) p (record p { chart = new; parts = c.put_first.new.parts; owned = c.put_first.new.owned })) c.self.view_is
+    subst (λ (p : Picture). PutsBelow c.args.t c.args.a (Ok tt) p (record { chart = new; parts = c.put_first.new.parts; owned = c.put_first.new.owned; limit = c.self.inside.limit; mark = c.self.inside.mark })) c.self.view_is
     (below-put_first c.args.t c.args.a was new c.put_first.new.parts c.put_first.new.owned worked c.self.invariant.0.fits (sym c.in_default.ensures.value) c.in_ok-put_first.ensures.puts c.in_ok-put_first.ensures.gives)

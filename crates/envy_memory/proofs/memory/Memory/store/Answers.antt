@@ -114,7 +114,7 @@ returns-in_err-store_word-clause-below g c =
     let worked : Worked (c.args.a / 32) was new c.store_word.new.parts = record { on = sym c.if-not-powered.ensures; works = Works-left k 6 (4 * old.shape.rows + 16) 6 old new (omega arith) (omega arith) (sym c.if-not-powered.ensures) leaves; counts = e.counting; visits = e.accesses } in
     let p = err_from_is_err_and c.from_residual.result c.from_residual.ensures.1 in
     let fault = c.in_err-store_word.field-0.0 in
-    rw (p.1, p.2) (subst (λ (p : Picture). StoresBelow c.args.a (Err (store_fault fault)) p (record p { chart = new; parts = c.store_word.new.parts })) c.self.view_is
+    rw (p.1, p.2) (subst (λ (p : Picture). StoresBelow c.args.a (Err (store_fault fault)) p (record { chart = new; parts = c.store_word.new.parts; owned = c.self.inside.owned; limit = c.self.inside.limit; mark = c.self.inside.mark })) c.self.view_is
     (below-store_ended c.args.a was new c.store_word.new.parts fault worked c.in_err-store_word.ensures.stops))
 
 pub returns-clause-below : goal.returns-clause-below
@@ -126,5 +126,5 @@ returns-clause-below g c =
     let e = c.store_word.ensures in
     let leaves = Leaves-wrote k 6 old new (32 * (c.args.a / 32) + c.args.a % 32) c.args.value (c.args.a / 32) c.store_word.result e.free e.owned in
     let worked : Worked (c.args.a / 32) was new c.store_word.new.parts = record { on = sym c.if-not-powered.ensures; works = Works-left k 6 (4 * old.shape.rows + 16) 6 old new (omega arith) (omega arith) (sym c.if-not-powered.ensures) leaves; counts = e.counting; visits = e.accesses } in
-    subst (λ (p : Picture). StoresBelow c.args.a (Ok tt) p (record p { chart = new; parts = c.store_word.new.parts })) c.self.view_is
+    subst (λ (p : Picture). StoresBelow c.args.a (Ok tt) p (record { chart = new; parts = c.store_word.new.parts; owned = c.self.inside.owned; limit = c.self.inside.limit; mark = c.self.inside.mark })) c.self.view_is
     (below-stored c.args.a was new c.store_word.new.parts worked c.self.invariant.0.fits c.in_ok-store_word.ensures.stores)
