@@ -70,7 +70,7 @@ within answer on then_on a n is off unpowered range = grind (arith, is, off, unp
 pub put-within : (p q : Picture) (t a w before after : ℕ) → PutsTo p q t a w (number_of Done) before after → a < 32 * p.chart.shape.pages
 put-within p q t a w before after puts =
     within puts.answer p.chart.on q.chart.on a (32 * p.chart.shape.pages) puts.coded puts.off
-    (λ e. ap (λ (m : Picture). m.chart.on) (puts.unpowered e) ∙ e) puts.range
+    (λ e. ap (λ (m : Picture). m.chart.on) (puts.below.unpowered e) ∙ e) puts.range
 
 same_holder : (answer : Result Unit PutFault) (before after : ℕ) → number_of Done ≡ number_of (put_code answer) → after ≡ put_holder before answer → after ≡ before
 same_holder (Ok done) before after is e = e

@@ -1,26 +1,15 @@
 -- What a call answers by a number, and what it leaves in the place for a memory: all that the memory's call says of
 -- the answer that the number stands for. Where the place holds no memory that is the answer, and nothing changes.
-use Rattle.std.specs.Prelude.{◌≡◌, ◌≢◌, ◌↔◌, ◌+◌, ◌*◌, ◌/◌, ◌<◌, ◌≤◌, not, ℕ, false, IsTrue, IsErrOf, OnOk, IfOk, MatchResult, length, slice_index, nat_lt, if◌then◌else◌, Option, None, Some, Result, Ok, Err}
-use Rattle.std.specs.List.{filter}
+use Rattle.std.specs.Prelude.{◌≡◌, ◌≢◌, ◌↔◌, ◌<◌, ℕ, false, IsErrOf, OnOk, slice_index, nat_lt, if◌then◌else◌, Option, None, Some, Result, Ok, Err}
 use Rattle.envy_base.specs.Array.{Array}
 use Rattle.envy_base.specs.declared.board.Trouble.{Trouble}
 use Rattle.envy_base.specs.declared.board.Trouble.TheVariants.{Off as TroubleOff, Bad as TroubleBad}
 use Rattle.envy_base.specs.declared.counts.Counts.{Counts as CountsOf}
-use Rattle.envy_base.specs.declared.fields.Slot.TheVariants.{Active}
-use Rattle.envy_map.specs.Fields.{slot as slot_of, undo as undo_of}
-use Rattle.envy_map.specs.Writes.{with_slot}
 use Rattle.envy_layout.specs.Stands.{Stands}
 use Rattle.envy_layout.specs.Words.{durable}
-use Rattle.envy_table.specs.Hits.{Rests}
-use Rattle.envy_flush.specs.Counts.{Counting}
-use Rattle.envy_flush.specs.Flushing.{Ends, Stops}
-use Rattle.envy_flush.specs.Storing.{Rows, StoresBy}
-use Rattle.envy_flush.specs.Ticks.{TicksBy, TicksBad, CountsTick}
 use Rattle.envy_flush.specs.declared.did.Did.{Did}
-use Rattle.envy_flush.specs.declared.did.Did.TheVariants.{Idle}
-use Rattle.envy_txn.specs.Owners.{owner_of, names_slot, others_of}
-use Rattle.envy_memory.specs.Calls.{Loads, Looks, Stores, Begins, Puts, Commits, Aborts, Ticks, Works, IsCut, HasFailed, Undisturbed}
-use Rattle.envy_memory.specs.Effects.{LoadVisits, StoreVisits, PutVisits, PutEffect, Counts, IsIdle, TicksOnce, flushes_after, is_unowned}
+use Rattle.envy_memory.specs.Below.{IsPast, IsOwned, IsBusy, IsShut, IsShutTo, IsKeptFrom, IsFull, LoadsBelow, StoresBelow, BeginsBelow, PutsBelow, CommitsBelow, AbortsBelow, TicksBelow}
+use Rattle.envy_memory.specs.Calls.{Loads, Looks, Stores, Begins, Puts, Commits, Aborts, Ticks, IsCut, HasFailed, Undisturbed}
 use Rattle.envy_memory.specs.Picture.{Picture, counts_of}
 use Rattle.envy_memory.specs.declared.faults.LoadFault.{LoadFault}
 use Rattle.envy_memory.specs.declared.faults.LoadFault.TheVariants.{Off as LoadOff, Range as LoadRange}
@@ -46,9 +35,8 @@ pub record LoadsTo (p q : Picture) (a code before after : ℕ) : Type 0 where
   pub written : after ≡ loaded before answer
   pub step : (m : Array) → Stands p.chart m → Loads m a answer q.chart
   pub off : (answer ≡ Err LoadOff) ↔ (q.chart.on ≡ false)
-  pub range : (answer ≡ Err LoadRange) ↔ (IsTrue p.chart.on × (32 * p.chart.shape.pages ≤ a))
-  pub visits : LoadVisits (a / 32) answer p q
-  pub kept : q ≡ record p { parts = record p.parts { cache = q.parts.cache } }
+  pub range : (answer ≡ Err LoadRange) ↔ IsPast a p
+  pub below : LoadsBelow a answer p q
 
 pub record LooksAt (p : Picture) (a code before after : ℕ) : Type 0 where
   pub answer : Result ℕ LoadFault
@@ -57,7 +45,7 @@ pub record LooksAt (p : Picture) (a code before after : ℕ) : Type 0 where
   pub word : OnOk answer (answer ≡ Ok (slice_index (durable p.chart) a))
   pub step : (m : Array) → Stands p.chart m → Looks m a answer p.chart
   pub off : (answer ≡ Err LoadOff) ↔ (p.chart.on ≡ false)
-  pub range : (answer ≡ Err LoadRange) ↔ (IsTrue p.chart.on × (32 * p.chart.shape.pages ≤ a))
+  pub range : (answer ≡ Err LoadRange) ↔ IsPast a p
 
 pub record StoresTo (p q : Picture) (a w code before after : ℕ) : Type 0 where
   pub answer : Result Unit StoreFault
@@ -66,19 +54,11 @@ pub record StoresTo (p q : Picture) (a w code before after : ℕ) : Type 0 where
   pub step : (m : Array) → Stands p.chart m → Stores m a w answer q.chart
   pub off : (answer ≡ Err StoreOff) ↔ (q.chart.on ≡ false)
   pub cut : IsCut p.chart q.chart
-  pub unpowered : p.chart.on ≡ false → q ≡ p
-  pub range : (answer ≡ Err StoreRange) ↔ (IsTrue p.chart.on × (32 * p.chart.shape.pages ≤ a))
-  pub held : (u : ℕ) → (answer ≡ Err (StoreHeld u)) ↔ (IsTrue p.chart.on × (a < 32 * p.chart.shape.pages) × (owner_of p.owned.pairs (a / 32) ≡ Some u))
+  pub range : (answer ≡ Err StoreRange) ↔ IsPast a p
+  pub held : (u : ℕ) → (answer ≡ Err (StoreHeld u)) ↔ IsOwned u a p
   pub bad : IsErrOf answer StoreBad → HasFailed p.chart q.chart
   pub complete : Undisturbed p.chart q.chart → (answer ≢ Err StoreOff) × (answer ≢ Err StoreBad)
-  pub works : Works (4 * p.chart.shape.rows + 16) 6 p.chart q.chart
-  pub counts : Counts p q
-  pub visits : StoreVisits (a / 32) answer p q
-  pub flushes : OnOk answer (q.parts.flushes ≡ flushes_after false (a / 32) p)
-  pub does : OnOk answer (StoresBy (a / 32) p.chart p.parts q.chart q.parts)
-  pub ends : OnOk answer (Ends p.chart p.parts q.chart q.parts)
-  pub stops : IsErrOf answer StoreBad → Stops (a / 32) p.chart p.parts q.chart q.parts
-  pub kept : q ≡ record p { chart = q.chart; parts = q.parts }
+  pub below : StoresBelow a answer p q
 
 pub record BeginsTo (p q : Picture) (code before after : ℕ) : Type 0 where
   pub answer : Result ℕ BeginFault
@@ -87,13 +67,9 @@ pub record BeginsTo (p q : Picture) (code before after : ℕ) : Type 0 where
   pub step : (m : Array) → Stands p.chart m → Begins m answer q.chart
   pub off : (answer ≡ Err BeginOff) ↔ (q.chart.on ≡ false)
   pub cut : IsCut p.chart q.chart
-  pub unpowered : p.chart.on ≡ false → q ≡ p
+  pub busy : (answer ≡ Err BeginBusy) ↔ IsBusy p
   pub complete : Undisturbed p.chart q.chart → answer ≢ Err BeginOff
-  pub busy : (answer ≡ Err BeginBusy) ↔ (IsTrue p.chart.on × ((u : ℕ) → u < 64 → slot_of p.chart.fields u ≡ Some Active))
-  pub works : Works 0 0 p.chart q.chart
-  pub slot : IfOk answer (λ t. q.chart.fields ≡ with_slot t (Some Active) p.chart.fields)
-  pub kept : q ≡ record p { chart = q.chart }
-  pub refused : (answer ≡ Err BeginBusy) → q ≡ p
+  pub below : BeginsBelow answer p q
 
 pub record PutsTo (p q : Picture) (t a w code before after : ℕ) : Type 0 where
   pub answer : Result Unit PutFault
@@ -102,21 +78,13 @@ pub record PutsTo (p q : Picture) (t a w code before after : ℕ) : Type 0 where
   pub step : (m : Array) → Stands p.chart m → Puts m t a w answer q.chart
   pub off : (answer ≡ Err PutOff) ↔ (q.chart.on ≡ false)
   pub cut : IsCut p.chart q.chart
-  pub unpowered : p.chart.on ≡ false → q ≡ p
-  pub range : (answer ≡ Err PutRange) ↔ (IsTrue p.chart.on × (32 * p.chart.shape.pages ≤ a))
-  pub closed : (answer ≡ Err PutClosed) ↔ (IsTrue p.chart.on × (a < 32 * p.chart.shape.pages) × (slot_of p.chart.fields t ≢ Some Active))
-  pub held : (u : ℕ) → (answer ≡ Err (PutHeld u)) ↔ (IsTrue p.chart.on × (a < 32 * p.chart.shape.pages) × (slot_of p.chart.fields t ≡ Some Active) × (owner_of p.owned.pairs (a / 32) ≡ Some u) × (u ≢ t))
-  pub full : (answer ≡ Err PutFull) ↔ (IsTrue p.chart.on × (a < 32 * p.chart.shape.pages) × (slot_of p.chart.fields t ≡ Some Active) × (owner_of p.owned.pairs (a / 32) ≡ None) × (length p.owned.pairs ≡ p.chart.shape.shadows))
+  pub range : (answer ≡ Err PutRange) ↔ IsPast a p
+  pub closed : (answer ≡ Err PutClosed) ↔ IsShutTo t a p
+  pub held : (u : ℕ) → (answer ≡ Err (PutHeld u)) ↔ IsKeptFrom u t a p
+  pub full : (answer ≡ Err PutFull) ↔ IsFull t a p
   pub bad : IsErrOf answer PutBad → HasFailed p.chart q.chart
   pub complete : Undisturbed p.chart q.chart → (answer ≢ Err PutOff) × (answer ≢ Err PutBad)
-  pub works : Works (4 * p.chart.shape.rows + 16) 6 p.chart q.chart
-  pub counts : Counts p q
-  pub visits : PutVisits (a / 32) answer p q
-  pub flushes : OnOk answer (q.parts.flushes ≡ flushes_after (is_unowned p.owned (a / 32)) (a / 32) p)
-  pub does : OnOk answer (PutEffect t (a / 32) p q)
-  pub ends : OnOk answer (Ends p.chart p.parts q.chart q.parts)
-  pub stops : IsErrOf answer PutBad → Stops (a / 32) p.chart p.parts q.chart q.parts × (q.owned ≡ p.owned)
-  pub kept : q ≡ record p { chart = q.chart; parts = q.parts; owned = q.owned }
+  pub below : PutsBelow t a answer p q
 
 pub record CommitsTo (p q : Picture) (t code : ℕ) : Type 0 where
   pub answer : Result Unit EndFault
@@ -124,14 +92,9 @@ pub record CommitsTo (p q : Picture) (t code : ℕ) : Type 0 where
   pub step : (m : Array) → Stands p.chart m → Commits m t answer q.chart
   pub off : (answer ≡ Err EndOff) ↔ (q.chart.on ≡ false)
   pub cut : IsCut p.chart q.chart
-  pub unpowered : p.chart.on ≡ false → q ≡ p
+  pub closed : (answer ≡ Err EndClosed) ↔ IsShut t p
   pub complete : Undisturbed p.chart q.chart → answer ≢ Err EndOff
-  pub closed : (answer ≡ Err EndClosed) ↔ (IsTrue p.chart.on × (slot_of p.chart.fields t ≢ Some Active))
-  pub works : Works 0 0 p.chart q.chart
-  pub rows : OnOk answer (Rows p.chart q.chart)
-  pub owned : OnOk answer (q.owned ≡ record p.owned { pairs = others_of t p.owned.pairs })
-  pub kept : q ≡ record p { chart = q.chart; owned = q.owned; parts = record p.parts { space = q.parts.space } }
-  pub refused : (answer ≡ Err EndClosed) → q ≡ p
+  pub below : CommitsBelow t answer p q
 
 pub record AbortsTo (p q : Picture) (t code : ℕ) : Type 0 where
   pub answer : Result Unit EndFault
@@ -139,16 +102,9 @@ pub record AbortsTo (p q : Picture) (t code : ℕ) : Type 0 where
   pub step : (m : Array) → Stands p.chart m → Aborts m t answer q.chart
   pub off : (answer ≡ Err EndOff) ↔ (q.chart.on ≡ false)
   pub cut : IsCut p.chart q.chart
-  pub unpowered : p.chart.on ≡ false → q ≡ p
+  pub closed : (answer ≡ Err EndClosed) ↔ IsShut t p
   pub complete : Undisturbed p.chart q.chart → answer ≢ Err EndOff
-  pub closed : (answer ≡ Err EndClosed) ↔ (IsTrue p.chart.on × (slot_of p.chart.fields t ≢ Some Active))
-  pub works : Works 0 0 p.chart q.chart
-  pub rows : OnOk answer (Rows p.chart q.chart)
-  pub rests : Rests p.parts.cache q.parts.cache
-  pub held : OnOk answer (q.parts.frames.held ≡ filter (λ h. not (names_slot t (undo_of p.chart.fields h.page))) p.parts.frames.held)
-  pub owned : OnOk answer (q.owned ≡ record p.owned { pairs = others_of t p.owned.pairs })
-  pub kept : q ≡ record p { chart = q.chart; owned = q.owned; parts = record p.parts { frames = q.parts.frames; space = q.parts.space; cache = q.parts.cache } }
-  pub refused : (answer ≡ Err EndClosed) → q ≡ p
+  pub below : AbortsBelow t answer p q
 
 pub record TicksTo (p q : Picture) (code before after : ℕ) : Type 0 where
   pub answer : Result Did Trouble
@@ -157,16 +113,9 @@ pub record TicksTo (p q : Picture) (code before after : ℕ) : Type 0 where
   pub step : (m : Array) → Stands p.chart m → Ticks m answer q.chart
   pub off : (answer ≡ Err TroubleOff) ↔ (q.chart.on ≡ false)
   pub cut : IsCut p.chart q.chart
-  pub unpowered : p.chart.on ≡ false → q ≡ p
   pub bad : IsErrOf answer TroubleBad → HasFailed p.chart q.chart
   pub complete : Undisturbed p.chart q.chart → (answer ≢ Err TroubleOff) × (answer ≢ Err TroubleBad)
-  pub works : TicksOnce p.chart q.chart
-  pub does : IfOk answer (λ did. TicksBy p.limit p.mark did p.chart p.parts q.chart q.parts)
-  pub idle : (answer ≡ Ok Idle) ↔ IsIdle p
-  pub stops : IsErrOf answer TroubleBad → TicksBad p.mark p.chart p.parts q.chart q.parts
-  pub counts : MatchResult answer (λ _. CountsTick p.chart p.parts q.chart q.parts) (λ _. Counting p.chart p.parts q.chart q.parts)
-  pub rests : Rests p.parts.cache q.parts.cache
-  pub kept : q ≡ record p { chart = q.chart; parts = q.parts }
+  pub below : TicksBelow answer p q
 
 -- In a place: the call of the memory that it holds.
 

@@ -1,6 +1,6 @@
 -- A memory with one transaction: how it ends, and what each answer leaves.
 use Rattle.std.proofs.Common.{◌≡◌, ◌≢◌, ◌⊎◌, inl, inr, ℕ, zero, suc, ◌+◌, ◌*◌, ◌-◌, ◌/◌, ◌^◌, ◌<◌, ◌≤◌, Bool, true, false, List, [], ◌∷◌, ◌++◌, map, length, get_or, set, Option, None, Some, refl, sym, ◌∙◌, ap, subst, arith}
-use Rattle.std.specs.Prelude.{◌&&◌, ◌==◌, ◌↔◌, IsTrue, Result, Ok, Err, OnOk, IsErrOf, replicate, slice_index, slice_set, position}
+use Rattle.std.specs.Prelude.{◌&&◌, ◌==◌, ◌↔◌, IsTrue, Result, Ok, Err, IsErrOf, replicate, slice_index, slice_set, position}
 use Rattle.std.specs.List.{list_any}
 use Rattle.std.proofs.Math.Logic.{∥∥₁_elim, ∥∥₁_map}
 use Rattle.std.proofs.Props.{props}
@@ -30,8 +30,8 @@ use Rattle.envy_layout.specs.Words.{live, durable}
 use Rattle.envy_txn.specs.Owners.{Ownership, AreOwned, owner_of, owner_in}
 use Rattle.envy_txn.specs.declared.pair.Pair.{Pair}
 use Rattle.envy_memory.proofs.AttachLemmas.{IsArray-fresh}
+use Rattle.envy_memory.specs.Below.{PutsBelow, IsPast, IsShutTo, IsFull, flush_programs, flush_erases}
 use Rattle.envy_memory.specs.Calls.{Loads, Begins, Puts, Commits, Aborts, Works, IsCut, HasFailed, fresh, planned}
-use Rattle.envy_memory.specs.Effects.{PutEffect}
 use Rattle.envy_memory.specs.Faults.{IsNoRefusal, trouble_of}
 use Rattle.envy_memory.specs.Lawful.{words_long}
 use Rattle.envy_memory.specs.Picture.{Picture}
@@ -43,7 +43,8 @@ use Rattle.envy_memory.specs.declared.faults.BeginFault.TheVariants.{Off as Begi
 use Rattle.envy_memory.specs.declared.faults.PutFault.{PutFault}
 use Rattle.envy_memory.specs.declared.faults.PutFault.TheVariants.{Off as PutOff, Range as PutRange, Closed as PutClosed, Held as PutHeld, Full as PutFull, Bad as PutBad}
 use Rattle.envy_memory.specs.declared.faults.EndFault.TheVariants.{Off as EndOff, Closed as EndClosed}
-use Rattle.envy_memory.proofs.Transacting.{PutMoved, none-open, shut-slot, first-slot, undone-shut, undone-first, words-held, dark-works, shut-on, on-from, flag-is, started-held, start-lost, never-busy, put-done, put-words, put-kept, bad-moves, bad-words, is-active, held-by-first, pages_of, put-has, has-room, put-works-done, put-works-bad, put-works-off}
+use Rattle.envy_memory.proofs.Facts.{none-open, on-from}
+use Rattle.envy_memory.proofs.Transacting.{PutMoved, shut-slot, first-slot, undone-shut, undone-first, words-held, dark-works, shut-on, flag-is, started-held, start-lost, never-busy, put-done, put-words, put-kept, bad-moves, bad-words, is-active, held-by-first, pages_of, put-has, has-room, put-works-done, put-works-bad, put-works-off}
 
 -- ---- finish and undo
 
@@ -289,13 +290,11 @@ pub record PutMeets (p q : Picture) (b : Bool) (a w : ℕ) (r : Result Unit PutF
   pub step : (m : Array) → Stands p.chart m → Puts m 0 a w r q.chart
   pub off : (r ≡ Err PutOff) ↔ (q.chart.on ≡ false)
   pub cut : IsCut p.chart q.chart
-  pub works : Works (4 * p.chart.shape.rows + 16) 6 p.chart q.chart
-  pub range : (r ≡ Err PutRange) ↔ (IsTrue p.chart.on × (32 * p.chart.shape.pages ≤ a))
-  pub closed : (r ≡ Err PutClosed) ↔ (IsTrue p.chart.on × (a < 32 * p.chart.shape.pages) × (slot p.chart.fields 0 ≢ Some Active))
-  pub full : (r ≡ Err PutFull) ↔ (IsTrue p.chart.on × (a < 32 * p.chart.shape.pages) × (slot p.chart.fields 0 ≡ Some Active) × (owner_of p.owned.pairs (a / 32) ≡ None) × (length p.owned.pairs ≡ p.chart.shape.shadows))
+  pub range : (r ≡ Err PutRange) ↔ IsPast a p
+  pub closed : (r ≡ Err PutClosed) ↔ IsShutTo 0 a p
+  pub full : (r ≡ Err PutFull) ↔ IsFull 0 a p
   pub bad : IsErrOf r PutBad → HasFailed p.chart q.chart
-  pub does : OnOk r (PutEffect 0 (a / 32) p q)
-  pub stops : IsErrOf r PutBad → q.owned ≡ p.owned
+  pub below : PutsBelow 0 a r p q
 
 put-open : (p q : Picture) (b : Bool) (a w : ℕ) (r : Result Unit PutFault) → PutMeets p q b a w r → ∥ (IsTrue p.chart.on → IsHeld p.chart true) ∥₁
 put-open p q b a w r x = flag-is p.chart b true x.begun x.held
@@ -313,9 +312,9 @@ put-durable : (p q : Picture) (b : Bool) (a w : ℕ) (r : Result Unit PutFault) 
 put-durable p q b a w r x = put-kept p.chart q.chart a w r x.on (put-open p q b a w r x) x.step
 
 pub put-works : (p q : Picture) (b : Bool) (a w : ℕ) (r : Result Unit PutFault) → PutMeets p q b a w r → IsNoRefusal r → OnPage (a / 32) (sheet_of p b) (sheet_of q b)
-put-works p q b a w (Ok done) x fine = put-works-done (4 * p.chart.shape.rows + 16) 6 p q b (a / 32) x.works x.cut (put-durable p q b a w (Ok done) x) x.does
-put-works p q b a w (Err PutOff) x fine = put-works-off (4 * p.chart.shape.rows + 16) 6 p q b (a / 32) x.works x.cut (put-durable p q b a w (Err PutOff) x) (x.off.0 refl)
-put-works p q b a w (Err PutBad) x fine = put-works-bad (4 * p.chart.shape.rows + 16) 6 p q b (a / 32) x.works x.cut (put-durable p q b a w (Err PutBad) x) (x.stops refl)
+put-works p q b a w (Ok done) x fine = put-works-done (flush_programs p.chart.shape.rows) flush_erases p q b (a / 32) x.below.works x.cut (put-durable p q b a w (Ok done) x) x.below.does
+put-works p q b a w (Err PutOff) x fine = put-works-off (flush_programs p.chart.shape.rows) flush_erases p q b (a / 32) x.below.works x.cut (put-durable p q b a w (Err PutOff) x) (x.off.0 refl)
+put-works p q b a w (Err PutBad) x fine = put-works-bad (flush_programs p.chart.shape.rows) flush_erases p q b (a / 32) x.below.works x.cut (put-durable p q b a w (Err PutBad) x) (x.below.stops refl).1
 put-works p q b a w (Err PutRange) x fine = absurd fine
 put-works p q b a w (Err PutClosed) x fine = absurd fine
 put-works p q b a w (Err (PutHeld u)) x fine = absurd fine
@@ -326,14 +325,14 @@ put-answer p q b a w (Ok done) x fine =
     let lit : IsTrue q.chart.on = on-from q.chart.on (λ dark. let clash : Ok done ≡ Err PutOff = x.off.1 dark in cc) in (
       lit,
       subst (λ (y : Bool). (sheet_of q y).words ≡ slice_set (sheet_of p y).words a w) (sym x.begun) (put-words p q a w x.on lit (put-open p q b a w (Ok done) x) x.step),
-      put-has p q (a / 32) x.does,
+      put-has p q (a / 32) x.below.does,
     )
 put-answer p q b a w (Err PutOff) x fine = x.off.0 refl
 put-answer p q b a w (Err PutBad) x fine =
     let lit : IsTrue q.chart.on = on-from q.chart.on (λ dark. let clash : Err PutBad ≡ Err PutOff = x.off.1 dark in cc) in (
       lit,
       subst (λ (y : Bool). (sheet_of q y).words ≡ (sheet_of p y).words) (sym x.begun) (bad-words p q a w x.on lit (put-open p q b a w (Err PutBad) x) x.step),
-      ap (λ (o : Ownership). pages_of o.pairs) (x.stops refl),
+      ap (λ (o : Ownership). pages_of o.pairs) (x.below.stops refl).1,
       x.bad refl,
     )
 put-answer p q b a w (Err PutRange) x fine = absurd fine

@@ -14,11 +14,12 @@ beyond c m a s le = let long = length-stands c m s in omega arith
 pub inside : (c : Chart) (m : Array) (a : ℕ) → Stands c m → a / 32 < c.shape.pages → a < length m.words
 inside c m a s lt = let long = length-stands c m s in omega arith
 
+-- a load's, in the place of the page
 pub word-stands : (c : Chart) (m : Array) (a : ℕ) (x : Place) → Stands c m → a / 32 < c.shape.pages → place c.fields (a / 32) ≡ Some x → get_or m.words a 0 ≡ word_at c.fields.frames c.flash (Some x) (a % 32)
 word-stands c m a x s lt is =
     ap (λ (ws : List ℕ). get_or ws a 0) (sym (Holds.live s.holds)) ∙ get_or-words c.shape.pages (live_word c.fields c.flash) a (omega arith) ∙ ap (λ (y : Option Place). word_at c.fields.frames c.flash y (a % 32)) is
 
--- what a restart would leave
+-- a look's, where a restart would read the page
 pub word-durable : (c : Chart) (a : ℕ) (x : Place) → a / 32 < c.shape.pages → kept c.fields (a / 32) ≡ Some x → get_or (durable c) a 0 ≡ word_at c.fields.frames c.flash (Some x) (a % 32)
 word-durable c a x lt is =
     get_or-words c.shape.pages (durable_word c.fields c.flash) a (omega arith)

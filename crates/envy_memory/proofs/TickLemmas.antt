@@ -26,6 +26,7 @@ use Rattle.envy_memory.specs.Calls.{Ticks, IsCut, HasFailed, Undisturbed}
 use Rattle.envy_memory.proofs.EndLemmas.{undisturbed-on}
 use Rattle.envy_memory.specs.Effects.{IsIdle, TicksOnce}
 use Rattle.envy_memory.specs.Picture.{Picture, IsMemory}
+use Rattle.envy_memory.proofs.Facts.{on-from}
 use Rattle.envy_memory.proofs.Owning.{IsMemory-left, Works-left}
 use Rattle.envy_txn.specs.Owners.{Ownership}
 
@@ -37,13 +38,9 @@ lost : (c new : Chart) (m : Array) → Stands c m → SameOnce c new → new.on 
 lost c new m s (inl same) off = IsLost-same 1 0 c new m Tick m s (Done, refl, refl) same off
 lost c new m s (inr same) off = IsLost-same 0 1 c new m Tick m s (Done, refl, refl) same off
 
-lit : (b : Bool) → (b ≡ false → ⊥) → IsTrue b
-lit true never = refl
-lit false never = absurd (never refl)
-
 pub Ticks-all : (c new : Chart) (m : Array) (r : Result Did Trouble) → Stands c m → SameOnce c new → ((r ≡ Err TroubleOff) ↔ (new.on ≡ false)) → Ticks m r new
-Ticks-all c new m (Ok did) s step off = (m, refl, stands c new m s step (lit new.on (λ is. let no = off.1 is in cc)))
-Ticks-all c new m (Err TroubleBad) s step off = (m, (Done, refl, refl), stands c new m s step (lit new.on (λ is. let no = off.1 is in cc)))
+Ticks-all c new m (Ok did) s step off = (m, refl, stands c new m s step (on-from new.on (λ is. let no = off.1 is in cc)))
+Ticks-all c new m (Err TroubleBad) s step off = (m, (Done, refl, refl), stands c new m s step (on-from new.on (λ is. let no = off.1 is in cc)))
 Ticks-all c new m (Err TroubleOff) s step off = lost c new m s step (off.0 refl)
 
 pub counted-once : (c new : Chart) → SameOnce c new → Counted 1 1 c new

@@ -30,6 +30,7 @@ use Rattle.envy_layout.specs.Words.{live, durable}
 use Rattle.envy_txn.specs.Owners.{Ownership, AreOwned, owner_of, owner_in}
 use Rattle.envy_txn.specs.declared.pair.Pair.{Pair}
 use Rattle.envy_memory.proofs.AttachLemmas.{IsArray-fresh}
+use Rattle.envy_memory.proofs.Facts.{none-open, on-from}
 use Rattle.envy_memory.specs.Calls.{Loads, Begins, Puts, Commits, Aborts, Works, IsCut, HasFailed, fresh, planned}
 use Rattle.envy_memory.specs.Effects.{PutEffect}
 use Rattle.envy_memory.specs.Faults.{IsNoRefusal, trouble_of}
@@ -45,13 +46,6 @@ use Rattle.envy_memory.specs.declared.faults.PutFault.TheVariants.{Off as PutOff
 use Rattle.envy_memory.specs.declared.faults.EndFault.TheVariants.{Off as EndOff, Closed as EndClosed}
 
 -- ---- slots
-
-pub none-open : (n t : ℕ) → get_or {A = Option Saved} (replicate n None) t None ≡ None
-none-open n t = at (cases_lt t n)
-  where
-    at : (t < n) ⊎ (n ≤ t) → get_or {A = Option Saved} (replicate n None) t None ≡ None
-    at (inl lt) = get_or-replicate n t None None lt
-    at (inr le) = get_or_past (replicate n None) t None (rw length-replicate le)
 
 pub shut-slot : (m : Array) (t : ℕ) → m.slots ≡ replicate 64 None → slot_of m t ≡ None
 shut-slot m t is = ap (λ (slots : List (Option Saved)). get_or slots t None) is ∙ none-open 64 t
@@ -141,10 +135,6 @@ begun-on false b is = absurd (let clash : false ≡ true = is in cc)
 
 pub shut-on : (on b : Bool) → IsTrue on → (on && b) ≡ false → b ≡ false
 shut-on on b lit is = subst (λ (x : Bool). (x && b) ≡ false) lit is
-
-pub on-from : (on : Bool) → (on ≡ false → ⊥) → IsTrue on
-on-from true never = refl
-on-from false never = absurd (never refl)
 
 pub was-on : (i j : ℕ) (c d : Chart) → Works i j c d → IsTrue d.on → IsTrue c.on
 was-on i j c d w lit = on-from c.on (λ off. let clash : true ≡ false = sym lit ∙ dark-works i j c d w off in cc)

@@ -1,4 +1,5 @@
 pub mod Attaching
+pub mod Below
 pub mod Calls
 pub mod Effects
 pub mod Faults
@@ -8,4 +9,5 @@ pub mod Lawful
 pub mod Making
 pub mod Picture
 pub mod Restarts
+pub mod Rises
 pub mod Sheets

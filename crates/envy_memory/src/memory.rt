@@ -7,7 +7,7 @@ ghost use Rattle.envy_layout.specs.Sound.{IsSound};
 ghost use Rattle.envy_layout.specs.Stands.{Stands};
 ghost use Rattle.envy_layout.specs.Words.{durable};
 ghost use Rattle.envy_memory.specs.Calls.{Loads, Looks};
-ghost use Rattle.envy_memory.specs.Effects.{LoadVisits};
+ghost use Rattle.envy_memory.specs.Below.{LoadsBelow, IsPast};
 ghost use Rattle.envy_memory.specs.Picture.{counts_of};
 
 use crate::faults::LoadFault;
@@ -51,9 +51,8 @@ impl<B: Board> Memory<B> {
     pub fn load(&mut self, a: u32) -> Result<u64, LoadFault>
         ensures step { (m : Array) → Stands self.old.chart m → Loads m a result self.new.chart }
         ensures off { (result ≡ Err LoadFault.Off) ↔ (self.new.chart.on ≡ false) }
-        ensures range { (result ≡ Err LoadFault.Range) ↔ (IsTrue self.old.chart.on × (32 * self.old.chart.shape.pages ≤ a)) }
-        ensures visits { LoadVisits (a / 32) result self.old self.new }
-        ensures kept { self.new ≡ record self.old { parts = record self.old.parts { cache = self.new.parts.cache } } }
+        ensures range { (result ≡ Err LoadFault.Range) ↔ IsPast a self.old }
+        ensures below { LoadsBelow a result self.old self.new }
     {
         if !self.board.powered() {
             return Err(LoadFault::Off);
@@ -74,7 +73,7 @@ impl<B: Board> Memory<B> {
         ensures word { OnOk result (result ≡ Ok (slice_index (durable self.now.chart) a)) }
         ensures step { (m : Array) → Stands self.now.chart m → Looks m a result self.now.chart }
         ensures off { (result ≡ Err LoadFault.Off) ↔ (self.now.chart.on ≡ false) }
-        ensures range { (result ≡ Err LoadFault.Range) ↔ (IsTrue self.now.chart.on × (32 * self.now.chart.shape.pages ≤ a)) }
+        ensures range { (result ≡ Err LoadFault.Range) ↔ IsPast a self.now }
     {
         if !self.board.powered() {
             return Err(LoadFault::Off);

@@ -12,19 +12,13 @@ use Rattle.envy_map.specs.Fields.{Chart, slot}
 use Rattle.envy_layout.specs.Stands.{Stands, Holds, Steps, Fails, slot_word}
 use Rattle.envy_layout.specs.Words.{live, durable}
 use Rattle.envy_layout.proofs.WordLists.{length-live}
+use Rattle.envy_memory.proofs.Facts.{none-open}
 use Rattle.envy_memory.specs.Calls.{fresh}
 use Rattle.envy_mirror.specs.Pair.{IsClosed}
 
-closed-at : (n t : ℕ) → get_or {A = Option Saved} (replicate n None) t None ≡ None
-closed-at n t = at (cases_lt t n)
-  where
-    at : (t < n) ⊎ (n ≤ t) → get_or {A = Option Saved} (replicate n None) t None ≡ None
-    at (inl lt) = get_or-replicate n t None None lt
-    at (inr le) = get_or_past (replicate n None) t None (rw length-replicate le)
-
 -- nobody owns a page where no slot is open
 pub owner-fresh : (shadows : ℕ) (words : List ℕ) (p : ℕ) → owner (fresh shadows words) p ≡ None
-owner-fresh shadows words p = owner-nobody (fresh shadows words) p (λ t. ap (owns p) (closed-at 64 t))
+owner-fresh shadows words p = owner-nobody (fresh shadows words) p (λ t. ap (owns p) (none-open 64 t))
 
 pub undone-fresh : (shadows : ℕ) (words : List ℕ) → undone (fresh shadows words) ≡ words
 undone-fresh shadows words = undo_all-closed 64 words
@@ -54,7 +48,7 @@ pub fresh-is : (m : Array) → IsArray m → ((t : ℕ) → t < 64 → slot_of m
 fresh-is m i closed = ap (λ (slots : List (Option Saved)). record m { slots = slots }) slots
   where
     slots : m.slots ≡ replicate 64 None
-    slots = ext_get_or None m.slots (replicate 64 None) (i.slots ∙ sym (length-replicate {A = Option Saved} 64 None)) (λ t lt. let within : t < 64 = rw (← i.slots) lt in closed t within ∙ sym (closed-at 64 t))
+    slots = ext_get_or None m.slots (replicate 64 None) (i.slots ∙ sym (length-replicate {A = Option Saved} 64 None)) (λ t lt. let within : t < 64 = rw (← i.slots) lt in closed t within ∙ sym (none-open 64 t))
 
 -- ---- one word more of a page
 
@@ -76,7 +70,3 @@ copied-more from mid new page i inside low is before a in_page lt = ap (λ (ws :
 pub others-more : (from mid new old : Chart) (page i : ℕ) → i < 32 → live new ≡ set (live mid) (32 * page + i) (get_or (durable from) (32 * page + i) 0) → OthersStay page old mid → OthersStay page old new
 others-more from mid new old page i low is before a elsewhere =
     ap (λ (ws : List ℕ). get_or ws a 0) is ∙ get_or-set_other (live mid) (32 * page + i) a (get_or (durable from) (32 * page + i) 0) 0 (λ e. elsewhere (omega arith)) ∙ before a elsewhere
-
-pub lit-unless : (b : Bool) → (b ≡ false → ⊥) → IsTrue b
-lit-unless true never = refl
-lit-unless false never = absurd (never refl)

@@ -5,6 +5,7 @@ use Rattle.std.proofs.lemmas.Bool.{cases_Bool}
 use Rattle.envy_base.specs.Step.{Command, Answer}
 use Rattle.envy_base.specs.declared.shape.Shape.{Shape}
 use Rattle.envy_map.specs.Fields.{Chart}
+use Rattle.envy_memory.proofs.Facts.{on-from}
 use Rattle.envy_memory.specs.Picture.{Picture}
 use Rattle.envy_mirror.specs.Asking.{Asks, Asked, Reckons, Reaches, heard, has_said, is_moving, cut_by_hand, standing_after, spoiled_if}
 use Rattle.envy_mirror.specs.Pair.{Side, Pair, is_good, is_good_by, IsDark, IsPair, IsSide, IsSideBy, Leads, MayLead, lasting}
@@ -17,10 +18,6 @@ use Rattle.envy_mirror.proofs.Telling.{length-marked, only-first, only-second, r
 
 -- ---- one side
 
-on-unless : (b : Bool) → (b ≡ false → ⊥) → IsTrue b
-on-unless true never = refl
-on-unless false never = absurd (never refl)
-
 side-good : (s : Side) → s.standing ≡ Good → IsTrue s.memory.chart.on → IsSide s
 side-good s good on = subst (λ (g : Standing). IsSideBy g s.memory.chart) (sym good) on
 
@@ -30,8 +27,8 @@ side-gone s gone off = subst (λ (g : Standing). IsSideBy g s.memory.chart) (sym
 -- a side that was asked, by its reply
 pub side-asked : (command : Command) (reply : Reply) (old mid : Side) → Asked command (Some reply) old mid → IsSide mid
 side-asked command Off old mid (good, asks, stood) = side-gone mid stood (asks.off.0 refl)
-side-asked command Bad old mid (good, asks, stood) = side-good mid stood (on-unless mid.memory.chart.on (λ off. let clash : Bad ≡ Off = asks.off.1 off in cc))
-side-asked command (Said answer) old mid (good, asks, stood) = side-good mid stood (on-unless mid.memory.chart.on (λ off. let clash : Said answer ≡ Off = asks.off.1 off in cc))
+side-asked command Bad old mid (good, asks, stood) = side-good mid stood (on-from mid.memory.chart.on (λ off. let clash : Bad ≡ Off = asks.off.1 off in cc))
+side-asked command (Said answer) old mid (good, asks, stood) = side-good mid stood (on-from mid.memory.chart.on (λ off. let clash : Said answer ≡ Off = asks.off.1 off in cc))
 
 side-spoiled : (b : Bool) (mid : Side) → IsSide mid → IsSide (spoiled_if b mid)
 side-spoiled true mid is = refl

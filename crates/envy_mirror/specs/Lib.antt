@@ -1,6 +1,5 @@
 pub mod Asking
 pub mod Catching
-pub mod Doing
 pub mod Mirroring
 pub mod Pair
 pub mod Reading

@@ -1,8 +1,8 @@
 ghost use Rattle.std.specs.Prelude.{◌≡◌, ◌&&◌, ◌/◌, false, IsTrue, Some, if◌then◌else◌};
 ghost use Rattle.envy_base.specs.Array.{Array};
 ghost use Rattle.envy_base.specs.Step.{Store, Begin, Put, Commit, Abort, Tick};
+ghost use Rattle.envy_memory.specs.Below.{StoresBelow, PutsBelow, TicksBelow};
 ghost use Rattle.envy_mirror.specs.Asking.{Answers, TellsBoth, left_by, replied, heard, has_said, has_failed};
-ghost use Rattle.envy_mirror.specs.Doing.{StoreDoes, PutDoes, TickDoes};
 ghost use Rattle.envy_mirror.specs.Pair.{is_good, IsSide};
 ghost use Rattle.envy_mirror.specs.Replies.{is_said, marked, set_mark, store_reply, begin_reply, put_reply, end_reply, tick_reply};
 
@@ -138,7 +138,7 @@ impl<A: Bench, B: Bench> Mirror<A, B> {
     /// Those of `Memory::store`; `Off` where no side is left, `Bad` where each that is left answered so.
     pub fn store(&mut self, a: u32, w: u64) -> Result<(), StoreFault>
         ensures answers { Answers (Store a w) (store_reply result) self.old self.new }
-        ensures tells { TellsBoth store_reply (StoreDoes (a / 32)) (Store a w) result self.old.first self.old.second self.new.first self.new.second }
+        ensures tells { TellsBoth store_reply (StoresBelow a) (Store a w) result self.old.first self.old.second self.new.first self.new.second }
     {
         self.call(&StoreCall {
             address: a,
@@ -164,7 +164,7 @@ impl<A: Bench, B: Bench> Mirror<A, B> {
     /// Those of `Memory::put`; `Off` where no side is left, `Bad` where each that is left answered so.
     pub fn put(&mut self, t: u8, a: u32, w: u64) -> Result<(), PutFault>
         ensures answers { Answers (Put t a w) (put_reply result) self.old self.new }
-        ensures tells { TellsBoth put_reply (PutDoes t (a / 32)) (Put t a w) result self.old.first self.old.second self.new.first self.new.second }
+        ensures tells { TellsBoth put_reply (PutsBelow t a) (Put t a w) result self.old.first self.old.second self.new.first self.new.second }
     {
         self.call(&PutCall {
             slot: t,
@@ -203,7 +203,7 @@ impl<A: Bench, B: Bench> Mirror<A, B> {
     /// `Off` where no side is left, `Bad` where a flash operation failed on each that is left.
     pub fn tick(&mut self) -> Result<Did, Trouble>
         ensures answers { Answers Tick (tick_reply result) self.old self.new }
-        ensures tells { TellsBoth tick_reply TickDoes Tick result self.old.first self.old.second self.new.first self.new.second }
+        ensures tells { TellsBoth tick_reply TicksBelow Tick result self.old.first self.old.second self.new.first self.new.second }
     {
         self.call(&TickCall)
     }

@@ -16,7 +16,7 @@ pub struct StoreCall {
 
 impl Call for StoreCall {
     ghost use Rattle.envy_base.specs.Step.{Store};
-    ghost use Rattle.envy_mirror.specs.Doing.{StoreDoes};
+    ghost use Rattle.envy_memory.specs.Below.{StoresBelow};
     ghost use Rattle.envy_mirror.specs.Replies.{store_reply};
 
     type Told = Result<(), StoreFault>;
@@ -25,7 +25,7 @@ impl Call for StoreCall {
 
     ghost reply = { store_reply };
 
-    ghost Does = { λ c. StoreDoes (c.address / 32) };
+    ghost Does = { λ c. StoresBelow c.address };
 
     fn make<B: Bench>(&self, memory: &mut Memory<B>) -> Result<(), StoreFault> {
         memory.store(self.address, self.word)
@@ -104,7 +104,7 @@ pub struct PutCall {
 
 impl Call for PutCall {
     ghost use Rattle.envy_base.specs.Step.{Put};
-    ghost use Rattle.envy_mirror.specs.Doing.{PutDoes};
+    ghost use Rattle.envy_memory.specs.Below.{PutsBelow};
     ghost use Rattle.envy_mirror.specs.Replies.{put_reply};
 
     type Told = Result<(), PutFault>;
@@ -113,7 +113,7 @@ impl Call for PutCall {
 
     ghost reply = { put_reply };
 
-    ghost Does = { λ c. PutDoes c.slot (c.address / 32) };
+    ghost Does = { λ c. PutsBelow c.slot c.address };
 
     fn make<B: Bench>(&self, memory: &mut Memory<B>) -> Result<(), PutFault> {
         memory.put(self.slot, self.address, self.word)
@@ -238,7 +238,7 @@ pub struct TickCall;
 
 impl Call for TickCall {
     ghost use Rattle.envy_base.specs.Step.{Tick};
-    ghost use Rattle.envy_mirror.specs.Doing.{TickDoes};
+    ghost use Rattle.envy_memory.specs.Below.{TicksBelow};
     ghost use Rattle.envy_mirror.specs.Replies.{tick_reply};
 
     type Told = Result<Did, Trouble>;
@@ -247,7 +247,7 @@ impl Call for TickCall {
 
     ghost reply = { tick_reply };
 
-    ghost Does = { λ c. TickDoes };
+    ghost Does = { λ c. TicksBelow };
 
     fn make<B: Bench>(&self, memory: &mut Memory<B>) -> Result<Did, Trouble> {
         memory.tick()

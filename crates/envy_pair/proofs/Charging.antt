@@ -3,25 +3,22 @@ use Rattle.std.proofs.Common.{◌≡◌, ℕ, ◌+◌, ◌-◌, ◌^◌, ◌<◌
 use Rattle.envy_base.specs.Counting.{up}
 use Rattle.envy_base.proofs.Counting.{up-least, up-below}
 use Rattle.envy_base.specs.declared.counts.Counts.{Counts}
+use Rattle.envy_flush.proofs.CountLemmas.{Tally3-trans}
 use Rattle.envy_flush.specs.Counts.{Tallies, Tally3}
 use Rattle.envy_layout.specs.Same.{Counted, Kept}
 use Rattle.envy_map.specs.Fields.{Chart}
+use Rattle.envy_memory.proofs.Counted.{RoseBy-trans, RoseOver-trans, up-low}
 use Rattle.envy_memory.specs.Calls.{planned, HasFailed}
 use Rattle.envy_memory.specs.Picture.{Picture}
+use Rattle.envy_memory.specs.Rises.{RoseBy, RoseOver}
 use Rattle.envy_mirror.specs.Asking.{Reckons, cut_by_hand}
 use Rattle.envy_mirror.specs.Catching.{Wakes}
 use Rattle.envy_mirror.specs.Reading.{IsLooked}
-use Rattle.envy_pair.specs.Bills.{RoseBy, RoseOver, Toll, Charged}
+use Rattle.envy_pair.specs.Bills.{Toll, Charged}
 use Rattle.envy_pair.specs.Restarting.{no_toll}
-
-RoseBy-trans : (i j a b c : ℕ) → RoseBy i a b → RoseBy j b c → RoseBy (i + j) a c
-RoseBy-trans i j a b c x y = λ lt. let first = x (omega arith) in let later = y (omega arith) in omega arith
 
 RoseBy-same : (a b : ℕ) → b ≡ a → RoseBy 0 a b
 RoseBy-same a b e = λ lt. omega arith
-
-RoseOver-trans : (i j a b c : ℕ) → RoseOver i a b → RoseOver j b c → RoseOver (i + j) a c
-RoseOver-trans i j a b c x y = let p = x.kept in let q = y.kept in record { kept = omega arith; rise = λ lt. let later = y.rise lt in let first = x.rise (omega arith) in omega arith }
 
 RoseOver-none : (a b : ℕ) → a ≤ b → RoseOver 0 a b
 RoseOver-none a b le = record { kept = le; rise = λ lt. omega arith }
@@ -29,28 +26,11 @@ RoseOver-none a b le = record { kept = le; rise = λ lt. omega arith }
 RoseOver-one : (a b : ℕ) → a ≤ b → (a < 2 ^ 64 - 1 → a < b) → RoseOver 1 a b
 RoseOver-one a b le rose = record { kept = le; rise = λ lt. let more = rose (omega arith) in omega arith }
 
--- below the top a count rises by one
-up-low : (n : ℕ) → n + 1 < 2 ^ 64 → up n ≡ n + 1
-unfolding up
-up-low n lt = omega arith
-
 RoseOver-up : (n : ℕ) → RoseOver 1 n (up n)
 RoseOver-up n = record { kept = up-least n; rise = λ lt. let e = up-below n lt in omega arith }
 
 Tally3-same : (a b c e a2 b2 c2 e2 : ℕ) → a2 ≡ a → b2 ≡ b → c2 ≡ c → e2 ≡ e → Tally3 a b c e a2 b2 c2 e2
 Tally3-same a b c e a2 b2 c2 e2 ea eb ec ee = record { first = omega arith; second = omega arith; third = omega arith; fourth = omega arith; same = λ i j k l. omega arith }
-
-Tally3-trans : (a b c e f g h i j k l m : ℕ) → Tally3 a b c e f g h i → Tally3 f g h i j k l m → Tally3 a b c e j k l m
-Tally3-trans a b c e f g h i j k l m x y =
-    let p = x.first in let q = x.second in let r = x.third in let s = x.fourth in
-    let t = y.first in let u = y.second in let v = y.third in let w = y.fourth in
-    record {
-      first = omega arith;
-      second = omega arith;
-      third = omega arith;
-      fourth = omega arith;
-      same = λ la lb lc le. let before = x.same (omega arith) (omega arith) (omega arith) (omega arith) in let after = y.same la lb lc le in omega arith;
-    }
 
 abbrev pub add_tolls : Toll → Toll → Toll
 add_tolls s t = record { pulls = s.pulls + t.pulls; plans = s.plans + t.plans; fails = s.fails + t.fails; bads = s.bads + t.bads }

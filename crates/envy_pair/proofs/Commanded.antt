@@ -2,13 +2,14 @@
 use Rattle.std.proofs.Common.{◌≡◌, ◌⊎◌, inl, inr, ℕ, ◌+◌, Bool, true, false, List, [], ◌∷◌, Option, None, refl, sym, ◌∙◌, ap, subst, arith}
 use Rattle.std.specs.Prelude.{IsTrue, ◌||◌}
 use Rattle.std.proofs.lemmas.Bool.{or_cases}
-use Rattle.envy_base.specs.Array.{Array, undone}
+use Rattle.envy_base.specs.Array.{Array}
 use Rattle.envy_base.specs.Step.{Command, Answer, Step, Lost as LostAs, Load, Look, Store, Begin, Put, Commit, Abort, Tick}
 use Rattle.envy_base.specs.Step.{Word as IsWord, Done as IsDone, Started as IsStarted, Range as IsRange, Held as IsHeld, Closed as IsClosed, Full as IsFull, Busy as IsBusy}
 use Rattle.envy_base.specs.declared.shape.Shape.{Shape}
 use Rattle.envy_layout.specs.Sound.{IsSound}
 use Rattle.envy_layout.specs.Stands.{Stands, Holds, IsLost as LostIn}
 use Rattle.envy_layout.specs.Words.{durable}
+use Rattle.envy_memory.proofs.Stepped.{lost-fresh}
 use Rattle.envy_memory.specs.Calls.{fresh}
 use Rattle.envy_pair.proofs.Sides.{stands-good, neither, reach-none}
 use Rattle.envy_mirror.specs.Asking.{Answers, AsksBoth, Reaches, heard}
@@ -30,36 +31,6 @@ use Rattle.envy_pair.specs.Restarting.{last_side, IsFallen}
 use Rattle.envy_pair.specs.Serving.{Known, state_of, IsSpent, Serves}
 use Rattle.envy_pair.specs.State.{Falls}
 use Rattle.envy_pair.proofs.Commanding.{fell, reach_toll, past_if, falls-if, Reached, reached, spent-kept, Paid, bad-paid, off-paid, both-pay, bill-paid, sums, quiet-said}
-
--- ---- no command changes how many pages may be owned
-
-step-shadows : (m : Array) (command : Command) (answer : Answer) (n : Array) → Step m command answer n → n.shadows ≡ m.shadows
-step-shadows m (Load a) (IsWord v) n (lt, w_is, e) = ap (λ (x : Array). x.shadows) e
-step-shadows m (Load a) IsRange n (le, e) = ap (λ (x : Array). x.shadows) e
-step-shadows m (Look a) (IsWord v) n (lt, w_is, e) = ap (λ (x : Array). x.shadows) e
-step-shadows m (Look a) IsRange n (le, e) = ap (λ (x : Array). x.shadows) e
-step-shadows m (Store a w) IsRange n (le, e) = ap (λ (x : Array). x.shadows) e
-step-shadows m (Store a w) (IsHeld u) n (lt, own, e) = ap (λ (x : Array). x.shadows) e
-step-shadows m (Store a w) IsDone n (lt, own, e) = ap (λ (x : Array). x.shadows) e
-step-shadows m Begin IsBusy n (none, e) = ap (λ (x : Array). x.shadows) e
-step-shadows m Begin (IsStarted t) n (some, e) = ap (λ (x : Array). x.shadows) e
-step-shadows m (Put t a w) IsRange n (le, e) = ap (λ (x : Array). x.shadows) e
-step-shadows m (Put t a w) IsClosed n (lt, none, e) = ap (λ (x : Array). x.shadows) e
-step-shadows m (Put t a w) (IsHeld u) n (lt, some, own, ne, e) = ap (λ (x : Array). x.shadows) e
-step-shadows m (Put t a w) IsFull n (lt, some, own, full, e) = ap (λ (x : Array). x.shadows) e
-step-shadows m (Put t a w) IsDone n (lt, may, saved, some, e) = ap (λ (x : Array). x.shadows) e
-step-shadows m (Commit t) IsClosed n (none, e) = ap (λ (x : Array). x.shadows) e
-step-shadows m (Commit t) IsDone n (some, e) = ap (λ (x : Array). x.shadows) e
-step-shadows m (Abort t) IsClosed n (none, e) = ap (λ (x : Array). x.shadows) e
-step-shadows m (Abort t) IsDone n (saved, some, e) = ap (λ (x : Array). x.shadows) e
-step-shadows m Tick IsDone n e = ap (λ (x : Array). x.shadows) e
-step-shadows m command answer n never = absurd never
-
--- after a failure of power the array is what a restart makes of its words
-lost-fresh : (m : Array) (command : Command) (n : Array) → LostAs m command n → fresh m.shadows n.words ≡ n
-lost-fresh m command n (k, (answer, step, accepted), inl is) = subst (λ (x : Array). fresh m.shadows x.words ≡ x) (sym is) refl
-lost-fresh m command n (k, (answer, step, accepted), inr is) =
-    subst (λ (x : Array). fresh m.shadows x.words ≡ x) (sym is) (ap (λ (s : ℕ). fresh s (undone k)) (sym (step-shadows m command answer k step)))
 
 -- ---- a pair of which no side is Good
 

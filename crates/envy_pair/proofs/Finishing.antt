@@ -8,8 +8,10 @@ use Rattle.envy_flush.specs.Counts.{Tally3}
 use Rattle.envy_layout.specs.Sound.{IsSound}
 use Rattle.envy_layout.specs.Words.{durable}
 use Rattle.envy_map.specs.Fields.{Chart}
+use Rattle.envy_memory.proofs.Counted.{below-top}
 use Rattle.envy_memory.specs.Formats.{no_counts}
 use Rattle.envy_memory.specs.Picture.{Picture, counts_of}
+use Rattle.envy_memory.specs.Rises.{RoseOver}
 use Rattle.envy_pair.proofs.Sides.{stands-good}
 use Rattle.envy_mirror.specs.Mirroring.{Mirrors, Agrees}
 use Rattle.envy_mirror.specs.Pair.{Side, Pair, is_good_by, side_at}
@@ -17,9 +19,10 @@ use Rattle.envy_mirror.specs.Reviving.{which}
 use Rattle.envy_mirror.specs.declared.standing.Standing.TheVariants.{Good}
 use Rattle.envy_mirror.specs.declared.standing.Which.{Which}
 use Rattle.envy_mirror.specs.declared.standing.Which.TheVariants.{First, Second}
+use Rattle.envy_serve.proofs.Counts.{count-lines}
 use Rattle.envy_serve.specs.Ends.{most_bytes}
 use Rattle.envy_serve.specs.Turns.{Turn, count_lines, count_replies, one_if}
-use Rattle.envy_pair.specs.Bills.{RoseOver, Toll, Charged, Bill}
+use Rattle.envy_pair.specs.Bills.{Toll, Charged, Bill}
 use Rattle.envy_pair.specs.Ending.{Boards, board_at, Keeps, AddsUp, HasMirrored, HasFallen, PairLicences}
 use Rattle.envy_pair.specs.MirrorRun.{MirrorTurn, is_power, is_plan, is_lost, is_fault, just_told}
 use Rattle.envy_pair.specs.Serving.{Past, Serves, Start, side_of, state_of, sums_since, MirroredSince, FellSince}
@@ -37,14 +40,6 @@ pub record IsUnused (p : Picture) : Type 0 where
 pub record AreUnused (p : Pair) : Type 0 where
   pub first : IsUnused p.first.memory
   pub second : IsUnused p.second.memory
-
--- a count that is at least n where it is below the top
-below-top : (n count : ℕ) → n < 2 ^ 64 - 1 → (count < 2 ^ 64 - 1 → n ≤ count) → n ≤ count
-below-top n count low le = at (cases_lt count (2 ^ 64 - 1))
-  where
-    at : (count < 2 ^ 64 - 1) ⊎ (2 ^ 64 - 1 ≤ count) → n ≤ count
-    at (inl lt) = le lt
-    at (inr top) = omega arith
 
 -- two counts that pay for n together
 below-tops : (n i j a b : ℕ) → n < 2 ^ 64 - 1 → n ≤ i + j → (a < 2 ^ 64 - 1 → i ≤ a) → (b < 2 ^ 64 - 1 → j ≤ b) → n ≤ a + b
@@ -66,15 +61,6 @@ adds-up toll a b u c =
     let moves = ap (λ (n : Counts). n.moves) u.counts in
     let none = u.begun in
     λ lf lc lm lb. let same = Tally3.same c.programs lf lc lm lb in omega arith
-
--- there are no more such lines than lines
-count-lines : {Line Reply : Type 0} (test : Line → Bool) (turns : List (Turn Line Reply)) → count_lines test turns ≤ length turns
-count-lines test [] = omega arith
-count-lines test (turn ∷ earlier) = let rest = count-lines test earlier in at (test turn.line) rest
-  where
-    at : (t : Bool) → count_lines test earlier ≤ length earlier → count_lines test earlier + one_if t ≤ length (turn ∷ earlier)
-    at true le = omega arith
-    at false le = omega arith
 
 abbrev pub boards_of : Pair → Boards
 boards_of p = record { first = p.first.memory.chart; second = p.second.memory.chart }

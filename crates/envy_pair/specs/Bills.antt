@@ -2,16 +2,8 @@
 use Rattle.std.specs.Prelude.{◌≡◌, ℕ, ◌+◌, ◌-◌, ◌^◌, ◌<◌, ◌≤◌}
 use Rattle.envy_flush.specs.Counts.{Tally3}
 use Rattle.envy_memory.specs.Picture.{Picture}
+use Rattle.envy_memory.specs.Rises.{RoseBy, RoseOver}
 use Rattle.envy_mirror.specs.Pair.{Pair}
-
--- a count rose by n exactly, where that is no more than it can be
-abbrev pub RoseBy : ℕ → ℕ → ℕ → Type 0
-RoseBy n old new = old + n < 2 ^ 64 → new ≡ old + n
-
--- a count rose by n at least, or stands at the top
-pub record RoseOver (n old new : ℕ) : Type 0 where
-  pub kept : old ≤ new
-  pub rise : new < 2 ^ 64 - 1 → old + n ≤ new
 
 -- how often these came to one board
 pub record Toll : Type 0 where

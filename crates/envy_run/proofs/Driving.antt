@@ -20,6 +20,7 @@ use Rattle.envy_layout.specs.Words.{durable}
 use Rattle.envy_map.specs.Fields.{Chart, chart}
 use Rattle.envy_memory.specs.Calls.{fresh}
 use Rattle.envy_memory.specs.Picture.{Picture, counts_of}
+use Rattle.envy_memory.specs.Rises.{RoseOver}
 use Rattle.envy_policy.specs.declared.setup.Setup.{Setup}
 use Rattle.envy_serve.specs.Streams.{Streams}
 use Rattle.envy_tpca.specs.Driving.{HasCounted, IsDriven, IsToldBefore, is_planned, plans_in}
@@ -30,7 +31,6 @@ use Rattle.envy_run.specs.Driven.{AfterLoad, HasBroken, HasTold, IsCause}
 use Rattle.envy_run.specs.Drives.{FailsAsPlanned, IsCounted, IsDriver, IsUnbegun, TellsAll, TellsReturns, driving, load_of, report}
 use Rattle.envy_run.specs.Meaning.{Does}
 use Rattle.envy_run.specs.Outcome.{Outcome, EndsBy, IsQuiet, numbers_of, outcome_of}
-use Rattle.envy_run.specs.Licence.{RoseOver}
 use Rattle.envy_run.specs.Prepares.{HasTried, IsBegun, IsPrepared, IsReady, NoneBegun, WasMade}
 use Rattle.envy_run.specs.Unserved.{IsUnready, IsUnserved}
 use Rattle.envy_run.specs.Writing.{WritesAs, WritesTrace}

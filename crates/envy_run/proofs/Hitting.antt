@@ -6,6 +6,7 @@ use Rattle.envy_base.proofs.Counting.{up-least}
 use Rattle.envy_base.specs.Counting.{up}
 use Rattle.envy_base.specs.declared.counts.Counts.{Counts}
 use Rattle.envy_base.specs.declared.shape.Shape.{Shape}
+use Rattle.envy_flush.proofs.CountLemmas.{Tallies-trans}
 use Rattle.envy_flush.specs.Counts.{Tallies, Tally3}
 use Rattle.envy_base.specs.Counting.{Tally}
 use Rattle.envy_memory.specs.Picture.{Picture, counts_of}
@@ -18,7 +19,6 @@ use Rattle.envy_run.specs.Counters.{NoneFell, counter, is_empty, just_told, last
 use Rattle.envy_run.specs.Hits.{MayTell, accessed, counted, decides, hits_in, is_hit, is_restarted, misses_in}
 use Rattle.envy_run.specs.Tells.{CanTell, Notes, Telling, Tracks, Translates, hits_after, last_in, misses_after, placed}
 use Rattle.envy_run.specs.Turns.{TraceTurn}
-use Rattle.envy_run.proofs.Noting.{Tallies-trans}
 
 abbrev pub is_page : ℕ → Option ℕ → Bool
 is_page page None = false
@@ -143,7 +143,7 @@ telling-more first turn turns old new t shape notes = record {
     never_fell = fell-more (told_in turn.replies) (last_told turns) (counts_of old.parts) (counts_of new.parts) (fell-none turn.line turn.replies old new notes) notes.tells (CanTell.never_fell t.can);
   };
   last = last-more first turn turns old new t.last notes;
-  tallies = Tallies-trans first old new t.tallies notes.tallies;
+  tallies = Tallies-trans _ _ _ _ _ _ t.tallies notes.tallies;
 }
 
 -- what it may say then

@@ -27,11 +27,14 @@ use Rattle.envy_layout.specs.Stands.{Stands, Holds}
 use Rattle.envy_layout.specs.Words.{durable}
 use Rattle.envy_map.specs.Codes.{the_magic}
 use Rattle.envy_map.specs.Fields.{Chart, chart}
+use Rattle.envy_memory.proofs.Counted.{below-top, up-low}
 use Rattle.envy_memory.specs.Calls.{fresh, lit, pulled}
 use Rattle.envy_memory.specs.Formats.{IsFresh}
 use Rattle.envy_memory.specs.Picture.{Picture}
+use Rattle.envy_memory.specs.Rises.{RoseOver}
 use Rattle.envy_memory.specs.Sheets.{sheet_of}
 use Rattle.envy_policy.specs.declared.setup.Setup.{Setup}
+use Rattle.envy_serve.proofs.Counts.{count-lines, count-of}
 use Rattle.envy_serve.specs.declared.service.Obeyed.{Obeyed}
 use Rattle.envy_serve.specs.declared.service.Obeyed.TheVariants.{Done, WriteFault, Dead}
 use Rattle.envy_serve.specs.declared.serving.End.{End}
@@ -45,7 +48,7 @@ use Rattle.envy_run.specs.Headline.{index_task}
 use Rattle.envy_run.specs.IndexDone.{HoldsIndex, HoldsIndexOff, IndexDies, IndexLicences}
 use Rattle.envy_run.specs.IndexServing.{Serving, IsIndexCall, IsIndexServed, LostAt, AnswersIndex, ReplyLicence, LineLicence, IndexOff, IndexBack, RecoversIndex, IndexLineDone, IndexLineDead, ObeysIndex, IndexLicensed, IndexedSince, FellIn, FellSince}
 use Rattle.envy_run.specs.IndexTurns.{Pairs, IndexTurn, IndexRun, Says, Faults, DoesIndex, FailsIn, index_grammar, most_of, before_restart, is_power, is_plan, is_lost, is_fault}
-use Rattle.envy_run.specs.Licence.{Licence, RoseOver}
+use Rattle.envy_run.specs.Licence.{Licence}
 use Rattle.envy_run.specs.Outcome.{Outcome, ending_of, outcome_of}
 use Rattle.envy_run.specs.Prepares.{IsPrepared, IsReady, NoneBegun, WasMade}
 use Rattle.envy_run.specs.Task.{DoesTask}
@@ -53,8 +56,7 @@ use Rattle.envy_run.specs.declared.ending.Finished.{Finished}
 use Rattle.envy_run.proofs.Accounts.{account_of, served_outcome, unread}
 use Rattle.envy_run.proofs.Obeying.{Licence-as, front-after, front-before, one-more}
 use Rattle.envy_run.proofs.Recovering.{Licence-trans, Licence-revived}
-use Rattle.envy_run.proofs.Replying.{Licence-refl, up-low}
-use Rattle.envy_run.proofs.Traced.{count-lines, count-of, below-top}
+use Rattle.envy_run.proofs.Replying.{Licence-refl}
 
 texts-one : (reply : IndexReply) → texts index_grammar (reply ∷ []) ≡ index_bytes reply ++ newline ∷ []
 texts-one reply = append-nil (index_bytes reply ++ newline ∷ [])

@@ -1,14 +1,16 @@
 -- What a line does to all that a memory counts, from what its call does.
 use Rattle.std.proofs.Common.{◌≡◌, ◌⊎◌, inl, inr, ℕ, ◌≤◌, false, List, [], refl, sym, ap, subst, arith}
 use Rattle.std.specs.Prelude.{Option, None, Some, IfSome, sum}
-use Rattle.envy_base.proofs.Counting.{up-least, Tally-trans}
-use Rattle.envy_base.specs.Counting.{up, Tally}
+use Rattle.envy_base.proofs.Counting.{up-least}
+use Rattle.envy_base.specs.Counting.{up}
 use Rattle.envy_base.specs.declared.counts.Counts.{Counts}
-use Rattle.envy_flush.specs.Counts.{Tallies, Tally3}
+use Rattle.envy_flush.specs.Counts.{Tallies}
 use Rattle.envy_flush.specs.Ticks.{CountsTick}
 use Rattle.envy_flush.specs.declared.parts.Parts.{Parts}
 use Rattle.envy_layout.specs.Same.{Counted, Grows}
+use Rattle.envy_memory.proofs.Counted.{Tallies-stay, begun-stay}
 use Rattle.envy_memory.specs.Picture.{Picture, counts_of}
+use Rattle.envy_table.proofs.HitLemmas.{Rests-refl}
 use Rattle.envy_table.specs.Entries.{Translations}
 use Rattle.envy_table.specs.Hits.{Accesses, Rests}
 use Rattle.envy_trace.specs.declared.line.Line.{Line}
@@ -18,47 +20,8 @@ use Rattle.envy_run.specs.Counters.{is_empty, told_in}
 use Rattle.envy_run.specs.Hits.{accessed, is_restarted}
 use Rattle.envy_run.specs.Tells.{Notes, Translates}
 
--- Tallies
-
-pub Tally3-refl : (a b c e : ℕ) → Tally3 a b c e a b c e
-Tally3-refl a b c e = record { first = omega arith; second = omega arith; third = omega arith; fourth = omega arith; same = λ i j k l. refl }
-
-Tally3-trans : (a b c e f g h i j k l m : ℕ) → Tally3 a b c e f g h i → Tally3 f g h i j k l m → Tally3 a b c e j k l m
-Tally3-trans a b c e f g h i j k l m x y =
-    let p = x.first in let q = x.second in let r = x.third in let s = x.fourth in
-    let t = y.first in let u = y.second in let v = y.third in let w = y.fourth in
-    record {
-      first = omega arith;
-      second = omega arith;
-      third = omega arith;
-      fourth = omega arith;
-      same = λ la lb lc le. let before = x.same (omega arith) (omega arith) (omega arith) (omega arith) in let after = y.same la lb lc le in omega arith;
-    }
-
-pub Tallies-trans : (a b c : Picture) → Tallies a.chart a.parts b.chart b.parts → Tallies b.chart b.parts c.chart c.parts → Tallies a.chart a.parts c.chart c.parts
-Tallies-trans a b c x y = record {
-  programs = Tally3-trans _ _ _ _ _ _ _ _ _ _ _ _ x.programs y.programs;
-  erases = Tally-trans _ _ _ _ _ _ x.erases y.erases;
-}
-
--- counters that stay, where no program and no erase began
-pub Tallies-stay : (old new : Picture) → counts_of new.parts ≡ counts_of old.parts → new.chart.begun ≡ old.chart.begun → sum new.chart.erases ≡ sum old.chart.erases → Tallies old.chart old.parts new.chart new.parts
-Tallies-stay old new counts begun erases =
-    let flushes = ap (λ (c : Counts). c.flushes) counts in
-    let copies = ap (λ (c : Counts). c.copies) counts in
-    let moves = ap (λ (c : Counts). c.moves) counts in
-    let erased = ap (λ (c : Counts). c.erases) counts in
-    record {
-      programs = record { first = omega arith; second = omega arith; third = omega arith; fourth = omega arith; same = λ i j k l. omega arith };
-      erases = record { first = omega arith; second = omega arith; same = λ l m. omega arith };
-    }
-
 pub swaps-stay : (old new : Picture) → counts_of new.parts ≡ counts_of old.parts → old.parts.swaps ≤ new.parts.swaps
 swaps-stay old new counts = let same = ap (λ (c : Counts). c.swaps) counts in omega arith
-
--- no program and no erase began
-pub begun-stay : (old new : Picture) → Counted 0 0 old.chart new.chart → (new.chart.begun ≡ old.chart.begun) × (sum new.chart.erases ≡ sum old.chart.erases)
-begun-stay old new c = let low = c.begun in let few = c.few in let least = Grows.least c.erases in let most = Grows.few c.erases in (omega arith, omega arith)
 
 -- Translations
 
@@ -77,9 +40,6 @@ Translates-rest line replies old new is alive r = record {
   hits = rw is r.hits;
   misses = rw is r.misses;
 }
-
-rests-refl : (t : Translations) → Rests t t
-rests-refl t = record { size = refl; pages = λ i. refl; hits = refl; misses = refl }
 
 -- Notes
 
@@ -112,12 +72,12 @@ notes-rest line replies old new is (alive, silent, full) rests tallies swaps = r
 
 -- nothing happened
 pub notes-same : (line : Line) (replies : List Reply) (old new : Picture) → accessed line replies ≡ None → IsQuiet line replies → new ≡ old → Notes line replies old new
-notes-same line replies old new is quiet same = subst (λ (p : Picture). Notes line replies old p) (sym same) (notes-rest line replies old old is quiet (rests-refl old.parts.cache) (Tallies-stay old old refl refl refl) (omega arith))
+notes-same line replies old new is quiet same = subst (λ (p : Picture). Notes line replies old p) (sym same) (notes-rest line replies old old is quiet (Rests-refl old.parts.cache) (Tallies-stay old old refl refl refl) (omega arith))
 
 -- the parts stay, and nothing was begun
 pub notes-kept : (line : Line) (replies : List Reply) (old new : Picture) → accessed line replies ≡ None → IsQuiet line replies → new.parts ≡ old.parts → new.chart.begun ≡ old.chart.begun → sum new.chart.erases ≡ sum old.chart.erases → Notes line replies old new
 notes-kept line replies old new is quiet same begun erases =
-    notes-rest line replies old new is quiet (subst (λ (x : Parts). Rests old.parts.cache x.cache) (sym same) (rests-refl old.parts.cache)) (Tallies-stay old new (ap counts_of same) begun erases) (swaps-stay old new (ap counts_of same))
+    notes-rest line replies old new is quiet (subst (λ (x : Parts). Rests old.parts.cache x.cache) (sym same) (Rests-refl old.parts.cache)) (Tallies-stay old new (ap counts_of same) begun erases) (swaps-stay old new (ap counts_of same))
 
 -- nothing but the chart changed, and no program or erase began
 pub notes-chart : (line : Line) (replies : List Reply) (old new : Picture) → accessed line replies ≡ None → IsQuiet line replies → new.parts ≡ old.parts → Counted 0 0 old.chart new.chart → Notes line replies old new
@@ -152,7 +112,7 @@ notes-load line replies page old new cache is (alive, silent, full) accesses sam
 
 pub notes-empty : (p : Picture) → Notes Empty [] p p
 notes-empty p = record {
-  cache = Translates-rest Empty [] p.parts.cache p.parts.cache refl refl (rests-refl p.parts.cache);
+  cache = Translates-rest Empty [] p.parts.cache p.parts.cache refl refl (Rests-refl p.parts.cache);
   tallies = Tallies-stay p p refl refl refl;
   swaps = omega arith;
   tells = tt;
@@ -162,7 +122,7 @@ notes-empty p = record {
 -- the counters are told, and nothing changes
 pub notes-told : (line : Line) (replies : List Reply) (p : Picture) → accessed line replies ≡ None → is_restarted replies ≡ false → is_empty line ≡ false → IfSome (told_in replies) (λ told. told ≡ counts_of p.parts) → Notes line replies p p
 notes-told line replies p is alive full told = record {
-  cache = Translates-rest line replies p.parts.cache p.parts.cache is alive (rests-refl p.parts.cache);
+  cache = Translates-rest line replies p.parts.cache p.parts.cache is alive (Rests-refl p.parts.cache);
   tallies = Tallies-stay p p refl refl refl;
   swaps = omega arith;
   tells = told;
@@ -170,7 +130,7 @@ notes-told line replies p is alive full told = record {
 }
 
 pub rests-same : (t new : Translations) → new ≡ t → Rests t new
-rests-same t new same = subst (λ (x : Translations). Rests t x) (sym same) (rests-refl t)
+rests-same t new same = subst (λ (x : Translations). Rests t x) (sym same) (Rests-refl t)
 
 -- counters of which only places of pages changed
 pub counts-rested : (x y : Parts) → y.flushes ≡ x.flushes → y.reloc ≡ x.reloc → y.swaps ≡ x.swaps → Rests x.cache y.cache → counts_of y ≡ counts_of x

@@ -8,16 +8,20 @@ use Rattle.envy_base.specs.Array.{Array, undone, restarted}
 use Rattle.envy_base.proofs.Counting.{up-least, up-below}
 use Rattle.envy_base.specs.Step.{Command, Answer, Step, Lost as LostAs, Load, Look, Store, Begin, Put, Commit, Abort, Tick, Word as IsWord, Done as IsDone, Started as IsStarted, Range as IsRange, Held as IsHeld, Closed as IsClosed, Full as IsFull, Busy as IsBusy}
 use Rattle.envy_base.specs.declared.shape.Shape.{Shape}
+use Rattle.envy_flush.proofs.CountLemmas.{Tallies-trans}
 use Rattle.envy_io.specs.declared.source.Failed.{Failed}
 use Rattle.envy_io.specs.Lines.{newline}
 use Rattle.envy_io.specs.Streams.{Drain, Rises, WritesAll, with_end}
 use Rattle.envy_io.proofs.WritesLemmas.{with_end-with_end, with_end-nil}
 use Rattle.envy_map.specs.Fields.{Chart}
+use Rattle.envy_memory.proofs.Counted.{Tallies-stay, up-low}
+use Rattle.envy_memory.proofs.Stepped.{lost-fresh}
 use Rattle.envy_memory.specs.Picture.{Picture, counts_of}
 use Rattle.envy_layout.specs.Sound.{IsSound}
 use Rattle.envy_layout.specs.Stands.{Holds, Stands, IsLost as LostIn}
 use Rattle.envy_layout.specs.Words.{durable}
 use Rattle.envy_memory.specs.Calls.{fresh, pulled}
+use Rattle.envy_memory.specs.Rises.{RoseOver}
 use Rattle.envy_trace.specs.declared.line.Line.{Line}
 use Rattle.envy_trace.specs.declared.line.Line.TheVariants.{Empty as EmptyLine, Load as LoadLine, Look as LookLine, Store as StoreLine, Begin as BeginLine, Put as PutLine, Commit as CommitLine, Abort as AbortLine, Tick as TickLine, Power as PowerLine, Cut as CutLine, Bad as BadLine, Stat as StatLine}
 use Rattle.envy_trace.specs.declared.reply.Reply.{Reply}
@@ -28,7 +32,7 @@ use Rattle.envy_serve.specs.declared.service.Obeyed.TheVariants.{Done, WriteFaul
 use Rattle.envy_trace.specs.Spelling.{Reads}
 use Rattle.envy_run.specs.Answers.{IsCall, IsServed, AnswersTo, AnswerLicence, LosesIn}
 use Rattle.envy_run.specs.Below.{WorksOf}
-use Rattle.envy_run.specs.Licence.{Licence, RoseOver}
+use Rattle.envy_run.specs.Licence.{Licence}
 use Rattle.envy_run.specs.Obeys.{ObeysLine, Licensed, LineDone, LineDead}
 use Rattle.envy_run.specs.Restarts.{Recovers, IsStillOff, IsBack}
 use Rattle.envy_serve.specs.Streams.{Written, FrontWritten}
@@ -39,9 +43,9 @@ use Rattle.envy_run.specs.Counters.{is_empty}
 use Rattle.envy_run.specs.Hits.{accessed}
 use Rattle.envy_run.specs.Spending.{Spends, programs_of, erases_of}
 use Rattle.envy_run.specs.Tells.{CountsStay, Notes, Translates, hits_after, misses_after}
-use Rattle.envy_run.proofs.Noting.{Tallies-stay, Tallies-trans, notes-empty, swaps-stay}
+use Rattle.envy_run.proofs.Noting.{notes-empty, swaps-stay}
 use Rattle.envy_run.proofs.Recovering.{Licence-trans}
-use Rattle.envy_run.proofs.Replying.{Licence-refl, up-low}
+use Rattle.envy_run.proofs.Replying.{Licence-refl}
 use Rattle.envy_run.proofs.Spent.{spends-line, spends-none, spends-stay}
 
 -- a licence under equal numbers
@@ -116,79 +120,6 @@ call-failed May m line reply old c sink then_sink failed call on a licence works
     let (left, done) = done-so May m line reply old c call on a licence works notes in
     (reply ∷ [], left, done, record { count = n; front = front ∙ ap (λ (t : List ℕ). with_end sink.written (take n t)) (sym (texts-one reply)); faults = faults })
 
--- no command changes how many pages may be owned
-step-shadows : (m : Array) (command : Command) (answer : Answer) (n : Array) → Step m command answer n → n.shadows ≡ m.shadows
-step-shadows m (Load a) (IsWord v) n (lt, w_is, e) = ap (λ (x : Array). x.shadows) e
-step-shadows m (Load a) IsRange n (le, e) = ap (λ (x : Array). x.shadows) e
-step-shadows m (Look a) (IsWord v) n (lt, w_is, e) = ap (λ (x : Array). x.shadows) e
-step-shadows m (Look a) IsRange n (le, e) = ap (λ (x : Array). x.shadows) e
-step-shadows m (Store a w) IsRange n (le, e) = ap (λ (x : Array). x.shadows) e
-step-shadows m (Store a w) (IsHeld u) n (lt, own, e) = ap (λ (x : Array). x.shadows) e
-step-shadows m (Store a w) IsDone n (lt, own, e) = ap (λ (x : Array). x.shadows) e
-step-shadows m Begin IsBusy n (none, e) = ap (λ (x : Array). x.shadows) e
-step-shadows m Begin (IsStarted t) n (some, e) = ap (λ (x : Array). x.shadows) e
-step-shadows m (Put t a w) IsRange n (le, e) = ap (λ (x : Array). x.shadows) e
-step-shadows m (Put t a w) IsClosed n (lt, none, e) = ap (λ (x : Array). x.shadows) e
-step-shadows m (Put t a w) (IsHeld u) n (lt, some, own, ne, e) = ap (λ (x : Array). x.shadows) e
-step-shadows m (Put t a w) IsFull n (lt, some, own, full, e) = ap (λ (x : Array). x.shadows) e
-step-shadows m (Put t a w) IsDone n (lt, may, saved, some, e) = ap (λ (x : Array). x.shadows) e
-step-shadows m (Commit t) IsClosed n (none, e) = ap (λ (x : Array). x.shadows) e
-step-shadows m (Commit t) IsDone n (some, e) = ap (λ (x : Array). x.shadows) e
-step-shadows m (Abort t) IsClosed n (none, e) = ap (λ (x : Array). x.shadows) e
-step-shadows m (Abort t) IsDone n (saved, some, e) = ap (λ (x : Array). x.shadows) e
-step-shadows m Tick IsDone n e = ap (λ (x : Array). x.shadows) e
-step-shadows m (Load a) IsDone n never = absurd never
-step-shadows m (Load a) (IsStarted u) n never = absurd never
-step-shadows m (Load a) (IsHeld u) n never = absurd never
-step-shadows m (Load a) IsClosed n never = absurd never
-step-shadows m (Load a) IsFull n never = absurd never
-step-shadows m (Load a) IsBusy n never = absurd never
-step-shadows m (Look a) IsDone n never = absurd never
-step-shadows m (Look a) (IsStarted u) n never = absurd never
-step-shadows m (Look a) (IsHeld u) n never = absurd never
-step-shadows m (Look a) IsClosed n never = absurd never
-step-shadows m (Look a) IsFull n never = absurd never
-step-shadows m (Look a) IsBusy n never = absurd never
-step-shadows m (Store a w) (IsWord v) n never = absurd never
-step-shadows m (Store a w) (IsStarted u) n never = absurd never
-step-shadows m (Store a w) IsClosed n never = absurd never
-step-shadows m (Store a w) IsFull n never = absurd never
-step-shadows m (Store a w) IsBusy n never = absurd never
-step-shadows m Begin (IsWord v) n never = absurd never
-step-shadows m Begin IsDone n never = absurd never
-step-shadows m Begin IsRange n never = absurd never
-step-shadows m Begin (IsHeld u) n never = absurd never
-step-shadows m Begin IsClosed n never = absurd never
-step-shadows m Begin IsFull n never = absurd never
-step-shadows m (Put t a w) (IsWord v) n never = absurd never
-step-shadows m (Put t a w) (IsStarted u) n never = absurd never
-step-shadows m (Put t a w) IsBusy n never = absurd never
-step-shadows m (Commit t) (IsWord v) n never = absurd never
-step-shadows m (Commit t) (IsStarted u) n never = absurd never
-step-shadows m (Commit t) IsRange n never = absurd never
-step-shadows m (Commit t) (IsHeld u) n never = absurd never
-step-shadows m (Commit t) IsFull n never = absurd never
-step-shadows m (Commit t) IsBusy n never = absurd never
-step-shadows m (Abort t) (IsWord v) n never = absurd never
-step-shadows m (Abort t) (IsStarted u) n never = absurd never
-step-shadows m (Abort t) IsRange n never = absurd never
-step-shadows m (Abort t) (IsHeld u) n never = absurd never
-step-shadows m (Abort t) IsFull n never = absurd never
-step-shadows m (Abort t) IsBusy n never = absurd never
-step-shadows m Tick (IsWord v) n never = absurd never
-step-shadows m Tick (IsStarted u) n never = absurd never
-step-shadows m Tick IsRange n never = absurd never
-step-shadows m Tick (IsHeld u) n never = absurd never
-step-shadows m Tick IsClosed n never = absurd never
-step-shadows m Tick IsFull n never = absurd never
-step-shadows m Tick IsBusy n never = absurd never
-
--- after a failure of power the array is what a restart makes of its words
-lost-fresh : (m : Array) (command : Command) (n : Array) → LostAs m command n → fresh m.shadows n.words ≡ n
-lost-fresh m command n (k, (answer, step, accepted), inl is) = subst (λ (x : Array). fresh m.shadows x.words ≡ x) (sym is) refl
-lost-fresh m command n (k, (answer, step, accepted), inr is) =
-    subst (λ (x : Array). fresh m.shadows x.words ≡ x) (sym is) (ap (λ (s : ℕ). fresh s (undone k)) (sym (step-shadows m command answer k step)))
-
 -- two texts one after the other, of which the second has a front written
 pub front-after : (a b c : Drain) (first second : List ℕ) → b.written ≡ with_end a.written first → a.faults ≤ b.faults → FrontWritten second b c → FrontWritten (first ++ second) a c
 front-after a b c first second whole faults part = record {
@@ -257,7 +188,7 @@ Notes-restarted line old c new full notes back =
         hits = ap (λ (x : Counts). x.hits) stay.counts ∙ Translates.hits t ∙ ap (λ (o : Option ℕ). hits_after o old.parts.cache.entries old.parts.cache.hits) (accessed-lost line);
         misses = ap (λ (x : Counts). x.misses) stay.counts ∙ Translates.misses t ∙ ap (λ (o : Option ℕ). misses_after o old.parts.cache.entries old.parts.cache.misses) (accessed-lost line);
       };
-      tallies = Tallies-trans old c new (Notes.tallies notes) (Tallies-stay c new stay.counts stay.begun stay.erases);
+      tallies = Tallies-trans _ _ _ _ _ _ (Notes.tallies notes) (Tallies-stay c new stay.counts stay.begun stay.erases);
       swaps = omega arith;
       tells = tt;
       empty = λ e. absurd (let never = full in cc);

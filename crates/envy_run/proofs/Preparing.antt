@@ -10,9 +10,9 @@ use Rattle.envy_layout.specs.Same.{Counted, Grows}
 use Rattle.envy_map.specs.Fields.{Chart, chart}
 use Rattle.envy_memory.specs.Formats.{CountsFormat, ErasesEach, Makes, Refuses}
 use Rattle.envy_memory.specs.Picture.{Picture}
+use Rattle.envy_memory.specs.Rises.{RoseOver}
 use Rattle.envy_memory.specs.declared.faults.FormatFault.TheVariants.{Off}
 use Rattle.envy_policy.specs.declared.setup.Setup.{Setup}
-use Rattle.envy_run.specs.Licence.{RoseOver}
 use Rattle.envy_run.specs.Outcome.{outcome_of}
 use Rattle.envy_run.specs.Prepares.{HasTried, IsPrepared, IsReady, IsUnspent, NoneBegun, Unprepared, ending_of_unready}
 use Rattle.envy_run.specs.declared.ending.Ending.TheVariants.{OutOfMemory}

@@ -5,19 +5,14 @@ use Rattle.envy_map.specs.Fields.{Chart}
 use Rattle.envy_layout.specs.Same.{Counted, Grows, Kept}
 use Rattle.envy_layout.specs.Stands.{Stands}
 use Rattle.envy_layout.specs.Words.{durable}
+use Rattle.envy_memory.proofs.Counted.{RoseBy-trans, RoseOver-trans}
 use Rattle.envy_memory.specs.Calls.{fresh, lit}
 use Rattle.envy_memory.specs.Picture.{Picture, counts_of}
 use Rattle.envy_table.specs.Hits.{Empties}
-use Rattle.envy_run.specs.Licence.{Licence, RoseBy, RoseOver}
+use Rattle.envy_run.specs.Licence.{Licence}
 use Rattle.envy_run.specs.Restarts.{IsStillOff, IsBack, Restarts}
 use Rattle.envy_run.specs.Tells.{CountsStay}
 use Rattle.envy_run.proofs.Replying.{Licence-refl, Licence-counted}
-
-RoseBy-trans : (i j a b c : ℕ) → RoseBy i a b → RoseBy j b c → RoseBy (i + j) a c
-RoseBy-trans i j a b c x y = λ lt. let first = x (omega arith) in let later = y (omega arith) in omega arith
-
-RoseOver-trans : (i j a b c : ℕ) → RoseOver i a b → RoseOver j b c → RoseOver (i + j) a c
-RoseOver-trans i j a b c x y = let p = x.kept in let q = y.kept in record { kept = omega arith; rise = λ lt. let later = y.rise lt in let first = x.rise (omega arith) in omega arith }
 
 pub Licence-trans : (a b c d i j k l : ℕ) (p q r : Chart) → Licence a b c d p q → Licence i j k l q r → Licence (a + i) (b + j) (c + k) (d + l) p r
 Licence-trans a b c d i j k l p q r x y = record {

@@ -7,6 +7,7 @@ use Rattle.envy_map.specs.Fields.{Chart}
 use Rattle.envy_layout.specs.Same.{Counted}
 use Rattle.envy_layout.specs.Stands.{Stands, Steps, Fails}
 use Rattle.envy_base.specs.declared.counts.Counts.{Counts}
+use Rattle.envy_memory.proofs.Counted.{up-low}
 use Rattle.envy_memory.specs.Calls.{Works, planned}
 use Rattle.envy_memory.specs.Effects.{TicksOnce}
 use Rattle.envy_trace.specs.declared.line.Line.{Line}
@@ -58,11 +59,6 @@ Licence-lost k j c d shape counted rose = Licence-counted k j 1 0 c d shape coun
 
 pub Licence-fault : (k j : ℕ) (c d : Chart) → d.shape ≡ c.shape → Counted k j c d → (c.bads < 2 ^ 64 - 1 → c.bads < d.bads) → Licence 0 0 0 1 c d
 Licence-fault k j c d shape counted rose = Licence-counted k j 0 1 c d shape counted (λ lt. let le = counted.cuts in omega arith) (λ lt. let le = counted.bads in let more = rose (omega arith) in omega arith)
-
--- below the top a count rises by one
-pub up-low : (n : ℕ) → n + 1 < 2 ^ 64 → up n ≡ n + 1
-unfolding up
-up-low n lt = omega arith
 
 pub Licence-planned : (c d : Chart) → d ≡ planned c → Licence 0 1 0 0 c d
 Licence-planned c d e = subst (λ (x : Chart). Licence 0 1 0 0 c x) (sym e) (record {

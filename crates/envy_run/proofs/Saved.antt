@@ -9,6 +9,7 @@ use Rattle.envy_io.proofs.WritesLemmas.{with_end-nil}
 use Rattle.envy_layout.specs.Stands.{Stands}
 use Rattle.envy_map.specs.Fields.{Chart, chart}
 use Rattle.envy_policy.specs.declared.setup.Setup.{Setup}
+use Rattle.envy_serve.proofs.Hushing.{silent-texts}
 use Rattle.envy_serve.specs.declared.serving.End.{End}
 use Rattle.envy_serve.specs.declared.serving.End.TheVariants.{Done as EndDone, ReadFault, WriteFault, FlushFault, Refused, Dead as EndDead, TooLong}
 use Rattle.envy_serve.specs.Ends.{Serves, Ends, HasServed, HasReadTo, HasTold}
@@ -23,10 +24,6 @@ use Rattle.envy_run.specs.declared.ending.Ending.TheVariants.{Done}
 use Rattle.envy_run.proofs.Accounts.{Did, Died, WasDone, WasServed, account_of, done_of, never-unready}
 use Rattle.envy_run.specs.Turns.{TraceTurn, trace_grammar}
 use Rattle.envy_run.specs.Writing.{WritesOut}
-
-silent-texts : {Line Reply : Type 0} (g : Grammar Line Reply) (replies : List Reply) → texts (silent g) replies ≡ []
-silent-texts g [] = refl
-silent-texts g (reply ∷ replies) = silent-texts g replies
 
 silent-all : {Line Reply : Type 0} (g : Grammar Line Reply) (turns : List (Turn Line Reply)) → written (silent g) turns ≡ []
 silent-all g [] = refl

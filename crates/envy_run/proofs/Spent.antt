@@ -3,6 +3,7 @@ use Rattle.std.proofs.Common.{◌≡◌, inl, inr, ℕ, ◌+◌, ◌*◌, ◌≤
 use Rattle.std.specs.Prelude.{sum}
 use Rattle.envy_layout.specs.Same.{Counted, Grows}
 use Rattle.envy_map.specs.Fields.{Chart}
+use Rattle.envy_memory.specs.Below.{flush_programs, flush_erases}
 use Rattle.envy_memory.specs.Calls.{Works}
 use Rattle.envy_memory.specs.Picture.{Picture}
 use Rattle.envy_trace.specs.declared.line.Line.{Line}
@@ -34,9 +35,9 @@ pub spends-line : (line : Line) (old new : Chart) → WorksOf line old new → S
 spends-line Empty old new is = spends-same 0 0 old old new refl refl is
 spends-line (Load a) old new is = spends-same 0 0 old old new refl refl is
 spends-line (Look a) old new is = spends-same 0 0 old old new refl refl is
-spends-line (Store a w) old new works = spends-works (4 * old.shape.rows + 16) 6 old new works
+spends-line (Store a w) old new works = spends-works (flush_programs old.shape.rows) flush_erases old new works
 spends-line Begin old new works = spends-works 0 0 old new works
-spends-line (Put t a w) old new works = spends-works (4 * old.shape.rows + 16) 6 old new works
+spends-line (Put t a w) old new works = spends-works (flush_programs old.shape.rows) flush_erases old new works
 spends-line (Commit t) old new works = spends-works 0 0 old new works
 spends-line (Abort t) old new works = spends-works 0 0 old new works
 spends-line Tick old new (inl works) = spends-more 1 0 1 1 old new (omega arith) (omega arith) (spends-works 1 0 old new works)

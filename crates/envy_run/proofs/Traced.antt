@@ -15,8 +15,11 @@ use Rattle.envy_map.specs.Fields.{Chart, chart}
 use Rattle.envy_base.specs.Counting.{up, Tally}
 use Rattle.envy_flush.specs.Counts.{Tallies, Tally3}
 use Rattle.envy_layout.specs.Stands.{Stands}
+use Rattle.envy_memory.proofs.Counted.{Tallies-stay, below-top}
 use Rattle.envy_memory.specs.Formats.{IsFresh, IsStarted, no_counts}
 use Rattle.envy_memory.specs.Picture.{Picture, counts_of}
+use Rattle.envy_memory.specs.Rises.{RoseOver}
+use Rattle.envy_serve.proofs.Counts.{count-lines, count-of}
 use Rattle.envy_table.specs.Entries.{Entry, vacant}
 use Rattle.envy_table.specs.Hits.{page_at}
 use Rattle.envy_policy.specs.declared.setup.Setup.{Setup}
@@ -40,7 +43,7 @@ use Rattle.envy_run.specs.Task.{DoesTask}
 use Rattle.envy_run.specs.Counters.{AddsUp, just_told, told_in}
 use Rattle.envy_run.specs.Hits.{MayTell}
 use Rattle.envy_run.specs.Tells.{Telling}
-use Rattle.envy_run.specs.Licence.{Licence, RoseOver}
+use Rattle.envy_run.specs.Licence.{Licence}
 use Rattle.envy_run.specs.Obeys.{ObeysLine, LineDone}
 use Rattle.envy_run.specs.declared.ending.Finished.{Finished}
 use Rattle.envy_run.specs.Prepares.{HasTried, IsBegun, IsPrepared, IsReady, NoneBegun, WasMade}
@@ -51,7 +54,6 @@ use Rattle.envy_run.specs.Tracing.{Start, HasDone, LicensedTurns, SpentSince, Tr
 use Rattle.envy_run.specs.Turns.{TraceTurn, Does, trace_grammar, is_power, is_plan, is_lost, is_fault, FailsIn, before_restart}
 use Rattle.envy_run.proofs.Accounts.{account_of, served_outcome, unread}
 use Rattle.envy_run.proofs.Hitting.{telling-more}
-use Rattle.envy_run.proofs.Noting.{Tallies-stay}
 use Rattle.envy_run.proofs.Obeying.{served}
 use Rattle.envy_run.proofs.Recovering.{Licence-trans}
 use Rattle.envy_run.proofs.Replying.{Licence-refl}
@@ -99,14 +101,6 @@ traced-obeys start old new turns line Dead sink then_sink t (dead, told) = (
   },
   told,
 )
-
--- a count that is at least n where it is below the top
-pub below-top : (n count : ℕ) → n < 2 ^ 64 - 1 → (count < 2 ^ 64 - 1 → n ≤ count) → n ≤ count
-below-top n count low le = at (cases_lt count (2 ^ 64 - 1))
-  where
-    at : (count < 2 ^ 64 - 1) ⊎ (2 ^ 64 - 1 ≤ count) → n ≤ count
-    at (inl lt) = le lt
-    at (inr top) = omega arith
 
 -- What the counts of a board that began with none say.
 
@@ -170,23 +164,6 @@ licences-none setup returns now shape given pulled plans begun tried =
       told = tt;
       thrifty = thrifty-more 0 tried.times (tries_of [] now) [] now (omega arith) (thrifty-none 0 tried.times now begun (omega arith));
     }
-
--- there are no more such lines than lines
-pub count-lines : {Line Reply : Type 0} (test : Line → Bool) (turns : List (Turn Line Reply)) → count_lines test turns ≤ length turns
-count-lines test [] = omega arith
-count-lines test (turn ∷ earlier) = let rest = count-lines test earlier in at (test turn.line) rest
-  where
-    at : (t : Bool) → count_lines test earlier ≤ length earlier → count_lines test earlier + one_if t ≤ length (turn ∷ earlier)
-    at true le = omega arith
-    at false le = omega arith
-
-pub count-of : {Reply : Type 0} (test : Reply → Bool) (replies : List Reply) → count_of test replies ≤ length replies
-count-of test [] = omega arith
-count-of test (reply ∷ replies) = at (test reply) (count-of test replies)
-  where
-    at : (t : Bool) → count_of test replies ≤ length replies → one_if t + count_of test replies ≤ length (reply ∷ replies)
-    at true le = omega arith
-    at false le = omega arith
 
 -- a line has two replies at most
 does-few : (May : Counts → Type 0) (m : Array) (line : Line) (replies : List Reply) (n : Array) → Does May m line replies n → length replies ≤ 2

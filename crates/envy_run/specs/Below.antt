@@ -1,13 +1,14 @@
 -- What answering a line does below the array: how much flash work it begins at most, and by which rules.
-use Rattle.std.specs.Prelude.{◌≡◌, ◌+◌, ◌*◌, ◌/◌, ⊤}
-use Rattle.envy_flush.specs.Flushing.{Ends, Stops}
-use Rattle.envy_flush.specs.Storing.{StoresBy}
-use Rattle.envy_flush.specs.Ticks.{TicksBy, TicksBad}
+use Rattle.std.specs.Prelude.{◌≡◌, ⊤, Ok, Err}
+use Rattle.envy_base.specs.declared.board.Trouble.TheVariants.{Bad as TroubleBad}
 use Rattle.envy_flush.specs.declared.did.Did.{Did}
 use Rattle.envy_map.specs.Fields.{Chart}
+use Rattle.envy_memory.specs.Below.{StoresBelow, PutsBelow, TicksBelow, flush_programs, flush_erases}
 use Rattle.envy_memory.specs.Calls.{Works, planned}
-use Rattle.envy_memory.specs.Effects.{PutEffect, TicksOnce}
+use Rattle.envy_memory.specs.Effects.{TicksOnce}
 use Rattle.envy_memory.specs.Picture.{Picture}
+use Rattle.envy_memory.specs.declared.faults.PutFault.TheVariants.{Bad as PutBad}
+use Rattle.envy_memory.specs.declared.faults.StoreFault.TheVariants.{Bad as StoreBad}
 use Rattle.envy_trace.specs.declared.line.Line.{Line}
 use Rattle.envy_trace.specs.declared.line.Line.TheVariants.{Load, Look, Store, Begin, Put, Commit, Abort, Tick, Cut, Bad, Stat}
 use Rattle.envy_trace.specs.declared.reply.Reply.{Reply}
@@ -16,8 +17,8 @@ use Rattle.envy_trace.specs.declared.reply.Reply.TheVariants.{Done, Fault, Range
 -- Programs and erases that a line begins: those of one flush, with a cleaning and the end of a swap before it; one in a
 -- background step; none where a slot is opened or closed. Else the board stays, but for a plan.
 abbrev pub WorksOf : Line → Chart → Chart → Type 0
-WorksOf (Store a w) old new = Works (4 * old.shape.rows + 16) 6 old new
-WorksOf (Put t a w) old new = Works (4 * old.shape.rows + 16) 6 old new
+WorksOf (Store a w) old new = Works (flush_programs old.shape.rows) flush_erases old new
+WorksOf (Put t a w) old new = Works (flush_programs old.shape.rows) flush_erases old new
 WorksOf Begin old new = Works 0 0 old new
 WorksOf (Commit t) old new = Works 0 0 old new
 WorksOf (Abort t) old new = Works 0 0 old new
@@ -26,19 +27,19 @@ WorksOf (Cut k g) old new = new ≡ planned old
 WorksOf (Bad k g) old new = new ≡ planned old
 WorksOf line old new = new ≡ old
 
--- A background step is that of the first rule that applies. A store or a put flushes by the policy's choice. What a bad
--- operation ended left parts and job as those calls of the memory say. No other line changes heats, turns, stages or what
--- was counted of flash work, and one that only asks changes nothing but the cache. A line that is refused changes nothing
--- at all.
+-- A background step, a store and a put that were done, or that a bad operation ended, did below the array what that call
+-- of the memory says: a step is that of the first rule that applies, a flush is by the policy's choice. No other line
+-- changes heats, turns, stages or what was counted of flash work, and one that only asks changes nothing but the cache. A
+-- line that is refused changes nothing at all.
 abbrev pub FollowsRules : Line → Reply → Picture → Picture → Type 0
-FollowsRules Tick Done old new = (did : Did) × TicksBy old.limit old.mark did old.chart old.parts new.chart new.parts
-FollowsRules Tick Fault old new = TicksBad old.mark old.chart old.parts new.chart new.parts
-FollowsRules (Store a w) Done old new = StoresBy (a / 32) old.chart old.parts new.chart new.parts × Ends old.chart old.parts new.chart new.parts
-FollowsRules (Store a w) Fault old new = Stops (a / 32) old.chart old.parts new.chart new.parts
+FollowsRules Tick Done old new = (did : Did) × TicksBelow (Ok did) old new
+FollowsRules Tick Fault old new = TicksBelow (Err TroubleBad) old new
+FollowsRules (Store a w) Done old new = StoresBelow a (Ok tt) old new
+FollowsRules (Store a w) Fault old new = StoresBelow a (Err StoreBad) old new
 FollowsRules (Store a w) Range old new = new ≡ old
 FollowsRules (Store a w) (Held u) old new = new ≡ old
-FollowsRules (Put t a w) Done old new = PutEffect t (a / 32) old new × Ends old.chart old.parts new.chart new.parts
-FollowsRules (Put t a w) Fault old new = Stops (a / 32) old.chart old.parts new.chart new.parts × (new.owned ≡ old.owned)
+FollowsRules (Put t a w) Done old new = PutsBelow t a (Ok tt) old new
+FollowsRules (Put t a w) Fault old new = PutsBelow t a (Err PutBad) old new
 FollowsRules (Put t a w) Range old new = new ≡ old
 FollowsRules (Put t a w) Closed old new = new ≡ old
 FollowsRules (Put t a w) (Held u) old new = new ≡ old

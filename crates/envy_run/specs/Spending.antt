@@ -1,6 +1,7 @@
 -- How much flash work the lines of a trace may begin, and that the board counts no more.
 use Rattle.std.specs.Prelude.{ℕ, ◌+◌, ◌-◌, ◌*◌, ◌≤◌, List, [], ◌∷◌, sum}
 use Rattle.envy_map.specs.Fields.{Chart}
+use Rattle.envy_memory.specs.Below.{flush_programs, flush_erases}
 use Rattle.envy_serve.specs.Turns.{count_lines, count_replies}
 use Rattle.envy_trace.specs.declared.line.Line.{Line}
 use Rattle.envy_trace.specs.declared.line.Line.TheVariants.{Store, Put, Tick}
@@ -9,15 +10,15 @@ use Rattle.envy_run.specs.Turns.{TraceTurn, is_power, is_lost}
 -- Programs that a line may begin: a store or a put ends a swap, cleans and flushes at most; a background step begins one
 -- at most; every other line none.
 abbrev pub programs_of : ℕ → Line → ℕ
-programs_of rows (Store a w) = 4 * rows + 16
-programs_of rows (Put t a w) = 4 * rows + 16
+programs_of rows (Store a w) = flush_programs rows
+programs_of rows (Put t a w) = flush_programs rows
 programs_of rows Tick = 1
 programs_of rows line = 0
 
 -- erases that a line may begin
 abbrev pub erases_of : Line → ℕ
-erases_of (Store a w) = 6
-erases_of (Put t a w) = 6
+erases_of (Store a w) = flush_erases
+erases_of (Put t a w) = flush_erases
 erases_of Tick = 1
 erases_of line = 0
 

@@ -5,6 +5,7 @@ ghost use Rattle.envy_run.specs.Audits.{IsVerdict, judging, verdict_text, verdic
 ghost use Rattle.envy_run.specs.Meaning.{Does};
 ghost use Rattle.envy_run.specs.Outcome.{outcome_of};
 ghost use Rattle.envy_run.specs.Writing.{WritesOut};
+ghost use Rattle.envy_serve.specs.Ends.{most_bytes};
 
 use crate::ending::{Finished, stopped_at, written};
 use crate::loading::{refused, take_head, take_image};
@@ -75,7 +76,7 @@ pub fn run_audit<S: Source, K: Sink, M: Maker>(
     ensures audits { Does (judging IsVerdict) (outcome_of M.Made.Board.state result)
         (record { from = S.feed source.old; feed = S.feed source.new; to = K.drain sink.old; sink = K.drain sink.new }) }
     ensures few { result.lines ≤ result.taken }
-    ensures read { result.taken ≤ 1099511627776 }
+    ensures read { result.taken ≤ most_bytes }
     ensures second { result.second ≡ None }
 {
     let mut lines = Lines::new(MOST_BYTES);

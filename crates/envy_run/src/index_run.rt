@@ -5,6 +5,7 @@ ghost use Rattle.envy_policy.specs.Setup.{checked};
 ghost use Rattle.envy_run.specs.Headline.{index_task};
 ghost use Rattle.envy_run.specs.Outcome.{outcome_of};
 ghost use Rattle.envy_run.specs.Task.{DoesTask};
+ghost use Rattle.envy_serve.specs.Ends.{most_bytes};
 
 use crate::ending::{Finished, finished_with};
 use crate::indexing::Indexing;
@@ -33,7 +34,7 @@ pub fn run_index<S: Source, K: Sink, M: Maker>(
     ensures runs { DoesTask (index_task setup lives) (outcome_of M.Made.Board.state result)
         (record { from = S.feed source.old; feed = S.feed source.new; to = K.drain sink.old; sink = K.drain sink.new }) }
     ensures few { result.lines ≤ result.taken }
-    ensures read { result.taken ≤ 1099511627776 }
+    ensures read { result.taken ≤ most_bytes }
     ensures second { result.second ≡ None }
 {
     let memory = match make_memory(alloc, setup, lives, maker) {

@@ -7,6 +7,7 @@ ghost use Rattle.envy_run.specs.Audits.{IsMap, judging};
 ghost use Rattle.envy_run.specs.Meaning.{Does};
 ghost use Rattle.envy_run.specs.Outcome.{outcome_of};
 ghost use Rattle.envy_run.specs.Writing.{WritesOut};
+ghost use Rattle.envy_serve.specs.Ends.{most_bytes};
 
 use crate::audit_run::{AUDIT_LIVES, write_verdict};
 use crate::ending::{Finished, stopped_at, written};
@@ -62,7 +63,7 @@ pub fn run_map<S: Source, K: Sink, M: Maker>(
     ensures maps { Does (judging IsMap) (outcome_of M.Made.Board.state result)
         (record { from = S.feed source.old; feed = S.feed source.new; to = K.drain sink.old; sink = K.drain sink.new }) }
     ensures few { result.lines ≤ result.taken }
-    ensures read { result.taken ≤ 1099511627776 }
+    ensures read { result.taken ≤ most_bytes }
     ensures second { result.second ≡ None }
 {
     let mut lines = Lines::new(MOST_BYTES);

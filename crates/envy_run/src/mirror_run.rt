@@ -6,6 +6,7 @@ ghost use Rattle.envy_run.specs.MirrorTask.{mirror_task};
 ghost use Rattle.envy_run.specs.Outcome.{outcome_of};
 ghost use Rattle.envy_run.specs.Prepares.{ending_of_unready};
 ghost use Rattle.envy_run.specs.Task.{DoesTask};
+ghost use Rattle.envy_serve.specs.Ends.{most_bytes};
 
 use crate::ending::{Ending, Finished, after, unserved};
 use crate::prepare::{Unready, prepare, why_unready};
@@ -44,7 +45,7 @@ pub fn run_mirror<S: Source, K: Sink, M: Maker>(
     ensures runs { DoesTask (mirror_task setup lives) (outcome_of M.Made.Board.state result)
         (record { from = S.feed source.old; feed = S.feed source.new; to = K.drain sink.old; sink = K.drain sink.new }) }
     ensures few { result.lines ≤ result.taken }
-    ensures read { result.taken ≤ 1099511627776 }
+    ensures read { result.taken ≤ most_bytes }
 {
     let Ok(one) = maker.make(alloc, &setup.shape, lives) else {
         return unserved(Ending::OutOfMemory, None);

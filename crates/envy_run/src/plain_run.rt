@@ -9,6 +9,7 @@ ghost use Rattle.envy_run.specs.Headline.{plain_task};
 ghost use Rattle.envy_run.specs.Outcome.{outcome_of};
 ghost use Rattle.envy_run.specs.Task.{DoesTask};
 ghost use Rattle.envy_run.specs.Turns.{Replies, said};
+ghost use Rattle.envy_serve.specs.Ends.{most_bytes};
 
 use crate::ending::{Ending, Finished, finished_with, unserved};
 use crate::restart::{ReplyBuffer, write_reply};
@@ -172,7 +173,7 @@ pub fn run_plain<S: Source, K: Sink, B>(
     ensures runs { (state : B → State) → DoesTask (plain_task setup.now) (outcome_of state result)
         (record { from = S.feed source.old; feed = S.feed source.new; to = K.drain sink.old; sink = K.drain sink.new }) }
     ensures few { result.lines ≤ result.taken }
-    ensures read { result.taken ≤ 1099511627776 }
+    ensures read { result.taken ≤ most_bytes }
     ensures second { result.second ≡ None }
 {
     let Ok(plain) = Plain::new(alloc, &setup.shape) else {

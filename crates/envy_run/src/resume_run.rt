@@ -14,6 +14,7 @@ ghost use Rattle.envy_run.specs.Meaning.{Does};
 ghost use Rattle.envy_run.specs.Outcome.{outcome_of};
 ghost use Rattle.envy_run.specs.Resumes.{resume_task, resuming, setup_found};
 ghost use Rattle.envy_run.specs.Task.{DoesTask};
+ghost use Rattle.envy_serve.specs.Ends.{most_bytes};
 
 use crate::attach::{Unattached, attach};
 use crate::ending::{Ending, Finished, ImageFault, finished_with, stopped_at};
@@ -65,7 +66,7 @@ fn serve_image<B: Bench, S: Source, K: Sink>(
     ensures does { DoesTask (resume_task (B.state board) setup (B.state board).given) (outcome_of B.Board.state result)
         (record { from = S.feed source.old; feed = S.feed source.new; to = K.drain sink.old; sink = K.drain sink.new }) }
     ensures few { result.lines ≤ result.taken }
-    ensures read { result.taken ≤ 1099511627776 }
+    ensures read { result.taken ≤ most_bytes }
     ensures second { result.second ≡ None }
 {
     let taken = lines.taken();
@@ -99,7 +100,7 @@ pub fn run_resume<S: Source, K: Sink, M: Maker>(
     ensures resumes { Does (resuming (setup_found words.now.policy words.now.limit words.now.mark) words.now.lives) (outcome_of M.Made.Board.state result)
         (record { from = S.feed source.old; feed = S.feed source.new; to = K.drain sink.old; sink = K.drain sink.new }) }
     ensures few { result.lines ≤ result.taken }
-    ensures read { result.taken ≤ 1099511627776 }
+    ensures read { result.taken ≤ most_bytes }
     ensures second { result.second ≡ None }
 {
     let mut lines = Lines::new(MOST_BYTES);

@@ -7,6 +7,7 @@ ghost use Rattle.envy_run.specs.Headline.{Headline, run_task, command_in};
 ghost use Rattle.envy_run.specs.Outcome.{outcome, outcome_of};
 ghost use Rattle.envy_run.specs.Task.{DoesTask};
 ghost use Rattle.envy_run.specs.Theorem.{IsAlone, IsAloneIn, Leaves, Licenses, Prints};
+ghost use Rattle.envy_serve.specs.Ends.{most_bytes};
 
 use crate::audit_run::run_audit;
 use crate::ended::Ended;
@@ -43,7 +44,7 @@ pub(crate) fn run_trace<S: Source, K: Sink, M: Maker>(
     ensures runs { DoesTask (run_task setup lives) (outcome_of M.Made.Board.state result)
         (record { from = S.feed source.old; feed = S.feed source.new; to = K.drain sink.old; sink = K.drain sink.new }) }
     ensures few { result.lines ≤ result.taken }
-    ensures read { result.taken ≤ 1099511627776 }
+    ensures read { result.taken ≤ most_bytes }
     ensures second { result.second ≡ None }
 {
     let memory = match make_memory(alloc, setup, lives, maker) {
@@ -73,7 +74,7 @@ fn perform<S: Source, K: Sink, M: Maker>(
     ensures told { FailsAsPlanned M.Made.Board.state → TellsAll (Ok command) (outcome_of M.Made.Board.state result)
         (record { from = S.feed source.old; feed = S.feed source.new; to = K.drain sink.old; sink = K.drain sink.new }) }
     ensures few { result.lines ≤ result.taken }
-    ensures read { result.taken ≤ 1099511627776 }
+    ensures read { result.taken ≤ most_bytes }
     ensures alone { IsAlone command result.second }
 {
     match command {
@@ -125,7 +126,7 @@ fn obey_words<S: Source, K: Sink, M: Maker>(
     ensures told { FailsAsPlanned M.Made.Board.state → TellsAll (command_in words.now) (outcome_of M.Made.Board.state result)
         (record { from = S.feed source.old; feed = S.feed source.new; to = K.drain sink.old; sink = K.drain sink.new }) }
     ensures few { result.lines ≤ result.taken }
-    ensures read { result.taken ≤ 1099511627776 }
+    ensures read { result.taken ≤ most_bytes }
     ensures alone { IsAloneIn (command_in words.now) (outcome_of M.Made.Board.state result) }
 {
     match read_words(alloc, words) {

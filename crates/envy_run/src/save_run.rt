@@ -7,6 +7,7 @@ ghost use Rattle.envy_run.specs.Headline.{save_task};
 ghost use Rattle.envy_run.specs.Outcome.{outcome_of};
 ghost use Rattle.envy_run.specs.Task.{DoesTask};
 ghost use Rattle.envy_run.specs.Writing.{WritesOut};
+ghost use Rattle.envy_serve.specs.Ends.{most_bytes};
 
 use crate::ending::{Ending, Finished, written};
 use crate::running::run_trace;
@@ -44,7 +45,7 @@ pub fn run_save<S: Source, K: Sink, M: Maker>(
     ensures runs { DoesTask (save_task setup lives) (outcome_of M.Made.Board.state result)
         (record { from = S.feed source.old; feed = S.feed source.new; to = K.drain sink.old; sink = K.drain sink.new }) }
     ensures few { result.lines ≤ result.taken }
-    ensures read { result.taken ≤ 1099511627776 }
+    ensures read { result.taken ≤ most_bytes }
     ensures second { result.second ≡ None }
 {
     let mut traced = run_trace(alloc, setup, lives, source, &mut Nothing::new(), maker);

@@ -11,6 +11,7 @@ ghost use Rattle.envy_io.specs.Streams.{Feed};
 ghost use Rattle.envy_run.specs.Meaning.{Does};
 ghost use Rattle.envy_run.specs.Outcome.{outcome_of};
 ghost use Rattle.envy_run.specs.Unserved.{IsUnserved};
+ghost use Rattle.envy_serve.specs.Ends.{most_bytes};
 
 use crate::ending::{Ending, Finished, unserved, written};
 use crate::prepare::make_memory;
@@ -64,7 +65,7 @@ pub fn run_tpca<K: Sink, M: Maker>(
         TellsReturns lives area.now (outcome_of M.Made.Board.state result) (record { from = feed; feed = feed; to = K.drain sink.old; sink = K.drain sink.new })
         ⊎ IsUnserved (outcome_of M.Made.Board.state result) (record { from = feed; feed = feed; to = K.drain sink.old; sink = K.drain sink.new }) }
     ensures few { result.lines ≤ result.taken }
-    ensures read { result.taken ≤ 1099511627776 }
+    ensures read { result.taken ≤ most_bytes }
     ensures second { result.second ≡ None }
 {
     let mut memory = match make_memory(alloc, setup, lives, maker) {

@@ -1,4 +1,5 @@
 pub mod Advancing
+pub mod Counts
 pub mod Earlier
 pub mod GoodTraces
 pub mod Hushing

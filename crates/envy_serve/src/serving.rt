@@ -1,6 +1,6 @@
 ghost use Rattle.std.specs.Prelude.{◌≡◌, ◌≤◌, ℕ, List, []};
 ghost use Rattle.envy_io.specs.Streams.{Feed, Drain};
-ghost use Rattle.envy_serve.specs.Ends.{Progress, Advances, Serves, IsAtStart, lines_of_end};
+ghost use Rattle.envy_serve.specs.Ends.{Progress, Advances, Serves, IsAtStart, lines_of_end, most_bytes};
 ghost use Rattle.envy_serve.specs.Turns.{Turn};
 ghost use Rattle.envy_serve.specs.Concludes.{Closes, Concludes};
 
@@ -97,7 +97,7 @@ fn advance<V: Service, S: Source, K: Sink>(
 
 /// The lines accepted, where so many were done and told.
 fn lines_accepted(end: End, told: u64) -> u64
-    requires { told ≤ 1099511627776 }
+    requires { told ≤ most_bytes }
     ensures { result ≡ lines_of_end end told }
 {
     match end {
@@ -120,7 +120,7 @@ pub fn serve<V: Service, S: Source, K: Sink>(
         → (turns : List (Turn V.Line V.Reply)) × Serves result.end result.lines result.taken V.grammar reader.taken (V.Did start service.new) (V.Died start service.new) (V.tail service.new) turns
         (record { from = S.feed source.old; feed = S.feed source.new; to = K.drain sink.old; sink = K.drain sink.new }) }
     ensures few { result.lines ≤ result.taken }
-    ensures read { result.taken ≤ 1099511627776 }
+    ensures read { result.taken ≤ most_bytes }
 {
     let mut reader = reader;
     let mut text = ArrayVec::new();

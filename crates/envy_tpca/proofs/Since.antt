@@ -2,50 +2,17 @@
 use Rattle.std.proofs.Common.{◌≡◌, ◌⊎◌, inl, inr, ℕ, ◌+◌, ◌-◌, ◌^◌, ◌<◌, ◌≤◌, refl, sym, ◌∙◌, ap, subst, arith}
 use Rattle.std.specs.Prelude.{sum}
 use Rattle.std.proofs.lemmas.Bool.{cases_lt}
-use Rattle.envy_base.proofs.Counting.{Tally-trans}
 use Rattle.envy_base.specs.Counting.{up}
 use Rattle.envy_base.specs.declared.counts.Counts.{Counts}
-use Rattle.envy_flush.specs.Counts.{Tallies, Tally3}
+use Rattle.envy_flush.proofs.CountLemmas.{Tallies-trans}
+use Rattle.envy_flush.specs.Counts.{Tallies}
 use Rattle.envy_layout.specs.Same.{Counted, Grows, Kept}
+use Rattle.envy_memory.proofs.Counted.{Tallies-stay, begun-stay}
 use Rattle.envy_memory.specs.Calls.{Works, lit, planned}
 use Rattle.envy_memory.specs.Effects.{TicksOnce}
 use Rattle.envy_memory.specs.Picture.{Picture, counts_of}
 use Rattle.envy_table.specs.Entries.{Translations}
 use Rattle.envy_tpca.specs.Since.{IsPast, Keeps, Rises, Since}
-
-Tally3-trans : (a b c e f g h i j k l m : ℕ) → Tally3 a b c e f g h i → Tally3 f g h i j k l m → Tally3 a b c e j k l m
-Tally3-trans a b c e f g h i j k l m x y =
-    let p = x.first in let q = x.second in let r = x.third in let s = x.fourth in
-    let t = y.first in let u = y.second in let v = y.third in let w = y.fourth in
-    record {
-      first = omega arith;
-      second = omega arith;
-      third = omega arith;
-      fourth = omega arith;
-      same = λ la lb lc le. let before = x.same (omega arith) (omega arith) (omega arith) (omega arith) in let after = y.same la lb lc le in omega arith;
-    }
-
-Tallies-trans : (a b c : Picture) → Tallies a.chart a.parts b.chart b.parts → Tallies b.chart b.parts c.chart c.parts → Tallies a.chart a.parts c.chart c.parts
-Tallies-trans a b c x y = record {
-  programs = Tally3-trans _ _ _ _ _ _ _ _ _ _ _ _ x.programs y.programs;
-  erases = Tally-trans _ _ _ _ _ _ x.erases y.erases;
-}
-
--- counters that stay, where no program and no erase began
-Tallies-stay : (old new : Picture) → counts_of new.parts ≡ counts_of old.parts → new.chart.begun ≡ old.chart.begun → sum new.chart.erases ≡ sum old.chart.erases → Tallies old.chart old.parts new.chart new.parts
-Tallies-stay old new counts begun erases =
-    let flushes = ap (λ (c : Counts). c.flushes) counts in
-    let copies = ap (λ (c : Counts). c.copies) counts in
-    let moves = ap (λ (c : Counts). c.moves) counts in
-    let erased = ap (λ (c : Counts). c.erases) counts in
-    record {
-      programs = record { first = omega arith; second = omega arith; third = omega arith; fourth = omega arith; same = λ i j k l. omega arith };
-      erases = record { first = omega arith; second = omega arith; same = λ l m. omega arith };
-    }
-
--- no program and no erase began
-begun-stay : (old new : Picture) → Counted 0 0 old.chart new.chart → (new.chart.begun ≡ old.chart.begun) × (sum new.chart.erases ≡ sum old.chart.erases)
-begun-stay old new c = let low = c.begun in let few = c.few in let least = Grows.least c.erases in let most = Grows.few c.erases in (omega arith, omega arith)
 
 Rises-more : (n k a b c : ℕ) → Rises n a b → Rises k b c → Rises (n + k) a c
 Rises-more n k a b c x y =
@@ -65,7 +32,7 @@ Keeps-trans a b c x y =
       lives = omega arith;
       cuts = omega arith;
       bads = omega arith;
-      tallies = Tallies-trans a b c x.tallies y.tallies;
+      tallies = Tallies-trans _ _ _ _ _ _ x.tallies y.tallies;
     }
 
 pub Since-trans : (n k : ℕ) (a b c : Picture) → Since n a b → Since k b c → Since (n + k) a c

@@ -6,6 +6,7 @@ use Rattle.envy_base.specs.Step.{Answer, Begin, Put, Commit, Done, Started, Rang
 use Rattle.envy_base.proofs.Owning.{position-None, owner-Some, owner-nobody, owned-none, slot_cases, slot-within, owner-put_here, owned-put}
 use Rattle.envy_base.proofs.Keeping.{first-closed, step-keeps}
 use Rattle.envy_base.proofs.Undoing.{undone-begun, undone-put, has}
+use Rattle.envy_memory.proofs.Facts.{none-open}
 use Rattle.envy_memory.specs.Calls.{fresh}
 use Rattle.envy_tpca.specs.Trying.{Open}
 
@@ -190,13 +191,8 @@ all-none [] none = refl
 all-none (None ∷ slots) none = ap (λ (rest : List (Option Saved)). None ∷ rest) (all-none slots (λ u. none (suc u)))
 all-none (Some saved ∷ slots) none = let no = none 0 in cc
 
-none-at : (n u : ℕ) → get_or {A = Option Saved} (replicate n None) u None ≡ None
-none-at zero u = refl
-none-at (suc n) zero = refl
-none-at (suc n) (suc u) = none-at n u
-
 pub closed-fresh : (shadows : ℕ) (words : List ℕ) → IsArray (fresh shadows words) → Closed words (fresh shadows words)
-closed-fresh shadows words array = record { array = array; slots = λ u. none-at 64 u; words = refl }
+closed-fresh shadows words array = record { array = array; slots = λ u. none-open 64 u; words = refl }
 
 pub fresh-closed : (words : List ℕ) (m : Array) → Closed words m → m ≡ fresh m.shadows words
 fresh-closed words m c =

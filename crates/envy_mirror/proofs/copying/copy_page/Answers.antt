@@ -2,8 +2,9 @@ use Rattle.std.proofs.Common.{◌≡◌, ◌<◌, false, Result, Ok, Err, sym, s
 use Rattle.envy_base.specs.declared.board.Trouble.{Trouble}
 use Rattle.envy_base.specs.declared.board.Trouble.TheVariants.{Off}
 use Rattle.envy_base.specs.declared.shape.Shape.{Shape}
+use Rattle.envy_memory.proofs.Facts.{on-from}
 use Rattle.envy_mirror.specs.Asking.{Reckons}
-use Rattle.envy_mirror.proofs.Closing.{copied-more, others-more, lit-unless}
+use Rattle.envy_mirror.proofs.Closing.{copied-more, others-more}
 use Rattle.envy_mirror.proofs.Reckoning.{Reckons-trans}
 use Rattle.envy_mirror.proofs.copying.copy_page.Goals as goal
 
@@ -16,7 +17,7 @@ loop-i-preserved g c =
     let new = c.copy_word.new.to.chart in
     let inside = subst (λ (sh : Shape). c.args.page < sh.pages) (sym (Reckons.shape v.reckons)) c.requires.within in
     record {
-      closed = e.closed (lit-unless new.on (λ off. let clash = e.off.1 off in cc));
+      closed = e.closed (on-from new.on (λ off. let clash = e.off.1 off in cc));
       reckons = Reckons-trans c.args.to.now c.loop-i.to c.copy_word.new.to v.reckons e.reckons;
       page = copied-more from mid new c.args.page c.loop-i.i inside c.loop-i-test.true e.live v.page;
       others = others-more from mid new c.args.to.now.chart c.args.page c.loop-i.i c.loop-i-test.true e.live v.others;

@@ -13,23 +13,23 @@ unreachable-requires-in-Err-Range g c =
     omega arith
 
 pub returns-in-Ok-store-clause-closed : goal.returns-in-Ok-store-clause-closed
-returns-in-Ok-store-clause-closed g c = λ _. (closed-stored c.args.to.now.chart c.store.new.self.chart c.args.a c.in-Ok.word c.store.ensures.works.shape (c.in-Ok-store.ensures.step _ c.requires.closed)).0
+returns-in-Ok-store-clause-closed g c = λ _. (closed-stored c.args.to.now.chart c.store.new.self.chart c.args.a c.in-Ok.word c.store.ensures.below.works.shape (c.in-Ok-store.ensures.step _ c.requires.closed)).0
 
 pub returns-in-Ok-store-clause-live : goal.returns-in-Ok-store-clause-live
 returns-in-Ok-store-clause-live g c =
     let word = c.in-Ok.ensures.word in
-    (closed-stored c.args.to.now.chart c.store.new.self.chart c.args.a c.in-Ok.word c.store.ensures.works.shape (c.in-Ok-store.ensures.step _ c.requires.closed)).1
+    (closed-stored c.args.to.now.chart c.store.new.self.chart c.args.a c.in-Ok.word c.store.ensures.below.works.shape (c.in-Ok-store.ensures.step _ c.requires.closed)).1
     ∙ ap (λ (w : ℕ). set (live c.args.to.now.chart) c.args.a w) cc
 
 pub returns-in-Err-Bad-clause-closed : goal.returns-in-Err-Bad-clause-closed
 returns-in-Err-Bad-clause-closed g c =
     let e = rw c.in-Err-Bad.field-0-is at c.in-Err-Bad.ensures.step in
-    λ _. (closed-failed c.args.to.now.chart c.store.new.self.chart c.args.a c.in-Ok.word c.store.ensures.works.shape (e _ c.requires.closed)).0
+    λ _. (closed-failed c.args.to.now.chart c.store.new.self.chart c.args.a c.in-Ok.word c.store.ensures.below.works.shape (e _ c.requires.closed)).0
 
 pub returns-in-Err-Bad-clause-bad : goal.returns-in-Err-Bad-clause-bad
 returns-in-Err-Bad-clause-bad g c = λ _.
     let e = rw c.in-Err-Bad.field-0-is at c.in-Err-Bad.ensures.step in
-    (closed-failed c.args.to.now.chart c.store.new.self.chart c.args.a c.in-Ok.word c.store.ensures.works.shape (e _ c.requires.closed)).1
+    (closed-failed c.args.to.now.chart c.store.new.self.chart c.args.a c.in-Ok.word c.store.ensures.below.works.shape (e _ c.requires.closed)).1
 
 pub unreachable-requires-in-Err-Held : goal.unreachable-requires-in-Err-Held
 unreachable-requires-in-Err-Held g c =

@@ -15,4 +15,4 @@ returns-in-Err-Closed-clause-step g c m stood =
 pub returns-in-Err-Closed-clause-rules : goal.returns-in-Err-Closed-clause-rules
 returns-in-Err-Closed-clause-rules g c =
     let e = rw c.in-Err-Closed.field-0-is at c.in-Err-Closed.ensures in
-    e.refused refl
+    e.below.refused refl

@@ -15,4 +15,4 @@ returns-in-Err-Busy-clause-step g c m stood =
 pub returns-in-Err-Busy-clause-rules : goal.returns-in-Err-Busy-clause-rules
 returns-in-Err-Busy-clause-rules g c =
     let e = rw c.in-Err-Busy.field-0-is at c.in-Err-Busy.ensures in
-    e.refused refl
+    e.below.refused refl

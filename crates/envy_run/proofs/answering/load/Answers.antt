@@ -14,4 +14,4 @@ returns-in-Err-Range-clause-step g c m stood =
 pub returns-in-Err-Range-clause-rules : goal.returns-in-Err-Range-clause-rules
 returns-in-Err-Range-clause-rules g c =
     let e = rw c.in-Err-Range.field-0-is at c.in-Err-Range.ensures in
-    e.visits
+    e.below.visits

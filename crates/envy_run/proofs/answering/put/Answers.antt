@@ -29,19 +29,19 @@ returns-in-Err-Full-clause-step g c m stood =
 pub returns-in-Err-Range-clause-rules : goal.returns-in-Err-Range-clause-rules
 returns-in-Err-Range-clause-rules g c =
     let e = rw c.in-Err-Range.field-0-is at c.in-Err-Range.ensures in
-    e.visits
+    e.below.visits
 
 pub returns-in-Err-Closed-clause-rules : goal.returns-in-Err-Closed-clause-rules
 returns-in-Err-Closed-clause-rules g c =
     let e = rw c.in-Err-Closed.field-0-is at c.in-Err-Closed.ensures in
-    e.visits
+    e.below.visits
 
 pub returns-in-Err-Held-clause-rules : goal.returns-in-Err-Held-clause-rules
 returns-in-Err-Held-clause-rules g c =
     let e = rw c.in-Err-Held.field-0-is at c.in-Err-Held.ensures in
-    e.visits
+    e.below.visits
 
 pub returns-in-Err-Full-clause-rules : goal.returns-in-Err-Full-clause-rules
 returns-in-Err-Full-clause-rules g c =
     let e = rw c.in-Err-Full.field-0-is at c.in-Err-Full.ensures in
-    e.visits
+    e.below.visits

@@ -13,4 +13,4 @@ returns-in-Ok-clause-step g c m stood =
 
 pub returns-in-Ok-clause-notes : goal.returns-in-Ok-clause-notes
 returns-in-Ok-clause-notes g c =
-    notes-rest Tick (Done ∷ []) c.args.memory.now c.tick.new.self refl (refl, refl, refl) c.tick.ensures.rests (CountsTick.tallies c.in-Ok.ensures.counts) (tick-swaps c.args.memory.now c.tick.new.self c.in-Ok.ensures.counts)
+    notes-rest Tick (Done ∷ []) c.args.memory.now c.tick.new.self refl (refl, refl, refl) c.tick.ensures.below.rests (CountsTick.tallies c.in-Ok.ensures.below.counts) (tick-swaps c.args.memory.now c.tick.new.self c.in-Ok.ensures.below.counts)

@@ -11,7 +11,7 @@ returns-in_err-load-clause-after g c =
 pub returns-clause-after : goal.returns-clause-after
 returns-clause-after g c =
     λ n first before now t most last r lt.
-    load-done n first before now t most last c.args.a c.in_ok-load.field-0 c.args.memory.now c.load.new.self r (since-load c.args.memory.now c.load.new.self _ c.load.ensures.kept) (c.in_ok-load.ensures.step r.array r.stands)
+    load-done n first before now t most last c.args.a c.in_ok-load.field-0 c.args.memory.now c.load.new.self r (since-load c.args.memory.now c.load.new.self _ c.load.ensures.below.kept) (c.in_ok-load.ensures.step r.array r.stands)
 
 pub returns-clause-accessed : goal.returns-clause-accessed
-returns-clause-accessed g c = accessed-one (page_of c.args.a) c.args.memory.now.parts.cache c.load.new.self.parts.cache c.in_ok-load.ensures.visits
+returns-clause-accessed g c = accessed-one (page_of c.args.a) c.args.memory.now.parts.cache c.load.new.self.parts.cache c.in_ok-load.ensures.below.visits

@@ -11,4 +11,4 @@ pub returns-clause-word : goal.returns-clause-word
 returns-clause-word g c = word-loaded (durable c.args.memory.now.chart) c.args.memory.now c.load.new.self c.args.a c.in-Ok.word (c.in-Ok.ensures.step (fresh c.args.memory.now.chart.shape.shadows (durable c.args.memory.now.chart)) c.requires.rests)
 
 pub returns-clause-loaded : goal.returns-clause-loaded
-returns-clause-loaded g c = record { same = c.load.ensures.kept; accessed = accessed-one (c.args.a / 32) c.args.memory.now.parts.cache c.load.new.self.parts.cache c.in-Ok.ensures.visits }
+returns-clause-loaded g c = record { same = c.load.ensures.below.kept; accessed = accessed-one (c.args.a / 32) c.args.memory.now.parts.cache c.load.new.self.parts.cache c.in-Ok.ensures.below.visits }

@@ -3,7 +3,7 @@ use Rattle.envy_base.specs.declared.shape.Shape.{Shape}
 use Rattle.envy_map.specs.Fields.{chart}
 use Rattle.envy_layout.specs.Stands.{Stands}
 use Rattle.envy_memory.specs.Picture.{Picture}
-use Rattle.envy_memory.proofs.LoadLemmas.{beyond, inside, word-stands}
+use Rattle.envy_memory.proofs.Standing.{beyond, inside, word-stands}
 use Rattle.envy_memory.proofs.memory.Memory.load.Goals as goal
 
 pub returns-then-a-shape-clause-step : goal.returns-then-a-shape-clause-step

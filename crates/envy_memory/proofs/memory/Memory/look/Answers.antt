@@ -5,7 +5,7 @@ use Rattle.envy_map.specs.Fields.{chart}
 use Rattle.envy_layout.specs.Stands.{Stands}
 use Rattle.envy_layout.specs.Words.{durable}
 use Rattle.envy_memory.specs.Picture.{Picture}
-use Rattle.envy_memory.proofs.LoadLemmas.{beyond, inside, word-committed, word-durable}
+use Rattle.envy_memory.proofs.Standing.{beyond, inside, word-committed, word-durable}
 use Rattle.envy_memory.proofs.memory.Memory.look.Goals as goal
 
 pub returns-then-a-shape-clause-step : goal.returns-then-a-shape-clause-step

@@ -1,4 +1,4 @@
-use Rattle.std.proofs.Common.{inl, ◌≡◌, ◌∙◌, ◌<◌, ◌*◌, ◌+◌, ◌/◌, ◌%◌, length, Some, refl, sym, subst, ap, arith}
+use Rattle.std.proofs.Common.{◌≡◌, Ok, Err, ◌∙◌, ◌<◌, ◌*◌, ◌+◌, ◌/◌, ◌%◌, length, Some, refl, sym, subst, ap, arith}
 use Rattle.std.proofs.lemmas.Result.{err_from_is_err_and}
 use Rattle.envy_base.specs.declared.shape.Shape.{Shape}
 use Rattle.envy_map.specs.Fields.{chart, slot}
@@ -10,10 +10,11 @@ use Rattle.envy_layout.proofs.Ending.{closed-inactive, closed-past}
 use Rattle.envy_flush.specs.Storing.{Leaves}
 use Rattle.envy_flush.proofs.StoreLemmas.{Leaves-wrote}
 use Rattle.envy_layout.specs.Same.{Framed}
+use Rattle.envy_memory.specs.Below.{PutsBelow}
 use Rattle.envy_memory.specs.Calls.{Works, IsCut, Undisturbed}
-use Rattle.envy_memory.specs.Effects.{flushes_after, is_unowned, PutEffect}
+use Rattle.envy_memory.specs.Faults.{put_fault}
 use Rattle.envy_memory.specs.Picture.{Picture}
-use Rattle.envy_memory.proofs.Effects.{flushes-stored}
+use Rattle.envy_memory.proofs.Below.{Worked, below-put_again, below-put_first, below-put_ended}
 use Rattle.envy_memory.proofs.Owning.{IsMemory-left, Works-left, owner-pairs}
 use Rattle.envy_memory.proofs.PutLemmas.{full-of, Meets, MeetsFree, is-open, counted-pairs, Puts-done, Puts-ended, Puts-again, Puts-again_ended, Counted-first, Works-first, IsMemory-first, owned-free}
 use Rattle.envy_memory.proofs.Standing.{beyond, inside}
@@ -108,15 +109,6 @@ returns-in_err-store_word-clause-complete g c calm =
     let no = never-ended old new c.in_err-store_word.field-0.0 (λ is. c.in_err-store_word.ensures.off.0 is) (λ is. c.in_err-store_word.ensures.bad is) (cause k 6 old new (Leaves.counted leaves)) quiet in
     ((λ is. no), (λ is. no))
 
-pub returns-in_err-store_word-clause-works : goal.returns-in_err-store_word-clause-works
-returns-in_err-store_word-clause-works g c =
-    let old = chart (g.B.Board.state c.self.inside.board) in
-    let new = chart (g.B.Board.state c.store_word.new.board) in
-    let k = 4 * old.shape.rows + 13 in
-    let e = c.store_word.ensures in
-    let leaves = Leaves-wrote k 6 old new (32 * (c.args.a / 32) + c.args.a % 32) c.args.value (c.args.a / 32) c.store_word.result e.free e.owned in
-    subst (λ (p : Picture). Works (4 * p.chart.shape.rows + 16) 6 p.chart new) c.self.view_is (Works-left k 6 (4 * old.shape.rows + 16) 6 old new (omega arith) (omega arith) (sym c.if-not-powered.ensures) leaves)
-
 pub invariant_of-self-in-Some : goal.invariant_of-self-in-Some
 invariant_of-self-in-Some g c =
     let old = chart (g.B.Board.state c.self.inside.board) in
@@ -143,31 +135,6 @@ returns-in-Some-clause-step g c m stood =
     let meets : Meets c.args.t c.args.a old m c.self.inside.owned = record { stands = stands; owned = owned; low = low; active = active; page = lt } in
     let own : owner_of c.self.inside.owned.pairs (c.args.a / 32) ≡ Some c.args.t = sym c.in-Some.ensures.value ∙ ap (λ (x : _). Some x) c.if-slot-t.false in
     Puts-again k 6 c.args.t old new m c.self.inside.owned c.args.a c.args.value meets own (c.in_ok-store_word.ensures.owned (owned-free old m c.self.inside.owned (c.args.a / 32) c.args.t owned own))
-
-pub returns-in-Some-clause-works : goal.returns-in-Some-clause-works
-returns-in-Some-clause-works g c =
-    let old = chart (g.B.Board.state c.self.inside.board) in
-    let new = chart (g.B.Board.state c.store_word.new.board) in
-    let k = 4 * old.shape.rows + 13 in
-    let e = c.store_word.ensures in
-    let leaves = Leaves-wrote k 6 old new (32 * (c.args.a / 32) + c.args.a % 32) c.args.value (c.args.a / 32) c.store_word.result e.free e.owned in
-    subst (λ (p : Picture). Works (4 * p.chart.shape.rows + 16) 6 p.chart new) c.self.view_is (Works-left k 6 (4 * old.shape.rows + 16) 6 old new (omega arith) (omega arith) (sym c.if-not-powered.ensures) leaves)
-
-pub returns-in-Some-clause-flushes : goal.returns-in-Some-clause-flushes
-returns-in-Some-clause-flushes g c =
-    let old = chart (g.B.Board.state c.self.inside.board) in
-    let new = chart (g.B.Board.state c.store_word.new.board) in
-    let own : owner_of c.self.inside.owned.pairs (c.args.a / 32) ≡ Some c.in-Some.slot = sym c.in-Some.ensures.value in
-    subst (λ (p : Picture). c.store_word.new.parts.flushes ≡ flushes_after (is_unowned p.owned (c.args.a / 32)) (c.args.a / 32) p) c.self.view_is
-    (rw own (flushes-stored (c.args.a / 32) (record { chart = old; parts = c.self.inside.parts; owned = c.self.inside.owned; limit = c.self.inside.limit; mark = c.self.inside.mark }) new c.store_word.new.parts c.self.invariant.0.fits c.in_ok-store_word.ensures.stores))
-
-pub returns-in-Some-clause-does : goal.returns-in-Some-clause-does
-returns-in-Some-clause-does g c =
-    let old = chart (g.B.Board.state c.self.inside.board) in
-    let new = chart (g.B.Board.state c.store_word.new.board) in
-    let own : owner_of c.self.inside.owned.pairs (c.args.a / 32) ≡ Some c.args.t = sym c.in-Some.ensures.value ∙ ap (λ (x : _). Some x) c.if-slot-t.false in
-    subst (λ (p : Picture). PutEffect c.args.t (c.args.a / 32) p (record { chart = new; parts = c.store_word.new.parts; owned = c.self.inside.owned; limit = c.self.inside.limit; mark = c.self.inside.mark })) c.self.view_is
-    (inl (own, c.in_ok-store_word.ensures.stores, refl))
 
 pub returns-then-not-room-clause-step : goal.returns-then-not-room-clause-step
 returns-then-not-room-clause-step g c m stood =
@@ -236,14 +203,6 @@ returns-in_err-put_first-clause-complete g c calm =
     let no = never-ended old new c.in_err-put_first.field-0.0 (λ is. c.in_err-put_first.ensures.off.0 is) (λ is. c.in_err-put_first.ensures.bad is) (cause k 6 old new (Counted-first k 6 c.args.t (c.args.a / 32) old new (32 * (c.args.a / 32) + c.args.a % 32) c.args.value c.put_first.result e.put)) quiet in
     ((λ is. no), (λ is. no))
 
-pub returns-in_err-put_first-clause-works : goal.returns-in_err-put_first-clause-works
-returns-in_err-put_first-clause-works g c =
-    let old = chart (g.B.Board.state c.self.inside.board) in
-    let new = chart (g.B.Board.state c.put_first.new.board) in
-    let k = 4 * old.shape.rows + 13 in
-    let e = c.put_first.ensures in
-    subst (λ (p : Picture). Works (4 * p.chart.shape.rows + 16) 6 p.chart new) c.self.view_is (Works-first k 6 (4 * old.shape.rows + 16) 6 c.args.t (c.args.a / 32) old new (32 * (c.args.a / 32) + c.args.a % 32) c.args.value c.put_first.result (omega arith) (omega arith) (sym c.if-not-powered.ensures) e.put)
-
 pub returns-clause-step : goal.returns-clause-step
 returns-clause-step g c m stood =
     let old = chart (g.B.Board.state c.self.inside.board) in
@@ -261,14 +220,6 @@ returns-clause-step g c m stood =
     let free : MeetsFree c.args.t c.args.a old m c.self.inside.owned = record { meets = meets; whole = c.owner.ensures.whole; none = none; shadows = c.self.invariant.0.shadows; room = c.room.ensures.value.0 c.if-not-room.false } in
     Puts-done k 6 c.args.t old new m c.self.inside.owned c.args.a c.args.value free c.in_ok-put_first.ensures.put
 
-pub returns-clause-works : goal.returns-clause-works
-returns-clause-works g c =
-    let old = chart (g.B.Board.state c.self.inside.board) in
-    let new = chart (g.B.Board.state c.put_first.new.board) in
-    let k = 4 * old.shape.rows + 13 in
-    let e = c.put_first.ensures in
-    subst (λ (p : Picture). Works (4 * p.chart.shape.rows + 16) 6 p.chart new) c.self.view_is (Works-first k 6 (4 * old.shape.rows + 16) 6 c.args.t (c.args.a / 32) old new (32 * (c.args.a / 32) + c.args.a % 32) c.args.value c.put_first.result (omega arith) (omega arith) (sym c.if-not-powered.ensures) e.put)
-
 pub invariant_of-self-2 : goal.invariant_of-self-2
 invariant_of-self-2 g c =
     let old = chart (g.B.Board.state c.self.inside.board) in
@@ -279,3 +230,56 @@ invariant_of-self-2 g c =
       IsMemory-first k 6 c.self.inside.limit c.self.inside.mark c.args.t (c.args.a / 32) old new c.self.inside.parts c.put_first.new.parts c.self.inside.owned c.put_first.new.owned (32 * (c.args.a / 32) + c.args.a % 32) c.args.value c.put_first.result (sym c.if-not-powered.ensures) c.self.invariant.0 e.put e.steady e.owners e.limit,
       λ on. IsQuiet-counted old new c.self.inside.parts c.put_first.new.parts c.self.inside.limit c.self.inside.quiet (Works.shape works) (Works.worn works) e.counting on (c.self.invariant.1 (sym c.if-not-powered.ensures)),
     )
+
+pub returns-in_err-store_word-clause-below : goal.returns-in_err-store_word-clause-below
+returns-in_err-store_word-clause-below g c =
+    let old = chart (g.B.Board.state c.self.inside.board) in
+    let new = chart (g.B.Board.state c.store_word.new.board) in
+    let was : Picture = record { chart = old; parts = c.self.inside.parts; owned = c.self.inside.owned; limit = c.self.inside.limit; mark = c.self.inside.mark } in
+    let k = 4 * old.shape.rows + 13 in
+    let e = c.store_word.ensures in
+    let leaves = Leaves-wrote k 6 old new (32 * (c.args.a / 32) + c.args.a % 32) c.args.value (c.args.a / 32) c.store_word.result e.free e.owned in
+    let worked : Worked (c.args.a / 32) was new c.store_word.new.parts = record { on = sym c.if-not-powered.ensures; works = Works-left k 6 (4 * old.shape.rows + 16) 6 old new (omega arith) (omega arith) (sym c.if-not-powered.ensures) leaves; counts = e.counting; visits = e.accesses } in
+    let p = err_from_is_err_and c.from_residual-in_err-store_word.result c.from_residual-in_err-store_word.ensures.1 in
+    let fault = c.in_err-store_word.field-0.0 in
+    rw (p.1, p.2) (subst (λ (p : Picture). PutsBelow c.args.t c.args.a (Err (put_fault fault)) p (record { chart = new; parts = c.store_word.new.parts; owned = c.self.inside.owned; limit = c.self.inside.limit; mark = c.self.inside.mark })) c.self.view_is
+    (below-put_ended c.args.t c.args.a was new c.store_word.new.parts c.self.inside.owned fault worked c.in_err-store_word.ensures.stops (λ is. refl)))
+
+pub returns-in-Some-clause-below : goal.returns-in-Some-clause-below
+returns-in-Some-clause-below g c =
+    let old = chart (g.B.Board.state c.self.inside.board) in
+    let new = chart (g.B.Board.state c.store_word.new.board) in
+    let was : Picture = record { chart = old; parts = c.self.inside.parts; owned = c.self.inside.owned; limit = c.self.inside.limit; mark = c.self.inside.mark } in
+    let k = 4 * old.shape.rows + 13 in
+    let e = c.store_word.ensures in
+    let leaves = Leaves-wrote k 6 old new (32 * (c.args.a / 32) + c.args.a % 32) c.args.value (c.args.a / 32) c.store_word.result e.free e.owned in
+    let worked : Worked (c.args.a / 32) was new c.store_word.new.parts = record { on = sym c.if-not-powered.ensures; works = Works-left k 6 (4 * old.shape.rows + 16) 6 old new (omega arith) (omega arith) (sym c.if-not-powered.ensures) leaves; counts = e.counting; visits = e.accesses } in
+    let own : owner_of c.self.inside.owned.pairs (c.args.a / 32) ≡ Some c.args.t = sym c.in-Some.ensures.value ∙ ap (λ (x : _). Some x) c.if-slot-t.false in
+    subst (λ (p : Picture). PutsBelow c.args.t c.args.a (Ok tt) p (record { chart = new; parts = c.store_word.new.parts; owned = c.self.inside.owned; limit = c.self.inside.limit; mark = c.self.inside.mark })) c.self.view_is
+    (below-put_again c.args.t c.args.a was new c.store_word.new.parts worked c.self.invariant.0.fits own c.in_ok-store_word.ensures.stores)
+
+pub returns-in_err-put_first-clause-below : goal.returns-in_err-put_first-clause-below
+returns-in_err-put_first-clause-below g c =
+    let old = chart (g.B.Board.state c.self.inside.board) in
+    let new = chart (g.B.Board.state c.put_first.new.board) in
+    let was : Picture = record { chart = old; parts = c.self.inside.parts; owned = c.self.inside.owned; limit = c.self.inside.limit; mark = c.self.inside.mark } in
+    let k = 4 * old.shape.rows + 13 in
+    let e = c.put_first.ensures in
+    let works = Works-first k 6 (4 * old.shape.rows + 16) 6 c.args.t (c.args.a / 32) old new (32 * (c.args.a / 32) + c.args.a % 32) c.args.value c.put_first.result (omega arith) (omega arith) (sym c.if-not-powered.ensures) e.put in
+    let worked : Worked (c.args.a / 32) was new c.put_first.new.parts = record { on = sym c.if-not-powered.ensures; works = works; counts = e.counting; visits = e.accesses } in
+    let p = err_from_is_err_and c.from_residual-in_err-put_first.result c.from_residual-in_err-put_first.ensures.1 in
+    let fault = c.in_err-put_first.field-0.0 in
+    rw (p.1, p.2) (subst (λ (p : Picture). PutsBelow c.args.t c.args.a (Err (put_fault fault)) p (record { chart = new; parts = c.put_first.new.parts; owned = c.put_first.new.owned; limit = c.self.inside.limit; mark = c.self.inside.mark })) c.self.view_is
+    (below-put_ended c.args.t c.args.a was new c.put_first.new.parts c.put_first.new.owned fault worked c.in_err-put_first.ensures.stops c.in_err-put_first.ensures.stays))
+
+pub returns-clause-below : goal.returns-clause-below
+returns-clause-below g c =
+    let old = chart (g.B.Board.state c.self.inside.board) in
+    let new = chart (g.B.Board.state c.put_first.new.board) in
+    let was : Picture = record { chart = old; parts = c.self.inside.parts; owned = c.self.inside.owned; limit = c.self.inside.limit; mark = c.self.inside.mark } in
+    let k = 4 * old.shape.rows + 13 in
+    let e = c.put_first.ensures in
+    let works = Works-first k 6 (4 * old.shape.rows + 16) 6 c.args.t (c.args.a / 32) old new (32 * (c.args.a / 32) + c.args.a % 32) c.args.value c.put_first.result (omega arith) (omega arith) (sym c.if-not-powered.ensures) e.put in
+    let worked : Worked (c.args.a / 32) was new c.put_first.new.parts = record { on = sym c.if-not-powered.ensures; works = works; counts = e.counting; visits = e.accesses } in
+    subst (λ (p : Picture). PutsBelow c.args.t c.args.a (Ok tt) p (record { chart = new; parts = c.put_first.new.parts; owned = c.put_first.new.owned; limit = c.self.inside.limit; mark = c.self.inside.mark })) c.self.view_is
+    (below-put_first c.args.t c.args.a was new c.put_first.new.parts c.put_first.new.owned worked c.self.invariant.0.fits (sym c.in_default.ensures.value) c.in_ok-put_first.ensures.puts c.in_ok-put_first.ensures.gives)

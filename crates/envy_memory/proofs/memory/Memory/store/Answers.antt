@@ -1,4 +1,4 @@
-use Rattle.std.proofs.Common.{◌≡◌, ◌∙◌, ◌<◌, ◌*◌, ◌+◌, ◌/◌, ◌%◌, false, refl, sym, subst, ap, arith}
+use Rattle.std.proofs.Common.{◌≡◌, ◌∙◌, ◌<◌, ◌*◌, ◌+◌, ◌/◌, ◌%◌, Ok, Err, refl, sym, subst, ap, arith}
 use Rattle.std.proofs.lemmas.Result.{err_from_is_err_and}
 use Rattle.envy_base.specs.declared.shape.Shape.{Shape}
 use Rattle.envy_map.specs.Fields.{chart}
@@ -7,10 +7,11 @@ use Rattle.envy_layout.specs.Stands.{Stands}
 use Rattle.envy_layout.proofs.Composition.{cause}
 use Rattle.envy_flush.specs.Storing.{Leaves}
 use Rattle.envy_flush.proofs.StoreLemmas.{Leaves-wrote}
-use Rattle.envy_memory.specs.Calls.{Works, IsCut, Undisturbed}
-use Rattle.envy_memory.specs.Effects.{flushes_after}
+use Rattle.envy_memory.specs.Below.{StoresBelow}
+use Rattle.envy_memory.specs.Calls.{IsCut, Undisturbed}
+use Rattle.envy_memory.specs.Faults.{store_fault}
 use Rattle.envy_memory.specs.Picture.{Picture}
-use Rattle.envy_memory.proofs.Effects.{flushes-stored}
+use Rattle.envy_memory.proofs.Below.{Worked, below-stored, below-store_ended}
 use Rattle.envy_memory.proofs.Owning.{IsMemory-left, Works-left, Stores-done, Stores-ended, owner-pairs, free-pairs}
 use Rattle.envy_memory.proofs.Standing.{beyond, inside}
 use Rattle.envy_memory.proofs.TickLemmas.{never-ended}
@@ -78,15 +79,6 @@ returns-in_err-store_word-clause-complete g c calm =
     let no = never-ended old new c.in_err-store_word.field-0.0 (λ is. c.in_err-store_word.ensures.off.0 is) (λ is. c.in_err-store_word.ensures.bad is) (cause k 6 old new (Leaves.counted leaves)) quiet in
     ((λ is. no), (λ is. no))
 
-pub returns-in_err-store_word-clause-works : goal.returns-in_err-store_word-clause-works
-returns-in_err-store_word-clause-works g c =
-    let old = chart (g.B.Board.state c.self.inside.board) in
-    let new = chart (g.B.Board.state c.store_word.new.board) in
-    let k = 4 * old.shape.rows + 13 in
-    let e = c.store_word.ensures in
-    let leaves = Leaves-wrote k 6 old new (32 * (c.args.a / 32) + c.args.a % 32) c.args.value (c.args.a / 32) c.store_word.result e.free e.owned in
-    subst (λ (p : Picture). Works (4 * p.chart.shape.rows + 16) 6 p.chart new) c.self.view_is (Works-left k 6 (4 * old.shape.rows + 16) 6 old new (omega arith) (omega arith) (sym c.if-not-powered.ensures) leaves)
-
 pub invariant_of-self-2 : goal.invariant_of-self-2
 invariant_of-self-2 g c =
     let old = chart (g.B.Board.state c.self.inside.board) in
@@ -111,18 +103,28 @@ returns-clause-step g c m stood =
     let free = free-pairs old c.self.inside.owned (c.args.a / 32) owned none in
     Stores-done k 6 old new m c.self.inside.owned c.args.a c.args.value stands owned none lt (c.in_ok-store_word.ensures.free free)
 
-pub returns-clause-works : goal.returns-clause-works
-returns-clause-works g c =
+pub returns-in_err-store_word-clause-below : goal.returns-in_err-store_word-clause-below
+returns-in_err-store_word-clause-below g c =
     let old = chart (g.B.Board.state c.self.inside.board) in
     let new = chart (g.B.Board.state c.store_word.new.board) in
+    let was : Picture = record { chart = old; parts = c.self.inside.parts; owned = c.self.inside.owned; limit = c.self.inside.limit; mark = c.self.inside.mark } in
     let k = 4 * old.shape.rows + 13 in
     let e = c.store_word.ensures in
     let leaves = Leaves-wrote k 6 old new (32 * (c.args.a / 32) + c.args.a % 32) c.args.value (c.args.a / 32) c.store_word.result e.free e.owned in
-    subst (λ (p : Picture). Works (4 * p.chart.shape.rows + 16) 6 p.chart new) c.self.view_is (Works-left k 6 (4 * old.shape.rows + 16) 6 old new (omega arith) (omega arith) (sym c.if-not-powered.ensures) leaves)
+    let worked : Worked (c.args.a / 32) was new c.store_word.new.parts = record { on = sym c.if-not-powered.ensures; works = Works-left k 6 (4 * old.shape.rows + 16) 6 old new (omega arith) (omega arith) (sym c.if-not-powered.ensures) leaves; counts = e.counting; visits = e.accesses } in
+    let p = err_from_is_err_and c.from_residual.result c.from_residual.ensures.1 in
+    let fault = c.in_err-store_word.field-0.0 in
+    rw (p.1, p.2) (subst (λ (p : Picture). StoresBelow c.args.a (Err (store_fault fault)) p (record { chart = new; parts = c.store_word.new.parts; owned = c.self.inside.owned; limit = c.self.inside.limit; mark = c.self.inside.mark })) c.self.view_is
+    (below-store_ended c.args.a was new c.store_word.new.parts fault worked c.in_err-store_word.ensures.stops))
 
-pub returns-clause-flushes : goal.returns-clause-flushes
-returns-clause-flushes g c =
+pub returns-clause-below : goal.returns-clause-below
+returns-clause-below g c =
     let old = chart (g.B.Board.state c.self.inside.board) in
     let new = chart (g.B.Board.state c.store_word.new.board) in
-    subst (λ (p : Picture). c.store_word.new.parts.flushes ≡ flushes_after false (c.args.a / 32) p) c.self.view_is
-    (flushes-stored (c.args.a / 32) (record { chart = old; parts = c.self.inside.parts; owned = c.self.inside.owned; limit = c.self.inside.limit; mark = c.self.inside.mark }) new c.store_word.new.parts c.self.invariant.0.fits c.in_ok-store_word.ensures.stores)
+    let was : Picture = record { chart = old; parts = c.self.inside.parts; owned = c.self.inside.owned; limit = c.self.inside.limit; mark = c.self.inside.mark } in
+    let k = 4 * old.shape.rows + 13 in
+    let e = c.store_word.ensures in
+    let leaves = Leaves-wrote k 6 old new (32 * (c.args.a / 32) + c.args.a % 32) c.args.value (c.args.a / 32) c.store_word.result e.free e.owned in
+    let worked : Worked (c.args.a / 32) was new c.store_word.new.parts = record { on = sym c.if-not-powered.ensures; works = Works-left k 6 (4 * old.shape.rows + 16) 6 old new (omega arith) (omega arith) (sym c.if-not-powered.ensures) leaves; counts = e.counting; visits = e.accesses } in
+    subst (λ (p : Picture). StoresBelow c.args.a (Ok tt) p (record { chart = new; parts = c.store_word.new.parts; owned = c.self.inside.owned; limit = c.self.inside.limit; mark = c.self.inside.mark })) c.self.view_is
+    (below-stored c.args.a was new c.store_word.new.parts worked c.self.invariant.0.fits c.in_ok-store_word.ensures.stores)

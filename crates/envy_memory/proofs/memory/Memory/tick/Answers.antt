@@ -1,11 +1,11 @@
 use Rattle.std.proofs.Common.{sym, subst}
-use Rattle.std.specs.Prelude.{IfOk}
 use Rattle.envy_map.specs.Fields.{chart}
 use Rattle.envy_layout.specs.Stands.{Stands}
 use Rattle.envy_layout.proofs.Composition.{cause}
-use Rattle.envy_flush.specs.Ticks.{TicksBy}
+use Rattle.envy_memory.specs.Below.{TicksBelow}
 use Rattle.envy_memory.specs.Calls.{IsCut, Undisturbed}
 use Rattle.envy_memory.specs.Picture.{Picture}
+use Rattle.envy_memory.proofs.Below.{Ticked, below-ticked}
 use Rattle.envy_memory.proofs.EndLemmas.{undisturbed-on}
 use Rattle.envy_memory.proofs.TickLemmas.{IsMemory-ticked, Ticks-all, counted-once, undisturbed-bad}
 use Rattle.envy_memory.proofs.memory.Memory.tick.Goals as goal
@@ -30,14 +30,19 @@ returns-clause-complete g c calm =
     let quiet = subst (λ (p : Picture). Undisturbed p.chart new) (sym c.self.view_is) calm in
     ((λ is. undisturbed-on old new (cause 1 1 old new (counted-once old new c.tick_ruled.ensures.step)) (c.tick_ruled.ensures.off.0 is) quiet), (λ is. undisturbed-bad old new (c.tick_ruled.ensures.bad is) quiet))
 
-pub returns-clause-does : goal.returns-clause-does
-returns-clause-does g c =
-    let new = chart (g.B.Board.state c.tick_ruled.new.board) in
-    subst (λ (p : Picture). IfOk c.tick_ruled.result (λ did. TicksBy p.limit p.mark did p.chart p.parts new c.tick_ruled.new.parts)) c.self.view_is c.tick_ruled.ensures.does
-
 pub invariant_of-self : goal.invariant_of-self
 invariant_of-self g c =
     let old = chart (g.B.Board.state c.self.inside.board) in
     let new = chart (g.B.Board.state c.tick_ruled.new.board) in
     let was = c.self.inside in
     (IsMemory-ticked was.limit was.mark old new was.parts c.tick_ruled.new.parts was.owned (sym c.if-not-powered.ensures) c.self.invariant.0 c.tick_ruled.ensures.step c.tick_ruled.ensures.steady, c.tick_ruled.ensures.quiet)
+
+pub returns-clause-below : goal.returns-clause-below
+returns-clause-below g c =
+    let old = chart (g.B.Board.state c.self.inside.board) in
+    let new = chart (g.B.Board.state c.tick_ruled.new.board) in
+    let was : Picture = record { chart = old; parts = c.self.inside.parts; owned = c.self.inside.owned; limit = c.self.inside.limit; mark = c.self.inside.mark } in
+    let e = c.tick_ruled.ensures in
+    let ticked : Ticked c.tick_ruled.result was new c.tick_ruled.new.parts = record { on = sym c.if-not-powered.ensures; step = e.step; does = e.does; idle = e.idle; stops = e.stops; counts = e.counts; still = e.still; rests = e.rests } in
+    subst (λ (p : Picture). TicksBelow c.tick_ruled.result p (record { chart = new; parts = c.tick_ruled.new.parts; owned = c.self.inside.owned; limit = c.self.inside.limit; mark = c.self.inside.mark })) c.self.view_is
+    (below-ticked c.tick_ruled.result was new c.tick_ruled.new.parts ticked)

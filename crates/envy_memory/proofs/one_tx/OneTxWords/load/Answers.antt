@@ -9,7 +9,7 @@ use Rattle.envy_memory.proofs.one_tx.OneTxWords.load.Goals as goal
 
 pub invariant_of-self : goal.invariant_of-self
 invariant_of-self g c =
-    let same = ap (λ (p : Picture). p.chart) c.load.ensures.kept in
+    let same = ap (λ (p : Picture). p.chart) c.load.ensures.below.kept in
     record {
       few = few-as c.args.self.now.memory.chart c.load.new.self.chart (ap (λ (x : Chart). x.shape) same) c.args.self.now.few;
       held = same-held c.args.self.now.memory.chart c.load.new.self.chart c.args.self.now.begun same c.args.self.now.held;
@@ -25,7 +25,7 @@ returns-in-Ok-clause-answer g c =
     let q = c.load.new.self in
     let b = c.args.self.now.begun in
     let lit = lit-ok q.chart.on c.in-Ok.word _ c.load.result c.in-Ok.is c.load.ensures.off in
-    let same = ap (λ (x : Picture). x.chart) c.load.ensures.kept in
-    let whole = sheet-same p q b same (ap (λ (x : Picture). x.owned) c.load.ensures.kept) in
+    let same = ap (λ (x : Picture). x.chart) c.load.ensures.below.kept in
+    let whole = sheet-same p q b same (ap (λ (x : Picture). x.owned) c.load.ensures.below.kept) in
     let on = sym (ap (λ (x : Chart). x.on) same) ∙ lit in
     (lit, load-word p b q.chart c.args.a c.in-Ok.word on c.args.self.now.held c.in-Ok.ensures.step, ap (λ (s : Sheet). s.words) whole, ap (λ (s : Sheet). s.pages) whole)

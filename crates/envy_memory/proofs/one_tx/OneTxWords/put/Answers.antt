@@ -14,7 +14,7 @@ invariant_of-self g c =
     let b = c.args.self.now.begun in
     let live = begun-on p.chart.on b c.requires.begun in
     record {
-      few = few-as p.chart c.put.new.self.chart (Works.shape c.put.ensures.works) c.args.self.now.few;
+      few = few-as p.chart c.put.new.self.chart (Works.shape c.put.ensures.below.works) c.args.self.now.few;
       held = put-keeps p.chart c.put.new.self.chart b c.args.a c.args.w c.put.result live.1 live.0 c.args.self.now.held c.put.ensures.step c.put.ensures.off;
     }
 
@@ -24,7 +24,7 @@ trouble-requires g c =
     let b = c.args.self.now.begun in
     let live = begun-on p.chart.on b c.requires.begun in
     let e = c.put.ensures in
-    let meets : PutMeets p c.put.new.self b c.args.a c.args.w c.put.result = record { begun = live.1; on = live.0; held = c.args.self.now.held; address = c.requires.address; room = c.requires.room; step = e.step; off = e.off; cut = e.cut; works = e.works; range = e.range; closed = e.closed; full = e.full; bad = e.bad; does = e.does; stops = λ is. (e.stops is).1 } in
+    let meets : PutMeets p c.put.new.self b c.args.a c.args.w c.put.result = record { begun = live.1; on = live.0; held = c.args.self.now.held; address = c.requires.address; room = c.requires.room; step = e.step; off = e.off; cut = e.cut; range = e.range; closed = e.closed; full = e.full; bad = e.bad; below = e.below } in
     never-refused p c.put.new.self b c.args.a c.args.w c.put.result meets
 
 pub returns-clause-works : goal.returns-clause-works
@@ -33,7 +33,7 @@ returns-clause-works g c =
     let b = c.args.self.now.begun in
     let live = begun-on p.chart.on b c.requires.begun in
     let e = c.put.ensures in
-    let meets : PutMeets p c.put.new.self b c.args.a c.args.w c.put.result = record { begun = live.1; on = live.0; held = c.args.self.now.held; address = c.requires.address; room = c.requires.room; step = e.step; off = e.off; cut = e.cut; works = e.works; range = e.range; closed = e.closed; full = e.full; bad = e.bad; does = e.does; stops = λ is. (e.stops is).1 } in
+    let meets : PutMeets p c.put.new.self b c.args.a c.args.w c.put.result = record { begun = live.1; on = live.0; held = c.args.self.now.held; address = c.requires.address; room = c.requires.room; step = e.step; off = e.off; cut = e.cut; range = e.range; closed = e.closed; full = e.full; bad = e.bad; below = e.below } in
     put-works p c.put.new.self b c.args.a c.args.w c.put.result meets (never-refused p c.put.new.self b c.args.a c.args.w c.put.result meets)
 
 pub returns-clause-answer : goal.returns-clause-answer
@@ -42,5 +42,5 @@ returns-clause-answer g c =
     let b = c.args.self.now.begun in
     let live = begun-on p.chart.on b c.requires.begun in
     let e = c.put.ensures in
-    let meets : PutMeets p c.put.new.self b c.args.a c.args.w c.put.result = record { begun = live.1; on = live.0; held = c.args.self.now.held; address = c.requires.address; room = c.requires.room; step = e.step; off = e.off; cut = e.cut; works = e.works; range = e.range; closed = e.closed; full = e.full; bad = e.bad; does = e.does; stops = λ is. (e.stops is).1 } in
+    let meets : PutMeets p c.put.new.self b c.args.a c.args.w c.put.result = record { begun = live.1; on = live.0; held = c.args.self.now.held; address = c.requires.address; room = c.requires.room; step = e.step; off = e.off; cut = e.cut; range = e.range; closed = e.closed; full = e.full; bad = e.bad; below = e.below } in
     subst (λ (r : Result Unit Trouble). Puts (sheet_of p b) c.args.a c.args.w r (sheet_of c.put.new.self b)) (sym c.trouble.ensures) (put-answer p c.put.new.self b c.args.a c.args.w c.put.result meets (never-refused p c.put.new.self b c.args.a c.args.w c.put.result meets))

@@ -15,8 +15,8 @@ invariant_of-self g c =
     let p = c.args.self.now.memory in
     let e = c.begin-begun.ensures in
     record {
-      few = few-as p.chart c.begin-begun.new.self.chart (Works.shape e.works) c.args.self.now.few;
-      held = start-any p.chart c.begin-begun.new.self.chart c.args.self.now.begun c.begin-begun.result c.requires c.args.self.now.held e.step e.off e.busy e.works;
+      few = few-as p.chart c.begin-begun.new.self.chart (Works.shape e.below.works) c.args.self.now.few;
+      held = start-any p.chart c.begin-begun.new.self.chart c.args.self.now.begun c.begin-begun.result c.requires c.args.self.now.held e.step e.off e.busy e.below.works;
     }
 
 pub unreachable-requires : goal.unreachable-requires
@@ -27,10 +27,10 @@ unreachable-requires g c =
     never-busy p.chart busy.0 (flag-is p.chart b false (shut-on p.chart.on b busy.0 c.requires) c.args.self.now.held) busy.1
 
 pub returns-in-Ok-clause-keeps : goal.returns-in-Ok-clause-keeps
-returns-in-Ok-clause-keeps g c = sheet-keeps 0 0 c.args.self.now.memory c.begin-begun.new.self c.args.self.now.begun true c.begin-begun.ensures.works c.begin-begun.ensures.cut
+returns-in-Ok-clause-keeps g c = sheet-keeps 0 0 c.args.self.now.memory c.begin-begun.new.self c.args.self.now.begun true c.begin-begun.ensures.below.works c.begin-begun.ensures.cut
 
 pub returns-in-Err-Off-clause-keeps : goal.returns-in-Err-Off-clause-keeps
-returns-in-Err-Off-clause-keeps g c = sheet-keeps 0 0 c.args.self.now.memory c.begin-begun.new.self c.args.self.now.begun true c.begin-begun.ensures.works c.begin-begun.ensures.cut
+returns-in-Err-Off-clause-keeps g c = sheet-keeps 0 0 c.args.self.now.memory c.begin-begun.new.self c.args.self.now.begun true c.begin-begun.ensures.below.works c.begin-begun.ensures.cut
 
 pub returns-in-Ok-clause-answer : goal.returns-in-Ok-clause-answer
 returns-in-Ok-clause-answer g c =
@@ -39,10 +39,10 @@ returns-in-Ok-clause-answer g c =
     let b = c.args.self.now.begun in
     let e = c.begin-begun.ensures in
     let lit = lit-ok q.chart.on c.in-Ok.field-0 _ c.begin-begun.result c.in-Ok.is e.off in
-    let on = was-on 0 0 p.chart q.chart e.works lit in
+    let on = was-on 0 0 p.chart q.chart e.below.works lit in
     let shut = shut-on p.chart.on b on c.requires in
     let held = flag-is p.chart b false shut c.args.self.now.held in
-    let same = ap (λ (x : Picture). x.owned) e.kept in (
+    let same = ap (λ (x : Picture). x.owned) e.below.kept in (
       lit,
       and-true q.chart.on lit,
       started-words p q c.in-Ok.field-0 on lit held c.in-Ok.ensures.step ∙ sym (words-as p b false shut),
@@ -59,4 +59,4 @@ returns-in-Err-Off-clause-answer g c =
     let it = rw c.in-Err-Off.is at c.in-Err-Off.field-0-is in
     let is = c.in-Err-Off.is ∙ ap (λ x. Err x) it in
     let step = subst (λ (r : Result ℕ BeginFault). (m : Array) → Stands p.chart m → Begins m r q.chart) is e.step in
-    (e.off.0 is, start-gone p.chart q.chart b c.requires c.args.self.now.held step e.works)
+    (e.off.0 is, start-gone p.chart q.chart b c.requires c.args.self.now.held step e.below.works)

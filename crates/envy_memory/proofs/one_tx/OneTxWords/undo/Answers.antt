@@ -16,7 +16,7 @@ invariant_of-self g c =
     let live = begun-on p.chart.on b c.requires in
     let e = c.abort-ended.ensures in
     record {
-      few = few-as p.chart c.abort-ended.new.self.chart (Works.shape e.works) c.args.self.now.few;
+      few = few-as p.chart c.abort-ended.new.self.chart (Works.shape e.below.works) c.args.self.now.few;
       held = undo-all p.chart c.abort-ended.new.self.chart b c.abort-ended.result live.1 live.0 c.args.self.now.held e.step e.off e.closed;
     }
 
@@ -29,10 +29,10 @@ unreachable-requires g c =
     is-active p.chart live.0 (flag-is p.chart b true live.1 c.args.self.now.held) closed.1
 
 pub returns-in-Ok-clause-keeps : goal.returns-in-Ok-clause-keeps
-returns-in-Ok-clause-keeps g c = sheet-keeps 0 0 c.args.self.now.memory c.abort-ended.new.self c.args.self.now.begun false c.abort-ended.ensures.works c.abort-ended.ensures.cut
+returns-in-Ok-clause-keeps g c = sheet-keeps 0 0 c.args.self.now.memory c.abort-ended.new.self c.args.self.now.begun false c.abort-ended.ensures.below.works c.abort-ended.ensures.cut
 
 pub returns-in-Err-Off-clause-keeps : goal.returns-in-Err-Off-clause-keeps
-returns-in-Err-Off-clause-keeps g c = sheet-keeps 0 0 c.args.self.now.memory c.abort-ended.new.self c.args.self.now.begun false c.abort-ended.ensures.works c.abort-ended.ensures.cut
+returns-in-Err-Off-clause-keeps g c = sheet-keeps 0 0 c.args.self.now.memory c.abort-ended.new.self c.args.self.now.begun false c.abort-ended.ensures.below.works c.abort-ended.ensures.cut
 
 pub returns-in-Ok-clause-answer : goal.returns-in-Ok-clause-answer
 returns-in-Ok-clause-answer g c =
