@@ -2,5 +2,7 @@
 #![tactic(auto)]
 
 mod cells;
+mod owned;
 
 pub use cells::Cells;
+pub use owned::CellBoard;

@@ -62,8 +62,10 @@ impl FilePort {
         ensures answer { result ≡ answer }
         ensures noted { Notes (call_of done.now) (call_of failed.now) answer self.old.record.calls self.new.record.calls }
     {
-        let made = if answer.is_ok() { done } else { failed };
-        self.record = self.record.and(made);
+        self.record = match answer {
+            Ok(()) => self.record.and(done),
+            Err(DeviceFailed) => self.record.and(failed),
+        };
         answer
     }
 }
