@@ -3,6 +3,7 @@
 
 mod cells;
 mod owned;
+mod steady;
 
 pub use cells::Cells;
 pub use owned::CellBoard;
