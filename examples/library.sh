@@ -110,6 +110,7 @@ ASAN_OPTIONS=detect_leaks=0 out/ordered-asan "$work/ordered-asan.file" 50000 "${
 out/ordered "$work/ordered.file" 1000000 "${1-1}"
 ASAN_OPTIONS=detect_leaks=0 out/files-asan "$work/files.file" # a handle lasts as long as the process
 TMPDIR=$work out/rust-tests --quiet
+TMPDIR=$work out/rust-kept-tests --quiet
 
 for program in book book-asan book-rust; do
     book() { out/$program "$work/$program.book" "$@"; }

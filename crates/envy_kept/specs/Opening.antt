@@ -13,14 +13,14 @@ use Rattle.envy_begun.specs.declared.unbegun.Unbegun.TheVariants as unbegun
 use Rattle.envy_calls.specs.Making.{ForSetup, IsNoSetup}
 use Rattle.envy_calls.specs.Setups.{setup_of}
 use Rattle.envy_calls.specs.declared.code.Code.{Code}
-use Rattle.envy_calls.specs.declared.code.Code.TheVariants.{Done, Open, NoMemory, Off, OtherShape}
+use Rattle.envy_calls.specs.declared.code.Code.TheVariants.{Done, Open}
 use Rattle.envy_calls.specs.declared.setup.EnvySetup.{EnvySetup}
 use Rattle.envy_memory.specs.Picture.{Picture}
 use Rattle.envy_policy.specs.Setup.{checked}
 use Rattle.envy_policy.specs.declared.setup.Setup.{Setup as OfSetup}
-use Rattle.envy_kept.specs.Codes.{number_of_kept}
+use Rattle.envy_kept.specs.Codes.{code_of_unbegun, number_of_kept}
 use Rattle.envy_kept.specs.declared.code.KeptCode.{KeptCode}
-use Rattle.envy_kept.specs.declared.code.KeptCode.TheVariants.{Of, NoJournal, OtherVersion}
+use Rattle.envy_kept.specs.declared.code.KeptCode.TheVariants.{Of}
 
 -- a setup as options that name all sizes
 abbrev pub options_of : OfSetup → KeepOptions
@@ -50,21 +50,18 @@ pub record Opened (given : EnvySetup) (file : List ℕ) (p : Picture) : Type 0 w
   pub begins : BeginsAs holding file setup array
   pub begun : HasBegun setup array p
 
--- Why none began in a file by a setup that breaks no rule
+-- Why none began by a setup that breaks no rule: memory ran out, the file failed or is at the end of its range, or what
+-- the file holds
 abbrev pub RefusesFile : KeepOptions → List ℕ → Unbegun → Type 0
 RefusesFile options file unbegun.Memory = ⊤
 RefusesFile options file (unbegun.Failed held) = ⊤
 RefusesFile options file why = Refuses options file why
 
--- Why none began: there is no setup; the file holds no journal of a memory, one of another version, or one of other
--- sizes; memory ran out; or the file failed.
+-- Why none was opened: there is no setup; or with the setup, no memory began in the file.
 abbrev pub RefusesOpen : EnvySetup → List ℕ → KeptCode → Type 0
-RefusesOpen given file NoJournal = ForSetup given (λ setup. Refuses (options_of setup) file unbegun.NoJournal)
-RefusesOpen given file OtherVersion = ForSetup given (λ setup. Refuses (options_of setup) file unbegun.OtherVersion)
-RefusesOpen given file (Of OtherShape) = ForSetup given (λ setup. Refuses (options_of setup) file unbegun.OtherSizes)
-RefusesOpen given file (Of NoMemory) = ForSetup given (λ setup. ⊤)
-RefusesOpen given file (Of Off) = ForSetup given (λ setup. ⊤)
-RefusesOpen given file (Of code) = IsNoSetup given code
+RefusesOpen given file code =
+    ((why : Code) × (code ≡ Of why) × IsNoSetup given why)
+    ⊎ ((why : Unbegun) × (code ≡ code_of_unbegun why) × ForSetup given (λ setup. RefusesFile (options_of setup) file why))
 
 -- In a place: it held no memory and holds one now; or it stays as it was, since it held one, or since the call was
 -- refused.
