@@ -89,8 +89,8 @@ uint32_t envy_kept_new(envy_kept *m);
 /* Makes a memory of zeros in a file that holds no journal yet, or takes up the one that the file holds. The program has
    opened the file, kept others out of it, brought it to the disk, and then read it whole: `file` are its n bytes, which
    don't change while the call lasts (so no mapping that shows what is written to the file meanwhile), and `port` is what
-   envy_disk_open gave for it. A file of fewer than 34 bytes holds no journal yet: making one was cut short. All that the
-   memory holds is on the disk when it is done.
+   envy_disk_open gave for it. An empty file holds no journal yet. All that the memory holds is on the disk when it is
+   done.
    What the file holds isn't trusted: it is read as operations of a board of the setup's sizes, and that board is audited
    as envy_mapped_attach does. Policy, part, limit and mark may differ from those of before. Transactions that were open
    at the last sync are undone.
@@ -105,7 +105,8 @@ uint32_t envy_kept_open(envy_kept *m, const envy_setup *setup, const uint8_t *fi
 void envy_kept_close(envy_kept *m);
 
 /* Brings all that the memory holds to the disk, with what open transactions put, by two writes and two syncs of the
-   file; where the file has grown to more than twice what the board holds and 1 MiB, by envy_kept_compact.
+   file; where the file would be longer then than 1 MiB and than twice what the whole board takes (36 bytes, 13 for each
+   word of SRAM and 261 for each row), by envy_kept_compact.
    ENVY_DONE: it is on the disk. ENVY_EMPTY. ENVY_OFF: it may be there or not; close the memory and open the file again,
    which gives the array of this sync or of the last one that was done. */
 uint32_t envy_kept_sync(envy_kept *m);

@@ -9,7 +9,7 @@
 #include <sys/stat.h>
 #include <unistd.h>
 
-static const char BESIDE[] = ".new";
+static const char BESIDE[] = ".envy-new";
 
 /* Writes all of it: an interrupted write is made again, and a short one goes on. */
 static int written(int descriptor, uint64_t at, const char *bytes, size_t n) {
@@ -43,15 +43,23 @@ static int sync_file(void *context) {
     return fdatasync(f->descriptor);
 }
 
+/* Whether a path, links not followed, names the file that is open. */
+static int is_named(const char *path, int descriptor) {
+    struct stat here, there;
+    return !fstat(descriptor, &here) && !lstat(path, &there) && here.st_dev == there.st_dev && here.st_ino == there.st_ino;
+}
+
+/* It is locked before it is cut, so nothing is lost of a file that another process has in use, and has the rights of the
+   first before a byte is in it. Its lock is the file's once it has the file's name. */
 static int begin_second(void *context) {
     envy_kept_file *f = context;
+    struct stat first, second;
     if (f->second >= 0) close(f->second);
     f->second_at = 0;
-    struct stat first;
-    if (fstat(f->descriptor, &first)) return 1;
-    f->second = open(f->beside, O_RDWR | O_CREAT | O_TRUNC | O_CLOEXEC, first.st_mode & 0777);
-    /* its lock is the file's once it has the file's name */
-    return f->second < 0 || flock(f->second, LOCK_EX | LOCK_NB);
+    f->second = open(f->beside, O_RDWR | O_CREAT | O_CLOEXEC | O_NOFOLLOW, 0600);
+    return f->second < 0 || fstat(f->second, &second) || !S_ISREG(second.st_mode) || !is_named(f->beside, f->second)
+        || flock(f->second, LOCK_EX | LOCK_NB) || fstat(f->descriptor, &first) || fchmod(f->second, first.st_mode & 0777)
+        || ftruncate(f->second, 0);
 }
 
 static int append_second(void *context, const void *bytes, size_t n) {
@@ -61,10 +69,11 @@ static int append_second(void *context, const void *bytes, size_t n) {
     return 0;
 }
 
-/* Brings the names in the folder of a path to the disk. */
-static int sync_folder(const char *path) {
-    const char *last = strrchr(path, '/');
-    char *folder = last ? strndup(path, last == path ? 1 : (size_t)(last - path)) : strdup(".");
+/* Brings the names in the folder of the file to the disk. */
+static int sync_folder(const envy_kept_file *f) {
+    char *last = strrchr(f->path, '/');
+    size_t n = last == f->path ? 1 : (size_t)(last - f->path);
+    char *folder = strndup(f->path, n);
     if (!folder) return 1;
     int descriptor = open(folder, O_RDONLY | O_DIRECTORY | O_CLOEXEC);
     free(folder);
@@ -82,30 +91,34 @@ static int replace_file(void *context) {
     close(f->descriptor);
     f->descriptor = f->second;
     f->second = -1;
-    return sync_folder(f->path);
+    return sync_folder(f);
 }
 
-/* Whether the path names the file that was opened: between opening and locking another process may have put its second
-   file there. */
-static int is_named(const envy_kept_file *f) {
-    struct stat opened, named;
-    return !fstat(f->descriptor, &opened) && !stat(f->path, &named) && opened.st_dev == named.st_dev
-        && opened.st_ino == named.st_ino;
+/* Makes the paths of the file and of the second one. A link is followed once, here. */
+static int named(envy_kept_file *f, const char *path) {
+    f->path = realpath(path, NULL);
+    if (!f->path) return 0;
+    size_t n = strlen(f->path);
+    f->beside = malloc(n + sizeof BESIDE);
+    if (!f->beside) return 0;
+    memcpy(f->beside, f->path, n);
+    memcpy(f->beside + n, BESIDE, sizeof BESIDE);
+    return 1;
 }
 
-static uint32_t locked(envy_kept_file *f) {
-    for (;;) {
-        f->descriptor = open(f->path, O_RDWR | O_CREAT | O_CLOEXEC, 0666);
-        struct stat found;
-        if (f->descriptor < 0 || fstat(f->descriptor, &found)) return ENVY_SYSTEM;
-        if (!S_ISREG(found.st_mode)) {
-            errno = EINVAL;
-            return ENVY_SYSTEM;
-        }
-        if (flock(f->descriptor, LOCK_EX | LOCK_NB)) return errno == EWOULDBLOCK ? ENVY_LOCKED : ENVY_SYSTEM;
-        if (is_named(f)) return ENVY_DONE;
-        close(f->descriptor);
+/* Opens the file, or makes an empty one, and locks it. A file that was locked and that the path doesn't name any more was
+   replaced by the process that had it open. */
+static uint32_t locked(envy_kept_file *f, const char *path) {
+    struct stat found;
+    f->descriptor = open(path, O_RDWR | O_CREAT | O_CLOEXEC, 0666);
+    if (f->descriptor < 0 || fstat(f->descriptor, &found)) return ENVY_SYSTEM;
+    if (!S_ISREG(found.st_mode)) {
+        errno = EINVAL;
+        return ENVY_SYSTEM;
     }
+    if (flock(f->descriptor, LOCK_EX | LOCK_NB)) return errno == EWOULDBLOCK ? ENVY_LOCKED : ENVY_SYSTEM;
+    if (!named(f, path)) return errno == ENOMEM ? ENVY_NO_MEMORY : ENVY_SYSTEM;
+    return is_named(f->path, f->descriptor) ? ENVY_DONE : ENVY_LOCKED;
 }
 
 /* The bytes of the file, in memory of their own: a mapping would show what the memory writes while it is opened. */
@@ -131,7 +144,7 @@ static uint8_t *read_whole(int descriptor, size_t *n) {
 /* Brings the file that was opened to the disk, reads it, and has the memory in it made or taken up. */
 static uint32_t taken(envy_kept_file *f, const envy_setup *setup) {
     size_t n;
-    if (fsync(f->descriptor) || sync_folder(f->path)) return ENVY_SYSTEM;
+    if (fsync(f->descriptor) || sync_folder(f)) return ENVY_SYSTEM;
     uint8_t *bytes = read_whole(f->descriptor, &n);
     if (!bytes) return errno == ENOMEM ? ENVY_NO_MEMORY : ENVY_SYSTEM;
     uint32_t code = envy_kept_open(&f->memory, setup, bytes, n, f->port);
@@ -144,10 +157,7 @@ static void let_go(envy_kept_file *f) {
     int why = errno;
     if (f->memory.at) envy_kept_close(&f->memory);
     if (f->port >= 0) envy_disk_close(f->port);
-    if (f->second >= 0) {
-        unlink(f->beside);
-        close(f->second);
-    }
+    if (f->second >= 0) close(f->second);
     if (f->descriptor >= 0) close(f->descriptor);
     free(f->path);
     free(f->beside);
@@ -156,24 +166,13 @@ static void let_go(envy_kept_file *f) {
     errno = why;
 }
 
-/* Copies the path, and makes that of the second file. */
-static int named(envy_kept_file *f, const char *path) {
-    size_t n = strlen(path);
-    f->path = strdup(path);
-    f->beside = malloc(n + sizeof BESIDE);
-    if (!f->path || !f->beside) return 0;
-    memcpy(f->beside, path, n);
-    memcpy(f->beside + n, BESIDE, sizeof BESIDE);
-    return 1;
-}
-
 uint32_t envy_kept_open_file(envy_kept_file *f, const char *path, const envy_setup *setup) {
     if (f->descriptor >= 0) return ENVY_OPEN;
     uint32_t code = ENVY_DONE;
     if (!f->memory.at && (code = envy_kept_new(&f->memory)) != ENVY_DONE) return code;
     f->disk = (envy_disk){f, write_file, cut_file, sync_file, begin_second, append_second, replace_file};
-    if (!named(f, path) || (f->port = envy_disk_open(&f->disk)) < 0) code = ENVY_NO_MEMORY;
-    if (code == ENVY_DONE) code = locked(f);
+    if ((f->port = envy_disk_open(&f->disk)) < 0) code = ENVY_NO_MEMORY;
+    if (code == ENVY_DONE) code = locked(f, path);
     if (code == ENVY_DONE) code = taken(f, setup);
     if (code != ENVY_DONE) let_go(f);
     return code;

@@ -24,8 +24,9 @@ typedef struct envy_kept_file {
 #define ENVY_KEPT_FILE_INIT {ENVY_KEPT_INIT, {0, 0, 0, 0, 0, 0, 0}, -1, -1, -1, 0, 0, 0}
 
 /* Opens the file at a path, or makes an empty one, locks it, brings it and its folder to the disk, reads it whole, and
-   has envy_kept_open make or take up the memory in it. Beside it a second file may come to be, at the path and ".new".
-   ENVY_DONE, ENVY_SYSTEM, ENVY_LOCKED, or what envy_kept_new and envy_kept_open answer. Refused, the place holds none. */
+   has envy_kept_open make or take up the memory in it. Beside it a second file may come to be, at the path and ".envy-new".
+   ENVY_DONE, ENVY_SYSTEM, ENVY_LOCKED, or what envy_kept_new and envy_kept_open answer. Refused, the place holds none; an
+   empty file that was made stays. */
 uint32_t envy_kept_open_file(envy_kept_file *f, const char *path, const envy_setup *setup);
 
 /* Syncs, ends the memory, and gives up the file and its lock. The place may be opened again. ENVY_DONE, also on a place
