@@ -153,7 +153,7 @@ int main(int words, char **word) {
     for (int round = 1; round <= rounds; round++) {
         setup.policy = draw(&state) % 5;
         uint64_t done = last, begun;
-        killed_after(word[1], seed, (useconds_t)(draw(&state) % 40000), &done, &begun);
+        killed_after(word[1], seed, (useconds_t)(draw(&state) % 150000), &done, &begun);
         for (; last < done; last++) {
             piece p = piece_of(seed, last + 1);
             syncs += (uint64_t)p.is_synced;
