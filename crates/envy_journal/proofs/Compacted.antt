@@ -4,9 +4,9 @@ use Rattle.envy_base.specs.State.{State}
 use Rattle.envy_device.specs.Device.{LeavesOnly}
 use Rattle.envy_journal.specs.declared.operation.Operation.{Operation}
 use Rattle.envy_journal.specs.declared.log.Log.{Log}
-use Rattle.envy_journal.specs.Content.{content_of, holds}
+use Rattle.envy_journal.specs.Content.{holds}
 use Rattle.envy_journal.specs.Head.{StandsFor}
-use Rattle.envy_journal.specs.Journal.{IsAllKept, IsAtRest, IsFileOf, IsLogged, StandsSince, kept, held, done}
+use Rattle.envy_journal.specs.Journal.{IsAllKept, IsAtRest, IsFileOf, IsLogged, StandsSince, kept, done}
 use Rattle.envy_journal.specs.Log.{Begins, IsBeforeOrAfter, kept_bytes, held_bytes}
 use Rattle.envy_journal.specs.Reading.{operations, Leads}
 use Rattle.envy_journal.proofs.Logged.{crash_kept, crash_synced, stands_tied}
@@ -30,7 +30,7 @@ module _ {D : Type 0} (seen : D → List ℕ) (may_leave : D → List ℕ → Ty
       crash_all now same =
           subst (λ (p : List Operation). LeavesOnly moment left_since log.device device (λ c. StandsFor s.shape (kept seen log) c ⊎ StandsFor s.shape p c)) (sym same)
           (widened moment left_since log.device device (IsBeforeOrAfter (kept_bytes seen log) (held_bytes seen log)) (λ c. StandsFor s.shape (kept seen log) c ⊎ StandsFor s.shape (done seen log) c) only
-              (crash_synced seen may_leave left_since last log s is))
+          (crash_synced seen may_leave left_since last log s is))
 
     -- it was compacted
     pub crash_compacted : LeavesOnly moment left_since log.device device (λ c. may_leave log.device c ⊎ IsFileOf s c) → LeavesOnly moment left_since log.device device (λ c. StandsFor s.shape (kept seen log) c ⊎ IsFileOf s c)
@@ -72,4 +72,4 @@ module _ {D : Type 0} (seen : D → List ℕ) (may_leave : D → List ℕ → Ty
         let now_sound = logged_compacted.sound in
         widened moment left_since log.device new.device (λ c. may_leave log.device c ⊎ c ≡ seen new.device) (λ c. StandsFor s.shape (kept seen log) c ⊎ StandsFor s.shape (kept seen new) c) only
         (λ c left. ⊎_elim (λ was. inl (crash_kept seen may_leave left_since last log s is c (sound.durable c was)))
-            (λ now. inr (crash_kept seen may_leave left_since last new s logged_compacted c (subst (λ (l : List ℕ). Begins (kept_bytes seen new ++ 0 ∷ []) l) (sym now) now_sound.closed))) left)
+        (λ now. inr (crash_kept seen may_leave left_since last new s logged_compacted c (subst (λ (l : List ℕ). Begins (kept_bytes seen new ++ 0 ∷ []) l) (sym now) now_sound.closed))) left)

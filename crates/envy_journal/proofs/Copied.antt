@@ -1,8 +1,8 @@
 -- What makes a board, word by word and row by row.
-use Rattle.std.proofs.Common.{◌≡◌, ℕ, ◌+◌, ◌*◌, ◌<◌, ◌≤◌, List, [], ◌++◌, length, get_or, set, take, drop, refl, sym, ◌∙◌, ap, arith}
+use Rattle.std.proofs.Common.{◌≡◌, ℕ, ◌+◌, ◌*◌, ◌<◌, List, [], ◌++◌, length, get_or, set, take, drop, refl, sym, ◌∙◌, ap, arith}
 use Rattle.std.proofs.lemmas.List.{get_or-replicate, length-replicate}
 use Rattle.envy_base.specs.Map.{words_of}
-use Rattle.envy_base.specs.State.{State, IsBoard, IsPage, ands, ones, row_of}
+use Rattle.envy_base.specs.State.{State, IsBoard, ands, ones, row_of}
 use Rattle.envy_journal.specs.declared.operation.Operation.TheVariants.{Put, Program}
 use Rattle.envy_journal.specs.Content.{Content, blank, changed, content_of}
 use Rattle.envy_journal.specs.Snapshot.{with_words, with_rows}
@@ -33,7 +33,7 @@ module _ (s : State) (board : IsBoard s) where
     pub word_zero : get_or s.sram w 0 ≡ 0 → with_words s w ≡ with_words s (w + 1)
     word_zero is =
         ap words_as (unpatched s.sram (blank s.shape).sram w 0 words_same lt
-            (is ∙ sym (get_or-replicate {A = ℕ} (words_of s.shape) w 0 0 (let e = board.sram in omega arith))))
+        (is ∙ sym (get_or-replicate {A = ℕ} (words_of s.shape) w 0 0 (let e = board.sram in omega arith))))
 
   pub words_all : with_words s (words_of s.shape) ≡ with_rows s 0
   words_all = ap words_as (patched_all s.sram (blank s.shape).sram (words_of s.shape) board.sram (length-replicate {A = ℕ} (words_of s.shape) 0))
@@ -55,7 +55,7 @@ module _ (s : State) (board : IsBoard s) where
     pub row_erased : row_of s q ≡ ones → with_rows s q ≡ with_rows s (q + 1)
     row_erased is =
         ap rows_as (unpatched s.flash (blank s.shape).flash q [] rows_same lt
-            (is ∙ sym (get_or-replicate {A = List ℕ} (s.shape.segments * s.shape.rows) q ones [] (let e = board.rows in omega arith))))
+        (is ∙ sym (get_or-replicate {A = List ℕ} (s.shape.segments * s.shape.rows) q ones [] (let e = board.rows in omega arith))))
 
   pub rows_all : with_rows s (s.shape.segments * s.shape.rows) ≡ content_of s
   rows_all = ap rows_as (patched_all s.flash (blank s.shape).flash (s.shape.segments * s.shape.rows) board.rows (length-replicate {A = List ℕ} (s.shape.segments * s.shape.rows) ones))

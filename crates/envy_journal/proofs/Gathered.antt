@@ -1,17 +1,16 @@
 -- The bytes of a second file, while the log's buffer carries them.
-use Rattle.std.proofs.Common.{◌≡◌, ℕ, ◌+◌, ◌*◌, ◌-◌, ◌<◌, ◌≤◌, Bool, true, false, Result, Ok, Err, OnOk, List, [], ◌∷◌, ◌++◌, length, take, drop, refl, sym, ◌∙◌, ap, subst, arith, append_assoc, length-append, length-take}
+use Rattle.std.proofs.Common.{◌≡◌, ℕ, ◌+◌, ◌≤◌, true, false, Result, Ok, Err, OnOk, List, [], ◌∷◌, ◌++◌, length, take, refl, sym, ◌∙◌, ap, subst, arith, append_assoc, length-append, length-take}
 use Rattle.std.proofs.lemmas.List.{append-nil, take_at}
 use Rattle.envy_base.specs.State.{State}
 use Rattle.envy_base.specs.declared.shape.Shape.{Shape}
-use Rattle.envy_device.specs.Device.{Only}
 use Rattle.envy_journal.specs.declared.operation.Operation.{Operation}
 use Rattle.envy_journal.specs.declared.log.Log.{Log}
 use Rattle.envy_journal.specs.Content.{Content, blank, changed, content_of, holds}
 use Rattle.envy_journal.specs.Head.{head_bytes}
-use Rattle.envy_journal.specs.Journal.{IsAtRest, IsFileOf}
+use Rattle.envy_journal.specs.Journal.{IsFileOf}
 use Rattle.envy_journal.specs.Log.{Begins}
 use Rattle.envy_journal.specs.Reading.{operations, Leads}
-use Rattle.envy_journal.specs.Snapshot.{Gathers, Makes, gathered, most_of}
+use Rattle.envy_journal.specs.Snapshot.{Gathers, Makes, gathered}
 use Rattle.envy_journal.proofs.Logged.{begins_front, shut_gate}
 use Rattle.envy_journal.proofs.Parsed.{leads_over, leads_open, leads_close, leads_both, leads_to}
 use Rattle.envy_journal.proofs.Replayed.{after-append}

@@ -1,6 +1,6 @@
 -- Calls on a second file, during which the file stays as it is, and a last one that puts the second in its place.
-use Rattle.std.proofs.Common.{◌≡◌, ◌⊎◌, inl, inr, ⊎_elim, ℕ, List, refl, arith}
-use Rattle.envy_device.specs.Device.{Elapses, LeavesOnly, Only}
+use Rattle.std.proofs.Common.{◌≡◌, ◌⊎◌, inl, inr, ⊎_elim, ℕ, List}
+use Rattle.envy_device.specs.Device.{Elapses, LeavesOnly}
 use Rattle.envy_journal.specs.Snapshot.{IsUntouched}
 use Rattle.envy_journal.proofs.Moments.{started, goes_on, widened, joined}
 

@@ -1,5 +1,5 @@
 -- A snapshot: a journal of what a board holds, and of no more.
-use Rattle.std.specs.Prelude.{◌≡◌, ℕ, ◌+◌, ◌*◌, ◌^◌, ◌<◌, ◌≤◌, max, true, false, List, ◌++◌, length, take, drop}
+use Rattle.std.specs.Prelude.{◌≡◌, ℕ, ◌+◌, ◌*◌, ◌^◌, ◌≤◌, max, true, false, List, ◌++◌, length, take, drop}
 use Rattle.envy_base.specs.Map.{words_of}
 use Rattle.envy_base.specs.State.{State}
 use Rattle.envy_base.specs.declared.shape.Shape.{Shape}

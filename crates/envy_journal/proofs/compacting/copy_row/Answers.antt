@@ -1,8 +1,8 @@
-use Rattle.std.proofs.Common.{◌≡◌, ◌+◌, ◌*◌, ◌∷◌, [], true, length, List, ℕ, sym, ap, subst, ◌∙◌, arith, rules, length-append}
+use Rattle.std.proofs.Common.{◌≡◌, ◌+◌, ◌*◌, ◌∷◌, [], true, length, List, ℕ, sym, ap, subst, ◌∙◌, arith, rules}
 use Rattle.envy_base.specs.Map.{words_of}
 use Rattle.envy_base.specs.State.{IsPage, ones}
 use Rattle.envy_journal.specs.declared.operation.Operation.TheVariants.{Program}
-use Rattle.envy_journal.specs.Reading.{Leads, number_bytes, word_bytes}
+use Rattle.envy_journal.specs.Reading.{Leads}
 use Rattle.envy_journal.specs.Snapshot.{Makes, gathered, with_rows}
 use Rattle.envy_journal.proofs.Copied.{row_programmed, row_erased}
 use Rattle.envy_journal.proofs.Gathered.{makes_as, makes_more, ok_goes}
@@ -31,5 +31,5 @@ returns-clause-makes g c =
     let leads = subst (λ (l : List ℕ). Leads true 0 l (Program q page ∷ []) true) (sym c.program_bytes.ensures) (program_read q page (search rules) is_page) in
     let long : length c.program_bytes.result ≡ 261 = ap length c.program_bytes.ensures ∙ program_long q page is_page in
     ok_goes c.append_second.result c.append_second.ensures.gathered (λ now.
-        subst (λ (l : List ℕ). Makes s.shape (with_rows s (q + 1)) (most + 261 * (q + 1)) l) (sym now)
-        (makes_more s.shape (with_rows s q) (most + 261 * q) bytes c.requires.makes (Program q page) c.program_bytes.result (with_rows s (q + 1)) (most + 261 * (q + 1)) leads (row_programmed s board q c.requires.row page c.page_in-page.ensures) (omega (arith, long))))
+    subst (λ (l : List ℕ). Makes s.shape (with_rows s (q + 1)) (most + 261 * (q + 1)) l) (sym now)
+    (makes_more s.shape (with_rows s q) (most + 261 * q) bytes c.requires.makes (Program q page) c.program_bytes.result (with_rows s (q + 1)) (most + 261 * (q + 1)) leads (row_programmed s board q c.requires.row page c.page_in-page.ensures) (omega (arith, long))))

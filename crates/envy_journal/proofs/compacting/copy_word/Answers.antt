@@ -25,5 +25,5 @@ returns-clause-makes g c =
     let leads = subst (λ (l : List ℕ). Leads true 0 l (Put w v ∷ []) true) (sym c.put_bytes.ensures) (put_read w v (search rules) (search rules)) in
     let long : length c.put_bytes.result ≡ 13 = ap length c.put_bytes.ensures in
     ok_goes c.append_second.result c.append_second.ensures.gathered (λ now.
-        subst (λ (l : List ℕ). Makes s.shape (with_words s (w + 1)) (34 + 13 * (w + 1)) l) (sym now)
-        (makes_more s.shape (with_words s w) (34 + 13 * w) bytes c.requires.makes (Put w v) c.put_bytes.result (with_words s (w + 1)) (34 + 13 * (w + 1)) leads (word_put s board w c.requires.word v c.word_of-v.ensures) (omega (arith, long))))
+    subst (λ (l : List ℕ). Makes s.shape (with_words s (w + 1)) (34 + 13 * (w + 1)) l) (sym now)
+    (makes_more s.shape (with_words s w) (34 + 13 * w) bytes c.requires.makes (Put w v) c.put_bytes.result (with_words s (w + 1)) (34 + 13 * (w + 1)) leads (word_put s board w c.requires.word v c.word_of-v.ensures) (omega (arith, long))))

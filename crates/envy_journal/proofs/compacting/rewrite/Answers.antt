@@ -1,4 +1,4 @@
-use Rattle.std.proofs.Common.{◌≡◌, ◌⊎◌, ◌∙◌, ◌+◌, ◌-◌, ◌∷◌, ◌++◌, [], false, length, take, ℕ, List, sym, ap, subst, arith}
+use Rattle.std.proofs.Common.{◌≡◌, ◌∙◌, ◌-◌, ◌∷◌, ◌++◌, [], false, take, ℕ, sym, ap, subst, arith}
 use Rattle.envy_journal.specs.Journal.{IsFileOf}
 use Rattle.envy_journal.specs.Reading.{operations, Leads}
 use Rattle.envy_journal.specs.Snapshot.{gathered, most_of}
@@ -14,15 +14,15 @@ returns-clause-rest g c =
     let is = c.in_ok-replace.ensures in
     let makes = c.in_ok-gather.ensures.makes in
     let most = most_of s.shape - 2 in (
-        record {
-          file = replaced_end s most bytes file makes is.file.0 ∙ ap (λ (n : ℕ). take n file ++ 0 ∷ []) (sym is.gate.0);
-          size = omega (arith, replaced_size s most bytes file makes is.file.0, is.gate.0);
-          durable = is.durable;
-          synced_now = is.synced;
-        },
-        is.gate.1,
-        is.file.1,
-      )
+      record {
+        file = replaced_end s most bytes file makes is.file.0 ∙ ap (λ (n : ℕ). take n file ++ 0 ∷ []) (sym is.gate.0);
+        size = omega (arith, replaced_size s most bytes file makes is.file.0, is.gate.0);
+        durable = is.durable;
+        synced_now = is.synced;
+      },
+      is.gate.1,
+      is.file.1,
+    )
 
 pub returns-clause-leads : goal.returns-clause-leads
 returns-clause-leads g c =

@@ -1,5 +1,5 @@
 use Rattle.std.proofs.Common.{◌≡◌, ◌⊎◌, ◌∙◌, ◌∷◌, ◌++◌, [], inl, inr, ⊎_elim, ℕ, List, sym, ap, subst}
-use Rattle.envy_journal.specs.Head.{IsUnmade, IsNewOrUnmade, StandsFor, head_bytes}
+use Rattle.envy_journal.specs.Head.{IsNewOrUnmade, StandsFor, head_bytes}
 use Rattle.envy_journal.proofs.Moments.{widened}
 use Rattle.envy_journal.proofs.Opened.{made_new}
 use Rattle.envy_journal.proofs.Untouched.{untouched_call, untouched_both, replaced, then_replaced}
@@ -19,10 +19,10 @@ returns-in_err-replace-clause-any_moment g c =
     let file = g.D.Place.second b in
     let is : file ≡ head_bytes sh ++ 0 ∷ [] = c.in_ok-write_second.ensures.written ∙ ap (λ (l : List ℕ). l ++ c.with_gate.result) c.in_ok-begin_second.ensures.begun ∙ c.with_gate.ensures in
     let quiet = untouched_both leave moment left first a b (untouched_call leave moment left first a (only_now first) c.begin_second.ensures.crash c.begin_second.ensures.time)
-        (untouched_call leave moment left a b (only_now a) c.write_second.ensures.crash c.write_second.ensures.time) in
+    (untouched_call leave moment left a b (only_now a) c.write_second.ensures.crash c.write_second.ensures.time) in
     widened moment left first d (λ x. leave first x ⊎ StandsFor sh [] x) (IsNewOrUnmade sh)
     (then_replaced leave moment left first b d (λ x. x ≡ file) (StandsFor sh []) quiet (replaced leave moment left b d file (only_now b) c.replace.ensures.crash c.replace.ensures.time)
-        (λ x now. subst (λ (l : List ℕ). StandsFor sh [] l) (sym (now ∙ is)) (made_new sh)))
+    (λ x now. subst (λ (l : List ℕ). StandsFor sh [] l) (sym (now ∙ is)) (made_new sh)))
     (λ x was. ⊎_elim (λ before. inl (c.requires.durable x before ∙ c.requires.unmade)) (λ made. inr made) was)
 
 pub returns-clause-any_moment : goal.returns-clause-any_moment
@@ -39,8 +39,8 @@ returns-clause-any_moment g c =
     let file = g.D.Place.second b in
     let is : file ≡ head_bytes sh ++ 0 ∷ [] = c.in_ok-write_second.ensures.written ∙ ap (λ (l : List ℕ). l ++ c.with_gate.result) c.in_ok-begin_second.ensures.begun ∙ c.with_gate.ensures in
     let quiet = untouched_both leave moment left first a b (untouched_call leave moment left first a (only_now first) c.begin_second.ensures.crash c.begin_second.ensures.time)
-        (untouched_call leave moment left a b (only_now a) c.write_second.ensures.crash c.write_second.ensures.time) in
+    (untouched_call leave moment left a b (only_now a) c.write_second.ensures.crash c.write_second.ensures.time) in
     widened moment left first d (λ x. leave first x ⊎ StandsFor sh [] x) (IsNewOrUnmade sh)
     (then_replaced leave moment left first b d (λ x. x ≡ file) (StandsFor sh []) quiet (replaced leave moment left b d file (only_now b) c.replace.ensures.crash c.replace.ensures.time)
-        (λ x now. subst (λ (l : List ℕ). StandsFor sh [] l) (sym (now ∙ is)) (made_new sh)))
+    (λ x now. subst (λ (l : List ℕ). StandsFor sh [] l) (sym (now ∙ is)) (made_new sh)))
     (λ x was. ⊎_elim (λ before. inl (c.requires.durable x before ∙ c.requires.unmade)) (λ made. inr made) was)
