@@ -152,7 +152,7 @@ impl<'a> Folder<&'a Slow> for &'a Slow {
 }
 
 // A file that fails at one call.
-fn slow(fails_at: u32) -> Slow {
+fn failing_at(fails_at: u32) -> Slow {
     Slow {
         fails_at,
         calls: Cell::new(0),
@@ -176,7 +176,7 @@ fn a_write_goes_on_and_a_failure_ends_the_file(rt: HostRuntime) -> Result<(), Fa
         (8, 7),
     ];
     for (fails_at, next) in table {
-        let slow = slow(fails_at);
+        let slow = failing_at(fails_at);
         let mut file = HostFile::found(&slow, &slow, &[]);
         let wrote = file.write_at(0, b"1234567").is_ok();
         let synced = file.sync().is_ok();
@@ -206,7 +206,7 @@ fn a_failure_at_any_call_on_the_second_file_ends_the_file(rt: HostRuntime) -> Re
         (8, 4),
     ];
     for (fails_at, passed) in table {
-        let slow = slow(fails_at);
+        let slow = failing_at(fails_at);
         let mut file = HostFile::found(&slow, &slow, &[]);
         let begun = file.begin_second().is_ok();
         let wrote = file.write_second(b"123").is_ok();
