@@ -7,6 +7,7 @@ use mir.Syntax.{named}
 use base.Fml.{Fml, ftrue}
 use Rattle.std.specs.contracts.option.Option as option
 use Rattle.envy_cells.specs.contracts.owned.CellBoard as cell_board
+use Rattle.envy_cells.specs.contracts.owned.CellBoardBoard.TheImpl as cells
 use Rattle.envy_cells.specs.contracts.steady.CellBoardSteady.TheImpl as steady
 use Rattle.envy_portfile.specs.contracts.port.FilePort as file_port
 use Rattle.envy_portfile.specs.contracts.port.FilePortRawFile.TheImpl as raw
@@ -20,8 +21,11 @@ use Rattle.envy_memory.specs.contracts.memory.Memory as memory
 abbrev pub file_row : RattleType
 file_row = recorded.the_row file_port.the_row
 
+abbrev pub board_row : RattleType
+board_row = kept.the_row cell_board.the_row file_row cells.ghosts (device.ghosts file_port.the_row raw.ghosts raw.dict)
+
 abbrev pub memory_row : RattleType
-memory_row = memory.the_row (kept.the_row cell_board.the_row file_row steady.ghosts (device.ghosts raw.ghosts)) (board.ghosts steady.ghosts (device.ghosts raw.ghosts))
+memory_row = memory.the_row board_row (board.ghosts cell_board.the_row file_row steady.ghosts steady.dict cells.ghosts cells.dict (device.ghosts file_port.the_row raw.ghosts raw.dict) (device.dict file_port.the_row raw.ghosts raw.dict))
 
 abbrev pub slot_row : RattleType
 slot_row = option.the_row memory_row

@@ -10,5 +10,7 @@
 
 mod order;
 mod port;
+#[cfg(test)]
+mod tests;
 
 pub use port::{FilePort, PortFile};

@@ -11,6 +11,8 @@ mod made;
 mod raw;
 mod record;
 mod recorded;
+#[cfg(test)]
+mod tests;
 
 pub use made::Made;
 pub use raw::RawFile;
