@@ -190,8 +190,8 @@ fn a_write_goes_on_and_a_failure_ends_the_file(rt: HostRuntime) -> Result<(), Fa
     Ok(())
 }
 
-// The second file is made, 3 bytes are 2 pieces, 2 bytes are one behind an interruption or not, and then the file is
-// synced, renamed, and the folder is synced.
+// The second file is made, 3 bytes are 2 pieces with an interruption between, 2 bytes are one, and then the file is synced
+// and renamed, and the folder is synced.
 #[test]
 fn a_failure_at_any_call_on_the_second_file_ends_the_file(rt: HostRuntime) -> Result<(), Fail> {
     let table = [
@@ -203,7 +203,7 @@ fn a_failure_at_any_call_on_the_second_file_ends_the_file(rt: HostRuntime) -> Re
         (5, 3),
         (6, 3),
         (7, 3),
-        (8, 4),
+        (9, 4),
     ];
     for (fails_at, passed) in table {
         let slow = failing_at(fails_at);
