@@ -1,6 +1,6 @@
 -- What the first bytes of a file tell.
-use Rattle.std.proofs.Common.{◌≡◌, ◌≢◌, ◌∙◌, inl, inr, sym, ℕ, zero, suc, ◌<◌, ◌≤◌, Bool, false, List, [], ◌∷◌, length, get_or, drop, ap, refl, arith}
-use Rattle.std.proofs.lemmas.Bool.{cases_lt}
+use Rattle.std.proofs.Common.{◌≡◌, ◌≢◌, ◌∙◌, inl, inr, ℕ, zero, suc, ◌≤◌, Bool, true, false, ◌==◌, List, [], ◌∷◌, length, get_or, drop, ap, refl, arith}
+use Rattle.std.proofs.lemmas.Bool.{cases_lt, eqb-true}
 use Rattle.std.proofs.lemmas.Bool.Decides.{nat_tests}
 use Rattle.std.proofs.lemmas.List.{drop_more, drop_all, get_or_past}
 use Rattle.envy_journal.specs.Reading.{operations, reading}
@@ -27,4 +27,8 @@ nothing-done file long closed = elim (cases_lt 33 (length file)) [
 ]
 
 pub head-alone : (file : List ℕ) → length file ≤ 33 → get_or file 33 0 ≢ 4
-head-alone file few is = let none : get_or file 33 0 ≡ 0 = get_or_past file 33 0 few in let no : 0 ≡ 4 = sym none ∙ is in cc
+head-alone file few is = let none : get_or file 33 0 ≡ 0 = get_or_past file 33 0 few in omega (arith, none, is)
+
+pub is-empty : (file : List ℕ) → (length file == 0) ≡ true → file ≡ []
+is-empty [] e = refl
+is-empty (byte ∷ rest) e = let none : length (byte ∷ rest) ≡ 0 = eqb-true (length (byte ∷ rest)) 0 e in absurd (omega arith)
