@@ -1,5 +1,5 @@
 -- What opening answers over a file that holds these bytes.
-use Rattle.std.specs.Prelude.{◌≡◌, ◌≢◌, ◌⊎◌, ⊤, ℕ, ◌+◌, ◌*◌, List, Option, None, Some, Ok}
+use Rattle.std.specs.Prelude.{◌≡◌, ◌≢◌, ◌⊎◌, ⊤, ℕ, ◌+◌, ◌*◌, false, List, Option, None, Some, Ok}
 use Rattle.envy_args.specs.declared.keep.KeepOptions.{KeepOptions}
 use Rattle.envy_base.specs.Array.{Array}
 use Rattle.envy_base.specs.Map.{words_of}
@@ -36,6 +36,7 @@ options_of setup = record {
   policy = setup.policy;
   limit = setup.limit;
   mark = Some setup.mark;
+  compact = false;
 }
 
 -- A memory began in a file. By what the file holds (no journal yet; one in which nothing was done; one that was written)

@@ -35,6 +35,7 @@ fn options(setup: &Setup) -> KeepOptions
         policy: setup.policy,
         limit: setup.limit,
         mark: Some(setup.mark),
+        compact: false,
     }
 }
 
