@@ -33,7 +33,11 @@ fn a_file_is_locked_written_synced_and_read_again(rt: HostRuntime) -> Result<(),
 fn a_second_file_takes_the_place(rt: HostRuntime) -> Result<(), Fail> {
     let path = "envy_hostfile_second";
     let _ = fs::remove_file(&rt, path);
-    fs::write(&rt, "envy_hostfile_second.envy-new", b"left behind by a crash")?;
+    fs::write(
+        &rt,
+        "envy_hostfile_second.envy-new",
+        b"left behind by a crash",
+    )?;
     let (mut file, _) = open(&rt, path)?;
     file.write_at(0, b"first")?;
     file.sync()?;
