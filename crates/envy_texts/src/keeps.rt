@@ -23,10 +23,11 @@ const USUAL: KeepOptions = KeepOptions {
     policy: Policy::Greedy,
     limit: 100,
     mark: None,
+    compact: false,
 };
 
 // These words are in the form. A size that is given is named, also where it is the usual one or breaks a rule.
-const FORMS: [Row; 10] = [
+const FORMS: [Row; 12] = [
     ("--file a", "a", USUAL),
     ("--file=a --", "a", USUAL),
     ("--file=a=b", "a=b", USUAL),
@@ -85,6 +86,15 @@ const FORMS: [Row; 10] = [
             ..USUAL
         },
     ),
+    ("--file a --compact 0", "a", USUAL),
+    (
+        "--compact=01 --file a",
+        "a",
+        KeepOptions {
+            compact: true,
+            ..USUAL
+        },
+    ),
     (
         "--limit 18446744073709551615 --file a",
         "a",
@@ -96,7 +106,7 @@ const FORMS: [Row; 10] = [
 ];
 
 // None of these is.
-const OTHERS: [&str; 17] = [
+const OTHERS: [&str; 19] = [
     "",
     "a",
     "keep --file a",
@@ -111,6 +121,8 @@ const OTHERS: [&str; 17] = [
     "--file a b",
     "--file a --lives 3",
     "--file a --rows ten",
+    "--file a --compact 2",
+    "--file a --compact yes",
     "--file a --policy lru",
     "--file a --mark 4294967296",
     "--File a",
