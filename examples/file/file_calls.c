@@ -11,8 +11,13 @@
          done           all that it should
          lost           nothing; and what wasn't synced before is lost
          short          a write writes half of its bytes, and tells so, which is no failure
-         interrupted    nothing, and errno is EINTR; the next such call is made */
+         interrupted    nothing, and errno is EINTR; the next such call is made
+
+   Where it isn't given a path it counts nothing, and each sync of a file takes so many microseconds more:
+
+     FILE_CALLS_WAIT */
 #define _GNU_SOURCE
+#include <dirent.h>
 #include <errno.h>
 #include <fcntl.h>
 #include <limits.h>
@@ -25,6 +30,7 @@
 #include <sys/stat.h>
 #include <sys/syscall.h>
 #include <sys/uio.h>
+#include <time.h>
 #include <unistd.h>
 
 /* What is counted, as the reader of the counts sees it. */
@@ -40,6 +46,7 @@ static struct counts {
 } none, *counts = &none;
 
 static char path[PATH_MAX], folder[PATH_MAX];
+static long wait_us;
 static uint64_t fails_at;
 static int error_number;
 static enum { NONE, HALF, DONE, LOST, SHORT, INTERRUPTED } how;
@@ -52,7 +59,8 @@ static int plain_open(int folder_fd, const char *name, int flags, mode_t mode) {
 
 __attribute__((constructor)) static void start(void) {
     static const char *const names[] = {"none", "half", "done", "lost", "short", "interrupted"};
-    const char *file = getenv("FILE_CALLS_PATH"), *into = getenv("FILE_CALLS_COUNTS"), *said;
+    const char *file = getenv("FILE_CALLS_PATH"), *into = getenv("FILE_CALLS_COUNTS"), *said = getenv("FILE_CALLS_WAIT");
+    if (said && !file) wait_us = atol(said);
     if (!file || !into || strlen(file) >= sizeof path) return;
     strcpy(path, file);
     strcpy(folder, file);
@@ -98,7 +106,8 @@ typedef struct image {
     off_t size;
 } image;
 static image *images;
-static char replaced[PATH_MAX]; /* a second name of the file that a rename took the name of; empty where there is none */
+/* The last rename that isn't on the disk yet: the name that it took away, and a second name of the file that it replaced. */
+static char renamed[PATH_MAX], replaced[PATH_MAX];
 
 static image *image_of(int fd) {
     struct stat state;
@@ -135,15 +144,18 @@ static void lose(const char *name) {
 }
 
 static void lose_all(void) {
-    char new_name[PATH_MAX + 16];
-    snprintf(new_name, sizeof new_name, "%s.envy-new", path);
     if (*replaced) {
-        syscall(SYS_rename, path, new_name);
+        syscall(SYS_rename, path, renamed);
         syscall(SYS_rename, replaced, path);
         *replaced = 0;
     }
-    lose(path);
-    lose(new_name);
+    DIR *names = opendir(folder);
+    for (struct dirent *one; names && (one = readdir(names));) {
+        char name[PATH_MAX + sizeof one->d_name];
+        snprintf(name, sizeof name, "%s/%s", folder, one->d_name);
+        if (is_ours(name)) lose(name);
+    }
+    closedir(names);
 }
 
 /* Whether a call is the one that fails. */
@@ -162,6 +174,21 @@ static int fail(void) {
 
 /* ---- the calls */
 
+/* A sync that took no time takes some. */
+static void wait_for_disk(void) {
+    if (!wait_us) return;
+    struct timespec end;
+    clock_gettime(CLOCK_MONOTONIC, &end);
+    end.tv_nsec += 1000 * wait_us;
+    end.tv_sec += end.tv_nsec / 1000000000;
+    end.tv_nsec %= 1000000000;
+    while (clock_nanosleep(CLOCK_MONOTONIC, TIMER_ABSTIME, &end, NULL) == EINTR) {}
+}
+
+static void wait_for_write(int fd) {
+    if (wait_us && fcntl(fd, F_GETFL) & O_DSYNC) wait_for_disk();
+}
+
 static ssize_t written(ssize_t size) {
     if (size > 0) counts->bytes += (uint64_t)size;
     return size;
@@ -172,6 +199,7 @@ static ssize_t plain_write(int fd, const void *bytes, size_t size, off_t at, int
 }
 
 static ssize_t any_write(int fd, const void *bytes, size_t size, off_t at, int is_at) {
+    wait_for_write(fd);
     if (!is_watched(fd, 0)) return plain_write(fd, bytes, size, at, is_at);
     counts->writes++;
     if (fcntl(fd, F_GETFL) & O_DSYNC) counts->syncs++;
@@ -187,6 +215,7 @@ ssize_t pwrite64(int fd, const void *bytes, size_t size, off64_t at) { return an
 
 /* Calls with several pieces fail whole. */
 static ssize_t any_writev(int fd, const struct iovec *pieces, int n, off_t at, int is_at) {
+    wait_for_write(fd);
     if (is_watched(fd, 0)) {
         counts->writes++;
         if (fcntl(fd, F_GETFL) & O_DSYNC) counts->syncs++;
@@ -201,6 +230,7 @@ ssize_t pwritev(int fd, const struct iovec *pieces, int n, off_t at) { return an
 ssize_t pwritev64(int fd, const struct iovec *pieces, int n, off64_t at) { return any_writev(fd, pieces, n, at, 1); }
 
 static int any_sync(int fd, long call) {
+    wait_for_disk();
     if (!is_watched(fd, 1)) return (int)syscall(call, fd);
     counts->syncs++;
     int is_failure = fails();
@@ -262,7 +292,8 @@ int renameat2(int from, const char *old_name, int to, const char *new_name, unsi
     int is_failure = fails();
     if (is_failure && how != DONE && how != SHORT && how != HALF) return fail();
     if (how == LOST && !*replaced) {
-        snprintf(replaced, sizeof replaced, "%.4000s.replaced", path);
+        snprintf(replaced, sizeof replaced, "%.4000s/.replaced", folder);
+        snprintf(renamed, sizeof renamed, "%s", old_name);
         unlink(replaced);
         if (link(path, replaced)) *replaced = 0;
     }
