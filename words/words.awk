@@ -132,7 +132,7 @@ function check_value(option, value,    bound) {
         return
     }
     if (value !~ /^[0-9]+$/) mistake("--" option ": " (value == "" ? "nothing" : value) " is no number", 1)
-    bound = kind_of[option] == 64 ? "18446744073709551615" : "4294967295"
+    bound = kind_of[option] == 64 ? "18446744073709551615" : kind_of[option] == 1 ? "1" : "4294967295"
     if (above(value, bound)) mistake("--" option ": " value " is above " bound, 1)
     split(range[option], ends, " to ")
     if (out_of_range == "" && (above(ends[1], value) || above(value, ends[2])))

@@ -8,7 +8,7 @@ ghost use Rattle.envy_hostfile.specs.declared.opening.OpenFault.TheVariants.{Unr
 use crate::streams::{AskedSource, HeldSink, StdSink, StdSource};
 use crate::{NO_MEMORY, WRITE_FAULT};
 use envy_args::{KeepWords, WordsFault, read_keep};
-use envy_hostfile::{HostFile, OpenFault, open};
+use envy_hostfile::{HostFile, Names, OpenFault, open};
 use envy_io::{Failed, Sink};
 use envy_keep::{KeepEnded, keep};
 use envy_streams::{BufferedSink, BufferedSource, NoMemory};
@@ -84,7 +84,7 @@ fn handed_on(told: Told, handing: Result<(), Failed>) -> Told
 fn serve_file(
     rt: &HostRuntime,
     said: &KeepWords<'_>,
-    device: HostFile<File>,
+    device: HostFile<File, Names<'_>>,
     bytes: &[u8],
 ) -> Result<Told, NoMemory>
     requires bytes { host_bytes device ≡ bytes.now }

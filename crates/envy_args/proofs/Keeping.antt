@@ -1,12 +1,16 @@
 -- The words behind `keep`, and what they name.
 use Rattle.std.proofs.Common.{◌≡◌, ◌∙◌, Bool, true, false, ◌&&◌, ap, sym, refl, List, Option, Some, None, Ok, Err, codes, option_and_then, if◌then◌else◌, true≢false}
 use Rattle.std.specs.Option.{option_map_or}
-use Rattle.std.proofs.lemmas.Bool.{and_from, false_from_ne_true}
+use Rattle.std.proofs.lemmas.Bool.{and_from, and_right, false_from_ne_true}
 use Rattle.envy_args.specs.declared.command.WordsFault.TheVariants.{Form}
 use Rattle.envy_args.specs.Words.{Options, Text, accepted, are_known, have_values, is_path, is_value, options_in, plain_options, value_of}
 use Rattle.envy_args.specs.Reading.{are_readable, is_readable}
-use Rattle.envy_args.specs.Keep.{at_path, keep_names, keep_of, keep_options_of, keeping}
+use Rattle.envy_args.specs.Keep.{at_path, beside_file, keep_names, keep_of, keep_options_of, keeping}
 use Rattle.envy_args.proofs.Valued.{all-readable, have-values}
+
+-- an option of `plain` that can't be read
+pub beside : (o : Options) → are_readable plain_options o ≡ false → are_readable beside_file o ≡ false
+beside o e = and_right (is_readable o (codes "compact")) _ e
 
 pub unread : (words : List Text) → accepted keep_names words ≡ None → keep_of words ≡ Err Form
 unfolding keep_of
@@ -30,8 +34,8 @@ module _ (words : List Text) (o : Options) (read : options_in words None ≡ Som
   unvalued : have_values o ≡ false → keep_of words ≡ Err Form
   unvalued e = by-values false e
 
-  pub no-options : are_readable plain_options o ≡ false → keep_of words ≡ Err Form
-  no-options e = unvalued (false_from_ne_true (have_values o) (λ valued. true≢false (sym (all-readable plain_options o valued) ∙ e)))
+  pub no-options : are_readable beside_file o ≡ false → keep_of words ≡ Err Form
+  no-options e = unvalued (false_from_ne_true (have_values o) (λ valued. true≢false (sym (all-readable beside_file o valued) ∙ e)))
 
   pub no-path : option_map_or is_path (value_of o (codes "file")) false ≡ false → keep_of words ≡ Err Form
   no-path e = go file refl e
@@ -44,9 +48,9 @@ module _ (words : List Text) (o : Options) (read : options_in words None ≡ Som
       go None is bad = none (have_values o) is (by-values (have_values o) refl)
       go (Some text) is bad =
           let unread : is_readable o (codes "file") ≡ false = ap (λ (v : Option Text). option_map_or (is_value (codes "file")) v true) is ∙ bad in
-          unvalued (false_from_ne_true (have_values o) (λ valued. true≢false (sym (all-readable keep_names o valued) ∙ ap (λ b. b && are_readable plain_options o) unread)))
+          unvalued (false_from_ne_true (have_values o) (λ valued. true≢false (sym (all-readable keep_names o valued) ∙ ap (λ b. b && are_readable beside_file o) unread)))
 
-  pub named : (path : Text) → value_of o (codes "file") ≡ Some path → is_path path ≡ true → are_readable plain_options o ≡ true → keep_of words ≡ Ok (path, keep_options_of o)
+  pub named : (path : Text) → value_of o (codes "file") ≡ Some path → is_path path ≡ true → are_readable beside_file o ≡ true → keep_of words ≡ Ok (path, keep_options_of o)
   named path is good plain =
       let readable : is_readable o (codes "file") ≡ true = ap (λ (v : Option Text). option_map_or (is_value (codes "file")) v true) is ∙ good in
       by-values true (have-values keep_names o known (and_from (is_readable o (codes "file")) _ readable plain))

@@ -1,5 +1,5 @@
 -- Which memory in a file the words behind `keep` name.
-use Rattle.std.specs.Prelude.{List, ◌∷◌, codes, Option, None, Some, unwrap_or, Result, Ok, Err}
+use Rattle.std.specs.Prelude.{◌==◌, List, ◌∷◌, codes, Option, None, Some, unwrap_or, Result, Ok, Err}
 use Rattle.std.specs.Option.{option_map_or}
 use Rattle.envy_base.specs.declared.shape.Shape.{Shape}
 use Rattle.envy_policy.specs.declared.setup.Setup.{Setup}
@@ -9,8 +9,11 @@ use Rattle.envy_args.specs.declared.keep.KeepOptions.{KeepOptions}
 use Rattle.envy_args.specs.declared.keep.Sizes.{Sizes}
 use Rattle.envy_args.specs.Words.{Options, Text, accepted, given_number, number_of, plain_options, policy_of, usual, value_of}
 
+abbrev pub beside_file : List Text
+beside_file = codes "compact" ∷ plain_options
+
 abbrev pub keep_names : List Text
-keep_names = codes "file" ∷ plain_options
+keep_names = codes "file" ∷ beside_file
 
 -- a size that isn't given isn't named
 abbrev pub sizes_of : Options → Sizes
@@ -29,6 +32,7 @@ keep_options_of options = record {
   policy = policy_of options;
   limit = number_of options (codes "limit") 100;
   mark = given_number options (codes "mark");
+  compact = number_of options (codes "compact") 0 == 1;
 }
 
 -- a path is needed

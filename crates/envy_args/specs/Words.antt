@@ -80,7 +80,9 @@ policy_named part text =
     else (if bytes_eq text (codes "lifetime") then Some Lifetime else None))))
 
 abbrev pub bits_of : Text → ℕ
-bits_of name = if bytes_eq name (codes "limit") || bytes_eq name (codes "start") then 64 else 32
+bits_of name =
+    if bytes_eq name (codes "limit") || bytes_eq name (codes "start") then 64
+    else (if bytes_eq name (codes "compact") then 1 else 32)
 
 -- a path: it isn't empty, and doesn't begin with `-`
 abbrev pub is_path : Text → Bool

@@ -2,9 +2,8 @@
 
 ghost use Rattle.std.specs.Prelude.{◌≡◌, ◌⊎◌, map, Ok, Err, IfOk, IfErr};
 ghost use Rattle.std.specs.String.{string_bytes};
-ghost use Rattle.envy_args.specs.Keep.{keep_of, keep_options_of, new_shape, setup_over, shape_named, sizes_of};
+ghost use Rattle.envy_args.specs.Keep.{beside_file, keep_of, keep_options_of, new_shape, setup_over, shape_named, sizes_of};
 ghost use Rattle.envy_args.specs.Reading.{GivesIf, are_readable, shape_options};
-ghost use Rattle.envy_args.specs.Words.{plain_options};
 
 use crate::command::WordsFault;
 use crate::options::Options;
@@ -32,6 +31,8 @@ pub struct KeepOptions {
     pub limit: u64,
     /// Of None the number of frames stands.
     pub mark: Option<u32>,
+    /// Whether a journal that is there is compacted before it is served.
+    pub compact: bool,
 }
 
 /// The words behind `keep`.
@@ -43,9 +44,9 @@ pub struct KeepWords<'a> {
 }
 
 /// The options of `keep`.
-const NAMES: [&str; 11] = [
-    "file", "segments", "rows", "pages", "shadows", "frames", "entries", "part", "policy", "limit",
-    "mark",
+const NAMES: [&str; 12] = [
+    "file", "compact", "segments", "rows", "pages", "shadows", "frames", "entries", "part", "policy",
+    "limit", "mark",
 ];
 
 impl Sizes {
@@ -85,8 +86,8 @@ impl KeepOptions {
     }
 }
 
-/// Reads the words behind `keep`. `--file` is needed, with a path that doesn't begin with `-`; beside it stand the options
-/// of `plain`, each at most once. `Form` where the words are others. No rule is asked: that waits for the file.
+/// Reads the words behind `keep`. `--file` is needed, with a path that doesn't begin with `-`; beside it stand `--compact`,
+/// of 0 or 1, and the options of `plain`, each at most once. `Form` where the words are others. No rule is asked: that waits for the file.
 pub fn read_keep(alloc: Global, words: &[String]) -> Result<KeepWords<'_>, WordsFault>
     ensures said { IfOk result (λ said. keep_of (map string_bytes words.now) ≡ Ok (said.file.now, said.options)) }
     ensures refused { IfErr result (λ fault. (fault ≡ WordsFault.Memory) ⊎ (keep_of (map string_bytes words.now) ≡ Err fault)) }
@@ -98,8 +99,9 @@ pub fn read_keep(alloc: Global, words: &[String]) -> Result<KeepWords<'_>, Words
 }
 
 fn keep_options(options: &Options) -> Result<KeepOptions, WordsFault>
-    ensures { GivesIf (are_readable plain_options options.now) (keep_options_of options.now) result }
+    ensures { GivesIf (are_readable beside_file options.now) (keep_options_of options.now) result }
 {
+    let compact = options.flag("compact")?;
     let sizes = named_sizes(options)?;
     let policy = options.policy()?;
     let limit = options.wide_number("limit", 100)?;
@@ -109,6 +111,7 @@ fn keep_options(options: &Options) -> Result<KeepOptions, WordsFault>
         policy,
         limit,
         mark,
+        compact,
     })
 }
 

@@ -1,4 +1,4 @@
-ghost use Rattle.std.specs.Prelude.{◌≡◌, ◌⊎◌, codes, map, None, Some, true, false, IfOk, IfErr, MatchResult};
+ghost use Rattle.std.specs.Prelude.{◌≡◌, ◌⊎◌, ◌==◌, codes, map, None, Some, true, false, IfOk, IfErr, MatchResult};
 ghost use Rattle.std.specs.Option.{option_map, option_map_or};
 ghost use Rattle.std.specs.String.{string_bytes};
 ghost use Rattle.clap.specs.Words.{app_of};
@@ -109,6 +109,17 @@ impl<'a> Options<'a> {
             Some(_) => Ok(Some(self.number(name, 0)?)),
             None => Ok(None),
         }
+    }
+
+    /// Whether an option is given 1, and not 0 or nothing. The fault is `Form`.
+    pub(crate) fn flag(&self, name: &str) -> Result<bool, WordsFault>
+        ensures { GivesIf (has_number 1 self.now name.now) (number_of self.now name.now 0 == 1) result }
+    {
+        let number = self.wide_number(name, 0)?;
+        if number > 1 {
+            return Err(WordsFault::Form);
+        }
+        Ok(number == 1)
     }
 
     /// The path that the option `file` is given. The fault is `Form`.

@@ -9,7 +9,7 @@ ghost use Rattle.envy_memory.specs.Formats.{IsStarted};
 
 use crate::unbegun::Unbegun;
 use envy_base::Off;
-use envy_device::Device;
+use envy_device::{Device, Place};
 use envy_journal::{OpenError, Steady, create};
 use envy_synced::Kept;
 use envy_memory::{FormatFault, Memory};
@@ -30,7 +30,7 @@ pub(crate) fn closed<B: Steady + Drop, D: Device>(kept: Kept<B, D>) -> (D, usize
 }
 
 // Brings a memory that was just made to the disk.
-fn sync_first<B: Steady + Drop, D: Device>(
+fn sync_first<B: Steady + Drop, D: Place>(
     mut memory: Memory<Kept<B, D>>,
     _setup: Setup,
 ) -> Result<Memory<Kept<B, D>>, (Unbegun, D)>
@@ -50,7 +50,7 @@ fn sync_first<B: Steady + Drop, D: Device>(
 }
 
 /// Makes a memory of zeros over a board that was just made or opened, and brings it to the disk.
-pub(crate) fn make_memory<B: Steady + Drop, D: Device>(
+pub(crate) fn make_memory<B: Steady + Drop, D: Place>(
     alloc: Global,
     kept: Kept<B, D>,
     setup: Setup,
@@ -69,9 +69,8 @@ pub(crate) fn make_memory<B: Steady + Drop, D: Device>(
     }
 }
 
-/// Makes a journal in a file that is empty, or in which making one was cut short, and a memory of zeros in it, which is on
-/// the disk then.
-pub fn begin_new<B: Steady + Drop, D: Device + Drop>(
+/// Makes a journal in an empty file, and a memory of zeros in it, which is on the disk then.
+pub fn begin_new<B: Steady + Drop, D: Place + Drop>(
     alloc: Global,
     board: B,
     device: D,

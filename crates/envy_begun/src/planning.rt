@@ -21,7 +21,7 @@ use envy_policy::Setup;
 /// What a file holds.
 #[derive(Clone, Copy, Debug, PartialEq, Eq)]
 pub enum Holding {
-    /// No journal yet.
+    /// Nothing: it is empty.
     Unmade,
     /// A journal in which nothing was done yet.
     Blank,
@@ -29,28 +29,18 @@ pub enum Holding {
     Written,
 }
 
-/// So many bytes a file has at most before a journal is made: a head and a gate.
-const UNMADE: usize = 34;
-
-/// The byte at the front of a journal that is made.
-const MADE: u8 = 1;
+/// How many bytes stand before the first gate of a journal.
+const HEAD: usize = 33;
 
 /// A gate that is open.
 const OPEN: u8 = 4;
-
-// Whether making a journal was cut short in a file, or wasn't begun.
-fn is_unmade(bytes: &[u8]) -> bool
-    ensures { IsTrue result ↔ IsUnmade bytes.now }
-{
-    bytes.len() < UNMADE || (bytes.len() == UNMADE && bytes[0] != MADE)
-}
 
 // What a journal holds: where its first gate isn't open nothing was done.
 fn holding_of(bytes: &[u8]) -> Holding
     requires { 34 ≤ length bytes.now }
     ensures { result ≡ Holding.Written ⊎ ((result ≡ Holding.Blank) × (operations bytes.now ≡ [])) }
 {
-    if bytes[UNMADE - 1] == OPEN {
+    if bytes[HEAD] == OPEN {
         Holding::Written
     } else {
         Holding::Blank
@@ -116,7 +106,7 @@ pub fn plan(options: &KeepOptions, bytes: &[u8]) -> Result<(Setup, Holding), Unb
     ensures shape { IfOk result (λ plan. IsShape plan.0.shape) }
     ensures refused { IfErr result (λ unbegun. Refuses options.now bytes.now unbegun) }
 {
-    if is_unmade(bytes) {
+    if bytes.is_empty() {
         let fresh = new_setup(options)?;
         return Ok((fresh, Holding::Unmade));
     }

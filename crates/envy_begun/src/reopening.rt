@@ -7,7 +7,8 @@ ghost use Rattle.envy_journal.specs.Content.{blank, content_of};
 ghost use Rattle.envy_journal.specs.Head.{head_bytes};
 ghost use Rattle.envy_journal.specs.Log.{Begins};
 ghost use Rattle.envy_journal.specs.Reading.{operations};
-ghost use Rattle.envy_begun.specs.Beginning.{HasBegun};
+ghost use Rattle.envy_base.specs.declared.shape.Shape.{Shape};
+ghost use Rattle.envy_begun.specs.Beginning.{HasBegun, IsStopped};
 ghost use Rattle.envy_begun.specs.Plans.{IsOpened};
 ghost use Rattle.envy_begun.specs.Opens.{OpensAs};
 ghost use Rattle.envy_begun.specs.Unserved.{Declines, unopened_as};
@@ -20,7 +21,9 @@ ghost use Rattle.envy_policy.specs.Setup.{checked};
 use crate::beginning::{ROOM, closed, make_memory};
 use crate::unbegun::Unbegun;
 use envy_calls::{Code, attach};
-use envy_device::Device;
+use envy_base::Off;
+use envy_device::{Device, Place};
+use envy_disk::OnDisk;
 use envy_journal::{OpenError, Steady, open};
 use envy_synced::Kept;
 use envy_memory::Memory;
@@ -70,8 +73,52 @@ fn opened<B: Steady + Drop, D: Device + Drop>(
     }
 }
 
+// Compacts the journal of a board, where that is asked for.
+fn compacted<B: Steady + Drop, D: Place>(
+    mut kept: Kept<B, D>,
+    compact: bool,
+) -> Result<Kept<B, D>, (Unbegun, D)>
+    requires synced { IsSynced (chart (⟦<Kept<B, D> as envy_base::Board>⟧.state kept)) }
+    ensures synced { IfOk result (λ after. IsSynced (chart (⟦<Kept<B, D> as envy_base::Board>⟧.state after))) }
+    ensures opened { IfOk result (λ after. (sh : Shape) (file : List ℕ) → IsOpened sh file (⟦<Kept<B, D> as envy_base::Board>⟧.state kept) → IsOpened sh file (⟦<Kept<B, D> as envy_base::Board>⟧.state after)) }
+    ensures failed { IfErr result (λ e. IsStopped D.seen D.has_failed e.0 e.1) }
+{
+    if !compact {
+        return Ok(kept);
+    }
+    match kept.compact() {
+        Ok(()) => Ok(kept),
+        Err(Off) => {
+            let (device, held) = closed(kept);
+            Err((Unbegun::Failed(held), device))
+        }
+    }
+}
+
+// Opens the journal that a file holds, and compacts it where that is asked for.
+fn opened_as_asked<B: Steady + Drop, D: Place + Drop>(
+    alloc: Global,
+    board: B,
+    device: D,
+    bytes: &[u8],
+    compact: bool,
+) -> Result<Kept<B, D>, (Unbegun, D)>
+    requires bytes { bytes.now ≡ D.seen device }
+    requires durable { Only (D.seen device) (D.may_leave device) }
+    requires blank { content_of (B.state board) ≡ blank (B.state board).shape }
+    requires head { Begins (head_bytes (B.state board).shape) bytes.now }
+    ensures synced { IfOk result (λ kept. IsSynced (chart (⟦<Kept<B, D> as envy_base::Board>⟧.state kept))) }
+    ensures opened { IfOk result (λ kept. IsOpened (B.state board).shape bytes.now (⟦<Kept<B, D> as envy_base::Board>⟧.state kept)) }
+    ensures failed { IfErr result (λ e. Declines D.seen D.has_failed (B.state board).shape bytes.now e.0 e.1) }
+{
+    match opened(alloc, board, device, bytes) {
+        Ok(kept) => compacted(kept, compact),
+        Err(unbegun) => Err(unbegun),
+    }
+}
+
 /// Opens a journal in which nothing was done yet, and makes a memory of zeros in it, which is on the disk then.
-pub(crate) fn begin_blank<B: Steady + Drop, D: Device + Drop>(
+pub(crate) fn begin_blank<B: Steady + Drop, D: Place + Drop>(
     alloc: Global,
     board: B,
     device: D,
@@ -93,14 +140,15 @@ pub(crate) fn begin_blank<B: Steady + Drop, D: Device + Drop>(
     make_memory(alloc, kept, setup)
 }
 
-/// Opens a journal, and attaches a memory, which stands for the words that the file's last sync left, transactions undone.
-/// Nothing that the file holds is trusted.
-pub fn begin_again<B: Steady + Drop, D: Device + Drop>(
+/// Opens a journal, compacts it where that is asked for, and attaches a memory, which stands for the words that the file's
+/// last sync left, transactions undone. Nothing that the file holds is trusted.
+pub fn begin_again<B: Steady + Drop, D: Place + Drop>(
     alloc: Global,
     board: B,
     device: D,
     bytes: &[u8],
     setup: Setup,
+    compact: bool,
 ) -> Result<Memory<Kept<B, D>>, (Unbegun, D)>
     requires bytes { bytes.now ≡ D.seen device }
     requires durable { Only (D.seen device) (D.may_leave device) }
@@ -111,7 +159,7 @@ pub fn begin_again<B: Steady + Drop, D: Device + Drop>(
     ensures begun { IfOk result (λ memory. (words : List ℕ) × OpensAs setup.shape words bytes.now × HasBegun setup (fresh setup.shape.shadows words) memory) }
     ensures failed { IfErr result (λ e. Declines D.seen D.has_failed setup.shape bytes.now e.0 e.1) }
 {
-    let kept = match opened(alloc, board, device, bytes) {
+    let kept = match opened_as_asked(alloc, board, device, bytes, compact) {
         Ok(kept) => kept,
         Err(unbegun) => return Err(unbegun),
     };

@@ -13,19 +13,20 @@ use crate::planning::Holding;
 use crate::reopening::{begin_again, begin_blank};
 use crate::unbegun::Unbegun;
 use envy_args::KeepOptions;
-use envy_device::Device;
+use envy_device::Place;
 use envy_journal::Steady;
 use envy_synced::Kept;
 use envy_memory::Memory;
 use envy_policy::Setup;
 use std::alloc::Global;
 
-/// The memory in a file, over a blank board of its sizes.
-pub fn begin<B: Steady + Drop, D: Device + Drop>(
+/// The memory in a file, over a blank board of its sizes. A journal that is there is compacted first, where the options
+/// say so.
+pub fn begin<B: Steady + Drop, D: Place + Drop>(
     alloc: Global,
     board: B,
     device: D,
-    _options: &KeepOptions,
+    options: &KeepOptions,
     bytes: &[u8],
     setup: Setup,
     holding: Holding,
@@ -34,14 +35,16 @@ pub fn begin<B: Steady + Drop, D: Device + Drop>(
     requires durable { Only (D.seen device) (D.may_leave device) }
     requires blank { content_of (B.state board) ≡ blank (B.state board).shape }
     requires shape { (B.state board).shape ≡ setup.shape }
-    requires plans { Plans holding _options.now bytes.now setup }
+    requires plans { Plans holding options.now bytes.now setup }
     requires checks { checked setup ≡ Ok tt }
     ensures begun { IfOk result (λ memory. (array : Array) × BeginsAs holding bytes.now setup array × HasBegun setup array memory) }
-    ensures failed { IfErr result (λ e. Causes D.seen D.has_failed _options.now bytes.now device e.1 e.0) }
+    ensures failed { IfErr result (λ e. Causes D.seen D.has_failed options.now bytes.now device e.1 e.0) }
 {
     match holding {
         Holding::Unmade => begin_new(alloc, board, device, setup),
         Holding::Blank => begin_blank(alloc, board, device, bytes, setup),
-        Holding::Written => begin_again(alloc, board, device, bytes, setup),
+        Holding::Written => {
+            begin_again(alloc, board, device, bytes, setup, options.compact)
+        }
     }
 }

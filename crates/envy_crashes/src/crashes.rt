@@ -16,19 +16,19 @@ const SHAPE: Shape = Shape {
     entries: 1,
 };
 
-// How many operations a session has, and after how many it syncs.
+// How many operations a session has, and after how many it syncs. Every other sync compacts.
 const SESSION: usize = 60;
 
 const SYNC_EACH: usize = 7;
 
 // How many calls of the device the longest session makes at most.
-const MOST_CALLS: usize = 100;
+const MOST_CALLS: usize = 130;
 
 // How many crashes are drawn of each session.
 const CRASHES: usize = 8;
 
 // How many bytes are held back between writes.
-const ROOM: usize = 300;
+const ROOM: usize = 800;
 
 type Opened<'a> = Result<Journaled<RegionBoard<'a>, TornFile>, (OpenError, TornFile)>;
 
@@ -96,9 +96,9 @@ fn found(alloc: Global, opened: Opened<'_>) -> Result<Found, Fail> {
     }
 }
 
-// Makes a journal in a file that is none yet, whose calls fail from one on.
+// Makes a journal in an empty file, whose calls fail from one on.
 fn made(rt: &impl Abort, alloc: Global, bytes: Vec<u8>, left: usize) -> Result<Found, Fail> {
-    assert!(rt; bytes.len() < 34 || (bytes.len() == 34 && bytes[0] != 1));
+    assert!(rt; bytes.is_empty());
     SHAPE.check()?;
     let mut cells = Cells::blank(alloc, &SHAPE)?;
     let file = TornFile::new(alloc, bytes, left)?;
@@ -174,7 +174,13 @@ fn run(rt: &impl Abort, alloc: Global, left: usize) -> Result<Session, Fail> {
         }
         if i % SYNC_EACH == SYNC_EACH - 1 {
             begun = i + 1;
-            if journal.sync().is_err() {
+            let is_compacted = i % (2 * SYNC_EACH) == SYNC_EACH - 1;
+            let done = if is_compacted {
+                journal.compact()
+            } else {
+                journal.sync()
+            };
+            if done.is_err() {
                 ended = false;
                 break;
             }

@@ -13,37 +13,55 @@ pub data Call : Type 0 where
   CutFailed : (size : ℕ) → Call
   Synced : Call
   SyncFailed : Call
+  -- a second file was made anew, written behind its end, and put in the place of the first
+  SecondBegun : Call
+  SecondBeginFailed : Call
+  SecondWrote : (bytes : List ℕ) → Call
+  SecondWriteFailed : Call
+  Replaced : Call
+  ReplaceFailed : Call
 
--- the bytes of a file that held these, after a call
-abbrev pub seen_by : Call → List ℕ → List ℕ
-seen_by (Found bytes) seen = bytes
-seen_by (Wrote at bytes) seen = take at seen ++ bytes ++ drop (at + length bytes) seen
-seen_by (WriteFailed at size) seen = seen
-seen_by (CutTo size) seen = take size seen
-seen_by (CutFailed size) seen = seen
-seen_by Synced seen = seen
-seen_by SyncFailed seen = seen
+-- the bytes of the second file, after a call
+abbrev pub second_by : Call → List ℕ → List ℕ
+second_by SecondBegun second = []
+second_by (SecondWrote bytes) second = second ++ bytes
+second_by other second = second
 
--- the bytes of a file after these calls
+-- the bytes of a file, where it held these and the second file those, after a call
+abbrev pub seen_by : Call → List ℕ → List ℕ → List ℕ
+seen_by (Found bytes) second seen = bytes
+seen_by (Wrote at bytes) second seen = take at seen ++ bytes ++ drop (at + length bytes) seen
+seen_by (CutTo size) second seen = take size seen
+seen_by Replaced second seen = second
+seen_by other second seen = seen
+
+-- the bytes of the second file and of the file after these calls
+abbrev pub second_after : List Call → List ℕ
+second_after [] = []
+second_after (call ∷ past) = second_by call (second_after past)
+
 abbrev pub seen_after : List Call → List ℕ
 seen_after [] = []
-seen_after (call ∷ past) = seen_by call (seen_after past)
+seen_after (call ∷ past) = seen_by call (second_after past) (seen_after past)
 
--- What a crash may leave after a call, where the file held these bytes and a crash before the call might have left d.
--- Until a sync each range that was written may hold anything; a sync that succeeded leaves what the file holds.
-abbrev pub Leaves : Call → List ℕ → List ℕ → List ℕ → Type 0
-Leaves (Found bytes) seen d e = e ≡ bytes
-Leaves (Wrote at bytes) seen d e = Torn at (length bytes) d e
-Leaves (WriteFailed at size) seen d e = Torn at size d e
-Leaves (CutTo size) seen d e = CutShort size d e
-Leaves (CutFailed size) seen d e = CutShort size d e
-Leaves Synced seen d e = (e ≡ seen) × (d ≡ e)
-Leaves SyncFailed seen d e = d ≡ e
+-- What a crash may leave after a call, where the second file and the file held these bytes, and a crash before the call
+-- might have left d. Until a sync each range that was written may hold anything; a sync that succeeded leaves what the
+-- file holds. A name that was to be given to the second file stands for either file, whole.
+abbrev pub Leaves : Call → List ℕ → List ℕ → List ℕ → List ℕ → Type 0
+Leaves (Found bytes) second seen d e = e ≡ bytes
+Leaves (Wrote at bytes) second seen d e = Torn at (length bytes) d e
+Leaves (WriteFailed at size) second seen d e = Torn at size d e
+Leaves (CutTo size) second seen d e = CutShort size d e
+Leaves (CutFailed size) second seen d e = CutShort size d e
+Leaves Synced second seen d e = (e ≡ seen) × (d ≡ e)
+Leaves Replaced second seen d e = e ≡ second
+Leaves ReplaceFailed second seen d e = d ≡ e ⊎ e ≡ second
+Leaves other second seen d e = d ≡ e
 
 -- what a crash may leave after these calls
 abbrev pub MayLeave : List Call → List ℕ → Type 0
 MayLeave [] c = c ≡ []
-MayLeave (call ∷ past) c = (d : List ℕ) × MayLeave past d × Leaves call (seen_after past) d c
+MayLeave (call ∷ past) c = (d : List ℕ) × MayLeave past d × Leaves call (second_after past) (seen_after past) d c
 
 -- what a crash after so many of the calls, or later, might have left
 abbrev pub LeftSince : List Call → ℕ → List ℕ → Type 0
@@ -53,12 +71,9 @@ LeftSince (call ∷ past) t c = MayLeave (call ∷ past) c ⊎ ((t ≤ length pa
 -- the file was on the disk when the call had ended
 abbrev pub is_sync : Call → Bool
 is_sync (Found bytes) = true
-is_sync (Wrote at bytes) = false
-is_sync (WriteFailed at size) = false
-is_sync (CutTo size) = false
-is_sync (CutFailed size) = false
 is_sync Synced = true
-is_sync SyncFailed = false
+is_sync Replaced = true
+is_sync other = false
 
 -- how many calls there were when the last sync had succeeded
 abbrev pub synced_at : List Call → ℕ
@@ -74,6 +89,12 @@ parts (CutTo size) = (3, (0, (size, [])))
 parts (CutFailed size) = (4, (0, (size, [])))
 parts Synced = (5, (0, (0, [])))
 parts SyncFailed = (6, (0, (0, [])))
+parts SecondBegun = (7, (0, (0, [])))
+parts SecondBeginFailed = (8, (0, (0, [])))
+parts (SecondWrote bytes) = (9, (0, (0, bytes)))
+parts SecondWriteFailed = (10, (0, (0, [])))
+parts Replaced = (11, (0, (0, [])))
+parts ReplaceFailed = (12, (0, (0, [])))
 
 abbrev pub whole : ℕ → ℕ → ℕ → List ℕ → Call
 whole kind at size bytes =
@@ -83,7 +104,13 @@ whole kind at size bytes =
     else (if kind == 3 then CutTo size
     else (if kind == 4 then CutFailed size
     else (if kind == 5 then Synced
-    else SyncFailed)))))
+    else (if kind == 6 then SyncFailed
+    else (if kind == 7 then SecondBegun
+    else (if kind == 8 then SecondBeginFailed
+    else (if kind == 9 then SecondWrote bytes
+    else (if kind == 10 then SecondWriteFailed
+    else (if kind == 11 then Replaced
+    else ReplaceFailed)))))))))))
 
 abbrev pub made_of : ℕ × (ℕ × (ℕ × List ℕ)) → Call
 made_of p = whole p.0 p.1.0 p.1.1.0 p.1.1.1
@@ -96,6 +123,12 @@ made_of_parts (CutTo size) = refl
 made_of_parts (CutFailed size) = refl
 made_of_parts Synced = refl
 made_of_parts SyncFailed = refl
+made_of_parts SecondBegun = refl
+made_of_parts SecondBeginFailed = refl
+made_of_parts (SecondWrote bytes) = refl
+made_of_parts SecondWriteFailed = refl
+made_of_parts Replaced = refl
+made_of_parts ReplaceFailed = refl
 
 abbrev pub coded_call : Coded Call
 coded_call = code_by (ℕ × (ℕ × (ℕ × List ℕ))) (coded× coded_ℕ (coded× coded_ℕ (coded× coded_ℕ (coded_list coded_ℕ)))) parts made_of made_of_parts

@@ -1,7 +1,7 @@
 -- A call as a record notes it.
 use Rattle.envy_hostfile.specs.declared.made.Made.{Made}
 use Rattle.envy_hostfile.specs.declared.made.Made.TheVariants as made
-use Rattle.envy_hostfile.specs.Calls.{Call, Found, Wrote, WriteFailed, CutTo, CutFailed, Synced, SyncFailed}
+use Rattle.envy_hostfile.specs.Calls.{Call, Found, Wrote, WriteFailed, CutTo, CutFailed, Synced, SyncFailed, SecondBegun, SecondBeginFailed, SecondWrote, SecondWriteFailed, Replaced, ReplaceFailed}
 
 abbrev pub call_of : Made → Call
 call_of (made.Found bytes) = Found bytes.now
@@ -11,3 +11,9 @@ call_of (made.CutTo size) = CutTo size
 call_of (made.CutFailed size) = CutFailed size
 call_of made.Synced = Synced
 call_of made.SyncFailed = SyncFailed
+call_of made.SecondBegun = SecondBegun
+call_of made.SecondBeginFailed = SecondBeginFailed
+call_of (made.SecondWrote bytes) = SecondWrote bytes.now
+call_of made.SecondWriteFailed = SecondWriteFailed
+call_of made.Replaced = Replaced
+call_of made.ReplaceFailed = ReplaceFailed

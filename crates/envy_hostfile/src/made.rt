@@ -15,4 +15,16 @@ pub enum Made<'a> {
     Synced,
     /// A sync failed. Any part of what was to be synced may be on the disk.
     SyncFailed,
+    /// A second file was made anew, with no bytes in it.
+    SecondBegun,
+    /// That failed.
+    SecondBeginFailed,
+    /// These bytes were written behind those of the second file.
+    SecondWrote { bytes: &'a [u8] },
+    /// That failed.
+    SecondWriteFailed,
+    /// The second file was synced, and then given the file's name, and the name was synced.
+    Replaced,
+    /// One of these failed. The name may stand for either file.
+    ReplaceFailed,
 }

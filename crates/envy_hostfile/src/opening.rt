@@ -2,7 +2,9 @@ ghost use Rattle.std.specs.Prelude.{◌≡◌, false, IfOk};
 ghost use Rattle.envy_device.specs.Device.{Only};
 ghost use Rattle.envy_hostfile.specs.Host.{host_bytes, host_outcome, host_failed};
 
+use crate::folder::{Names, is_named};
 use crate::host::HostFile;
+use std::alloc::AllocError;
 use std::fs::{File, OpenOptions, TryLockError};
 use std::io::{ErrorKind, Read};
 use std::{fs, io};
@@ -12,7 +14,7 @@ use std::{fs, io};
 pub enum OpenFault {
     /// It couldn't be made, opened, locked, synced or read, or it is no regular file.
     Unreadable,
-    /// It is locked: another process has it open.
+    /// It is locked, or was replaced while it was opened: another process has it open.
     InUse,
     /// Memory ran out.
     Memory,
@@ -27,23 +29,15 @@ impl From<io::Error> for OpenFault {
     }
 }
 
-// Brings what the system still holds of a file and of its folder to the disk.
-fn settle(rt: &HostRuntime, file: &File, path: &str) -> Result<(), OpenFault> {
-    file.sync_all()?;
-    let mut folder = fs::canonicalize(rt, path)?;
-    folder.pop();
-    File::open(rt, folder.as_str())?.sync_all()?;
-    Ok(())
+impl From<AllocError> for OpenFault {
+    fn from(_: AllocError) -> Self {
+        OpenFault::Memory
+    }
 }
 
-/// Opens the file at a path, or makes an empty one, locks it, brings it to the disk, and reads it whole. The lock goes
-/// with the file.
-pub fn open(rt: &HostRuntime, path: &str) -> Result<(HostFile<File>, Vec<u8>), OpenFault>
-    ensures bytes { IfOk result (λ opened. host_bytes opened.0 ≡ opened.1.items) }
-    ensures durable { IfOk result (λ opened. Only (host_bytes opened.0) (host_outcome opened.0)) }
-    ensures works { IfOk result (λ opened. host_failed opened.0 ≡ false) }
-{
-    let mut file = OpenOptions::new()
+// Opens a file, or makes an empty one, and locks it.
+fn locked(rt: &HostRuntime, path: &str) -> Result<File, OpenFault> {
+    let file = OpenOptions::new()
         .read(true)
         .write(true)
         .create(true)
@@ -52,12 +46,46 @@ pub fn open(rt: &HostRuntime, path: &str) -> Result<(HostFile<File>, Vec<u8>), O
         return Err(OpenFault::Unreadable);
     }
     match file.try_lock() {
-        Ok(()) => {}
-        Err(TryLockError::WouldBlock) => return Err(OpenFault::InUse),
-        Err(TryLockError::Error(_)) => return Err(OpenFault::Unreadable),
+        Ok(()) => Ok(file),
+        Err(TryLockError::WouldBlock) => Err(OpenFault::InUse),
+        Err(TryLockError::Error(_)) => Err(OpenFault::Unreadable),
     }
-    settle(rt, &file, path)?;
+}
+
+// The names of a file and of its second one. A link is followed once, here.
+fn named<'a>(rt: &'a HostRuntime, path: &str) -> Result<Names<'a>, OpenFault> {
+    let mut place = fs::canonicalize(rt, path)?;
+    let path = format!(in rt.alloc(); "{}", place.as_str())?;
+    let second = format!(in rt.alloc(); "{}.envy-new", place.as_str())?;
+    place.pop();
+    let folder = File::open(rt, place.as_str())?;
+    Ok(Names {
+        rt,
+        path,
+        second,
+        folder,
+    })
+}
+
+/// Opens the file at a path, or makes an empty one, locks it, brings it and its name to the disk, and reads it whole. The
+/// lock goes with the file. A file that was locked and that the path doesn't name any more was replaced by the process
+/// that had it open.
+pub fn open<'a>(
+    rt: &'a HostRuntime,
+    path: &str,
+) -> Result<(HostFile<File, Names<'a>>, Vec<u8>), OpenFault>
+    ensures bytes { IfOk result (λ opened. host_bytes opened.0 ≡ opened.1.items) }
+    ensures durable { IfOk result (λ opened. Only (host_bytes opened.0) (host_outcome opened.0)) }
+    ensures works { IfOk result (λ opened. host_failed opened.0 ≡ false) }
+{
+    let mut file = locked(rt, path)?;
+    let place = named(rt, path)?;
+    if !is_named(rt, place.path.as_str(), &file)? {
+        return Err(OpenFault::InUse);
+    }
+    file.sync_all()?;
+    place.folder.sync_all()?;
     let mut bytes = Vec::new(rt.alloc());
     file.read_to_end(&mut bytes)?;
-    Ok((HostFile::found(file, &bytes), bytes))
+    Ok((HostFile::found(file, place, &bytes), bytes))
 }

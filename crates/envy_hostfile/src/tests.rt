@@ -1,7 +1,8 @@
-use crate::{HostFile, OpenFault, open};
-use envy_device::Device;
+use crate::folder::is_named;
+use crate::{Folder, HostFile, OpenFault, open};
+use envy_device::{Device, Place};
 use std::cell::Cell;
-use std::fs::{self, Metadata, OpenFile};
+use std::fs::{self, File, Metadata, OpenFile};
 use std::io;
 use std::os::unix::fs::FileExt;
 use std::test::Fail;
@@ -25,6 +26,54 @@ fn a_file_is_locked_written_synced_and_read_again(rt: HostRuntime) -> Result<(),
     drop(again);
     assert_eq!(rt; fs::metadata(&rt, PATH)?.len(), 0);
     fs::remove_file(&rt, PATH)?;
+    Ok(())
+}
+
+#[test]
+fn a_second_file_takes_the_place(rt: HostRuntime) -> Result<(), Fail> {
+    let path = "envy_hostfile_second";
+    let _ = fs::remove_file(&rt, path);
+    fs::write(&rt, "envy_hostfile_second.envy-new", b"left behind by a crash")?;
+    let (mut file, _) = open(&rt, path)?;
+    file.write_at(0, b"first")?;
+    file.sync()?;
+    let opened_before = File::open(&rt, path)?;
+    file.begin_second()?;
+    file.write_second(b"se")?;
+    file.write_second(b"cond")?;
+    file.replace()?;
+    assert!(rt; matches!(open(&rt, path), Err(OpenFault::InUse)));
+    assert!(rt; opened_before.try_lock().is_ok());
+    assert!(rt; !is_named(&rt, path, &opened_before)?);
+    file.write_at(6, b" file")?;
+    file.sync()?;
+    drop(file);
+    let (again, bytes) = open(&rt, path)?;
+    assert_eq!(rt; bytes.as_slice(), b"second file".as_slice());
+    assert!(rt; fs::metadata(&rt, "envy_hostfile_second.envy-new").is_err());
+    drop(again);
+    fs::remove_file(&rt, path)?;
+    Ok(())
+}
+
+// A second file that another process has in use stays as it is.
+#[test]
+fn a_second_file_in_use_is_left(rt: HostRuntime) -> Result<(), Fail> {
+    let path = "envy_hostfile_used";
+    let other = "envy_hostfile_used.envy-new";
+    let _ = fs::remove_file(&rt, path);
+    let _ = fs::remove_file(&rt, other);
+    let (mut in_use, _) = open(&rt, other)?;
+    in_use.write_at(0, b"kept")?;
+    in_use.sync()?;
+    let (mut file, _) = open(&rt, path)?;
+    assert!(rt; file.begin_second().is_err());
+    assert!(rt; file.sync().is_err());
+    assert_eq!(rt; fs::metadata(&rt, other)?.len(), 4);
+    drop(file);
+    drop(in_use);
+    fs::remove_file(&rt, path)?;
+    fs::remove_file(&rt, other)?;
     Ok(())
 }
 
@@ -86,6 +135,32 @@ impl OpenFile for &Slow {
     }
 }
 
+impl<'a> Folder<&'a Slow> for &'a Slow {
+    fn make(&self) -> io::Result<&'a Slow> {
+        self.call()?;
+        self.next.set(0);
+        Ok(self)
+    }
+
+    fn rename(&self) -> io::Result<()> {
+        self.call()
+    }
+
+    fn sync(&self) -> io::Result<()> {
+        self.call()
+    }
+}
+
+// A file that fails at one call.
+fn failing_at(fails_at: u32) -> Slow {
+    Slow {
+        fails_at,
+        calls: Cell::new(0),
+        next: Cell::new(0),
+        is_straight: Cell::new(true),
+    }
+}
+
 // 7 bytes are 4 pieces, between which the file is interrupted once, and behind them a sync, a cut and a sync.
 #[test]
 fn a_write_goes_on_and_a_failure_ends_the_file(rt: HostRuntime) -> Result<(), Fail> {
@@ -101,13 +176,8 @@ fn a_write_goes_on_and_a_failure_ends_the_file(rt: HostRuntime) -> Result<(), Fa
         (8, 7),
     ];
     for (fails_at, next) in table {
-        let slow = Slow {
-            fails_at,
-            calls: Cell::new(0),
-            next: Cell::new(0),
-            is_straight: Cell::new(true),
-        };
-        let mut file = HostFile::found(&slow, &[]);
+        let slow = failing_at(fails_at);
+        let mut file = HostFile::found(&slow, &slow, &[]);
         let wrote = file.write_at(0, b"1234567").is_ok();
         let synced = file.sync().is_ok();
         let cut = file.cut(0).is_ok();
@@ -116,6 +186,36 @@ fn a_write_goes_on_and_a_failure_ends_the_file(rt: HostRuntime) -> Result<(), Fa
         assert_eq!(rt; (wrote, synced, cut, synced_again), wanted, "at {fails_at}");
         assert!(rt; slow.is_straight.get());
         assert_eq!(rt; slow.next.get(), next, "at {fails_at}");
+    }
+    Ok(())
+}
+
+// The second file is made, 3 bytes are 2 pieces, 2 bytes are one behind an interruption or not, and then the file is
+// synced, renamed, and the folder is synced.
+#[test]
+fn a_failure_at_any_call_on_the_second_file_ends_the_file(rt: HostRuntime) -> Result<(), Fail> {
+    let table = [
+        (0, 0),
+        (1, 1),
+        (2, 1),
+        (3, 1),
+        (4, 2),
+        (5, 3),
+        (6, 3),
+        (7, 3),
+        (8, 4),
+    ];
+    for (fails_at, passed) in table {
+        let slow = failing_at(fails_at);
+        let mut file = HostFile::found(&slow, &slow, &[]);
+        let begun = file.begin_second().is_ok();
+        let wrote = file.write_second(b"123").is_ok();
+        let more = file.write_second(b"45").is_ok();
+        let replaced = file.replace().is_ok();
+        let wanted = (passed > 0, passed > 1, passed > 2, passed > 3);
+        assert_eq!(rt; (begun, wrote, more, replaced), wanted, "at {fails_at}");
+        assert_eq!(rt; file.sync().is_ok(), passed > 3, "at {fails_at}");
+        assert!(rt; slow.is_straight.get());
     }
     Ok(())
 }

@@ -49,9 +49,8 @@ long_head sh bytes head =
     let long : length (take 33 bytes) ≡ 33 = ap length head in
     omega (arith, long, length-take {A = ℕ})
 
--- what stands behind the first byte of a head, and a closed gate
-pub slid : (head part first second : List ℕ) → length head ≡ 33 → part ≡ drop 1 head → take (0 + length part) first ≡ part → take 33 second ≡ take 32 first ++ 0 ∷ [] → length second ≡ 33 → second ≡ drop 1 head ++ 0 ∷ []
-slid head part first second long is copied closed room =
-    let few : length part ≡ 32 = omega (arith, ap length is, length-drop 1 head) in
-    let all : 32 ≡ 0 + length part = omega (arith, few) in
-    sym (take_all 33 second (omega arith)) ∙ closed ∙ ap (λ (l : List ℕ). l ++ 0 ∷ []) (ap (λ (n : ℕ). take n first) all ∙ copied ∙ is)
+-- a head that was copied to the front, and a gate behind it
+pub gated : (head piece first second : List ℕ) (gate : ℕ) → length head ≡ 33 → piece ≡ head → take (0 + length piece) first ≡ piece → take 34 second ≡ take 33 first ++ gate ∷ [] → length second ≡ 34 → second ≡ head ++ gate ∷ []
+gated head piece first second gate long is copied closed room =
+    let all : 33 ≡ 0 + length piece = omega (arith, ap length is, long) in
+    sym (take_all 34 second (omega arith)) ∙ closed ∙ ap (λ (l : List ℕ). l ++ gate ∷ []) (ap (λ (n : ℕ). take n first) all ∙ copied ∙ is)

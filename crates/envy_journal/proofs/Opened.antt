@@ -9,7 +9,7 @@ use Rattle.envy_journal.specs.Head.{StandsFor, head_bytes}
 use Rattle.envy_journal.specs.Log.{Begins}
 use Rattle.envy_journal.specs.Reading.{operations, Leads}
 use Rattle.envy_journal.proofs.Moments.{started, widened}
-use Rattle.envy_journal.proofs.Parsed.{leads_to, leads_over}
+use Rattle.envy_journal.proofs.Parsed.{leads_to, leads_over, leads_end, shut}
 use Rattle.envy_journal.proofs.Settled.{head_alike}
 
 module _ (end gate : ℕ) (old new : List ℕ) (is : IsMended end gate old new) (le : 33 ≤ end) where
@@ -39,7 +39,16 @@ module _ {D : Type 0} (moment : D → ℕ) (left_since : D → ℕ → List ℕ 
 pub stands_itself : (sh : Shape) (bytes : List ℕ) → Begins (head_bytes sh) bytes → StandsFor sh (operations bytes) bytes
 stands_itself sh bytes head = record { head = head; reads = refl }
 
--- a head and a closed gate, at rest
+-- a head and a closed gate are a journal without operations
+pub made_new : (sh : Shape) → StandsFor sh [] (head_bytes sh ++ 0 ∷ [])
+made_new sh =
+    let h = head_bytes sh in
+    record {
+      head = take_at h (0 ∷ []) (length h) refl;
+      reads = leads_end false false 33 h (0 ∷ []) [] (leads_over false 33 h refl) (shut 0 [] (λ e. let no : 0 ≡ 4 = e in cc));
+    }
+
+-- the same at rest
 module _ (sh : Shape) (file : List ℕ) (is : file ≡ head_bytes sh ++ 0 ∷ []) where
   pub made_front : take 33 file ≡ head_bytes sh
   made_front = ap (λ (l : List ℕ). take 33 l) is ∙ take_at (head_bytes sh) (0 ∷ []) 33 refl

@@ -1,5 +1,5 @@
 -- The head of a journal, and what a file that begins with one stands for.
-use Rattle.std.specs.Prelude.{◌≡◌, ◌≢◌, ◌⊎◌, ℕ, ◌<◌, ◌≤◌, List, [], ◌∷◌, ◌++◌, length, take, codes, slice_index}
+use Rattle.std.specs.Prelude.{◌≡◌, ◌≢◌, ◌⊎◌, ℕ, ◌<◌, List, [], ◌∷◌, ◌++◌, length, take, codes, slice_index}
 use Rattle.envy_base.specs.declared.shape.Shape.{Shape}
 use Rattle.envy_journal.specs.declared.operation.Operation.{Operation}
 use Rattle.envy_journal.specs.Log.{Begins}
@@ -20,12 +20,11 @@ pub record StandsFor (sh : Shape) (done : List Operation) (file : List ℕ) : Ty
   pub head : Begins (head_bytes sh) file
   pub reads : operations file ≡ done
 
--- what a crash may leave before a journal is made: no more than a head and a gate, and where it is as much, no 1 at the front
-pub record IsUnmade (file : List ℕ) : Type 0 where
-  pub short : length file ≤ 34
-  pub unmarked : length file ≡ 34 → slice_index file 0 ≢ 1
+-- a file in which no journal is made yet is empty
+abbrev pub IsUnmade : List ℕ → Type 0
+IsUnmade file = file ≡ []
 
--- before a journal is made, or once it is, without operations
+-- before a journal is made, or once it is made, without operations
 abbrev pub IsNewOrUnmade : Shape → List ℕ → Type 0
 IsNewOrUnmade sh file = IsUnmade file ⊎ StandsFor sh [] file
 

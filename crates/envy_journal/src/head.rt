@@ -1,5 +1,5 @@
 // The head of a journal: a mark, a version and the sizes of the board.
-ghost use Rattle.std.specs.Prelude.{◌≡◌, ◌+◌, ◌≤◌, ◌++◌, length, take, IfOk, IsErrOf};
+ghost use Rattle.std.specs.Prelude.{◌≡◌, ◌+◌, ◌≤◌, ◌++◌, ◌∷◌, [], length, take, IfOk, IsErrOf};
 ghost use Rattle.envy_journal.specs.Head.{head_bytes, HasNoJournal, IsOtherVersion};
 ghost use Rattle.envy_journal.specs.Log.{Begins};
 ghost use Rattle.envy_journal.specs.declared.head.HeadError.TheVariants.{NoJournal, OtherVersion};
@@ -19,7 +19,7 @@ pub(crate) const VERSION: u8 = 1;
 /// Why bytes don't begin as a journal does.
 #[derive(Clone, Copy, Debug, PartialEq, Eq)]
 pub enum HeadError {
-    /// They are too few, or not marked as a journal. A file on which `create` was cut short is one of these.
+    /// They are too few, or not marked as a journal.
     NoJournal,
     /// They are a journal of a version that isn't known here.
     OtherVersion,
@@ -48,8 +48,8 @@ pub fn read_head(bytes: &[u8]) -> Result<Shape, HeadError>
     })
 }
 
-/// The head of a journal of such a board.
-pub(crate) fn head_of(shape: &Shape) -> [u8; 33]
+// The head of a journal of such a board.
+fn head_of(shape: &Shape) -> [u8; 33]
     ensures { result ≡ head_bytes shape.now }
 {
     let mut bytes = [0; 33];
@@ -61,5 +61,15 @@ pub(crate) fn head_of(shape: &Shape) -> [u8; 33]
     write_number(&mut bytes, 21, shape.shadows);
     write_number(&mut bytes, 25, shape.frames);
     write_number(&mut bytes, 29, shape.entries);
+    bytes
+}
+
+/// The head of a journal of such a board, and a gate.
+pub(crate) fn with_gate(shape: &Shape, gate: u8) -> [u8; 34]
+    ensures { result ≡ head_bytes shape.now ++ gate ∷ [] }
+{
+    let mut bytes = [gate; 34];
+    copy_behind(&mut bytes, 0, &head_of(shape));
+    copy_behind(&mut bytes, HEAD, &[gate]);
     bytes
 }

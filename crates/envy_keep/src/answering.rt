@@ -2,7 +2,7 @@ ghost use Rattle.std.specs.Prelude.{◌≡◌, ◌↔◌, false, IsTrue};
 ghost use Rattle.envy_keep.specs.Answers.{AnswersKeep, IsKeepCall, SyncsTo};
 
 use envy_base::Off;
-use envy_device::Device;
+use envy_device::Place;
 use envy_journal::Steady;
 use envy_keep_trace::{KeepLine, KeepReply};
 use envy_synced::Kept;
@@ -12,7 +12,7 @@ use envy_trace::Reply;
 
 /// Brings all that was done to the disk. `Synced` is the answer only behind a sync that succeeded; where it failed power is
 /// off.
-fn sync<B: Steady, D: Device>(memory: &mut Memory<Kept<B, D>>) -> KeepReply
+fn sync<B: Steady, D: Place>(memory: &mut Memory<Kept<B, D>>) -> KeepReply
     requires { IsTrue memory.old.chart.on }
     ensures { SyncsTo result memory.old memory.new }
 {
@@ -23,7 +23,7 @@ fn sync<B: Steady, D: Device>(memory: &mut Memory<Kept<B, D>>) -> KeepReply
 }
 
 /// Does one line that isn't empty, and the reply.
-pub(crate) fn answer<B: Steady, D: Device>(
+pub(crate) fn answer<B: Steady, D: Place>(
     memory: &mut Memory<Kept<B, D>>,
     line: &KeepLine,
 ) -> KeepReply

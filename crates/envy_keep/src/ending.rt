@@ -7,7 +7,7 @@ ghost use Rattle.envy_serve.specs.declared.serving.End.TheVariants.{Done as EndD
 use crate::keeping::Keeping;
 use crate::replying::ReplyBuffer;
 use envy_base::Off;
-use envy_device::Device;
+use envy_device::Place;
 use envy_io::{Lines, Sink, Source};
 use envy_journal::Steady;
 use envy_synced::Kept;
@@ -34,7 +34,7 @@ pub struct KeepEnded<D> {
 }
 
 // The status behind the last line, and one sync more.
-fn last_sync<B: Steady, D: Device>(memory: &mut Memory<Kept<B, D>>) -> u8
+fn last_sync<B: Steady, D: Place>(memory: &mut Memory<Kept<B, D>>) -> u8
     requires { IsTrue memory.old.chart.on }
     ensures { Concludes EndDone result memory.old memory.new }
 {
@@ -45,7 +45,7 @@ fn last_sync<B: Steady, D: Device>(memory: &mut Memory<Kept<B, D>>) -> u8
 }
 
 // The status of an end, and its second number. Where all lines were done a sync comes first.
-fn conclude<B: Steady, D: Device>(memory: &mut Memory<Kept<B, D>>, end: End) -> (u8, u8)
+fn conclude<B: Steady, D: Place>(memory: &mut Memory<Kept<B, D>>, end: End) -> (u8, u8)
     requires { end ≡ EndDone → IsTrue memory.old.chart.on }
     ensures status { Concludes end result.0 memory.old memory.new }
     ensures why { result.1 ≡ why_of end }
@@ -63,7 +63,7 @@ fn conclude<B: Steady, D: Device>(memory: &mut Memory<Kept<B, D>>, end: End) -> 
 /// Does the lines of the source in order, with each reply written before the next line is read. Whatever the status, the
 /// file opens from a crash at any moment since the last line that was answered `synced` as the array of that line, or of
 /// a later one; at status 0 as that of the last line.
-pub fn serve_kept<S: Source, K: Sink, B: Steady + Drop, D: Device>(
+pub fn serve_kept<S: Source, K: Sink, B: Steady + Drop, D: Place>(
     memory: Memory<Kept<B, D>>,
     source: &mut S,
     sink: &mut K,

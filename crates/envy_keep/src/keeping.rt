@@ -1,6 +1,6 @@
 use crate::obeying::obey_line;
 use crate::replying::ReplyBuffer;
-use envy_device::Device;
+use envy_device::{Device, Place};
 use envy_io::{Failed, Sink};
 use envy_journal::Steady;
 use envy_keep_trace::{KeepLine, KeepReply, keep_grammar_holds_both_ways, read_keep_line};
@@ -15,7 +15,7 @@ pub struct Keeping<B: Steady, D: Device> {
     pub buffer: ReplyBuffer,
 }
 
-impl<B: Steady, D: Device> Service for Keeping<B, D> {
+impl<B: Steady, D: Place> Service for Keeping<B, D> {
     ghost use Rattle.std.specs.Prelude.{IsTrue, [], length, ◌<◌};
     ghost use Rattle.envy_keep.specs.Since.{KeptSince, LostSince, Start, long_keep, on_since};
     ghost use Rattle.envy_keep.specs.Turns.{keep_grammar};

@@ -6,7 +6,7 @@ ghost use Rattle.envy_serve.specs.Obeys.{Obeys};
 
 use crate::answering::answer;
 use crate::replying::{ReplyBuffer, write_keep_reply};
-use envy_device::Device;
+use envy_device::Place;
 use envy_io::{Failed, Sink};
 use envy_journal::Steady;
 use envy_keep_trace::KeepLine;
@@ -16,7 +16,7 @@ use envy_serve::Obeyed;
 use envy_trace::Line;
 
 /// Does a line that isn't empty, with its reply. Where power failed in it nothing further is done.
-fn obey_call<K: Sink, B: Steady, D: Device>(
+fn obey_call<K: Sink, B: Steady, D: Place>(
     memory: &mut Memory<Kept<B, D>>,
     sink: &mut K,
     line: &KeepLine,
@@ -39,7 +39,7 @@ fn obey_call<K: Sink, B: Steady, D: Device>(
 }
 
 /// Does a line, with its reply.
-pub(crate) fn obey_line<K: Sink, B: Steady, D: Device>(
+pub(crate) fn obey_line<K: Sink, B: Steady, D: Place>(
     memory: &mut Memory<Kept<B, D>>,
     sink: &mut K,
     line: &KeepLine,

@@ -13,7 +13,7 @@ use crate::ending::{KeepEnded, serve_kept};
 use envy_args::KeepOptions;
 use envy_begun::{Holding, Unbegun, begin, plan};
 use envy_cells::Cells;
-use envy_device::Device;
+use envy_device::Place;
 use envy_io::{Sink, Source};
 use envy_journal::Steady;
 use envy_policy::Setup;
@@ -39,7 +39,7 @@ fn unserved<D>(unbegun: Unbegun, device: D) -> KeepEnded<D>
 }
 
 // Serves a trace over the memory in a file, on a blank board of its sizes.
-fn serve_on<S: Source, K: Sink, B: Steady + Drop, D: Device + Drop>(
+fn serve_on<S: Source, K: Sink, B: Steady + Drop, D: Place + Drop>(
     alloc: Global,
     board: B,
     device: D,
@@ -71,14 +71,14 @@ fn serve_on<S: Source, K: Sink, B: Steady + Drop, D: Device + Drop>(
     }
 }
 
-/// Serves a trace over the memory in a file that holds these bytes. Where the file is empty, or making a journal was cut
-/// short in it, a journal is made by the options' sizes; else the journal gives its sizes, and options that name others
-/// are refused. A memory of zeros is made where nothing was done yet; else the memory stands for the words that the
-/// file's last sync left, transactions undone.
+/// Serves a trace over the memory in a file that holds these bytes. Where the file is empty a journal is made by the
+/// options' sizes; else the journal gives its sizes, and options that name others are refused. A memory of zeros is made
+/// where nothing was done yet; else the memory stands for the words that the file's last sync left, transactions undone,
+/// and where the options say so the journal is compacted first.
 ///
 /// Every end but status 0 has its cause, but for want of memory. Where nothing is served nothing is read or written on the
 /// streams.
-pub fn keep<S: Source, K: Sink, D: Device + Drop>(
+pub fn keep<S: Source, K: Sink, D: Place + Drop>(
     alloc: Global,
     options: &KeepOptions,
     device: D,

@@ -15,12 +15,12 @@ use Rattle.envy_journal.specs.declared.operation.Operation.{Operation}
 use Rattle.envy_journal.specs.Content.{Content, content_of, holds}
 use Rattle.envy_journal.specs.Head.{StandsFor, head_bytes}
 use Rattle.envy_journal.proofs.Logged.{crash_kept}
-use Rattle.envy_journal.specs.Journal.{IsLogged, journal_state, kept, done}
+use Rattle.envy_journal.specs.Journal.{IsFileOf, IsLogged, journal_state, kept}
 use Rattle.envy_journal.specs.Log.{Begins}
 use Rattle.envy_journal.specs.Reading.{operations}
 use Rattle.envy_journal.specs.Steady.{IsSteady}
 use Rattle.envy_disk.specs.Disk.{Syncs, with_disk}
-use Rattle.envy_synced.specs.Disk.{IsFileOf, Ends, IsKept}
+use Rattle.envy_synced.specs.Disk.{Ends, IsKept}
 
 -- a journaled board and the one in it
 pub journal_on : (dead : Bool) (s : State) → IsTrue (journal_state dead s).on → dead ≡ false
@@ -157,29 +157,29 @@ module _ {D : Type 0} (seen : D → List ℕ) (moment : D → ℕ) (left_since :
     only_last file new (inr dark) = absurd (false≢true (sym dark.0 ∙ on))
 
     -- a sync that succeeded
-    pub synced : (new : Log D) → LeavesOnly moment left_since now.device new.device (λ file. StandsFor s.shape (kept seen now) file ⊎ StandsFor s.shape (done seen now) file) → kept seen new ≡ done seen now
+    pub synced : (new : Log D) → LeavesOnly moment left_since now.device new.device (λ file. StandsFor s.shape (kept seen now) file ⊎ StandsFor s.shape (kept seen new) file)
         → ((file : List ℕ) → left_since new.device (moment new.device) file → StandsFor s.shape (kept seen new) file) → IsKept seen moment left_since new new was s
-    synced new only all stands = record {
+    synced new only stands = record {
       same = λ up. refl;
       later = omega arith;
       earlier = omega (arith, is.later, only.later);
       each = λ file left. ∣ inl (stands file left) ∣₁;
-      since = λ file left. ⊎_elim (λ old. ∥∥₁_map (is.each file old) (λ e. only_last file new e)) (λ p. ∣ ⊎_elim (λ k. inl (last file k)) (λ d. inr (inl (subst (λ (l : List Operation). StandsFor s.shape l file) (sym all) d))) p ∣₁) (only.before (moment was.device) file is.later left);
+      since = λ file left. ⊎_elim (λ old. ∥∥₁_map (is.each file old) (λ e. only_last file new e)) (λ p. ∣ ⊎_elim (λ k. inl (last file k)) (λ d. inr (inl d)) p ∣₁) (only.before (moment was.device) file is.later left);
     }
 
     -- a sync that failed
-    module _ (new : Log D) (t : State) (shape : t.shape ≡ s.shape) (content : content_of t ≡ content_of s) (off : t.on ≡ false) (holding : content_of s ≡ holds s.shape (done seen now)) where
-      all_of : (file : List ℕ) → StandsFor s.shape (done seen now) file → IsFileOf t file
-      all_of file stands = record {
-        head = subst (λ (sh : Shape). Begins (head_bytes sh) file) (sym shape) stands.head;
-        content = content ∙ holding ∙ ap (λ (p : List Operation). holds s.shape p) (sym stands.reads) ∙ ap (λ (sh : Shape). holds sh (operations file)) (sym shape);
+    module _ (new : Log D) (t : State) (shape : t.shape ≡ s.shape) (content : content_of t ≡ content_of s) (off : t.on ≡ false) where
+      all_of : (file : List ℕ) → IsFileOf s file → IsFileOf t file
+      all_of file has = record {
+        head = subst (λ (sh : Shape). Begins (head_bytes sh) file) (sym shape) has.head;
+        content = content ∙ has.content ∙ ap (λ (sh : Shape). holds sh (operations file)) (sym shape);
       }
 
-      either : (file : List ℕ) → StandsFor s.shape (kept seen now) file ⊎ StandsFor s.shape (done seen now) file → Ends t (kept seen was) file
+      either : (file : List ℕ) → StandsFor s.shape (kept seen now) file ⊎ IsFileOf s file → Ends t (kept seen was) file
       either file (inl stands) = lit t file shape (inl (last file stands))
-      either file (inr stands) = inr (off, all_of file stands)
+      either file (inr has) = inr (off, all_of file has)
 
-      pub unsynced : LeavesOnly moment left_since now.device new.device (λ file. StandsFor s.shape (kept seen now) file ⊎ StandsFor s.shape (done seen now) file) → IsKept seen moment left_since new was before t
+      pub unsynced : LeavesOnly moment left_since now.device new.device (λ file. StandsFor s.shape (kept seen now) file ⊎ IsFileOf s file) → IsKept seen moment left_since new was before t
       unsynced only = record {
         same = λ up. absurd (false≢true (sym off ∙ up));
         later = omega (arith, is.later, only.later);
@@ -197,10 +197,10 @@ module _ {D : Type 0} (seen : D → List ℕ) (moment : D → ℕ) (left_since :
 
   -- a sync that failed, on a board whose power may be off
   pub failed : (dead : Bool) (a : State) (now new was before : Log D) → IsTrue a.on → IsKept seen moment left_since now was before (journal_state dead a)
-      → (dead ≡ false → LeavesOnly moment left_since now.device new.device (λ file. StandsFor a.shape (kept seen now) file ⊎ StandsFor a.shape (done seen now) file))
-      → (IsTrue dead → new ≡ now) → (dead ≡ false → content_of a ≡ holds a.shape (done seen now)) → IsKept seen moment left_since new was before (cut a)
-  failed true a now new was before on is only still holding = subst (λ (l : Log D). IsKept seen moment left_since l was before (cut a)) (sym (still refl)) is
-  failed false a now new was before on is only still holding = unsynced now was before a is on new (cut a) refl refl refl (holding refl) (only refl)
+      → (dead ≡ false → LeavesOnly moment left_since now.device new.device (λ file. StandsFor a.shape (kept seen now) file ⊎ IsFileOf a file))
+      → (IsTrue dead → new ≡ now) → IsKept seen moment left_since new was before (cut a)
+  failed true a now new was before on is only still = subst (λ (l : Log D). IsKept seen moment left_since l was before (cut a)) (sym (still refl)) is
+  failed false a now new was before on is only still = unsynced now was before a is on new (cut a) refl refl refl (only refl)
 
 pub fails_told : (plans given pulled lives : ℕ) (dead : Bool) (a : State) (off : Off) → IsTrue a.on → Syncs (with_disk (journal_state dead a) plans given pulled lives) (Err off) (with_disk (cut a) plans given pulled lives)
 fails_told plans given pulled lives true a off on = inl (refl, refl)

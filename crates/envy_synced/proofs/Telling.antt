@@ -8,11 +8,11 @@ use Rattle.envy_journal.specs.declared.log.Log.{Log}
 use Rattle.envy_journal.specs.declared.operation.Operation.{Operation}
 use Rattle.envy_journal.specs.Content.{Content, content_of, holds}
 use Rattle.envy_journal.specs.Head.{StandsFor, head_bytes}
-use Rattle.envy_journal.specs.Journal.{kept, done}
+use Rattle.envy_journal.specs.Journal.{IsFileOf, kept}
 use Rattle.envy_journal.specs.Log.{Begins, kept_bytes}
 use Rattle.envy_journal.specs.Reading.{operations}
 use Rattle.envy_synced.specs.Number.{number}
-use Rattle.envy_synced.specs.Disk.{disk_state, IsFileOf, Ends, IsKept, Reopens, IsSynced, IsLast, IsBefore}
+use Rattle.envy_synced.specs.Disk.{disk_state, Ends, IsKept, Reopens, IsSynced, IsLast, IsBefore}
 use Rattle.envy_synced.proofs.Numbers.{number_one}
 
 -- the operations that a sync brought to the disk open as the board was

@@ -4,9 +4,9 @@ use Rattle.envy_base.specs.State.{State, IsBoard}
 use Rattle.envy_map.specs.Fields.{Chart, map_fields}
 use Rattle.envy_journal.specs.declared.log.Log.{Log}
 use Rattle.envy_journal.specs.declared.operation.Operation.{Operation}
-use Rattle.envy_journal.specs.Content.{content_of, holds}
+use Rattle.envy_journal.specs.Content.{holds}
 use Rattle.envy_journal.specs.Head.{StandsFor, head_bytes}
-use Rattle.envy_journal.specs.Journal.{kept}
+use Rattle.envy_journal.specs.Journal.{IsFileOf, kept}
 use Rattle.envy_journal.specs.Log.{Begins, kept_bytes}
 use Rattle.envy_journal.specs.Reading.{operations}
 use Rattle.envy_disk.specs.Disk.{with_disk}
@@ -16,11 +16,6 @@ use Rattle.envy_synced.specs.Number.{number}
 -- of the sync before (`pulled`, `lives`).
 abbrev pub disk_state : {D : Type 0} → (D → List ℕ) → (D → ℕ) → Log D → Log D → State → State
 disk_state seen moment was before s = with_disk s (moment was.device) (number (kept_bytes seen was)) (moment before.device) (number (kept_bytes seen before))
-
--- the file is a journal of a board of these sizes that holds what this one does
-pub record IsFileOf (s : State) (file : List ℕ) : Type 0 where
-  pub head : Begins (head_bytes s.shape) file
-  pub content : content_of s ≡ holds s.shape (operations file)
 
 -- what a crash since the last sync leaves: what it brought to the disk, or, where power is off, what the board holds now
 abbrev pub Ends : State → List Operation → List ℕ → Type 0

@@ -7,7 +7,7 @@ ghost use Rattle.envy_journal.specs.Log.{HasEnded};
 ghost use Rattle.envy_synced.specs.Disk.{IsKept, IsLast, IsBefore, IsSynced, Reopens, disk_state};
 
 use envy_base::{Board, Off, Shape, Trouble};
-use envy_device::Device;
+use envy_device::{Device, Place};
 use envy_disk::OnDisk;
 use envy_journal::{Journaled, Steady};
 use std::mem;
@@ -107,7 +107,7 @@ impl<B: Steady, D: Device> Board for Kept<B, D> {
     }
 }
 
-impl<B: Steady, D: Device> OnDisk for Kept<B, D> {
+impl<B: Steady, D: Place> OnDisk for Kept<B, D> {
     ghost is_synced = { IsSynced };
 
     fn sync(&mut self) -> Result<(), Off> {
@@ -121,6 +121,13 @@ impl<B: Steady, D: Device> OnDisk for Kept<B, D> {
     }
 
     fn compact(&mut self) -> Result<(), Off> {
-        self.sync()
+        match self.journal.compact() {
+            Ok(()) => {
+                let last = mem::replace(&mut self.synced, Snapshot::of(&self.journal));
+                self.before = last;
+                Ok(())
+            }
+            Err(_) => Err(Off),
+        }
     }
 }

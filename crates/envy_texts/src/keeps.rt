@@ -23,10 +23,11 @@ const USUAL: KeepOptions = KeepOptions {
     policy: Policy::Greedy,
     limit: 100,
     mark: None,
+    compact: false,
 };
 
 // These words are in the form. A size that is given is named, also where it is the usual one or breaks a rule.
-const FORMS: [Row; 10] = [
+const FORMS: [Row; 12] = [
     ("--file a", "a", USUAL),
     ("--file=a --", "a", USUAL),
     ("--file=a=b", "a=b", USUAL),
@@ -82,6 +83,15 @@ const FORMS: [Row; 10] = [
         "a",
         KeepOptions {
             policy: Policy::Fifo,
+            ..USUAL
+        },
+    ),
+    ("--file a --compact 0", "a", USUAL),
+    (
+        "--compact=01 --file a",
+        "a",
+        KeepOptions {
+            compact: true,
             ..USUAL
         },
     ),

@@ -1,5 +1,5 @@
 -- What the calls of a file in memory mean for a crash.
-use Rattle.std.proofs.Common.{◌≡◌, ◌⊎◌, inl, inr, ℕ, ◌≤◌, List, [], ◌∷◌, ◌++◌, length, Bool, true, false, Result, Ok, Err, OnOk, OnErr, refl, sym, ◌∙◌, ap, subst, arith, length-append}
+use Rattle.std.proofs.Common.{◌≡◌, ◌⊎◌, ⊎_elim, inl, inr, ℕ, ◌≤◌, List, [], ◌∷◌, ◌++◌, length, Bool, true, false, Result, Ok, Err, OnOk, OnErr, refl, sym, ◌∙◌, ap, subst, arith, length-append}
 use Rattle.std.proofs.lemmas.Bool.{false≢true}
 use Rattle.std.proofs.lemmas.List.{take_all}
 use Rattle.envy_device.specs.Device.{Torn, Cut, Follows, Elapses, Serves}
@@ -164,3 +164,11 @@ module _ (old : TornFile) (call : Call) (calls : List Call) (still : (seen : Lis
 pub seen_grown : (old : TornFile) (call : Call) (calls : List Call) (next : List ℕ) → calls ≡ old.calls.items ++ call ∷ [] → next ≡ seen_by call old.bytes.items → next ≡ seen_after calls old.first.items
 seen_grown old call calls next more is =
     is ∙ ap (λ (b : List ℕ). seen_by call b) old.seen ∙ sym (seen_more old.calls.items call old.first.items) ∙ ap (λ (l : List Call). seen_after l old.first.items) (sym more)
+
+-- a replacement that failed: the old file or the second one
+pub crash_unreplaced : (call : Call) (second : List ℕ) (old mid new : TornFile) → ((seen d e : List ℕ) → Leaves call seen d e → d ≡ e ⊎ e ≡ second) → Kept old mid → Noted call mid new ⊎ Kept mid new
+    → (c : List ℕ) → file_outcome new c → file_outcome old c ⊎ c ≡ second
+crash_unreplaced call second old mid new leaves kept (inl noted) c left =
+    let from = outcome_noted call old new (noted_after call old mid new kept noted) c left in
+    ⊎_elim (λ same. inl (subst (λ (e : List ℕ). file_outcome old e) same from.1)) (λ now. inr now) (leaves (file_bytes old) from.0 c from.2)
+crash_unreplaced call second old mid new leaves kept (inr none) c left = inl (outcome_kept old new (kept_after old mid new kept none) c left)

@@ -1,7 +1,7 @@
 -- What a file that keeps all its calls holds, and what a crash may leave of it.
-use Rattle.std.specs.Prelude.{◌≡◌, ℕ, ◌+◌, ◌≤◌, List, [], ◌∷◌, ◌++◌, length, take, drop}
+use Rattle.std.specs.Prelude.{◌≡◌, ◌⊎◌, ℕ, ◌+◌, ◌≤◌, List, [], ◌∷◌, ◌++◌, length, take, drop}
 use Rattle.envy_torn.specs.declared.torn.Call.{Call}
-use Rattle.envy_torn.specs.declared.torn.Call.TheVariants.{Write, Cut as CutCall, Sync, BadWrite, BadCut}
+use Rattle.envy_torn.specs.declared.torn.Call.TheVariants.{Write, Cut as CutCall, Sync, Replace, BadWrite, BadCut, BadReplace}
 use Rattle.envy_device.specs.Device.{Torn, Cut}
 
 -- old with these bytes at this offset
@@ -13,8 +13,10 @@ abbrev pub seen_by : Call → List ℕ → List ℕ
 seen_by (Write at bytes) seen = written seen at bytes.items
 seen_by (CutCall len) seen = take len seen
 seen_by Sync seen = seen
+seen_by (Replace bytes) seen = bytes.items
 seen_by (BadWrite at len) seen = seen
 seen_by (BadCut len) seen = seen
+seen_by (BadReplace bytes) seen = seen
 
 -- the bytes after these calls, the first of them first
 abbrev pub seen_after : List Call → List ℕ → List ℕ
@@ -26,8 +28,10 @@ abbrev pub Leaves : Call → List ℕ → List ℕ → List ℕ → Type 0
 Leaves (Write at bytes) seen d e = Torn at (length bytes.items) d e
 Leaves (CutCall len) seen d e = Cut len d e
 Leaves Sync seen d e = (e ≡ seen) × (d ≡ e)
+Leaves (Replace bytes) seen d e = e ≡ bytes.items
 Leaves (BadWrite at len) seen d e = Torn at len d e
 Leaves (BadCut len) seen d e = Cut len d e
+Leaves (BadReplace bytes) seen d e = d ≡ e ⊎ e ≡ bytes.items
 
 -- what a crash may leave after these calls, where it might have left what has this property before them
 abbrev pub Outcome : List Call → List ℕ → (List ℕ → Type 0) → List ℕ → Type 0

@@ -10,6 +10,9 @@ use Rattle.envy_torn.specs.Calls.{OutcomeOf, LeftBy}
 abbrev pub file_bytes : TornFile → List ℕ
 file_bytes file = file.bytes.items
 
+abbrev pub file_second : TornFile → List ℕ
+file_second file = file.second.items
+
 abbrev pub file_calls : TornFile → List Call
 file_calls file = file.calls.items
 

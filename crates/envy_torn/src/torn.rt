@@ -4,8 +4,9 @@ ghost use Rattle.std.specs.Prelude.{◌≡◌, ◌≤◌, ℕ, List, [], ◌∷�
 ghost use Rattle.envy_torn.specs.Calls.{seen_after, written};
 
 use crate::Dice;
-use envy_device::{Device, DeviceFailed};
+use envy_device::{Device, DeviceFailed, Place};
 use std::alloc::{AllocError, Global};
+use std::mem;
 
 /// What was asked of a file.
 #[derive(Drop)]
@@ -13,9 +14,13 @@ pub enum Call {
     Write { at: usize, bytes: Vec<u8> },
     Cut { len: usize },
     Sync,
+    /// These bytes take the place of all.
+    Replace { bytes: Vec<u8> },
     /// A write or a cut that failed, of which any part may be done.
     BadWrite { at: usize, len: usize },
     BadCut { len: usize },
+    /// A replacement that failed. It may be done.
+    BadReplace { bytes: Vec<u8> },
 }
 
 /// A file in memory, whose calls fail from a planned one on.
@@ -23,6 +28,8 @@ pub enum Call {
 pub struct TornFile {
     alloc: Global,
     bytes: Vec<u8>,
+    // the second file
+    second: Vec<u8>,
     first: Vec<u8>,
     calls: Vec<Call>,
     // how many calls there were when the last sync succeeded
@@ -38,7 +45,7 @@ impl TornFile {
     ghost use Rattle.std.specs.Prelude.{◌⊎◌, IfSome};
     ghost use Rattle.envy_device.specs.Device.{Only};
     ghost use Rattle.envy_torn.specs.Calls.{seen_by};
-    ghost use Rattle.envy_torn.specs.Torn.{file_bytes, file_calls, file_outcome, Kept, Noted, Finished};
+    ghost use Rattle.envy_torn.specs.Torn.{file_bytes, file_second, file_calls, file_outcome, Kept, Noted, Finished};
 
     /// A file with these bytes, all of them on the disk. So many calls succeed, and every later one fails.
     pub fn new(alloc: Global, bytes: Vec<u8>, left: usize) -> Result<TornFile, AllocError>
@@ -49,6 +56,7 @@ impl TornFile {
         Ok(TornFile {
             alloc,
             bytes,
+            second: Vec::new(alloc),
             first,
             calls: Vec::new(alloc),
             synced: 0,
@@ -84,6 +92,15 @@ impl TornFile {
                     tear(&mut disk, *at, &junk, dice)?;
                 }
                 Call::BadCut { len } => cut_some(&mut disk, *len, dice),
+                Call::Replace { bytes } => {
+                    seen = bytes.to_vec(alloc)?;
+                    disk = bytes.to_vec(alloc)?;
+                }
+                Call::BadReplace { bytes } => {
+                    if dice.below(2) == 0 {
+                        disk = bytes.to_vec(alloc)?;
+                    }
+                }
             }
         }
         Ok(disk)
@@ -92,6 +109,7 @@ impl TornFile {
     // Whether this call may succeed.
     fn may_pass(&mut self) -> bool
         ensures kept { Kept self.old self.new }
+        ensures second { file_second self.new ≡ file_second self.old }
         ensures failed { self.new.failed ≡ self.old.failed }
         ensures passes { result ≡ true → self.new.failed ≡ false }
     {
@@ -129,6 +147,20 @@ impl TornFile {
         self.bytes[..len].to_vec(self.alloc).ok()
     }
 
+    // The second file twice, where it may take the first one's place and there is memory.
+    fn planned_replace(&mut self) -> Option<(Vec<u8>, Vec<u8>)>
+        ensures kept { Kept self.old self.new }
+        ensures second { file_second self.new ≡ file_second self.old }
+        ensures failed { self.new.failed ≡ self.old.failed }
+        ensures passes { IfSome result (λ both. (self.new.failed ≡ false) × (both.0.items ≡ file_second self.old)
+            × (both.1.items ≡ file_second self.old)) }
+    {
+        if !self.may_pass() {
+            return None;
+        }
+        twice(self.alloc, &self.second).ok()
+    }
+
     // Notes a call that makes the file these bytes.
     fn finish(&mut self, call: Call, next: Vec<u8>) -> Result<(), DeviceFailed>
         requires { next.items ≡ seen_by call (file_bytes self.old) }
@@ -159,6 +191,13 @@ fn add_call(calls: &mut Vec<Call>, call: Call) -> bool
     ensures full { result ≡ false → calls.new.items ≡ calls.old.items }
 {
     calls.push(call).is_ok()
+}
+
+// The bytes, two times.
+fn twice(alloc: Global, bytes: &[u8]) -> Result<(Vec<u8>, Vec<u8>), AllocError>
+    ensures { IfOk result (λ both. (both.0.items ≡ bytes.now) × (both.1.items ≡ bytes.now)) }
+{
+    Ok((bytes.to_vec(alloc)?, bytes.to_vec(alloc)?))
 }
 
 // The bytes again, and a file with them at this offset.
@@ -289,5 +328,43 @@ impl Device for TornFile {
         }
         self.synced = self.calls.len();
         Ok(())
+    }
+}
+
+impl Place for TornFile {
+    ghost use Rattle.envy_torn.specs.Torn.{file_second};
+
+    ghost second = { file_second };
+
+    fn begin_second(&mut self) -> Result<(), DeviceFailed> {
+        if !self.may_pass() {
+            self.failed = true;
+            return Err(DeviceFailed);
+        }
+        self.second = Vec::new(self.alloc);
+        Ok(())
+    }
+
+    fn write_second(&mut self, bytes: &[u8]) -> Result<(), DeviceFailed> {
+        if !self.may_pass() || self.second.extend_from_slice(bytes).is_err() {
+            self.failed = true;
+            return Err(DeviceFailed);
+        }
+        Ok(())
+    }
+
+    fn replace(&mut self) -> Result<(), DeviceFailed> {
+        match self.planned_replace() {
+            Some((copy, next)) => {
+                self.finish(Call::Replace { bytes: copy }, next)?;
+                self.synced = self.calls.len();
+                Ok(())
+            }
+            None => {
+                let bytes = mem::replace(&mut self.second, Vec::new(self.alloc));
+                self.fail(Call::BadReplace { bytes });
+                Err(DeviceFailed)
+            }
+        }
     }
 }

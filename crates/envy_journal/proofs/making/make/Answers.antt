@@ -1,51 +1,46 @@
-use Rattle.std.proofs.Common.{◌≡◌, ◌∙◌, ◌∷◌, [], ◌++◌, inl, ℕ, List, ap, drop, sym}
-use Rattle.envy_journal.specs.Head.{IsUnmade, IsNewOrUnmade, head_bytes}
-use Rattle.envy_journal.specs.Making.{HasFirst}
-use Rattle.envy_journal.proofs.Moments.{widened, joined}
-use Rattle.envy_journal.proofs.Made.{made_marked}
+use Rattle.std.proofs.Common.{◌≡◌, ◌⊎◌, ◌∙◌, ◌∷◌, ◌++◌, [], inl, inr, ⊎_elim, ℕ, List, sym, ap, subst}
+use Rattle.envy_journal.specs.Head.{IsNewOrUnmade, StandsFor, head_bytes}
+use Rattle.envy_journal.proofs.Moments.{widened}
+use Rattle.envy_journal.proofs.Opened.{made_new}
+use Rattle.envy_journal.proofs.Untouched.{untouched_call, untouched_both, replaced, then_replaced}
 use Rattle.envy_journal.proofs.making.make.Goals as goal
 
-pub returns-in_err-lay-clause-any_moment : goal.returns-in_err-lay-clause-any_moment
-returns-in_err-lay-clause-any_moment g c =
-    widened g.D.Device.moment g.D.Device.left_since c.args.device.now c.lay.new.device IsUnmade (IsNewOrUnmade c.args.shape.now) c.lay.ensures.any_moment (λ x un. inl un)
-
-pub mark-requires-clause-file : goal.mark-requires-clause-file
-mark-requires-clause-file g c =
-    let is = c.in_ok-lay.ensures.file in
-    is ∙ ap (λ (l : List ℕ). 0 ∷ drop 1 l) (sym is)
-
-pub returns-in_err-mark-clause-any_moment : goal.returns-in_err-mark-clause-any_moment
-returns-in_err-mark-clause-any_moment g c =
+pub returns-in_err-replace-clause-any_moment : goal.returns-in_err-replace-clause-any_moment
+returns-in_err-replace-clause-any_moment g c =
+    let leave = g.D.Device.may_leave in
     let moment = g.D.Device.moment in
     let left = g.D.Device.left_since in
+    let only_now = g.met.D.Device.only_now in
     let sh = c.args.shape.now in
-    let old = c.args.device.now in
-    let mid = c.lay.new.device in
-    let is = c.in_ok-lay.ensures.file in
-    let laid = c.behind_first-rest.ensures ∙ ap (λ (l : List ℕ). drop 1 l ++ 0 ∷ []) c.head_of.ensures in
-    let rest = drop 1 (g.D.Device.seen mid) in
-    let same : rest ≡ drop 1 (head_bytes sh) ++ 0 ∷ [] = ap (λ (l : List ℕ). drop 1 l) is ∙ laid in
-    joined moment left old mid c.mark.new.device (IsNewOrUnmade sh)
-    (widened moment left old mid IsUnmade (IsNewOrUnmade sh) c.lay.ensures.any_moment (λ x un. inl un))
-    (widened moment left mid c.mark.new.device (HasFirst rest) (IsNewOrUnmade sh) c.mark.ensures.any_moment (λ x first. made_marked sh rest x same first))
+    let first = c.args.device.now in
+    let a = c.begin_second.new.self in
+    let b = c.write_second.new.self in
+    let d = c.replace.new.self in
+    let file = g.D.Place.second b in
+    let is : file ≡ head_bytes sh ++ 0 ∷ [] = c.in_ok-write_second.ensures.written ∙ ap (λ (l : List ℕ). l ++ c.with_gate.result) c.in_ok-begin_second.ensures.begun ∙ c.with_gate.ensures in
+    let quiet = untouched_both leave moment left first a b (untouched_call leave moment left first a (only_now first) c.begin_second.ensures.crash c.begin_second.ensures.time)
+    (untouched_call leave moment left a b (only_now a) c.write_second.ensures.crash c.write_second.ensures.time) in
+    widened moment left first d (λ x. leave first x ⊎ StandsFor sh [] x) (IsNewOrUnmade sh)
+    (then_replaced leave moment left first b d (λ x. x ≡ file) (StandsFor sh []) quiet (replaced leave moment left b d file (only_now b) c.replace.ensures.crash c.replace.ensures.time)
+    (λ x now. subst (λ (l : List ℕ). StandsFor sh [] l) (sym (now ∙ is)) (made_new sh)))
+    (λ x was. ⊎_elim (λ before. inl (c.requires.durable x before ∙ c.requires.unmade)) (λ made. inr made) was)
 
 pub returns-clause-any_moment : goal.returns-clause-any_moment
 returns-clause-any_moment g c =
+    let leave = g.D.Device.may_leave in
     let moment = g.D.Device.moment in
     let left = g.D.Device.left_since in
+    let only_now = g.met.D.Device.only_now in
     let sh = c.args.shape.now in
-    let old = c.args.device.now in
-    let mid = c.lay.new.device in
-    let is = c.in_ok-lay.ensures.file in
-    let laid = c.behind_first-rest.ensures ∙ ap (λ (l : List ℕ). drop 1 l ++ 0 ∷ []) c.head_of.ensures in
-    let rest = drop 1 (g.D.Device.seen mid) in
-    let same : rest ≡ drop 1 (head_bytes sh) ++ 0 ∷ [] = ap (λ (l : List ℕ). drop 1 l) is ∙ laid in
-    joined moment left old mid c.mark.new.device (IsNewOrUnmade sh)
-    (widened moment left old mid IsUnmade (IsNewOrUnmade sh) c.lay.ensures.any_moment (λ x un. inl un))
-    (widened moment left mid c.mark.new.device (HasFirst rest) (IsNewOrUnmade sh) c.mark.ensures.any_moment (λ x first. made_marked sh rest x same first))
-
-pub returns-clause-file : goal.returns-clause-file
-returns-clause-file g c =
-    let is = c.in_ok-lay.ensures.file in
-    let laid = c.behind_first-rest.ensures ∙ ap (λ (l : List ℕ). drop 1 l ++ 0 ∷ []) c.head_of.ensures in
-    c.in_ok-mark.ensures.file ∙ ap (λ (l : List ℕ). 1 ∷ drop 1 l) is ∙ ap (λ (l : List ℕ). 1 ∷ l) laid
+    let first = c.args.device.now in
+    let a = c.begin_second.new.self in
+    let b = c.write_second.new.self in
+    let d = c.replace.new.self in
+    let file = g.D.Place.second b in
+    let is : file ≡ head_bytes sh ++ 0 ∷ [] = c.in_ok-write_second.ensures.written ∙ ap (λ (l : List ℕ). l ++ c.with_gate.result) c.in_ok-begin_second.ensures.begun ∙ c.with_gate.ensures in
+    let quiet = untouched_both leave moment left first a b (untouched_call leave moment left first a (only_now first) c.begin_second.ensures.crash c.begin_second.ensures.time)
+    (untouched_call leave moment left a b (only_now a) c.write_second.ensures.crash c.write_second.ensures.time) in
+    widened moment left first d (λ x. leave first x ⊎ StandsFor sh [] x) (IsNewOrUnmade sh)
+    (then_replaced leave moment left first b d (λ x. x ≡ file) (StandsFor sh []) quiet (replaced leave moment left b d file (only_now b) c.replace.ensures.crash c.replace.ensures.time)
+    (λ x now. subst (λ (l : List ℕ). StandsFor sh [] l) (sym (now ∙ is)) (made_new sh)))
+    (λ x was. ⊎_elim (λ before. inl (c.requires.durable x before ∙ c.requires.unmade)) (λ made. inr made) was)

@@ -1,0 +1,134 @@
+-- The bytes of a second file, while the log's buffer carries them.
+use Rattle.std.proofs.Common.{◌≡◌, ℕ, ◌+◌, ◌≤◌, true, false, Result, Ok, Err, OnOk, List, [], ◌∷◌, ◌++◌, length, take, refl, sym, ◌∙◌, ap, subst, arith, append_assoc, length-append, length-take}
+use Rattle.std.proofs.lemmas.List.{append-nil, take_at}
+use Rattle.envy_base.specs.State.{State}
+use Rattle.envy_base.specs.declared.shape.Shape.{Shape}
+use Rattle.envy_journal.specs.declared.operation.Operation.{Operation}
+use Rattle.envy_journal.specs.declared.log.Log.{Log}
+use Rattle.envy_journal.specs.Content.{Content, blank, changed, content_of, holds}
+use Rattle.envy_journal.specs.Head.{head_bytes}
+use Rattle.envy_journal.specs.Journal.{IsFileOf}
+use Rattle.envy_journal.specs.Log.{Begins}
+use Rattle.envy_journal.specs.Reading.{operations, Leads}
+use Rattle.envy_journal.specs.Snapshot.{Gathers, Makes, gathered}
+use Rattle.envy_journal.proofs.Logged.{begins_front, shut_gate}
+use Rattle.envy_journal.proofs.Parsed.{leads_over, leads_open, leads_close, leads_both, leads_to}
+use Rattle.envy_journal.proofs.Replayed.{after-append}
+
+module _ {D : Type 0} (second : D → List ℕ) (log : Log D) (is : Gathers second log) where
+  buffered : length (take log.used log.buffer.items) ≡ log.used
+  buffered = omega (arith, length-take {A = ℕ}, is.fits)
+
+  pub gathered_length : length (gathered second log) ≡ log.end + log.used
+  gathered_length = omega (arith, length-append (second log.device) (take log.used log.buffer.items), buffered, is.end)
+
+  -- the buffer is written behind the second file
+  module _ (device : D) (bytes : List ℕ) (all : bytes ≡ take log.used log.buffer.items) (wrote : second device ≡ second log.device ++ bytes) where
+    pub spilled_file : second device ≡ gathered second log
+    spilled_file = wrote ∙ ap (λ (l : List ℕ). second log.device ++ l) all
+
+    pub spilled_gathered : second device ++ [] ≡ gathered second log
+    spilled_gathered = append-nil (second device) ∙ spilled_file
+
+    pub spilled_gathers : Gathers second (record log { device = device; end = log.end + log.used; used = 0 })
+    spilled_gathers = record { fits = omega arith; room = is.room; end = ap length spilled_file ∙ gathered_length }
+
+-- bytes behind those that were gathered
+pub gathered_more : (file used bytes now : List ℕ) → now ≡ used ++ bytes → file ++ now ≡ (file ++ used) ++ bytes
+gathered_more file used bytes now is = ap (λ (l : List ℕ). file ++ l) is ∙ sym (append_assoc file used bytes)
+
+-- a head and an open gate
+pub makes_front : (sh : Shape) (file : List ℕ) → file ≡ head_bytes sh ++ 4 ∷ [] → Makes sh (blank sh) 34 file
+makes_front sh file is =
+    let h = head_bytes sh in
+    let leads : Leads false 33 file [] true = subst (λ (l : List ℕ). Leads false 33 l [] true) (sym is) (leads_both false false true 33 h (4 ∷ []) [] [] (leads_over false 33 h refl) leads_open) in
+    let none : operations file ≡ [] = leads_to false true 33 file [] leads in
+    record {
+      head = ap (λ (l : List ℕ). take 33 l) is ∙ take_at h (4 ∷ []) 33 refl;
+      whole = subst (λ (p : List Operation). Leads false 33 file p true) (sym none) leads;
+      content = ap (λ (p : List Operation). holds sh p) none;
+      size = let long : length file ≡ 34 = ap length is in omega arith;
+    }
+
+module _ (sh : Shape) (x : Content) (most : ℕ) (bytes : List ℕ) (is : Makes sh x most bytes) where
+  -- the same, told otherwise
+  pub makes_as : (y : Content) (more : ℕ) → x ≡ y → most ≤ more → Makes sh y more bytes
+  makes_as y more same le = record { head = is.head; whole = is.whole; content = is.content ∙ same; size = omega (arith, is.size) }
+
+  head_long : 33 ≤ length bytes
+  head_long = let e : length (take 33 bytes) ≡ 33 = ap length is.head in omega (arith, e, length-take {A = ℕ})
+
+  -- one operation more
+  pub makes_more : (o : Operation) (piece : List ℕ) (y : Content) (more : ℕ) → Leads true 0 piece (o ∷ []) true → changed sh.rows o x ≡ y → most + length piece ≤ more → Makes sh y more (bytes ++ piece)
+  makes_more o piece y more leads same le =
+      let all : Leads false 33 (bytes ++ piece) (operations bytes ++ o ∷ []) true = leads_both false true true 33 bytes piece (operations bytes) (o ∷ []) is.whole leads in
+      let reads : operations (bytes ++ piece) ≡ operations bytes ++ o ∷ [] = leads_to false true 33 (bytes ++ piece) (operations bytes ++ o ∷ []) all in
+      record {
+        head = begins_front (head_bytes sh) bytes piece (bytes ++ piece) is.head (let e = take_at (bytes ++ piece) [] (length (bytes ++ piece)) refl in ap (λ (l : List ℕ). take (length (bytes ++ piece)) l) (sym (append-nil (bytes ++ piece))) ∙ e);
+        whole = subst (λ (p : List Operation). Leads false 33 (bytes ++ piece) p true) (sym reads) all;
+        content =
+            ap (λ (p : List Operation). holds sh p) reads
+            ∙ after-append sh.rows (operations bytes) (o ∷ []) (blank sh)
+            ∙ ap (λ (z : Content). changed sh.rows o z) is.content
+            ∙ same;
+        size = omega (arith, length-append bytes piece, is.size);
+      }
+
+-- a second file in the place
+module _ (s : State) (most : ℕ) (bytes file : List ℕ) (is : Makes s.shape (content_of s) most bytes) (whole : file ≡ bytes ++ 5 ∷ 0 ∷ []) where
+  kept : List ℕ
+  kept = bytes ++ 5 ∷ []
+
+  closed : file ≡ kept ++ 0 ∷ []
+  unfolding kept
+  closed = whole ∙ sym (append_assoc bytes (5 ∷ []) (0 ∷ []))
+
+  kept_length : length kept ≡ length bytes + 1
+  unfolding kept
+  kept_length = length-append bytes (5 ∷ [])
+
+  front : take (length bytes + 1) file ≡ kept
+  front = ap (λ (l : List ℕ). take (length bytes + 1) l) closed ∙ take_at kept (0 ∷ []) (length bytes + 1) kept_length
+
+  kept_leads : Leads false 33 kept (operations bytes) false
+  unfolding kept
+  kept_leads =
+      subst (λ (p : List Operation). Leads false 33 (bytes ++ 5 ∷ []) p false) (append-nil (operations bytes))
+      (leads_both false true false 33 bytes (5 ∷ []) (operations bytes) [] is.whole leads_close)
+
+  kept_reads : operations kept ≡ operations bytes
+  kept_reads = leads_to false false 33 kept (operations bytes) kept_leads
+
+  begins_self : (l : List ℕ) → Begins l l
+  begins_self l = ap (λ (m : List ℕ). take (length l) m) (sym (append-nil l)) ∙ take_at l [] (length l) refl
+
+  kept_head : Begins (head_bytes s.shape) kept
+  unfolding kept
+  kept_head = begins_front (head_bytes s.shape) bytes (5 ∷ []) (bytes ++ 5 ∷ []) is.head (begins_self (bytes ++ 5 ∷ []))
+
+  -- it is a journal of the board
+  pub replaced_file : IsFileOf s file
+  replaced_file = record {
+    head = begins_front (head_bytes s.shape) bytes (5 ∷ 0 ∷ []) file is.head (subst (λ (l : List ℕ). Begins l file) whole (begins_self file));
+    content =
+        sym is.content
+        ∙ ap (λ (p : List Operation). holds s.shape p)
+        (sym (shut_gate kept file (operations bytes) 0 kept_leads (λ e. let no : 0 ≡ 4 = e in cc) (subst (λ (l : List ℕ). Begins l file) closed (begins_self file))));
+  }
+
+  pub replaced_kept : IsFileOf s (take (length bytes + 1) file)
+  replaced_kept = subst (λ (l : List ℕ). IsFileOf s l) (sym front) (record { head = kept_head; content = sym is.content ∙ ap (λ (p : List Operation). holds s.shape p) (sym kept_reads) })
+
+  pub replaced_leads : Leads false 33 (take (length bytes + 1) file) (operations (take (length bytes + 1) file)) false
+  replaced_leads = subst (λ (l : List ℕ). Leads false 33 l (operations l) false) (sym front) (subst (λ (p : List Operation). Leads false 33 kept p false) (sym kept_reads) kept_leads)
+
+  pub replaced_end : file ≡ take (length bytes + 1) file ++ 0 ∷ []
+  replaced_end = closed ∙ ap (λ (l : List ℕ). l ++ 0 ∷ []) (sym front)
+
+  pub replaced_size : length file ≡ length bytes + 2
+  replaced_size = ap length whole ∙ length-append bytes (5 ∷ 0 ∷ [])
+
+-- what holds at Ok
+pub ok_goes : {T E P Q : Type 0} → (result : Result T E) → OnOk result P → (P → Q) → OnOk result Q
+ok_goes (Ok x) is goes = goes is
+ok_goes (Err e) is goes = tt

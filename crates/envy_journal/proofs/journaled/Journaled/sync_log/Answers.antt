@@ -1,0 +1,93 @@
+use Rattle.std.proofs.Common.{◌∙◌, List, ap, refl, sym}
+use Rattle.std.proofs.lemmas.Bool.{false≢true}
+use Rattle.envy_journal.specs.declared.operation.Operation.{Operation}
+use Rattle.envy_journal.specs.Content.{holds}
+use Rattle.envy_journal.specs.Journal.{kept}
+use Rattle.envy_journal.proofs.Caused.{cause_on, ended_by, by_end, no_fault}
+use Rattle.envy_journal.proofs.Compacted.{crash_file, crash_all}
+use Rattle.envy_journal.proofs.Logged.{stands_tied, logged_synced, kept_all, done_same, held_none}
+use Rattle.envy_journal.proofs.Ran.{run_sync}
+use Rattle.envy_journal.proofs.Synced.{size_synced}
+use Rattle.envy_journal.proofs.journaled.Journaled.sync_log.Goals as goal
+
+pub invariant_of-self : goal.invariant_of-self
+invariant_of-self g c =
+    let j = c.args.self.now in
+    let ok = c.in-Ok.ensures.ok in
+    let seen = g.D.Device.seen in
+    let leave = g.D.Device.may_leave in
+    let left = g.D.Device.left_since in
+    let last = g.D.Device.synced in
+    let s = g.B.Board.state j.board in
+    let sound = ok.0 in
+    record {
+      logged = λ alive. logged_synced g.D.Device.seen g.D.Device.may_leave g.D.Device.left_since g.D.Device.synced j.log (g.B.Board.state j.board) (j.logged alive) c.sync.new.self c.sync.ensures.room ok.0 ok.1 ok.2;
+      stands = λ sure. stands_tied seen leave left last c.sync.new.self s (logged_synced seen leave left last j.log s (j.logged c.if-self.false) c.sync.new.self c.sync.ensures.room ok.0 ok.1 ok.2) c.sync.new.self s refl refl sound.tied;
+      ended = λ dead. absurd (false≢true (sym c.if-self.false ∙ dead));
+    }
+
+pub returns-in-Ok-clause-appended : goal.returns-in-Ok-clause-appended
+returns-in-Ok-clause-appended g c =
+    let j = c.args.self.now in
+    let ok = c.in-Ok.ensures.ok in
+    kept_all g.D.Device.seen g.D.Device.may_leave g.D.Device.left_since g.D.Device.synced j.log (g.B.Board.state j.board) (j.logged c.if-self.false) c.sync.new.self c.sync.ensures.room ok.0 ok.1 ok.2
+
+pub returns-in-Ok-clause-ok : goal.returns-in-Ok-clause-ok
+returns-in-Ok-clause-ok g c =
+    let j = c.args.self.now in
+    let alive = c.if-self.false in
+    let ok = c.in-Ok.ensures.ok in
+    let s = g.B.Board.state j.board in
+    let kept_now = returns-in-Ok-clause-appended g c in
+    let done_now = done_same g.D.Device.seen g.D.Device.may_leave g.D.Device.left_since g.D.Device.synced j.log s (j.logged alive) c.sync.new.self c.sync.ensures.room ok.0 ok.1 ok.2 in
+    record {
+      alive = alive;
+      still_alive = alive;
+      none_held = held_none g.D.Device.seen g.D.Device.may_leave g.D.Device.left_since g.D.Device.synced j.log s (j.logged alive) c.sync.new.self c.sync.ensures.room ok.0 ok.1 ok.2;
+      all = done_now ∙ sym kept_now;
+      same = ap (λ (p : List Operation). holds s.shape p) kept_now;
+    }
+
+pub returns-in-Ok-clause-size : goal.returns-in-Ok-clause-size
+returns-in-Ok-clause-size g c =
+    let j = c.args.self.now in
+    let ok = c.in-Ok.ensures.ok in
+    let logged = j.logged c.if-self.false in
+    size_synced g.D.Device.seen g.D.Device.may_leave g.D.Device.left_since g.D.Device.synced j.log logged.sound c.sync.new.self ok.0 ok.1 ok.2
+
+pub returns-in-Ok-clause-any_moment : goal.returns-in-Ok-clause-any_moment
+returns-in-Ok-clause-any_moment g c = λ alive.
+    let j = c.args.self.now in
+    crash_file g.D.Device.seen g.D.Device.may_leave g.D.Device.left_since g.D.Device.synced j.log (g.B.Board.state j.board) (j.logged alive) g.D.Device.moment c.sync.new.self.device c.sync.ensures.any_moment
+
+pub returns-in-Err-clause-any_moment : goal.returns-in-Err-clause-any_moment
+returns-in-Err-clause-any_moment g c = λ alive.
+    let j = c.args.self.now in
+    crash_file g.D.Device.seen g.D.Device.may_leave g.D.Device.left_since g.D.Device.synced j.log (g.B.Board.state j.board) (j.logged alive) g.D.Device.moment c.sync.new.self.device c.sync.ensures.any_moment
+
+pub returns-in-Ok-clause-any_moment_ok : goal.returns-in-Ok-clause-any_moment_ok
+returns-in-Ok-clause-any_moment_ok g c =
+    let j = c.args.self.now in
+    crash_all g.D.Device.seen g.D.Device.may_leave g.D.Device.left_since g.D.Device.synced j.log (g.B.Board.state j.board) (j.logged c.if-self.false) g.D.Device.moment c.sync.new.self.device c.sync.ensures.any_moment
+    (kept g.D.Device.seen c.sync.new.self) (returns-in-Ok-clause-appended g c)
+
+pub returns-in-Ok-clause-runs : goal.returns-in-Ok-clause-runs
+returns-in-Ok-clause-runs g c =
+    let ok = returns-in-Ok-clause-ok g c in
+    run_sync g.D.Device.seen g.D.Device.moment g.D.Device.left_since (g.B.Board.state c.args.self.now.board).shape c.args.self.now.log c.sync.new.self ok.same ok.none_held (returns-in-Ok-clause-any_moment_ok g c)
+
+pub invariant_of-self-in-Err : goal.invariant_of-self-in-Err
+invariant_of-self-in-Err g c = record {
+  logged = λ alive. absurd (false≢true (sym alive));
+  stands = λ sure. absurd (false≢true (sym sure));
+  ended = λ dead. ended_by g.D.Device.seen g.D.Device.has_failed c.sync.new.self c.in-Err.error c.in-Err.ensures.cause;
+}
+
+pub returns-in-Err-clause-cause : goal.returns-in-Err-clause-cause
+returns-in-Err-clause-cause g c = cause_on g.D.Device.seen g.D.Device.has_failed c.sync.new.self c.args.self.now.dead _ c.in-Err.ensures.cause
+
+pub returns-in-Ok-clause-cause : goal.returns-in-Ok-clause-cause
+returns-in-Ok-clause-cause g c = no_fault g.D.Device.seen g.D.Device.has_failed c.args.self.now.dead c.sync.new.self
+
+pub returns-then-self-clause-cause : goal.returns-then-self-clause-cause
+returns-then-self-clause-cause g c = by_end g.D.Device.seen g.D.Device.has_failed c.args.self.now.dead c.args.self.now.log c.if-self.true
