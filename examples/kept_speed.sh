@@ -3,7 +3,8 @@
 # 100 and 1,000, in one run and in turn; what each writes and how often it syncs; how long opening takes, and a compaction.
 # Words: a folder on the disk that is measured (that of temporary files), and a program (the proved one). It needs gcc;
 # SQLite and LMDB are left out where their headers aren't (Debian: libsqlite3-dev, liblmdb-dev). ROUNDS is how often each is
-# measured (9); the best and the middle one are told. file/kept_speed.c says what is done.
+# measured (9); the best and the middle one are told. file/kept_speed.c says what is done. The library's row wants its
+# archive (cd crates/envy_kept && rt lib).
 set -eu
 cd "$(dirname "$0")"
 program=${2-$PWD/../crates/envy/out/envy}
@@ -18,8 +19,9 @@ compiles() { echo 'int main(void) { return 0; }' | gcc -x c -o "$work/none" - "$
 
 engines='disk keep'
 with=
-if compiles -include ../c/envy_kept.h && [ -e ../crates/envy_kept/out/libenvy_kept.a ]; then
-    engines="$engines kept" with="$with -DWITH_KEPT ../c/envy_kept.c ../c/heap.c ../crates/envy_kept/out/libenvy_kept.a"
+if [ -e ../crates/envy_kept/out/libenvy_kept.a ]; then
+    make -s out/lib/libenvy_kept.a
+    engines="$engines kept" with="$with -DWITH_KEPT out/lib/libenvy_kept.a"
 fi
 if compiles -include sqlite3.h -lsqlite3; then
     engines="$engines sqlite-full sqlite-full-each sqlite-normal" with="$with -DWITH_SQLITE -lsqlite3"

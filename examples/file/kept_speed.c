@@ -89,10 +89,13 @@ static void write_transfer(FILE *to, const transfer *t) {
     fprintf(to, "put 0 0 %" PRIu32 "\ncommit 0\ntick\n", t->number + 1);
 }
 
-/* Writes the trace: each page is stored once, so that all are there. */
-static void write_trace(FILE *to, uint32_t transfers, uint32_t every) {
+/* Writes what comes before the transfers: each page is stored once, so that all are there. */
+static void write_setup(FILE *to) {
     for (uint32_t page = 0; page < PAGES; page++) fprintf(to, "store %" PRIu32 " 0\n", 32 * page);
     fputs("sync\n", to);
+}
+
+static void write_transfers(FILE *to, uint32_t transfers, uint32_t every) {
     for (uint32_t i = 0; i < transfers; i++) {
         transfer t = next_transfer(i);
         write_transfer(to, &t);
@@ -106,25 +109,29 @@ static double seconds(void) {
     return (double)now.tv_sec + 1e-9 * (double)now.tv_nsec;
 }
 
-/* Feeds the program by a pipe, and takes its replies from another: seconds from the reply to the first sync to the end. */
+/* Feeds the program by a pipe, and takes its replies from another: seconds from the reply to the first sync, behind which
+   the transfers are given, to the end. */
 static double through_pipe(const char *program, const char *path, uint32_t transfers, uint32_t every) {
-    int in[2], out[2];
-    must(!pipe(in) && !pipe(out), "pipe");
+    int in[2], out[2], go[2];
+    must(!pipe(in) && !pipe(out) && !pipe(go), "pipe");
     char pages[32];
     snprintf(pages, sizeof pages, "--pages=%d", PAGES);
     pid_t served = fork();
     if (!served) {
         dup2(in[0], 0), dup2(out[1], 1);
-        close(in[0]), close(in[1]), close(out[0]), close(out[1]);
+        close(in[0]), close(in[1]), close(out[0]), close(out[1]), close(go[0]), close(go[1]);
         execl(program, program, "keep", "--file", path, SIZES, pages, (char *)NULL);
         _exit(127);
     }
     close(in[0]), close(out[1]);
     pid_t feeder = fork();
     if (!feeder) {
+        char first;
         close(out[0]);
         FILE *to = fdopen(in[1], "w");
-        write_trace(to, transfers, every);
+        write_setup(to);
+        fflush(to);
+        if (read(go[0], &first, 1) == 1) write_transfers(to, transfers, every);
         fclose(to);
         _exit(0);
     }
@@ -134,7 +141,10 @@ static double through_pipe(const char *program, const char *path, uint32_t trans
     double began = 0;
     uint32_t synced = 0;
     while (fgets(line, sizeof line, from))
-        if (!strcmp(line, "synced\n") && synced++ == 0) began = seconds();
+        if (!strcmp(line, "synced\n") && synced++ == 0) {
+            began = seconds();
+            must(write(go[1], "x", 1) == 1, "go");
+        }
     int status;
     must(waitpid(served, &status, 0) == served && status == 0, "the program failed");
     double ended = seconds();
@@ -375,7 +385,8 @@ int main(int words, char **word) {
     uint32_t transfers = (uint32_t)strtoul(word[3], NULL, 10), every = (uint32_t)strtoul(word[4], NULL, 10);
     double took = -1;
     if (!strcmp(word[1], "trace")) {
-        write_trace(stdout, transfers, every);
+        write_setup(stdout);
+        write_transfers(stdout, transfers, every);
         return 0;
     }
     if (!strcmp(word[1], "keep") && words == 6) took = through_pipe(word[5], word[2], transfers, every);
