@@ -88,6 +88,20 @@ for ((round = 0; round < 3; round++)); do
     FILE_CALLS_WAIT=1000 LD_PRELOAD=$work/calls.so a_round "$memory"
 done >"$work/waiting"
 table "The same, where each sync waits for 1 ms: the best of 3 runs (the middle one)" "$work/waiting"
+# what one sync of the file in place of two would bring: each of the two waits for half
+of_all=$engines
+for engines in $of_all; do
+    case $engines in
+    keep | kept)
+        for ((round = 0; round < 3; round++)); do
+            FILE_CALLS_WAIT=500 LD_PRELOAD=$work/calls.so a_round "$memory" | sed 's/^[a-z]*/&-with-one-sync/'
+        done >"$work/halved"
+        engines=$engines-with-one-sync
+        table - "$work/halved" | tail -n 1
+        ;;
+    esac
+done
+engines=$of_all
 
 # counted ENGINE TRANSFERS EVERY: bytes that were written to the files, and syncs
 counted() {
@@ -110,6 +124,35 @@ for engine in $engines; do
     done
     echo "$row"
 done
+
+# counted_instructions ENGINE TRANSFERS EVERY: of the process that has the file, by callgrind
+counted_instructions() {
+    rm -f "$memory"/file*
+    set -- "$@" valgrind --tool=callgrind --callgrind-out-file=/dev/null
+    if [ "$1" = keep ]; then
+        "$work/speed" trace - "$2" "$3" >"$memory/trace"
+        "${@:4}" "$program" keep --file "$memory/file" --segments=64 --rows=512 --shadows=64 --frames=256 --entries=4096 \
+            --pages=17675 <"$memory/trace" 2>"$work/said" >/dev/null
+    else
+        "${@:4}" "$work/speed" "$1" "$memory/file" "$2" "$3" 2>"$work/said" >/dev/null
+    fi
+    awk '/Collected/ { print $NF }' "$work/said"
+}
+
+if command -v valgrind >/dev/null; then
+    echo
+    echo '| Instructions for each transfer | 1 | 10 | 100 | 1,000 |'
+    echo '|---|---|---|---|---|'
+    for engine in $engines; do
+        case $engine in disk | sqlite-normal | lmdb-nometasync) continue ;; esac
+        none=$(counted_instructions "$engine" 0 1)
+        row="| \`$engine\` |"
+        for every in 1 10 100 1000; do
+            row="$row $((($(counted_instructions "$engine" 2000 "$every") - none) / 2000)) |"
+        done
+        echo "$row"
+    done
+fi
 
 # a file of 64 MiB: the pages of a board of 131,072 rows are stored, one after another, until the file is so long
 big=$work/big
