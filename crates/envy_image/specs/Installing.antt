@@ -1,9 +1,10 @@
 -- What installing an image does to a board.
-use Rattle.std.specs.Prelude.{◌≡◌, ◌⊎◌, ℕ, ◌+◌, ◌-◌, ◌*◌, ◌/◌, ◌^◌, ◌<◌, ◌≤◌, min, max, false, IsTrue, List, length, take, slice_index, Result, Ok, Err}
+use Rattle.std.specs.Prelude.{◌≡◌, ◌⊎◌, ℕ, ◌+◌, ◌-◌, ◌*◌, ◌/◌, ◌^◌, ◌<◌, ◌≤◌, min, max, false, IsTrue, List, length, take, ◌++◌, slice_index, Result, Ok, Err}
 use Rattle.envy_base.specs.Counting.{up}
 use Rattle.envy_base.specs.Map.{words_of}
 use Rattle.envy_base.specs.State.{State, IsOnes, IsPage, row_of}
 use Rattle.envy_base.specs.Words.{Rose}
+use Rattle.envy_base.specs.declared.board.Off.{Off}
 use Rattle.envy_base.specs.declared.board.Trouble.{Trouble}
 use Rattle.envy_base.specs.declared.shape.Shape.{Shape}
 use Rattle.envy_io.specs.Streams.{Feed}
@@ -130,6 +131,26 @@ pub record Filled (n : ℕ) (old : State) (was : Taking) (from : Feed) (new : St
   pub bytes : Consumes was from (words_bytes (take n new.sram)) now to
   pub size : length (words_bytes (take n new.sram)) ≡ 8 * n
 
+-- the words from one on are these
+pub record HasPut (first : ℕ) (words : List ℕ) (old new : State) : Type 0 where
+  pub on : IsTrue old.on
+  pub same : new ≡ record old { sram = new.sram }
+  pub long : length new.sram ≡ length old.sram
+  pub words_are : take (first + length words) new.sram ≡ take first old.sram ++ words
+
+abbrev pub PutsWords : ℕ → List ℕ → State → Result Unit Off → State → Type 0
+PutsWords first words old (Ok done) new = HasPut first words old new
+PutsWords first words old (Err off) new = Upsets old new
+
+-- 32 words from one on are what the bytes say
+abbrev pub FillsPiece : ℕ → State → Taking → Feed → Result Unit InFault → State → Taking → Feed → Type 0
+FillsPiece first old was from (Ok done) new now to =
+    (words : List ℕ) × (length words ≡ 32) × HasPut first words old new × Consumes was from (words_bytes words) now to
+FillsPiece first old was from (Err fault) new now to = StopsAs fault 256 old was from new now to
+
+abbrev pub FillsFirst : ℕ → State → Taking → Feed → Result Unit InFault → State → Taking → Feed → Type 0
+FillsFirst n old was from (Ok done) new now to = Filled n old was from new now to
+FillsFirst n old was from (Err fault) new now to = StopsAs fault (8 * length old.sram) old was from new now to
+
 abbrev pub FillsWords : State → Taking → Feed → Result Unit InFault → State → Taking → Feed → Type 0
-FillsWords old was from (Ok done) new now to = Filled (length old.sram) old was from new now to
-FillsWords old was from (Err fault) new now to = StopsAs fault (8 * length old.sram) old was from new now to
+FillsWords old was from result new now to = FillsFirst (length old.sram) old was from result new now to

@@ -1,8 +1,10 @@
-ghost use Rattle.std.specs.Prelude.{◌≡◌, ◌<◌, ℕ, IsTrue, length};
-ghost use Rattle.envy_base.specs.State.{IsOnes, IsPage, row_of};
+ghost use Rattle.std.specs.Prelude.{◌≡◌, ◌+◌, ◌*◌, ◌<◌, ◌≤◌, ℕ, IsTrue, length};
+ghost use Rattle.envy_base.specs.State.{State, IsOnes, IsPage, row_of};
+ghost use Rattle.envy_io.specs.Streams.{Feed};
+ghost use Rattle.envy_io.specs.Taking.{Taking};
 ghost use Rattle.envy_image.specs.Backwards.{GivesBack};
 ghost use Rattle.envy_image.specs.Image.{words_bytes};
-ghost use Rattle.envy_image.specs.Installing.{HasReadHead, IsWithin, Installs, Blanks, ReadsPage, ProgramsRows, FillsWords};
+ghost use Rattle.envy_image.specs.Installing.{HasReadHead, IsWithin, Installs, Blanks, ReadsPage, ProgramsRows, PutsWords, FillsPiece, FillsFirst, FillsWords, Filled};
 
 use crate::reading::{Stop, read_bytes, read_word, word_of};
 use envy_base::{Board, Off, Trouble};
@@ -109,7 +111,73 @@ fn program_rows<B: Board, S: Source>(
     Ok(())
 }
 
-// Puts the next words into SRAM.
+// Puts 32 words into SRAM, from one on.
+fn put_words<B: Board>(board: &mut B, first: u32, words: &[u64; 32]) -> Result<(), Off>
+    requires on { IsTrue (B.state board.old).on }
+    requires room { first + 32 ≤ length (B.state board.old).sram }
+    requires words { length words.now ≡ 32 }
+    ensures { PutsWords first words.now (B.state board.old) result (B.state board.new) }
+{
+    for i in 0..32 {
+        board.put(first + i, words[i as usize])?;
+    }
+    Ok(())
+}
+
+// Puts the next 32 words into SRAM, from one on. They are read in one piece.
+fn fill_piece<B: Board, S: Source>(
+    board: &mut B,
+    lines: &mut Lines,
+    source: &mut S,
+    first: u32,
+) -> Result<(), InFault>
+    requires on { IsTrue (B.state board.old).on }
+    requires room { first + 32 ≤ length (B.state board.old).sram }
+    ensures { FillsPiece first (B.state board.old) lines.old (S.feed source.old) result (B.state board.new) lines.new (S.feed source.new) }
+{
+    let words = read_page(lines, source)?;
+    put_words(board, first, &words)?;
+    Ok(())
+}
+
+// Puts the next words into SRAM, so many times 32.
+fn fill_pieces<B: Board, S: Source>(
+    board: &mut B,
+    lines: &mut Lines,
+    source: &mut S,
+    pieces: u32,
+) -> Result<(), InFault>
+    requires on { IsTrue (B.state board.old).on }
+    requires room { 32 * pieces ≤ length (B.state board.old).sram }
+    requires within { IsWithin lines.old }
+    ensures { FillsFirst (32 * pieces) (B.state board.old) lines.old (S.feed source.old) result (B.state board.new) lines.new (S.feed source.new) }
+{
+    for piece in 0..pieces {
+        fill_piece(board, lines, source, 32 * piece)?;
+    }
+    Ok(())
+}
+
+// Puts the next words into SRAM, from one on.
+fn fill_rest<B: Board, S: Source>(
+    board: &mut B,
+    lines: &mut Lines,
+    source: &mut S,
+    first: u32,
+) -> Result<(), InFault>
+    requires on { IsTrue (B.state board.old).on }
+    requires room { first ≤ length (B.state board.old).sram }
+    ensures { (start : State) (was : Taking) (from : Feed) → Filled first start was from (B.state board.old) lines.old (S.feed source.old)
+        → FillsWords start was from result (B.state board.new) lines.new (S.feed source.new) }
+{
+    for w in first..envy_map::words(&board.shape()) {
+        let word = read_word(lines, source)?;
+        board.put(w, word)?;
+    }
+    Ok(())
+}
+
+// Puts the next words into SRAM: 32 at a time, and the rest one by one.
 fn fill_words<B: Board, S: Source>(
     board: &mut B,
     lines: &mut Lines,
@@ -119,11 +187,9 @@ fn fill_words<B: Board, S: Source>(
     requires within { IsWithin lines.old }
     ensures { FillsWords (B.state board.old) lines.old (S.feed source.old) result (B.state board.new) lines.new (S.feed source.new) }
 {
-    for w in 0..envy_map::words(&board.shape()) {
-        let word = read_word(lines, source)?;
-        board.put(w, word)?;
-    }
-    Ok(())
+    let pieces = envy_map::words(&board.shape()) / 32;
+    fill_pieces(board, lines, source, pieces)?;
+    fill_rest(board, lines, source, 32 * pieces)
 }
 
 /// Makes a board what an image says, from the bytes behind its head: every segment is erased, every row

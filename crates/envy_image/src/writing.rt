@@ -1,7 +1,7 @@
-ghost use Rattle.std.specs.Prelude.{◌≡◌, ◌<◌, [], IsTrue, IsOk, IfOk, length, slice_index_or};
-ghost use Rattle.envy_io.specs.Streams.{WritesAll};
+ghost use Rattle.std.specs.Prelude.{◌≡◌, ◌+◌, ◌*◌, ◌<◌, ◌≤◌, [], IsTrue, IsOk, IfOk, length, take, drop, slice_index_or, Ok};
+ghost use Rattle.envy_io.specs.Streams.{Drain, WritesAll};
 ghost use Rattle.envy_image.specs.Image.{image_of, head_of, body_of, rows_bytes, words_bytes, word_bytes, numbers_bytes, number_bytes};
-ghost use Rattle.envy_image.specs.Writing.{WritesOut};
+ghost use Rattle.envy_image.specs.Writing.{WritesOut, WritesFirst};
 
 use envy_base::{Board, Off, Shape};
 use envy_io::{Failed, Sink, write_all};
@@ -119,16 +119,67 @@ fn write_rows<B: Board, K: Sink>(board: &B, sink: &mut K) -> Result<(), OutFault
     Ok(())
 }
 
-// Writes the words of SRAM.
-fn write_words<B: Board, K: Sink>(board: &B, sink: &mut K) -> Result<(), OutFault>
-    requires { IsTrue (B.state board.now).on }
-    ensures { WritesOut (B.state board.now).on (K.drain sink.old) (words_bytes (B.state board.now).sram) result (K.drain sink.new) }
+// The bytes of 32 words of SRAM, from one on.
+fn bytes_of_piece<B: Board>(board: &B, first: u32) -> Result<[u8; 256], Off>
+    requires on { IsTrue (B.state board.now).on }
+    requires room { first + 32 ≤ length (B.state board.now).sram }
+    ensures read { IfOk result (λ bytes. bytes ≡ words_bytes (take 32 (drop first (B.state board.now).sram))) }
+    ensures on { IsOk result }
 {
-    for w in 0..envy_map::words(&board.shape()) {
+    let mut bytes = [0; 256];
+    for i in 0..32 {
+        let word = board.get(first + i)?;
+        let at = 8 * i as usize;
+        bytes[at..at + 8].copy_from_slice(&word.to_le_bytes());
+    }
+    Ok(bytes)
+}
+
+// Writes 32 words of SRAM, from one on, in one piece.
+fn write_piece<B: Board, K: Sink>(board: &B, first: u32, sink: &mut K) -> Result<(), OutFault>
+    requires on { IsTrue (B.state board.now).on }
+    requires room { first + 32 ≤ length (B.state board.now).sram }
+    ensures { WritesOut (B.state board.now).on (K.drain sink.old) (words_bytes (take 32 (drop first (B.state board.now).sram))) result (K.drain sink.new) }
+{
+    let bytes = bytes_of_piece(board, first)?;
+    write_all(sink, &bytes)?;
+    Ok(())
+}
+
+// Writes the first words of SRAM, so many times 32.
+fn write_pieces<B: Board, K: Sink>(board: &B, pieces: u32, sink: &mut K) -> Result<(), OutFault>
+    requires on { IsTrue (B.state board.now).on }
+    requires room { 32 * pieces ≤ length (B.state board.now).sram }
+    ensures { WritesFirst (32 * pieces) (B.state board.now).on (K.drain sink.old) (B.state board.now).sram result (K.drain sink.new) }
+{
+    for piece in 0..pieces {
+        write_piece(board, 32 * piece, sink)?;
+    }
+    Ok(())
+}
+
+// Writes the words of SRAM from one on.
+fn write_rest<B: Board, K: Sink>(board: &B, first: u32, sink: &mut K) -> Result<(), OutFault>
+    requires on { IsTrue (B.state board.now).on }
+    requires room { first ≤ length (B.state board.now).sram }
+    ensures { (from : Drain) → WritesAll from (words_bytes (take first (B.state board.now).sram)) (Ok tt) (K.drain sink.old)
+        → WritesOut (B.state board.now).on from (words_bytes (B.state board.now).sram) result (K.drain sink.new) }
+{
+    for w in first..envy_map::words(&board.shape()) {
         let word = board.get(w)?;
         write_word(word, sink)?;
     }
     Ok(())
+}
+
+// Writes the words of SRAM: 32 at a time, and the rest one by one.
+fn write_words<B: Board, K: Sink>(board: &B, sink: &mut K) -> Result<(), OutFault>
+    requires { IsTrue (B.state board.now).on }
+    ensures { WritesOut (B.state board.now).on (K.drain sink.old) (words_bytes (B.state board.now).sram) result (K.drain sink.new) }
+{
+    let pieces = envy_map::words(&board.shape()) / 32;
+    write_pieces(board, pieces, sink)?;
+    write_rest(board, 32 * pieces, sink)
 }
 
 // Writes what stands behind the head.

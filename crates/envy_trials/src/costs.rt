@@ -21,29 +21,21 @@ fn memory_by(
     }
 }
 
-/// A memory of 33 positions, which are cleaned in turn.
-fn memory_of(
-    rt: &(impl Abort + Alloc<A = Global>),
-    rows: u32,
-    pages: u32,
-    mark: u32,
-) -> Result<Memory<CountingBoard>, Fail> {
-    memory_by(
-        rt,
-        Setup {
-            shape: Shape {
-                segments: 34,
-                rows,
-                pages,
-                shadows: 200,
-                frames: 4,
-                entries: 4,
-            },
-            policy: Policy::Fifo,
-            limit: 100,
-            mark,
+/// A setup of so many segments, one of which is the spare, whose positions are cleaned in turn.
+const fn setup_of(segments: u32, rows: u32, pages: u32, mark: u32) -> Setup {
+    Setup {
+        shape: Shape {
+            segments,
+            rows,
+            pages,
+            shadows: 200,
+            frames: 4,
+            entries: 4,
         },
-    )
+        policy: Policy::Fifo,
+        limit: 100,
+        mark,
+    }
 }
 
 /// What is asked of a memory.
@@ -90,16 +82,21 @@ fn flush(rt: &impl Abort, memory: &mut Memory<CountingBoard>, page: u16) {
     make(rt, memory, Call::Tick(Did::Flushed));
 }
 
+/// Flushes a page into so many rows.
+fn fill(rt: &impl Abort, memory: &mut Memory<CountingBoard>, page: u16, rows: u32) {
+    for _row in 0..rows {
+        flush(rt, memory, page);
+    }
+}
+
 /// Lets the cleaning of position 0 begin, all of whose rows but the first are kept. No row is free at the others.
-fn begin_cleaning(rt: &impl Abort, memory: &mut Memory<CountingBoard>, rows: u16) {
+fn begin_cleaning(rt: &impl Abort, memory: &mut Memory<CountingBoard>, segments: u16, rows: u16) {
     // page 0 leaves row 0
     flush(rt, memory, 0);
     for page in 1..rows {
         flush(rt, memory, page - 1);
     }
-    for _row in 0..32 * rows as u32 {
-        flush(rt, memory, 63);
-    }
+    fill(rt, memory, 63, (segments - 2) as u32 * rows as u32);
     make(rt, memory, Call::Store(32 * 63));
     make(rt, memory, Call::Tick(Did::Began));
 }
@@ -110,11 +107,13 @@ const LAST_STEPS: [Did; 3] = [Did::Switched, Did::Placed, Did::Erased];
 /// How often all steps of the cleaning of a segment read the board, where so many rows but one are kept.
 fn cleaning_reads(
     rt: &(impl Abort + Alloc<A = Global>),
+    segments: u16,
     rows: u16,
     pages: u32,
 ) -> Result<u64, Fail> {
-    let mut memory = memory_of(rt, rows as u32, pages, 1)?;
-    begin_cleaning(rt, &mut memory, rows);
+    let setup = setup_of(segments as u32, rows as u32, pages, 1);
+    let mut memory = memory_by(rt, setup)?;
+    begin_cleaning(rt, &mut memory, segments, rows);
     let _before = reads_since(&memory);
     for _row in 1..rows {
         make(rt, &mut memory, Call::Tick(Did::Copied));
@@ -135,11 +134,11 @@ fn cleaning_reads(
 // that began at the first row again would read 2 words of each row that was copied before: about n n in all.
 #[test]
 fn a_cleaning_looks_at_each_row_a_few_times(rt: HostRuntime) -> Result<(), Fail> {
-    let few = cleaning_reads(&rt, 16, 64)?;
+    let few = cleaning_reads(&rt, 34, 16, 64)?;
     assert!(rt; few <= 45 * 16 + 10, "{few}");
-    let more = cleaning_reads(&rt, 32, 64)?;
+    let more = cleaning_reads(&rt, 34, 32, 64)?;
     assert!(rt; more <= 2 * few + 45, "{few}, {more}");
-    let most = cleaning_reads(&rt, 64, 64)?;
+    let most = cleaning_reads(&rt, 34, 64, 64)?;
     assert!(rt; most <= 2 * more + 45, "{more}, {most}");
     Ok(())
 }
@@ -203,27 +202,132 @@ fn placed(call: Call, last: u32) -> Call {
     }
 }
 
-/// How often each call of the list reads the board of a memory with this last page.
-fn reads_by_call(rt: &(impl Abort + Alloc<A = Global>), last: u16) -> Result<Vec<u64>, Fail> {
-    let mut memory = memory_of(rt, 32, last as u32 + 1, 4)?;
-    let last = 32 * last as u32;
+/// How often each of these calls reads the board of a memory whose last page begins at this address.
+fn reads_by_call(
+    rt: &(impl Abort + Alloc<A = Global>),
+    memory: &mut Memory<CountingBoard>,
+    calls: &[Call],
+    last: u32,
+) -> Result<Vec<u64>, Fail> {
     let mut reads = Vec::new(rt.alloc());
-    let _before = reads_since(&memory);
-    for call in CALLS.as_slice() {
-        make(rt, &mut memory, placed(*call, last));
-        reads.push(reads_since(&memory))?;
+    let _before = reads_since(memory);
+    for call in calls {
+        make(rt, memory, placed(*call, last));
+        reads.push(reads_since(memory))?;
     }
     Ok(reads)
+}
+
+/// How often each call of the list reads the board, by this policy, of so many segments and with this last page.
+fn listed_reads(
+    rt: &(impl Abort + Alloc<A = Global>),
+    policy: Policy,
+    segments: u32,
+    last: u16,
+) -> Result<Vec<u64>, Fail> {
+    let setup = setup_of(segments, 32, last as u32 + 1, 4);
+    let mut memory = memory_by(rt, Setup { policy, ..setup })?;
+    reads_by_call(rt, &mut memory, CALLS.as_slice(), 32 * last as u32)
 }
 
 // Nothing but the number of pages differs, and only format, attach and revive may look at all pages. Each call reads
 // the same fields of its own page, of slots and of rows.
 #[test]
 fn calls_read_as_much_of_many_pages(rt: HostRuntime) -> Result<(), Fail> {
-    let few = reads_by_call(&rt, 63)?;
-    let many = reads_by_call(&rt, 511)?;
+    let few = listed_reads(&rt, Policy::Fifo, 34, 63)?;
+    let many = listed_reads(&rt, Policy::Fifo, 34, 511)?;
     assert_eq!(rt; few.as_slice(), many.as_slice());
-    assert_eq!(rt; cleaning_reads(&rt, 32, 64)?, cleaning_reads(&rt, 32, 512)?);
+    assert_eq!(rt;
+        cleaning_reads(&rt, 34, 32, 64)?,
+        cleaning_reads(&rt, 34, 32, 512)?
+    );
+    Ok(())
+}
+
+/// The policies, under each of which no call looks at all segments.
+const POLICIES: [Policy; 5] = [
+    Policy::Greedy,
+    Policy::Fifo,
+    Policy::Locality,
+    Policy::Hybrid(2),
+    Policy::Lifetime,
+];
+
+// Nothing but the number of segments differs.
+#[test]
+fn calls_read_as_much_of_many_segments(rt: HostRuntime) -> Result<(), Fail> {
+    for policy in POLICIES.as_slice() {
+        let few = listed_reads(&rt, *policy, 16, 63)?;
+        let many = listed_reads(&rt, *policy, 4096, 63)?;
+        assert_eq!(rt; few.as_slice(), many.as_slice(), "{policy:?}");
+    }
+    assert_eq!(rt;
+        cleaning_reads(&rt, 16, 32, 64)?,
+        cleaning_reads(&rt, 4096, 32, 64)?
+    );
+    Ok(())
+}
+
+/// The last page of the smaller memory below.
+const BUSY: u16 = 19;
+
+/// Calls to a memory that has no free row, no page in a frame, and at each of the first 13 positions a row of the page of
+/// the position's number and a dead one. Each page that comes to a frame makes the oldest leave once 4 are there, and for
+/// that a position is cleaned: for 9 pages, and once in ticks.
+const FULL: [Call; 25] = [
+    Call::Store(32 * 13),
+    Call::Store(32 * 14),
+    Call::Store(32 * 15),
+    Call::Store(32 * 16),
+    Call::Store(32 * 17),
+    Call::Store(32 * 18),
+    Call::Store(32 * 12),
+    Call::Load(32 * 13),
+    Call::Begin(0),
+    Call::Put(0, 32 * 13),
+    Call::Put(0, 32 * 14),
+    Call::Put(0, 32 * 10),
+    Call::Put(0, 32 * 10 + 1),
+    Call::Commit(0),
+    Call::Begin(0),
+    Call::Put(0, 32 * 15),
+    Call::Put(0, 32 * 11),
+    Call::Put(0, 32 * 12),
+    Call::Abort(0),
+    Call::Tick(Did::Began),
+    Call::Tick(Did::Copied),
+    Call::Tick(Did::Switched),
+    Call::Tick(Did::Placed),
+    Call::Tick(Did::Erased),
+    Call::Tick(Did::Flushed),
+];
+
+/// How often each call of the second list reads the board of so many segments of 2 rows, and how many segments are
+/// cleaned in all.
+fn full_reads(
+    rt: &(impl Abort + Alloc<A = Global>),
+    segments: u16,
+) -> Result<(Vec<u64>, u64), Fail> {
+    let mut setup = setup_of(segments as u32, 2, BUSY as u32 + 1, 1);
+    setup.shape.shadows = 8;
+    let mut memory = memory_by(rt, setup)?;
+    for page in 0..13 {
+        flush(rt, &mut memory, page);
+        flush(rt, &mut memory, BUSY);
+    }
+    fill(rt, &mut memory, BUSY, 2 * (segments - 14) as u32);
+    let before = memory.counts().erases;
+    let reads = reads_by_call(rt, &mut memory, FULL.as_slice(), 0)?;
+    Ok((reads, memory.counts().erases - before))
+}
+
+// Nothing but the number of segments differs, and the positions that are cleaned have the same rows.
+#[test]
+fn calls_that_clean_read_as_much_of_many_segments(rt: HostRuntime) -> Result<(), Fail> {
+    let (few, cleaned) = full_reads(&rt, 16)?;
+    let (many, cleaned_of_many) = full_reads(&rt, 4096)?;
+    assert_eq!(rt; few.as_slice(), many.as_slice());
+    assert_eq!(rt; (cleaned, cleaned_of_many), (10, 10));
     Ok(())
 }
 
@@ -239,7 +343,7 @@ fn open(rt: &impl Abort, memory: &mut Memory<CountingBoard>, slot: u8) {
 /// How often a store into a page in a frame reads the board: where the cache holds the page, and where it doesn't. So
 /// many slots are open, each of which owns 25 pages.
 fn store_reads(rt: &(impl Abort + Alloc<A = Global>), slots: u8) -> Result<(u64, u64), Fail> {
-    let mut memory = memory_of(rt, 32, 512, 4)?;
+    let mut memory = memory_by(rt, setup_of(34, 32, 512, 4))?;
     for slot in 0..slots {
         open(rt, &mut memory, slot);
     }

@@ -159,8 +159,8 @@ fn the_rules_of_the_words_come_before_the_rest(rt: HostRuntime) -> Result<(), Fa
 #[test]
 fn a_source_may_fail_within_an_image(rt: HostRuntime) -> Result<(), Fail> {
     let image = written(&rt, &SMALLEST, b"store 3 4\n")?;
-    // 8 and 24 bytes of the head, 8 rows and 161 words, each of which is asked for by itself
-    for call in 1..172 {
+    // 8 and 24 bytes of the head, 8 rows, five times 32 words and one word, each of which is asked for by itself
+    for call in 1..17 {
         let fails = Given {
             source_fails: call,
             ..calm(&image)
@@ -177,8 +177,8 @@ fn a_source_may_fail_within_an_image(rt: HostRuntime) -> Result<(), Fail> {
 #[test]
 fn a_sink_may_fail_within_an_image(rt: HostRuntime) -> Result<(), Fail> {
     let image = written(&rt, &SMALLEST, b"store 3 4\n")?;
-    // the mark, six numbers, 8 rows, 161 words of SRAM, and the flush
-    for call in 1..178 {
+    // the mark, six numbers, 8 rows, five times 32 words of SRAM and one word, and the flush
+    for call in 1..23 {
         let fails = Given {
             sink_fails: call,
             ..calm(b"store 3 4\n")
@@ -186,7 +186,7 @@ fn a_sink_may_fail_within_an_image(rt: HostRuntime) -> Result<(), Fail> {
         let told = told(rt.alloc(), &SMALLEST, &fails)?;
         assert!(&rt; told.end.status == 4 && told.end.lines == 1);
         assert!(&rt; image.starts_with(&told.text));
-        assert!(&rt; (told.text.len() == SIZE) == (call == 177));
+        assert!(&rt; (told.text.len() == SIZE) == (call == 22));
     }
     Ok(())
 }
