@@ -91,7 +91,7 @@ impl KeptRows {
         ensures { self.new ≡ slice_set self.old row page.now }
     {
         reach(&mut self.pages, row);
-        self.pages[row] = *page;
+        self.pages[row].copy_from_slice(page);
         self.erased[row] = false;
     }
 

@@ -11,7 +11,7 @@ ghost use Rattle.envy_flush.specs.Agreement.{Ready, Steady};
 ghost use Rattle.envy_flush.specs.Storing.{Brings, IsHome, IsNotable, left_pool, Near};
 
 use crate::homes::home_of;
-use crate::page::words;
+use crate::page::read_words;
 use crate::parts::Parts;
 use envy_base::{Board, Off, Place};
 use envy_layout::{move_to_frame, write_free_frame};
@@ -47,12 +47,13 @@ pub fn fill_frame<B: Board>(
     ensures off { OnErr result ((B.state board.new).on ≡ false) }
 {
     let home = home_of(board, parts, page, from)?;
-    let mut page_words = words(board, from)?;
-    page_words[i as usize] = w;
+    let mut words = [0; 32];
+    read_words(board, from, &mut words)?;
+    words[i as usize] = w;
     let Some(frame) = parts.frames.take(page, home) else {
         unreachable!();
     };
-    write_free_frame(board, frame, &page_words)?;
+    write_free_frame(board, frame, &words)?;
     Ok(frame)
 }
 

@@ -1,4 +1,4 @@
-ghost use Rattle.std.specs.Prelude.{◌≡◌, ◌*◌, ◌+◌, ◌<◌, ℕ, false, IsTrue, Some, OnErr, MatchResult, IfOk, length, slice_index};
+ghost use Rattle.std.specs.Prelude.{◌≡◌, ◌*◌, ◌+◌, ◌<◌, ℕ, false, IsTrue, Some, OnOk, OnErr, MatchResult, length, slice_index};
 ghost use Rattle.envy_map.specs.Fields.{chart};
 ghost use Rattle.envy_layout.specs.Words.{word_at};
 ghost use Rattle.envy_flush.specs.Pages.{InRange};
@@ -21,17 +21,15 @@ pub fn word<B: Board>(board: &B, from: Place, i: u32) -> Result<u64, Off>
     }
 }
 
-/// The words of a page that is there.
-#[inline(always)]
-pub fn words<B: Board>(board: &B, from: Place) -> Result<[u64; 32], Off>
+/// Reads the words of a page that is there into `words`.
+pub fn read_words<B: Board>(board: &B, from: Place, words: &mut [u64; 32]) -> Result<(), Off>
     requires range { InRange (B.state board.now) from }
-    ensures long { IfOk result (λ ws. length ws ≡ 32) }
-    ensures words { IfOk result (λ ws. (j : ℕ) → j < 32 → slice_index ws j ≡ word_at (chart (B.state board.now)).fields.frames (B.state board.now).flash (Some from) j) }
+    ensures long { length words.new ≡ 32 }
+    ensures words { OnOk result ((j : ℕ) → j < 32 → slice_index words.new j ≡ word_at (chart (B.state board.now)).fields.frames (B.state board.now).flash (Some from) j) }
     ensures off { OnErr result ((B.state board.now).on ≡ false) }
 {
-    let mut words = [0u64; 32];
     for i in 0..32u32 {
         words[i as usize] = word(board, from, i)?;
     }
-    Ok(words)
+    Ok(())
 }

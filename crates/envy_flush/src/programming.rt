@@ -6,7 +6,7 @@ ghost use Rattle.envy_layout.specs.Sound.{IsSound};
 ghost use Rattle.envy_layout.specs.Same.{Same};
 ghost use Rattle.envy_flush.specs.Flushing.{Granted};
 
-use crate::page::words;
+use crate::page::read_words;
 use envy_base::{Board, Place, Trouble};
 use envy_layout::program_counted;
 
@@ -42,6 +42,7 @@ pub fn program_copy<B: Board>(
     ensures off { (result ≡ Err Trouble.Off) ↔ ((B.state board.new).on ≡ false) }
     ensures bad { IsErrOf result Trouble.Bad → (B.state board.new).bads ≡ up (B.state board.old).bads }
 {
-    let page = words(board, Place::Frame(frame))?;
-    program_counted(board, row, &page, count)
+    let mut words = [0; 32];
+    read_words(board, Place::Frame(frame), &mut words)?;
+    program_counted(board, row, &words, count)
 }

@@ -11,7 +11,7 @@ ghost use Rattle.envy_reloc.specs.Plan.{AreCopies};
 ghost use Rattle.envy_reloc.specs.Rows.{IsLeft, NextKept};
 
 use envy_base::{Board, Off, Trouble};
-use envy_layout::{keeper, note_origin, program_counted, words_of_row};
+use envy_layout::{keeper, note_origin, program_counted};
 use envy_space::Space;
 
 /// A kept row that the spare has no copy of, and the page that keeps it.
@@ -47,6 +47,22 @@ pub(crate) fn next_kept<B: Board>(
     Ok(None)
 }
 
+/// Reads the 32 words of a row into `words`.
+pub(crate) fn read_row<B: Board>(board: &B, row: u32, words: &mut [u64; 32]) -> Result<(), Off>
+    requires { row < (B.state board.now).shape.segments * (B.state board.now).shape.rows }
+    ensures words { OnOk result (words.new ≡ row_of (B.state board.now) row) }
+    ensures on { OnOk result (IsTrue (B.state board.now).on) }
+    ensures off { OnErr result ((B.state board.now).on ≡ false) }
+{
+    if !board.powered() {
+        return Err(Off);
+    }
+    for i in 0..32 {
+        words[i as usize] = board.read(row, i)?;
+    }
+    Ok(())
+}
+
 #[tactic(auto, using(envy_layout::proofs::Sames::same_then, envy_layout::proofs::Sames::same_within, envy_layout::proofs::Sames::tally_still, envy_layout::proofs::Sames::tally_then))]
 /// Copies a row of the segment that is being copied to the spare.
 pub(crate) fn copy_row<B: Board>(
@@ -79,6 +95,7 @@ pub(crate) fn copy_row<B: Board>(
     let filled = space.fill(spare);
     note_origin(board, filled, left.row)?;
     let target = space.claim(board, spare, left.page)?;
-    let words = words_of_row(board, left.row)?;
+    let mut words = [0; 32];
+    read_row(board, left.row, &mut words)?;
     program_counted(board, target, &words, copied)
 }

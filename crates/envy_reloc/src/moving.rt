@@ -19,7 +19,8 @@ ghost use Rattle.envy_reloc.specs.Rows.{HasRoom, Rooms};
 use crate::Reloc;
 use crate::following::follow;
 use envy_base::{Board, Off, Place, Trouble};
-use envy_layout::{Kept, keeper, move_place, move_undo, program_counted, words_of_row};
+use crate::copying::read_row;
+use envy_layout::{Kept, keeper, move_place, move_undo, program_counted};
 use envy_space::Space;
 use envy_table::Cache;
 
@@ -128,7 +129,8 @@ fn program_move<B: Board>(
     ensures bad { IsErrOf result Trouble.Bad → (B.state board.new).bads ≡ up (B.state board.old).bads }
 {
     let target = space.claim(board, segment, page)?;
-    let words = words_of_row(board, row)?;
+    let mut words = [0; 32];
+    read_row(board, row, &mut words)?;
     program_counted(board, target, &words, moved)?;
     Ok(target)
 }

@@ -1,7 +1,8 @@
+pub mod BitLemmas
 pub mod CountLemmas
+pub mod EmptyLemmas
 pub mod FlagLemmas
 pub mod FollowLemmas
-pub mod EmptyLemmas
 pub mod NodeLemmas
 pub mod NotingLemmas
 pub mod OrderLemmas
@@ -10,3 +11,4 @@ pub mod PoolLemmas
 pub mod RisingLemmas
 pub mod RunLemmas
 pub mod SpaceLemmas
+pub mod WordLemmas

@@ -1,3 +1,4 @@
+pub mod Bits
 pub mod Following
 pub mod Noting
 pub mod Order

@@ -1,5 +1,5 @@
 -- The place with the highest score among several, and the lowest and the highest place with a score.
-use Rattle.std.specs.Prelude.{◌≡◌, ℕ, ◌+◌, ◌-◌, ◌*◌, ◌^◌, ◌<◌, ◌≤◌, nat_lt, min, List, length, map, drop, Option, None, Some, slice_index, slice_index_or, if◌then◌else◌}
+use Rattle.std.specs.Prelude.{◌≡◌, ℕ, ◌+◌, ◌*◌, ◌^◌, ◌<◌, ◌≤◌, nat_lt, min, List, length, map, drop, Option, None, Some, slice_index_or, if◌then◌else◌}
 use Rattle.envy_space.specs.declared.nodes.Entry.{Entry}
 
 -- from first to last, place k has the highest score, which isn't 0, and is the lowest of those with as much
@@ -42,15 +42,6 @@ Highest score first end None = (j : ℕ) → first ≤ j → j < end → score j
 -- 1 where there are rows, and 0 where there is none
 abbrev pub flag : ℕ → ℕ
 flag rows = min rows 1
-
--- The flags of n places, from the lowest place up and from the highest down.
-pub record AreFlags (n : ℕ) (rising falling : List ℕ) : Type 0 where
-  pub some : 1 ≤ n
-  pub few : n < 2 ^ 31
-  pub long : length rising ≡ n
-  pub long_down : length falling ≡ n
-  pub fit : (k : ℕ) → slice_index rising k ≤ 1
-  pub down : (k : ℕ) → k < n → slice_index falling (n - 1 - k) ≡ slice_index rising k
 
 abbrev pub nobody : Entry
 nobody = record { place = 0; score = 0 }

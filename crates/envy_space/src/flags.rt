@@ -1,57 +1,60 @@
-ghost use Rattle.std.specs.Prelude.{◌≡◌, ◌^◌, ◌<◌, ◌≤◌, length, replicate, slice_index, slice_set, swap, IfOk};
+ghost use Rattle.std.specs.Prelude.{◌≡◌, ◌≢◌, ℕ, ◌+◌, ◌-◌, ◌*◌, ◌<◌, ◌≤◌, length, replicate, slice_index, slice_set, swap, IfOk};
+ghost use Rattle.std.specs.Int.{bit_at};
 ghost use Rattle.envy_space.specs.Winners.{Lowest, Highest, flag as flag_of};
 
-use crate::winners::Winners;
+use crate::bits::{bit, highest_of, highest_to, lowest_from, lowest_of, turned};
 use envy_base::NoMemory;
 use std::alloc::Global;
 use std::marker::Model;
 
+/// Words of bits, enough for each place of a board.
+const WORDS: usize = 64;
+
 /// Which places have rows, and the lowest and the highest of any run of them that have some.
 ///
-/// Two winner trees over flags of 0 and 1. Of several places with a 1 a tree answers the lowest, so the
-/// second has the places from the highest down.
+/// A bit for each place, 64 to a word, and in `top` a bit for each word that has one: so a new flag
+/// changes two words at most, and a run is looked through by two or three.
 #[derive(Drop)]
 pub struct Flags {
     places: u32,
-    rising: Winners,
-    falling: Winners,
+    words: Vec<u64>,
+    top: u64,
 }
 
 impl Model for Flags {
     ghost use Rattle.std.specs.Prelude.{List, ℕ};
-    ghost use Rattle.envy_space.specs.Winners.{AreFlags};
+    ghost use Rattle.envy_space.specs.Bits.{AreBits, bits_of};
 
     ghost Value = { List ℕ };
 
-    ghost view = { λ a. a.rising };
+    ghost view = { λ a. bits_of a.places a.words.items };
 
-    ghost invariant = { λ a. AreFlags a.places a.rising a.falling };
+    ghost invariant = { λ a. AreBits a.places a.top a.words.items };
 }
 
 impl Flags {
     /// So many places, each with so many rows.
     pub fn new(alloc: Global, places: u32, rows: u32) -> Result<Flags, NoMemory>
-        requires some { 1 ≤ places }
-        requires few { places < 2 ^ 31 }
+        requires few { places ≤ 4096 }
         ensures { IfOk result (λ flags. flags ≡ replicate places (flag_of rows)) }
     {
-        let flag = rows.min(1);
-        let rising = Winners::new(alloc, places, flag)?;
-        let falling = Winners::new(alloc, places, flag)?;
-        Ok(Flags {
+        let words = vec![in alloc; 0; WORDS]?;
+        let mut flags = Flags {
             places,
-            rising,
-            falling,
-        })
+            words,
+            top: 0,
+        };
+        flags.fill(rows);
+        Ok(flags)
     }
 
     /// Gives each place so many rows.
     pub fn fill(&mut self, rows: u32)
         ensures { self.new ≡ replicate (length self.old) (flag_of rows) }
     {
-        let flag = rows.min(1);
-        self.rising.fill(flag);
-        self.falling.fill(flag);
+        for place in 0..self.places() {
+            self.set(place, rows);
+        }
     }
 
     /// Gives a place so many rows.
@@ -59,10 +62,7 @@ impl Flags {
         requires { place < length self.old }
         ensures { self.new ≡ slice_set self.old place (flag_of rows) }
     {
-        let flag = rows.min(1);
-        if self.rising.score(place) != flag {
-            self.write(place, flag);
-        }
+        self.write(place, rows.min(1));
     }
 
     /// Lets two places change places.
@@ -85,7 +85,12 @@ impl Flags {
         if first == end {
             return None;
         }
-        self.rising.best(first, end - 1)
+        let word = first / 64;
+        match lowest_from(self.words[word as usize], first % 64) {
+            Some(bit) if 64 * word + bit < end => Some(64 * word + bit),
+            Some(_) => None,
+            None => self.lowest_behind(word + 1, end),
+        }
     }
 
     /// The highest place from `first` to below `end` that has rows.
@@ -97,11 +102,53 @@ impl Flags {
         if first == end {
             return None;
         }
-        match self
-            .falling
-            .best(self.places - end, self.places - 1 - first)
-        {
-            Some(place) => Some(self.places - 1 - place),
+        let last = end - 1;
+        let word = last / 64;
+        match highest_to(self.words[word as usize], last % 64) {
+            Some(bit) if 64 * word + bit >= first => Some(64 * word + bit),
+            Some(_) => None,
+            None => self.highest_before(first, word),
+        }
+    }
+
+    /// How many places there are.
+    fn places(&self) -> u32
+        ensures { result ≡ length self.now }
+    {
+        self.places
+    }
+
+    /// The lowest place from the first of a word on, and below `end`, that has rows.
+    fn lowest_behind(&self, word: u32, end: u32) -> Option<u32>
+        requires word { word ≤ 64 }
+        requires end { end ≤ length self.now }
+        ensures { Lowest (slice_index self.now) (64 * word) end result }
+    {
+        if 64 * word >= end {
+            return None;
+        }
+        match lowest_from(self.top, word) {
+            Some(next) => {
+                let place = 64 * next + lowest_of(self.words[next as usize]);
+                if place < end { Some(place) } else { None }
+            }
+            None => None,
+        }
+    }
+
+    /// The highest place before those of a word, and from `first` on, that has rows.
+    fn highest_before(&self, first: u32, word: u32) -> Option<u32>
+        requires word { word < 64 }
+        ensures { Highest (slice_index self.now) first (64 * word) result }
+    {
+        if 64 * word <= first {
+            return None;
+        }
+        match highest_to(self.top, word - 1) {
+            Some(next) => {
+                let place = 64 * next + highest_of(self.words[next as usize]);
+                if place >= first { Some(place) } else { None }
+            }
             None => None,
         }
     }
@@ -112,7 +159,7 @@ impl Flags {
         ensures value { result ≡ slice_index self.now place }
         ensures fits { result ≤ 1 }
     {
-        self.rising.score(place)
+        bit(self.words[(place / 64) as usize], place % 64)
     }
 
     /// Writes the flag of a place.
@@ -121,7 +168,33 @@ impl Flags {
         requires fits { flag ≤ 1 }
         ensures { self.new ≡ slice_set self.old place flag }
     {
-        self.rising.set(place, flag);
-        self.falling.set(self.places - 1 - place, flag);
+        if self.flag(place) != flag {
+            self.turn(place);
+        }
+    }
+
+    /// Turns the flag of a place.
+    fn turn(&mut self, place: u32)
+        requires { place < length self.old }
+        ensures { self.new ≡ slice_set self.old place (1 - slice_index self.old place) }
+    {
+        let word = place / 64;
+        let bits = turned(self.words[word as usize], place % 64);
+        self.words[word as usize] = bits;
+        self.top = with_bit(self.top, word, bits.min(1) as u32);
+    }
+}
+
+/// The word with one of its bits written.
+fn with_bit(word: u64, i: u32, bit_i: u32) -> u64
+    requires place { i < 64 }
+    requires fits { bit_i ≤ 1 }
+    ensures here { bit_at result i ≡ bit_i }
+    ensures others { (j : ℕ) → j ≢ i → bit_at result j ≡ bit_at word j }
+{
+    if bit(word, i) == bit_i {
+        word
+    } else {
+        turned(word, i)
     }
 }

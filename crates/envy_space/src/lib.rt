@@ -5,6 +5,7 @@
 //! victims found without a look at the map, and `rebuild` reads it anew after a failure of power.
 #![tactic(auto)]
 
+mod bits;
 mod claim;
 mod finding;
 mod flags;

@@ -21,12 +21,12 @@ returns-clause-copy g c =
     let old = chart (g.B.Board.state c.args.board.now) in
     let r = c.requires.ready in
     let e = c.in_ok-write_free_frame.ensures in
-    let ws = c.in_ok-page_words.page_words in
-    let w = c.in_ok-page_words.ensures in
+    let ws = c.read_words.new.words in
+    let w = c.in_ok-read_words.ensures in
     let unnamed : IsUnnamed old.fields c.in-Some.frame = λ p is. unnamed-unheld old.shape old.fields.places c.args.parts.now.frames.held c.in-Some.frame p r.agrees.held c.in-Some.ensures.unheld is in
     let low : c.in-Some.frame < old.shape.frames = let count = r.fits.frames in let within = c.in-Some.ensures.within in omega arith in
     let i = c.requires.word in
-    let long = w.long in
+    let long = c.read_words.ensures.long in
     subst (λ (z : Chart). HasChanged z.fields z.flash c.args.page (Frame c.in-Some.frame) c.args.i c.args.w) (sym e.fields)
     (HasChanged-filled old c.args.page c.in-Some.frame c.args.i c.args.w (set ws c.args.i c.args.w) r.sound low unnamed (length-set ws c.args.i c.args.w ∙ long)
     (page-changed old.fields old.flash c.args.page c.args.i c.args.w c.args.from ws c.requires.here (omega arith) w.words))

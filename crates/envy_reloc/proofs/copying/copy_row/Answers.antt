@@ -30,8 +30,8 @@ claim-requires-clause-room g c =
     let rows : c.args.space.now.shape.rows ≡ old.shape.rows = ap (λ (sh : Shape). sh.rows) (IsPoolOf.shape c.requires.pool) in
     omega arith
 
-pub words_of_row-requires : goal.words_of_row-requires
-words_of_row-requires g c =
+pub read_row-requires : goal.read_row-requires
+read_row-requires g c =
     let old = chart (g.B.Board.state c.args.board.now) in
     let long = IsBoard.rows (g.met.B.Board.lawful c.claim.new.board) in
     let same = Framed.shape (Stays.framed (Same.stays c.note_origin.ensures.same)) in

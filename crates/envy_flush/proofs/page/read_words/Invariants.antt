@@ -1,7 +1,7 @@
 use Rattle.std.proofs.Common.{◌≡◌, ℕ, ◌<◌, length, slice_index, Some}
 use Rattle.envy_map.specs.Fields.{chart}
 use Rattle.envy_layout.specs.Words.{word_at}
-use Rattle.envy_flush.proofs.page.words.Given as goal
+use Rattle.envy_flush.proofs.page.read_words.Given as goal
 
 abbrev pub invariant-loop-i : goal.invariant-loop-i
 invariant-loop-i g l = record {
