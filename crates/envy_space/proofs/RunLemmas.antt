@@ -53,7 +53,7 @@ IsRun-none score first = record {
   lowest = λ some. absurd (omega arith);
 }
 
-IsRun-one : (score : ℕ → ℕ) (k end : ℕ) (e : Entry) → end ≡ k + 1 → e.place ≡ k → score k ≡ e.score → IsRun score k end e
+pub IsRun-one : (score : ℕ → ℕ) (k end : ℕ) (e : Entry) → end ≡ k + 1 → e.place ≡ k → score k ≡ e.score → IsRun score k end e
 IsRun-one score k end e next here is = record {
   most = λ j low high. let same : score j ≡ score k = ap score (omega arith) in omega arith;
   above = λ some. omega arith;
@@ -208,3 +208,12 @@ Wins-same f g first last (Some k) same wins =
       most = λ j low high. let most = wins.most j low high in let e = same j high in omega arith;
       lowest = λ j low high. let less = wins.lowest j low high in let below = wins.below in let e = same j (omega arith) in omega arith;
     }
+
+pub IsRun-same : (f g : ℕ → ℕ) (first end : ℕ) (e : Entry) → ((k : ℕ) → first ≤ k → k < end → f k ≡ g k) → IsRun f first end e → IsRun g first end e
+IsRun-same f g first end e same run = record {
+  most = λ k low high. let is = same k low high in let most = run.most k low high in omega arith;
+  above = run.above;
+  below = run.below;
+  has = λ some. sym (same e.place (run.above some) (run.below some)) ∙ run.has some;
+  lowest = λ some k low high. let below = run.below some in let is = same k low (omega arith) in let less = run.lowest some k low high in omega arith;
+}

@@ -1,5 +1,5 @@
 -- The place with the highest score among several, and the lowest and the highest place with a score.
-use Rattle.std.specs.Prelude.{◌≡◌, ℕ, ◌+◌, ◌*◌, ◌^◌, ◌<◌, ◌≤◌, nat_lt, min, List, length, map, drop, Option, None, Some, slice_index_or, if◌then◌else◌}
+use Rattle.std.specs.Prelude.{◌≡◌, ℕ, ◌+◌, ◌*◌, ◌^◌, ◌<◌, ◌≤◌, nat_lt, min, List, length, map, drop, Option, None, Some, slice_index_or, slice_set, if◌then◌else◌}
 use Rattle.envy_space.specs.declared.nodes.Entry.{Entry}
 
 -- from first to last, place k has the highest score, which isn't 0, and is the lowest of those with as much
@@ -84,3 +84,11 @@ pub record AreNodes (n : ℕ) (nodes : List Entry) : Type 0 where
 pub record IsTree (n : ℕ) (nodes : List Entry) : Type 0 where
   pub are : AreNodes n nodes
   pub right : (i : ℕ) → 1 ≤ i → i < n → IsRight nodes i
+
+-- the scores, where the last that was written isn't in the nodes yet
+abbrev pub late_scores : ℕ → List Entry → Entry → List ℕ
+late_scores n nodes late = slice_set (scores_of n nodes) late.place late.score
+
+pub record IsLate (n : ℕ) (nodes : List Entry) (late : Entry) : Type 0 where
+  pub tree : IsTree n nodes
+  pub within : late.place < n

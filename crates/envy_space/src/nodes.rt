@@ -1,5 +1,5 @@
 ghost use Rattle.std.specs.Prelude.{IsTrue, ◌≡◌, ◌≢◌, ◌+◌, ◌-◌, ◌*◌, ◌/◌, ◌^◌, ◌<◌, ◌≤◌, ℕ, length, replicate, map, drop, slice_index};
-ghost use Rattle.envy_space.specs.Winners.{AreNodes, IsTree, IsRight, IsRun, better, node as node_of, score_in, scores_of};
+ghost use Rattle.envy_space.specs.Winners.{AreNodes, IsTree, IsRight, IsRun, better, late_scores, node as node_of, score_in, scores_of};
 
 /// A place and its score.
 #[derive(Clone, Copy)]
@@ -45,6 +45,7 @@ pub fn lay(nodes: &mut [Entry], places: u32, score: u32)
     requires long { length nodes.old ≡ 2 * places }
     ensures tree { IsTree places nodes.new }
     ensures scores { scores_of places nodes.new ≡ replicate places score }
+    ensures late { late_scores places nodes.new (record { place = 0; score = score }) ≡ replicate places score }
 {
     lay_places(nodes, places, score);
     mend_all(nodes, places);
@@ -127,4 +128,35 @@ pub fn best_between(nodes: &[Entry], places: u32, first: u32, end: u32) -> Entry
         high /= 2;
     }
     left.or_better(right)
+}
+
+/// Writes the score of a place, and makes each node above it the better of its two.
+pub fn settle(nodes: &mut [Entry], places: u32, entry: Entry)
+    requires tree { IsTree places nodes.old }
+    requires within { entry.place < places }
+    ensures tree { IsTree places nodes.new }
+    ensures scores { scores_of places nodes.new ≡ late_scores places nodes.old entry }
+{
+    let at = places + entry.place;
+    if node(nodes, at).score != entry.score {
+        nodes[at as usize] = entry;
+        mend_above(nodes, places, at);
+    }
+}
+
+/// The entry with the highest score of the places from `first` to below `end`, the lowest of several,
+/// where one place has another score.
+pub fn best_with(nodes: &[Entry], places: u32, late: Entry, first: u32, end: u32) -> Entry
+    requires tree { IsTree places nodes.now }
+    requires late { late.place < places }
+    requires order { first ≤ end }
+    requires within { end ≤ places }
+    ensures { IsRun (slice_index (late_scores places nodes.now late)) first end result }
+{
+    if late.place < first || end <= late.place {
+        return best_between(nodes, places, first, end);
+    }
+    let left = best_between(nodes, places, first, late.place);
+    let right = best_between(nodes, places, late.place + 1, end);
+    left.or_better(late).or_better(right)
 }

@@ -1,7 +1,7 @@
 ghost use Rattle.std.specs.Prelude.{◌≡◌, ◌^◌, ◌<◌, ◌≤◌, length, replicate, slice_index, slice_set, swap, IfOk};
 ghost use Rattle.envy_space.specs.Winners.{Wins};
 
-use crate::nodes::{Entry, best_between, lay, mend_above};
+use crate::nodes::{Entry, best_with, lay, settle};
 use envy_base::NoMemory;
 use std::alloc::Global;
 use std::marker::Model;
@@ -10,22 +10,24 @@ use std::marker::Model;
 ///
 /// A winner tree: the nodes from `places` on are the places, and each node `i` below has the better
 /// entry of the nodes `2 * i` and `2 * i + 1`. So a new score changes one path to node 1, and a run of
-/// places is that of a few nodes.
+/// places is that of a few nodes. The last score that was written stands beside the tree until another
+/// place gets one: a place that gets a score for a moment changes no node.
 #[derive(Drop)]
 pub struct Winners {
     places: u32,
     nodes: Vec<Entry>,
+    late: Entry,
 }
 
 impl Model for Winners {
     ghost use Rattle.std.specs.Prelude.{List, ℕ};
-    ghost use Rattle.envy_space.specs.Winners.{IsTree, scores_of};
+    ghost use Rattle.envy_space.specs.Winners.{IsLate, late_scores};
 
     ghost Value = { List ℕ };
 
-    ghost view = { λ a. scores_of a.places a.nodes.items };
+    ghost view = { λ a. late_scores a.places a.nodes.items a.late };
 
-    ghost invariant = { λ a. IsTree a.places a.nodes.items };
+    ghost invariant = { λ a. IsLate a.places a.nodes.items a.late };
 }
 
 impl Winners {
@@ -37,7 +39,12 @@ impl Winners {
     {
         let mut nodes = vec![in alloc; Entry::NOBODY; 2 * places as usize]?;
         lay(&mut nodes, places, score);
-        Ok(Winners { places, nodes })
+        let late = Entry { place: 0, score };
+        Ok(Winners {
+            places,
+            nodes,
+            late,
+        })
     }
 
     /// Gives each place this score.
@@ -45,6 +52,7 @@ impl Winners {
         ensures { self.new ≡ replicate (length self.old) score }
     {
         lay(&mut self.nodes, self.places, score);
+        self.late = Entry { place: 0, score };
     }
 
     /// Writes the score of a place.
@@ -52,9 +60,12 @@ impl Winners {
         requires { place < length self.old }
         ensures { self.new ≡ slice_set self.old place score }
     {
-        let node = self.places + place;
-        self.nodes[node as usize] = Entry { place, score };
-        mend_above(&mut self.nodes, self.places, node);
+        if self.late.place == place {
+            self.late = Entry { place, score };
+            return;
+        }
+        settle(&mut self.nodes, self.places, self.late);
+        self.late = Entry { place, score };
     }
 
     /// The score of a place.
@@ -62,7 +73,11 @@ impl Winners {
         requires { place < length self.now }
         ensures { result ≡ slice_index self.now place }
     {
-        self.nodes[(self.places + place) as usize].score
+        if place == self.late.place {
+            self.late.score
+        } else {
+            self.nodes[(self.places + place) as usize].score
+        }
     }
 
     /// Lets the scores of two places change places.
@@ -83,7 +98,7 @@ impl Winners {
         requires last { last < length self.now }
         ensures { Wins (slice_index self.now) first last result }
     {
-        let best = best_between(&self.nodes, self.places, first, last + 1);
+        let best = best_with(&self.nodes, self.places, self.late, first, last + 1);
         if best.score == 0 {
             None
         } else {
