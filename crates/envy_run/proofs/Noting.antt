@@ -2,7 +2,7 @@
 use Rattle.std.proofs.Common.{◌≡◌, ◌⊎◌, inl, inr, ℕ, ◌≤◌, false, List, [], refl, sym, ap, subst, arith}
 use Rattle.std.specs.Prelude.{Option, None, Some, IfSome, sum}
 use Rattle.envy_base.proofs.Counting.{up-least}
-use Rattle.envy_base.specs.Counting.{up}
+use Rattle.envy_base.specs.Counting.{up, Tally}
 use Rattle.envy_base.specs.declared.counts.Counts.{Counts}
 use Rattle.envy_flush.specs.Counts.{Tallies}
 use Rattle.envy_flush.specs.Ticks.{CountsTick}
