@@ -1,5 +1,5 @@
 use crate::folder::is_named;
-use crate::{Folder, HostFile, OpenFault, open};
+use crate::{Folder, HostCalls, OpenFault, open};
 use envy_device::{Device, Place};
 use std::cell::Cell;
 use std::fs::{self, File, Metadata, OpenFile};
@@ -181,7 +181,7 @@ fn a_write_goes_on_and_a_failure_ends_the_file(rt: HostRuntime) -> Result<(), Fa
     ];
     for (fails_at, next) in table {
         let slow = failing_at(fails_at);
-        let mut file = HostFile::found(&slow, &slow, &[]);
+        let mut file = HostCalls::found(&slow, &slow, &[]);
         let wrote = file.write_at(0, b"1234567").is_ok();
         let synced = file.sync().is_ok();
         let cut = file.cut(0).is_ok();
@@ -211,7 +211,7 @@ fn a_failure_at_any_call_on_the_second_file_ends_the_file(rt: HostRuntime) -> Re
     ];
     for (fails_at, passed) in table {
         let slow = failing_at(fails_at);
-        let mut file = HostFile::found(&slow, &slow, &[]);
+        let mut file = HostCalls::found(&slow, &slow, &[]);
         let begun = file.begin_second().is_ok();
         let wrote = file.write_second(b"123").is_ok();
         let more = file.write_second(b"45").is_ok();
