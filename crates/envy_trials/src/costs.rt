@@ -96,7 +96,12 @@ fn begin_cleaning(rt: &impl Abort, memory: &mut Memory<CountingBoard>, segments:
     for page in 1..rows {
         flush(rt, memory, page - 1);
     }
-    fill(rt, memory, 63, (segments - 2) as u32 * rows as u32);
+    fill(
+        rt,
+        memory,
+        63,
+        segments.saturating_sub(2) as u32 * rows as u32,
+    );
     make(rt, memory, Call::Store(32 * 63));
     make(rt, memory, Call::Tick(Did::Began));
 }
@@ -315,10 +320,15 @@ fn full_reads(
         flush(rt, &mut memory, page);
         flush(rt, &mut memory, BUSY);
     }
-    fill(rt, &mut memory, BUSY, 2 * (segments - 14) as u32);
+    fill(
+        rt,
+        &mut memory,
+        BUSY,
+        2 * segments.saturating_sub(14) as u32,
+    );
     let before = memory.counts().erases;
     let reads = reads_by_call(rt, &mut memory, FULL.as_slice(), 0)?;
-    Ok((reads, memory.counts().erases - before))
+    Ok((reads, memory.counts().erases.wrapping_sub(before)))
 }
 
 // Nothing but the number of segments differs, and the positions that are cleaned have the same rows.
