@@ -98,9 +98,9 @@ grep -v '^power' "$work/trace" | awk '{ print } NR % 100 == 0 { print "sync" }' 
 out/kept_words "$work/library.kept" <"$work/syncing" >"$work/kept.replies"
 cmp "$work/wanted" "$work/kept.replies"
 seq -f "look %.0f" 0 2047 >"$work/looks"
-../envy keep --file "$work/library.kept" <"$work/looks" >"$work/wanted"
+../envy keep --file "$work/library.kept" <"$work/looks" >"$work/kept.words"
 out/kept_words "$work/word.kept" <"$work/looks" >"$work/kept.replies"
-cmp "$work/wanted" "$work/kept.replies"
+cmp "$work/kept.words" "$work/kept.replies"
 echo "library: $(wc -l <"$work/syncing") replies of a kept file are those of envy keep, and each opens the other's file"
 
 out/refused-asan "$work/refused.file"
@@ -142,7 +142,7 @@ emulated killed "$work/arm-killed.file" 50 "${1-1}"
 emulated kept_killed "$work/arm-kept.file" 50 "${1-1}"
 emulated kept_failing "${1-1}"
 emulated kept_words "$work/word.kept" <"$work/looks" >"$work/kept.replies"
-cmp "$work/wanted" "$work/kept.replies"
+cmp "$work/kept.words" "$work/kept.replies"
 emulated files "$work/arm-files.file" >"$work/told"
 emulated book "$work/arm.book" new
 emulated book "$work/arm.book" move 3 4 250
