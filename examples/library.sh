@@ -93,6 +93,7 @@ echo "library: the $(wc -l <"$work/words") words of an image are those of envy r
 # kept files: kills, failures, and the words of 10,000 drawn commands, which `envy keep` and the library find in one file
 out/kept_killed "$work/kept.file" 200 "${1-1}"
 ASAN_OPTIONS=detect_leaks=0 out/kept_failing-asan "${1-1}" # a handle lasts as long as the process
+mkdir "$work/kept" "$work/arm-kept" && out/kept_files "$work/kept"
 grep -v '^power' "$work/trace" | awk '{ print } NR % 100 == 0 { print "sync" }' >"$work/syncing"
 ../envy keep --file "$work/word.kept" <"$work/syncing" >"$work/wanted"
 out/kept_words "$work/library.kept" <"$work/syncing" >"$work/kept.replies"
@@ -141,6 +142,7 @@ emulated sized "$work/arm-sized.file"
 emulated killed "$work/arm-killed.file" 50 "${1-1}"
 emulated kept_killed "$work/arm-kept.file" 50 "${1-1}"
 emulated kept_failing "${1-1}"
+emulated kept_files "$work/arm-kept"
 emulated kept_words "$work/word.kept" <"$work/looks" >"$work/kept.replies"
 cmp "$work/kept.words" "$work/kept.replies"
 emulated files "$work/arm-files.file" >"$work/told"
