@@ -93,14 +93,15 @@ echo "library: the $(wc -l <"$work/words") words of an image are those of envy r
 # kept files: kills, failures, and the words of 10,000 drawn commands, which `envy keep` and the library find in one file
 out/kept_killed "$work/kept.file" 200 "${1-1}"
 ASAN_OPTIONS=detect_leaks=0 out/kept_failing-asan "${1-1}" # a handle lasts as long as the process
+mkdir "$work/kept" "$work/arm-kept" && out/kept_files "$work/kept"
 grep -v '^power' "$work/trace" | awk '{ print } NR % 100 == 0 { print "sync" }' >"$work/syncing"
 ../envy keep --file "$work/word.kept" <"$work/syncing" >"$work/wanted"
 out/kept_words "$work/library.kept" <"$work/syncing" >"$work/kept.replies"
 cmp "$work/wanted" "$work/kept.replies"
 seq -f "look %.0f" 0 2047 >"$work/looks"
-../envy keep --file "$work/library.kept" <"$work/looks" >"$work/wanted"
+../envy keep --file "$work/library.kept" <"$work/looks" >"$work/kept.words"
 out/kept_words "$work/word.kept" <"$work/looks" >"$work/kept.replies"
-cmp "$work/wanted" "$work/kept.replies"
+cmp "$work/kept.words" "$work/kept.replies"
 echo "library: $(wc -l <"$work/syncing") replies of a kept file are those of envy keep, and each opens the other's file"
 
 out/refused-asan "$work/refused.file"
@@ -141,8 +142,9 @@ emulated sized "$work/arm-sized.file"
 emulated killed "$work/arm-killed.file" 50 "${1-1}"
 emulated kept_killed "$work/arm-kept.file" 50 "${1-1}"
 emulated kept_failing "${1-1}"
+emulated kept_files "$work/arm-kept"
 emulated kept_words "$work/word.kept" <"$work/looks" >"$work/kept.replies"
-cmp "$work/wanted" "$work/kept.replies"
+cmp "$work/kept.words" "$work/kept.replies"
 emulated files "$work/arm-files.file" >"$work/told"
 emulated book "$work/arm.book" new
 emulated book "$work/arm.book" move 3 4 250

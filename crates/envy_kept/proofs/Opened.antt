@@ -1,9 +1,9 @@
 -- A memory that began in a file by a setup that names all sizes, and why none did.
-use Rattle.std.proofs.Common.{◌≡◌, ◌∙◌, ℕ, Bool, true, false, List, refl, sym, ap, subst}
+use Rattle.std.proofs.Common.{◌≡◌, ◌∙◌, ℕ, Bool, true, false, List, sym, ap}
 use Rattle.envy_base.specs.State.{State}
 use Rattle.envy_base.specs.declared.shape.Shape.{Shape}
 use Rattle.envy_begun.specs.Plans.{Plans, IsFound}
-use Rattle.envy_begun.specs.Unserved.{Causes, IsOver, Refuses}
+use Rattle.envy_begun.specs.Unserved.{Causes, Refuses}
 use Rattle.envy_begun.specs.declared.planning.Holding.{Holding}
 use Rattle.envy_begun.specs.declared.planning.Holding.TheVariants.{Unmade, Blank, Written}
 use Rattle.envy_begun.specs.declared.unbegun.Unbegun.{Unbegun}
