@@ -1,4 +1,4 @@
-/* What envy_sim.h, envy_mapped.h and envy_parted.h share: the numbers of answers, the setup of a memory, and its counters. */
+/* What envy_sim.h, envy_mapped.h, envy_parted.h and envy_kept.h share: the numbers of answers, the setup of a memory, and its counters. */
 #ifndef ENVY_CODES_H
 #define ENVY_CODES_H
 
@@ -13,7 +13,7 @@ extern "C" {
 enum envy_code {
     ENVY_DONE = 0,
     ENVY_EMPTY = 1,       /* the place holds no memory */
-    ENVY_OFF = 2,         /* power is off, or failed in the call; never over regions */
+    ENVY_OFF = 2,         /* power is off, or failed in the call; never over regions. Of envy_kept.h: the file failed */
     ENVY_RANGE = 3,       /* the address lies past the last page */
     ENVY_HELD = 4,        /* the transaction of another slot owns the page */
     ENVY_FULL = 5,        /* the page has no owner, and no more pages may be owned */
@@ -86,7 +86,17 @@ enum envy_code {
     ENVY_FLASH_ADDRESS = 64, /* the part's map begins at 0, or at no multiple of 256 */
     ENVY_SRAM_ADDRESS = 65,  /* the SRAM begins at 0, or at no multiple of 8 */
     ENVY_PAST = 66,          /* one of them reaches past the last address */
-    ENVY_OVERLAP = 67        /* they overlap */
+    ENVY_OVERLAP = 67,       /* they overlap */
+
+    /* files that are kept by envy_kept.h */
+    ENVY_NO_JOURNAL = 72,     /* the file holds something else, or a journal of no memory */
+    ENVY_OTHER_JOURNAL = 73   /* the file is a journal of a version that isn't known here */
+};
+
+/* What calls that open files answer beside an envy_code. */
+enum envy_file_code {
+    ENVY_SYSTEM = 1000, /* the system refused a call, and errno says why */
+    ENVY_LOCKED = 1001  /* the file is open already, here or in another process */
 };
 
 /* How the cleaner chooses what to clean. */

@@ -9,12 +9,6 @@
 extern "C" {
 #endif
 
-/* What these calls answer beside an envy_code. */
-enum envy_file_code {
-    ENVY_SYSTEM = 1000, /* the system refused a call, and errno says why */
-    ENVY_LOCKED = 1001  /* another process, or another envy_file, has the file open */
-};
-
 /* A place for a file. A program reads and changes `memory` alone, by the calls of envy_mapped.h. */
 typedef struct envy_file {
     envy_mapped memory;

@@ -1,6 +1,5 @@
 #include "envy_text.h"
 #include "envy_codes.h"
-#include "envy_file.h"
 
 const char *envy_version(void) { return ENVY_VERSION; }
 
@@ -68,6 +67,8 @@ const char *envy_error_text(uint32_t code) {
     case ENVY_SRAM_ADDRESS: return "the SRAM doesn't begin at a multiple of 8 bytes";
     case ENVY_PAST: return "a region reaches past the last address";
     case ENVY_OVERLAP: return "the part and the SRAM overlap";
+    case ENVY_NO_JOURNAL: return "the file holds no memory";
+    case ENVY_OTHER_JOURNAL: return "the file is a journal of another version";
     case ENVY_SYSTEM: return "the system refused a call";
     case ENVY_LOCKED: return "another process has the file open";
     }

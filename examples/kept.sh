@@ -59,6 +59,10 @@ printf 'a text of another kind, which is long enough\n' >"$work/text"
 keeps "$work/text" < <(printf 'load 5\n')
 ends "another file" 10 '' 'envy: no journal'
 [ "$(cat "$work/text")" = 'a text of another kind, which is long enough' ] || fail "another file was written"
+printf 'abc' >"$work/text"
+keeps "$work/text" < <(printf 'load 5\n')
+ends "a small file of another kind" 10 '' 'envy: no journal'
+[ "$(cat "$work/text")" = abc ] || fail "a small file was written"
 { head -c 8 "$work/a"; printf '\002'; tail -c +10 "$work/a"; } >"$work/version"
 keeps "$work/version" < <(printf 'load 5\n')
 ends "another version" 10 '' 'envy: a journal of another version'
@@ -72,6 +76,28 @@ keeps "$work/a" < <(printf 'cut 1 1\n')
 ends "a cut" 5 '' 'envy: line 1: unknown word'
 keeps --pages 3 </dev/null
 [ $status = 2 ] || fail "words without a path: status $status"
+
+# A file that grew long is compacted by a sync, and by the option; the words stay, and a second file that a process left
+# when it was killed is no hindrance.
+"$program" gen --start 3 --lines 60000 --pages 64 >"$work/trace"
+seq 0 2047 | sed 's/^/look /' >"$work/looks"
+cat "$work/trace" "$work/looks" | timeout 60 "$program" plain | tail -n 2048 >"$work/wanted"
+echo left >"$work/long.envy-new"
+awk '{ print } NR % 1000 == 0 { print "sync" }' "$work/trace" >"$work/synced"
+keeps "$work/long" <"$work/synced"
+[ $status = 0 ] || fail "a long trace: status $status"
+long=$(stat -c %s "$work/long")
+[ "$long" -le 1048578 ] || fail "a long trace: the file has $long bytes"
+for compact in 0 1; do
+    keeps "$work/long" --compact $compact <"$work/looks"
+    cmp -s "$work/wanted" "$work/out" || fail "--compact $compact: other words"
+done
+short=$(stat -c %s "$work/long")
+[ "$short" -lt 100000 ] || fail "a compacted file has $short bytes"
+keeps "$work/long" <"$work/looks"
+cmp -s "$work/wanted" "$work/out" || fail "a compacted file opens as other words"
+[ -e "$work/long.envy-new" ] && fail "a second file is there behind a compaction"
+echo "kept: a file of $long bytes was compacted to $short"
 
 # A second process is refused, and the first goes on.
 coproc FIRST { exec "$program" keep --file "$work/a" 2>/dev/null; }

@@ -1,6 +1,6 @@
 #!/usr/bin/env bash
 # The libraries that C and Rust programs link, tried by such programs: the answers of `envy run`, every number, images,
-# kills at drawn moments, an ordered map, the account book in both languages, the Rust package, and what is installed. It needs gcc and
+# kills at drawn moments, an ordered map, files that are kept, the account book in both languages, the Rust package, and what is installed. It needs gcc and
 # rustc, and a program that `envy` starts at once (./envy --prove, or .ci/run). Where a compiler for 64-bit ARM and its
 # emulator are (Debian: gcc-aarch64-linux-gnu libc6-dev-arm64-cross qemu-user), the same is tried of the library for that
 # processor. A word is the number that the kills are drawn from.
@@ -15,7 +15,7 @@ for tool in gcc rustc; do
 done
 arm=
 if aarch64-linux-gnu-gcc --version >/dev/null 2>&1 && qemu-aarch64 --version >/dev/null 2>&1; then arm=aarch64; fi
-library/build.py envy_mapped envy_sim ${arm:+--also=$arm}
+library/build.py envy_mapped envy_sim envy_kept ${arm:+--also=$arm}
 make -s all tests
 work=$(mktemp -d "${TMPDIR:-/tmp}/envy-library.XXXXXX")
 trap 'rm -rf "$work"' EXIT
@@ -41,10 +41,17 @@ gcc $($config --cflags) -o "$work/lines" "$work/lines.c" $($config --libs-sim)
 "$work/lines"
 # shellcheck disable=SC2046
 sed 's|"../c/|"|' book.c >"$work/book.c" && gcc $($config --cflags) -o "$work/book" "$work/book.c" $($config --libs)
+sed -n 's/^    //; /^#include "envy_kept_file.h"/,/^}/p' ../c/LINKING.md >"$work/runs.c"
+# shellcheck disable=SC2046
+gcc -Wall -Wextra $($config --cflags) -o "$work/kept-runs" "$work/runs.c" $($config --libs-kept)
+(cd "$work" && ./kept-runs && ./kept-runs) >"$work/told"
+[ "$(cat "$work/told")" = "$(printf 'run 1: done\nrun 2: done')" ]
 if pkg-config --version >/dev/null 2>&1; then
     export PKG_CONFIG_PATH=$work/installed/lib/pkgconfig
     # shellcheck disable=SC2046
     gcc $(pkg-config --cflags envy) -o "$work/book" "$work/book.c" $(pkg-config --libs envy)
+    # shellcheck disable=SC2046
+    gcc $(pkg-config --cflags envy_kept) -o "$work/kept-runs" "$work/runs.c" $(pkg-config --libs envy_kept)
 fi
 "$work/book" "$work/installed.book" new
 [ "$("$work/book" "$work/installed.book" sum)" = "0 transfers, 100000 in all" ]
@@ -83,6 +90,20 @@ cmp "$work/wanted" "$work/words"
 [ "$(../envy audit <"$work/second.image")" = sound ]
 echo "library: the $(wc -l <"$work/words") words of an image are those of envy run"
 
+# kept files: kills, failures, and the words of 10,000 drawn commands, which `envy keep` and the library find in one file
+out/kept_killed "$work/kept.file" 200 "${1-1}"
+ASAN_OPTIONS=detect_leaks=0 out/kept_failing-asan "${1-1}" # a handle lasts as long as the process
+mkdir "$work/kept" "$work/arm-kept" && out/kept_files "$work/kept"
+grep -v '^power' "$work/trace" | awk '{ print } NR % 100 == 0 { print "sync" }' >"$work/syncing"
+../envy keep --file "$work/word.kept" <"$work/syncing" >"$work/wanted"
+out/kept_words "$work/library.kept" <"$work/syncing" >"$work/kept.replies"
+cmp "$work/wanted" "$work/kept.replies"
+seq -f "look %.0f" 0 2047 >"$work/looks"
+../envy keep --file "$work/library.kept" <"$work/looks" >"$work/kept.words"
+out/kept_words "$work/word.kept" <"$work/looks" >"$work/kept.replies"
+cmp "$work/kept.words" "$work/kept.replies"
+echo "library: $(wc -l <"$work/syncing") replies of a kept file are those of envy keep, and each opens the other's file"
+
 out/refused-asan "$work/refused.file"
 out/sized "$work/sized.file"
 out/killed "$work/killed.file" 200 "${1-1}"
@@ -90,6 +111,7 @@ ASAN_OPTIONS=detect_leaks=0 out/ordered-asan "$work/ordered-asan.file" 50000 "${
 out/ordered "$work/ordered.file" 1000000 "${1-1}"
 ASAN_OPTIONS=detect_leaks=0 out/files-asan "$work/files.file" # a handle lasts as long as the process
 TMPDIR=$work out/rust-tests --quiet
+TMPDIR=$work out/rust-kept-tests --quiet
 
 for program in book book-asan book-rust; do
     book() { out/$program "$work/$program.book" "$@"; }
@@ -109,7 +131,8 @@ if [ -z "$arm" ]; then
     exit 0
 fi
 make -s CC=aarch64-linux-gnu-gcc CFLAGS="-O2 -std=gnu11 -Wall -Wextra -Wpedantic -static" OUT=out/$arm \
-    LIBRARY=../crates/envy_mapped/out/$arm/libenvy_mapped.a programs
+    LIBRARY=../crates/envy_mapped/out/$arm/libenvy_mapped.a KEPT=../crates/envy_kept/out/$arm/libenvy_kept.a \
+    OBJCOPY=aarch64-linux-gnu-objcopy programs
 emulated() { program=$1 && shift && qemu-aarch64 "out/$arm/$program" "$@"; }
 ../envy run <"$work/trace" >"$work/wanted"
 emulated replay "$work/arm.file" <"$work/trace" >"$work/arm.replies"
@@ -117,6 +140,11 @@ cmp "$work/wanted" "$work/arm.replies"
 emulated refused "$work/arm-refused.file"
 emulated sized "$work/arm-sized.file"
 emulated killed "$work/arm-killed.file" 50 "${1-1}"
+emulated kept_killed "$work/arm-kept.file" 50 "${1-1}"
+emulated kept_failing "${1-1}"
+emulated kept_files "$work/arm-kept"
+emulated kept_words "$work/word.kept" <"$work/looks" >"$work/kept.replies"
+cmp "$work/kept.words" "$work/kept.replies"
 emulated files "$work/arm-files.file" >"$work/told"
 emulated book "$work/arm.book" new
 emulated book "$work/arm.book" move 3 4 250

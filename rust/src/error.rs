@@ -44,6 +44,12 @@ pub enum Error {
     SlotOpen,
     /// The setup has fewer than 20 pages or 32 shadows, so no map fits.
     MapSetup,
+    /// The file failed: open it again. Of kept files alone.
+    Off,
+    /// The file holds no memory. Of kept files alone.
+    NoJournal,
+    /// The file is a journal of another version. Of kept files alone.
+    OtherJournal,
     /// Another process, or another `Memory`, has the file open.
     Locked,
     /// The system refused a call.
@@ -141,6 +147,9 @@ impl Error {
             Error::MapFull => sys::MAP_FULL,
             Error::SlotOpen => sys::SLOT_OPEN,
             Error::MapSetup => sys::MAP_SETUP,
+            Error::Off => sys::OFF,
+            Error::NoJournal => sys::NO_JOURNAL,
+            Error::OtherJournal => sys::OTHER_JOURNAL,
             Error::Locked => sys::LOCKED,
             Error::System(_) => sys::SYSTEM,
             Error::Other(code) => *code,
@@ -166,6 +175,9 @@ impl Error {
             sys::MAP_FULL => Error::MapFull,
             sys::SLOT_OPEN => Error::SlotOpen,
             sys::MAP_SETUP => Error::MapSetup,
+            sys::OFF => Error::Off,
+            sys::NO_JOURNAL => Error::NoJournal,
+            sys::OTHER_JOURNAL => Error::OtherJournal,
             sys::SYSTEM => Error::System(io::Error::last_os_error()),
             sys::LOCKED => Error::Locked,
             _ => Error::of_list(code),

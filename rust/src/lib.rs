@@ -12,6 +12,8 @@
 //! [`Memory::load`] sees what any open transaction put, [`Memory::look`] what is committed, and [`Transaction::view`]
 //! what this transaction put and else what is committed.
 //!
+//! With the feature `kept` a `KeptMemory` is a file whose words outlive the machine, from a sync on.
+//!
 //! An [`Index`] is an ordered map in the array of a memory, each of whose calls is one transaction.
 //!
 //! ```no_run
@@ -26,11 +28,15 @@
 
 mod error;
 mod index;
+#[cfg(feature = "kept")]
+mod kept;
 mod memory;
 mod setup;
 mod sys;
 
 pub use error::{Error, Point, Rule, Stopped};
 pub use index::{Index, Range};
+#[cfg(feature = "kept")]
+pub use kept::{KeptMemory, KeptTransaction};
 pub use memory::{Counts, Did, Memory, Transaction, version};
 pub use setup::{Policy, Setup};

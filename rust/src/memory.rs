@@ -35,6 +35,31 @@ pub enum Did {
     Erased,
 }
 
+pub(crate) fn did_of(number: u32) -> Did {
+    match number {
+        1 => Did::Flushed,
+        2 => Did::Began,
+        3 => Did::Moved,
+        4 => Did::Copied,
+        5 => Did::Switched,
+        6 => Did::Placed,
+        7 => Did::Erased,
+        _ => Did::Idle,
+    }
+}
+
+pub(crate) fn counts_of(found: sys::Counts) -> Counts {
+    Counts {
+        hits: found.hits,
+        misses: found.misses,
+        flushes: found.flushes,
+        copies: found.copies,
+        moves: found.moves,
+        erases: found.erases,
+        swaps: found.swaps,
+    }
+}
+
 /// A memory in a file, which is locked while it is open, and written through to the disk where this is dropped. One thread
 /// at a time may use it; another may take it over.
 pub struct Memory {
@@ -151,16 +176,7 @@ impl Memory {
         let mut did = 0;
         // SAFETY: the memory is open, and the number is this call's.
         Error::check(unsafe { sys::envy_mapped_tick(self.handle(), &mut did) })?;
-        Ok(match did {
-            1 => Did::Flushed,
-            2 => Did::Began,
-            3 => Did::Moved,
-            4 => Did::Copied,
-            5 => Did::Switched,
-            6 => Did::Placed,
-            7 => Did::Erased,
-            _ => Did::Idle,
-        })
+        Ok(did_of(did))
     }
 
     /// What the memory has done since it was opened.
@@ -168,15 +184,7 @@ impl Memory {
         let mut found = sys::Counts::default();
         // SAFETY: the memory is open, and the counts are this call's. Of an open memory it is always done.
         unsafe { sys::envy_mapped_counts(self.handle(), &mut found) };
-        Counts {
-            hits: found.hits,
-            misses: found.misses,
-            flushes: found.flushes,
-            copies: found.copies,
-            moves: found.moves,
-            erases: found.erases,
-            swaps: found.swaps,
-        }
+        counts_of(found)
     }
 
     /// Writes all that was changed through to the disk.

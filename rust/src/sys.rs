@@ -60,7 +60,23 @@ pub struct File {
     pub descriptor: c_int,
 }
 
+/// A place for a file that is kept.
+#[cfg(feature = "kept")]
+#[repr(C)]
+pub struct KeptFile {
+    pub memory: Handle,
+    /// What serves the file: a context and six functions of C's.
+    pub disk: [*mut c_void; 7],
+    pub port: i32,
+    pub descriptor: c_int,
+    pub second: c_int,
+    pub second_at: u64,
+    pub path: *mut c_char,
+    pub beside: *mut c_char,
+}
+
 pub const DONE: u32 = 0;
+pub const OFF: u32 = 2;
 pub const RANGE: u32 = 3;
 pub const HELD: u32 = 4;
 pub const FULL: u32 = 5;
@@ -80,6 +96,8 @@ pub const ABSENT: u32 = 54;
 pub const MAP_FULL: u32 = 55;
 pub const SLOT_OPEN: u32 = 56;
 pub const MAP_SETUP: u32 = 57;
+pub const NO_JOURNAL: u32 = 72;
+pub const OTHER_JOURNAL: u32 = 73;
 pub const SYSTEM: u32 = 1000;
 pub const LOCKED: u32 = 1001;
 
@@ -119,4 +137,32 @@ extern "C" {
     pub fn envy_index_next(m: *mut Handle, key: u64, pair: *mut Pair) -> u32;
     pub fn envy_index_above(m: *mut Handle, key: u64, pair: *mut Pair) -> u32;
     pub fn envy_index_last(m: *mut Handle, key: u64, pair: *mut Pair) -> u32;
+}
+
+#[cfg(feature = "kept")]
+extern "C" {
+    pub fn envy_kept_open_file(file: *mut KeptFile, path: *const c_char, setup: *const Setup) -> u32;
+    pub fn envy_kept_close_file(file: *mut KeptFile) -> u32;
+    pub fn envy_kept_sync(m: *mut Handle) -> u32;
+    pub fn envy_kept_compact(m: *mut Handle) -> u32;
+    pub fn envy_kept_load(m: *mut Handle, address: u32, word: *mut u64) -> u32;
+    pub fn envy_kept_look(m: *mut Handle, address: u32, word: *mut u64) -> u32;
+    pub fn envy_kept_read(m: *mut Handle, address: u32, words: *mut u64, n: usize) -> u32;
+    pub fn envy_kept_store(m: *mut Handle, address: u32, word: u64, holder: *mut u32) -> u32;
+    pub fn envy_kept_begin(m: *mut Handle, slot: *mut u32) -> u32;
+    pub fn envy_kept_put(m: *mut Handle, slot: u32, address: u32, word: u64, holder: *mut u32) -> u32;
+    pub fn envy_kept_write(
+        m: *mut Handle,
+        slot: u32,
+        address: u32,
+        words: *const u64,
+        n: usize,
+        done: *mut usize,
+        holder: *mut u32,
+    ) -> u32;
+    pub fn envy_kept_view(m: *mut Handle, slot: u32, address: u32, word: *mut u64) -> u32;
+    pub fn envy_kept_commit(m: *mut Handle, slot: u32) -> u32;
+    pub fn envy_kept_abort(m: *mut Handle, slot: u32) -> u32;
+    pub fn envy_kept_tick(m: *mut Handle, did: *mut u32) -> u32;
+    pub fn envy_kept_counts(m: *mut Handle, counts: *mut Counts) -> u32;
 }

@@ -45,8 +45,8 @@ pub struct KeepWords<'a> {
 
 /// The options of `keep`.
 const NAMES: [&str; 12] = [
-    "file", "compact", "segments", "rows", "pages", "shadows", "frames", "entries", "part", "policy",
-    "limit", "mark",
+    "file", "compact", "segments", "rows", "pages", "shadows", "frames", "entries", "part",
+    "policy", "limit", "mark",
 ];
 
 impl Sizes {

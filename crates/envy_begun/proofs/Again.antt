@@ -1,6 +1,6 @@
 -- A journal that is opened again, and a memory that is attached to its board.
 use Rattle.std.proofs.Common.{◌≡◌, ◌≢◌, ◌⊎◌, ◌∙◌, inl, inr, ℕ, Bool, true, false, List, refl, sym, ap, subst, arith}
-use Rattle.std.specs.Prelude.{IsTrue, IfErr, Result, Ok, Err}
+use Rattle.std.specs.Prelude.{IsTrue, IfOk, IfErr, Result, Ok, Err}
 use Rattle.std.proofs.lemmas.Bool.{false≢true}
 use Rattle.envy_audit.specs.Judging.{BreaksFirst}
 use Rattle.envy_audit.proofs.Sounding.{sound-points}
@@ -138,3 +138,8 @@ opened-state b false plans given pulled lives sh file is head shape content = re
 pub all-declines : {M D : Type 0} (seen : D → List ℕ) (has_failed : D → Bool) (sh : Shape) (file : List ℕ) (result : Result M (Unbegun × D)) → IfErr result (λ e. IsStopped seen has_failed e.0 e.1) → IfErr result (λ e. Declines seen has_failed sh file e.0 e.1)
 all-declines seen has_failed sh file (Ok memory) stopped = tt
 all-declines seen has_failed sh file (Err e) stopped = stopped-declines seen has_failed sh file e.1 e.0 stopped
+
+-- what holds at Ok
+pub ok_on : {T E : Type 0} {P Q : T → Type 0} (result : Result T E) → IfOk result P → ((x : T) → P x → Q x) → IfOk result Q
+ok_on (Ok x) is goes = goes x is
+ok_on (Err e) is goes = tt

@@ -11,10 +11,10 @@ use crate::unbegun::Unbegun;
 use envy_base::Off;
 use envy_device::{Device, Place};
 use envy_journal::{OpenError, Steady, create};
-use envy_synced::Kept;
 use envy_memory::{FormatFault, Memory};
 use envy_policy::Setup;
 use envy_saved::close;
+use envy_synced::Kept;
 use std::alloc::Global;
 
 /// So many bytes of operations are held back between writes of the file.

@@ -35,15 +35,15 @@ const HEAD: usize = 33;
 /// A gate that is open.
 const OPEN: u8 = 4;
 
-// What a journal holds: where its first gate isn't open nothing was done.
+// What a journal holds: where its first gate isn't open, or isn't there, nothing was done.
 fn holding_of(bytes: &[u8]) -> Holding
-    requires { 34 ≤ length bytes.now }
+    requires { 33 ≤ length bytes.now }
     ensures { result ≡ Holding.Written ⊎ ((result ≡ Holding.Blank) × (operations bytes.now ≡ [])) }
 {
-    if bytes[HEAD] == OPEN {
-        Holding::Written
-    } else {
+    if bytes.len() <= HEAD || bytes[HEAD] != OPEN {
         Holding::Blank
+    } else {
+        Holding::Written
     }
 }
 
@@ -51,7 +51,7 @@ fn holding_of(bytes: &[u8]) -> Holding
 fn sizes(bytes: &[u8]) -> Result<Shape, Unbegun>
     requires made { IsUnmade bytes.now → ⊥ }
     ensures head { IfOk result (λ shape. Begins (head_bytes shape) bytes.now) }
-    ensures long { IfOk result (λ _. 34 ≤ length bytes.now) }
+    ensures long { IfOk result (λ _. 33 ≤ length bytes.now) }
     ensures refused { IfErr result (λ unbegun. (options : Options) → Refuses options bytes.now unbegun) }
 {
     let shape = match read_head(bytes) {
@@ -69,7 +69,7 @@ fn sizes(bytes: &[u8]) -> Result<Shape, Unbegun>
 fn found(options: &KeepOptions, bytes: &[u8]) -> Result<Setup, Unbegun>
     requires made { IsUnmade bytes.now → ⊥ }
     ensures found { IfOk result (IsFound options.now bytes.now) }
-    ensures long { IfOk result (λ _. 34 ≤ length bytes.now) }
+    ensures long { IfOk result (λ _. 33 ≤ length bytes.now) }
     ensures checks { IfOk result (λ setup. checked setup ≡ Ok tt) }
     ensures shape { IfOk result (λ setup. IsShape setup.shape) }
     ensures refused { IfErr result (λ unbegun. Refuses options.now bytes.now unbegun) }

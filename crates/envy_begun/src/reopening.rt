@@ -20,14 +20,14 @@ ghost use Rattle.envy_policy.specs.Setup.{checked};
 
 use crate::beginning::{ROOM, closed, make_memory};
 use crate::unbegun::Unbegun;
-use envy_calls::{Code, attach};
 use envy_base::Off;
+use envy_calls::{Code, attach};
 use envy_device::{Device, Place};
 use envy_disk::OnDisk;
 use envy_journal::{OpenError, Steady, open};
-use envy_synced::Kept;
 use envy_memory::Memory;
 use envy_policy::Setup;
+use envy_synced::Kept;
 use std::alloc::Global;
 
 // Why a journal wasn't opened.

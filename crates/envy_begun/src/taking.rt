@@ -15,9 +15,9 @@ use crate::unbegun::Unbegun;
 use envy_args::KeepOptions;
 use envy_device::Place;
 use envy_journal::Steady;
-use envy_synced::Kept;
 use envy_memory::Memory;
 use envy_policy::Setup;
+use envy_synced::Kept;
 use std::alloc::Global;
 
 /// The memory in a file, over a blank board of its sizes. A journal that is there is compacted first, where the options
@@ -43,8 +43,6 @@ pub fn begin<B: Steady + Drop, D: Place + Drop>(
     match holding {
         Holding::Unmade => begin_new(alloc, board, device, setup),
         Holding::Blank => begin_blank(alloc, board, device, bytes, setup),
-        Holding::Written => {
-            begin_again(alloc, board, device, bytes, setup, options.compact)
-        }
+        Holding::Written => { begin_again(alloc, board, device, bytes, setup, options.compact) }
     }
 }

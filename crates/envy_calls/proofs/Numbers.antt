@@ -1,5 +1,5 @@
 -- A number tells its answer.
-use Rattle.std.proofs.Common.{◌≡◌, ℕ, ◌==◌, if◌then◌else◌, refl, sym, ◌∙◌, ap}
+use Rattle.std.proofs.Common.{◌≡◌, ◌<◌, ◌≤◌, ℕ, ◌==◌, if◌then◌else◌, refl, sym, ◌∙◌, ap, arith}
 use Rattle.envy_base.specs.declared.shape.ShapeFault.TheVariants.{Segments, Rows, Pages, Frames, Entries, Share, Total}
 use Rattle.envy_audit.specs.declared.verdict.Rule.TheVariants.{A, B, C, D, E, F, G, H, I, J, K, L}
 use Rattle.envy_policy.specs.declared.setup.SetupFault.TheVariants.{Shape as OfShape, Part, Limit, Mark}
@@ -130,3 +130,64 @@ code_at-number_of MapSetup = refl
 
 pub same_number : (x y : Code) → number_of x ≡ number_of y → x ≡ y
 same_number x y is = sym (code_at-number_of x) ∙ (ap code_at is ∙ code_at-number_of y)
+
+-- further answers, as of a library of its own, have numbers from 64 on
+pub below : (x : Code) → number_of x < 64
+below Done = omega arith
+below Empty = omega arith
+below Off = omega arith
+below Range = omega arith
+below Held = omega arith
+below Full = omega arith
+below Busy = omega arith
+below Closed = omega arith
+below Bad = omega arith
+below NoMemory = omega arith
+below Open = omega arith
+below Zero = omega arith
+below Dead = omega arith
+below Powered = omega arith
+below FlashSize = omega arith
+below SramSize = omega arith
+below ErasesSize = omega arith
+below Policy = omega arith
+below Unformatted = omega arith
+below Older = omega arith
+below OtherShape = omega arith
+below (Setup (OfShape Segments)) = omega arith
+below (Setup (OfShape Rows)) = omega arith
+below (Setup (OfShape Pages)) = omega arith
+below (Setup (OfShape Frames)) = omega arith
+below (Setup (OfShape Entries)) = omega arith
+below (Setup (OfShape Share)) = omega arith
+below (Setup (OfShape Total)) = omega arith
+below (Setup Part) = omega arith
+below (Setup Limit) = omega arith
+below (Setup Mark) = omega arith
+below (Broken A) = omega arith
+below (Broken B) = omega arith
+below (Broken C) = omega arith
+below (Broken D) = omega arith
+below (Broken E) = omega arith
+below (Broken F) = omega arith
+below (Broken G) = omega arith
+below (Broken H) = omega arith
+below (Broken I) = omega arith
+below (Broken J) = omega arith
+below (Broken K) = omega arith
+below (Broken L) = omega arith
+below Small = omega arith
+below ImageShort = omega arith
+below ImageMark = omega arith
+below ImageOther = omega arith
+below (ImageShape Segments) = omega arith
+below (ImageShape Rows) = omega arith
+below (ImageShape Pages) = omega arith
+below (ImageShape Frames) = omega arith
+below (ImageShape Entries) = omega arith
+below (ImageShape Share) = omega arith
+below (ImageShape Total) = omega arith
+below Absent = omega arith
+below MapFull = omega arith
+below SlotOpen = omega arith
+below MapSetup = omega arith

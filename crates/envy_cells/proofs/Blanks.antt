@@ -1,7 +1,7 @@
 -- A board on which nothing was done is a board.
-use Rattle.std.proofs.Common.{◌≡◌, ℕ, ◌-◌, ◌*◌, ◌<◌, ◌^◌, List, [], get_or, replicate, refl, arith, inl, inr, lit<}
+use Rattle.std.proofs.Common.{◌∙◌, ℕ, ◌-◌, ◌*◌, ◌<◌, ◌^◌, List, [], slice_set, replicate, refl, inl, inr, lit<}
 use Rattle.std.proofs.lemmas.Bool.{cases_lt}
-use Rattle.std.proofs.lemmas.List.{get_or-replicate, length-replicate, get_or_past}
+use Rattle.std.proofs.lemmas.List.{get_or-replicate, length-replicate, length-set, get_or_past}
 use Rattle.envy_base.specs.declared.shape.Shape.{Shape}
 use Rattle.envy_base.specs.Map.{words_of}
 use Rattle.envy_base.specs.Shape.{IsShape}
@@ -28,4 +28,15 @@ IsBoard-blank sh is = record {
   pages = λ q lt. let low : q < sh.segments * sh.rows = rw (← length-replicate (sh.segments * sh.rows) ones) lt in rw (get_or-replicate (sh.segments * sh.rows) q ones [] low) IsPage-ones;
   words = AreWords-same (words_of sh) 0 (lit< tt);
   erases = length-replicate {A = ℕ} sh.segments 0;
+}
+
+-- a board of which one count of erases is another
+pub IsBoard-count : (sh : Shape) (flash : List (List ℕ)) (sram erases : List ℕ) (begun i n : ℕ) → IsBoard (region_state sh flash sram erases begun) → IsBoard (region_state sh flash sram (slice_set erases i n) begun)
+IsBoard-count sh flash sram erases begun i n is = record {
+  shape = is.shape;
+  sram = is.sram;
+  rows = is.rows;
+  pages = is.pages;
+  words = is.words;
+  erases = length-set erases i n ∙ is.erases;
 }

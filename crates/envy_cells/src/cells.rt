@@ -23,10 +23,10 @@ fn erased(alloc: Global, rows: usize) -> Result<Vec<[u64; 32]>, AllocError>
 /// The memory of a board: rows of flash, words of SRAM, and how many erases of each segment began.
 #[derive(Drop)]
 pub struct Cells {
-    shape: Shape,
-    flash: Vec<[u64; 32]>,
-    sram: Vec<u64>,
-    erases: Vec<u64>,
+    pub(crate) shape: Shape,
+    pub(crate) flash: Vec<[u64; 32]>,
+    pub(crate) sram: Vec<u64>,
+    pub(crate) erases: Vec<u64>,
 }
 
 impl Cells {

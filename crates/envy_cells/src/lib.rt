@@ -2,5 +2,8 @@
 #![tactic(auto)]
 
 mod cells;
+mod owned;
+mod steady;
 
 pub use cells::Cells;
+pub use owned::CellBoard;

@@ -1,3 +1,1 @@
-pub mod Calls
 pub mod Host
-pub mod Noted

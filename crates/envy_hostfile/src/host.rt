@@ -1,11 +1,11 @@
-ghost use Rattle.std.specs.Prelude.{◌≡◌, ◌∷◌, false};
+ghost use Rattle.std.specs.Prelude.{◌≡◌, false};
 ghost use Rattle.envy_device.specs.Device.{Only};
-ghost use Rattle.envy_hostfile.specs.Noted.{call_of};
+ghost use Rattle.envy_record.specs.Calls.{Notes};
+ghost use Rattle.envy_record.specs.Noted.{call_of};
 
 use crate::folder::Folder;
-use crate::made::Made;
-use crate::record::Record;
-use envy_device::{Device, DeviceFailed, Place};
+use envy_device::DeviceFailed;
+use envy_record::{Made, RawFile, Record, Recorded};
 use std::fs::OpenFile;
 use std::io;
 use std::io::{Error, ErrorKind};
@@ -18,51 +18,60 @@ struct Second<F> {
     size: u64,
 }
 
-/// An open file, and the folder that has its name. Once a call has failed, no later one is made.
+/// Makes the calls on an open file, whose name a folder has.
 #[derive(Drop)]
-pub struct HostFile<F, P> {
+pub struct HostCalls<F, P> {
     file: F,
     folder: P,
     second: Option<Second<F>>,
-    record: Record,
-    failed: bool,
+    /// The calls that were made, with their answers.
+    pub record: Record,
 }
 
-impl<F, P> HostFile<F, P> {
-    ghost use Rattle.envy_hostfile.specs.Host.{host_bytes, host_outcome, host_moment, host_synced, host_failed, host_calls};
+/// An open file of the host. Once a call has failed, no later one is made.
+pub type HostFile<F, P> = Recorded<HostCalls<F, P>>;
+
+impl<F: FileExt + OpenFile + Drop, P: Folder<F>> HostCalls<F, P> {
+    ghost use Rattle.envy_hostfile.specs.Host.{host_bytes, host_failed, host_outcome};
 
     /// A file that was synced, with its name, and then read whole: it holds these bytes, and they are on the disk.
     pub fn found(file: F, folder: P, bytes: &[u8]) -> HostFile<F, P>
         ensures bytes { host_bytes result ≡ bytes.now }
         ensures durable { Only (host_bytes result) (host_outcome result) }
-        ensures synced { host_synced result ≡ host_moment result }
         ensures works { host_failed result ≡ false }
     {
-        HostFile {
+        let calls = HostCalls {
             file,
             folder,
             second: None,
             record: Record::new().and(&Made::Found { bytes }),
-            failed: false,
+        };
+        Recorded::found(calls, bytes)
+    }
+
+    // Notes a call that was just made, by its answer.
+    fn note(
+        &mut self,
+        answer: io::Result<()>,
+        done: &Made<'_>,
+        failed: &Made<'_>,
+    ) -> Result<(), DeviceFailed>
+        ensures { Notes (call_of done.now) (call_of failed.now) result self.old.record.calls self.new.record.calls }
+    {
+        match answer {
+            Ok(()) => {
+                self.record = self.record.and(done);
+                Ok(())
+            }
+            Err(_) => {
+                self.record = self.record.and(failed);
+                Err(DeviceFailed)
+            }
         }
     }
 
-    // Notes a call that was just made, and whether it failed.
-    fn note(&mut self, made: &Made<'_>, failed: bool)
-        ensures noted { host_calls self.new ≡ call_of made.now ∷ host_calls self.old }
-        ensures failed { host_failed self.new ≡ failed }
-    {
-        self.record = self.record.and(made);
-        self.failed = failed;
-    }
-}
-
-impl<F: FileExt + OpenFile + Drop, P: Folder<F>> HostFile<F, P> {
-    ghost use Rattle.envy_hostfile.specs.Host.{host_calls, host_failed};
-
     fn make_second(&mut self) -> io::Result<()>
-        ensures calls { host_calls self.new ≡ host_calls self.old }
-        ensures failed { host_failed self.new ≡ host_failed self.old }
+        ensures { self.new.record ≡ self.old.record }
     {
         let file = self.folder.make()?;
         self.second = Some(Second { file, size: 0 });
@@ -70,8 +79,7 @@ impl<F: FileExt + OpenFile + Drop, P: Folder<F>> HostFile<F, P> {
     }
 
     fn grow_second(&mut self, bytes: &[u8]) -> io::Result<()>
-        ensures calls { host_calls self.new ≡ host_calls self.old }
-        ensures failed { host_failed self.new ≡ host_failed self.old }
+        ensures { self.new.record ≡ self.old.record }
     {
         let Some(second) = &mut self.second else {
             return Err(Error::from(ErrorKind::NotFound));
@@ -83,8 +91,7 @@ impl<F: FileExt + OpenFile + Drop, P: Folder<F>> HostFile<F, P> {
 
     // The first file is let go, and its lock with it, once the second has its name.
     fn put_in_place(&mut self) -> io::Result<()>
-        ensures calls { host_calls self.new ≡ host_calls self.old }
-        ensures failed { host_failed self.new ≡ host_failed self.old }
+        ensures { self.new.record ≡ self.old.record }
     {
         let Some(second) = self.second.take() else {
             return Err(Error::from(ErrorKind::NotFound));
@@ -97,105 +104,47 @@ impl<F: FileExt + OpenFile + Drop, P: Folder<F>> HostFile<F, P> {
     }
 }
 
-impl<F: FileExt + OpenFile, P> Device for HostFile<F, P> {
-    ghost use Rattle.envy_hostfile.specs.Host.{host_bytes, host_outcome, host_moment, host_left, host_synced, host_failed, counts_now_lem, only_now_lem, synced_before_lem};
-
-    ghost seen = { host_bytes };
-
-    ghost may_leave = { host_outcome };
-
-    ghost moment = { host_moment };
-
-    ghost left_since = { host_left };
-
-    ghost synced = { host_synced };
-
-    ghost has_failed = { host_failed };
-
-    ghost counts_now = { counts_now_lem };
-
-    ghost only_now = { only_now_lem };
-
-    ghost synced_before = { synced_before_lem };
+impl<F: FileExt + OpenFile + Drop, P: Folder<F>> RawFile for HostCalls<F, P> {
+    ghost calls = { λ host. host.record.calls };
 
     // Where the system is interrupted, or writes a part, the write goes on with what is left.
     fn write_at(&mut self, at: usize, bytes: &[u8]) -> Result<(), DeviceFailed> {
-        if self.failed {
-            return Err(DeviceFailed);
-        }
-        if self.file.write_all_at(bytes, at as u64).is_err() {
-            let size = bytes.len();
-            self.note(&Made::WriteFailed { at, size }, true);
-            return Err(DeviceFailed);
-        }
-        self.note(&Made::Wrote { at, bytes }, false);
-        Ok(())
+        let size = bytes.len();
+        let answer = self.file.write_all_at(bytes, at as u64);
+        self.note(
+            answer,
+            &Made::Wrote { at, bytes },
+            &Made::WriteFailed { at, size },
+        )
     }
 
-    fn cut(&mut self, len: usize) -> Result<(), DeviceFailed> {
-        if self.failed {
-            return Err(DeviceFailed);
-        }
-        if self.file.set_len(len as u64).is_err() {
-            self.note(&Made::CutFailed { size: len }, true);
-            return Err(DeviceFailed);
-        }
-        self.note(&Made::CutTo { size: len }, false);
-        Ok(())
+    fn cut(&mut self, size: usize) -> Result<(), DeviceFailed> {
+        let answer = self.file.set_len(size as u64);
+        self.note(answer, &Made::CutTo { size }, &Made::CutFailed { size })
     }
 
-    // A sync that failed isn't tried again: the system may have let go of what it couldn't write, and tells so once.
     fn sync(&mut self) -> Result<(), DeviceFailed> {
-        if self.failed {
-            return Err(DeviceFailed);
-        }
-        if self.file.sync_data().is_err() {
-            self.note(&Made::SyncFailed, true);
-            return Err(DeviceFailed);
-        }
-        self.note(&Made::Synced, false);
-        Ok(())
-    }
-}
-
-impl<F: FileExt + OpenFile + Drop, P: Folder<F>> Place for HostFile<F, P> {
-    ghost use Rattle.envy_hostfile.specs.Host.{host_second};
-
-    ghost second = { host_second };
-
-    fn begin_second(&mut self) -> Result<(), DeviceFailed> {
-        if self.failed {
-            return Err(DeviceFailed);
-        }
-        if self.make_second().is_err() {
-            self.note(&Made::SecondBeginFailed, true);
-            return Err(DeviceFailed);
-        }
-        self.note(&Made::SecondBegun, false);
-        Ok(())
+        let answer = self.file.sync_data();
+        self.note(answer, &Made::Synced, &Made::SyncFailed)
     }
 
-    fn write_second(&mut self, bytes: &[u8]) -> Result<(), DeviceFailed> {
-        if self.failed {
-            return Err(DeviceFailed);
-        }
-        if self.grow_second(bytes).is_err() {
-            self.note(&Made::SecondWriteFailed, true);
-            return Err(DeviceFailed);
-        }
-        self.note(&Made::SecondWrote { bytes }, false);
-        Ok(())
+    fn begin(&mut self) -> Result<(), DeviceFailed> {
+        let answer = self.make_second();
+        self.note(answer, &Made::Began, &Made::BeginFailed)
+    }
+
+    fn append(&mut self, bytes: &[u8]) -> Result<(), DeviceFailed> {
+        let size = bytes.len();
+        let answer = self.grow_second(bytes);
+        self.note(
+            answer,
+            &Made::Appended { bytes },
+            &Made::AppendFailed { size },
+        )
     }
 
     fn replace(&mut self) -> Result<(), DeviceFailed> {
-        if self.failed {
-            return Err(DeviceFailed);
-        }
-        if self.put_in_place().is_err() {
-            self.note(&Made::ReplaceFailed, true);
-            return Err(DeviceFailed);
-        }
-        self.note(&Made::Replaced, false);
-        Ok(())
+        let answer = self.put_in_place();
+        self.note(answer, &Made::Replaced, &Made::ReplaceFailed)
     }
 }

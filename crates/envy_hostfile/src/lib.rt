@@ -2,12 +2,11 @@
 //! kit's `std::fs`. A second file, whose name is that of the first with `.envy-new` behind it, is made beside it, locked,
 //! written, synced and given the first one's name, and then the folder is synced.
 //!
-//! No contract can say what a real file holds. So a file keeps a record of the calls that were made and of their answers,
-//! which takes no memory and which only clauses read, and what the file holds and what a crash may leave of it are
-//! defined by that record. What is trusted: that each method makes the calls that it notes (read `host.rt` and `folder.rt`
-//! for it), that what was read after a sync is on the disk, that nobody else writes either file or gives their names to
-//! others, and that the kernel and the disk keep to the definitions in `specs/Calls.antt`: among them that a rename leaves
-//! the name with either file, whole, and once the folder is synced with the second.
+//! No contract can say what a real file holds: `envy_record` defines it by the record of the calls that were made. What is
+//! trusted here: that each method of `HostCalls` makes the calls that it notes (read `host.rt` and `folder.rt` for it), that
+//! what was read after a sync is on the disk, that nobody else writes either file or gives their names to others, and that
+//! the kernel and the disk keep to `specs/Calls.antt` of `envy_record`: among that, that a rename leaves the name with
+//! either file, whole, and once the folder is synced with the second.
 //!
 //! A lock is held on the file that has the name, at each moment: the second file is locked before it gets the name, and
 //! the first let go behind that. A process that opened the first before, and locks it then, finds that the name isn't its
@@ -16,14 +15,10 @@
 
 mod folder;
 mod host;
-mod made;
 mod opening;
-mod record;
 #[cfg(test)]
 mod tests;
 
 pub use folder::{Folder, Names};
-pub use host::HostFile;
-pub use made::Made;
+pub use host::{HostCalls, HostFile};
 pub use opening::{OpenFault, open};
-pub use record::Record;

@@ -3,7 +3,7 @@ ghost use Rattle.envy_device.specs.Device.{Only};
 ghost use Rattle.envy_hostfile.specs.Host.{host_bytes, host_outcome, host_failed};
 
 use crate::folder::{Names, is_named};
-use crate::host::HostFile;
+use crate::host::{HostCalls, HostFile};
 use std::alloc::AllocError;
 use std::fs::{File, OpenOptions, TryLockError};
 use std::io::{ErrorKind, Read};
@@ -87,5 +87,5 @@ pub fn open<'a>(
     place.folder.sync_all()?;
     let mut bytes = Vec::new(rt.alloc());
     file.read_to_end(&mut bytes)?;
-    Ok((HostFile::found(file, place, &bytes), bytes))
+    Ok((HostCalls::found(file, place, &bytes), bytes))
 }

@@ -1,5 +1,5 @@
 use crate::folder::is_named;
-use crate::{Folder, HostFile, OpenFault, open};
+use crate::{Folder, HostCalls, OpenFault, open};
 use envy_device::{Device, Place};
 use std::cell::Cell;
 use std::fs::{self, File, Metadata, OpenFile};
@@ -33,7 +33,11 @@ fn a_file_is_locked_written_synced_and_read_again(rt: HostRuntime) -> Result<(),
 fn a_second_file_takes_the_place(rt: HostRuntime) -> Result<(), Fail> {
     let path = "envy_hostfile_second";
     let _ = fs::remove_file(&rt, path);
-    fs::write(&rt, "envy_hostfile_second.envy-new", b"left behind by a crash")?;
+    fs::write(
+        &rt,
+        "envy_hostfile_second.envy-new",
+        b"left behind by a crash",
+    )?;
     let (mut file, _) = open(&rt, path)?;
     file.write_at(0, b"first")?;
     file.sync()?;
@@ -177,7 +181,7 @@ fn a_write_goes_on_and_a_failure_ends_the_file(rt: HostRuntime) -> Result<(), Fa
     ];
     for (fails_at, next) in table {
         let slow = failing_at(fails_at);
-        let mut file = HostFile::found(&slow, &slow, &[]);
+        let mut file = HostCalls::found(&slow, &slow, &[]);
         let wrote = file.write_at(0, b"1234567").is_ok();
         let synced = file.sync().is_ok();
         let cut = file.cut(0).is_ok();
@@ -190,8 +194,8 @@ fn a_write_goes_on_and_a_failure_ends_the_file(rt: HostRuntime) -> Result<(), Fa
     Ok(())
 }
 
-// The second file is made, 3 bytes are 2 pieces, 2 bytes are one behind an interruption or not, and then the file is
-// synced, renamed, and the folder is synced.
+// The second file is made, 3 bytes are 2 pieces with an interruption between, 2 bytes are one, and then the file is synced
+// and renamed, and the folder is synced.
 #[test]
 fn a_failure_at_any_call_on_the_second_file_ends_the_file(rt: HostRuntime) -> Result<(), Fail> {
     let table = [
@@ -203,11 +207,11 @@ fn a_failure_at_any_call_on_the_second_file_ends_the_file(rt: HostRuntime) -> Re
         (5, 3),
         (6, 3),
         (7, 3),
-        (8, 4),
+        (9, 4),
     ];
     for (fails_at, passed) in table {
         let slow = failing_at(fails_at);
-        let mut file = HostFile::found(&slow, &slow, &[]);
+        let mut file = HostCalls::found(&slow, &slow, &[]);
         let begun = file.begin_second().is_ok();
         let wrote = file.write_second(b"123").is_ok();
         let more = file.write_second(b"45").is_ok();

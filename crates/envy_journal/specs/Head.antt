@@ -30,7 +30,7 @@ IsNewOrUnmade sh file = IsUnmade file ⊎ StandsFor sh [] file
 
 -- the bytes don't begin as a journal does
 abbrev pub HasNoJournal : List ℕ → Type 0
-HasNoJournal file = (length file < 34) ⊎ (take 8 file ≢ mark)
+HasNoJournal file = (length file < 33) ⊎ (take 8 file ≢ mark)
 
 -- a journal of a version that isn't known here
 pub record IsOtherVersion (file : List ℕ) : Type 0 where

@@ -25,14 +25,15 @@ pub enum HeadError {
     OtherVersion,
 }
 
-/// The sizes of the board whose journal this is. They may break the rules of a `Shape`: check them.
+/// The sizes of the board whose journal this is. They may break the rules of a `Shape`: check them. A head alone is a journal
+/// without operations: opening one, cut short, may leave that.
 pub fn read_head(bytes: &[u8]) -> Result<Shape, HeadError>
     ensures sizes { IfOk result (λ shape. Begins (head_bytes shape) bytes.now) }
-    ensures long { IfOk result (λ shape. 34 ≤ length bytes.now) }
+    ensures long { IfOk result (λ shape. 33 ≤ length bytes.now) }
     ensures no_journal { IsErrOf result NoJournal → HasNoJournal bytes.now }
     ensures other_version { IsErrOf result OtherVersion → IsOtherVersion bytes.now }
 {
-    if bytes.len() <= HEAD || bytes[..8] != MARK[..] {
+    if bytes.len() < HEAD || bytes[..8] != MARK[..] {
         return Err(HeadError::NoJournal);
     }
     if bytes[8] != VERSION {

@@ -5,9 +5,9 @@ use envy_base::Off;
 use envy_device::Place;
 use envy_journal::Steady;
 use envy_keep_trace::{KeepLine, KeepReply};
-use envy_synced::Kept;
 use envy_memory::Memory;
 use envy_run::answer_board;
+use envy_synced::Kept;
 use envy_trace::Reply;
 
 /// Brings all that was done to the disk. `Synced` is the answer only behind a sync that succeeded; where it failed power is

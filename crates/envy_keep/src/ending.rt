@@ -10,10 +10,10 @@ use envy_base::Off;
 use envy_device::Place;
 use envy_io::{Lines, Sink, Source};
 use envy_journal::Steady;
-use envy_synced::Kept;
 use envy_memory::Memory;
 use envy_saved::close;
 use envy_serve::{End, MOST_BYTES, serve};
+use envy_synced::Kept;
 
 /// What serving a kept memory's trace says at its end.
 #[derive(Drop)]

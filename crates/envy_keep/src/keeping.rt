@@ -4,9 +4,9 @@ use envy_device::{Device, Place};
 use envy_io::{Failed, Sink};
 use envy_journal::Steady;
 use envy_keep_trace::{KeepLine, KeepReply, keep_grammar_holds_both_ways, read_keep_line};
-use envy_synced::Kept;
 use envy_memory::Memory;
 use envy_serve::{Obeyed, Service};
+use envy_synced::Kept;
 use envy_trace::LineFault;
 
 /// A memory that is kept in a file and answers the lines of a trace.

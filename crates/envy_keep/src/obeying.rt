@@ -10,9 +10,9 @@ use envy_device::Place;
 use envy_io::{Failed, Sink};
 use envy_journal::Steady;
 use envy_keep_trace::KeepLine;
-use envy_synced::Kept;
 use envy_memory::Memory;
 use envy_serve::Obeyed;
+use envy_synced::Kept;
 use envy_trace::Line;
 
 /// Does a line that isn't empty, with its reply. Where power failed in it nothing further is done.

@@ -93,8 +93,8 @@ impl<'a> Board for RegionBoard<'a> {
     }
 }
 
-// Makes so many rows all ones.
-fn fill(flash: &mut [[u64; 32]], first: usize, rows: usize)
+/// Makes so many rows all ones.
+pub fn fill(flash: &mut [[u64; 32]], first: usize, rows: usize)
     requires { first + rows ≤ length flash.old }
     ensures { Erased first (first + rows) flash.old flash.new }
 {
@@ -103,8 +103,8 @@ fn fill(flash: &mut [[u64; 32]], first: usize, rows: usize)
     }
 }
 
-// The bitwise AND of a row and a page.
-fn anded(row: &[u64; 32], page: &[u64; 32]) -> [u64; 32]
+/// The bitwise AND of a row and a page.
+pub fn anded(row: &[u64; 32], page: &[u64; 32]) -> [u64; 32]
     ensures { result ≡ ands row.now page.now }
 {
     let mut both = [0; 32];

@@ -7,4 +7,4 @@
 
 mod board;
 
-pub use board::RegionBoard;
+pub use board::{RegionBoard, anded, fill};

@@ -6,13 +6,13 @@ use denote.Ref.{MutRef}
 use mir.Syntax.{named}
 use base.Fml.{Fml, ftrue}
 use Rattle.std.specs.contracts.option.Option as option
-use Rattle.envy_sim.specs.contracts.board.PlannedBoard as planned_board
-use Rattle.envy_sim.specs.contracts.board.PlannedBoardBoard.TheImpl as board
+use Rattle.envy_sim.specs.contracts.board.CalmBoard as calm_board
+use Rattle.envy_sim.specs.contracts.board.CalmBoardBoard.TheImpl as board
 use Rattle.envy_memory.specs.contracts.memory.Memory as memory
 
 -- a memory over a board in memory, and a place that may hold one
 abbrev pub memory_row : RattleType
-memory_row = memory.the_row planned_board.the_row board.ghosts
+memory_row = memory.the_row calm_board.the_row board.ghosts
 
 abbrev pub slot_row : RattleType
 slot_row = option.the_row memory_row

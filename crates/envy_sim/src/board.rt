@@ -11,28 +11,28 @@ use std::alloc::Global;
 
 /// A board in memory. Until a failure is planned, or power is cut by hand, nothing of it fails.
 #[derive(Drop)]
-pub struct PlannedBoard {
+pub struct CalmBoard {
     board: MemBoard,
     ghost calm: { IsCalm (board_state board) (board_power board) } by { Prim.hlevel props },
 }
 
-impl PlannedBoard {
-    ghost use Rattle.envy_sim.specs.State.{planned_state};
+impl CalmBoard {
+    ghost use Rattle.envy_sim.specs.State.{calm_state};
 
     /// A new board of the shape, whose power can return `lives` times.
-    pub fn new(alloc: Global, shape: &Shape, lives: u32) -> Result<PlannedBoard, NoMemory>
+    pub fn new(alloc: Global, shape: &Shape, lives: u32) -> Result<CalmBoard, NoMemory>
         requires { IsShape shape.now }
-        ensures { IfOk result (λ board. planned_state board ≡ new_state shape.now lives) }
+        ensures { IfOk result (λ board. calm_state board ≡ new_state shape.now lives) }
     {
         let board = MemBoard::new(alloc, shape, lives)?;
-        Ok(PlannedBoard { board })
+        Ok(CalmBoard { board })
     }
 }
 
-impl Board for PlannedBoard {
-    ghost use Rattle.envy_sim.specs.State.{planned_state};
+impl Board for CalmBoard {
+    ghost use Rattle.envy_sim.specs.State.{calm_state};
 
-    ghost state = { planned_state };
+    ghost state = { calm_state };
 
     ghost lawful = { λ b. b.board.sound };
 
@@ -65,16 +65,16 @@ impl Board for PlannedBoard {
     }
 }
 
-impl Bench for PlannedBoard {
+impl Bench for CalmBoard {
     ghost use Rattle.std.specs.Prelude.{◌≤◌};
     ghost use Rattle.envy_base.specs.State.{planned};
     ghost use Rattle.envy_power.specs.Power.{with_cut, with_bad};
-    ghost use Rattle.envy_sim.specs.State.{planned_state};
+    ghost use Rattle.envy_sim.specs.State.{calm_state};
 
     #[tactic(auto, unfolding(envy_base::specs::Counting::up))]
     fn arm_cut(&mut self, k: u32, g: u64)
         requires { 1 ≤ k }
-        ensures state { planned_state self.new ≡ planned (planned_state self.old) }
+        ensures state { calm_state self.new ≡ planned (calm_state self.old) }
         ensures power { board_power self.new.board ≡ with_cut k g (board_power self.old.board) }
     {
         self.board.arm_cut(k, g);
@@ -83,7 +83,7 @@ impl Bench for PlannedBoard {
     #[tactic(auto, unfolding(envy_base::specs::Counting::up))]
     fn arm_bad(&mut self, k: u32, g: u64)
         requires { 1 ≤ k }
-        ensures state { planned_state self.new ≡ planned (planned_state self.old) }
+        ensures state { calm_state self.new ≡ planned (calm_state self.old) }
         ensures power { board_power self.new.board ≡ with_bad k g (board_power self.old.board) }
     {
         self.board.arm_bad(k, g);

@@ -5,12 +5,12 @@ ghost use Rattle.envy_memory.specs.Picture.{Picture};
 ghost use Rattle.envy_sim.specs.Held.{slot_owns, lent_row};
 ghost use denote.RawPtr.{InBlock};
 
-use crate::board::PlannedBoard;
+use crate::board::CalmBoard;
 use envy_memory::Memory;
 use std::marker::Model;
 
 /// A place that may hold a memory.
-pub type Slot = Option<Memory<PlannedBoard>>;
+pub type Slot = Option<Memory<CalmBoard>>;
 
 /// What a caller in C holds: a pointer to a place, through which it never reads.
 #[repr(C)]
@@ -33,27 +33,27 @@ impl EnvyMemory {
     }
 
     /// The handle of a place.
-    pub fn of(slot: &'static mut Option<Memory<PlannedBoard>>) -> EnvyMemory
+    pub fn of(slot: &'static mut Option<Memory<CalmBoard>>) -> EnvyMemory
         ensures slot { result.slot ≡ slot.entry }
         ensures live { InBlock result.at }
     {
         EnvyMemory {
-            at: slot as *mut Option<Memory<PlannedBoard>> as *mut u8,
+            at: slot as *mut Option<Memory<CalmBoard>> as *mut u8,
         }
     }
 
     /// The place of a handle.
-    pub fn into_slot(self) -> &'static mut Option<Memory<PlannedBoard>>
+    pub fn into_slot(self) -> &'static mut Option<Memory<CalmBoard>>
         requires { InBlock self.at }
         ensures { result ≡ self.slot }
     {
         let EnvyMemory { at } = self;
-        unsafe { &mut *(at as *mut Option<Memory<PlannedBoard>>) }
+        unsafe { &mut *(at as *mut Option<Memory<CalmBoard>>) }
     }
 }
 
 /// Takes the place out of a handle, which is one of no place then.
-pub fn lend(m: &mut EnvyMemory) -> &'static mut Option<Memory<PlannedBoard>>
+pub fn lend(m: &mut EnvyMemory) -> &'static mut Option<Memory<CalmBoard>>
     requires { InBlock m.old.at }
     ensures { result ≡ m.old.slot }
 {

@@ -1,7 +1,7 @@
 ghost use Rattle.std.specs.Prelude.{◌≡◌, MatchResult};
 ghost use Rattle.envy_sim.specs.Making.{Formatted, Opens, RefusesFormat, RefusesImage, Restored};
 
-use crate::board::PlannedBoard;
+use crate::board::CalmBoard;
 use crate::handle::Slot;
 use crate::restoring::board_of_image;
 use envy_calls::{Code, EnvySetup, attach, checked_setup, format_answer};
@@ -9,11 +9,11 @@ use envy_memory::Memory;
 use std::alloc::Global;
 
 // A memory of zeros over a new board.
-fn formatted(alloc: Global, given: &EnvySetup, lives: u32) -> Result<Memory<PlannedBoard>, Code>
+fn formatted(alloc: Global, given: &EnvySetup, lives: u32) -> Result<Memory<CalmBoard>, Code>
     ensures { MatchResult result (Formatted given.now lives) (RefusesFormat given.now) }
 {
     let setup = checked_setup(given)?;
-    let Ok(board) = PlannedBoard::new(alloc, &setup.shape, lives) else {
+    let Ok(board) = CalmBoard::new(alloc, &setup.shape, lives) else {
         return Err(Code::NoMemory);
     };
     match Memory::format(alloc, board, setup) {
@@ -28,7 +28,7 @@ fn restored(
     given: &EnvySetup,
     lives: u32,
     image: &[u8],
-) -> Result<Memory<PlannedBoard>, Code>
+) -> Result<Memory<CalmBoard>, Code>
     ensures { MatchResult result (Restored given.now lives image.now) (RefusesImage given.now lives image.now) }
 {
     let setup = checked_setup(given)?;

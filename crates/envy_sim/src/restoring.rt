@@ -4,9 +4,9 @@ ghost use Rattle.envy_base.specs.Shape.{IsShape};
 ghost use Rattle.envy_bench.specs.Parts.{new_state};
 ghost use Rattle.envy_sim.specs.Image.{HoldsImage, NoBoard, NoHead, ReadsShape};
 ghost use Rattle.envy_sim.specs.Reading.{IsOpened};
-ghost use Rattle.envy_sim.specs.State.{planned_state};
+ghost use Rattle.envy_sim.specs.State.{calm_state};
 
-use crate::board::PlannedBoard;
+use crate::board::CalmBoard;
 use crate::cursor::Cursor;
 use envy_base::Shape;
 use envy_calls::{Code, EnvySetup};
@@ -51,10 +51,10 @@ pub fn board_of_image(
     shape: &Shape,
     lives: u32,
     image: &[u8],
-) -> Result<PlannedBoard, Code>
+) -> Result<CalmBoard, Code>
     requires { IsShape shape.now }
     ensures { MatchResult result
-        (λ board. HoldsImage image.now (new_state shape.now lives) (planned_state board))
+        (λ board. HoldsImage image.now (new_state shape.now lives) (calm_state board))
         (NoBoard image.now shape.now) }
 {
     let Opened {
@@ -65,7 +65,7 @@ pub fn board_of_image(
     if found != *shape {
         return Err(Code::ImageOther);
     }
-    let Ok(mut board) = PlannedBoard::new(alloc, shape, lives) else {
+    let Ok(mut board) = CalmBoard::new(alloc, shape, lives) else {
         return Err(Code::NoMemory);
     };
     match install(&mut board, &mut lines, &mut source) {

@@ -2,9 +2,9 @@
 ghost use Rattle.std.specs.Prelude.{◌≡◌};
 ghost use Rattle.envy_base.specs.Shape.{IsShape};
 ghost use Rattle.envy_sim.specs.Image.{DoesImageSize, DoesSave, Saves, image_size};
-ghost use Rattle.envy_sim.specs.State.{planned_state};
+ghost use Rattle.envy_sim.specs.State.{calm_state};
 
-use crate::board::PlannedBoard;
+use crate::board::CalmBoard;
 use crate::handle::Slot;
 use envy_base::{Board, Shape};
 use envy_calls::{Code, EnvySetup, checked_setup};
@@ -36,8 +36,8 @@ pub fn size_for(setup: &EnvySetup, size: &mut u64) -> Code
 }
 
 // Writes the image of a board over the first bytes.
-fn save_board(alloc: Global, board: &PlannedBoard, into: &mut [u8]) -> Code
-    ensures { Saves (planned_state board.now) into.old into.new result }
+fn save_board(alloc: Global, board: &CalmBoard, into: &mut [u8]) -> Code
+    ensures { Saves (calm_state board.now) into.old into.new result }
 {
     if !board.powered() {
         return Code::Off;

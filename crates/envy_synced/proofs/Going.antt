@@ -12,7 +12,7 @@ use Rattle.envy_base.specs.State.{State, Puts, Programs, Erases, cut}
 use Rattle.envy_device.specs.Device.{LeavesOnly}
 use Rattle.envy_journal.specs.declared.log.Log.{Log}
 use Rattle.envy_journal.specs.declared.operation.Operation.{Operation}
-use Rattle.envy_journal.specs.Content.{Content, content_of, holds}
+use Rattle.envy_journal.specs.Content.{content_of, holds}
 use Rattle.envy_journal.specs.Head.{StandsFor, head_bytes}
 use Rattle.envy_journal.proofs.Logged.{crash_kept}
 use Rattle.envy_journal.specs.Journal.{IsFileOf, IsLogged, journal_state, kept}

@@ -1,5 +1,5 @@
 -- No two lists have the same number.
-use Rattle.std.proofs.Common.{◌≡◌, ◌≢◌, ℕ, zero, suc, ◌+◌, ◌*◌, List, [], ◌∷◌, refl, sym, ◌∙◌, ap, arith}
+use Rattle.std.proofs.Common.{◌≡◌, ℕ, zero, suc, List, [], ◌∷◌, refl, sym, ◌∙◌, ap, arith}
 use Rattle.envy_synced.specs.Number.{both, number}
 
 some : (b n : ℕ) → both b n ≡ 0 → ⊥

@@ -3,7 +3,7 @@ use Rattle.std.proofs.Common.{◌≡◌, ◌⊎◌, ◌∙◌, inl, inr, ℕ, Li
 use Rattle.std.proofs.Math.Logic.{∥∥₁_map}
 use Rattle.envy_base.specs.declared.shape.Shape.{Shape}
 use Rattle.envy_base.specs.State.{State}
-use Rattle.envy_map.specs.Fields.{Chart, Fields, chart, map_fields}
+use Rattle.envy_map.specs.Fields.{Chart, chart, map_fields}
 use Rattle.envy_journal.specs.declared.log.Log.{Log}
 use Rattle.envy_journal.specs.declared.operation.Operation.{Operation}
 use Rattle.envy_journal.specs.Content.{Content, content_of, holds}

@@ -106,7 +106,7 @@ const FORMS: [Row; 12] = [
 ];
 
 // None of these is.
-const OTHERS: [&str; 17] = [
+const OTHERS: [&str; 19] = [
     "",
     "a",
     "keep --file a",
@@ -121,6 +121,8 @@ const OTHERS: [&str; 17] = [
     "--file a b",
     "--file a --lives 3",
     "--file a --rows ten",
+    "--file a --compact 2",
+    "--file a --compact yes",
     "--file a --policy lru",
     "--file a --mark 4294967296",
     "--File a",

@@ -1,5 +1,6 @@
-use Rattle.std.proofs.Common.{inl, inr, subst, sym}
+use Rattle.std.proofs.Common.{◌≡◌, ◌∙◌, [], inl, inr, subst, sym}
 use Rattle.std.proofs.lemmas.Result.{err_from_is_err_and}
+use Rattle.envy_begun.proofs.Planned.{is-empty}
 use Rattle.envy_begun.specs.Plans.{Plans}
 use Rattle.envy_begun.specs.declared.planning.Holding.{Holding}
 use Rattle.envy_begun.proofs.planning.plan.Goals as goal
@@ -8,7 +9,8 @@ pub returns-in_err-fresh-clause-refused : goal.returns-in_err-fresh-clause-refus
 returns-in_err-fresh-clause-refused c =
     let p = err_from_is_err_and c.from_residual.result c.from_residual.ensures.1 in
     let (fault, is, bad) = c.in_err-fresh.ensures.refused in
-    rw (p.1, p.2, is) (c.is_unmade.ensures.0 c.if-is_unmade.true, bad)
+    let empty : c.args.bytes.now ≡ [] = is-empty c.args.bytes.now (sym c.is_empty.ensures ∙ c.if-is_empty.true) in
+    rw (p.1, p.2, is) (empty, bad)
 
 pub returns-in_err-setup-clause-refused : goal.returns-in_err-setup-clause-refused
 returns-in_err-setup-clause-refused c =

@@ -1,5 +1,4 @@
 use Rattle.std.proofs.Common.{inr, subst}
-use Rattle.envy_base.specs.State.{IsBoard}
 use Rattle.envy_base.specs.declared.shape.Shape.{Shape}
 use Rattle.envy_begun.specs.Unserved.{Declines}
 use Rattle.envy_begun.proofs.Again.{code-declines, not-declined, off-declined, taken-up}

@@ -7,7 +7,7 @@ use Rattle.envy_journal.proofs.head.read_head.Goals as goal
 pub returns-clause-sizes : goal.returns-clause-sizes
 returns-clause-sizes c =
     let bytes = c.args.bytes.now in
-    let long : 34 ≤ length bytes = omega (arith, c.if-bytes-le-HEAD.false) in
+    let long : 33 ≤ length bytes = omega (arith, c.if-bytes-lt-HEAD.false) in
     let named : take 8 bytes ≡ mark = search rules in
     let version : get_or bytes 8 0 ≡ 1 = c.if-bytes-ne-VERSION.false in
     let small : (i : ℕ) → get_or bytes i 0 < 256 = λ i. omega (arith, c.type_inv.bytes i) in

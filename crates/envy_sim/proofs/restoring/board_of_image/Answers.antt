@@ -3,7 +3,7 @@ use Rattle.envy_base.specs.State.{State}
 use Rattle.envy_base.specs.declared.shape.Shape.{Shape}
 use Rattle.envy_sim.specs.Image.{HoldsImage, NoBoard}
 use Rattle.envy_sim.specs.Reading.{IsOpened}
-use Rattle.envy_sim.specs.State.{planned_state}
+use Rattle.envy_sim.specs.State.{calm_state}
 use Rattle.envy_calls.specs.declared.code.Code.TheVariants.{ImageShort}
 use Rattle.envy_sim.proofs.Opened.{body-holds, body-short}
 use Rattle.envy_sim.proofs.restoring.board_of_image.Goals as goal
@@ -12,16 +12,16 @@ pub returns-in-Ok-install : goal.returns-in-Ok-install
 returns-in-Ok-install c =
     let o = c.in_ok-found.field-0 in let made = c.in-Ok.ensures in
     let same : o.shape ≡ c.args.shape.now = search rules in
-    let shape : o.shape ≡ (planned_state c.in-Ok.board).shape = same ∙ sym (ap State.shape made) in
-    let opened : IsOpened c.args.image.now (planned_state c.in-Ok.board).shape o.source.left.now o.lines = subst (λ (sh : Shape). IsOpened c.args.image.now sh o.source.left.now o.lines) shape c.in_ok-found.ensures in
-    subst (λ (s : State). HoldsImage c.args.image.now s (planned_state c.install.new.board)) made
-    (body-holds c.args.image.now o.source.left.now c.install.new.source.left.now o.lines c.install.new.lines (planned_state c.in-Ok.board) (planned_state c.install.new.board) opened c.in-Ok-install.ensures.installs)
+    let shape : o.shape ≡ (calm_state c.in-Ok.board).shape = same ∙ sym (ap State.shape made) in
+    let opened : IsOpened c.args.image.now (calm_state c.in-Ok.board).shape o.source.left.now o.lines = subst (λ (sh : Shape). IsOpened c.args.image.now sh o.source.left.now o.lines) shape c.in_ok-found.ensures in
+    subst (λ (s : State). HoldsImage c.args.image.now s (calm_state c.install.new.board)) made
+    (body-holds c.args.image.now o.source.left.now c.install.new.source.left.now o.lines c.install.new.lines (calm_state c.in-Ok.board) (calm_state c.install.new.board) opened c.in-Ok-install.ensures.installs)
 
 pub returns-in-Err-Short : goal.returns-in-Err-Short
 returns-in-Err-Short c =
     let o = c.in_ok-found.field-0 in let made = c.in-Ok.ensures in
     let same : o.shape ≡ c.args.shape.now = search rules in
-    let shape : o.shape ≡ (planned_state c.in-Ok.board).shape = same ∙ sym (ap State.shape made) in
-    let opened : IsOpened c.args.image.now (planned_state c.in-Ok.board).shape o.source.left.now o.lines = subst (λ (sh : Shape). IsOpened c.args.image.now sh o.source.left.now o.lines) shape c.in_ok-found.ensures in
+    let shape : o.shape ≡ (calm_state c.in-Ok.board).shape = same ∙ sym (ap State.shape made) in
+    let opened : IsOpened c.args.image.now (calm_state c.in-Ok.board).shape o.source.left.now o.lines = subst (λ (sh : Shape). IsOpened c.args.image.now sh o.source.left.now o.lines) shape c.in_ok-found.ensures in
     subst (λ (s : State). NoBoard c.args.image.now s.shape ImageShort) made
-    (body-short c.args.image.now o.source.left.now c.install.new.source.left.now o.lines c.install.new.lines (planned_state c.in-Ok.board) (planned_state c.install.new.board) opened (rw c.in-Err-Short.field-0-is at c.in-Err-Short.ensures.installs))
+    (body-short c.args.image.now o.source.left.now c.install.new.source.left.now o.lines c.install.new.lines (calm_state c.in-Ok.board) (calm_state c.install.new.board) opened (rw c.in-Err-Short.field-0-is at c.in-Err-Short.ensures.installs))

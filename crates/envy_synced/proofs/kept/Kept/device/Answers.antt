@@ -1,4 +1,4 @@
-use Rattle.std.proofs.Common.{◌≤◌, ℕ, List, subst, sym}
+use Rattle.std.proofs.Common.{◌≤◌, subst, sym}
 use Rattle.envy_journal.specs.Journal.{journal_state}
 use Rattle.envy_synced.proofs.Telling.{told_last, told_before}
 use Rattle.envy_synced.proofs.kept.Kept.device.Goals as goal

@@ -1,10 +1,7 @@
-use Rattle.std.proofs.Common.{◌∙◌, ℕ, List, ap, sym, subst}
-use Rattle.envy_journal.specs.declared.log.Log.{Log}
+use Rattle.std.proofs.Common.{◌∙◌, List, ap}
 use Rattle.envy_journal.specs.declared.operation.Operation.{Operation}
 use Rattle.envy_journal.specs.Content.{holds}
-use Rattle.envy_journal.specs.Journal.{journal_state, kept}
-use Rattle.envy_map.specs.Fields.{chart}
-use Rattle.envy_synced.specs.Disk.{IsKept, IsSynced, disk_state}
+use Rattle.envy_synced.specs.Disk.{IsKept}
 use Rattle.envy_synced.proofs.Going.{kept_new, stands_now}
 use Rattle.envy_synced.proofs.Telling.{synced_now}
 use Rattle.envy_synced.proofs.kept.Kept.new.Goals as goal

@@ -1,4 +1,4 @@
-use Rattle.std.proofs.Common.{◌≡◌, ◌∙◌, ℕ, Bool, true, List, refl, sym, ap, subst}
+use Rattle.std.proofs.Common.{◌≡◌, ◌∙◌, ℕ, Bool, true, List, refl, ap, subst}
 use Rattle.envy_journal.specs.declared.operation.Operation.{Operation}
 use Rattle.envy_journal.specs.Content.{content_of, holds}
 use Rattle.envy_journal.specs.Head.{StandsFor}
@@ -27,7 +27,7 @@ invariant_of-self g c =
     subst (λ (x : g.row.B.Denot). StandsFor (g.B.Board.state x).shape (kept seen new.log) file) e.board
     (stands_now seen g.D.Device.may_leave moment left g.D.Device.synced new.log (g.B.Board.state new.board) (g.met.D.Device.only_now new.log.device) (new.logged e.ok.still_alive) file after) in
     let fresh : IsKept seen moment left new.log new.log was a = synced seen moment left j.log was k.before.value.log a is (g.met.B.Steady.steady j.board).on new.log e.any_moment_ok stands in
-    record { kept = rw (c.replace.ensures.value, c.replace.ensures.after, c.of.ensures, e.ok.still_alive, e.board) fresh }
+    record { kept = rw (c.replace-last.ensures.value, c.replace-last.ensures.after, c.of.ensures, e.ok.still_alive, e.board) fresh }
 
 pub invariant_of-self-in-Err : goal.invariant_of-self-in-Err
 invariant_of-self-in-Err g c =
@@ -48,7 +48,7 @@ returns-in-Ok-clause-answer g c =
     let j = k.journal in
     let new = c.compact.new.self in
     let e = c.in-Ok.ensures in
-    rw (c.replace.ensures.value, c.replace.ensures.after, c.of.ensures, e.ok.still_alive, e.board, e.ok.alive)
+    rw (c.replace-last.ensures.value, c.replace-last.ensures.after, c.of.ensures, e.ok.still_alive, e.board, e.ok.alive)
     ((g.met.B.Steady.steady j.board).on, g.D.Device.moment new.log.device, number (kept_bytes g.D.Device.seen new.log), refl)
 
 pub returns-in-Ok-clause-synced : goal.returns-in-Ok-clause-synced
@@ -61,7 +61,7 @@ returns-in-Ok-clause-synced g c =
     let e = c.in-Ok.ensures in
     let content : content_of b ≡ holds b.shape (kept seen new.log) = (new.logged e.ok.still_alive).content ∙ ap (λ (p : List Operation). holds b.shape p) e.ok.all in
     let fresh : IsSynced (chart (disk_state seen moment new.log k.synced.value.log b)) = synced_now seen moment new.log k.synced.value.log b content in
-    rw (c.replace.ensures.value, c.replace.ensures.after, c.of.ensures, e.ok.still_alive) fresh
+    rw (c.replace-last.ensures.value, c.replace-last.ensures.after, c.of.ensures, e.ok.still_alive) fresh
 
 pub returns-in-Err-clause-answer : goal.returns-in-Err-clause-answer
 returns-in-Err-clause-answer g c =

@@ -1,0 +1,3 @@
+mod Filling
+mod Numbers
+mod Opened

@@ -1,0 +1,22 @@
+-- A number tells its answer.
+use Rattle.std.proofs.Common.{◌≡◌, ◌<◌, ◌≤◌, ℕ, refl, sym, ap, arith}
+use Rattle.envy_calls.specs.Codes.{number_of}
+use Rattle.envy_calls.specs.declared.code.Code.{Code}
+use Rattle.envy_kept.specs.Codes.{number_of_kept}
+use Rattle.envy_kept.specs.declared.code.KeptCode.{KeptCode}
+use Rattle.envy_kept.specs.declared.code.KeptCode.TheVariants.{Of, NoJournal, OtherVersion}
+
+-- no number is that of a memory's answer and of a file
+apart : ((x : Code) → number_of x < 64) → (x : Code) (n : ℕ) → 64 ≤ n → number_of x ≡ n → ⊥
+apart below x n high is = (let low = below x in omega (low, high, is, arith))
+
+pub same_kept : ((x y : Code) → number_of x ≡ number_of y → x ≡ y) → ((x : Code) → number_of x < 64) → (x y : KeptCode) → number_of_kept x ≡ number_of_kept y → x ≡ y
+same_kept law below (Of x) (Of y) is = ap Of (law x y is)
+same_kept law below (Of x) NoJournal is = absurd (apart below x 72 (omega arith) is)
+same_kept law below (Of x) OtherVersion is = absurd (apart below x 73 (omega arith) is)
+same_kept law below NoJournal (Of y) is = absurd (apart below y 72 (omega arith) (sym is))
+same_kept law below NoJournal NoJournal is = refl
+same_kept law below NoJournal OtherVersion is = absurd (omega (is, arith))
+same_kept law below OtherVersion (Of y) is = absurd (apart below y 73 (omega arith) (sym is))
+same_kept law below OtherVersion NoJournal is = absurd (omega (is, arith))
+same_kept law below OtherVersion OtherVersion is = refl

@@ -1,0 +1,44 @@
+-- A memory that began in a file by a setup that names all sizes, and why none did.
+use Rattle.std.proofs.Common.{◌≡◌, ◌∙◌, ℕ, Bool, true, false, List, sym, ap}
+use Rattle.envy_base.specs.State.{State}
+use Rattle.envy_base.specs.declared.shape.Shape.{Shape}
+use Rattle.envy_begun.specs.Plans.{Plans, IsFound}
+use Rattle.envy_begun.specs.Unserved.{Causes, Refuses}
+use Rattle.envy_begun.specs.declared.planning.Holding.{Holding}
+use Rattle.envy_begun.specs.declared.planning.Holding.TheVariants.{Unmade, Blank, Written}
+use Rattle.envy_begun.specs.declared.unbegun.Unbegun.{Unbegun}
+use Rattle.envy_begun.specs.declared.unbegun.Unbegun.TheVariants.{Setup, NoJournal, OtherVersion, OtherSizes, Options, Memory, Failed}
+use Rattle.envy_journal.specs.Journal.{journal_state}
+use Rattle.envy_policy.specs.declared.setup.Setup.{Setup as OfSetup}
+use Rattle.envy_kept.specs.Opening.{RefusesFile, options_of}
+
+same_found : (s t : OfSetup) (file : List ℕ) → IsFound (options_of s) file t → t ≡ s
+same_found s t file found = found.is ∙ ap (λ (sh : Shape). record s { shape = sh }) (sym found.over.named)
+
+pub same_setup : (holding : Holding) (s t : OfSetup) (file : List ℕ) → Plans holding (options_of s) file t → t ≡ s
+same_setup Unmade s t file plans = plans.1
+same_setup Blank s t file plans = same_found s t file plans.0
+same_setup Written s t file plans = same_found s t file plans
+
+pub refused : (s : OfSetup) (file : List ℕ) (why : Unbegun) → Refuses (options_of s) file why → RefusesFile (options_of s) file why
+refused s file (Setup fault) refuses = refuses
+refused s file NoJournal refuses = refuses
+refused s file OtherVersion refuses = refuses
+refused s file OtherSizes refuses = refuses
+refused s file (Options fault) refuses = refuses
+refused s file Memory refuses = tt
+refused s file (Failed held) refuses = tt
+
+pub caused : {D : Type 0} (seen : D → List ℕ) (has_failed : D → Bool) (s : OfSetup) (file : List ℕ) (old new : D) (why : Unbegun) → Causes seen has_failed (options_of s) file old new why → RefusesFile (options_of s) file why
+caused seen has_failed s file old new (Setup fault) causes = causes.0
+caused seen has_failed s file old new NoJournal causes = causes
+caused seen has_failed s file old new OtherVersion causes = causes.0
+caused seen has_failed s file old new OtherSizes causes = causes.0
+caused seen has_failed s file old new (Options fault) causes = causes.0
+caused seen has_failed s file old new Memory causes = tt
+caused seen has_failed s file old new (Failed held) causes = tt
+
+-- a journaled board has the bad operations of its inner one
+pub none_bad : (dead : Bool) (s : State) → s.bads ≡ 0 → (journal_state dead s).bads ≡ 0
+none_bad true s none = none
+none_bad false s none = none

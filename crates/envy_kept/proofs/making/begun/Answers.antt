@@ -1,0 +1,23 @@
+use Rattle.std.proofs.Common.{subst}
+use Rattle.envy_args.specs.declared.keep.KeepOptions.{KeepOptions}
+use Rattle.envy_begun.specs.Beginning.{HasBegun}
+use Rattle.envy_begun.specs.Plans.{BeginsAs, Plans}
+use Rattle.envy_policy.specs.declared.setup.Setup.{Setup}
+use Rattle.envy_kept.specs.Opening.{options_of}
+use Rattle.envy_kept.proofs.Opened.{same_setup}
+use Rattle.envy_kept.proofs.making.begun.Goals as goal
+
+pub returns-in-Ok-begin-clause-begun : goal.returns-in-Ok-begin-clause-begun
+returns-in-Ok-begin-clause-begun c =
+    let holding = c.in_ok-setup.holding in
+    let file = c.args.file.now in
+    let plans = subst (λ (o : KeepOptions). Plans holding o file c.in_ok-setup.setup) c.options-options.ensures c.in_ok-setup.ensures.plans in
+    let same = same_setup holding c.args.setup.now c.in_ok-setup.setup file plans in
+    let begun = c.in-Ok-begin.ensures.begun in
+    let array = begun.0 in (
+      holding,
+      array,
+      subst (λ (s : Setup). Plans holding (options_of c.args.setup.now) file s) same plans,
+      subst (λ (s : Setup). BeginsAs holding file s array) same begun.1,
+      subst (λ (s : Setup). HasBegun s array c.in-Ok-begin.memory) same begun.2,
+    )

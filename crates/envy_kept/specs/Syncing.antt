@@ -1,0 +1,31 @@
+-- What a sync answers by a number, and what it leaves.
+use Rattle.std.specs.Prelude.{◌≡◌, ℕ, OnOk, Option, None, Some, Result, Ok, Err, if◌then◌else◌}
+use Rattle.envy_base.specs.declared.board.Off.{Off as OffBoard}
+use Rattle.envy_calls.specs.Codes.{number_of}
+use Rattle.envy_calls.specs.declared.code.Code.{Code}
+use Rattle.envy_calls.specs.declared.code.Code.TheVariants.{Done, Empty, Off}
+use Rattle.envy_disk.specs.Disk.{SyncsChart}
+use Rattle.envy_memory.specs.Picture.{Picture}
+use Rattle.envy_synced.specs.Disk.{IsSynced}
+
+abbrev pub sync_code : Result Unit OffBoard → Code
+sync_code (Ok done) = Done
+sync_code (Err off) = Off
+
+-- What the board's numbers tell is on the disk is what it holds; or the file failed, and power is off. No word changes.
+pub record SyncsTo (p q : Picture) (code : ℕ) : Type 0 where
+  pub answer : Result Unit OffBoard
+  pub coded : code ≡ number_of (sync_code answer)
+  pub syncs : SyncsChart p.chart answer q.chart
+  pub synced : OnOk answer (IsSynced q.chart)
+  pub kept : q ≡ record p { chart = q.chart }
+
+-- in a place: the call of the memory that it holds
+abbrev pub DoesSync : Option Picture → Option Picture → ℕ → Type 0
+DoesSync None new code = (new ≡ None) × (code ≡ number_of Empty)
+DoesSync (Some p) new code = (q : Picture) × (new ≡ Some q) × SyncsTo p q code
+
+-- whether a place holds a memory whose power is on, as a number: the file hasn't failed
+abbrev pub DoesTellPower : Option Picture → ℕ → Type 0
+DoesTellPower None code = code ≡ number_of Empty
+DoesTellPower (Some p) code = code ≡ (if p.chart.on then number_of Done else number_of Off)

@@ -1,0 +1,140 @@
+ghost use Rattle.std.specs.Prelude.{◌≡◌};
+ghost use Rattle.envy_calls.specs.Answers.{DoesLoad, DoesLook, DoesStore, DoesBegin, DoesPut, DoesCommit, DoesAbort, DoesTick, DoesCount};
+ghost use Rattle.envy_kept.specs.Flawless.{AreFlawless};
+ghost use denote.RawPtr.{InBlock};
+
+use crate::handle::{EnvyKept, give_back, lend};
+use envy_calls::{EnvyCounts, abort, begin, commit, counts, load, look, put, store, tick};
+
+/// The word at an address, also where a transaction that is still open put it.
+#[unsafe(no_mangle)]
+pub extern "C" fn envy_kept_load(m: &mut EnvyKept, a: u32, word: &mut u64) -> u32
+    requires { InBlock m.old.at }
+    ensures live { InBlock m.new.at }
+    ensures flawless { AreFlawless m.old.slot.now m.new.slot.now }
+    ensures loads { DoesLoad m.old.slot.now m.new.slot.now a result word.old word.new }
+{
+    let slot = lend(m);
+    let code = load(slot, a, word);
+    give_back(m, slot);
+    code
+}
+
+/// The committed word at an address, which a restart would leave.
+#[unsafe(no_mangle)]
+pub extern "C" fn envy_kept_look(m: &mut EnvyKept, a: u32, word: &mut u64) -> u32
+    requires { InBlock m.old.at }
+    ensures live { InBlock m.new.at }
+    ensures flawless { AreFlawless m.old.slot.now m.new.slot.now }
+    ensures looks { DoesLook m.old.slot.now m.new.slot.now a result word.old word.new }
+{
+    let slot = lend(m);
+    let code = look(slot, a, word);
+    give_back(m, slot);
+    code
+}
+
+/// Makes the word at an address this.
+#[unsafe(no_mangle)]
+pub extern "C" fn envy_kept_store(m: &mut EnvyKept, a: u32, word: u64, holder: &mut u32) -> u32
+    requires { InBlock m.old.at }
+    ensures live { InBlock m.new.at }
+    ensures flawless { AreFlawless m.old.slot.now m.new.slot.now }
+    ensures stores { DoesStore m.old.slot.now m.new.slot.now a word result holder.old holder.new }
+{
+    let slot = lend(m);
+    let code = store(slot, a, word, holder);
+    give_back(m, slot);
+    code
+}
+
+/// Opens the lowest slot that isn't open.
+#[unsafe(no_mangle)]
+pub extern "C" fn envy_kept_begin(m: &mut EnvyKept, opened: &mut u32) -> u32
+    requires { InBlock m.old.at }
+    ensures live { InBlock m.new.at }
+    ensures flawless { AreFlawless m.old.slot.now m.new.slot.now }
+    ensures begins { DoesBegin m.old.slot.now m.new.slot.now result opened.old opened.new }
+{
+    let slot = lend(m);
+    let code = begin(slot, opened);
+    give_back(m, slot);
+    code
+}
+
+/// Makes the word at an address this within a transaction.
+#[unsafe(no_mangle)]
+pub extern "C" fn envy_kept_put(
+    m: &mut EnvyKept,
+    t: u32,
+    a: u32,
+    word: u64,
+    holder: &mut u32,
+) -> u32
+    requires { InBlock m.old.at }
+    ensures live { InBlock m.new.at }
+    ensures flawless { AreFlawless m.old.slot.now m.new.slot.now }
+    ensures puts { DoesPut m.old.slot.now m.new.slot.now t a word result holder.old holder.new }
+{
+    let slot = lend(m);
+    let code = put(slot, t, a, word, holder);
+    give_back(m, slot);
+    code
+}
+
+/// Closes a slot, and keeps its words.
+#[unsafe(no_mangle)]
+pub extern "C" fn envy_kept_commit(m: &mut EnvyKept, t: u32) -> u32
+    requires { InBlock m.old.at }
+    ensures live { InBlock m.new.at }
+    ensures flawless { AreFlawless m.old.slot.now m.new.slot.now }
+    ensures commits { DoesCommit m.old.slot.now m.new.slot.now t result }
+{
+    let slot = lend(m);
+    let code = commit(slot, t);
+    give_back(m, slot);
+    code
+}
+
+/// Closes a slot, and puts back the words of its pages.
+#[unsafe(no_mangle)]
+pub extern "C" fn envy_kept_abort(m: &mut EnvyKept, t: u32) -> u32
+    requires { InBlock m.old.at }
+    ensures live { InBlock m.new.at }
+    ensures flawless { AreFlawless m.old.slot.now m.new.slot.now }
+    ensures aborts { DoesAbort m.old.slot.now m.new.slot.now t result }
+{
+    let slot = lend(m);
+    let code = abort(slot, t);
+    give_back(m, slot);
+    code
+}
+
+/// One background step.
+#[unsafe(no_mangle)]
+pub extern "C" fn envy_kept_tick(m: &mut EnvyKept, did: &mut u32) -> u32
+    requires { InBlock m.old.at }
+    ensures live { InBlock m.new.at }
+    ensures flawless { AreFlawless m.old.slot.now m.new.slot.now }
+    ensures ticks { DoesTick m.old.slot.now m.new.slot.now result did.old did.new }
+{
+    let slot = lend(m);
+    let code = tick(slot, did);
+    give_back(m, slot);
+    code
+}
+
+/// What the memory has done since it was formatted or taken up.
+#[unsafe(no_mangle)]
+pub extern "C" fn envy_kept_counts(m: &mut EnvyKept, found: &mut EnvyCounts) -> u32
+    requires { InBlock m.old.at }
+    ensures live { InBlock m.new.at }
+    ensures flawless { AreFlawless m.old.slot.now m.new.slot.now }
+    ensures same { m.new.slot.now ≡ m.old.slot.now }
+    ensures counts { DoesCount m.old.slot.now result found.old found.new }
+{
+    let slot = lend(m);
+    let code = counts(slot, found);
+    give_back(m, slot);
+    code
+}

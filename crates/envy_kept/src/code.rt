@@ -1,0 +1,43 @@
+ghost use Rattle.std.specs.Prelude.{◌≡◌};
+ghost use Rattle.envy_kept.specs.Codes.{number_of_kept, code_of_unbegun};
+
+use envy_begun::Unbegun;
+use envy_calls::Code;
+
+/// What opening a memory in a file answers.
+#[derive(Clone, Copy, Debug, PartialEq, Eq)]
+pub enum KeptCode {
+    /// What a memory over any board answers.
+    Of(Code),
+    /// What the file holds is no journal of a memory.
+    NoJournal,
+    /// The file is a journal of a version that isn't known here.
+    OtherVersion,
+}
+
+impl KeptCode {
+    /// The number that stands for the answer.
+    pub fn number(self) -> u32
+        ensures { result ≡ number_of_kept self }
+    {
+        match self {
+            KeptCode::Of(code) => code.number(),
+            KeptCode::NoJournal => 72,
+            KeptCode::OtherVersion => 73,
+        }
+    }
+}
+
+/// The answer where no memory began in a file.
+pub fn unbegun_code(unbegun: Unbegun) -> KeptCode
+    ensures { result ≡ code_of_unbegun unbegun }
+{
+    match unbegun {
+        Unbegun::Setup(fault) | Unbegun::Options(fault) => KeptCode::Of(Code::Setup(fault)),
+        Unbegun::NoJournal => KeptCode::NoJournal,
+        Unbegun::OtherVersion => KeptCode::OtherVersion,
+        Unbegun::OtherSizes => KeptCode::Of(Code::OtherShape),
+        Unbegun::Memory => KeptCode::Of(Code::NoMemory),
+        Unbegun::Failed(_) => KeptCode::Of(Code::Off),
+    }
+}

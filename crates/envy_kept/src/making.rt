@@ -1,0 +1,104 @@
+ghost use Rattle.std.specs.Prelude.{◌≡◌, Ok, IfOk, IfErr, MatchResult};
+ghost use Rattle.envy_base.specs.Array.{Array};
+ghost use Rattle.envy_begun.specs.Beginning.{HasBegun};
+ghost use Rattle.envy_begun.specs.Plans.{BeginsAs, Plans};
+ghost use Rattle.envy_begun.specs.declared.planning.Holding.{Holding as OfHolding};
+ghost use Rattle.envy_kept.specs.Opening.{Opened, Opens, RefusesFile, RefusesOpen, options_of};
+ghost use Rattle.envy_policy.specs.Setup.{checked};
+
+use crate::code::{KeptCode, unbegun_code};
+use crate::handle::Slot;
+use envy_args::{KeepOptions, Sizes};
+use envy_begun::{Unbegun, begin, plan};
+use envy_calls::{Code, EnvySetup, checked_setup};
+use envy_cells::CellBoard;
+use envy_memory::Memory;
+use envy_policy::Setup;
+use envy_portfile::{FilePort, PortFile};
+use envy_synced::Kept;
+use std::alloc::Global;
+
+// Options that name all that a setup has.
+fn options(setup: &Setup) -> KeepOptions
+    ensures { result ≡ options_of setup.now }
+{
+    let shape = &setup.shape;
+    KeepOptions {
+        sizes: Sizes {
+            segments: Some(shape.segments),
+            rows: Some(shape.rows),
+            pages: Some(shape.pages),
+            shadows: Some(shape.shadows),
+            frames: Some(shape.frames),
+            entries: Some(shape.entries),
+        },
+        policy: setup.policy,
+        limit: setup.limit,
+        mark: Some(setup.mark),
+        compact: false,
+    }
+}
+
+// The memory in a file, by a setup that breaks no rule.
+fn begun(
+    alloc: Global,
+    setup: &Setup,
+    file: &[u8],
+    port: i32,
+) -> Result<Memory<Kept<CellBoard, PortFile>>, Unbegun>
+    requires { checked setup.now ≡ Ok tt }
+    ensures begun { IfOk result (λ memory. (holding : OfHolding) × (array : Array) × Plans holding (options_of setup.now) file.now setup.now × BeginsAs holding file.now setup.now array × HasBegun setup.now array memory) }
+    ensures refused { IfErr result (RefusesFile (options_of setup.now) file.now) }
+{
+    let options = options(setup);
+    let (setup, holding) = plan(&options, file)?;
+    let Ok(board) = CellBoard::blank(alloc, &setup.shape) else {
+        return Err(Unbegun::Memory);
+    };
+    let device = FilePort::found(port, file);
+    match begin(alloc, board, device, &options, file, setup, holding) {
+        Ok(memory) => Ok(memory),
+        Err((unbegun, _device)) => Err(unbegun),
+    }
+}
+
+// The memory in a file.
+fn opened(
+    alloc: Global,
+    given: &EnvySetup,
+    file: &[u8],
+    port: i32,
+) -> Result<Memory<Kept<CellBoard, PortFile>>, KeptCode>
+    ensures { MatchResult result (Opened given.now file.now) (RefusesOpen given.now file.now) }
+{
+    let setup = match checked_setup(given) {
+        Ok(setup) => setup,
+        Err(code) => return Err(KeptCode::Of(code)),
+    };
+    match begun(alloc, &setup, file, port) {
+        Ok(memory) => Ok(memory),
+        Err(unbegun) => Err(unbegun_code(unbegun)),
+    }
+}
+
+/// Makes or takes up the memory in a file, in a place that holds none.
+pub fn open_place(
+    alloc: Global,
+    slot: &mut Slot,
+    given: &EnvySetup,
+    file: &[u8],
+    port: i32,
+) -> KeptCode
+    ensures { Opens (Opened given.now file.now) (RefusesOpen given.now file.now) slot.old slot.new result }
+{
+    if slot.is_some() {
+        return KeptCode::Of(Code::Open);
+    }
+    match opened(alloc, given, file, port) {
+        Ok(memory) => {
+            drop(slot.replace(memory));
+            KeptCode::Of(Code::Done)
+        }
+        Err(code) => code,
+    }
+}

@@ -1,0 +1,140 @@
+-- The calls that were made on a file and on a second one beside it, with their answers; what both hold after them, and
+-- what a crash may leave of the file. The newest call stands first.
+use Rattle.std.specs.Prelude.{◌≡◌, ◌⊎◌, ℕ, suc, ◌+◌, ◌≤◌, ◌==◌, Bool, true, false, if◌then◌else◌, List, [], ◌∷◌, ◌++◌, length, take, drop, Result, Ok, Err, refl}
+use Rattle.std.specs.Coded.{Coded, code_by, coded×, coded_list, coded_ℕ}
+use Rattle.envy_device.specs.Device.{Torn, Cut as CutShort}
+
+pub data Call : Type 0 where
+  -- it was synced, and then read whole
+  Found : (bytes : List ℕ) → Call
+  Wrote : (at : ℕ) (bytes : List ℕ) → Call
+  WriteFailed : (at size : ℕ) → Call
+  CutTo : (size : ℕ) → Call
+  CutFailed : (size : ℕ) → Call
+  Synced : Call
+  SyncFailed : Call
+  -- of the second file: begun with no bytes, written behind its end, and put in the file's place
+  Began : Call
+  BeginFailed : Call
+  Appended : (bytes : List ℕ) → Call
+  AppendFailed : (size : ℕ) → Call
+  Replaced : Call
+  ReplaceFailed : Call
+
+-- the bytes of the second file that held these, after a call
+abbrev pub second_by : Call → List ℕ → List ℕ
+second_by Began second = []
+second_by (Appended bytes) second = second ++ bytes
+second_by other second = second
+
+-- the bytes of a file that held these, beside a second one, after a call
+abbrev pub seen_by : Call → List ℕ → List ℕ → List ℕ
+seen_by (Found bytes) second seen = bytes
+seen_by (Wrote at bytes) second seen = take at seen ++ bytes ++ drop (at + length bytes) seen
+seen_by (CutTo size) second seen = take size seen
+seen_by Replaced second seen = second
+seen_by other second seen = seen
+
+-- the bytes of the second file after these calls
+abbrev pub second_after : List Call → List ℕ
+second_after [] = []
+second_after (call ∷ past) = second_by call (second_after past)
+
+-- the bytes of a file after these calls
+abbrev pub seen_after : List Call → List ℕ
+seen_after [] = []
+seen_after (call ∷ past) = seen_by call (second_after past) (seen_after past)
+
+-- What a crash may leave after a call, where the files held these bytes and a crash before the call might have left d.
+-- Until a sync each range that was written may hold anything; a sync that succeeded leaves what the file holds. A second
+-- file that was put in the file's place was brought to the disk first; where that failed, either may be there.
+abbrev pub Leaves : Call → List ℕ → List ℕ → List ℕ → List ℕ → Type 0
+Leaves (Found bytes) second seen d e = e ≡ bytes
+Leaves (Wrote at bytes) second seen d e = Torn at (length bytes) d e
+Leaves (WriteFailed at size) second seen d e = Torn at size d e
+Leaves (CutTo size) second seen d e = CutShort size d e
+Leaves (CutFailed size) second seen d e = CutShort size d e
+Leaves Synced second seen d e = (e ≡ seen) × (d ≡ e)
+Leaves Replaced second seen d e = e ≡ second
+Leaves ReplaceFailed second seen d e = (d ≡ e) ⊎ (e ≡ second)
+Leaves other second seen d e = d ≡ e
+
+-- what a crash may leave after these calls
+abbrev pub MayLeave : List Call → List ℕ → Type 0
+MayLeave [] c = c ≡ []
+MayLeave (call ∷ past) c = (d : List ℕ) × MayLeave past d × Leaves call (second_after past) (seen_after past) d c
+
+-- what a crash after so many of the calls, or later, might have left
+abbrev pub LeftSince : List Call → ℕ → List ℕ → Type 0
+LeftSince [] t c = MayLeave [] c
+LeftSince (call ∷ past) t c = MayLeave (call ∷ past) c ⊎ ((t ≤ length past) × LeftSince past t c)
+
+-- the file was on the disk when the call had ended
+abbrev pub is_sync : Call → Bool
+is_sync (Found bytes) = true
+is_sync Synced = true
+is_sync Replaced = true
+is_sync other = false
+
+-- how many calls there were when the last sync had succeeded
+abbrev pub synced_at : List Call → ℕ
+synced_at [] = 0
+synced_at (call ∷ past) = if is_sync call then suc (length past) else synced_at past
+
+-- a call as numbers and bytes, by which the logic tells calls apart
+abbrev pub parts : Call → ℕ × (ℕ × (ℕ × List ℕ))
+parts (Found bytes) = (0, (0, (0, bytes)))
+parts (Wrote at bytes) = (1, (at, (0, bytes)))
+parts (WriteFailed at size) = (2, (at, (size, [])))
+parts (CutTo size) = (3, (0, (size, [])))
+parts (CutFailed size) = (4, (0, (size, [])))
+parts Synced = (5, (0, (0, [])))
+parts SyncFailed = (6, (0, (0, [])))
+parts Began = (7, (0, (0, [])))
+parts BeginFailed = (8, (0, (0, [])))
+parts (Appended bytes) = (9, (0, (0, bytes)))
+parts (AppendFailed size) = (10, (0, (size, [])))
+parts Replaced = (11, (0, (0, [])))
+parts ReplaceFailed = (12, (0, (0, [])))
+
+abbrev pub whole : ℕ → ℕ → ℕ → List ℕ → Call
+whole kind at size bytes =
+    if kind == 0 then Found bytes
+    else (if kind == 1 then Wrote at bytes
+    else (if kind == 2 then WriteFailed at size
+    else (if kind == 3 then CutTo size
+    else (if kind == 4 then CutFailed size
+    else (if kind == 5 then Synced
+    else (if kind == 6 then SyncFailed
+    else (if kind == 7 then Began
+    else (if kind == 8 then BeginFailed
+    else (if kind == 9 then Appended bytes
+    else (if kind == 10 then AppendFailed size
+    else (if kind == 11 then Replaced
+    else ReplaceFailed)))))))))))
+
+abbrev pub made_of : ℕ × (ℕ × (ℕ × List ℕ)) → Call
+made_of p = whole p.0 p.1.0 p.1.1.0 p.1.1.1
+
+pub made_of_parts : (call : Call) → made_of (parts call) ≡ call
+made_of_parts (Found bytes) = refl
+made_of_parts (Wrote at bytes) = refl
+made_of_parts (WriteFailed at size) = refl
+made_of_parts (CutTo size) = refl
+made_of_parts (CutFailed size) = refl
+made_of_parts Synced = refl
+made_of_parts SyncFailed = refl
+made_of_parts Began = refl
+made_of_parts BeginFailed = refl
+made_of_parts (Appended bytes) = refl
+made_of_parts (AppendFailed size) = refl
+made_of_parts Replaced = refl
+made_of_parts ReplaceFailed = refl
+
+abbrev pub coded_call : Coded Call
+coded_call = code_by (ℕ × (ℕ × (ℕ × List ℕ))) (coded× coded_ℕ (coded× coded_ℕ (coded× coded_ℕ (coded_list coded_ℕ)))) parts made_of made_of_parts
+
+-- a call was made, and is the newest: it was done, or it failed
+abbrev pub Notes : {E : Type 0} → Call → Call → Result Unit E → List Call → List Call → Type 0
+Notes did failed (Ok done) old new = new ≡ did ∷ old
+Notes did failed (Err error) old new = new ≡ failed ∷ old

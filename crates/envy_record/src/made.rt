@@ -1,0 +1,30 @@
+/// A call that was made on a file or on a second one beside it, and what it answered.
+#[derive(Clone, Copy, Drop)]
+pub enum Made<'a> {
+    /// The file was synced, and then read whole.
+    Found { bytes: &'a [u8] },
+    /// These bytes were written at this offset.
+    Wrote { at: usize, bytes: &'a [u8] },
+    /// A write failed. Any part of it may be done.
+    WriteFailed { at: usize, size: usize },
+    /// The file was cut to a size.
+    CutTo { size: usize },
+    /// A cut failed. It may be done.
+    CutFailed { size: usize },
+    /// The file was synced.
+    Synced,
+    /// A sync failed. Any part of what was to be synced may be on the disk.
+    SyncFailed,
+    /// The second file was begun, with no bytes in it.
+    Began,
+    /// The second file wasn't begun.
+    BeginFailed,
+    /// These bytes were written behind those of the second file.
+    Appended { bytes: &'a [u8] },
+    /// A write of the second file failed.
+    AppendFailed { size: usize },
+    /// The second file was brought to the disk and put in the file's place.
+    Replaced,
+    /// It wasn't, or it isn't known whether the disk has it so.
+    ReplaceFailed,
+}

@@ -1,0 +1,116 @@
+ghost use Rattle.std.specs.Prelude.{◌≡◌, ◌∷◌, [], false};
+ghost use Rattle.envy_device.specs.Device.{Only};
+ghost use Rattle.envy_record.specs.Calls.{MayLeave, seen_after, synced_at};
+ghost use Rattle.envy_record.specs.Calls.Call.{Found};
+
+use crate::raw::RawFile;
+use envy_device::{Device, DeviceFailed, Place};
+
+/// A file as a device. Once a call has failed, no later one is made: after a sync that failed the system may have let go
+/// of what it couldn't write, and tells so once.
+#[derive(Drop)]
+pub struct Recorded<F> {
+    /// What makes the calls.
+    pub file: F,
+    /// Whether a call has failed.
+    pub failed: bool,
+}
+
+impl<F: RawFile> Recorded<F> {
+    /// A file that was brought to the disk and then read whole, on which no other call was made.
+    pub fn found(file: F, _bytes: &[u8]) -> Recorded<F>
+        requires { F.calls file ≡ Found _bytes.now ∷ [] }
+        ensures bytes { seen_after (F.calls result.file) ≡ _bytes.now }
+        ensures durable { Only (seen_after (F.calls result.file)) (MayLeave (F.calls result.file)) }
+        ensures works { result.failed ≡ false }
+    {
+        Recorded {
+            file,
+            failed: false,
+        }
+    }
+}
+
+impl<F: RawFile> Device for Recorded<F> {
+    ghost use Rattle.std.specs.Prelude.{length};
+    ghost use Rattle.envy_record.specs.Calls.{LeftSince};
+    ghost use Rattle.envy_record.specs.Recorded.{before, counts, only};
+
+    ghost seen = { λ f. seen_after (F.calls f.file) };
+
+    ghost may_leave = { λ f. MayLeave (F.calls f.file) };
+
+    ghost moment = { λ f. length (F.calls f.file) };
+
+    ghost left_since = { λ f. LeftSince (F.calls f.file) };
+
+    ghost synced = { λ f. synced_at (F.calls f.file) };
+
+    ghost has_failed = { λ f. f.failed };
+
+    ghost counts_now = { λ f. counts (F.calls f.file) };
+
+    ghost only_now = { λ f. only (F.calls f.file) };
+
+    ghost synced_before = { λ f. before (F.calls f.file) };
+
+    fn write_at(&mut self, at: usize, bytes: &[u8]) -> Result<(), DeviceFailed> {
+        if self.failed {
+            return Err(DeviceFailed);
+        }
+        let answer = self.file.write_at(at, bytes);
+        self.failed = answer.is_err();
+        answer
+    }
+
+    fn cut(&mut self, len: usize) -> Result<(), DeviceFailed> {
+        if self.failed {
+            return Err(DeviceFailed);
+        }
+        let answer = self.file.cut(len);
+        self.failed = answer.is_err();
+        answer
+    }
+
+    fn sync(&mut self) -> Result<(), DeviceFailed> {
+        if self.failed {
+            return Err(DeviceFailed);
+        }
+        let answer = self.file.sync();
+        self.failed = answer.is_err();
+        answer
+    }
+}
+
+impl<F: RawFile> Place for Recorded<F> {
+    ghost use Rattle.envy_record.specs.Calls.{second_after};
+
+    ghost second = { λ f. second_after (F.calls f.file) };
+
+    fn begin_second(&mut self) -> Result<(), DeviceFailed> {
+        if self.failed {
+            return Err(DeviceFailed);
+        }
+        let answer = self.file.begin();
+        self.failed = answer.is_err();
+        answer
+    }
+
+    fn write_second(&mut self, bytes: &[u8]) -> Result<(), DeviceFailed> {
+        if self.failed {
+            return Err(DeviceFailed);
+        }
+        let answer = self.file.append(bytes);
+        self.failed = answer.is_err();
+        answer
+    }
+
+    fn replace(&mut self) -> Result<(), DeviceFailed> {
+        if self.failed {
+            return Err(DeviceFailed);
+        }
+        let answer = self.file.replace();
+        self.failed = answer.is_err();
+        answer
+    }
+}

@@ -1,0 +1,58 @@
+//! A memory in a file that outlives the machine, as a Rust program uses it.
+#![cfg(feature = "kept")]
+use envy::{Error, KeptMemory, Setup};
+use std::path::PathBuf;
+use std::{env, fs, process};
+
+fn path(name: &str) -> PathBuf {
+    let path = env::temp_dir().join(format!("envy-rust-{}-{name}", process::id()));
+    let _ = fs::remove_file(&path);
+    path
+}
+
+#[test]
+fn what_was_synced_is_found() {
+    let path = path("synced");
+    let setup = Setup::for_words(1000, 4).unwrap();
+    let memory = KeptMemory::open(&path, &setup).unwrap();
+    assert!(matches!(KeptMemory::open(&path, &setup), Err(Error::Locked)));
+    let transfer = memory.begin().unwrap();
+    transfer.put(5, 7).unwrap();
+    transfer.write(40, &[1, 2, 3]).unwrap();
+    assert_eq!(transfer.view(41).unwrap(), 2);
+    assert!(matches!(memory.store(6, 1), Err(Error::Held { slot: 0 })));
+    transfer.commit().unwrap();
+    memory.sync().unwrap();
+    // a copy of the file as it is now is what a stop of the machine leaves
+    let copy = path.with_extension("copy");
+    memory.store(5, 8).unwrap();
+    fs::copy(&path, &copy).unwrap();
+    memory.compact().unwrap();
+    memory.close().unwrap();
+
+    let found = KeptMemory::open(&copy, &setup).unwrap();
+    assert_eq!((found.load(5).unwrap(), found.load(42).unwrap()), (7, 3));
+    let again = KeptMemory::open(&path, &setup).unwrap();
+    let mut words = [0; 3];
+    again.read(40, &mut words).unwrap();
+    assert_eq!((again.look(5).unwrap(), words), (8, [1, 2, 3]));
+    assert!(matches!(again.load(u32::MAX), Err(Error::Range)));
+    drop((found, again));
+    fs::remove_file(copy).unwrap();
+    fs::remove_file(path).unwrap();
+}
+
+#[test]
+fn a_transaction_that_is_dropped_is_undone_and_other_files_are_refused() {
+    let path = path("refused");
+    let setup = Setup::for_words(1000, 4).unwrap();
+    let memory = KeptMemory::open(&path, &setup).unwrap();
+    drop(memory.begin().map(|it| it.put(5, 7)));
+    assert_eq!(memory.load(5).unwrap(), 0);
+    drop(memory);
+    let other = Setup::for_words(2000, 4).unwrap();
+    assert!(matches!(KeptMemory::open(&path, &other), Err(Error::OtherShape)));
+    fs::write(&path, "a text of another kind, which is long enough").unwrap();
+    assert!(matches!(KeptMemory::open(&path, &setup), Err(Error::NoJournal)));
+    fs::remove_file(path).unwrap();
+}
