@@ -125,35 +125,6 @@ for engine in $engines; do
     echo "$row"
 done
 
-# counted_instructions ENGINE TRANSFERS EVERY: of the process that has the file, by callgrind
-counted_instructions() {
-    rm -f "$memory"/file*
-    set -- "$@" valgrind --tool=callgrind --callgrind-out-file=/dev/null
-    if [ "$1" = keep ]; then
-        "$work/speed" trace - "$2" "$3" >"$memory/trace"
-        "${@:4}" "$program" keep --file "$memory/file" --segments=64 --rows=512 --shadows=64 --frames=256 --entries=4096 \
-            --pages=17675 <"$memory/trace" 2>"$work/said" >/dev/null
-    else
-        "${@:4}" "$work/speed" "$1" "$memory/file" "$2" "$3" 2>"$work/said" >/dev/null
-    fi
-    awk '/Collected/ { print $NF }' "$work/said"
-}
-
-if command -v valgrind >/dev/null; then
-    echo
-    echo '| Instructions for each transfer | 1 | 10 | 100 | 1,000 |'
-    echo '|---|---|---|---|---|'
-    for engine in $engines; do
-        case $engine in disk | sqlite-normal | lmdb-nometasync) continue ;; esac
-        none=$(counted_instructions "$engine" 0 1)
-        row="| \`$engine\` |"
-        for every in 1 10 100 1000; do
-            row="$row $((($(counted_instructions "$engine" 2000 "$every") - none) / 2000)) |"
-        done
-        echo "$row"
-    done
-fi
-
 # a file of 64 MiB: the pages of a board of 131,072 rows are stored, one after another, until the file is so long
 big=$work/big
 sizes="--segments=256 --rows=512 --pages=126000 --shadows=64 --frames=256 --entries=4096"
@@ -174,4 +145,34 @@ if cp "$big" "$work/copy" && keeps --compact=1 </dev/null 2>"$work/said"; then
     left=$(stat -c %s "$big")
     compacted=$(for _ in 1 2 3; do cp "$work/copy" "$big"; sync; seconds keeps --compact=1 </dev/null; done | least)
     echo "A compaction of it at the start leaves $((left / 1048576)) MiB; with it the same takes $compacted s."
+fi
+
+# counted_instructions ENGINE TRANSFERS EVERY: of the process that has the file, by callgrind
+counted_instructions() {
+    rm -f "$memory"/file*
+    set -- "$@" valgrind --tool=callgrind --callgrind-out-file=/dev/null
+    if [ "$1" = keep ]; then
+        "$work/speed" trace - "$2" "$3" >"$memory/trace"
+        "${@:4}" "$program" keep --file "$memory/file" --segments=64 --rows=512 --shadows=64 --frames=256 --entries=4096 \
+            --pages=17675 <"$memory/trace" 2>"$work/said" >/dev/null
+    else
+        "${@:4}" "$work/speed" "$1" "$memory/file" "$2" "$3" 2>"$work/said" >/dev/null
+    fi
+    awk '/Collected/ { print $NF }' "$work/said"
+}
+
+# which takes the longest, so it comes last
+if command -v valgrind >/dev/null; then
+    echo
+    echo '| Instructions for each transfer | 1 | 10 | 100 | 1,000 |'
+    echo '|---|---|---|---|---|'
+    for engine in $engines; do
+        case $engine in disk | sqlite-full-each | sqlite-normal | lmdb-nometasync) continue ;; esac
+        none=$(counted_instructions "$engine" 0 1)
+        row="| \`$engine\` |"
+        for every in 1 10 100 1000; do
+            row="$row $((($(counted_instructions "$engine" 2000 "$every") - none) / 2000)) |"
+        done
+        echo "$row"
+    done
 fi
