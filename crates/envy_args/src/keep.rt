@@ -90,7 +90,8 @@ impl KeepOptions {
 /// of 0 or 1, and the options of `plain`, each at most once. `Form` where the words are others. No rule is asked: that waits for the file.
 pub fn read_keep(alloc: Global, words: &[String]) -> Result<KeepWords<'_>, WordsFault>
     ensures said { IfOk result (λ said. keep_of (map string_bytes words.now) ≡ Ok (said.file.now, said.options)) }
-    ensures refused { IfErr result (λ fault. (fault ≡ WordsFault.Memory) ⊎ (keep_of (map string_bytes words.now) ≡ Err fault)) }
+    ensures refused { IfErr result (λ fault. (fault ≡ WordsFault.Memory)
+        ⊎ (keep_of (map string_bytes words.now) ≡ Err fault)) }
 {
     let given = Options::read(alloc, &NAMES, words)?;
     let file = given.path()?;

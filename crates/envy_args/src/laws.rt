@@ -13,12 +13,15 @@ pub fn the_area_is_asked_to_fit()
 
 /// Words and the commands that they name.
 pub fn words_name_commands()
-    ensures alone { command_of (codes "run" ∷ []) ≡ Ok (Run (record { shape = usual; policy = Greedy; limit = 100; mark = 8 }) 4294967295) }
+    ensures alone { command_of (codes "run" ∷ [])
+        ≡ Ok (Run (record { shape = usual; policy = Greedy; limit = 100; mark = 8 }) 4294967295) }
     ensures unknown { command_of (codes "fly" ∷ []) ≡ Err Form }
-    ensures twice { command_of (codes "run" ∷ codes "--rows" ∷ codes "16" ∷ codes "--rows" ∷ codes "16" ∷ []) ≡ Err Form }
+    ensures twice { command_of (codes "run" ∷ codes "--rows" ∷ codes "16" ∷ codes "--rows" ∷ codes "16" ∷ [])
+        ≡ Err Form }
     ensures share { command_of (codes "run" ∷ codes "--pages" ∷ codes "81" ∷ []) ≡ Err (Rule 6) }
     ensures pages { command_of (codes "run" ∷ codes "--pages=0" ∷ codes "--" ∷ []) ≡ Err (Rule 3) }
-    ensures total { command_of (codes "run" ∷ codes "--segments" ∷ codes "17" ∷ codes "--rows=65536" ∷ []) ≡ Err (Rule 7) }
+    ensures total { command_of (codes "run" ∷ codes "--segments" ∷ codes "17" ∷ codes "--rows=65536" ∷ [])
+        ≡ Err (Rule 7) }
     ensures transfers { command_of (codes "tpca" ∷ codes "--transfers" ∷ codes "1070" ∷ []) ≡ Err (Rule 11) }
     ensures judged { command_of (codes "audit" ∷ []) ≡ Ok Audit }
     ensures mapped { command_of (codes "map" ∷ []) ≡ Ok Segments }

@@ -249,7 +249,8 @@ fn skew(hot: Option<u32>, share: Option<u32>) -> Result<Option<Skew>, WordsFault
 
 /// A setup over a board whose power can fail, with how often it returns.
 fn powered(options: &Options, default: &Shape) -> Result<(Setup, u32), WordsFault>
-    ensures { GivesIf (are_readable run_options options.now) (setup_of default.now options.now, lives_of options.now) result }
+    ensures { GivesIf (are_readable run_options options.now) (setup_of default.now options.now, lives_of options.now)
+        result }
 {
     let setup = setup(options, default)?;
     let lives = options.number("lives", MOST_LIVES)?;

@@ -86,7 +86,8 @@ fn is_copy<B: Board>(board: &B, row: u32, from: u32) -> Result<bool, Off>
     requires row { row < rows_of (B.state board.now).shape }
     requires from { from < rows_of (B.state board.now).shape }
     ensures { let c = chart (B.state board.now) in
-        Tells c.on ((slice_index_or c.flash row [] ≡ slice_index_or c.flash from []) × (slice_index c.fields.backs row ≡ slice_index c.fields.backs from)) result }
+        Tells c.on ((slice_index_or c.flash row [] ≡ slice_index_or c.flash from [])
+        × (slice_index c.fields.backs row ≡ slice_index c.fields.backs from)) result }
 {
     if back(board, row)? != back(board, from)? {
         return Ok(false);

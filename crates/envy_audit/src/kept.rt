@@ -12,7 +12,8 @@ fn is_claimed<B: Board>(board: &B, row: u32, page: u32) -> Result<bool, Off>
     requires decodes { Decodes (chart (B.state board.now)) }
     requires row { row < rows_of (B.state board.now).shape }
     ensures { let c = chart (B.state board.now) in
-        Tells c.on ((row % c.shape.rows < slice_index c.fields.fills (row / c.shape.rows)) × (slice_index c.fields.backs row ≡ page)) result }
+        Tells c.on ((row % c.shape.rows < slice_index c.fields.fills (row / c.shape.rows))
+        × (slice_index c.fields.backs row ≡ page)) result }
 {
     let rows = board.shape().rows;
     if row % rows >= fill(board, row / rows)? {

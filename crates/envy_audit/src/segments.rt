@@ -27,7 +27,8 @@ fn is_ones_if_free<B: Board>(board: &B, row: u32, any: bool) -> Result<bool, Off
     requires decodes { Decodes (chart (B.state board.now)) }
     requires row { row < rows_of (B.state board.now).shape }
     ensures { let c = chart (B.state board.now) in
-        Tells c.on (slice_index c.fields.fills (row / c.shape.rows) ≤ row % c.shape.rows → (slice_index_or c.flash row [] ≡ ones) ⊎ IsTrue any) result }
+        Tells c.on (slice_index c.fields.fills (row / c.shape.rows) ≤ row % c.shape.rows
+        → (slice_index_or c.flash row [] ≡ ones) ⊎ IsTrue any) result }
 {
     let rows = board.shape().rows;
     if any || row % rows < fill(board, row / rows)? {

@@ -23,7 +23,8 @@ fn named_slot<B: Board>(board: &B, page: u32) -> Result<Option<Slot>, Off>
 fn is_owned<B: Board>(board: &B, page: u32) -> Result<bool, Off>
     requires decodes { Decodes (chart (B.state board.now)) }
     requires page { page < (B.state board.now).shape.pages }
-    ensures ok { let f = (chart (B.state board.now)).fields in IfOk result (λ owned. owned ≡ owned_by f.slots (undo_of_page f page)) }
+    ensures ok { let f = (chart (B.state board.now)).fields in IfOk result (λ owned.
+        owned ≡ owned_by f.slots (undo_of_page f page)) }
     ensures err { OnErr result ((B.state board.now).on ≡ false) }
 {
     Ok(match named_slot(board, page)? {

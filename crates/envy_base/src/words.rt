@@ -45,7 +45,8 @@ pub trait Words {
     fn put(&mut self, a: u32, w: u64) -> Result<(), Trouble>
         requires address { a < length (sheet self.old).words }
         requires begun { IsTrue (sheet self.old).started }
-        requires room { IsTrue (has (sheet self.old).pages (a / 32)) ⊎ (length (sheet self.old).pages < (sheet self.old).room) }
+        requires room { IsTrue (has (sheet self.old).pages (a / 32))
+            ⊎ (length (sheet self.old).pages < (sheet self.old).room) }
         ensures works { OnPage (a / 32) (sheet self.old) (sheet self.new) }
         ensures answer { Puts (sheet self.old) a w result (sheet self.new) };
 

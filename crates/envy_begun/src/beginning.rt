@@ -22,7 +22,8 @@ pub(crate) const ROOM: usize = 65536;
 
 // Gives the file under a board back, and how many bytes of operations were held back from it.
 pub(crate) fn closed<B: Steady + Drop, D: Device>(kept: Kept<B, D>) -> (D, usize)
-    ensures { (⟦<Kept<B, D> as envy_base::Board>⟧.state kept).on ≡ false → HasStopped D.seen D.has_failed result.1 result.0 }
+    ensures { (⟦<Kept<B, D> as envy_base::Board>⟧.state kept).on ≡ false
+        → HasStopped D.seen D.has_failed result.1 result.0 }
 {
     let journal = kept.into_journal();
     let held = journal.held();

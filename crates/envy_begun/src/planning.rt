@@ -90,7 +90,8 @@ fn new_setup(options: &KeepOptions) -> Result<Setup, Unbegun>
     ensures setup { IfOk result (λ setup. setup ≡ setup_over options.now (new_shape options.now)) }
     ensures checks { IfOk result (λ setup. checked setup ≡ Ok tt) }
     ensures shape { IfOk result (λ setup. IsShape setup.shape) }
-    ensures refused { IfErr result (λ unbegun. (fault : SetupFault) × (unbegun ≡ OfSetup fault) × (checked (setup_over options.now (new_shape options.now)) ≡ Err fault)) }
+    ensures refused { IfErr result (λ unbegun. (fault : SetupFault) × (unbegun ≡ OfSetup fault)
+        × (checked (setup_over options.now (new_shape options.now)) ≡ Err fault)) }
 {
     let setup = options.setup(&options.new_shape());
     match setup.check() {

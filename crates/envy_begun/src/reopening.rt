@@ -43,7 +43,9 @@ fn unopened(error: OpenError) -> Unbegun
 
 // Why a memory wasn't attached to a board.
 fn declined(code: Code, held: usize) -> Unbegun
-    ensures { ((code ≡ CodeOff) × (result ≡ Failed held)) ⊎ (((code ≡ CodeNoMemory) × (result ≡ OfMemory)) ⊎ ((code ≢ CodeOff) × (code ≢ CodeNoMemory) × (result ≡ NoJournal))) }
+    ensures { ((code ≡ CodeOff) × (result ≡ Failed held))
+        ⊎ (((code ≡ CodeNoMemory) × (result ≡ OfMemory))
+        ⊎ ((code ≢ CodeOff) × (code ≢ CodeNoMemory) × (result ≡ NoJournal))) }
 {
     match code {
         Code::Off => Unbegun::Failed(held),
@@ -64,7 +66,8 @@ fn opened<B: Steady + Drop, D: Device + Drop>(
     requires blank { content_of (B.state board) ≡ blank (B.state board).shape }
     requires head { Begins (head_bytes (B.state board).shape) bytes.now }
     ensures synced { IfOk result (λ kept. IsSynced (chart (⟦<Kept<B, D> as envy_base::Board>⟧.state kept))) }
-    ensures opened { IfOk result (λ kept. IsOpened (B.state board).shape bytes.now (⟦<Kept<B, D> as envy_base::Board>⟧.state kept)) }
+    ensures opened { IfOk result (λ kept.
+        IsOpened (B.state board).shape bytes.now (⟦<Kept<B, D> as envy_base::Board>⟧.state kept)) }
     ensures failed { IfErr result (λ e. Declines D.seen D.has_failed (B.state board).shape bytes.now e.0 e.1) }
 {
     match open(alloc, board, device, bytes, ROOM) {
@@ -80,7 +83,9 @@ fn compacted<B: Steady + Drop, D: Place>(
 ) -> Result<Kept<B, D>, (Unbegun, D)>
     requires synced { IsSynced (chart (⟦<Kept<B, D> as envy_base::Board>⟧.state kept)) }
     ensures synced { IfOk result (λ after. IsSynced (chart (⟦<Kept<B, D> as envy_base::Board>⟧.state after))) }
-    ensures opened { IfOk result (λ after. (sh : Shape) (file : List ℕ) → IsOpened sh file (⟦<Kept<B, D> as envy_base::Board>⟧.state kept) → IsOpened sh file (⟦<Kept<B, D> as envy_base::Board>⟧.state after)) }
+    ensures opened { IfOk result (λ after. (sh : Shape) (file : List ℕ)
+        → IsOpened sh file (⟦<Kept<B, D> as envy_base::Board>⟧.state kept)
+        → IsOpened sh file (⟦<Kept<B, D> as envy_base::Board>⟧.state after)) }
     ensures failed { IfErr result (λ e. IsStopped D.seen D.has_failed e.0 e.1) }
 {
     if !compact {
@@ -108,7 +113,8 @@ fn opened_as_asked<B: Steady + Drop, D: Place + Drop>(
     requires blank { content_of (B.state board) ≡ blank (B.state board).shape }
     requires head { Begins (head_bytes (B.state board).shape) bytes.now }
     ensures synced { IfOk result (λ kept. IsSynced (chart (⟦<Kept<B, D> as envy_base::Board>⟧.state kept))) }
-    ensures opened { IfOk result (λ kept. IsOpened (B.state board).shape bytes.now (⟦<Kept<B, D> as envy_base::Board>⟧.state kept)) }
+    ensures opened { IfOk result (λ kept.
+        IsOpened (B.state board).shape bytes.now (⟦<Kept<B, D> as envy_base::Board>⟧.state kept)) }
     ensures failed { IfErr result (λ e. Declines D.seen D.has_failed (B.state board).shape bytes.now e.0 e.1) }
 {
     match opened(alloc, board, device, bytes) {
@@ -156,7 +162,8 @@ pub fn begin_again<B: Steady + Drop, D: Place + Drop>(
     requires head { Begins (head_bytes setup.shape) bytes.now }
     requires shape { (B.state board).shape ≡ setup.shape }
     requires setup { checked setup ≡ Ok tt }
-    ensures begun { IfOk result (λ memory. (words : List ℕ) × OpensAs setup.shape words bytes.now × HasBegun setup (fresh setup.shape.shadows words) memory) }
+    ensures begun { IfOk result (λ memory. (words : List ℕ) × OpensAs setup.shape words bytes.now
+        × HasBegun setup (fresh setup.shape.shadows words) memory) }
     ensures failed { IfErr result (λ e. Declines D.seen D.has_failed setup.shape bytes.now e.0 e.1) }
 {
     let kept = match opened_as_asked(alloc, board, device, bytes, compact) {

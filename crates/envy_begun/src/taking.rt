@@ -37,7 +37,8 @@ pub fn begin<B: Steady + Drop, D: Place + Drop>(
     requires shape { (B.state board).shape ≡ setup.shape }
     requires plans { Plans holding options.now bytes.now setup }
     requires checks { checked setup ≡ Ok tt }
-    ensures begun { IfOk result (λ memory. (array : Array) × BeginsAs holding bytes.now setup array × HasBegun setup array memory) }
+    ensures begun { IfOk result (λ memory. (array : Array) × BeginsAs holding bytes.now setup array
+        × HasBegun setup array memory) }
     ensures failed { IfErr result (λ e. Causes D.seen D.has_failed options.now bytes.now device e.1 e.0) }
 {
     match holding {

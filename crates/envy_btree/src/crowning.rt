@@ -15,12 +15,15 @@ fn crown<W: Words>(words: &mut W, inner: bool, keys: &[u64], slots: &[u64]) -> R
     requires begun { IsTrue (W.sheet words.old).started }
     requires head { IsTrue (has (W.sheet words.old).pages 0) }
     requires room { length (W.sheet words.old).pages + 2 ≤ (W.sheet words.old).room }
-    requires heap { (free : List ℕ) × IsHeap (W.sheet words.old).words free × (1 ≤ spare (W.sheet words.old).words free) }
+    requires heap { (free : List ℕ) × IsHeap (W.sheet words.old).words free
+        × (1 ≤ spare (W.sheet words.old).words free) }
     requires keys { length keys.now ≤ 31 }
     requires slots { length slots.now ≤ 32 }
     ensures works { Works 2 (W.sheet words.old) (W.sheet words.new) }
     ensures fails { Fails (W.sheet words.old) result (W.sheet words.new) }
-    ensures crowned { (free : List ℕ) → IsHeap (W.sheet words.old).words free → OnOk result (Crowned (W.sheet words.old).words (W.sheet words.new).words free (one inner) keys.now slots.now) }
+    ensures crowned { (free : List ℕ) → IsHeap (W.sheet words.old).words free
+        → OnOk result
+        (Crowned (W.sheet words.old).words (W.sheet words.new).words free (one inner) keys.now slots.now) }
 {
     let Some(piece) = take(words)? else {
         unreachable!();
@@ -35,10 +38,14 @@ pub(crate) fn insert_at_root<W: Words>(words: &mut W, key: u64, value: u64) -> R
     requires head { IsTrue (has (W.sheet words.old).pages 0) }
     requires room { length (W.sheet words.old).pages + 26 ≤ (W.sheet words.old).room }
     requires size { length (W.sheet words.old).words ≤ 2 ^ 25 }
-    requires map { (es : List (ℕ × ℕ)) × IsPlanted (W.sheet words.old).words es × (length es ≤ most_pairs (W.sheet words.old).words) }
+    requires map { (es : List (ℕ × ℕ)) × IsPlanted (W.sheet words.old).words es
+        × (length es ≤ most_pairs (W.sheet words.old).words) }
     ensures works { Works 26 (W.sheet words.old) (W.sheet words.new) }
     ensures fails { Fails (W.sheet words.old) result (W.sheet words.new) }
-    ensures planted { (es : List (ℕ × ℕ)) → IsPlanted (W.sheet words.old).words es → length es ≤ most_pairs (W.sheet words.old).words → OnOk result (IsPlanted (W.sheet words.new).words (with_pair key value es) × (slice_index (W.sheet words.new).words 3 ≡ slice_index (W.sheet words.old).words 3)) }
+    ensures planted { (es : List (ℕ × ℕ)) → IsPlanted (W.sheet words.old).words es
+        → length es ≤ most_pairs (W.sheet words.old).words
+        → OnOk result (IsPlanted (W.sheet words.new).words (with_pair key value es)
+        × (slice_index (W.sheet words.new).words 3 ≡ slice_index (W.sheet words.old).words 3)) }
 {
     let root = words.load(0)?;
     if root == 0 {

@@ -17,7 +17,8 @@ pub(crate) fn find<W: Words>(
 ) -> Result<Option<u64>, Off>
     requires rests { Rests (W.sheet words.old).words piece level }
     ensures works { Works 0 (W.sheet words.old) (W.sheet words.new) }
-    ensures answer { (t : Rests (W.sheet words.old).words piece level) → IfOk result (λ x. x ≡ assoc key (pairs_of t.depth t.tree)) }
+    ensures answer { (t : Rests (W.sheet words.old).words piece level)
+        → IfOk result (λ x. x ≡ assoc key (pairs_of t.depth t.tree)) }
     ensures same { OnOk result ((W.sheet words.new).words ≡ (W.sheet words.old).words) }
     ensures power { MatchResult result (λ _. IsTrue (W.sheet words.new).on) (λ _. (W.sheet words.new).on ≡ false) }
 {

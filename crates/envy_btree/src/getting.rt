@@ -13,7 +13,8 @@ pub fn get<W: Words>(words: &mut W, key: u64) -> Result<Option<u64>, Off>
     requires map { (es : List (ℕ × ℕ)) × IsIndex (W.sheet words.old).words es }
     ensures works { Works 0 (W.sheet words.old) (W.sheet words.new) }
     ensures shut { (W.sheet words.new).started ≡ false }
-    ensures gets { (es : List (ℕ × ℕ)) → IsIndex (W.sheet words.old).words es → Gets key es (W.sheet words.old) result (W.sheet words.new) }
+    ensures gets { (es : List (ℕ × ℕ)) → IsIndex (W.sheet words.old).words es
+        → Gets key es (W.sheet words.old) result (W.sheet words.new) }
 {
     let root = words.load(0)?;
     if root == 0 {

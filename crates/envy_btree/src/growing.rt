@@ -25,14 +25,19 @@ fn grow_leaf<W: Words>(
     requires within { at piece 63 < length (W.sheet words.old).words }
     requires head { IsTrue (has (W.sheet words.old).pages 0) }
     requires room { length (W.sheet words.old).pages + 4 ≤ (W.sheet words.old).room }
-    requires heap { (free : List ℕ) × IsHeap (W.sheet words.old).words free × (handed (W.sheet words.old).words free piece ≡ 1) × (1 ≤ spare (W.sheet words.old).words free) }
+    requires heap { (free : List ℕ) × IsHeap (W.sheet words.old).words free
+        × (handed (W.sheet words.old).words free piece ≡ 1) × (1 ≤ spare (W.sheet words.old).words free) }
     requires leaf { node.old.inner ≡ false }
     requires few { length node.old.keys.items ≤ 31 }
     requires long { length node.old.slots.items ≡ length node.old.keys.items }
     requires place { Ranks key node.old.keys.items i }
     ensures works { Works 4 (W.sheet words.old) (W.sheet words.new) }
     ensures fails { Fails (W.sheet words.old) result (W.sheet words.new) }
-    ensures saved { (low high : ℕ) (es : List (ℕ × ℕ)) (free : List ℕ) → Rising low high es → node.old.keys.items ≡ keys_of es → node.old.slots.items ≡ values_of es → IsHeap (W.sheet words.old).words free → handed (W.sheet words.old).words free piece ≡ 1 → Saved (W.sheet words.old).words free piece false (keys_of (with_pair key value es)) (values_of (with_pair key value es)) result (W.sheet words.new).words }
+    ensures saved { (low high : ℕ) (es : List (ℕ × ℕ)) (free : List ℕ) → Rising low high es
+        → node.old.keys.items ≡ keys_of es → node.old.slots.items ≡ values_of es → IsHeap (W.sheet words.old).words free
+        → handed (W.sheet words.old).words free piece ≡ 1
+        → Saved (W.sheet words.old).words free piece false (keys_of (with_pair key value es))
+        (values_of (with_pair key value es)) result (W.sheet words.new).words }
 {
     set_pair(node, i, key, value);
     save(words, piece, node)
@@ -51,14 +56,18 @@ fn grow_node<W: Words>(
     requires within { at piece 63 < length (W.sheet words.old).words }
     requires head { IsTrue (has (W.sheet words.old).pages 0) }
     requires room { length (W.sheet words.old).pages + 4 ≤ (W.sheet words.old).room }
-    requires heap { (free : List ℕ) × IsHeap (W.sheet words.old).words free × (handed (W.sheet words.old).words free piece ≡ 1) × (1 ≤ spare (W.sheet words.old).words free) }
+    requires heap { (free : List ℕ) × IsHeap (W.sheet words.old).words free
+        × (handed (W.sheet words.old).words free piece ≡ 1) × (1 ≤ spare (W.sheet words.old).words free) }
     requires inner { node.old.inner ≡ true }
     requires few { length node.old.keys.items ≤ 31 }
     requires long { length node.old.slots.items ≡ length node.old.keys.items + 1 }
     requires place { i ≤ length node.old.keys.items }
     ensures works { Works 4 (W.sheet words.old) (W.sheet words.new) }
     ensures fails { Fails (W.sheet words.old) result (W.sheet words.new) }
-    ensures saved { (free : List ℕ) → IsHeap (W.sheet words.old).words free → handed (W.sheet words.old).words free piece ≡ 1 → Saved (W.sheet words.old).words free piece true (insert node.old.keys.items i middle) (insert node.old.slots.items (i + 1) second) result (W.sheet words.new).words }
+    ensures saved { (free : List ℕ) → IsHeap (W.sheet words.old).words free
+        → handed (W.sheet words.old).words free piece ≡ 1
+        → Saved (W.sheet words.old).words free piece true (insert node.old.keys.items i middle)
+        (insert node.old.slots.items (i + 1) second) result (W.sheet words.new).words }
 {
     node.keys.insert(i, middle);
     node.slots.insert(i + 1, second as u64);
@@ -80,7 +89,9 @@ pub(crate) fn insert_under<W: Words>(
     requires way { Way (W.sheet words.old).words piece level key }
     ensures works { Works (4 * level + 4) (W.sheet words.old) (W.sheet words.new) }
     ensures fails { Fails (W.sheet words.old) result (W.sheet words.new) }
-    ensures grows { (way : Way (W.sheet words.old).words piece level key) → IfOk result (λ r. Grows (W.sheet words.old).words (W.sheet words.new).words piece level key value way.rests r) }
+    ensures grows { (way : Way (W.sheet words.old).words piece level key)
+        → IfOk result (λ r.
+        Grows (W.sheet words.old).words (W.sheet words.new).words piece level key value way.rests r) }
 {
     let mut node = read_node(words, piece)?;
     let i = rank(&node.keys, key);

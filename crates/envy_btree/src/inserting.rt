@@ -20,7 +20,8 @@ pub fn insert<W: Words>(words: &mut W, key: u64, value: u64) -> Result<Option<u6
     requires map { (es : List (ℕ × ℕ)) × IsIndex (W.sheet words.old).words es }
     ensures keeps { Keeps (W.sheet words.old) (W.sheet words.new) }
     ensures shut { (W.sheet words.new).started ≡ false }
-    ensures inserts { (es : List (ℕ × ℕ)) → IsIndex (W.sheet words.old).words es → Inserts key value es (W.sheet words.old) result (W.sheet words.new) }
+    ensures inserts { (es : List (ℕ × ℕ)) → IsIndex (W.sheet words.old).words es
+        → Inserts key value es (W.sheet words.old) result (W.sheet words.new) }
 {
     let was = get(words, key)?;
     let before = words.load(3)?;
@@ -61,7 +62,9 @@ fn insert_alone<W: Words>(words: &mut W, key: u64, value: u64, pairs: u64) -> Re
     requires map { (es : List (ℕ × ℕ)) × IsIndex (W.sheet words.old).words es }
     ensures keeps { Keeps (W.sheet words.old) (W.sheet words.new) }
     ensures shut { (W.sheet words.new).started ≡ false }
-    ensures settles { (es : List (ℕ × ℕ)) → IsIndex (W.sheet words.old).words es → pairs ≡ length (with_pair key value es) → pairs ≤ most_pairs (W.sheet words.old).words → Settles es (with_pair key value es) (W.sheet words.old) result (W.sheet words.new) }
+    ensures settles { (es : List (ℕ × ℕ)) → IsIndex (W.sheet words.old).words es
+        → pairs ≡ length (with_pair key value es) → pairs ≤ most_pairs (W.sheet words.old).words
+        → Settles es (with_pair key value es) (W.sheet words.old) result (W.sheet words.new) }
 {
     words.start()?;
     let done = insert_inside(words, key, value, pairs);
@@ -74,10 +77,14 @@ fn insert_inside<W: Words>(words: &mut W, key: u64, value: u64, pairs: u64) -> R
     requires begun { IsTrue (W.sheet words.old).started }
     requires room { length (W.sheet words.old).pages + 27 ≤ (W.sheet words.old).room }
     requires size { length (W.sheet words.old).words ≤ 2 ^ 25 }
-    requires map { (es : List (ℕ × ℕ)) × IsPlanted (W.sheet words.old).words es × (length es ≤ most_pairs (W.sheet words.old).words) }
+    requires map { (es : List (ℕ × ℕ)) × IsPlanted (W.sheet words.old).words es
+        × (length es ≤ most_pairs (W.sheet words.old).words) }
     ensures works { Works 27 (W.sheet words.old) (W.sheet words.new) }
     ensures fails { Fails (W.sheet words.old) result (W.sheet words.new) }
-    ensures planted { (es : List (ℕ × ℕ)) → IsPlanted (W.sheet words.old).words es → length es ≤ most_pairs (W.sheet words.old).words → OnOk result (IsPlanted (W.sheet words.new).words (with_pair key value es) × (slice_index (W.sheet words.new).words 3 ≡ pairs)) }
+    ensures planted { (es : List (ℕ × ℕ)) → IsPlanted (W.sheet words.old).words es
+        → length es ≤ most_pairs (W.sheet words.old).words
+        → OnOk result (IsPlanted (W.sheet words.new).words (with_pair key value es)
+        × (slice_index (W.sheet words.new).words 3 ≡ pairs)) }
 {
     words.put(3, pairs)?;
     insert_at_root(words, key, value)

@@ -17,7 +17,8 @@ pub fn index_grammar_holds_both_ways()
 
 /// Words that stand for a map, with a root, obey each rule of the tree. Words that break one stand for no map.
 pub fn maps_obey_the_rules()
-    ensures { (words free : List ℕ) (root : ℕ) (es : List (ℕ × ℕ)) → IsIndex words es → IsHeap words free → slice_index words 0 ≡ root + 1 → ObeysRules words free root es }
+    ensures { (words free : List ℕ) (root : ℕ) (es : List (ℕ × ℕ)) → IsIndex words es → IsHeap words free
+        → slice_index words 0 ≡ root + 1 → ObeysRules words free root es }
 {}
 
 /// Words made by hand that stand for a map: one leaf, and two levels at the least fill.
@@ -51,7 +52,8 @@ pub fn broken_words_are_no_map()
 /// A loop that asks for the least pair from a key on, and then each time for the least above the key that it saw,
 /// until there is none, sees the pairs from that key on, each once and in their order: from 0 on all of the map.
 pub fn a_scan_sees_every_pair_once()
-    ensures from { (words : List ℕ) (es seen : List (ℕ × ℕ)) (key : ℕ) → IsIndex words es → Scans key es seen → seen ≡ pairs_from key es }
+    ensures from { (words : List ℕ) (es seen : List (ℕ × ℕ)) (key : ℕ) → IsIndex words es → Scans key es seen
+        → seen ≡ pairs_from key es }
     ensures all { (words : List ℕ) (es seen : List (ℕ × ℕ)) → IsIndex words es → Scans 0 es seen → seen ≡ es }
 {}
 

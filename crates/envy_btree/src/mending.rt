@@ -41,7 +41,8 @@ fn write_pair<W: Words>(
     requires place { j < length node.old.keys.items }
     requires many { length node.old.keys.items ≤ 31 }
     requires long { length node.old.slots.items ≡ length node.old.keys.items + 1 }
-    requires pair { Pair (W.sheet words.old).words (slice_index node.old.slots.items j) (slice_index node.old.slots.items (j + 1)) }
+    requires pair { Pair (W.sheet words.old).words (slice_index node.old.slots.items j)
+        (slice_index node.old.slots.items (j + 1)) }
     requires keys { length joined.now.keys.items ≤ 46 }
     requires slots { length joined.now.slots.items ≡ length joined.now.keys.items + one joined.now.inner }
     ensures works { Works 4 (W.sheet words.old) (W.sheet words.new) }
@@ -49,7 +50,10 @@ fn write_pair<W: Words>(
     ensures kind { node.new.inner ≡ node.old.inner }
     ensures few { length node.new.keys.items ≤ length node.old.keys.items }
     ensures long { length node.new.slots.items ≡ length node.new.keys.items + 1 }
-    ensures mended { (free : List ℕ) → IsHeap (W.sheet words.old).words free → OnOk result (Mended (W.sheet words.old).words (W.sheet words.new).words free j node.old.keys.items node.old.slots.items joined.now.inner joined.now.keys.items joined.now.slots.items node.new.keys.items node.new.slots.items) }
+    ensures mended { (free : List ℕ) → IsHeap (W.sheet words.old).words free
+        → OnOk result
+        (Mended (W.sheet words.old).words (W.sheet words.new).words free j node.old.keys.items node.old.slots.items
+        joined.now.inner joined.now.keys.items joined.now.slots.items node.new.keys.items node.new.slots.items) }
 {
     let first = node.slot(j) as u32;
     let second = node.slot(j + 1) as u32;
@@ -77,7 +81,8 @@ pub(crate) fn mend_with_front<W: Words>(
     requires place { j < length node.old.keys.items }
     requires many { length node.old.keys.items ≤ 31 }
     requires long { length node.old.slots.items ≡ length node.old.keys.items + 1 }
-    requires pair { Pair (W.sheet words.old).words (slice_index node.old.slots.items j) (slice_index node.old.slots.items (j + 1)) }
+    requires pair { Pair (W.sheet words.old).words (slice_index node.old.slots.items j)
+        (slice_index node.old.slots.items (j + 1)) }
     requires beside { Beside (W.sheet words.old).words (slice_index node.old.slots.items j) child.now.inner }
     requires keys { length child.now.keys.items ≤ 14 }
     requires slots { length child.now.slots.items ≡ length child.now.keys.items + one child.now.inner }
@@ -86,7 +91,12 @@ pub(crate) fn mend_with_front<W: Words>(
     ensures kind { node.new.inner ≡ node.old.inner }
     ensures few { length node.new.keys.items ≤ length node.old.keys.items }
     ensures long { length node.new.slots.items ≡ length node.new.keys.items + 1 }
-    ensures mended { (free : List ℕ) → IsHeap (W.sheet words.old).words free → (b : Beside (W.sheet words.old).words (slice_index node.old.slots.items j) child.now.inner) → OnOk result (Mended (W.sheet words.old).words (W.sheet words.new).words free j node.old.keys.items node.old.slots.items child.now.inner (joined_keys child.now.inner b.keys (slice_index node.old.keys.items j) child.now.keys.items) (b.slots ++ child.now.slots.items) node.new.keys.items node.new.slots.items) }
+    ensures mended { (free : List ℕ) → IsHeap (W.sheet words.old).words free
+        → (b : Beside (W.sheet words.old).words (slice_index node.old.slots.items j) child.now.inner)
+        → OnOk result
+        (Mended (W.sheet words.old).words (W.sheet words.new).words free j node.old.keys.items node.old.slots.items
+        child.now.inner (joined_keys child.now.inner b.keys (slice_index node.old.keys.items j) child.now.keys.items)
+        (b.slots ++ child.now.slots.items) node.new.keys.items node.new.slots.items) }
 {
     let mut front = read_node(words, node.slot(j) as u32)?;
     join(&mut front, node.key(j), child);
@@ -105,7 +115,8 @@ pub(crate) fn mend_with_rear<W: Words>(
     requires place { j < length node.old.keys.items }
     requires many { length node.old.keys.items ≤ 31 }
     requires long { length node.old.slots.items ≡ length node.old.keys.items + 1 }
-    requires pair { Pair (W.sheet words.old).words (slice_index node.old.slots.items j) (slice_index node.old.slots.items (j + 1)) }
+    requires pair { Pair (W.sheet words.old).words (slice_index node.old.slots.items j)
+        (slice_index node.old.slots.items (j + 1)) }
     requires beside { Beside (W.sheet words.old).words (slice_index node.old.slots.items (j + 1)) child.old.inner }
     requires keys { length child.old.keys.items ≤ 14 }
     requires slots { length child.old.slots.items ≡ length child.old.keys.items + one child.old.inner }
@@ -114,7 +125,12 @@ pub(crate) fn mend_with_rear<W: Words>(
     ensures kind { node.new.inner ≡ node.old.inner }
     ensures few { length node.new.keys.items ≤ length node.old.keys.items }
     ensures long { length node.new.slots.items ≡ length node.new.keys.items + 1 }
-    ensures mended { (free : List ℕ) → IsHeap (W.sheet words.old).words free → (b : Beside (W.sheet words.old).words (slice_index node.old.slots.items (j + 1)) child.old.inner) → OnOk result (Mended (W.sheet words.old).words (W.sheet words.new).words free j node.old.keys.items node.old.slots.items child.old.inner (joined_keys child.old.inner child.old.keys.items (slice_index node.old.keys.items j) b.keys) (child.old.slots.items ++ b.slots) node.new.keys.items node.new.slots.items) }
+    ensures mended { (free : List ℕ) → IsHeap (W.sheet words.old).words free
+        → (b : Beside (W.sheet words.old).words (slice_index node.old.slots.items (j + 1)) child.old.inner)
+        → OnOk result
+        (Mended (W.sheet words.old).words (W.sheet words.new).words free j node.old.keys.items node.old.slots.items
+        child.old.inner (joined_keys child.old.inner child.old.keys.items (slice_index node.old.keys.items j) b.keys)
+        (child.old.slots.items ++ b.slots) node.new.keys.items node.new.slots.items) }
 {
     let rear = read_node(words, node.slot(j + 1) as u32)?;
     join(child, node.key(j), &rear);

@@ -19,7 +19,8 @@ pub(crate) fn find_from<W: Words>(
 ) -> Result<Option<(u64, u64)>, Off>
     requires rests { Rests (W.sheet words.old).words piece level }
     ensures works { Works 0 (W.sheet words.old) (W.sheet words.new) }
-    ensures answer { (t : Rests (W.sheet words.old).words piece level) → IfOk result (λ x. x ≡ first_from key (pairs_of t.depth t.tree)) }
+    ensures answer { (t : Rests (W.sheet words.old).words piece level)
+        → IfOk result (λ x. x ≡ first_from key (pairs_of t.depth t.tree)) }
     ensures same { OnOk result ((W.sheet words.new).words ≡ (W.sheet words.old).words) }
     ensures power { MatchResult result (λ _. IsTrue (W.sheet words.new).on) (λ _. (W.sheet words.new).on ≡ false) }
 {
@@ -50,7 +51,8 @@ pub(crate) fn find_to<W: Words>(
 ) -> Result<Option<(u64, u64)>, Off>
     requires rests { Rests (W.sheet words.old).words piece level }
     ensures works { Works 0 (W.sheet words.old) (W.sheet words.new) }
-    ensures answer { (t : Rests (W.sheet words.old).words piece level) → IfOk result (λ x. x ≡ last_to key (pairs_of t.depth t.tree)) }
+    ensures answer { (t : Rests (W.sheet words.old).words piece level)
+        → IfOk result (λ x. x ≡ last_to key (pairs_of t.depth t.tree)) }
     ensures same { OnOk result ((W.sheet words.new).words ≡ (W.sheet words.old).words) }
     ensures power { MatchResult result (λ _. IsTrue (W.sheet words.new).on) (λ _. (W.sheet words.new).on ≡ false) }
 {
@@ -75,7 +77,8 @@ pub(crate) fn find_to<W: Words>(
 fn first_in_leaf(node: &Node, i: usize, key: u64) -> Option<(u64, u64)>
     requires long { length node.now.slots.items ≡ length node.now.keys.items }
     requires place { Ranks key node.now.keys.items i }
-    ensures { (low high : ℕ) (es : List (ℕ × ℕ)) → Rising low high es → node.now.keys.items ≡ keys_of es → node.now.slots.items ≡ values_of es → result ≡ first_from key es }
+    ensures { (low high : ℕ) (es : List (ℕ × ℕ)) → Rising low high es → node.now.keys.items ≡ keys_of es
+        → node.now.slots.items ≡ values_of es → result ≡ first_from key es }
 {
     if i > 0 && node.key(i - 1) == key {
         return Some(node.pair(i - 1));
@@ -90,7 +93,8 @@ fn first_in_leaf(node: &Node, i: usize, key: u64) -> Option<(u64, u64)>
 fn last_in_leaf(node: &Node, i: usize) -> Option<(u64, u64)>
     requires long { length node.now.slots.items ≡ length node.now.keys.items }
     requires place { i ≤ length node.now.keys.items }
-    ensures { (low high key : ℕ) (es : List (ℕ × ℕ)) → Rising low high es → Ranks key node.now.keys.items i → node.now.keys.items ≡ keys_of es → node.now.slots.items ≡ values_of es → result ≡ last_to key es }
+    ensures { (low high key : ℕ) (es : List (ℕ × ℕ)) → Rising low high es → Ranks key node.now.keys.items i
+        → node.now.keys.items ≡ keys_of es → node.now.slots.items ≡ values_of es → result ≡ last_to key es }
 {
     if i == 0 {
         return None;

@@ -70,7 +70,8 @@ pub(crate) fn read_list<W: Words>(words: &mut W, a: u32, n: u32) -> Result<Array
     ensures works { Works 0 (W.sheet words.old) (W.sheet words.new) }
     ensures list { IfOk result (λ v. v.items ≡ window (W.sheet words.old).words a n) }
     ensures same { OnOk result ((W.sheet words.new).words ≡ (W.sheet words.old).words) }
-    ensures power { MatchResult result (λ _. IsTrue (W.sheet words.old).on → IsTrue (W.sheet words.new).on) (λ _. (W.sheet words.new).on ≡ false) }
+    ensures power { MatchResult result (λ _. IsTrue (W.sheet words.old).on → IsTrue (W.sheet words.new).on)
+        (λ _. (W.sheet words.new).on ≡ false) }
 {
     let mut list = ArrayVec::new();
     for i in 0..n {
@@ -107,7 +108,8 @@ pub(crate) fn write_list<W: Words>(words: &mut W, a: u32, list: &[u64]) -> Resul
     requires room { length (W.sheet words.old).pages + 1 ≤ (W.sheet words.old).room }
     ensures works { OnPage (a / 32) (W.sheet words.old) (W.sheet words.new) }
     ensures fails { Fails (W.sheet words.old) result (W.sheet words.new) }
-    ensures list { OnOk result ((W.sheet words.new).words ≡ pasted a list.now (length list.now) (W.sheet words.old).words) }
+    ensures list { OnOk result
+        ((W.sheet words.new).words ≡ pasted a list.now (length list.now) (W.sheet words.old).words) }
 {
     for i in 0..list.len() {
         let word = list[i];
@@ -156,7 +158,8 @@ pub(crate) fn set_pair(node: &mut Node, i: usize, key: u64, value: u64)
     ensures kind { node.new.inner ≡ node.old.inner }
     ensures few { length node.new.keys.items ≤ length node.old.keys.items + 1 }
     ensures long { length node.new.slots.items ≡ length node.new.keys.items }
-    ensures pairs { (low high : ℕ) (es : List (ℕ × ℕ)) → Rising low high es → node.old.keys.items ≡ keys_of es → node.old.slots.items ≡ values_of es → IsSet key value es node.new.keys.items node.new.slots.items }
+    ensures pairs { (low high : ℕ) (es : List (ℕ × ℕ)) → Rising low high es → node.old.keys.items ≡ keys_of es
+        → node.old.slots.items ≡ values_of es → IsSet key value es node.new.keys.items node.new.slots.items }
 {
     if i > 0 && node.key(i - 1) == key {
         node.set_slot(i - 1, value);
@@ -173,7 +176,8 @@ pub(crate) fn drop_pair(node: &mut Node, i: usize, key: u64)
     ensures kind { node.new.inner ≡ node.old.inner }
     ensures few { length node.new.keys.items ≤ length node.old.keys.items }
     ensures long { length node.new.slots.items ≡ length node.new.keys.items }
-    ensures pairs { (low high : ℕ) (es : List (ℕ × ℕ)) → Rising low high es → node.old.keys.items ≡ keys_of es → node.old.slots.items ≡ values_of es → IsDropped key es node.new.keys.items node.new.slots.items }
+    ensures pairs { (low high : ℕ) (es : List (ℕ × ℕ)) → Rising low high es → node.old.keys.items ≡ keys_of es
+        → node.old.slots.items ≡ values_of es → IsDropped key es node.new.keys.items node.new.slots.items }
 {
     if i > 0 && node.key(i - 1) == key {
         node.keys.remove(i - 1);

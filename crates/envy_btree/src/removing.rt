@@ -19,7 +19,8 @@ pub fn remove<W: Words>(words: &mut W, key: u64) -> Result<Option<u64>, TreeFaul
     requires map { (es : List (ℕ × ℕ)) × IsIndex (W.sheet words.old).words es }
     ensures keeps { Keeps (W.sheet words.old) (W.sheet words.new) }
     ensures shut { (W.sheet words.new).started ≡ false }
-    ensures removes { (es : List (ℕ × ℕ)) → IsIndex (W.sheet words.old).words es → Removes key es (W.sheet words.old) result (W.sheet words.new) }
+    ensures removes { (es : List (ℕ × ℕ)) → IsIndex (W.sheet words.old).words es
+        → Removes key es (W.sheet words.old) result (W.sheet words.new) }
 {
     let was = get(words, key)?;
     let Some(value) = was else {
@@ -40,7 +41,9 @@ fn remove_alone<W: Words>(words: &mut W, key: u64, pairs: u64) -> Result<(), Tre
     requires map { (es : List (ℕ × ℕ)) × IsIndex (W.sheet words.old).words es }
     ensures keeps { Keeps (W.sheet words.old) (W.sheet words.new) }
     ensures shut { (W.sheet words.new).started ≡ false }
-    ensures settles { (es : List (ℕ × ℕ)) → IsIndex (W.sheet words.old).words es → pairs ≡ length (without key es) → pairs ≤ most_pairs (W.sheet words.old).words → Settles es (without key es) (W.sheet words.old) result (W.sheet words.new) }
+    ensures settles { (es : List (ℕ × ℕ)) → IsIndex (W.sheet words.old).words es → pairs ≡ length (without key es)
+        → pairs ≤ most_pairs (W.sheet words.old).words
+        → Settles es (without key es) (W.sheet words.old) result (W.sheet words.new) }
 {
     words.start()?;
     let done = remove_inside(words, key, pairs);
@@ -55,7 +58,9 @@ fn remove_inside<W: Words>(words: &mut W, key: u64, pairs: u64) -> Result<(), Tr
     requires map { (es : List (ℕ × ℕ)) × IsPlanted (W.sheet words.old).words es }
     ensures works { Works 24 (W.sheet words.old) (W.sheet words.new) }
     ensures fails { Fails (W.sheet words.old) result (W.sheet words.new) }
-    ensures planted { (es : List (ℕ × ℕ)) → IsPlanted (W.sheet words.old).words es → OnOk result (IsPlanted (W.sheet words.new).words (without key es) × (slice_index (W.sheet words.new).words 3 ≡ pairs)) }
+    ensures planted { (es : List (ℕ × ℕ)) → IsPlanted (W.sheet words.old).words es
+        → OnOk result (IsPlanted (W.sheet words.new).words (without key es)
+        × (slice_index (W.sheet words.new).words 3 ≡ pairs)) }
 {
     words.put(3, pairs)?;
     remove_at_root(words, key)

@@ -19,12 +19,16 @@ pub(crate) fn save<W: Words>(
     requires within { at piece 63 < length (W.sheet words.old).words }
     requires head { IsTrue (has (W.sheet words.old).pages 0) }
     requires room { length (W.sheet words.old).pages + 4 ≤ (W.sheet words.old).room }
-    requires heap { (free : List ℕ) × IsHeap (W.sheet words.old).words free × (handed (W.sheet words.old).words free piece ≡ 1) × (1 ≤ spare (W.sheet words.old).words free) }
+    requires heap { (free : List ℕ) × IsHeap (W.sheet words.old).words free
+        × (handed (W.sheet words.old).words free piece ≡ 1) × (1 ≤ spare (W.sheet words.old).words free) }
     requires keys { length node.now.keys.items ≤ 46 }
     requires slots { length node.now.slots.items ≡ length node.now.keys.items + one node.now.inner }
     ensures works { Works 4 (W.sheet words.old) (W.sheet words.new) }
     ensures fails { Fails (W.sheet words.old) result (W.sheet words.new) }
-    ensures saved { (free : List ℕ) → IsHeap (W.sheet words.old).words free → handed (W.sheet words.old).words free piece ≡ 1 → Saved (W.sheet words.old).words free piece node.now.inner node.now.keys.items node.now.slots.items result (W.sheet words.new).words }
+    ensures saved { (free : List ℕ) → IsHeap (W.sheet words.old).words free
+        → handed (W.sheet words.old).words free piece ≡ 1
+        → Saved (W.sheet words.old).words free piece node.now.inner node.now.keys.items node.now.slots.items result
+        (W.sheet words.new).words }
 {
     if node.keys.len() <= 31 {
         write_node(words, piece, node.inner, &node.keys, &node.slots)?;
@@ -53,7 +57,9 @@ pub(crate) fn write_halves<W: Words>(
     requires slots { length node.now.slots.items ≡ length node.now.keys.items + one node.now.inner }
     ensures works { Works 4 (W.sheet words.old) (W.sheet words.new) }
     ensures fails { Fails (W.sheet words.old) result (W.sheet words.new) }
-    ensures halves { IfOk result (λ key. Halves (W.sheet words.old).words (W.sheet words.new).words first second (one node.now.inner) key node.now.keys.items node.now.slots.items) }
+    ensures halves { IfOk result (λ key.
+        Halves (W.sheet words.old).words (W.sheet words.new).words first second
+        (one node.now.inner) key node.now.keys.items node.now.slots.items) }
 {
     let keys = node.keys.as_slice();
     let half = node.slots.len() / 2;

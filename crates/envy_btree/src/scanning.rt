@@ -15,7 +15,8 @@ pub fn next<W: Words>(words: &mut W, key: u64) -> Result<Option<(u64, u64)>, Off
     requires map { (es : List (ℕ × ℕ)) × IsIndex (W.sheet words.old).words es }
     ensures works { Works 0 (W.sheet words.old) (W.sheet words.new) }
     ensures shut { (W.sheet words.new).started ≡ false }
-    ensures finds { (es : List (ℕ × ℕ)) → IsIndex (W.sheet words.old).words es → Finds (IsLeastFrom key es) es result (W.sheet words.new) }
+    ensures finds { (es : List (ℕ × ℕ)) → IsIndex (W.sheet words.old).words es
+        → Finds (IsLeastFrom key es) es result (W.sheet words.new) }
 {
     let root = words.load(0)?;
     if root == 0 {
@@ -33,7 +34,8 @@ pub fn next_above<W: Words>(words: &mut W, key: u64) -> Result<Option<(u64, u64)
     requires map { (es : List (ℕ × ℕ)) × IsIndex (W.sheet words.old).words es }
     ensures works { Works 0 (W.sheet words.old) (W.sheet words.new) }
     ensures shut { (W.sheet words.new).started ≡ false }
-    ensures finds { (es : List (ℕ × ℕ)) → IsIndex (W.sheet words.old).words es → Finds (IsLeastFrom (key + 1) es) es result (W.sheet words.new) }
+    ensures finds { (es : List (ℕ × ℕ)) → IsIndex (W.sheet words.old).words es
+        → Finds (IsLeastFrom (key + 1) es) es result (W.sheet words.new) }
 {
     match key.checked_add(1) {
         Some(above) => next(words, above),
@@ -47,7 +49,8 @@ fn nothing_above<W: Words>(words: &mut W) -> Result<Option<(u64, u64)>, Off>
     requires map { (es : List (ℕ × ℕ)) × IsIndex (W.sheet words.old).words es }
     ensures works { Works 0 (W.sheet words.old) (W.sheet words.new) }
     ensures shut { (W.sheet words.new).started ≡ false }
-    ensures finds { (es : List (ℕ × ℕ)) → IsIndex (W.sheet words.old).words es → Finds (IsLeastFrom (2 ^ 64) es) es result (W.sheet words.new) }
+    ensures finds { (es : List (ℕ × ℕ)) → IsIndex (W.sheet words.old).words es
+        → Finds (IsLeastFrom (2 ^ 64) es) es result (W.sheet words.new) }
 {
     let _root = words.load(0)?;
     Ok(None)
@@ -60,7 +63,8 @@ pub fn last<W: Words>(words: &mut W, key: u64) -> Result<Option<(u64, u64)>, Off
     requires map { (es : List (ℕ × ℕ)) × IsIndex (W.sheet words.old).words es }
     ensures works { Works 0 (W.sheet words.old) (W.sheet words.new) }
     ensures shut { (W.sheet words.new).started ≡ false }
-    ensures finds { (es : List (ℕ × ℕ)) → IsIndex (W.sheet words.old).words es → Finds (IsGreatestTo key es) es result (W.sheet words.new) }
+    ensures finds { (es : List (ℕ × ℕ)) → IsIndex (W.sheet words.old).words es
+        → Finds (IsGreatestTo key es) es result (W.sheet words.new) }
 {
     let root = words.load(0)?;
     if root == 0 {

@@ -22,7 +22,8 @@ fn put_back<W: Words>(words: &mut W, piece: u32, node: Node) -> Result<Option<No
     ensures works { Works 2 (W.sheet words.old) (W.sheet words.new) }
     ensures fails { Fails (W.sheet words.old) result (W.sheet words.new) }
     ensures hand { IfOk result (λ r. IfSome r (λ _. Works 0 (W.sheet words.old) (W.sheet words.new))) }
-    ensures back { IfOk result (λ r. Back (W.sheet words.old).words (W.sheet words.new).words piece node.inner node.keys.items node.slots.items r) }
+    ensures back { IfOk result (λ r.
+        Back (W.sheet words.old).words (W.sheet words.new).words piece node.inner node.keys.items node.slots.items r) }
 {
     if node.keys.len() < 15 {
         return Ok(Some(node));
@@ -49,7 +50,11 @@ fn shrink_leaf<W: Words>(
     ensures works { Works 2 (W.sheet words.old) (W.sheet words.new) }
     ensures fails { Fails (W.sheet words.old) result (W.sheet words.new) }
     ensures hand { IfOk result (λ r. IfSome r (λ _. Works 0 (W.sheet words.old) (W.sheet words.new))) }
-    ensures back { (low high : ℕ) (es : List (ℕ × ℕ)) → Rising low high es → node.keys.items ≡ keys_of es → node.slots.items ≡ values_of es → IfOk result (λ r. Back (W.sheet words.old).words (W.sheet words.new).words piece false (keys_of (without key es)) (values_of (without key es)) r) }
+    ensures back { (low high : ℕ) (es : List (ℕ × ℕ)) → Rising low high es → node.keys.items ≡ keys_of es
+        → node.slots.items ≡ values_of es
+        → IfOk result (λ r.
+        Back (W.sheet words.old).words (W.sheet words.new).words piece false (keys_of (without key es))
+        (values_of (without key es)) r) }
 {
     drop_pair(&mut node, i, key);
     put_back(words, piece, node)
@@ -70,14 +75,20 @@ fn shrink_with_front<W: Words>(
     requires place { j < length node.keys.items }
     requires many { length node.keys.items ≤ 31 }
     requires long { length node.slots.items ≡ length node.keys.items + 1 }
-    requires pair { Pair (W.sheet words.old).words (slice_index node.slots.items j) (slice_index node.slots.items (j + 1)) }
+    requires pair { Pair (W.sheet words.old).words (slice_index node.slots.items j)
+        (slice_index node.slots.items (j + 1)) }
     requires beside { Beside (W.sheet words.old).words (slice_index node.slots.items j) child.inner }
     requires keys { length child.keys.items ≤ 14 }
     requires slots { length child.slots.items ≡ length child.keys.items + one child.inner }
     ensures works { Works 6 (W.sheet words.old) (W.sheet words.new) }
     ensures fails { Fails (W.sheet words.old) result (W.sheet words.new) }
     ensures hand { IfOk result (λ r. IfSome r (λ _. Works 4 (W.sheet words.old) (W.sheet words.new))) }
-    ensures mended { (free : List ℕ) → IsHeap (W.sheet words.old).words free → (b : Beside (W.sheet words.old).words (slice_index node.slots.items j) child.inner) → IfOk result (λ r. MendedBack (W.sheet words.old).words (W.sheet words.new).words free piece j node.keys.items node.slots.items child.inner (joined_keys child.inner b.keys (slice_index node.keys.items j) child.keys.items) (b.slots ++ child.slots.items) r) }
+    ensures mended { (free : List ℕ) → IsHeap (W.sheet words.old).words free
+        → (b : Beside (W.sheet words.old).words (slice_index node.slots.items j) child.inner)
+        → IfOk result (λ r.
+        MendedBack (W.sheet words.old).words (W.sheet words.new).words free piece j node.keys.items node.slots.items
+        child.inner (joined_keys child.inner b.keys (slice_index node.keys.items j) child.keys.items)
+        (b.slots ++ child.slots.items) r) }
 {
     mend_with_front(words, &mut node, j, &child)?;
     put_back(words, piece, node)
@@ -98,14 +109,20 @@ fn shrink_with_rear<W: Words>(
     requires place { j < length node.keys.items }
     requires many { length node.keys.items ≤ 31 }
     requires long { length node.slots.items ≡ length node.keys.items + 1 }
-    requires pair { Pair (W.sheet words.old).words (slice_index node.slots.items j) (slice_index node.slots.items (j + 1)) }
+    requires pair { Pair (W.sheet words.old).words (slice_index node.slots.items j)
+        (slice_index node.slots.items (j + 1)) }
     requires beside { Beside (W.sheet words.old).words (slice_index node.slots.items (j + 1)) child.inner }
     requires keys { length child.keys.items ≤ 14 }
     requires slots { length child.slots.items ≡ length child.keys.items + one child.inner }
     ensures works { Works 6 (W.sheet words.old) (W.sheet words.new) }
     ensures fails { Fails (W.sheet words.old) result (W.sheet words.new) }
     ensures hand { IfOk result (λ r. IfSome r (λ _. Works 4 (W.sheet words.old) (W.sheet words.new))) }
-    ensures mended { (free : List ℕ) → IsHeap (W.sheet words.old).words free → (b : Beside (W.sheet words.old).words (slice_index node.slots.items (j + 1)) child.inner) → IfOk result (λ r. MendedBack (W.sheet words.old).words (W.sheet words.new).words free piece j node.keys.items node.slots.items child.inner (joined_keys child.inner child.keys.items (slice_index node.keys.items j) b.keys) (child.slots.items ++ b.slots) r) }
+    ensures mended { (free : List ℕ) → IsHeap (W.sheet words.old).words free
+        → (b : Beside (W.sheet words.old).words (slice_index node.slots.items (j + 1)) child.inner)
+        → IfOk result (λ r.
+        MendedBack (W.sheet words.old).words (W.sheet words.new).words free piece j node.keys.items node.slots.items
+        child.inner (joined_keys child.inner child.keys.items (slice_index node.keys.items j) b.keys)
+        (child.slots.items ++ b.slots) r) }
 {
     mend_with_rear(words, &mut node, j, &mut child)?;
     put_back(words, piece, node)
@@ -125,7 +142,8 @@ pub(crate) fn remove_under<W: Words>(
     ensures works { Works (4 * level + 2) (W.sheet words.old) (W.sheet words.new) }
     ensures fails { Fails (W.sheet words.old) result (W.sheet words.new) }
     ensures hand { IfOk result (λ r. IfSome r (λ _. Works (4 * level) (W.sheet words.old) (W.sheet words.new))) }
-    ensures shrinks { (t : Rests (W.sheet words.old).words piece level) → IfOk result (λ r. Shrinks (W.sheet words.old).words (W.sheet words.new).words piece level key t r) }
+    ensures shrinks { (t : Rests (W.sheet words.old).words piece level)
+        → IfOk result (λ r. Shrinks (W.sheet words.old).words (W.sheet words.new).words piece level key t r) }
 {
     let node = read_node(words, piece)?;
     let i = rank(&node.keys, key);

@@ -14,12 +14,16 @@ use envy_heap::give;
 fn uncrown<W: Words>(words: &mut W, piece: u32, node: &Node) -> Result<(), Trouble>
     requires begun { IsTrue (W.sheet words.old).started }
     requires room { length (W.sheet words.old).pages + 3 ≤ (W.sheet words.old).room }
-    requires heap { (free : List ℕ) × IsHeap (W.sheet words.old).words free × (handed (W.sheet words.old).words free piece ≡ 1) }
+    requires heap { (free : List ℕ) × IsHeap (W.sheet words.old).words free
+        × (handed (W.sheet words.old).words free piece ≡ 1) }
     requires child { node.now.inner ≡ true → 1 ≤ length node.now.slots.items }
     requires fits { slice_index node.now.slots.items 0 < 2 ^ 32 }
     ensures works { Works 3 (W.sheet words.old) (W.sheet words.new) }
     ensures fails { Fails (W.sheet words.old) result (W.sheet words.new) }
-    ensures uncrowned { (free : List ℕ) → IsHeap (W.sheet words.old).words free → handed (W.sheet words.old).words free piece ≡ 1 → OnOk result ((mid : List ℕ) × Freed piece (W.sheet words.old).words mid free × ((W.sheet words.new).words ≡ slice_set mid 0 (next_root node.now.inner node.now.slots.items))) }
+    ensures uncrowned { (free : List ℕ) → IsHeap (W.sheet words.old).words free
+        → handed (W.sheet words.old).words free piece ≡ 1
+        → OnOk result ((mid : List ℕ) × Freed piece (W.sheet words.old).words mid free
+        × ((W.sheet words.new).words ≡ slice_set mid 0 (next_root node.now.inner node.now.slots.items))) }
 {
     let root = root_after(node);
     give(words, piece)?;
@@ -43,7 +47,9 @@ pub(crate) fn remove_at_root<W: Words>(words: &mut W, key: u64) -> Result<(), Tr
     requires map { (es : List (ℕ × ℕ)) × IsPlanted (W.sheet words.old).words es }
     ensures works { Works 23 (W.sheet words.old) (W.sheet words.new) }
     ensures fails { Fails (W.sheet words.old) result (W.sheet words.new) }
-    ensures planted { (es : List (ℕ × ℕ)) → IsPlanted (W.sheet words.old).words es → OnOk result (IsPlanted (W.sheet words.new).words (without key es) × (slice_index (W.sheet words.new).words 3 ≡ slice_index (W.sheet words.old).words 3)) }
+    ensures planted { (es : List (ℕ × ℕ)) → IsPlanted (W.sheet words.old).words es
+        → OnOk result (IsPlanted (W.sheet words.new).words (without key es)
+        × (slice_index (W.sheet words.new).words 3 ≡ slice_index (W.sheet words.old).words 3)) }
 {
     let root = words.load(0)?;
     if root == 0 {

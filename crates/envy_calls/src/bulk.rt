@@ -25,7 +25,8 @@ fn load_word<B: Board>(memory: &mut Memory<B>, a: u32) -> u64
     requires on { IsTrue memory.old.chart.on }
     requires within { a < 32 * memory.old.chart.shape.pages }
     ensures loads { LoadsTo memory.old memory.new a (number_of Done) 0 result }
-    ensures kept { memory.new ≡ record memory.old { parts = record memory.old.parts { cache = memory.new.parts.cache } } }
+    ensures kept { memory.new
+        ≡ record memory.old { parts = record memory.old.parts { cache = memory.new.parts.cache } } }
 {
     match memory.load(a) {
         Ok(word) => word,
@@ -40,7 +41,8 @@ fn load_words<B: Board>(memory: &mut Memory<B>, a: u32, into: &mut [u64])
     requires few { 32 * memory.old.chart.shape.pages < 2 ^ 32 }
     ensures long { length into.new ≡ length into.old }
     ensures loads { Loaded (length into.new) into.new a memory.old memory.new }
-    ensures kept { memory.new ≡ record memory.old { parts = record memory.old.parts { cache = memory.new.parts.cache } } }
+    ensures kept { memory.new
+        ≡ record memory.old { parts = record memory.old.parts { cache = memory.new.parts.cache } } }
 {
     for i in 0..into.len() {
         into[i] = load_word(memory, a + i as u32);
@@ -51,8 +53,10 @@ fn read_words<B: Board>(memory: &mut Memory<B>, a: u32, into: &mut [u64]) -> Res
     ensures long { length into.new ≡ length into.old }
     ensures loads { OnOk result (Loaded (length into.new) into.new a memory.old memory.new) }
     ensures off { (result ≡ Err LoadFault.Off) ↔ (memory.old.chart.on ≡ false) }
-    ensures range { (result ≡ Err LoadFault.Range) ↔ (IsTrue memory.old.chart.on × GoesPast memory.old a (length into.old)) }
-    ensures kept { memory.new ≡ record memory.old { parts = record memory.old.parts { cache = memory.new.parts.cache } } }
+    ensures range { (result ≡ Err LoadFault.Range)
+        ↔ (IsTrue memory.old.chart.on × GoesPast memory.old a (length into.old)) }
+    ensures kept { memory.new
+        ≡ record memory.old { parts = record memory.old.parts { cache = memory.new.parts.cache } } }
     ensures refused { OnErr result ((memory.new ≡ memory.old) × (into.new ≡ into.old)) }
 {
     if !memory.powered() {
@@ -105,7 +109,8 @@ fn put_words<B: Board>(
     done: &mut usize,
     holder: &mut u32,
 ) -> Code
-    ensures { (between : Picture) × Wrote done.new words.now t a holder.old memory.old between × EndsWith between memory.new t a words.now done.new (number_of result) holder.old holder.new }
+    ensures { (between : Picture) × Wrote done.new words.now t a holder.old memory.old between
+        × EndsWith between memory.new t a words.now done.new (number_of result) holder.old holder.new }
 {
     addresses_fit(memory);
     *done = 0;

@@ -14,7 +14,8 @@ use std::alloc::Global;
 // Why a board may not be taken up by this setup.
 fn refusal<B: Board>(alloc: Global, board: &B, setup: &Setup) -> Result<Option<Code>, Off>
     ensures { MatchResult result
-        (λ found. MatchOption found (IsWhole (chart (B.state board.now)) setup.now) (λ code. Forbids code (chart (B.state board.now)) setup.now))
+        (λ found. MatchOption found (IsWhole (chart (B.state board.now)) setup.now) (λ code.
+        Forbids code (chart (B.state board.now)) setup.now))
         (λ _. (B.state board.now).on ≡ false) }
 {
     let formatted = is_formatted(board)?;

@@ -27,7 +27,8 @@ impl CellBoard {
     pub fn blank(alloc: Global, shape: &Shape) -> Result<CellBoard, AllocError>
         requires { IsShape shape.now }
         ensures shape { IfOk result (λ board. board.shape ≡ shape.now) }
-        ensures flash { IfOk result (λ board. board.flash.items ≡ replicate (shape.now.segments * shape.now.rows) ones) }
+        ensures flash { IfOk result (λ board.
+            board.flash.items ≡ replicate (shape.now.segments * shape.now.rows) ones) }
         ensures sram { IfOk result (λ board. board.sram.items ≡ replicate (words_of shape.now) 0) }
     {
         let Cells {

@@ -57,7 +57,8 @@ fn policy(draws: &mut Draws, positions: u32) -> Policy
 
 /// An empty pool, and a chooser over its positions.
 fn made(alloc: Global, setup: &Setup) -> Result<(Space, Chooser), Fail>
-    ensures { IfOk result (λ made. (made.0.shape ≡ setup.now.shape) × (made.1.positions ≡ setup.now.shape.segments - 1) × (made.1.pages ≡ setup.now.shape.pages)) }
+    ensures { IfOk result (λ made. (made.0.shape ≡ setup.now.shape) × (made.1.positions ≡ setup.now.shape.segments - 1)
+        × (made.1.pages ≡ setup.now.shape.pages)) }
 {
     setup.check().map_err(|_| "the setup doesn't check")?;
     Ok((

@@ -43,7 +43,8 @@ fn free_or_clean(space: &Space, chooser: &Chooser, partition: u32) -> Choice
     requires positions { chooser.now.positions ≡ space.now.shape.segments - 1 }
     requires partition { partition < length chooser.now.heats }
     requires usable { IsUsableIn chooser.now space.now partition }
-    ensures { (home : ℕ) → IsNearest chooser.now (frees space.now) (deads space.now) home partition → IsChoice chooser.now (frees space.now) (deads space.now) home result }
+    ensures { (home : ℕ) → IsNearest chooser.now (frees space.now) (deads space.now) home partition
+        → IsChoice chooser.now (frees space.now) (deads space.now) home result }
 {
     match free_in(space, chooser, partition) {
         Some(position) => Choice::Free { position },

@@ -52,7 +52,8 @@ impl<B: AnyBoard> Counted<B> {
 
     /// The board itself, which counted each failure that was told, and maybe more.
     pub fn board(&self) -> &B
-        ensures same { ⟦<Counted<B> as Board>⟧.state self.now ≡ with_failures (B.state result.now) (⟦<Counted<B> as Board>⟧.state self.now).cuts (⟦<Counted<B> as Board>⟧.state self.now).bads }
+        ensures same { ⟦<Counted<B> as Board>⟧.state self.now ≡ with_failures (B.state result.now)
+            (⟦<Counted<B> as Board>⟧.state self.now).cuts (⟦<Counted<B> as Board>⟧.state self.now).bads }
         ensures fewer { TellsNoMore (⟦<Counted<B> as Board>⟧.state self.now) (B.state result.now) }
     {
         &self.board

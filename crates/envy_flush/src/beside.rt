@@ -15,9 +15,13 @@ use envy_policy::Lifetime;
 /// The segment that is being relocated, if one is.
 fn relocated<B: Board>(board: &B) -> Result<Option<u32>, Off>
     requires sound { IsSound (chart (B.state board.now)) }
-    ensures others { IfOk result (λ found. (s : ℕ) → found ≢ Some s → IsFreeOf (chart (B.state board.now)).fields.job s) }
-    ensures is { IfOk result (λ found. (s : ℕ) → found ≡ Some s → IsFreeOf (chart (B.state board.now)).fields.job s → ⊥) }
-    ensures named { IfOk result (λ found. (s : ℕ) → found ≡ Some s → ((chart (B.state board.now)).fields.job ≡ Some (Copy s)) ⊎ ((chart (B.state board.now)).fields.job ≡ Some (Switch s))) }
+    ensures others { IfOk result (λ found. (s : ℕ) → found ≢ Some s
+        → IsFreeOf (chart (B.state board.now)).fields.job s) }
+    ensures is { IfOk result (λ found. (s : ℕ) → found ≡ Some s → IsFreeOf (chart (B.state board.now)).fields.job s
+        → ⊥) }
+    ensures named { IfOk result (λ found. (s : ℕ) → found ≡ Some s
+        → ((chart (B.state board.now)).fields.job ≡ Some (Copy s))
+        ⊎ ((chart (B.state board.now)).fields.job ≡ Some (Switch s))) }
     ensures off { OnErr result ((B.state board.now).on ≡ false) }
 {
     match job(board)? {
@@ -30,7 +34,8 @@ fn relocated<B: Board>(board: &B) -> Result<Option<u32>, Off>
 fn emptied<B: Board>(board: &B, parts: &Parts) -> Result<Option<u32>, Off>
     requires ready { Ready (chart (B.state board.now)) parts.now }
     ensures emptied { IfOk result (IsEmptied (chart (B.state board.now))) }
-    ensures others { IfOk result (λ found. (k : ℕ) → k < (B.state board.now).shape.segments - 1 → found ≢ Some k → IsFreeOf (chart (B.state board.now)).fields.job (slice_index parts.now.space.positions k)) }
+    ensures others { IfOk result (λ found. (k : ℕ) → k < (B.state board.now).shape.segments - 1 → found ≢ Some k
+        → IsFreeOf (chart (B.state board.now)).fields.job (slice_index parts.now.space.positions k)) }
     ensures off { OnErr result ((B.state board.now).on ≡ false) }
 {
     match relocated(board)? {
@@ -44,9 +49,14 @@ fn usable_near<B: Board>(board: &B, parts: &Parts, home: u32) -> Result<Option<u
     requires ready { Ready (chart (B.state board.now)) parts.now }
     requires home { home < (B.state board.now).shape.segments - 1 }
     ensures within { IfOk result (λ found. IfSome found (λ k. k < (B.state board.now).shape.segments - 1)) }
-    ensures room { IfOk result (λ found. IfSome found (λ k. slice_index parts.now.space.fills (slice_index parts.now.space.positions k) < (B.state board.now).shape.rows)) }
-    ensures free { IfOk result (λ found. IfSome found (λ k. IsFreeOf (chart (B.state board.now)).fields.job (slice_index parts.now.space.positions k))) }
-    ensures lowest { IfOk result (λ found. MatchOption found (IsNoneNear parts.now.chooser home (chart (B.state board.now))) (λ k. IsLowestNear parts.now.chooser home (chart (B.state board.now)) k)) }
+    ensures room { IfOk result (λ found.
+        IfSome found (λ k. slice_index parts.now.space.fills (slice_index parts.now.space.positions k)
+        < (B.state board.now).shape.rows)) }
+    ensures free { IfOk result (λ found.
+        IfSome found (λ k. IsFreeOf (chart (B.state board.now)).fields.job (slice_index parts.now.space.positions k))) }
+    ensures lowest { IfOk result (λ found.
+        MatchOption found (IsNoneNear parts.now.chooser home (chart (B.state board.now))) (λ k.
+        IsLowestNear parts.now.chooser home (chart (B.state board.now)) k)) }
     ensures off { OnErr result ((B.state board.now).on ≡ false) }
 {
     let relocated = relocated(board)?;
@@ -64,8 +74,11 @@ fn usable_by_lives<B: Board>(
     requires positions { length lives.now.cleaned ≡ parts.now.space.shape.segments - 1 }
     requires page { page < length lives.now.born }
     ensures within { IfOk result (λ found. IfSome found (λ k. k < (B.state board.now).shape.segments - 1)) }
-    ensures room { IfOk result (λ found. IfSome found (λ k. slice_index parts.now.space.fills (slice_index parts.now.space.positions k) < (B.state board.now).shape.rows)) }
-    ensures free { IfOk result (λ found. IfSome found (λ k. IsFreeOf (chart (B.state board.now)).fields.job (slice_index parts.now.space.positions k))) }
+    ensures room { IfOk result (λ found.
+        IfSome found (λ k. slice_index parts.now.space.fills (slice_index parts.now.space.positions k)
+        < (B.state board.now).shape.rows)) }
+    ensures free { IfOk result (λ found.
+        IfSome found (λ k. IsFreeOf (chart (B.state board.now)).fields.job (slice_index parts.now.space.positions k))) }
     ensures goes { IfOk result (GoesBeside lives.now parts.now.space page (chart (B.state board.now))) }
     ensures off { OnErr result ((B.state board.now).on ≡ false) }
 {
@@ -79,9 +92,14 @@ pub fn usable<B: Board>(board: &B, parts: &Parts, home: u32, page: u32) -> Resul
     requires home { home < (B.state board.now).shape.segments - 1 }
     requires page { page < (B.state board.now).shape.pages }
     ensures within { IfOk result (λ found. IfSome found (λ k. k < (B.state board.now).shape.segments - 1)) }
-    ensures room { IfOk result (λ found. IfSome found (λ k. slice_index parts.now.space.fills (slice_index parts.now.space.positions k) < (B.state board.now).shape.rows)) }
-    ensures free { IfOk result (λ found. IfSome found (λ k. IsFreeOf (chart (B.state board.now)).fields.job (slice_index parts.now.space.positions k))) }
-    ensures lowest { IfOk result (λ found. MatchOption found (IsNoneAvailable parts.now home page (chart (B.state board.now))) (λ k. IsLowestAvailable parts.now home page (chart (B.state board.now)) k)) }
+    ensures room { IfOk result (λ found.
+        IfSome found (λ k. slice_index parts.now.space.fills (slice_index parts.now.space.positions k)
+        < (B.state board.now).shape.rows)) }
+    ensures free { IfOk result (λ found.
+        IfSome found (λ k. IsFreeOf (chart (B.state board.now)).fields.job (slice_index parts.now.space.positions k))) }
+    ensures lowest { IfOk result (λ found.
+        MatchOption found (IsNoneAvailable parts.now home page (chart (B.state board.now))) (λ k.
+        IsLowestAvailable parts.now home page (chart (B.state board.now)) k)) }
     ensures off { OnErr result ((B.state board.now).on ≡ false) }
 {
     match parts.chooser.lives() {

@@ -34,13 +34,18 @@ pub fn fill_frame<B: Board>(
     requires here { place_of (chart (B.state board.old)).fields page ≡ Some from }
     requires elsewhere { IsElsewhere (Some from) }
     ensures same { Same 0 0 (chart (B.state board.old)) (chart (B.state board.new)) }
-    ensures fields { IfOk result (λ frame. (ws : List ℕ) × (chart (B.state board.new) ≡ with_fields (chart (B.state board.old)) (with_frame frame ws 32 (chart (B.state board.old)).fields))) }
+    ensures fields { IfOk result (λ frame. (ws : List ℕ)
+        × (chart (B.state board.new) ≡ with_fields (chart (B.state board.old))
+        (with_frame frame ws 32 (chart (B.state board.old)).fields))) }
     ensures range { IfOk result (λ frame. frame < (B.state board.old).shape.frames) }
     ensures unheld { IfOk result (IsUnheld parts.old.frames.held) }
     ensures unnamed { IfOk result (λ frame. IsUnnamed (chart (B.state board.new)).fields frame) }
-    ensures copy { IfOk result (λ frame. HasChanged (chart (B.state board.new)).fields (B.state board.new).flash page (Place.Frame frame) i w) }
-    ensures held { IfOk result (λ frame. (home : ℕ) × (home < (B.state board.old).shape.segments - 1) × IsHome (B.state board.old).shape (chart (B.state board.old)).fields page from home
-        × (parts.new.frames.held ≡ parts.old.frames.held ++ (record { frame = frame; page = page; home = home }) ∷ [])) }
+    ensures copy { IfOk result (λ frame. HasChanged (chart (B.state board.new)).fields (B.state board.new).flash page
+        (Place.Frame frame) i w) }
+    ensures held { IfOk result (λ frame. (home : ℕ) × (home < (B.state board.old).shape.segments - 1)
+        × IsHome (B.state board.old).shape (chart (B.state board.old)).fields page from home
+        × (parts.new.frames.held ≡ parts.old.frames.held ++ (record { frame = frame; page = page; home = home })
+        ∷ [])) }
     ensures parts { parts.new ≡ record parts.old { frames = parts.new.frames } }
     ensures count { parts.new.frames.count ≡ parts.old.frames.count }
     ensures on { OnOk result (IsTrue (B.state board.new).on) }
@@ -80,15 +85,20 @@ fn move_in<B: Board>(
 ) -> Result<(), Off>
     requires near { Near (chart (B.state board.old)) parts.old page frame from }
     requires word { i < 32 }
-    requires copy { HasChanged (chart (B.state board.old)).fields (B.state board.old).flash page (Place.Frame frame) i w }
+    requires copy { HasChanged (chart (B.state board.old)).fields (B.state board.old).flash page
+        (Place.Frame frame) i w }
     ensures free { let old = chart (B.state board.old) in
         let new = chart (B.state board.new) in
-        owned_by old.fields.slots (undo_of old.fields page) ≡ false → MatchResult result (λ _. Stored 0 0 old new (32 * page + i) w) (λ _. Interrupted 0 0 old new (32 * page + i) w) }
+        owned_by old.fields.slots (undo_of old.fields page) ≡ false
+        → MatchResult result (λ _. Stored 0 0 old new (32 * page + i) w) (λ _.
+        Interrupted 0 0 old new (32 * page + i) w) }
     ensures owned { let old = chart (B.state board.old) in
         let new = chart (B.state board.new) in
-        owned_by old.fields.slots (undo_of old.fields page) ≡ true → MatchResult result (λ _. Shadowed 0 0 old new (32 * page + i) w) (λ _. Dropped 0 0 old new) }
+        owned_by old.fields.slots (undo_of old.fields page) ≡ true
+        → MatchResult result (λ _. Shadowed 0 0 old new (32 * page + i) w) (λ _. Dropped 0 0 old new) }
     ensures counted { Counted 0 0 (chart (B.state board.old)) (chart (B.state board.new)) }
-    ensures fields { OnOk result (chart (B.state board.new) ≡ with_fields (chart (B.state board.old)) (with_place page (Some (Place.Frame frame)) (chart (B.state board.old)).fields)) }
+    ensures fields { OnOk result (chart (B.state board.new) ≡ with_fields (chart (B.state board.old))
+        (with_place page (Some (Place.Frame frame)) (chart (B.state board.old)).fields)) }
     ensures steady { Steady (chart (B.state board.new)) parts.new }
     ensures rests { Rests parts.old.cache parts.new.cache }
     ensures parts { parts.new ≡ record parts.old { space = parts.new.space; cache = parts.new.cache } }
@@ -116,15 +126,20 @@ pub fn bring<B: Board>(
     requires elsewhere { IsElsewhere (place_of (chart (B.state board.old)).fields page) }
     ensures free { let old = chart (B.state board.old) in
         let new = chart (B.state board.new) in
-        owned_by old.fields.slots (undo_of old.fields page) ≡ false → MatchResult result (λ _. Stored 0 0 old new (32 * page + i) w) (λ _. Interrupted 0 0 old new (32 * page + i) w) }
+        owned_by old.fields.slots (undo_of old.fields page) ≡ false
+        → MatchResult result (λ _. Stored 0 0 old new (32 * page + i) w) (λ _.
+        Interrupted 0 0 old new (32 * page + i) w) }
     ensures owned { let old = chart (B.state board.old) in
         let new = chart (B.state board.new) in
-        owned_by old.fields.slots (undo_of old.fields page) ≡ true → MatchResult result (λ _. Shadowed 0 0 old new (32 * page + i) w) (λ _. Dropped 0 0 old new) }
+        owned_by old.fields.slots (undo_of old.fields page) ≡ true
+        → MatchResult result (λ _. Shadowed 0 0 old new (32 * page + i) w) (λ _. Dropped 0 0 old new) }
     ensures counted { Counted 0 0 (chart (B.state board.old)) (chart (B.state board.new)) }
-    ensures brings { OnOk result (Brings page (chart (B.state board.old)) parts.old (chart (B.state board.new)) parts.new) }
+    ensures brings { OnOk result
+        (Brings page (chart (B.state board.old)) parts.old (chart (B.state board.new)) parts.new) }
     ensures steady { Steady (chart (B.state board.new)) parts.new }
     ensures rests { Rests parts.old.cache parts.new.cache }
-    ensures parts { parts.new ≡ record parts.old { frames = parts.new.frames; space = parts.new.space; cache = parts.new.cache } }
+    ensures parts { parts.new
+        ≡ record parts.old { frames = parts.new.frames; space = parts.new.space; cache = parts.new.cache } }
     ensures off { OnErr result ((B.state board.new).on ≡ false) }
     ensures on { OnOk result (IsTrue (B.state board.new).on) }
 {

@@ -21,14 +21,16 @@ pub fn claim_at<B: Board>(
     requires ready { Ready (chart (B.state board.old)) parts.old }
     requires position { position < (B.state board.old).shape.segments - 1 }
     requires page { page < (B.state board.old).shape.pages }
-    requires room { slice_index parts.old.space.fills (slice_index parts.old.space.positions position) < (B.state board.old).shape.rows }
+    requires room { slice_index parts.old.space.fills (slice_index parts.old.space.positions position)
+        < (B.state board.old).shape.rows }
     requires free { IsFreeOf (chart (B.state board.old)).fields.job (slice_index parts.old.space.positions position) }
     ensures same { Same 0 0 (chart (B.state board.old)) (chart (B.state board.new)) }
     ensures steady { Steady (chart (B.state board.new)) parts.new }
     ensures claims { let segment = slice_index parts.old.space.positions position in
         IfOk result (λ row. Claims (chart (B.state board.old)) segment page row (chart (B.state board.new))) }
     ensures last { IfOk result (IsLastAt (chart (B.state board.new)) position) }
-    ensures granted { IfOk result (λ row. Granted (B.state board.new).shape (chart (B.state board.new)).fields page row) }
+    ensures granted { IfOk result (λ row.
+        Granted (B.state board.new).shape (chart (B.state board.new)).fields page row) }
     ensures erased { IfOk result (λ row. row_of (B.state board.new) row ≡ ones) }
     ensures warmed { OnOk result (parts.new.chooser ≡ claimed parts.old.chooser position page) }
     ensures parts { parts.new ≡ record parts.old { space = parts.new.space; chooser = parts.new.chooser } }

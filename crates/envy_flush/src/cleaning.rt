@@ -28,8 +28,11 @@ use envy_layout::keeper;
 fn kept_rows<B: Board>(board: &B, parts: &Parts, position: u32) -> Result<ArrayVec<u32, 4>, Off>
     requires ready { Ready (chart (B.state board.now)) parts.now }
     requires position { position < (B.state board.now).shape.segments - 1 }
-    ensures rows { IfOk result (λ rows. All (λ q. q / (B.state board.now).shape.rows ≡ slice_index parts.now.space.positions position) rows.items) }
-    ensures lowest { IfOk result (λ rows. AreLowestKept (B.state board.now).shape (chart (B.state board.now)).fields (slice_index (chart (B.state board.now)).fields.positions position) rows.items) }
+    ensures rows { IfOk result (λ rows.
+        All (λ q. q / (B.state board.now).shape.rows ≡ slice_index parts.now.space.positions position) rows.items) }
+    ensures lowest { IfOk result (λ rows.
+        AreLowestKept (B.state board.now).shape (chart (B.state board.now)).fields
+        (slice_index (chart (B.state board.now)).fields.positions position) rows.items) }
     ensures off { OnErr result ((B.state board.now).on ≡ false) }
 {
     let segment = parts.space.segment_at(position);
@@ -63,10 +66,14 @@ fn planned<B: Board>(
     requires ready { Ready (chart (B.state board.now)) parts.now }
     requires position { position < (B.state board.now).shape.segments - 1 }
     requires aside { IfSome aside (λ g. g < length parts.now.chooser.heats) }
-    ensures rows { IfOk result (λ plan. All (λ q. q / (B.state board.now).shape.rows ≡ slice_index parts.now.space.positions position) plan.moves.items) }
-    ensures moves { IfOk result (λ plan. AreMoves (B.state board.now).shape (chart (B.state board.now)).fields position aside plan.moves.items) }
+    ensures rows { IfOk result (λ plan.
+        All (λ q. q / (B.state board.now).shape.rows ≡ slice_index parts.now.space.positions position)
+        plan.moves.items) }
+    ensures moves { IfOk result (λ plan.
+        AreMoves (B.state board.now).shape (chart (B.state board.now)).fields position aside plan.moves.items) }
     ensures takers { IfOk result (λ plan. plan.neighbour ≡ takers parts.now.chooser aside) }
-    ensures neighbour { IfOk result (λ plan. (first last : ℕ) → plan.neighbour ≡ Some (first, last) → (first ≤ last) × (last < (B.state board.now).shape.segments - 1)) }
+    ensures neighbour { IfOk result (λ plan. (first last : ℕ) → plan.neighbour ≡ Some (first, last) → (first ≤ last)
+        × (last < (B.state board.now).shape.segments - 1)) }
     ensures off { OnErr result ((B.state board.now).on ≡ false) }
 {
     match aside {
@@ -99,8 +106,10 @@ pub fn begin_clean<B: Board>(
     ensures same { Same 0 0 (chart (B.state board.old)) (chart (B.state board.new)) }
     ensures steady { Steady (chart (B.state board.new)) parts.new }
     ensures begins { OnOk result (Begins position (chart (B.state board.old)) (chart (B.state board.new))) }
-    ensures fields { OnOk result (chart (B.state board.new) ≡ with_fields (chart (B.state board.old)) (with_job (Some (Copy (slice_index parts.old.space.positions position))) (chart (B.state board.old)).fields)) }
-    ensures cleans { OnOk result (BeginsClean position aside (chart (B.state board.old)) parts.old (chart (B.state board.new)) parts.new) }
+    ensures fields { OnOk result (chart (B.state board.new) ≡ with_fields (chart (B.state board.old))
+        (with_job (Some (Copy (slice_index parts.old.space.positions position))) (chart (B.state board.old)).fields)) }
+    ensures cleans { OnOk result
+        (BeginsClean position aside (chart (B.state board.old)) parts.old (chart (B.state board.new)) parts.new) }
     ensures chooser { OnOk result (parts.new.chooser ≡ cleaned parts.old.chooser position) }
     ensures none { CountsNone parts.old parts.new }
     ensures since { parts.new.reloc.since ≡ parts.old.reloc.since }
@@ -119,23 +128,37 @@ pub fn begin_clean<B: Board>(
 /// Finishes a cleaning that has just begun at a position.
 fn finish_clean<B: Board>(board: &mut B, parts: &mut Parts, rows: u32) -> Result<(), Trouble>
     requires ready { Ready (chart (B.state board.old)) parts.old }
-    requires budget { (n e s : ℕ) × Budget (chart (B.state board.old)) parts.old n e s × (n ≤ rows + 4) × (e ≤ 1) × (s ≤ rows + 7) }
+    requires budget { (n e s : ℕ) × Budget (chart (B.state board.old)) parts.old n e s × (n ≤ rows + 4) × (e ≤ 1)
+        × (s ≤ rows + 7) }
     requires none { parts.old.stages ≡ [] }
     requires few { rows ≤ 65536 }
     ensures same { Same (rows + 5) 2 (chart (B.state board.old)) (chart (B.state board.new)) }
     ensures steady { Steady (chart (B.state board.new)) parts.new }
     ensures counting { Counting (chart (B.state board.old)) parts.old (chart (B.state board.new)) parts.new }
-    ensures here { IsTrue (B.state board.new).on → FramesStay (chart (B.state board.old)).fields.places (chart (B.state board.new)).fields.places }
-    ensures parts { parts.new ≡ record parts.old { space = parts.new.space; cache = parts.new.cache; reloc = parts.new.reloc; stages = parts.new.stages } }
+    ensures here { IsTrue (B.state board.new).on
+        → FramesStay (chart (B.state board.old)).fields.places (chart (B.state board.new)).fields.places }
+    ensures parts { parts.new
+        ≡ record parts.old {
+          space = parts.new.space;
+          cache = parts.new.cache;
+          reloc = parts.new.reloc;
+          stages =
+              parts.new.stages;
+        } }
     ensures rests { Rests parts.old.cache parts.new.cache }
     ensures idle { OnOk result ((chart (B.state board.new)).fields.job ≡ Some Idle) }
     ensures none { OnOk result (parts.new.stages ≡ []) }
-    ensures finishes { OnOk result (Finishes (chart (B.state board.old)) parts.old (chart (B.state board.new)) parts.new) }
-    ensures stops { IsErrOf result Trouble.Bad → StopsStep (chart (B.state board.old)) parts.old (chart (B.state board.new)) parts.new }
-    ensures cleans { OnOk result ((positions : List ℕ) (k n : ℕ) → Cleans (B.state board.old).shape positions k n (chart (B.state board.old)).fields parts.old.reloc.erased → Cleans (B.state board.old).shape positions k n (chart (B.state board.new)).fields parts.new.reloc.erased) }
+    ensures finishes { OnOk result
+        (Finishes (chart (B.state board.old)) parts.old (chart (B.state board.new)) parts.new) }
+    ensures stops { IsErrOf result Trouble.Bad
+        → StopsStep (chart (B.state board.old)) parts.old (chart (B.state board.new)) parts.new }
+    ensures cleans { OnOk result ((positions : List ℕ) (k n : ℕ)
+        → Cleans (B.state board.old).shape positions k n (chart (B.state board.old)).fields parts.old.reloc.erased
+        → Cleans (B.state board.old).shape positions k n (chart (B.state board.new)).fields parts.new.reloc.erased) }
     ensures on { OnOk result (IsTrue (B.state board.new).on) }
     ensures off { (result ≡ Err Trouble.Off) ↔ ((B.state board.new).on ≡ false) }
-    ensures bad { IsErrOf result Trouble.Bad → (B.state board.old).bads < 2 ^ 64 - 1 → (B.state board.old).bads < (B.state board.new).bads }
+    ensures bad { IsErrOf result Trouble.Bad → (B.state board.old).bads < 2 ^ 64 - 1
+        → (B.state board.old).bads < (B.state board.new).bads }
 {
     for _turn in 0..rows + 8 {
         if !runs(board)? {
@@ -158,23 +181,39 @@ fn run_clean<B: Board>(
     requires stages { parts.old.stages ≡ [] }
     requires position { position < (B.state board.old).shape.segments - 1 }
     requires aside { IfSome aside (λ g. g < length parts.old.chooser.heats) }
-    requires dead { (d : ℕ) × (d / (B.state board.old).shape.rows ≡ slice_index (chart (B.state board.old)).fields.positions position) × ((p : ℕ) → Names (chart (B.state board.old)).fields p d → ⊥) }
+    requires dead { (d : ℕ)
+        × (d / (B.state board.old).shape.rows ≡ slice_index (chart (B.state board.old)).fields.positions position)
+        × ((p : ℕ) → Names (chart (B.state board.old)).fields p d → ⊥) }
     ensures same { Same ((B.state board.old).shape.rows + 5) 2 (chart (B.state board.old)) (chart (B.state board.new)) }
     ensures steady { Steady (chart (B.state board.new)) parts.new }
     ensures counting { Counting (chart (B.state board.old)) parts.old (chart (B.state board.new)) parts.new }
-    ensures parts { parts.new ≡ record parts.old { space = parts.new.space; cache = parts.new.cache; reloc = parts.new.reloc; stages = parts.new.stages; chooser = parts.new.chooser } }
-    ensures here { IsTrue (B.state board.new).on → FramesStay (chart (B.state board.old)).fields.places (chart (B.state board.new)).fields.places }
+    ensures parts { parts.new
+        ≡ record parts.old {
+          space = parts.new.space;
+          cache = parts.new.cache;
+          reloc = parts.new.reloc;
+          stages =
+              parts.new.stages;
+          chooser = parts.new.chooser;
+        } }
+    ensures here { IsTrue (B.state board.new).on
+        → FramesStay (chart (B.state board.old)).fields.places (chart (B.state board.new)).fields.places }
     ensures rests { Rests parts.old.cache parts.new.cache }
     ensures idle { OnOk result ((chart (B.state board.new)).fields.job ≡ Some Idle) }
     ensures none { OnOk result (parts.new.stages ≡ []) }
     ensures chooser { OnOk result (parts.new.chooser ≡ cleaned parts.old.chooser position) }
     ensures noted { IsErrOf result Trouble.Bad → parts.new.chooser ≡ cleaned parts.old.chooser position }
-    ensures whole { OnOk result (CleansAll position aside (chart (B.state board.old)) parts.old (chart (B.state board.new)) parts.new) }
-    ensures stops { IsErrOf result Trouble.Bad → StopsClean position aside (chart (B.state board.old)) parts.old (chart (B.state board.new)) parts.new }
-    ensures cleans { OnOk result (Cleans (B.state board.old).shape (chart (B.state board.old)).fields.positions position parts.old.reloc.erased (chart (B.state board.new)).fields parts.new.reloc.erased) }
+    ensures whole { OnOk result
+        (CleansAll position aside (chart (B.state board.old)) parts.old (chart (B.state board.new)) parts.new) }
+    ensures stops { IsErrOf result Trouble.Bad
+        → StopsClean position aside (chart (B.state board.old)) parts.old (chart (B.state board.new)) parts.new }
+    ensures cleans { OnOk result
+        (Cleans (B.state board.old).shape (chart (B.state board.old)).fields.positions position parts.old.reloc.erased
+        (chart (B.state board.new)).fields parts.new.reloc.erased) }
     ensures on { OnOk result (IsTrue (B.state board.new).on) }
     ensures off { (result ≡ Err Trouble.Off) ↔ ((B.state board.new).on ≡ false) }
-    ensures bad { IsErrOf result Trouble.Bad → (B.state board.old).bads < 2 ^ 64 - 1 → (B.state board.old).bads < (B.state board.new).bads }
+    ensures bad { IsErrOf result Trouble.Bad → (B.state board.old).bads < 2 ^ 64 - 1
+        → (B.state board.old).bads < (B.state board.new).bads }
 {
     let rows = board.shape().rows;
     begin_clean(board, parts, position, aside)?;
@@ -195,24 +234,31 @@ pub fn clean<B: Board>(
     requires stages { parts.old.stages ≡ [] }
     requires position { position < (B.state board.old).shape.segments - 1 }
     requires aside { IfSome aside (λ g. g < length parts.old.chooser.heats) }
-    requires dead { (d : ℕ) × (d / (B.state board.old).shape.rows ≡ slice_index (chart (B.state board.old)).fields.positions position) × ((p : ℕ) → Names (chart (B.state board.old)).fields p d → ⊥) }
+    requires dead { (d : ℕ)
+        × (d / (B.state board.old).shape.rows ≡ slice_index (chart (B.state board.old)).fields.positions position)
+        × ((p : ℕ) → Names (chart (B.state board.old)).fields p d → ⊥) }
     requires page { page < (B.state board.old).shape.pages }
     ensures same { Same ((B.state board.old).shape.rows + 5) 2 (chart (B.state board.old)) (chart (B.state board.new)) }
     ensures steady { Steady (chart (B.state board.new)) parts.new }
-    ensures granted { IfOk result (λ row. Granted (B.state board.new).shape (chart (B.state board.new)).fields page row) }
+    ensures granted { IfOk result (λ row.
+        Granted (B.state board.new).shape (chart (B.state board.new)).fields page row) }
     ensures erased { IfOk result (λ row. row_of (B.state board.new) row ≡ ones) }
     ensures counting { Counting (chart (B.state board.old)) parts.old (chart (B.state board.new)) parts.new }
     ensures frames { parts.new.frames ≡ parts.old.frames }
-    ensures here { IsTrue (B.state board.new).on → FramesStay (chart (B.state board.old)).fields.places (chart (B.state board.new)).fields.places }
+    ensures here { IsTrue (B.state board.new).on
+        → FramesStay (chart (B.state board.old)).fields.places (chart (B.state board.new)).fields.places }
     ensures flushes { parts.new.flushes ≡ parts.old.flushes }
     ensures rests { Rests parts.old.cache parts.new.cache }
     ensures noted { IsErrOf result Trouble.Bad → NotesBad (Clean position aside) page parts.old parts.new }
-    ensures stops { IsErrOf result Trouble.Bad → StopsClean position aside (chart (B.state board.old)) parts.old (chart (B.state board.new)) parts.new }
-    ensures follows { IfOk result (λ row. Follows (Clean position aside) page row (chart (B.state board.old)) parts.old (chart (B.state board.new)) parts.new) }
+    ensures stops { IsErrOf result Trouble.Bad
+        → StopsClean position aside (chart (B.state board.old)) parts.old (chart (B.state board.new)) parts.new }
+    ensures follows { IfOk result (λ row. Follows (Clean position aside) page row (chart (B.state board.old)) parts.old
+        (chart (B.state board.new)) parts.new) }
     ensures ends { OnOk result (Ends (chart (B.state board.old)) parts.old (chart (B.state board.new)) parts.new) }
     ensures on { OnOk result (IsTrue (B.state board.new).on) }
     ensures off { (result ≡ Err Trouble.Off) ↔ ((B.state board.new).on ≡ false) }
-    ensures bad { IsErrOf result Trouble.Bad → (B.state board.old).bads < 2 ^ 64 - 1 → (B.state board.old).bads < (B.state board.new).bads }
+    ensures bad { IsErrOf result Trouble.Bad → (B.state board.old).bads < 2 ^ 64 - 1
+        → (B.state board.old).bads < (B.state board.new).bads }
 {
     run_clean(board, parts, position, aside)?;
     Ok(claim_at(board, parts, position, page)?)

@@ -35,9 +35,12 @@ pub fn is_open<B: Board>(board: &B, t: u8) -> Result<bool, Off>
 pub fn first_vacant<B: Board>(board: &B) -> Result<Option<u8>, Off>
     requires sound { IsSound (chart (B.state board.now)) }
     requires version { (chart (B.state board.now)).fields.version ≡ 2 }
-    ensures low { IfOk result (λ x. (t : ℕ) → x ≡ Some t → (t < 64) × (slot_of (chart (B.state board.now)).fields t ≡ Some Vacant)) }
-    ensures lowest { IfOk result (λ x. (t : ℕ) → x ≡ Some t → (u : ℕ) → u < t → slot_of (chart (B.state board.now)).fields u ≢ Some Vacant) }
-    ensures none { IfOk result (λ x. x ≡ None → (u : ℕ) → u < 64 → slot_of (chart (B.state board.now)).fields u ≢ Some Vacant) }
+    ensures low { IfOk result (λ x. (t : ℕ) → x ≡ Some t → (t < 64)
+        × (slot_of (chart (B.state board.now)).fields t ≡ Some Vacant)) }
+    ensures lowest { IfOk result (λ x. (t : ℕ) → x ≡ Some t → (u : ℕ) → u < t
+        → slot_of (chart (B.state board.now)).fields u ≢ Some Vacant) }
+    ensures none { IfOk result (λ x. x ≡ None → (u : ℕ) → u < 64
+        → slot_of (chart (B.state board.now)).fields u ≢ Some Vacant) }
     ensures off { OnErr result ((B.state board.now).on ≡ false) }
 {
     for t in 0..64 {
@@ -56,7 +59,8 @@ pub fn open_slot<B: Board>(board: &mut B, parts: &Parts, owned: &Owned, t: u8) -
     requires slot { t < 64 }
     requires vacant { slot_of (chart (B.state board.old)).fields t ≡ Some Vacant }
     ensures same { SameWords 0 0 (chart (B.state board.old)) (chart (B.state board.new)) }
-    ensures fields { OnOk result (chart (B.state board.new) ≡ with_fields (chart (B.state board.old)) (with_slot t (Some Active) (chart (B.state board.old)).fields)) }
+    ensures fields { OnOk result (chart (B.state board.new) ≡ with_fields (chart (B.state board.old))
+        (with_slot t (Some Active) (chart (B.state board.old)).fields)) }
     ensures steady { Steady (chart (B.state board.new)) parts.now }
     ensures owners { OwnersAgree (chart (B.state board.new)) owned.now }
     ensures on { OnOk result (IsTrue (B.state board.new).on) }
@@ -100,7 +104,9 @@ pub fn commit_pages<B: Board>(
     requires version { (chart (B.state board.old)).fields.version ≡ 2 }
     requires slot { t < 64 }
     requires active { slot_of (chart (B.state board.old)).fields t ≡ Some Active }
-    ensures commits { MatchResult result (λ _. Commits 0 0 t (chart (B.state board.old)) (chart (B.state board.new))) (λ _. SameDurable 0 0 (chart (B.state board.old)) (chart (B.state board.new)) ⊎ Commits 0 0 t (chart (B.state board.old)) (chart (B.state board.new))) }
+    ensures commits { MatchResult result (λ _. Commits 0 0 t (chart (B.state board.old)) (chart (B.state board.new)))
+        (λ _. SameDurable 0 0 (chart (B.state board.old)) (chart (B.state board.new))
+        ⊎ Commits 0 0 t (chart (B.state board.old)) (chart (B.state board.new))) }
     ensures closes { OnOk result (Closes t (chart (B.state board.old)) (chart (B.state board.new))) }
     ensures rows { OnOk result (Rows (chart (B.state board.old)) (chart (B.state board.new))) }
     ensures pairs { OnOk result (owned.new ≡ record owned.old { pairs = others_of t owned.old.pairs }) }
@@ -132,13 +138,15 @@ pub fn abort_pages<B: Board>(
     ensures closes { OnOk result (Closes t (chart (B.state board.old)) (chart (B.state board.new))) }
     ensures rows { OnOk result (Rows (chart (B.state board.old)) (chart (B.state board.new))) }
     ensures held { let f = (chart (B.state board.old)).fields in
-        OnOk result (parts.new.frames.held ≡ filter (λ h. not (names_slot t (undo_of f h.page))) parts.old.frames.held) }
+        OnOk result
+        (parts.new.frames.held ≡ filter (λ h. not (names_slot t (undo_of f h.page))) parts.old.frames.held) }
     ensures pairs { OnOk result (owned.new ≡ record owned.old { pairs = others_of t owned.old.pairs }) }
     ensures limit { owned.new.limit ≡ owned.old.limit }
     ensures owners { OwnersAgree (chart (B.state board.new)) owned.new }
     ensures rests { Rests parts.old.cache parts.new.cache }
     ensures steady { Steady (chart (B.state board.new)) parts.new }
-    ensures parts { parts.new ≡ record parts.old { frames = parts.new.frames; space = parts.new.space; cache = parts.new.cache } }
+    ensures parts { parts.new
+        ≡ record parts.old { frames = parts.new.frames; space = parts.new.space; cache = parts.new.cache } }
     ensures on { OnOk result (IsTrue (B.state board.new).on) }
     ensures off { OnErr result ((B.state board.new).on ≡ false) }
 {

@@ -30,13 +30,17 @@ fn move_out<B: Board>(
     requires page { page < (B.state board.old).shape.pages }
     requires here { place (chart (B.state board.old)).fields page ≡ Some (Place.Frame frame) }
     requires granted { Granted (B.state board.old).shape (chart (B.state board.old)).fields page row }
-    requires copy { (j : ℕ) → j < 32 → slice_index (row_of (B.state board.old) row) j ≡ slice_index (chart (B.state board.old)).fields.frames (32 * frame + j) }
+    requires copy { (j : ℕ) → j < 32
+        → slice_index (row_of (B.state board.old) row) j ≡ slice_index (chart (B.state board.old)).fields.frames
+        (32 * frame + j) }
     ensures same { Same 0 0 (chart (B.state board.old)) (chart (B.state board.new)) }
     ensures steady { Steady (chart (B.state board.new)) parts.new }
-    ensures fields { OnOk result (chart (B.state board.new) ≡ with_fields (chart (B.state board.old)) (with_place page (Some (Place.Row row)) (chart (B.state board.old)).fields)) }
+    ensures fields { OnOk result (chart (B.state board.new) ≡ with_fields (chart (B.state board.old))
+        (with_place page (Some (Place.Row row)) (chart (B.state board.old)).fields)) }
     ensures frames { OnOk result (parts.new.frames.held ≡ filter (is_other frame) parts.old.frames.held) }
     ensures rests { Rests parts.old.cache parts.new.cache }
-    ensures parts { parts.new ≡ record parts.old { frames = parts.new.frames; space = parts.new.space; cache = parts.new.cache } }
+    ensures parts { parts.new
+        ≡ record parts.old { frames = parts.new.frames; space = parts.new.space; cache = parts.new.cache } }
     ensures on { OnOk result (IsTrue (B.state board.new).on) }
     ensures off { OnErr result ((B.state board.new).on ≡ false) }
 {
@@ -63,15 +67,24 @@ pub fn flush_into<B: Board>(
     ensures same { Same 1 0 (chart (B.state board.old)) (chart (B.state board.new)) }
     ensures steady { Steady (chart (B.state board.new)) parts.new }
     ensures tally { Tally (B.state board.old).begun parts.old.flushes (B.state board.new).begun parts.new.flushes }
-    ensures fields { OnOk result ((chart (B.state board.new)).fields ≡ with_place page (Some (Place.Row row)) (chart (B.state board.old)).fields) }
+    ensures fields { OnOk result ((chart (B.state board.new)).fields ≡ with_place page (Some (Place.Row row))
+        (chart (B.state board.old)).fields) }
     ensures erases { OnOk result ((B.state board.new).erases ≡ (B.state board.old).erases) }
     ensures frames { OnOk result (parts.new.frames.held ≡ filter (is_other frame) parts.old.frames.held) }
     ensures flushes { parts.new.flushes ≡ up parts.old.flushes }
     ensures stops { IsErrOf result Trouble.Bad → parts.new.frames ≡ parts.old.frames }
-    ensures stays { IsErrOf result Trouble.Bad → (chart (B.state board.new)).fields ≡ (chart (B.state board.old)).fields }
+    ensures stays { IsErrOf result Trouble.Bad
+        → (chart (B.state board.new)).fields ≡ (chart (B.state board.old)).fields }
     ensures unerased { IsErrOf result Trouble.Bad → (B.state board.new).erases ≡ (B.state board.old).erases }
     ensures rests { Rests parts.old.cache parts.new.cache }
-    ensures parts { parts.new ≡ record parts.old { frames = parts.new.frames; space = parts.new.space; cache = parts.new.cache; flushes = parts.new.flushes } }
+    ensures parts { parts.new
+        ≡ record parts.old {
+          frames = parts.new.frames;
+          space = parts.new.space;
+          cache = parts.new.cache;
+          flushes =
+              parts.new.flushes;
+        } }
     ensures on { OnOk result (IsTrue (B.state board.new).on) }
     ensures off { (result ≡ Err Trouble.Off) ↔ ((B.state board.new).on ≡ false) }
     ensures bad { IsErrOf result Trouble.Bad → (B.state board.new).bads ≡ up (B.state board.old).bads }
@@ -85,16 +98,20 @@ pub fn flush_into<B: Board>(
 pub fn flush_oldest<B: Board>(board: &mut B, parts: &mut Parts) -> Result<(), Trouble>
     requires ready { Ready (chart (B.state board.old)) parts.old }
     requires some { parts.old.frames.held ≢ [] }
-    ensures same { Same (4 * (B.state board.old).shape.rows + 13) 6 (chart (B.state board.old)) (chart (B.state board.new)) }
+    ensures same { Same (4 * (B.state board.old).shape.rows + 13) 6 (chart (B.state board.old))
+        (chart (B.state board.new)) }
     ensures steady { Steady (chart (B.state board.new)) parts.new }
     ensures counting { Counting (chart (B.state board.old)) parts.old (chart (B.state board.new)) parts.new }
     ensures rests { Rests parts.old.cache parts.new.cache }
-    ensures flushes { OnOk result (FlushesOldest (chart (B.state board.old)) parts.old (chart (B.state board.new)) parts.new) }
+    ensures flushes { OnOk result
+        (FlushesOldest (chart (B.state board.old)) parts.old (chart (B.state board.new)) parts.new) }
     ensures stops { IsErrOf result Trouble.Bad → parts.new.frames ≡ parts.old.frames }
-    ensures noted { IsErrOf result Trouble.Bad → (h : Held) × (slice_get parts.old.frames.held 0 ≡ Some h) × StopsFor h.home h.page (chart (B.state board.old)) parts.old (chart (B.state board.new)) parts.new }
+    ensures noted { IsErrOf result Trouble.Bad → (h : Held) × (slice_get parts.old.frames.held 0 ≡ Some h)
+        × StopsFor h.home h.page (chart (B.state board.old)) parts.old (chart (B.state board.new)) parts.new }
     ensures on { OnOk result (IsTrue (B.state board.new).on) }
     ensures off { (result ≡ Err Trouble.Off) ↔ ((B.state board.new).on ≡ false) }
-    ensures bad { IsErrOf result Trouble.Bad → (B.state board.old).bads < 2 ^ 64 - 1 → (B.state board.old).bads < (B.state board.new).bads }
+    ensures bad { IsErrOf result Trouble.Bad → (B.state board.old).bads < 2 ^ 64 - 1
+        → (B.state board.old).bads < (B.state board.new).bads }
 {
     let Some(held) = parts.frames.oldest() else {
         unreachable!();

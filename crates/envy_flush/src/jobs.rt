@@ -38,15 +38,23 @@ pub fn step_job<B: Board>(board: &mut B, parts: &mut Parts) -> Result<Phase, Tro
     ensures step { SameOnce (chart (B.state board.old)) (chart (B.state board.new)) }
     ensures steady { Steady (chart (B.state board.new)) parts.new }
     ensures counting { Counting (chart (B.state board.old)) parts.old (chart (B.state board.new)) parts.new }
-    ensures does { IfOk result (λ phase. Does (chart (B.state board.old)) parts.old.reloc phase (chart (B.state board.new)) parts.new.reloc) }
+    ensures does { IfOk result (λ phase.
+        Does (chart (B.state board.old)) parts.old.reloc phase (chart (B.state board.new)) parts.new.reloc) }
     ensures rests { Rests parts.old.cache parts.new.cache }
-    ensures here { IsTrue (B.state board.new).on → FramesStay (chart (B.state board.old)).fields.places (chart (B.state board.new)).fields.places }
-    ensures parts { parts.new ≡ record parts.old { space = parts.new.space; cache = parts.new.cache; reloc = parts.new.reloc } }
-    ensures cleans { OnOk result ((positions : List ℕ) (k n : ℕ) → Cleans (B.state board.old).shape positions k n (chart (B.state board.old)).fields parts.old.reloc.erased → Cleans (B.state board.old).shape positions k n (chart (B.state board.new)).fields parts.new.reloc.erased) }
-    ensures left { OnOk result ((n e s : ℕ) → Leaves (chart (B.state board.old)) parts.old.reloc n e s → Spent (chart (B.state board.old)) (chart (B.state board.new)) parts.new.reloc n e s) }
+    ensures here { IsTrue (B.state board.new).on
+        → FramesStay (chart (B.state board.old)).fields.places (chart (B.state board.new)).fields.places }
+    ensures parts { parts.new
+        ≡ record parts.old { space = parts.new.space; cache = parts.new.cache; reloc = parts.new.reloc } }
+    ensures cleans { OnOk result ((positions : List ℕ) (k n : ℕ)
+        → Cleans (B.state board.old).shape positions k n (chart (B.state board.old)).fields parts.old.reloc.erased
+        → Cleans (B.state board.old).shape positions k n (chart (B.state board.new)).fields parts.new.reloc.erased) }
+    ensures left { OnOk result ((n e s : ℕ) → Leaves (chart (B.state board.old)) parts.old.reloc n e s
+        → Spent (chart (B.state board.old)) (chart (B.state board.new)) parts.new.reloc n e s) }
     ensures job { IsErrOf result Trouble.Bad → (chart (B.state board.new)).fields.job ≡ Some Erase }
-    ensures dropped { IsErrOf result Trouble.Bad → (chart (B.state board.old)).fields.job ≢ Some Erase → parts.new.reloc.moves ≡ [] }
-    ensures spoils { IsErrOf result Trouble.Bad → Spoils (chart (B.state board.old)) parts.old.reloc (chart (B.state board.new)) parts.new.reloc }
+    ensures dropped { IsErrOf result Trouble.Bad → (chart (B.state board.old)).fields.job ≢ Some Erase
+        → parts.new.reloc.moves ≡ [] }
+    ensures spoils { IsErrOf result Trouble.Bad
+        → Spoils (chart (B.state board.old)) parts.old.reloc (chart (B.state board.new)) parts.new.reloc }
     ensures on { OnOk result (IsTrue (B.state board.new).on) }
     ensures off { (result ≡ Err Trouble.Off) ↔ ((B.state board.new).on ≡ false) }
     ensures bad { IsErrOf result Trouble.Bad → (B.state board.new).bads ≡ up (B.state board.old).bads }
@@ -61,17 +69,31 @@ pub fn tick_job<B: Board>(board: &mut B, parts: &mut Parts) -> Result<Did, Troub
     ensures step { SameOnce (chart (B.state board.old)) (chart (B.state board.new)) }
     ensures steady { Steady (chart (B.state board.new)) parts.new }
     ensures counting { Counting (chart (B.state board.old)) parts.old (chart (B.state board.new)) parts.new }
-    ensures does { IfOk result (λ did. TicksJob did (chart (B.state board.old)) parts.old (chart (B.state board.new)) parts.new) }
-    ensures stops { IsErrOf result Trouble.Bad → StopsJob (chart (B.state board.old)) parts.old (chart (B.state board.new)) parts.new }
+    ensures does { IfOk result (λ did.
+        TicksJob did (chart (B.state board.old)) parts.old (chart (B.state board.new)) parts.new) }
+    ensures stops { IsErrOf result Trouble.Bad
+        → StopsJob (chart (B.state board.old)) parts.old (chart (B.state board.new)) parts.new }
     ensures rests { Rests parts.old.cache parts.new.cache }
-    ensures here { IsTrue (B.state board.new).on → FramesStay (chart (B.state board.old)).fields.places (chart (B.state board.new)).fields.places }
-    ensures parts { parts.new ≡ record parts.old { space = parts.new.space; cache = parts.new.cache; reloc = parts.new.reloc; stages = parts.new.stages } }
+    ensures here { IsTrue (B.state board.new).on
+        → FramesStay (chart (B.state board.old)).fields.places (chart (B.state board.new)).fields.places }
+    ensures parts { parts.new
+        ≡ record parts.old {
+          space = parts.new.space;
+          cache = parts.new.cache;
+          reloc = parts.new.reloc;
+          stages =
+              parts.new.stages;
+        } }
     ensures stays { OnOk result (parts.new.stages ≡ parts.old.stages) }
     ensures on { OnOk result (IsTrue (B.state board.new).on) }
-    ensures cleans { OnOk result ((positions : List ℕ) (k n : ℕ) → Cleans (B.state board.old).shape positions k n (chart (B.state board.old)).fields parts.old.reloc.erased → Cleans (B.state board.old).shape positions k n (chart (B.state board.new)).fields parts.new.reloc.erased) }
-    ensures left { OnOk result ((n e s : ℕ) → Leaves (chart (B.state board.old)) parts.old.reloc n e s → Spent (chart (B.state board.old)) (chart (B.state board.new)) parts.new.reloc n e s) }
+    ensures cleans { OnOk result ((positions : List ℕ) (k n : ℕ)
+        → Cleans (B.state board.old).shape positions k n (chart (B.state board.old)).fields parts.old.reloc.erased
+        → Cleans (B.state board.old).shape positions k n (chart (B.state board.new)).fields parts.new.reloc.erased) }
+    ensures left { OnOk result ((n e s : ℕ) → Leaves (chart (B.state board.old)) parts.old.reloc n e s
+        → Spent (chart (B.state board.old)) (chart (B.state board.new)) parts.new.reloc n e s) }
     ensures off { (result ≡ Err Trouble.Off) ↔ ((B.state board.new).on ≡ false) }
-    ensures bad { IsErrOf result Trouble.Bad → (B.state board.old).bads < 2 ^ 64 - 1 → (B.state board.old).bads < (B.state board.new).bads }
+    ensures bad { IsErrOf result Trouble.Bad → (B.state board.old).bads < 2 ^ 64 - 1
+        → (B.state board.old).bads < (B.state board.new).bads }
 {
     let erasing = job(board)? == Job::Erase;
     match step_job(board, parts) {
@@ -93,7 +115,8 @@ pub fn tick_stage<B: Board>(board: &mut B, parts: &mut Parts) -> Result<Did, Tro
     ensures same { Same 0 0 (chart (B.state board.old)) (chart (B.state board.new)) }
     ensures steady { Steady (chart (B.state board.new)) parts.new }
     ensures counting { Counting (chart (B.state board.old)) parts.old (chart (B.state board.new)) parts.new }
-    ensures does { IfOk result (λ did. TicksStage did (chart (B.state board.old)) parts.old (chart (B.state board.new)) parts.new) }
+    ensures does { IfOk result (λ did.
+        TicksStage did (chart (B.state board.old)) parts.old (chart (B.state board.new)) parts.new) }
     ensures begins { OnOk result (StageBegins (chart (B.state board.old)) (chart (B.state board.new)) parts.new.reloc) }
     ensures rest { parts.new.stages ≡ drop 1 parts.old.stages }
     ensures parts { parts.new ≡ record parts.old { reloc = parts.new.reloc; stages = parts.new.stages } }

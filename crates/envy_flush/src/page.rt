@@ -25,7 +25,9 @@ pub fn word<B: Board>(board: &B, from: Place, i: u32) -> Result<u64, Off>
 pub fn read_words<B: Board>(board: &B, from: Place, words: &mut [u64; 32]) -> Result<(), Off>
     requires range { InRange (B.state board.now) from }
     ensures long { length words.new ≡ 32 }
-    ensures words { OnOk result ((j : ℕ) → j < 32 → slice_index words.new j ≡ word_at (chart (B.state board.now)).fields.frames (B.state board.now).flash (Some from) j) }
+    ensures words { OnOk result ((j : ℕ) → j < 32
+        → slice_index words.new j ≡ word_at (chart (B.state board.now)).fields.frames (B.state board.now).flash
+        (Some from) j) }
     ensures off { OnErr result ((B.state board.now).on ≡ false) }
 {
     for i in 0..32u32 {

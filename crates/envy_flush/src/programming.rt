@@ -36,7 +36,9 @@ pub fn program_copy<B: Board>(
     ensures count { count.new ≡ up count.old }
     ensures tally { Tally (B.state board.old).begun count.old (B.state board.new).begun count.new }
     ensures erases { (B.state board.new).erases ≡ (B.state board.old).erases }
-    ensures copy { OnOk result ((j : ℕ) → j < 32 → slice_index (row_of (B.state board.new) row) j ≡ slice_index (chart (B.state board.old)).fields.frames (32 * frame + j)) }
+    ensures copy { OnOk result ((j : ℕ) → j < 32
+        → slice_index (row_of (B.state board.new) row) j ≡ slice_index (chart (B.state board.old)).fields.frames
+        (32 * frame + j)) }
     ensures others { (q : ℕ) → q ≢ row → row_of (B.state board.new) q ≡ row_of (B.state board.old) q }
     ensures on { OnOk result (IsTrue (B.state board.new).on) }
     ensures off { (result ≡ Err Trouble.Off) ↔ ((B.state board.new).on ≡ false) }

@@ -57,10 +57,14 @@ fn shade_places<B: Board>(
     requires frame { frame < (B.state board.old).shape.frames }
     requires word { i < 32 }
     requires unnamed { IsUnnamed (chart (B.state board.old)).fields frame }
-    requires copy { HasChanged (chart (B.state board.old)).fields (B.state board.old).flash page (Place.Frame frame) i w }
-    ensures done { OnOk result (PutDone 0 0 slot page (chart (B.state board.old)) (chart (B.state board.new)) (32 * page + i) w) }
+    requires copy { HasChanged (chart (B.state board.old)).fields (B.state board.old).flash page
+        (Place.Frame frame) i w }
+    ensures done { OnOk result (PutDone 0 0 slot page (chart (B.state board.old)) (chart (B.state board.new))
+        (32 * page + i) w) }
     ensures durable { OnErr result (SameDurable 0 0 (chart (B.state board.old)) (chart (B.state board.new))) }
-    ensures fields { OnOk result (chart (B.state board.new) ≡ with_fields (chart (B.state board.old)) (with_place page (Some (Place.Frame frame)) (with_undo page (undo_for slot from) (chart (B.state board.old)).fields))) }
+    ensures fields { OnOk result (chart (B.state board.new) ≡ with_fields (chart (B.state board.old))
+        (with_place page (Some (Place.Frame frame))
+        (with_undo page (undo_for slot from) (chart (B.state board.old)).fields))) }
     ensures gives { OnOk result (owned.new ≡ given slot page owned.old) }
     ensures limit { owned.new.limit ≡ owned.old.limit }
     ensures owners { OwnersAgree (chart (B.state board.new)) owned.new }
@@ -85,10 +89,14 @@ fn shade_in<B: Board>(
     requires near { Near (chart (B.state board.old)) parts.old page frame from }
     requires may { MayGive slot page (chart (B.state board.old)) owned.old }
     requires word { i < 32 }
-    requires copy { HasChanged (chart (B.state board.old)).fields (B.state board.old).flash page (Place.Frame frame) i w }
-    ensures done { OnOk result (PutDone 0 0 slot page (chart (B.state board.old)) (chart (B.state board.new)) (32 * page + i) w) }
+    requires copy { HasChanged (chart (B.state board.old)).fields (B.state board.old).flash page
+        (Place.Frame frame) i w }
+    ensures done { OnOk result (PutDone 0 0 slot page (chart (B.state board.old)) (chart (B.state board.new))
+        (32 * page + i) w) }
     ensures durable { OnErr result (SameDurable 0 0 (chart (B.state board.old)) (chart (B.state board.new))) }
-    ensures fields { OnOk result (chart (B.state board.new) ≡ with_fields (chart (B.state board.old)) (with_place page (Some (Place.Frame frame)) (with_undo page (undo_for slot from) (chart (B.state board.old)).fields))) }
+    ensures fields { OnOk result (chart (B.state board.new) ≡ with_fields (chart (B.state board.old))
+        (with_place page (Some (Place.Frame frame))
+        (with_undo page (undo_for slot from) (chart (B.state board.old)).fields))) }
     ensures gives { OnOk result (owned.new ≡ given slot page owned.old) }
     ensures limit { owned.new.limit ≡ owned.old.limit }
     ensures owners { OwnersAgree (chart (B.state board.new)) owned.new }
@@ -118,9 +126,12 @@ fn bring_shaded<B: Board>(
     requires word { i < 32 }
     requires room { length parts.old.frames.held < parts.old.frames.count }
     requires elsewhere { IsElsewhere (place_of (chart (B.state board.old)).fields page) }
-    ensures done { OnOk result (PutDone 0 0 slot page (chart (B.state board.old)) (chart (B.state board.new)) (32 * page + i) w) }
+    ensures done { OnOk result (PutDone 0 0 slot page (chart (B.state board.old)) (chart (B.state board.new))
+        (32 * page + i) w) }
     ensures durable { OnErr result (SameDurable 0 0 (chart (B.state board.old)) (chart (B.state board.new))) }
-    ensures brings { OnOk result ((b : Brings page (chart (B.state board.old)) parts.old (chart (B.state board.new)) parts.new) × (undo_of (chart (B.state board.new)).fields page ≡ undo_for slot b.from)) }
+    ensures brings { OnOk result
+        ((b : Brings page (chart (B.state board.old)) parts.old (chart (B.state board.new)) parts.new)
+        × (undo_of (chart (B.state board.new)).fields page ≡ undo_for slot b.from)) }
     ensures gives { OnOk result (owned.new ≡ given slot page owned.old) }
     ensures limit { owned.new.limit ≡ owned.old.limit }
     ensures owners { OwnersAgree (chart (B.state board.new)) owned.new }
@@ -149,19 +160,25 @@ fn put_elsewhere<B: Board>(
     requires may { MayGive slot page (chart (B.state board.old)) owned.old }
     requires word { i < 32 }
     requires elsewhere { IsElsewhere (place_of (chart (B.state board.old)).fields page) }
-    ensures put { PutFirst (4 * (B.state board.old).shape.rows + 13) 6 slot page (chart (B.state board.old)) (32 * page + i) w result (chart (B.state board.new)) }
+    ensures put { PutFirst (4 * (B.state board.old).shape.rows + 13) 6 slot page (chart (B.state board.old))
+        (32 * page + i) w result (chart (B.state board.new)) }
     ensures steady { Steady (chart (B.state board.new)) parts.new }
     ensures counting { Counting (chart (B.state board.old)) parts.old (chart (B.state board.new)) parts.new }
     ensures rests { Rests parts.old.cache parts.new.cache }
-    ensures makes { OnOk result ((mid : Chart) × (between : TheParts) × MakesRoom (chart (B.state board.old)) parts.old mid between × (b : Brings page mid between (chart (B.state board.new)) parts.new) × (undo_of (chart (B.state board.new)).fields page ≡ undo_for slot b.from)) }
+    ensures makes { OnOk result ((mid : Chart) × (between : TheParts)
+        × MakesRoom (chart (B.state board.old)) parts.old mid between
+        × (b : Brings page mid between (chart (B.state board.new)) parts.new)
+        × (undo_of (chart (B.state board.new)).fields page ≡ undo_for slot b.from)) }
     ensures gives { OnOk result (owned.new ≡ given slot page owned.old) }
     ensures limit { owned.new.limit ≡ owned.old.limit }
     ensures owners { OwnersAgree (chart (B.state board.new)) owned.new }
     ensures stays { IsErrOf result Trouble.Bad → owned.new ≡ owned.old }
     ensures stops { IsErrOf result Trouble.Bad → parts.new.frames ≡ parts.old.frames }
-    ensures noted { IsErrOf result Trouble.Bad → (h : Held) × (slice_get parts.old.frames.held 0 ≡ Some h) × StopsFor h.home h.page (chart (B.state board.old)) parts.old (chart (B.state board.new)) parts.new }
+    ensures noted { IsErrOf result Trouble.Bad → (h : Held) × (slice_get parts.old.frames.held 0 ≡ Some h)
+        × StopsFor h.home h.page (chart (B.state board.old)) parts.old (chart (B.state board.new)) parts.new }
     ensures off { (result ≡ Err Trouble.Off) ↔ ((B.state board.new).on ≡ false) }
-    ensures bad { IsErrOf result Trouble.Bad → (B.state board.old).bads < 2 ^ 64 - 1 → (B.state board.old).bads < (B.state board.new).bads }
+    ensures bad { IsErrOf result Trouble.Bad → (B.state board.old).bads < 2 ^ 64 - 1
+        → (B.state board.old).bads < (B.state board.new).bads }
 {
     make_room(board, parts)?;
     Ok(bring_shaded(board, parts, owned, page, slot, i, w)?)
@@ -180,18 +197,22 @@ pub fn put_first<B: Board>(
     requires ready { Ready (chart (B.state board.old)) parts.old }
     requires may { MayGive slot page (chart (B.state board.old)) owned.old }
     requires word { i < 32 }
-    ensures put { PutFirst (4 * (B.state board.old).shape.rows + 13) 6 slot page (chart (B.state board.old)) (32 * page + i) w result (chart (B.state board.new)) }
+    ensures put { PutFirst (4 * (B.state board.old).shape.rows + 13) 6 slot page (chart (B.state board.old))
+        (32 * page + i) w result (chart (B.state board.new)) }
     ensures steady { Steady (chart (B.state board.new)) parts.new }
     ensures counting { Counting (chart (B.state board.old)) parts.old (chart (B.state board.new)) parts.new }
     ensures accesses { Accesses page parts.old.cache parts.new.cache }
-    ensures puts { OnOk result (PutsBy slot page (chart (B.state board.old)) parts.old (chart (B.state board.new)) parts.new) }
+    ensures puts { OnOk result
+        (PutsBy slot page (chart (B.state board.old)) parts.old (chart (B.state board.new)) parts.new) }
     ensures gives { OnOk result (owned.new ≡ given slot page owned.old) }
     ensures limit { owned.new.limit ≡ owned.old.limit }
     ensures owners { OwnersAgree (chart (B.state board.new)) owned.new }
     ensures stays { IsErrOf result Trouble.Bad → owned.new ≡ owned.old }
-    ensures stops { IsErrOf result Trouble.Bad → Stops page (chart (B.state board.old)) parts.old (chart (B.state board.new)) parts.new }
+    ensures stops { IsErrOf result Trouble.Bad
+        → Stops page (chart (B.state board.old)) parts.old (chart (B.state board.new)) parts.new }
     ensures off { (result ≡ Err Trouble.Off) ↔ ((B.state board.new).on ≡ false) }
-    ensures bad { IsErrOf result Trouble.Bad → (B.state board.old).bads < 2 ^ 64 - 1 → (B.state board.old).bads < (B.state board.new).bads }
+    ensures bad { IsErrOf result Trouble.Bad → (B.state board.old).bads < 2 ^ 64 - 1
+        → (B.state board.old).bads < (B.state board.new).bads }
 {
     match parts.cache.translate(board, page)? {
         Place::Frame(frame) => put_framed(board, parts, owned, page, frame, slot, i, w),

@@ -21,14 +21,27 @@ pub fn rebuild<B: Board>(board: &B, parts: &mut Parts) -> Result<(), Off>
     requires settled { IsTrue (B.state board.now).on → IsSettled (chart (B.state board.now)) }
     ensures ready { OnOk result (Ready (chart (B.state board.now)) parts.new) }
     ensures fits { Fits (B.state board.now).shape parts.new }
-    ensures held { OnOk result (parts.new.frames.held ≡ held_by_default (B.state board.now).shape (chart (B.state board.now)).fields.places) }
-    ensures heats { OnOk result (parts.new.chooser ≡ started parts.old.chooser.policy parts.old.chooser.pages parts.old.chooser.positions) }
+    ensures held { OnOk result (parts.new.frames.held ≡ held_by_default (B.state board.now).shape
+        (chart (B.state board.now)).fields.places) }
+    ensures heats { OnOk result
+        (parts.new.chooser ≡ started parts.old.chooser.policy parts.old.chooser.pages parts.old.chooser.positions) }
     ensures stages { OnOk result (parts.new.stages ≡ []) }
     ensures empties { OnOk result (Empties parts.old.cache parts.new.cache) }
-    ensures since { OnOk result (parts.new.reloc ≡ record parts.old.reloc { moves = []; aside = None; mark = 0; since = 0 }) }
+    ensures since { OnOk result
+        (parts.new.reloc ≡ record parts.old.reloc { moves = []; aside = None; mark = 0; since = 0 }) }
     ensures counts { SameCounts parts.old parts.new }
-    ensures kept { parts.new ≡ record parts.old { frames = parts.new.frames; space = parts.new.space; cache = parts.new.cache; chooser = parts.new.chooser; stages = parts.new.stages; reloc = parts.new.reloc } }
-    ensures halted { OnErr result (parts.new ≡ record parts.old { frames = parts.new.frames; space = parts.new.space }) }
+    ensures kept { parts.new
+        ≡ record parts.old {
+          frames = parts.new.frames;
+          space = parts.new.space;
+          cache = parts.new.cache;
+          chooser =
+              parts.new.chooser;
+          stages = parts.new.stages;
+          reloc = parts.new.reloc;
+        } }
+    ensures halted { OnErr result
+        (parts.new ≡ record parts.old { frames = parts.new.frames; space = parts.new.space }) }
     ensures off { OnErr result ((B.state board.now).on ≡ false) }
 {
     parts.frames.rebuild(board)?;
@@ -68,14 +81,27 @@ pub fn restart<B: Board>(board: &mut B, parts: &mut Parts) -> Result<(), Off>
     ensures restarted { OnOk result (IsRestarted (chart (B.state board.old)) (chart (B.state board.new))) }
     ensures ready { OnOk result (Ready (chart (B.state board.new)) parts.new) }
     ensures fits { Fits (B.state board.new).shape parts.new }
-    ensures heats { OnOk result (parts.new.chooser ≡ started parts.old.chooser.policy parts.old.chooser.pages parts.old.chooser.positions) }
+    ensures heats { OnOk result
+        (parts.new.chooser ≡ started parts.old.chooser.policy parts.old.chooser.pages parts.old.chooser.positions) }
     ensures stages { OnOk result (parts.new.stages ≡ []) }
     ensures empties { OnOk result (Empties parts.old.cache parts.new.cache) }
-    ensures since { OnOk result (parts.new.reloc ≡ record parts.old.reloc { moves = []; aside = None; mark = 0; since = 0 }) }
-    ensures held { OnOk result (parts.new.frames.held ≡ held_by_default (B.state board.new).shape (chart (B.state board.new)).fields.places) }
+    ensures since { OnOk result
+        (parts.new.reloc ≡ record parts.old.reloc { moves = []; aside = None; mark = 0; since = 0 }) }
+    ensures held { OnOk result (parts.new.frames.held ≡ held_by_default (B.state board.new).shape
+        (chart (B.state board.new)).fields.places) }
     ensures counts { SameCounts parts.old parts.new }
-    ensures kept { parts.new ≡ record parts.old { frames = parts.new.frames; space = parts.new.space; cache = parts.new.cache; chooser = parts.new.chooser; stages = parts.new.stages; reloc = parts.new.reloc } }
-    ensures halted { OnErr result (parts.new ≡ record parts.old { frames = parts.new.frames; space = parts.new.space }) }
+    ensures kept { parts.new
+        ≡ record parts.old {
+          frames = parts.new.frames;
+          space = parts.new.space;
+          cache = parts.new.cache;
+          chooser =
+              parts.new.chooser;
+          stages = parts.new.stages;
+          reloc = parts.new.reloc;
+        } }
+    ensures halted { OnErr result
+        (parts.new ≡ record parts.old { frames = parts.new.frames; space = parts.new.space }) }
     ensures on { OnOk result (IsTrue (B.state board.new).on) }
     ensures off { OnErr result ((B.state board.new).on ≡ false) }
 {

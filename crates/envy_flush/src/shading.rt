@@ -32,9 +32,12 @@ fn shade<B: Board>(
     requires may { MayGive slot page (chart (B.state board.old)) owned.old }
     requires here { place_of (chart (B.state board.old)).fields page ≡ Some (Place.Frame frame) }
     requires granted { Granted (B.state board.old).shape (chart (B.state board.old)).fields page row }
-    requires copy { (j : ℕ) → j < 32 → slice_index (row_of (B.state board.old) row) j ≡ slice_index (chart (B.state board.old)).fields.frames (32 * frame + j) }
+    requires copy { (j : ℕ) → j < 32
+        → slice_index (row_of (B.state board.old) row) j ≡ slice_index (chart (B.state board.old)).fields.frames
+        (32 * frame + j) }
     ensures same { SameWords 0 0 (chart (B.state board.old)) (chart (B.state board.new)) }
-    ensures fields { OnOk result (chart (B.state board.new) ≡ with_fields (chart (B.state board.old)) (with_undo page (Some (Undo.Shadow slot row)) (chart (B.state board.old)).fields)) }
+    ensures fields { OnOk result (chart (B.state board.new) ≡ with_fields (chart (B.state board.old))
+        (with_undo page (Some (Undo.Shadow slot row)) (chart (B.state board.old)).fields)) }
     ensures owns { OnOk result (Owns slot page (chart (B.state board.old)) (chart (B.state board.new))) }
     ensures gives { OnOk result (owned.new ≡ given slot page owned.old) }
     ensures limit { owned.new.limit ≡ owned.old.limit }
@@ -66,7 +69,9 @@ fn copy_row<B: Board>(
     ensures steady { Steady (chart (B.state board.new)) parts.new }
     ensures fields { (chart (B.state board.new)).fields ≡ (chart (B.state board.old)).fields }
     ensures counting { Counting (chart (B.state board.old)) parts.old (chart (B.state board.new)) parts.new }
-    ensures copy { OnOk result ((j : ℕ) → j < 32 → slice_index (row_of (B.state board.new) row) j ≡ slice_index (chart (B.state board.old)).fields.frames (32 * frame + j)) }
+    ensures copy { OnOk result ((j : ℕ) → j < 32
+        → slice_index (row_of (B.state board.new) row) j ≡ slice_index (chart (B.state board.old)).fields.frames
+        (32 * frame + j)) }
     ensures parts { parts.new ≡ record parts.old { flushes = parts.new.flushes } }
     ensures flushes { parts.new.flushes ≡ up parts.old.flushes }
     ensures erases { (B.state board.new).erases ≡ (B.state board.old).erases }
@@ -96,9 +101,12 @@ fn shadow<B: Board>(
     ensures shadows { Shadows 1 0 slot page (chart (B.state board.old)) result (chart (B.state board.new)) }
     ensures steady { Steady (chart (B.state board.new)) parts.new }
     ensures counting { Counting (chart (B.state board.old)) parts.old (chart (B.state board.new)) parts.new }
-    ensures fields { OnOk result ((chart (B.state board.new)).fields ≡ with_undo page (Some (Undo.Shadow slot row)) (chart (B.state board.old)).fields) }
+    ensures fields { OnOk result ((chart (B.state board.new)).fields ≡ with_undo page (Some (Undo.Shadow slot row))
+        (chart (B.state board.old)).fields) }
     ensures erases { OnOk result ((B.state board.new).erases ≡ (B.state board.old).erases) }
-    ensures spoils { IsErrOf result Trouble.Bad → ((chart (B.state board.new)).fields ≡ (chart (B.state board.old)).fields) × ((B.state board.new).erases ≡ (B.state board.old).erases) }
+    ensures spoils { IsErrOf result Trouble.Bad
+        → ((chart (B.state board.new)).fields ≡ (chart (B.state board.old)).fields)
+        × ((B.state board.new).erases ≡ (B.state board.old).erases) }
     ensures flushes { parts.new.flushes ≡ up parts.old.flushes }
     ensures gives { OnOk result (owned.new ≡ given slot page owned.old) }
     ensures limit { owned.new.limit ≡ owned.old.limit }
@@ -127,7 +135,8 @@ pub fn put_framed<B: Board>(
     requires may { MayGive slot page (chart (B.state board.old)) owned.old }
     requires word { i < 32 }
     requires here { place_of (chart (B.state board.old)).fields page ≡ Some (Place.Frame frame) }
-    ensures put { PutFirst (4 * (B.state board.old).shape.rows + 13) 6 slot page (chart (B.state board.old)) (32 * page + i) w result (chart (B.state board.new)) }
+    ensures put { PutFirst (4 * (B.state board.old).shape.rows + 13) 6 slot page (chart (B.state board.old))
+        (32 * page + i) w result (chart (B.state board.new)) }
     ensures steady { Steady (chart (B.state board.new)) parts.new }
     ensures counting { Counting (chart (B.state board.old)) parts.old (chart (B.state board.new)) parts.new }
     ensures rests { Rests parts.old.cache parts.new.cache }
@@ -141,9 +150,12 @@ pub fn put_framed<B: Board>(
     ensures limit { owned.new.limit ≡ owned.old.limit }
     ensures owners { OwnersAgree (chart (B.state board.new)) owned.new }
     ensures stays { IsErrOf result Trouble.Bad → owned.new ≡ owned.old }
-    ensures noted { IsErrOf result Trouble.Bad → (home : ℕ) × Any (λ h. (h.frame ≡ frame) × (h.home ≡ home)) parts.old.frames.held × StopsFor home page (chart (B.state board.old)) parts.old (chart (B.state board.new)) parts.new }
+    ensures noted { IsErrOf result Trouble.Bad → (home : ℕ)
+        × Any (λ h. (h.frame ≡ frame) × (h.home ≡ home)) parts.old.frames.held
+        × StopsFor home page (chart (B.state board.old)) parts.old (chart (B.state board.new)) parts.new }
     ensures off { (result ≡ Err Trouble.Off) ↔ ((B.state board.new).on ≡ false) }
-    ensures bad { IsErrOf result Trouble.Bad → (B.state board.old).bads < 2 ^ 64 - 1 → (B.state board.old).bads < (B.state board.new).bads }
+    ensures bad { IsErrOf result Trouble.Bad → (B.state board.old).bads < 2 ^ 64 - 1
+        → (B.state board.old).bads < (B.state board.new).bads }
 {
     let home = parts.frames.home(frame);
     let row = get_row(board, parts, home, page)?;

@@ -21,18 +21,23 @@ use envy_layout::change_frame_word;
 /// Gives a frame back where none is free.
 pub fn make_room<B: Board>(board: &mut B, parts: &mut Parts) -> Result<(), Trouble>
     requires ready { Ready (chart (B.state board.old)) parts.old }
-    ensures same { Same (4 * (B.state board.old).shape.rows + 13) 6 (chart (B.state board.old)) (chart (B.state board.new)) }
+    ensures same { Same (4 * (B.state board.old).shape.rows + 13) 6 (chart (B.state board.old))
+        (chart (B.state board.new)) }
     ensures steady { Steady (chart (B.state board.new)) parts.new }
     ensures counting { Counting (chart (B.state board.old)) parts.old (chart (B.state board.new)) parts.new }
     ensures room { OnOk result (length parts.new.frames.held < parts.new.frames.count) }
-    ensures elsewhere { OnOk result ((p : ℕ) → IsElsewhere (place_of (chart (B.state board.old)).fields p) → IsElsewhere (place_of (chart (B.state board.new)).fields p)) }
+    ensures elsewhere { OnOk result ((p : ℕ) → IsElsewhere (place_of (chart (B.state board.old)).fields p)
+        → IsElsewhere (place_of (chart (B.state board.new)).fields p)) }
     ensures rests { Rests parts.old.cache parts.new.cache }
-    ensures makes { OnOk result (MakesRoom (chart (B.state board.old)) parts.old (chart (B.state board.new)) parts.new) }
+    ensures makes { OnOk result
+        (MakesRoom (chart (B.state board.old)) parts.old (chart (B.state board.new)) parts.new) }
     ensures stops { IsErrOf result Trouble.Bad → parts.new.frames ≡ parts.old.frames }
-    ensures noted { IsErrOf result Trouble.Bad → (h : Held) × (slice_get parts.old.frames.held 0 ≡ Some h) × StopsFor h.home h.page (chart (B.state board.old)) parts.old (chart (B.state board.new)) parts.new }
+    ensures noted { IsErrOf result Trouble.Bad → (h : Held) × (slice_get parts.old.frames.held 0 ≡ Some h)
+        × StopsFor h.home h.page (chart (B.state board.old)) parts.old (chart (B.state board.new)) parts.new }
     ensures on { OnOk result (IsTrue (B.state board.new).on) }
     ensures off { (result ≡ Err Trouble.Off) ↔ ((B.state board.new).on ≡ false) }
-    ensures bad { IsErrOf result Trouble.Bad → (B.state board.old).bads < 2 ^ 64 - 1 → (B.state board.old).bads < (B.state board.new).bads }
+    ensures bad { IsErrOf result Trouble.Bad → (B.state board.old).bads < 2 ^ 64 - 1
+        → (B.state board.old).bads < (B.state board.new).bads }
 {
     if parts.frames.used() == board.shape().frames {
         flush_oldest(board, parts)?;
@@ -53,17 +58,23 @@ fn store_elsewhere<B: Board>(
     requires word { i < 32 }
     requires elsewhere { IsElsewhere (place_of (chart (B.state board.old)).fields page) }
     ensures free { let old = chart (B.state board.old) in
-        owned_by old.fields.slots (undo_of old.fields page) ≡ false → Wrote (4 * old.shape.rows + 13) 6 old (32 * page + i) w result (chart (B.state board.new)) }
+        owned_by old.fields.slots (undo_of old.fields page) ≡ false
+        → Wrote (4 * old.shape.rows + 13) 6 old (32 * page + i) w result (chart (B.state board.new)) }
     ensures owned { let old = chart (B.state board.old) in
-        owned_by old.fields.slots (undo_of old.fields page) ≡ true → Shaded (4 * old.shape.rows + 13) 6 old (32 * page + i) w result (chart (B.state board.new)) }
+        owned_by old.fields.slots (undo_of old.fields page) ≡ true
+        → Shaded (4 * old.shape.rows + 13) 6 old (32 * page + i) w result (chart (B.state board.new)) }
     ensures steady { Steady (chart (B.state board.new)) parts.new }
     ensures counting { Counting (chart (B.state board.old)) parts.old (chart (B.state board.new)) parts.new }
     ensures rests { Rests parts.old.cache parts.new.cache }
-    ensures makes { OnOk result ((mid : Chart) × (between : TheParts) × MakesRoom (chart (B.state board.old)) parts.old mid between × Brings page mid between (chart (B.state board.new)) parts.new) }
+    ensures makes { OnOk result ((mid : Chart) × (between : TheParts)
+        × MakesRoom (chart (B.state board.old)) parts.old mid between
+        × Brings page mid between (chart (B.state board.new)) parts.new) }
     ensures stops { IsErrOf result Trouble.Bad → parts.new.frames ≡ parts.old.frames }
-    ensures noted { IsErrOf result Trouble.Bad → (h : Held) × (slice_get parts.old.frames.held 0 ≡ Some h) × StopsFor h.home h.page (chart (B.state board.old)) parts.old (chart (B.state board.new)) parts.new }
+    ensures noted { IsErrOf result Trouble.Bad → (h : Held) × (slice_get parts.old.frames.held 0 ≡ Some h)
+        × StopsFor h.home h.page (chart (B.state board.old)) parts.old (chart (B.state board.new)) parts.new }
     ensures off { (result ≡ Err Trouble.Off) ↔ ((B.state board.new).on ≡ false) }
-    ensures bad { IsErrOf result Trouble.Bad → (B.state board.old).bads < 2 ^ 64 - 1 → (B.state board.old).bads < (B.state board.new).bads }
+    ensures bad { IsErrOf result Trouble.Bad → (B.state board.old).bads < 2 ^ 64 - 1
+        → (B.state board.old).bads < (B.state board.new).bads }
 {
     make_room(board, parts)?;
     Ok(bring(board, parts, page, i, w)?)
@@ -81,16 +92,21 @@ pub fn store_word<B: Board>(
     requires page { page < (B.state board.old).shape.pages }
     requires word { i < 32 }
     ensures free { let old = chart (B.state board.old) in
-        owned_by old.fields.slots (undo_of old.fields page) ≡ false → Wrote (4 * old.shape.rows + 13) 6 old (32 * page + i) w result (chart (B.state board.new)) }
+        owned_by old.fields.slots (undo_of old.fields page) ≡ false
+        → Wrote (4 * old.shape.rows + 13) 6 old (32 * page + i) w result (chart (B.state board.new)) }
     ensures owned { let old = chart (B.state board.old) in
-        owned_by old.fields.slots (undo_of old.fields page) ≡ true → Shaded (4 * old.shape.rows + 13) 6 old (32 * page + i) w result (chart (B.state board.new)) }
+        owned_by old.fields.slots (undo_of old.fields page) ≡ true
+        → Shaded (4 * old.shape.rows + 13) 6 old (32 * page + i) w result (chart (B.state board.new)) }
     ensures steady { Steady (chart (B.state board.new)) parts.new }
     ensures counting { Counting (chart (B.state board.old)) parts.old (chart (B.state board.new)) parts.new }
     ensures accesses { Accesses page parts.old.cache parts.new.cache }
-    ensures stores { OnOk result (StoresBy page (chart (B.state board.old)) parts.old (chart (B.state board.new)) parts.new) }
-    ensures stops { IsErrOf result Trouble.Bad → Stops page (chart (B.state board.old)) parts.old (chart (B.state board.new)) parts.new }
+    ensures stores { OnOk result
+        (StoresBy page (chart (B.state board.old)) parts.old (chart (B.state board.new)) parts.new) }
+    ensures stops { IsErrOf result Trouble.Bad
+        → Stops page (chart (B.state board.old)) parts.old (chart (B.state board.new)) parts.new }
     ensures off { (result ≡ Err Trouble.Off) ↔ ((B.state board.new).on ≡ false) }
-    ensures bad { IsErrOf result Trouble.Bad → (B.state board.old).bads < 2 ^ 64 - 1 → (B.state board.old).bads < (B.state board.new).bads }
+    ensures bad { IsErrOf result Trouble.Bad → (B.state board.old).bads < 2 ^ 64 - 1
+        → (B.state board.old).bads < (B.state board.new).bads }
 {
     match parts.cache.translate(board, page)? {
         Place::Frame(frame) => Ok(change_frame_word(board, page, frame, i, w)?),

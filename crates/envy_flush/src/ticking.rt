@@ -37,17 +37,21 @@ fn flush_at<B: Board>(
     requires stages { parts.old.stages ≡ [] }
     requires oldest { slice_get parts.old.frames.held 0 ≡ Some held }
     requires position { position < (B.state board.old).shape.segments - 1 }
-    requires room { slice_index parts.old.space.fills (slice_index parts.old.space.positions position) < (B.state board.old).shape.rows }
+    requires room { slice_index parts.old.space.fills (slice_index parts.old.space.positions position)
+        < (B.state board.old).shape.rows }
     requires chosen { ChoiceFor parts.old.chooser parts.old.space held.home held.page (Free position) }
     ensures same { Same 1 0 (chart (B.state board.old)) (chart (B.state board.new)) }
     ensures steady { Steady (chart (B.state board.new)) parts.new }
     ensures counting { Counting (chart (B.state board.old)) parts.old (chart (B.state board.new)) parts.new }
-    ensures does { OnOk result (TicksChoice (Free position) Did.Flushed (chart (B.state board.old)) parts.old (chart (B.state board.new)) parts.new) }
-    ensures stops { IsErrOf result Trouble.Bad → StopsFlush (chart (B.state board.old)) parts.old (chart (B.state board.new)) parts.new }
+    ensures does { OnOk result (TicksChoice (Free position) Did.Flushed (chart (B.state board.old)) parts.old
+        (chart (B.state board.new)) parts.new) }
+    ensures stops { IsErrOf result Trouble.Bad
+        → StopsFlush (chart (B.state board.old)) parts.old (chart (B.state board.new)) parts.new }
     ensures rests { Rests parts.old.cache parts.new.cache }
     ensures stages { parts.new.stages ≡ parts.old.stages }
     ensures off { (result ≡ Err Trouble.Off) ↔ ((B.state board.new).on ≡ false) }
-    ensures bad { IsErrOf result Trouble.Bad → (B.state board.old).bads < 2 ^ 64 - 1 → (B.state board.old).bads < (B.state board.new).bads }
+    ensures bad { IsErrOf result Trouble.Bad → (B.state board.old).bads < 2 ^ 64 - 1
+        → (B.state board.old).bads < (B.state board.new).bads }
 {
     let row = claim_at(board, parts, position, held.page)?;
     flush_into(board, parts, held.page, held.frame, row)
@@ -62,11 +66,14 @@ pub fn tick_flush<B: Board>(board: &mut B, parts: &mut Parts) -> Result<Did, Tro
     ensures same { Same 1 0 (chart (B.state board.old)) (chart (B.state board.new)) }
     ensures steady { Steady (chart (B.state board.new)) parts.new }
     ensures counting { Counting (chart (B.state board.old)) parts.old (chart (B.state board.new)) parts.new }
-    ensures does { IfOk result (λ did. TicksFlush did (chart (B.state board.old)) parts.old (chart (B.state board.new)) parts.new) }
-    ensures stops { IsErrOf result Trouble.Bad → StopsFlush (chart (B.state board.old)) parts.old (chart (B.state board.new)) parts.new }
+    ensures does { IfOk result (λ did.
+        TicksFlush did (chart (B.state board.old)) parts.old (chart (B.state board.new)) parts.new) }
+    ensures stops { IsErrOf result Trouble.Bad
+        → StopsFlush (chart (B.state board.old)) parts.old (chart (B.state board.new)) parts.new }
     ensures rests { Rests parts.old.cache parts.new.cache }
     ensures off { (result ≡ Err Trouble.Off) ↔ ((B.state board.new).on ≡ false) }
-    ensures bad { IsErrOf result Trouble.Bad → (B.state board.old).bads < 2 ^ 64 - 1 → (B.state board.old).bads < (B.state board.new).bads }
+    ensures bad { IsErrOf result Trouble.Bad → (B.state board.old).bads < 2 ^ 64 - 1
+        → (B.state board.old).bads < (B.state board.new).bads }
 {
     let Some(held) = parts.frames.oldest() else {
         unreachable!();
@@ -94,15 +101,20 @@ pub fn tick_swap<B: Board>(
     requires ready { Ready (chart (B.state board.old)) parts.old }
     requires idle { (chart (B.state board.old)).fields.job ≡ Some Idle }
     requires stages { parts.old.stages ≡ [] }
-    requires quiet { IsQuiet (B.state board.old).shape (chart (B.state board.old)).fields limit parts.old.reloc.since quiet.old }
+    requires quiet { IsQuiet (B.state board.old).shape (chart (B.state board.old)).fields limit parts.old.reloc.since
+        quiet.old }
     ensures same { Same 0 0 (chart (B.state board.old)) (chart (B.state board.new)) }
     ensures steady { Steady (chart (B.state board.new)) parts.new }
-    ensures does { IfOk result (λ did. TicksSwap limit did (chart (B.state board.old)) parts.old (chart (B.state board.new)) parts.new ⊎ TicksNone limit did (chart (B.state board.old)) parts.old (chart (B.state board.new)) parts.new) }
+    ensures does { IfOk result (λ did.
+        TicksSwap limit did (chart (B.state board.old)) parts.old (chart (B.state board.new)) parts.new
+        ⊎ TicksNone limit did (chart (B.state board.old)) parts.old (chart (B.state board.new)) parts.new) }
     ensures counts { CountsTick (chart (B.state board.old)) parts.old (chart (B.state board.new)) parts.new }
     ensures idle { IsNoneDue limit (chart (B.state board.old)) parts.old.reloc.since → result ≡ Ok Did.Idle }
-    ensures still { OnErr result (Counting (chart (B.state board.old)) parts.old (chart (B.state board.new)) parts.new) }
+    ensures still { OnErr result
+        (Counting (chart (B.state board.old)) parts.old (chart (B.state board.new)) parts.new) }
     ensures never { IsErrOf result Trouble.Bad → ⊥ }
-    ensures quiet { IsTrue (B.state board.new).on → IsQuiet (B.state board.new).shape (chart (B.state board.new)).fields limit parts.new.reloc.since quiet.new }
+    ensures quiet { IsTrue (B.state board.new).on
+        → IsQuiet (B.state board.new).shape (chart (B.state board.new)).fields limit parts.new.reloc.since quiet.new }
     ensures rests { Rests parts.old.cache parts.new.cache }
     ensures off { (result ≡ Err Trouble.Off) ↔ ((B.state board.new).on ≡ false) }
 {
@@ -129,18 +141,26 @@ pub fn tick_ruled<B: Board>(
 ) -> Result<Did, Trouble>
     requires ready { Ready (chart (B.state board.old)) parts.old }
     requires some { 1 ≤ mark }
-    requires quiet { IsQuiet (B.state board.old).shape (chart (B.state board.old)).fields limit parts.old.reloc.since quiet.old }
+    requires quiet { IsQuiet (B.state board.old).shape (chart (B.state board.old)).fields limit parts.old.reloc.since
+        quiet.old }
     ensures step { SameOnce (chart (B.state board.old)) (chart (B.state board.new)) }
     ensures steady { Steady (chart (B.state board.new)) parts.new }
-    ensures does { IfOk result (λ did. TicksBy limit mark did (chart (B.state board.old)) parts.old (chart (B.state board.new)) parts.new) }
-    ensures stops { IsErrOf result Trouble.Bad → TicksBad mark (chart (B.state board.old)) parts.old (chart (B.state board.new)) parts.new }
+    ensures does { IfOk result (λ did.
+        TicksBy limit mark did (chart (B.state board.old)) parts.old (chart (B.state board.new)) parts.new) }
+    ensures stops { IsErrOf result Trouble.Bad
+        → TicksBad mark (chart (B.state board.old)) parts.old (chart (B.state board.new)) parts.new }
     ensures counts { CountsTick (chart (B.state board.old)) parts.old (chart (B.state board.new)) parts.new }
-    ensures idle { (chart (B.state board.old)).fields.job ≡ Some Idle → parts.old.stages ≡ [] → length parts.old.frames.held < mark → IsNoneDue limit (chart (B.state board.old)) parts.old.reloc.since → result ≡ Ok Did.Idle }
-    ensures still { OnErr result (Counting (chart (B.state board.old)) parts.old (chart (B.state board.new)) parts.new) }
-    ensures quiet { IsTrue (B.state board.new).on → IsQuiet (B.state board.new).shape (chart (B.state board.new)).fields limit parts.new.reloc.since quiet.new }
+    ensures idle { (chart (B.state board.old)).fields.job ≡ Some Idle → parts.old.stages ≡ []
+        → length parts.old.frames.held < mark → IsNoneDue limit (chart (B.state board.old)) parts.old.reloc.since
+        → result ≡ Ok Did.Idle }
+    ensures still { OnErr result
+        (Counting (chart (B.state board.old)) parts.old (chart (B.state board.new)) parts.new) }
+    ensures quiet { IsTrue (B.state board.new).on
+        → IsQuiet (B.state board.new).shape (chart (B.state board.new)).fields limit parts.new.reloc.since quiet.new }
     ensures rests { Rests parts.old.cache parts.new.cache }
     ensures off { (result ≡ Err Trouble.Off) ↔ ((B.state board.new).on ≡ false) }
-    ensures bad { IsErrOf result Trouble.Bad → (B.state board.old).bads < 2 ^ 64 - 1 → (B.state board.old).bads < (B.state board.new).bads }
+    ensures bad { IsErrOf result Trouble.Bad → (B.state board.old).bads < 2 ^ 64 - 1
+        → (B.state board.old).bads < (B.state board.new).bads }
 {
     if runs(board)? {
         return tick_job(board, parts);

@@ -87,7 +87,10 @@ impl Frames {
     /// Holds a page in a frame that isn't held, which becomes the newest. `None` where all are held.
     pub fn take(&mut self, page: u32, home: u32) -> Option<u32>
         ensures newest { IfSome result (λ frame.
-            self.new ≡ record self.old { held = self.old.held ++ (record { frame = frame; page = page; home = home }) ∷ [] }) }
+            self.new ≡ record self.old {
+              held = self.old.held ++ (record { frame = frame; page = page; home = home })
+                  ∷ [];
+            }) }
         ensures within { IfSome result (λ frame. frame < self.old.count) }
         ensures unheld { IfSome result (IsUnheld self.old.held) }
         ensures all { IsNone result ↔ (length self.old.held ≡ self.old.count) }
@@ -123,8 +126,10 @@ impl Frames {
     pub fn rebuild<B: Board>(&mut self, board: &B) -> Result<(), Off>
         requires sound { IsTrue (B.state board.now).on → IsSound (chart (B.state board.now)) }
         requires count { self.old.count ≡ (B.state board.now).shape.frames }
-        ensures held { OnOk result (self.new.held ≡ held_by_default (B.state board.now).shape (chart (B.state board.now)).fields.places) }
-        ensures agrees { OnOk result (AreHeld (B.state board.now).shape (chart (B.state board.now)).fields.places self.new.held) }
+        ensures held { OnOk result
+            (self.new.held ≡ held_by_default (B.state board.now).shape (chart (B.state board.now)).fields.places) }
+        ensures agrees { OnOk result
+            (AreHeld (B.state board.now).shape (chart (B.state board.now)).fields.places self.new.held) }
         ensures count { self.new.count ≡ self.old.count }
         ensures off { IsErr result ↔ ((B.state board.now).on ≡ false) }
         ensures kept { OnErr result (self.new ≡ self.old) }

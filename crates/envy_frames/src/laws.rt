@@ -21,7 +21,8 @@ pub fn taking_keeps_the_agreement()
     ensures { (sh : Shape) (places : List (Option Place)) (held : List Held) (page frame home : ℕ)
         → AreHeld sh places held → length places ≡ sh.pages → page < sh.pages → home < sh.segments - 1
         → IsElsewhere (slice_index_or places page None) → IsUnheld held frame
-        → AreHeld sh (slice_set places page (Some (Frame frame))) (held ++ (record { frame = frame; page = page; home = home }) ∷ []) }
+        → AreHeld sh (slice_set places page (Some (Frame frame)))
+        (held ++ (record { frame = frame; page = page; home = home }) ∷ []) }
 {}
 
 /// Pages that go from one place to another, neither of them a frame, leave the held frames as they are.
@@ -37,7 +38,8 @@ pub fn pages_elsewhere_keep_the_agreement()
 /// As many frames are held as places are frames. A frame that isn't held is no page's, and a page that is
 /// in no frame isn't in one after the oldest held page left its own.
 pub fn places_tell_the_held_frames()
-    ensures count { (sh : Shape) (places : List (Option Place)) (held : List Held) → AreHeld sh places held → length held ≡ count_by is_framed places }
+    ensures count { (sh : Shape) (places : List (Option Place)) (held : List Held) → AreHeld sh places held
+        → length held ≡ count_by is_framed places }
     ensures unheld { (sh : Shape) (places : List (Option Place)) (held : List Held) (frame page : ℕ)
         → AreHeld sh places held → IsUnheld held frame → slice_index_or places page None ≢ Some (Frame frame) }
     ensures dropped { (sh then_sh : Shape) (places new : List (Option Place)) (held rest : List Held) (page : ℕ)

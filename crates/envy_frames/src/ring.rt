@@ -30,7 +30,8 @@ pub fn make_stale(entries: &mut HeapCircularBuffer<Entry>, stamps: &mut Vec<u32>
     requires stamped { AreStamped entries.old stamps.old.items }
     requires frame { frame < length stamps.old.items }
     ensures stamped { AreStamped entries.new stamps.new.items }
-    ensures held { held_in stamps.new.items entries.new.items ≡ filter (is_other frame) (held_in stamps.old.items entries.old.items) }
+    ensures held { held_in stamps.new.items entries.new.items
+        ≡ filter (is_other frame) (held_in stamps.old.items entries.old.items) }
     ensures capacity { entries.new.capacity ≡ entries.old.capacity }
     ensures long { length stamps.new.items ≡ length stamps.old.items }
 {

@@ -24,8 +24,13 @@ pub fn hold_named<B: Board>(
     requires homes { length homes.old.items ≡ (B.state board.now).shape.frames }
     requires empty { entries.old.items ≡ [] }
     ensures done { IsOk result }
-    ensures held { OnOk result (entries.new ≡ buffer (map unstamped (held_by_default (B.state board.now).shape (chart (B.state board.now)).fields.places)) entries.old.capacity) }
-    ensures homes { OnOk result (AreHomes homes.new.items (held_by_default (B.state board.now).shape (chart (B.state board.now)).fields.places)) }
+    ensures held { OnOk result
+        (entries.new
+        ≡ buffer (map unstamped (held_by_default (B.state board.now).shape (chart (B.state board.now)).fields.places))
+        entries.old.capacity) }
+    ensures homes { OnOk result
+        (AreHomes homes.new.items
+        (held_by_default (B.state board.now).shape (chart (B.state board.now)).fields.places)) }
     ensures long { length homes.new.items ≡ length homes.old.items }
 {
     let shape = board.shape();

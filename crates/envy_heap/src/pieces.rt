@@ -12,7 +12,8 @@ pub fn take<W: Words>(words: &mut W) -> Result<Option<u32>, Trouble>
     requires heap { (free : List ℕ) × IsHeap (W.sheet words.old).words free }
     ensures works { OnPage 0 (W.sheet words.old) (W.sheet words.new) }
     ensures fails { Fails (W.sheet words.old) result (W.sheet words.new) }
-    ensures takes { (free : List ℕ) → IsHeap (W.sheet words.old).words free → TakesAs (W.sheet words.old).words free result (W.sheet words.new).words }
+    ensures takes { (free : List ℕ) → IsHeap (W.sheet words.old).words free
+        → TakesAs (W.sheet words.old).words free result (W.sheet words.new).words }
 {
     let link = words.load(1)?;
     if link > 0 {
@@ -33,10 +34,13 @@ pub fn take<W: Words>(words: &mut W) -> Result<Option<u32>, Trouble>
 pub fn give<W: Words>(words: &mut W, piece: u32) -> Result<(), Trouble>
     requires begun { IsTrue (W.sheet words.old).started }
     requires room { length (W.sheet words.old).pages + 2 ≤ (W.sheet words.old).room }
-    requires heap { (free : List ℕ) × IsHeap (W.sheet words.old).words free × (handed (W.sheet words.old).words free piece ≡ 1) }
+    requires heap { (free : List ℕ) × IsHeap (W.sheet words.old).words free
+        × (handed (W.sheet words.old).words free piece ≡ 1) }
     ensures works { Works 2 (W.sheet words.old) (W.sheet words.new) }
     ensures fails { Fails (W.sheet words.old) result (W.sheet words.new) }
-    ensures gives { (free : List ℕ) → IsHeap (W.sheet words.old).words free → handed (W.sheet words.old).words free piece ≡ 1 → Gives piece (W.sheet words.old).words free result (W.sheet words.new).words }
+    ensures gives { (free : List ℕ) → IsHeap (W.sheet words.old).words free
+        → handed (W.sheet words.old).words free piece ≡ 1
+        → Gives piece (W.sheet words.old).words free result (W.sheet words.new).words }
 {
     let link = words.load(1)?;
     words.put(64 + 64 * piece, link)?;

@@ -101,7 +101,8 @@ fn program_rows<B: Board, S: Source>(
     requires on { IsTrue (B.state board.old).on }
     requires blank { (q : ℕ) → q < length (B.state board.old).flash → IsOnes (row_of (B.state board.old) q) }
     requires within { IsWithin lines.old }
-    ensures { ProgramsRows (B.state board.old) lines.old (S.feed source.old) result (B.state board.new) lines.new (S.feed source.new) }
+    ensures { ProgramsRows (B.state board.old) lines.old (S.feed source.old) result (B.state board.new) lines.new
+        (S.feed source.new) }
 {
     let shape = board.shape();
     for row in 0..shape.segments * shape.rows {
@@ -133,7 +134,8 @@ fn fill_piece<B: Board, S: Source>(
 ) -> Result<(), InFault>
     requires on { IsTrue (B.state board.old).on }
     requires room { first + 32 ≤ length (B.state board.old).sram }
-    ensures { FillsPiece first (B.state board.old) lines.old (S.feed source.old) result (B.state board.new) lines.new (S.feed source.new) }
+    ensures { FillsPiece first (B.state board.old) lines.old (S.feed source.old) result (B.state board.new) lines.new
+        (S.feed source.new) }
 {
     let words = read_page(lines, source)?;
     put_words(board, first, &words)?;
@@ -150,7 +152,8 @@ fn fill_pieces<B: Board, S: Source>(
     requires on { IsTrue (B.state board.old).on }
     requires room { 32 * pieces ≤ length (B.state board.old).sram }
     requires within { IsWithin lines.old }
-    ensures { FillsFirst (32 * pieces) (B.state board.old) lines.old (S.feed source.old) result (B.state board.new) lines.new (S.feed source.new) }
+    ensures { FillsFirst (32 * pieces) (B.state board.old) lines.old (S.feed source.old) result
+        (B.state board.new) lines.new (S.feed source.new) }
 {
     for piece in 0..pieces {
         fill_piece(board, lines, source, 32 * piece)?;
@@ -167,7 +170,8 @@ fn fill_rest<B: Board, S: Source>(
 ) -> Result<(), InFault>
     requires on { IsTrue (B.state board.old).on }
     requires room { first ≤ length (B.state board.old).sram }
-    ensures { (start : State) (was : Taking) (from : Feed) → Filled first start was from (B.state board.old) lines.old (S.feed source.old)
+    ensures { (start : State) (was : Taking) (from : Feed)
+        → Filled first start was from (B.state board.old) lines.old (S.feed source.old)
         → FillsWords start was from result (B.state board.new) lines.new (S.feed source.new) }
 {
     for w in first..envy_map::words(&board.shape()) {
@@ -185,7 +189,8 @@ fn fill_words<B: Board, S: Source>(
 ) -> Result<(), InFault>
     requires on { IsTrue (B.state board.old).on }
     requires within { IsWithin lines.old }
-    ensures { FillsWords (B.state board.old) lines.old (S.feed source.old) result (B.state board.new) lines.new (S.feed source.new) }
+    ensures { FillsWords (B.state board.old) lines.old (S.feed source.old) result (B.state board.new) lines.new
+        (S.feed source.new) }
 {
     let pieces = envy_map::words(&board.shape()) / 32;
     fill_pieces(board, lines, source, pieces)?;
@@ -207,7 +212,8 @@ pub fn install<B: Board, S: Source>(
     requires on { IsTrue (B.state board.old).on }
     requires head { HasReadHead (B.state board.old).shape lines.old (S.feed source.old) }
     ensures back { GivesBack (B.state board.old) lines.old (S.feed source.old) result (B.state board.new) }
-    ensures installs { Installs (B.state board.old) lines.old (S.feed source.old) result (B.state board.new) lines.new (S.feed source.new) }
+    ensures installs { Installs (B.state board.old) lines.old (S.feed source.old) result (B.state board.new) lines.new
+        (S.feed source.new) }
 {
     erase_all(board)?;
     program_rows(board, lines, source)?;

@@ -100,7 +100,8 @@ fn bytes_of_row<B: Board>(board: &B, row: u32) -> Result<[u8; 256], Off>
 fn write_row<B: Board, K: Sink>(board: &B, row: u32, sink: &mut K) -> Result<(), OutFault>
     requires on { IsTrue (B.state board.now).on }
     requires row { row < length (B.state board.now).flash }
-    ensures { WritesOut (B.state board.now).on (K.drain sink.old) (words_bytes (slice_index_or (B.state board.now).flash row [])) result (K.drain sink.new) }
+    ensures { WritesOut (B.state board.now).on (K.drain sink.old)
+        (words_bytes (slice_index_or (B.state board.now).flash row [])) result (K.drain sink.new) }
 {
     let bytes = bytes_of_row(board, row)?;
     write_all(sink, &bytes)?;
@@ -110,7 +111,8 @@ fn write_row<B: Board, K: Sink>(board: &B, row: u32, sink: &mut K) -> Result<(),
 // Writes the words of every row.
 fn write_rows<B: Board, K: Sink>(board: &B, sink: &mut K) -> Result<(), OutFault>
     requires { IsTrue (B.state board.now).on }
-    ensures { WritesOut (B.state board.now).on (K.drain sink.old) (rows_bytes (B.state board.now).flash) result (K.drain sink.new) }
+    ensures { WritesOut (B.state board.now).on (K.drain sink.old) (rows_bytes (B.state board.now).flash) result
+        (K.drain sink.new) }
 {
     let shape = board.shape();
     for row in 0..shape.segments * shape.rows {
@@ -139,7 +141,8 @@ fn bytes_of_piece<B: Board>(board: &B, first: u32) -> Result<[u8; 256], Off>
 fn write_piece<B: Board, K: Sink>(board: &B, first: u32, sink: &mut K) -> Result<(), OutFault>
     requires on { IsTrue (B.state board.now).on }
     requires room { first + 32 ≤ length (B.state board.now).sram }
-    ensures { WritesOut (B.state board.now).on (K.drain sink.old) (words_bytes (take 32 (drop first (B.state board.now).sram))) result (K.drain sink.new) }
+    ensures { WritesOut (B.state board.now).on (K.drain sink.old)
+        (words_bytes (take 32 (drop first (B.state board.now).sram))) result (K.drain sink.new) }
 {
     let bytes = bytes_of_piece(board, first)?;
     write_all(sink, &bytes)?;
@@ -150,7 +153,8 @@ fn write_piece<B: Board, K: Sink>(board: &B, first: u32, sink: &mut K) -> Result
 fn write_pieces<B: Board, K: Sink>(board: &B, pieces: u32, sink: &mut K) -> Result<(), OutFault>
     requires on { IsTrue (B.state board.now).on }
     requires room { 32 * pieces ≤ length (B.state board.now).sram }
-    ensures { WritesFirst (32 * pieces) (B.state board.now).on (K.drain sink.old) (B.state board.now).sram result (K.drain sink.new) }
+    ensures { WritesFirst (32 * pieces) (B.state board.now).on (K.drain sink.old) (B.state board.now).sram result
+        (K.drain sink.new) }
 {
     for piece in 0..pieces {
         write_piece(board, 32 * piece, sink)?;
@@ -162,7 +166,8 @@ fn write_pieces<B: Board, K: Sink>(board: &B, pieces: u32, sink: &mut K) -> Resu
 fn write_rest<B: Board, K: Sink>(board: &B, first: u32, sink: &mut K) -> Result<(), OutFault>
     requires on { IsTrue (B.state board.now).on }
     requires room { first ≤ length (B.state board.now).sram }
-    ensures { (from : Drain) → WritesAll from (words_bytes (take first (B.state board.now).sram)) (Ok tt) (K.drain sink.old)
+    ensures { (from : Drain)
+        → WritesAll from (words_bytes (take first (B.state board.now).sram)) (Ok tt) (K.drain sink.old)
         → WritesOut (B.state board.now).on from (words_bytes (B.state board.now).sram) result (K.drain sink.new) }
 {
     for w in first..envy_map::words(&board.shape()) {
@@ -175,7 +180,8 @@ fn write_rest<B: Board, K: Sink>(board: &B, first: u32, sink: &mut K) -> Result<
 // Writes the words of SRAM: 32 at a time, and the rest one by one.
 fn write_words<B: Board, K: Sink>(board: &B, sink: &mut K) -> Result<(), OutFault>
     requires { IsTrue (B.state board.now).on }
-    ensures { WritesOut (B.state board.now).on (K.drain sink.old) (words_bytes (B.state board.now).sram) result (K.drain sink.new) }
+    ensures { WritesOut (B.state board.now).on (K.drain sink.old) (words_bytes (B.state board.now).sram) result
+        (K.drain sink.new) }
 {
     let pieces = envy_map::words(&board.shape()) / 32;
     write_pieces(board, pieces, sink)?;
@@ -185,7 +191,8 @@ fn write_words<B: Board, K: Sink>(board: &B, sink: &mut K) -> Result<(), OutFaul
 // Writes what stands behind the head.
 fn write_body<B: Board, K: Sink>(board: &B, sink: &mut K) -> Result<(), OutFault>
     requires { IsTrue (B.state board.now).on }
-    ensures { let s = B.state board.now in WritesOut s.on (K.drain sink.old) (body_of s.flash s.sram) result (K.drain sink.new) }
+    ensures { let s = B.state board.now in WritesOut s.on (K.drain sink.old) (body_of s.flash s.sram) result
+        (K.drain sink.new) }
 {
     write_rows(board, sink)?;
     write_words(board, sink)

@@ -81,9 +81,11 @@ fn page_in<B: Steady>(board: &B, row: u32) -> [u64; 32]
 fn copy_word<B: Steady, D: Place>(board: &B, log: &mut Log<D>, w: u32) -> Result<(), DeviceFailed>
     requires word { w < length (B.state board.now).sram }
     requires gathers { Gathers D.second log.old }
-    requires makes { Makes (B.state board.now).shape (with_words (B.state board.now) w) (34 + 13 * w) (gathered D.second log.old) }
+    requires makes { Makes (B.state board.now).shape (with_words (B.state board.now) w) (34 + 13 * w)
+        (gathered D.second log.old) }
     ensures gathers { OnOk result (Gathers D.second log.new) }
-    ensures makes { OnOk result (Makes (B.state board.now).shape (with_words (B.state board.now) (w + 1)) (34 + 13 * (w + 1)) (gathered D.second log.new)) }
+    ensures makes { OnOk result (Makes (B.state board.now).shape (with_words (B.state board.now) (w + 1))
+        (34 + 13 * (w + 1)) (gathered D.second log.new)) }
     ensures room { length log.new.buffer.items ≡ length log.old.buffer.items }
     ensures untouched { IsUntouched D.may_leave D.moment D.left_since log.old.device log.new.device }
     ensures failed { OnErr result (IsTrue (D.has_failed log.new.device)) }
@@ -100,7 +102,8 @@ fn copy_words<B: Steady, D: Place>(board: &B, log: &mut Log<D>) -> Result<(), De
     requires gathers { Gathers D.second log.old }
     requires makes { Makes (B.state board.now).shape (blank (B.state board.now).shape) 34 (gathered D.second log.old) }
     ensures gathers { OnOk result (Gathers D.second log.new) }
-    ensures makes { OnOk result (Makes (B.state board.now).shape (with_rows (B.state board.now) 0) (34 + 13 * words_of (B.state board.now).shape) (gathered D.second log.new)) }
+    ensures makes { OnOk result (Makes (B.state board.now).shape (with_rows (B.state board.now) 0)
+        (34 + 13 * words_of (B.state board.now).shape) (gathered D.second log.new)) }
     ensures room { length log.new.buffer.items ≡ length log.old.buffer.items }
     ensures untouched { IsUntouched D.may_leave D.moment D.left_since log.old.device log.new.device }
     ensures failed { OnErr result (IsTrue (D.has_failed log.new.device)) }
@@ -115,9 +118,11 @@ fn copy_words<B: Steady, D: Place>(board: &B, log: &mut Log<D>) -> Result<(), De
 fn copy_row<B: Steady, D: Place>(board: &B, log: &mut Log<D>, row: u32) -> Result<(), DeviceFailed>
     requires row { row < length (B.state board.now).flash }
     requires gathers { Gathers D.second log.old }
-    requires makes { Makes (B.state board.now).shape (with_rows (B.state board.now) row) (34 + 13 * words_of (B.state board.now).shape + 261 * row) (gathered D.second log.old) }
+    requires makes { Makes (B.state board.now).shape (with_rows (B.state board.now) row)
+        (34 + 13 * words_of (B.state board.now).shape + 261 * row) (gathered D.second log.old) }
     ensures gathers { OnOk result (Gathers D.second log.new) }
-    ensures makes { OnOk result (Makes (B.state board.now).shape (with_rows (B.state board.now) (row + 1)) (34 + 13 * words_of (B.state board.now).shape + 261 * (row + 1)) (gathered D.second log.new)) }
+    ensures makes { OnOk result (Makes (B.state board.now).shape (with_rows (B.state board.now) (row + 1))
+        (34 + 13 * words_of (B.state board.now).shape + 261 * (row + 1)) (gathered D.second log.new)) }
     ensures room { length log.new.buffer.items ≡ length log.old.buffer.items }
     ensures untouched { IsUntouched D.may_leave D.moment D.left_since log.old.device log.new.device }
     ensures failed { OnErr result (IsTrue (D.has_failed log.new.device)) }
@@ -132,9 +137,12 @@ fn copy_row<B: Steady, D: Place>(board: &B, log: &mut Log<D>, row: u32) -> Resul
 // Adds what makes all rows.
 fn copy_rows<B: Steady, D: Place>(board: &B, log: &mut Log<D>) -> Result<(), DeviceFailed>
     requires gathers { Gathers D.second log.old }
-    requires makes { Makes (B.state board.now).shape (with_rows (B.state board.now) 0) (34 + 13 * words_of (B.state board.now).shape) (gathered D.second log.old) }
+    requires makes { Makes (B.state board.now).shape (with_rows (B.state board.now) 0)
+        (34 + 13 * words_of (B.state board.now).shape) (gathered D.second log.old) }
     ensures gathers { OnOk result (Gathers D.second log.new) }
-    ensures makes { OnOk result (Makes (B.state board.now).shape (content_of (B.state board.now)) (most_of (B.state board.now).shape - 2) (gathered D.second log.new)) }
+    ensures makes { OnOk result
+        (Makes (B.state board.now).shape (content_of (B.state board.now)) (most_of (B.state board.now).shape - 2)
+        (gathered D.second log.new)) }
     ensures room { length log.new.buffer.items ≡ length log.old.buffer.items }
     ensures untouched { IsUntouched D.may_leave D.moment D.left_since log.old.device log.new.device }
     ensures failed { OnErr result (IsTrue (D.has_failed log.new.device)) }
@@ -151,7 +159,9 @@ fn copy_board<B: Steady, D: Place>(board: &B, log: &mut Log<D>) -> Result<(), De
     requires gathers { Gathers D.second log.old }
     requires makes { Makes (B.state board.now).shape (blank (B.state board.now).shape) 34 (gathered D.second log.old) }
     ensures gathers { OnOk result (Gathers D.second log.new) }
-    ensures makes { OnOk result (Makes (B.state board.now).shape (content_of (B.state board.now)) (most_of (B.state board.now).shape - 2) (gathered D.second log.new)) }
+    ensures makes { OnOk result
+        (Makes (B.state board.now).shape (content_of (B.state board.now)) (most_of (B.state board.now).shape - 2)
+        (gathered D.second log.new)) }
     ensures room { length log.new.buffer.items ≡ length log.old.buffer.items }
     ensures untouched { IsUntouched D.may_leave D.moment D.left_since log.old.device log.new.device }
     ensures failed { OnErr result (IsTrue (D.has_failed log.new.device)) }
@@ -164,7 +174,9 @@ fn copy_board<B: Steady, D: Place>(board: &B, log: &mut Log<D>) -> Result<(), De
 fn gather<B: Steady, D: Place>(board: &B, log: &mut Log<D>) -> Result<(), DeviceFailed>
     requires room { 263 ≤ length log.old.buffer.items }
     ensures gathers { OnOk result (Gathers D.second log.new) }
-    ensures makes { OnOk result (Makes (B.state board.now).shape (content_of (B.state board.now)) (most_of (B.state board.now).shape - 2) (gathered D.second log.new)) }
+    ensures makes { OnOk result
+        (Makes (B.state board.now).shape (content_of (B.state board.now)) (most_of (B.state board.now).shape - 2)
+        (gathered D.second log.new)) }
     ensures room { length log.new.buffer.items ≡ length log.old.buffer.items }
     ensures untouched { IsUntouched D.may_leave D.moment D.left_since log.old.device log.new.device }
     ensures failed { OnErr result (IsTrue (D.has_failed log.new.device)) }
@@ -177,8 +189,11 @@ fn gather<B: Steady, D: Place>(board: &B, log: &mut Log<D>) -> Result<(), Device
 /// it might have left before, or that journal.
 pub(crate) fn rewrite<B: Steady, D: Place>(board: &B, log: &mut Log<D>) -> Result<(), DeviceFailed>
     requires room { 263 ≤ length log.old.buffer.items }
-    ensures rest { OnOk result (IsAtRest D.seen D.may_leave D.moment D.synced log.new.device log.new.gate × (log.new.end ≡ log.new.gate + 1) × (log.new.used ≡ 0)) }
-    ensures leads { OnOk result (Leads false 33 (take log.new.gate (D.seen log.new.device)) (operations (take log.new.gate (D.seen log.new.device))) false) }
+    ensures rest { OnOk result (IsAtRest D.seen D.may_leave D.moment D.synced log.new.device log.new.gate
+        × (log.new.end ≡ log.new.gate + 1) × (log.new.used ≡ 0)) }
+    ensures leads { OnOk result
+        (Leads false 33 (take log.new.gate (D.seen log.new.device))
+        (operations (take log.new.gate (D.seen log.new.device))) false) }
     ensures file { OnOk result (IsFileOf (B.state board.now) (take log.new.gate (D.seen log.new.device))) }
     ensures short { OnOk result (length (D.seen log.new.device) ≤ most_of (B.state board.now).shape) }
     ensures room { length log.new.buffer.items ≡ length log.old.buffer.items }

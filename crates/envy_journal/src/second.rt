@@ -93,8 +93,10 @@ impl<D: Place> Log<D> {
     pub(crate) fn replace(&mut self) -> Result<(), DeviceFailed>
         requires gathers { Gathers D.second self.old }
         requires small { length (gathered D.second self.old) < 2 ^ 62 }
-        ensures file { OnOk result ((D.seen self.new.device ≡ gathered D.second self.old ++ 5 ∷ 0 ∷ []) × (self.new.used ≡ 0)) }
-        ensures gate { OnOk result ((self.new.gate ≡ length (gathered D.second self.old) + 1) × (self.new.end ≡ self.new.gate + 1)) }
+        ensures file { OnOk result ((D.seen self.new.device ≡ gathered D.second self.old ++ 5 ∷ 0 ∷ [])
+            × (self.new.used ≡ 0)) }
+        ensures gate { OnOk result ((self.new.gate ≡ length (gathered D.second self.old) + 1)
+            × (self.new.end ≡ self.new.gate + 1)) }
         ensures durable { OnOk result (Only (D.seen self.new.device) (D.may_leave self.new.device)) }
         ensures synced { OnOk result (D.synced self.new.device ≡ D.moment self.new.device) }
         ensures room { length self.new.buffer.items ≡ length self.old.buffer.items }

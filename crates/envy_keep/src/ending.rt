@@ -69,10 +69,13 @@ pub fn serve_kept<S: Source, K: Sink, B: Steady + Drop, D: Place>(
     sink: &mut K,
 ) -> KeepEnded<D>
     requires begun { (start : Start) × KeptSince start memory [] }
-    ensures served { (start : Start) → KeptSince start memory [] → KeepsServed start.array start.memory.chart.shape result.status result.why result.lines result.taken (D.left_since result.device) (D.moment result.device)
+    ensures served { (start : Start) → KeptSince start memory []
+        → KeepsServed start.array start.memory.chart.shape result.status result.why result.lines result.taken
+        (D.left_since result.device) (D.moment result.device)
         (record { from = S.feed source.old; feed = S.feed source.new; to = K.drain sink.old; sink = K.drain sink.new }) }
     // power is off only where the file failed, or came to the end of its range
-    ensures stopped { result.status ≡ 6 → length (D.seen result.device) + result.held < 2 ^ 60 → IsTrue (D.has_failed result.device) }
+    ensures stopped { result.status ≡ 6 → length (D.seen result.device) + result.held < 2 ^ 60
+        → IsTrue (D.has_failed result.device) }
     ensures few { result.lines ≤ result.taken }
     ensures read { result.taken ≤ 1099511627776 }
 {

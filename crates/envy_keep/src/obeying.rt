@@ -25,7 +25,8 @@ fn obey_call<K: Sink, B: Steady, D: Place>(
     requires on { IsTrue memory.old.chart.on }
     requires call { IsKeepCall line.now }
     ensures { (start : Start) (turns : List KeepTurn) → KeptSince start memory.old turns
-        → Obeys result keep_grammar (KeptSince start memory.new) (LostSince start memory.new) turns line.now (K.drain sink.old) (K.drain sink.new) }
+        → Obeys result keep_grammar (KeptSince start memory.new) (LostSince start memory.new) turns line.now
+        (K.drain sink.old) (K.drain sink.new) }
 {
     let reply = answer(memory, line);
     let wrote = write_keep_reply(sink, &reply, buffer);
@@ -48,7 +49,8 @@ pub(crate) fn obey_line<K: Sink, B: Steady, D: Place>(
     requires on { IsTrue memory.old.chart.on }
     requires line { IsKeptLine line.now }
     ensures { (start : Start) (turns : List KeepTurn) → KeptSince start memory.old turns
-        → Obeys result keep_grammar (KeptSince start memory.new) (LostSince start memory.new) turns line.now (K.drain sink.old) (K.drain sink.new) }
+        → Obeys result keep_grammar (KeptSince start memory.new) (LostSince start memory.new) turns line.now
+        (K.drain sink.old) (K.drain sink.new) }
 {
     match *line {
         KeepLine::Trace(Line::Empty) => Obeyed::Done,

@@ -21,7 +21,8 @@ use std::alloc::Global;
 
 // The end where nothing is served.
 fn unserved<D>(unbegun: Unbegun, device: D) -> KeepEnded<D>
-    ensures says { told result.status result.why result.lines result.taken ≡ told (status_for unbegun) (why_for unbegun) 0 0 }
+    ensures says { told result.status result.why result.lines result.taken
+        ≡ told (status_for unbegun) (why_for unbegun) 0 0 }
     ensures lines { result.lines ≡ 0 }
     ensures taken { result.taken ≡ 0 }
     ensures device { result.device ≡ device }
@@ -57,11 +58,18 @@ fn serve_on<S: Source, K: Sink, B: Steady + Drop, D: Place + Drop>(
     requires plans { Plans holding options.now bytes.now setup }
     requires checks { checked setup ≡ Ok tt }
     requires entries { 0 < setup.shape.entries }
-    ensures keeps { let io : Streams = record { from = S.feed source.old; feed = S.feed source.new; to = K.drain sink.old; sink = K.drain sink.new } in
+    ensures keeps { let io : Streams = record {
+      from = S.feed source.old;
+      feed = S.feed source.new;
+      to = K.drain
+          sink.old;
+      sink = K.drain sink.new;
+    } in
         let end = told result.status result.why result.lines result.taken in
         IsServed options.now bytes.now end (D.left_since result.device) (D.moment result.device) io
         ⊎ IsUnserved D.seen D.has_failed options.now bytes.now device result.device end io }
-    ensures stopped { result.status ≡ 6 → length (D.seen result.device) + result.held < 2 ^ 60 → IsTrue (D.has_failed result.device) }
+    ensures stopped { result.status ≡ 6 → length (D.seen result.device) + result.held < 2 ^ 60
+        → IsTrue (D.has_failed result.device) }
     ensures few { result.lines ≤ result.taken }
     ensures read { result.taken ≤ 1099511627776 }
 {
@@ -88,12 +96,19 @@ pub fn keep<S: Source, K: Sink, D: Place + Drop>(
 ) -> KeepEnded<D>
     requires bytes { D.seen device ≡ bytes.now }
     requires durable { Only (D.seen device) (D.may_leave device) }
-    ensures keeps { let io : Streams = record { from = S.feed source.old; feed = S.feed source.new; to = K.drain sink.old; sink = K.drain sink.new } in
+    ensures keeps { let io : Streams = record {
+      from = S.feed source.old;
+      feed = S.feed source.new;
+      to = K.drain
+          sink.old;
+      sink = K.drain sink.new;
+    } in
         let end = told result.status result.why result.lines result.taken in
         IsServed options.now bytes.now end (D.left_since result.device) (D.moment result.device) io
         ⊎ IsUnserved D.seen D.has_failed options.now bytes.now device result.device end io }
     // power is off only where the file failed, or came to the end of its range
-    ensures stopped { result.status ≡ 6 → length (D.seen result.device) + result.held < 2 ^ 60 → IsTrue (D.has_failed result.device) }
+    ensures stopped { result.status ≡ 6 → length (D.seen result.device) + result.held < 2 ^ 60
+        → IsTrue (D.has_failed result.device) }
     ensures few { result.lines ≤ result.taken }
     ensures read { result.taken ≤ 1099511627776 }
 {

@@ -47,7 +47,9 @@ fn begun(
     port: i32,
 ) -> Result<Memory<Kept<CellBoard, PortFile>>, Unbegun>
     requires { checked setup.now ≡ Ok tt }
-    ensures begun { IfOk result (λ memory. (holding : OfHolding) × (array : Array) × Plans holding (options_of setup.now) file.now setup.now × BeginsAs holding file.now setup.now array × HasBegun setup.now array memory) }
+    ensures begun { IfOk result (λ memory. (holding : OfHolding) × (array : Array)
+        × Plans holding (options_of setup.now) file.now setup.now × BeginsAs holding file.now setup.now array
+        × HasBegun setup.now array memory) }
     ensures refused { IfErr result (RefusesFile (options_of setup.now) file.now) }
 {
     let options = options(setup);

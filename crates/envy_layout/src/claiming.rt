@@ -14,9 +14,11 @@ pub fn claim_back<B: Board>(board: &mut B, row: u32, page: u32) -> Result<(), Of
     requires sound { IsSound (chart (B.state board.old)) }
     requires row { row < (B.state board.old).shape.segments * (B.state board.old).shape.rows }
     requires page { page < (B.state board.old).shape.pages }
-    requires free { IsTrue (B.state board.old).on → IsFree (B.state board.old).shape (chart (B.state board.old)).fields row }
+    requires free { IsTrue (B.state board.old).on
+        → IsFree (B.state board.old).shape (chart (B.state board.old)).fields row }
     ensures same { Same 0 0 (chart (B.state board.old)) (chart (B.state board.new)) }
-    ensures fields { OnOk result (chart (B.state board.new) ≡ with_fields (chart (B.state board.old)) (with_back row page (chart (B.state board.old)).fields)) }
+    ensures fields { OnOk result (chart (B.state board.new) ≡ with_fields (chart (B.state board.old))
+        (with_back row page (chart (B.state board.old)).fields)) }
     ensures fills { (chart (B.state board.new)).fields.fills ≡ (chart (B.state board.old)).fields.fills }
     ensures on { OnOk result (IsTrue (B.state board.new).on) }
     ensures off { OnErr result ((B.state board.new).on ≡ false) }
@@ -30,10 +32,13 @@ pub fn raise_fill<B: Board>(board: &mut B, segment: u32, fill: u32) -> Result<()
     requires sound { IsSound (chart (B.state board.old)) }
     requires segment { segment < (B.state board.old).shape.segments }
     requires room { fill < (B.state board.old).shape.rows }
-    requires filled { IsTrue (B.state board.old).on → slice_index (chart (B.state board.old)).fields.fills segment ≡ fill }
-    requires usable { IsTrue (B.state board.old).on → IsUsable (B.state board.old).shape (chart (B.state board.old)).fields segment }
+    requires filled { IsTrue (B.state board.old).on → slice_index (chart (B.state board.old)).fields.fills segment
+        ≡ fill }
+    requires usable { IsTrue (B.state board.old).on
+        → IsUsable (B.state board.old).shape (chart (B.state board.old)).fields segment }
     ensures same { Same 0 0 (chart (B.state board.old)) (chart (B.state board.new)) }
-    ensures fields { OnOk result (chart (B.state board.new) ≡ with_fields (chart (B.state board.old)) (with_fill segment (fill + 1) (chart (B.state board.old)).fields)) }
+    ensures fields { OnOk result (chart (B.state board.new) ≡ with_fields (chart (B.state board.old))
+        (with_fill segment (fill + 1) (chart (B.state board.old)).fields)) }
     ensures rises { FillsRise (chart (B.state board.old)) (chart (B.state board.new)) }
     ensures on { OnOk result (IsTrue (B.state board.new).on) }
     ensures off { OnErr result ((B.state board.new).on ≡ false) }
@@ -49,7 +54,8 @@ pub fn note_origin<B: Board>(board: &mut B, i: u32, row: u32) -> Result<(), Off>
     requires row { row < (B.state board.old).shape.segments * (B.state board.old).shape.rows }
     requires copying { IsTrue (B.state board.old).on → IsCopying (chart (B.state board.old)).fields }
     ensures same { Same 0 0 (chart (B.state board.old)) (chart (B.state board.new)) }
-    ensures fields { OnOk result (chart (B.state board.new) ≡ with_fields (chart (B.state board.old)) (with_origin i row (chart (B.state board.old)).fields)) }
+    ensures fields { OnOk result (chart (B.state board.new) ≡ with_fields (chart (B.state board.old))
+        (with_origin i row (chart (B.state board.old)).fields)) }
     ensures on { OnOk result (IsTrue (B.state board.new).on) }
     ensures off { OnErr result ((B.state board.new).on ≡ false) }
 {

@@ -24,7 +24,8 @@ pub fn raise_wear<B: Board>(board: &mut B, segment: u32) -> Result<(), Off>
     requires sound { IsSound (chart (B.state board.old)) }
     requires segment { segment < (B.state board.old).shape.segments }
     ensures stays { Stays 0 0 (chart (B.state board.old)) (chart (B.state board.new)) }
-    ensures writes { Writes (with_wear segment (up (slice_index (chart (B.state board.old)).fields.wears segment))) (chart (B.state board.old)) result (chart (B.state board.new)) }
+    ensures writes { Writes (with_wear segment (up (slice_index (chart (B.state board.old)).fields.wears segment)))
+        (chart (B.state board.old)) result (chart (B.state board.new)) }
     ensures on { OnOk result (IsTrue (B.state board.new).on) }
     ensures off { OnErr result ((B.state board.new).on ≡ false) }
 {
@@ -49,14 +50,19 @@ pub fn erase_counted<B: Board>(
     requires sound { IsSound (chart (B.state board.old)) }
     requires segment { segment < (B.state board.old).shape.segments }
     requires erasing { IsTrue (B.state board.old).on → (chart (B.state board.old)).fields.job ≡ Some Erase }
-    requires spare { IsTrue (B.state board.old).on → IsSpare (B.state board.old).shape (chart (B.state board.old)).fields.positions segment }
+    requires spare { IsTrue (B.state board.old).on
+        → IsSpare (B.state board.old).shape (chart (B.state board.old)).fields.positions segment }
     ensures same { Same 0 1 (chart (B.state board.old)) (chart (B.state board.new)) }
     ensures fields { let old = (chart (B.state board.old)).fields in
-        IsTrue (B.state board.new).on → (chart (B.state board.new)).fields ≡ with_wear segment (up (slice_index old.wears segment)) old }
+        IsTrue (B.state board.new).on
+        → (chart (B.state board.new)).fields ≡ with_wear segment (up (slice_index old.wears segment)) old }
     ensures erases { let old = (B.state board.old).erases in
-        IsTrue (B.state board.new).on → (B.state board.new).erases ≡ slice_set old segment (up (slice_index old segment)) }
-    ensures erased { OnOk result (Only (B.state board.old).shape.rows segment IsOnes (B.state board.old).flash (B.state board.new).flash) }
-    ensures others { (q : ℕ) → q / (B.state board.old).shape.rows ≢ segment → slice_index_or (B.state board.new).flash q [] ≡ slice_index_or (B.state board.old).flash q [] }
+        IsTrue (B.state board.new).on
+        → (B.state board.new).erases ≡ slice_set old segment (up (slice_index old segment)) }
+    ensures erased { OnOk result (Only (B.state board.old).shape.rows segment IsOnes (B.state board.old).flash
+        (B.state board.new).flash) }
+    ensures others { (q : ℕ) → q / (B.state board.old).shape.rows ≢ segment
+        → slice_index_or (B.state board.new).flash q [] ≡ slice_index_or (B.state board.old).flash q [] }
     ensures counted { IsTrue (B.state board.new).on → (count.new ≡ up count.old) × (since.new ≡ up since.old) }
     ensures counts { Tally (sum (B.state board.old).erases) count.old (sum (B.state board.new).erases) count.new }
     ensures counts_since { Tally (sum (B.state board.old).erases) since.old (sum (B.state board.new).erases) since.new }
@@ -76,9 +82,11 @@ pub fn empty_spare<B: Board>(board: &mut B, segment: u32) -> Result<(), Off>
     requires sound { IsSound (chart (B.state board.old)) }
     requires segment { segment < (B.state board.old).shape.segments }
     requires erasing { IsTrue (B.state board.old).on → (chart (B.state board.old)).fields.job ≡ Some Erase }
-    requires spare { IsTrue (B.state board.old).on → IsSpare (B.state board.old).shape (chart (B.state board.old)).fields.positions segment }
+    requires spare { IsTrue (B.state board.old).on
+        → IsSpare (B.state board.old).shape (chart (B.state board.old)).fields.positions segment }
     ensures same { Same 0 0 (chart (B.state board.old)) (chart (B.state board.new)) }
-    ensures fields { OnOk result (chart (B.state board.new) ≡ with_fields (chart (B.state board.old)) (with_fill segment 0 (chart (B.state board.old)).fields)) }
+    ensures fields { OnOk result (chart (B.state board.new) ≡ with_fields (chart (B.state board.old))
+        (with_fill segment 0 (chart (B.state board.old)).fields)) }
     ensures on { OnOk result (IsTrue (B.state board.new).on) }
     ensures off { OnErr result ((B.state board.new).on ≡ false) }
 {

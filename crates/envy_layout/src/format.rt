@@ -30,9 +30,12 @@ fn clear_segment<B: Board>(board: &mut B, segment: u32) -> Result<(), Trouble>
 /// Erases all segments.
 fn clear_segments<B: Board>(board: &mut B) -> Result<(), Trouble>
     requires { IsTrue (B.state board.old).on }
-    ensures done { OnOk result (Cleared (B.state board.old).shape.segments (chart (B.state board.old)) (chart (B.state board.new))) }
-    ensures stopped { IsErrOf result Trouble.Off → IsStopped (B.state board.old).shape.segments (chart (B.state board.old)) (chart (B.state board.new)) }
-    ensures spoilt { IsErrOf result Trouble.Bad → IsSpoilt (B.state board.old).shape.segments (chart (B.state board.old)) (chart (B.state board.new)) }
+    ensures done { OnOk result (Cleared (B.state board.old).shape.segments (chart (B.state board.old))
+        (chart (B.state board.new))) }
+    ensures stopped { IsErrOf result Trouble.Off
+        → IsStopped (B.state board.old).shape.segments (chart (B.state board.old)) (chart (B.state board.new)) }
+    ensures spoilt { IsErrOf result Trouble.Bad
+        → IsSpoilt (B.state board.old).shape.segments (chart (B.state board.old)) (chart (B.state board.new)) }
 {
     for segment in 0..board.shape().segments {
         match clear_segment(board, segment) {
@@ -47,7 +50,8 @@ fn clear_segments<B: Board>(board: &mut B) -> Result<(), Trouble>
 fn lay_regions<B: Board>(board: &mut B, slots: u8) -> Result<(), Off>
     requires on { IsTrue (B.state board.old).on }
     requires slots { slots ≤ 64 }
-    ensures done { OnOk result (chart (B.state board.new) ≡ with_fields (chart (B.state board.old)) (with_regions_laid (B.state board.old).shape slots (chart (B.state board.old)).fields)) }
+    ensures done { OnOk result (chart (B.state board.new) ≡ with_fields (chart (B.state board.old))
+        (with_regions_laid (B.state board.old).shape slots (chart (B.state board.old)).fields)) }
     ensures stopped { OnErr result (IsStopped 0 (chart (B.state board.old)) (chart (B.state board.new))) }
 {
     lay_slots(board, slots)?;
@@ -63,11 +67,16 @@ fn lay_regions<B: Board>(board: &mut B, slots: u8) -> Result<(), Off>
 fn lay_map<B: Board>(board: &mut B, version: u64, slots: u8) -> Result<(), Trouble>
     requires on { IsTrue (B.state board.old).on }
     requires slots { slots ≡ slots_of version }
-    ensures laid { OnOk result (IsLaid (B.state board.old).shape version (chart (B.state board.new)).fields (B.state board.new).flash) }
-    ensures done { OnOk result (Reached (B.state board.old).shape.segments (chart (B.state board.old)) (chart (B.state board.new))) }
-    ensures erases { OnOk result (AreErasedOnce (B.state board.old).shape.segments (B.state board.old).erases (B.state board.new).erases) }
-    ensures stopped { IsErrOf result Trouble.Off → IsStopped (B.state board.old).shape.segments (chart (B.state board.old)) (chart (B.state board.new)) }
-    ensures spoilt { IsErrOf result Trouble.Bad → IsSpoilt (B.state board.old).shape.segments (chart (B.state board.old)) (chart (B.state board.new)) }
+    ensures laid { OnOk result (IsLaid (B.state board.old).shape version (chart (B.state board.new)).fields
+        (B.state board.new).flash) }
+    ensures done { OnOk result (Reached (B.state board.old).shape.segments (chart (B.state board.old))
+        (chart (B.state board.new))) }
+    ensures erases { OnOk result (AreErasedOnce (B.state board.old).shape.segments (B.state board.old).erases
+        (B.state board.new).erases) }
+    ensures stopped { IsErrOf result Trouble.Off
+        → IsStopped (B.state board.old).shape.segments (chart (B.state board.old)) (chart (B.state board.new)) }
+    ensures spoilt { IsErrOf result Trouble.Bad
+        → IsSpoilt (B.state board.old).shape.segments (chart (B.state board.old)) (chart (B.state board.new)) }
 {
     match clear_segments(board) {
         Ok(()) => {}
@@ -84,8 +93,10 @@ fn format_as<B: Board>(board: &mut B, version: u64, slots: u8) -> Result<(), Tro
     requires slots { slots ≡ slots_of version }
     ensures formats { Formats version (B.state board.old) result (B.state board.new) }
     ensures shape { (B.state board.new).shape ≡ (B.state board.old).shape }
-    ensures erases { OnOk result (AreErasedOnce (B.state board.old).shape.segments (B.state board.old).erases (B.state board.new).erases) }
-    ensures counts { Counted 0 (B.state board.old).shape.segments (chart (B.state board.old)) (chart (B.state board.new)) }
+    ensures erases { OnOk result (AreErasedOnce (B.state board.old).shape.segments (B.state board.old).erases
+        (B.state board.new).erases) }
+    ensures counts { Counted 0 (B.state board.old).shape.segments (chart (B.state board.old))
+        (chart (B.state board.new)) }
 {
     set_magic(board, 0)?;
     match lay_map(board, version, slots) {
@@ -105,8 +116,10 @@ fn format_as<B: Board>(board: &mut B, version: u64, slots: u8) -> Result<(), Tro
 pub fn format_board<B: Board>(board: &mut B) -> Result<(), Trouble>
     ensures formats { Formats 2 (B.state board.old) result (B.state board.new) }
     ensures shape { (B.state board.new).shape ≡ (B.state board.old).shape }
-    ensures erases { OnOk result (AreErasedOnce (B.state board.old).shape.segments (B.state board.old).erases (B.state board.new).erases) }
-    ensures counts { Counted 0 (B.state board.old).shape.segments (chart (B.state board.old)) (chart (B.state board.new)) }
+    ensures erases { OnOk result (AreErasedOnce (B.state board.old).shape.segments (B.state board.old).erases
+        (B.state board.new).erases) }
+    ensures counts { Counted 0 (B.state board.old).shape.segments (chart (B.state board.old))
+        (chart (B.state board.new)) }
 {
     format_as(board, 2, 64)
 }
@@ -119,8 +132,10 @@ pub fn format_board<B: Board>(board: &mut B) -> Result<(), Trouble>
 pub fn format_board_1<B: Board>(board: &mut B) -> Result<(), Trouble>
     ensures formats { Formats 1 (B.state board.old) result (B.state board.new) }
     ensures shape { (B.state board.new).shape ≡ (B.state board.old).shape }
-    ensures erases { OnOk result (AreErasedOnce (B.state board.old).shape.segments (B.state board.old).erases (B.state board.new).erases) }
-    ensures counts { Counted 0 (B.state board.old).shape.segments (chart (B.state board.old)) (chart (B.state board.new)) }
+    ensures erases { OnOk result (AreErasedOnce (B.state board.old).shape.segments (B.state board.old).erases
+        (B.state board.new).erases) }
+    ensures counts { Counted 0 (B.state board.old).shape.segments (chart (B.state board.old))
+        (chart (B.state board.new)) }
 {
     format_as(board, 1, 16)
 }

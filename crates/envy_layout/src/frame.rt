@@ -14,7 +14,8 @@ pub fn write_free_frame<B: Board>(board: &mut B, frame: u32, page: &[u64; 32]) -
     requires frame { frame < (B.state board.old).shape.frames }
     requires unnamed { IsTrue (B.state board.old).on → IsUnnamed (chart (B.state board.old)).fields frame }
     ensures same { Same 0 0 (chart (B.state board.old)) (chart (B.state board.new)) }
-    ensures fields { OnOk result (chart (B.state board.new) ≡ with_fields (chart (B.state board.old)) (with_frame frame page.now 32 (chart (B.state board.old)).fields)) }
+    ensures fields { OnOk result (chart (B.state board.new) ≡ with_fields (chart (B.state board.old))
+        (with_frame frame page.now 32 (chart (B.state board.old)).fields)) }
     ensures places { (chart (B.state board.new)).fields.places ≡ (chart (B.state board.old)).fields.places }
     ensures on { OnOk result (IsTrue (B.state board.new).on) }
     ensures off { OnErr result ((B.state board.new).on ≡ false) }
@@ -34,18 +35,21 @@ pub fn change_frame_word<B: Board>(
     requires sound { IsSound (chart (B.state board.old)) }
     requires frame { frame < (B.state board.old).shape.frames }
     requires place { i < 32 }
-    requires here { IsTrue (B.state board.old).on → place (chart (B.state board.old)).fields page ≡ Some (Place.Frame frame) }
+    requires here { IsTrue (B.state board.old).on
+        → place (chart (B.state board.old)).fields page ≡ Some (Place.Frame frame) }
     ensures free { let old = chart (B.state board.old) in
         let new = chart (B.state board.new) in
         (IsTrue old.on → owned_by old.fields.slots (undo old.fields page) ≡ false)
-        → MatchResult result (λ _. Stored 0 0 old new (32 * page + i) word) (λ _. Interrupted 0 0 old new (32 * page + i) word) }
+        → MatchResult result (λ _. Stored 0 0 old new (32 * page + i) word) (λ _.
+        Interrupted 0 0 old new (32 * page + i) word) }
     ensures owned { let old = chart (B.state board.old) in
         let new = chart (B.state board.new) in
         (IsTrue old.on → owned_by old.fields.slots (undo old.fields page) ≡ true)
         → MatchResult result (λ _. Shadowed 0 0 old new (32 * page + i) word) (λ _. Dropped 0 0 old new) }
     ensures counted { Counted 0 0 (chart (B.state board.old)) (chart (B.state board.new)) }
     ensures worn { Wears (chart (B.state board.old)) (chart (B.state board.new)) }
-    ensures writes { Writes (with_frame_word frame i word) (chart (B.state board.old)) result (chart (B.state board.new)) }
+    ensures writes { Writes (with_frame_word frame i word) (chart (B.state board.old)) result
+        (chart (B.state board.new)) }
     ensures on { OnOk result (IsTrue (B.state board.new).on) }
     ensures off { OnErr result ((B.state board.new).on ≡ false) }
 {
@@ -67,18 +71,21 @@ pub fn move_to_frame<B: Board>(
     requires frame { frame < (B.state board.old).shape.frames }
     requires place { i < 32 }
     requires unnamed { IsTrue (B.state board.old).on → IsUnnamed (chart (B.state board.old)).fields frame }
-    requires copy { IsTrue (B.state board.old).on → HasChanged (chart (B.state board.old)).fields (B.state board.old).flash page (Place.Frame frame) i word }
+    requires copy { IsTrue (B.state board.old).on
+        → HasChanged (chart (B.state board.old)).fields (B.state board.old).flash page (Place.Frame frame) i word }
     ensures free { let old = chart (B.state board.old) in
         let new = chart (B.state board.new) in
         (IsTrue old.on → owned_by old.fields.slots (undo old.fields page) ≡ false)
-        → MatchResult result (λ _. Stored 0 0 old new (32 * page + i) word) (λ _. Interrupted 0 0 old new (32 * page + i) word) }
+        → MatchResult result (λ _. Stored 0 0 old new (32 * page + i) word) (λ _.
+        Interrupted 0 0 old new (32 * page + i) word) }
     ensures owned { let old = chart (B.state board.old) in
         let new = chart (B.state board.new) in
         (IsTrue old.on → owned_by old.fields.slots (undo old.fields page) ≡ true)
         → MatchResult result (λ _. Shadowed 0 0 old new (32 * page + i) word) (λ _. Dropped 0 0 old new) }
     ensures counted { Counted 0 0 (chart (B.state board.old)) (chart (B.state board.new)) }
     ensures worn { Wears (chart (B.state board.old)) (chart (B.state board.new)) }
-    ensures writes { Writes (with_place page (Some (Place.Frame frame))) (chart (B.state board.old)) result (chart (B.state board.new)) }
+    ensures writes { Writes (with_place page (Some (Place.Frame frame))) (chart (B.state board.old)) result
+        (chart (B.state board.new)) }
     ensures on { OnOk result (IsTrue (B.state board.new).on) }
     ensures off { OnErr result ((B.state board.new).on ≡ false) }
 {

@@ -14,10 +14,13 @@ use envy_map::set_job;
 pub fn change_job<B: Board>(board: &mut B, job: Job) -> Result<(), Off>
     requires sound { IsSound (chart (B.state board.old)) }
     requires job { IsJob job }
-    requires fits { IsTrue (B.state board.old).on → FitsJob (B.state board.old).shape (with_job (Some job) (chart (B.state board.old)).fields) (B.state board.old).flash }
+    requires fits { IsTrue (B.state board.old).on
+        → FitsJob (B.state board.old).shape (with_job (Some job) (chart (B.state board.old)).fields)
+        (B.state board.old).flash }
     ensures same { Same 0 0 (chart (B.state board.old)) (chart (B.state board.new)) }
     ensures writes { Writes (with_job (Some job)) (chart (B.state board.old)) result (chart (B.state board.new)) }
-    ensures fields { OnOk result (chart (B.state board.new) ≡ with_fields (chart (B.state board.old)) (with_job (Some job) (chart (B.state board.old)).fields)) }
+    ensures fields { OnOk result (chart (B.state board.new) ≡ with_fields (chart (B.state board.old))
+        (with_job (Some job) (chart (B.state board.old)).fields)) }
     ensures on { OnOk result (IsTrue (B.state board.new).on) }
     ensures off { OnErr result ((B.state board.new).on ≡ false) }
 {
@@ -29,9 +32,11 @@ pub fn begin_copy<B: Board>(board: &mut B, segment: u32) -> Result<(), Off>
     requires sound { IsSound (chart (B.state board.old)) }
     requires segment { segment < (B.state board.old).shape.segments }
     requires idle { IsTrue (B.state board.old).on → (chart (B.state board.old)).fields.job ≡ Some Idle }
-    requires placed { IsTrue (B.state board.old).on → IsPlaced (B.state board.old).shape (chart (B.state board.old)).fields.positions segment }
+    requires placed { IsTrue (B.state board.old).on
+        → IsPlaced (B.state board.old).shape (chart (B.state board.old)).fields.positions segment }
     ensures same { Same 0 0 (chart (B.state board.old)) (chart (B.state board.new)) }
-    ensures fields { OnOk result (chart (B.state board.new) ≡ with_fields (chart (B.state board.old)) (with_job (Some (Copy segment)) (chart (B.state board.old)).fields)) }
+    ensures fields { OnOk result (chart (B.state board.new) ≡ with_fields (chart (B.state board.old))
+        (with_job (Some (Copy segment)) (chart (B.state board.old)).fields)) }
     ensures on { OnOk result (IsTrue (B.state board.new).on) }
     ensures off { OnErr result ((B.state board.new).on ≡ false) }
 {
@@ -44,9 +49,11 @@ pub fn begin_switch<B: Board>(board: &mut B, segment: u32) -> Result<(), Off>
     requires sound { IsSound (chart (B.state board.old)) }
     requires segment { segment < (B.state board.old).shape.segments }
     requires copying { IsTrue (B.state board.old).on → (chart (B.state board.old)).fields.job ≡ Some (Copy segment) }
-    requires copied { IsTrue (B.state board.old).on → IsCopiedWhole (B.state board.old).shape (chart (B.state board.old)).fields (B.state board.old).flash segment }
+    requires copied { IsTrue (B.state board.old).on
+        → IsCopiedWhole (B.state board.old).shape (chart (B.state board.old)).fields (B.state board.old).flash segment }
     ensures same { Same 0 0 (chart (B.state board.old)) (chart (B.state board.new)) }
-    ensures fields { OnOk result (chart (B.state board.new) ≡ with_fields (chart (B.state board.old)) (with_job (Some (Switch segment)) (chart (B.state board.old)).fields)) }
+    ensures fields { OnOk result (chart (B.state board.new) ≡ with_fields (chart (B.state board.old))
+        (with_job (Some (Switch segment)) (chart (B.state board.old)).fields)) }
     ensures on { OnOk result (IsTrue (B.state board.new).on) }
     ensures off { OnErr result ((B.state board.new).on ≡ false) }
 {
@@ -56,10 +63,12 @@ pub fn begin_switch<B: Board>(board: &mut B, segment: u32) -> Result<(), Off>
 /// Begins to erase the spare, in which no kept row lies, whatever the job was. The array stays.
 pub fn begin_erase<B: Board>(board: &mut B) -> Result<(), Off>
     requires sound { IsSound (chart (B.state board.old)) }
-    requires home { IsTrue (B.state board.old).on → AreHome (B.state board.old).shape (chart (B.state board.old)).fields }
+    requires home { IsTrue (B.state board.old).on
+        → AreHome (B.state board.old).shape (chart (B.state board.old)).fields }
     ensures same { Same 0 0 (chart (B.state board.old)) (chart (B.state board.new)) }
     ensures writes { Writes (with_job (Some Erase)) (chart (B.state board.old)) result (chart (B.state board.new)) }
-    ensures fields { OnOk result (chart (B.state board.new) ≡ with_fields (chart (B.state board.old)) (with_job (Some Erase) (chart (B.state board.old)).fields)) }
+    ensures fields { OnOk result (chart (B.state board.new) ≡ with_fields (chart (B.state board.old))
+        (with_job (Some Erase) (chart (B.state board.old)).fields)) }
     ensures on { OnOk result (IsTrue (B.state board.new).on) }
     ensures off { OnErr result ((B.state board.new).on ≡ false) }
 {
@@ -70,9 +79,11 @@ pub fn begin_erase<B: Board>(board: &mut B) -> Result<(), Off>
 pub fn end_job<B: Board>(board: &mut B) -> Result<(), Off>
     requires sound { IsSound (chart (B.state board.old)) }
     requires erasing { IsTrue (B.state board.old).on → (chart (B.state board.old)).fields.job ≡ Some Erase }
-    requires blank { IsTrue (B.state board.old).on → (e : ℕ) × IsBlankSpare (B.state board.old).shape (chart (B.state board.old)).fields (B.state board.old).flash e }
+    requires blank { IsTrue (B.state board.old).on → (e : ℕ)
+        × IsBlankSpare (B.state board.old).shape (chart (B.state board.old)).fields (B.state board.old).flash e }
     ensures same { Same 0 0 (chart (B.state board.old)) (chart (B.state board.new)) }
-    ensures fields { OnOk result (chart (B.state board.new) ≡ with_fields (chart (B.state board.old)) (with_job (Some Idle) (chart (B.state board.old)).fields)) }
+    ensures fields { OnOk result (chart (B.state board.new) ≡ with_fields (chart (B.state board.old))
+        (with_job (Some Idle) (chart (B.state board.old)).fields)) }
     ensures on { OnOk result (IsTrue (B.state board.new).on) }
     ensures off { OnErr result ((B.state board.new).on ≡ false) }
 {

@@ -18,7 +18,8 @@ fn pair(high: u32, low: u32) -> u64
 /// Writes the words that keep the shape, the version, and that no job runs.
 pub fn lay_head<B: Board>(board: &mut B, version: u64) -> Result<(), Off>
     requires { IsTrue (B.state board.old).on }
-    ensures done { OnOk result (chart (B.state board.new) ≡ with_fields (chart (B.state board.old)) (with_head (B.state board.old).shape version (chart (B.state board.old)).fields)) }
+    ensures done { OnOk result (chart (B.state board.new) ≡ with_fields (chart (B.state board.old))
+        (with_head (B.state board.old).shape version (chart (B.state board.old)).fields)) }
     ensures stopped { OnErr result (IsStopped 0 (chart (B.state board.old)) (chart (B.state board.new))) }
 {
     let shape = board.shape();
@@ -34,7 +35,8 @@ pub fn lay_head<B: Board>(board: &mut B, version: u64) -> Result<(), Off>
 pub fn lay_slots<B: Board>(board: &mut B, count: u8) -> Result<(), Off>
     requires on { IsTrue (B.state board.old).on }
     requires count { count ≤ 64 }
-    ensures done { OnOk result (chart (B.state board.new) ≡ with_fields (chart (B.state board.old)) (with_slots_laid count (chart (B.state board.old)).fields)) }
+    ensures done { OnOk result (chart (B.state board.new) ≡ with_fields (chart (B.state board.old))
+        (with_slots_laid count (chart (B.state board.old)).fields)) }
     ensures stopped { OnErr result (IsStopped 0 (chart (B.state board.old)) (chart (B.state board.new))) }
 {
     for t in 0..count {
@@ -46,7 +48,8 @@ pub fn lay_slots<B: Board>(board: &mut B, count: u8) -> Result<(), Off>
 /// Puts segment k at position k.
 pub fn lay_positions<B: Board>(board: &mut B) -> Result<(), Off>
     requires { IsTrue (B.state board.old).on }
-    ensures done { OnOk result (chart (B.state board.new) ≡ with_fields (chart (B.state board.old)) (with_positions_laid ((B.state board.old).shape.segments - 1) (chart (B.state board.old)).fields)) }
+    ensures done { OnOk result (chart (B.state board.new) ≡ with_fields (chart (B.state board.old))
+        (with_positions_laid ((B.state board.old).shape.segments - 1) (chart (B.state board.old)).fields)) }
     ensures stopped { OnErr result (IsStopped 0 (chart (B.state board.old)) (chart (B.state board.new))) }
 {
     for k in 0..board.shape().segments - 1 {
@@ -58,7 +61,8 @@ pub fn lay_positions<B: Board>(board: &mut B) -> Result<(), Off>
 /// Makes every page absent.
 pub fn lay_places<B: Board>(board: &mut B) -> Result<(), Off>
     requires { IsTrue (B.state board.old).on }
-    ensures done { OnOk result (chart (B.state board.new) ≡ with_fields (chart (B.state board.old)) (with_places_laid (2 * (((B.state board.old).shape.pages + 1) / 2)) (chart (B.state board.old)).fields)) }
+    ensures done { OnOk result (chart (B.state board.new) ≡ with_fields (chart (B.state board.old))
+        (with_places_laid (2 * (((B.state board.old).shape.pages + 1) / 2)) (chart (B.state board.old)).fields)) }
     ensures stopped { OnErr result (IsStopped 0 (chart (B.state board.old)) (chart (B.state board.new))) }
 {
     for i in 0..(board.shape().pages + 1) / 2 {
@@ -70,7 +74,8 @@ pub fn lay_places<B: Board>(board: &mut B) -> Result<(), Off>
 /// Clears every undo.
 pub fn lay_undos<B: Board>(board: &mut B) -> Result<(), Off>
     requires { IsTrue (B.state board.old).on }
-    ensures done { OnOk result (chart (B.state board.new) ≡ with_fields (chart (B.state board.old)) (with_undos_laid (2 * (((B.state board.old).shape.pages + 1) / 2)) (chart (B.state board.old)).fields)) }
+    ensures done { OnOk result (chart (B.state board.new) ≡ with_fields (chart (B.state board.old))
+        (with_undos_laid (2 * (((B.state board.old).shape.pages + 1) / 2)) (chart (B.state board.old)).fields)) }
     ensures stopped { OnErr result (IsStopped 0 (chart (B.state board.old)) (chart (B.state board.new))) }
 {
     for i in 0..(board.shape().pages + 1) / 2 {
@@ -82,7 +87,9 @@ pub fn lay_undos<B: Board>(board: &mut B) -> Result<(), Off>
 /// Notes page 0 as the one that each row was claimed for.
 pub fn lay_backs<B: Board>(board: &mut B) -> Result<(), Off>
     requires { IsTrue (B.state board.old).on }
-    ensures done { OnOk result (chart (B.state board.new) ≡ with_fields (chart (B.state board.old)) (with_backs_laid ((B.state board.old).shape.segments * (B.state board.old).shape.rows) (chart (B.state board.old)).fields)) }
+    ensures done { OnOk result (chart (B.state board.new) ≡ with_fields (chart (B.state board.old))
+        (with_backs_laid ((B.state board.old).shape.segments * (B.state board.old).shape.rows)
+        (chart (B.state board.old)).fields)) }
     ensures stopped { OnErr result (IsStopped 0 (chart (B.state board.old)) (chart (B.state board.new))) }
 {
     let shape = board.shape();
@@ -95,7 +102,8 @@ pub fn lay_backs<B: Board>(board: &mut B) -> Result<(), Off>
 /// Makes every origin row 0.
 pub fn lay_origins<B: Board>(board: &mut B) -> Result<(), Off>
     requires { IsTrue (B.state board.old).on }
-    ensures done { OnOk result (chart (B.state board.new) ≡ with_fields (chart (B.state board.old)) (with_origins_laid (B.state board.old).shape.rows (chart (B.state board.old)).fields)) }
+    ensures done { OnOk result (chart (B.state board.new) ≡ with_fields (chart (B.state board.old))
+        (with_origins_laid (B.state board.old).shape.rows (chart (B.state board.old)).fields)) }
     ensures stopped { OnErr result (IsStopped 0 (chart (B.state board.old)) (chart (B.state board.new))) }
 {
     for i in 0..board.shape().rows {

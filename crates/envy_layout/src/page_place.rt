@@ -17,10 +17,13 @@ pub fn move_place<B: Board>(board: &mut B, page: u32, place: Place) -> Result<()
     requires sound { IsSound (chart (B.state board.old)) }
     requires page { page < (B.state board.old).shape.pages }
     requires place { IsPlace place }
-    requires may { IsTrue (B.state board.old).on → MayTake (B.state board.old).shape (chart (B.state board.old)).fields page place }
-    requires copy { IsTrue (B.state board.old).on → HasPage (chart (B.state board.old)).fields (B.state board.old).flash page place }
+    requires may { IsTrue (B.state board.old).on
+        → MayTake (B.state board.old).shape (chart (B.state board.old)).fields page place }
+    requires copy { IsTrue (B.state board.old).on
+        → HasPage (chart (B.state board.old)).fields (B.state board.old).flash page place }
     ensures same { Same 0 0 (chart (B.state board.old)) (chart (B.state board.new)) }
-    ensures fields { OnOk result (chart (B.state board.new) ≡ with_fields (chart (B.state board.old)) (with_place page (Some place) (chart (B.state board.old)).fields)) }
+    ensures fields { OnOk result (chart (B.state board.new) ≡ with_fields (chart (B.state board.old))
+        (with_place page (Some place) (chart (B.state board.old)).fields)) }
     ensures on { OnOk result (IsTrue (B.state board.new).on) }
     ensures off { OnErr result ((B.state board.new).on ≡ false) }
 {
@@ -34,16 +37,20 @@ pub fn switch_place<B: Board>(board: &mut B, page: u32, spare: u32, i: u32) -> R
     requires page { page < (B.state board.old).shape.pages }
     requires spare { spare < (B.state board.old).shape.segments }
     requires row { i < (B.state board.old).shape.rows }
-    requires copied { IsTrue (B.state board.old).on → IsCopied (B.state board.old).shape (chart (B.state board.old)).fields spare i }
+    requires copied { IsTrue (B.state board.old).on
+        → IsCopied (B.state board.old).shape (chart (B.state board.old)).fields spare i }
     requires here { let f = (chart (B.state board.old)).fields in
         IsTrue (B.state board.old).on → place_of f page ≡ Some (Place.Row (slice_index f.origins i)) }
     requires alone { let f = (chart (B.state board.old)).fields in
-        IsTrue (B.state board.old).on → (t : ℕ) → undo f page ≡ Some (Shadow t (slice_index f.origins i)) → slot f t ≢ Some Active }
+        IsTrue (B.state board.old).on → (t : ℕ) → undo f page ≡ Some (Shadow t (slice_index f.origins i))
+        → slot f t ≢ Some Active }
     ensures same { Same 0 0 (chart (B.state board.old)) (chart (B.state board.new)) }
     ensures writes { let copy = spare * (B.state board.old).shape.rows + i in
-        Writes (with_place page (Some (Place.Row copy))) (chart (B.state board.old)) result (chart (B.state board.new)) }
+        Writes (with_place page (Some (Place.Row copy))) (chart (B.state board.old)) result
+        (chart (B.state board.new)) }
     ensures fields { let copy = spare * (B.state board.old).shape.rows + i in
-        OnOk result (chart (B.state board.new) ≡ with_fields (chart (B.state board.old)) (with_place page (Some (Place.Row copy)) (chart (B.state board.old)).fields)) }
+        OnOk result (chart (B.state board.new) ≡ with_fields (chart (B.state board.old))
+        (with_place page (Some (Place.Row copy)) (chart (B.state board.old)).fields)) }
     ensures on { OnOk result (IsTrue (B.state board.new).on) }
     ensures off { OnErr result ((B.state board.new).on ≡ false) }
 {
@@ -62,7 +69,8 @@ pub fn restore_place<B: Board>(board: &mut B, page: u32, back: Place) -> Result<
     requires names { IsTrue (B.state board.old).on → kept (chart (B.state board.old)).fields page ≡ Some back }
     ensures durable { SameDurable 0 0 (chart (B.state board.old)) (chart (B.state board.new)) }
     ensures restored { OnOk result (Restored page (chart (B.state board.old)) (chart (B.state board.new))) }
-    ensures fields { OnOk result (chart (B.state board.new) ≡ with_fields (chart (B.state board.old)) (with_place page (Some back) (chart (B.state board.old)).fields)) }
+    ensures fields { OnOk result (chart (B.state board.new) ≡ with_fields (chart (B.state board.old))
+        (with_place page (Some back) (chart (B.state board.old)).fields)) }
     ensures on { OnOk result (IsTrue (B.state board.new).on) }
     ensures off { OnErr result ((B.state board.new).on ≡ false) }
 {

@@ -19,9 +19,11 @@ pub fn own_page<B: Board>(board: &mut B, page: u32, undo: Undo) -> Result<(), Of
     requires undo { IsUndo undo }
     requires few { let f = (chart (B.state board.old)).fields in
         IsTrue (B.state board.old).on → count_by (owned_by f.slots) f.undos < (B.state board.old).shape.shadows }
-    requires may { IsTrue (B.state board.old).on → MayUndo (B.state board.old).shape (chart (B.state board.old)).fields (B.state board.old).flash page undo }
+    requires may { IsTrue (B.state board.old).on
+        → MayUndo (B.state board.old).shape (chart (B.state board.old)).fields (B.state board.old).flash page undo }
     ensures same { SameWords 0 0 (chart (B.state board.old)) (chart (B.state board.new)) }
-    ensures fields { OnOk result (chart (B.state board.new) ≡ with_fields (chart (B.state board.old)) (with_undo page (Some undo) (chart (B.state board.old)).fields)) }
+    ensures fields { OnOk result (chart (B.state board.new) ≡ with_fields (chart (B.state board.old))
+        (with_undo page (Some undo) (chart (B.state board.old)).fields)) }
     ensures on { OnOk result (IsTrue (B.state board.new).on) }
     ensures off { OnErr result ((B.state board.new).on ≡ false) }
 {
@@ -34,12 +36,16 @@ pub fn move_undo<B: Board>(board: &mut B, page: u32, slot: u8, row: u32) -> Resu
     requires sound { IsSound (chart (B.state board.old)) }
     requires page { page < (B.state board.old).shape.pages }
     requires undo { IsUndo (Undo.Shadow slot row) }
-    requires owner { IsTrue (B.state board.old).on → slot_named (undo_of (chart (B.state board.old)).fields page) ≡ Some slot }
+    requires owner { IsTrue (B.state board.old).on → slot_named (undo_of (chart (B.state board.old)).fields page)
+        ≡ Some slot }
     requires active { IsTrue (B.state board.old).on → slot_of (chart (B.state board.old)).fields slot ≡ Some Active }
-    requires may { IsTrue (B.state board.old).on → MayRefer (B.state board.old).shape (chart (B.state board.old)).fields page row }
-    requires copy { IsTrue (B.state board.old).on → HasKept (chart (B.state board.old)).fields (B.state board.old).flash page (Some (Row row)) }
+    requires may { IsTrue (B.state board.old).on
+        → MayRefer (B.state board.old).shape (chart (B.state board.old)).fields page row }
+    requires copy { IsTrue (B.state board.old).on
+        → HasKept (chart (B.state board.old)).fields (B.state board.old).flash page (Some (Row row)) }
     ensures same { Same 0 0 (chart (B.state board.old)) (chart (B.state board.new)) }
-    ensures fields { OnOk result (chart (B.state board.new) ≡ with_fields (chart (B.state board.old)) (with_undo page (Some (Undo.Shadow slot row)) (chart (B.state board.old)).fields)) }
+    ensures fields { OnOk result (chart (B.state board.new) ≡ with_fields (chart (B.state board.old))
+        (with_undo page (Some (Undo.Shadow slot row)) (chart (B.state board.old)).fields)) }
     ensures on { OnOk result (IsTrue (B.state board.new).on) }
     ensures off { OnErr result ((B.state board.new).on ≡ false) }
 {
@@ -61,7 +67,8 @@ pub fn switch_undo<B: Board>(
     requires slot { slot < 64 }
     requires spare { spare < (B.state board.old).shape.segments }
     requires row { i < (B.state board.old).shape.rows }
-    requires copied { IsTrue (B.state board.old).on → IsCopied (B.state board.old).shape (chart (B.state board.old)).fields spare i }
+    requires copied { IsTrue (B.state board.old).on
+        → IsCopied (B.state board.old).shape (chart (B.state board.old)).fields spare i }
     requires here { let f = (chart (B.state board.old)).fields in
         IsTrue (B.state board.old).on → undo_of f page ≡ Some (Undo.Shadow slot (slice_index f.origins i)) }
     requires active { IsTrue (B.state board.old).on → slot_of (chart (B.state board.old)).fields slot ≡ Some Active }
@@ -69,7 +76,8 @@ pub fn switch_undo<B: Board>(
         IsTrue (B.state board.old).on → place f page ≢ Some (Row (slice_index f.origins i)) }
     ensures same { Same 0 0 (chart (B.state board.old)) (chart (B.state board.new)) }
     ensures fields { let copy = spare * (B.state board.old).shape.rows + i in
-        OnOk result (chart (B.state board.new) ≡ with_fields (chart (B.state board.old)) (with_undo page (Some (Undo.Shadow slot copy)) (chart (B.state board.old)).fields)) }
+        OnOk result (chart (B.state board.new) ≡ with_fields (chart (B.state board.old))
+        (with_undo page (Some (Undo.Shadow slot copy)) (chart (B.state board.old)).fields)) }
     ensures on { OnOk result (IsTrue (B.state board.new).on) }
     ensures off { OnErr result ((B.state board.new).on ≡ false) }
 {
@@ -83,7 +91,8 @@ pub fn clear_settled_undo<B: Board>(board: &mut B, page: u32) -> Result<(), Off>
     requires page { page < (B.state board.old).shape.pages }
     requires settled { IsTrue (B.state board.old).on → IsSettled (chart (B.state board.old)).fields page }
     ensures same { SameWords 0 0 (chart (B.state board.old)) (chart (B.state board.new)) }
-    ensures fields { OnOk result (chart (B.state board.new) ≡ with_fields (chart (B.state board.old)) (with_undo page (Some Undo.Clear) (chart (B.state board.old)).fields)) }
+    ensures fields { OnOk result (chart (B.state board.new) ≡ with_fields (chart (B.state board.old))
+        (with_undo page (Some Undo.Clear) (chart (B.state board.old)).fields)) }
     ensures on { OnOk result (IsTrue (B.state board.new).on) }
     ensures off { OnErr result ((B.state board.new).on ≡ false) }
 {

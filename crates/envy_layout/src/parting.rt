@@ -12,16 +12,23 @@ ghost use Rattle.envy_layout.specs.Sound.{slot_named};
 /// place becomes a row, or none; an undo names a row, or none; a slot that no undo names becomes any; a
 /// slot becomes one that isn't active.
 pub fn place_and_undo_stay_parted()
-    ensures rowed { (slots : List (Option Slot)) (undos : List (Option Undo)) (places : List (Option Place)) (p q : ℕ) → AreParted slots undos places
-        → ((t : ℕ) → slice_index_or undos p None ≡ Some (Shadow t q) → slice_index_or slots t None ≢ Some Active) → AreParted slots undos (slice_set places p (Some (Row q))) }
-    ensures placed { (slots : List (Option Slot)) (undos : List (Option Undo)) (places : List (Option Place)) (p : ℕ) (x : Option Place) → AreParted slots undos places
+    ensures rowed { (slots : List (Option Slot)) (undos : List (Option Undo)) (places : List (Option Place)) (p q : ℕ)
+        → AreParted slots undos places
+        → ((t : ℕ) → slice_index_or undos p None ≡ Some (Shadow t q) → slice_index_or slots t None ≢ Some Active)
+        → AreParted slots undos (slice_set places p (Some (Row q))) }
+    ensures placed { (slots : List (Option Slot)) (undos : List (Option Undo)) (places : List (Option Place)) (p : ℕ)
+        (x : Option Place) → AreParted slots undos places
         → ((q : ℕ) → x ≢ Some (Row q)) → AreParted slots undos (slice_set places p x) }
-    ensures shaded { (slots : List (Option Slot)) (undos : List (Option Undo)) (places : List (Option Place)) (p s q : ℕ) → AreParted slots undos places
+    ensures shaded { (slots : List (Option Slot)) (undos : List (Option Undo)) (places : List (Option Place))
+        (p s q : ℕ) → AreParted slots undos places
         → slice_index_or places p None ≢ Some (Row q) → AreParted slots (slice_set undos p (Some (Shadow s q))) places }
-    ensures unshaded { (slots : List (Option Slot)) (undos : List (Option Undo)) (places : List (Option Place)) (p : ℕ) (u : Option Undo) → AreParted slots undos places
+    ensures unshaded { (slots : List (Option Slot)) (undos : List (Option Undo)) (places : List (Option Place)) (p : ℕ)
+        (u : Option Undo) → AreParted slots undos places
         → ((t q : ℕ) → u ≢ Some (Shadow t q)) → AreParted slots (slice_set undos p u) places }
-    ensures unused { (slots : List (Option Slot)) (undos : List (Option Undo)) (places : List (Option Place)) (t : ℕ) (x : Option Slot) → AreParted slots undos places
+    ensures unused { (slots : List (Option Slot)) (undos : List (Option Undo)) (places : List (Option Place)) (t : ℕ)
+        (x : Option Slot) → AreParted slots undos places
         → ((p : ℕ) → slot_named (slice_index_or undos p None) ≢ Some t) → AreParted (slice_set slots t x) undos places }
-    ensures closed { (slots : List (Option Slot)) (undos : List (Option Undo)) (places : List (Option Place)) (t : ℕ) (x : Option Slot) → AreParted slots undos places
+    ensures closed { (slots : List (Option Slot)) (undos : List (Option Undo)) (places : List (Option Place)) (t : ℕ)
+        (x : Option Slot) → AreParted slots undos places
         → x ≢ Some Active → AreParted (slice_set slots t x) undos places }
 {}

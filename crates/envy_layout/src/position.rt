@@ -16,10 +16,14 @@ pub fn change_position<B: Board>(board: &mut B, position: u32, segment: u32) -> 
     requires sound { IsSound (chart (B.state board.old)) }
     requires position { position < (B.state board.old).shape.segments - 1 }
     requires segment { segment < (B.state board.old).shape.segments }
-    requires fits { IsTrue (B.state board.old).on → FitsPositions (B.state board.old).shape (with_position position segment (chart (B.state board.old)).fields) (B.state board.old).flash }
+    requires fits { IsTrue (B.state board.old).on
+        → FitsPositions (B.state board.old).shape (with_position position segment (chart (B.state board.old)).fields)
+        (B.state board.old).flash }
     ensures same { Same 0 0 (chart (B.state board.old)) (chart (B.state board.new)) }
-    ensures writes { Writes (with_position position segment) (chart (B.state board.old)) result (chart (B.state board.new)) }
-    ensures fields { OnOk result (chart (B.state board.new) ≡ with_fields (chart (B.state board.old)) (with_position position segment (chart (B.state board.old)).fields)) }
+    ensures writes { Writes (with_position position segment) (chart (B.state board.old)) result
+        (chart (B.state board.new)) }
+    ensures fields { OnOk result (chart (B.state board.new) ≡ with_fields (chart (B.state board.old))
+        (with_position position segment (chart (B.state board.old)).fields)) }
     ensures on { OnOk result (IsTrue (B.state board.new).on) }
     ensures off { OnErr result ((B.state board.new).on ≡ false) }
 {
@@ -32,15 +36,19 @@ pub fn replace_segment<B: Board>(board: &mut B, position: u32, spare: u32) -> Re
     requires sound { IsSound (chart (B.state board.old)) }
     requires position { position < (B.state board.old).shape.segments - 1 }
     requires segment { spare < (B.state board.old).shape.segments }
-    requires spare { IsTrue (B.state board.old).on → IsSpare (B.state board.old).shape (chart (B.state board.old)).fields.positions spare }
+    requires spare { IsTrue (B.state board.old).on
+        → IsSpare (B.state board.old).shape (chart (B.state board.old)).fields.positions spare }
     requires switching { let f = (chart (B.state board.old)).fields in
         IsTrue (B.state board.old).on → f.job ≡ Some (Switch (slice_index f.positions position)) }
     requires clear { let f = (chart (B.state board.old)).fields in
         IsTrue (B.state board.old).on → IsClear (B.state board.old).shape f (slice_index f.positions position) }
     ensures same { Same 0 0 (chart (B.state board.old)) (chart (B.state board.new)) }
-    ensures writes { Writes (with_position position spare) (chart (B.state board.old)) result (chart (B.state board.new)) }
-    ensures fields { OnOk result (chart (B.state board.new) ≡ with_fields (chart (B.state board.old)) (with_position position spare (chart (B.state board.old)).fields)) }
-    ensures freed { OnOk result (IsSpare (B.state board.new).shape (chart (B.state board.new)).fields.positions (slice_index (chart (B.state board.old)).fields.positions position)) }
+    ensures writes { Writes (with_position position spare) (chart (B.state board.old)) result
+        (chart (B.state board.new)) }
+    ensures fields { OnOk result (chart (B.state board.new) ≡ with_fields (chart (B.state board.old))
+        (with_position position spare (chart (B.state board.old)).fields)) }
+    ensures freed { OnOk result (IsSpare (B.state board.new).shape (chart (B.state board.new)).fields.positions
+        (slice_index (chart (B.state board.old)).fields.positions position)) }
     ensures on { OnOk result (IsTrue (B.state board.new).on) }
     ensures off { OnErr result ((B.state board.new).on ≡ false) }
 {
@@ -50,6 +58,8 @@ pub fn replace_segment<B: Board>(board: &mut B, position: u32, spare: u32) -> Re
 /// Of the segments of a sound board one is the spare, and each other stands at a position.
 pub fn a_board_has_one_spare()
     ensures some { (c : Chart) → IsShape c.shape → IsSound c → (e : ℕ) × IsSpare c.shape c.fields.positions e }
-    ensures one { (c : Chart) (d e : ℕ) → IsSound c → IsSpare c.shape c.fields.positions d → IsSpare c.shape c.fields.positions e → d ≡ e }
-    ensures others { (c : Chart) (s : ℕ) → IsSound c → s < c.shape.segments → IsPlaced c.shape c.fields.positions s ⊎ IsSpare c.shape c.fields.positions s }
+    ensures one { (c : Chart) (d e : ℕ) → IsSound c → IsSpare c.shape c.fields.positions d
+        → IsSpare c.shape c.fields.positions e → d ≡ e }
+    ensures others { (c : Chart) (s : ℕ) → IsSound c → s < c.shape.segments → IsPlaced c.shape c.fields.positions s
+        ⊎ IsSpare c.shape c.fields.positions s }
 {}

@@ -13,11 +13,13 @@ use envy_base::{Board, Trouble};
 pub fn program_row<B: Board>(board: &mut B, row: u32, page: &[u64; 32]) -> Result<(), Trouble>
     requires sound { IsSound (chart (B.state board.old)) }
     requires row { row < (B.state board.old).shape.segments * (B.state board.old).shape.rows }
-    requires may { IsTrue (B.state board.old).on → MayProgram (B.state board.old).shape (chart (B.state board.old)).fields row }
+    requires may { IsTrue (B.state board.old).on
+        → MayProgram (B.state board.old).shape (chart (B.state board.old)).fields row }
     ensures same { Same 1 0 (chart (B.state board.old)) (chart (B.state board.new)) }
     ensures fields { (chart (B.state board.new)).fields ≡ (chart (B.state board.old)).fields }
     ensures programs { Programs (B.state board.old) row page.now result (B.state board.new) }
-    ensures written { OnOk result (IsOnes (row_of (B.state board.old) row) → row_of (B.state board.new) row ≡ page.now) }
+    ensures written { OnOk result (IsOnes (row_of (B.state board.old) row)
+        → row_of (B.state board.new) row ≡ page.now) }
     ensures others { (q : ℕ) → q ≢ row → row_of (B.state board.new) q ≡ row_of (B.state board.old) q }
     ensures off { (result ≡ Err Trouble.Off) ↔ ((B.state board.new).on ≡ false) }
     ensures bad { IsErrOf result Trouble.Bad → (B.state board.new).bads ≡ up (B.state board.old).bads }

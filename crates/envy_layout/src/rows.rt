@@ -24,7 +24,8 @@ pub struct Kept {
 pub fn keeper<B: Board>(board: &B, row: u32) -> Result<Option<Kept>, Off>
     requires sound { IsSound (chart (B.state board.now)) }
     requires row { row < (B.state board.now).shape.segments * (B.state board.now).shape.rows }
-    ensures keeps { IfOk result (λ found. Keeps (B.state board.now).shape (chart (B.state board.now)).fields row found) }
+    ensures keeps { IfOk result (λ found.
+        Keeps (B.state board.now).shape (chart (B.state board.now)).fields row found) }
     ensures on { OnOk result (IsTrue (B.state board.now).on) }
     ensures off { OnErr result ((B.state board.now).on ≡ false) }
 {

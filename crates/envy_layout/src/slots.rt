@@ -14,7 +14,8 @@ pub fn set_unused_slot<B: Board>(board: &mut B, t: u8, slot: Slot) -> Result<(),
     requires slot { t < 64 }
     requires unused { IsTrue (B.state board.old).on → IsUnused (chart (B.state board.old)).fields t }
     ensures same { SameWords 0 0 (chart (B.state board.old)) (chart (B.state board.new)) }
-    ensures fields { OnOk result (chart (B.state board.new) ≡ with_fields (chart (B.state board.old)) (with_slot t (Some slot) (chart (B.state board.old)).fields)) }
+    ensures fields { OnOk result (chart (B.state board.new) ≡ with_fields (chart (B.state board.old))
+        (with_slot t (Some slot) (chart (B.state board.old)).fields)) }
     ensures on { OnOk result (IsTrue (B.state board.new).on) }
     ensures off { OnErr result ((B.state board.new).on ≡ false) }
 {
@@ -29,7 +30,8 @@ pub fn commit_slot<B: Board>(board: &mut B, t: u8) -> Result<(), Off>
     ensures commits { let old = chart (B.state board.old) in
         let new = chart (B.state board.new) in
         MatchResult result (λ _. Commits 0 0 t old new) (λ _. Same 0 0 old new ⊎ Commits 0 0 t old new) }
-    ensures fields { OnOk result (chart (B.state board.new) ≡ with_fields (chart (B.state board.old)) (with_slot t (Some Slot.Committed) (chart (B.state board.old)).fields)) }
+    ensures fields { OnOk result (chart (B.state board.new) ≡ with_fields (chart (B.state board.old))
+        (with_slot t (Some Slot.Committed) (chart (B.state board.old)).fields)) }
     ensures on { OnOk result (IsTrue (B.state board.new).on) }
     ensures off { OnErr result ((B.state board.new).on ≡ false) }
 {

@@ -15,7 +15,8 @@ fn vacate_new_slots<B: Board>(board: &mut B) -> Result<(), Off>
     requires sound { IsSound (chart (B.state board.old)) }
     requires version { IsTrue (B.state board.old).on → (chart (B.state board.old)).fields.version ≡ 1 }
     ensures same { SameWords 0 0 (chart (B.state board.old)) (chart (B.state board.new)) }
-    ensures fields { OnOk result (chart (B.state board.new) ≡ with_fields (chart (B.state board.old)) (with_slots_vacated 64 (chart (B.state board.old)).fields)) }
+    ensures fields { OnOk result (chart (B.state board.new) ≡ with_fields (chart (B.state board.old))
+        (with_slots_vacated 64 (chart (B.state board.old)).fields)) }
     ensures on { OnOk result (IsTrue (B.state board.new).on) }
     ensures off { OnErr result ((B.state board.new).on ≡ false) }
 {
@@ -37,7 +38,8 @@ pub fn upgrade<B: Board>(board: &mut B) -> Result<(), Off>
     requires version { IsTrue (B.state board.old).on → (chart (B.state board.old)).fields.version ≡ 1 }
     ensures kept { Kept (chart (B.state board.old)) (chart (B.state board.new)) }
     ensures live { live (chart (B.state board.new)) ≡ live (chart (B.state board.old)) }
-    ensures fields { OnOk result (chart (B.state board.new) ≡ with_fields (chart (B.state board.old)) (upgraded (chart (B.state board.old)).fields)) }
+    ensures fields { OnOk result (chart (B.state board.new) ≡ with_fields (chart (B.state board.old))
+        (upgraded (chart (B.state board.old)).fields)) }
     ensures on { OnOk result (IsTrue (B.state board.new).on) }
     ensures off { OnErr result ((B.state board.new).on ≡ false) }
 {

@@ -11,7 +11,8 @@ use envy_base::{Board, Off};
 pub fn frame_word<B: Board>(board: &B, frame: u32, i: u32) -> Result<u64, Off>
     requires frame { frame < (B.state board.now).shape.frames }
     requires place { i < 32 }
-    ensures { Reads (B.state board.now) (slice_index (chart (B.state board.now)).fields.frames (32 * frame + i)) result }
+    ensures { Reads (B.state board.now) (slice_index (chart (B.state board.now)).fields.frames (32 * frame + i))
+        result }
 {
     board.get(frame_start(&board.shape()) + 32 * frame + i)
 }
@@ -27,8 +28,10 @@ fn put_frame_word<B: Board>(
     requires first { first ≡ frames_at (B.state board.old).shape + 32 * frame }
     requires frame { frame < (B.state board.old).shape.frames }
     requires place { i < 32 }
-    ensures writes { Writes (with_frame_word frame i word) (chart (B.state board.old)) result (chart (B.state board.new)) }
-    ensures put { Puts (B.state board.old) (frames_at (B.state board.old).shape + (32 * frame + i)) word result (B.state board.new) }
+    ensures writes { Writes (with_frame_word frame i word) (chart (B.state board.old)) result
+        (chart (B.state board.new)) }
+    ensures put { Puts (B.state board.old) (frames_at (B.state board.old).shape + (32 * frame + i)) word result
+        (B.state board.new) }
 {
     board.put(first + i, word)
 }
@@ -37,8 +40,10 @@ fn put_frame_word<B: Board>(
 pub fn set_frame_word<B: Board>(board: &mut B, frame: u32, i: u32, word: u64) -> Result<(), Off>
     requires frame { frame < (B.state board.old).shape.frames }
     requires place { i < 32 }
-    ensures writes { Writes (with_frame_word frame i word) (chart (B.state board.old)) result (chart (B.state board.new)) }
-    ensures put { Puts (B.state board.old) (frames_at (B.state board.old).shape + (32 * frame + i)) word result (B.state board.new) }
+    ensures writes { Writes (with_frame_word frame i word) (chart (B.state board.old)) result
+        (chart (B.state board.new)) }
+    ensures put { Puts (B.state board.old) (frames_at (B.state board.old).shape + (32 * frame + i)) word result
+        (B.state board.new) }
 {
     let first = frame_start(&board.shape()) + 32 * frame;
     put_frame_word(board, first, frame, i, word)
@@ -48,10 +53,14 @@ pub fn set_frame_word<B: Board>(board: &mut B, frame: u32, i: u32, word: u64) ->
 /// The words below the frames stay.
 pub fn write_frame<B: Board>(board: &mut B, frame: u32, page: &[u64; 32]) -> Result<(), Off>
     requires { frame < (B.state board.old).shape.frames }
-    ensures ok { OnOk result (chart (B.state board.new) ≡ with_fields (chart (B.state board.old)) (with_frame frame page.now 32 (chart (B.state board.old)).fields)) }
+    ensures ok { OnOk result (chart (B.state board.new) ≡ with_fields (chart (B.state board.old))
+        (with_frame frame page.now 32 (chart (B.state board.old)).fields)) }
     ensures on { OnOk result (IsTrue (B.state board.old).on) }
-    ensures off { OnErr result (Stopped (λ f. (n : ℕ) × (n ≤ 32) × (f ≡ with_frame frame page.now n (chart (B.state board.old)).fields)) (chart (B.state board.old)) (chart (B.state board.new))) }
-    ensures below { (w : ℕ) → w < frames_at (B.state board.old).shape → slice_index (B.state board.new).sram w ≡ slice_index (B.state board.old).sram w }
+    ensures off { OnErr result
+        (Stopped (λ f. (n : ℕ) × (n ≤ 32) × (f ≡ with_frame frame page.now n (chart (B.state board.old)).fields))
+        (chart (B.state board.old)) (chart (B.state board.new))) }
+    ensures below { (w : ℕ) → w < frames_at (B.state board.old).shape
+        → slice_index (B.state board.new).sram w ≡ slice_index (B.state board.old).sram w }
 {
     let first = frame_start(&board.shape()) + 32 * frame;
     for i in 0..32u32 {

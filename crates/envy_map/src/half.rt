@@ -43,7 +43,8 @@ pub fn half<B: Board>(board: &B, at: u32, entry: u32) -> Result<u64, Off>
 pub fn set_half<B: Board>(board: &mut B, at: u32, entry: u32, value: u32) -> Result<(), Off>
     requires room { at + entry / 2 < length (B.state board.old).sram }
     requires fits { at + entry / 2 < 2 ^ 32 }
-    ensures { Puts (B.state board.old) (at + entry / 2) (with_half (slice_index (B.state board.old).sram (at + entry / 2)) entry value) result (B.state board.new) }
+    ensures { Puts (B.state board.old) (at + entry / 2)
+        (with_half (slice_index (B.state board.old).sram (at + entry / 2)) entry value) result (B.state board.new) }
 {
     let word = board.get(at + entry / 2)?;
     board.put(at + entry / 2, joined(word, entry, value))

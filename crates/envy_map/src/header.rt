@@ -11,7 +11,8 @@ pub const MAGIC: u64 = 0x654E_5679_464C_5348;
 /// Whether the board was formatted: its first word is `MAGIC`, and its version is 1 or 2.
 pub fn is_formatted<B: Board>(board: &B) -> Result<bool, Off>
     ensures { MatchResult result
-        (λ formatted. IsTrue (B.state board.now).on × (IsTrue formatted ↔ IsFormatted (chart (B.state board.now)).fields))
+        (λ formatted. IsTrue (B.state board.now).on
+        × (IsTrue formatted ↔ IsFormatted (chart (B.state board.now)).fields))
         (λ _. (B.state board.now).on ≡ false) }
 {
     let magic = board.get(MAGIC_AT)?;

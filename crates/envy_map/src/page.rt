@@ -28,9 +28,11 @@ pub fn place<B: Board>(board: &B, page: u32) -> Result<Place, Off>
 pub fn set_place<B: Board>(board: &mut B, page: u32, place: Place) -> Result<(), Off>
     requires page { page < (B.state board.old).shape.pages }
     requires place { IsPlace place }
-    ensures writes { Writes (with_place page (Some place)) (chart (B.state board.old)) result (chart (B.state board.new)) }
+    ensures writes { Writes (with_place page (Some place)) (chart (B.state board.old)) result
+        (chart (B.state board.new)) }
     ensures put { let word = table_at (B.state board.old).shape + page / 2 in
-        Puts (B.state board.old) word (with_half (slice_index (B.state board.old).sram word) page (place_code place)) result (B.state board.new) }
+        Puts (B.state board.old) word (with_half (slice_index (B.state board.old).sram word) page (place_code place))
+        result (B.state board.new) }
 {
     let at = table_start(&board.shape());
     set_half(board, at, page, encode_place(place))
@@ -53,9 +55,11 @@ pub fn undo<B: Board>(board: &B, page: u32) -> Result<Undo, Off>
 pub fn set_undo<B: Board>(board: &mut B, page: u32, undo: Undo) -> Result<(), Off>
     requires page { page < (B.state board.old).shape.pages }
     requires undo { IsUndo undo }
-    ensures writes { Writes (with_undo page (Some undo)) (chart (B.state board.old)) result (chart (B.state board.new)) }
+    ensures writes { Writes (with_undo page (Some undo)) (chart (B.state board.old)) result
+        (chart (B.state board.new)) }
     ensures put { let word = undo_at (B.state board.old).shape + page / 2 in
-        Puts (B.state board.old) word (with_half (slice_index (B.state board.old).sram word) page (undo_code undo)) result (B.state board.new) }
+        Puts (B.state board.old) word (with_half (slice_index (B.state board.old).sram word) page (undo_code undo))
+        result (B.state board.new) }
 {
     let at = undo_start(&board.shape());
     set_half(board, at, page, encode_undo(undo))

@@ -32,7 +32,8 @@ pub fn set_back<B: Board>(board: &mut B, row: u32, page: u32) -> Result<(), Off>
 /// The row that row `i` of the cleaner's target was copied from.
 pub fn origin<B: Board>(board: &B, i: u32) -> Result<u32, Off>
     requires place { i < (B.state board.now).shape.rows }
-    requires range { slice_index (chart (B.state board.now)).fields.origins i < (B.state board.now).shape.segments * (B.state board.now).shape.rows }
+    requires range { slice_index (chart (B.state board.now)).fields.origins i < (B.state board.now).shape.segments *
+        (B.state board.now).shape.rows }
     ensures { Reads (B.state board.now) (slice_index (chart (B.state board.now)).fields.origins i) result }
 {
     let row = probe::origin(board, i)?;

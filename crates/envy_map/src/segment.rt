@@ -40,7 +40,8 @@ pub fn set_fill<B: Board>(board: &mut B, segment: u32, fill: u32) -> Result<(), 
     requires segment { segment < (B.state board.old).shape.segments }
     requires fill { fill ≤ (B.state board.old).shape.rows }
     ensures writes { Writes (with_fill segment fill) (chart (B.state board.old)) result (chart (B.state board.new)) }
-    ensures put { Puts (B.state board.old) (fill_at (B.state board.old).shape + segment) fill result (B.state board.new) }
+    ensures put { Puts (B.state board.old) (fill_at (B.state board.old).shape + segment) fill result
+        (B.state board.new) }
 {
     let at = fill_start(&board.shape());
     board.put(at + segment, fill as u64)
@@ -49,7 +50,8 @@ pub fn set_fill<B: Board>(board: &mut B, segment: u32, fill: u32) -> Result<(), 
 /// The segment at a position.
 pub fn segment_at<B: Board>(board: &B, position: u32) -> Result<u32, Off>
     requires position { position < (B.state board.now).shape.segments - 1 }
-    requires range { slice_index (chart (B.state board.now)).fields.positions position < (B.state board.now).shape.segments }
+    requires range { slice_index (chart (B.state board.now)).fields.positions position
+        < (B.state board.now).shape.segments }
     ensures { Reads (B.state board.now) (slice_index (chart (B.state board.now)).fields.positions position) result }
 {
     let segment = probe::segment_at(board, position)?;
@@ -60,8 +62,10 @@ pub fn segment_at<B: Board>(board: &B, position: u32) -> Result<u32, Off>
 pub fn set_segment_at<B: Board>(board: &mut B, position: u32, segment: u32) -> Result<(), Off>
     requires position { position < (B.state board.old).shape.segments - 1 }
     requires segment { segment < (B.state board.old).shape.segments }
-    ensures writes { Writes (with_position position segment) (chart (B.state board.old)) result (chart (B.state board.new)) }
-    ensures put { Puts (B.state board.old) (position_at (B.state board.old).shape + position) segment result (B.state board.new) }
+    ensures writes { Writes (with_position position segment) (chart (B.state board.old)) result
+        (chart (B.state board.new)) }
+    ensures put { Puts (B.state board.old) (position_at (B.state board.old).shape + position) segment result
+        (B.state board.new) }
 {
     let at = position_start(&board.shape());
     board.put(at + position, segment as u64)

@@ -53,7 +53,8 @@ fn refusal<B: Board>(memory: &Memory<B>) -> Option<Code>
 /// `Empty`; `MapSetup`, where no map fits; `SlotOpen`. The place is as before then.
 pub fn words_of<B: Board + Drop>(slot: &mut Option<Memory<B>>) -> Result<OneTx<B>, Code>
     requires { ForSome slot.old HoldsArray }
-    ensures lends { MatchResult result (λ words. Lends slot.old slot.new (Ok (words.memory, words.begun))) (λ code. Lends slot.old slot.new (Err code)) }
+    ensures lends { MatchResult result (λ words. Lends slot.old slot.new (Ok (words.memory, words.begun))) (λ code.
+        Lends slot.old slot.new (Err code)) }
 {
     let Some(memory) = slot.take() else {
         return Err(Code::Empty);
@@ -68,7 +69,8 @@ pub fn words_of<B: Board + Drop>(slot: &mut Option<Memory<B>>) -> Result<OneTx<B
 /// Puts the memory back into its place.
 pub fn return_words<B: Board + Drop>(slot: &mut Option<Memory<B>>, words: OneTx<B>)
     ensures back { slot.new ≡ Some words.memory }
-    ensures shut { IsTrue words.memory.chart.on → (sheet_of words.memory words.begun).started ≡ false → IsShut words.memory }
+    ensures shut { IsTrue words.memory.chart.on → (sheet_of words.memory words.begun).started ≡ false
+        → IsShut words.memory }
 {
     *slot = Some(words.into_memory());
 }

@@ -20,7 +20,8 @@ fn setup_for(
     erases: &[u64],
 ) -> Result<Setup, Code>
     ensures { MatchResult result
-        (λ setup. (setup_of given.now ≡ Some setup) × (checked setup ≡ Ok tt) × IsSetup setup × HasSizes setup.shape flash.now sram.now erases.now)
+        (λ setup. (setup_of given.now ≡ Some setup) × (checked setup ≡ Ok tt) × IsSetup setup
+        × HasSizes setup.shape flash.now sram.now erases.now)
         (Misfits (record { setup = given.now; flash = flash.now; sram = sram.now; erases = erases.now })) }
 {
     let setup = checked_setup(given)?;
@@ -45,7 +46,13 @@ fn formatted(
     erases: &'static mut [u64],
 ) -> Result<Memory<RegionBoard<'static>>, Code>
     requires { AreWhole flash.now sram.now }
-    ensures { let all : Given = record { setup = given.now; flash = flash.entry.now; sram = sram.entry.now; erases = erases.entry.now } in
+    ensures { let all : Given = record {
+      setup = given.now;
+      flash = flash.entry.now;
+      sram = sram.entry.now;
+      erases =
+          erases.entry.now;
+    } in
         MatchResult result (Formatted all) (RefusesFormat all) }
 {
     let setup = setup_for(given, &*flash, &*sram, &*erases)?;
@@ -65,7 +72,13 @@ fn attached(
     erases: &'static mut [u64],
 ) -> Result<Memory<RegionBoard<'static>>, Code>
     requires { AreWhole flash.now sram.now }
-    ensures { let all : Given = record { setup = given.now; flash = flash.entry.now; sram = sram.entry.now; erases = erases.entry.now } in
+    ensures { let all : Given = record {
+      setup = given.now;
+      flash = flash.entry.now;
+      sram = sram.entry.now;
+      erases =
+          erases.entry.now;
+    } in
         MatchResult result (Attached all) (RefusesAttach all) }
 {
     let setup = setup_for(given, &*flash, &*sram, &*erases)?;
@@ -86,7 +99,13 @@ pub fn format_place(
     erases: &'static mut [u64],
 ) -> Code
     requires { AreWhole flash.now sram.now }
-    ensures { let all : Given = record { setup = given.now; flash = flash.entry.now; sram = sram.entry.now; erases = erases.entry.now } in
+    ensures { let all : Given = record {
+      setup = given.now;
+      flash = flash.entry.now;
+      sram = sram.entry.now;
+      erases =
+          erases.entry.now;
+    } in
         Opens (Formatted all) (RefusesFormat all) slot.old slot.new result }
 {
     if slot.is_some() {
@@ -111,7 +130,13 @@ pub fn attach_place(
     erases: &'static mut [u64],
 ) -> Code
     requires { AreWhole flash.now sram.now }
-    ensures { let all : Given = record { setup = given.now; flash = flash.entry.now; sram = sram.entry.now; erases = erases.entry.now } in
+    ensures { let all : Given = record {
+      setup = given.now;
+      flash = flash.entry.now;
+      sram = sram.entry.now;
+      erases =
+          erases.entry.now;
+    } in
         Opens (Attached all) (RefusesAttach all) slot.old slot.new result }
 {
     if slot.is_some() {

@@ -45,7 +45,9 @@ pub extern "C" fn envy_mapped_format(
     requires erases { InBlock erases.at }
     requires whole { AreWhole flash.rows.now sram.words.now }
     ensures live { InBlock m.new.at }
-    ensures formats { DoesFormat (record { setup = setup.now; flash = flash.rows.now; sram = sram.words.now; erases = erases.words.now }) m.old.slot.now m.new.slot.now result }
+    ensures formats { DoesFormat
+        (record { setup = setup.now; flash = flash.rows.now; sram = sram.words.now; erases = erases.words.now })
+        m.old.slot.now m.new.slot.now result }
 {
     let slot = lend(m);
     let (flash, sram, erases) = (flash.into_slice(), sram.into_slice(), erases.into_slice());
@@ -70,7 +72,9 @@ pub extern "C" fn envy_mapped_attach(
     requires erases { InBlock erases.at }
     requires whole { AreWhole flash.rows.now sram.words.now }
     ensures live { InBlock m.new.at }
-    ensures attaches { DoesAttach (record { setup = setup.now; flash = flash.rows.now; sram = sram.words.now; erases = erases.words.now }) m.old.slot.now m.new.slot.now result }
+    ensures attaches { DoesAttach
+        (record { setup = setup.now; flash = flash.rows.now; sram = sram.words.now; erases = erases.words.now })
+        m.old.slot.now m.new.slot.now result }
 {
     let slot = lend(m);
     let (flash, sram, erases) = (flash.into_slice(), sram.into_slice(), erases.into_slice());

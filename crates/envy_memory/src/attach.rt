@@ -21,7 +21,8 @@ use std::alloc::Global;
 
 /// The first reason not to attach a memory to a board, but for want of memory.
 fn refusal<B: Board>(board: &B, setup: &Setup) -> Option<AttachFault>
-    ensures reason { MatchOption result (MayAttach (chart (B.state board.now)) setup.now) (λ fault. Declines (B.state board.now) setup.now fault (B.state board.now)) }
+    ensures reason { MatchOption result (MayAttach (chart (B.state board.now)) setup.now) (λ fault.
+        Declines (B.state board.now) setup.now fault (B.state board.now)) }
     ensures sizes { IsNone result → IsSetup setup.now }
 {
     if !board.powered() {
@@ -90,7 +91,8 @@ impl<B: Board> Memory<B> {
     /// the same words as before.
     pub fn attach(alloc: Global, mut board: B, setup: Setup) -> Result<Memory<B>, (B, AttachFault)>
         requires { IsAttachable (chart (B.state board)) }
-        ensures { MatchResult result (λ memory. Attaches (chart (B.state board)) setup memory) (λ e. Declines (B.state board) setup e.1 (B.state e.0)) }
+        ensures { MatchResult result (λ memory. Attaches (chart (B.state board)) setup memory) (λ e.
+            Declines (B.state board) setup e.1 (B.state e.0)) }
     {
         if let Some(fault) = refusal(&board, &setup) {
             return Err((board, fault));

@@ -34,7 +34,8 @@ impl<B: Bench> Memory<B> {
     pub fn cut_now(&mut self)
         requires { IsTrue self.old.chart.on }
         ensures state { self.new ≡ record self.old { chart = pulled self.old.chart } }
-        ensures step { (m : Array) → Stands self.old.chart m → IsSound self.new.chart × (durable self.new.chart ≡ undone m) }
+        ensures step { (m : Array) → Stands self.old.chart m → IsSound self.new.chart
+            × (durable self.new.chart ≡ undone m) }
     {
         self.board.cut_now();
     }
@@ -61,8 +62,11 @@ impl<B: Bench> Memory<B> {
         ensures dead { (result ≡ Err ReviveFault.Dead) ↔ (self.old.chart.lives ≡ 0) }
         ensures refused { (result ≡ Err ReviveFault.Dead) → self.new ≡ self.old }
         ensures off { (result ≡ Err ReviveFault.Off) ↔ ((0 < self.old.chart.lives) × (self.new.chart.on ≡ false)) }
-        ensures cut { (result ≡ Err ReviveFault.Off) → self.old.chart.cuts < 2 ^ 64 - 1 → self.old.chart.cuts < self.new.chart.cuts }
-        ensures kept { MatchResult result (λ _. Kept (lit self.old.chart) self.new.chart) (λ e. ((e ≡ ReviveFault.Dead) × (self.new ≡ self.old)) ⊎ (Kept (lit self.old.chart) self.new.chart × (self.new.chart.on ≡ false))) }
+        ensures cut { (result ≡ Err ReviveFault.Off) → self.old.chart.cuts < 2 ^ 64 - 1
+            → self.old.chart.cuts < self.new.chart.cuts }
+        ensures kept { MatchResult result (λ _. Kept (lit self.old.chart) self.new.chart)
+            (λ e. ((e ≡ ReviveFault.Dead) × (self.new ≡ self.old))
+            ⊎ (Kept (lit self.old.chart) self.new.chart × (self.new.chart.on ≡ false))) }
         ensures setup { (self.new.limit ≡ self.old.limit) × (self.new.mark ≡ self.old.mark) }
         ensures version { self.new.chart.fields.version ≡ self.old.chart.fields.version }
         ensures size { length self.new.parts.cache.entries ≡ length self.old.parts.cache.entries }

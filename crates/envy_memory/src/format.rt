@@ -13,7 +13,8 @@ use std::alloc::Global;
 
 /// The first reason not to begin to format a board, but for want of memory.
 fn refusal<B: Board>(board: &B, setup: &Setup) -> Option<FormatFault>
-    ensures reason { MatchOption result (MayFormat (B.state board.now) setup.now) (λ fault. Refuses (B.state board.now) setup.now fault (B.state board.now)) }
+    ensures reason { MatchOption result (MayFormat (B.state board.now) setup.now) (λ fault.
+        Refuses (B.state board.now) setup.now fault (B.state board.now)) }
     ensures sizes { IsNone result → IsSetup setup.now }
 {
     if !board.powered() {
@@ -35,8 +36,10 @@ impl<B: Board> Memory<B> {
     ///
     /// The board comes back with the first reason that holds, in the order of `FormatFault`.
     pub fn format(alloc: Global, mut board: B, setup: Setup) -> Result<Memory<B>, (B, FormatFault)>
-        ensures made { MatchResult result (λ memory. Makes (B.state board) setup memory) (λ e. Refuses (B.state board) setup e.1 (B.state e.0)) }
-        ensures counts { MatchResult result (λ memory. CountsFormat (chart (B.state board)) memory.chart) (λ e. CountsFormat (chart (B.state board)) (chart (B.state e.0))) }
+        ensures made { MatchResult result (λ memory. Makes (B.state board) setup memory) (λ e.
+            Refuses (B.state board) setup e.1 (B.state e.0)) }
+        ensures counts { MatchResult result (λ memory. CountsFormat (chart (B.state board)) memory.chart) (λ e.
+            CountsFormat (chart (B.state board)) (chart (B.state e.0))) }
     {
         if let Some(fault) = refusal(&board, &setup) {
             return Err((board, fault));

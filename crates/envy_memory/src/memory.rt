@@ -122,7 +122,8 @@ impl<B: Board> Memory<B> {
         ensures magic { self.now.chart.fields.magic ≡ the_magic }
         ensures version { self.now.chart.fields.version ≡ 2 }
         ensures sound { IsSound self.now.chart }
-        ensures unowned { (m : Array) → Stands self.now.chart m → m.slots ≡ replicate 64 None → self.now.owned.pairs ≡ [] }
+        ensures unowned { (m : Array) → Stands self.now.chart m → m.slots ≡ replicate 64 None
+            → self.now.owned.pairs ≡ [] }
     {
         let _ = &self.board;
     }

@@ -43,7 +43,8 @@ impl<B: Board> OneTx<B> {
         ensures same { result ≡ self.memory }
         ensures magic { result.chart.fields.magic ≡ the_magic }
         ensures version { result.chart.fields.version ≡ 2 }
-        ensures stands { IsTrue self.memory.chart.on → (sheet_of self.memory self.begun).started ≡ false → Stands result.chart (fresh result.chart.shape.shadows (durable result.chart)) }
+        ensures stands { IsTrue self.memory.chart.on → (sheet_of self.memory self.begun).started ≡ false
+            → Stands result.chart (fresh result.chart.shape.shadows (durable result.chart)) }
     {
         self.memory.known();
         let OneTx { memory, begun: _ } = self;
@@ -59,15 +60,21 @@ impl<B: Bench> OneTx<B> {
     /// `Dead`: power doesn't return, and nothing changed. `Off`: power was cut again.
     pub fn wake(&mut self) -> Result<(), ReviveFault>
         requires { self.old.memory.chart.on ≡ false }
-        ensures words { (sheet_of self.new.memory self.new.begun).kept ≡ (sheet_of self.old.memory self.old.begun).kept }
+        ensures words { (sheet_of self.new.memory self.new.begun).kept
+            ≡ (sheet_of self.old.memory self.old.begun).kept }
         ensures ok { OnOk result (IsTrue self.new.memory.chart.on × (self.new.begun ≡ false)) }
         ensures restarts { OnOk result (Restarts self.old.memory self.new.memory) }
         ensures counts { counts_of self.new.memory.parts ≡ counts_of self.old.memory.parts }
-        ensures setup { (self.new.memory.limit ≡ self.old.memory.limit) × (self.new.memory.mark ≡ self.old.memory.mark) }
+        ensures setup { (self.new.memory.limit ≡ self.old.memory.limit)
+            × (self.new.memory.mark ≡ self.old.memory.mark) }
         ensures dead { (result ≡ Err ReviveFault.Dead) ↔ (self.old.memory.chart.lives ≡ 0) }
-        ensures off { (result ≡ Err ReviveFault.Off) ↔ ((0 < self.old.memory.chart.lives) × (self.new.memory.chart.on ≡ false)) }
-        ensures cut { (result ≡ Err ReviveFault.Off) → self.old.memory.chart.cuts < 2 ^ 64 - 1 → self.old.memory.chart.cuts < self.new.memory.chart.cuts }
-        ensures kept { MatchResult result (λ _. Kept (lit self.old.memory.chart) self.new.memory.chart) (λ e. ((e ≡ ReviveFault.Dead) × (self.new.memory ≡ self.old.memory)) ⊎ (Kept (lit self.old.memory.chart) self.new.memory.chart × (self.new.memory.chart.on ≡ false))) }
+        ensures off { (result ≡ Err ReviveFault.Off)
+            ↔ ((0 < self.old.memory.chart.lives) × (self.new.memory.chart.on ≡ false)) }
+        ensures cut { (result ≡ Err ReviveFault.Off) → self.old.memory.chart.cuts < 2 ^ 64 - 1
+            → self.old.memory.chart.cuts < self.new.memory.chart.cuts }
+        ensures kept { MatchResult result (λ _. Kept (lit self.old.memory.chart) self.new.memory.chart)
+            (λ e. ((e ≡ ReviveFault.Dead) × (self.new.memory ≡ self.old.memory))
+            ⊎ (Kept (lit self.old.memory.chart) self.new.memory.chart × (self.new.memory.chart.on ≡ false))) }
     {
         self.memory.revive()?;
         self.begun = false;

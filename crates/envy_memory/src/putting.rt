@@ -25,7 +25,8 @@ impl<B: Board> Memory<B> {
         ensures held { (u : ℕ) → (result ≡ Err (PutFault.Held u)) ↔ IsKeptFrom u t a self.old }
         ensures full { (result ≡ Err PutFault.Full) ↔ IsFull t a self.old }
         ensures bad { IsErrOf result PutFault.Bad → HasFailed self.old.chart self.new.chart }
-        ensures complete { Undisturbed self.old.chart self.new.chart → (result ≢ Err PutFault.Off) × (result ≢ Err PutFault.Bad) }
+        ensures complete { Undisturbed self.old.chart self.new.chart → (result ≢ Err PutFault.Off)
+            × (result ≢ Err PutFault.Bad) }
         ensures below { PutsBelow t a result self.old self.new }
     {
         if !self.board.powered() {

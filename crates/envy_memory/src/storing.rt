@@ -23,7 +23,8 @@ impl<B: Board> Memory<B> {
         ensures range { (result ≡ Err StoreFault.Range) ↔ IsPast a self.old }
         ensures held { (u : ℕ) → (result ≡ Err (StoreFault.Held u)) ↔ IsOwned u a self.old }
         ensures bad { IsErrOf result StoreFault.Bad → HasFailed self.old.chart self.new.chart }
-        ensures complete { Undisturbed self.old.chart self.new.chart → (result ≢ Err StoreFault.Off) × (result ≢ Err StoreFault.Bad) }
+        ensures complete { Undisturbed self.old.chart self.new.chart → (result ≢ Err StoreFault.Off)
+            × (result ≢ Err StoreFault.Bad) }
         ensures below { StoresBelow a result self.old self.new }
     {
         if !self.board.powered() {

@@ -19,7 +19,8 @@ impl<B: Board> Memory<B> {
         ensures off { (result ≡ Err Trouble.Off) ↔ (self.new.chart.on ≡ false) }
         ensures cut { IsCut self.old.chart self.new.chart }
         ensures bad { IsErrOf result Trouble.Bad → HasFailed self.old.chart self.new.chart }
-        ensures complete { Undisturbed self.old.chart self.new.chart → (result ≢ Err Trouble.Off) × (result ≢ Err Trouble.Bad) }
+        ensures complete { Undisturbed self.old.chart self.new.chart → (result ≢ Err Trouble.Off)
+            × (result ≢ Err Trouble.Bad) }
         ensures below { TicksBelow result self.old self.new }
     {
         if !self.board.powered() {

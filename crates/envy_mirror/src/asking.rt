@@ -70,7 +70,8 @@ fn ask_both<A: Bench, B: Bench, C: Call>(
     second: &mut Half<B>,
     call: &C,
 ) -> C::Told
-    ensures { TellsBoth C.reply (C.Does call.now) (C.command call.now) result first.old second.old first.new second.new }
+    ensures { TellsBoth C.reply (C.Does call.now) (C.command call.now) result first.old second.old first.new
+        second.new }
 {
     let one = first.ask(call);
     let two = second.ask(call);
@@ -121,7 +122,8 @@ impl<A: Bench, B: Bench> Mirror<A, B> {
     /// Makes a call on each Good side. The page of a store or put that is accepted becomes stale.
     fn call<C: Call>(&mut self, call: &C) -> C::Told
         ensures answers { Answers (C.command call.now) (C.reply result) self.old self.new }
-        ensures tells { TellsBoth C.reply (C.Does call.now) (C.command call.now) result self.old.first self.old.second self.new.first self.new.second }
+        ensures tells { TellsBoth C.reply (C.Does call.now) (C.command call.now) result self.old.first self.old.second
+            self.new.first self.new.second }
     {
         step_gives_one_answer();
         let both = are_good(&self.first, &self.second);
@@ -138,7 +140,8 @@ impl<A: Bench, B: Bench> Mirror<A, B> {
     /// Those of `Memory::store`; `Off` where no side is left, `Bad` where each that is left answered so.
     pub fn store(&mut self, a: u32, w: u64) -> Result<(), StoreFault>
         ensures answers { Answers (Store a w) (store_reply result) self.old self.new }
-        ensures tells { TellsBoth store_reply (StoresBelow a) (Store a w) result self.old.first self.old.second self.new.first self.new.second }
+        ensures tells { TellsBoth store_reply (StoresBelow a) (Store a w) result self.old.first self.old.second
+            self.new.first self.new.second }
     {
         self.call(&StoreCall {
             address: a,
@@ -164,7 +167,8 @@ impl<A: Bench, B: Bench> Mirror<A, B> {
     /// Those of `Memory::put`; `Off` where no side is left, `Bad` where each that is left answered so.
     pub fn put(&mut self, t: u8, a: u32, w: u64) -> Result<(), PutFault>
         ensures answers { Answers (Put t a w) (put_reply result) self.old self.new }
-        ensures tells { TellsBoth put_reply (PutsBelow t a) (Put t a w) result self.old.first self.old.second self.new.first self.new.second }
+        ensures tells { TellsBoth put_reply (PutsBelow t a) (Put t a w) result self.old.first self.old.second
+            self.new.first self.new.second }
     {
         self.call(&PutCall {
             slot: t,
@@ -203,7 +207,8 @@ impl<A: Bench, B: Bench> Mirror<A, B> {
     /// `Off` where no side is left, `Bad` where a flash operation failed on each that is left.
     pub fn tick(&mut self) -> Result<Did, Trouble>
         ensures answers { Answers Tick (tick_reply result) self.old self.new }
-        ensures tells { TellsBoth tick_reply TicksBelow Tick result self.old.first self.old.second self.new.first self.new.second }
+        ensures tells { TellsBoth tick_reply TicksBelow Tick result self.old.first self.old.second self.new.first
+            self.new.second }
     {
         self.call(&TickCall)
     }

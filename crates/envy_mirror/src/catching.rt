@@ -101,7 +101,8 @@ fn copy_stale<A: Bench, B: Bench>(
     requires marks { length stale.old.items ≡ from.now.chart.shape.pages }
     requires none { NoneOpen from.now.chart }
     requires lowest { IsLowestStale stale.old.items page }
-    ensures helps { (good : Side) → good.memory ≡ from.now → Helps result good side.old stale.old.items side.new stale.new.items }
+    ensures helps { (good : Side) → good.memory ≡ from.now
+        → Helps result good side.old stale.old.items side.new stale.new.items }
     ensures side { IsSide side.new }
     ensures shape { side.new.memory.chart.shape ≡ side.old.memory.chart.shape }
 {

@@ -19,7 +19,8 @@ fn copy_word<A: Bench, B: Bench>(
     requires shape { to.old.chart.shape ≡ from.now.chart.shape }
     requires within { a < 32 * to.old.chart.shape.pages }
     ensures closed { IsTrue to.new.chart.on → IsClosed to.new.chart }
-    ensures live { OnOk result (live to.new.chart ≡ slice_set (live to.old.chart) a (slice_index (durable from.now.chart) a)) }
+    ensures live { OnOk result
+        (live to.new.chart ≡ slice_set (live to.old.chart) a (slice_index (durable from.now.chart) a)) }
     ensures bad { IsErrOf result Trouble.Bad → live to.new.chart ≡ live to.old.chart }
     ensures failed { IsErrOf result Trouble.Bad → HasFailed to.old.chart to.new.chart }
     ensures off { (result ≡ Err Trouble.Off) ↔ (to.new.chart.on ≡ false) }
@@ -51,7 +52,8 @@ pub fn copy_page<A: Bench, B: Bench>(
     requires few { to.old.chart.shape.pages ≤ 1048576 }
     ensures closed { IsTrue to.new.chart.on → IsClosed to.new.chart }
     ensures copies { OnOk result (Copies page from.now.chart to.old.chart to.new.chart) }
-    ensures others { IsErrOf result Trouble.Bad → (a : ℕ) → a / 32 ≢ page → slice_index (live to.new.chart) a ≡ slice_index (live to.old.chart) a }
+    ensures others { IsErrOf result Trouble.Bad → (a : ℕ) → a / 32 ≢ page
+        → slice_index (live to.new.chart) a ≡ slice_index (live to.old.chart) a }
     ensures failed { IsErrOf result Trouble.Bad → HasFailed to.old.chart to.new.chart }
     ensures off { (result ≡ Err Trouble.Off) ↔ (to.new.chart.on ≡ false) }
     ensures cut { IsCut to.old.chart to.new.chart }

@@ -50,7 +50,8 @@ impl<A: Bench, B: Bench> Mirror<A, B> {
         requires first { Stands a.chart (zeros a.chart.shape.pages a.chart.shape.shadows) }
         requires second { Stands b.chart (zeros b.chart.shape.pages b.chart.shape.shadows) }
         ensures pair { MatchResult result (λ mirror. mirror ≡ started a b) (λ e. (e.0 ≡ a) × (e.1 ≡ b)) }
-        ensures mirrors { MatchResult result (λ mirror. Mirrors mirror (zeros a.chart.shape.pages a.chart.shape.shadows)) (λ e. Unit {0}) }
+        ensures mirrors { MatchResult result (λ mirror.
+            Mirrors mirror (zeros a.chart.shape.pages a.chart.shape.shadows)) (λ e. Unit {0}) }
     {
         let pages = a.board().shape().pages;
         match vec![in alloc; false; pages as usize] {

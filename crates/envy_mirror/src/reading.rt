@@ -16,7 +16,8 @@ impl<A: Bench, B: Bench> Mirror<A, B> {
     /// `Off` where no side is Good, then `Range`.
     pub fn load(&mut self, a: u32) -> Result<u64, LoadFault>
         ensures finds { Finds (Load a) result self.old self.new }
-        ensures lowest { AsksLowest (is_good self.old.first) (is_good self.old.second) (a / 32) result self.old self.new }
+        ensures lowest { AsksLowest (is_good self.old.first) (is_good self.old.second)
+            (a / 32) result self.old self.new }
     {
         if self.first.is_good() {
             return self.first.memory.load(a);

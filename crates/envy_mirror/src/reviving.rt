@@ -38,7 +38,9 @@ impl<A: Bench, B: Bench> Mirror<A, B> {
     pub fn revive(&mut self) -> Result<(), ReviveFault>
         requires { IsDark self.old }
         ensures revives { RevivesBy self.old.last result self.old self.new }
-        ensures mirrors { result ≡ Ok tt → let c = (side_at self.old.last self.old).memory.chart in Mirrors self.new (fresh c.shape.shadows (durable c)) }
+        ensures mirrors { result ≡ Ok tt
+            → let c = (side_at self.old.last self.old).memory.chart in Mirrors self.new
+            (fresh c.shape.shadows (durable c)) }
     {
         match self.last {
             Which::First => revive_side(&mut self.first, &mut self.stale),

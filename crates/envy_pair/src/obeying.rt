@@ -32,7 +32,8 @@ fn obey_power<K: Sink, A: Bench, B: Bench>(
     buffer: &mut PairBuffer,
 ) -> Obeyed
     requires { side < 2 }
-    ensures { (k : Known) → Serves k mirror.old → ObeysMirror k (OfArray Power) result mirror.old side mirror.new side (K.drain sink.old) (K.drain sink.new) }
+    ensures { (k : Known) → Serves k mirror.old
+        → ObeysMirror k (OfArray Power) result mirror.old side mirror.new side (K.drain sink.old) (K.drain sink.new) }
 {
     mirror.cut_now(side);
     if !has_good(mirror) {
@@ -55,7 +56,8 @@ fn obey_call<K: Sink, A: Bench, B: Bench>(
     requires ready { (m : Array) × Mirrors mirror.old m }
     requires side { side.old < 2 }
     requires call { IsMirrorCall line.now }
-    ensures { (k : Known) → Serves k mirror.old → ObeysMirror k line.now result mirror.old side.old mirror.new side.new (K.drain sink.old) (K.drain sink.new) }
+    ensures { (k : Known) → Serves k mirror.old
+        → ObeysMirror k line.now result mirror.old side.old mirror.new side.new (K.drain sink.old) (K.drain sink.new) }
 {
     let reply = answer(mirror, side, line);
     let wrote = write_mirror_reply(sink, &reply, buffer);
@@ -79,7 +81,8 @@ pub fn obey_mirror<K: Sink, A: Bench, B: Bench>(
     requires ready { (m : Array) × Mirrors mirror.old m }
     requires side { side.old < 2 }
     requires line { IsServed line.now }
-    ensures { (k : Known) → Serves k mirror.old → ObeysMirror k line.now result mirror.old side.old mirror.new side.new (K.drain sink.old) (K.drain sink.new) }
+    ensures { (k : Known) → Serves k mirror.old
+        → ObeysMirror k line.now result mirror.old side.old mirror.new side.new (K.drain sink.old) (K.drain sink.new) }
 {
     match *line {
         MirrorLine::Array(Line::Empty) => Obeyed::Done,

@@ -69,7 +69,8 @@ impl<'a, P: Port + Drop> PartBoard<'a, P> {
         requires pages { ArePages flash.old }
         requires words { AreWords sram.old }
         ensures makes { MatchResult result
-            (λ board. part_state board.shape board.flash.now board.sram.now board.erases.items board.begun board.bads ≡ new_part shape flash.old sram.old)
+            (λ board. part_state board.shape board.flash.now board.sram.now board.erases.items board.begun board.bads
+            ≡ new_part shape flash.old sram.old)
             (Misfits shape flash.old sram.old) }
         ensures ordered { IfOk result (λ board. P.orders board.port ≡ P.orders port) }
     {
@@ -124,9 +125,11 @@ impl<'a, P: Port> Board for PartBoard<'a, P> {
     /// `Bad` where the row isn't that AND.
     fn program(&mut self, row: u32, page: &[u64; 32]) -> Result<(), Trouble>
         requires { row < length (⟦<PartBoard<'a, P> as Board>⟧.state self.old).flash }
-        ensures does { Programs (⟦<PartBoard<'a, P> as Board>⟧.state self.old) row page.now result (⟦<PartBoard<'a, P> as Board>⟧.state self.new) }
+        ensures does { Programs (⟦<PartBoard<'a, P> as Board>⟧.state self.old) row page.now result
+            (⟦<PartBoard<'a, P> as Board>⟧.state self.new) }
         ensures bad { OnErr result (MissesPage self.old.flash.now row page.now self.new.flash.now) }
-        ensures ordered { Adds (ToProgram (ands (row_from (slice_index_or self.old.flash.now row [])) page.now)) (P.orders self.old.port) (P.orders self.new.port) }
+        ensures ordered { Adds (ToProgram (ands (row_from (slice_index_or self.old.flash.now row [])) page.now))
+            (P.orders self.old.port) (P.orders self.new.port) }
     {
         let held = self.flash[row as usize];
         let both = anded(&words(&held), page);
@@ -148,7 +151,8 @@ impl<'a, P: Port> Board for PartBoard<'a, P> {
     /// `Bad` where a row of the segment isn't all ones.
     fn erase(&mut self, segment: u32) -> Result<(), Trouble>
         requires { segment < (⟦<PartBoard<'a, P> as Board>⟧.state self.old).shape.segments }
-        ensures does { Erases (⟦<PartBoard<'a, P> as Board>⟧.state self.old) segment result (⟦<PartBoard<'a, P> as Board>⟧.state self.new) }
+        ensures does { Erases (⟦<PartBoard<'a, P> as Board>⟧.state self.old) segment result
+            (⟦<PartBoard<'a, P> as Board>⟧.state self.new) }
         ensures bad { OnErr result (MissesOnes self.new.shape.rows segment self.new.flash.now) }
         ensures ordered { Adds (ToErase self.old.shape.rows) (P.orders self.old.port) (P.orders self.new.port) }
     {
@@ -167,7 +171,8 @@ impl<'a, P: Port> Board for PartBoard<'a, P> {
     /// A compiler may join the stores of neighbouring words into one of 128 bits, which must halve only at words.
     fn put(&mut self, w: u32, v: u64) -> Result<(), Off>
         requires { w < length (⟦<PartBoard<'a, P> as Board>⟧.state self.old).sram }
-        ensures does { Puts (⟦<PartBoard<'a, P> as Board>⟧.state self.old) w v result (⟦<PartBoard<'a, P> as Board>⟧.state self.new) }
+        ensures does { Puts (⟦<PartBoard<'a, P> as Board>⟧.state self.old) w v result
+            (⟦<PartBoard<'a, P> as Board>⟧.state self.new) }
         ensures ordered { P.orders self.new.port ≡ P.orders self.old.port }
     {
         self.sram[w as usize] = v;

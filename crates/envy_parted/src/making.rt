@@ -22,7 +22,8 @@ use std::alloc::Global;
 // The setup, if its shape's regions may lie there. It takes no port, so that nothing can be ordered.
 fn setup_for(given: &EnvySetup, places: &Places) -> Result<Setup, PartCode>
     ensures { MatchResult result
-        (λ setup. (setup_of given.now ≡ Some setup) × (checked setup ≡ Ok tt) × IsSetup setup × ArePlaced setup.shape places.now)
+        (λ setup. (setup_of given.now ≡ Some setup) × (checked setup ≡ Ok tt) × IsSetup setup
+        × ArePlaced setup.shape places.now)
         (NoPlaces given.now places.now) }
 {
     let setup = checked_setup(given)?;
@@ -44,9 +45,11 @@ fn board_over(
     requires shape { IsShape shape }
     requires whole { AreWhole flash.now sram.now }
     ensures { MatchResult result
-        (λ board. (part_state board.shape board.flash.now board.sram.now board.erases.items board.begun board.bads ≡ new_part shape flash.entry.now sram.entry.now)
+        (λ board. (part_state board.shape board.flash.now board.sram.now board.erases.items board.begun board.bads
+        ≡ new_part shape flash.entry.now sram.entry.now)
         × HasSizes shape flash.entry.now sram.entry.now)
-        (λ code. (fault : PartFault) × (code ≡ code_of_part fault) × Misfits shape flash.entry.now sram.entry.now fault) }
+        (λ code. (fault : PartFault) × (code ≡ code_of_part fault)
+        × Misfits shape flash.entry.now sram.entry.now fault) }
 {
     match PartBoard::over(alloc, shape, flash, sram, IoPort { number: port }) {
         Ok(board) => Ok(board),
@@ -65,7 +68,13 @@ fn formatted(
     port: i32,
 ) -> Result<Memory<PartBoard<'static, IoPort>>, PartCode>
     requires { AreWhole flash.now sram.now }
-    ensures { let all : Given = record { setup = given.now; places = places.now; flash = flash.entry.now; sram = sram.entry.now } in
+    ensures { let all : Given = record {
+      setup = given.now;
+      places = places.now;
+      flash = flash.entry.now;
+      sram =
+          sram.entry.now;
+    } in
         MatchResult result (Formatted all) (RefusesFormat all) }
 {
     let setup = setup_for(given, places)?;
@@ -87,7 +96,13 @@ fn attached(
     port: i32,
 ) -> Result<Memory<PartBoard<'static, IoPort>>, PartCode>
     requires { AreWhole flash.now sram.now }
-    ensures { let all : Given = record { setup = given.now; places = places.now; flash = flash.entry.now; sram = sram.entry.now } in
+    ensures { let all : Given = record {
+      setup = given.now;
+      places = places.now;
+      flash = flash.entry.now;
+      sram =
+          sram.entry.now;
+    } in
         MatchResult result (Attached all) (RefusesAttach all) }
 {
     let setup = setup_for(given, places)?;
@@ -109,7 +124,13 @@ pub fn format_place(
     port: i32,
 ) -> PartCode
     requires { AreWhole flash.now sram.now }
-    ensures { let all : Given = record { setup = given.now; places = places.now; flash = flash.entry.now; sram = sram.entry.now } in
+    ensures { let all : Given = record {
+      setup = given.now;
+      places = places.now;
+      flash = flash.entry.now;
+      sram =
+          sram.entry.now;
+    } in
         Opens (Formatted all) (RefusesFormat all) slot.old slot.new result }
 {
     if slot.is_some() {
@@ -135,7 +156,13 @@ pub fn attach_place(
     port: i32,
 ) -> PartCode
     requires { AreWhole flash.now sram.now }
-    ensures { let all : Given = record { setup = given.now; places = places.now; flash = flash.entry.now; sram = sram.entry.now } in
+    ensures { let all : Given = record {
+      setup = given.now;
+      places = places.now;
+      flash = flash.entry.now;
+      sram =
+          sram.entry.now;
+    } in
         Opens (Attached all) (RefusesAttach all) slot.old slot.new result }
 {
     if slot.is_some() {

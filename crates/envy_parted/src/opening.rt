@@ -51,7 +51,9 @@ pub extern "C" fn envy_parted_format_at(
     requires whole { AreWhole flash.rows.now sram.words.now }
     ensures live { InBlock m.new.at }
     ensures lit { AreLit m.old.slot.now m.new.slot.now }
-    ensures formats { DoesFormat (record { setup = setup.now; places = places.now; flash = flash.rows.now; sram = sram.words.now }) m.old.slot.now m.new.slot.now result }
+    ensures formats { DoesFormat
+        (record { setup = setup.now; places = places.now; flash = flash.rows.now; sram = sram.words.now })
+        m.old.slot.now m.new.slot.now result }
 {
     let slot = lend(m);
     let (flash, sram) = (flash.into_slice(), sram.into_slice());
@@ -77,7 +79,9 @@ pub extern "C" fn envy_parted_attach_at(
     requires whole { AreWhole flash.rows.now sram.words.now }
     ensures live { InBlock m.new.at }
     ensures lit { AreLit m.old.slot.now m.new.slot.now }
-    ensures attaches { DoesAttach (record { setup = setup.now; places = places.now; flash = flash.rows.now; sram = sram.words.now }) m.old.slot.now m.new.slot.now result }
+    ensures attaches { DoesAttach
+        (record { setup = setup.now; places = places.now; flash = flash.rows.now; sram = sram.words.now })
+        m.old.slot.now m.new.slot.now result }
 {
     let slot = lend(m);
     let (flash, sram) = (flash.into_slice(), sram.into_slice());

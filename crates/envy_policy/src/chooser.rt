@@ -39,7 +39,8 @@ impl Chooser {
     /// all memory that is ever needed: under `Lifetime` 8 bytes for each page more.
     pub fn new(alloc: Global, setup: &Setup) -> Result<Chooser, NoMemory>
         requires { IsSetup setup.now }
-        ensures { IfOk result (λ chooser. chooser ≡ started setup.now.policy setup.now.shape.pages (setup.now.shape.segments - 1)) }
+        ensures { IfOk result (λ chooser.
+            chooser ≡ started setup.now.policy setup.now.shape.pages (setup.now.shape.segments - 1)) }
     {
         let policy = setup.policy;
         let positions = setup.shape.segments - 1;
@@ -113,7 +114,8 @@ impl Chooser {
 
     fn set_turn(&mut self, position: u32)
         requires { position < self.old.positions }
-        ensures { self.new ≡ record self.old { turns = slice_set self.old.turns (partition_of self.old position) position } }
+        ensures { self.new
+            ≡ record self.old { turns = slice_set self.old.turns (partition_of self.old position) position } }
     {
         let partition = self.partition_of(position);
         self.turns[partition as usize] = position;

@@ -15,10 +15,12 @@ pub fn rows_leave_one_choice()
 pub fn heats_count_flushes()
     ensures counted { (h : History) (positions : List ℕ) (g : ℕ)
         → g < length h.heats → h.flushes + length positions < 1024
-        → slice_index (fold flushed h positions).heats g ≡ slice_index h.heats g + count_by (λ p. partition_of h p == g) positions }
+        → slice_index (fold flushed h positions).heats g ≡ slice_index h.heats g + count_by (λ p.
+        partition_of h p == g) positions }
     ensures halved { (h : History) (positions : List ℕ) (g : ℕ)
         → g < length h.heats → h.flushes < 1024 → h.flushes + length positions ≡ 1024
-        → slice_index (fold flushed h positions).heats g ≡ (slice_index h.heats g + count_by (λ p. partition_of h p == g) positions) / 2 }
+        → slice_index (fold flushed h positions).heats g
+        ≡ (slice_index h.heats g + count_by (λ p. partition_of h p == g) positions) / 2 }
 {}
 
 /// Under greedy all positions are one partition: the lowest with a free row is the choice, or else
@@ -39,7 +41,8 @@ pub fn greedy_looks_at_all_positions()
 /// it is one that there is.
 pub fn a_choice_has_rows()
     ensures { (h : History) (free dead : List ℕ) (home : ℕ) (choice : Choice)
-        → length free ≡ h.positions → length dead ≡ h.positions → IsChoice h free dead home choice → IsWithin h free dead choice }
+        → length free ≡ h.positions → length dead ≡ h.positions → IsChoice h free dead home choice
+        → IsWithin h free dead choice }
 {}
 
 /// A flush or a cleaning that is noted changes heats, turns and lives alone, and not how many there are.

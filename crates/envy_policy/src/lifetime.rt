@@ -76,10 +76,12 @@ impl Lifetime {
     /// Chooses for a page by lists of the numbers of free, of dead and of kept rows at each position. It
     /// refuses nothing, and never moves rows aside.
     pub fn choose(&self, free: &[u32], dead: &[u32], kept: &[u32], page: u32) -> Choice
-        requires rows { IsCounted (length self.now.cleaned) (record { free = free.now; dead = dead.now; kept = kept.now }) }
+        requires rows { IsCounted (length self.now.cleaned)
+            (record { free = free.now; dead = dead.now; kept = kept.now }) }
         requires some { (k : ℕ) × (0 < slice_index free.now k + slice_index dead.now k) }
         requires page { page < length self.now.born }
-        ensures choice { IsLifetimeChoice self.now (record { free = free.now; dead = dead.now; kept = kept.now }) page result }
+        ensures choice { IsLifetimeChoice self.now (record { free = free.now; dead = dead.now; kept = kept.now }) page
+            result }
         ensures within { HasRowsFor (record { free = free.now; dead = dead.now; kept = kept.now }) result }
     {
         let _ = &self.clock;
@@ -91,7 +93,8 @@ impl Lifetime {
     /// each position.
     pub fn choose_among<R: Rows>(&self, rows: &R, page: u32) -> Choice
         requires rows { IsCounted (length self.now.cleaned) (R.counts rows.now) }
-        requires some { (k : ℕ) × (0 < slice_index (R.counts rows.now).free k + slice_index (R.counts rows.now).dead k) }
+        requires some { (k : ℕ)
+            × (0 < slice_index (R.counts rows.now).free k + slice_index (R.counts rows.now).dead k) }
         requires page { page < length self.now.born }
         ensures choice { IsLifetimeChoice self.now (R.counts rows.now) page result }
         ensures within { HasRowsFor (R.counts rows.now) result }
@@ -162,7 +165,8 @@ impl Lifetime {
     /// The lowest position with room that is open for no class. Each that is passed over is open or emptied.
     fn first_fresh<R: Rows>(&self, rows: &R, emptied: Option<u32>) -> Option<u32>
         requires { IsCounted (length self.now.cleaned) (R.counts rows.now) }
-        ensures position { MatchOption result ((k : ℕ) → IsFresh self.now (R.counts rows.now) emptied k → ⊥) (IsLowest (IsFresh self.now (R.counts rows.now) emptied)) }
+        ensures position { MatchOption result ((k : ℕ) → IsFresh self.now (R.counts rows.now) emptied k
+            → ⊥) (IsLowest (IsFresh self.now (R.counts rows.now) emptied)) }
         ensures below { IfSome result (λ k. k < length self.now.cleaned) }
     {
         let _ = &self.clock;
@@ -188,7 +192,8 @@ impl Lifetime {
     fn victim<R: Rows>(&self, rows: &R, page: u32) -> Option<u32>
         requires rows { IsCounted (length self.now.cleaned) (R.counts rows.now) }
         requires page { page < length self.now.born }
-        ensures { MatchOption result ((k : ℕ) → IsFull (R.counts rows.now) k → ⊥) (IsVictim self.now (R.counts rows.now) page) }
+        ensures { MatchOption result ((k : ℕ) → IsFull (R.counts rows.now) k
+            → ⊥) (IsVictim self.now (R.counts rows.now) page) }
     {
         let class = self.class_of(page);
         let mut best = None;

@@ -12,7 +12,8 @@ use std::alloc::Global;
 /// take no memory for it.
 pub fn started(alloc: Global, setup: &Setup) -> Result<Option<Lifetime>, NoMemory>
     requires { IsSetup setup.now }
-    ensures { IfOk result (λ lives. lives ≡ lives_of setup.now.policy setup.now.shape.pages (setup.now.shape.segments - 1)) }
+    ensures { IfOk result (λ lives.
+        lives ≡ lives_of setup.now.policy setup.now.shape.pages (setup.now.shape.segments - 1)) }
 {
     if let Policy::Lifetime = setup.policy {
         return Ok(Some(Lifetime::new(alloc, &setup.shape)?));

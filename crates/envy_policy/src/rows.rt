@@ -6,7 +6,8 @@ pub fn first_with(rows: &[u32], first: u32, end: u32) -> Option<u32>
     requires { end ≤ length rows.now }
     ensures { MatchOption result
         ((k : ℕ) → first ≤ k → k < end → slice_index rows.now k ≡ 0)
-        (λ p. (first ≤ p) × (p < end) × (0 < slice_index rows.now p) × ((k : ℕ) → first ≤ k → k < p → slice_index rows.now k ≡ 0)) }
+        (λ p. (first ≤ p) × (p < end) × (0 < slice_index rows.now p)
+        × ((k : ℕ) → first ≤ k → k < p → slice_index rows.now k ≡ 0)) }
 {
     for i in first..end {
         if rows[i as usize] != 0 {

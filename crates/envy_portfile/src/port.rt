@@ -60,7 +60,8 @@ impl FilePort {
         failed: &Made<'_>,
     ) -> Result<(), DeviceFailed>
         ensures answer { result ≡ answer }
-        ensures noted { Notes (call_of done.now) (call_of failed.now) answer self.old.record.calls self.new.record.calls }
+        ensures noted { Notes (call_of done.now) (call_of failed.now) answer self.old.record.calls
+            self.new.record.calls }
     {
         self.record = match answer {
             Ok(()) => self.record.and(done),

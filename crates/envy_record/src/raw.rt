@@ -14,7 +14,8 @@ pub trait RawFile {
 
     /// Writes all of the bytes at an offset.
     fn write_at(&mut self, at: usize, bytes: &[u8]) -> Result<(), DeviceFailed>
-        ensures { Notes (Wrote at bytes.now) (WriteFailed at (length bytes.now)) result (calls self.old) (calls self.new) };
+        ensures { Notes (Wrote at bytes.now) (WriteFailed at (length bytes.now)) result (calls self.old)
+            (calls self.new) };
 
     /// Cuts the file to a size.
     fn cut(&mut self, size: usize) -> Result<(), DeviceFailed>
@@ -30,7 +31,8 @@ pub trait RawFile {
 
     /// Writes all of the bytes behind those of the second file.
     fn append(&mut self, bytes: &[u8]) -> Result<(), DeviceFailed>
-        ensures { Notes (Appended bytes.now) (AppendFailed (length bytes.now)) result (calls self.old) (calls self.new) };
+        ensures { Notes (Appended bytes.now) (AppendFailed (length bytes.now)) result (calls self.old)
+            (calls self.new) };
 
     /// Brings the second file to the disk, puts it in the file's place, and brings its name there to the disk.
     fn replace(&mut self) -> Result<(), DeviceFailed>

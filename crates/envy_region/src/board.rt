@@ -39,7 +39,8 @@ impl<'a> RegionBoard<'a> {
         erases: &'a mut [u64],
     ) -> RegionBoard<'a>
         requires { IsBoard (region_state shape flash.old sram.old erases.old 0) }
-        ensures { region_state result.shape result.flash.now result.sram.now result.erases.now result.begun ≡ region_state shape flash.old sram.old erases.old 0 }
+        ensures { region_state result.shape result.flash.now result.sram.now result.erases.now result.begun
+            ≡ region_state shape flash.old sram.old erases.old 0 }
     {
         RegionBoard {
             shape,

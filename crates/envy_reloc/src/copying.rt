@@ -32,7 +32,8 @@ pub(crate) fn next_kept<B: Board>(
     requires sound { IsSound (chart (B.state board.now)) }
     requires segment { segment < (B.state board.now).shape.segments }
     requires claimed { slice_index (chart (B.state board.now)).fields.fills segment ≡ claimed }
-    ensures next { IfOk result (λ left. NextKept (B.state board.now).shape (chart (B.state board.now)).fields segment mark left) }
+    ensures next { IfOk result (λ left.
+        NextKept (B.state board.now).shape (chart (B.state board.now)).fields segment mark left) }
     ensures off { OnErr result ((B.state board.now).on ≡ false) }
 {
     let first = segment * board.shape().rows;
@@ -76,17 +77,27 @@ pub(crate) fn copy_row<B: Board>(
     requires on { IsTrue (B.state board.old).on }
     requires pool { PoolAgrees (B.state board.old).shape (chart (B.state board.old)).fields space.old }
     requires spare { IsSpare (B.state board.old).shape (chart (B.state board.old)).fields.positions spare }
-    requires copies { (v : ℕ) × ((chart (B.state board.old)).fields.job ≡ Some (Copy v)) × (left.row / (B.state board.old).shape.rows ≡ v)
-        × AreCopies (B.state board.old).shape (chart (B.state board.old)).fields.fills (chart (B.state board.old)).fields.backs (chart (B.state board.old)).fields.origins (B.state board.old).flash v spare }
-    requires left { IsLeft (chart (B.state board.old)).fields (slice_index (chart (B.state board.old)).fields.fills spare) left.row }
+    requires copies { (v : ℕ) × ((chart (B.state board.old)).fields.job ≡ Some (Copy v))
+        × (left.row / (B.state board.old).shape.rows ≡ v)
+        × AreCopies (B.state board.old).shape (chart (B.state board.old)).fields.fills
+        (chart (B.state board.old)).fields.backs (chart (B.state board.old)).fields.origins (B.state board.old).flash v
+        spare }
+    requires left { IsLeft (chart (B.state board.old)).fields
+        (slice_index (chart (B.state board.old)).fields.fills spare) left.row }
     requires page { slice_index (chart (B.state board.old)).fields.backs left.row ≡ left.page }
     ensures same { Same 1 0 (chart (B.state board.old)) (chart (B.state board.new)) }
-    ensures pool { IsTrue (B.state board.new).on → PoolAgrees (B.state board.new).shape (chart (B.state board.new)).fields space.new }
+    ensures pool { IsTrue (B.state board.new).on
+        → PoolAgrees (B.state board.new).shape (chart (B.state board.new)).fields space.new }
     ensures shape { space.new.shape ≡ space.old.shape }
-    ensures fields { IsTrue (B.state board.new).on → (chart (B.state board.new)).fields ≡ copied_to (B.state board.old).shape spare (slice_index (chart (B.state board.old)).fields.fills spare) left.row (chart (B.state board.old)).fields }
-    ensures copy { let target = spare * (B.state board.old).shape.rows + slice_index (chart (B.state board.old)).fields.fills spare in
+    ensures fields { IsTrue (B.state board.new).on
+        → (chart (B.state board.new)).fields ≡ copied_to (B.state board.old).shape spare
+        (slice_index (chart (B.state board.old)).fields.fills spare) left.row (chart (B.state board.old)).fields }
+    ensures copy { let target = spare * (B.state board.old).shape.rows + slice_index
+        (chart (B.state board.old)).fields.fills spare in
         OnOk result (row_of (B.state board.new) target ≡ row_of (B.state board.old) left.row) }
-    ensures others { IsTrue (B.state board.new).on → (r : ℕ) → r ≢ spare * (B.state board.old).shape.rows + slice_index (chart (B.state board.old)).fields.fills spare → row_of (B.state board.new) r ≡ row_of (B.state board.old) r }
+    ensures others { IsTrue (B.state board.new).on → (r : ℕ)
+        → r ≢ spare * (B.state board.old).shape.rows + slice_index (chart (B.state board.old)).fields.fills spare
+        → row_of (B.state board.new) r ≡ row_of (B.state board.old) r }
     ensures counted { IsTrue (B.state board.new).on → copied.new ≡ up copied.old }
     ensures counts { Tally (B.state board.old).begun copied.old (B.state board.new).begun copied.new }
     ensures off { (result ≡ Err Trouble.Off) ↔ ((B.state board.new).on ≡ false) }

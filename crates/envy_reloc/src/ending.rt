@@ -26,11 +26,14 @@ pub(crate) fn place_spare<B: Board>(
     requires placed { IsPlaced (B.state board.old).shape (chart (B.state board.old)).fields.positions segment }
     requires clear { IsClear (B.state board.old).shape (chart (B.state board.old)).fields segment }
     ensures same { Same 0 0 (chart (B.state board.old)) (chart (B.state board.new)) }
-    ensures pool { IsTrue (B.state board.new).on → PoolAgrees (B.state board.new).shape (chart (B.state board.new)).fields space.new }
+    ensures pool { IsTrue (B.state board.new).on
+        → PoolAgrees (B.state board.new).shape (chart (B.state board.new)).fields space.new }
     ensures shape { space.new.shape ≡ space.old.shape }
-    ensures places { OnOk result ((k e : ℕ) × (k < (B.state board.old).shape.segments - 1) × (slice_index (chart (B.state board.old)).fields.positions k ≡ segment)
+    ensures places { OnOk result ((k e : ℕ) × (k < (B.state board.old).shape.segments - 1)
+        × (slice_index (chart (B.state board.old)).fields.positions k ≡ segment)
         × IsSpare (B.state board.old).shape (chart (B.state board.old)).fields.positions e
-        × (chart (B.state board.new) ≡ with_fields (chart (B.state board.old)) (with_job (Some Erase) (with_position k e (chart (B.state board.old)).fields)))) }
+        × (chart (B.state board.new) ≡ with_fields (chart (B.state board.old))
+        (with_job (Some Erase) (with_position k e (chart (B.state board.old)).fields)))) }
     ensures on { OnOk result (IsTrue (B.state board.new).on) }
     ensures off { OnErr result ((B.state board.new).on ≡ false) }
 {
@@ -51,16 +54,25 @@ pub(crate) fn erase<B: Board>(
     requires pool { PoolAgrees (B.state board.old).shape (chart (B.state board.old)).fields space.old }
     requires erasing { (chart (B.state board.old)).fields.job ≡ Some Erase }
     ensures same { Same 0 1 (chart (B.state board.old)) (chart (B.state board.new)) }
-    ensures pool { IsTrue (B.state board.new).on → PoolAgrees (B.state board.new).shape (chart (B.state board.new)).fields space.new }
+    ensures pool { IsTrue (B.state board.new).on
+        → PoolAgrees (B.state board.new).shape (chart (B.state board.new)).fields space.new }
     ensures counted { IsTrue (B.state board.new).on → (erased.new ≡ up erased.old) × (since.new ≡ up since.old) }
     ensures counts { Tally (sum (B.state board.old).erases) erased.old (sum (B.state board.new).erases) erased.new }
     ensures counts_since { Tally (sum (B.state board.old).erases) since.old (sum (B.state board.new).erases) since.new }
     ensures shape { space.new.shape ≡ space.old.shape }
-    ensures erases { OnOk result ((e : ℕ) × IsSpare (B.state board.old).shape (chart (B.state board.old)).fields.positions e
-        × ((chart (B.state board.new)).fields ≡ with_job (Some Idle) (with_fill e 0 (with_wear e (up (slice_index (chart (B.state board.old)).fields.wears e)) (chart (B.state board.old)).fields))) × Only (B.state board.old).shape.rows e IsOnes (B.state board.old).flash (B.state board.new).flash) }
-    ensures spoilt { IsErrOf result Trouble.Bad → (e : ℕ) × IsSpare (B.state board.old).shape (chart (B.state board.old)).fields.positions e
-        × ((chart (B.state board.new)).fields ≡ with_wear e (up (slice_index (chart (B.state board.old)).fields.wears e)) (chart (B.state board.old)).fields)
-        × ((r : ℕ) → r / (B.state board.old).shape.rows ≢ e → row_of (B.state board.new) r ≡ row_of (B.state board.old) r) }
+    ensures erases { OnOk result ((e : ℕ)
+        × IsSpare (B.state board.old).shape (chart (B.state board.old)).fields.positions e
+        × ((chart (B.state board.new)).fields
+        ≡ with_job (Some Idle)
+        (with_fill e 0 (with_wear e (up (slice_index (chart (B.state board.old)).fields.wears e))
+        (chart (B.state board.old)).fields)))
+        × Only (B.state board.old).shape.rows e IsOnes (B.state board.old).flash (B.state board.new).flash) }
+    ensures spoilt { IsErrOf result Trouble.Bad → (e : ℕ)
+        × IsSpare (B.state board.old).shape (chart (B.state board.old)).fields.positions e
+        × ((chart (B.state board.new)).fields
+        ≡ with_wear e (up (slice_index (chart (B.state board.old)).fields.wears e)) (chart (B.state board.old)).fields)
+        × ((r : ℕ) → r / (B.state board.old).shape.rows ≢ e
+        → row_of (B.state board.new) r ≡ row_of (B.state board.old) r) }
     ensures on { OnOk result (IsTrue (B.state board.new).on) }
     ensures off { (result ≡ Err Trouble.Off) ↔ ((B.state board.new).on ≡ false) }
     ensures bad { IsErrOf result Trouble.Bad → (B.state board.new).bads ≡ up (B.state board.old).bads }

@@ -20,19 +20,27 @@ ghost use Rattle.envy_reloc.specs.Plan.{Plan, IsPlanOf, IsFreeOf};
 /// a row, by its place or by its undo, named it before or lies in such a segment; and a page may cease to
 /// name one: it goes to a frame or becomes absent, its undo becomes clear or blank, or its slot ends.
 pub fn writes_keep_the_plan()
-    ensures claimed { (sh : Shape) (f : Fields) (flash : List (List ℕ)) (plan : Plan) (s q p n : ℕ) → Sound sh f flash → IsPlaced sh f.positions s → IsFreeOf f.job s → q / sh.rows ≡ s
+    ensures claimed { (sh : Shape) (f : Fields) (flash : List (List ℕ)) (plan : Plan) (s q p n : ℕ) → Sound sh f flash
+        → IsPlaced sh f.positions s → IsFreeOf f.job s → q / sh.rows ≡ s
         → IsPlanOf sh f flash plan → IsPlanOf sh (with_fill s n (with_back q p f)) flash plan }
-    ensures programmed { (sh : Shape) (f : Fields) (flash new : List (List ℕ)) (plan : Plan) (s q : ℕ) → Sound sh f flash → IsPlaced sh f.positions s → IsFreeOf f.job s → q / sh.rows ≡ s
-        → ((r : ℕ) → r ≢ q → slice_index_or new r [] ≡ slice_index_or flash r []) → IsPlanOf sh f flash plan → IsPlanOf sh f new plan }
-    ensures rowed { (sh : Shape) (f : Fields) (flash : List (List ℕ)) (plan : Plan) (p q : ℕ) → Sound sh f flash → p < sh.pages → Names f p q ⊎ IsFreeOf f.job (q / sh.rows)
+    ensures programmed { (sh : Shape) (f : Fields) (flash new : List (List ℕ)) (plan : Plan) (s q : ℕ)
+        → Sound sh f flash → IsPlaced sh f.positions s → IsFreeOf f.job s → q / sh.rows ≡ s
+        → ((r : ℕ) → r ≢ q → slice_index_or new r [] ≡ slice_index_or flash r []) → IsPlanOf sh f flash plan
+        → IsPlanOf sh f new plan }
+    ensures rowed { (sh : Shape) (f : Fields) (flash : List (List ℕ)) (plan : Plan) (p q : ℕ) → Sound sh f flash
+        → p < sh.pages → Names f p q ⊎ IsFreeOf f.job (q / sh.rows)
         → IsPlanOf sh f flash plan → IsPlanOf sh (with_place p (Some (Row q)) f) flash plan }
-    ensures unrowed { (sh : Shape) (f : Fields) (flash : List (List ℕ)) (plan : Plan) (p : ℕ) (x : Place) → Sound sh f flash → p < sh.pages → ((q : ℕ) → x ≢ Row q)
+    ensures unrowed { (sh : Shape) (f : Fields) (flash : List (List ℕ)) (plan : Plan) (p : ℕ) (x : Place)
+        → Sound sh f flash → p < sh.pages → ((q : ℕ) → x ≢ Row q)
         → IsPlanOf sh f flash plan → IsPlanOf sh (with_place p (Some x) f) flash plan }
-    ensures shaded { (sh : Shape) (f : Fields) (flash : List (List ℕ)) (plan : Plan) (p t q : ℕ) → Sound sh f flash → p < sh.pages → Names f p q ⊎ IsFreeOf f.job (q / sh.rows)
+    ensures shaded { (sh : Shape) (f : Fields) (flash : List (List ℕ)) (plan : Plan) (p t q : ℕ) → Sound sh f flash
+        → p < sh.pages → Names f p q ⊎ IsFreeOf f.job (q / sh.rows)
         → IsPlanOf sh f flash plan → IsPlanOf sh (with_undo p (Some (Shadow t q)) f) flash plan }
-    ensures blanked { (sh : Shape) (f : Fields) (flash : List (List ℕ)) (plan : Plan) (p t : ℕ) → Sound sh f flash → p < sh.pages
+    ensures blanked { (sh : Shape) (f : Fields) (flash : List (List ℕ)) (plan : Plan) (p t : ℕ) → Sound sh f flash
+        → p < sh.pages
         → IsPlanOf sh f flash plan → IsPlanOf sh (with_undo p (Some (Blank t)) f) flash plan }
-    ensures cleared { (sh : Shape) (f : Fields) (flash : List (List ℕ)) (plan : Plan) (p : ℕ) → Sound sh f flash → p < sh.pages
+    ensures cleared { (sh : Shape) (f : Fields) (flash : List (List ℕ)) (plan : Plan) (p : ℕ) → Sound sh f flash
+        → p < sh.pages
         → IsPlanOf sh f flash plan → IsPlanOf sh (with_undo p (Some Clear) f) flash plan }
     ensures unused { (sh : Shape) (f : Fields) (flash : List (List ℕ)) (plan : Plan) (t : ℕ) (x : Slot) → IsUnused f t
         → IsPlanOf sh f flash plan → IsPlanOf sh (with_slot t (Some x) f) flash plan }
@@ -42,6 +50,7 @@ pub fn writes_keep_the_plan()
 
 /// The relocation of a segment with a dead row, once it has ended, leaves a free row at its position.
 pub fn a_cleaning_leaves_room()
-    ensures { (sh : Shape) (positions : List ℕ) (k n m : ℕ) (f : Fields) (pool : Pool) → f.job ≡ Some Idle → Cleans sh positions k n f m → PoolAgrees sh f pool
+    ensures { (sh : Shape) (positions : List ℕ) (k n m : ℕ) (f : Fields) (pool : Pool) → f.job ≡ Some Idle
+        → Cleans sh positions k n f m → PoolAgrees sh f pool
         → slice_index pool.fills (slice_index pool.positions k) < sh.rows }
 {}

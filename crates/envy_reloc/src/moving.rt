@@ -17,9 +17,9 @@ ghost use Rattle.envy_reloc.specs.Plan.{IsPlanOf};
 ghost use Rattle.envy_reloc.specs.Rows.{HasRoom, Rooms};
 
 use crate::Reloc;
+use crate::copying::read_row;
 use crate::following::follow;
 use envy_base::{Board, Off, Place, Trouble};
-use crate::copying::read_row;
 use envy_layout::{Kept, keeper, move_place, move_undo, program_counted};
 use envy_space::Space;
 use envy_table::Cache;
@@ -61,10 +61,13 @@ impl Reloc {
         requires on { IsTrue (B.state board.now).on }
         requires pool { PoolAgrees (B.state board.now).shape (chart (B.state board.now)).fields space.now }
         requires segment { segment < (B.state board.now).shape.segments }
-        requires plan { IsPlanOf (B.state board.now).shape (chart (B.state board.now)).fields (B.state board.now).flash self.old }
+        requires plan { IsPlanOf (B.state board.now).shape (chart (B.state board.now)).fields (B.state board.now).flash
+            self.old }
         requires copying { (chart (B.state board.now)).fields.job ≡ Some (Copy segment) }
-        ensures next { IfOk result (λ next. NextMove (B.state board.now).shape (chart (B.state board.now)).fields segment self.old next self.new) }
-        ensures plan { OnOk result (IsPlanOf (B.state board.now).shape (chart (B.state board.now)).fields (B.state board.now).flash self.new) }
+        ensures next { IfOk result (λ next.
+            NextMove (B.state board.now).shape (chart (B.state board.now)).fields segment self.old next self.new) }
+        ensures plan { OnOk result (IsPlanOf (B.state board.now).shape (chart (B.state board.now)).fields
+            (B.state board.now).flash self.new) }
         ensures becomes { self.new ≡ record self.old { moves = self.new.moves } }
         ensures off { OnErr result ((B.state board.now).on ≡ false) }
     {
@@ -113,15 +116,23 @@ fn program_move<B: Board>(
     requires page { page < (B.state board.old).shape.pages }
     requires kept { IsKept (chart (B.state board.old)).fields row }
     ensures same { Same 1 0 (chart (B.state board.old)) (chart (B.state board.new)) }
-    ensures pool { IsTrue (B.state board.new).on → PoolAgrees (B.state board.new).shape (chart (B.state board.new)).fields space.new }
+    ensures pool { IsTrue (B.state board.new).on
+        → PoolAgrees (B.state board.new).shape (chart (B.state board.new)).fields space.new }
     ensures shape { space.new.shape ≡ space.old.shape }
-    ensures target { IfOk result (λ target. target ≡ segment * (B.state board.old).shape.rows + slice_index (chart (B.state board.old)).fields.fills segment) }
-    ensures fields { let target = segment * (B.state board.old).shape.rows + slice_index (chart (B.state board.old)).fields.fills segment in
+    ensures target { IfOk result (λ target.
+        target ≡ segment * (B.state board.old).shape.rows + slice_index (chart (B.state board.old)).fields.fills
+        segment) }
+    ensures fields { let target = segment * (B.state board.old).shape.rows + slice_index
+        (chart (B.state board.old)).fields.fills segment in
         IsTrue (B.state board.new).on → (chart (B.state board.new)).fields
-        ≡ with_fill segment (slice_index (chart (B.state board.old)).fields.fills segment + 1) (with_back target page (chart (B.state board.old)).fields) }
-    ensures copy { let target = segment * (B.state board.old).shape.rows + slice_index (chart (B.state board.old)).fields.fills segment in
+        ≡ with_fill segment (slice_index (chart (B.state board.old)).fields.fills segment + 1)
+        (with_back target page (chart (B.state board.old)).fields) }
+    ensures copy { let target = segment * (B.state board.old).shape.rows + slice_index
+        (chart (B.state board.old)).fields.fills segment in
         OnOk result (row_of (B.state board.new) target ≡ row_of (B.state board.old) row) }
-    ensures others { IsTrue (B.state board.new).on → (r : ℕ) → r ≢ segment * (B.state board.old).shape.rows + slice_index (chart (B.state board.old)).fields.fills segment → row_of (B.state board.new) r ≡ row_of (B.state board.old) r }
+    ensures others { IsTrue (B.state board.new).on → (r : ℕ)
+        → r ≢ segment * (B.state board.old).shape.rows + slice_index (chart (B.state board.old)).fields.fills segment
+        → row_of (B.state board.new) r ≡ row_of (B.state board.old) r }
     ensures counted { IsTrue (B.state board.new).on → moved.new ≡ up moved.old }
     ensures counts { Tally (B.state board.old).begun moved.old (B.state board.new).begun moved.new }
     ensures on { OnOk result (IsTrue (B.state board.new).on) }
@@ -144,7 +155,8 @@ fn name_row<B: Board>(board: &mut B, kept: Kept, row: u32, target: u32) -> Resul
     requires may { MayName (B.state board.old).shape (chart (B.state board.old)).fields kept.page target }
     requires copy { row_of (B.state board.old) target ≡ row_of (B.state board.old) row }
     ensures same { Same 0 0 (chart (B.state board.old)) (chart (B.state board.new)) }
-    ensures fields { OnOk result (chart (B.state board.new) ≡ with_fields (chart (B.state board.old)) (with_named kept.page target kept.undo (chart (B.state board.old)).fields)) }
+    ensures fields { OnOk result (chart (B.state board.new) ≡ with_fields (chart (B.state board.old))
+        (with_named kept.page target kept.undo (chart (B.state board.old)).fields)) }
     ensures on { OnOk result (IsTrue (B.state board.new).on) }
     ensures off { OnErr result ((B.state board.new).on ≡ false) }
 {
@@ -166,8 +178,10 @@ fn rename<B: Board>(
     requires sound { IsSound (chart (B.state board.old)) }
     requires on { IsTrue (B.state board.old).on }
     requires pool { PoolAgrees (B.state board.old).shape (chart (B.state board.old)).fields space.old }
-    requires cache { AreCurrent (B.state board.old).shape.pages (chart (B.state board.old)).fields.places cache.old.entries }
-    requires parted { AreParted (chart (B.state board.old)).fields.slots (chart (B.state board.old)).fields.undos (chart (B.state board.old)).fields.places }
+    requires cache { AreCurrent (B.state board.old).shape.pages (chart (B.state board.old)).fields.places
+        cache.old.entries }
+    requires parted { AreParted (chart (B.state board.old)).fields.slots (chart (B.state board.old)).fields.undos
+        (chart (B.state board.old)).fields.places }
     requires page { kept.page < (B.state board.old).shape.pages }
     requires named { IsNamed (chart (B.state board.old)).fields kept.page row kept.undo }
     requires may { MayName (B.state board.old).shape (chart (B.state board.old)).fields kept.page target }
@@ -175,11 +189,16 @@ fn rename<B: Board>(
     requires copy { row_of (B.state board.old) target ≡ row_of (B.state board.old) row }
     ensures rests { Rests cache.old cache.new }
     ensures same { Same 0 0 (chart (B.state board.old)) (chart (B.state board.new)) }
-    ensures pool { IsTrue (B.state board.new).on → PoolAgrees (B.state board.new).shape (chart (B.state board.new)).fields space.new }
-    ensures cache { IsTrue (B.state board.new).on → AreCurrent (B.state board.new).shape.pages (chart (B.state board.new)).fields.places cache.new.entries }
-    ensures parted { IsTrue (B.state board.new).on → AreParted (chart (B.state board.new)).fields.slots (chart (B.state board.new)).fields.undos (chart (B.state board.new)).fields.places }
+    ensures pool { IsTrue (B.state board.new).on
+        → PoolAgrees (B.state board.new).shape (chart (B.state board.new)).fields space.new }
+    ensures cache { IsTrue (B.state board.new).on
+        → AreCurrent (B.state board.new).shape.pages (chart (B.state board.new)).fields.places cache.new.entries }
+    ensures parted { IsTrue (B.state board.new).on
+        → AreParted (chart (B.state board.new)).fields.slots (chart (B.state board.new)).fields.undos
+        (chart (B.state board.new)).fields.places }
     ensures shape { space.new.shape ≡ space.old.shape }
-    ensures fields { OnOk result (chart (B.state board.new) ≡ with_fields (chart (B.state board.old)) (with_named kept.page target kept.undo (chart (B.state board.old)).fields)) }
+    ensures fields { OnOk result (chart (B.state board.new) ≡ with_fields (chart (B.state board.old))
+        (with_named kept.page target kept.undo (chart (B.state board.old)).fields)) }
     ensures on { OnOk result (IsTrue (B.state board.new).on) }
     ensures off { OnErr result ((B.state board.new).on ≡ false) }
 {
@@ -199,25 +218,38 @@ pub(crate) fn move_row<B: Board>(
     requires sound { IsSound (chart (B.state board.old)) }
     requires on { IsTrue (B.state board.old).on }
     requires pool { PoolAgrees (B.state board.old).shape (chart (B.state board.old)).fields space.old }
-    requires cache { AreCurrent (B.state board.old).shape.pages (chart (B.state board.old)).fields.places cache.old.entries }
-    requires parted { AreParted (chart (B.state board.old)).fields.slots (chart (B.state board.old)).fields.undos (chart (B.state board.old)).fields.places }
-    requires copying { (v : ℕ) × ((chart (B.state board.old)).fields.job ≡ Some (Copy v)) × HasRoom space.old.shape space.old.fills space.old.positions v next.position }
+    requires cache { AreCurrent (B.state board.old).shape.pages (chart (B.state board.old)).fields.places
+        cache.old.entries }
+    requires parted { AreParted (chart (B.state board.old)).fields.slots (chart (B.state board.old)).fields.undos
+        (chart (B.state board.old)).fields.places }
+    requires copying { (v : ℕ) × ((chart (B.state board.old)).fields.job ≡ Some (Copy v))
+        × HasRoom space.old.shape space.old.fills space.old.positions v next.position }
     requires position { next.position < space.old.shape.segments - 1 }
     requires page { next.kept.page < (B.state board.old).shape.pages }
     requires back { slice_index (chart (B.state board.old)).fields.backs next.row ≡ next.kept.page }
     requires named { IsNamed (chart (B.state board.old)).fields next.kept.page next.row next.kept.undo }
     ensures rests { Rests cache.old cache.new }
     ensures same { Same 1 0 (chart (B.state board.old)) (chart (B.state board.new)) }
-    ensures pool { IsTrue (B.state board.new).on → PoolAgrees (B.state board.new).shape (chart (B.state board.new)).fields space.new }
-    ensures cache { IsTrue (B.state board.new).on → AreCurrent (B.state board.new).shape.pages (chart (B.state board.new)).fields.places cache.new.entries }
-    ensures parted { IsTrue (B.state board.new).on → AreParted (chart (B.state board.new)).fields.slots (chart (B.state board.new)).fields.undos (chart (B.state board.new)).fields.places }
+    ensures pool { IsTrue (B.state board.new).on
+        → PoolAgrees (B.state board.new).shape (chart (B.state board.new)).fields space.new }
+    ensures cache { IsTrue (B.state board.new).on
+        → AreCurrent (B.state board.new).shape.pages (chart (B.state board.new)).fields.places cache.new.entries }
+    ensures parted { IsTrue (B.state board.new).on
+        → AreParted (chart (B.state board.new)).fields.slots (chart (B.state board.new)).fields.undos
+        (chart (B.state board.new)).fields.places }
     ensures shape { space.new.shape ≡ space.old.shape }
-    ensures fields { OnOk result (MovesRow (chart (B.state board.old)) (slice_index space.old.positions next.position) next (chart (B.state board.new))) }
+    ensures fields { OnOk result
+        (MovesRow (chart (B.state board.old)) (slice_index space.old.positions next.position) next
+        (chart (B.state board.new))) }
     ensures spoilt { let s = slice_index space.old.positions next.position in
         let f = (chart (B.state board.old)).fields in
-        IsErrOf result Trouble.Bad → (chart (B.state board.new)).fields ≡ with_fill s (slice_index f.fills s + 1) (with_back (s * (B.state board.old).shape.rows + slice_index f.fills s) next.kept.page f) }
+        IsErrOf result Trouble.Bad
+        → (chart (B.state board.new)).fields ≡ with_fill s (slice_index f.fills s + 1)
+        (with_back (s * (B.state board.old).shape.rows + slice_index f.fills s) next.kept.page f) }
     ensures others { let s = slice_index space.old.positions next.position in
-        IsTrue (B.state board.new).on → (r : ℕ) → r ≢ s * (B.state board.old).shape.rows + slice_index (chart (B.state board.old)).fields.fills s → row_of (B.state board.new) r ≡ row_of (B.state board.old) r }
+        IsTrue (B.state board.new).on → (r : ℕ)
+        → r ≢ s * (B.state board.old).shape.rows + slice_index (chart (B.state board.old)).fields.fills s
+        → row_of (B.state board.new) r ≡ row_of (B.state board.old) r }
     ensures counted { IsTrue (B.state board.new).on → moved.new ≡ up moved.old }
     ensures counts { Tally (B.state board.old).begun moved.old (B.state board.new).begun moved.new }
     ensures off { (result ≡ Err Trouble.Off) ↔ ((B.state board.new).on ≡ false) }

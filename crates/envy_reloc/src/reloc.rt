@@ -64,22 +64,33 @@ impl Reloc {
         aside: Option<(u32, u32)>,
     ) -> Result<(), Off>
         requires sound { IsTrue (B.state board.old).on → IsSound (chart (B.state board.old)) }
-        requires agrees { IsTrue (B.state board.old).on → PoolAgrees (B.state board.old).shape (chart (B.state board.old)).fields space.now }
+        requires agrees { IsTrue (B.state board.old).on
+            → PoolAgrees (B.state board.old).shape (chart (B.state board.old)).fields space.now }
         requires idle { IsTrue (B.state board.old).on → (chart (B.state board.old)).fields.job ≡ Some Idle }
         requires shape { space.now.shape ≡ (B.state board.old).shape }
         requires position { position < space.now.shape.segments - 1 }
         requires moves { All (λ q. q / space.now.shape.rows ≡ slice_index space.now.positions position) moves.items }
-        requires aside { (first last : ℕ) → aside ≡ Some (first, last) → (first ≤ last) × (last < space.now.shape.segments - 1) }
-        ensures same { IsSound (chart (B.state board.old)) → Same 0 0 (chart (B.state board.old)) (chart (B.state board.new)) }
-        ensures idle { (B.state board.old).on ≡ false → (B.state board.new ≡ B.state board.old) × (self.new ≡ self.old) }
-        ensures agrees { IsTrue (B.state board.new).on → IsPlanOf (B.state board.new).shape (chart (B.state board.new)).fields (B.state board.new).flash self.new }
-        ensures pool { IsTrue (B.state board.new).on → PoolAgrees (B.state board.new).shape (chart (B.state board.new)).fields space.now }
-        ensures plan { IsTrue (B.state board.old).on → self.new ≡ record self.old { moves = moves.items; aside = aside; mark = 0 } }
-        ensures fields { OnOk result (chart (B.state board.new) ≡ with_fields (chart (B.state board.old)) (with_job (Some (Copy (slice_index space.now.positions position))) (chart (B.state board.old)).fields)) }
+        requires aside { (first last : ℕ) → aside ≡ Some (first, last) → (first ≤ last)
+            × (last < space.now.shape.segments - 1) }
+        ensures same { IsSound (chart (B.state board.old))
+            → Same 0 0 (chart (B.state board.old)) (chart (B.state board.new)) }
+        ensures idle { (B.state board.old).on ≡ false → (B.state board.new ≡ B.state board.old)
+            × (self.new ≡ self.old) }
+        ensures agrees { IsTrue (B.state board.new).on
+            → IsPlanOf (B.state board.new).shape (chart (B.state board.new)).fields (B.state board.new).flash self.new }
+        ensures pool { IsTrue (B.state board.new).on
+            → PoolAgrees (B.state board.new).shape (chart (B.state board.new)).fields space.now }
+        ensures plan { IsTrue (B.state board.old).on
+            → self.new ≡ record self.old { moves = moves.items; aside = aside; mark = 0 } }
+        ensures fields { OnOk result (chart (B.state board.new) ≡ with_fields (chart (B.state board.old))
+            (with_job (Some (Copy (slice_index space.now.positions position))) (chart (B.state board.old)).fields)) }
         ensures leaves { let n = length moves.items + (B.state board.old).shape.rows in
             OnOk result (Leaves (chart (B.state board.new)) self.new n 1 (n + 3)) }
-        ensures cleans { OnOk result ((d : ℕ) → d / (B.state board.old).shape.rows ≡ slice_index space.now.positions position → ((p : ℕ) → Names (chart (B.state board.old)).fields p d → ⊥)
-            → Cleans (B.state board.old).shape (chart (B.state board.old)).fields.positions position self.old.erased (chart (B.state board.new)).fields self.new.erased) }
+        ensures cleans { OnOk result ((d : ℕ)
+            → d / (B.state board.old).shape.rows ≡ slice_index space.now.positions position
+            → ((p : ℕ) → Names (chart (B.state board.old)).fields p d → ⊥)
+            → Cleans (B.state board.old).shape (chart (B.state board.old)).fields.positions position self.old.erased
+            (chart (B.state board.new)).fields self.new.erased) }
         ensures on { OnOk result (IsTrue (B.state board.new).on) }
         ensures off { OnErr result ((B.state board.new).on ≡ false) }
     {

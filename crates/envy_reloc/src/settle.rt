@@ -16,7 +16,8 @@ use envy_map::{fill, job, segment_at};
 fn find_position<B: Board>(board: &B, segment: u32) -> Result<Option<u32>, Off>
     requires sound { IsSound (chart (B.state board.now)) }
     requires segment { segment < (B.state board.now).shape.segments }
-    ensures finds { IfOk result (λ found. Finds (B.state board.now).shape (chart (B.state board.now)).fields.positions segment found) }
+    ensures finds { IfOk result (λ found.
+        Finds (B.state board.now).shape (chart (B.state board.now)).fields.positions segment found) }
     ensures off { OnErr result ((B.state board.now).on ≡ false) }
 {
     for position in 0..board.shape().segments - 1 {
@@ -31,8 +32,10 @@ fn find_position<B: Board>(board: &B, segment: u32) -> Result<Option<u32>, Off>
 fn placed_segments<B: Board>(board: &B) -> Result<[bool; 4096], Off>
     requires sound { IsSound (chart (B.state board.now)) }
     ensures long { IfOk result (λ placed. length placed ≡ 4096) }
-    ensures placed { IfOk result (λ placed. (s : ℕ) → IsTrue (slice_index_or placed s false) → IsPlaced (B.state board.now).shape (chart (B.state board.now)).fields.positions s) }
-    ensures all { IfOk result (λ placed. (k : ℕ) → k < (B.state board.now).shape.segments - 1 → IsTrue (slice_index_or placed (slice_index (chart (B.state board.now)).fields.positions k) false)) }
+    ensures placed { IfOk result (λ placed. (s : ℕ) → IsTrue (slice_index_or placed s false)
+        → IsPlaced (B.state board.now).shape (chart (B.state board.now)).fields.positions s) }
+    ensures all { IfOk result (λ placed. (k : ℕ) → k < (B.state board.now).shape.segments - 1
+        → IsTrue (slice_index_or placed (slice_index (chart (B.state board.now)).fields.positions k) false)) }
     ensures off { OnErr result ((B.state board.now).on ≡ false) }
 {
     let mut placed = [false; 4096];
@@ -45,7 +48,8 @@ fn placed_segments<B: Board>(board: &B) -> Result<[bool; 4096], Off>
 /// The segment that stands at no position.
 fn find_spare<B: Board>(board: &B) -> Result<u32, Off>
     requires sound { IsSound (chart (B.state board.now)) }
-    ensures spare { IfOk result (λ spare. IsSpare (B.state board.now).shape (chart (B.state board.now)).fields.positions spare) }
+    ensures spare { IfOk result (λ spare.
+        IsSpare (B.state board.now).shape (chart (B.state board.now)).fields.positions spare) }
     ensures off { OnErr result ((B.state board.now).on ≡ false) }
 {
     let placed = placed_segments(board)?;
@@ -61,13 +65,15 @@ fn find_spare<B: Board>(board: &B) -> Result<u32, Off>
 fn finish_switch<B: Board>(board: &mut B, segment: u32, position: u32) -> Result<(), Off>
     requires sound { IsSound (chart (B.state board.old)) }
     requires on { IsTrue (B.state board.old).on }
-    requires clear { (p : ℕ) → p < (B.state board.old).shape.pages → undo (chart (B.state board.old)).fields p ≡ Some Clear }
+    requires clear { (p : ℕ) → p < (B.state board.old).shape.pages
+        → undo (chart (B.state board.old)).fields p ≡ Some Clear }
     requires switching { (chart (B.state board.old)).fields.job ≡ Some (Switch segment) }
     requires position { position < (B.state board.old).shape.segments - 1 }
     requires here { slice_index (chart (B.state board.old)).fields.positions position ≡ segment }
     ensures same { Same 0 0 (chart (B.state board.old)) (chart (B.state board.new)) }
     ensures others { KeepsOthers (chart (B.state board.old)).fields (chart (B.state board.new)).fields }
-    ensures finishes { OnOk result (Finishes (B.state board.old).shape segment (chart (B.state board.old)).fields (chart (B.state board.new)).fields) }
+    ensures finishes { OnOk result (Finishes (B.state board.old).shape segment (chart (B.state board.old)).fields
+        (chart (B.state board.new)).fields) }
     ensures flash { OnOk result ((B.state board.new).flash ≡ (B.state board.old).flash) }
     ensures on { OnOk result (IsTrue (B.state board.new).on) }
     ensures off { OnErr result ((B.state board.new).on ≡ false) }
@@ -85,13 +91,17 @@ impl Reloc {
     /// the spare, which is left to be done. No flash operation begins.
     pub fn settle<B: Board>(board: &mut B) -> Result<(), Off>
         requires sound { IsTrue (B.state board.old).on → IsSound (chart (B.state board.old)) }
-        requires clear { IsTrue (B.state board.old).on → (p : ℕ) → p < (B.state board.old).shape.pages → undo (chart (B.state board.old)).fields p ≡ Some Clear }
-        ensures same { IsSound (chart (B.state board.old)) → Same 0 0 (chart (B.state board.old)) (chart (B.state board.new)) }
+        requires clear { IsTrue (B.state board.old).on → (p : ℕ) → p < (B.state board.old).shape.pages
+            → undo (chart (B.state board.old)).fields p ≡ Some Clear }
+        ensures same { IsSound (chart (B.state board.old))
+            → Same 0 0 (chart (B.state board.old)) (chart (B.state board.new)) }
         ensures idle { (B.state board.old).on ≡ false → B.state board.new ≡ B.state board.old }
         ensures others { KeepsOthers (chart (B.state board.old)).fields (chart (B.state board.new)).fields }
-        ensures settles { OnOk result (Settles (B.state board.old).shape (chart (B.state board.old)).fields.job (chart (B.state board.old)).fields (chart (B.state board.new)).fields) }
+        ensures settles { OnOk result (Settles (B.state board.old).shape (chart (B.state board.old)).fields.job
+            (chart (B.state board.old)).fields (chart (B.state board.new)).fields) }
         ensures flash { OnOk result ((B.state board.new).flash ≡ (B.state board.old).flash) }
-        ensures job { let f = (chart (B.state board.new)).fields in OnOk result ((f.job ≡ Some Idle) ⊎ (f.job ≡ Some Erase)) }
+        ensures job { let f = (chart (B.state board.new)).fields in OnOk result ((f.job ≡ Some Idle)
+            ⊎ (f.job ≡ Some Erase)) }
         ensures on { OnOk result (IsTrue (B.state board.new).on) }
         ensures off { OnErr result ((B.state board.new).on ≡ false) }
     {

@@ -37,15 +37,19 @@ pub(crate) fn switch_row<B: Board>(
 ) -> Result<Option<Switched>, Off>
     requires sound { IsSound (chart (B.state board.old)) }
     requires on { IsTrue (B.state board.old).on }
-    requires parted { AreParted (chart (B.state board.old)).fields.slots (chart (B.state board.old)).fields.undos (chart (B.state board.old)).fields.places }
+    requires parted { AreParted (chart (B.state board.old)).fields.slots (chart (B.state board.old)).fields.undos
+        (chart (B.state board.old)).fields.places }
     requires row { i < (B.state board.old).shape.rows }
     requires spare { spare < (B.state board.old).shape.segments }
     requires copied { IsCopied (B.state board.old).shape (chart (B.state board.old)).fields spare i }
     ensures same { Same 0 0 (chart (B.state board.old)) (chart (B.state board.new)) }
     ensures flash { OnOk result ((B.state board.new).flash ≡ (B.state board.old).flash) }
-    ensures others { ((p : ℕ) → p < (B.state board.old).shape.pages → undo (chart (B.state board.old)).fields p ≡ Some Clear)
+    ensures others { ((p : ℕ) → p < (B.state board.old).shape.pages
+        → undo (chart (B.state board.old)).fields p ≡ Some Clear)
         → KeepsOthers (chart (B.state board.old)).fields (chart (B.state board.new)).fields }
-    ensures switches { IfOk result (λ switched. SwitchesRow (B.state board.old).shape (chart (B.state board.old)).fields spare i switched (chart (B.state board.new)).fields) }
+    ensures switches { IfOk result (λ switched.
+        SwitchesRow (B.state board.old).shape (chart (B.state board.old)).fields spare i switched
+        (chart (B.state board.new)).fields) }
     ensures on { OnOk result (IsTrue (B.state board.new).on) }
     ensures off { OnErr result ((B.state board.new).on ≡ false) }
 {
@@ -71,19 +75,27 @@ fn switch_noted<B: Board>(
     requires sound { IsSound (chart (B.state board.old)) }
     requires on { IsTrue (B.state board.old).on }
     requires pool { PoolAgrees (B.state board.old).shape (chart (B.state board.old)).fields space.old }
-    requires cache { AreCurrent (B.state board.old).shape.pages (chart (B.state board.old)).fields.places cache.old.entries }
-    requires parted { AreParted (chart (B.state board.old)).fields.slots (chart (B.state board.old)).fields.undos (chart (B.state board.old)).fields.places }
+    requires cache { AreCurrent (B.state board.old).shape.pages (chart (B.state board.old)).fields.places
+        cache.old.entries }
+    requires parted { AreParted (chart (B.state board.old)).fields.slots (chart (B.state board.old)).fields.undos
+        (chart (B.state board.old)).fields.places }
     requires row { i < (B.state board.old).shape.rows }
     requires spare { spare < (B.state board.old).shape.segments }
     requires copied { IsCopied (B.state board.old).shape (chart (B.state board.old)).fields spare i }
     ensures rests { Rests cache.old cache.new }
     ensures same { Same 0 0 (chart (B.state board.old)) (chart (B.state board.new)) }
     ensures flash { OnOk result ((B.state board.new).flash ≡ (B.state board.old).flash) }
-    ensures pool { IsTrue (B.state board.new).on → PoolAgrees (B.state board.new).shape (chart (B.state board.new)).fields space.new }
-    ensures cache { IsTrue (B.state board.new).on → AreCurrent (B.state board.new).shape.pages (chart (B.state board.new)).fields.places cache.new.entries }
+    ensures pool { IsTrue (B.state board.new).on
+        → PoolAgrees (B.state board.new).shape (chart (B.state board.new)).fields space.new }
+    ensures cache { IsTrue (B.state board.new).on
+        → AreCurrent (B.state board.new).shape.pages (chart (B.state board.new)).fields.places cache.new.entries }
     ensures shape { space.new.shape ≡ space.old.shape }
-    ensures parted { IsTrue (B.state board.new).on → AreParted (chart (B.state board.new)).fields.slots (chart (B.state board.new)).fields.undos (chart (B.state board.new)).fields.places }
-    ensures switches { OnOk result ((switched : Option Switched) × SwitchesRow (B.state board.old).shape (chart (B.state board.old)).fields spare i switched (chart (B.state board.new)).fields) }
+    ensures parted { IsTrue (B.state board.new).on
+        → AreParted (chart (B.state board.new)).fields.slots (chart (B.state board.new)).fields.undos
+        (chart (B.state board.new)).fields.places }
+    ensures switches { OnOk result ((switched : Option Switched)
+        × SwitchesRow (B.state board.old).shape (chart (B.state board.old)).fields spare i switched
+        (chart (B.state board.new)).fields) }
     ensures on { OnOk result (IsTrue (B.state board.new).on) }
     ensures off { OnErr result ((B.state board.new).on ≡ false) }
 {
@@ -106,20 +118,29 @@ pub(crate) fn switch_segment<B: Board>(
     requires sound { IsSound (chart (B.state board.old)) }
     requires on { IsTrue (B.state board.old).on }
     requires pool { PoolAgrees (B.state board.old).shape (chart (B.state board.old)).fields space.old }
-    requires cache { AreCurrent (B.state board.old).shape.pages (chart (B.state board.old)).fields.places cache.old.entries }
-    requires parted { AreParted (chart (B.state board.old)).fields.slots (chart (B.state board.old)).fields.undos (chart (B.state board.old)).fields.places }
+    requires cache { AreCurrent (B.state board.old).shape.pages (chart (B.state board.old)).fields.places
+        cache.old.entries }
+    requires parted { AreParted (chart (B.state board.old)).fields.slots (chart (B.state board.old)).fields.undos
+        (chart (B.state board.old)).fields.places }
     requires segment { segment < (B.state board.old).shape.segments }
     requires spare { IsSpare (B.state board.old).shape (chart (B.state board.old)).fields.positions spare }
     requires copying { (chart (B.state board.old)).fields.job ≡ Some (Copy segment) }
-    requires copied { IsCopiedWhole (B.state board.old).shape (chart (B.state board.old)).fields (B.state board.old).flash segment }
+    requires copied { IsCopiedWhole (B.state board.old).shape (chart (B.state board.old)).fields
+        (B.state board.old).flash segment }
     ensures rests { Rests cache.old cache.new }
     ensures same { Same 0 0 (chart (B.state board.old)) (chart (B.state board.new)) }
     ensures flash { OnOk result ((B.state board.new).flash ≡ (B.state board.old).flash) }
-    ensures pool { IsTrue (B.state board.new).on → PoolAgrees (B.state board.new).shape (chart (B.state board.new)).fields space.new }
-    ensures cache { IsTrue (B.state board.new).on → AreCurrent (B.state board.new).shape.pages (chart (B.state board.new)).fields.places cache.new.entries }
-    ensures parted { IsTrue (B.state board.new).on → AreParted (chart (B.state board.new)).fields.slots (chart (B.state board.new)).fields.undos (chart (B.state board.new)).fields.places }
+    ensures pool { IsTrue (B.state board.new).on
+        → PoolAgrees (B.state board.new).shape (chart (B.state board.new)).fields space.new }
+    ensures cache { IsTrue (B.state board.new).on
+        → AreCurrent (B.state board.new).shape.pages (chart (B.state board.new)).fields.places cache.new.entries }
+    ensures parted { IsTrue (B.state board.new).on
+        → AreParted (chart (B.state board.new)).fields.slots (chart (B.state board.new)).fields.undos
+        (chart (B.state board.new)).fields.places }
     ensures shape { space.new.shape ≡ space.old.shape }
-    ensures switches { OnOk result (SwitchesAll (B.state board.old).shape segment spare (chart (B.state board.old)).fields (chart (B.state board.new)).fields) }
+    ensures switches { OnOk result
+        (SwitchesAll (B.state board.old).shape segment spare (chart (B.state board.old)).fields
+        (chart (B.state board.new)).fields) }
     ensures on { OnOk result (IsTrue (B.state board.new).on) }
     ensures off { OnErr result ((B.state board.new).on ≡ false) }
 {

@@ -170,7 +170,8 @@ pub(crate) fn assert_parted<B: Board>(rt: &impl Abort, board: &B) -> Result<(), 
 /// Tests that nothing is copied or switched.
 pub(crate) fn assert_at_rest<B: Board>(rt: &impl Abort, board: &B) -> Result<(), Off>
     requires { IsSound (chart (B.state board.now)) }
-    ensures { let job = (chart (B.state board.now)).fields.job in OnOk result ((job ≡ Some Job.Idle) ⊎ (job ≡ Some Job.Erase)) }
+    ensures { let job = (chart (B.state board.now)).fields.job in OnOk result ((job ≡ Some Job.Idle)
+        ⊎ (job ≡ Some Job.Erase)) }
 {
     match job(board)? {
         Job::Idle | Job::Erase => Ok(()),
@@ -181,7 +182,8 @@ pub(crate) fn assert_at_rest<B: Board>(rt: &impl Abort, board: &B) -> Result<(),
 /// Tests that no page has an owner.
 pub(crate) fn assert_clear<B: Board>(rt: &impl Abort, board: &B) -> Result<(), Off>
     requires { IsSound (chart (B.state board.now)) }
-    ensures { OnOk result ((p : ℕ) → p < (B.state board.now).shape.pages → undo_of (chart (B.state board.now)).fields p ≡ Some Undo.Clear) }
+    ensures { OnOk result ((p : ℕ) → p < (B.state board.now).shape.pages
+        → undo_of (chart (B.state board.now)).fields p ≡ Some Undo.Clear) }
 {
     for page in 0..board.shape().pages {
         let undo = undo(board, page)?;

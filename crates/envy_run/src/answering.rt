@@ -79,7 +79,8 @@ fn begin<B: Board>(memory: &mut Memory<B>) -> Reply
 
 fn put<B: Board>(memory: &mut Memory<B>, slot: u8, address: u32, word: u64) -> Reply
     requires { IsTrue memory.old.chart.on }
-    ensures step { (m : Array) → Stands memory.old.chart m → Answered m (Put slot address word) result memory.new.chart }
+    ensures step { (m : Array) → Stands memory.old.chart m
+        → Answered m (Put slot address word) result memory.new.chart }
     ensures lost { (result ≡ Reply.Lost) ↔ (memory.new.chart.on ≡ false) }
     ensures licence { AnswerLicence (Put slot address word) result memory.old.chart memory.new.chart }
     ensures notes { Notes (Put slot address word) (result ∷ []) memory.old memory.new }
@@ -152,9 +153,11 @@ fn tick<B: Board>(memory: &mut Memory<B>) -> Reply
 pub fn answer_board<B: Board>(memory: &mut Memory<B>, line: &Line) -> Reply
     requires on { IsTrue memory.old.chart.on }
     requires call { IsBoardCall line.now }
-    ensures step { (earlier : List TraceTurn) (m : Array) → Stands memory.old.chart m → CanTell memory.old.chart.shape.entries earlier memory.old.parts
+    ensures step { (earlier : List TraceTurn) (m : Array) → Stands memory.old.chart m
+        → CanTell memory.old.chart.shape.entries earlier memory.old.parts
         → AnswersTo (MayTell memory.old.chart.shape.entries earlier) m line.now result memory.new.chart }
-    ensures alone { (m : Array) → Stands memory.old.chart m → line.now ≢ Stat → Answered m line.now result memory.new.chart }
+    ensures alone { (m : Array) → Stands memory.old.chart m → line.now ≢ Stat
+        → Answered m line.now result memory.new.chart }
     ensures tells { line.now ≡ Stat → (result ≡ Reply.Stat (counts_of memory.old.parts)) × (memory.new ≡ memory.old) }
     ensures lost { (result ≡ Reply.Lost) ↔ (memory.new.chart.on ≡ false) }
     ensures licence { AnswerLicence line.now result memory.old.chart memory.new.chart }
@@ -186,9 +189,11 @@ pub fn answer_board<B: Board>(memory: &mut Memory<B>, line: &Line) -> Reply
 pub fn answer<B: Bench>(memory: &mut Memory<B>, line: &Line) -> Reply
     requires on { IsTrue memory.old.chart.on }
     requires call { IsCall line.now }
-    ensures step { (earlier : List TraceTurn) (m : Array) → Stands memory.old.chart m → CanTell memory.old.chart.shape.entries earlier memory.old.parts
+    ensures step { (earlier : List TraceTurn) (m : Array) → Stands memory.old.chart m
+        → CanTell memory.old.chart.shape.entries earlier memory.old.parts
         → AnswersTo (MayTell memory.old.chart.shape.entries earlier) m line.now result memory.new.chart }
-    ensures alone { (m : Array) → Stands memory.old.chart m → line.now ≢ Stat → Answered m line.now result memory.new.chart }
+    ensures alone { (m : Array) → Stands memory.old.chart m → line.now ≢ Stat
+        → Answered m line.now result memory.new.chart }
     ensures tells { line.now ≡ Stat → (result ≡ Reply.Stat (counts_of memory.old.parts)) × (memory.new ≡ memory.old) }
     ensures lost { (result ≡ Reply.Lost) ↔ (memory.new.chart.on ≡ false) }
     ensures licence { AnswerLicence line.now result memory.old.chart memory.new.chart }

@@ -99,7 +99,16 @@ fn numbers(ending: Ending) -> (u8, u8)
 
 /// What a run hands back. Nothing else fills its two numbers.
 pub(crate) fn hand_back<B>(finished: Finished<B>) -> Ended<B>
-    ensures { result ≡ record { status = (numbers_of finished.ending).0; why = (numbers_of finished.ending).1; lines = finished.lines; taken = finished.taken; board = finished.board; second = finished.second } }
+    ensures { result
+        ≡ record {
+          status = (numbers_of finished.ending).0;
+          why = (numbers_of finished.ending).1;
+          lines =
+              finished.lines;
+          taken = finished.taken;
+          board = finished.board;
+          second = finished.second;
+        } }
 {
     let (status, why) = numbers(finished.ending);
     Ended {
@@ -158,7 +167,15 @@ pub(crate) fn after(end: End) -> Ending
 
 /// An end of a trace that was served.
 pub(crate) fn finished_with<B>(served: Served, board: Option<B>) -> Finished<B>
-    ensures { result ≡ record { ending = ending_of served.end; lines = served.lines; taken = served.taken; board = board; second = None } }
+    ensures { result
+        ≡ record {
+          ending = ending_of served.end;
+          lines = served.lines;
+          taken = served.taken;
+          board = board;
+          second =
+              None;
+        } }
 {
     Finished {
         ending: after(served.end),

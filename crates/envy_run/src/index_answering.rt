@@ -20,7 +20,9 @@ fn tell(value: Option<u64>) -> IndexReply
 
 fn ask<B: Bench>(words: &mut OneTx<B>, key: u64) -> IndexReply
     requires { (es : Pairs) × Serving words.old.memory words.old.begun es }
-    ensures step { (es : Pairs) → Serving words.old.memory words.old.begun es → AnswersIndex (most_of words.old.memory.chart.shape.pages) es (Get key) result words.new.memory words.new.begun }
+    ensures step { (es : Pairs) → Serving words.old.memory words.old.begun es
+        → AnswersIndex (most_of words.old.memory.chart.shape.pages) es (Get key) result words.new.memory
+        words.new.begun }
     ensures licence { ReplyLicence (Get key) result words.old.memory.chart words.new.memory.chart }
 {
     match get(words, key) {
@@ -31,7 +33,9 @@ fn ask<B: Bench>(words: &mut OneTx<B>, key: u64) -> IndexReply
 
 fn set<B: Bench>(words: &mut OneTx<B>, key: u64, value: u64) -> IndexReply
     requires { (es : Pairs) × Serving words.old.memory words.old.begun es }
-    ensures step { (es : Pairs) → Serving words.old.memory words.old.begun es → AnswersIndex (most_of words.old.memory.chart.shape.pages) es (Insert key value) result words.new.memory words.new.begun }
+    ensures step { (es : Pairs) → Serving words.old.memory words.old.begun es
+        → AnswersIndex (most_of words.old.memory.chart.shape.pages) es (Insert key value) result words.new.memory
+        words.new.begun }
     ensures licence { ReplyLicence (Insert key value) result words.old.memory.chart words.new.memory.chart }
 {
     match insert(words, key, value) {
@@ -44,7 +48,9 @@ fn set<B: Bench>(words: &mut OneTx<B>, key: u64, value: u64) -> IndexReply
 
 fn take_out<B: Bench>(words: &mut OneTx<B>, key: u64) -> IndexReply
     requires { (es : Pairs) × Serving words.old.memory words.old.begun es }
-    ensures step { (es : Pairs) → Serving words.old.memory words.old.begun es → AnswersIndex (most_of words.old.memory.chart.shape.pages) es (Remove key) result words.new.memory words.new.begun }
+    ensures step { (es : Pairs) → Serving words.old.memory words.old.begun es
+        → AnswersIndex (most_of words.old.memory.chart.shape.pages) es (Remove key) result words.new.memory
+        words.new.begun }
     ensures licence { ReplyLicence (Remove key) result words.old.memory.chart words.new.memory.chart }
 {
     match remove(words, key) {
@@ -59,7 +65,9 @@ fn take_out<B: Bench>(words: &mut OneTx<B>, key: u64) -> IndexReply
 pub fn answer_index<B: Bench>(words: &mut OneTx<B>, line: &IndexLine) -> IndexReply
     requires ready { (es : Pairs) × Serving words.old.memory words.old.begun es }
     requires call { IsIndexCall line.now }
-    ensures step { (es : Pairs) → Serving words.old.memory words.old.begun es → AnswersIndex (most_of words.old.memory.chart.shape.pages) es line.now result words.new.memory words.new.begun }
+    ensures step { (es : Pairs) → Serving words.old.memory words.old.begun es
+        → AnswersIndex (most_of words.old.memory.chart.shape.pages) es line.now result words.new.memory
+        words.new.begun }
     ensures licence { ReplyLicence line.now result words.old.memory.chart words.new.memory.chart }
 {
     match *line {

@@ -53,7 +53,8 @@ fn recover_words<K: Sink, B: Bench>(
     buffer: &mut ReplyBuffer,
 ) -> Obeyed
     requires { words.old.memory.chart.on ≡ false }
-    ensures { RecoversIndex wrote result words.old.memory.chart words.new.memory words.new.begun (K.drain sink.old) (K.drain sink.new) }
+    ensures { RecoversIndex wrote result words.old.memory.chart words.new.memory words.new.begun (K.drain sink.old)
+        (K.drain sink.new) }
 {
     if !restart_words(words) {
         return Obeyed::Dead;
@@ -75,7 +76,9 @@ fn obey_index_power<K: Sink, B: Bench>(
     buffer: &mut ReplyBuffer,
 ) -> Obeyed
     requires { IsTrue words.old.memory.chart.on }
-    ensures { (es : Pairs) → Serving words.old.memory words.old.begun es → ObeysIndex (most_of words.old.memory.chart.shape.pages) es Power result words.old.memory.chart words.new.memory words.new.begun (K.drain sink.old) (K.drain sink.new) }
+    ensures { (es : Pairs) → Serving words.old.memory words.old.begun es
+        → ObeysIndex (most_of words.old.memory.chart.shape.pages) es Power result words.old.memory.chart
+        words.new.memory words.new.begun (K.drain sink.old) (K.drain sink.new) }
 {
     words.cut_now();
     recover_words(words, sink, Ok(()), buffer)
@@ -90,7 +93,9 @@ fn obey_index_call<K: Sink, B: Bench>(
 ) -> Obeyed
     requires ready { (es : Pairs) × Serving words.old.memory words.old.begun es }
     requires call { IsIndexCall line.now }
-    ensures { (es : Pairs) → Serving words.old.memory words.old.begun es → ObeysIndex (most_of words.old.memory.chart.shape.pages) es line.now result words.old.memory.chart words.new.memory words.new.begun (K.drain sink.old) (K.drain sink.new) }
+    ensures { (es : Pairs) → Serving words.old.memory words.old.begun es
+        → ObeysIndex (most_of words.old.memory.chart.shape.pages) es line.now result words.old.memory.chart
+        words.new.memory words.new.begun (K.drain sink.old) (K.drain sink.new) }
 {
     let reply = answer_index(words, line);
     let wrote = write_index_reply(sink, &reply, buffer);
@@ -112,7 +117,9 @@ pub fn obey_index<K: Sink, B: Bench>(
 ) -> Obeyed
     requires ready { (es : Pairs) × Serving words.old.memory words.old.begun es }
     requires line { IsIndexServed line.now }
-    ensures { (es : Pairs) → Serving words.old.memory words.old.begun es → ObeysIndex (most_of words.old.memory.chart.shape.pages) es line.now result words.old.memory.chart words.new.memory words.new.begun (K.drain sink.old) (K.drain sink.new) }
+    ensures { (es : Pairs) → Serving words.old.memory words.old.begun es
+        → ObeysIndex (most_of words.old.memory.chart.shape.pages) es line.now result words.old.memory.chart
+        words.new.memory words.new.begun (K.drain sink.old) (K.drain sink.new) }
 {
     match *line {
         IndexLine::Empty => Obeyed::Done,

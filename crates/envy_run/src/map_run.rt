@@ -25,7 +25,8 @@ fn write_sound<B: Board, K: Sink>(board: &B, space: &mut Space, sink: &mut K) ->
     requires on { IsTrue (B.state board.now).on }
     requires sound { Judges Verdict.Sound (chart (B.state board.now)) }
     requires shape { space.old.shape ≡ (B.state board.now).shape }
-    ensures { (text : List ℕ) × IsMap Verdict.Sound (chart (B.state board.now)) text × WritesOut text result (K.drain sink.old) (K.drain sink.new) }
+    ensures { (text : List ℕ) × IsMap Verdict.Sound (chart (B.state board.now)) text
+        × WritesOut text result (K.drain sink.old) (K.drain sink.new) }
 {
     let Ok(()) = space.rebuild(board) else {
         unreachable!();
@@ -44,7 +45,8 @@ fn write_map<B: Board, K: Sink>(
     requires on { IsTrue (B.state board.now).on }
     requires judged { Judges verdict (chart (B.state board.now)) }
     requires shape { space.old.shape ≡ (B.state board.now).shape }
-    ensures { (text : List ℕ) × IsMap verdict (chart (B.state board.now)) text × WritesOut text result (K.drain sink.old) (K.drain sink.new) }
+    ensures { (text : List ℕ) × IsMap verdict (chart (B.state board.now)) text
+        × WritesOut text result (K.drain sink.old) (K.drain sink.new) }
 {
     match verdict {
         Verdict::Sound => write_sound(board, space, sink),

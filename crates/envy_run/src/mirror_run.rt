@@ -20,7 +20,15 @@ use std::alloc::Global;
 
 /// An end with nothing read, since there is no pair to serve.
 fn unmirrored<B>(unready: Unready, first: B, second: B) -> Finished<B>
-    ensures { result ≡ record { ending = ending_of_unready unready; lines = 0; taken = 0; board = Some first; second = Some second } }
+    ensures { result
+        ≡ record {
+          ending = ending_of_unready unready;
+          lines = 0;
+          taken = 0;
+          board = Some first;
+          second = Some
+              second;
+        } }
 {
     Finished {
         ending: why_unready(unready),

@@ -23,7 +23,9 @@ pub fn obey_power<K: Sink, B: Bench>(
     buffer: &mut ReplyBuffer,
 ) -> Obeyed
     requires { IsTrue memory.old.chart.on }
-    ensures { (earlier : List TraceTurn) (m : Array) → Stands memory.old.chart m → ObeysLine (MayTell memory.old.chart.shape.entries earlier) m Power result memory.old memory.new (K.drain sink.old) (K.drain sink.new) }
+    ensures { (earlier : List TraceTurn) (m : Array) → Stands memory.old.chart m
+        → ObeysLine (MayTell memory.old.chart.shape.entries earlier) m Power result memory.old memory.new
+        (K.drain sink.old) (K.drain sink.new) }
 {
     memory.cut_now();
     recover(memory, sink, Ok(()), buffer)
@@ -38,7 +40,10 @@ pub fn obey_call<K: Sink, B: Bench>(
 ) -> Obeyed
     requires on { IsTrue memory.old.chart.on }
     requires call { IsCall line.now }
-    ensures { (earlier : List TraceTurn) (m : Array) → Stands memory.old.chart m → CanTell memory.old.chart.shape.entries earlier memory.old.parts → ObeysLine (MayTell memory.old.chart.shape.entries earlier) m line.now result memory.old memory.new (K.drain sink.old) (K.drain sink.new) }
+    ensures { (earlier : List TraceTurn) (m : Array) → Stands memory.old.chart m
+        → CanTell memory.old.chart.shape.entries earlier memory.old.parts
+        → ObeysLine (MayTell memory.old.chart.shape.entries earlier) m line.now result memory.old memory.new
+        (K.drain sink.old) (K.drain sink.new) }
 {
     let reply = answer(memory, line);
     let wrote = write_reply(sink, &reply, buffer);

@@ -97,7 +97,8 @@ pub fn run_resume<S: Source, K: Sink, M: Maker>(
     sink: &mut K,
     maker: &mut M,
 ) -> Finished<M::Made>
-    ensures resumes { Does (resuming (setup_found words.now.policy words.now.limit words.now.mark) words.now.lives) (outcome_of M.Made.Board.state result)
+    ensures resumes { Does (resuming (setup_found words.now.policy words.now.limit words.now.mark) words.now.lives)
+        (outcome_of M.Made.Board.state result)
         (record { from = S.feed source.old; feed = S.feed source.new; to = K.drain sink.old; sink = K.drain sink.new }) }
     ensures few { result.lines ≤ result.taken }
     ensures read { result.taken ≤ most_bytes }

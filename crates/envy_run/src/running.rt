@@ -123,7 +123,8 @@ fn obey_words<S: Source, K: Sink, M: Maker>(
 ) -> Finished<M::Made>
     ensures headline { Headline (command_in words.now) (outcome_of M.Made.Board.state result)
         (record { from = S.feed source.old; feed = S.feed source.new; to = K.drain sink.old; sink = K.drain sink.new }) }
-    ensures told { FailsAsPlanned M.Made.Board.state → TellsAll (command_in words.now) (outcome_of M.Made.Board.state result)
+    ensures told { FailsAsPlanned M.Made.Board.state
+        → TellsAll (command_in words.now) (outcome_of M.Made.Board.state result)
         (record { from = S.feed source.old; feed = S.feed source.new; to = K.drain sink.old; sink = K.drain sink.new }) }
     ensures few { result.lines ≤ result.taken }
     ensures read { result.taken ≤ most_bytes }
@@ -157,7 +158,8 @@ pub fn run<S: Source, K: Sink, M: Maker>(
         (record { from = S.feed source.old; feed = S.feed source.new; to = K.drain sink.old; sink = K.drain sink.new }) }
     ensures completes { Completes (command_in words.now) (outcome M.Made.Board.state result)
         (record { from = S.feed source.old; feed = S.feed source.new; to = K.drain sink.old; sink = K.drain sink.new }) }
-    ensures told { FailsAsPlanned M.Made.Board.state → TellsAll (command_in words.now) (outcome M.Made.Board.state result)
+    ensures told { FailsAsPlanned M.Made.Board.state
+        → TellsAll (command_in words.now) (outcome M.Made.Board.state result)
         (record { from = S.feed source.old; feed = S.feed source.new; to = K.drain sink.old; sink = K.drain sink.new }) }
 {
     hand_back(obey_words(alloc, words, source, sink, maker))

@@ -35,7 +35,8 @@ fn drive_load<B: Bench, K: Sink>(
     requires low { memory.old.chart.shape.pages ≤ 2 ^ 20 }
     requires room { 5 ≤ memory.old.chart.shape.shadows }
     requires zeros { Stands memory.old.chart (zeros memory.old.chart.shape.pages memory.old.chart.shape.shadows) }
-    ensures { AfterLoad area.now (load_of start area.now) every memory.old memory.new result (K.drain sink.old) (K.drain sink.new) }
+    ensures { AfterLoad area.now (load_of start area.now) every memory.old memory.new result (K.drain sink.old)
+        (K.drain sink.new) }
 {
     let mut load = Load::new(start, area.branches, area.accounts);
     match drive(memory, &mut load, area, every) {
@@ -59,11 +60,14 @@ pub fn run_tpca<K: Sink, M: Maker>(
     requires rules { checked setup ≡ Ok tt }
     requires fits { Fits area.now setup.shape.pages }
     requires room { 5 ≤ setup.shape.shadows }
-    ensures drives { (feed : Feed) → Does (driving setup lives start area.now every) (outcome_of M.Made.Board.state result)
+    ensures drives { (feed : Feed)
+        → Does (driving setup lives start area.now every) (outcome_of M.Made.Board.state result)
         (record { from = feed; feed = feed; to = K.drain sink.old; sink = K.drain sink.new }) }
     ensures told { FailsAsPlanned M.Made.Board.state → (feed : Feed) →
-        TellsReturns lives area.now (outcome_of M.Made.Board.state result) (record { from = feed; feed = feed; to = K.drain sink.old; sink = K.drain sink.new })
-        ⊎ IsUnserved (outcome_of M.Made.Board.state result) (record { from = feed; feed = feed; to = K.drain sink.old; sink = K.drain sink.new }) }
+        TellsReturns lives area.now (outcome_of M.Made.Board.state result)
+        (record { from = feed; feed = feed; to = K.drain sink.old; sink = K.drain sink.new })
+        ⊎ IsUnserved (outcome_of M.Made.Board.state result)
+        (record { from = feed; feed = feed; to = K.drain sink.old; sink = K.drain sink.new }) }
     ensures few { result.lines ≤ result.taken }
     ensures read { result.taken ≤ most_bytes }
     ensures second { result.second ≡ None }

@@ -41,7 +41,10 @@ fn obey_line<K: Sink, B: Bench>(
 ) -> Obeyed
     requires on { IsTrue memory.old.chart.on }
     requires line { IsServed line.now }
-    ensures { (earlier : List TraceTurn) (m : Array) → Stands memory.old.chart m → CanTell memory.old.chart.shape.entries earlier memory.old.parts → ObeysLine (MayTell memory.old.chart.shape.entries earlier) m line.now result memory.old memory.new (K.drain sink.old) (K.drain sink.new) }
+    ensures { (earlier : List TraceTurn) (m : Array) → Stands memory.old.chart m
+        → CanTell memory.old.chart.shape.entries earlier memory.old.parts
+        → ObeysLine (MayTell memory.old.chart.shape.entries earlier) m line.now result memory.old memory.new
+        (K.drain sink.old) (K.drain sink.new) }
 {
     match *line {
         Line::Empty => Obeyed::Done,

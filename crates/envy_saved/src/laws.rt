@@ -25,7 +25,10 @@ pub fn a_sync_is_the_last()
 /// A board that is opened from a file that opens as another has the words of that one, as a restart finds them. Where
 /// that one is sound, a memory may be attached.
 pub fn a_file_opens_as_one_board()
-    ensures words { (was : Chart) (s : State) (file : List ℕ) → Reopens was file → s.shape ≡ was.shape → content_of s ≡ holds s.shape (operations file) → durable (chart s) ≡ durable was }
-    ensures fields { (was : Chart) (s : State) (file : List ℕ) → Reopens was file → s.shape ≡ was.shape → content_of s ≡ holds s.shape (operations file) → (chart s).fields ≡ was.fields }
-    ensures sound { (was : Chart) (s : State) (file : List ℕ) → Reopens was file → s.shape ≡ was.shape → content_of s ≡ holds s.shape (operations file) → IsSound was → IsAttachable (chart s) }
+    ensures words { (was : Chart) (s : State) (file : List ℕ) → Reopens was file → s.shape ≡ was.shape
+        → content_of s ≡ holds s.shape (operations file) → durable (chart s) ≡ durable was }
+    ensures fields { (was : Chart) (s : State) (file : List ℕ) → Reopens was file → s.shape ≡ was.shape
+        → content_of s ≡ holds s.shape (operations file) → (chart s).fields ≡ was.fields }
+    ensures sound { (was : Chart) (s : State) (file : List ℕ) → Reopens was file → s.shape ≡ was.shape
+        → content_of s ≡ holds s.shape (operations file) → IsSound was → IsAttachable (chart s) }
 {}

@@ -4,8 +4,8 @@ ghost use Rattle.envy_synced.specs.Disk.{IsBefore, IsLast, IsSynced, Reopens};
 
 use envy_device::Device;
 use envy_journal::Steady;
-use envy_synced::Kept;
 use envy_memory::Memory;
+use envy_synced::Kept;
 
 /// The device under a memory. A crash of the machine since the last sync that succeeded left a file that opens as the
 /// board was behind it. Where power is off a later sync may have failed, and the file may open as the board is now. A
@@ -14,9 +14,11 @@ pub fn device<B: Steady, D: Device>(memory: &Memory<Kept<B, D>>) -> &D
     ensures last { (was : Chart) → IsSynced was → IsLast was memory.now.chart
         → (file : List ℕ) → D.left_since result.now was.plans file
         → ∥ Reopens was file ⊎ ((memory.now.chart.on ≡ false) × Reopens memory.now.chart file) ∥₁ }
-    ensures one_before { (first was : Chart) → IsSynced first → IsSynced was → IsBefore first memory.now.chart → IsLast was memory.now.chart
+    ensures one_before { (first was : Chart) → IsSynced first → IsSynced was → IsBefore first memory.now.chart
+        → IsLast was memory.now.chart
         → (file : List ℕ) → D.left_since result.now first.plans file
-        → ∥ Reopens first file ⊎ (Reopens was file ⊎ ((memory.now.chart.on ≡ false) × Reopens memory.now.chart file)) ∥₁ }
+        → ∥ Reopens first file
+        ⊎ (Reopens was file ⊎ ((memory.now.chart.on ≡ false) × Reopens memory.now.chart file)) ∥₁ }
 {
     memory.board().device()
 }
@@ -28,11 +30,13 @@ pub fn close<B: Steady + Drop, D: Device>(memory: Memory<Kept<B, D>>) -> (D, usi
     ensures last { (was : Chart) → IsSynced was → IsLast was memory.chart
         → (file : List ℕ) → D.left_since result.0 was.plans file
         → ∥ Reopens was file ⊎ ((memory.chart.on ≡ false) × Reopens memory.chart file) ∥₁ }
-    ensures one_before { (first was : Chart) → IsSynced first → IsSynced was → IsBefore first memory.chart → IsLast was memory.chart
+    ensures one_before { (first was : Chart) → IsSynced first → IsSynced was → IsBefore first memory.chart
+        → IsLast was memory.chart
         → (file : List ℕ) → D.left_since result.0 first.plans file
         → ∥ Reopens first file ⊎ (Reopens was file ⊎ ((memory.chart.on ≡ false) × Reopens memory.chart file)) ∥₁ }
     ensures time { memory.chart.plans ≤ D.moment result.0 }
-    ensures ended { memory.chart.on ≡ false → length (D.seen result.0) + result.1 < 2 ^ 60 → IsTrue (D.has_failed result.0) }
+    ensures ended { memory.chart.on ≡ false → length (D.seen result.0) + result.1 < 2 ^ 60
+        → IsTrue (D.has_failed result.0) }
 {
     let kept = memory.into_board();
     let _device = kept.device();

@@ -42,7 +42,8 @@ pub(crate) fn put_line(
 )
     requires segment { segment < space.now.shape.segments }
     requires empty { out.old.items ≡ [] }
-    ensures text { out.new.items ≡ decimal segment ++ (codes "," ++ (option_map_or decimal position (codes "spare") ++ (further wear
+    ensures text { out.new.items ≡ decimal segment
+        ++ (codes "," ++ (option_map_or decimal position (codes "spare") ++ (further wear
         ++ (further (slice_index space.now.fills segment) ++ (further (slice_index space.now.kept segment)
         ++ (further (space.now.shape.rows - slice_index space.now.fills segment)
         ++ further (slice_index space.now.fills segment - slice_index space.now.kept segment))))))) }

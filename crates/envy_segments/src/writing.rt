@@ -27,7 +27,8 @@ fn write_line<B: Board, K: Sink>(
     requires shape { space.now.shape ≡ (B.state board.now).shape }
     requires segment { segment < (B.state board.now).shape.segments }
     ensures { WritesAll (K.drain sink.old)
-        (segment_line space.now (chart (B.state board.now)).fields.wears (option_map_or decimal position (codes "spare")) segment ++ newline ∷ [])
+        (segment_line space.now (chart (B.state board.now)).fields.wears
+        (option_map_or decimal position (codes "spare")) segment ++ newline ∷ [])
         result (K.drain sink.new) }
 {
     let Ok(wear) = wear(board, segment) else {
@@ -54,7 +55,8 @@ pub fn write_segments<B: Board, K: Sink>(
     requires on { IsTrue (B.state board.now).on }
     requires sound { IsSound (chart (B.state board.now)) }
     requires counted { PoolAgrees (B.state board.now).shape (chart (B.state board.now)).fields space.now }
-    ensures { (text : List ℕ) × TellsSegments (chart (B.state board.now)) text × WritesAll (K.drain sink.old) text result (K.drain sink.new) }
+    ensures { (text : List ℕ) × TellsSegments (chart (B.state board.now)) text
+        × WritesAll (K.drain sink.old) text result (K.drain sink.new) }
 {
     let spare = space.spare();
     let mut piece = ArrayVec::new();

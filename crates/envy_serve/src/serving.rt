@@ -79,8 +79,10 @@ fn advance<V: Service, S: Source, K: Sink>(
 ) -> Option<End>
     requires { V.IsReady service.old }
     ensures goes { (start : V.Start) (skipped : ℕ) (from : Feed) (to : Drain) (n : ℕ)
-        → Progress V.grammar skipped (V.Did start service.old) from to n (S.feed source.old) (K.drain sink.old) reader.old
-        → Advances result V.grammar skipped (V.Did start service.new) (V.Died start service.new) (V.tail service.new) from to n (S.feed source.new) (K.drain sink.new) reader.new }
+        → Progress V.grammar skipped (V.Did start service.old) from to n (S.feed source.old)
+        (K.drain sink.old) reader.old
+        → Advances result V.grammar skipped (V.Did start service.new) (V.Died start service.new)
+        (V.tail service.new) from to n (S.feed source.new) (K.drain sink.new) reader.new }
     ensures cap { reader.new.cap ≡ reader.old.cap }
     ensures within { reader.new.taken ≤ reader.new.cap }
 {
@@ -117,7 +119,9 @@ pub fn serve<V: Service, S: Source, K: Sink>(
     requires begun { (start : V.Start) × V.Did start service.old [] }
     requires reader { IsAtStart reader (S.feed source.old) }
     ensures serves { (start : V.Start) → V.Did start service.old []
-        → (turns : List (Turn V.Line V.Reply)) × Serves result.end result.lines result.taken V.grammar reader.taken (V.Did start service.new) (V.Died start service.new) (V.tail service.new) turns
+        → (turns : List (Turn V.Line V.Reply))
+        × Serves result.end result.lines result.taken V.grammar reader.taken (V.Did start service.new)
+        (V.Died start service.new) (V.tail service.new) turns
         (record { from = S.feed source.old; feed = S.feed source.new; to = K.drain sink.old; sink = K.drain sink.new }) }
     ensures few { result.lines ≤ result.taken }
     ensures read { result.taken ≤ most_bytes }

@@ -27,7 +27,8 @@ pub extern "C" fn envy_sim_image_shape(image: &mut EnvyBytes, setup: &mut EnvySe
     requires { InBlock image.old.at }
     ensures live { InBlock image.new.at }
     ensures same { image.new.bytes ≡ image.old.bytes }
-    ensures reads { (code : OfCode) × (result ≡ number_of code) × ReadsShape image.old.bytes.now setup.old setup.new code }
+    ensures reads { (code : OfCode) × (result ≡ number_of code)
+        × ReadsShape image.old.bytes.now setup.old setup.new code }
 {
     let bytes = lend_bytes(image);
     let code = read_shape(&*bytes, setup);

@@ -63,7 +63,8 @@ pub fn restore_place(
     lives: u32,
     image: &[u8],
 ) -> Code
-    ensures { Opens (Restored given.now lives image.now) (RefusesImage given.now lives image.now) slot.old slot.new result }
+    ensures { Opens (Restored given.now lives image.now) (RefusesImage given.now lives image.now) slot.old slot.new
+        result }
 {
     if slot.is_some() {
         return Code::Open;

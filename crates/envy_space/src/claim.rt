@@ -18,20 +18,27 @@ impl Space {
     /// power nothing changes.
     pub fn claim<B: Board>(&mut self, board: &mut B, segment: u32, page: u32) -> Result<u32, Off>
         requires sound { IsTrue (B.state board.old).on → IsSound (chart (B.state board.old)) }
-        requires agrees { IsTrue (B.state board.old).on → PoolAgrees (B.state board.old).shape (chart (B.state board.old)).fields self.old }
+        requires agrees { IsTrue (B.state board.old).on
+            → PoolAgrees (B.state board.old).shape (chart (B.state board.old)).fields self.old }
         requires shape { self.old.shape ≡ (B.state board.old).shape }
         requires segment { segment < self.old.shape.segments }
         requires page { page < self.old.shape.pages }
         requires room { slice_index self.old.fills segment < self.old.shape.rows }
-        requires usable { IsTrue (B.state board.old).on → IsUsable (B.state board.old).shape (chart (B.state board.old)).fields segment }
-        ensures same { IsSound (chart (B.state board.old)) → Same 0 0 (chart (B.state board.old)) (chart (B.state board.new)) }
-        ensures idle { (B.state board.old).on ≡ false → (B.state board.new ≡ B.state board.old) × (self.new ≡ self.old) }
-        ensures agrees { IsTrue (B.state board.new).on → PoolAgrees (B.state board.new).shape (chart (B.state board.new)).fields self.new }
+        requires usable { IsTrue (B.state board.old).on
+            → IsUsable (B.state board.old).shape (chart (B.state board.old)).fields segment }
+        ensures same { IsSound (chart (B.state board.old))
+            → Same 0 0 (chart (B.state board.old)) (chart (B.state board.new)) }
+        ensures idle { (B.state board.old).on ≡ false → (B.state board.new ≡ B.state board.old)
+            × (self.new ≡ self.old) }
+        ensures agrees { IsTrue (B.state board.new).on
+            → PoolAgrees (B.state board.new).shape (chart (B.state board.new)).fields self.new }
         ensures shape { self.new.shape ≡ self.old.shape }
-        ensures claims { IfOk result (λ row. Claims (chart (B.state board.old)) segment page row (chart (B.state board.new))) }
+        ensures claims { IfOk result (λ row.
+            Claims (chart (B.state board.old)) segment page row (chart (B.state board.new))) }
         ensures claimed { IfOk result (λ row. Claimed (chart (B.state board.new)) segment page row) }
         ensures rises { FillsRise (chart (B.state board.old)) (chart (B.state board.new)) }
-        ensures pool { IfOk result (λ _. self.new ≡ with_filled segment (slice_index self.old.fills segment + 1) self.old) }
+        ensures pool { IfOk result (λ _.
+            self.new ≡ with_filled segment (slice_index self.old.fills segment + 1) self.old) }
         ensures on { OnOk result (IsTrue (B.state board.new).on) }
         ensures off { OnErr result ((B.state board.new).on ≡ false) }
     {
@@ -44,19 +51,24 @@ impl Space {
     // The same from a sound board.
     fn claim_row<B: Board>(&mut self, board: &mut B, segment: u32, page: u32) -> Result<u32, Off>
         requires sound { IsSound (chart (B.state board.old)) }
-        requires agrees { IsTrue (B.state board.old).on → PoolAgrees (B.state board.old).shape (chart (B.state board.old)).fields self.old }
+        requires agrees { IsTrue (B.state board.old).on
+            → PoolAgrees (B.state board.old).shape (chart (B.state board.old)).fields self.old }
         requires shape { self.old.shape ≡ (B.state board.old).shape }
         requires segment { segment < self.old.shape.segments }
         requires page { page < self.old.shape.pages }
         requires room { slice_index self.old.fills segment < self.old.shape.rows }
-        requires usable { IsTrue (B.state board.old).on → IsUsable (B.state board.old).shape (chart (B.state board.old)).fields segment }
+        requires usable { IsTrue (B.state board.old).on
+            → IsUsable (B.state board.old).shape (chart (B.state board.old)).fields segment }
         ensures same { Same 0 0 (chart (B.state board.old)) (chart (B.state board.new)) }
-        ensures agrees { IsTrue (B.state board.new).on → PoolAgrees (B.state board.new).shape (chart (B.state board.new)).fields self.new }
+        ensures agrees { IsTrue (B.state board.new).on
+            → PoolAgrees (B.state board.new).shape (chart (B.state board.new)).fields self.new }
         ensures shape { self.new.shape ≡ self.old.shape }
-        ensures claims { IfOk result (λ row. Claims (chart (B.state board.old)) segment page row (chart (B.state board.new))) }
+        ensures claims { IfOk result (λ row.
+            Claims (chart (B.state board.old)) segment page row (chart (B.state board.new))) }
         ensures claimed { IfOk result (λ row. Claimed (chart (B.state board.new)) segment page row) }
         ensures rises { FillsRise (chart (B.state board.old)) (chart (B.state board.new)) }
-        ensures pool { IfOk result (λ _. self.new ≡ with_filled segment (slice_index self.old.fills segment + 1) self.old) }
+        ensures pool { IfOk result (λ _.
+            self.new ≡ with_filled segment (slice_index self.old.fills segment + 1) self.old) }
         ensures on { OnOk result (IsTrue (B.state board.new).on) }
         ensures off { OnErr result ((B.state board.new).on ≡ false) }
     {
@@ -72,18 +84,23 @@ impl Space {
     /// are being switched from that segment, and none is left. The array stays. Without power nothing changes.
     pub fn replace<B: Board>(&mut self, board: &mut B, position: u32) -> Result<(), Off>
         requires sound { IsTrue (B.state board.old).on → IsSound (chart (B.state board.old)) }
-        requires agrees { IsTrue (B.state board.old).on → PoolAgrees (B.state board.old).shape (chart (B.state board.old)).fields self.old }
+        requires agrees { IsTrue (B.state board.old).on
+            → PoolAgrees (B.state board.old).shape (chart (B.state board.old)).fields self.old }
         requires shape { self.old.shape ≡ (B.state board.old).shape }
         requires position { position < self.old.shape.segments - 1 }
         requires switching { let f = (chart (B.state board.old)).fields in
             IsTrue (B.state board.old).on → f.job ≡ Some (Switch (slice_index f.positions position)) }
         requires clear { let f = (chart (B.state board.old)).fields in
             IsTrue (B.state board.old).on → IsClear (B.state board.old).shape f (slice_index f.positions position) }
-        ensures same { IsSound (chart (B.state board.old)) → Same 0 0 (chart (B.state board.old)) (chart (B.state board.new)) }
-        ensures idle { (B.state board.old).on ≡ false → (B.state board.new ≡ B.state board.old) × (self.new ≡ self.old) }
-        ensures agrees { IsTrue (B.state board.new).on → PoolAgrees (B.state board.new).shape (chart (B.state board.new)).fields self.new }
+        ensures same { IsSound (chart (B.state board.old))
+            → Same 0 0 (chart (B.state board.old)) (chart (B.state board.new)) }
+        ensures idle { (B.state board.old).on ≡ false → (B.state board.new ≡ B.state board.old)
+            × (self.new ≡ self.old) }
+        ensures agrees { IsTrue (B.state board.new).on
+            → PoolAgrees (B.state board.new).shape (chart (B.state board.new)).fields self.new }
         ensures shape { self.new.shape ≡ self.old.shape }
-        ensures replaces { OnOk result ((e : ℕ) × Replaces (chart (B.state board.old)) self.old position e (chart (B.state board.new)) self.new) }
+        ensures replaces { OnOk result ((e : ℕ)
+            × Replaces (chart (B.state board.old)) self.old position e (chart (B.state board.new)) self.new) }
         ensures on { OnOk result (IsTrue (B.state board.new).on) }
         ensures off { OnErr result ((B.state board.new).on ≡ false) }
     {
@@ -96,7 +113,8 @@ impl Space {
     // The same from a sound board.
     fn replace_spare<B: Board>(&mut self, board: &mut B, position: u32) -> Result<(), Off>
         requires sound { IsSound (chart (B.state board.old)) }
-        requires agrees { IsTrue (B.state board.old).on → PoolAgrees (B.state board.old).shape (chart (B.state board.old)).fields self.old }
+        requires agrees { IsTrue (B.state board.old).on
+            → PoolAgrees (B.state board.old).shape (chart (B.state board.old)).fields self.old }
         requires shape { self.old.shape ≡ (B.state board.old).shape }
         requires position { position < self.old.shape.segments - 1 }
         requires switching { let f = (chart (B.state board.old)).fields in
@@ -104,9 +122,11 @@ impl Space {
         requires clear { let f = (chart (B.state board.old)).fields in
             IsTrue (B.state board.old).on → IsClear (B.state board.old).shape f (slice_index f.positions position) }
         ensures same { Same 0 0 (chart (B.state board.old)) (chart (B.state board.new)) }
-        ensures agrees { IsTrue (B.state board.new).on → PoolAgrees (B.state board.new).shape (chart (B.state board.new)).fields self.new }
+        ensures agrees { IsTrue (B.state board.new).on
+            → PoolAgrees (B.state board.new).shape (chart (B.state board.new)).fields self.new }
         ensures shape { self.new.shape ≡ self.old.shape }
-        ensures replaces { OnOk result ((e : ℕ) × Replaces (chart (B.state board.old)) self.old position e (chart (B.state board.new)) self.new) }
+        ensures replaces { OnOk result ((e : ℕ)
+            × Replaces (chart (B.state board.old)) self.old position e (chart (B.state board.new)) self.new) }
         ensures on { OnOk result (IsTrue (B.state board.new).on) }
         ensures off { OnErr result ((B.state board.new).on ≡ false) }
     {

@@ -10,6 +10,7 @@ ghost use Rattle.envy_space.specs.Pool.{Pool, PoolAgrees};
 /// other is dead and that the row is kept make the pool agree with the map again. They may be made.
 pub fn notes_follow_a_row()
     ensures { (sh : Shape) (f : Fields) (flash : List (List ℕ)) (p q r : ℕ) (u : Option ℕ) (pool : Pool)
-        → Sound sh f flash → AreParted f.slots f.undos f.places → PoolAgrees sh f pool → IsNamed f p q u → (Names f p r → ⊥)
+        → Sound sh f flash → AreParted f.slots f.undos f.places → PoolAgrees sh f pool → IsNamed f p q u
+        → (Names f p r → ⊥)
         → r < sh.segments * sh.rows → Sound sh (with_named p r u f) flash → Followed sh (with_named p r u f) q r pool }
 {}

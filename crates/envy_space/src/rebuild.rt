@@ -13,7 +13,8 @@ impl Space {
     pub fn rebuild<B: Board>(&mut self, board: &B) -> Result<(), Off>
         requires sound { IsTrue (B.state board.now).on → IsSound (chart (B.state board.now)) }
         requires shape { self.old.shape ≡ (B.state board.now).shape }
-        ensures agrees { OnOk result (PoolAgrees (B.state board.now).shape (chart (B.state board.now)).fields self.new) }
+        ensures agrees { OnOk result
+            (PoolAgrees (B.state board.now).shape (chart (B.state board.now)).fields self.new) }
         ensures shape { self.new.shape ≡ self.old.shape }
         ensures unchanged { OnErr result (self.new ≡ self.old) }
         ensures on { OnOk result (IsTrue (B.state board.now).on) }
@@ -67,7 +68,8 @@ impl Space {
         requires shape { self.old.shape ≡ (B.state board.now).shape }
         requires fills { self.old.fills ≡ (chart (B.state board.now)).fields.fills }
         requires none { self.old.kept ≡ replicate self.old.shape.segments 0 }
-        ensures counted { OnOk result (HasCounted (B.state board.now).shape (chart (B.state board.now)).fields (B.state board.now).shape.pages self.new) }
+        ensures counted { OnOk result (HasCounted (B.state board.now).shape (chart (B.state board.now)).fields
+            (B.state board.now).shape.pages self.new) }
         ensures shape { self.new.shape ≡ self.old.shape }
         ensures fills { self.new.fills ≡ self.old.fills }
         ensures positions { self.new.positions ≡ self.old.positions }
@@ -85,8 +87,11 @@ impl Space {
         requires shape { self.old.shape ≡ (B.state board.now).shape }
         requires page { page < (B.state board.now).shape.pages }
         requires counted { HasCounted (B.state board.now).shape (chart (B.state board.now)).fields page self.old }
-        requires room { (s : ℕ) → kept_in_first (B.state board.now).shape (chart (B.state board.now)).fields (page + 1) s ≤ slice_index self.old.fills s }
-        ensures counted { OnOk result (HasCounted (B.state board.now).shape (chart (B.state board.now)).fields (page + 1) self.new) }
+        requires room { (s : ℕ)
+            → kept_in_first (B.state board.now).shape (chart (B.state board.now)).fields (page + 1) s
+            ≤ slice_index self.old.fills s }
+        ensures counted { OnOk result (HasCounted (B.state board.now).shape (chart (B.state board.now)).fields
+            (page + 1) self.new) }
         ensures shape { self.new.shape ≡ self.old.shape }
         ensures fills { self.new.fills ≡ self.old.fills }
         ensures positions { self.new.positions ≡ self.old.positions }
@@ -110,7 +115,8 @@ fn shadow_of<B: Board>(board: &B, page: u32, now: Place) -> Result<Option<u32>, 
     requires page { page < (B.state board.now).shape.pages }
     requires now { place_of (chart (B.state board.now)).fields page ≡ Some now }
     ensures shadow { IfOk result (IsShadow (Some now) (kept (chart (B.state board.now)).fields page)) }
-    ensures range { IfOk result (λ shadow. IfSome shadow (λ row. row < (B.state board.now).shape.segments * (B.state board.now).shape.rows)) }
+    ensures range { IfOk result (λ shadow.
+        IfSome shadow (λ row. row < (B.state board.now).shape.segments * (B.state board.now).shape.rows)) }
     ensures off { OnErr result ((B.state board.now).on ≡ false) }
 {
     let Undo::Shadow { slot: t, row } = undo(board, page)? else {

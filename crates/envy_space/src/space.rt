@@ -44,7 +44,8 @@ impl Space {
     pub fn new(alloc: Global, shape: &Shape) -> Result<Space, NoMemory>
         requires { IsShape shape.now }
         ensures empty { IfOk result (λ space. space ≡ empty_pool shape.now) }
-        ensures agrees { IfOk result (λ space. (version : ℕ) (c : Chart) → c.shape ≡ shape.now → IsEmpty version c → PoolAgrees c.shape c.fields space) }
+        ensures agrees { IfOk result (λ space. (version : ℕ) (c : Chart) → c.shape ≡ shape.now → IsEmpty version c
+            → PoolAgrees c.shape c.fields space) }
     {
         let shape = *shape;
         let fills = vec![in alloc; 0; shape.segments as usize]?;

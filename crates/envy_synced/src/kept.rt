@@ -48,10 +48,17 @@ impl<B: Steady, D: Device> Kept<B, D> {
         ensures time { (⟦<Kept<B, D> as Board>⟧.state self.now).plans ≤ D.moment result.now }
         ensures last { (was : Chart) → IsSynced was → IsLast was (chart (⟦<Kept<B, D> as Board>⟧.state self.now))
             → (file : List ℕ) → D.left_since result.now was.plans file
-            → ∥ Reopens was file ⊎ (((⟦<Kept<B, D> as Board>⟧.state self.now).on ≡ false) × Reopens (chart (⟦<Kept<B, D> as Board>⟧.state self.now)) file) ∥₁ }
-        ensures one_before { (first was : Chart) → IsSynced first → IsSynced was → IsBefore first (chart (⟦<Kept<B, D> as Board>⟧.state self.now)) → IsLast was (chart (⟦<Kept<B, D> as Board>⟧.state self.now))
+            → ∥ Reopens was file
+            ⊎ (((⟦<Kept<B, D> as Board>⟧.state self.now).on ≡ false)
+            × Reopens (chart (⟦<Kept<B, D> as Board>⟧.state self.now)) file) ∥₁ }
+        ensures one_before { (first was : Chart) → IsSynced first → IsSynced was
+            → IsBefore first (chart (⟦<Kept<B, D> as Board>⟧.state self.now))
+            → IsLast was (chart (⟦<Kept<B, D> as Board>⟧.state self.now))
             → (file : List ℕ) → D.left_since result.now first.plans file
-            → ∥ Reopens first file ⊎ (Reopens was file ⊎ (((⟦<Kept<B, D> as Board>⟧.state self.now).on ≡ false) × Reopens (chart (⟦<Kept<B, D> as Board>⟧.state self.now)) file)) ∥₁ }
+            → ∥ Reopens first file
+            ⊎ (Reopens was file
+            ⊎ (((⟦<Kept<B, D> as Board>⟧.state self.now).on ≡ false)
+            × Reopens (chart (⟦<Kept<B, D> as Board>⟧.state self.now)) file)) ∥₁ }
     {
         self.journal.device()
     }

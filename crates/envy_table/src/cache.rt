@@ -36,7 +36,8 @@ impl Cache {
     pub fn new(alloc: Global, entries: u32) -> Result<Cache, NoMemory>
         requires { 1 ≤ entries }
         ensures start { IfOk result (λ cache. cache ≡ record { entries = vacant entries; hits = 0; misses = 0 }) }
-        ensures agrees { IfOk result (λ cache. (pages : ℕ) (places : List (Option Place)) → AreCurrent pages places cache.entries) }
+        ensures agrees { IfOk result (λ cache. (pages : ℕ) (places : List (Option Place))
+            → AreCurrent pages places cache.entries) }
         ensures size { IfOk result (λ cache. length cache.entries ≡ entries) }
     {
         Ok(Cache {

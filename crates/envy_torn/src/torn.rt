@@ -139,7 +139,8 @@ impl TornFile {
         requires { len ≤ length (file_bytes self.old) }
         ensures kept { Kept self.old self.new }
         ensures failed { self.new.failed ≡ self.old.failed }
-        ensures passes { IfSome result (λ next. (self.new.failed ≡ false) × (next.items ≡ take len (file_bytes self.old))) }
+        ensures passes { IfSome result (λ next. (self.new.failed ≡ false)
+            × (next.items ≡ take len (file_bytes self.old))) }
     {
         if !self.may_pass() {
             return None;

@@ -33,7 +33,10 @@ pub fn transfer_once<B: Bench>(
 ) -> Result<(), DriveFault>
     requires trial { Trial i t at memory.old }
     requires row { at.row < 2 ^ 31 }
-    ensures after { (l : APlaces) (size : ℕ) (ts : List ATransfer) → IsTried memory.old.chart.shape.shadows l size ts (durable memory.old.chart) i t at → AfterTransfer 0 memory.old (durable memory.old.chart) (put_back (writes l ts t) (durable memory.old.chart)) result memory.new }
+    ensures after { (l : APlaces) (size : ℕ) (ts : List ATransfer)
+        → IsTried memory.old.chart.shape.shadows l size ts (durable memory.old.chart) i t at
+        → AfterTransfer 0 memory.old (durable memory.old.chart) (put_back (writes l ts t) (durable memory.old.chart))
+        result memory.new }
     ensures uncut { OnOk result (CountsUncut 11 memory.old memory.new) }
 {
     loop {

@@ -22,7 +22,10 @@ pub fn put_balances<B: Bench>(
     at: Spots,
     t: Transfer,
 ) -> Result<(), Fault>
-    ensures after { (n : ℕ) (first : Picture) (l : Places) (size : ℕ) (ts : List ATransfer) (before : List ℕ) → Running n first before before slot 0 0 memory.old → IsTried first.chart.shape.shadows l size ts before (length ts) t at → AfterPut n first before (put_back (balances_of at ts t) before) slot 3 (page_of at.branch) result memory.new }
+    ensures after { (n : ℕ) (first : Picture) (l : Places) (size : ℕ) (ts : List ATransfer) (before : List ℕ)
+        → Running n first before before slot 0 0 memory.old
+        → IsTried first.chart.shape.shadows l size ts before (length ts) t at
+        → AfterPut n first before (put_back (balances_of at ts t) before) slot 3 (page_of at.branch) result memory.new }
     ensures accessed { OnOk result (Accessed 6 memory.old.parts.cache memory.new.parts.cache) }
 {
     add(memory, slot, at.account, t.delta)?;
@@ -38,7 +41,9 @@ pub fn put_row<B: Bench>(
     t: Transfer,
 ) -> Result<(), Fault>
     requires row { row < 2 ^ 31 }
-    ensures after { (n : ℕ) (first : Picture) (before now : List ℕ) (last : ℕ) → Running n first before now slot 3 last memory.old → IsRoomy first.chart.shape.shadows now row t → AfterPut n first before (put_back (row_of row t) now) slot 4 (page_of row) result memory.new }
+    ensures after { (n : ℕ) (first : Picture) (before now : List ℕ) (last : ℕ)
+        → Running n first before now slot 3 last memory.old → IsRoomy first.chart.shape.shadows now row t
+        → AfterPut n first before (put_back (row_of row t) now) slot 4 (page_of row) result memory.new }
     ensures accessed { OnOk result (Accessed 4 memory.old.parts.cache memory.new.parts.cache) }
 {
     put_word(memory, slot, row, u64::from(t.account))?;
@@ -56,7 +61,9 @@ pub fn try_transfer<B: Bench>(
     t: Transfer,
 ) -> Result<(), Fault>
     requires row { at.row < 2 ^ 31 }
-    ensures after { (n : ℕ) (first : Picture) (l : Places) (size : ℕ) (ts : List ATransfer) (before : List ℕ) → Rests before memory.old → Since n first memory.old → IsTried first.chart.shape.shadows l size ts before i t at → AfterTry n first before (put_back (writes l ts t) before) result memory.new }
+    ensures after { (n : ℕ) (first : Picture) (l : Places) (size : ℕ) (ts : List ATransfer) (before : List ℕ)
+        → Rests before memory.old → Since n first memory.old → IsTried first.chart.shape.shadows l size ts before i t at
+        → AfterTry n first before (put_back (writes l ts t) before) result memory.new }
     ensures accessed { OnOk result (Accessed 11 memory.old.parts.cache memory.new.parts.cache) }
 {
     let slot = open(memory)?;

@@ -17,22 +17,28 @@ pub fn owners_are_counted()
 
 /// What changes no owner leaves the pairs as they are. Where no undo is of an active slot there are none.
 pub fn owners_stay()
-    ensures framed { (old new : Chart) (pairs : List Pair) → Framed old new → AreOwned old.fields.slots old.fields.undos pairs → AreOwned new.fields.slots new.fields.undos pairs }
-    ensures none { (slots : List (Option Slot)) (undos : List (Option Undo)) → ((p : ℕ) → owned_by slots (slice_index_or undos p None) ≡ false) → AreOwned slots undos [] }
+    ensures framed { (old new : Chart) (pairs : List Pair) → Framed old new
+        → AreOwned old.fields.slots old.fields.undos pairs → AreOwned new.fields.slots new.fields.undos pairs }
+    ensures none { (slots : List (Option Slot)) (undos : List (Option Undo))
+        → ((p : ℕ) → owned_by slots (slice_index_or undos p None) ≡ false) → AreOwned slots undos [] }
 {}
 
 /// A slot that no undo names may change: the pairs stay. And where an active slot has committed, the slots
 /// are those of before as if it were active.
 pub fn a_slot_that_is_unused_owns_nothing()
-    ensures unused { (slots : List (Option Slot)) (undos : List (Option Undo)) (pairs : List Pair) (t : ℕ) (x : Option Slot)
-        → ((p : ℕ) → slot_named (slice_index_or undos p None) ≢ Some t) → AreOwned slots undos pairs → AreOwned (slice_set slots t x) undos pairs }
+    ensures unused { (slots : List (Option Slot)) (undos : List (Option Undo)) (pairs : List Pair) (t : ℕ)
+        (x : Option Slot)
+        → ((p : ℕ) → slot_named (slice_index_or undos p None) ≢ Some t) → AreOwned slots undos pairs
+        → AreOwned (slice_set slots t x) undos pairs }
     ensures committed { (slots : List (Option Slot)) (t : ℕ) → slice_index_or slots t None ≡ Some Active
         → slice_set (slice_set slots t (Some Committed)) t (Some Active) ≡ slots }
 {}
 
 /// The end of a transaction, or a restart, lets no page name a row that it didn't name before.
 pub fn an_end_names_no_row_anew()
-    ensures released { (t : ℕ) (old new : Chart) → Releases t old new → (p q : ℕ) → Names new.fields p q → Names old.fields p q }
-    ensures restored { (t : ℕ) (old new : Chart) → Restores t old new → (p q : ℕ) → Names new.fields p q → Names old.fields p q }
+    ensures released { (t : ℕ) (old new : Chart) → Releases t old new → (p q : ℕ) → Names new.fields p q
+        → Names old.fields p q }
+    ensures restored { (t : ℕ) (old new : Chart) → Restores t old new → (p q : ℕ) → Names new.fields p q
+        → Names old.fields p q }
     ensures settled { (old new : Chart) → Settles old new → (p q : ℕ) → Names new.fields p q → Names old.fields p q }
 {}

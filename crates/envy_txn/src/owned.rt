@@ -96,12 +96,16 @@ impl Owned {
         requires undo { IsUndo undo }
         requires room { length self.old.pairs < self.old.limit }
         requires free { owner_of self.old.pairs page ≡ None }
-        requires may { IsTrue (B.state board.old).on → MayUndo (B.state board.old).shape (chart (B.state board.old)).fields (B.state board.old).flash page undo }
-        ensures same { IsSound (chart (B.state board.old)) → SameWords 0 0 (chart (B.state board.old)) (chart (B.state board.new)) }
-        ensures idle { (B.state board.old).on ≡ false → (B.state board.new ≡ B.state board.old) × (self.new ≡ self.old) }
+        requires may { IsTrue (B.state board.old).on
+            → MayUndo (B.state board.old).shape (chart (B.state board.old)).fields (B.state board.old).flash page undo }
+        ensures same { IsSound (chart (B.state board.old))
+            → SameWords 0 0 (chart (B.state board.old)) (chart (B.state board.new)) }
+        ensures idle { (B.state board.old).on ≡ false → (B.state board.new ≡ B.state board.old)
+            × (self.new ≡ self.old) }
         ensures agrees { let f = (chart (B.state board.new)).fields in
             IsTrue (B.state board.new).on → AreOwned f.slots f.undos self.new.pairs }
-        ensures fields { OnOk result (chart (B.state board.new) ≡ with_fields (chart (B.state board.old)) (with_undo page (Some undo) (chart (B.state board.old)).fields)) }
+        ensures fields { OnOk result (chart (B.state board.new) ≡ with_fields (chart (B.state board.old))
+            (with_undo page (Some undo) (chart (B.state board.old)).fields)) }
         ensures newest { OnOk result ((t : ℕ) → slot_named (Some undo) ≡ Some t
             → self.new ≡ record self.old { pairs = self.old.pairs ++ (record { page = page; slot = t }) ∷ [] }) }
         ensures unchanged { OnErr result (self.new ≡ self.old) }

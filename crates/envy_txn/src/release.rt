@@ -32,7 +32,8 @@ impl Owned {
     ) -> Result<(), Off>
         requires sound { IsTrue (B.state board.old).on → IsSound (chart (B.state board.old)) }
         requires slot { t < 64 }
-        requires committed { IsTrue (B.state board.old).on → slot_of (chart (B.state board.old)).fields t ≡ Some Committed }
+        requires committed { IsTrue (B.state board.old).on
+            → slot_of (chart (B.state board.old)).fields t ≡ Some Committed }
         requires owned { let f = with_slot t (Some Active) (chart (B.state board.old)).fields in
             IsTrue (B.state board.old).on → AreOwned f.slots f.undos self.old.pairs }
         requires pool { let f = with_slot t (Some Active) (chart (B.state board.old)).fields in
@@ -40,13 +41,16 @@ impl Owned {
         requires parted { let f = with_slot t (Some Active) (chart (B.state board.old)).fields in
             IsTrue (B.state board.old).on → AreParted f.slots f.undos f.places }
         requires shape { space.old.shape ≡ (B.state board.old).shape }
-        ensures same { IsSound (chart (B.state board.old)) → SameWords 0 0 (chart (B.state board.old)) (chart (B.state board.new)) }
-        ensures idle { (B.state board.old).on ≡ false → (B.state board.new ≡ B.state board.old) × (self.new ≡ self.old) × (space.new ≡ space.old) }
+        ensures same { IsSound (chart (B.state board.old))
+            → SameWords 0 0 (chart (B.state board.old)) (chart (B.state board.new)) }
+        ensures idle { (B.state board.old).on ≡ false → (B.state board.new ≡ B.state board.old) × (self.new ≡ self.old)
+            × (space.new ≡ space.old) }
         ensures releases { OnOk result (Releases t (chart (B.state board.old)) (chart (B.state board.new))) }
         ensures unused { OnOk result (IsUnused (chart (B.state board.new)).fields t) }
         ensures owned { let f = (chart (B.state board.new)).fields in
             IsTrue (B.state board.new).on → AreOwned f.slots f.undos self.new.pairs }
-        ensures pool { IsTrue (B.state board.new).on → PoolAgrees (B.state board.new).shape (chart (B.state board.new)).fields space.new }
+        ensures pool { IsTrue (B.state board.new).on
+            → PoolAgrees (B.state board.new).shape (chart (B.state board.new)).fields space.new }
         ensures parted { let f = (chart (B.state board.new)).fields in
             IsTrue (B.state board.new).on → AreParted f.slots f.undos f.places }
         ensures pairs { OnOk result (self.new ≡ record self.old { pairs = others_of t self.old.pairs }) }
@@ -92,7 +96,8 @@ fn release_page<B: Board>(board: &mut B, space: &mut Space, page: u32, t: u8) ->
     requires page { page < (B.state board.old).shape.pages }
     requires names { slot_named (undo_of (chart (B.state board.old)).fields page) ≡ Some t }
     ensures same { SameWords 0 0 (chart (B.state board.old)) (chart (B.state board.new)) }
-    ensures fields { OnOk result (chart (B.state board.new) ≡ with_fields (chart (B.state board.old)) (with_undo page (Some Undo.Clear) (chart (B.state board.old)).fields)) }
+    ensures fields { OnOk result (chart (B.state board.new) ≡ with_fields (chart (B.state board.old))
+        (with_undo page (Some Undo.Clear) (chart (B.state board.old)).fields)) }
     ensures releasing { OnOk result (Releasing (chart (B.state board.new)) space.new t) }
     ensures shape { space.new.shape ≡ space.old.shape }
     ensures off { OnErr result ((B.state board.new).on ≡ false) }

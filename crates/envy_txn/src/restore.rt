@@ -44,22 +44,30 @@ impl Owned {
         requires active { IsTrue (B.state board.old).on → slot_of (chart (B.state board.old)).fields t ≡ Some Active }
         requires owned { let f = (chart (B.state board.old)).fields in
             IsTrue (B.state board.old).on → AreOwned f.slots f.undos self.old.pairs }
-        requires pool { IsTrue (B.state board.old).on → PoolAgrees (B.state board.old).shape (chart (B.state board.old)).fields space.old }
-        requires held { IsTrue (B.state board.old).on → AreHeld (B.state board.old).shape (chart (B.state board.old)).fields.places frames.old.held }
-        requires current { IsTrue (B.state board.old).on → AreCurrent (B.state board.old).shape.pages (chart (B.state board.old)).fields.places cache.old.entries }
+        requires pool { IsTrue (B.state board.old).on
+            → PoolAgrees (B.state board.old).shape (chart (B.state board.old)).fields space.old }
+        requires held { IsTrue (B.state board.old).on
+            → AreHeld (B.state board.old).shape (chart (B.state board.old)).fields.places frames.old.held }
+        requires current { IsTrue (B.state board.old).on
+            → AreCurrent (B.state board.old).shape.pages (chart (B.state board.old)).fields.places cache.old.entries }
         requires parted { let f = (chart (B.state board.old)).fields in
             IsTrue (B.state board.old).on → AreParted f.slots f.undos f.places }
         requires shape { space.old.shape ≡ (B.state board.old).shape }
-        ensures durable { IsSound (chart (B.state board.old)) → SameDurable 0 0 (chart (B.state board.old)) (chart (B.state board.new)) }
+        ensures durable { IsSound (chart (B.state board.old))
+            → SameDurable 0 0 (chart (B.state board.old)) (chart (B.state board.new)) }
         ensures idle { (B.state board.old).on ≡ false
-            → (B.state board.new ≡ B.state board.old) × (self.new ≡ self.old) × (space.new ≡ space.old) × (frames.new ≡ frames.old) × (cache.new ≡ cache.old) }
+            → (B.state board.new ≡ B.state board.old) × (self.new ≡ self.old) × (space.new ≡ space.old)
+            × (frames.new ≡ frames.old) × (cache.new ≡ cache.old) }
         ensures restores { OnOk result (Restores t (chart (B.state board.old)) (chart (B.state board.new))) }
         ensures unused { OnOk result (IsUnused (chart (B.state board.new)).fields t) }
         ensures owned { let f = (chart (B.state board.new)).fields in
             IsTrue (B.state board.new).on → AreOwned f.slots f.undos self.new.pairs }
-        ensures pool { IsTrue (B.state board.new).on → PoolAgrees (B.state board.new).shape (chart (B.state board.new)).fields space.new }
-        ensures held { IsTrue (B.state board.new).on → AreHeld (B.state board.new).shape (chart (B.state board.new)).fields.places frames.new.held }
-        ensures current { IsTrue (B.state board.new).on → AreCurrent (B.state board.new).shape.pages (chart (B.state board.new)).fields.places cache.new.entries }
+        ensures pool { IsTrue (B.state board.new).on
+            → PoolAgrees (B.state board.new).shape (chart (B.state board.new)).fields space.new }
+        ensures held { IsTrue (B.state board.new).on
+            → AreHeld (B.state board.new).shape (chart (B.state board.new)).fields.places frames.new.held }
+        ensures current { IsTrue (B.state board.new).on
+            → AreCurrent (B.state board.new).shape.pages (chart (B.state board.new)).fields.places cache.new.entries }
         ensures parted { let f = (chart (B.state board.new)).fields in
             IsTrue (B.state board.new).on → AreParted f.slots f.undos f.places }
         ensures pairs { OnOk result (self.new ≡ record self.old { pairs = others_of t self.old.pairs }) }
@@ -94,7 +102,8 @@ fn restore_pairs<B: Board>(
     requires named { AreNamed t (chart (B.state board.old)).fields.undos pairs.now }
     requires apart { AllPairs AreApart pairs.now }
     ensures durable { SameDurable 0 0 (chart (B.state board.old)) (chart (B.state board.new)) }
-    ensures restoring { OnOk result (Restoring (chart (B.state board.new)) space.new frames.new.held cache.new.entries t) }
+    ensures restoring { OnOk result
+        (Restoring (chart (B.state board.new)) space.new frames.new.held cache.new.entries t) }
     ensures restored { OnOk result (RestoredIn pairs.now t (chart (B.state board.old)) (chart (B.state board.new))) }
     ensures left { OnOk result (frames.new.held ≡ filter (λ h. not (is_among pairs.now t h.page)) frames.old.held) }
     ensures count { frames.new.count ≡ frames.old.count }
@@ -121,9 +130,11 @@ fn restore_page<B: Board>(
     requires page { page < (B.state board.old).shape.pages }
     requires names { slot_named (undo_of (chart (B.state board.old)).fields page) ≡ Some t }
     ensures durable { SameDurable 0 0 (chart (B.state board.old)) (chart (B.state board.new)) }
-    ensures restoring { OnOk result (Restoring (chart (B.state board.new)) space.new frames.new.held cache.new.entries t) }
+    ensures restoring { OnOk result
+        (Restoring (chart (B.state board.new)) space.new frames.new.held cache.new.entries t) }
     ensures fields { OnOk result ((back : APlace) × (kept (chart (B.state board.old)).fields page ≡ Some back)
-        × (chart (B.state board.new) ≡ with_fields (chart (B.state board.old)) (with_undo page (Some Undo.Clear) (with_place page (Some back) (chart (B.state board.old)).fields)))) }
+        × (chart (B.state board.new) ≡ with_fields (chart (B.state board.old))
+        (with_undo page (Some Undo.Clear) (with_place page (Some back) (chart (B.state board.old)).fields)))) }
     ensures left { OnOk result (frames.new.held ≡ filter (λ h. not (page == h.page)) frames.old.held) }
     ensures count { frames.new.count ≡ frames.old.count }
     ensures rests { Rests cache.old cache.new }

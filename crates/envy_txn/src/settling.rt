@@ -16,7 +16,8 @@ use envy_map::{slot, undo, version};
 /// vacant. A restart that is cut off may be made again: what it leaves is as before at every moment.
 pub fn settle<B: Board>(board: &mut B) -> Result<(), Off>
     requires sound { IsTrue (B.state board.old).on → IsSound (chart (B.state board.old)) }
-    ensures durable { IsSound (chart (B.state board.old)) → SameDurable 0 0 (chart (B.state board.old)) (chart (B.state board.new)) }
+    ensures durable { IsSound (chart (B.state board.old))
+        → SameDurable 0 0 (chart (B.state board.old)) (chart (B.state board.new)) }
     ensures idle { (B.state board.old).on ≡ false → B.state board.new ≡ B.state board.old }
     ensures settles { OnOk result (Settles (chart (B.state board.old)) (chart (B.state board.new))) }
     ensures off { IsErr result ↔ ((B.state board.new).on ≡ false) }
@@ -34,7 +35,8 @@ fn settle_pages<B: Board>(board: &mut B) -> Result<(), Off>
     requires on { IsTrue (B.state board.old).on }
     requires sound { IsSound (chart (B.state board.old)) }
     ensures durable { SameDurable 0 0 (chart (B.state board.old)) (chart (B.state board.new)) }
-    ensures settled { OnOk result (SettledTo (B.state board.old).shape.pages (chart (B.state board.old)) (chart (B.state board.new))) }
+    ensures settled { OnOk result (SettledTo (B.state board.old).shape.pages (chart (B.state board.old))
+        (chart (B.state board.new))) }
     ensures on { OnOk result (IsTrue (B.state board.new).on) }
     ensures off { OnErr result ((B.state board.new).on ≡ false) }
 {
@@ -51,7 +53,8 @@ fn settle_page<B: Board>(board: &mut B, page: u32) -> Result<(), Off>
     requires sound { IsSound (chart (B.state board.old)) }
     requires page { page < (B.state board.old).shape.pages }
     ensures durable { SameDurable 0 0 (chart (B.state board.old)) (chart (B.state board.new)) }
-    ensures settled { OnOk result ((c : Chart) → SettledTo page c (chart (B.state board.old)) → SettledTo (page + 1) c (chart (B.state board.new))) }
+    ensures settled { OnOk result ((c : Chart) → SettledTo page c (chart (B.state board.old))
+        → SettledTo (page + 1) c (chart (B.state board.new))) }
     ensures on { OnOk result (IsTrue (B.state board.new).on) }
     ensures off { OnErr result ((B.state board.new).on ≡ false) }
 {
@@ -71,9 +74,12 @@ fn settle_page<B: Board>(board: &mut B, page: u32) -> Result<(), Off>
 fn vacate_slots<B: Board>(board: &mut B) -> Result<(), Off>
     requires on { IsTrue (B.state board.old).on }
     requires sound { IsSound (chart (B.state board.old)) }
-    requires clear { (p : ℕ) → p < (B.state board.old).shape.pages → undo_of (chart (B.state board.old)).fields p ≡ Some Clear }
+    requires clear { (p : ℕ) → p < (B.state board.old).shape.pages
+        → undo_of (chart (B.state board.old)).fields p ≡ Some Clear }
     ensures same { SameWords 0 0 (chart (B.state board.old)) (chart (B.state board.new)) }
-    ensures vacated { OnOk result (VacatedTo (slots_of (chart (B.state board.old)).fields.version) (chart (B.state board.old)) (chart (B.state board.new))) }
+    ensures vacated { OnOk result
+        (VacatedTo (slots_of (chart (B.state board.old)).fields.version) (chart (B.state board.old))
+        (chart (B.state board.new))) }
     ensures on { OnOk result (IsTrue (B.state board.new).on) }
     ensures off { OnErr result ((B.state board.new).on ≡ false) }
 {
@@ -89,9 +95,11 @@ fn vacate_slot<B: Board>(board: &mut B, t: u8) -> Result<(), Off>
     requires on { IsTrue (B.state board.old).on }
     requires sound { IsSound (chart (B.state board.old)) }
     requires slot { t < slots_of (chart (B.state board.old)).fields.version }
-    requires clear { (p : ℕ) → p < (B.state board.old).shape.pages → undo_of (chart (B.state board.old)).fields p ≡ Some Clear }
+    requires clear { (p : ℕ) → p < (B.state board.old).shape.pages
+        → undo_of (chart (B.state board.old)).fields p ≡ Some Clear }
     ensures same { SameWords 0 0 (chart (B.state board.old)) (chart (B.state board.new)) }
-    ensures vacated { OnOk result ((c : Chart) → VacatedTo t c (chart (B.state board.old)) → VacatedTo (t + 1) c (chart (B.state board.new))) }
+    ensures vacated { OnOk result ((c : Chart) → VacatedTo t c (chart (B.state board.old))
+        → VacatedTo (t + 1) c (chart (B.state board.new))) }
     ensures on { OnOk result (IsTrue (B.state board.new).on) }
     ensures off { OnErr result ((B.state board.new).on ≡ false) }
 {

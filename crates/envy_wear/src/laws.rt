@@ -6,5 +6,6 @@ ghost use Rattle.envy_wear.specs.Swaps.{IsDue};
 
 /// No two swaps are due at once.
 pub fn one_swap_is_due()
-    ensures { (sh : Shape) (f : Fields) (limit since : ℕ) (a b : Swap) → IsDue sh f limit since a → IsDue sh f limit since b → a ≡ b }
+    ensures { (sh : Shape) (f : Fields) (limit since : ℕ) (a b : Swap) → IsDue sh f limit since a
+        → IsDue sh f limit since b → a ≡ b }
 {}

@@ -27,7 +27,8 @@ struct Extremes {
 pub fn due<B: Board>(board: &B, limit: u64, since: u64) -> Result<Option<Swap>, Off>
     requires sound { IsTrue (B.state board.now).on → IsSound (chart (B.state board.now)) }
     ensures due { let c = chart (B.state board.now) in
-        IfOk result (λ swap. MatchOption swap ((s : ASwap) → IsDue c.shape c.fields limit since s → ⊥) (IsDue c.shape c.fields limit since)) }
+        IfOk result (λ swap. MatchOption swap ((s : ASwap) → IsDue c.shape c.fields limit since s
+        → ⊥) (IsDue c.shape c.fields limit since)) }
     ensures off { IsErr result ↔ ((B.state board.now).on ≡ false) }
 {
     if !board.powered() {
@@ -62,9 +63,11 @@ fn worn_at<B: Board>(board: &B, position: u32) -> Result<Worn, Off>
 impl Extremes {
     /// The extremes, with one position more.
     fn with(self, next: Worn) -> Extremes
-        ensures most { (n : ℕ) (wear : ℕ → ℕ) → IsMostWorn n wear self.most.position → self.most.wear ≡ wear self.most.position → next.position ≡ n → next.wear ≡ wear n
+        ensures most { (n : ℕ) (wear : ℕ → ℕ) → IsMostWorn n wear self.most.position
+            → self.most.wear ≡ wear self.most.position → next.position ≡ n → next.wear ≡ wear n
             → IsMostWorn (n + 1) wear result.most.position × (result.most.wear ≡ wear result.most.position) }
-        ensures least { (n : ℕ) (wear : ℕ → ℕ) → IsLeastWorn n wear self.least.position → self.least.wear ≡ wear self.least.position → next.position ≡ n → next.wear ≡ wear n
+        ensures least { (n : ℕ) (wear : ℕ → ℕ) → IsLeastWorn n wear self.least.position
+            → self.least.wear ≡ wear self.least.position → next.position ≡ n → next.wear ≡ wear n
             → IsLeastWorn (n + 1) wear result.least.position × (result.least.wear ≡ wear result.least.position) }
     {
         Extremes {
@@ -86,9 +89,11 @@ impl Extremes {
 fn extremes_of_all<B: Board>(board: &B) -> Result<Extremes, Off>
     requires sound { IsSound (chart (B.state board.now)) }
     ensures most { let c = chart (B.state board.now) in
-        IfOk result (λ x. IsMostWorn (c.shape.segments - 1) (wear_at c.fields) x.most.position × (x.most.wear ≡ wear_at c.fields x.most.position)) }
+        IfOk result (λ x. IsMostWorn (c.shape.segments - 1) (wear_at c.fields) x.most.position
+        × (x.most.wear ≡ wear_at c.fields x.most.position)) }
     ensures least { let c = chart (B.state board.now) in
-        IfOk result (λ x. IsLeastWorn (c.shape.segments - 1) (wear_at c.fields) x.least.position × (x.least.wear ≡ wear_at c.fields x.least.position)) }
+        IfOk result (λ x. IsLeastWorn (c.shape.segments - 1) (wear_at c.fields) x.least.position
+        × (x.least.wear ≡ wear_at c.fields x.least.position)) }
     ensures off { OnErr result ((B.state board.now).on ≡ false) }
 {
     let first = worn_at(board, 0)?;

@@ -83,7 +83,8 @@ pub fn due_after<B: Board>(
     requires quiet { let c = chart (B.state board.now) in
         IsTrue c.on → IsQuiet c.shape c.fields limit since quiet.old }
     ensures due { let c = chart (B.state board.now) in
-        IfOk result (λ swap. MatchOption swap ((s : ASwap) → IsDue c.shape c.fields limit since s → ⊥) (IsDue c.shape c.fields limit since)) }
+        IfOk result (λ swap. MatchOption swap ((s : ASwap) → IsDue c.shape c.fields limit since s
+        → ⊥) (IsDue c.shape c.fields limit since)) }
     ensures quiet { let c = chart (B.state board.now) in
         IsTrue c.on → IsQuiet c.shape c.fields limit since quiet.new }
     ensures anew { IfOk result (λ swap. IfSome swap (λ s. quiet.new ≡ 0)) }
