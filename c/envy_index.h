@@ -33,22 +33,11 @@
 #define ENVY_INDEX_H
 
 #include "envy_mapped.h"
+#include "envy_pair.h"
 
 #ifdef __cplusplus
 extern "C" {
 #endif
-
-/* A pair of a map. */
-typedef struct envy_pair {
-    uint64_t key;
-    uint64_t value;
-} envy_pair;
-
-/* The value that a key had, where it had one. */
-typedef struct envy_old {
-    uint64_t value; /* or 0 */
-    uint32_t had;   /* 1, or 0 where the key had no value */
-} envy_old;
 
 /* Makes a map without pairs of the array, whatever it holds: its first four words are 0 then, and the others stay.
    ENVY_DONE. */

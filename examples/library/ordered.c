@@ -1,10 +1,28 @@
 /* A million drawn operations on a map in a mapped file, whose process is killed at drawn moments. Each answer is compared
    with that of a sorted array, and after each kill the whole map, upward and downward: it is just what was answered, or
-   that and the one operation that was in flight.
+   that and the one operation that was in flight. Over a kept file (OF_KEPT) every sixteen operations are synced: it is
+   just what was synced last, or what was being synced.
 
      ordered FILE OPERATIONS SEED */
+#ifdef OF_KEPT
+#include "../../c/envy_kept_file.h"
+#include "../../c/envy_kept_index.h"
+typedef envy_kept_file file;
+#define FILE_INIT ENVY_KEPT_FILE_INIT
+#define OPEN envy_kept_open_file
+#define CLOSE envy_kept_close_file
+#define CALL(name) envy_kept_##name
+#define MAP(name) envy_kept_index_##name
+#else
 #include "../../c/envy_file.h"
 #include "../../c/envy_index.h"
+typedef envy_file file;
+#define FILE_INIT ENVY_FILE_INIT
+#define OPEN envy_file_open
+#define CLOSE envy_file_close
+#define CALL(name) envy_mapped_##name
+#define MAP(name) envy_index_##name
+#endif
 #include <signal.h>
 #include <stdio.h>
 #include <stdlib.h>
@@ -20,7 +38,7 @@ static envy_setup setup = {
     .policy = ENVY_GREEDY, .part = 2, .limit = 3, .mark = 12,
 };
 
-static envy_file map = ENVY_FILE_INIT;
+static file map = FILE_INIT;
 
 static void must(int holds, const char *what) {
     if (holds) return;
@@ -123,11 +141,11 @@ static void do_operation(const model *m, const operation *o) {
     uint32_t code;
     switch (o->kind) {
     case GET:
-        code = envy_index_get(&map.memory, o->key, &word);
+        code = MAP(get)(&map.memory, o->key, &word);
         must(code == (there ? ENVY_DONE : ENVY_ABSENT) && word == (there ? m->pair[place].value : 77), "get");
         break;
     case INSERT:
-        code = envy_index_insert(&map.memory, o->key, o->value, &before);
+        code = MAP(insert)(&map.memory, o->key, o->value, &before);
         if (is_full(m, o)) {
             must(code == ENVY_MAP_FULL && before.value == 77 && before.had == 78, "insert into a full map");
             break;
@@ -136,23 +154,23 @@ static void do_operation(const model *m, const operation *o) {
         must(before.value == (there ? m->pair[place].value : 0), "the value before an insert");
         break;
     case REMOVE:
-        code = envy_index_remove(&map.memory, o->key, &word);
+        code = MAP(remove)(&map.memory, o->key, &word);
         must(code == (there ? ENVY_DONE : ENVY_ABSENT) && word == (there ? m->pair[place].value : 77), "remove");
         break;
     case NEXT:
-        code = envy_index_next(&map.memory, o->key, &pair);
+        code = MAP(next)(&map.memory, o->key, &pair);
         tells(m, place, code, &pair, "next");
         break;
     case ABOVE:
-        code = envy_index_above(&map.memory, o->key, &pair);
+        code = MAP(above)(&map.memory, o->key, &pair);
         tells(m, place + there, code, &pair, "above");
         break;
     case LAST:
-        code = envy_index_last(&map.memory, o->key, &pair);
+        code = MAP(last)(&map.memory, o->key, &pair);
         tells(m, place - !there, code, &pair, "last");
         break;
     case COUNT:
-        code = envy_index_count(&map.memory, &word);
+        code = MAP(count)(&map.memory, &word);
         must(code == ENVY_DONE && word == (uint64_t)m->count, "count");
         break;
     }
@@ -162,17 +180,17 @@ static void do_operation(const model *m, const operation *o) {
 static int holds(const model *m) {
     envy_pair pair = {0, 0};
     int i = 0;
-    uint32_t code = envy_index_next(&map.memory, 0, &pair);
-    for (; code == ENVY_DONE; code = envy_index_above(&map.memory, pair.key, &pair), i++)
+    uint32_t code = MAP(next)(&map.memory, 0, &pair);
+    for (; code == ENVY_DONE; code = MAP(above)(&map.memory, pair.key, &pair), i++)
         if (i == m->count || pair.key != m->pair[i].key || pair.value != m->pair[i].value) return 0;
     must(code == ENVY_ABSENT, "a scan upward");
     if (i != m->count) return 0;
-    code = envy_index_last(&map.memory, UINT64_MAX, &pair);
+    code = MAP(last)(&map.memory, UINT64_MAX, &pair);
     while (code == ENVY_DONE) {
         if (i == 0 || pair.key != m->pair[i - 1].key) return 0;
         i--;
         if (pair.key == 0) break;
-        code = envy_index_last(&map.memory, pair.key - 1, &pair);
+        code = MAP(last)(&map.memory, pair.key - 1, &pair);
     }
     must(code == ENVY_DONE || code == ENVY_ABSENT, "a scan downward");
     return i == 0;
@@ -180,15 +198,32 @@ static int holds(const model *m) {
 
 /* ---- kills */
 
+/* So many operations are answered together. */
+#ifdef OF_KEPT
+enum { BATCH = 16 };
+
+static void keep(uint64_t n) {
+    if (n % (100 * BATCH) == 0) must(CALL(compact)(&map.memory) == ENVY_DONE, "compact");
+    else must(CALL(sync)(&map.memory) == ENVY_DONE, "sync");
+}
+#else
+enum { BATCH = 1 };
+
+static void keep(uint64_t n) { (void)n; }
+#endif
+
 static void work(const char *path, uint64_t seed, uint64_t n, uint64_t end, model *m, int pipe) {
     uint32_t did;
-    must(envy_file_open(&map, path, &setup) == ENVY_DONE, "attach");
+    must(OPEN(&map, path, &setup) == ENVY_DONE, "attach");
     for (; n <= end; n++) {
         operation o = operation_of(seed, n);
         do_operation(m, &o);
         apply(m, &o);
-        if (write(pipe, &n, sizeof n) != sizeof n) _exit(1);
-        if (n % 4 == 0) must(envy_mapped_tick(&map.memory, &did) == ENVY_DONE, "tick");
+        if (n % BATCH == 0) {
+            keep(n);
+            if (write(pipe, &n, sizeof n) != sizeof n) _exit(1);
+        }
+        if (n % 4 == 0) must(CALL(tick)(&map.memory, &did) == ENVY_DONE, "tick");
     }
     pause();
 }
@@ -211,7 +246,8 @@ static uint64_t killed_after(const char *path, uint64_t seed, uint64_t last, uin
         kill(worker, SIGKILL);
         _exit(0);
     }
-    for (uint64_t n; read(ends[0], &n, sizeof n) == sizeof n; last++) must(n == last + 1, "numbers are answered in order");
+    for (uint64_t n; read(ends[0], &n, sizeof n) == sizeof n; last = n)
+        must(n == last + BATCH, "numbers are answered in order");
     close(ends[0]);
     waitpid(killer, NULL, 0);
     waitpid(worker, &status, 0);
@@ -225,14 +261,14 @@ static void all_answer(uint32_t code) {
     uint64_t word = 77;
     envy_old before = {77, 78};
     envy_pair pair = {77, 78};
-    must(envy_index_create(&map.memory) == code, "create is refused");
-    must(envy_index_get(&map.memory, 5, &word) == code, "get is refused");
-    must(envy_index_insert(&map.memory, 5, 50, &before) == code, "insert is refused");
-    must(envy_index_remove(&map.memory, 5, &word) == code, "remove is refused");
-    must(envy_index_count(&map.memory, &word) == code, "count is refused");
-    must(envy_index_next(&map.memory, 5, &pair) == code, "next is refused");
-    must(envy_index_above(&map.memory, 5, &pair) == code, "above is refused");
-    must(envy_index_last(&map.memory, 5, &pair) == code, "last is refused");
+    must(MAP(create)(&map.memory) == code, "create is refused");
+    must(MAP(get)(&map.memory, 5, &word) == code, "get is refused");
+    must(MAP(insert)(&map.memory, 5, 50, &before) == code, "insert is refused");
+    must(MAP(remove)(&map.memory, 5, &word) == code, "remove is refused");
+    must(MAP(count)(&map.memory, &word) == code, "count is refused");
+    must(MAP(next)(&map.memory, 5, &pair) == code, "next is refused");
+    must(MAP(above)(&map.memory, 5, &pair) == code, "above is refused");
+    must(MAP(last)(&map.memory, 5, &pair) == code, "last is refused");
     must(word == 77 && before.value == 77 && before.had == 78 && pair.key == 77 && pair.value == 78, "a refusal writes");
 }
 
@@ -240,35 +276,35 @@ static void refusals(const char *path) {
     uint32_t slot, holder;
     uint64_t word;
     envy_old before;
-    must(envy_mapped_new(&map.memory) == ENVY_DONE, "a place is made");
+    must(CALL(new)(&map.memory) == ENVY_DONE, "a place is made");
     all_answer(ENVY_EMPTY);
     for (int other = 0; other < 2; other++) {
         envy_setup small = setup;
         if (other) small.pages = 19;
         else small.shadows = 31;
-        must(envy_file_open(&map, path, &small) == ENVY_DONE, "format");
-        if (other) must(envy_index_create(&map.memory) == ENVY_MAP_SETUP, "19 pages");
+        must(OPEN(&map, path, &small) == ENVY_DONE, "format");
+        if (other) must(MAP(create)(&map.memory) == ENVY_MAP_SETUP, "19 pages");
         else all_answer(ENVY_MAP_SETUP);
-        envy_file_close(&map);
+        CLOSE(&map);
         must(!unlink(path), "unlink");
     }
-    must(envy_file_open(&map, path, &setup) == ENVY_DONE, "format");
-    must(envy_index_insert(&map.memory, 5, 50, &before) == ENVY_DONE && !before.had, "zeros are a map");
-    must(envy_mapped_begin(&map.memory, &slot) == ENVY_DONE, "begin");
-    must(envy_mapped_put(&map.memory, slot, 0, 99, &holder) == ENVY_DONE, "put");
+    must(OPEN(&map, path, &setup) == ENVY_DONE, "format");
+    must(MAP(insert)(&map.memory, 5, 50, &before) == ENVY_DONE && !before.had, "zeros are a map");
+    must(CALL(begin)(&map.memory, &slot) == ENVY_DONE, "begin");
+    must(CALL(put)(&map.memory, slot, 0, 99, &holder) == ENVY_DONE, "put");
     all_answer(ENVY_SLOT_OPEN);
-    must(envy_mapped_abort(&map.memory, slot) == ENVY_DONE, "abort");
-    must(envy_index_get(&map.memory, 5, &word) == ENVY_DONE && word == 50, "an aborted transaction");
+    must(CALL(abort)(&map.memory, slot) == ENVY_DONE, "abort");
+    must(MAP(get)(&map.memory, 5, &word) == ENVY_DONE && word == 50, "an aborted transaction");
     /* over other words a map begins without pairs, and leaves them */
     for (uint32_t a = 0; a < 32 * PAGES; a++)
-        must(envy_mapped_store(&map.memory, a, a * 0x0123456789ABCDEFull, &holder) == ENVY_DONE, "store");
-    must(envy_index_create(&map.memory) == ENVY_DONE, "create");
+        must(CALL(store)(&map.memory, a, a * 0x0123456789ABCDEFull, &holder) == ENVY_DONE, "store");
+    must(MAP(create)(&map.memory) == ENVY_DONE, "create");
     for (uint32_t a = 0; a < 32 * PAGES; a++) {
-        must(envy_mapped_look(&map.memory, a, &word) == ENVY_DONE, "look");
+        must(CALL(look)(&map.memory, a, &word) == ENVY_DONE, "look");
         must(word == (a < 4 ? 0 : a * 0x0123456789ABCDEFull), "create leaves other words");
     }
-    must(envy_index_count(&map.memory, &word) == ENVY_DONE && word == 0, "no pairs");
-    envy_file_close(&map);
+    must(MAP(count)(&map.memory, &word) == ENVY_DONE && word == 0, "no pairs");
+    CLOSE(&map);
 }
 
 int main(int words, char **word) {
@@ -284,18 +320,20 @@ int main(int words, char **word) {
             apply(&before, &o);
             if (before.count > most) most = before.count;
         }
-        operation next = operation_of(seed, last + 1);
         after = before;
-        apply(&after, &next);
+        for (uint64_t n = last + 1; n <= last + BATCH; n++) {
+            operation o = operation_of(seed, n);
+            apply(&after, &o);
+        }
         kills++;
-        must(envy_file_open(&map, word[1], &setup) == ENVY_DONE, "attach after a kill");
+        must(OPEN(&map, word[1], &setup) == ENVY_DONE, "attach after a kill");
         if (!holds(&before)) {
-            must(holds(&after), "the map is neither that of the last answer nor that of the next operation");
+            must(holds(&after), "the map is neither that of the last answer nor that of what was in flight");
             before = after;
-            last++;
+            last += BATCH;
             in_flight++;
         }
-        envy_file_close(&map);
+        CLOSE(&map);
     }
     printf("%llu operations on a map of up to %d pairs, %d kills, %d operations done but not yet answered\n",
            (unsigned long long)last, most, kills, in_flight);

@@ -1,25 +1,106 @@
 //! An ordered map in the array of a memory.
 
 use crate::error::Error;
-use crate::memory::Memory;
+use crate::memory::{Did, Memory};
 use crate::sys;
 use std::ops::{Bound, RangeBounds};
 
-/// An ordered map from words to words, which has the array of its memory to itself. Each call is one transaction: a process
-/// that is killed in it leaves the map as before the call, or as the call leaves it.
-pub struct Index {
-    memory: Memory,
+/// What a map asks of its memory.
+pub(crate) mod calls {
+    use crate::error::Error;
+    use crate::memory::Did;
+    use crate::sys;
+
+    /// The calls of a map in a memory of one kind. Each hands its arguments on.
+    pub trait Calls {
+        fn tick(&self) -> Result<Did, Error>;
+        fn sync(&self) -> Result<(), Error>;
+        fn create(&self) -> u32;
+        fn get(&self, key: u64, value: &mut u64) -> u32;
+        fn insert(&self, key: u64, value: u64, before: &mut sys::Old) -> u32;
+        fn remove(&self, key: u64, value: &mut u64) -> u32;
+        fn count(&self, count: &mut u64) -> u32;
+        fn next(&self, key: u64, pair: &mut sys::Pair) -> u32;
+        fn above(&self, key: u64, pair: &mut sys::Pair) -> u32;
+        fn last(&self, key: u64, pair: &mut sys::Pair) -> u32;
+    }
+
+    /// Writes the calls of a kind of memory, each of which is open while it is there and whose handle is its own.
+    macro_rules! calls {
+        ($memory:ty: $create:ident $get:ident $insert:ident $remove:ident $count:ident $next:ident $above:ident $last:ident) => {
+            impl $crate::index::calls::Calls for $memory {
+                fn tick(&self) -> Result<$crate::Did, $crate::Error> {
+                    <$memory>::tick(self)
+                }
+                fn sync(&self) -> Result<(), $crate::Error> {
+                    <$memory>::sync(self)
+                }
+                fn create(&self) -> u32 {
+                    // SAFETY: the memory is open, here and below, and what is written is the caller's.
+                    unsafe { sys::$create(self.handle()) }
+                }
+                fn get(&self, key: u64, value: &mut u64) -> u32 {
+                    unsafe { sys::$get(self.handle(), key, value) }
+                }
+                fn insert(&self, key: u64, value: u64, before: &mut sys::Old) -> u32 {
+                    unsafe { sys::$insert(self.handle(), key, value, before) }
+                }
+                fn remove(&self, key: u64, value: &mut u64) -> u32 {
+                    unsafe { sys::$remove(self.handle(), key, value) }
+                }
+                fn count(&self, count: &mut u64) -> u32 {
+                    unsafe { sys::$count(self.handle(), count) }
+                }
+                fn next(&self, key: u64, pair: &mut sys::Pair) -> u32 {
+                    unsafe { sys::$next(self.handle(), key, pair) }
+                }
+                fn above(&self, key: u64, pair: &mut sys::Pair) -> u32 {
+                    unsafe { sys::$above(self.handle(), key, pair) }
+                }
+                fn last(&self, key: u64, pair: &mut sys::Pair) -> u32 {
+                    unsafe { sys::$last(self.handle(), key, pair) }
+                }
+            }
+        };
+    }
+    pub(crate) use calls;
 }
 
-impl Index {
+/// A memory that a map may stand in: a [`Memory`], or a `KeptMemory`.
+pub trait Holder: calls::Calls {}
+
+impl Holder for Memory {}
+
+calls::calls!(Memory: envy_index_create envy_index_get envy_index_insert envy_index_remove envy_index_count
+    envy_index_next envy_index_above envy_index_last);
+
+/// An ordered map from words to words, which has the array of its memory to itself. Each call is one transaction: a process
+/// that is killed in it leaves the map as before the call, or as the call leaves it. Over a `KeptMemory` the map outlives
+/// the machine as of its last [`sync`](Index::sync).
+pub struct Index<M: Holder = Memory> {
+    memory: M,
+}
+
+#[cfg(feature = "kept")]
+impl Index<crate::kept::KeptMemory> {
+    /// A sync that leaves in the file no more than what the memory holds takes.
+    ///
+    /// # Errors
+    ///
+    /// `Off`, as of a sync.
+    pub fn compact(&self) -> Result<(), Error> {
+        self.memory.compact()
+    }
+}
+
+impl<M: Holder> Index<M> {
     /// Makes a map without pairs of a memory, whatever its words are.
     ///
     /// # Errors
     ///
     /// `MapSetup`: a map needs 20 pages and 32 shadows. `SlotOpen`, where a transaction was forgotten and never ended.
-    pub fn create(memory: Memory) -> Result<Index, Error> {
-        // SAFETY: the memory is open.
-        Error::check(unsafe { sys::envy_index_create(memory.handle()) })?;
+    pub fn create(memory: M) -> Result<Index<M>, Error> {
+        Error::check(memory.create())?;
         Ok(Index { memory })
     }
 
@@ -30,12 +111,12 @@ impl Index {
     /// The words of the memory are zeros, which are the map without pairs, or those that the last `Index` over it left:
     /// nothing else was stored or committed since. Nothing marks a memory that holds a map, so no call can see that one
     /// doesn't.
-    pub unsafe fn over(memory: Memory) -> Index {
+    pub unsafe fn over(memory: M) -> Index<M> {
         Index { memory }
     }
 
     /// The memory, whose words no longer need to be a map.
-    pub fn into_memory(self) -> Memory {
+    pub fn into_memory(self) -> M {
         self.memory
     }
 
@@ -44,7 +125,7 @@ impl Index {
     /// # Errors
     ///
     /// None that is known.
-    pub fn tick(&self) -> Result<crate::Did, Error> {
+    pub fn tick(&self) -> Result<Did, Error> {
         self.memory.tick()
     }
 
@@ -64,8 +145,7 @@ impl Index {
     /// `MapSetup` or `SlotOpen`, as for each call below.
     pub fn get(&self, key: u64) -> Result<Option<u64>, Error> {
         let mut value = 0;
-        // SAFETY: the memory is open and holds a map, and the value is this call's.
-        Ok(found(unsafe { sys::envy_index_get(self.memory.handle(), key, &mut value) })?.then_some(value))
+        Ok(found(self.memory.get(key, &mut value))?.then_some(value))
     }
 
     /// Sets the value of a key, and answers the one that it had.
@@ -75,8 +155,7 @@ impl Index {
     /// `MapFull`: the map doesn't have the key, and has as many pairs as it may have.
     pub fn insert(&self, key: u64, value: u64) -> Result<Option<u64>, Error> {
         let mut before = sys::Old::default();
-        // SAFETY: as above.
-        Error::check(unsafe { sys::envy_index_insert(self.memory.handle(), key, value, &mut before) })?;
+        Error::check(self.memory.insert(key, value, &mut before))?;
         Ok((before.had != 0).then_some(before.value))
     }
 
@@ -87,8 +166,7 @@ impl Index {
     /// As [`get`](Index::get).
     pub fn remove(&self, key: u64) -> Result<Option<u64>, Error> {
         let mut value = 0;
-        // SAFETY: as above.
-        Ok(found(unsafe { sys::envy_index_remove(self.memory.handle(), key, &mut value) })?.then_some(value))
+        Ok(found(self.memory.remove(key, &mut value))?.then_some(value))
     }
 
     /// How many pairs the map has.
@@ -98,8 +176,7 @@ impl Index {
     /// As [`get`](Index::get).
     pub fn count(&self) -> Result<u64, Error> {
         let mut count = 0;
-        // SAFETY: as above.
-        Error::check(unsafe { sys::envy_index_count(self.memory.handle(), &mut count) })?;
+        Error::check(self.memory.count(&mut count))?;
         Ok(count)
     }
 
@@ -109,8 +186,7 @@ impl Index {
     ///
     /// As [`get`](Index::get).
     pub fn next(&self, key: u64) -> Result<Option<(u64, u64)>, Error> {
-        // SAFETY: as above.
-        self.nearest(|handle, pair| unsafe { sys::envy_index_next(handle, key, pair) })
+        nearest(|pair| self.memory.next(key, pair))
     }
 
     /// The pair with the least key above this one.
@@ -119,8 +195,7 @@ impl Index {
     ///
     /// As [`get`](Index::get).
     pub fn above(&self, key: u64) -> Result<Option<(u64, u64)>, Error> {
-        // SAFETY: as above.
-        self.nearest(|handle, pair| unsafe { sys::envy_index_above(handle, key, pair) })
+        nearest(|pair| self.memory.above(key, pair))
     }
 
     /// The pair with the greatest key that is at most this one.
@@ -129,13 +204,12 @@ impl Index {
     ///
     /// As [`get`](Index::get).
     pub fn last(&self, key: u64) -> Result<Option<(u64, u64)>, Error> {
-        // SAFETY: as above.
-        self.nearest(|handle, pair| unsafe { sys::envy_index_last(handle, key, pair) })
+        nearest(|pair| self.memory.last(key, pair))
     }
 
     /// The pairs whose keys lie in a range, by rising key. A pair is looked for when it is asked for, so what is inserted
     /// or removed meanwhile is seen.
-    pub fn range(&self, keys: impl RangeBounds<u64>) -> Range<'_> {
+    pub fn range(&self, keys: impl RangeBounds<u64>) -> Range<'_, M> {
         let from = match keys.start_bound() {
             Bound::Included(key) => Start::Key(*key),
             Bound::Excluded(key) => Start::Above(*key),
@@ -151,14 +225,12 @@ impl Index {
             None => Range { index: self, from: Start::End, to: 0 },
         }
     }
+}
 
-    fn nearest(
-        &self,
-        call: impl FnOnce(*mut sys::Handle, *mut sys::Pair) -> u32,
-    ) -> Result<Option<(u64, u64)>, Error> {
-        let mut pair = sys::Pair::default();
-        Ok(found(call(self.memory.handle(), &mut pair))?.then_some((pair.key, pair.value)))
-    }
+/// The pair that a call looked for.
+fn nearest(call: impl FnOnce(&mut sys::Pair) -> u32) -> Result<Option<(u64, u64)>, Error> {
+    let mut pair = sys::Pair::default();
+    Ok(found(call(&mut pair))?.then_some((pair.key, pair.value)))
 }
 
 /// Whether the pair is there.
@@ -177,13 +249,13 @@ enum Start {
 }
 
 /// The pairs of a range. Behind an error it has none.
-pub struct Range<'i> {
-    index: &'i Index,
+pub struct Range<'i, M: Holder = Memory> {
+    index: &'i Index<M>,
     from: Start,
     to: u64,
 }
 
-impl Iterator for Range<'_> {
+impl<M: Holder> Iterator for Range<'_, M> {
     type Item = Result<(u64, u64), Error>;
 
     fn next(&mut self) -> Option<Self::Item> {

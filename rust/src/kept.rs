@@ -1,6 +1,7 @@
 //! A memory in a file that outlives the machine, and its transactions.
 
 use crate::error::{Error, Stopped};
+use crate::index::{calls, Holder};
 use crate::memory::{counts_of, did_of, Counts, Did};
 use crate::setup::{c_path, Setup};
 use crate::sys;
@@ -172,6 +173,11 @@ impl KeptMemory {
         Error::check(unsafe { sys::envy_kept_close_file(self.file.get()) })
     }
 }
+
+impl Holder for KeptMemory {}
+
+calls::calls!(KeptMemory: envy_kept_index_create envy_kept_index_get envy_kept_index_insert envy_kept_index_remove
+    envy_kept_index_count envy_kept_index_next envy_kept_index_above envy_kept_index_last);
 
 impl Drop for KeptMemory {
     fn drop(&mut self) {

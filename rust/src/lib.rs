@@ -35,7 +35,7 @@ mod setup;
 mod sys;
 
 pub use error::{Error, Point, Rule, Stopped};
-pub use index::{Index, Range};
+pub use index::{Holder, Index, Range};
 #[cfg(feature = "kept")]
 pub use kept::{KeptMemory, KeptTransaction};
 pub use memory::{Counts, Did, Memory, Transaction, version};

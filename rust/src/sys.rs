@@ -1,4 +1,5 @@
-//! The calls of envy_mapped.h, envy_index.h, envy_file.h, envy_setup.h and envy_text.h, and what crosses by them.
+//! The calls of envy_mapped.h, envy_index.h, envy_file.h, envy_setup.h, envy_text.h, envy_kept_file.h and envy_kept_index.h, and
+//! what crosses by them.
 
 use std::ffi::{c_char, c_int, c_void};
 
@@ -165,4 +166,12 @@ extern "C" {
     pub fn envy_kept_abort(m: *mut Handle, slot: u32) -> u32;
     pub fn envy_kept_tick(m: *mut Handle, did: *mut u32) -> u32;
     pub fn envy_kept_counts(m: *mut Handle, counts: *mut Counts) -> u32;
+    pub fn envy_kept_index_create(m: *mut Handle) -> u32;
+    pub fn envy_kept_index_get(m: *mut Handle, key: u64, value: *mut u64) -> u32;
+    pub fn envy_kept_index_insert(m: *mut Handle, key: u64, value: u64, before: *mut Old) -> u32;
+    pub fn envy_kept_index_remove(m: *mut Handle, key: u64, value: *mut u64) -> u32;
+    pub fn envy_kept_index_count(m: *mut Handle, count: *mut u64) -> u32;
+    pub fn envy_kept_index_next(m: *mut Handle, key: u64, pair: *mut Pair) -> u32;
+    pub fn envy_kept_index_above(m: *mut Handle, key: u64, pair: *mut Pair) -> u32;
+    pub fn envy_kept_index_last(m: *mut Handle, key: u64, pair: *mut Pair) -> u32;
 }

@@ -1,6 +1,6 @@
 //! A memory in a file that outlives the machine, as a Rust program uses it.
 #![cfg(feature = "kept")]
-use envy::{Error, KeptMemory, Setup};
+use envy::{Error, Index, KeptMemory, Setup};
 use std::path::PathBuf;
 use std::{env, fs, process};
 
@@ -54,5 +54,38 @@ fn a_transaction_that_is_dropped_is_undone_and_other_files_are_refused() {
     assert!(matches!(KeptMemory::open(&path, &other), Err(Error::OtherShape)));
     fs::write(&path, "a text of another kind, which is long enough").unwrap();
     assert!(matches!(KeptMemory::open(&path, &setup), Err(Error::NoJournal)));
+    fs::remove_file(path).unwrap();
+}
+
+#[test]
+fn a_map_in_a_kept_file_is_found() {
+    let path = path("map");
+    let setup = Setup::for_words(32 * 60, 16).unwrap();
+    let index = Index::create(KeptMemory::open(&path, &setup).unwrap()).unwrap();
+    for key in 0..100 {
+        assert_eq!(index.insert(key * 3, key).unwrap(), None);
+    }
+    assert_eq!(index.insert(9, 90).unwrap(), Some(3));
+    assert_eq!(index.remove(12).unwrap(), Some(4));
+    index.sync().unwrap();
+    // a copy of the file as it is now is what a stop of the machine leaves
+    let copy = path.with_extension("copy");
+    index.insert(1, 1).unwrap();
+    fs::copy(&path, &copy).unwrap();
+    index.compact().unwrap();
+    index.into_memory().close().unwrap();
+
+    // SAFETY: the last map over it left the words.
+    let found = unsafe { Index::over(KeptMemory::open(&copy, &setup).unwrap()) };
+    assert_eq!((found.count().unwrap(), found.get(1).unwrap(), found.get(9).unwrap()), (99, None, Some(90)));
+    assert_eq!((found.next(10).unwrap(), found.above(15).unwrap()), (Some((15, 5)), Some((18, 6))));
+    assert_eq!(found.last(14).unwrap(), Some((9, 90)));
+    let keys: Vec<u64> = found.range(6..16).map(|pair| pair.unwrap().0).collect();
+    assert_eq!(keys, [6, 9, 15]);
+    // SAFETY: as above.
+    let again = unsafe { Index::over(KeptMemory::open(&path, &setup).unwrap()) };
+    assert_eq!((again.count().unwrap(), again.get(1).unwrap()), (100, Some(1)));
+    drop((found, again));
+    fs::remove_file(copy).unwrap();
     fs::remove_file(path).unwrap();
 }

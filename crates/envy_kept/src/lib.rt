@@ -8,6 +8,7 @@ mod bulk;
 mod calls;
 mod code;
 mod handle;
+mod index_calls;
 mod laws;
 mod making;
 mod opening;
@@ -16,4 +17,4 @@ mod syncing;
 
 pub use code::KeptCode;
 pub use handle::EnvyKept;
-pub use laws::no_two_answers_share_a_number;
+pub use laws::{calls_of_a_map_keep_the_last_sync, no_two_answers_share_a_number};

@@ -1,5 +1,4 @@
 pub mod Held
-pub mod Indexed
 pub mod Opening
 pub mod Regions
 pub mod Steady

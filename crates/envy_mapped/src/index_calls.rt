@@ -4,15 +4,12 @@ ghost use Rattle.std.specs.Option.{ForSome};
 ghost use Rattle.envy_btree.specs.Nearest.{IsLeastFrom, IsGreatestTo};
 ghost use Rattle.envy_calls.specs.Codes.{number_of};
 ghost use Rattle.envy_calls.specs.declared.code.Code.TheVariants.{Done};
-ghost use Rattle.envy_mapped.specs.Indexed.{Asks, Counts, DoesCreate, Finds, Gets, HoldsArray, HoldsSomeMap, Inserts, Removes};
+ghost use Rattle.envy_index_calls.specs.Indexed.{Asks, Counts, DoesCreate, Finds, Gets, HoldsArray, HoldsSomeMap, Inserts, Removes};
 ghost use Rattle.envy_mapped.specs.Steady.{AreSteady};
 ghost use denote.RawPtr.{InBlock};
 
 use crate::handle::{EnvyMapped, give_back, lend};
-use crate::index_asking::{above, count, get, last, next};
-use crate::index_changing::{insert, remove};
-use crate::index_making::create;
-use crate::pairs::{EnvyOld, EnvyPair};
+use envy_index_calls::{EnvyOld, EnvyPair, above, count, create, get, insert, last, next, remove};
 
 /// Makes a map of no pairs, whatever the array holds.
 #[unsafe(no_mangle)]

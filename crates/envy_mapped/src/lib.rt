@@ -7,18 +7,12 @@
 mod bulk;
 mod calls;
 mod handle;
-mod index_asking;
 mod index_calls;
-mod index_changing;
-mod index_making;
-mod indexing;
 mod making;
 mod opening;
-mod pairs;
 mod regions;
 mod sizing;
 
 pub use handle::EnvyMapped;
-pub use pairs::{EnvyOld, EnvyPair};
 pub use regions::{EnvyRows, EnvyWords};
 pub use sizing::EnvySizes;

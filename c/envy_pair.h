@@ -1,0 +1,26 @@
+/* What crosses by the calls of a map: envy_index.h, envy_kept_index.h. */
+#ifndef ENVY_PAIR_H
+#define ENVY_PAIR_H
+
+#include <stdint.h>
+
+#ifdef __cplusplus
+extern "C" {
+#endif
+
+/* A pair of a map. */
+typedef struct envy_pair {
+    uint64_t key;
+    uint64_t value;
+} envy_pair;
+
+/* The value that a key had, where it had one. */
+typedef struct envy_old {
+    uint64_t value; /* or 0 */
+    uint32_t had;   /* 1, or 0 where the key had no value */
+} envy_old;
+
+#ifdef __cplusplus
+}
+#endif
+#endif

@@ -1,0 +1,47 @@
+-- Words of which the first four are 0 stand for a map of no pairs, whatever the others are.
+use Rattle.std.proofs.Common.{◌≡◌, ℕ, zero, suc, ◌+◌, ◌<◌, ◌≤◌, ◌⊎◌, List, [], length, get_or, set, refl, ◌∙◌, ap, arith, inl, inr}
+use Rattle.std.proofs.lemmas.Bool.{cases_eq}
+use Rattle.std.proofs.lemmas.Grind.{get_or-set_at}
+use Rattle.std.proofs.lemmas.List.{length-set, get_or-set_other}
+use Rattle.envy_heap.specs.Pieces.{handed}
+use Rattle.envy_heap.proofs.Heaps.{one-ge}
+use Rattle.envy_btree.specs.Index.{IsIndex}
+use Rattle.envy_index_calls.specs.Indexed.{blanked_to, blanked}
+
+pub blanked-more : (n : ℕ) (ws : List ℕ) → blanked_to (n + 1) ws ≡ set (blanked_to n ws) n 0
+blanked-more n ws = let e : n + 1 ≡ suc n = omega arith in ap (λ (k : ℕ). blanked_to k ws) e
+
+pub long-blanked : (n : ℕ) (ws : List ℕ) → length (blanked_to n ws) ≡ length ws
+long-blanked zero ws = refl
+long-blanked (suc n) ws = length-set (blanked_to n ws) n 0 ∙ long-blanked n ws
+
+-- the first words are 0
+zero-blanked : (n a : ℕ) (ws : List ℕ) → a < n → n ≤ length ws → get_or (blanked_to n ws) a 0 ≡ 0
+zero-blanked zero a ws lt le = absurd (omega (arith, lt))
+zero-blanked (suc n) a ws lt le = at (cases_eq a n) (zero-blanked n a ws)
+  where
+    at : (a ≡ n) ⊎ (a ≡ n → ⊥) → (a < n → n ≤ length ws → get_or (blanked_to n ws) a 0 ≡ 0) → get_or (blanked_to (suc n) ws) a 0 ≡ 0
+    at (inl e) less = get_or-set_at (blanked_to n ws) n a 0 0 e (omega (arith, long-blanked n ws, le))
+    at (inr ne) less = get_or-set_other (blanked_to n ws) n a 0 0 ne ∙ less (omega (arith, lt, ne)) (omega (arith, le))
+
+handed-none : (ws : List ℕ) (p : ℕ) → get_or ws 2 0 ≡ 0 → handed ws [] p ≡ 0
+handed-none ws p none = omega (arith, none, one-ge p (get_or ws 2 0) (omega (arith, none)))
+
+pub blanked-index : (ws : List ℕ) → 640 ≤ length ws → IsIndex (blanked ws) []
+blanked-index ws size =
+    let long = long-blanked 4 ws in
+    let used = zero-blanked 4 2 ws (omega arith) (omega (arith, size)) in
+    record {
+      planted = record {
+        free = [];
+        heap = record {
+          size = omega (arith, size, long);
+          used = omega (arith, used);
+          chain = zero-blanked 4 1 ws (omega arith) (omega (arith, size));
+          once = λ q. omega arith;
+        };
+        tree = inl (zero-blanked 4 0 ws (omega arith) (omega (arith, size)), refl, λ q. handed-none (blanked ws) q used);
+      };
+      count = zero-blanked 4 3 ws (omega arith) (omega (arith, size));
+      few = omega arith;
+    }

@@ -1,0 +1,31 @@
+use Rattle.envy_index_calls.specs.Indexed.{Gets}
+use Rattle.envy_index_calls.proofs.Lending.{Back, lent, some-map, map-in, asks, works-back, gets, value-stays, size-in}
+use Rattle.envy_index_calls.proofs.asking.get.Goals as goal
+
+pub get-found-requires-clause-size : goal.get-found-requires-clause-size
+get-found-requires-clause-size g c =
+    let p = c.in-Ok.words.memory in
+    let b = c.in-Ok.words.begun in
+    let l = lent c.args.slot.now c.words_of.new.slot p b c.in-Ok.ensures.lends in
+    size-in c.args.slot.now p b l
+
+pub get-found-requires-clause-map : goal.get-found-requires-clause-map
+get-found-requires-clause-map g c =
+    let p = c.in-Ok.words.memory in
+    let b = c.in-Ok.words.begun in
+    let l = lent c.args.slot.now c.words_of.new.slot p b c.in-Ok.ensures.lends in
+    let m = some-map c.args.slot.now p b l c.requires in
+    (m.0, map-in c.args.slot.now p b m.0 l m.1)
+
+pub returns-clause-gets : goal.returns-clause-gets
+returns-clause-gets g c =
+    let p = c.in-Ok.words.memory in
+    let b = c.in-Ok.words.begun in
+    let l = lent c.args.slot.now c.words_of.new.slot p b c.in-Ok.ensures.lends in
+    let q = c.get-found.new.words.memory in
+    let d = c.get-found.new.words.begun in
+    let back : Back q d = record { shut = c.get-found.ensures.shut; stands = c.return_words.ensures.shut } in
+    asks (Gets c.args.key c.told_value.new.value) c.args.slot.now c.return_words.new.slot p q b c.told_value.result l c.return_words.ensures.back (works-back p q b d c.get-found.ensures.works) (λ es h. gets c.args.key es p q b d c.get-found.result c.told_value.result c.args.value.now c.told_value.new.value c.get-found.ensures.works back c.told_value.ensures (c.get-found.ensures.gets es (map-in c.args.slot.now p b es l h)))
+
+pub returns-clause-unwritten : goal.returns-clause-unwritten
+returns-clause-unwritten g c = value-stays c.get-found.result c.told_value.result c.args.value.now c.told_value.new.value c.told_value.ensures

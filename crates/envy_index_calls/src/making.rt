@@ -1,0 +1,83 @@
+// How a map begins.
+ghost use Rattle.std.specs.Prelude.{◌≡◌, ◌+◌, ◌≤◌, length, false, IsTrue, OnOk};
+ghost use Rattle.std.specs.Option.{ForSome};
+ghost use Rattle.envy_base.specs.Words.{Fails, Keeps, Works};
+ghost use Rattle.envy_calls.specs.Codes.{number_of};
+ghost use Rattle.envy_index_calls.specs.Indexed.{Blanks, DoesCreate, EndsTry, HoldsArray, IsTried, blanked, made_code};
+
+use crate::words::{return_words, words_of};
+use envy_base::{Board, Trouble, Words};
+use envy_calls::Code;
+use envy_memory::Memory;
+
+// So many words at the front are 0 where a map has no pairs.
+const FRONT: u32 = 4;
+
+// Makes the words at the front 0, in the open transaction. They lie in one page.
+fn blank<W: Words>(words: &mut W) -> Result<(), Trouble>
+    requires begun { IsTrue (W.sheet words.old).started }
+    requires room { length (W.sheet words.old).pages + 1 ≤ (W.sheet words.old).room }
+    requires size { 4 ≤ length (W.sheet words.old).words }
+    ensures works { Works 1 (W.sheet words.old) (W.sheet words.new) }
+    ensures fails { Fails (W.sheet words.old) result (W.sheet words.new) }
+    ensures blanks { OnOk result ((W.sheet words.new).words ≡ blanked (W.sheet words.old).words) }
+{
+    for a in 0..FRONT {
+        words.put(a, 0)?;
+    }
+    Ok(())
+}
+
+// Ends the transaction in which that was tried: keeps it where it is done, and undoes it else.
+fn end<W: Words>(words: &mut W, done: Result<(), Trouble>) -> Result<(), Trouble>
+    requires tried { IsTried done (W.sheet words.old) }
+    ensures keeps { Keeps (W.sheet words.old) (W.sheet words.new) }
+    ensures shut { (W.sheet words.new).started ≡ false }
+    ensures ends { EndsTry done (W.sheet words.old) result (W.sheet words.new) }
+{
+    match done {
+        Ok(()) => words.finish()?,
+        Err(Trouble::Off) => {}
+        Err(Trouble::Bad) => words.undo()?,
+    }
+    done
+}
+
+// Makes a map of no pairs, as a transaction of its own.
+fn create_alone<W: Words>(words: &mut W) -> Result<(), Trouble>
+    requires shut { (W.sheet words.old).started ≡ false }
+    requires room { 1 ≤ (W.sheet words.old).room }
+    requires size { 4 ≤ length (W.sheet words.old).words }
+    ensures keeps { Keeps (W.sheet words.old) (W.sheet words.new) }
+    ensures shut { (W.sheet words.new).started ≡ false }
+    ensures blanks { Blanks (W.sheet words.old) result (W.sheet words.new) }
+{
+    words.start()?;
+    let done = blank(words);
+    end(words, done)
+}
+
+// The code of that.
+fn told(made: Result<(), Trouble>) -> Code
+    ensures { result ≡ made_code made }
+{
+    match made {
+        Ok(()) => Code::Done,
+        Err(Trouble::Off) => Code::Off,
+        Err(Trouble::Bad) => Code::Bad,
+    }
+}
+
+/// Makes a map of no pairs, whatever the array holds.
+pub fn create<B: Board + Drop>(slot: &mut Option<Memory<B>>) -> Code
+    requires { ForSome slot.old HoldsArray }
+    ensures { DoesCreate slot.old slot.new (number_of result) }
+{
+    let mut words = match words_of(slot) {
+        Ok(words) => words,
+        Err(code) => return code,
+    };
+    let made = create_alone(&mut words);
+    return_words(slot, words);
+    told(made)
+}

@@ -1,0 +1,76 @@
+// A memory as the words of a map.
+ghost use Rattle.std.specs.Prelude.{◌≡◌, ◌≢◌, Some, None, Ok, Err, IsTrue, false, MatchOption, MatchResult};
+ghost use Rattle.std.specs.Option.{ForSome};
+ghost use Rattle.envy_layout.specs.Sound.{IsSound};
+ghost use Rattle.envy_map.specs.Fields.{chart};
+ghost use Rattle.envy_index_calls.specs.Indexed.{Declines, HasOpen, HoldsArray, IsShut, Lends, MayServe};
+ghost use Rattle.envy_memory.specs.Sheets.{sheet_of};
+
+use envy_base::{Board, Off, Slot};
+use envy_calls::Code;
+use envy_map::slot;
+use envy_memory::{Memory, OneTx};
+
+// A map needs so many pages, and its changes so many shadows.
+const LEAST_PAGES: u32 = 20;
+
+const LEAST_SHADOWS: u32 = 32;
+
+// Whether one of the 64 slots is open.
+fn has_open_slot<B: Board>(board: &B) -> Result<bool, Off>
+    requires sound { IsSound (chart (B.state board.now)) }
+    requires version { (chart (B.state board.now)).fields.version ≡ 2 }
+    ensures { MatchResult result (HasOpen (chart (B.state board.now))) (λ _. (B.state board.now).on ≡ false) }
+{
+    for t in 0..64 {
+        if slot(board, t)? == Slot::Active {
+            return Ok(true);
+        }
+    }
+    Ok(false)
+}
+
+// Why the calls of a map aren't made of a memory, if that is so.
+fn refusal<B: Board>(memory: &Memory<B>) -> Option<Code>
+    requires { HoldsArray memory.now }
+    ensures { MatchOption result (MayServe memory.now) (Declines memory.now) }
+{
+    let shape = memory.board().shape();
+    if shape.pages < LEAST_PAGES || shape.shadows < LEAST_SHADOWS {
+        return Some(Code::MapSetup);
+    }
+    match has_open_slot(memory.board()) {
+        Ok(false) => None,
+        Ok(true) => Some(Code::SlotOpen),
+        Err(Off) => unreachable!(),
+    }
+}
+
+/// Takes the memory out of a place, as words with one transaction at a time.
+///
+/// # Errors
+///
+/// `Empty`; `MapSetup`, where no map fits; `SlotOpen`. The place is as before then.
+pub fn words_of<B: Board + Drop>(slot: &mut Option<Memory<B>>) -> Result<OneTx<B>, Code>
+    requires { ForSome slot.old HoldsArray }
+    ensures lends { MatchResult result (λ words. Lends slot.old slot.new (Ok (words.memory, words.begun))) (λ code.
+        Lends slot.old slot.new (Err code)) }
+{
+    let Some(memory) = slot.take() else {
+        return Err(Code::Empty);
+    };
+    if let Some(code) = refusal(&memory) {
+        *slot = Some(memory);
+        return Err(code);
+    }
+    Ok(OneTx::new(memory))
+}
+
+/// Puts the memory back into its place.
+pub fn return_words<B: Board + Drop>(slot: &mut Option<Memory<B>>, words: OneTx<B>)
+    ensures back { slot.new ≡ Some words.memory }
+    ensures shut { IsTrue words.memory.chart.on → (sheet_of words.memory words.begun).started ≡ false
+        → IsShut words.memory }
+{
+    *slot = Some(words.into_memory());
+}

@@ -1,0 +1,144 @@
+// A map in the array of a memory, by numbers. Each call is one transaction.
+ghost use Rattle.std.specs.Prelude.{◌≡◌, ◌≢◌, ◌+◌};
+ghost use Rattle.std.specs.Option.{ForSome};
+ghost use Rattle.envy_btree.specs.Nearest.{IsLeastFrom, IsGreatestTo};
+ghost use Rattle.envy_calls.specs.Codes.{number_of};
+ghost use Rattle.envy_calls.specs.declared.code.Code.TheVariants.{Done};
+ghost use Rattle.envy_index_calls.specs.Indexed.{Asks, Counts, DoesCreate, Finds, Gets, HoldsArray, HoldsSomeMap, Inserts, Removes};
+ghost use Rattle.envy_kept.specs.Flawless.{AreFlawless};
+ghost use denote.RawPtr.{InBlock};
+
+use crate::handle::{EnvyKept, give_back, lend};
+use envy_index_calls::{EnvyOld, EnvyPair, above, count, create, get, insert, last, next, remove};
+
+/// Makes a map of no pairs, whatever the array holds.
+#[unsafe(no_mangle)]
+pub extern "C" fn envy_kept_index_create(m: &mut EnvyKept) -> u32
+    requires place { InBlock m.old.at }
+    requires array { ForSome m.old.slot.now HoldsArray }
+    ensures live { InBlock m.new.at }
+    ensures flawless { AreFlawless m.old.slot.now m.new.slot.now }
+    ensures creates { DoesCreate m.old.slot.now m.new.slot.now result }
+{
+    let slot = lend(m);
+    let code = create(slot);
+    give_back(m, slot);
+    code.number()
+}
+
+/// The value of a key.
+#[unsafe(no_mangle)]
+pub extern "C" fn envy_kept_index_get(m: &mut EnvyKept, key: u64, value: &mut u64) -> u32
+    requires place { InBlock m.old.at }
+    requires map { ForSome m.old.slot.now HoldsSomeMap }
+    ensures live { InBlock m.new.at }
+    ensures flawless { AreFlawless m.old.slot.now m.new.slot.now }
+    ensures gets { Asks m.old.slot.now m.new.slot.now result (Gets key value.new) }
+    ensures unwritten { result ≢ number_of Done → value.new ≡ value.old }
+{
+    let slot = lend(m);
+    let code = get(slot, key, value);
+    give_back(m, slot);
+    code.number()
+}
+
+/// Sets the value of a key.
+#[unsafe(no_mangle)]
+pub extern "C" fn envy_kept_index_insert(
+    m: &mut EnvyKept,
+    key: u64,
+    value: u64,
+    before: &mut EnvyOld,
+) -> u32
+    requires place { InBlock m.old.at }
+    requires map { ForSome m.old.slot.now HoldsSomeMap }
+    ensures live { InBlock m.new.at }
+    ensures flawless { AreFlawless m.old.slot.now m.new.slot.now }
+    ensures inserts { Asks m.old.slot.now m.new.slot.now result (Inserts key value before.new) }
+    ensures unwritten { result ≢ number_of Done → before.new ≡ before.old }
+{
+    let slot = lend(m);
+    let code = insert(slot, key, value, before);
+    give_back(m, slot);
+    code.number()
+}
+
+/// Takes a key out of the map.
+#[unsafe(no_mangle)]
+pub extern "C" fn envy_kept_index_remove(m: &mut EnvyKept, key: u64, value: &mut u64) -> u32
+    requires place { InBlock m.old.at }
+    requires map { ForSome m.old.slot.now HoldsSomeMap }
+    ensures live { InBlock m.new.at }
+    ensures flawless { AreFlawless m.old.slot.now m.new.slot.now }
+    ensures removes { Asks m.old.slot.now m.new.slot.now result (Removes key value.new) }
+    ensures unwritten { result ≢ number_of Done → value.new ≡ value.old }
+{
+    let slot = lend(m);
+    let code = remove(slot, key, value);
+    give_back(m, slot);
+    code.number()
+}
+
+/// How many pairs the map has.
+#[unsafe(no_mangle)]
+pub extern "C" fn envy_kept_index_count(m: &mut EnvyKept, number: &mut u64) -> u32
+    requires place { InBlock m.old.at }
+    requires map { ForSome m.old.slot.now HoldsSomeMap }
+    ensures live { InBlock m.new.at }
+    ensures flawless { AreFlawless m.old.slot.now m.new.slot.now }
+    ensures counts { Asks m.old.slot.now m.new.slot.now result (Counts number.new) }
+    ensures unwritten { result ≢ number_of Done → number.new ≡ number.old }
+{
+    let slot = lend(m);
+    let code = count(slot, number);
+    give_back(m, slot);
+    code.number()
+}
+
+/// The pair with the least key that is at least `key`.
+#[unsafe(no_mangle)]
+pub extern "C" fn envy_kept_index_next(m: &mut EnvyKept, key: u64, pair: &mut EnvyPair) -> u32
+    requires place { InBlock m.old.at }
+    requires map { ForSome m.old.slot.now HoldsSomeMap }
+    ensures live { InBlock m.new.at }
+    ensures flawless { AreFlawless m.old.slot.now m.new.slot.now }
+    ensures finds { Asks m.old.slot.now m.new.slot.now result (Finds (IsLeastFrom key) pair.new) }
+    ensures unwritten { result ≢ number_of Done → pair.new ≡ pair.old }
+{
+    let slot = lend(m);
+    let code = next(slot, key, pair);
+    give_back(m, slot);
+    code.number()
+}
+
+/// The pair with the least key above `key`.
+#[unsafe(no_mangle)]
+pub extern "C" fn envy_kept_index_above(m: &mut EnvyKept, key: u64, pair: &mut EnvyPair) -> u32
+    requires place { InBlock m.old.at }
+    requires map { ForSome m.old.slot.now HoldsSomeMap }
+    ensures live { InBlock m.new.at }
+    ensures flawless { AreFlawless m.old.slot.now m.new.slot.now }
+    ensures finds { Asks m.old.slot.now m.new.slot.now result (Finds (IsLeastFrom (key + 1)) pair.new) }
+    ensures unwritten { result ≢ number_of Done → pair.new ≡ pair.old }
+{
+    let slot = lend(m);
+    let code = above(slot, key, pair);
+    give_back(m, slot);
+    code.number()
+}
+
+/// The pair with the greatest key that is at most `key`.
+#[unsafe(no_mangle)]
+pub extern "C" fn envy_kept_index_last(m: &mut EnvyKept, key: u64, pair: &mut EnvyPair) -> u32
+    requires place { InBlock m.old.at }
+    requires map { ForSome m.old.slot.now HoldsSomeMap }
+    ensures live { InBlock m.new.at }
+    ensures flawless { AreFlawless m.old.slot.now m.new.slot.now }
+    ensures finds { Asks m.old.slot.now m.new.slot.now result (Finds (IsGreatestTo key) pair.new) }
+    ensures unwritten { result ≢ number_of Done → pair.new ≡ pair.old }
+{
+    let slot = lend(m);
+    let code = last(slot, key, pair);
+    give_back(m, slot);
+    code.number()
+}
