@@ -93,12 +93,13 @@ for shape in 8x16 64x128 512x256 4096x256; do
 done
 
 echo
+# each page that is owned takes a row more, its shadow: as many rows are in use in each of these
 echo '| 1,024 x 256, frames | pages that another transaction owns | abort of 8 pages | commit of 8 pages |'
 echo '|---|---|---|---|'
 for frames in 64 65536; do
     for owned in 10 50000; do
         sizes="--segments 1024 --rows 256 --shadows 50064 --frames $frames --entries 64 --mark $frames"
-        pages=$(pages_of 1024 256 50064)
+        pages=$(($(pages_of 1024 256 50064) - owned))
         # shellcheck disable=SC2086
         printf '| %d | %d | %d | %d |\n' $frames $owned "$(cost abort 500 "$pages" $owned $sizes)" "$(cost commit 500 "$pages" $owned $sizes)"
     done

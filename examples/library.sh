@@ -109,7 +109,7 @@ out/sized "$work/sized.file"
 out/killed "$work/killed.file" 200 "${1-1}"
 ASAN_OPTIONS=detect_leaks=0 out/ordered-asan "$work/ordered-asan.file" 50000 "${1-1}" # a handle lasts as long as the process
 out/ordered "$work/ordered.file" 1000000 "${1-1}"
-out/kept_ordered "$work/kept-ordered.file" 96000 "${1-1}"
+out/kept_ordered "$work/kept-ordered.file" 32000 "${1-1}"
 ASAN_OPTIONS=detect_leaks=0 out/files-asan "$work/files.file" # a handle lasts as long as the process
 TMPDIR=$work out/rust-tests --quiet
 TMPDIR=$work out/rust-kept-tests --quiet

@@ -60,7 +60,7 @@ fn a_transaction_that_is_dropped_is_undone_and_other_files_are_refused() {
 #[test]
 fn a_map_in_a_kept_file_is_found() {
     let path = path("map");
-    let setup = Setup::for_words(32 * 60, 16).unwrap();
+    let setup = Setup::for_words(32 * 60, 32).unwrap();
     let index = Index::create(KeptMemory::open(&path, &setup).unwrap()).unwrap();
     for key in 0..100 {
         assert_eq!(index.insert(key * 3, key).unwrap(), None);
