@@ -1,6 +1,6 @@
 -- Words that break one rule of a heap.
-use Rattle.std.proofs.Common.{◌≡◌, ℕ, ◌+◌, ◌<◌, ◌≤◌, List, [], ◌∷◌, replicate, get_or, refl, sym, subst, arith, lit≤, lit<}
-use Rattle.envy_heap.specs.Pieces.{IsHeap, Chain, head, times, one}
+use Rattle.std.proofs.Common.{◌≡◌, ℕ, ◌≤◌, List, [], ◌∷◌, replicate, get_or, refl, sym, subst, arith}
+use Rattle.envy_heap.specs.Pieces.{IsHeap, Chain, head, times}
 use Rattle.envy_heap.specs.Examples.{nine, with_first}
 use Rattle.envy_heap.proofs.Heaps.{Chain-one}
 
