@@ -1,13 +1,12 @@
 -- A command on a pair, put together.
-use Rattle.std.proofs.Common.{◌≡◌, ◌⊎◌, inl, inr, ℕ, ◌*◌, Bool, true, false, List, length, Option, None, Some, refl, sym, ◌∙◌, ap, subst}
-use Rattle.std.specs.Prelude.{IsTrue, ◌||◌}
+use Rattle.std.proofs.Common.{◌≡◌, ◌⊎◌, inl, inr, ℕ, ◌*◌, true, length, sym, ◌∙◌, ap, subst}
 use Rattle.std.proofs.lemmas.Bool.{or_cases}
 use Rattle.envy_base.specs.Array.{Array}
 use Rattle.envy_base.specs.Step.{Command}
 use Rattle.envy_base.specs.declared.shape.Shape.{Shape}
 use Rattle.envy_layout.proofs.Standing.{length-stands}
 use Rattle.envy_memory.specs.Picture.{Picture}
-use Rattle.envy_mirror.specs.Asking.{Answers, AsksBoth, TellsBoth, heard, replied}
+use Rattle.envy_mirror.specs.Asking.{Answers, AsksBoth, TellsBoth, replied}
 use Rattle.envy_mirror.specs.Mirroring.{Mirrors, Gives}
 use Rattle.envy_mirror.specs.Pair.{Side, Pair, is_good, IsPair, lasting}
 use Rattle.envy_mirror.specs.Replies.{Reply, marked}

@@ -1,15 +1,14 @@
 -- A side that is Behind while words are copied to it.
-use Rattle.std.proofs.Common.{◌≡◌, ◌≢◌, ◌⊎◌, inl, inr, ℕ, ◌+◌, ◌*◌, ◌/◌, ◌<◌, ◌≤◌, Bool, true, false, List, length, get_or, set, replicate, Option, None, Some, refl, sym, ◌∙◌, ap, subst, arith}
-use Rattle.std.specs.Prelude.{IsTrue}
-use Rattle.std.proofs.lemmas.Bool.{cases_eq, cases_lt}
-use Rattle.std.proofs.lemmas.List.{ext_get_or, get_or-set_same, get_or-set_other, get_or-replicate, length-replicate, get_or_past}
-use Rattle.envy_base.specs.Array.{Array, Saved, IsArray, owner, owns, slot_of, undone, stored}
+use Rattle.std.proofs.Common.{◌≡◌, ◌≢◌, ◌⊎◌, inl, inr, ℕ, ◌+◌, ◌*◌, ◌/◌, ◌<◌, List, length, get_or, set, replicate, Option, None, Some, sym, ◌∙◌, ap, subst, arith}
+use Rattle.std.proofs.lemmas.Bool.{cases_eq}
+use Rattle.std.proofs.lemmas.List.{ext_get_or, get_or-set_same, get_or-set_other, length-replicate}
+use Rattle.envy_base.specs.Array.{Array, Saved, IsArray, owner, owns, slot_of, undone}
 use Rattle.envy_base.specs.Step.{Store, Done, Held}
 use Rattle.envy_base.specs.declared.shape.Shape.{Shape}
 use Rattle.envy_base.proofs.Owning.{owner-nobody}
 use Rattle.envy_base.proofs.Undoing.{undo_all-closed}
-use Rattle.envy_map.specs.Fields.{Chart, slot}
-use Rattle.envy_layout.specs.Stands.{Stands, Holds, Steps, Fails, slot_word}
+use Rattle.envy_map.specs.Fields.{Chart}
+use Rattle.envy_layout.specs.Stands.{Stands, Holds, Steps, Fails}
 use Rattle.envy_layout.specs.Words.{live, durable}
 use Rattle.envy_layout.proofs.WordLists.{length-live}
 use Rattle.envy_memory.proofs.Facts.{none-open}

@@ -1,20 +1,17 @@
 -- What holds of every pair goes on to hold once a command went to each Good side.
-use Rattle.std.proofs.Common.{◌≡◌, ◌≢◌, ◌⊎◌, inl, inr, ℕ, ◌≤◌, Bool, true, false, List, length, Option, None, Some, refl, sym, ◌∙◌, ap, subst}
-use Rattle.std.specs.Prelude.{IsTrue, ◌||◌, ◌&&◌, ◌↔◌, if◌then◌else◌}
-use Rattle.std.proofs.lemmas.Bool.{cases_Bool}
-use Rattle.envy_base.specs.Step.{Command, Answer}
+use Rattle.std.proofs.Common.{◌≡◌, ◌⊎◌, inl, inr, ◌≤◌, Bool, true, false, length, Option, None, Some, refl, sym, ◌∙◌, ap, subst}
+use Rattle.std.specs.Prelude.{IsTrue, ◌&&◌, ◌↔◌, if◌then◌else◌}
+use Rattle.envy_base.specs.Step.{Command}
 use Rattle.envy_base.specs.declared.shape.Shape.{Shape}
-use Rattle.envy_map.specs.Fields.{Chart}
 use Rattle.envy_memory.proofs.Facts.{on-from}
-use Rattle.envy_memory.specs.Picture.{Picture}
-use Rattle.envy_mirror.specs.Asking.{Asks, Asked, Reckons, Reaches, heard, has_said, is_moving, cut_by_hand, standing_after, spoiled_if}
+use Rattle.envy_mirror.specs.Asking.{Asked, Reckons, Reaches, heard, has_said, is_moving, spoiled_if}
 use Rattle.envy_mirror.specs.Pair.{Side, Pair, is_good, is_good_by, IsDark, IsPair, IsSide, IsSideBy, Leads, MayLead, lasting}
 use Rattle.envy_mirror.specs.Replies.{Reply, Off, Bad, Said, marked}
 use Rattle.envy_mirror.specs.declared.standing.Standing.{Standing}
 use Rattle.envy_mirror.specs.declared.standing.Standing.TheVariants.{Good, Behind, Gone}
 use Rattle.envy_mirror.specs.declared.standing.Which.{Which}
 use Rattle.envy_mirror.specs.declared.standing.Which.TheVariants.{First, Second}
-use Rattle.envy_mirror.proofs.Telling.{length-marked, only-first, only-second, reach-none, lasting-one}
+use Rattle.envy_mirror.proofs.Telling.{length-marked, only-first, only-second, reach-none}
 
 -- ---- one side
 

@@ -1,15 +1,11 @@
 -- Marks, and whose answer is the pair's.
-use Rattle.std.proofs.Common.{◌≡◌, ◌≢◌, ◌⊎◌, inl, inr, ℕ, ◌<◌, ◌≤◌, Bool, true, false, List, length, set, Option, None, Some, refl, sym, ◌∙◌, ap, subst, arith}
-use Rattle.std.specs.Prelude.{IsTrue, MatchOption, ◌&&◌}
-use Rattle.std.proofs.lemmas.Bool.{cases_Bool}
-use Rattle.std.proofs.lemmas.List.{set_past}
-use Rattle.envy_base.specs.Step.{Command, Answer, is_accepted}
-use Rattle.envy_memory.specs.Picture.{Picture}
+use Rattle.std.proofs.Common.{◌≡◌, Bool, true, false, List, Option, None, Some, refl, ap}
+use Rattle.std.specs.Prelude.{IsTrue}
+use Rattle.envy_base.specs.Step.{Command, is_accepted}
 use Rattle.envy_mirror.specs.Asking.{Asked, left_by, is_moving, has_said, has_failed, spoiled_if}
 use Rattle.envy_mirror.specs.Pair.{Side, is_good, is_good_by, IsSide}
-use Rattle.envy_mirror.specs.Replies.{Reply, Off, Bad, Said, is_said, is_bad, kind_of, kind_if, marked, mark_if, set_mark, written_by}
-use Rattle.envy_mirror.specs.declared.call.Kind.{Kind}
-use Rattle.envy_mirror.specs.declared.call.Kind.TheVariants.{Off as KindOff, Bad as KindBad, Refused, Accepted}
+use Rattle.envy_mirror.specs.Replies.{Reply, Off, Bad, Said, kind_of, kind_if, marked, mark_if, set_mark, written_by}
+use Rattle.envy_mirror.specs.declared.call.Kind.TheVariants.{Accepted}
 use Rattle.envy_mirror.specs.Reviving.{cut_side, cut_side_by}
 use Rattle.envy_mirror.specs.declared.standing.Standing.{Standing}
 use Rattle.envy_mirror.specs.declared.standing.Standing.TheVariants.{Good, Behind, Gone}

@@ -1,13 +1,10 @@
 -- What calls of one memory do to its counts.
-use Rattle.std.proofs.Common.{◌≡◌, ◌⊎◌, inl, inr, ℕ, ◌-◌, ◌^◌, ◌<◌, ◌≤◌, false, refl, sym, ◌∙◌, ap, arith}
+use Rattle.std.proofs.Common.{◌≡◌, ◌⊎◌, inl, inr, ℕ, ◌-◌, ◌^◌, ◌<◌, ◌≤◌, refl, ◌∙◌, arith}
 use Rattle.std.proofs.lemmas.Bool.{cases_lt}
-use Rattle.std.specs.Prelude.{IsTrue, Result, Ok, Err, MatchResult}
-use Rattle.envy_map.specs.Fields.{Chart}
-use Rattle.envy_layout.specs.Same.{Counted}
+use Rattle.std.specs.Prelude.{Result, Ok, Err, MatchResult}
 use Rattle.envy_flush.specs.Counts.{Tallies, Counting}
 use Rattle.envy_flush.specs.Ticks.{CountsTick}
 use Rattle.envy_flush.specs.declared.did.Did.{Did}
-use Rattle.envy_flush.specs.declared.parts.Parts.{Parts}
 use Rattle.envy_flush.proofs.CountLemmas.{Tallies-trans, Tallies-quiet}
 use Rattle.envy_base.specs.declared.board.Trouble.{Trouble}
 use Rattle.envy_memory.specs.Calls.{Works}

@@ -1,6 +1,5 @@
 -- A pair of which the side that was Good last is revived.
-use Rattle.std.proofs.Common.{◌≡◌, ℕ, ◌≤◌, Bool, true, false, List, length, replicate, Result, Ok, Err, refl, sym, ◌∙◌, ap, subst}
-use Rattle.std.specs.Prelude.{IsTrue}
+use Rattle.std.proofs.Common.{◌≡◌, ◌≤◌, Bool, true, false, List, length, Result, Ok, Err, sym, ◌∙◌, ap, subst}
 use Rattle.std.proofs.lemmas.List.{length-replicate}
 use Rattle.envy_base.specs.declared.shape.Shape.{Shape}
 use Rattle.envy_layout.specs.Same.{Kept}
@@ -8,7 +7,7 @@ use Rattle.envy_layout.specs.Stands.{Stands}
 use Rattle.envy_memory.specs.declared.faults.ReviveFault.{ReviveFault}
 use Rattle.envy_memory.specs.declared.faults.ReviveFault.TheVariants.{Dead, Off}
 use Rattle.envy_mirror.specs.Catching.{Wakes}
-use Rattle.envy_mirror.specs.Pair.{Side, Pair, is_good, is_good_by, IsDark, IsPair, IsSide, IsSideBy, Leads, MayLead}
+use Rattle.envy_mirror.specs.Pair.{Side, Pair, is_good, is_good_by, IsPair, IsSide, IsSideBy, Leads, MayLead}
 use Rattle.envy_mirror.specs.Reviving.{Returns}
 use Rattle.envy_mirror.specs.declared.standing.Standing.{Standing}
 use Rattle.envy_mirror.specs.declared.standing.Standing.TheVariants.{Good, Behind, Gone}

@@ -1,22 +1,19 @@
 -- What a pair stands for once a command went to each Good side.
-use Rattle.std.proofs.Common.{◌≡◌, ◌≢◌, ◌⊎◌, inl, inr, ℕ, ◌*◌, ◌/◌, ◌<◌, ◌≤◌, Bool, true, false, List, length, get_or, set, Option, None, Some, refl, sym, ◌∙◌, ap, subst, arith}
-use Rattle.std.specs.Prelude.{IsTrue, ◌||◌, ◌&&◌, ◌↔◌, if◌then◌else◌}
+use Rattle.std.proofs.Common.{◌≡◌, ℕ, Bool, true, false, List, length, Option, None, Some, refl, sym, ◌∙◌, ap, subst}
+use Rattle.std.specs.Prelude.{IsTrue, ◌||◌, ◌&&◌, if◌then◌else◌}
 use Rattle.std.proofs.lemmas.List.{length-set}
 use Rattle.envy_base.specs.Array.{Array}
 use Rattle.envy_base.specs.Step.{Command, Answer, Step, Accepts, is_accepted}
 use Rattle.envy_map.specs.Fields.{Chart}
 use Rattle.envy_layout.specs.Stands.{Stands, IsLost}
-use Rattle.envy_layout.proofs.Standing.{length-stands}
-use Rattle.envy_memory.specs.Picture.{Picture}
-use Rattle.envy_mirror.specs.Asking.{Asks, Asked, Reaches, AsksBoth, heard, has_said, is_moving, cut_by_hand}
+use Rattle.envy_mirror.specs.Asking.{Reaches, has_said, is_moving, cut_by_hand}
 use Rattle.envy_mirror.specs.Mirroring.{AgreesBy, Agrees, Mirrors, Gives, Trails}
-use Rattle.envy_mirror.specs.Pair.{Side, Pair, is_good, is_good_by, side_at, IsDark, IsPair, IsSide, IsSideBy, Leads, MayLead, lasting}
-use Rattle.envy_mirror.specs.Replies.{Reply, Off, Bad, Said, marked, mark_if, set_mark, written_by}
+use Rattle.envy_mirror.specs.Pair.{Side, Pair, is_good, is_good_by, side_at, IsDark, IsPair, Leads, lasting}
+use Rattle.envy_mirror.specs.Replies.{Reply, Off, Bad, Said, marked, mark_if, written_by}
 use Rattle.envy_mirror.specs.declared.standing.Standing.{Standing}
 use Rattle.envy_mirror.specs.declared.standing.Standing.TheVariants.{Good, Behind, Gone}
 use Rattle.envy_mirror.specs.declared.standing.Which.{Which}
 use Rattle.envy_mirror.specs.declared.standing.Which.TheVariants.{First, Second}
-use Rattle.envy_mirror.proofs.Trailing.{Trails-step}
 
 pub length-marked : (command : Command) (reply : Reply) (stale : List Bool) → length (marked command reply stale) ≡ length stale
 length-marked command Off stale = refl
