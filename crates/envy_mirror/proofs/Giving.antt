@@ -110,6 +110,7 @@ both-told new n left stale f s = mirrors new n left stale (either-left (is_good 
 
 -- ---- by both replies
 
+-- what a call that reaches both sides gives
 pub gives : (old new : Pair) (m : Array) (command : Command) (one two : Option Reply) → IsOne → Before old m → Reaches command two one old.first new.first → Reaches command one two old.second new.second → new.stale ≡ marked command (heard one two) old.stale → new.last ≡ lasting old new → Gives m command (heard one two) new
 gives old new m command None None law b first second stale last =
     let f = reach-none command None old.first new.first first in
