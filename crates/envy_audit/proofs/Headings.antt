@@ -28,6 +28,7 @@ sizes-are s board =
 pub differ-first : {P : Type 0} (xs : List ℕ) (x y z a b c : ℕ) → xs ≡ x ∷ y ∷ z ∷ [] → x ≢ a → xs ≡ a ∷ b ∷ c ∷ [] → P
 differ-first xs x y z a b c is other same = absurd (other (ap (λ (ys : List ℕ). get_or ys 0 0) (sym is ∙ same)))
 
+-- three sizes that differ in the second differ
 pub differ-second : {P : Type 0} (xs : List ℕ) (x y z a b c : ℕ) → xs ≡ x ∷ y ∷ z ∷ [] → y ≢ b → xs ≡ a ∷ b ∷ c ∷ [] → P
 differ-second xs x y z a b c is other same = absurd (other (ap (λ (ys : List ℕ). get_or ys 1 0) (sym is ∙ same)))
 
@@ -37,6 +38,7 @@ eq-true z c is = grind (arith, nat_tests)
 true-eq : (z c : ℕ) → IsTrue (z == c) → z ≡ c
 true-eq z c is = grind (arith, nat_tests)
 
+-- three sizes that differ in the third alone
 pub same-third : (xs : List ℕ) (x y z a b c : ℕ) → xs ≡ x ∷ y ∷ z ∷ [] → x ≡ a → y ≡ b → IsTrue (z == c) ↔ (xs ≡ a ∷ b ∷ c ∷ [])
 same-third xs x y z a b c is first second = (
   λ third. is ∙ rw (first, second, true-eq z c third) refl,
@@ -54,12 +56,15 @@ module _ (s : State) (sh : Shape) (flash array pools : ℕ) (board : IsBoard s) 
   expected : Kept → (chart s).fields.sizes ≡ sizes_of sh
   expected kept = kept ∙ ap sizes_of (sym shape)
 
+  -- other sizes of flash are not the shape,
   pub not-flash : (flash ≡ sh.segments * 2 ^ 32 + sh.rows → ⊥) → IsTrue false ↔ Kept
   not-flash other = (λ no. absurd (false≢true no), λ kept. differ-first _ flash array pools _ _ _ read other (expected kept))
 
+  -- nor are other sizes of the array
   pub not-array : (array ≡ sh.pages * 2 ^ 32 + sh.shadows → ⊥) → IsTrue false ↔ Kept
   not-array other = (λ no. absurd (false≢true no), λ kept. differ-second _ flash array pools _ _ _ read other (expected kept))
 
+  -- and then the pools decide
   pub pools-decide : flash ≡ sh.segments * 2 ^ 32 + sh.rows → array ≡ sh.pages * 2 ^ 32 + sh.shadows → IsTrue (pools == (sh.frames * 2 ^ 32 + sh.entries)) ↔ Kept
   pools-decide is is' =
       let same = same-third _ flash array pools _ _ (sh.frames * 2 ^ 32 + sh.entries) read is is' in

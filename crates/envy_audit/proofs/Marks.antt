@@ -14,6 +14,7 @@ IsMarked R k table = (q : ℕ) → q < length table → IsTrue (slice_index_or t
 abbrev pub IsApart : (ℕ → ℕ → Type 0) → ℕ → Type 0
 IsApart R k = (i j q : ℕ) → i < k → j < k → R i q → R j q → i ≡ j
 
+-- nothing is marked before the first
 pub none-marked : (R : ℕ → ℕ → Type 0) (table : List Bool) → ((q : ℕ) → slice_index_or table q false ≡ false) → IsMarked R 0 table
 none-marked R table all q within = (λ yes. absurd (false≢true (sym (all q) ∙ yes)), λ (i, below, named). absurd (omega (arith, below)))
 
@@ -32,6 +33,7 @@ module _ (R : ℕ → ℕ → Type 0) (k : ℕ) (table : List Bool) (marked : Is
       either (inl less) = inl (i, less, named)
       either (inr more) = let is : i ≡ k = omega (arith, below) in inr (subst (λ (j : ℕ). R j q) is named)
 
+  -- one that marks nothing
   pub more-none : ((q : ℕ) → R k q → ⊥) → IsMarked R (k + 1) table
   more-none nothing q within = (λ yes. wider q ((marked q within).0 yes), λ named. by_last (last-or q named))
     where
@@ -40,6 +42,7 @@ module _ (R : ℕ → ℕ → Type 0) (k : ℕ) (table : List Bool) (marked : Is
       by_last (inr last) = absurd (nothing q last)
 
   module _ (at : ℕ) (room : at < length table) (names : R k at) (only : (q : ℕ) → R k q → q ≡ at) where
+    -- one that marks one
     pub more-one : (after : List Bool) → after ≡ set table at true → length after ≡ length table → IsMarked R (k + 1) after
     more-one after is long q within = by_place (cases_eq q at)
       where
@@ -51,6 +54,7 @@ module _ (R : ℕ → ℕ → Type 0) (k : ℕ) (table : List Bool) (marked : Is
         by_place (inl same) = (λ yes. (k, omega arith, subst (λ (r : ℕ). R k r) (sym same) names), λ named. rw (is, same) (get_or-set_same table at true false room))
         by_place (inr other) = (λ yes. wider q ((marked q (omega (arith, within))).0 (sym (get_or-set_other table at q true false other) ∙ (ap (λ (t : List Bool). get_or t q false) (sym is) ∙ yes))), λ named. by_last other (last-or q named))
 
+    -- which wasn't marked before
     pub apart-one : slice_index_or table at false ≡ false → IsApart R k → IsApart R (k + 1)
     apart-one unseen apart i j q bi bj ri rj = both (cases_lt i k) (cases_lt j k)
       where

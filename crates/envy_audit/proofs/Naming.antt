@@ -22,6 +22,7 @@ abbrev pub FirstNames : Fields → ℕ → ℕ → ℕ → Type 0
 FirstNames f k p q = (p < k) × Names f p q
 
 module _ (f : Fields) (page : ℕ) (now back : Place) (now_is : place f page ≡ Some now) (back_is : kept f page ≡ Some back) where
+  -- the names of one page more
   pub to-more : (p q : ℕ) → Joined (Joined (FirstNames f page) page now) page back p q → FirstNames f (page + 1) p q
   to-more p q (inl (inl (below, named))) = (omega (arith, below), named)
   to-more p q (inl (inr (own, is))) = (omega (arith, own), inl (ap (place f) own ∙ (now_is ∙ ap Some is)))
@@ -39,6 +40,7 @@ module _ (f : Fields) (page : ℕ) (now back : Place) (now_is : place f page ≡
       by_page (inr more) = own_row (omega (arith, below)) named
 
   module _ (old mid new : List ℕ) (says : Says (FirstNames f page) old) (now_rows : (q : ℕ) → now ≡ Row q → q < length old) (back_rows : (q : ℕ) → back ≡ Row q → q < length old) where
+    -- are noted in the table
     pub Says-more : Notes page now old true mid → Notes page back mid true new → Says (FirstNames f (page + 1)) new
     Says-more first second =
         let one = noted (FirstNames f page) page old mid says now now_rows first in
@@ -51,6 +53,7 @@ module _ (f : Fields) (page : ℕ) (now back : Place) (now_is : place f page ≡
         let (q, r, is, named, other) = conflict (FirstNames f page) page old mid says now now_rows first in
         (page, r, q, inl (now_is ∙ ap Some is), named.1, other)
 
+    -- a row that can't be noted has two names
     pub clash-back : Notes page now old true mid → Notes page back mid false new → (p r q : ℕ) × Names f p q × Names f r q × (r ≢ p)
     clash-back first second =
         let one = noted (FirstNames f page) page old mid says now now_rows first in
@@ -100,6 +103,7 @@ module _ (s : State) (board : IsBoard s) (d : Decodes (chart s)) where
       by_undo (Some u) e is = undo-within s board p u e
 
   module _ (owners : List ℕ) (long : length owners ≡ rows_of s.shape) (says : Says (FirstNames (chart s).fields s.shape.pages) owners) where
+    -- behind the last page all rows' owners are noted
     pub NotesOwners-all : NotesOwners (chart s) owners
     NotesOwners-all = record {
       long = long;
@@ -108,6 +112,7 @@ module _ (s : State) (board : IsBoard s) (d : Decodes (chart s)) where
           (λ told. (both.0 told).1, λ named. both.1 (named-page p q named, named));
     }
 
+    -- and no row has two
     pub RowsDiffer-all : RowsDiffer (chart s)
     RowsDiffer-all p r q first second =
         let within : q < length owners = omega (arith, long, named-row p q first) in
@@ -130,8 +135,10 @@ module _ (s : State) (board : IsBoard s) (d : Decodes (chart s)) where
     differ-not : (p r q : ℕ) × Names (chart s).fields p q × Names (chart s).fields r q × (r ≢ p) → IsTrue false ↔ RowsDiffer (chart s)
     differ-not (p, r, q, one, two, other) = (λ no. absurd (false≢true no), λ differ. absurd (other (differ r p q two one)))
 
+    -- a page whose row is taken refutes that they differ,
     pub turn-now : Notes page now old false mid → IsTrue false ↔ RowsDiffer (chart s)
     turn-now first = differ-not (clash-now (chart s).fields page now back now_is back_is old mid new says now_rows back_rows first)
 
+    -- and so does one whose old row is
     pub turn-back : Notes page now old true mid → Notes page back mid false new → IsTrue false ↔ RowsDiffer (chart s)
     turn-back first second = differ-not (clash-back (chart s).fields page now back now_is back_is old mid new says now_rows back_rows first second)

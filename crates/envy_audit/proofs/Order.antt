@@ -39,6 +39,7 @@ rule_at-number_of L = refl
 pub same_number : (x y : Rule) → number_of x ≡ number_of y → x ≡ y
 same_number x y is = sym (rule_at-number_of x) ∙ (ap rule_at is ∙ rule_at-number_of y)
 
+-- behind a point that holds the next is looked at
 pub before_next : (x y : Rule) (c : Chart) → number_of y ≡ number_of x + 1 → Before x c → Holds x c → Before y c
 before_next x y c is before holds z below = either (cases_lt (number_of z) (number_of x))
   where
@@ -46,6 +47,7 @@ before_next x y c is before holds z below = either (cases_lt (number_of z) (numb
     either (inl less) = before z less
     either (inr more) = subst (λ (r : Rule). Holds r c) (same_number x z (omega arith)) holds
 
+-- nothing comes before the first
 pub before-first : (c : Chart) → Before A c
 before-first c y below = absurd (omega (arith, below))
 
@@ -71,6 +73,7 @@ all-hold c before last x = either (cases_lt (number_of x) 11)
     either (inl less) = before x less
     either (inr more) = subst (λ (r : Rule). Holds r c) (same_number L x (omega (arith, more, least x))) last
 
+-- a point that doesn't hold is the first broken one
 pub fails : (x : Rule) (c : Chart) (b : Bool) → Before x c → IsTrue b ↔ Holds x c → b ≡ false → FindsFirst c (Some x)
 fails x c b before tells wrong = (before, not-so b tells wrong)
 

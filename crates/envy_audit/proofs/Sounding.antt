@@ -66,6 +66,7 @@ module _ (s : State) (board : IsBoard s) where
     stands : JobStands (chart s)
     stands = all I
 
+    -- a map on which all points hold is sound
     pub points-sound : IsSound (chart s)
     points-sound = record {
       head = record { versions = d.version; kept = d.sizes };
@@ -179,6 +180,7 @@ module _ (s : State) (board : IsBoard s) where
         subst (λ (k : ℕ). k < slice_index (chart s).fields.fills e) (mod-mul-add e s.shape.rows i within)
         (subst (λ (k : ℕ). (e * s.shape.rows + i) % s.shape.rows < slice_index (chart s).fields.fills k) (div-mul-add e s.shape.rows i within) (sound.rows.filled p _ named))
 
+    -- on a sound map every point holds
     pub sound-points : (x : Rule) → Holds x (chart s)
     sound-points A = sound-decodes
     sound-points B = sound.numbers.apart

@@ -73,6 +73,7 @@ pub found : (c : Chart) (o : Option ℕ) (b : Bool) → FindsSwitch c (Ok o) →
 found c None b finds is sure = absurd (false≢true (sym is ∙ sure))
 found c (Some v) b finds is sure = (v, finds)
 
+-- where no switch is found there is none
 pub not-found : {P : Type 0} (c : Chart) (o : Option ℕ) (b : Bool) → FindsSwitch c (Ok o) → b ≡ is_some o → b ≡ false → (v : ℕ) → Switches c v → P
 not-found c None b finds is nothing v switches = absurd (finds v switches)
 not-found c (Some w) b finds is nothing v switches = absurd (false≢true (sym nothing ∙ is))
@@ -112,6 +113,7 @@ tells-copies c v e fill (Ok answer) is stand all same = (
       same = λ i below kept. are_same i (omega (arith, below)) kept;
     }
 
+-- a switch whose origins don't stand isn't one of copies
 pub not-stand : (c : Chart) (v e fill : ℕ) (b : Bool) → fill ≡ slice_index c.fields.fills e → IsTrue b ↔ OriginsStand c v fill → b ≡ false → IsTrue false ↔ CopiesOf c v e
 not-stand c v e fill b is tells wrong =
     refuted (λ copies. not-so b tells wrong (record {
@@ -119,6 +121,7 @@ not-stand c v e fill b is tells wrong =
       differ = λ i j bi bj. copies.differ i j (omega (arith, bi)) (omega (arith, bj));
     }))
 
+-- nor is one with a row that isn't copied
 pub not-all : (c : Chart) (v e fill : ℕ) (b : Bool) → fill ≡ slice_index c.fields.fills e → IsTrue b ↔ KeptAreCopied c v fill → b ≡ false → IsTrue false ↔ CopiesOf c v e
 not-all c v e fill b is tells wrong =
     refuted (λ copies. not-so b tells wrong (λ p q named there. let (i, below, from) = copies.all p q named there in (i, omega (arith, below), from)))
@@ -128,14 +131,17 @@ module _ (c : Chart) (e i from : ℕ) (told : Shape) (rows : told.rows ≡ c.sha
   abbrev IsCopy : ℕ → ℕ → Type 0
   IsCopy n q = (slice_index_or c.flash n [] ≡ slice_index_or c.flash q []) × (slice_index c.fields.backs n ≡ slice_index c.fields.backs q)
 
+  -- a copied row is as its original
   pub copy-known : (slice_index_or c.flash (e * told.rows + i) [] ≡ slice_index_or c.flash from []) × (slice_index c.fields.backs (e * told.rows + i) ≡ slice_index c.fields.backs from)
       → (slice_index_or c.flash (e * c.shape.rows + i) [] ≡ slice_index_or c.flash (slice_index c.fields.origins i) []) × (slice_index c.fields.backs (e * c.shape.rows + i) ≡ slice_index c.fields.backs (slice_index c.fields.origins i))
   copy-known same = subst (λ (n : ℕ). IsCopy (e * n + i) (slice_index c.fields.origins i)) rows (subst (λ (q : ℕ). IsCopy (e * told.rows + i) q) is same)
 
+  -- by the shape that was told
   pub copy-told : (slice_index_or c.flash (e * c.shape.rows + i) [] ≡ slice_index_or c.flash (slice_index c.fields.origins i) []) × (slice_index c.fields.backs (e * c.shape.rows + i) ≡ slice_index c.fields.backs (slice_index c.fields.origins i))
       → (slice_index_or c.flash (e * told.rows + i) [] ≡ slice_index_or c.flash from []) × (slice_index c.fields.backs (e * told.rows + i) ≡ slice_index c.fields.backs from)
   copy-told same = subst (λ (n : ℕ). IsCopy (e * n + i) from) (sym rows) (subst (λ (q : ℕ). IsCopy (e * c.shape.rows + i) q) (sym is) same)
 
+-- where one is found there is one
 pub found-some : (c : Chart) (o : Option ℕ) (b : Bool) → FindsSwitch c (Ok o) → is_some o ≡ not b → b ≡ false → (v : ℕ) × Switches c v
 found-some c None b finds is some = absurd (false≢true (is ∙ ap not some))
 found-some c (Some v) b finds is some = (v, finds)
@@ -158,5 +164,6 @@ tells-job c v (Ok answer) job placed tells = (
   λ stands. tells.1 (λ e spare. stands.copies v e (job, placed) spare),
 )
 
+-- and its segment is one of those there are
 pub switch-within : (c : Chart) (v : ℕ) → Decodes c → c.fields.job ≡ Some (Switch v) → v < c.shape.segments
 switch-within c v d job = subst (λ (j : Option Job). IsJobOf c.shape j) job d.job

@@ -49,6 +49,7 @@ pub record Disturbed (rows e g : ℕ) (flash new : BankState) : Type 0 where
   pub only : Only rows e IsPage flash.flash new.flash
   pub erases : new.erases ≡ set flash.erases e (bank_up (get_or flash.erases e 0))
 
+-- an erase that tears the segment
 pub disturbed : (rows e g : ℕ) (flash mid new : BankState) → flash.rows ≡ rows → ErasesBlock e flash mid → TearsRows mid.rows e g mid.flash new.flash → new ≡ record mid { flash = new.flash } → IsBank new → Disturbed rows e g flash new
 disturbed rows e g flash mid new wide erased tears same whole =
     let deep : mid.rows ≡ rows = erased.rows ∙ wide in
@@ -68,6 +69,7 @@ pub record EraseEnds (event : Event) (old : State) (e : ℕ) (r : Result Unit Tr
   pub state : Erases old e r new
 
 module _ (sh : Shape) (flash mid new : BankState) (sram : List ℕ) (p now : Power) (begun pulled plans given e g : ℕ) (powered : IsTrue p.on) (wide : flash.rows ≡ sh.rows) (erased : ErasesBlock e flash mid) where
+  -- an erase that nothing is planned for
   pub erase_passes : Pass ≡ flash_event p → now ≡ flash_counted p
       → EraseEnds (flash_event p) (state_of sh flash sram p begun pulled plans given) e (Ok tt) (state_of sh mid sram now begun pulled plans given)
   erase_passes event is =
@@ -83,6 +85,7 @@ module _ (sh : Shape) (flash mid new : BankState) (sram : List ℕ) (p now : Pow
         state = (powered, mid.flash, only, made);
       }
 
+  -- one that power ends
   pub erase_is_cut : TearsRows mid.rows e g mid.flash new.flash → new ≡ record mid { flash = new.flash } → IsBank new → Cut g ≡ flash_event p → now ≡ struck (Cut g) (flash_counted p)
       → EraseEnds (flash_event p) (state_of sh flash sram p begun pulled plans given) e (Err TroubleOff) (state_of sh new sram now begun pulled plans given)
   erase_is_cut tears same whole event is =
@@ -93,6 +96,7 @@ module _ (sh : Shape) (flash mid new : BankState) (sram : List ℕ) (p now : Pow
         state = inr (powered, new.flash, done.only, made);
       }
 
+  -- one that fails
   pub erase_is_bad : TearsRows mid.rows e g mid.flash new.flash → new ≡ record mid { flash = new.flash } → IsBank new → Bad g ≡ flash_event p → now ≡ struck (Bad g) (flash_counted p)
       → EraseEnds (flash_event p) (state_of sh flash sram p begun pulled plans given) e (Err TroubleBad) (state_of sh new sram now begun pulled plans given)
   erase_is_bad tears same whole event is =
@@ -115,8 +119,10 @@ module _ (sh : Shape) (flash new : BankState) (sram : List ℕ) (p now : Power) 
   torn_state : state_of sh new sram p count pulled plans given ≡ with_row (state_of sh flash sram p begun pulled plans given) q (torn_row g 0)
   torn_state = ap (λ (b : BankState). state_of sh b sram p count pulled plans given) made ∙ ap (λ n. state_of sh (bank_with_row flash q (torn_row g 0)) sram p n pulled plans given) counts
 
+  -- a program that power ends
   pub program_is_cut : now ≡ struck (Cut g) (flash_counted p) → Programs (state_of sh flash sram p begun pulled plans given) q x (Err TroubleOff) (state_of sh new sram now count pulled plans given)
   program_is_cut is = inr (powered, torn_row g 0, torn_page, was_cut sh flash new sram p now count pulled plans given is ∙ ap (λ (t : State). cut t) torn_state)
 
+  -- one that fails
   pub program_is_bad : now ≡ struck (Bad g) (flash_counted p) → Programs (state_of sh flash sram p begun pulled plans given) q x (Err TroubleBad) (state_of sh new sram now count pulled plans given)
   program_is_bad is = (powered, torn_row g 0, torn_page, was_bad sh flash new sram p now count pulled plans given is ∙ ap (λ (t : State). record t { bads = up p.bads }) torn_state)

@@ -27,12 +27,15 @@ get_or-erases_of segments banks s lt = get_or-map-range_with_len (λ k. get_or (
 
 -- one bank changed
 
+-- a segment's bank is the one that was changed,
 pub bank_of-set_same : (banks : List BankState) (e s : ℕ) (new : BankState) → length banks ≡ 4 → s % 4 ≡ e % 4 → bank_of (set banks (e % 4) new) s ≡ new
 bank_of-set_same banks e s new four same = let low : e % 4 < length banks = omega arith in rw same (get_or-set_same banks (e % 4) new no_bank low)
 
+-- or stays
 pub bank_of-set_other : (banks : List BankState) (e s : ℕ) (new : BankState) → s % 4 ≢ e % 4 → bank_of (set banks (e % 4) new) s ≡ bank_of banks s
 bank_of-set_other banks e s new ne = get_or-set_other banks (e % 4) (s % 4) new no_bank ne
 
+-- the banks stay alike
 pub AreWired-set : (segments rows : ℕ) (banks : List BankState) (e : ℕ) (new : BankState) → HasBlocks ((segments + 3) / 4) rows new → AreWired segments rows banks → AreWired segments rows (set banks (e % 4) new)
 AreWired-set segments rows banks e new has are = record {
   four = length-set banks (e % 4) new ∙ are.four;
@@ -54,9 +57,11 @@ module _ (segments rows : ℕ) (banks : List BankState) (are : AreWired segments
       let has = bank_has s in
       has.whole.whole ∙ ap (λ n. n * BankState.rows (bank_of banks s)) has.count ∙ ap (λ n. (segments + 3) / 4 * n) has.each
 
+  -- the row of a segment is in its bank
   pub row_fits_bank : (q : ℕ) → q < segments * rows → row_in_bank rows q < length (BankState.flash (bank_of banks (q / rows)))
   row_fits_bank q lt = rw (bank_rows (q / rows)) (row_below rows are.some_rows segments q lt)
 
+  -- banks that are joined are a bank
   pub IsBank-joined : IsBank (joined segments rows banks)
   IsBank-joined = record {
     some_rows = are.some_rows;

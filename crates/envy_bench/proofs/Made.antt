@@ -32,6 +32,7 @@ erases_of-fresh segments blocks rows some is =
     get_or-erases_of segments banks s low ∙ ap (λ (b : BankState). get_or b.erases (s / 4) 0) (bank_of-fresh blocks rows s)
     ∙ get_or-replicate {A = ℕ} blocks (s / 4) 0 0 fits ∙ sym (get_or-replicate {A = ℕ} segments s 0 0 low))
 
+-- four new banks are a new board
 pub joined-fresh : (segments blocks rows : ℕ) (a b c d : BankState) → 1 ≤ rows → blocks ≡ (segments + 3) / 4
     → a ≡ erased_bank blocks rows → b ≡ erased_bank blocks rows → c ≡ erased_bank blocks rows → d ≡ erased_bank blocks rows
     → joined segments rows (a ∷ b ∷ c ∷ d ∷ []) ≡ erased_bank segments rows

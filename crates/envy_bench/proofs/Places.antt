@@ -4,9 +4,11 @@ use Rattle.std.proofs.lemmas.Nat.{div-mul-add, mod-mul-add, mul-add-lt, same_fro
 use Rattle.envy_bench.specs.Wiring.{row_in_bank}
 
 module _ (rows : ℕ) (some : 1 ≤ rows) where
+  -- the block of a row in its bank
   pub row_in_bank-div : (q : ℕ) → row_in_bank rows q / rows ≡ q / rows / 4
   row_in_bank-div q = div-mul-add (q / rows / 4) rows (q % rows) (mod_below q rows some)
 
+  -- and the row in the block
   pub row_in_bank-mod : (q : ℕ) → row_in_bank rows q % rows ≡ q % rows
   row_in_bank-mod q = mod-mul-add (q / rows / 4) rows (q % rows) (mod_below q rows some)
 

@@ -82,6 +82,7 @@ pub record EraseStep (segments rows : ℕ) (new : List BankState) (s : BankState
   pub whole : IsBank (joined segments rows new)
   pub erased : ErasesBlock e s (joined segments rows new)
 
+-- erasing a block of a bank erases the segment
 pub erase_step : (segments rows : ℕ) (banks : List BankState) (s : BankState) (e : ℕ) (d new : BankState) → joined segments rows banks ≡ s → AreWired segments rows banks → e < length s.erases
     → ErasesBlock (e / 4) (get_or banks (e % 4) d) new → IsBank new → EraseStep segments rows (set banks (e % 4) new) s e
 erase_step segments rows banks s e d new is are lt erased whole =
@@ -112,6 +113,7 @@ pub record TearStep (segments rows : ℕ) (new : List BankState) (s : BankState)
   pub torn : TearsRows s.rows e g s.flash (rows_of segments rows new)
   pub same : joined segments rows new ≡ record s { flash = rows_of segments rows new }
 
+-- tearing a block of a bank tears the segment
 pub tear_step : (segments rows : ℕ) (banks : List BankState) (s : BankState) (e g : ℕ) (d new : BankState) → joined segments rows banks ≡ s → AreWired segments rows banks
     → TearsRows rows (e / 4) g (BankState.flash (get_or banks (e % 4) d)) new.flash → new ≡ record (get_or banks (e % 4) d) { flash = new.flash } → IsBank new → TearStep segments rows (set banks (e % 4) new) s e g
 tear_step segments rows banks s e g d new is are torn same whole =

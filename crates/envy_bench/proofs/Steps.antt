@@ -27,6 +27,7 @@ pub record RowRead (s : BankState) (q at : ℕ) (bank : BankState) : Type 0 wher
   pub fits : at < length bank.flash
   pub same : row_of bank at ≡ row_of s q
 
+-- a row of a bank is the row of the board
 pub row_read : (segments rows : ℕ) (banks : List BankState) (s : BankState) (q k at : ℕ) (d : BankState) → joined segments rows banks ≡ s → AreWired segments rows banks → q < length s.flash
     → k ≡ q / rows % 4 → at ≡ row_in_bank rows q → RowRead s q at (get_or banks k d)
 row_read segments rows banks s q k at d is are lt bank place =
@@ -42,6 +43,7 @@ pub record RowStep (segments rows : ℕ) (new : List BankState) (s : BankState) 
   pub whole : IsBank (joined segments rows new)
   pub made : joined segments rows new ≡ with_row s q row
 
+-- writing a row of a bank writes the row of the board
 pub row_step : (segments rows : ℕ) (banks : List BankState) (s : BankState) (q k at : ℕ) (d new : BankState) (row : List ℕ) → joined segments rows banks ≡ s → AreWired segments rows banks → q < length s.flash
     → k ≡ q / rows % 4 → at ≡ row_in_bank rows q → new ≡ with_row (get_or banks k d) at row → IsBank new → RowStep segments rows (set banks k new) s q row
 row_step segments rows banks s q k at d new row is are lt bank place made whole =

@@ -14,6 +14,7 @@ pub record TearsUpTo (rows e g n : ℕ) (old new : List (List ℕ)) : Type 0 whe
 pub TearsUpTo-none : (rows e g : ℕ) (flash : List (List ℕ)) → TearsUpTo rows e g 0 flash flash
 TearsUpTo-none rows e g flash = record { long = refl; others = λ q ne. refl; inside = λ r lt. absurd (omega arith) }
 
+-- one row more is torn
 pub TearsUpTo-more : (rows e g n : ℕ) (old now : List (List ℕ)) (row : List ℕ) → n < rows → e * rows + n < length now → row ≡ torn_row g n → TearsUpTo rows e g n old now → TearsUpTo rows e g (n + 1) old (set now (e * rows + n) row)
 TearsUpTo-more rows e g n old now row lt room is so_far =
     let here : (e * rows + n) / rows ≡ e = div-mul-add e rows n lt in
@@ -27,6 +28,7 @@ TearsUpTo-more rows e g n old now row lt room is so_far =
           (get_or-set_same now (e * rows + n) row [] room ∙ is);
     }
 
+-- a segment whose rows are torn
 pub TearsUpTo-all : (rows e g n : ℕ) (old new : List (List ℕ)) → 1 ≤ rows → n ≡ rows → TearsUpTo rows e g n old new → TearsRows rows e g old new
 TearsUpTo-all rows e g n old new some all is = record {
   long = is.long;

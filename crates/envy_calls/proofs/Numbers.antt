@@ -1,5 +1,5 @@
 -- A number tells its answer.
-use Rattle.std.proofs.Common.{◌≡◌, ◌<◌, ◌≤◌, ℕ, ◌==◌, if◌then◌else◌, refl, sym, ◌∙◌, ap, arith}
+use Rattle.std.proofs.Common.{◌≡◌, ◌<◌, ℕ, ◌==◌, if◌then◌else◌, refl, sym, ◌∙◌, ap, arith}
 use Rattle.envy_base.specs.declared.shape.ShapeFault.TheVariants.{Segments, Rows, Pages, Frames, Entries, Share, Total}
 use Rattle.envy_audit.specs.declared.verdict.Rule.TheVariants.{A, B, C, D, E, F, G, H, I, J, K, L}
 use Rattle.envy_policy.specs.declared.setup.SetupFault.TheVariants.{Shape as OfShape, Part, Limit, Mark}

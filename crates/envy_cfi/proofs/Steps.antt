@@ -87,10 +87,12 @@ row_fails c a b addr k row Late fits low at order =
 abbrev pub RowGoes : Option ChipState → Option ChipState → ℕ → ℕ → List ℕ → Type 0
 RowGoes a b addr k row = (c : ChipState) → a ≡ Some c → addr + 256 ≤ length c.bytes → IsIdle c → IsCalm c → Going c b addr k row
 
+-- behind 256 bytes a row is ordered
 pub row_whole : (a b : Option ChipState) (addr k : ℕ) (row : List ℕ) → k ≡ 256 → RowGoes a b addr k row → OrdersRow a addr row (Ok tt) b
 row_whole None b addr k row e going = tt
 row_whole (Some c) b addr k row e going = λ fits idle calm. subst (λ n. Going c b addr n row) e (going c refl fits idle calm)
 
+-- one that breaks off is ordered so far
 pub row_broken : (a b d : Option ChipState) (addr k : ℕ) (row : List ℕ) (fault : DriverFault) → k < 256 → RowGoes a b addr k row
     → OrdersByte b (addr + k) (slice_index row k) (Err fault) d → OrdersRow a addr row (Err fault) d
 row_broken None b d addr k row fault low going order = tt
@@ -103,11 +105,13 @@ rests c r d e addr Made lt at ends =
     let there : e ≡ Some (at_rest at.left.rows at.left.bytes) = subst (λ x. Settles x addr e) at.is ends (let long = at.long in omega arith) at.idle in
     record { bytes = at.left.bytes; is = there ∙ ap (λ n. Some (at_rest n at.left.bytes)) at.rows; made = at.made }
 
+-- an order between two settings of the part is a call
 pub byte_made : (a b d e : Option ChipState) (addr byte : ℕ) (r : Result Unit DriverFault) → Settles a addr b → OrdersByte b addr byte r d → Settles d addr e → ProgramsByte a addr byte r e
 byte_made None b d e addr byte r begins order ends = tt
 byte_made (Some c) b d e addr byte r begins order ends = λ lt m.
     rests c r d e addr (ByteAs addr byte c.bytes r) lt (subst (λ x. OrdersByte x addr byte r d) (begins lt (inl m)) order lt (inl refl) (record { erase = refl; program = refl })) ends
 
+-- of a row
 pub row_made : (a b d e : Option ChipState) (addr : ℕ) (row : List ℕ) (r : Result Unit DriverFault) → Settles a addr b → OrdersRow b addr row r d → Settles d addr e → ProgramsRow a addr row r e
 row_made None b d e addr row r begins order ends = tt
 row_made (Some c) b d e addr row r begins order ends = λ fits m.
@@ -126,6 +130,7 @@ erase_as rows addr old c (Err Failed) erase program ends = elim ends [
 ]
 erase_as rows addr old c (Err Late) erase program ends = ends
 
+-- of an erase
 pub erase_made : (a b d e f g : Option ChipState) (addr : ℕ) (r : Result Unit DriverFault) → Settles a addr b → Writes b addr 0x20 d → Writes d addr 0xD0 e → Ends e addr r → f ≡ e → Settles f addr g → Erases a addr r g
 erase_made None b d e f g addr r begins setup confirm how same ends = tt
 erase_made (Some c) b d e f g addr r begins setup confirm how same ends = λ lt m.

@@ -16,6 +16,7 @@ up-top : (told own then_own : ℕ) → told ≤ own → own ≤ then_own → 2 ^
 unfolding up
 up-top told own then_own few more top = omega arith
 
+-- a failure more is told, and not more than there were
 pub up-told : (told own then_own : ℕ) → told ≤ own → own ≤ then_own → Rose own then_own → up told ≤ then_own
 up-told told own then_own few more rose = elim (cases_lt own (2 ^ 64 - 1)) [ inl low ↦ up-low told own then_own few (rose low) | inr top ↦ up-top told own then_own few more top ]
 
@@ -32,10 +33,12 @@ put_cut told old w v off new few lit (inl out) = absurd (dark_lit old.on out.0 l
 put_cut told old w v off new few lit (inr (on, c, rose, more, inl is)) = rw is (up-told told old.cuts c few more rose)
 put_cut told old w v off new few lit (inr (on, c, rose, more, inr is)) = rw is (up-told told old.cuts c few more rose)
 
+-- a program that power ends is counted,
 pub program_cut : (told : ℕ) (old : State) (q : ℕ) (x : List ℕ) (new : State) → told ≤ old.cuts → IsTrue old.on → AnyPrograms old q x (Err TroubleOff) new → up told ≤ new.cuts
 program_cut told old q x new few lit (inl out) = absurd (dark_lit old.on out.0 lit)
 program_cut told old q x new few lit (inr (on, c, b, rose, more, bads, xs, page, is)) = rw is (up-told told old.cuts c few more rose)
 
+-- an erase that power ends,
 pub erase_cut : (told : ℕ) (old : State) (e : ℕ) (new : State) → told ≤ old.cuts → IsTrue old.on → AnyErases old e (Err TroubleOff) new → up told ≤ new.cuts
 erase_cut told old e new few lit (inl out) = absurd (dark_lit old.on out.0 lit)
 erase_cut told old e new few lit (inr (on, c, b, rose, more, bads, rows, only, is)) = rw is (up-told told old.cuts c few more rose)
@@ -44,5 +47,6 @@ erase_cut told old e new few lit (inr (on, c, b, rose, more, bads, rows, only, i
 pub program_bad : (told : ℕ) (old : State) (q : ℕ) (x : List ℕ) (new : State) → told ≤ old.bads → AnyPrograms old q x (Err Bad) new → up told ≤ new.bads
 program_bad told old q x new few (on, c, b, cuts, rose, more, xs, page, is) = rw is (up-told told old.bads b few more rose)
 
+-- and an erase that fails
 pub erase_bad : (told : ℕ) (old : State) (e : ℕ) (new : State) → told ≤ old.bads → AnyErases old e (Err Bad) new → up told ≤ new.bads
 erase_bad told old e new few (on, c, b, cuts, rose, more, rows, only, is) = rw is (up-told told old.bads b few more rose)

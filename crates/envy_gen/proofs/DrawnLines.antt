@@ -36,6 +36,7 @@ output-fits s fits =
     let low : s % 2 ^ 64 < 2 ^ 64 = omega arith in
     rotate_right-fits (bit_xor (s / 2 ^ 64) (s % 2 ^ 64)) (s / 2 ^ 122) (xor_lt 64 (s / 2 ^ 64) (s % 2 ^ 64) high low)
 
+-- a draw is a word
 pub pcg64-fits : (g : Lcg) → (pcg64 g).0 < 2 ^ 64
 pcg64-fits g =
     let fits : next_state 128 multiplier_128 g.increment g.state < 2 ^ 128 = omega arith in
@@ -101,6 +102,7 @@ next_lines-IsLine {S} step fits mix is (suc n) s =
     subst (λ (p : Line × Stream). IsLine p.0 × AllByRecursion IsLine (next_lines mix n p.1)) (sym (next_line-stream_of step mix s))
     (drawn-IsLine (step s).0 (step (step s).1).0 (step t).0 mix is (fits t), next_lines-IsLine step fits mix is n (step t).1)
 
+-- every line that is generated is one of the grammar
 pub generated-IsLine : (start lines : ℕ) (mix : Mix) → IsMix mix → AllByRecursion IsLine (generated start lines mix)
 unfolding answers_of
 generated-IsLine start lines mix is = next_lines-IsLine pcg64 pcg64-fits mix is lines (pcg64_of_seed (pcg32_seed 32 start))
@@ -110,6 +112,7 @@ unfolding next_lines
 next_lines-count mix zero words = refl
 next_lines-count mix (suc n) words = ap suc (next_lines-count mix n (next_line mix words).1)
 
+-- and there are as many as were asked for
 pub generated-count : (start lines : ℕ) (mix : Mix) → length (generated start lines mix) ≡ lines
 generated-count start lines mix = next_lines-count mix lines (answers_of start)
 

@@ -39,6 +39,7 @@ Chain-same old new link (p ∷ ps) same c =
 pub within : (ws free : List ℕ) (p : ℕ) → IsHeap ws free → p < get_or ws 2 0 → (at p 63 < length ws) × (p < pieces ws)
 within ws free p h lt = (omega (arith, h.used, h.size), omega (arith, h.used))
 
+-- a free piece has been handed out before
 pub free-below : (ws free : List ℕ) (p : ℕ) → IsHeap ws free → 1 ≤ times free p → p < get_or ws 2 0
 free-below ws free p h some = lt-one p (get_or ws 2 0) (omega (arith, h.once p))
 
@@ -49,6 +50,7 @@ first-free ws (p ∷ ps) h lt =
     let e : p ≡ get_or ws 1 0 - 1 = omega (arith, h.chain.0) in
     (ps, ap (λ x. x ∷ ps) e, subst (λ x. Chain ws (get_or ws (head x) 0) ps) e h.chain.1)
 
+-- the first free piece is within the array
 pub link-within : (ws free : List ℕ) → IsHeap ws free → 0 < get_or ws 1 0 → (at (get_or ws 1 0 - 1) 63 < length ws) × (get_or ws 1 0 - 1 < pieces ws)
 link-within ws free h lt =
     let f = first-free ws free h lt in
@@ -76,6 +78,7 @@ taken ws p rest next h e =
       touches = record { long = long; others = λ a n1 n2 n3. get_or-set_other ws 1 a next 0 n1 };
     }
 
+-- taking the first free piece
 pub Takes-first : (ws free : List ℕ) (p next : ℕ) → IsHeap ws free → 0 < get_or ws 1 0 → p ≡ get_or ws 1 0 - 1 → next ≡ get_or ws (head p) 0 → (rest : List ℕ) × Takes p ws (set ws 1 next) free rest
 Takes-first ws free p next h lt is e =
     let f = first-free ws free h lt in
@@ -107,6 +110,7 @@ grown ws p h e is lt =
     step : (p q : ℕ) → one (ltb q (p + 1)) - 0 ≡ (one (ltb q p) - 0) + one (eqb q p)
     step p q = grind (arith, nat_tests)
 
+-- taking one that was never handed out
 pub Takes-new : (ws free : List ℕ) (p : ℕ) → IsHeap ws free → get_or ws 1 0 ≡ 0 → p ≡ get_or ws 2 0 → p ≢ pieces ws → (rest : List ℕ) × Takes p ws (set ws 2 (p + 1)) free rest
 Takes-new ws free p h e is ne =
     let whole : free ≡ [] = none-free ws free h e in
@@ -118,6 +122,7 @@ Exhausted ws free h e all p lt =
     let none : times free p ≡ 0 = ap (λ x. times x p) (none-free ws free h e) in
     omega (arith, one-lt p (get_or ws 2 0) (omega arith))
 
+-- giving a piece back
 pub Freed-given : (ws free : List ℕ) (p link : ℕ) → IsHeap ws free → handed ws free p ≡ 1 → link ≡ get_or ws 1 0 → Freed p ws (set (set ws (head p) link) 1 (p + 1)) free
 Freed-given ws free p link h out e =
     let new : List ℕ = set (set ws (head p) link) 1 (p + 1) in

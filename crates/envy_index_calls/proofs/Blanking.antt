@@ -8,6 +8,7 @@ use Rattle.envy_heap.proofs.Heaps.{one-ge}
 use Rattle.envy_btree.specs.Index.{IsIndex}
 use Rattle.envy_index_calls.specs.Indexed.{blanked_to, blanked}
 
+-- one word more is blank
 pub blanked-more : (n : ℕ) (ws : List ℕ) → blanked_to (n + 1) ws ≡ set (blanked_to n ws) n 0
 blanked-more n ws = let e : n + 1 ≡ suc n = omega arith in ap (λ (k : ℕ). blanked_to k ws) e
 
@@ -27,6 +28,7 @@ zero-blanked (suc n) a ws lt le = at (cases_eq a n) (zero-blanked n a ws)
 handed-none : (ws : List ℕ) (p : ℕ) → get_or ws 2 0 ≡ 0 → handed ws [] p ≡ 0
 handed-none ws p none = omega (arith, none, one-ge p (get_or ws 2 0) (omega (arith, none)))
 
+-- a blank array holds the empty map
 pub blanked-index : (ws : List ℕ) → 640 ≤ length ws → IsIndex (blanked ws) []
 blanked-index ws size =
     let long = long-blanked 4 ws in

@@ -47,19 +47,24 @@ pub record Lent (old : Option Picture) (p : Picture) (b : Bool) : Type 0 where
   pub shut : b ≡ false
   pub may : MayServe p
 
+-- what a memory lends is its own picture
 pub lent : (old new : Option Picture) (p : Picture) (b : Bool) → Lends old new (Ok (p, b)) → Lent old p b
 lent None new p b lends = absurd lends
 lent (Some o) new p b (same, shut, may) = record { is = ap Some (sym same); shut = shut; may = subst MayServe (sym same) may }
 
+-- a memory that holds some map lends one
 pub some-map : (old : Option Picture) (p : Picture) (b : Bool) → Lent old p b → ForSome old HoldsSomeMap → (es : Pairs) × HoldsMap p es
 some-map old p b l some = some p (Lent.is l)
 
+-- the map is in the words that are lent
 pub map-in : (old : Option Picture) (p : Picture) (b : Bool) (es : Pairs) → Lent old p b → HoldsMap p es → IsIndex (sheet_of p b).words es
 map-in old p b es l h = subst (λ (ws : List ℕ). IsIndex ws es) (sym (words-shut p b (Lent.shut l))) (HoldsMap.map h)
 
+-- they are few enough
 pub size-in : (old : Option Picture) (p : Picture) (b : Bool) → Lent old p b → length (sheet_of p b).words ≤ 2 ^ 25
 size-in old p b l = let n = words_long (p.chart.on && b) p.chart in let few = MayServe.few (Lent.may l) in omega arith
 
+-- and enough
 pub least-in : (old : Option Picture) (p : Picture) (b : Bool) → Lent old p b → 640 ≤ length (sheet_of p b).words
 least-in old p b l = let n = words_long (p.chart.on && b) p.chart in let some = MayServe.pages (Lent.may l) in omega arith
 
@@ -99,9 +104,11 @@ shut-back q d b on = Back.stands b on (Back.shut b)
 serves-back : (q : Picture) (d : Bool) (es : Pairs) → Back q d → IsTrue q.chart.on → IsIndex (sheet_of q d).words es → Serves q es
 serves-back q d es b on map = record { shut = shut-back q d b on; map = subst (λ (ws : List ℕ). IsIndex ws es) (ap (λ (x : Bool). words_read x q.chart) (Back.shut b)) map }
 
+-- what the map did to the words the memory did
 pub works-back : (p q : Picture) (b d : Bool) → SheetWorks 0 (sheet_of p b) (sheet_of q d) → Works p q
 works-back p q b d w = fixed-works p q w.fixed w.cuts w.bads w.cut
 
+-- what leaves the words leaves the memory's answers
 pub keeps-back : (p q : Picture) (b d : Bool) → Keeps (sheet_of p b) (sheet_of q d) → Works p q
 keeps-back p q b d w = fixed-works p q w.fixed w.cuts w.bads w.cut
 
@@ -121,6 +128,7 @@ closed-slots c m s shut =
     let long = IsArray.slots (Holds.array h) in
     ext_get_or None m.slots (replicate 64 None) (long ∙ sym (length-replicate {A = Option Saved} 64 None)) (λ t lt. let few : t < 64 = subst (λ (n : ℕ). t < n) long lt in closed-slot c t (slot_of m t) few (Holds.slots h t few) shut ∙ sym (get_or-replicate {A = Option Saved} 64 t None None few))
 
+-- a sound memory of enough pages with no transaction open may serve a map
 pub may-serve : (p : Picture) (sh : Shape) (c d : Chart) (b : Bool) → HoldsArray p → c ≡ p.chart → d ≡ p.chart → IsShape c.shape → sh ≡ c.shape → 20 ≤ sh.pages → 32 ≤ sh.shadows → b ≡ false → HasOpen d b → MayServe p
 may-serve p sh c d b (m, stands) same same_too shape is pages shadows closed shut =
     let sizes = subst (λ (x : Chart). IsShape x.shape) same shape in
@@ -168,24 +176,29 @@ finds Is es p q b d (Err off) code before after w back (is, pair) (dark, map) =
 
 -- what isn't done isn't written
 
+-- an answer that isn't Done leaves the place of a value,
 pub value-stays : (x : Result (Option ℕ) OffBoard) (code : Code) (before after : ℕ) → TellsValue x code before after → code ≢ Done → after ≡ before
 value-stays (Ok (Some v)) code before after tells other = absurd (other tells.0)
 value-stays (Ok None) code before after tells other = tells.1
 value-stays (Err off) code before after tells other = tells.1
 
+-- of a count,
 pub count-stays : (x : Result ℕ OffBoard) (code : Code) (before after : ℕ) → TellsCount x code before after → code ≢ Done → after ≡ before
 count-stays (Ok n) code before after tells other = absurd (other tells.0)
 count-stays (Err off) code before after tells other = tells.1
 
+-- of a pair,
 pub pair-stays : (x : Result (Option (ℕ × ℕ)) OffBoard) (code : Code) (before after : EnvyPair) → TellsPair x code before after → code ≢ Done → after ≡ before
 pair-stays (Ok (Some e)) code before after tells other = absurd (other tells.0)
 pair-stays (Ok None) code before after tells other = tells.1
 pair-stays (Err off) code before after tells other = tells.1
 
+-- of an old value,
 pub old-stays : (x : Result (Option ℕ) TreeFault) (code : Code) (before after : EnvyOld) → TellsInsert x code before after → code ≢ Done → after ≡ before
 old-stays (Ok was) code before after tells other = absurd (other tells.0)
 old-stays (Err fault) code before after tells other = tells.1
 
+-- and of one that was removed
 pub removed-stays : (x : Result (Option ℕ) TreeFault) (code : Code) (before after : ℕ) → TellsRemoval x code before after → code ≢ Done → after ≡ before
 removed-stays (Ok (Some v)) code before after tells other = absurd (other tells.0)
 removed-stays (Ok None) code before after tells other = tells.1

@@ -1,13 +1,12 @@
 -- A command on a pair, put together.
-use Rattle.std.proofs.Common.{◌≡◌, ◌⊎◌, inl, inr, ℕ, ◌*◌, Bool, true, false, List, length, Option, None, Some, refl, sym, ◌∙◌, ap, subst}
-use Rattle.std.specs.Prelude.{IsTrue, ◌||◌}
+use Rattle.std.proofs.Common.{◌≡◌, ◌⊎◌, inl, inr, ℕ, ◌*◌, true, length, sym, ◌∙◌, ap, subst}
 use Rattle.std.proofs.lemmas.Bool.{or_cases}
 use Rattle.envy_base.specs.Array.{Array}
 use Rattle.envy_base.specs.Step.{Command}
 use Rattle.envy_base.specs.declared.shape.Shape.{Shape}
 use Rattle.envy_layout.proofs.Standing.{length-stands}
 use Rattle.envy_memory.specs.Picture.{Picture}
-use Rattle.envy_mirror.specs.Asking.{Answers, AsksBoth, TellsBoth, heard, replied}
+use Rattle.envy_mirror.specs.Asking.{Answers, AsksBoth, TellsBoth, replied}
 use Rattle.envy_mirror.specs.Mirroring.{Mirrors, Gives}
 use Rattle.envy_mirror.specs.Pair.{Side, Pair, is_good, IsPair, lasting}
 use Rattle.envy_mirror.specs.Replies.{Reply, marked}
@@ -27,6 +26,7 @@ long-mirrors p m i h = at (or_cases (is_good p.first) (is_good p.second) h.some)
         let s = stands-good p.second.standing p.second.memory.chart p.stale m good h.second in
         length-stands p.second.memory.chart m s ∙ ap (λ (n : ℕ). 32 * n) (ap (λ (sh : Shape). sh.pages) i.shape ∙ sym i.marks)
 
+-- a pair that mirrors an array is one before a call
 pub Before-is : (p : Pair) (m : Array) → IsPair p → Mirrors p m → Before p m
 Before-is p m i h = record { pair = i; mirrors = h; long = long-mirrors p m i h }
 
@@ -40,9 +40,11 @@ asks-both reply Does command result first second new_first new_second t = record
   told = t.told;
 }
 
+-- a call made on both sides leaves a pair
 pub IsPair-both : (old new : Pair) (command : Command) (reply : Reply) → IsPair old → AsksBoth command reply old.first old.second new.first new.second → new.stale ≡ marked command reply old.stale → new.last ≡ lasting old new → IsPair new
 IsPair-both old new command reply i b stale last = IsPair-reached old new command b.one b.two reply i b.to_first b.to_second stale last
 
+-- and gives what the array would
 pub answers : (old new : Pair) (command : Command) (reply : Reply) → IsOne → IsPair old → AsksBoth command reply old.first old.second new.first new.second → new.stale ≡ marked command reply old.stale → new.last ≡ lasting old new → Answers command reply old new
 answers old new command reply law i b stale last = record {
   both = b;

@@ -1,15 +1,14 @@
 -- A side that is Behind while words are copied to it.
-use Rattle.std.proofs.Common.{◌≡◌, ◌≢◌, ◌⊎◌, inl, inr, ℕ, ◌+◌, ◌*◌, ◌/◌, ◌<◌, ◌≤◌, Bool, true, false, List, length, get_or, set, replicate, Option, None, Some, refl, sym, ◌∙◌, ap, subst, arith}
-use Rattle.std.specs.Prelude.{IsTrue}
-use Rattle.std.proofs.lemmas.Bool.{cases_eq, cases_lt}
-use Rattle.std.proofs.lemmas.List.{ext_get_or, get_or-set_same, get_or-set_other, get_or-replicate, length-replicate, get_or_past}
-use Rattle.envy_base.specs.Array.{Array, Saved, IsArray, owner, owns, slot_of, undone, stored}
+use Rattle.std.proofs.Common.{◌≡◌, ◌≢◌, ◌⊎◌, inl, inr, ℕ, ◌+◌, ◌*◌, ◌/◌, ◌<◌, List, length, get_or, set, replicate, Option, None, Some, sym, ◌∙◌, ap, subst, arith}
+use Rattle.std.proofs.lemmas.Bool.{cases_eq}
+use Rattle.std.proofs.lemmas.List.{ext_get_or, get_or-set_same, get_or-set_other, length-replicate}
+use Rattle.envy_base.specs.Array.{Array, Saved, IsArray, owner, owns, slot_of, undone}
 use Rattle.envy_base.specs.Step.{Store, Done, Held}
 use Rattle.envy_base.specs.declared.shape.Shape.{Shape}
 use Rattle.envy_base.proofs.Owning.{owner-nobody}
 use Rattle.envy_base.proofs.Undoing.{undo_all-closed}
-use Rattle.envy_map.specs.Fields.{Chart, slot}
-use Rattle.envy_layout.specs.Stands.{Stands, Holds, Steps, Fails, slot_word}
+use Rattle.envy_map.specs.Fields.{Chart}
+use Rattle.envy_layout.specs.Stands.{Stands, Holds, Steps, Fails}
 use Rattle.envy_layout.specs.Words.{live, durable}
 use Rattle.envy_layout.proofs.WordLists.{length-live}
 use Rattle.envy_memory.proofs.Facts.{none-open}
@@ -40,6 +39,7 @@ pub closed-failed : (old new : Chart) (a w : ℕ) → new.shape ≡ old.shape �
 closed-failed old new a w shape (n, accepts, s) =
     (IsClosed-stands new old.shape.shadows (live old) (ap (λ (sh : Shape). sh.shadows) (sym shape)) s, Holds.live (Stands.holds s))
 
+-- with no transaction open no store is refused for another's page
 pub never-held : (old new : Chart) (a w u : ℕ) → Steps (fresh old.shape.shadows (live old)) (Store a w) (Held u) new → ⊥
 never-held old new a w u (n, (lt, is, same), stands) = let none = owner-fresh old.shape.shadows (live old) (a / 32) in let clash : None ≡ Some u = sym none ∙ is in cc
 
@@ -58,6 +58,7 @@ PageCopied page i from to = (a : ℕ) → a / 32 ≡ page → a < 32 * page + i 
 abbrev pub OthersStay : ℕ → Chart → Chart → Type 0
 OthersStay page old to = (a : ℕ) → a / 32 ≢ page → get_or (live to) a 0 ≡ get_or (live old) a 0
 
+-- one word more of a page is copied
 pub copied-more : (from mid new : Chart) (page i : ℕ) → page < mid.shape.pages → i < 32 → live new ≡ set (live mid) (32 * page + i) (get_or (durable from) (32 * page + i) 0) → PageCopied page i from mid → PageCopied page (i + 1) from new
 copied-more from mid new page i inside low is before a in_page lt = ap (λ (ws : List ℕ). get_or ws a 0) is ∙ at (cases_eq a (32 * page + i))
   where
@@ -67,6 +68,7 @@ copied-more from mid new page i inside low is before a in_page lt = ap (λ (ws :
         rw same (get_or-set_same (live mid) (32 * page + i) (get_or (durable from) (32 * page + i) 0) 0 room)
     at (inr other) = get_or-set_other (live mid) (32 * page + i) a (get_or (durable from) (32 * page + i) 0) 0 other ∙ before a in_page (omega arith)
 
+-- and the other pages stay
 pub others-more : (from mid new old : Chart) (page i : ℕ) → i < 32 → live new ≡ set (live mid) (32 * page + i) (get_or (durable from) (32 * page + i) 0) → OthersStay page old mid → OthersStay page old new
 others-more from mid new old page i low is before a elsewhere =
     ap (λ (ws : List ℕ). get_or ws a 0) is ∙ get_or-set_other (live mid) (32 * page + i) a (get_or (durable from) (32 * page + i) 0) 0 (λ e. elsewhere (omega arith)) ∙ before a elsewhere

@@ -1,14 +1,11 @@
 -- What a pair stands for while one side follows the other.
-use Rattle.std.proofs.Common.{◌≡◌, ◌≢◌, ◌⊎◌, inl, inr, ℕ, ◌*◌, ◌/◌, ◌<◌, ◌≤◌, Bool, true, false, List, length, get_or, set, replicate, Option, None, Some, Result, Ok, Err, refl, sym, ◌∙◌, ap, subst, arith}
-use Rattle.std.specs.Prelude.{IsTrue, ◌||◌}
-use Rattle.std.proofs.lemmas.Bool.{cases_eq, cases_lt}
-use Rattle.std.proofs.lemmas.List.{ext_get_or, get_or-replicate, length-replicate, get_or-set_same, get_or-set_other, length-set}
-use Rattle.envy_base.specs.Array.{Array, Saved, IsArray, owner, slot_of, undone}
-use Rattle.envy_base.specs.declared.fields.Slot.{Slot}
-use Rattle.envy_base.specs.declared.fields.Slot.TheVariants.{Active}
+use Rattle.std.proofs.Common.{◌≡◌, ◌≢◌, ◌⊎◌, inl, inr, ℕ, ◌*◌, ◌/◌, ◌<◌, ◌≤◌, Bool, true, false, List, length, get_or, set, replicate, Option, None, Some, Result, Ok, Err, sym, ◌∙◌, ap, subst, arith}
+use Rattle.std.proofs.lemmas.Bool.{cases_eq}
+use Rattle.std.proofs.lemmas.List.{ext_get_or, get_or-replicate, length-replicate, get_or-set_other, length-set}
+use Rattle.envy_base.specs.Array.{Array, Saved, owner, slot_of, undone}
 use Rattle.envy_base.specs.declared.shape.Shape.{Shape}
 use Rattle.envy_base.proofs.Total.{option_cases}
-use Rattle.envy_map.specs.Fields.{Chart, slot}
+use Rattle.envy_map.specs.Fields.{Chart}
 use Rattle.envy_layout.specs.Stands.{Stands, Holds, slot_word}
 use Rattle.envy_layout.specs.Words.{live, durable}
 use Rattle.envy_layout.proofs.WordLists.{length-live}
@@ -40,6 +37,7 @@ array-closed c m s none = fresh-is m (Holds.array s.holds) (λ t lt. at t lt (op
 all-stale : (n p : ℕ) → p < n → get_or (replicate n true) p false ≡ true
 all-stale n p lt = get_or-replicate n p true false lt
 
+-- a side that missed every page follows any array
 pub trails-all : (c : Chart) (n : ℕ) (m : Array) → IsClosed c → Trails c (replicate n true) m
 trails-all c n m closed = record {
   closed = closed;
@@ -103,6 +101,7 @@ side-behind s behind side = subst (λ (g : Standing). IsSideBy g s.memory.chart)
 agrees-same : (old new : Side) (stale left : List Bool) (m : Array) → new ≡ old → left ≡ stale → Agrees old stale m → Agrees new left m
 agrees-same old new stale left m is marks agrees = subst (λ (s : Side). Agrees s left m) (sym is) (subst (λ (l : List Bool). Agrees old l m) (sym marks) agrees)
 
+-- a side that is helped agrees with the array afterwards
 pub agrees-helped : (result : Result Caught CatchFault) (from old new : Side) (stale left : List Bool) (m : Array) → Stands from.memory.chart m → old.memory.chart.shape ≡ from.memory.chart.shape → length m.words ≡ 32 * length stale → IsSide new → Helps result from old stale new left → Agrees old stale m → Agrees new left m
 agrees-helped (Err Dead) from old new stale left m s shape long side h agrees = agrees-same old new stale left m h.2 h.3 agrees
 agrees-helped (Ok Woken) from old new stale left m s shape long side h agrees =
@@ -150,6 +149,7 @@ leads-second first Good good = tt
 leads-second first Behind good = cc
 leads-second first Gone good = cc
 
+-- helping the second side leaves a pair,
 pub IsPair-second : (old : Pair) (s : Side) (left : List Bool) → IsPair old → is_good old.first ≡ true → is_good old.second ≡ false → IsSide s → s.memory.chart.shape ≡ old.second.memory.chart.shape → length left ≡ length old.stale → IsPair (with_second old s left)
 IsPair-second old s left i good other side shape long =
     let last = only-first old.last old.first.standing old.second.standing i.last good other in
@@ -162,6 +162,7 @@ IsPair-second old s left i good other side shape long =
       last = subst (λ (w : Which). Leads w old.first.standing s.standing) (sym last) (leads-first old.first.standing s.standing good);
     }
 
+-- and helping the first
 pub IsPair-first : (old : Pair) (s : Side) (left : List Bool) → IsPair old → is_good old.first ≡ false → is_good old.second ≡ true → IsSide s → s.memory.chart.shape ≡ old.first.memory.chart.shape → length left ≡ length old.stale → IsPair (with_first old s left)
 IsPair-first old s left i other good side shape long =
     let last = only-second old.last old.first.standing old.second.standing i.last other good in
@@ -179,6 +180,7 @@ good-agrees Good c stale left m good agrees = agrees
 good-agrees Behind c stale left m good agrees = cc
 good-agrees Gone c stale left m good agrees = cc
 
+-- which mirrors the same array, the second helped
 pub Mirrors-second : (old : Pair) (result : Result Caught CatchFault) (s : Side) (left : List Bool) (m : Array) → IsPair old → is_good old.first ≡ true → IsSide s → Helps result old.first old.second old.stale s left → Mirrors old m → Mirrors (with_second old s left) m
 Mirrors-second old result s left m i good side h mirrors =
     let stands = stands-good old.first.standing old.first.memory.chart old.stale m good (Mirrors.first mirrors) in
@@ -188,6 +190,7 @@ Mirrors-second old result s left m i good side h mirrors =
       second = agrees-helped result old.first old.second s old.stale left m stands i.shape (long-mirrors old m i mirrors) side h (Mirrors.second mirrors);
     }
 
+-- or the first
 pub Mirrors-first : (old : Pair) (result : Result Caught CatchFault) (s : Side) (left : List Bool) (m : Array) → IsPair old → is_good old.second ≡ true → IsSide s → Helps result old.second old.first old.stale s left → Mirrors old m → Mirrors (with_first old s left) m
 Mirrors-first old result s left m i good side h mirrors =
     let stands = stands-good old.second.standing old.second.memory.chart old.stale m good (Mirrors.second mirrors) in

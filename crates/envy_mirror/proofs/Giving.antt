@@ -1,18 +1,17 @@
 -- What a pair stands for once a command went to each Good side, by the replies.
-use Rattle.std.proofs.Common.{◌≡◌, ◌≢◌, ◌⊎◌, inl, inr, ℕ, ◌*◌, Bool, true, false, List, length, Option, None, Some, refl, sym, ◌∙◌, ap, subst}
-use Rattle.std.specs.Prelude.{IsTrue, ◌||◌}
+use Rattle.std.proofs.Common.{◌≡◌, ◌⊎◌, inl, inr, ◌*◌, Bool, true, false, List, length, Option, None, Some, refl, sym, ◌∙◌, ap, subst}
 use Rattle.std.proofs.lemmas.Bool.{cases_Bool}
 use Rattle.envy_base.specs.Array.{Array}
 use Rattle.envy_base.specs.Step.{Command, Load, Look, Store, Begin, Put, Commit, Abort, Tick, Answer, Word, Started, Done, Range, Held, Closed, Full, Busy, Step}
 use Rattle.envy_layout.specs.Stands.{Stands}
 use Rattle.envy_mirror.specs.Asking.{Reaches, heard, is_moving}
-use Rattle.envy_mirror.specs.Mirroring.{Agrees, Mirrors, Gives, Trails}
+use Rattle.envy_mirror.specs.Mirroring.{Mirrors, Gives, Trails}
 use Rattle.envy_mirror.specs.Pair.{Side, Pair, is_good, IsPair, IsDark, lasting}
 use Rattle.envy_mirror.specs.Replies.{Reply, Off, Bad, Said, marked}
 use Rattle.envy_mirror.specs.declared.standing.Standing.TheVariants.{Gone}
 use Rattle.envy_mirror.specs.declared.standing.Which.TheVariants.{First, Second}
 use Rattle.envy_mirror.proofs.Trailing.{Trails-step}
-use Rattle.envy_mirror.proofs.Telling.{IsOne, Told, good-is, gone-is, agrees-good, agrees-gone, stands-good, either-left, either-right, neither, mirrors, only-first, only-second, lost-at, lasting-one, reach-off, reach-said, reach-bad, reach-spoiled, reach-none, reach-carried, length-marked}
+use Rattle.envy_mirror.proofs.Telling.{IsOne, Told, good-is, gone-is, agrees-good, agrees-gone, either-left, either-right, neither, mirrors, only-first, only-second, lost-at, lasting-one, reach-off, reach-said, reach-bad, reach-spoiled, reach-none, reach-carried, length-marked}
 
 -- ---- a pair of which one side was asked
 
@@ -111,6 +110,7 @@ both-told new n left stale f s = mirrors new n left stale (either-left (is_good 
 
 -- ---- by both replies
 
+-- what a call that reaches both sides gives
 pub gives : (old new : Pair) (m : Array) (command : Command) (one two : Option Reply) → IsOne → Before old m → Reaches command two one old.first new.first → Reaches command one two old.second new.second → new.stale ≡ marked command (heard one two) old.stale → new.last ≡ lasting old new → Gives m command (heard one two) new
 gives old new m command None None law b first second stale last =
     let f = reach-none command None old.first new.first first in

@@ -1,20 +1,17 @@
 -- What holds of every pair goes on to hold once a command went to each Good side.
-use Rattle.std.proofs.Common.{◌≡◌, ◌≢◌, ◌⊎◌, inl, inr, ℕ, ◌≤◌, Bool, true, false, List, length, Option, None, Some, refl, sym, ◌∙◌, ap, subst}
-use Rattle.std.specs.Prelude.{IsTrue, ◌||◌, ◌&&◌, ◌↔◌, if◌then◌else◌}
-use Rattle.std.proofs.lemmas.Bool.{cases_Bool}
-use Rattle.envy_base.specs.Step.{Command, Answer}
+use Rattle.std.proofs.Common.{◌≡◌, ◌⊎◌, inl, inr, ◌≤◌, Bool, true, false, length, Option, None, Some, refl, sym, ◌∙◌, ap, subst}
+use Rattle.std.specs.Prelude.{IsTrue, ◌&&◌, ◌↔◌, if◌then◌else◌}
+use Rattle.envy_base.specs.Step.{Command}
 use Rattle.envy_base.specs.declared.shape.Shape.{Shape}
-use Rattle.envy_map.specs.Fields.{Chart}
 use Rattle.envy_memory.proofs.Facts.{on-from}
-use Rattle.envy_memory.specs.Picture.{Picture}
-use Rattle.envy_mirror.specs.Asking.{Asks, Asked, Reckons, Reaches, heard, has_said, is_moving, cut_by_hand, standing_after, spoiled_if}
+use Rattle.envy_mirror.specs.Asking.{Asked, Reckons, Reaches, heard, has_said, is_moving, spoiled_if}
 use Rattle.envy_mirror.specs.Pair.{Side, Pair, is_good, is_good_by, IsDark, IsPair, IsSide, IsSideBy, Leads, MayLead, lasting}
 use Rattle.envy_mirror.specs.Replies.{Reply, Off, Bad, Said, marked}
 use Rattle.envy_mirror.specs.declared.standing.Standing.{Standing}
 use Rattle.envy_mirror.specs.declared.standing.Standing.TheVariants.{Good, Behind, Gone}
 use Rattle.envy_mirror.specs.declared.standing.Which.{Which}
 use Rattle.envy_mirror.specs.declared.standing.Which.TheVariants.{First, Second}
-use Rattle.envy_mirror.proofs.Telling.{length-marked, only-first, only-second, reach-none, lasting-one}
+use Rattle.envy_mirror.proofs.Telling.{length-marked, only-first, only-second, reach-none}
 
 -- ---- one side
 
@@ -34,6 +31,7 @@ side-spoiled : (b : Bool) (mid : Side) → IsSide mid → IsSide (spoiled_if b m
 side-spoiled true mid is = refl
 side-spoiled false mid is = is
 
+-- a call leaves a side a side,
 pub side-reached : (command : Command) (other own : Option Reply) (old new : Side) → IsSide old → Reaches command other own old new → IsSide new
 side-reached command other None old new side reach = subst IsSide (sym (reach-none command other old new reach).1) side
 side-reached command other (Some Off) old new side (mid, asked, is) = subst IsSide (sym is) (side-asked command Off old mid asked)
@@ -50,6 +48,7 @@ shape-spoiled false mid = refl
 abbrev HasShape : Shape → Side → Type 0
 HasShape sh s = s.memory.chart.shape ≡ sh
 
+-- and its shape
 pub shape-reached : (command : Command) (other own : Option Reply) (old new : Side) → Reaches command other own old new → new.memory.chart.shape ≡ old.memory.chart.shape
 shape-reached command other None old new reach = ap (λ (s : Side). s.memory.chart.shape) (reach-none command other old new reach).1
 shape-reached command other (Some Off) old new (mid, asked, is) = ap (λ (s : Side). s.memory.chart.shape) is ∙ shape-asked command Off old mid asked
@@ -86,6 +85,7 @@ may-lead one Gone (inr gone) not_so = rw gone tt
 was-good : (command : Command) (other : Option Reply) (reply : Reply) (old new : Side) → Reaches command other (Some reply) old new → is_good old ≡ true
 was-good command other reply old new (mid, (good, asks, stood), is) = good
 
+-- the side that was good last leads
 pub leads-reached : (old new : Pair) (command : Command) (one two : Option Reply) → IsPair old → Reaches command two one old.first new.first → Reaches command one two old.second new.second → Leads (lasting old new) new.first.standing new.second.standing
 leads-reached old new command None None i first second =
     let f = reach-none command None old.first new.first first in
@@ -110,6 +110,7 @@ leads-reached old new command (Some one) (Some two) i first second =
 
 -- ---- the pair
 
+-- a call leaves a pair
 pub IsPair-reached : (old new : Pair) (command : Command) (one two : Option Reply) (reply : Reply) → IsPair old → Reaches command two one old.first new.first → Reaches command one two old.second new.second → new.stale ≡ marked command reply old.stale → new.last ≡ lasting old new → IsPair new
 IsPair-reached old new command one two reply i first second stale last =
     let shape = shape-reached command two one old.first new.first first in
@@ -162,6 +163,7 @@ dark-heard command (Some (Said x)) (Some Off) = ((λ e. cc), (λ d. let clash : 
 dark-heard command (Some (Said x)) (Some Bad) = ((λ e. cc), (λ d. let clash : true ≡ false = d.0 in cc))
 dark-heard command (Some (Said x)) (Some (Said y)) = ((λ e. cc), (λ d. let clash : true ≡ false = d.0 in cc))
 
+-- a pair is dark where it says so
 pub dark-reached : (old new : Pair) (command : Command) (one two : Option Reply) (reply : Reply) → Reaches command two one old.first new.first → Reaches command one two old.second new.second → reply ≡ heard one two → (reply ≡ Off) ↔ IsDark new
 dark-reached old new command one two reply first second told =
     let f = good-reached command two one old.first new.first first in

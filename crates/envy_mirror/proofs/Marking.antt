@@ -1,20 +1,17 @@
 -- Marks, and whose answer is the pair's.
-use Rattle.std.proofs.Common.{◌≡◌, ◌≢◌, ◌⊎◌, inl, inr, ℕ, ◌<◌, ◌≤◌, Bool, true, false, List, length, set, Option, None, Some, refl, sym, ◌∙◌, ap, subst, arith}
-use Rattle.std.specs.Prelude.{IsTrue, MatchOption, ◌&&◌}
-use Rattle.std.proofs.lemmas.Bool.{cases_Bool}
-use Rattle.std.proofs.lemmas.List.{set_past}
-use Rattle.envy_base.specs.Step.{Command, Answer, is_accepted}
-use Rattle.envy_memory.specs.Picture.{Picture}
+use Rattle.std.proofs.Common.{◌≡◌, Bool, true, false, List, Option, None, Some, refl, ap}
+use Rattle.std.specs.Prelude.{IsTrue}
+use Rattle.envy_base.specs.Step.{Command, is_accepted}
 use Rattle.envy_mirror.specs.Asking.{Asked, left_by, is_moving, has_said, has_failed, spoiled_if}
 use Rattle.envy_mirror.specs.Pair.{Side, is_good, is_good_by, IsSide}
-use Rattle.envy_mirror.specs.Replies.{Reply, Off, Bad, Said, is_said, is_bad, kind_of, kind_if, marked, mark_if, set_mark, written_by}
-use Rattle.envy_mirror.specs.declared.call.Kind.{Kind}
-use Rattle.envy_mirror.specs.declared.call.Kind.TheVariants.{Off as KindOff, Bad as KindBad, Refused, Accepted}
+use Rattle.envy_mirror.specs.Replies.{Reply, Off, Bad, Said, kind_of, kind_if, marked, mark_if, set_mark, written_by}
+use Rattle.envy_mirror.specs.declared.call.Kind.TheVariants.{Accepted}
 use Rattle.envy_mirror.specs.Reviving.{cut_side, cut_side_by}
 use Rattle.envy_mirror.specs.declared.standing.Standing.{Standing}
 use Rattle.envy_mirror.specs.declared.standing.Standing.TheVariants.{Good, Behind, Gone}
 use Rattle.envy_mirror.proofs.Holding.{side-asked}
 
+-- an accepted write marks its page as missed
 pub marked-accepted : (command : Command) (reply : Reply) (marks : List Bool) → kind_of reply ≡ Accepted → marked command reply marks ≡ set_mark (written_by command) marks
 marked-accepted command Off marks e = cc
 marked-accepted command Bad marks e = cc
@@ -24,6 +21,7 @@ marked-accepted command (Said answer) marks e = at (is_accepted answer) e
     at true e = refl
     at false e = cc
 
+-- any other answer marks none
 pub marked-refused : (command : Command) (reply : Reply) (marks : List Bool) → (kind_of reply ≡ Accepted → ⊥) → marked command reply marks ≡ marks
 marked-refused command Off marks e = refl
 marked-refused command Bad marks e = refl
@@ -45,8 +43,10 @@ cut-by Good s good = refl
 cut-by Behind s good = cc
 cut-by Gone s good = cc
 
+-- a side that was good and is left behind is spoiled
 pub cut-good : (s : Side) → is_good s ≡ true → cut_side s ≡ spoiled_if true s
 cut-good s good = cut-by s.standing s good
 
+-- and so is one that failed while the other moved on
 pub left-cut : (command : Command) (other own : Option Reply) (s : Side) → has_failed own ≡ true → has_said other ≡ true → is_moving command ≡ true → is_good s ≡ true → cut_side s ≡ left_by command other own s
 left-cut command other own s failed said moving good = rw (failed, said, moving) (cut-good s good)

@@ -1,13 +1,10 @@
 -- What calls of one memory do to its counts.
-use Rattle.std.proofs.Common.{◌≡◌, ◌⊎◌, inl, inr, ℕ, ◌-◌, ◌^◌, ◌<◌, ◌≤◌, false, refl, sym, ◌∙◌, ap, arith}
+use Rattle.std.proofs.Common.{◌≡◌, ◌⊎◌, inl, inr, ℕ, ◌-◌, ◌^◌, ◌<◌, ◌≤◌, refl, ◌∙◌, arith}
 use Rattle.std.proofs.lemmas.Bool.{cases_lt}
-use Rattle.std.specs.Prelude.{IsTrue, Result, Ok, Err, MatchResult}
-use Rattle.envy_map.specs.Fields.{Chart}
-use Rattle.envy_layout.specs.Same.{Counted}
+use Rattle.std.specs.Prelude.{Result, Ok, Err, MatchResult}
 use Rattle.envy_flush.specs.Counts.{Tallies, Counting}
 use Rattle.envy_flush.specs.Ticks.{CountsTick}
 use Rattle.envy_flush.specs.declared.did.Did.{Did}
-use Rattle.envy_flush.specs.declared.parts.Parts.{Parts}
 use Rattle.envy_flush.proofs.CountLemmas.{Tallies-trans, Tallies-quiet}
 use Rattle.envy_base.specs.declared.board.Trouble.{Trouble}
 use Rattle.envy_memory.specs.Calls.{Works}
@@ -15,6 +12,7 @@ use Rattle.envy_memory.specs.Effects.{TicksOnce}
 use Rattle.envy_memory.specs.Picture.{Picture}
 use Rattle.envy_mirror.specs.Asking.{Reckons}
 
+-- what a call counts is reckoned
 pub Reckons-works : (k j : ℕ) (old new : Picture) → Works k j old.chart new.chart → Tallies old.chart old.parts new.chart new.parts → Reckons old new
 Reckons-works k j old new w tallies =
     let c = w.counted in
@@ -33,6 +31,7 @@ Reckons-works k j old new w tallies =
 pub Reckons-still : (old new : Picture) → Works 0 0 old.chart new.chart → new.parts.flushes ≡ old.parts.flushes → new.parts.swaps ≡ old.parts.swaps → new.parts.reloc ≡ old.parts.reloc → Reckons old new
 Reckons-still old new w flushes swaps reloc = Reckons-works 0 0 old new w (Tallies-quiet old.chart new.chart old.parts new.parts w.counted flushes (record { copied = rw reloc refl; moved = rw reloc refl; erased = rw reloc refl }))
 
+-- and what a background step counts
 pub Reckons-tick : (old new : Picture) (r : Result Did Trouble) → TicksOnce old.chart new.chart → MatchResult r (λ (d : Did). CountsTick old.chart old.parts new.chart new.parts) (λ (t : Trouble). Counting old.chart old.parts new.chart new.parts) → Reckons old new
 Reckons-tick old new (Ok did) (inl w) counts = Reckons-works 1 0 old new w (CountsTick.tallies counts)
 Reckons-tick old new (Ok did) (inr w) counts = Reckons-works 0 1 old new w (CountsTick.tallies counts)

@@ -1,6 +1,5 @@
 -- A pair of which the side that was Good last is revived.
-use Rattle.std.proofs.Common.{◌≡◌, ℕ, ◌≤◌, Bool, true, false, List, length, replicate, Result, Ok, Err, refl, sym, ◌∙◌, ap, subst}
-use Rattle.std.specs.Prelude.{IsTrue}
+use Rattle.std.proofs.Common.{◌≡◌, ◌≤◌, Bool, true, false, List, length, Result, Ok, Err, sym, ◌∙◌, ap, subst}
 use Rattle.std.proofs.lemmas.List.{length-replicate}
 use Rattle.envy_base.specs.declared.shape.Shape.{Shape}
 use Rattle.envy_layout.specs.Same.{Kept}
@@ -8,7 +7,7 @@ use Rattle.envy_layout.specs.Stands.{Stands}
 use Rattle.envy_memory.specs.declared.faults.ReviveFault.{ReviveFault}
 use Rattle.envy_memory.specs.declared.faults.ReviveFault.TheVariants.{Dead, Off}
 use Rattle.envy_mirror.specs.Catching.{Wakes}
-use Rattle.envy_mirror.specs.Pair.{Side, Pair, is_good, is_good_by, IsDark, IsPair, IsSide, IsSideBy, Leads, MayLead}
+use Rattle.envy_mirror.specs.Pair.{Side, Pair, is_good, is_good_by, IsPair, IsSide, IsSideBy, Leads, MayLead}
 use Rattle.envy_mirror.specs.Reviving.{Returns}
 use Rattle.envy_mirror.specs.declared.standing.Standing.{Standing}
 use Rattle.envy_mirror.specs.declared.standing.Standing.TheVariants.{Good, Behind, Gone}
@@ -41,6 +40,7 @@ leads-returned (Ok done) old s stale left other dark leads r = rw r.0 tt
 leads-returned (Err Dead) old s stale left other dark leads r = subst (λ (x : Side). MayLead x.standing other) (sym r.1) leads
 leads-returned (Err Off) old s stale left other dark leads r = subst (λ (g : Standing). MayLead g other) (sym r.0) (gone-leads old.standing other dark leads)
 
+-- the first side comes back to a pair that lost it last,
 pub IsPair-returned-first : (result : Result Unit ReviveFault) (old : Pair) (s : Side) (left : List Bool) → IsPair old → is_good old.first ≡ false → old.last ≡ First → Returns result old.first old.stale s left → IsPair (with_first old s left)
 IsPair-returned-first result old s left i dark last r =
     let shape = shape-returned result old.first s old.stale left r in
@@ -54,6 +54,7 @@ IsPair-returned-first result old s left i dark last r =
       last = subst (λ (w : Which). Leads w s.standing old.second.standing) (sym last) (leads-returned result old.first s old.stale left old.second.standing dark leads r);
     }
 
+-- or the second
 pub IsPair-returned-second : (result : Result Unit ReviveFault) (old : Pair) (s : Side) (left : List Bool) → IsPair old → is_good old.second ≡ false → old.last ≡ Second → Returns result old.second old.stale s left → IsPair (with_second old s left)
 IsPair-returned-second result old s left i dark last r =
     let shape = shape-returned result old.second s old.stale left r in

@@ -1,5 +1,5 @@
 -- A call that goes to each Good side.
-use Rattle.std.specs.Prelude.{◌≡◌, ◌↔◌, ℕ, ◌-◌, ◌^◌, ◌<◌, ◌≤◌, Bool, true, false, IsTrue, Option, None, Some, ◌&&◌, MatchOption}
+use Rattle.std.specs.Prelude.{◌≡◌, ◌↔◌, ◌≤◌, Bool, true, false, IsTrue, Option, None, Some, ◌&&◌, MatchOption}
 use Rattle.envy_base.specs.Array.{Array}
 use Rattle.envy_base.specs.Step.{Command, Tick}
 use Rattle.envy_map.specs.Fields.{Chart}

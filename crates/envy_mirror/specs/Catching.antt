@@ -1,10 +1,10 @@
 -- How a side that isn't Good comes to be, beside one that is.
-use Rattle.std.specs.Prelude.{◌≡◌, ◌≢◌, ℕ, ◌-◌, ◌/◌, ◌^◌, ◌<◌, ◌≤◌, ◌==◌, Bool, true, false, IsTrue, List, length, replicate, slice_index, slice_set, Some, None, Result, Ok, Err, if◌then◌else◌}
+use Rattle.std.specs.Prelude.{◌≡◌, ◌≢◌, ℕ, ◌-◌, ◌/◌, ◌^◌, ◌<◌, Bool, true, false, List, length, replicate, slice_index, slice_set, Some, Result, Ok, Err}
 use Rattle.envy_base.specs.declared.fields.Slot.TheVariants.{Active}
 use Rattle.envy_map.specs.Fields.{Chart, slot}
 use Rattle.envy_layout.specs.Same.{Kept}
 use Rattle.envy_layout.specs.Words.{live, durable}
-use Rattle.envy_memory.specs.Calls.{lit, HasFailed, IsCut}
+use Rattle.envy_memory.specs.Calls.{lit, HasFailed}
 use Rattle.envy_memory.specs.Picture.{Picture, counts_of}
 use Rattle.envy_mirror.specs.Asking.{Reckons}
 use Rattle.envy_mirror.specs.Mirroring.{is_stale}

@@ -1,5 +1,5 @@
 -- What a pair stands for.
-use Rattle.std.specs.Prelude.{◌≡◌, ℕ, ◌/◌, ◌<◌, Bool, true, false, IsTrue, List, length, slice_index, slice_index_or, None, ◌||◌}
+use Rattle.std.specs.Prelude.{◌≡◌, ℕ, ◌/◌, ◌<◌, Bool, false, IsTrue, List, length, slice_index, slice_index_or, None, ◌||◌}
 use Rattle.envy_base.specs.Array.{Array, owner}
 use Rattle.envy_base.specs.Step.{Command, Step, Accepts}
 use Rattle.envy_map.specs.Fields.{Chart}

@@ -1,5 +1,5 @@
 -- Two sides, what each is good for, and what holds of every pair.
-use Rattle.std.specs.Prelude.{◌≡◌, ℕ, ◌≤◌, Bool, true, false, IsTrue, List, length, replicate, if◌then◌else◌, ◌&&◌}
+use Rattle.std.specs.Prelude.{◌≡◌, ◌≤◌, Bool, true, false, IsTrue, List, length, replicate, if◌then◌else◌, ◌&&◌}
 use Rattle.envy_map.specs.Fields.{Chart}
 use Rattle.envy_layout.specs.Stands.{Stands}
 use Rattle.envy_layout.specs.Words.{live}

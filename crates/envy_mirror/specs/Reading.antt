@@ -8,8 +8,8 @@ use Rattle.envy_memory.specs.Picture.{Picture}
 use Rattle.envy_memory.specs.declared.faults.LoadFault.{LoadFault}
 use Rattle.envy_memory.specs.declared.faults.LoadFault.TheVariants.{Off as LoadOff}
 use Rattle.envy_mirror.specs.Mirroring.{Mirrors, Gives}
-use Rattle.envy_mirror.specs.Pair.{Side, Pair, is_good, IsDark}
-use Rattle.envy_mirror.specs.Replies.{Reply, Off, load_reply}
+use Rattle.envy_mirror.specs.Pair.{Side, Pair, IsDark}
+use Rattle.envy_mirror.specs.Replies.{Off, load_reply}
 
 abbrev pub with_memory : Side → Picture → Side
 with_memory side p = record side { memory = p }

@@ -5,7 +5,6 @@ use Rattle.envy_layout.specs.Sound.{IsSound}
 use Rattle.envy_layout.specs.Stands.{Stands}
 use Rattle.envy_layout.specs.Words.{durable}
 use Rattle.envy_memory.specs.Calls.{fresh, planned}
-use Rattle.envy_memory.specs.Picture.{Picture}
 use Rattle.envy_memory.specs.Restarts.{Restarts}
 use Rattle.envy_memory.specs.declared.faults.ReviveFault.{ReviveFault}
 use Rattle.envy_memory.specs.declared.faults.ReviveFault.TheVariants.{Dead, Off}

@@ -18,10 +18,6 @@ mod reviving;
 mod standing;
 #[cfg(test)]
 mod tests;
-#[cfg(test)]
-mod tests_calls;
-#[cfg(test)]
-mod tests_clients;
 
 pub use catching::{CatchFault, Caught};
 pub use mirror::Mirror;

@@ -2,7 +2,7 @@
 
 use crate::Caught;
 use crate::half::Half;
-use crate::tests_calls::{Call, Pair, Reply, SMALL, made, made_plainly, paired};
+use crate::tests::calls::{Call, Pair, Reply, SMALL, made, made_plainly, paired};
 use envy_base::Bench;
 use envy_memory::LoadFault;
 use envy_plain::Plain;
@@ -10,6 +10,9 @@ use envy_policy::Policy;
 use std::alloc::Global;
 use std::process::Abort;
 use std::test::Fail;
+
+mod calls;
+mod clients;
 
 const WORDS: u32 = 320;
 

@@ -33,6 +33,7 @@ pub record Put (a k : ℕ) (old mid new : List (List ℕ)) : Type 0 where
   pub above : (q : ℕ) → a + k ≤ q → get_or new q [] ≡ get_or old q []
   pub inside : (q : ℕ) → a ≤ q → q < a + k → get_or new q [] ≡ get_or mid (q - a) []
 
+-- rows put in the middle of others
 pub put_there : (a k : ℕ) (old mid : List (List ℕ)) → a + k ≤ length old → length mid ≡ k → Put a k old mid (put_mid a k old mid)
 put_there a k old mid fits long = record {
   fits = fits;
@@ -46,6 +47,7 @@ put_there a k old mid fits long = record {
 pub row_read : (flash : List (List ℕ)) (q : ℕ) → q < length flash → get_or (map row_from flash) q [] ≡ row_from (get_or flash q [])
 row_read flash q lt = get_or-map row_from flash q [] [] lt
 
+-- a programmed row leaves a board
 pub programmed_board : (sh : Shape) (flash : List (List ℕ)) (sram erases : List ℕ) (begun bads begun' bads' q : ℕ) (row : List ℕ) → IsBoard (part_state sh flash sram erases begun bads) → IsPage (row_from row)
     → IsBoard (part_state sh (slice_set flash q row) sram erases begun' bads')
 programmed_board sh flash sram erases begun bads begun' bads' q row is page =
@@ -100,6 +102,7 @@ put_words a k old mid new P q long put each low high lt =
     let here : q < length new = (let e = put.long in omega arith) in
     subst P (sym (row_read new q here ∙ ap row_from (put.inside q low high))) (each (q - a) (omega arith))
 
+-- rows put within a segment leave the others
 pub only_put : (rows e k : ℕ) (old mid new : List (List ℕ)) (P : List ℕ → Type 0) → 1 ≤ rows → k ≡ rows → length mid ≡ k → Put (e * rows) k old mid new
     → ((j : ℕ) → j < length mid → P (row_from (get_or mid j []))) → Only rows e P (map row_from old) (map row_from new)
 only_put rows e k old mid new P some is long put each = record {
@@ -121,6 +124,7 @@ put_missed rows e k old mid new whole long put (j, lt, zeros) =
     let read : row_from (get_or new (a + j) []) ≡ row_from (get_or mid j []) = ap row_from (put.inside (a + j) (omega arith) (omega (within, whole, arith)) ∙ ap (λ n. get_or mid n []) at) in
     (a + j, here, block_of rows e (a + j) (omega arith) (omega (within, arith)), λ same. zeros (sym read ∙ same))
 
+-- an erased segment leaves a board
 pub put_board : (sh : Shape) (old mid new : List (List ℕ)) (sram erases counted : List ℕ) (a k begun bads begun' bads' e n : ℕ) → IsBoard (part_state sh old sram erases begun bads) → length mid ≡ k → Put a k old mid new → ArePages mid → counted ≡ slice_set erases e n
     → IsBoard (part_state sh new sram counted begun' bads')
 put_board sh old mid new sram erases counted a k begun bads begun' bads' e n is long put pages count =

@@ -20,11 +20,13 @@ use Rattle.envy_parted.specs.Opening.{Given, Formatted, NoBoard, RefusesFormat, 
 use Rattle.envy_parted.specs.declared.code.PartCode.{PartCode}
 use Rattle.envy_parted.specs.declared.code.PartCode.TheVariants.{Of}
 
+-- a board over a part has the sizes of its shape
 pub has_sizes : (sh : Shape) (flash : List (List ℕ)) (sram : List ℕ) (board : State) → IsBoard board → board ≡ new_part sh flash sram → HasSizes sh flash sram
 has_sizes sh flash sram board is same =
     let made : IsBoard (new_part sh flash sram) = subst IsBoard same is in
     record { flash = sym (length-map flash row_from) ∙ made.rows; sram = made.sram }
 
+-- a format that is refused has its cause
 pub format_refused : (given : Given) (setup : OfSetup) (fault : FormatFault) (old left : State) → setup_of given.setup ≡ Some setup → checked setup ≡ Ok tt → ArePlaced setup.shape given.places
     → HasSizes setup.shape given.flash given.sram → old ≡ board_of setup.shape given → IsTrue left.on → Refuses old setup fault left → CountsFormat (chart old) (chart left) → RefusesFormat given (Of (format_code fault))
 unfolding RefusesFormat
@@ -56,10 +58,12 @@ format_refused given setup Bad old left is checks placed sizes same on refuses c
       ),
     ))
 
+-- where there is no board nothing is formatted
 pub format_without_board : (given : Given) (code : PartCode) → NoBoard given code → RefusesFormat given code
 unfolding RefusesFormat
 format_without_board given code none = inl none
 
+-- what is formatted is a memory over the part
 pub formatted_part : (given : Given) (setup : OfSetup) (old : State) (p : Picture) → setup_of given.setup ≡ Some setup → ArePlaced setup.shape given.places → HasSizes setup.shape given.flash given.sram
     → old ≡ board_of setup.shape given → Makes old setup p → CountsFormat (chart old) p.chart → Formatted given p
 formatted_part given setup old p is placed sizes same makes counts = record {

@@ -22,6 +22,7 @@ unfolding RefusesAttach
 forbidden given setup code old is checks placed sizes same found =
     inr (code, refl, (setup, is, checks, (placed, (sizes, subst (λ (s : State). Forbids code (chart s) setup) same found))))
 
+-- an attachment that is refused has its cause
 pub attach_refused : (given : Given) (setup : OfSetup) (code : Code) (old left : State) → setup_of given.setup ≡ Some setup → checked setup ≡ Ok tt → ArePlaced setup.shape given.places
     → HasSizes setup.shape given.flash given.sram → old ≡ board_of setup.shape given → IsTrue left.on → Declined code old setup left → RefusesAttach given (Of code)
 attach_refused given setup Off old left is checks placed sizes same on declined = absurd (let clash : true ≡ false = sym on ∙ declined.0 in cc)
@@ -57,10 +58,12 @@ attach_refused given setup MapFull old left is checks placed sizes same on decli
 attach_refused given setup SlotOpen old left is checks placed sizes same on declined = forbidden given setup SlotOpen old is checks placed sizes same declined.1
 attach_refused given setup MapSetup old left is checks placed sizes same on declined = forbidden given setup MapSetup old is checks placed sizes same declined.1
 
+-- where there is no board nothing is attached
 pub attach_without_board : (given : Given) (code : PartCode) → NoBoard given code → RefusesAttach given code
 unfolding RefusesAttach
 attach_without_board given code none = inl none
 
+-- what is attached is a memory over the part
 pub attached_part : (given : Given) (setup : OfSetup) (old : State) (p : Picture) → setup_of given.setup ≡ Some setup → ArePlaced setup.shape given.places → HasSizes setup.shape given.flash given.sram
     → old ≡ board_of setup.shape given → IsWhole (chart old) setup × Attaches (chart old) setup p → Attached given p
 attached_part given setup old p is placed sizes same made = record {

@@ -31,6 +31,7 @@ ahead-falls (Some k) start later up = elim (cases_lt k start) [
 ahead-passed : (o : Option ℕ) (start position : ℕ) → o ≡ Some position → start ≤ position → ahead o (position + 1) < ahead o start
 ahead-passed o start position is low = subst (λ (x : Option ℕ). ahead x (position + 1) < ahead x start) (sym is) (rw (le-ltb position start low, lt-ltb position (position + 1) (omega arith)) (omega arith))
 
+-- fewer positions are taken behind one that is
 pub taken-passed : (n : Notes) (emptied : Option ℕ) (start position : ℕ) → start ≤ position → IsTaken n emptied position → taken_from n emptied (position + 1) < taken_from n emptied start
 taken-passed n emptied start position low taken = elim taken [
   | inl is ↦ let less = ahead-passed emptied start position is low in omega (arith, brief, short, long, lasting)

@@ -17,14 +17,17 @@ FirstWith rows first end found = MatchOption found
 abbrev pub FirstIn : History → List ℕ → ℕ → Option ℕ → Type 0
 FirstIn h rows g found = MatchOption found ((k : ℕ) → HasRows h rows g k → ⊥) (IsLeast (HasRows h rows g) (λ k. k))
 
+-- a partition's positions begin at its first,
 pub within-first : (h : History) (g k : ℕ) → IsHistory h → partition_of h k ≡ g → first_of h g ≤ k
 within-first h g k whole is = subst (λ (x : ℕ). x * run h ≤ k) is (run-holds (run h) k whole.part).0
 
+-- end before its end,
 pub within-end : (h : History) (g k : ℕ) → IsHistory h → k < h.positions → partition_of h k ≡ g → k < end_of h g
 within-end h g k whole below is =
     let high : k < g * run h + run h = subst (λ (x : ℕ). k < x * run h + run h) is (run-holds (run h) k whole.part).1 in
     omega arith
 
+-- and are all between
 pub within-is : (h : History) (g k : ℕ) → IsHistory h → first_of h g ≤ k → k < end_of h g → partition_of h k ≡ g
 within-is h g k whole low high = run-is (run h) g k whole.part low (omega arith)
 
@@ -35,6 +38,7 @@ rows-below rows n k long some = elim (cases_lt k n) [
   | inr above ↦ let past : slice_index rows k ≡ 0 = get_or_past rows k 0 (omega arith) in absurd (omega arith)
 ]
 
+-- the lowest position with a row in a partition
 pub first-in : (h : History) (rows : List ℕ) (g first end : ℕ) (found : Option ℕ) → IsHistory h → length rows ≡ h.positions → first ≡ first_of h g → end ≡ end_of h g → FirstWith rows first end found → FirstIn h rows g found
 first-in h rows g first end None whole long low high nothing = λ k has.
     let below = rows-below rows h.positions k long has.1 in
@@ -69,6 +73,7 @@ some-usable h free dead k some = elim (cases_lt 0 (slice_index free k)) [
   | inr none ↦ (k, inr (refl, omega arith))
 ]
 
+-- the nearest usable partition lies below
 pub nearest-below : (h : History) (free dead : List ℕ) (home own away g : ℕ) → own ≡ partition_of h home → away ≤ own → g ≡ own - away → IsUsable h free dead g → ((y : ℕ) → IsUsable h free dead y → away ≤ distance own y) → IsNearest h free dead home g
 nearest-below h free dead home own away g is low at usable further = record {
   holds = usable;
@@ -76,6 +81,7 @@ nearest-below h free dead home own away g is low at usable further = record {
   lowest = λ y other e. omega arith;
 }
 
+-- or above
 pub nearest-above : (h : History) (free dead : List ℕ) (home own away g : ℕ) → own ≡ partition_of h home → g ≡ own + away → IsUsable h free dead g → ((y : ℕ) → IsUsable h free dead y → away ≤ distance own y) → (away ≤ own → IsUsable h free dead (own - away) → ⊥) → IsNearest h free dead home g
 nearest-above h free dead home own away g is at usable further lower = record {
   holds = usable;

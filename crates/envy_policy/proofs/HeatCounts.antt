@@ -27,6 +27,7 @@ counts-cons h p ps g = sum_by-cons (λ (q : ℕ). cond (partition_of h q == g) 1
 warm-in : (h : History) (p g : ℕ) → g < length h.heats → g < length (warmed h p).heats
 warm-in h p g in_count = omega (arith, length-set h.heats (partition_of h p) (slice_index h.heats (partition_of h p) + 1))
 
+-- between two halvings a heat rises by the flushes into its partition
 pub counts : (h : History) (ps : List ℕ) (g : ℕ) → g < length h.heats → h.flushes + length ps < 1024 → slice_index (fold flushed h ps).heats g ≡ slice_index h.heats g + count_by (λ p. partition_of h p == g) ps
 counts h [] g in_count few = omega arith
 counts h (p ∷ ps) g in_count few =
@@ -36,6 +37,7 @@ counts h (p ∷ ps) g in_count few =
     let more = counts-cons h p ps g in
     subst (λ (k : History). slice_index (fold flushed k ps).heats g ≡ slice_index h.heats g + count_by (λ q. partition_of h q == g) (p ∷ ps)) (sym warm) (omega (arith, rest, here, more))
 
+-- and at one it is halved
 pub halves : (h : History) (ps : List ℕ) (g : ℕ) → g < length h.heats → h.flushes < 1024 → h.flushes + length ps ≡ 1024 → slice_index (fold flushed h ps).heats g ≡ (slice_index h.heats g + count_by (λ p. partition_of h p == g) ps) / 2
 halves h [] g in_count few all = absurd (omega arith)
 halves h (p ∷ []) g in_count few all =

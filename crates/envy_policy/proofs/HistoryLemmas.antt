@@ -120,6 +120,7 @@ flushed-noted h k = at (h.flushes + 1 == 1024)
     at true = refl
     at false = refl
 
+-- a flush is noted at its partition
 pub after-note : (h : History) (w : Warmth) (k g : ℕ) → w ≡ noted (record { heats = h.heats; flushes = h.flushes }) g → g ≡ partition_of h k → record h { heats = w.heats; flushes = w.flushes } ≡ flushed h k
 after-note h w k g is own = ap (λ (v : Warmth). record h { heats = v.heats; flushes = v.flushes }) (is ∙ ap (noted (record { heats = h.heats; flushes = h.flushes })) own) ∙ flushed-noted h k
 

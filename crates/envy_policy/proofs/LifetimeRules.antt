@@ -135,6 +135,7 @@ last-rule n rows page positions k counted some none not = elim (lowest-below (λ
   test : (x : ℕ) → Decided (0 < slice_index rows.free x)
   test x = elim (cases_lt 0 (slice_index rows.free x)) [ inl has ↦ inl has | inr zero_x ↦ inr (λ has. omega arith) ]
 
+-- where any position has a row some rule applies
 pub some-choice : (n : Notes) (rows : RowCounts) (page k : ℕ) → IsCounted (length n.cleaned) rows → 0 < slice_index rows.free k + slice_index rows.dead k → (choice : Choice) × IsLifetimeChoice n rows page choice
 some-choice n rows page k counted some = let beside = some-beside n rows (length n.cleaned) None page counted in at beside.0 beside.1
   where
@@ -163,6 +164,7 @@ greatest-one P f x y a b =
     let high = b.lowest x a.holds (a.most y b.holds) in
     omega arith
 
+-- at most one choice meets the rules
 pub one-choice : (n : Notes) (rows : RowCounts) (page : ℕ) (a b : Choice) → IsLifetimeChoice n rows page a → IsLifetimeChoice n rows page b → a ≡ b
 one-choice n rows page (Free x) (Free y) (inl is) (inl other) = ap Free (beside-one n rows None page x y is other)
 one-choice n rows page (Free x) (Free y) (inl is) (inr other) = absurd (beside-none n rows None page x is other.0)
@@ -178,6 +180,7 @@ beside-free : (n : Notes) (rows : RowCounts) (emptied : Option ℕ) (page x : �
 beside-free n rows emptied page x (inl own) = own.1.0
 beside-free n rows emptied page x (inr is) = let fresh = is.1.holds in fresh.0
 
+-- and it has rows
 pub choice-rows : (n : Notes) (rows : RowCounts) (page : ℕ) (choice : Choice) → IsCounted (length n.cleaned) rows → IsLifetimeChoice n rows page choice → HasRowsFor rows choice
 choice-rows n rows page (Free x) counted (inl is) = let has = beside-free n rows None page x is in (rows-below rows.free (length rows.free) x refl has, has)
 choice-rows n rows page (Free x) counted (inr is) = let has = is.2.holds in (rows-below rows.free (length rows.free) x refl has, has)

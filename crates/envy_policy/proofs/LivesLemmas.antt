@@ -15,10 +15,12 @@ AreLives-start Locality pages positions = λ e. cc
 AreLives-start (Hybrid part) pages positions = λ e. cc
 AreLives-start Lifetime pages positions = (refl, length-replicate pages 0, length-replicate positions 0)
 
+-- noting a flush keeps the notes' sizes,
 pub AreLives-claim : (policy : Policy) (pages positions k page : ℕ) (l : Option Notes) → AreLives policy pages positions l → AreLives policy pages positions (option_map (noted_flush k page) l)
 AreLives-claim policy pages positions k page None are = are
 AreLives-claim policy pages positions k page (Some n) are = (are.0, length-set n.born page _ ∙ are.1, are.2)
 
+-- and noting a cleaning
 pub AreLives-clean : (policy : Policy) (pages positions k : ℕ) (l : Option Notes) → AreLives policy pages positions l → AreLives policy pages positions (option_map (noted_clean k) l)
 AreLives-clean policy pages positions k None are = are
 AreLives-clean policy pages positions k (Some n) are = (are.0, are.1, length-set n.cleaned k _ ∙ are.2)
@@ -28,6 +30,7 @@ pub noted-position : (policy : Policy) (pages positions k : ℕ) (l : Option Not
 noted-position policy pages positions k None are below = tt
 noted-position policy pages positions k (Some n) are below = omega (arith, are.2)
 
+-- both at one position
 pub noted-both : (policy : Policy) (pages positions k page : ℕ) (l : Option Notes) → AreLives policy pages positions l → k < positions → page < pages → IfSome l (λ n. (k < length n.cleaned) × (page < length n.born))
 noted-both policy pages positions k page None are below inside = tt
 noted-both policy pages positions k page (Some n) are below inside = (omega (arith, are.2), omega (arith, are.1))

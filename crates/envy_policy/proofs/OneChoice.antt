@@ -8,6 +8,7 @@ use Rattle.envy_policy.specs.Setup.{victims_of}
 use Rattle.envy_policy.specs.History.{History, partition_of}
 use Rattle.envy_policy.specs.Choice.{IsLeast, IsMost, IsUsable, IsNeighbour, HasRows, IsVictim, IsAside, IsChoice, distance, steps}
 
+-- there is one least
 pub least-one : (P : ℕ → Type 0) (f : ℕ → ℕ) (x y : ℕ) → IsLeast P f x → IsLeast P f y → x ≡ y
 least-one P f x y a b =
     let low = a.least y b.holds in
@@ -34,6 +35,7 @@ aside-one h g None (Some y) a b = absurd (a b.0)
 aside-one h g (Some x) None a b = absurd (b a.0)
 aside-one h g (Some x) (Some y) a b = ap Some (least-one (IsNeighbour h g) (slice_index h.heats) x y a.1 b.1)
 
+-- at most one choice meets the rules
 pub choice-one : (h : History) (free dead : List ℕ) (home : ℕ) (a b : Choice) → IsChoice h free dead home a → IsChoice h free dead home b → a ≡ b
 choice-one h free dead home (Free x) (Free y) a b =
     let g = least-one (IsUsable h free dead) (distance (partition_of h home)) (partition_of h x) (partition_of h y) a.0 b.0 in

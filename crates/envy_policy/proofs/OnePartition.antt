@@ -27,6 +27,7 @@ one-nearest h free dead home position greedy home_below below has =
       lowest = λ y usable e. omega arith;
     }
 
+-- a single partition chooses the lowest position with a free row
 pub greedy-free : (h : History) (free dead : List ℕ) (home position : ℕ) → IsHistory h → h.policy ≡ Greedy → length free ≡ h.positions → home < h.positions → IsLeast (λ x. 0 < slice_index free x) (λ x. x) position → IsChoice h free dead home (Free position)
 greedy-free h free dead home position whole greedy long home_below first = (
   one-nearest h free dead home position greedy home_below (rows-below free h.positions position long first.holds) (inl first.holds),
@@ -43,6 +44,7 @@ cool h g whole greedy hot =
     let count : (h.positions - 1) / run h ≡ (h.positions - 1) / h.positions = ap (λ (r : ℕ). (h.positions - 1) / r) (one-run h greedy) in
     absurd (omega (arith, whole.heats, hot.0))
 
+-- and cleans the one with the most dead
 pub greedy-clean : (h : History) (free dead : List ℕ) (home position : ℕ) → IsHistory h → h.policy ≡ Greedy → length dead ≡ h.positions → home < h.positions → ((x : ℕ) → slice_index free x ≡ 0) → IsMost (λ x. 0 < slice_index dead x) (slice_index dead) position → IsChoice h free dead home (Clean position None)
 greedy-clean h free dead home position whole greedy long home_below none most =
     let victim : IsMost (HasRows h dead (partition_of h position)) (slice_index dead) position = record {

@@ -37,9 +37,11 @@ sum-changed f g n p within others =
 
 -- the heat at a place, and its half
 
+-- a heat that has been halved stands as it is,
 pub heat-done : (halved : ℕ) (kept : List ℕ) (g : ℕ) → g < halved → heat_of halved kept g ≡ slice_index kept g
 heat-done halved kept g below = rw (lt-ltb g halved below) refl
 
+-- one that hasn't is read as its half
 pub heat-left : (halved : ℕ) (kept : List ℕ) (g : ℕ) → halved ≤ g → heat_of halved kept g ≡ slice_index kept g / 2
 heat-left halved kept g beyond = rw (le-ltb g halved beyond) refl
 
@@ -66,6 +68,7 @@ one-heat kept i k within = elim (cases_eq k i) [
   ]
 ]
 
+-- halving one more changes no heat that is read
 pub one-heats : (kept : List ℕ) (i : ℕ) → i < length kept → heats_of (i + 1) (set kept i (get_or kept i 0 / 2)) ≡ heats_of i kept
 one-heats kept i within =
     let new : List ℕ = set kept i (get_or kept i 0 / 2) in
@@ -78,6 +81,7 @@ one-half kept i k other = elim (cases_lt k i) [
   | inr beyond ↦ half-left (i + 1) (set kept i (get_or kept i 0 / 2)) k (omega arith) ∙ sym (half-left i kept k beyond)
 ]
 
+-- and the sum of halves by that one
 pub one-halves : (kept : List ℕ) (i : ℕ) → i < length kept → halves_of (i + 1) (set kept i (get_or kept i 0 / 2)) ≡ halves_of i kept + get_or kept i 0 / 2 / 2
 one-halves kept i within =
     let new : List ℕ = set kept i (get_or kept i 0 / 2) in
@@ -89,12 +93,14 @@ one-halves kept i within =
 
 -- one is raised
 
+-- raising a heat by one as it is read
 pub raised-heats : (halved : ℕ) (kept : List ℕ) (p y : ℕ) → p < length kept → heat_of halved (set kept p y) p ≡ heat_of halved kept p + 1 → heats_of halved (set kept p y) ≡ warmer (heats_of halved kept) p
 raised-heats halved kept p y within raised =
     ap (λ n. map (heat_of halved (set kept p y)) (range_with_len 0 n)) (length-set kept p y)
     ∙ set-map (heat_of halved kept) (heat_of halved (set kept p y)) (length kept) p within (λ k other. ap (λ (x : ℕ). if nat_lt k halved then x else x / 2) (get_or-set_other kept p k y 0 other))
     ∙ ap (set (heats_of halved kept) p) (raised ∙ ap (λ (x : ℕ). x + 1) (sym (heat-at halved kept p within)))
 
+-- changes the sum of halves by that one
 pub raised-halves : (halved : ℕ) (kept : List ℕ) (p y : ℕ) → p < length kept → halves_of halved (set kept p y) + half_of halved kept p ≡ halves_of halved kept + half_of halved (set kept p y) p
 raised-halves halved kept p y within =
     let long = ap (λ n. sum (map (half_of halved (set kept p y)) (range_with_len 0 n))) (length-set kept p y) in
@@ -106,6 +112,7 @@ pub done-heats : (halved : ℕ) (kept : List ℕ) (p : ℕ) → p < length kept 
 done-heats halved kept p within below = raised-heats halved kept p (get_or kept p 0 + 1) within
     (heat-done halved (set kept p (get_or kept p 0 + 1)) p below ∙ get_or-set_same kept p (get_or kept p 0 + 1) 0 within ∙ ap (λ (x : ℕ). x + 1) (sym (heat-done halved kept p below)))
 
+-- for a heat that has been halved
 pub done-halves : (halved : ℕ) (kept : List ℕ) (p : ℕ) → p < length kept → p < halved → halves_of halved (set kept p (get_or kept p 0 + 1)) + get_or kept p 0 / 2 ≡ halves_of halved kept + (get_or kept p 0 + 1) / 2
 done-halves halved kept p within below =
     let changed = raised-halves halved kept p (get_or kept p 0 + 1) within in
@@ -120,6 +127,7 @@ left-heats halved kept p within beyond = raised-heats halved kept p (get_or kept
     let after = heat-left halved (set kept p (get_or kept p 0 + 2)) p beyond ∙ ap (λ (x : ℕ). x / 2) (get_or-set_same kept p (get_or kept p 0 + 2) 0 within) in
     omega (arith, before, after))
 
+-- and for one that hasn't
 pub left-halves : (halved : ℕ) (kept : List ℕ) (p : ℕ) → p < length kept → halved ≤ p → halves_of halved (set kept p (get_or kept p 0 + 2)) ≡ halves_of halved kept
 left-halves halved kept p within beyond =
     let changed = raised-halves halved kept p (get_or kept p 0 + 2) within in
@@ -132,6 +140,7 @@ left-halves halved kept p within beyond =
 pub none-heats : (kept : List ℕ) → heats_of 0 kept ≡ map (λ x. x / 2) kept
 none-heats kept = sym (fill_by_all (heat_of 0 kept) (map (λ (x : ℕ). x / 2) kept) (length kept) 0 (length-map kept (λ (x : ℕ). x / 2)) (λ k below. get_or-map (λ (x : ℕ). x / 2) kept k 0 0 below ∙ sym (heat-left 0 kept k (omega arith))))
 
+-- where all have been halved all stand as they are
 pub all-heats : (kept : List ℕ) → heats_of (length kept) kept ≡ kept
 all-heats kept = sym (fill_by_all (heat_of (length kept) kept) kept (length kept) 0 refl (λ k below. sym (heat-done (length kept) kept k below)))
 
@@ -153,6 +162,7 @@ half-small halved kept k = elim (cases_lt k halved) [
   | inr beyond ↦ let half = half-left halved kept k beyond in omega (arith, half)
 ]
 
+-- the sum of halves is at most the sum of heats
 pub halves-small : (halved : ℕ) (kept : List ℕ) → halves_of halved kept ≤ sum (heats_of halved kept)
 halves-small halved kept =
     let half = sum-map (half_of halved kept) (range_with_len 0 (length kept)) in
@@ -160,6 +170,7 @@ halves-small halved kept =
     let small = sum_by-le-sum_by (half_of halved kept) (heat_of halved kept) (range_with_len 0 (length kept)) (λ k. half-small halved kept k) in
     omega (arith, half, whole, small)
 
+-- a heat is at most twice the sum
 pub kept-small : (halved : ℕ) (kept : List ℕ) (p : ℕ) → p < length kept → get_or kept p 0 ≤ 2 * sum (heats_of halved kept) + 1
 kept-small halved kept p within =
     let long = length-heats halved kept in
@@ -201,6 +212,7 @@ pub record Stepped (kept new : List ℕ) (since end more raise g : ℕ) : Type 0
   pub heats : heats_of end new ≡ warmer (heats_of (halved_by since (length kept)) kept) g
   pub halves : halves_of end new ≡ halves_of (halved_by since (length kept)) kept + more + raise
 
+-- a step that notes a flush and halves a few
 pub stepped : (kept old one mid new : List ℕ) (since count first end more raise g : ℕ) → count ≡ length kept → g < length kept → first ≡ halved_by since count → end ≡ halved_by (since + 1) count → old ≡ kept → mid ≡ one
     → length one ≡ length old → heats_of end one ≡ heats_of first old → halves_of end one ≡ halves_of first old + more
     → length new ≡ length mid → heats_of end new ≡ warmer (heats_of end mid) g → halves_of end new ≡ halves_of end mid + raise
@@ -227,6 +239,7 @@ halves-fit kept old one since count first end warmth halves more are is_count is
     let begun = ap (λ n. halves_of n old) (is_first ∙ ap (halved_by since) is_count) ∙ ap (halves_of (halved_by since (length kept))) is_old in
     omega (arith, small, same, begun, is, are.halves_are, are.sum_is, are.cool, are.since_few)
 
+-- there is room for it
 pub room-left : (kept old one mid : List ℕ) (since count first end warmth halves g : ℕ) → AreKept kept since warmth halves → count ≡ length kept → first ≡ halved_by since count → old ≡ kept → mid ≡ one
     → length one ≡ length old → heats_of end one ≡ heats_of first old → g < length kept → slice_index mid g < 4294967294
 room-left kept old one mid since count first end warmth halves g are is_count is_first is_old is_mid long heats within =
@@ -249,6 +262,7 @@ stepped-sum kept new since end warmth halves more raise g are step =
 all-halved : (kept new : List ℕ) (since end more raise g : ℕ) → Stepped kept new since end more raise g → length kept ≤ 4095 → since + 1 ≡ 1024 → end ≡ length new
 all-halved kept new since end more raise g step few last = omega (arith, step.end_is, step.long, few, last)
 
+-- at the end of a round all are halved, and the next begins
 pub kept-anew : (kept new : List ℕ) (since end warmth halves more raise g : ℕ) → AreKept kept since warmth halves → Stepped kept new since end more raise g → since + 1 ≡ 1024 → AreKept new 0 (halves + more + raise) 0
 kept-anew kept new since end warmth halves more raise g are step last = record {
   few = omega (arith, step.long, are.few);
@@ -272,6 +286,7 @@ kept-anew kept new since end warmth halves more raise g are step last = record {
   total : halves + more + raise ≡ sum (heats_of 0 new)
   total = let same = ap (λ n. halves_of n new) all in let is = all-halves new in omega (arith, same, is, step.halves, are.halves_are)
 
+-- and the heats are those noted
 pub noted-anew : (w : Warmth) (kept new shown : List ℕ) (since end warmth halves more raise g : ℕ) → AreKept kept since warmth halves → Stepped kept new since end more raise g → since + 1 ≡ 1024
     → record { heats = heats_of (halved_by since (length kept)) kept; flushes = since } ≡ w → shown ≡ new → record { heats = heats_of (halved_by 0 (length shown)) shown; flushes = 0 } ≡ noted w g
 noted-anew w kept new shown since end warmth halves more raise g are step last view is = ap (λ (xs : List ℕ). record { heats = heats_of (halved_by 0 (length xs)) xs; flushes = 0 }) is ∙ anew ∙ ap (λ (v : Warmth). noted v g) view

@@ -37,6 +37,7 @@ aged-small n rows positions x whole counted =
     let product = mul-le (slice_index rows.dead x) (n.clock - slice_index n.cleaned x + 1) 1048576 (2 ^ 64) dead (omega arith) in
     record { over = omega arith; under = omega arith }
 
+-- a worth stays far from the end of its type
 pub worth-small : (n : Notes) (rows : RowCounts) (positions : ℕ) (class : Class) (x : ℕ) → IsNotes n → IsCounted positions rows → IsSmall (worth n rows class x)
 worth-small n rows positions Brief x whole counted = let dead = counted.few_dead x in record { over = omega arith; under = omega arith }
 worth-small n rows positions Short x whole counted = aged-small n rows positions x whole counted

@@ -20,6 +20,7 @@ pub aside-below : (h : History) (g : ℕ) (aside : Option ℕ) → IsAside h g a
 aside-below h g None is k e = cc
 aside-below h g (Some other) is k e = let same : other ≡ k = cc in let near = IsLeast.holds is.1 in omega (arith, near.0)
 
+-- a choice names positions there are
 pub within-choice : (h : History) (free dead : List ℕ) (home : ℕ) (choice : Choice) → length free ≡ h.positions → length dead ≡ h.positions → IsChoice h free dead home choice → IsWithin h free dead choice
 within-choice h free dead home (Free k) long_free long_dead is =
     let has = IsLeast.holds is.1 in

@@ -7,6 +7,7 @@ use Rattle.envy_base.specs.State.{ones, Only, IsOnes, IsPage, IsBoard}
 use Rattle.envy_region.specs.Region.{Erased, region_state}
 use Rattle.envy_base.proofs.Rows.{block_of, inside_of}
 
+-- an erase changes the rows of its segment alone
 pub erased_only : (rows e : ℕ) (old new : List (List ℕ)) → 1 ≤ rows → Erased (e * rows) (e * rows + rows) old new → Only rows e IsOnes old new
 erased_only rows e old new some is = record {
   long = is.long;
@@ -20,6 +21,7 @@ IsPage-ones = record {
   words = λ i. elim (cases_lt i 32) [ inl lt ↦ rw (get_or-replicate 32 i (2 ^ 64 - 1) 0 lt) (omega arith) | inr ge ↦ rw (get_or_past ones i 0 ge) (omega arith) ];
 }
 
+-- and leaves a board
 pub erased_board : (sh : Shape) (old new : List (List ℕ)) (sram erases : List ℕ) (begun first n : ℕ) → IsBoard (region_state sh old sram erases begun) → Erased first n old new → IsBoard (region_state sh new sram erases begun)
 erased_board sh old new sram erases begun first n is done = record {
   shape = is.shape;

@@ -16,11 +16,13 @@ next_lines pool wears spare k n = spelled (map (line_at pool wears) (range_with_
 abbrev pub lines_left : Pool → List ℕ → ℕ → ℕ → List ℕ
 lines_left pool wears spare k = next_lines pool wears spare k (pool.shape.segments - 1 - k)
 
+-- the text begins with its heading
 pub heading-first : (pool : Pool) (wears : List ℕ) (spare : ℕ) → segments_text pool wears spare ≡ (heading ++ newline ∷ []) ++ lines_left pool wears spare 0
 heading-first pool wears spare =
     let all : pool.shape.segments - 1 ≡ pool.shape.segments - 1 - 0 = omega arith in
     ap (λ n. (heading ++ newline ∷ []) ++ next_lines pool wears spare 0 n) all
 
+-- the next line is that of the next position
 pub line-next : (pool : Pool) (wears : List ℕ) (spare k s : ℕ) → k < pool.shape.segments - 1 → s ≡ slice_index pool.positions k
     → lines_left pool wears spare k ≡ (segment_line pool wears (decimal k) s ++ newline ∷ []) ++ lines_left pool wears spare (k + 1)
 line-next pool wears spare k s below stands =
@@ -28,6 +30,7 @@ line-next pool wears spare k s below stands =
     ap (next_lines pool wears spare k) more
     ∙ ap (λ x. (segment_line pool wears (decimal k) x ++ newline ∷ []) ++ lines_left pool wears spare (k + 1)) (sym stands)
 
+-- the last is the spare's
 pub spare-last : (pool : Pool) (wears : List ℕ) (spare k : ℕ) → k ≡ pool.shape.segments - 1
     → lines_left pool wears spare k ≡ segment_line pool wears (codes "spare") spare ++ newline ∷ []
 spare-last pool wears spare k all =

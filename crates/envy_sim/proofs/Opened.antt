@@ -14,7 +14,8 @@ use Rattle.envy_calls.specs.declared.code.Code.TheVariants.{ImageShort}
 use Rattle.envy_sim.specs.Image.{HoldsImage, NoBoard}
 use Rattle.envy_sim.specs.Reading.{feed_of, IsAt, IsOpened}
 
-inside : (a b : List ℕ) → Some a ≡ Some b → a ≡ b
+-- what stands in Some
+pub inside : (a b : List ℕ) → Some a ≡ Some b → a ≡ b
 inside a b e = cc
 
 -- what was drawn stood in front of the rest
@@ -44,6 +45,7 @@ all-used bytes left rest used was now at e ended =
     let got : e.got ≡ used = ap (λ (xs : List ℕ). xs ++ e.got) (sym at.held) ∙ e.all in
     d.split ∙ (ap (λ (xs : List ℕ). e.got ++ xs) (d.dry ended) ∙ (append-nil e.got ∙ got))
 
+-- a stream that ends within the image's body
 pub body-short : (bytes left rest : List ℕ) (was now : Taking) (old new : State) → IsOpened bytes old.shape left was → Installs old was (feed_of left) (Err Short) new now (feed_of rest) → NoBoard bytes old.shape ImageShort
 body-short bytes left rest was now old new o s =
     let all : left ≡ s.bytes = all-used bytes left rest s.bytes was now o.at s.ends s.stops in
@@ -54,6 +56,7 @@ image-front : (s : State) (rest : List ℕ) → head_of s.shape ++ (body_of s.fl
 unfolding image_of
 image-front s rest = sym (append_assoc (head_of s.shape) (body_of s.flash s.sram) rest)
 
+-- a stream that holds a whole image
 pub body-holds : (bytes left rest : List ℕ) (was now : Taking) (old new : State) → IsOpened bytes old.shape left was → Installed old was (feed_of left) new now (feed_of rest) → HoldsImage bytes old new
 body-holds bytes left rest was now old new o i =
     let c = consumed bytes left rest (body_of new.flash new.sram) was now o.at i.bytes in

@@ -17,6 +17,7 @@ conserve_more mid new bytes done n wrote =
     ∙ with_end-with_end mid (take n (drop done bytes)) (drop (done + n) bytes)
     ∙ ap (with_end mid) (ap (λ (rest : List ℕ). take n (drop done bytes) ++ rest) (sym (drop-drop n done bytes)) ∙ take-append-drop n (drop done bytes))
 
+-- a write conserves what is written and left
 pub conserved_more : (bytes : List ℕ) (done : ℕ) (old : Drain) (now : ℕ) (mid : Drain) (n : ℕ) (new : Drain) → Conserved bytes done old now mid → Writes mid (take (length bytes - now) (drop now bytes)) (Ok n) new → Conserved bytes done old (now + n) new
 conserved_more bytes done old now mid n new so_far wrote =
     let of_rest : Writes mid (drop now bytes) (Ok n) new = subst (λ (rest : List ℕ). Writes mid rest (Ok n) new) (take_rest bytes now) wrote in

@@ -42,6 +42,7 @@ length-retargeted : (entries : List Entry) (p : ℕ) (x : Place) (b : Bool) → 
 length-retargeted entries p x true = length-set entries (p % length entries) (Some (p, x))
 length-retargeted entries p x false = refl
 
+-- moving an entry's page counts nothing
 pub Rests-retargeted : (t new : Translations) (p : ℕ) (x : Place) → new ≡ record t { entries = retargeted t.entries p x } → Rests t new
 Rests-retargeted t new p x is = subst (Rests t) (sym is) (record {
   size = length-retargeted t.entries p x (is_hit t.entries p);
@@ -50,6 +51,7 @@ Rests-retargeted t new p x is = subst (Rests t) (sym is) (record {
   misses = refl;
 })
 
+-- an access fills its entry and counts one
 pub Accesses-translated : (t new : Translations) (p : ℕ) (x : Place) → 0 < length t.entries → new ≡ record (counted t p) { entries = filled t.entries p x } → Accesses p t new
 Accesses-translated t new p x some is = subst (Accesses p t) (sym is) (at (is_hit t.entries p) refl)
   where
@@ -67,6 +69,7 @@ get_or-vacant zero i = refl
 get_or-vacant (suc n) zero = refl
 get_or-vacant (suc n) (suc i) = get_or-vacant n i
 
+-- an emptied cache counts nothing
 pub Empties-vacated : (t new : Translations) → length new.entries ≡ length t.entries → new ≡ record t { entries = vacant (length t.entries) } → Empties t new
 Empties-vacated t new size is = record {
   size = size;
@@ -75,8 +78,10 @@ Empties-vacated t new size is = record {
   misses = ap (λ (x : Translations). x.misses) is;
 }
 
+-- emptied, and at rest since
 pub Empties-then : (a b c : Translations) → Empties a b → Rests b c → Empties a c
 Empties-then a b c x y = record { size = y.size ∙ x.size; pages = λ i. y.pages i ∙ x.pages i; hits = y.hits ∙ x.hits; misses = y.misses ∙ x.misses }
 
+-- accessed, and at rest since
 pub Accesses-then : (p : ℕ) (a b c : Translations) → Accesses p a b → Rests b c → Accesses p a c
 Accesses-then p a b c x y = record { size = y.size ∙ x.size; pages = λ i. y.pages i ∙ x.pages i; hits = y.hits ∙ x.hits; misses = y.misses ∙ x.misses }

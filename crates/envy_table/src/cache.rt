@@ -12,6 +12,9 @@ use envy_map::place;
 use std::alloc::Global;
 use std::marker::Model;
 
+#[cfg(test)]
+mod tests;
+
 /// A cache of places of pages, which counts its hits and misses.
 #[derive(Drop)]
 pub struct Cache {
@@ -133,20 +136,5 @@ impl Cache {
     {
         let entry = page as usize % self.entries.len();
         self.entries[entry] = Some((page, place));
-    }
-}
-
-#[cfg(test)]
-mod tests {
-    use super::*;
-    use std::test::Fail;
-
-    #[test]
-    fn one_entry_can_be_had(rt: HostRuntime) -> Result<(), Fail> {
-        let mut cache = Cache::new(rt.alloc(), 1)?;
-        cache.retarget(7, Place::Frame(3));
-        cache.empty();
-        assert_eq!(rt; (cache.hits(), cache.misses()), (0, 0));
-        Ok(())
     }
 }

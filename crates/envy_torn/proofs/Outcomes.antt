@@ -6,16 +6,19 @@ use Rattle.envy_device.specs.Device.{Elapses}
 use Rattle.envy_torn.specs.declared.torn.Call.{Call}
 use Rattle.envy_torn.specs.Calls.{seen_by, seen_after, Leaves, Outcome, OutcomeOf, LeftBy}
 
+-- one call more is seen
 pub seen_more : (calls : List Call) (call : Call) (seen : List ℕ) → seen_after (calls ++ call ∷ []) seen ≡ seen_by call (seen_after calls seen)
 seen_more [] call seen = refl
 seen_more (x ∷ calls) call seen = seen_more calls call (seen_by x seen)
 
+-- and may be left by a crash, or not
 pub outcome_more : (calls : List Call) (call : Call) (seen : List ℕ) (may : List ℕ → Type 0) (c : List ℕ) → Outcome (calls ++ call ∷ []) seen may c
     → (d : List ℕ) × Outcome calls seen may d × Leaves call (seen_after calls seen) d c
 outcome_more [] call seen may c some = some
 outcome_more (x ∷ calls) call seen may c some = outcome_more calls call (seen_by x seen) (λ e. (d : List ℕ) × may d × Leaves x seen d e) c some
 
 module _ (first : List ℕ) (calls : List Call) where
+  -- without a call no time goes by
   pub time_same : Elapses (length calls) (length calls) (LeftBy first calls) (LeftBy first calls) (OutcomeOf first calls)
   time_same = record { later = omega arith; nothing_else = λ t c le left. inl left; keeps = λ t c le left. left }
 
@@ -40,5 +43,6 @@ module _ (first : List ℕ) (calls : List Call) where
     keeps : (t : ℕ) (c : List ℕ) → t ≤ length calls → LeftBy first calls t c → LeftBy first more t c
     keeps t c le (k, after, within, left) = (k, after, omega (arith, long), subst (λ (l : List Call). OutcomeOf first l c) (sym (early k within)) left)
 
+    -- each call takes time
     pub time_more : Elapses (length calls) (length more) (LeftBy first calls) (LeftBy first more) (OutcomeOf first more)
     time_more = record { later = omega (arith, long); nothing_else = nothing_else; keeps = keeps }

@@ -15,9 +15,11 @@ use Rattle.envy_torn.proofs.Outcomes.{seen_more, outcome_more, time_same, time_m
 pub torn_none : (at n : ℕ) (d : List ℕ) → Torn at n d d
 torn_none at n d = record { before = refl; after = refl; no_shorter = omega arith; no_longer = omega arith }
 
+-- a write that reaches nothing
 pub cut_none : (n : ℕ) (d : List ℕ) → Cut n d d
 cut_none n d = record { no_shorter = omega arith; front = take_all (length d) d (omega arith) }
 
+-- a call that is noted behind what kept the file is noted of it
 pub noted_after : (call : Call) (old mid new : TornFile) → Kept old mid → Noted call mid new → Noted call old new
 noted_after call old mid new kept noted = record {
   calls = noted.calls ∙ ap (λ (l : List Call). l ++ call ∷ []) kept.calls;
@@ -39,6 +41,7 @@ outcome_kept old new kept c left =
 Times : List ℕ → List Call → List ℕ → List Call → Type 0
 Times first calls first' calls' = Elapses (length calls) (length calls') (LeftBy first calls) (LeftBy first' calls') (OutcomeOf first' calls')
 
+-- what keeps a file takes no time
 pub time_kept : (old new : TornFile) → Kept old new → Elapses (length old.calls.items) (length new.calls.items) (file_left old) (file_left new) (file_outcome new)
 unfolding Times
 time_kept old new kept =
@@ -55,6 +58,7 @@ module _ (call : Call) (old : TornFile) (calls : List Call) (first : List ℕ) (
       ∙ seen_more old.calls.items call old.first.items
       ∙ ap (λ (b : List ℕ). seen_by call b) (sym old.seen)
 
+  -- what a crash leaves with one call more it leaves of what it left before
   pub left_more : (c : List ℕ) → OutcomeOf first calls c → (d : List ℕ) × file_outcome old d × Leaves call (file_bytes old) d c
   left_more c left =
       let before = old.first.items in
@@ -73,9 +77,11 @@ module _ (call : Call) (old new : TornFile) (noted : Noted call old new) where
   pub bytes_noted : file_bytes new ≡ seen_by call (file_bytes old)
   bytes_noted = new.seen ∙ seen_once_more call old new.calls.items new.first.items noted.calls noted.first
 
+  -- the same of the file
   pub outcome_noted : (c : List ℕ) → file_outcome new c → (d : List ℕ) × file_outcome old d × Leaves call (file_bytes old) d c
   outcome_noted = left_more call old new.calls.items new.first.items noted.calls noted.first
 
+  -- a noted call takes time
   pub time_noted : Elapses (length old.calls.items) (length new.calls.items) (file_left old) (file_left new) (file_outcome new)
   time_noted = time_goes call old new.calls.items new.first.items noted.calls noted.first
 
@@ -84,10 +90,12 @@ pub time_finished : (call : Call) (old mid new : TornFile) (result : Result Unit
 time_finished call old mid new (Ok done) kept is = time_noted call old new (noted_after call old mid new kept is.0)
 time_finished call old mid new (Err failed) kept is = time_kept old new (kept_after old mid new kept is.0)
 
+-- a call that is no sync leaves the last sync
 pub synced_finished : (call : Call) (old mid new : TornFile) (result : Result Unit DeviceFailed) → Kept old mid → Finished call mid result new → new.synced ≡ old.synced
 synced_finished call old mid new (Ok done) kept (noted, same) = noted.synced ∙ kept.synced
 synced_finished call old mid new (Err failed) kept (none, now) = none.synced ∙ kept.synced
 
+-- what a crash leaves of a call is a step from what it left before
 pub crash_finished : (call : Call) (old mid new : TornFile) (result : Result Unit DeviceFailed) (step : List ℕ → List ℕ → Type 0) → Kept old mid → Finished call mid result new
     → ((d c : List ℕ) → Leaves call (file_bytes old) d c → step d c) → ((c : List ℕ) → file_outcome old c → step c c) → Follows step (file_outcome old) (file_outcome new)
 crash_finished call old mid new (Ok done) step kept is leaves none c left =
@@ -102,14 +110,17 @@ pub time_failed : (call : Call) (old mid new : TornFile) → Kept old mid → No
 time_failed call old mid new kept (inl noted) = time_noted call old new (noted_after call old mid new kept noted)
 time_failed call old mid new kept (inr none) = time_kept old new (kept_after old mid new kept none)
 
+-- a call that fails leaves the last sync, too
 pub synced_failed : (call : Call) (old mid new : TornFile) → Kept old mid → Noted call mid new ⊎ Kept mid new → new.synced ≡ old.synced
 synced_failed call old mid new kept (inl noted) = noted.synced ∙ kept.synced
 synced_failed call old mid new kept (inr none) = none.synced ∙ kept.synced
 
+-- one that changes nothing changes nothing where it fails
 pub bytes_failed : (call : Call) (old mid new : TornFile) → ((seen : List ℕ) → seen_by call seen ≡ seen) → Kept old mid → Noted call mid new ⊎ Kept mid new → file_bytes new ≡ file_bytes old
 bytes_failed call old mid new same kept (inl noted) = bytes_noted call old new (noted_after call old mid new kept noted) ∙ same (file_bytes old)
 bytes_failed call old mid new same kept (inr none) = bytes_kept old new (kept_after old mid new kept none)
 
+-- and a crash leaves a step from before
 pub crash_failed : (call : Call) (old mid new : TornFile) (step : List ℕ → List ℕ → Type 0) → Kept old mid → Noted call mid new ⊎ Kept mid new
     → ((d c : List ℕ) → Leaves call (file_bytes old) d c → step d c) → ((c : List ℕ) → file_outcome old c → step c c) → Follows step (file_outcome old) (file_outcome new)
 crash_failed call old mid new step kept (inl noted) leaves none c left =
@@ -129,6 +140,7 @@ same_finished call old mid new (Ok done) step kept is none = tt
 same_finished call old mid new (Err failed) step kept is none =
     subst (λ (b : List ℕ). step (file_bytes old) b) (sym (bytes_kept old new (kept_after old mid new kept is.0))) none
 
+-- a file fails from its first failure on
 pub serves_finished : (call : Call) (old mid new : TornFile) (result : Result Unit DeviceFailed) → Finished call mid result new → mid.failed ≡ old.failed → mid.failed ≡ false → Serves old.failed new.failed result
 serves_finished call old mid new (Ok done) is same none = record { stays = λ was. absurd (false≢true (sym none ∙ same ∙ was)); ok = is.1 ∙ none; err = tt }
 serves_finished call old mid new (Err failed) is same none = record { stays = λ was. is.1; ok = tt; err = is.1 }
@@ -141,9 +153,11 @@ module _ (old mid : TornFile) (kept : Kept old mid) (calls : List Call) (added :
   pub sync_seen : mid.bytes.items ≡ seen_after calls mid.first.items
   sync_seen = bytes_kept old mid kept ∙ sym (seen_once_more Sync old calls mid.first.items grown kept.first)
 
+  -- behind a sync a crash leaves what is seen,
   pub sync_only : (c : List ℕ) → OutcomeOf mid.first.items calls c → c ≡ file_bytes old
   sync_only c left = let from = left_more Sync old calls mid.first.items grown kept.first c left in from.2.0
 
+  -- which it might have left before
   pub sync_crash : (c : List ℕ) → OutcomeOf mid.first.items calls c → file_outcome old c
   sync_crash c left = let from = left_more Sync old calls mid.first.items grown kept.first c left in subst (λ (e : List ℕ). file_outcome old e) from.2.1 from.1
 
@@ -161,6 +175,7 @@ module _ (old : TornFile) (call : Call) (calls : List Call) (still : (seen : Lis
   synced_added true more same = omega (arith, old.synced_before, ap length (more refl), length-append old.calls.items (call ∷ []))
   synced_added false more same = omega (arith, old.synced_before, ap length (same refl))
 
+-- what is seen is what the calls make of the first bytes
 pub seen_grown : (old : TornFile) (call : Call) (calls : List Call) (next : List ℕ) → calls ≡ old.calls.items ++ call ∷ [] → next ≡ seen_by call old.bytes.items → next ≡ seen_after calls old.first.items
 seen_grown old call calls next more is =
     is ∙ ap (λ (b : List ℕ). seen_by call b) old.seen ∙ sym (seen_more old.calls.items call old.first.items) ∙ ap (λ (l : List Call). seen_after l old.first.items) (sym more)

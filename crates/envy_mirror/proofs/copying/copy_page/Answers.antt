@@ -1,6 +1,4 @@
-use Rattle.std.proofs.Common.{◌≡◌, ◌<◌, false, Result, Ok, Err, sym, subst}
-use Rattle.envy_base.specs.declared.board.Trouble.{Trouble}
-use Rattle.envy_base.specs.declared.board.Trouble.TheVariants.{Off}
+use Rattle.std.proofs.Common.{◌<◌, sym, subst}
 use Rattle.envy_base.specs.declared.shape.Shape.{Shape}
 use Rattle.envy_memory.proofs.Facts.{on-from}
 use Rattle.envy_mirror.specs.Asking.{Reckons}

@@ -1,5 +1,5 @@
 use Rattle.std.proofs.Common.{◌≡◌, ◌≢◌, ℕ, ◌+◌, ◌*◌, ◌/◌, ◌<◌}
-use Rattle.std.specs.Prelude.{IsTrue, slice_index}
+use Rattle.std.specs.Prelude.{slice_index}
 use Rattle.envy_layout.specs.Words.{live, durable}
 use Rattle.envy_mirror.specs.Asking.{Reckons}
 use Rattle.envy_mirror.specs.Pair.{IsClosed}

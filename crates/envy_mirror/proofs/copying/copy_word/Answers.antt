@@ -1,8 +1,6 @@
-use Rattle.std.proofs.Common.{◌≡◌, ◌*◌, ◌≤◌, ℕ, List, set, Err, ◌∙◌, ap, sym, arith}
-use Rattle.envy_base.specs.Array.{Array}
-use Rattle.envy_layout.specs.Words.{live, durable}
+use Rattle.std.proofs.Common.{ℕ, set, Err, ◌∙◌, ap, arith}
+use Rattle.envy_layout.specs.Words.{live}
 use Rattle.envy_memory.specs.declared.faults.StoreFault.{StoreFault}
-use Rattle.envy_memory.specs.Calls.{fresh}
 use Rattle.envy_mirror.proofs.Closing.{closed-stored, closed-failed, never-held}
 use Rattle.envy_mirror.proofs.copying.copy_word.Goals as goal
 

@@ -1,5 +1,5 @@
-use Rattle.std.proofs.Common.{◌≡◌, subst, sym, ap, ◌∙◌}
-use Rattle.envy_mirror.specs.Pair.{Pair, IsDark, is_good}
+use Rattle.std.proofs.Common.{subst, sym}
+use Rattle.envy_mirror.specs.Pair.{Pair, IsDark}
 use Rattle.envy_mirror.proofs.Returning.{IsPair-returned-first, IsPair-returned-second}
 use Rattle.envy_mirror.proofs.mirror.Mirror.revive.Goals as goal
 

@@ -1,6 +1,6 @@
 //! Catching up, both sides cut, and waiting for a slot, as a client would do it.
 
-use crate::tests_calls::{Call, Pair, Reply, made, paired};
+use crate::tests::calls::{Call, Pair, Reply, made, paired};
 use crate::{CatchFault, Caught};
 use envy_memory::{LoadFault, ReviveFault};
 use envy_policy::Policy;
