@@ -53,6 +53,8 @@ impl Cells {
         ensures shape { result.shape ≡ self.old.shape }
         ensures flash { result.flash.now ≡ replicate (self.old.shape.segments * self.old.shape.rows) ones }
         ensures sram { result.sram.now ≡ replicate (words_of self.old.shape) 0 }
+        ensures erases { result.erases.now ≡ replicate self.old.shape.segments 0 }
+        ensures begun { result.begun ≡ 0 }
     {
         RegionBoard::over(
             self.shape,

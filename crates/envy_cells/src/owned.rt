@@ -30,6 +30,8 @@ impl CellBoard {
         ensures flash { IfOk result (λ board.
             board.flash.items ≡ replicate (shape.now.segments * shape.now.rows) ones) }
         ensures sram { IfOk result (λ board. board.sram.items ≡ replicate (words_of shape.now) 0) }
+        ensures erases { IfOk result (λ board. board.erases.items ≡ replicate shape.now.segments 0) }
+        ensures begun { IfOk result (λ board. board.begun ≡ 0) }
     {
         let Cells {
             shape,
