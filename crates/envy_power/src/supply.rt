@@ -1,4 +1,4 @@
-ghost use Rattle.std.specs.Prelude.{◌≡◌, ◌≤◌, ◌↔◌, IsTrue, false, if◌then◌else◌, IfSome};
+ghost use Rattle.std.specs.Prelude.{◌≡◌, ◌≤◌, ◌↔◌, IsTrue, None, false, if◌then◌else◌, IfSome};
 ghost use Rattle.envy_power.specs.Power.{fresh, due, nearer, event_of, put_event, put_counted, flash_event, flash_counted, cut, struck, lit, with_cut, with_bad};
 ghost use Rattle.envy_power.specs.Plans.{CutComesAt, BadComesAt, NothingComes};
 
@@ -30,6 +30,8 @@ struct Plan {
 #[derive(Drop)]
 pub struct Supply {
     on: bool,
+    // Whether power is on and no cut is planned. It may be false for longer.
+    calm: bool,
     cut_plan: Option<Plan>,
     bad_plan: Option<Plan>,
     lives: u32,
@@ -39,13 +41,14 @@ pub struct Supply {
 
 impl Model for Supply {
     ghost use Rattle.envy_power.specs.Power.{Power};
-    ghost use Rattle.std.specs.Prelude.{IfSome, ◌≤◌};
+    ghost use Rattle.std.specs.Prelude.{IfSome, IsTrue, None, ◌≡◌, ◌≤◌};
 
     ghost Value = { Power };
 
     ghost view = { λ s. record { on = s.on; cut_plan = s.cut_plan; bad_plan = s.bad_plan; lives = s.lives; cuts = s.cuts; bads = s.bads } };
 
-    ghost invariant = { λ s. IfSome s.cut_plan (λ plan. 1 ≤ plan.left) × IfSome s.bad_plan (λ plan. 1 ≤ plan.left) };
+    ghost invariant = { λ s. IfSome s.cut_plan (λ plan. 1 ≤ plan.left) × IfSome s.bad_plan (λ plan. 1 ≤ plan.left)
+        × (IsTrue s.calm → IsTrue s.on × (s.cut_plan ≡ None)) };
 }
 
 // Counts one operation against a plan. Its number is answered where its turn has come.
@@ -79,6 +82,7 @@ impl Supply {
     {
         Supply {
             on: true,
+            calm: true,
             cut_plan: None,
             bad_plan: None,
             lives,
@@ -93,6 +97,7 @@ impl Supply {
         ensures state { self.new ≡ with_cut k g self.old }
         ensures comes { CutComesAt k g self.new }
     {
+        self.calm = false;
         self.cut_plan = Some(Plan { left: k, seed: g });
     }
 
@@ -151,6 +156,7 @@ impl Supply {
         ensures { self.new ≡ cut self.old }
     {
         self.on = false;
+        self.calm = false;
         self.cuts = self.cuts.saturating_add(1);
     }
 
@@ -165,7 +171,16 @@ impl Supply {
         }
         self.lives -= 1;
         self.on = true;
+        self.calm = self.cut_plan.is_none();
         true
+    }
+
+    /// Whether power is known to be on with no cut planned, so that a `put` meets nothing and counts against nothing.
+    #[inline]
+    pub fn is_calm(&self) -> bool
+        ensures { IsTrue result → IsTrue self.now.on × (self.now.cut_plan ≡ None) }
+    {
+        self.calm
     }
 
     /// Whether power is on.
