@@ -1,5 +1,5 @@
-//! Boards in memory: calls of a board with their answers, failures of power and bad operations among them, and how many
-//! rows a second are programmed, read and erased. Tests alone.
+//! Boards in memory: calls of a board with their answers, failures of power and bad operations among them, how many
+//! rows a second are programmed, read and erased, and the supply of power under them. Tests alone.
 #![tactic(auto)]
 
 #[cfg(test)]
@@ -8,3 +8,5 @@ mod calls;
 mod speed;
 #[cfg(test)]
 mod steps;
+#[cfg(test)]
+mod supplies;

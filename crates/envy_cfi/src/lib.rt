@@ -6,8 +6,6 @@
 
 mod bus;
 mod driver;
-#[cfg(test)]
-mod tests;
 
 pub use bus::{Bus, ModelBus, PortBus};
 pub use driver::{DriverFault, ROW_BYTES, erase_block, program_byte, program_row};

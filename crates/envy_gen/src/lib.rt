@@ -11,6 +11,3 @@ mod writing;
 pub use laws::generated_traces_read_back;
 pub use mix::{Mix, Skew};
 pub use writing::generate;
-
-#[cfg(test)]
-mod tests;

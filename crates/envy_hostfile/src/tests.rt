@@ -165,6 +165,15 @@ fn failing_at(fails_at: u32) -> Slow {
     }
 }
 
+// Whether a write, a sync, a cut and a further sync of a slow file are done.
+fn done_on(slow: &Slow) -> (bool, bool, bool, bool) {
+    let mut file = HostCalls::found(slow, slow, &[]);
+    let wrote = file.write_at(0, b"1234567").is_ok();
+    let synced = file.sync().is_ok();
+    let cut = file.cut(0).is_ok();
+    (wrote, synced, cut, file.sync().is_ok())
+}
+
 // 7 bytes are 4 pieces, between which the file is interrupted once, and behind them a sync, a cut and a sync.
 #[test]
 fn a_write_goes_on_and_a_failure_ends_the_file(rt: HostRuntime) -> Result<(), Fail> {
@@ -179,19 +188,25 @@ fn a_write_goes_on_and_a_failure_ends_the_file(rt: HostRuntime) -> Result<(), Fa
         (7, 7),
         (8, 7),
     ];
-    for (fails_at, next) in table {
+    for (fails_at, next) in table.as_slice() {
+        let fails_at = *fails_at;
         let slow = failing_at(fails_at);
-        let mut file = HostCalls::found(&slow, &slow, &[]);
-        let wrote = file.write_at(0, b"1234567").is_ok();
-        let synced = file.sync().is_ok();
-        let cut = file.cut(0).is_ok();
-        let synced_again = file.sync().is_ok();
         let wanted = (fails_at > 4, fails_at > 5, fails_at > 6, fails_at > 7);
-        assert_eq!(rt; (wrote, synced, cut, synced_again), wanted, "at {fails_at}");
+        assert_eq!(rt; done_on(&slow), wanted, "at {fails_at}");
         assert!(rt; slow.is_straight.get());
-        assert_eq!(rt; slow.next.get(), next, "at {fails_at}");
+        assert_eq!(rt; slow.next.get(), *next, "at {fails_at}");
     }
     Ok(())
+}
+
+// Whether the steps to a second file of a slow one are done, and a sync behind them.
+fn replaced_on(slow: &Slow) -> ((bool, bool, bool, bool), bool) {
+    let mut file = HostCalls::found(slow, slow, &[]);
+    let begun = file.begin_second().is_ok();
+    let wrote = file.write_second(b"123").is_ok();
+    let more = file.write_second(b"45").is_ok();
+    let replaced = file.replace().is_ok();
+    ((begun, wrote, more, replaced), file.sync().is_ok())
 }
 
 // The second file is made, 3 bytes are 2 pieces with an interruption between, 2 bytes are one, and then the file is synced
@@ -209,16 +224,11 @@ fn a_failure_at_any_call_on_the_second_file_ends_the_file(rt: HostRuntime) -> Re
         (7, 3),
         (9, 4),
     ];
-    for (fails_at, passed) in table {
-        let slow = failing_at(fails_at);
-        let mut file = HostCalls::found(&slow, &slow, &[]);
-        let begun = file.begin_second().is_ok();
-        let wrote = file.write_second(b"123").is_ok();
-        let more = file.write_second(b"45").is_ok();
-        let replaced = file.replace().is_ok();
+    for (fails_at, passed) in table.as_slice() {
+        let passed = *passed;
+        let slow = failing_at(*fails_at);
         let wanted = (passed > 0, passed > 1, passed > 2, passed > 3);
-        assert_eq!(rt; (begun, wrote, more, replaced), wanted, "at {fails_at}");
-        assert_eq!(rt; file.sync().is_ok(), passed > 3, "at {fails_at}");
+        assert_eq!(rt; replaced_on(&slow), (wanted, passed > 3), "at {fails_at}");
         assert!(rt; slow.is_straight.get());
     }
     Ok(())

@@ -3,8 +3,6 @@
 
 mod sram;
 mod supply;
-#[cfg(test)]
-mod tests;
 mod torn;
 
 pub use sram::Sram;

@@ -1,9 +1,13 @@
-//! Tests of one crate each, by what it gives to all: codes of the map, frames in their order, the plain machine, and
-//! images of boards that were changed by hand. Tests alone.
+//! Tests of one crate each, by what it gives to all: codes of the map, the cache of the table, the driver of a flash part,
+//! frames in their order, the plain machine, and images of boards that were changed by hand. Tests alone.
 #![tactic(auto)]
 
 #[cfg(test)]
+mod caches;
+#[cfg(test)]
 mod codes;
+#[cfg(test)]
+mod drivers;
 #[cfg(test)]
 mod frames;
 #[cfg(test)]

@@ -3,8 +3,6 @@
 
 mod buffered_sink;
 mod buffered_source;
-#[cfg(test)]
-mod tests;
 
 pub use buffered_sink::{BufferedSink, NoMemory};
 pub use buffered_source::BufferedSource;

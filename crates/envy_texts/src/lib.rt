@@ -1,7 +1,11 @@
-//! Texts: the words of a command line, the lines of a trace and their replies, and the lines of a source. Tests alone,
-//! as tables of texts and of what they say.
+//! Texts: the words of a command line, the lines of a trace and their replies, those that are drawn, the lines of a source,
+//! and streams that hold bytes back. Tests alone, as tables of texts and of what they say.
 #![tactic(auto)]
 
+#[cfg(test)]
+mod buffers;
+#[cfg(test)]
+mod drawn;
 #[cfg(test)]
 mod keeps;
 #[cfg(test)]

@@ -111,8 +111,8 @@ const NUMBERS: [Row; 8] = [
 
 #[test]
 fn lines_are_read(rt: HostRuntime) {
-    for table in [COMMANDS.as_slice(), &BLANKS, &RETURNS, &FAULTS, &NUMBERS] {
-        for (text, wanted) in table {
+    for table in [COMMANDS.as_slice(), &BLANKS, &RETURNS, &FAULTS, &NUMBERS].as_slice() {
+        for (text, wanted) in *table {
             assert_eq!(rt; read_line(text.as_bytes()), *wanted, "{text:?}");
         }
     }

@@ -48,7 +48,9 @@ fn faults_have_numbers(rt: HostRuntime) {
         (LineFault::Number, 2),
         (LineFault::Count, 3),
         (LineFault::Long, 4),
-    ] {
-        assert_eq!(rt; fault.number(), number, "{fault:?}");
+    ]
+    .as_slice()
+    {
+        assert_eq!(rt; fault.number(), *number, "{fault:?}");
     }
 }

@@ -266,8 +266,10 @@ fn a_source_gives_the_fewest_of_three(rt: HostRuntime) -> Result<(), Fail> {
         (Ok(3), Some("cde..")),
         (Ok(1), None),
         (Ok(0), None),
-    ] {
-        assert!(rt; source.fill(&mut five) == answer);
+    ]
+    .as_slice()
+    {
+        assert!(rt; source.fill(&mut five) == *answer);
         if let Some(text) = text {
             assert!(rt; five.as_slice() == text.as_bytes(), "{text}");
         }

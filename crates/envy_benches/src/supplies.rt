@@ -1,4 +1,6 @@
-use super::*;
+//! The supply of power: its plans and its lives, the words of a torn page, and SRAM that it keeps.
+
+use envy_power::{Event, Sram, Supply, Torn};
 use std::process::Abort;
 use std::test::Fail;
 
@@ -39,10 +41,10 @@ fn torn_words_are_those_of_the_original(rt: HostRuntime) {
             ],
         ),
     ];
-    for (g, words) in table {
-        let mut torn = Torn::new(g);
-        for word in words {
-            assert_eq!(rt; torn.next(), word, "of {g}");
+    for (g, words) in table.as_slice() {
+        let mut torn = Torn::new(*g);
+        for word in words.as_slice() {
+            assert_eq!(rt; torn.next(), *word, "of {g}");
         }
     }
 }
@@ -112,8 +114,8 @@ fn each_of_two_plans_comes_once(rt: HostRuntime) {
     supply.arm_cut(4, 2);
     supply.arm_bad(1, 3);
     let wanted = [Event::Bad(3), Event::Pass, Event::Pass, Event::Cut(2)];
-    for event in wanted {
-        assert_eq!(rt; flash(&rt, &mut supply), event);
+    for event in wanted.as_slice() {
+        assert_eq!(rt; flash(&rt, &mut supply), *event);
     }
     assert!(rt; power_on(&rt, &mut supply));
     assert_eq!(rt; supply.lives(), 4294967294);

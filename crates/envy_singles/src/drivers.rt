@@ -1,6 +1,8 @@
+//! The driver of a flash part, over a bus that notes what is written and over a model of a chip.
+
 ghost use Rattle.std.specs.Prelude.{None};
 
-use super::*;
+use envy_cfi::{Bus, DriverFault, ModelBus, erase_block, program_byte, program_row};
 use envy_chip::Chip;
 use std::test::Fail;
 
@@ -69,7 +71,8 @@ fn orders_are_those_of_the_data_sheet(rt: HostRuntime) {
 
 #[test]
 fn each_bit_of_an_error_is_a_failure(rt: HostRuntime) {
-    for status in [0xA0, 0x90, 0x88, 0x82] {
+    for status in [0xA0, 0x90, 0x88, 0x82].as_slice() {
+        let status = *status;
         assert_eq!(rt; program_byte(&mut Fake::new(1, status), 0, 0), FAILED);
         assert_eq!(rt;
             program_row(&mut Fake::new(1, status), 0, &[0; 256]),

@@ -1,4 +1,6 @@
-use crate::{Mix, Skew, generate};
+//! Lines of a trace that are drawn from a number.
+
+use envy_gen::{Mix, Skew, generate};
 use envy_io::{Failed, MemSink};
 use rand_core::{Rng, SeedableRng};
 use rand_pcg::Lcg128Xsl64;
@@ -12,8 +14,10 @@ fn words_are_those_of_the_original(rt: HostRuntime) {
         15492934433077865799,
         319104231195455319,
         2101115697694094752,
-    ] {
-        assert_eq!(rt; words.next_u64(), word);
+    ]
+    .as_slice()
+    {
+        assert_eq!(rt; words.next_u64(), *word);
     }
 }
 

@@ -1,5 +1,7 @@
-use super::*;
+//! A source and a sink that hold bytes back.
+
 use envy_io::{Failed, MemSink, MemSource, Sink, Source, write_all};
+use envy_streams::{BufferedSink, BufferedSource};
 use std::alloc::Global;
 use std::test::Fail;
 
