@@ -35,6 +35,7 @@ few f n most all k = elim (cases_lt k n) [
 rows-few : (pool : Pool) → IsPool pool → pool.shape.rows ≤ 1048576
 rows-few pool whole = let shape = whole.shape in let most = shape.few_rows in omega (arith, most)
 
+-- what the pool counts are counts of as many positions
 pub counted : (pool : Pool) (positions : ℕ) → IsPool pool → positions ≡ pool.shape.segments - 1 → IsCounted positions (counts_in pool)
 counted pool positions whole is = record {
   free = long (free_at pool) (pool.shape.segments - 1) ∙ sym is;

@@ -41,6 +41,7 @@ undo-closed [] words none = refl
 undo-closed (None ∷ slots) words none = undo-closed slots words (λ u. none (suc u))
 undo-closed (Some saved ∷ slots) words none = let no = none 0 in cc
 
+-- with no slot open nothing is undone
 pub undone-closed : (m : Array) → ((u : ℕ) → slot_of m u ≡ None) → undone m ≡ m.words
 undone-closed m none = undo-closed m.slots m.words none
 
@@ -191,9 +192,11 @@ all-none [] none = refl
 all-none (None ∷ slots) none = ap (λ (rest : List (Option Saved)). None ∷ rest) (all-none slots (λ u. none (suc u)))
 all-none (Some saved ∷ slots) none = let no = none 0 in cc
 
+-- a fresh array has no slot open
 pub closed-fresh : (shadows : ℕ) (words : List ℕ) → IsArray (fresh shadows words) → Closed words (fresh shadows words)
 closed-fresh shadows words array = record { array = array; slots = λ u. none-open 64 u; words = refl }
 
+-- and one with none open is fresh
 pub fresh-closed : (words : List ℕ) (m : Array) → Closed words m → m ≡ fresh m.shadows words
 fresh-closed words m c =
     let slots : m.slots ≡ replicate 64 None = all-none m.slots c.slots ∙ ap (λ (n : ℕ). replicate n None) c.array.slots in
