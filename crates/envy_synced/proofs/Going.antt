@@ -19,6 +19,7 @@ use Rattle.envy_journal.specs.Journal.{IsFileOf, IsLogged, journal_state, kept}
 use Rattle.envy_journal.specs.Log.{Begins}
 use Rattle.envy_journal.specs.Reading.{operations}
 use Rattle.envy_journal.specs.Steady.{IsSteady}
+use Rattle.envy_journal.proofs.Redone.{bads-never}
 use Rattle.envy_disk.specs.Disk.{Syncs, with_disk}
 use Rattle.envy_synced.specs.Disk.{Ends, IsKept}
 
@@ -46,16 +47,9 @@ journal_bads : (dead : Bool) (s : State) → (journal_state dead s).bads ≡ s.b
 journal_bads true s = refl
 journal_bads false s = refl
 
-up-zero : up 0 ≡ 1
-unfolding up
-up-zero = refl
-
-apart : (n : ℕ) → n ≡ 0 → n ≡ 1 → ⊥
-apart n none one = omega arith
-
 -- nothing is ever bad on it
-bads-never : (d e : Bool) (s t : State) → IsSteady s → IsSteady t → (journal_state e t).bads ≡ up (journal_state d s).bads → ⊥
-bads-never d e s t was is rose = apart t.bads is.bads (sym (journal_bads e t) ∙ rose ∙ ap up (journal_bads d s ∙ was.bads) ∙ up-zero)
+never-bad : (d e : Bool) (s t : State) → IsSteady s → IsSteady t → (journal_state e t).bads ≡ up (journal_state d s).bads → ⊥
+never-bad d e s t was is rose = bads-never s t was is (sym (journal_bads e t) ∙ rose ∙ ap up (journal_bads d s))
 
 -- What an operation says of the sizes and of power. `K` is what holds where it succeeded.
 pub record Goes (K : Type 0) (s t : State) : Type 0 where
@@ -83,14 +77,14 @@ module _ (K : Type 0) where
     programs_go q page (Ok done) (on, is) k = record { shape = ap (λ (x : State). x.shape) is; still = λ off. absurd (false≢true (sym off ∙ on)); on = λ lit. k }
     programs_go q page (Err TroubleOff) (inl (dark, is)) k = record { shape = ap (λ (x : State). x.shape) is; still = λ off. is; on = λ lit. absurd (false≢true (sym dark ∙ ap (λ (x : State). x.on) (sym is) ∙ lit)) }
     programs_go q page (Err TroubleOff) (inr (on, xs, fits, is)) k = record { shape = ap (λ (x : State). x.shape) is; still = λ off. absurd (false≢true (sym off ∙ on)); on = λ lit. absurd (false≢true (sym (ap (λ (x : State). x.on) is) ∙ lit)) }
-    programs_go q page (Err Bad) (on, xs, fits, is) k = absurd (bads-never d e a b was now (ap (λ (x : State). x.bads) is))
+    programs_go q page (Err Bad) (on, xs, fits, is) k = absurd (never-bad d e a b was now (ap (λ (x : State). x.bads) is))
 
     -- an erase does, too
     pub erases_go : (n : ℕ) (r : Result Unit Trouble) → Erases s n r t → OnOk r K → Goes K s t
     erases_go n (Ok done) (on, rows, only, is) k = record { shape = ap (λ (x : State). x.shape) is; still = λ off. absurd (false≢true (sym off ∙ on)); on = λ lit. k }
     erases_go n (Err TroubleOff) (inl (dark, is)) k = record { shape = ap (λ (x : State). x.shape) is; still = λ off. is; on = λ lit. absurd (false≢true (sym dark ∙ ap (λ (x : State). x.on) (sym is) ∙ lit)) }
     erases_go n (Err TroubleOff) (inr (on, rows, only, is)) k = record { shape = ap (λ (x : State). x.shape) is; still = λ off. absurd (false≢true (sym off ∙ on)); on = λ lit. absurd (false≢true (sym (ap (λ (x : State). x.on) is) ∙ lit)) }
-    erases_go n (Err Bad) (on, rows, only, is) k = absurd (bads-never d e a b was now (ap (λ (x : State). x.bads) is))
+    erases_go n (Err Bad) (on, rows, only, is) k = absurd (never-bad d e a b was now (ap (λ (x : State). x.bads) is))
 
 -- the same operation on the board that tells
 module _ (plans given pulled lives : ℕ) (s t : State) where
