@@ -20,7 +20,7 @@ use Rattle.envy_space.specs.Winners.{Highest, IsLowest, Lowest, Wins}
 use Rattle.envy_choosing.specs.Choosing.{IsAbove, IsBelow, IsFreeBeside, IsUsableIn, deads, frees}
 
 -- the rows at n positions
-abbrev rows_of : (ℕ → ℕ) → ℕ → List ℕ
+abbrev pub rows_of : (ℕ → ℕ) → ℕ → List ℕ
 rows_of f n = map f (range_with_len 0 n)
 
 pub long : (f : ℕ → ℕ) (n : ℕ) → length (rows_of f n) ≡ n
