@@ -1,9 +1,7 @@
 -- What happened since: one thing after another.
-use Rattle.std.proofs.Common.{◌≡◌, ◌⊎◌, inl, inr, ℕ, ◌+◌, ◌-◌, ◌^◌, ◌<◌, ◌≤◌, refl, sym, ◌∙◌, ap, subst, arith}
-use Rattle.std.specs.Prelude.{sum}
+use Rattle.std.proofs.Common.{◌≡◌, ◌⊎◌, inl, inr, ℕ, ◌+◌, ◌-◌, ◌^◌, ◌<◌, ◌≤◌, refl, sym, ◌∙◌, subst, arith}
 use Rattle.std.proofs.lemmas.Bool.{cases_lt}
 use Rattle.envy_base.specs.Counting.{up}
-use Rattle.envy_base.specs.declared.counts.Counts.{Counts}
 use Rattle.envy_flush.proofs.CountLemmas.{Tallies-trans}
 use Rattle.envy_flush.specs.Counts.{Tallies}
 use Rattle.envy_layout.specs.Same.{Counted, Grows, Kept}

@@ -1,5 +1,5 @@
 -- One transaction on the plain array.
-use Rattle.std.proofs.Common.{◌≡◌, ◌≢◌, ◌⊎◌, inl, inr, ℕ, zero, suc, ◌<◌, ◌≤◌, ◌+◌, false, cond, List, [], ◌∷◌, length, get_or, set, replicate, Option, None, Some, is_some, refl, sym, ◌∙◌, ap, subst, arith}
+use Rattle.std.proofs.Common.{◌≡◌, ◌≢◌, ◌⊎◌, inl, inr, ℕ, suc, ◌<◌, ◌≤◌, ◌+◌, false, cond, List, [], ◌∷◌, length, get_or, set, replicate, Option, None, Some, is_some, refl, sym, ◌∙◌, ap, subst, arith}
 use Rattle.std.specs.Prelude.{slice_index, slice_set}
 use Rattle.envy_base.specs.Array.{Array, Saved, IsArray, page_of, slot_of, owns, owner, owned, is_closed, undo_all, undone, with_slot, stored, put, saving}
 use Rattle.envy_base.specs.Step.{Answer, Begin, Put, Commit, Done, Started, Range, Held, Closed as ClosedAnswer, Full, Busy, Step, Lost}

@@ -1,5 +1,5 @@
 -- Accesses that are counted where power never failed.
-use Rattle.std.proofs.Common.{◌≡◌, ℕ, ◌+◌, ◌-◌, ◌*◌, ◌^◌, ◌<◌, ◌≤◌, List, Result, Ok, Err, sym, ◌∙◌, ap, subst, arith}
+use Rattle.std.proofs.Common.{◌≡◌, ℕ, ◌+◌, ◌-◌, ◌*◌, List, Result, Ok, Err, ap, subst, arith}
 use Rattle.std.specs.Prelude.{OnOk}
 use Rattle.envy_map.specs.Fields.{Chart}
 use Rattle.envy_base.specs.declared.area.Area.{Area}
