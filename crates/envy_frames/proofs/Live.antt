@@ -50,7 +50,7 @@ module _ {X : Type 0} where
   first-turned P p xs items i all is = first-of P items (subst (All P) (sym is) (All-append P (drop i xs) (filter p (take i xs)) (All-drop P i xs all) (All-filter p P (take i xs) (All-take P i xs all))))
 
 -- what an entry says that a frame holds
-abbrev held_of : Entry → Held
+abbrev pub held_of : Entry → Held
 held_of e = e.held
 
 -- the entries of other frames that are live are those of the others of the live ones
