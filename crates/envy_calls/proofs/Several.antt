@@ -58,6 +58,7 @@ Loaded-words (suc k) a words p q (r, loads, last) m stands =
 abbrev IsKept : Picture → Picture → Type 0
 IsKept p q = q ≡ record p { parts = record p.parts { cache = q.parts.cache } }
 
+-- what two steps keep both keep
 pub Kept-trans : (p r q : Picture) → IsKept p r → IsKept r q → IsKept p q
 Kept-trans p r q e f = f ∙ ap (λ (m : Picture). record m { parts = record m.parts { cache = q.parts.cache } }) e
 
@@ -67,6 +68,7 @@ within : (answer : Result Unit PutFault) (on then_on : Bool) (a n : ℕ) → num
     → (answer ≡ Err PutOff) ↔ (then_on ≡ false) → (on ≡ false → then_on ≡ false) → (answer ≡ Err PutRange) ↔ (IsTrue on × (n ≤ a)) → a < n
 within answer on then_on a n is off unpowered range = grind (arith, is, off, unpowered, range)
 
+-- a put that is done is within the array
 pub put-within : (p q : Picture) (t a w before after : ℕ) → PutsTo p q t a w (number_of Done) before after → a < 32 * p.chart.shape.pages
 put-within p q t a w before after puts =
     within puts.answer p.chart.on q.chart.on a (32 * p.chart.shape.pages) puts.coded puts.off
@@ -81,6 +83,7 @@ same_holder (Err (PutHeld u)) before after is e = absurd (omega (arith, is))
 same_holder (Err PutFull) before after is e = absurd (omega (arith, is))
 same_holder (Err PutBad) before after is e = absurd (omega (arith, is))
 
+-- and leaves the place of the holder
 pub put-holder : (p q : Picture) (t a w before after : ℕ) → PutsTo p q t a w (number_of Done) before after → after ≡ before
 put-holder p q t a w before after puts = same_holder puts.answer before after puts.coded puts.written
 

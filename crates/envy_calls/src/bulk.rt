@@ -9,6 +9,7 @@ ghost use Rattle.envy_memory.specs.Picture.{Picture};
 use crate::code::Code;
 use crate::ending::slot_named;
 use crate::faults::put_answer;
+use crate::viewing::PAGE_WORDS;
 use envy_base::Board;
 use envy_memory::{LoadFault, Memory};
 
@@ -63,7 +64,7 @@ fn read_words<B: Board>(memory: &mut Memory<B>, a: u32, into: &mut [u64]) -> Res
         return Err(LoadFault::Off);
     }
     addresses_fit(memory);
-    let words = 32 * memory.board().shape().pages as u64;
+    let words = PAGE_WORDS as u64 * memory.board().shape().pages as u64;
     if into.len() as u64 > words.saturating_sub(a as u64) {
         return Err(LoadFault::Range);
     }

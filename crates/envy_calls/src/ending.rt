@@ -6,11 +6,14 @@ use crate::faults::{begin_answer, end_answer};
 use envy_base::Board;
 use envy_memory::Memory;
 
+/// The transaction slots.
+const SLOTS: u32 = 64;
+
 /// The slot of a number. From 64 on a number names none.
 pub fn slot_named(t: u32) -> u8
     ensures { result ≡ named t }
 {
-    if t < 64 { t as u8 } else { 64 }
+    if t < SLOTS { t as u8 } else { SLOTS as u8 }
 }
 
 /// Opens the lowest slot that isn't open, and writes its number at `opened`.

@@ -12,6 +12,9 @@ use envy_base::{Board, Undo};
 use envy_map::undo;
 use envy_memory::Memory;
 
+/// The words of a page.
+pub(crate) const PAGE_WORDS: u32 = 32;
+
 // The slot that an undo names.
 fn slot_of(undo: Undo) -> Option<u8>
     ensures { result ≡ slot_of_undo (Some undo) }
@@ -30,10 +33,10 @@ fn is_own<B: Board>(memory: &Memory<B>, t: u8, a: u32) -> bool
         (IsTrue memory.now.chart.on → a < 32 * memory.now.chart.shape.pages → IsOwn memory.now t a → ⊥) }
 {
     let board = memory.board();
-    if a / 32 >= board.shape().pages {
+    if a / PAGE_WORDS >= board.shape().pages {
         return false;
     }
-    match undo(board, a / 32) {
+    match undo(board, a / PAGE_WORDS) {
         Ok(undo) => slot_of(undo) == Some(t),
         Err(_) => false,
     }

@@ -20,7 +20,7 @@ use Rattle.envy_space.specs.Winners.{Highest, IsLowest, Lowest, Wins}
 use Rattle.envy_choosing.specs.Choosing.{IsAbove, IsBelow, IsFreeBeside, IsUsableIn, deads, frees}
 
 -- the rows at n positions
-abbrev rows_of : (ℕ → ℕ) → ℕ → List ℕ
+abbrev pub rows_of : (ℕ → ℕ) → ℕ → List ℕ
 rows_of f n = map f (range_with_len 0 n)
 
 pub long : (f : ℕ → ℕ) (n : ℕ) → length (rows_of f n) ≡ n
@@ -35,6 +35,7 @@ frees-long pool = long (free_at pool) (pool.shape.segments - 1)
 pub deads-long : (pool : Pool) → length (deads pool) ≡ pool.shape.segments - 1
 deads-long pool = long (dead_at pool) (pool.shape.segments - 1)
 
+-- the lowest position with a row is the first of the list with one
 pub first-with : (f : ℕ → ℕ) (n first end : ℕ) (found : Option ℕ) → end ≤ n → Lowest f first end found → FirstWith (rows_of f n) first end found
 first-with f n first end None within lowest = λ k low high. at f n k (omega arith) ∙ lowest k low high
 first-with f n first end (Some p) within lowest =
@@ -56,6 +57,7 @@ usable-at h pool g (k, inr has) =
     let some = has.1 in
     (k, below, has.0, omega arith)
 
+-- a position with a row makes its partition usable
 pub at-usable : (h : History) (pool : Pool) (g k : ℕ) → k < pool.shape.segments - 1 → partition_of h k ≡ g → 0 < usable_at pool k → IsUsableIn h pool g
 at-usable h pool g k below is some = elim (cases_lt 0 (free_at pool k)) [
   | inl has ↦ let here = at (free_at pool) (pool.shape.segments - 1) k below in (k, inl (is, omega arith))
@@ -104,6 +106,7 @@ from-end h own k whole more = elim (cases_lt k (first_of h own + run h)) [
 up : (h : History) (j k : ℕ) → IsHistory h → j ≤ k → partition_of h j ≤ partition_of h k
 up h j k whole le = let own = run-holds (run h) j whole.part in le-div (j / run h) k (run h) whole.part (omega arith)
 
+-- without a row below the partition none below it is usable
 pub below-none : (h : History) (pool : Pool) (own first : ℕ) → IsHistory h → first ≡ first_of h own → Highest (usable_at pool) 0 first None → (y : ℕ) → y < own → IsUsableIn h pool y → ⊥
 below-none h pool own first whole low highest y less usable =
     let (k, below, is, some) = usable-at h pool y usable in
@@ -111,6 +114,7 @@ below-none h pool own first whole low highest y less usable =
     let none = highest k (omega arith) (omega arith) in
     omega arith
 
+-- the highest position below it with a row is in the nearest usable partition below
 pub below-some : (h : History) (pool : Pool) (own first k g : ℕ) → IsHistory h → h.positions ≡ pool.shape.segments - 1 → first ≡ first_of h own → first < h.positions → Highest (usable_at pool) 0 first (Some k) → g ≡ partition_of h k → IsBelow h pool own g
 below-some h pool own first k g whole same low within highest is =
     let below = highest.below in
@@ -130,6 +134,7 @@ below-some h pool own first k g whole same low within highest is =
           | inr at_most ↦ let upward = up h j k whole at_most in omega arith
         ]
 
+-- without a row above it none above it is usable
 pub above-none : (h : History) (pool : Pool) (own end : ℕ) → IsHistory h → end ≡ end_of h own → Lowest (usable_at pool) end (pool.shape.segments - 1) None → (y : ℕ) → own < y → IsUsableIn h pool y → ⊥
 above-none h pool own end whole high lowest y more usable =
     let (k, below, is, some) = usable-at h pool y usable in
@@ -137,6 +142,7 @@ above-none h pool own end whole high lowest y more usable =
     let none = lowest k (omega arith) below in
     omega arith
 
+-- the lowest position above it with a row is in the nearest above
 pub above-some : (h : History) (pool : Pool) (own end k g : ℕ) → IsHistory h → h.positions ≡ pool.shape.segments - 1 → end ≡ end_of h own → Lowest (usable_at pool) end (pool.shape.segments - 1) (Some k) → g ≡ partition_of h k → IsAbove h pool own g
 above-some h pool own end k g whole same high lowest is =
     let above = lowest.above in
@@ -164,6 +170,7 @@ Below h pool own found = MatchOption found ((y : ℕ) → y < own → IsUsableIn
 abbrev pub Above : History → Pool → ℕ → Option ℕ → Type 0
 Above h pool own found = MatchOption found ((y : ℕ) → own < y → IsUsableIn h pool y → ⊥) (IsAbove h pool own)
 
+-- a usable partition is nearest to itself
 pub nearest-own : (h : History) (pool : Pool) (home own : ℕ) → own ≡ partition_of h home → IsUsableIn h pool own → IsNearest h (frees pool) (deads pool) home own
 nearest-own h pool home own is usable = record {
   holds = usable;
@@ -197,6 +204,7 @@ beside h pool own g below above unusable under over nearer y usable = side (case
           (omega arith, λ e. let lowest = nearer.lowest b (inr is) (omega arith) in omega arith)
     ]
 
+-- else the nearer of the two beside it is
 pub nearest-beside : (h : History) (pool : Pool) (home own g : ℕ) (below above : Option ℕ) → own ≡ partition_of h home → (IsUsableIn h pool own → ⊥) → Below h pool own below → Above h pool own above → Nearer own below above (Some g) → IsNearest h (frees pool) (deads pool) home g
 nearest-beside h pool home own g below above own_is unusable under over nearer =
     subst (λ (x : ℕ). IsLeast (IsUsableIn h pool) (distance x) g) own_is (record {
@@ -355,6 +363,7 @@ victim-in InTurn h dead g k victim = victim.holds.0
 pub choice-free : (h : History) (free dead : List ℕ) (home g k : ℕ) → IsNearest h free dead home g → IsLeast (HasRows h free g) (λ x. x) k → IsChoice h free dead home (Free k)
 choice-free h free dead home g k nearest least = subst (λ (x : ℕ). IsNearest h free dead home x × IsLeast (HasRows h free x) (λ y. y) k) (sym least.holds.0) (nearest, least)
 
+-- a partition without a free row is cleaned at its victim
 pub choice-clean : (h : History) (free dead : List ℕ) (home g k : ℕ) (aside : Option ℕ) → IsNearest h free dead home g → ((x : ℕ) → HasRows h free g x → ⊥) → IsVictim (victims_of h.policy) h dead g k → IsAside h g aside → IsChoice h free dead home (Clean k aside)
 choice-clean h free dead home g k aside nearest none victim beside =
     subst (λ (x : ℕ). IsNearest h free dead home x × ((y : ℕ) → HasRows h free x y → ⊥) × IsVictim (victims_of h.policy) h dead x k × IsAside h x aside) (sym (victim-in (victims_of h.policy) h dead g k victim)) (nearest, none, victim, beside)
@@ -367,6 +376,7 @@ pub above-over : (h : History) (pool : Pool) (own : ℕ) (found : Option ℕ) �
 above-over h pool own None none = tt
 above-over h pool own (Some g) is = is.over
 
+-- a usable partition is one of those there are
 pub in-count : (h : History) (pool : Pool) (g : ℕ) → IsHistory h → h.positions ≡ pool.shape.segments - 1 → IsUsableIn h pool g → g < length h.heats
 in-count h pool g whole same usable = usable-counted h (frees pool) (deads pool) g whole (frees-long pool ∙ sym same) (deads-long pool ∙ sym same) usable
 

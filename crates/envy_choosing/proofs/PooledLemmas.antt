@@ -1,7 +1,6 @@
 -- What a pool answers, as the policy that parts pages by their lives asks for it.
-use Rattle.std.proofs.Common.{◌≡◌, inl, inr, ℕ, ◌+◌, ◌-◌, ◌<◌, ◌≤◌, List, length, get_or, slice_index, Option, None, Some, MatchOption, sym, ◌∙◌, subst, arith}
-use Rattle.std.specs.Prelude.{map, min}
-use Rattle.std.specs.List.{range_with_len}
+use Rattle.std.proofs.Common.{◌≡◌, inl, inr, ℕ, ◌+◌, ◌-◌, ◌<◌, ◌≤◌, length, get_or, slice_index, Option, None, Some, MatchOption, sym, ◌∙◌, subst, arith}
+use Rattle.std.specs.Prelude.{min}
 use Rattle.std.proofs.lemmas.Bool.{cases_lt}
 use Rattle.std.proofs.lemmas.List.{get_or_past}
 use Rattle.std.proofs.lemmas.List.FromFn.{get_or-map-range_with_len}
@@ -11,13 +10,10 @@ use Rattle.envy_policy.specs.Lifetime.{IsCounted, IsLowest as IsLowestOf}
 use Rattle.envy_space.specs.Pool.{Pool, IsPool, free_at, dead_at}
 use Rattle.envy_space.specs.Winners.{Lowest}
 use Rattle.envy_choosing.specs.Choosing.{counts_in, deads, frees}
-use Rattle.envy_choosing.proofs.ChoosingLemmas.{long}
+use Rattle.envy_choosing.proofs.ChoosingLemmas.{rows_of, long}
 
 abbrev pub kept_at : Pool → ℕ → ℕ
 kept_at pool k = slice_index pool.kept (slice_index pool.positions k)
-
-abbrev rows_of : (ℕ → ℕ) → ℕ → List ℕ
-rows_of f n = map f (range_with_len 0 n)
 
 pub at : (f : ℕ → ℕ) (n k : ℕ) → k < length (rows_of f n) → get_or (rows_of f n) k 0 ≡ f k
 at f n k lt = get_or-map-range_with_len f 0 n k k 0 (omega (arith, lt, long f n)) (omega arith)
@@ -35,6 +31,7 @@ few f n most all k = elim (cases_lt k n) [
 rows-few : (pool : Pool) → IsPool pool → pool.shape.rows ≤ 1048576
 rows-few pool whole = let shape = whole.shape in let most = shape.few_rows in omega (arith, most)
 
+-- what the pool counts are counts of as many positions
 pub counted : (pool : Pool) (positions : ℕ) → IsPool pool → positions ≡ pool.shape.segments - 1 → IsCounted positions (counts_in pool)
 counted pool positions whole is = record {
   free = long (free_at pool) (pool.shape.segments - 1) ∙ sym is;

@@ -50,6 +50,7 @@ same-page sh places held p r k a one two = at (a.named p k one) (a.named r k two
         let same : h ≡ e = same-one (λ (x : Held). x.frame) held a.apart i j h e lt less is its (mine.1 ∙ sym other.1) in
         sym mine.0 ∙ ap (λ (x : Held). x.page) same ∙ other.0
 
+-- a frame given back, and its page elsewhere
 pub AreHeld-given : (sh : Shape) (places : List (Option Place)) (held : List Held) (p k : ℕ) (x : Option Place) → AreHeld sh places held → get_or places p None ≡ Some (Frame k) → IsElsewhere x → AreHeld sh (set places p x) (filter (is_other k) held)
 AreHeld-given sh places held p k x a is elsewhere = record {
   each = λ i d lt. let h = get_or (filter (is_other k) held) i d in let mine : IsHeld sh places h = All-filter (is_other k) (IsHeld sh places) held a.each i d lt in
@@ -64,6 +65,7 @@ AreHeld-given sh places held p k x a is elsewhere = record {
         let there : get_or places r None ≡ Some (Frame j) = sym (get_or-set_other places p r x None other) ∙ names in
         Any-filter (is_other k) (λ h. (h.page ≡ r) × (h.frame ≡ j)) held (λ h both. ap not (ne_eqb h.frame k (λ e. other (same-page sh places held r p k a (there ∙ ap (λ (n : ℕ). Some (Frame n)) (sym both.1 ∙ e)) is)))) (a.named r j there)
 
+-- a frame taken for a page that lay elsewhere
 pub AreHeld-taken : (sh : Shape) (places : List (Option Place)) (held : List Held) (p k home : ℕ) → AreHeld sh places held → length places ≡ sh.pages → p < sh.pages → home < sh.segments - 1 → IsElsewhere (get_or places p None) → IsUnheld held k → AreHeld sh (set places p (Some (Frame k))) (held ++ (record { frame = k; page = p; home = home }) ∷ [])
 AreHeld-taken sh places held p k home a long lt position elsewhere unheld = record {
   each = All-push (IsHeld sh (set places p (Some (Frame k)))) held new

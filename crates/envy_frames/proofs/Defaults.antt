@@ -44,6 +44,7 @@ length-le_apart-frames held n below apart =
         let right : get_or (map frame held) j d ≡ (get_or held j some).frame = get_or-map frame held j some d (omega arith) in
         apart i j some less (omega arith) (sym left ∙ same ∙ right)
 
+-- the home that a page has by default is a position
 pub default_home-fits : (sh : Shape) (p : ℕ) → IsShape sh → p < sh.pages → default_home sh p < sh.segments - 1
 default_home-fits sh p shape lt = let some = shape.segments in let pages = shape.pages in grind arith
 
@@ -103,6 +104,7 @@ AreBefore-all sh places shape ok (suc n) le =
     let grown : AreBefore sh places (n + 1) (held_before sh places (n + 1)) = subst (AreBefore sh places (n + 1)) (sym (held_before_more sh places n)) next in
     subst (λ (m : ℕ). AreBefore sh places m (held_before sh places m)) (add-one n) grown
 
+-- the pages in frames, in order of pages, are those held
 pub AreHeld-default : (sh : Shape) (places : List (Option Place)) → IsShape sh → Places sh places → AreHeld sh places (held_by_default sh places)
 AreHeld-default sh places shape ok =
     let all = AreBefore-all sh places shape ok sh.pages (omega arith) in
@@ -120,6 +122,7 @@ order_before sh places shape ok n le = record { below = below; apart = all.apart
     below : All (λ h. h.frame < sh.frames) held
     below i d lt = ok.frames (get_or held i d).page (get_or held i d).frame (IsHeld.here (all.each i d lt))
 
+-- no frame is held twice then
 pub order-default : (sh : Shape) (places : List (Option Place)) → IsShape sh → Places sh places → IsOrder (record { held = held_by_default sh places; count = sh.frames })
 order-default sh places shape ok = order_before sh places shape ok sh.pages (omega arith)
 
@@ -130,6 +133,7 @@ room_before sh places shape ok n k lt is =
     let more : held_before sh places (n + 1) ≡ held_before sh places n ++ new ∷ [] = held_before_more sh places n ∙ ap (λ (x : Option Place). held_before sh places n ++ cons_option (held_at sh n x) []) is in
     omega (arith, (order_before sh places shape ok (n + 1) (omega arith)).few, ap length more, length_push (held_before sh places n) new)
 
+-- a page that isn't in a frame adds none
 pub held_before_same : (sh : Shape) (places : List (Option Place)) (n : ℕ) → ((k : ℕ) → get_or places n None ≢ Some (Frame k)) → held_before sh places (n + 1) ≡ held_before sh places n
 held_before_same sh places n elsewhere = held_before_more sh places n ∙ at (get_or places n None) refl
   where
@@ -139,6 +143,7 @@ held_before_same sh places n elsewhere = held_before_more sh places n ∙ at (ge
     at (Some Absent) is = append-nil (held_before sh places n)
     at None is = append-nil (held_before sh places n)
 
+-- one in a frame adds it
 pub held_before_next : (sh : Shape) (places : List (Option Place)) (n k : ℕ) → get_or places n None ≡ Some (Frame k) → held_before sh places (n + 1) ≡ held_before sh places n ++ (record { frame = k; page = n; home = default_home sh n }) ∷ []
 held_before_next sh places n k is = held_before_more sh places n ∙ ap (λ (x : Option Place). held_before sh places n ++ cons_option (held_at sh n x) []) is
 

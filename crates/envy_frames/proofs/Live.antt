@@ -49,7 +49,8 @@ module _ {X : Type 0} where
   pub first-turned : (P : X → Type 0) (p : X → Bool) (xs items : List X) (i : ℕ) → All P xs → items ≡ drop i xs ++ filter p (take i xs) → IfSome (slice_get items 0) P
   first-turned P p xs items i all is = first-of P items (subst (All P) (sym is) (All-append P (drop i xs) (filter p (take i xs)) (All-drop P i xs all) (All-filter p P (take i xs) (All-take P i xs all))))
 
-abbrev held_of : Entry → Held
+-- what an entry says that a frame holds
+abbrev pub held_of : Entry → Held
 held_of e = e.held
 
 -- the entries of other frames that are live are those of the others of the live ones
@@ -70,6 +71,7 @@ kept-unheld stamps f xs unheld =
         let is : get_or (map held_of live) k (held_of d) ≡ (get_or live k d).held = get_or-map held_of live k d (held_of d) lt in
         ap not (ne_eqb (get_or live k d).held.frame f (λ same. unheld k (held_of d) (omega (arith, length-map live held_of)) (ap (λ (h : Held). h.frame) is ∙ same)))
 
+-- dropping what is stale leaves what is live
 pub kept-live : (stamps : List ℕ) (xs kept : List Entry) → WereKept stamps xs kept → filter (is_live stamps) kept ≡ filter (is_live stamps) xs
 kept-live stamps xs kept (inl all) = ap (filter (is_live stamps)) all
 kept-live stamps xs kept (inr live) = ap (filter (is_live stamps)) live ∙ filter-twice (is_live stamps) xs
@@ -87,10 +89,12 @@ module _ (stamps : List ℕ) (xs kept : List Entry) (e : Entry) (were : WereKept
   joins : is_live stamps e ≡ true
   joins = eq-eqb (get_or stamps e.held.frame 0) e.stamp is
 
+  -- an entry put behind what was kept is held last
   pub held-joined : held_in stamps (kept ++ e ∷ []) ≡ held_in stamps xs ++ e.held ∷ []
   held-joined =
       ap (map held_of) (filter-append (is_live stamps) kept (e ∷ []) ∙ rw (kept-live stamps xs kept were, joins) refl) ∙ map-append held_of (filter (is_live stamps) xs) (e ∷ [])
 
+  -- and the first is still live
   pub first-joined : IsLiveFirst stamps xs → IsLiveFirst stamps (kept ++ e ∷ [])
   first-joined first = first-push (λ x. is_live stamps x ≡ true) kept e (kept-first stamps xs kept were first) joins
 
@@ -117,6 +121,7 @@ next-kept stamps f s e is lt past = at (cases_eq e.held.frame f)
         let out : (e.held.frame == f) ≡ false = ne_eqb e.held.frame f other in
         rw (there, out) refl
 
+-- a frame whose stamp has moved on is held no more
 pub next-held : (entries : Buffer Entry) (stamps : List ℕ) (f s : ℕ) → AreStamped entries stamps → get_or stamps f 0 ≡ s → f < length stamps → held_in (set stamps f (s + 1)) entries.items ≡ filter (is_other f) (held_in stamps entries.items)
 next-held entries stamps f s stamped is lt =
     ap (map held_of) (filter_within (is_live (set stamps f (s + 1))) (is_kept stamps f) entries.items (λ k d less. next-kept stamps f s (get_or entries.items k d) is lt (stamped.past k d less))) ∙ kept-held stamps f entries.items
@@ -147,6 +152,7 @@ module _ (xs : List Entry) (stamps : List ℕ) (f x : ℕ) where
   stays : (e : Entry) → is_kept stamps f e ≡ true → get_or (set stamps f x) e.held.frame 0 ≡ get_or stamps e.held.frame 0
   stays e kept = get_or-set_other stamps f e.held.frame x 0 (λ same. both_ways (e.held.frame == f) (not-true (e.held.frame == f) (both (is_other f e.held) (is_live stamps e) kept).0) (eq-eqb e.held.frame f same))
 
+  -- so is one whose stamp is any other, where its entries were dropped
   pub anew-held : held_in (set stamps f x) (filter (is_kept stamps f) xs) ≡ filter (is_other f) (held_in stamps xs)
   anew-held =
       ap (map held_of) (filter_all (is_live (set stamps f x)) (filter (is_kept stamps f) xs) live) ∙ kept-held stamps f xs
@@ -199,6 +205,7 @@ held-unstamped stamps (h ∷ hs) zero =
     let live : is_live stamps (unstamped h) ≡ true = eq-eqb (get_or stamps h.frame 0) 0 (zero 0 h (omega arith)) in
     rw live (ap (λ (r : List Held). h ∷ r) (held-unstamped stamps hs (All-tail (λ x. get_or stamps x.frame 0 ≡ 0) h hs zero)))
 
+-- the home of a frame is noted where it is taken
 pub homes-joined : (homes : List ℕ) (held : List Held) (h : Held) → AreHomes homes held → All (λ x. x.frame ≢ h.frame) held → h.frame < length homes → AreHomes (set homes h.frame h.home) (held ++ h ∷ [])
 homes-joined homes held h are apart lt =
     All-push (λ x. get_or (set homes h.frame h.home) x.frame 0 ≡ x.home) held h

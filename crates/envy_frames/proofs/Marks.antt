@@ -3,6 +3,7 @@ use Rattle.std.proofs.Common.{◌≡◌, ◌⊎◌, inl, inr, ℕ, ◌+◌, ◌<
 use Rattle.std.specs.Prelude.{◌==◌, ◌↔◌, IsOk, OnOk, is_ok, if◌then◌else◌}
 use Rattle.std.proofs.lemmas.List.{get_or-set_same, get_or-set_other, length-set, append-nil}
 use Rattle.std.proofs.lemmas.Bool.{cases_eq, eq-eqb, ne_eqb, or_right}
+use Rattle.std.proofs.Math.Bool.{or-false}
 use Rattle.circular_buffer.specs.Buffer.{Buffer, buffer}
 use Rattle.envy_frames.specs.declared.held.Held.{Held}
 use Rattle.envy_frames.specs.Order.{has_frame, others_of}
@@ -40,10 +41,6 @@ module _ {X E : Type 0} where
   pub with_placed : (old new : Buffer X) (x : X) (r : Result Unit E) → (IsOk r ↔ (length old.items < old.capacity)) → OnOk r (new ≡ buffer (old.items ++ x ∷ []) old.capacity) → length old.items < old.capacity → new ≡ buffer (old.items ++ x ∷ []) old.capacity
   with_placed old new x (Ok done) variant on room = on
   with_placed old new x (Err e) variant on room = let no = variant.1 room in cc
-
-or-false : (b : Bool) → (b || false) ≡ b
-or-false true = refl
-or-false false = refl
 
 -- once none is left to be marked, the marks are those of the held ones
 pub all_marked : (marks seen : List Bool) (left whole : List Held) → left ≡ [] → seen ≡ marks → ((f : ℕ) → f < length marks → (get_or marks f false || has_frame left f) ≡ has_frame whole f) → (f : ℕ) → f < length seen → has_frame whole f ≡ get_or seen f false

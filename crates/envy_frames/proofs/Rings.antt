@@ -11,6 +11,7 @@ use Rattle.envy_frames.specs.Entries.{AreHomes, AreStamped, IsLiveFirst, IsRing,
 use Rattle.envy_frames.specs.Order.{IsUnheld, is_other}
 use Rattle.envy_frames.proofs.Live.{held-unstamped, homes-joined}
 
+-- an empty ring
 pub IsRing-none : (entries : Buffer Entry) (stamps homes : List ℕ) (n : ℕ) → entries ≡ buffer [] (2 * n) → length stamps ≡ n → length homes ≡ n → IsRing entries stamps homes
 IsRing-none entries stamps homes n is long homes_long = rw is (record {
   stamped = record { below = λ k d lt. absurd (omega arith); past = λ k d lt. absurd (omega arith); fits = omega arith };
@@ -63,6 +64,7 @@ module _ (stamps : List ℕ) (hs : List Held) (zero : (k : ℕ) → k < length s
   pub held-rebuilt : held_in stamps (map unstamped hs) ≡ hs
   held-rebuilt = held-unstamped stamps hs (λ k d lt. zero (get_or hs k d).frame (below k d lt))
 
+  -- a ring of what the map says
   pub IsRing-rebuilt : (entries : Buffer Entry) (homes : List ℕ) → entries.items ≡ map unstamped hs → entries.capacity ≡ 2 * length stamps → length hs ≤ length stamps → AreHomes homes hs → length homes ≡ length stamps → IsRing entries stamps homes
   IsRing-rebuilt entries homes is cap few are long = record {
     stamped = record {

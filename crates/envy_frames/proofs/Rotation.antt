@@ -10,6 +10,7 @@ use Rattle.envy_frames.specs.Order.{IsApart, is_other}
 use Rattle.envy_frames.proofs.Lists.{without-first}
 
 module _ {X : Type 0} (p : X → Bool) where
+  -- a ring that has turned once more
   pub turned : (xs items : List X) (i : ℕ) (h : X) → i < length xs → items ≡ drop i xs ++ filter p (take i xs) → slice_get items 0 ≡ Some h → drop 1 items ++ cond (p h) (h ∷ []) [] ≡ drop (i + 1) xs ++ filter p (take (i + 1) xs)
   turned xs items i h lt is front =
       let split : drop i xs ≡ get_or xs i h ∷ drop (i + 1) xs = drop_more xs i h lt in
@@ -22,6 +23,7 @@ module _ {X : Type 0} (p : X → Bool) where
   turned_if xs [] new i lt is one = absurd (omega (arith, ap length is, length-append (drop i xs) (filter p (take i xs)), length-drop i xs))
   turned_if xs (h ∷ rest) new i lt is one = one ∙ turned xs (h ∷ rest) i h lt is refl
 
+  -- turning makes a ring no longer
   pub length-turned : (xs items : List X) (i : ℕ) → i ≤ length xs → items ≡ drop i xs ++ filter p (take i xs) → length items ≤ length xs
   length-turned xs items i le is = omega (arith, ap length is, length-append (drop i xs) (filter p (take i xs)), length-drop i xs, length-filter p (take i xs), count_by-le-length p (take i xs), length-take i xs)
 

@@ -48,6 +48,7 @@ length-others (h ∷ held) n below apart =
     let one = length-without (λ (f : ℕ). f) h.frame (others_of held n) (AllPairs-filter (λ x y. x ≢ y) (λ (f : ℕ). not (has_frame held f)) (range_with_len 0 n) (range_apart 0 n)) there in
     omega (arith, ap length (same ∙ sym twice))
 
+-- nothing is held at first
 pub IsOrder-none : (n : ℕ) → IsOrder (record { held = []; count = n })
 IsOrder-none n = record { below = λ k d lt. absurd (omega arith); apart = λ i j d less lt. absurd (omega arith); few = omega arith }
 
@@ -115,6 +116,7 @@ IsFrames-given o free room more marks k held le f =
     at : Any (λ h. h.frame ≡ k) o.held → k < o.count
     at (i, h, lt, is, same) = let low : h.frame < o.count = subst (λ (x : Held). x.frame < o.count) is (f.order.below i h lt) in omega arith
 
+-- whether the next frame is free
 pub others_more : (held : List Held) (n : ℕ) → others_of held (n + 1) ≡ others_of held n ++ cond (not (has_frame held n)) (n ∷ []) []
 others_more held n =
     let test : ℕ → Bool = λ f. not (has_frame held f) in

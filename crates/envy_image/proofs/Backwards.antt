@@ -17,9 +17,11 @@ use Rattle.envy_image.specs.Installing.{Goes, Installs, body_size}
 use Rattle.envy_image.specs.declared.installing.InFault.{InFault}
 use Rattle.envy_image.proofs.Programming.{length-words}
 
+-- of two equal texts in two parts, where the fronts are equally long, the fronts are equal
 pub same-front : (a b x y : List ℕ) → length a ≡ length b → a ++ x ≡ b ++ y → a ≡ b
 same-front a b x y long same = sym (take-append_seam a x) ∙ (ap (take (length a)) same ∙ (ap (λ (n : ℕ). take n (b ++ y)) long ∙ take-append_seam b y))
 
+-- and so are the rests
 pub same-rest : (a b x y : List ℕ) → length a ≡ length b → a ++ x ≡ b ++ y → x ≡ y
 same-rest a b x y long same = sym (drop-append_seam a x) ∙ (ap (drop (length a)) same ∙ (ap (λ (n : ℕ). drop n (b ++ y)) long ∙ drop-append_seam b y))
 
@@ -96,12 +98,14 @@ same-numbers s t f g same =
     let (h, r6) = next-number s.entries t.entries _ _ f.entries g.entries r5 in
     same-shape s t a b c d e h
 
+-- equal heads say the same sizes
 pub same-head : (s t : Shape) (x y : List ℕ) → FitNumbers s → FitNumbers t → head_of s ++ x ≡ head_of t ++ y → s ≡ t
 unfolding head_of
 same-head s t x y fs ft same =
     let heads : mark ++ numbers_bytes (numbers_of s) ≡ mark ++ numbers_bytes (numbers_of t) = same-front (mark ++ numbers_bytes (numbers_of s)) (mark ++ numbers_bytes (numbers_of t)) x y refl same in
     same-numbers s t fs ft (same-rest mark mark _ _ refl heads)
 
+-- behind equal heads the same follows
 pub behind-head : (s t : Shape) (x y : List ℕ) → head_of s ++ x ≡ head_of t ++ y → x ≡ y
 behind-head s t x y same = same-rest (head_of s) (head_of t) x y (length-head s ∙ sym (length-head t)) same
 
@@ -116,6 +120,7 @@ pub length-image : (s : State) → IsBoard s → length (image_of s) ≡ 32 + bo
 unfolding image_of
 length-image s law = omega (arith, length-append (head_of s.shape) (body_of s.flash s.sram), length-head s.shape, length-body s law)
 
+-- equal bodies hold the same flash and SRAM
 pub same-body : (s t : State) (x y : List ℕ) → IsBoard s → IsBoard t → s.shape ≡ t.shape → body_of s.flash s.sram ++ x ≡ body_of t.flash t.sram ++ y → HoldTheSame s t × (x ≡ y)
 same-body s t x y ls lt shape same = (record { shape = shape; flash = flash; sram = sram }, same-rest (body_of s.flash s.sram) (body_of t.flash t.sram) x y even same)
   where
@@ -137,12 +142,14 @@ same-body s t x y ls lt shape same = (record { shape = shape; flash = flash; sra
     sram : s.sram ≡ t.sram
     sram = same-words s.sram t.sram (ls.sram ∙ (ap words_of shape ∙ sym lt.sram)) ls.words lt.words (same-rest (rows_bytes s.flash) (rows_bytes t.flash) (words_bytes s.sram) (words_bytes t.sram) bytes-even bodies)
 
+-- no text begins with two images
 pub one-image : BeginWithOneImage
 unfolding image_of
 one-image s t a b ls lt same =
     let heads : head_of s.shape ++ (body_of s.flash s.sram ++ a) ≡ head_of t.shape ++ (body_of t.flash t.sram ++ b) = sym (append_assoc (head_of s.shape) (body_of s.flash s.sram) a) ∙ (same ∙ append_assoc (head_of t.shape) (body_of t.flash t.sram) b) in
     same-body s t a b ls lt (same-head s.shape t.shape _ _ (fit-numbers s.shape ls.shape) (fit-numbers t.shape lt.shape) heads) (behind-head s.shape t.shape _ _ heads)
 
+-- what is installed is what the image was made of
 pub gives-back : (old new : State) (was now : Taking) (from to : Feed) (result : Result Unit InFault) → IsBoard new → Installs old was from result new now to → GivesBack old was from result new
 gives-back old new was now from to (Err fault) law stops = λ b rest whole shape none left. tt
 gives-back old new was now from to (Ok done) law i = λ b rest whole shape none left. at b rest whole shape none left to.left i.bytes.draws.left

@@ -19,9 +19,11 @@ blanked-none s on = record {
   others = λ e le. refl;
 }
 
+-- blanking segments keeps power on and the sizes
 pub blanked-goes : (n : ℕ) (old new : State) → Blanked n old new → Goes old new
 blanked-goes n old new b = subst (λ (s : State). Goes old s) (sym b.same) (record { on = b.on; same = refl })
 
+-- one segment more is erased
 pub blanked-more : (n : ℕ) (old mid new : State) → n < length old.erases → Blanked n old mid → Erases mid n (Ok tt) new → Blanked (n + 1) old new
 blanked-more n old mid new lt b (on, rows, erased, is) =
     subst (λ (s : State). Blanked (n + 1) old s) (sym (is ∙ ap (λ (s : State). with_segment s n rows) b.same)) (record {

@@ -26,6 +26,7 @@ after-both [] b old mid new first second = subst (λ (d : Drain). AfterPiece b d
 after-both (x ∷ a) [] old mid new first second = ap (λ (d : Drain). d.flushed) second ∙ first
 after-both (x ∷ a) (y ∷ b) old mid new first second = second
 
+-- two pieces that are written whole
 pub written-more : (a b : List ℕ) (old mid new : Drain) → WritesAll old a (Ok tt) mid → WritesAll mid b (Ok tt) new → WritesAll old (a ++ b) (Ok tt) new
 written-more a b old mid new (first, less, after) (second, less', after') = (
   second ∙ (ap (λ (w : Option (List ℕ)). with_end w b) first ∙ with_end-with_end old.written a b),
@@ -47,16 +48,20 @@ written-failed a b rest failed old mid new (first, less, after) (n, below, secon
 
 -- items that are written one by one
 module _ {X : Type 0} (f : X → List ℕ) (xs : List X) (d : X) where
+  -- one item more of a list
   pub split-more : (i : ℕ) → i < length xs → flat_map f (take (i + 1) xs) ≡ flat_map f (take i xs) ++ f (get_or xs i d)
   split-more i within = ap (flat_map f) (take_more xs i d within) ∙ (flat_map-append f (take i xs) (get_or xs i d ∷ []) ∙ ap (λ (r : List ℕ). flat_map f (take i xs) ++ r) (append-nil (f (get_or xs i d))))
 
+  -- a list before an item, the item, and the rest
   pub split-at : (i : ℕ) → i < length xs → flat_map f xs ≡ flat_map f (take i xs) ++ (f (get_or xs i d) ++ flat_map f (drop (i + 1) xs))
   split-at i within = ap (flat_map f) (sym (take-append-drop i xs)) ∙ (flat_map-append f (take i xs) (drop i xs) ∙ ap (λ (r : List X). flat_map f (take i xs) ++ flat_map f r) (drop_more xs i d within))
 
+  -- one item more is written
   pub items-more : (i : ℕ) (old mid new : Drain) → i < length xs → WritesAll old (flat_map f (take i xs)) (Ok tt) mid → WritesAll mid (f (get_or xs i d)) (Ok tt) new → WritesAll old (flat_map f (take (i + 1) xs)) (Ok tt) new
   items-more i old mid new within first second =
       subst (λ (bytes : List ℕ). WritesAll old bytes (Ok tt) new) (sym (split-more i within)) (written-more _ _ old mid new first second)
 
+  -- an item that isn't written ends it
   pub items-failed : (i : ℕ) (failed : NoWrite) (old mid new : Drain) → i < length xs → WritesAll old (flat_map f (take i xs)) (Ok tt) mid → WritesAll mid (f (get_or xs i d)) (Err failed) new → WritesAll old (flat_map f xs) (Err failed) new
   items-failed i failed old mid new within first second =
       subst (λ (bytes : List ℕ). WritesAll old bytes (Err failed) new) (sym (split-at i within)) (written-failed _ _ (flat_map f (drop (i + 1) xs)) failed old mid new first second)
@@ -69,14 +74,17 @@ pub first-failed : (a b : List ℕ) (failed : NoWrite) (old new : Drain) → Wri
 first-failed a b failed old new (n, below, written, rises) =
     (n, omega (arith, below, length-append a b), written ∙ ap (with_end old.written) (sym (take-append-le n a b (omega (arith, below)))), rises)
 
+-- the second piece fails
 pub second-failed : (a b : List ℕ) (failed : NoWrite) (old mid new : Drain) → WritesAll old a (Ok tt) mid → WritesAll mid b (Err failed) new → WritesAll old (a ++ b) (Err failed) new
 second-failed a b failed old mid new first second =
     subst (λ (bytes : List ℕ). WritesAll old (a ++ bytes) (Err failed) new) (append-nil b) (written-failed a b [] failed old mid new first second)
 
+-- however the second piece ends
 pub second-any : (a b : List ℕ) (r : Result Unit NoWrite) (old mid new : Drain) → WritesAll old a (Ok tt) mid → WritesAll mid b r new → WritesAll old (a ++ b) r new
 second-any a b (Ok done) old mid new first second = written-more a b old mid new first second
 second-any a b (Err failed) old mid new first second = second-failed a b failed old mid new first second
 
+-- also where power may be off
 pub second-out : (on : Bool) (a b : List ℕ) (r : Result Unit OutFault) (old mid new : Drain) → IsTrue on → WritesAll old a (Ok tt) mid → WritesOut on mid b r new → WritesOut on old (a ++ b) r new
 second-out on a b (Ok done) old mid new power first (_, second) = (power, written-more a b old mid new first second)
 second-out on a b (Err Off) old mid new power first (dark, same) = absurd (false≢true (sym dark ∙ power))
@@ -87,10 +95,12 @@ pub item-out : {X : Type 0} (f : X → List ℕ) (xs : List X) (d : X) (i : ℕ)
 item-out f xs d i on Off old mid new within power first (dark, same) = absurd (false≢true (sym dark ∙ power))
 item-out f xs d i on Failed old mid new within power first (_, failed, second) = (power, failed, items-failed f xs d i failed old mid new within first second)
 
+-- an image whose head isn't written
 pub head-failed : (s : State) (failed : NoWrite) (old new : Drain) → IsTrue s.on → WritesAll old (head_of s.shape) (Err failed) new → WritesOut s.on old (image_of s) (Err Failed) new
 unfolding image_of
 head-failed s failed old new power first = (power, failed, first-failed (head_of s.shape) (body_of s.flash s.sram) failed old new first)
 
+-- an image whose head is written ends as its body
 pub body-out : (s : State) (r : Result Unit OutFault) (old mid new : Drain) → IsTrue s.on → WritesAll old (head_of s.shape) (Ok tt) mid → WritesOut s.on mid (body_of s.flash s.sram) r new → WritesOut s.on old (image_of s) r new
 unfolding image_of
 body-out s r old mid new power first second = second-out s.on (head_of s.shape) (body_of s.flash s.sram) r old mid new power first second

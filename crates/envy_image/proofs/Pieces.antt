@@ -48,9 +48,11 @@ put-none first words s on = record {
   words_are = ap (λ (n : ℕ). take n s.sram) (omega arith) ∙ sym (append-nil (take first s.sram));
 }
 
+-- putting words keeps power on and the sizes
 pub put-goes : (first : ℕ) (words : List ℕ) (old new : State) → HasPut first words old new → Goes old new
 put-goes first words old new p = subst (λ (s : State). Goes old s) (sym p.same) (record { on = p.on; same = refl })
 
+-- all words are put
 pub put-all : (first n : ℕ) (words : List ℕ) (old new : State) → length words ≤ n → HasPut first (take n words) old new → HasPut first words old new
 put-all first n words old new few p = subst (λ (ws : List ℕ). HasPut first ws old new) (take_all n words few) p
 

@@ -14,10 +14,12 @@ use Rattle.envy_image.specs.Installing.{IsWithin, Goes, Programmed, Filled, coun
 use Rattle.envy_image.proofs.Consuming.{consumes-both, consumes-none}
 use Rattle.envy_base.proofs.Rows.{ands_ones as ands-ones}
 
+-- no program yet
 pub count-none : (count : ℕ) → count ≡ count_after 0 count
 unfolding count_after
 count-none count = omega arith
 
+-- one program more
 pub count-more : (n count : ℕ) → up (count_after n count) ≡ count_after (n + 1) count
 unfolding up count_after
 count-more n count = omega arith
@@ -76,9 +78,11 @@ programmed-none s t feed on within = record {
   size = refl;
 }
 
+-- programming rows keeps power on and the sizes
 pub programmed-goes : (n : ℕ) (old new : State) (was now : Taking) (from to : Feed) → Programmed n old was from new now to → Goes old new
 programmed-goes n old new was now from to p = subst (λ (s : State). Goes old s) (sym p.same) (record { on = p.on; same = refl })
 
+-- one row more is read and programmed
 pub programmed-more : (n : ℕ) (old mid new : State) (was then now : Taking) (from feed to : Feed) (page : List ℕ) → n < length old.flash → row_of old n ≡ ones → length page ≡ 32 → AreWords page → Programmed n old was from mid then feed → Consumes then feed (words_bytes page) now to → Programs mid n page (Ok tt) new → Programmed (n + 1) old was from new now to
 programmed-more n old mid new was then now from feed to page lt blank long words p read (on, is) =
     subst (λ (s : State). Programmed (n + 1) old was from s now to) (sym target) (record {
@@ -109,9 +113,11 @@ filled-none s t feed on within = record {
   size = refl;
 }
 
+-- filling SRAM keeps power on and the sizes
 pub filled-goes : (n : ℕ) (old new : State) (was now : Taking) (from to : Feed) → Filled n old was from new now to → Goes old new
 filled-goes n old new was now from to f = subst (λ (s : State). Goes old s) (sym f.same) (record { on = f.on; same = refl })
 
+-- one word more is read and put
 pub filled-more : (n : ℕ) (old mid new : State) (was then now : Taking) (from feed to : Feed) (w : ℕ) → n < length old.sram → Filled n old was from mid then feed → Consumes then feed (word_bytes w) now to → Puts mid n w (Ok tt) new → Filled (n + 1) old was from new now to
 filled-more n old mid new was then now from feed to w lt f read (on, is) =
     subst (λ (s : State). Filled (n + 1) old was from s now to) (sym (is ∙ ap (λ (s : State). with_word s n w) f.same)) (record {

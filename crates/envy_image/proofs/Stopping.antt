@@ -25,6 +25,7 @@ within-head sh t feed h = record { within = h.head.draws.within; below = h.head.
 pub within-read : (was now : Taking) (from to : Feed) (bytes : List ℕ) → Consumes was from bytes now to → IsWithin now
 within-read was now from to bytes c = record { within = c.draws.within; below = c.draws.below }
 
+-- what stops a piece stops the image
 pub stops-as : (stop : Stop) (size : ℕ) (old new : State) (was now : Taking) (from to : Feed) → StopsInBody stop size old was from new now to → StopsAs (in_fault stop) size old was from new now to
 stops-as StopShort size old new was now from to s = s
 stops-as StopFailed size old new was now from to s = s
@@ -52,6 +53,7 @@ module _ (small size : ℕ) (old mid new : State) (was then now : Taking) (from 
     stops = stops-later stop now from feed to first.draws.faults s.stops;
   }
 
+  -- a fault in a later part is one of the whole
   pub part-stops : (fault : InFault) → StopsAs fault small mid then feed new now to → StopsAs fault size old was from new now to
   part-stops Short s = stop-later StopShort s
   part-stops Failed s = stop-later StopFailed s
@@ -65,21 +67,26 @@ module _ (small size : ℕ) (old mid new : State) (was then now : Taking) (from 
 
 -- all parts are done
 module _ (old first second new : State) (was then now : Taking) (from feed to : Feed) (law : IsBoard old) (b : Blanked old.shape.segments old first) (p : Programmed (length first.flash) first was from second then feed) where
+  -- all rows are read,
   pub rows-read : Consumes was from (rows_bytes second.flash) then feed
   rows-read = let long = p.long in subst (λ (rows : List (List ℕ)). Consumes was from (rows_bytes rows) then feed) (take_all (length first.flash) second.flash (omega arith)) p.bytes
 
+  -- as many as there are,
   pub rows-long : length first.flash ≡ old.shape.segments * old.shape.rows
   rows-long = b.long ∙ law.rows
 
+  -- of 256 bytes each
   pub rows-size : length (rows_bytes second.flash) ≡ 256 * (old.shape.segments * old.shape.rows)
   rows-size = let long = p.long in ap (λ (rows : List (List ℕ)). length (rows_bytes rows)) (sym (take_all (length first.flash) second.flash (omega arith))) ∙ p.size ∙ ap (λ (n : ℕ). 256 * n) rows-long
 
   pub sram-long : length second.sram ≡ words_of old.shape
   sram-long = ap (λ (s : State). length s.sram) p.same ∙ (ap (λ (s : State). length s.sram) b.same ∙ law.sram)
 
+  -- rows and words keep power on and the sizes
   pub both-go : Goes old second
   both-go = goes-both old first second (blanked-goes old.shape.segments old first b) (programmed-goes (length first.flash) first second was then from feed p)
 
+  -- behind all words the image is installed
   pub installed : Filled (length second.sram) second then feed new now to → Installed old was from new now to
   installed f = record {
     goes = goes-both old second new both-go (filled-goes (length second.sram) second new then now feed to f);
@@ -90,6 +97,7 @@ module _ (old first second new : State) (was then now : Taking) (from feed to : 
     erases = λ e lt. ap (λ (s : State). get_or s.erases e 0) f.same ∙ (ap (λ (s : State). get_or s.erases e 0) p.same ∙ b.once e lt);
   }
 
+  -- installing ends as filling SRAM does
   pub installs-last : (result : Result Unit InFault) → FillsWords second then feed result new now to → Installs old was from result new now to
   installs-last (Ok done) f = installed f
   installs-last (Err fault) stops =

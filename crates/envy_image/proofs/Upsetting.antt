@@ -18,9 +18,11 @@ goes-both a b c first second = record {
   same = second.same ∙ ap (λ (s : State). record s { flash = c.flash; sram = c.sram; begun = c.begun; erases = c.erases }) first.same;
 }
 
+-- power is still on
 pub still-on : (a b : State) → Goes a b → IsTrue b.on
 still-on a b goes = subst (λ (s : State). IsTrue s.on) (sym goes.same) goes.on
 
+-- what upsets a board later upsets it from the start
 pub upsets-later : (a b c : State) → Goes a b → Upsets b c → Upsets a c
 upsets-later a b c goes upset =
     let u = subst (λ (s : State). Upsets s c) goes.same upset in
@@ -48,16 +50,19 @@ goes-row a b q row goes = goes-both a b (with_row b q row) goes (record { on = s
 pub goes-word : (a b : State) (w v : ℕ) → Goes a b → Goes a (with_word b w v)
 goes-word a b w v goes = goes-both a b (with_word b w v) goes (record { on = still-on a b goes; same = refl })
 
+-- an erase that fails upsets the board
 pub erase-upset : (a b c : State) (e : ℕ) (trouble : Trouble) → Goes a b → Erases b e (Err trouble) c → Upsets a c
 erase-upset a b c e TroubleOff goes (inl (off, is)) = absurd (let on = still-on a b goes in cc)
 erase-upset a b c e TroubleOff goes (inr (on, rows, only, is)) = subst (λ (s : State). Upsets a s) (sym is) (goes-cut a (with_segment b e rows) (goes-segment a b e rows goes))
 erase-upset a b c e Bad goes (on, rows, only, is) = subst (λ (s : State). Upsets a s) (sym is) (goes-bad a (with_segment b e rows) (goes-segment a b e rows goes))
 
+-- a program that fails does
 pub program-upset : (a b c : State) (q : ℕ) (page : List ℕ) (trouble : Trouble) → Goes a b → Programs b q page (Err trouble) c → Upsets a c
 program-upset a b c q page TroubleOff goes (inl (off, is)) = absurd (let on = still-on a b goes in cc)
 program-upset a b c q page TroubleOff goes (inr (on, row, whole, is)) = subst (λ (s : State). Upsets a s) (sym is) (goes-cut a (with_row b q row) (goes-row a b q row goes))
 program-upset a b c q page Bad goes (on, row, whole, is) = subst (λ (s : State). Upsets a s) (sym is) (goes-bad a (with_row b q row) (goes-row a b q row goes))
 
+-- a put that fails does
 pub put-upset : (a b c : State) (w v : ℕ) (off : Off) → Goes a b → Puts b w v (Err off) c → Upsets a c
 put-upset a b c w v off goes (inl (dark, is)) = absurd (let on = still-on a b goes in cc)
 put-upset a b c w v off goes (inr (on, inl is)) = subst (λ (s : State). Upsets a s) (sym is) (goes-cut a b goes)

@@ -19,6 +19,7 @@ with_front-with_front a b (Some bytes) = ap Some (sym (append_assoc a b bytes))
 unfoldable pub askings : Taking → ℕ
 askings t = t.cap - t.taken + cond t.ended 0 1
 
+-- one piece more is gathered
 pub Gathers-more : (old mid new : Taking) (from feed to : Feed) (piece : List ℕ) → Gathers old from mid feed → Wants mid → Asks mid feed piece new to → Gathers old from new to
 Gathers-more old mid new from feed to piece g wants asks =
     let not_ended : IsTrue old.ended → ⊥ = λ ended. false≢true (sym wants.going ∙ (g.takes.ended ended).0) in
@@ -38,6 +39,7 @@ Gathers-more old mid new from feed to piece g wants asks =
       held = asks.held ∙ (ap (λ (bytes : List ℕ). bytes ++ piece) g.held ∙ append_assoc old.held g.got piece);
     }
 
+-- what can still be asked for gets less
 pub fewer : (cap new_cap taken new_taken n : ℕ) (ended new_ended : Bool) → ended ≡ false → taken < cap → new_cap ≡ cap → new_taken ≡ taken + n → IsTrue new_ended ⊎ (0 < n) → new_cap - new_taken + cond new_ended 0 1 < cap - taken + cond ended 0 1
 fewer cap new_cap taken new_taken n true new_ended going below caps more goes = absurd (false≢true (sym going))
 fewer cap new_cap taken new_taken n false true going below caps more goes = omega arith

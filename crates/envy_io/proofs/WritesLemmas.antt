@@ -33,6 +33,7 @@ AfterPiece-some old new [] [] some is = absurd (omega arith)
 AfterPiece-some old new [] (b ∷ bytes) some is = is
 AfterPiece-some old new (b ∷ done) piece some is = is
 
+-- one piece more is written
 pub Written-more : (old mid new : Drain) (piece rest : List ℕ) (n : ℕ) → Written old piece rest mid → Writes mid rest (Ok n) new → Written old piece (drop n rest) new
 Written-more old mid new piece rest n w (some, fits, written, flushed, faults) =
     let long : 0 < length (take n rest) = omega (arith, length-take n rest) in
@@ -44,6 +45,7 @@ Written-more old mid new piece rest n w (some, fits, written, flushed, faults) =
       after = AfterPiece-some old new w.done (take n rest) long flushed;
     }
 
+-- a sink that fails in between
 pub Written-failed : (old mid new : Drain) (piece rest : List ℕ) (failed : Failed) → Written old piece rest mid → 0 < length rest → Writes mid rest (Err failed) new → WritesAll old piece (Err failed) new
 Written-failed old mid new piece rest failed w some (same, rises) =
     let front : take (length w.done) piece ≡ w.done = ap (take (length w.done)) w.split ∙ take_at w.done rest (length w.done) refl in (

@@ -21,11 +21,13 @@ module _ {D : Type 0} (seen : D → List ℕ) (may_leave : D → List ℕ → Ty
   module _ (moment : D → ℕ) (device : D) where
     -- the log was synced
     module _ (only : LeavesOnly moment left_since log.device device (IsBeforeOrAfter (kept_bytes seen log) (held_bytes seen log))) where
+      -- a crash while the second file is made leaves the old file or the whole new one
       pub crash_file : LeavesOnly moment left_since log.device device (λ c. StandsFor s.shape (kept seen log) c ⊎ IsFileOf s c)
       crash_file =
           widened moment left_since log.device device (IsBeforeOrAfter (kept_bytes seen log) (held_bytes seen log)) (λ c. StandsFor s.shape (kept seen log) c ⊎ IsFileOf s c) only
           (λ c left. ⊎_elim (λ was. inl was) (λ now. inr (all_file c now)) (crash_synced seen may_leave left_since last log s is c left))
 
+      -- so it stands for what was kept or for all that was done
       pub crash_all : (now : List Operation) → now ≡ done seen log → LeavesOnly moment left_since log.device device (λ c. StandsFor s.shape (kept seen log) c ⊎ StandsFor s.shape now c)
       crash_all now same =
           subst (λ (p : List Operation). LeavesOnly moment left_since log.device device (λ c. StandsFor s.shape (kept seen log) c ⊎ StandsFor s.shape p c)) (sym same)
@@ -49,14 +51,17 @@ module _ {D : Type 0} (seen : D → List ℕ) (may_leave : D → List ℕ → Ty
     enough : 263 ≤ length new.buffer.items
     enough = subst (λ (n : ℕ). 263 ≤ n) (sym room) is.room
 
+    -- behind a compaction the log stands for the board again
     pub logged_compacted : IsLogged seen may_leave left_since last new s
     logged_compacted = logged_begun seen may_leave left_since moment last new p rest end used leads now_only enough s file.content file.head
 
+    -- each crash since leaves a file that stands for it
     pub stands_compacted : StandsSince seen left_since last new s
     stands_compacted =
         let sound = logged_compacted.sound in
         stands_tied seen may_leave left_since last new s logged_compacted new s refl refl sound.tied
 
+    -- a compaction keeps all that was done
     pub kept_compacted : (was_dead dead : Bool) → was_dead ≡ false → dead ≡ false → IsAllKept seen s.shape was_dead dead log new
     kept_compacted was_dead dead alive still = record {
       alive = alive;
@@ -66,6 +71,7 @@ module _ {D : Type 0} (seen : D → List ℕ) (may_leave : D → List ℕ → Ty
       same = sym file.content ∙ is.content;
     }
 
+    -- each crash of it leaves what was kept before or what is kept now
     pub crash_kept_now : LeavesOnly moment left_since log.device new.device (λ c. may_leave log.device c ⊎ c ≡ seen new.device) → LeavesOnly moment left_since log.device new.device (λ c. StandsFor s.shape (kept seen log) c ⊎ StandsFor s.shape (kept seen new) c)
     crash_kept_now only =
         let sound = is.sound in

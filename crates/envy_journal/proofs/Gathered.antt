@@ -19,17 +19,21 @@ module _ {D : Type 0} (second : D → List ℕ) (log : Log D) (is : Gathers seco
   buffered : length (take log.used log.buffer.items) ≡ log.used
   buffered = omega (arith, length-take {A = ℕ}, is.fits)
 
+  -- what is gathered is as long as the file and the buffer
   pub gathered_length : length (gathered second log) ≡ log.end + log.used
   gathered_length = omega (arith, length-append (second log.device) (take log.used log.buffer.items), buffered, is.end)
 
   -- the buffer is written behind the second file
   module _ (device : D) (bytes : List ℕ) (all : bytes ≡ take log.used log.buffer.items) (wrote : second device ≡ second log.device ++ bytes) where
+    -- a buffer that was written out is the end of the file
     pub spilled_file : second device ≡ gathered second log
     spilled_file = wrote ∙ ap (λ (l : List ℕ). second log.device ++ l) all
 
+    -- nothing is left to gather then
     pub spilled_gathered : second device ++ [] ≡ gathered second log
     spilled_gathered = append-nil (second device) ∙ spilled_file
 
+    -- and gathering goes on with an empty buffer
     pub spilled_gathers : Gathers second (record log { device = device; end = log.end + log.used; used = 0 })
     spilled_gathers = record { fits = omega arith; room = is.room; end = ap length spilled_file ∙ gathered_length }
 
@@ -116,12 +120,15 @@ module _ (s : State) (most : ℕ) (bytes file : List ℕ) (is : Makes s.shape (c
         (sym (shut_gate kept file (operations bytes) 0 kept_leads (λ e. let no : 0 ≡ 4 = e in cc) (subst (λ (l : List ℕ). Begins l file) closed (begins_self file))));
   }
 
+  -- behind a replacement what lies before the gate is the new file,
   pub replaced_kept : IsFileOf s (take (length bytes + 1) file)
   replaced_kept = subst (λ (l : List ℕ). IsFileOf s l) (sym front) (record { head = kept_head; content = sym is.content ∙ ap (λ (p : List Operation). holds s.shape p) (sym kept_reads) })
 
+  -- which is read to its end,
   pub replaced_leads : Leads false 33 (take (length bytes + 1) file) (operations (take (length bytes + 1) file)) false
   replaced_leads = subst (λ (l : List ℕ). Leads false 33 l (operations l) false) (sym front) (subst (λ (p : List Operation). Leads false 33 kept p false) (sym kept_reads) kept_leads)
 
+  -- with a closed gate behind it
   pub replaced_end : file ≡ take (length bytes + 1) file ++ 0 ∷ []
   replaced_end = closed ∙ ap (λ (l : List ℕ). l ++ 0 ∷ []) (sym front)
 

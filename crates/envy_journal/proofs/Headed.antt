@@ -44,6 +44,7 @@ module _ (bytes : List ℕ) where
         let long : length (take 4 (drop at bytes)) ≡ 4 = omega (arith, length-take {A = ℕ}, length-drop at bytes) in
         take-add at 4 bytes ∙ ap (λ (l : List ℕ). take at bytes ++ l) (sym (le_bytes_4 (take 4 (drop at bytes)) n long (small_part at) is))
 
+-- a file that begins with a head is at least as long
 pub long_head : (sh : Shape) (bytes : List ℕ) → Begins (head_bytes sh) bytes → 33 ≤ length bytes
 long_head sh bytes head =
     let long : length (take 33 bytes) ≡ 33 = ap length head in

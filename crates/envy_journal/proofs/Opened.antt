@@ -13,12 +13,15 @@ use Rattle.envy_journal.proofs.Parsed.{leads_to, leads_over, leads_end, shut}
 use Rattle.envy_journal.proofs.Settled.{head_alike}
 
 module _ (end gate : ℕ) (old new : List ℕ) (is : IsMended end gate old new) (le : 33 ≤ end) where
+  -- a mended file is read as before
   pub mended_reads : operations (take gate new) ≡ operations old
   mended_reads = leads_to false false 33 (take gate new) (operations old) is.leads
 
+  -- to its end
   pub mended_leads : Leads false 33 (take gate new) (operations (take gate new)) false
   mended_leads = subst (λ (p : List Operation). Leads false 33 (take gate new) p false) (sym mended_reads) is.leads
 
+  -- with its head
   pub mended_head : (sh : Shape) → Begins (head_bytes sh) old → Begins (head_bytes sh) (take gate new)
   mended_head sh head = take-take 33 gate new (omega (arith, is.near)) ∙ head_alike sh end old new le head is.front
 
@@ -31,11 +34,13 @@ module _ {D : Type 0} (moment : D → ℕ) (left_since : D → ℕ → List ℕ 
   pub untouched : (may : List ℕ → Type 0) (file : List ℕ) (P : List ℕ → Type 0) → Only file may → ((c : List ℕ) → left_since old (moment old) c → may c) → P file → LeavesOnly moment left_since old old P
   untouched may file P only now_only has = started moment left_since old P (λ c left. subst P (sym (only c (now_only c left))) has)
 
+  -- each crash while a file is mended leaves one that stands for the same
   pub settled_stands : (sh : Shape) (end : ℕ) (file bytes : List ℕ) → bytes ≡ file → 33 ≤ end → Begins (head_bytes sh) bytes → LeavesOnly moment left_since old new (ReadsAlike end file) → LeavesOnly moment left_since old new (StandsFor sh (operations bytes))
   settled_stands sh end file bytes is le head only =
       subst (λ (l : List ℕ). LeavesOnly moment left_since old new (StandsFor sh (operations l))) (sym is)
       (widened moment left_since old new (ReadsAlike end file) (StandsFor sh (operations file)) only (λ c alike. alike_stands sh end file c le (subst (λ (l : List ℕ). Begins (head_bytes sh) l) is head) alike))
 
+-- a file with a head stands for what is read of it
 pub stands_itself : (sh : Shape) (bytes : List ℕ) → Begins (head_bytes sh) bytes → StandsFor sh (operations bytes) bytes
 stands_itself sh bytes head = record { head = head; reads = refl }
 
@@ -50,9 +55,11 @@ made_new sh =
 
 -- the same at rest
 module _ (sh : Shape) (file : List ℕ) (is : file ≡ head_bytes sh ++ 0 ∷ []) where
+  -- a file that was made is a head
   pub made_front : take 33 file ≡ head_bytes sh
   made_front = ap (λ (l : List ℕ). take 33 l) is ∙ take_at (head_bytes sh) (0 ∷ []) 33 refl
 
+  -- and a closed gate
   pub made_file : file ≡ take 33 file ++ 0 ∷ []
   made_file = is ∙ ap (λ (l : List ℕ). l ++ 0 ∷ []) (sym made_front)
 
@@ -65,6 +72,7 @@ module _ (sh : Shape) (file : List ℕ) (is : file ≡ head_bytes sh ++ 0 ∷ []
   none_leads : Leads false 33 (take 33 file) [] false
   none_leads = subst (λ (l : List ℕ). Leads false 33 l [] false) (sym made_front) (leads_over false 33 (head_bytes sh) refl)
 
+  -- nothing is read of it
   pub made_reads : operations (take 33 file) ≡ []
   made_reads = leads_to false false 33 (take 33 file) [] none_leads
 

@@ -1,10 +1,8 @@
 -- The front of one list before the rest of another.
-use Rattle.std.proofs.Common.{◌≡◌, ℕ, zero, suc, ◌+◌, ◌-◌, ◌^◌, ◌<◌, List, [], ◌∷◌, ◌++◌, length, get_or, set, take, drop, replicate, refl, sym, ◌∙◌, ap, arith}
+use Rattle.std.proofs.Common.{◌≡◌, ℕ, zero, suc, ◌+◌, ◌-◌, ◌<◌, List, [], ◌∷◌, ◌++◌, length, get_or, set, take, drop, refl, sym, ◌∙◌, ap, arith}
 use Rattle.std.proofs.lemmas.List.{append-nil, take_all, drop_all}
-use Rattle.std.proofs.lemmas.Nat.{and_mask, and_comm}
-use Rattle.std.proofs.Math.Nat.{mod-eq_of_lt}
-use Rattle.std.specs.Int.Bits.{bit_and}
-use Rattle.envy_base.specs.State.{AreWords, IsPage, ands, ones}
+use Rattle.envy_base.specs.State.{IsPage, ands, ones}
+use Rattle.envy_base.proofs.Rows.{ands_ones}
 
 module _ {A : Type 0} where
   -- one element more
@@ -43,14 +41,5 @@ module _ {A : Type 0} where
       ap (λ (l : List A). l ++ drop n b) (take_all n a (omega arith)) ∙ ap (λ (l : List A). a ++ l) (drop_all n b (omega arith)) ∙ append-nil a
 
 -- programming an erased row makes it the page
-and-ones : (x : ℕ) → x < 2 ^ 64 → bit_and (2 ^ 64 - 1) x ≡ x
-and-ones x small = and_comm (2 ^ 64 - 1) x ∙ and_mask x 64 ∙ mod-eq_of_lt small
-
-ands_all : (n : ℕ) (xs : List ℕ) → length xs ≡ n → AreWords xs → ands (replicate n (2 ^ 64 - 1)) xs ≡ xs
-ands_all zero [] long words = refl
-ands_all zero (x ∷ xs) long words = cc
-ands_all (suc n) [] long words = cc
-ands_all (suc n) (x ∷ xs) long words = rw (and-ones x (words 0)) (ap (λ (r : List ℕ). x ∷ r) (ands_all n xs (omega arith) (λ i. words (suc i))))
-
 pub ands-ones : (page : List ℕ) → IsPage page → ands ones page ≡ page
-ands-ones page is = ands_all 32 page is.long is.words
+ands-ones page is = ands_ones 32 page is.long is.words

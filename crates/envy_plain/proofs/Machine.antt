@@ -18,9 +18,11 @@ use Rattle.envy_plain.proofs.Turns.{IsUnsaved, saves-unsaved}
 
 -- ---- the slots of the array
 
+-- an open slot has the words that are saved for it
 pub slot-open : (words : List ℕ) (active : List Bool) (saved : List SavedWord) (shadows t : ℕ) → length active ≡ 64 → get_or active t false ≡ true → slot_of (array_in words active saved shadows) t ≡ Some (saved_by t saved)
 slot-open words active saved shadows t long is = slots_in-at active saved t long ∙ slot_in-open active saved t is
 
+-- a closed one has none
 pub slot-closed : (words : List ℕ) (active : List Bool) (saved : List SavedWord) (shadows t : ℕ) → length active ≡ 64 → get_or active t false ≡ false → slot_of (array_in words active saved shadows) t ≡ None
 slot-closed words active saved shadows t long is = slots_in-at active saved t long ∙ slot_in-closed active saved t is
 
@@ -41,6 +43,7 @@ marked-within active t is = at (cases_lt t (length active))
 
 -- ---- a slot opens
 
+-- opening a slot for which no word is saved
 pub array-begun : (words : List ℕ) (active : List Bool) (saved : List SavedWord) (shadows t : ℕ) → length active ≡ 64 → t < 64 → saved_by t saved ≡ [] → array_in words (set active t true) saved shadows ≡ with_slot (array_in words active saved shadows) t (Some [])
 array-begun words active saved shadows t long lt none = ap (λ (slots : List (Option Saved)). array-of words slots shadows) (slots_in-begun active saved t long lt none)
 
@@ -51,6 +54,7 @@ saved_by-closed active saved t opened none = saved_by-none t saved (λ k d lt sa
     both : (k : ℕ) (d : SavedWord) → k < length saved → (get_or saved k d).slot ≡ t → IsTrue (get_or active (get_or saved k d).slot false) → ⊥
     both k d lt same is = let no : get_or active t false ≡ true = rw (← same) is in cc
 
+-- and the machine is sound
 pub IsPlain-begun : (words : List ℕ) (active : List Bool) (saved : List SavedWord) (table : List (Option ℕ)) (count shadows room t : ℕ) → t < 64 → get_or active t false ≡ false → IsPlain words active saved table count shadows room → IsPlain words (set active t true) saved table count shadows room
 IsPlain-begun words active saved table count shadows room t lt none i =
     let m : Array = array_in words active saved shadows in
@@ -75,6 +79,7 @@ IsPlain-begun words active saved table count shadows room t lt none i =
 
 -- ---- a word is saved
 
+-- saving one word more
 pub array-pushed : (words : List ℕ) (active : List Bool) (saved : List SavedWord) (shadows t a : ℕ) → length active ≡ 64 → get_or active t false ≡ true → IsUnsaved a saved → array_in words active (saved ++ record { slot = t; address = a; before = get_or words a 0 } ∷ []) shadows ≡ put (array_in words active saved shadows) t (saved_by t saved) a (get_or words a 0)
 array-pushed words active saved shadows t a long is none =
     let lt : t < 64 = rw (← long) (marked-within active t is) in
@@ -91,6 +96,7 @@ pub record Takes (m : Array) (t a : ℕ) (table now : List (Option ℕ)) (count 
   pub owner_set : now ≡ set table (page_of a) (Some t)
   pub counted : next + cond (is_some (owner m (page_of a))) 1 0 ≡ count + 1
 
+-- and the machine is sound, with the page's owner
 pub IsPlain-pushed : (words : List ℕ) (active : List Bool) (saved : List SavedWord) (table now : List (Option ℕ)) (count next shadows room more t a : ℕ) → a < length words → MayOwn (array_in words active saved shadows) t (page_of a) → get_or active t false ≡ true → IsUnsaved a saved → room ≤ more → Takes (array_in words active saved shadows) t a table now count next → IsPlain words active saved table count shadows room → IsPlain words active (saved ++ record { slot = t; address = a; before = get_or words a 0 } ∷ []) now next shadows more
 IsPlain-pushed words active saved table now count next shadows room more t a lt may is none le takes i =
     let m : Array = array_in words active saved shadows in
@@ -115,9 +121,11 @@ IsPlain-pushed words active saved table now count next shadows room more t a lt 
 
 -- ---- a slot closes
 
+-- dropping the words of a slot closes it
 pub array-closed : (words : List ℕ) (active : List Bool) (saved : List SavedWord) (shadows t : ℕ) → length active ≡ 64 → t < 64 → array_in words (set active t false) (filter (is_other t) saved) shadows ≡ with_slot (array_in words active saved shadows) t None
 array-closed words active saved shadows t long lt = ap (λ (slots : List (Option Saved)). array-of words slots shadows) (slots_in-closed active saved t long lt)
 
+-- and the machine is sound, where its pages were given back
 pub IsPlain-closed : (words : List ℕ) (active : List Bool) (saved : List SavedWord) (table now : List (Option ℕ)) (count shadows room taken t : ℕ) → get_or active t false ≡ true → length now ≡ length table → taken + count_by is_some now ≡ count_by is_some table → ((p : ℕ) → get_or now p None ≡ cond (saves_in p (saved_by t saved)) None (get_or table p None)) → IsPlain words active saved table count shadows room → IsPlain words (set active t false) (filter (is_other t) saved) now (count - taken) shadows room
 IsPlain-closed words active saved table now count shadows room taken t is same_length sum each i =
     let m : Array = array_in words active saved shadows in

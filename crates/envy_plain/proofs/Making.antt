@@ -23,6 +23,7 @@ all-none n t = at (cases_lt t n)
     at (inl lt) = get_or-replicate n t None None lt
     at (inr le) = get_or_past (replicate n None) t None (rw length-replicate le)
 
+-- a machine of zeros with no slot open is the array of zeros
 pub array-new : (words : List ℕ) (active : List Bool) (saved : List SavedWord) (count shadows : ℕ) → words ≡ replicate (32 * count) 0 → length active ≡ 64 → ((t : ℕ) → get_or active t false ≡ false) → saved ≡ [] → array_in words active saved shadows ≡ zeros count shadows
 array-new words active saved count shadows words_are long closed none =
     ap (λ (xs : List SavedWord). array_in words active xs shadows) none
@@ -32,6 +33,7 @@ array-new words active saved count shadows words_are long closed none =
     slots : (n : ℕ) → n ≡ 64 → slots_in active [] ≡ replicate n None
     slots n is = slots_in-is active [] (replicate n None) long (length-replicate n None ∙ is) (λ t lt. slot_in-closed active [] t (closed t) ∙ sym (all-none n t))
 
+-- and is sound
 pub IsPlain-new : (words : List ℕ) (active : List Bool) (saved : List SavedWord) (table : List (Option ℕ)) (count shadows room : ℕ) → words ≡ replicate (32 * count) 0 → length active ≡ 64 → ((t : ℕ) → get_or active t false ≡ false) → saved ≡ [] → table ≡ replicate count None → 32 * shadows ≤ room → IsPlain words active saved table 0 shadows room
 IsPlain-new words active saved table count shadows room words_are long closed none table_is enough =
     let is = array-new words active saved count shadows words_are long closed none in

@@ -26,9 +26,11 @@ saves-found (x ∷ xs) a b (k, lt, is) = at k lt is (λ k lt is. saves-found xs 
     at zero lt is more = or_left (x.0 == a) (saves a xs) (eq-eqb x.0 a (ap (λ (e : ℕ × ℕ). e.0) is))
     at (suc k) lt is more = or_right (x.0 == a) (saves a xs) (more k (omega arith) is)
 
+-- a saved word is among those of its slot
 pub saves-member : (xs : List SavedWord) (k : ℕ) (d : SavedWord) → k < length xs → saves (get_or xs k d).address (saved_by (get_or xs k d).slot xs) ≡ true
 saves-member xs k d lt = saves-found (saved_by (get_or xs k d).slot xs) (get_or xs k d).address (get_or xs k d).before (saved_by-member xs k d lt)
 
+-- and in its page
 pub saves_in-member : (xs : List SavedWord) (k : ℕ) (d : SavedWord) → k < length xs → saves_in (page_of (get_or xs k d).address) (saved_by (get_or xs k d).slot xs) ≡ true
 saves_in-member xs k d lt = saves-owns (get_or xs k d).address (saved_by (get_or xs k d).slot xs) (saves-member xs k d lt)
 

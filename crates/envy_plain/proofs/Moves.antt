@@ -16,6 +16,7 @@ use Rattle.envy_plain.proofs.Turns.{IsUnsaved}
 
 -- ---- abort
 
+-- an abort puts back what its slot saved
 pub aborts : (words next : List ℕ) (active : List Bool) (saved : List SavedWord) (shadows t : ℕ) (m after : Array) → array_in words active saved shadows ≡ m → length active ≡ 64 → (list : Saved) × (slot_of m t ≡ Some list) → next ≡ put_back (saved_by t saved) words → after ≡ with_slot (array_in next active saved shadows) t None → (x : Saved) × (slot_of m t ≡ Some x) × (after ≡ aborted m t x)
 aborts words next active saved shadows t m after view long (list, is) words_are result =
     (list, is, result ∙ ap (λ (ws : List ℕ). with_slot (array_in ws active saved shadows) t None) (words_are ∙ ap (λ (l : Saved). put_back l words) part) ∙ ap (λ (n : Array). aborted n t list) view)
@@ -35,6 +36,7 @@ is_closed-slot active saved t = at (get_or active t false)
 closed-slot : (active : List Bool) (saved : List SavedWord) (t : ℕ) → length active ≡ 64 → is_closed (get_or (slots_in active saved) t None) ≡ not (get_or active t false)
 closed-slot active saved t long = ap is_closed (slots_in-at active saved t long) ∙ is_closed-slot active saved t
 
+-- the first slot that isn't marked is the first closed one
 pub first-found : (active : List Bool) (saved : List SavedWord) (t : ℕ) → length active ≡ 64 → Some t ≡ position not active → (t < 64) × (get_or active t false ≡ false) × (position is_closed (slots_in active saved) ≡ Some t)
 first-found active saved t long is =
     let found = position-Some not active t false (sym is) in
@@ -46,6 +48,7 @@ first-found active saved t long is =
     unmarked true e = cc
     unmarked false e = refl
 
+-- where all are marked none is closed
 pub first-none : (active : List Bool) (saved : List SavedWord) → length active ≡ 64 → None ≡ position not active → position is_closed (slots_in active saved) ≡ None
 first-none active saved long is =
     position-nowhere is_closed (slots_in active saved) None
@@ -53,21 +56,26 @@ first-none active saved long is =
 
 -- ---- put
 
+-- a slot may own a page that it owns,
 pub may-mine : (m : Array) (t p slot : ℕ) (o : Option ℕ) → o ≡ owner m p → o ≡ Some slot → slot ≡ t → MayOwn m t p
 may-mine m t p slot o is found same = inl (sym is ∙ found ∙ ap Some same)
 
+-- and a free one where there is room
 pub may-free : (m array : Array) (t p count shadows : ℕ) (o : Option ℕ) → o ≡ owner m p → o ≡ None → array ≡ m → count ≡ owned array → shadows ≡ array.shadows → (count ≡ shadows → ⊥) → MayOwn m t p
 may-free m array t p count shadows o is none view counted limit room =
     inr (sym is ∙ none, λ full. room (counted ∙ ap owned view ∙ full ∙ sym (limit ∙ ap (λ (n : Array). n.shadows) view)))
 
+-- a put saves the word and stores over it
 pub puts : (m mid after : Array) (t a w : ℕ) → a < length m.words → MayOwn m t (page_of a) → (list : Saved) × (slot_of m t ≡ Some list) → ((list : Saved) → slot_of m t ≡ Some list → mid ≡ with_slot m t (Some (saving a (slice_index m.words a) list))) → after ≡ stored mid a w → (a < length m.words) × MayOwn m t (page_of a) × (list : Saved) × (slot_of m t ≡ Some list) × (after ≡ put m t list a w)
 puts m mid after t a w lt may (list, is) saves_it stores = (lt, may, list, is, stores ∙ ap (λ (n : Array). stored n a w) (saves_it list is))
 
+-- saving a word leaves the addresses
 pub saved-in_range : (m mid : Array) (t a : ℕ) → a < length m.words → (list : Saved) × (slot_of m t ≡ Some list) → ((list : Saved) → slot_of m t ≡ Some list → mid ≡ with_slot m t (Some (saving a (slice_index m.words a) list))) → a < length mid.words
 saved-in_range m mid t a lt (list, is) saves_it = rw (ap (λ (n : Array). length n.words) (saves_it list is)) lt
 
 -- ---- a word that is saved already
 
+-- a second put to an address saves nothing
 pub saved-again : (words : List ℕ) (active : List Bool) (saved : List SavedWord) (table : List (Option ℕ)) (count shadows room t a w : ℕ) (m : Array) (list : Saved) → IsPlain words active saved table count shadows room → array_in words active saved shadows ≡ m → MayOwn m t (page_of a) → (k : ℕ) (e : SavedWord) → k < length saved → get_or saved k e ≡ e → e.address ≡ a → slot_of m t ≡ Some list → m ≡ with_slot m t (Some (saving a w list))
 saved-again words active saved table count shadows room t a w m list i view may k e lt is address opened =
     sym (ap (with_slot m t) (ap Some (kept (saves a list) refl found) ∙ sym opened) ∙ same)
@@ -105,6 +113,7 @@ saved-again words active saved table count shadows room t a w m list i view may 
 
 -- ---- look
 
+-- a look sees the word before its slot's first store
 pub looks : (words : List ℕ) (active : List Bool) (saved xs : List SavedWord) (table : List (Option ℕ)) (count shadows room a word : ℕ) (m : Array) (o : Option ℕ) → IsPlain words active saved table count shadows room → array_in words active saved shadows ≡ m → xs ≡ saved → a < length m.words → word ≡ slice_index m.words a → MatchOption o (IsUnsaved a xs) (λ w. Any (λ e. (e.address ≡ a) × (e.before ≡ w)) xs) → unwrap_or o word ≡ slice_index (undone m) a
 looks words active saved xs table count shadows room a word m None i view same lt is none =
     is ∙ sym (undone-unsaved m a 0 (λ t. ap (λ (n : Array). has a (slot_of n t)) (sym view) ∙ has-unsaved words active saved shadows a t i.slots (subst (IsUnsaved a) same none)))
@@ -128,6 +137,7 @@ looks words active saved xs table count shadows room a word m (Some w) i view sa
 
 -- ---- close
 
+-- the pages of saved words have a place in the table of owners
 pub pages-in_range : (words : List ℕ) (active : List Bool) (saved xs : List SavedWord) (table ys : List (Option ℕ)) (count shadows room : ℕ) → IsPlain words active saved table count shadows room → xs ≡ saved → ys ≡ table → All (λ e. e.address / 32 < length ys) xs
 pages-in_range words active saved xs table ys count shadows room i same table_is k d lt =
     let m : Array = array_in words active saved shadows in
@@ -139,6 +149,7 @@ pages-in_range words active saved xs table ys count shadows room i same table_is
 pub open-marked : (words : List ℕ) (active : List Bool) (saved : List SavedWord) (shadows t : ℕ) (m : Array) → length active ≡ 64 → array_in words active saved shadows ≡ m → (list : Saved) × (slot_of m t ≡ Some list) → get_or active t false ≡ true
 open-marked words active saved shadows t m long view (list, is) = (slot-is words active saved shadows t list long (ap (λ (n : Array). slot_of n t) view ∙ is)).0
 
+-- giving back a slot's pages and words closes it
 pub closes : (words : List ℕ) (active : List Bool) (saved kept xs : List SavedWord) (table now ys next : List (Option ℕ)) (count shadows room left taken t : ℕ) → get_or active t false ≡ true → xs ≡ saved → ys ≡ table → length now ≡ length ys → taken + count_by is_some now ≡ count_by is_some ys → ((p : ℕ) → get_or now p None ≡ cond (saves_in p (saved_by t xs)) None (get_or ys p None)) → next ≡ now → kept ≡ filter (is_other t) saved → left ≡ room → IsPlain words active saved table count shadows room → IsPlain words (set active t false) kept next (count - taken) shadows left
 closes words active saved kept xs table now ys next count shadows room left taken t mark same table_is long sum each next_is kept_is left_is i =
     let closed : IsPlain words (set active t false) (filter (is_other t) saved) now (count - taken) shadows room =
@@ -147,6 +158,7 @@ closes words active saved kept xs table now ys next count shadows room left take
     subst (λ (r : ℕ). IsPlain words (set active t false) kept next (count - taken) shadows r) (sym left_is)
     (subst₂ (λ (zs : List SavedWord) (os : List (Option ℕ)). IsPlain words (set active t false) zs os (count - taken) shadows room) (sym kept_is) (sym next_is) closed)
 
+-- what is left is the array without the slot
 pub array-left : (words : List ℕ) (active : List Bool) (saved kept : List SavedWord) (shadows t : ℕ) (m : Array) → length active ≡ 64 → get_or active t false ≡ true → kept ≡ filter (is_other t) saved → array_in words active saved shadows ≡ m → array_in words (set active t false) kept shadows ≡ with_slot m t None
 array-left words active saved kept shadows t m long mark kept_is view =
     ap (λ (zs : List SavedWord). array_in words (set active t false) zs shadows) kept_is

@@ -19,9 +19,11 @@ array-of words slots shadows = record { words = words; slots = slots; shadows = 
 abbrev pub part : ℕ → SavedWord → Saved
 part t e = cond (e.slot == t) ((e.address, e.before) ∷ []) []
 
+-- the part of a saved word that is its own slot's
 pub part-own : (e : SavedWord) → part e.slot e ≡ (e.address, e.before) ∷ []
 part-own e = rw (eq-eqb e.slot e.slot refl) refl
 
+-- no part of it is another slot's
 pub part-other : (t : ℕ) (e : SavedWord) → e.slot ≢ t → part t e ≡ []
 part-other t e other = rw (ne_eqb e.slot t other) refl
 
@@ -40,6 +42,7 @@ saved_by-none t (x ∷ xs) none =
 abbrev pub is_other : ℕ → SavedWord → Bool
 is_other t e = not (e.slot == t)
 
+-- dropping a slot's words leaves those of the others
 pub saved_by-kept : (t u : ℕ) (xs : List SavedWord) → u ≢ t → saved_by u (filter (is_other t) xs) ≡ saved_by u xs
 saved_by-kept t u [] ne = refl
 saved_by-kept t u (x ∷ xs) ne = at (cases_eq x.slot t) (saved_by-kept t u xs ne)
@@ -75,6 +78,7 @@ slot_in-closed active saved t is = rw is refl
 
 -- ---- a slot opens
 
+-- opening a slot
 pub slots_in-begun : (active : List Bool) (saved : List SavedWord) (t : ℕ) → length active ≡ 64 → t < 64 → saved_by t saved ≡ [] → slots_in (set active t true) saved ≡ set (slots_in active saved) t (Some [])
 slots_in-begun active saved t long lt none =
     slots_in-is (set active t true) saved (set (slots_in active saved) t (Some [])) (length-set active t true ∙ long) (length-set (slots_in active saved) t (Some []) ∙ length-slots_in active saved) (λ u room. at u room (cases_eq u t))
@@ -90,6 +94,7 @@ slots_in-begun active saved t long lt none =
 
 -- ---- a word is saved
 
+-- saving a word
 pub slots_in-push : (active : List Bool) (saved : List SavedWord) (e : SavedWord) → length active ≡ 64 → e.slot < 64 → IsTrue (get_or active e.slot false) → slots_in active (saved ++ e ∷ []) ≡ set (slots_in active saved) e.slot (Some ((e.address, e.before) ∷ saved_by e.slot saved))
 slots_in-push active saved e long lt is =
     slots_in-is active (saved ++ e ∷ []) (set (slots_in active saved) e.slot (Some ((e.address, e.before) ∷ saved_by e.slot saved))) long (length-set (slots_in active saved) e.slot (Some ((e.address, e.before) ∷ saved_by e.slot saved)) ∙ length-slots_in active saved) (λ u room. at u room (cases_eq u e.slot))
@@ -104,6 +109,7 @@ slots_in-push active saved e long lt is =
 
 -- ---- a slot closes
 
+-- closing a slot
 pub slots_in-closed : (active : List Bool) (saved : List SavedWord) (t : ℕ) → length active ≡ 64 → t < 64 → slots_in (set active t false) (filter (is_other t) saved) ≡ set (slots_in active saved) t None
 slots_in-closed active saved t long lt =
     slots_in-is (set active t false) (filter (is_other t) saved) (set (slots_in active saved) t None) (length-set active t false ∙ long) (length-set (slots_in active saved) t None ∙ length-slots_in active saved) (λ u room. at u room (cases_eq u t))

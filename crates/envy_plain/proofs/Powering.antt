@@ -19,6 +19,7 @@ pub record IsClosedBelow (old now : Array) (t : ℕ) : Type 0 where
   pub shadows : now.shadows ≡ old.shadows
   pub closed : (u : ℕ) → u < t → slot_of now u ≡ None
 
+-- before the first slot
 pub IsClosedBelow-none : (m : Array) → IsArray m → IsClosedBelow m m 0
 IsClosedBelow-none m i = record { array = i; same = refl; shadows = refl; closed = λ u lt. absurd (omega arith) }
 
@@ -41,6 +42,7 @@ after-closed old mid new t below none is = subst (λ (n : Array). IsClosedBelow 
     at u lt (inl same) = ap (slot_of mid) same ∙ none
     at u lt (inr other) = below.closed u (omega arith)
 
+-- one slot more is aborted
 pub IsClosedBelow-more : (old mid new : Array) (t : ℕ) (r : Result Unit Refusal) → IsClosedBelow old mid t → MatchResult r (λ done. Step mid (Abort t) Done new) (λ e. Step mid (Abort t) (answer_of e) new) → IsClosedBelow old new (t + 1)
 IsClosedBelow-more old mid new t (Ok done) below (saved, opened, is) = after-aborted old mid new t saved below opened is
 IsClosedBelow-more old mid new t (Err Range) below never = absurd never

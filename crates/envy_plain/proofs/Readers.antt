@@ -16,6 +16,7 @@ pub got : {X : Type 0} (xs : List X) (i : ℕ) (g : Option (Bor X)) (o : Option 
 got xs i None o lookup is = inr (ltb-false i (length xs) (sym lookup.0), is)
 got xs i (Some x) o lookup is = inl (x.now, ltb-true i (length xs) (sym lookup.0), is, λ d. lookup.4 (omega arith) d)
 
+-- what the table of owners says of an address
 pub owner-read : (m : Array) (a : ℕ) (xs : List (Option ℕ)) (g : Option (Bor (Option ℕ))) (o : Option (Option ℕ)) → length m.words ≡ 32 * pages m → xs ≡ owners m → IsGetResult xs (a / 32) (a / 32) g → o ≡ option_copied g → MatchResult (ok_or o Range) (λ slot. (a < length m.words) × (slot ≡ owner m (page_of a))) (λ e. (e ≡ Range) × (length m.words ≤ a))
 owner-read m a xs g o whole table lookup is = at (got xs (a / 32) g o lookup is)
   where
@@ -33,6 +34,7 @@ owner-read m a xs g o whole table lookup is = at (got xs (a / 32) g o lookup is)
         let out : length m.words ≤ a = omega arith in
         rw none (refl, out)
 
+-- whether a slot is open
 pub open-read : (words : List ℕ) (active : List Bool) (saved : List SavedWord) (shadows t : ℕ) (m : Array) (g : Option (Bor Bool)) (o : Option Bool) → array_in words active saved shadows ≡ m → length active ≡ 64 → IsGetResult active t t g → o ≡ option_copied g → MatchBool (unwrap_or o false) ((list : Saved) × (slot_of m t ≡ Some list)) (slot_of m t ≡ None)
 open-read words active saved shadows t m g o view long lookup is = by (unwrap_or o false) (at (got active t g o lookup is))
   where

@@ -65,6 +65,7 @@ place-below : (table : List (Option ℕ)) (a : ℕ) → (page_of a < length tabl
 unfolding place
 place-below table a it = let below = rank-below table (page_of a) it.0 it.1 in omega arith
 
+-- different words in owned pages are at most 32 a page
 pub length-owned : (table : List (Option ℕ)) (xs : List ℕ) → AllPairs (λ a b. a ≢ b) xs → AreOwned table xs → length xs ≤ 32 * count_by is_some table
 length-owned table xs apart each =
     let long : length (map (place table) xs) ≡ length xs = length-map xs (place table) in
@@ -92,6 +93,7 @@ length-owned table xs apart each =
 
 -- ---- the saved words of a machine
 
+-- so there is room for every saved word
 pub length-saved : (words : List ℕ) (active : List Bool) (saved : List SavedWord) (table : List (Option ℕ)) (count shadows room : ℕ) → IsPlain words active saved table count shadows room → length saved ≤ 32 * shadows
 length-saved words active saved table count shadows room i =
     let few : length (map (λ (e : SavedWord). e.address) saved) ≤ 32 * count_by is_some table = length-owned table (map (λ (e : SavedWord). e.address) saved) apart each in
@@ -145,6 +147,7 @@ slots_in-cons active e saved long lt is =
         ∙ ap (λ (l : Saved). cond (get_or active u false) (Some l) None) (append-nil (saved_by u saved))
         ∙ sym (get_or-set_other (slots_in active saved) e.slot u (Some (saved_by e.slot saved ++ part e.slot e)) None other ∙ slots_in-at active saved u long)
 
+-- the saved words are those of all slots
 pub sum_by-slots_in : (active : List Bool) (saved : List SavedWord) → length active ≡ 64 → All (λ e. IsTrue (get_or active e.slot false)) saved → sum_by words_of (slots_in active saved) ≡ length saved
 sum_by-slots_in active [] long opened = empty (sum_by-le words_of 0 (slots_in active []) (λ k d lt. none k d lt))
   where

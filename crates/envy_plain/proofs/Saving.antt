@@ -33,6 +33,7 @@ pub record Finds (words : List ℕ) (active : List Bool) (saved : List SavedWord
 
 -- ---- the word is saved already
 
+-- an address that is saved already isn't saved again
 pub saves-again : (words : List ℕ) (active : List Bool) (saved xs : List SavedWord) (table : List (Option ℕ)) (count shadows room t a : ℕ) (m : Array) (o : Option ℕ) → Finds words active saved table count shadows room t a m → xs ≡ saved → true ≡ is_some o → MatchOption o (IsUnsaved a xs) (λ w. Any (λ e. (e.address ≡ a) × (e.before ≡ w)) xs) → (list : Saved) → slot_of m t ≡ Some list → m ≡ with_slot m t (Some (saving a (slice_index m.words a) list))
 saves-again words active saved xs table count shadows room t a m o f same found look list is = at (option-some o (IsUnsaved a xs) (λ w. Any (λ e. (e.address ≡ a) × (e.before ≡ w)) xs) (sym found) look)
   where
@@ -69,6 +70,7 @@ table-at words active saved table count shadows room t a m f =
     let long : length table ≡ pages array = ap length i.table ∙ length-owners array in
     (rw long within, ap (λ (xs : List (Option ℕ)). get_or xs (page_of a) None) i.table ∙ owners-at array (page_of a) within)
 
+-- one that isn't is saved behind the others
 pub pushed : (words : List ℕ) (active : List Bool) (saved next : List SavedWord) (table now : List (Option ℕ)) (count after shadows room more t a b : ℕ) (m : Array) → Finds words active saved table count shadows room t a m → IsUnsaved a saved → b ≡ get_or words a b → next ≡ saved ++ record { slot = t; address = a; before = b } ∷ [] → room ≤ more → Takes (array_in words active saved shadows) t a table now count after → IsPlain words active next now after shadows more
 pushed words active saved next table now count after shadows room more t a b m f none read is le takes =
     let lt = lt-here words active saved table count shadows room t a m f in
@@ -77,6 +79,7 @@ pushed words active saved next table now count after shadows room more t a b m f
     subst (λ (xs : List SavedWord). IsPlain words active xs now after shadows more) (sym list)
     (IsPlain-pushed words active saved table now count after shadows room more t a lt (may-here words active saved table count shadows room t a m f) (mark-here words active saved table count shadows room t a m f) none le takes f.plain)
 
+-- and the array has it
 pub array-saved : (words : List ℕ) (active : List Bool) (saved next : List SavedWord) (table : List (Option ℕ)) (count shadows room t a b : ℕ) (m : Array) → Finds words active saved table count shadows room t a m → IsUnsaved a saved → b ≡ get_or words a b → next ≡ saved ++ record { slot = t; address = a; before = b } ∷ [] → (list : Saved) → slot_of m t ≡ Some list → array_in words active next shadows ≡ with_slot m t (Some (saving a (slice_index m.words a) list))
 array-saved words active saved next table count shadows room t a b m f none read is list opened =
     let lt = lt-here words active saved table count shadows room t a m f in
@@ -90,9 +93,11 @@ array-saved words active saved next table count shadows room t a b m f none read
 
 -- ---- how the owners change
 
+-- a free page gets an owner
 pub Takes-new : (m : Array) (t a count : ℕ) (table : List (Option ℕ)) → owner m (page_of a) ≡ None → Takes m t a table (set table (page_of a) (Some t)) count (count + 1)
 Takes-new m t a count table free = record { owner_set = refl; counted = rw free (omega arith) }
 
+-- an owned one keeps it
 pub Takes-old : (m : Array) (t a count u : ℕ) (table : List (Option ℕ)) → owner m (page_of a) ≡ Some u → Takes m t a table (set table (page_of a) (Some t)) count count
 Takes-old m t a count u table owned_by = record { owner_set = refl; counted = rw owned_by refl }
 

@@ -11,6 +11,7 @@ use Rattle.envy_plain.specs.declared.saved_word.SavedWord.{SavedWord}
 use Rattle.envy_plain.specs.Fields.{saved_by}
 use Rattle.envy_plain.proofs.Parts.{part, part-other, saved_by-push}
 
+-- one word more, put back before those that are older
 pub saved_by-more : (t : ℕ) (xs : List SavedWord) (i : ℕ) (d : SavedWord) → i < length xs → saved_by t (take (i + 1) xs) ≡ part t (get_or xs i d) ++ saved_by t (take i xs)
 saved_by-more t xs i d lt = ap (saved_by t) (take_more xs i d lt) ∙ saved_by-push t (take i xs) (get_or xs i d)
 
@@ -21,6 +22,7 @@ part-same t e same = rw (eq-eqb e.slot t same) refl
 abbrev pub IsUnsaved : ℕ → List SavedWord → Type 0
 IsUnsaved a xs = All (λ e. e.address ≢ a) xs
 
+-- a word of another address
 pub saves-part : (t a : ℕ) (e : SavedWord) → e.address ≢ a → saves a (part t e) ≡ false
 saves-part t a e other = at (cases_eq e.slot t)
   where
@@ -28,6 +30,7 @@ saves-part t a e other = at (cases_eq e.slot t)
     at (inl same) = rw (part-same t e same, ne_eqb e.address a other) refl
     at (inr not_it) = rw (part-other t e not_it) refl
 
+-- an address that no word has
 pub saves-unsaved : (t a : ℕ) (xs : List SavedWord) → IsUnsaved a xs → saves a (saved_by t xs) ≡ false
 saves-unsaved t a [] none = refl
 saves-unsaved t a (x ∷ xs) none =
@@ -45,12 +48,14 @@ unsaved-before xs i d once lt k e room =
 
 -- ---- the loop that puts words back
 
+-- putting back a word of the slot
 pub restore-own : (t : ℕ) (xs : List SavedWord) (i : ℕ) (d : SavedWord) (words : List ℕ) → AllPairs (λ d e. d.address ≢ e.address) xs → i < length xs → (get_or xs i d).slot ≡ t → set (put_back (saved_by t (take i xs)) words) (get_or xs i d).address (get_or xs i d).before ≡ put_back (saved_by t (take (i + 1) xs)) words
 restore-own t xs i d words once lt same =
     sym (put_back-set (saved_by t (take i xs)) words (get_or xs i d).address (get_or xs i d).before (saves-unsaved t (get_or xs i d).address (take i xs) (unsaved-before xs i d once lt)))
     ∙ ap (λ (l : Saved). put_back (l ++ saved_by t (take i xs)) words) (sym (part-same t (get_or xs i d) same))
     ∙ ap (λ (l : Saved). put_back l words) (sym (saved_by-more t xs i d lt))
 
+-- passing over one of another slot
 pub saved_by-skip : (t : ℕ) (xs : List SavedWord) (i : ℕ) (d : SavedWord) → i < length xs → (get_or xs i d).slot ≢ t → saved_by t (take (i + 1) xs) ≡ saved_by t (take i xs)
 saved_by-skip t xs i d lt other = saved_by-more t xs i d lt ∙ ap (λ (l : Saved). l ++ saved_by t (take i xs)) (part-other t (get_or xs i d) other)
 
@@ -65,6 +70,7 @@ pub record IsReleased (old now : List (Option ℕ)) (pairs : Saved) (pages : ℕ
 abbrev pub Releases : List (Option ℕ) → List (Option ℕ) → ℕ → List SavedWord → ℕ → ℕ → Type 0
 Releases old now t xs n pages = IsReleased old now (saved_by t (take n xs)) pages
 
+-- passing over a word of another slot,
 pub Releases-skip : (old now : List (Option ℕ)) (t : ℕ) (xs : List SavedWord) (i pages : ℕ) (d : SavedWord) → i < length xs → (get_or xs i d).slot ≢ t → Releases old now t xs i pages → Releases old now t xs (i + 1) pages
 Releases-skip old now t xs i pages d lt other r = subst (λ (l : Saved). IsReleased old now l pages) (sym (saved_by-skip t xs i d lt other)) r
 
@@ -99,6 +105,7 @@ IsReleased-taken old now pairs pages e room taken r = record {
 releases-own : (t : ℕ) (xs : List SavedWord) (i : ℕ) (d : SavedWord) → i < length xs → (get_or xs i d).slot ≡ t → ((get_or xs i d).address, (get_or xs i d).before) ∷ saved_by t (take i xs) ≡ saved_by t (take (i + 1) xs)
 releases-own t xs i d lt same = ap (λ (l : Saved). l ++ saved_by t (take i xs)) (sym (part-same t (get_or xs i d) same)) ∙ sym (saved_by-more t xs i d lt)
 
+-- over one whose page is free already,
 pub Releases-none : (old now : List (Option ℕ)) (t : ℕ) (xs : List SavedWord) (i pages : ℕ) (d : SavedWord) → i < length xs → (get_or xs i d).slot ≡ t → is_some (get_or now (page_of (get_or xs i d).address) None) ≡ false → Releases old now t xs i pages → Releases old now t xs (i + 1) pages
 Releases-none old now t xs i pages d lt same free r =
     subst (λ (l : Saved). IsReleased old now l pages) (releases-own t xs i d lt same) (IsReleased-none old now (saved_by t (take i xs)) pages ((get_or xs i d).address, (get_or xs i d).before) (none (get_or now (page_of (get_or xs i d).address) None) free) r)
@@ -107,6 +114,7 @@ Releases-none old now t xs i pages d lt same free r =
     none None e = refl
     none (Some x) e = cc
 
+-- and giving back the page of one
 pub Releases-taken : (old now : List (Option ℕ)) (t : ℕ) (xs : List SavedWord) (i pages : ℕ) (d : SavedWord) → i < length xs → (get_or xs i d).slot ≡ t → page_of (get_or xs i d).address < length now → is_some (get_or now (page_of (get_or xs i d).address) None) ≡ true → Releases old now t xs i pages → Releases old (set now (page_of (get_or xs i d).address) None) t xs (i + 1) (pages + 1)
 Releases-taken old now t xs i pages d lt same room taken r =
     subst (λ (l : Saved). IsReleased old (set now (page_of (get_or xs i d).address) None) l (pages + 1)) (releases-own t xs i d lt same) (IsReleased-taken old now (saved_by t (take i xs)) pages ((get_or xs i d).address, (get_or xs i d).before) room taken r)

@@ -5,10 +5,13 @@ ghost use Rattle.envy_base.specs.Step.{Step, MayOwn, Load, Look, Store, Begin, P
 ghost use Rattle.envy_plain.specs.Refusals.{answer_of};
 
 use crate::refusal::Refusal;
-use crate::saved_word::{SavedWord, forget, release, restore, word_before};
+use crate::saved_word::{PAGE_WORDS, SavedWord, forget, release, restore, word_before};
 use envy_base::{NoMemory, Shape};
 use std::alloc::Global;
 use std::marker::Model;
+
+/// The transaction slots.
+const SLOTS: usize = 64;
 
 /// An array of words of 64 bits, 32 to a page, with 64 transaction slots. A page is owned by the open
 /// slot that stored into it, until the slot closes.
@@ -17,7 +20,7 @@ use std::marker::Model;
 #[derive(Drop)]
 pub struct Plain {
     words: Vec<u64>,
-    active: [bool; 64],
+    active: [bool; SLOTS],
     /// The words that the open slots have stored over, the oldest first.
     saved: Vec<SavedWord>,
     /// For each page the slot that owns it.
@@ -52,9 +55,9 @@ impl Plain {
     {
         let pages = shape.pages as usize;
         Ok(Plain {
-            words: vec![in alloc; 0; 32 * pages]?,
-            active: [false; 64],
-            saved: Vec::with_capacity(alloc, 32 * shape.shadows as usize)?,
+            words: vec![in alloc; 0; PAGE_WORDS as usize * pages]?,
+            active: [false; SLOTS],
+            saved: Vec::with_capacity(alloc, PAGE_WORDS as usize * shape.shadows as usize)?,
             owners: unowned(alloc, pages)?,
             owned: 0,
             shadows: shape.shadows,
@@ -161,7 +164,7 @@ impl Plain {
     {
         // the loop begins with the invariant
         let _ = &self.words;
-        for t in 0..64 {
+        for t in 0..SLOTS as u8 {
             let _ = self.abort(t);
         }
     }
@@ -189,7 +192,7 @@ impl Plain {
             (λ e. (e ≡ Refusal.Range) × (length self.now.words ≤ a)) }
     {
         self.owners
-            .get((a / 32) as usize)
+            .get((a / PAGE_WORDS) as usize)
             .copied()
             .ok_or(Refusal::Range)
     }
@@ -220,7 +223,7 @@ impl Plain {
         let Ok(()) = self.saved.push(word) else {
             unreachable!();
         };
-        let page = (a / 32) as usize;
+        let page = (a / PAGE_WORDS) as usize;
         if self.owners[page].is_none() {
             self.owners[page] = Some(t);
             self.owned += 1;

@@ -2,6 +2,9 @@ ghost use Rattle.std.specs.Prelude.{◌≡◌, ◌≢◌, ◌+◌, ◌*◌, ◌/
 ghost use Rattle.envy_base.specs.Array.{saves_in, put_back};
 ghost use Rattle.envy_plain.specs.Fields.{saved_by};
 
+/// The words of a page.
+pub(crate) const PAGE_WORDS: u32 = 32;
+
 /// A word that an open slot has stored over, as it was before.
 #[derive(Clone, Copy)]
 pub(crate) struct SavedWord {
@@ -47,7 +50,7 @@ pub(crate) fn release(owners: &mut [Option<u8>], saved: &[SavedWord], slot: u8) 
 {
     let mut pages = 0;
     for word in saved {
-        let page = (word.address / 32) as usize;
+        let page = (word.address / PAGE_WORDS) as usize;
         if word.slot == slot && owners[page].is_some() {
             owners[page] = None;
             pages += 1;

@@ -11,12 +11,15 @@ use Rattle.envy_layout.specs.Words.{durable, durable_word, words}
 use Rattle.envy_map.specs.Fields.{Chart, Fields, chart, map_fields}
 use Rattle.envy_memory.specs.Calls.{Works}
 
+-- steps that sync nothing leave the last sync the last
 pub last_stays : (was old new : Chart) (k j : ℕ) → Works k j old new → IsLast was old → IsLast was new
 last_stays was old new k j works last = record { shape = last.shape ∙ sym works.shape; moment = works.counted.plans ∙ last.moment; bytes = works.counted.given ∙ last.bytes }
 
+-- and the one before it
 pub before_stays : (was old new : Chart) (k j : ℕ) → Works k j old new → IsBefore was old → IsBefore was new
 before_stays was old new k j works before = record { shape = before.shape ∙ sym works.shape; moment = works.counted.pulled ∙ before.moment; bytes = works.counted.lives ∙ before.bytes }
 
+-- a further sync makes the last the one before
 pub last_before : (was old new : Chart) → SyncsChart old (Ok tt) new → IsLast was old → IsBefore was new
 last_before was old new (on, plans, given, is) last = record {
   shape = last.shape ∙ sym (ap (λ (c : Chart). c.shape) is);
@@ -31,18 +34,22 @@ module _ (was : Chart) (s : State) (file : List ℕ) (opens : Reopens was file) 
   same : content_of s ≡ x
   same = content ∙ ap (λ (sh : Shape). holds sh (operations file)) shape
 
+  -- a board that reopens has the fields that were synced,
   pub same_fields : (chart s).fields ≡ was.fields
   same_fields = ap (λ (sh : Shape). map_fields sh s.sram) shape ∙ ap (λ (y : Content). map_fields was.shape y.sram) same ∙ opens.fields
 
+  -- the flash,
   pub same_flash : s.flash ≡ was.flash
   same_flash = ap (λ (y : Content). y.flash) same ∙ opens.flash
 
+  -- the words,
   pub same_words : durable (chart s) ≡ durable was
   same_words =
       ap (λ (sh : Shape). words sh.pages (durable_word (chart s).fields s.flash)) shape
       ∙ ap (λ (f : Fields). words was.shape.pages (durable_word f s.flash)) same_fields
       ∙ ap (λ (l : List (List ℕ)). words was.shape.pages (durable_word was.fields l)) same_flash
 
+  -- and is as sound
   pub same_sound : IsSound was → IsSound (chart s)
   same_sound sound =
       subst (λ (sh : Shape). Sound sh (chart s).fields s.flash) (sym shape)

@@ -19,6 +19,7 @@ use Rattle.envy_journal.specs.Journal.{IsFileOf, IsLogged, journal_state, kept}
 use Rattle.envy_journal.specs.Log.{Begins}
 use Rattle.envy_journal.specs.Reading.{operations}
 use Rattle.envy_journal.specs.Steady.{IsSteady}
+use Rattle.envy_journal.proofs.Redone.{bads-never}
 use Rattle.envy_disk.specs.Disk.{Syncs, with_disk}
 use Rattle.envy_synced.specs.Disk.{Ends, IsKept}
 
@@ -27,14 +28,17 @@ pub journal_on : (dead : Bool) (s : State) → IsTrue (journal_state dead s).on 
 journal_on true s on = absurd (false≢true on)
 journal_on false s on = refl
 
+-- a journaled board is off though its board is on only where it has ended
 pub journal_off : (dead : Bool) (s : State) → IsTrue s.on → (journal_state dead s).on ≡ false → IsTrue dead
 journal_off true s on off = refl
 journal_off false s on off = absurd (false≢true (sym off ∙ on))
 
+-- whether a journal has ended changes no size
 pub journal_shape : (dead : Bool) (s : State) → (journal_state dead s).shape ≡ s.shape
 journal_shape true s = refl
 journal_shape false s = refl
 
+-- whether a journal has ended changes no content
 pub journal_content : (dead : Bool) (s : State) → content_of (journal_state dead s) ≡ content_of s
 journal_content true s = refl
 journal_content false s = refl
@@ -43,16 +47,9 @@ journal_bads : (dead : Bool) (s : State) → (journal_state dead s).bads ≡ s.b
 journal_bads true s = refl
 journal_bads false s = refl
 
-up-zero : up 0 ≡ 1
-unfolding up
-up-zero = refl
-
-apart : (n : ℕ) → n ≡ 0 → n ≡ 1 → ⊥
-apart n none one = omega arith
-
 -- nothing is ever bad on it
-bads-never : (d e : Bool) (s t : State) → IsSteady s → IsSteady t → (journal_state e t).bads ≡ up (journal_state d s).bads → ⊥
-bads-never d e s t was is rose = apart t.bads is.bads (sym (journal_bads e t) ∙ rose ∙ ap up (journal_bads d s ∙ was.bads) ∙ up-zero)
+never-bad : (d e : Bool) (s t : State) → IsSteady s → IsSteady t → (journal_state e t).bads ≡ up (journal_state d s).bads → ⊥
+never-bad d e s t was is rose = bads-never s t was is (sym (journal_bads e t) ∙ rose ∙ ap up (journal_bads d s))
 
 -- What an operation says of the sizes and of power. `K` is what holds where it succeeded.
 pub record Goes (K : Type 0) (s t : State) : Type 0 where
@@ -61,6 +58,7 @@ pub record Goes (K : Type 0) (s t : State) : Type 0 where
   pub on : IsTrue t.on → K
 
 module _ (K : Type 0) where
+  -- a put changes no size, leaves a board that was off as it was, and holds what it promised where power stays on
   pub puts_go : (s t : State) (w v : ℕ) (r : Result Unit Off) → Puts s w v r t → OnOk r K → Goes K s t
   puts_go s t w v (Ok done) (on, is) k = record { shape = ap (λ (x : State). x.shape) is; still = λ off. absurd (false≢true (sym off ∙ on)); on = λ lit. k }
   puts_go s t w v (Err off) (inl (dark, is)) k = record { shape = ap (λ (x : State). x.shape) is; still = λ off. is; on = λ lit. absurd (false≢true (sym dark ∙ ap (λ (x : State). x.on) (sym is) ∙ lit)) }
@@ -74,35 +72,40 @@ module _ (K : Type 0) where
     abbrev t : State
     t = journal_state e b
 
+    -- a program does, too
     pub programs_go : (q : ℕ) (page : List ℕ) (r : Result Unit Trouble) → Programs s q page r t → OnOk r K → Goes K s t
     programs_go q page (Ok done) (on, is) k = record { shape = ap (λ (x : State). x.shape) is; still = λ off. absurd (false≢true (sym off ∙ on)); on = λ lit. k }
     programs_go q page (Err TroubleOff) (inl (dark, is)) k = record { shape = ap (λ (x : State). x.shape) is; still = λ off. is; on = λ lit. absurd (false≢true (sym dark ∙ ap (λ (x : State). x.on) (sym is) ∙ lit)) }
     programs_go q page (Err TroubleOff) (inr (on, xs, fits, is)) k = record { shape = ap (λ (x : State). x.shape) is; still = λ off. absurd (false≢true (sym off ∙ on)); on = λ lit. absurd (false≢true (sym (ap (λ (x : State). x.on) is) ∙ lit)) }
-    programs_go q page (Err Bad) (on, xs, fits, is) k = absurd (bads-never d e a b was now (ap (λ (x : State). x.bads) is))
+    programs_go q page (Err Bad) (on, xs, fits, is) k = absurd (never-bad d e a b was now (ap (λ (x : State). x.bads) is))
 
+    -- an erase does, too
     pub erases_go : (n : ℕ) (r : Result Unit Trouble) → Erases s n r t → OnOk r K → Goes K s t
     erases_go n (Ok done) (on, rows, only, is) k = record { shape = ap (λ (x : State). x.shape) is; still = λ off. absurd (false≢true (sym off ∙ on)); on = λ lit. k }
     erases_go n (Err TroubleOff) (inl (dark, is)) k = record { shape = ap (λ (x : State). x.shape) is; still = λ off. is; on = λ lit. absurd (false≢true (sym dark ∙ ap (λ (x : State). x.on) (sym is) ∙ lit)) }
     erases_go n (Err TroubleOff) (inr (on, rows, only, is)) k = record { shape = ap (λ (x : State). x.shape) is; still = λ off. absurd (false≢true (sym off ∙ on)); on = λ lit. absurd (false≢true (sym (ap (λ (x : State). x.on) is) ∙ lit)) }
-    erases_go n (Err Bad) (on, rows, only, is) k = absurd (bads-never d e a b was now (ap (λ (x : State). x.bads) is))
+    erases_go n (Err Bad) (on, rows, only, is) k = absurd (never-bad d e a b was now (ap (λ (x : State). x.bads) is))
 
 -- the same operation on the board that tells
 module _ (plans given pulled lives : ℕ) (s t : State) where
   abbrev told : State → State
   told x = with_disk x plans given pulled lives
 
+  -- what is told of syncs beside a board changes nothing about a put
   pub puts_told : (w v : ℕ) (r : Result Unit Off) → Puts s w v r t → Puts (told s) w v r (told t)
   puts_told w v (Ok done) (on, is) = (on, ap told is)
   puts_told w v (Err off) (inl (dark, is)) = inl (dark, ap told is)
   puts_told w v (Err off) (inr (on, inl is)) = inr (on, inl (ap told is))
   puts_told w v (Err off) (inr (on, inr is)) = inr (on, inr (ap told is))
 
+  -- nothing about a program
   pub programs_told : (q : ℕ) (page : List ℕ) (r : Result Unit Trouble) → Programs s q page r t → Programs (told s) q page r (told t)
   programs_told q page (Ok done) (on, is) = (on, ap told is)
   programs_told q page (Err TroubleOff) (inl (dark, is)) = inl (dark, ap told is)
   programs_told q page (Err TroubleOff) (inr (on, xs, fits, is)) = inr (on, xs, fits, ap told is)
   programs_told q page (Err Bad) (on, xs, fits, is) = (on, xs, fits, ap told is)
 
+  -- nothing about an erase
   pub erases_told : (e : ℕ) (r : Result Unit Trouble) → Erases s e r t → Erases (told s) e r (told t)
   erases_told e (Ok done) (on, rows, only, is) = (on, rows, only, ap told is)
   erases_told e (Err TroubleOff) (inl (dark, is)) = inl (dark, ap told is)
@@ -179,6 +182,7 @@ module _ {D : Type 0} (seen : D → List ℕ) (moment : D → ℕ) (left_since :
       either file (inl stands) = lit t file shape (inl (last file stands))
       either file (inr has) = inr (off, all_of file has)
 
+      -- after a call that syncs nothing the last sync stays the last
       pub unsynced : LeavesOnly moment left_since now.device new.device (λ file. StandsFor s.shape (kept seen now) file ⊎ IsFileOf s file) → IsKept seen moment left_since new was before t
       unsynced only = record {
         same = λ up. absurd (false≢true (sym off ∙ up));
@@ -202,6 +206,7 @@ module _ {D : Type 0} (seen : D → List ℕ) (moment : D → ℕ) (left_since :
   failed true a now new was before on is only still = subst (λ (l : Log D). IsKept seen moment left_since l was before (cut a)) (sym (still refl)) is
   failed false a now new was before on is only still = unsynced now was before a is on new (cut a) refl refl refl (only refl)
 
+-- a sync that fails cuts power and leaves what was told
 pub fails_told : (plans given pulled lives : ℕ) (dead : Bool) (a : State) (off : Off) → IsTrue a.on → Syncs (with_disk (journal_state dead a) plans given pulled lives) (Err off) (with_disk (cut a) plans given pulled lives)
 fails_told plans given pulled lives true a off on = inl (refl, refl)
 fails_told plans given pulled lives false a off on = inr (on, refl)

@@ -19,6 +19,7 @@ second : (a m n : ℕ) → both a m ≡ both a n → m ≡ n
 second zero m n e = omega (arith, e)
 second (suc a) m n e = second a m n (omega (arith, e))
 
+-- no two files have one number
 pub number_one : (xs ys : List ℕ) → number xs ≡ number ys → xs ≡ ys
 number_one [] [] e = refl
 number_one [] (y ∷ ys) e = absurd (some y (number ys) (sym e))

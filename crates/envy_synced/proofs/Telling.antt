@@ -49,6 +49,7 @@ module _ {D : Type 0} (seen : D → List ℕ) (moment : D → ℕ) (left_since :
   told_ends c file good last (inl stands) = inl (reopens_synced c s.shape (kept_bytes seen was) file good last.shape last.bytes stands)
   told_ends c file good last (inr (off, holding)) = inr (off, reopens_now s told file holding refl refl)
 
+  -- a crash since the last sync leaves a file that reopens to what was synced then
   pub told_last : (c : Chart) (file : List ℕ) → IsSynced c → IsLast c (chart told) → left_since now.device c.plans file → ∥ Reopens c file ⊎ ((told.on ≡ false) × Reopens (chart told) file) ∥₁
   told_last c file good last left = ∥∥₁_map (is.each file (subst (λ (t : ℕ). left_since now.device t file) (sym last.moment) left)) (λ e. told_ends c file good last e)
 
@@ -56,5 +57,6 @@ module _ {D : Type 0} (seen : D → List ℕ) (moment : D → ℕ) (left_since :
   told_either b c file fine good first last (inl stands) = inl (reopens_synced b s.shape (kept_bytes seen before) file fine first.shape first.bytes stands)
   told_either b c file fine good first last (inr ends) = inr (told_ends c file good last ends)
 
+  -- a crash since the sync before leaves one of the last two
   pub told_before : (b c : Chart) (file : List ℕ) → IsSynced b → IsSynced c → IsBefore b (chart told) → IsLast c (chart told) → left_since now.device b.plans file → ∥ Reopens b file ⊎ (Reopens c file ⊎ ((told.on ≡ false) × Reopens (chart told) file)) ∥₁
   told_before b c file fine good first last left = ∥∥₁_map (is.since file (subst (λ (t : ℕ). left_since now.device t file) (sym first.moment) left)) (λ e. told_either b c file fine good first last e)

@@ -20,6 +20,7 @@ pub sum-zero : (n : ℕ) → sum_below n (λ k. pos 0) ≡ pos 0
 sum-zero zero = refl
 sum-zero (suc n) = +ℤ_idr (sum_below n (λ k. pos 0)) ∙ sum-zero n
 
+-- sums of sums
 pub sum-both : (n : ℕ) (f g : ℕ → ℤ) → sum_below n (λ k. f k +ℤ g k) ≡ sum_below n f +ℤ sum_below n g
 sum-both zero f g = refl
 sum-both (suc n) f g = ap (λ (x : ℤ). x +ℤ (f n +ℤ g n)) (sum-both n f g) ∙ swapped (sum_below n f) (sum_below n g) (f n) (g n)
@@ -29,6 +30,7 @@ pub sum-none : (n i : ℕ) (x : ℤ) → n ≤ i → sum_below n (λ k. cond (i 
 sum-none zero i x le = refl
 sum-none (suc n) i x le = rw (ne_eqb i n (λ e. omega arith)) (+ℤ_idr (sum_below n (λ k. cond (i == k) x (pos 0))) ∙ sum-none n i x (omega arith))
 
+-- a sum of which one part isn't 0
 pub sum-one : (n i : ℕ) (x : ℤ) → i < n → sum_below n (λ k. cond (i == k) x (pos 0)) ≡ x
 sum-one zero i x lt = absurd (omega arith)
 sum-one (suc n) i x lt = at (cases_eq i n) (λ less. sum-one n i x less)

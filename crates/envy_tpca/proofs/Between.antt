@@ -28,6 +28,7 @@ use Rattle.envy_tpca.proofs.Trying.{Closed, undone-closed}
 
 -- ---- causes, from an earlier moment on
 
+-- how a later part of a run ends is how the run ends
 pub cause-later : (n : ℕ) (first mid p : Picture) (fault : DriveFault) → Since n first mid → Since 0 mid p → IsEnd fault mid p → IsEnd fault first p
 cause-later n first mid p Dead since did (off, lives, past) = (off, lives, past-later _ _ _ since.keeps.cuts past did.keeps.cuts)
 cause-later n first mid p DriveBad since did (on, past) = (on, past-later _ _ _ since.keeps.bads past did.keeps.bads)
@@ -51,13 +52,16 @@ pub record Waits (first p : Picture) : Type 0 where
   pub words : durable p.chart ≡ durable first.chart
   pub since : Since 0 first p
 
+-- power is off, and nothing happened yet
 pub waits-first : (p : Picture) → p.chart.on ≡ false → Waits p p
 waits-first p off = record { off = off; words = refl; since = Since-refl p }
 
+-- a restart that leaves power off
 pub waits-more : {E : Type 0} (first mid p : Picture) → Waits first mid → (E × (p ≡ mid)) ⊎ (Kept (lit mid.chart) p.chart × (p.chart.on ≡ false)) → counts_of p.parts ≡ counts_of mid.parts → Waits first p
 waits-more first mid p waits (inl (never, same)) counts = subst (Waits first) (sym same) waits
 waits-more first mid p waits (inr (kept, off)) counts = record { off = off; words = kept.durable ∙ waits.words; since = Since-more 0 first mid p waits.since (since-lit mid p kept counts) }
 
+-- power that doesn't return is the end
 pub dead-returns : {E : Type 0} (first mid p : Picture) → Waits first mid → (E × (p ≡ mid)) ⊎ (Kept (lit mid.chart) p.chart × (p.chart.on ≡ false)) → counts_of p.parts ≡ counts_of mid.parts → mid.chart.lives ≡ 0 → Returns first (Err Dead) p
 dead-returns first mid p waits asked counts none =
     let w = waits-more first mid p waits asked counts in
@@ -67,10 +71,12 @@ dead-returns first mid p waits asked counts none =
     lives (inl (never, same)) = ap (λ (x : Picture). x.chart.lives) same ∙ none
     lives (inr (kept, off)) = let e = Counted.lives kept.counted in omega arith
 
+-- each restart takes a life
 pub lives-fewer : {E : Type 0} (mid p : Picture) → (E × (p ≡ mid)) ⊎ (Kept (lit mid.chart) p.chart × (p.chart.on ≡ false)) → (E → ⊥) → 0 < mid.chart.lives → p.chart.lives < mid.chart.lives
 lives-fewer mid p (inl (e, same)) never some = absurd (never e)
 lives-fewer mid p (inr (kept, off)) never some = let e = Counted.lives kept.counted in omega arith
 
+-- power that returns finds the words
 pub back-returns : (first mid p : Picture) → Waits first mid → Kept (lit mid.chart) p.chart → Stands p.chart (fresh mid.chart.shape.shadows (durable mid.chart)) → counts_of p.parts ≡ counts_of mid.parts → 0 < mid.chart.lives → Returns first (Ok tt) p
 back-returns first mid p waits kept stands counts some =
     let did = since-lit mid p kept counts in
@@ -94,12 +100,14 @@ pub tick-done : (first mid p : Picture) → Rests (durable first.chart) mid → 
 tick-done first mid p rests since did (n, step, stands) =
     (subst (λ (k : ℕ). Stands p.chart (fresh k (durable first.chart))) (sym (ap (λ (sh : Shape). sh.shadows) did.keeps.shape)) (subst (Stands p.chart) step stands), Since-more 0 first mid p since did)
 
+-- a background step whose operation fails
 pub tick-bad : (first mid p : Picture) → Rests (durable first.chart) mid → Since 0 first mid → Since 0 mid p → HasFailed mid.chart p.chart → Fails (fresh mid.chart.shape.shadows (durable first.chart)) Tick p.chart → AfterTransfer 0 first (durable first.chart) (durable first.chart) (Err DriveBad) p
 tick-bad first mid p rests since did failed (n, accepts, stands) = (
   (stands.on, past-later _ _ _ since.keeps.bads failed did.keeps.bads),
   record { words = inl (stands.holds.durable ∙ undone-closed (fresh mid.chart.shape.shadows (durable first.chart)) (Closed.slots (closed-rests (durable first.chart) mid rests))); since = Since-more 0 first mid p since did },
 )
 
+-- one in which power fails, and the restart behind it
 pub tick-off : (first mid off p : Picture) (result : Result Unit DriveFault) → Rests (durable first.chart) mid → Since 0 first mid → Since 0 mid off → IsCut mid.chart off.chart → IsLost (fresh mid.chart.shape.shadows (durable first.chart)) Tick off.chart → Returns off result p → AfterTransfer 0 first (durable first.chart) (durable first.chart) result p
 tick-off first mid off p (Ok done) rests since did cut lost (then_rests, then_did, fewer) =
     let words : durable off.chart ≡ durable first.chart = lost.words.2 ∙ tick-words (durable first.chart) mid rests lost.words.0 lost.words.1 in
@@ -155,5 +163,6 @@ dead-ends n first before now mid p (Err e) back fault cause stopped returns was 
         ((off, none, λ low. let d = cause.1 low in let k = did.keeps.cuts in omega arith), record { words = words w stopped.words; since = Since-more n first mid p stopped.since did })
     at DriveBad is never = absurd never
 
+-- what a restart that succeeds says
 pub returns-ok : (old p : Picture) (result : Result Unit DriveFault) (u : Unit) → Returns old result p → result ≡ Ok u → Rests (durable old.chart) p × Since 0 old p × (p.chart.lives < old.chart.lives)
 returns-ok old p result u returns was = subst (λ (r : Result Unit DriveFault). Returns old r p) was returns

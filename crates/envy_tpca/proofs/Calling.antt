@@ -43,12 +43,15 @@ rests-closed words p m stands closed =
     let is : m ≡ fresh p.chart.shape.shadows words = fresh-closed words m closed ∙ ap (λ (s : ℕ). fresh s words) stands.holds.shadows in
     subst (Stands p.chart) is stands
 
+-- at rest no transaction is open
 pub closed-rests : (words : List ℕ) (p : Picture) → Rests words p → Closed words (fresh p.chart.shape.shadows words)
 closed-rests words p rests = closed-fresh p.chart.shape.shadows words rests.holds.array
 
+-- the words at rest are the durable ones
 pub durable-rests : (words : List ℕ) (p : Picture) → Rests words p → durable p.chart ≡ words
 durable-rests words p rests = rests.holds.durable ∙ undone-closed (fresh p.chart.shape.shadows words) (Closed.slots (closed-rests words p rests))
 
+-- and rest on the durable ones
 pub rests-durable : (words : List ℕ) (p : Picture) → Rests words p → Rests (durable p.chart) p
 rests-durable words p rests = subst (λ (ws : List ℕ). Rests ws p) (sym (durable-rests words p rests)) rests
 
@@ -66,6 +69,7 @@ put-so : (n : ℕ) (first : Picture) (before now : List ℕ) (t most more last a
     → ((answer : Answer) (k : Array) → Step r.array (Put t a w) answer k → (answer ≡ Done) × Open before (slice_set now a w) t more k × (k.shadows ≡ r.array.shadows) × (owner k (page_of a) ≡ Some t)) × ((k : Array) → Lost r.array (Put t a w) k → k.words ≡ before)
 put-so n first before now t most more last a w old r lt widens = put-law before now t most more a w r.array r.state lt (grows n first before now t most more last (page_of a) old r widens)
 
+-- a put that is done goes on with the transaction
 pub put-done : (n : ℕ) (first : Picture) (before now : List ℕ) (t most more last a w : ℕ) (old new : Picture) (r : Running n first before now t most last old) → a < length now → Widens first.chart.shape.shadows last (page_of a) most more → Since 0 old new → Steps r.array (Put t a w) Done new.chart → Running n first before (slice_set now a w) t more (page_of a) new
 put-done n first before now t most more last a w old new r lt widens did (k, step, stands) =
     let d = (put-so n first before now t most more last a w old r lt widens).0 Done k step in
@@ -74,6 +78,7 @@ put-done n first before now t most more last a w old new r lt widens did (k, ste
 put-refused : (n : ℕ) (first : Picture) (before now : List ℕ) (t most more last a w : ℕ) (old new : Picture) (r : Running n first before now t most last old) → a < length now → Widens first.chart.shape.shadows last (page_of a) most more → (answer : Answer) → Steps r.array (Put t a w) answer new.chart → answer ≡ Done
 put-refused n first before now t most more last a w old new r lt widens answer (k, step, stands) = ((put-so n first before now t most more last a w old r lt widens).0 answer k step).0
 
+-- one that power ends leaves the words of before
 pub put-stopped : (n : ℕ) (first : Picture) (before now : List ℕ) (t most more last a w : ℕ) (old new : Picture) (r : Running n first before now t most last old) → a < length now → Widens first.chart.shape.shadows last (page_of a) most more → Since 0 old new → IsCut old.chart new.chart
     → (fault : PutFault) → (fault ≡ PutBad → HasFailed old.chart new.chart) → Puts r.array t a w (Err fault) new.chart → Undone n first before (put_stop fault) new
 put-stopped n first before now t most more last a w old new r lt widens did cut PutOff bad lost = record {
@@ -91,10 +96,12 @@ put-stopped n first before now t most more last a w old new r lt widens did cut 
 put-stopped n first before now t most more last a w old new r lt widens did cut (PutHeld u) bad steps = let e = put-refused n first before now t most more last a w old new r lt widens (Held u) steps in cc
 put-stopped n first before now t most more last a w old new r lt widens did cut PutFull bad steps = let e = put-refused n first before now t most more last a w old new r lt widens Full steps in cc
 
+-- a load within a transaction reads its words
 pub load-done : (n : ℕ) (first : Picture) (before now : List ℕ) (t most last a w : ℕ) (old new : Picture) (r : Running n first before now t most last old) → Since 0 old new → Steps r.array (Load a) (Word w) new.chart → (w ≡ slice_index now a) × Running n first before now t most last new
 load-done n first before now t most last a w old new r did (k, (room, is, same), stands) =
     (is ∙ ap (λ (ws : List ℕ). slice_index ws a) r.state.words, record { array = r.array; stands = subst (Stands new.chart) same stands; state = r.state; own = r.own; since = Since-more n first old new r.since did })
 
+-- and is never refused
 pub load-never : (n : ℕ) (first : Picture) (before now : List ℕ) (t most last a : ℕ) (old new : Picture) (r : Running n first before now t most last old) → a < length now → (fault : LoadFault) → Loads r.array a (Err fault) new.chart → ⊥
 load-never n first before now t most last a old new r lt LoadOff never = never
 load-never n first before now t most last a old new r lt LoadRange (k, (le, same), stands) = let e = ap (λ (ws : List ℕ). length ws) r.state.words in omega arith
@@ -102,12 +109,14 @@ load-never n first before now t most last a old new r lt LoadRange (k, (le, same
 begin-so : (before : List ℕ) (old : Picture) → Rests before old → ((answer : Answer) (k : Array) → Step (fresh old.chart.shape.shadows before) Begin answer k → (t : ℕ) × (answer ≡ Started t) × Open before before t 0 k) × ((k : Array) → Lost (fresh old.chart.shape.shadows before) Begin k → k.words ≡ before)
 begin-so before old rests = begin-law before (fresh old.chart.shape.shadows before) (closed-rests before old rests)
 
+-- a transaction begins at rest
 pub begin-done : (n : ℕ) (first : Picture) (before : List ℕ) (t : ℕ) (old new : Picture) → Rests before old → Since n first old → Since 0 old new → Steps (fresh old.chart.shape.shadows before) Begin (Started t) new.chart → Running n first before before t 0 0 new
 begin-done n first before t old new rests since did (k, step, stands) =
     let d = (begin-so before old rests).0 (Started t) k step in
     let same : d.0 ≡ t = cc in
     record { array = k; stands = stands; state = subst (λ (u : ℕ). Open before before u 0 k) same d.2; own = inl refl; since = Since-more n first old new since did }
 
+-- or power ends it before
 pub begin-stopped : (n : ℕ) (first : Picture) (before : List ℕ) (old new : Picture) → Rests before old → Since n first old → Since 0 old new → IsCut old.chart new.chart → (fault : BeginFault) → Begins (fresh old.chart.shape.shadows before) (Err fault) new.chart → Undone n first before (begin_stop fault) new
 begin-stopped n first before old new rests since did cut BeginOff lost = record {
   cause = off-cause n first old new since did rests.on lost.off cut;
@@ -119,6 +128,7 @@ begin-stopped n first before old new rests since did cut BeginBusy (k, step, sta
 commit-so : (n : ℕ) (first : Picture) (before now : List ℕ) (t most last : ℕ) (old : Picture) (r : Running n first before now t most last old) → ((answer : Answer) (k : Array) → Step r.array (Commit t) answer k → (answer ≡ Done) × Closed now k) × ((k : Array) → Lost r.array (Commit t) k → (k.words ≡ before) ⊎ (k.words ≡ now))
 commit-so n first before now t most last old r = commit-law before now t most r.array r.state
 
+-- a commit leaves the words of the transaction at rest
 pub commit-done : (n : ℕ) (first : Picture) (before now : List ℕ) (t most last : ℕ) (old new : Picture) (r : Running n first before now t most last old) → Since 0 old new → Steps r.array (Commit t) Done new.chart → Rests now new × Since n first new
 commit-done n first before now t most last old new r did (k, step, stands) =
     (rests-closed now new k stands ((commit-so n first before now t most last old r).0 Done k step).1, Since-more n first old new r.since did)
@@ -127,6 +137,7 @@ either : (before now : List ℕ) (p : Picture) (k : Array) → durable p.chart �
 either before now p k is (inl e) = inl (is ∙ e)
 either before now p k is (inr e) = inr (is ∙ e)
 
+-- or, where power ends it, these or those of before
 pub commit-stopped : (n : ℕ) (first : Picture) (before now : List ℕ) (t most last : ℕ) (old new : Picture) (r : Running n first before now t most last old) → Since 0 old new → IsCut old.chart new.chart → (fault : EndFault) → Commits r.array t (Err fault) new.chart → IsCause (end_stop fault) first new × Stopped n first before now new
 commit-stopped n first before now t most last old new r did cut EndOff lost = (
   off-cause n first old new r.since did r.stands.on lost.off cut,

@@ -37,9 +37,11 @@ pub record CanAdd (words : List ℕ) (a : ℕ) (x d : ℤ) : Type 0 where
 small-sum : (at : Transfer → ℕ) (k : ℕ) (ts : List Transfer) (d : ℤ) → AreSmall ts → length ts < 2 ^ 32 → unsigned_abs d < 10 ^ 6 → Small (deltas_of at k ts +ℤ d)
 small-sum at k ts d all few lt = fits_signed_from_abs w64 (deltas_of at k ts +ℤ d) (let e = abs-of at k ts all in let f = abs-add (deltas_of at k ts) d in omega arith)
 
+-- a delta is far from the end of its type
 pub small-delta : (d : ℤ) → unsigned_abs d < 10 ^ 6 → Small d
 small-delta d lt = fits_signed_from_abs w64 d (omega arith)
 
+-- the branch's balance can be added to,
 pub first-add : (shadows : ℕ) (l : Places) (size : ℕ) (ts : List Transfer) (before : List ℕ) (i : ℕ) (t : Transfer) (at : Spots) → IsTried shadows l size ts before i t at
     → CanAdd before at.account (deltas_of (λ s. s.account) t.account ts) t.delta
 first-add shadows l size ts before i t at tried =
@@ -55,6 +57,7 @@ first-add shadows l size ts before i t at tried =
       sum = small-sum (λ s. s.account) t.account ts t.delta tried.small few r.delta;
     }
 
+-- then the teller's,
 pub second-add : (shadows : ℕ) (l : Places) (size : ℕ) (ts : List Transfer) (before : List ℕ) (i : ℕ) (t : Transfer) (at : Spots) → IsTried shadows l size ts before i t at
     → CanAdd (slice_set before at.account (new_account ts t)) at.teller (deltas_of (λ s. s.teller) t.teller ts) t.delta
 second-add shadows l size ts before i t at tried =
@@ -71,6 +74,7 @@ second-add shadows l size ts before i t at tried =
       sum = small-sum (λ s. s.teller) t.teller ts t.delta tried.small few r.delta;
     }
 
+-- then the account's
 pub third-add : (shadows : ℕ) (l : Places) (size : ℕ) (ts : List Transfer) (before : List ℕ) (i : ℕ) (t : Transfer) (at : Spots) → IsTried shadows l size ts before i t at
     → CanAdd (slice_set (slice_set before at.account (new_account ts t)) at.teller (new_teller ts t)) at.branch (deltas_of (λ s. s.branch) t.branch ts) t.delta
 third-add shadows l size ts before i t at tried =
@@ -132,12 +136,15 @@ same-delta d lt = to_z-of_z w64 d (small-delta d lt)
 page-same : (row k : ℕ) → row % 4 ≡ 0 → k < 4 → page_of (row + k) ≡ page_of row
 page-same row k whole lt = omega arith
 
+-- a page more is within the shadows
 pub widens-first : (shadows last page most : ℕ) → most < shadows → Widens shadows last page most (most + 1)
 widens-first shadows last page most lt = inr (lt, refl)
 
+-- the words of a row are in one page
 pub widens-row : (shadows row j k : ℕ) → row % 4 ≡ 0 → j < 4 → k < 4 → Widens shadows (page_of (row + j)) (page_of (row + k)) 4 4
 widens-row shadows row j k whole lj lk = inl (page-same row k whole lk ∙ sym (page-same row j whole lj), (λ e. omega arith), refl)
 
+-- as are the first and any other
 pub widens-next : (shadows row k : ℕ) → row % 4 ≡ 0 → k < 4 → Widens shadows (page_of row) (page_of (row + k)) 4 4
 widens-next shadows row k whole lk = inl (page-same row k whole lk, (λ e. omega arith), refl)
 
@@ -150,6 +157,7 @@ row-within-2 now row k w v le lt = let e = length-set now row w in let f = lengt
 pub row-within-3 : (now : List ℕ) (row k w v u : ℕ) → row + 4 ≤ length now → k < 4 → row + k < length (slice_set (slice_set (slice_set now row w) (row + 1) v) (row + 2) u)
 row-within-3 now row k w v u le lt = let e = length-set now row w in let f = length-set (slice_set now row w) (row + 1) v in let g = length-set (slice_set (slice_set now row w) (row + 1) v) (row + 2) u in omega arith
 
+-- the four words of a row are the transfer's
 pub row-done : (n : ℕ) (first : Picture) (before now : List ℕ) (slot row a b c d : ℕ) (t : Transfer) (result : Result Unit Fault) (p : Picture) → row % 4 ≡ 0 → a ≡ t.account → b ≡ t.teller → c ≡ t.branch → d ≡ as_word t.delta
     → AfterPut n first before (slice_set (slice_set (slice_set (slice_set now row a) (row + 1) b) (row + 2) c) (row + 3) d) slot 4 (page_of (row + 3)) result p
     → AfterPut n first before (put_back (row_of row t) now) slot 4 (page_of row) result p
@@ -162,6 +170,7 @@ row-done n first before now slot row a b c d t result p whole ea eb ec ed done =
 
 -- ---- one addition
 
+-- adding a delta at an address
 pub add-at : (n : ℕ) (first : Picture) (before now : List ℕ) (slot most last a : ℕ) (x d e : ℤ) (result : Result Unit Fault) (p : Picture) → e ≡ d → CanAdd now a x d → most < first.chart.shape.shadows
     → (a < length now → Widens first.chart.shape.shadows last (page_of a) most (most + 1) → slice_index now a ≡ as_word x → Small x → Small (x +ℤ e) → AfterPut n first before (slice_set now a (as_word (x +ℤ e))) slot (most + 1) (page_of a) result p)
     → AfterPut n first before (slice_set now a (as_word (x +ℤ d))) slot (most + 1) (page_of a) result p
@@ -171,10 +180,12 @@ add-at n first before now slot most last a x d e result p same can room call =
 
 -- ---- failures
 
+-- a put that fails undoes the transfer
 pub put-fails : (n : ℕ) (first : Picture) (before now : List ℕ) (slot more page : ℕ) (result : Result Unit Fault) (p : Picture) (fault : Fault) → Undone n first before fault p → IsErr result → IsErrAnd result (λ e. e ≡ fault) → AfterPut n first before now slot more page result p
 put-fails n first before now slot more page (Ok done) p fault u is same = cc
 put-fails n first before now slot more page (Err e) p fault u is same = subst (λ (f : Fault). Undone n first before f p) (sym same) u
 
+-- and so does any other failure
 pub try-fails : (n : ℕ) (first : Picture) (before now : List ℕ) (result : Result Unit Fault) (p : Picture) (fault : Fault) → Undone n first before fault p → IsErr result → IsErrAnd result (λ e. e ≡ fault) → AfterTry n first before now result p
 try-fails n first before now (Ok done) p fault u is same = cc
 try-fails n first before now (Err e) p fault u is same = subst (λ (f : Fault). IsCause f first p × Stopped n first before now p) (sym same) (u.cause, record { words = inl u.words; since = u.since })

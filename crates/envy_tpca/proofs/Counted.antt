@@ -55,6 +55,7 @@ misses-five l i t a lt ne =
     (misses-more a (row_at l i + 3) (as_word t.delta) ((0, i + 1) ∷ []) (ne 3 (omega arith))
     (misses-more a 0 (i + 1) [] (λ e. omega arith) (misses-none a)))))
 
+-- a transfer done counts as one more
 pub counted : (l : Places) (size : ℕ) (ts : List Transfer) (t : Transfer) (words : List ℕ) → TpcAt l size ts words → InRange l size (length ts) t → TpcAt l size (ts ++ (t ∷ [])) (put_back (writes l ts t) words)
 counted l size ts t words o r = record {
   long = length-put_back (writes l ts t) words ∙ o.long;

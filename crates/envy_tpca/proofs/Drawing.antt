@@ -9,6 +9,7 @@ use Rattle.envy_tpca.specs.Load.{Draws, drawn, next_transfer, after, first}
 abbrev left : Draws → Lcg → Draws
 left d s = record { branches = d.branches; accounts = d.accounts; words = s }
 
+-- three draws make a transfer
 pub drawn-next : (d : Draws) (x y z : ℕ) (s1 s2 s3 : Lcg) (t : Transfer) → (x, s1) ≡ pcg64 d.words → (y, s2) ≡ pcg64 s1 → (z, s3) ≡ pcg64 s2 → t ≡ drawn d.branches d.accounts x y z → (t, left d s3) ≡ next_transfer d
 unfolding next_transfer
 drawn-next d x y z s1 s2 s3 t e1 e2 e3 et =
@@ -34,10 +35,12 @@ pub after-none : (d : Draws) → after 0 d ≡ d
 unfolding after
 after-none d = refl
 
+-- the next transfer is put behind those drawn
 pub first-more : (n : ℕ) (d : Draws) → first (n + 1) d ≡ first n d ++ (next_transfer (after n d)).0 ∷ []
 unfolding first
 first-more n d = ap (λ (k : ℕ). first k d) (add-one n)
 
+-- and the generator goes on
 pub after-more : (n : ℕ) (d : Draws) → after (n + 1) d ≡ (next_transfer (after n d)).1
 unfolding after
 after-more n d = ap (λ (k : ℕ). after k d) (add-one n)

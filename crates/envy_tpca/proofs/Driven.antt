@@ -47,6 +47,7 @@ pub record Sized (area : Area) (l : Places) (load : Draws) (pages : ℕ) : Type 
   pub sizes : IsLoadOf area load
   pub places : l ≡ places_of area
 
+-- the words behind all transfers
 pub all-words : (area : Area) (l : Places) (load : Draws) (pages : ℕ) (words : List ℕ) → Sized area l load pages → Tpc area pages load area.transfers words → TpcAt l (32 * pages) (first area.transfers load) words
 all-words area l load pages words s tpc = subst (λ (k : Places). TpcAt k (32 * pages) (first area.transfers load) words) (sym s.places) tpc
 
@@ -106,6 +107,7 @@ told-before n loads old new told is loaded all =
       accesses = λ lh lm. let e = loaded.accessed.sum lh lm in omega arith;
     }
 
+-- the sum of all deltas is far from the end of its type
 pub total-small : (area : Area) (l : Places) (load : Draws) (pages : ℕ) → Sized area l load pages → Small (deltas (first area.transfers load))
 total-small area l load pages s = small-deltas (first area.transfers load) (all-small area l load pages area.transfers s) (transfers-few area l load pages s)
 

@@ -16,10 +16,12 @@ use Rattle.envy_table.specs.Hits.{Accesses}
 use Rattle.envy_tpca.specs.Loading.{Accessed, Loaded}
 use Rattle.envy_tpca.specs.Trying.{Rests}
 
+-- an address within the array is never refused
 pub load-none-refused : (words : List ℕ) (old new : Picture) (a : ℕ) → a < length words → (fault : LoadFault) → Loads (fresh old.chart.shape.shadows words) a (Err fault) new.chart → ⊥
 load-none-refused words old new a lt LoadOff never = never
 load-none-refused words old new a lt LoadRange (k, (le, same), stands) = omega arith
 
+-- what is loaded is the word there
 pub word-loaded : (words : List ℕ) (old new : Picture) (a w : ℕ) → Steps (fresh old.chart.shape.shadows words) (Load a) (Word w) new.chart → w ≡ slice_index words a
 word-loaded words old new a w (k, (room, is, same), stands) = is
 
@@ -33,6 +35,7 @@ accessed-one p old new a = let d = accessed-of (is_hit old.entries p) old.hits o
 pub loaded-none : (p : Picture) → Loaded 0 p p
 loaded-none p = record { same = refl; accessed = record { hits = omega arith; misses = omega arith; sum = λ lh lm. omega arith } }
 
+-- some loads and some more
 pub loaded-more : (n k : ℕ) (a b c : Picture) → Loaded n a b → Loaded k b c → Loaded (n + k) a c
 loaded-more n k a b c x y = record {
   same = y.same ∙ ap (λ (q : Picture). record q { parts = record q.parts { cache = c.parts.cache } }) x.same;
@@ -41,9 +44,11 @@ loaded-more n k a b c x y = record {
       record { hits = omega arith; misses = omega arith; sum = λ lh lm. let e = x.accessed.sum (omega arith) (omega arith) in let f = y.accessed.sum lh lm in omega arith };
 }
 
+-- loads leave the chart
 pub loaded-chart : (n : ℕ) (old new : Picture) → Loaded n old new → new.chart ≡ old.chart
 loaded-chart n old new loaded = ap (λ (p : Picture). p.chart) loaded.same
 
+-- and what rests
 pub rests-same : (old new : Picture) → new.chart ≡ old.chart → Rests (durable old.chart) old → Rests (durable new.chart) new
 rests-same old new same rests = subst (λ (ch : Chart). Stands ch (fresh ch.shape.shadows (durable ch))) (sym same) rests
 
@@ -53,6 +58,7 @@ accessed-none old new hits misses = record { hits = omega arith; misses = omega 
 pub accessed-same : (old new : Translations) → new ≡ old → Accessed 0 old new
 accessed-same old new same = accessed-none old new (ap (λ (t : Translations). t.hits) same) (ap (λ (t : Translations). t.misses) same)
 
+-- some accesses and some more
 pub accessed-more : (n k : ℕ) (a b c : Translations) → Accessed n a b → Accessed k b c → Accessed (n + k) a c
 accessed-more n k a b c x y =
     let p = x.hits in let q = y.hits in let r = x.misses in let s = y.misses in

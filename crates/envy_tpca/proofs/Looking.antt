@@ -56,6 +56,7 @@ abs-add (pos m) (negsuc n) = abs-sub m n
 abs-add (negsuc m) (pos n) = let e : unsigned_abs (negsuc m +ℤ pos n) ≤ n + suc m = abs-sub n m in omega arith
 abs-add (negsuc m) (negsuc n) = omega arith
 
+-- deltas add up to less than a million for each transfer
 pub abs-of : (at : Transfer → ℕ) (k : ℕ) (ts : List Transfer) → AreSmall ts → unsigned_abs (deltas_of at k ts) ≤ length ts * 10 ^ 6
 abs-of at k [] all = omega arith
 abs-of at k (t ∷ ts) all =

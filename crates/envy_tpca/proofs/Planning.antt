@@ -11,9 +11,11 @@ use Rattle.envy_tpca.proofs.Since.{since-planned}
 is-planned : (every i : ℕ) → (every ≡ 0 → ⊥) → i % every ≡ 0 → is_planned every i ≡ true
 is-planned every i some e = rw (ne_eqb every 0 some, eq-eqb (i % every) 0 e) refl
 
+-- a plan is one more
 pub plans-one : (every i : ℕ) (old new : Picture) → (every ≡ 0 → ⊥) → i % every ≡ 0 → new ≡ record old { chart = planned old.chart } → Since (if is_planned every i then 1 else 0) old new
 plans-one every i old new some e same = rw (is-planned every i some e) (since-planned old new same)
 
+-- plans up to the next transfer
 pub plans-more : (every n : ℕ) → plans_in every (n + 1) ≡ plans_in every n + (if is_planned every n then 1 else 0)
 unfolding plans_in
 plans-more every n = ap (λ (k : ℕ). plans_in every k) (add-one n)
@@ -29,5 +31,6 @@ pub plans-least : (every n k : ℕ) → plans_in every n ≤ plans_in every (n +
 plans-least every n zero = let e : n ≡ n + 0 = omega arith in subst (λ (j : ℕ). plans_in every n ≤ plans_in every j) e (omega arith)
 plans-least every n (suc k) = let e = plans-least every n k in let f = plans-step every (n + k) in let same : n + k + 1 ≡ n + suc k = omega arith in subst (λ (j : ℕ). plans_in every n ≤ plans_in every j) same (omega arith)
 
+-- earlier transfers have no more plans
 pub plans-within : (every n m : ℕ) → n ≤ m → plans_in every n ≤ plans_in every m
 plans-within every n m le = let e = plans-least every n (m - n) in subst (λ (j : ℕ). plans_in every n ≤ plans_in every j) (omega arith) e

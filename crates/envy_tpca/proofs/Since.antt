@@ -1,9 +1,7 @@
 -- What happened since: one thing after another.
-use Rattle.std.proofs.Common.{◌≡◌, ◌⊎◌, inl, inr, ℕ, ◌+◌, ◌-◌, ◌^◌, ◌<◌, ◌≤◌, refl, sym, ◌∙◌, ap, subst, arith}
-use Rattle.std.specs.Prelude.{sum}
+use Rattle.std.proofs.Common.{◌≡◌, ◌⊎◌, inl, inr, ℕ, ◌+◌, ◌-◌, ◌^◌, ◌<◌, ◌≤◌, refl, sym, ◌∙◌, subst, arith}
 use Rattle.std.proofs.lemmas.Bool.{cases_lt}
 use Rattle.envy_base.specs.Counting.{up}
-use Rattle.envy_base.specs.declared.counts.Counts.{Counts}
 use Rattle.envy_flush.proofs.CountLemmas.{Tallies-trans}
 use Rattle.envy_flush.specs.Counts.{Tallies}
 use Rattle.envy_layout.specs.Same.{Counted, Grows, Kept}
@@ -54,6 +52,7 @@ since-counted k j old new shape counted tallies = record {
   plans = Rises-same _ _ counted.plans;
 }
 
+-- work counts and keeps what a run keeps
 pub since-works : (k j : ℕ) (old new : Picture) → Works k j old.chart new.chart → Tallies old.chart old.parts new.chart new.parts → Since 0 old new
 since-works k j old new works tallies = since-counted k j old new works.shape works.counted tallies
 
@@ -61,6 +60,7 @@ since-works k j old new works tallies = since-counted k j old new works.shape wo
 pub since-quiet : (old new : Picture) → Works 0 0 old.chart new.chart → counts_of new.parts ≡ counts_of old.parts → Since 0 old new
 since-quiet old new works counts = let b = begun-stay old new works.counted in since-works 0 0 old new works (Tallies-stay old new counts b.0 b.1)
 
+-- and so do background steps
 pub since-ticks : (old new : Picture) → TicksOnce old.chart new.chart → Tallies old.chart old.parts new.chart new.parts → Since 0 old new
 since-ticks old new (inl works) tallies = since-works 1 0 old new works tallies
 since-ticks old new (inr works) tallies = since-works 0 1 old new works tallies
@@ -88,6 +88,7 @@ planned-rises : (n : ℕ) → Rises 1 n (up n)
 unfolding up
 planned-rises n = record { least = omega arith; most = omega arith; exact = λ lt. omega arith }
 
+-- and a plan, which is one more
 pub since-planned : (old new : Picture) → new ≡ record old { chart = planned old.chart } → Since 1 old new
 since-planned old new same = subst (Since 1 old) (sym same) (record {
   keeps = record {

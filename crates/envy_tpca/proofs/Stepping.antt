@@ -41,6 +41,7 @@ sizes-drawn area load pages i fits sizes =
     (subst (λ (a : ℕ). IsDrawn load.branches a (next_transfer (after i load)).0) ea
     (is-drawn i load (omega arith) (pos-mul load.branches load.accounts (omega arith) (omega arith))))
 
+-- the transfers of a load have small deltas
 pub load-small : (area : Area) (load : Draws) (pages n : ℕ) → Fits area pages → IsLoadOf area load → AreSmall (first n load)
 load-small area load pages n fits sizes =
     let eb = sizes.branches in let ea = sizes.accounts in
@@ -50,6 +51,7 @@ load-small area load pages n fits sizes =
 history-whole : (x : ℕ) → (x / 4 * 4) % 4 ≡ 0
 history-whole x = omega arith
 
+-- and lie within the array
 pub range-of : (area : Area) (load : Draws) (pages i : ℕ) → Fits area pages → IsLoadOf area load → i < area.transfers → area.transfers < 2 ^ 32 → InRange (places_of area) (32 * pages) i (next_transfer (after i load)).0
 range-of area load pages i fits sizes lt few =
     let drawn = sizes-drawn area load pages i fits sizes in
@@ -65,6 +67,7 @@ range-of area load pages i fits sizes lt few =
       few = omega arith;
     }
 
+-- also in a larger one
 pub range-wide : (l : Places) (size more i : ℕ) (t : Transfer) → size ≤ more → InRange l size i t → InRange l more i t
 range-wide l size more i t le r = record {
   branch = r.branch;
@@ -77,10 +80,12 @@ range-wide l size more i t le r = record {
   room = let room = r.room in omega arith;
 }
 
+-- each transfer of a run lies within it
 pub step-range : (area : Area) (l : Places) (load : Draws) (p : Picture) (i : ℕ) (t : Transfer) → MayDrive area l load p → i < area.transfers → area.transfers < 2 ^ 32 → t ≡ (next_transfer (after i load)).0 → InRange l (32 * p.chart.shape.pages) i t
 step-range area l load p i t may lt few is =
     subst (λ (u : Transfer). InRange l (32 * p.chart.shape.pages) i u) (sym is) (subst (λ (k : Places). InRange k (32 * p.chart.shape.pages) i (next_transfer (after i load)).0) (sym may.places) (range-of area load p.chart.shape.pages i may.fits may.sizes lt few))
 
+-- and may be tried
 pub step-tried : (area : Area) (l : Places) (load : Draws) (every i : ℕ) (old mid p : Picture) (t : Transfer) (spots : Spots) → MayDrive area l load old → IsAt area load every i old mid → durable p.chart ≡ durable mid.chart → p.chart.shape ≡ mid.chart.shape
     → i < area.transfers → area.transfers < 2 ^ 32 → t ≡ (next_transfer (after i load)).0 → AreSpots l i t spots → IsTried p.chart.shape.shadows l (32 * old.chart.shape.pages) (first i load) (durable p.chart) i t spots
 step-tried area l load every i old mid p t spots may reached same shape lt few is are =
@@ -109,6 +114,7 @@ step-since : (every i : ℕ) (old mid p q : Picture) → Since (plans_in every i
 step-since every i old mid p q before plan did =
     subst (λ (n : ℕ). Since n old q) (sym (plans-more every i)) (Since-more (plans_in every i + (if is_planned every i then 1 else 0)) old p q (Since-trans (plans_in every i) (if is_planned every i then 1 else 0) old mid p before plan) did)
 
+-- behind it one more is done
 pub step-done : (area : Area) (l : Places) (load : Draws) (every i : ℕ) (old mid p q : Picture) (t : Transfer) (spots : Spots) (u : Unit) → MayDrive area l load old → IsAt area load every i old mid → Since (if is_planned every i then 1 else 0) mid p
     → IsTried p.chart.shape.shadows l (32 * old.chart.shape.pages) (first i load) (durable p.chart) i t spots → t ≡ (next_transfer (after i load)).0
     → AfterTransfer 0 p (durable p.chart) (put_back (writes l (first i load) t) (durable p.chart)) (Ok u) q → IsAt area load every (i + 1) old q × Rests (durable q.chart) q
@@ -122,6 +128,7 @@ step-done area l load every i old mid p q t spots u may reached plan tried is (r
       subst (λ (ws : List ℕ). Rests ws q) (sym same) rests,
     )
 
+-- or the run ends with it done or not
 pub step-ended : (area : Area) (l : Places) (load : Draws) (every i : ℕ) (old mid p q : Picture) (t : Transfer) (spots : Spots) (fault : DriveFault) → MayDrive area l load old → IsAt area load every i old mid → Since (if is_planned every i then 1 else 0) mid p
     → durable p.chart ≡ durable mid.chart → i < area.transfers → IsTried p.chart.shape.shadows l (32 * old.chart.shape.pages) (first i load) (durable p.chart) i t spots → t ≡ (next_transfer (after i load)).0
     → AfterTransfer 0 p (durable p.chart) (put_back (writes l (first i load) t) (durable p.chart)) (Err fault) q → IsEnd fault old q × IsWithin area load every old q
@@ -160,6 +167,7 @@ pub rests-planned : (mid p : Picture) → Rests (durable mid.chart) mid → Stan
 rests-planned mid p rests stands shape same =
     subst (λ (ws : List ℕ). Stands p.chart (fresh p.chart.shape.shadows ws)) (sym same) (subst (λ (k : ℕ). Stands p.chart (fresh k (durable mid.chart))) (sym (ap (λ (sh : Shape). sh.shadows) shape)) stands)
 
+-- a run that fails
 pub all-fails : (area : Area) (load : Draws) (every : ℕ) (old q : Picture) (result : Result ℤ DriveFault) (then_load : Draws) (fault : DriveFault) → IsEnd fault old q × IsWithin area load every old q → IsErr result → IsErrAnd result (λ e. e ≡ fault) → AfterAll area load every old result then_load q
 all-fails area load every old q (Ok sum) then_load fault ended is same = cc
 all-fails area load every old q (Err e) then_load fault ended is same = subst (λ (f : DriveFault). IsEnd f old q × IsWithin area load every old q) (sym same) ended
@@ -168,6 +176,7 @@ all-fails area load every old q (Err e) then_load fault ended is same = subst (�
 pub once-ok : (n : ℕ) (old : Picture) (before now : List ℕ) (result : Result Unit DriveFault) (p : Picture) (u : Unit) → AfterTransfer n old before now result p → result ≡ Ok u → AfterTransfer n old before now (Ok u) p
 once-ok n old before now result p u a is = subst (λ (r : Result Unit DriveFault). AfterTransfer n old before now r p) is a
 
+-- a transfer that fails, and its fault
 pub once-err : (n : ℕ) (old : Picture) (before now : List ℕ) (result : Result Unit DriveFault) (p : Picture) (fault : DriveFault) → AfterTransfer n old before now result p → result ≡ Err fault → AfterTransfer n old before now (Err fault) p
 once-err n old before now result p fault a is = subst (λ (r : Result Unit DriveFault). AfterTransfer n old before now r p) is a
 

@@ -63,6 +63,7 @@ abs-some at n (t ∷ ts) all =
     one small (inl lt) = rw (sum-one n (at t) t.delta lt) (omega arith)
     one small (inr le) = rw (sum-none n (at t) t.delta le) (omega arith)
 
+-- balances add up far from the end of their type
 pub small-some : (at : Transfer → ℕ) (n : ℕ) (ts : List Transfer) → AreSmall ts → length ts < 2 ^ 32 → Small (sum_below n (λ k. deltas_of at k ts))
 small-some at n ts all few = fits_signed_from_abs w64 (sum_below n (λ k. deltas_of at k ts)) (let e = abs-some at n ts all in omega arith)
 
@@ -73,17 +74,20 @@ balances-are words from n at ts words-are all few =
     sum-same n (λ k. signed_at words (from + k)) (λ k. deltas_of at k ts)
     (λ k lt. ap (cast_signed w64) (words-are k lt) ∙ signed-word (deltas_of at k ts) (fits_signed_from_abs w64 (deltas_of at k ts) (let e = abs-of at k ts all in omega arith)))
 
+-- as words, too
 pub balances-small : (words : List ℕ) (from n : ℕ) (at : Transfer → ℕ) (ts : List Transfer) → ((k : ℕ) → k < n → slice_index words (from + k) ≡ as_word (deltas_of at k ts)) → AreSmall ts → length ts < 2 ^ 32
     → (m : ℕ) → m ≤ n → Small (balances_in words from m)
 balances-small words from n at ts words-are all few m le =
     subst Small (sym (balances-are words from m at ts (λ k lt. words-are k (omega arith)) all few)) (small-some at m ts all few)
 
+-- and they add up to all deltas
 pub balances-total : (words : List ℕ) (from n : ℕ) (at : Transfer → ℕ) (ts : List Transfer) → ((k : ℕ) → k < n → slice_index words (from + k) ≡ as_word (deltas_of at k ts)) → AreSmall ts → length ts < 2 ^ 32 → All (λ t. at t < n) ts
     → balances_in words from n ≡ deltas ts
 balances-total words from n at ts words-are all few within = balances-are words from n at ts words-are all few ∙ sums-are at n ts within
 
 -- ---- deltas
 
+-- one delta more
 pub deltas-push : (ts : List Transfer) (t : Transfer) → deltas (ts ++ (t ∷ [])) ≡ deltas ts +ℤ t.delta
 deltas-push [] t = +ℤ_comm t.delta (pos 0)
 deltas-push (s ∷ ts) t = ap (λ (x : ℤ). s.delta +ℤ x) (deltas-push ts t) ∙ sym (+ℤ_assoc s.delta (deltas ts) t.delta)
@@ -96,11 +100,13 @@ abs-deltas (t ∷ ts) all =
     let both = abs-add t.delta (deltas ts) in
     omega arith
 
+-- deltas add up far from the end of their type
 pub small-deltas : (ts : List Transfer) → AreSmall ts → length ts < 2 ^ 32 → Small (deltas ts)
 small-deltas ts all few = fits_signed_from_abs w64 (deltas ts) (let e = abs-deltas ts all in omega arith)
 
 -- ---- the transfers of a load
 
+-- a load's transfer by its place
 pub get-first : (n j : ℕ) (load : Draws) (d : Transfer) → j < n → get_or (first n load) j d ≡ (next_transfer (after j load)).0
 get-first zero j load d lt = absurd (omega arith)
 get-first (suc n) j load d lt = rw (← add-one n) (rw (first-more n load) (at (λ less. get-first n j load d less) (cases_lt j n)))
@@ -115,6 +121,7 @@ get-first (suc n) j load d lt = rw (← add-one n) (rw (first-more n load) (at (
         let here : n ≡ j = omega arith in
         ap (λ (i : ℕ). get_or (first n load ++ (t ∷ [])) i d) (sym same) ∙ get_or-append_seam (first n load) t [] d ∙ ap (λ (i : ℕ). (next_transfer (after i load)).0) here
 
+-- what holds of every transfer that is drawn holds of a load's
 pub All-first : (P : Transfer → Type 0) (n : ℕ) (load : Draws) → ((i : ℕ) → P (next_transfer (after i load)).0) → All P (first n load)
 All-first P n load each = λ j d lt. subst P (sym (get-first n j load d (let e = length-first n load in omega arith))) (each j)
 
@@ -149,11 +156,13 @@ next-drawn d some all = record {
   delta = delta-small _ (omega arith);
 }
 
+-- a transfer that is drawn lies within the load
 pub is-drawn : (i : ℕ) (load : Draws) → 1 ≤ load.branches → 1 ≤ load.branches * load.accounts → IsDrawn load.branches load.accounts (next_transfer (after i load)).0
 is-drawn i load some all =
     let s = after-sizes i load in
     subst (λ (b : ℕ). IsDrawn b load.accounts (next_transfer (after i load)).0) s.0 (subst (λ (a : ℕ). IsDrawn (after i load).branches a (next_transfer (after i load)).0) s.1 (next-drawn (after i load) (omega arith) (rw (s.0, s.1) all)))
 
+-- and has a small delta
 pub first-small : (n : ℕ) (load : Draws) → 1 ≤ load.branches → 1 ≤ load.branches * load.accounts → AreSmall (first n load)
 first-small n load some all = All-first (λ t. unsigned_abs t.delta < 10 ^ 6) n load (λ i. (is-drawn i load some all).delta)
 
@@ -166,6 +175,7 @@ deltas-first (suc n) load =
     ∙ sym (deltas-push (first n load) (next_transfer (after n load)).0)
     ∙ ap deltas (sym (first-more n load)) ∙ ap (λ (k : ℕ). deltas (first k load)) (add-one n)
 
+-- the history holds the deltas
 pub history-are : (l : Places) (size : ℕ) (n : ℕ) (load : Draws) (words : List ℕ) → TpcAt l size (first n load) words → AreSmall (first n load)
     → (m : ℕ) → m ≤ n → history_in words l.history m ≡ deltas (first m load)
 history-are l size n load words tpc all m le =

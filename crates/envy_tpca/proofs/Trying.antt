@@ -1,5 +1,5 @@
 -- One transaction on the plain array.
-use Rattle.std.proofs.Common.{◌≡◌, ◌≢◌, ◌⊎◌, inl, inr, ℕ, zero, suc, ◌<◌, ◌≤◌, ◌+◌, false, cond, List, [], ◌∷◌, length, get_or, set, replicate, Option, None, Some, is_some, refl, sym, ◌∙◌, ap, subst, arith}
+use Rattle.std.proofs.Common.{◌≡◌, ◌≢◌, ◌⊎◌, inl, inr, ℕ, suc, ◌<◌, ◌≤◌, ◌+◌, false, cond, List, [], ◌∷◌, length, get_or, set, replicate, Option, None, Some, is_some, refl, sym, ◌∙◌, ap, subst, arith}
 use Rattle.std.specs.Prelude.{slice_index, slice_set}
 use Rattle.envy_base.specs.Array.{Array, Saved, IsArray, page_of, slot_of, owns, owner, owned, is_closed, undo_all, undone, with_slot, stored, put, saving}
 use Rattle.envy_base.specs.Step.{Answer, Begin, Put, Commit, Done, Started, Range, Held, Closed as ClosedAnswer, Full, Busy, Step, Lost}
@@ -41,6 +41,7 @@ undo-closed [] words none = refl
 undo-closed (None ∷ slots) words none = undo-closed slots words (λ u. none (suc u))
 undo-closed (Some saved ∷ slots) words none = let no = none 0 in cc
 
+-- with no slot open nothing is undone
 pub undone-closed : (m : Array) → ((u : ℕ) → slot_of m u ≡ None) → undone m ≡ m.words
 undone-closed m none = undo-closed m.slots m.words none
 
@@ -191,9 +192,11 @@ all-none [] none = refl
 all-none (None ∷ slots) none = ap (λ (rest : List (Option Saved)). None ∷ rest) (all-none slots (λ u. none (suc u)))
 all-none (Some saved ∷ slots) none = let no = none 0 in cc
 
+-- a fresh array has no slot open
 pub closed-fresh : (shadows : ℕ) (words : List ℕ) → IsArray (fresh shadows words) → Closed words (fresh shadows words)
 closed-fresh shadows words array = record { array = array; slots = λ u. none-open 64 u; words = refl }
 
+-- and one with none open is fresh
 pub fresh-closed : (words : List ℕ) (m : Array) → Closed words m → m ≡ fresh m.shadows words
 fresh-closed words m c =
     let slots : m.slots ≡ replicate 64 None = all-none m.slots c.slots ∙ ap (λ (n : ℕ). replicate n None) c.array.slots in

@@ -1,5 +1,5 @@
 -- Accesses that are counted where power never failed.
-use Rattle.std.proofs.Common.{◌≡◌, ℕ, ◌+◌, ◌-◌, ◌*◌, ◌^◌, ◌<◌, ◌≤◌, List, Result, Ok, Err, sym, ◌∙◌, ap, subst, arith}
+use Rattle.std.proofs.Common.{◌≡◌, ℕ, ◌+◌, ◌-◌, ◌*◌, List, Result, Ok, Err, ap, subst, arith}
 use Rattle.std.specs.Prelude.{OnOk}
 use Rattle.envy_map.specs.Fields.{Chart}
 use Rattle.envy_base.specs.declared.area.Area.{Area}
@@ -17,6 +17,7 @@ pub cut-off : (n : ℕ) (first mid back p : Picture) → IsPast first.chart.cuts
 cut-off n first mid back p past since same =
     λ low still. absurd (let more = past low in let kept = since.keeps.cuts in let e = ap (λ (c : Chart). c.cuts) same in omega arith)
 
+-- power failed in between, so that nothing is said of a run without a cut
 pub ticked-cut : (n : ℕ) (first mid back at p : Picture) (words : List ℕ) (r : Result Unit DriveFault) → IsPast first.chart.cuts mid.chart.cuts → Since 0 mid back → at.chart ≡ back.chart → AfterTransfer 0 at words words r p → OnOk r (CountsUncut n first p)
 ticked-cut n first mid back at p words (Ok done) past since same (rests, did) =
     λ low still. absurd (let more = past low in let kept = since.keeps.cuts in let e = ap (λ (c : Chart). c.cuts) same in let last = did.keeps.cuts in omega arith)

@@ -2,16 +2,12 @@ use Rattle.std.proofs.Common.{◌≡◌, ◌<◌, true, false, map, get_or, leng
 use Rattle.std.specs.Prelude.{All, vec_len, vec_capacity}
 use Rattle.std.proofs.lemmas.List.{length-set}
 use Rattle.std.proofs.lemmas.List.Elements.{All-rest}
-use Rattle.envy_frames.specs.declared.entry.Entry.{Entry}
-use Rattle.envy_frames.specs.declared.held.Held.{Held}
 use Rattle.envy_frames.specs.Order.{has_frame}
+use Rattle.envy_frames.proofs.Live.{held_of}
 use Rattle.envy_frames.proofs.Marks.{marked_more, all_marked, pushed, passed_over, with_pushed}
 use Rattle.envy_frames.proofs.Stacks.{length-others-le}
 use Rattle.envy_frames.proofs.free.free_others.Goals as goal
 use Rattle.envy_frames.proofs.free.free_others.Goals.{then-not-held, else-not-held}
-
-abbrev held_of : Entry → Held
-held_of e = e.held
 
 pub loop-entry-preserved : goal.loop-entry-preserved
 loop-entry-preserved c =

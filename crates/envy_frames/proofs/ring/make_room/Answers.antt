@@ -3,13 +3,9 @@ use Rattle.std.specs.List.{filter}
 use Rattle.std.proofs.lemmas.List.{length-map}
 use Rattle.circular_buffer.specs.Buffer.{Buffer}
 use Rattle.envy_frames.specs.declared.entry.Entry.{Entry}
-use Rattle.envy_frames.specs.declared.held.Held.{Held}
 use Rattle.envy_frames.specs.Entries.{is_live}
 use Rattle.envy_frames.proofs.Live.{kept-unheld}
 use Rattle.envy_frames.proofs.ring.make_room.Goals as goal
-
-held_of : Entry → Held
-held_of e = e.held
 
 pub returns-clause-kept : goal.returns-clause-kept
 returns-clause-kept c = inr (ap (λ (b : Buffer Entry). b.items) c.pack.ensures ∙ kept-unheld c.args.stamps.now c.args.frame c.args.entries.now.items c.requires.unheld)

@@ -4,12 +4,10 @@ use Rattle.envy_frames.specs.declared.entry.Entry.{Entry}
 use Rattle.envy_frames.specs.declared.held.Held.{Held}
 use Rattle.envy_frames.specs.Entries.{held_in}
 use Rattle.envy_frames.specs.Order.{IsOrder, others_of}
+use Rattle.envy_frames.proofs.Live.{held_of}
 use Rattle.envy_frames.proofs.Rings.{IsRing-none}
 use Rattle.envy_frames.proofs.Stacks.{IsFrames-made, IsOrder-none}
 use Rattle.envy_frames.proofs.frames.Frames.new.Goals as goal
-
-abbrev held_of : Entry → Held
-held_of e = e.held
 
 pub invariant_of-result : goal.invariant_of-result
 invariant_of-result c =

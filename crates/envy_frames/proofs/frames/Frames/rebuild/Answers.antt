@@ -10,12 +10,10 @@ use Rattle.envy_frames.specs.Agreement.{AreHeld, held_by_default}
 use Rattle.envy_frames.specs.Entries.{held_in, unstamped}
 use Rattle.envy_frames.specs.Order.{IsOrder, Order, others_of}
 use Rattle.envy_frames.proofs.Defaults.{AreHeld-default, order-default}
+use Rattle.envy_frames.proofs.Live.{held_of}
 use Rattle.envy_frames.proofs.Rings.{IsRing-rebuilt, held-of-unstamped, held-rebuilt, zeros}
 use Rattle.envy_frames.proofs.Stacks.{IsFrames-made}
 use Rattle.envy_frames.proofs.frames.Frames.rebuild.Goals as goal
-
-abbrev held_of : Entry → Held
-held_of e = e.held
 
 pub free_others-requires-clause-below : goal.free_others-requires-clause-below
 free_others-requires-clause-below g c =
