@@ -1,5 +1,5 @@
 -- A journal that is opened again, and a memory that is attached to its board.
-use Rattle.std.proofs.Common.{◌≡◌, ◌≢◌, ◌⊎◌, ◌∙◌, inl, inr, ℕ, Bool, true, false, List, refl, sym, ap, subst, arith}
+use Rattle.std.proofs.Common.{◌≡◌, ◌≢◌, ◌⊎◌, ◌∙◌, ◌≤◌, inl, inr, ℕ, Bool, true, false, List, length, refl, sym, ap, subst, arith}
 use Rattle.std.specs.Prelude.{IsTrue, IfOk, IfErr, Result, Ok, Err}
 use Rattle.std.proofs.lemmas.Bool.{false≢true}
 use Rattle.envy_audit.specs.Judging.{BreaksFirst}
@@ -23,21 +23,30 @@ use Rattle.envy_journal.specs.Head.{head_bytes}
 use Rattle.envy_journal.specs.Journal.{journal_state}
 use Rattle.envy_journal.specs.Log.{Begins}
 use Rattle.envy_journal.specs.Reading.{operations}
+use Rattle.envy_journal.specs.Snapshot.{most_of}
 use Rattle.envy_journal.specs.declared.opening.OpenError.{OpenError}
 use Rattle.envy_journal.specs.declared.opening.OpenError.TheVariants.{Memory as OpenMemory, Failed as OpenFailed, Misfit}
-use Rattle.envy_synced.specs.Disk.{IsSynced, Reopens}
+use Rattle.envy_synced.specs.Disk.{IsCompact, IsSynced, Reopens}
 use Rattle.envy_layout.specs.Same.{Kept}
 use Rattle.envy_layout.specs.Sound.{Head, IsSound, Sound}
 use Rattle.envy_layout.specs.Stands.{Stands}
 use Rattle.envy_layout.specs.Words.{durable}
 use Rattle.envy_map.specs.Codes.{the_magic}
-use Rattle.envy_map.specs.Fields.{chart, map_fields, shape_of}
+use Rattle.envy_map.specs.Fields.{Chart, chart, map_fields, shape_of}
 use Rattle.envy_map.proofs.Sizes.{shape_of-sizes_of}
 use Rattle.envy_memory.specs.Attaching.{Attaches}
 use Rattle.envy_memory.specs.Calls.{fresh}
 use Rattle.envy_memory.specs.Picture.{Picture}
 use Rattle.envy_policy.specs.Setup.{checked}
 use Rattle.envy_policy.specs.declared.setup.Setup.{Setup}
+
+-- a memory over a board that was compacted
+pub still-compact : (was now : Chart) → now.shape ≡ was.shape → now.given ≡ was.given → IsCompact was → IsCompact now
+still-compact was now shape given is = record {
+  bytes = is.bytes;
+  coded = given ∙ is.coded;
+  short = subst (λ (x : Shape). length is.bytes ≤ most_of x) (sym shape) is.short;
+}
 
 one-two : (n : ℕ) → n ≡ 1 → n ≡ 2 → ⊥
 one-two n one two = absurd (omega (arith, one, two))

@@ -1,9 +1,11 @@
 use Rattle.std.proofs.Common.{inr, subst}
 use Rattle.envy_base.specs.declared.shape.Shape.{Shape}
 use Rattle.envy_begun.specs.Unserved.{Declines}
-use Rattle.envy_begun.proofs.Again.{code-declines, not-declined, off-declined, taken-up}
+use Rattle.envy_begun.proofs.Again.{code-declines, not-declined, off-declined, still-compact, taken-up}
 use Rattle.envy_journal.specs.Journal.{lawful_lem}
 use Rattle.envy_synced.specs.Disk.{lawful_disk}
+use Rattle.envy_layout.specs.Same.{Kept}
+use Rattle.envy_memory.specs.Attaching.{Attaches}
 use Rattle.envy_begun.proofs.reopening.begin_again.Goals as goal
 
 pub returns-in-Err-clause-failed : goal.returns-in-Err-clause-failed
@@ -21,3 +23,8 @@ returns-in-Err-attach-clause-failed g c =
     code-declines g.D.Device.seen g.D.Device.has_failed c.args.setup.shape c.args.bytes.now c.closed-device.result.0 c.in-Err-attach.code c.closed-device.result.1 c.declined.result c.declined.ensures
     (λ off. c.closed-device.ensures (off-declined c.in-Err-attach.code _ _ c.args.setup off c.in-Err-attach.ensures))
     (λ on enough. inr (λ words opens. not-declined (g.B.Board.state c.args.board).shape c.args.bytes.now _ c.in-Ok.ensures.opened c.args.setup c.requires.shape board c.requires.setup words opens c.in-Err-attach.code _ on enough c.in-Err-attach.ensures))
+
+pub returns-in-Ok-attach-clause-compacted : goal.returns-in-Ok-attach-clause-compacted
+returns-in-Ok-attach-clause-compacted g c asked =
+    let kept : Kept _ c.in-Ok-attach.memory.chart = Attaches.kept c.in-Ok-attach.ensures.1 in
+    still-compact _ c.in-Ok-attach.memory.chart kept.shape kept.counted.given (c.in-Ok.ensures.compacted asked)
