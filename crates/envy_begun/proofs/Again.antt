@@ -1,5 +1,5 @@
 -- A journal that is opened again, and a memory that is attached to its board.
-use Rattle.std.proofs.Common.{◌≡◌, ◌≢◌, ◌⊎◌, ◌∙◌, inl, inr, ℕ, Bool, true, false, List, refl, sym, ap, subst, arith}
+use Rattle.std.proofs.Common.{◌≡◌, ◌≢◌, ◌⊎◌, ◌∙◌, ◌≤◌, inl, inr, ℕ, Bool, true, false, List, length, refl, sym, ap, subst, arith}
 use Rattle.std.specs.Prelude.{IsTrue, IfOk, IfErr, Result, Ok, Err}
 use Rattle.std.proofs.lemmas.Bool.{false≢true}
 use Rattle.envy_audit.specs.Judging.{BreaksFirst}
@@ -23,21 +23,30 @@ use Rattle.envy_journal.specs.Head.{head_bytes}
 use Rattle.envy_journal.specs.Journal.{journal_state}
 use Rattle.envy_journal.specs.Log.{Begins}
 use Rattle.envy_journal.specs.Reading.{operations}
+use Rattle.envy_journal.specs.Snapshot.{most_of}
 use Rattle.envy_journal.specs.declared.opening.OpenError.{OpenError}
 use Rattle.envy_journal.specs.declared.opening.OpenError.TheVariants.{Memory as OpenMemory, Failed as OpenFailed, Misfit}
-use Rattle.envy_synced.specs.Disk.{IsSynced, Reopens}
+use Rattle.envy_synced.specs.Disk.{IsCompact, IsSynced, Reopens}
 use Rattle.envy_layout.specs.Same.{Kept}
 use Rattle.envy_layout.specs.Sound.{Head, IsSound, Sound}
 use Rattle.envy_layout.specs.Stands.{Stands}
 use Rattle.envy_layout.specs.Words.{durable}
 use Rattle.envy_map.specs.Codes.{the_magic}
-use Rattle.envy_map.specs.Fields.{chart, map_fields, shape_of}
+use Rattle.envy_map.specs.Fields.{Chart, chart, map_fields, shape_of}
 use Rattle.envy_map.proofs.Sizes.{shape_of-sizes_of}
 use Rattle.envy_memory.specs.Attaching.{Attaches}
 use Rattle.envy_memory.specs.Calls.{fresh}
 use Rattle.envy_memory.specs.Picture.{Picture}
 use Rattle.envy_policy.specs.Setup.{checked}
 use Rattle.envy_policy.specs.declared.setup.Setup.{Setup}
+
+-- a memory over a board that was compacted
+pub still-compact : (was now : Chart) → now.shape ≡ was.shape → now.given ≡ was.given → IsCompact was → IsCompact now
+still-compact was now shape given is = record {
+  bytes = is.bytes;
+  coded = given ∙ is.coded;
+  short = subst (λ (x : Shape). length is.bytes ≤ most_of x) (sym shape) is.short;
+}
 
 one-two : (n : ℕ) → n ≡ 1 → n ≡ 2 → ⊥
 one-two n one two = absurd (omega (arith, one, two))
@@ -101,7 +110,9 @@ module _ (sh : Shape) (file : List ℕ) (s : State) (o : IsOpened sh file s) whe
       not-declined (OfSetup fault) new a b (same, (whole, bad)) = absurd (let never = sym checks ∙ bad in cc)
       not-declined other new a b (same, never) = absurd never
 
--- why there is none
+-- why there is none, by the code
+abbrev pub Says : Code → ℕ → Unbegun → Type 0
+Says code held unbegun = ((code ≡ Off) × (unbegun ≡ Failed held)) ⊎ (((code ≡ NoMemory) × (unbegun ≡ Memory)) ⊎ ((code ≢ Off) × (code ≢ NoMemory) × (unbegun ≡ NoJournal)))
 
 module _ {D : Type 0} (seen : D → List ℕ) (has_failed : D → Bool) (sh : Shape) (file : List ℕ) (device : D) where
   pub unopened-declines : (error : OpenError) (unbegun : Unbegun) → unbegun ≡ unopened_as error → (error ≡ Misfit → HasMisfit sh (operations file)) → (error ≡ OpenFailed → IsTrue (has_failed device)) → Declines seen has_failed sh file unbegun device
@@ -117,14 +128,14 @@ module _ {D : Type 0} (seen : D → List ℕ) (has_failed : D → Bool) (sh : Sh
   stopped-declines Memory stopped = tt
   stopped-declines other stopped = absurd stopped
 
-  -- which one, by the code
-  abbrev Says : Code → ℕ → Unbegun → Type 0
-  Says code held unbegun = ((code ≡ Off) × (unbegun ≡ Failed held)) ⊎ (((code ≡ NoMemory) × (unbegun ≡ Memory)) ⊎ ((code ≢ Off) × (code ≢ NoMemory) × (unbegun ≡ NoJournal)))
-
   pub code-declines : (code : Code) (held : ℕ) (unbegun : Unbegun) → Says code held unbegun → (code ≡ Off → HasStopped seen has_failed held device) → ((code ≡ Off → ⊥) → (code ≡ NoMemory → ⊥) → HasNoMemory sh file) → Declines seen has_failed sh file unbegun device
   code-declines code held unbegun (inl (off, is)) stopped none = subst (λ (u : Unbegun). Declines seen has_failed sh file u device) (sym is) (stopped off)
   code-declines code held unbegun (inr (inl (memory, is))) stopped none = subst (λ (u : Unbegun). Declines seen has_failed sh file u device) (sym is) tt
   code-declines code held unbegun (inr (inr (on, enough, is))) stopped none = subst (λ (u : Unbegun). Declines seen has_failed sh file u device) (sym is) (none on enough)
+
+pub declined-same : (code : Code) (old new : State) (setup : Setup) → (code ≡ Off → ⊥) → Declined code old setup new → new ≡ old
+declined-same Off old new setup on d = absurd (on refl)
+declined-same other old new setup on d = d.0
 
 pub off-declined : (code : Code) (old new : State) (setup : Setup) → code ≡ Off → Declined code old setup new → new.on ≡ false
 off-declined code old new setup is d = (subst (λ (x : Code). Declined x old setup new) is d).0
@@ -143,3 +154,7 @@ all-declines seen has_failed sh file (Err e) stopped = stopped-declines seen has
 pub ok_on : {T E : Type 0} {P Q : T → Type 0} (result : Result T E) → IfOk result P → ((x : T) → P x → Q x) → IfOk result Q
 ok_on (Ok x) is goes = goes x is
 ok_on (Err e) is goes = tt
+
+pub err_on : {T E : Type 0} {P Q : E → Type 0} (result : Result T E) → IfErr result P → ((e : E) → P e → Q e) → IfErr result Q
+err_on (Ok x) is goes = tt
+err_on (Err e) is goes = goes e is

@@ -1,4 +1,5 @@
 pub mod Again
+pub mod Alike
 pub mod Begins
 pub mod Caused
 pub mod Opening

@@ -1,4 +1,5 @@
 pub mod Beginning
+pub mod Left
 pub mod Opens
 pub mod Plans
 pub mod Unserved

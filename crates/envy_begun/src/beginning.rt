@@ -1,10 +1,12 @@
-ghost use Rattle.std.specs.Prelude.{◌≡◌, false, IfOk, IfErr};
+ghost use Rattle.std.specs.Prelude.{◌≡◌, ◌⊎◌, ◌≤◌, List, ℕ, false, IfOk, IfErr};
 ghost use Rattle.envy_base.specs.Array.{zeros};
 ghost use Rattle.envy_device.specs.Device.{Only};
 ghost use Rattle.envy_journal.specs.Content.{blank, content_of};
 ghost use Rattle.envy_journal.specs.Head.{IsUnmade};
 ghost use Rattle.envy_begun.specs.Beginning.{HasBegun, HasStopped, IsStopped};
 ghost use Rattle.envy_layout.specs.Stands.{Stands};
+ghost use Rattle.envy_map.specs.Fields.{Chart, chart};
+ghost use Rattle.envy_synced.specs.Disk.{IsLast, IsSynced, Reopens};
 ghost use Rattle.envy_memory.specs.Formats.{IsStarted};
 
 use crate::unbegun::Unbegun;
@@ -22,9 +24,16 @@ pub(crate) const ROOM: usize = 65536;
 
 // Gives the file under a board back, and how many bytes of operations were held back from it.
 pub(crate) fn closed<B: Steady + Drop, D: Device>(kept: Kept<B, D>) -> (D, usize)
-    ensures { (⟦<Kept<B, D> as envy_base::Board>⟧.state kept).on ≡ false
+    ensures stopped { (⟦<Kept<B, D> as envy_base::Board>⟧.state kept).on ≡ false
         → HasStopped D.seen D.has_failed result.1 result.0 }
+    ensures last { (was : Chart) → IsSynced was → IsLast was (chart (⟦<Kept<B, D> as envy_base::Board>⟧.state kept))
+        → (file : List ℕ) → D.left_since result.0 was.plans file
+        → ∥ Reopens was file
+        ⊎ (((⟦<Kept<B, D> as envy_base::Board>⟧.state kept).on ≡ false)
+        × Reopens (chart (⟦<Kept<B, D> as envy_base::Board>⟧.state kept)) file) ∥₁ }
+    ensures time { (⟦<Kept<B, D> as envy_base::Board>⟧.state kept).plans ≤ D.moment result.0 }
 {
+    let _device = kept.device();
     let journal = kept.into_journal();
     let held = journal.held();
     (journal.close(), held)

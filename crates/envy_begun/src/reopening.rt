@@ -1,5 +1,5 @@
 // A journal that a file holds is opened, and a memory is attached.
-ghost use Rattle.std.specs.Prelude.{◌≡◌, ◌≢◌, ◌⊎◌, [], List, ℕ, IfOk, IfErr, Ok};
+ghost use Rattle.std.specs.Prelude.{◌≡◌, ◌≢◌, ◌⊎◌, [], List, ℕ, IfOk, IfErr, IsTrue, Ok};
 ghost use Rattle.envy_base.specs.Array.{zeros};
 ghost use Rattle.envy_calls.specs.declared.code.Code.TheVariants.{Off as CodeOff, NoMemory as CodeNoMemory};
 ghost use Rattle.envy_device.specs.Device.{Only};
@@ -10,10 +10,11 @@ ghost use Rattle.envy_journal.specs.Reading.{operations};
 ghost use Rattle.envy_base.specs.declared.shape.Shape.{Shape};
 ghost use Rattle.envy_begun.specs.Beginning.{HasBegun, IsStopped};
 ghost use Rattle.envy_begun.specs.Plans.{IsOpened};
+ghost use Rattle.envy_begun.specs.Left.{StaysAlike};
 ghost use Rattle.envy_begun.specs.Opens.{OpensAs};
 ghost use Rattle.envy_begun.specs.Unserved.{Declines, unopened_as};
 ghost use Rattle.envy_begun.specs.declared.unbegun.Unbegun.TheVariants.{Failed, Memory as OfMemory, NoJournal};
-ghost use Rattle.envy_synced.specs.Disk.{IsSynced};
+ghost use Rattle.envy_synced.specs.Disk.{IsCompact, IsSynced};
 ghost use Rattle.envy_map.specs.Fields.{chart};
 ghost use Rattle.envy_memory.specs.Calls.{fresh};
 ghost use Rattle.envy_policy.specs.Setup.{checked};
@@ -68,6 +69,8 @@ fn opened<B: Steady + Drop, D: Device + Drop>(
     ensures synced { IfOk result (λ kept. IsSynced (chart (⟦<Kept<B, D> as envy_base::Board>⟧.state kept))) }
     ensures opened { IfOk result (λ kept.
         IsOpened (B.state board).shape bytes.now (⟦<Kept<B, D> as envy_base::Board>⟧.state kept)) }
+    ensures left { IfErr result (λ e.
+        StaysAlike D.left_since D.moment (B.state board).shape bytes.now e.0 e.1) }
     ensures failed { IfErr result (λ e. Declines D.seen D.has_failed (B.state board).shape bytes.now e.0 e.1) }
 {
     match open(alloc, board, device, bytes, ROOM) {
@@ -86,6 +89,10 @@ fn compacted<B: Steady + Drop, D: Place>(
     ensures opened { IfOk result (λ after. (sh : Shape) (file : List ℕ)
         → IsOpened sh file (⟦<Kept<B, D> as envy_base::Board>⟧.state kept)
         → IsOpened sh file (⟦<Kept<B, D> as envy_base::Board>⟧.state after)) }
+    ensures compacted { IsTrue compact
+        → IfOk result (λ after. IsCompact (chart (⟦<Kept<B, D> as envy_base::Board>⟧.state after))) }
+    ensures left { IfErr result (λ e. (sh : Shape) (file : List ℕ)
+        → StaysAlike D.left_since D.moment sh file e.0 e.1) }
     ensures failed { IfErr result (λ e. IsStopped D.seen D.has_failed e.0 e.1) }
 {
     if !compact {
@@ -115,6 +122,10 @@ fn opened_as_asked<B: Steady + Drop, D: Place + Drop>(
     ensures synced { IfOk result (λ kept. IsSynced (chart (⟦<Kept<B, D> as envy_base::Board>⟧.state kept))) }
     ensures opened { IfOk result (λ kept.
         IsOpened (B.state board).shape bytes.now (⟦<Kept<B, D> as envy_base::Board>⟧.state kept)) }
+    ensures compacted { IsTrue compact
+        → IfOk result (λ kept. IsCompact (chart (⟦<Kept<B, D> as envy_base::Board>⟧.state kept))) }
+    ensures left { IfErr result (λ e.
+        StaysAlike D.left_since D.moment (B.state board).shape bytes.now e.0 e.1) }
     ensures failed { IfErr result (λ e. Declines D.seen D.has_failed (B.state board).shape bytes.now e.0 e.1) }
 {
     match opened(alloc, board, device, bytes) {
@@ -164,6 +175,10 @@ pub fn begin_again<B: Steady + Drop, D: Place + Drop>(
     requires setup { checked setup ≡ Ok tt }
     ensures begun { IfOk result (λ memory. (words : List ℕ) × OpensAs setup.shape words bytes.now
         × HasBegun setup (fresh setup.shape.shadows words) memory) }
+    // where that was asked for, the journal is no longer than a snapshot
+    ensures compacted { IsTrue compact → IfOk result (λ memory. IsCompact memory.chart) }
+    // unless the file failed, a crash leaves a journal that opens as the one that was there
+    ensures left { IfErr result (λ e. StaysAlike D.left_since D.moment setup.shape bytes.now e.0 e.1) }
     ensures failed { IfErr result (λ e. Declines D.seen D.has_failed setup.shape bytes.now e.0 e.1) }
 {
     let kept = match opened_as_asked(alloc, board, device, bytes, compact) {

@@ -1,12 +1,14 @@
 // A memory in a file is made or taken up, by what the file holds.
-ghost use Rattle.std.specs.Prelude.{◌≡◌, IfOk, IfErr, Ok};
+ghost use Rattle.std.specs.Prelude.{◌≡◌, IfOk, IfErr, IsTrue, Ok};
 ghost use Rattle.envy_base.specs.Array.{Array};
 ghost use Rattle.envy_begun.specs.Beginning.{HasBegun};
+ghost use Rattle.envy_begun.specs.Left.{StaysAlike};
 ghost use Rattle.envy_begun.specs.Plans.{BeginsAs, Plans};
 ghost use Rattle.envy_begun.specs.Unserved.{Causes};
 ghost use Rattle.envy_device.specs.Device.{Only};
 ghost use Rattle.envy_journal.specs.Content.{blank, content_of};
 ghost use Rattle.envy_policy.specs.Setup.{checked};
+ghost use Rattle.envy_synced.specs.Disk.{IsCompact};
 
 use crate::beginning::begin_new;
 use crate::planning::Holding;
@@ -39,6 +41,12 @@ pub fn begin<B: Steady + Drop, D: Place + Drop>(
     requires checks { checked setup ≡ Ok tt }
     ensures begun { IfOk result (λ memory. (array : Array) × BeginsAs holding bytes.now setup array
         × HasBegun setup array memory) }
+    // where that was asked for, the journal is no longer than a snapshot
+    ensures compacted { holding ≡ Holding.Written → IsTrue options.now.compact
+        → IfOk result (λ memory. IsCompact memory.chart) }
+    // a journal with operations that isn't taken up opens as before, unless the file failed
+    ensures left { holding ≡ Holding.Written
+        → IfErr result (λ e. StaysAlike D.left_since D.moment setup.shape bytes.now e.0 e.1) }
     ensures failed { IfErr result (λ e. Causes D.seen D.has_failed options.now bytes.now device e.1 e.0) }
 {
     match holding {

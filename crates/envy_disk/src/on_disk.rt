@@ -10,13 +10,17 @@ pub trait OnDisk: Board {
     /// What the numbers tell is on the disk is what the board holds.
     ghost is_synced: { Chart → Type 0 };
 
+    /// It takes no more there than what the board holds takes, however much was done to it.
+    ghost is_compact: { Chart → Type 0 };
+
     /// Brings the board to the disk. Where it fails, power is off.
     fn sync(&mut self) -> Result<(), Off>
         ensures answer { Syncs (Self.state self.old) result (Self.state self.new) }
         ensures synced { OnOk result (is_synced (chart (Self.state self.new))) };
 
-    /// A sync that leaves no more on the disk than what the board holds takes, however much was done to it.
+    /// A sync that leaves no more on the disk than what the board holds takes.
     fn compact(&mut self) -> Result<(), Off>
         ensures answer { Syncs (Self.state self.old) result (Self.state self.new) }
-        ensures synced { OnOk result (is_synced (chart (Self.state self.new))) };
+        ensures synced { OnOk result (is_synced (chart (Self.state self.new))) }
+        ensures compact { OnOk result (is_compact (chart (Self.state self.new))) };
 }

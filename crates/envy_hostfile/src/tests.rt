@@ -2,9 +2,9 @@ use crate::folder::is_named;
 use crate::{Folder, HostCalls, OpenFault, open};
 use envy_device::{Device, Place};
 use std::cell::Cell;
-use std::fs::{self, File, Metadata, OpenFile};
+use std::fs::{self, File, Metadata, OpenFile, Permissions};
 use std::io;
-use std::os::unix::fs::FileExt;
+use std::os::unix::fs::{FileExt, PermissionsExt};
 use std::test::Fail;
 
 const PATH: &str = "envy_hostfile_test";
@@ -39,6 +39,7 @@ fn a_second_file_takes_the_place(rt: HostRuntime) -> Result<(), Fail> {
         b"left behind by a crash",
     )?;
     let (mut file, _) = open(&rt, path)?;
+    fs::set_permissions(&rt, path, Permissions::from_mode(0o640))?;
     file.write_at(0, b"first")?;
     file.sync()?;
     let opened_before = File::open(&rt, path)?;
@@ -55,6 +56,10 @@ fn a_second_file_takes_the_place(rt: HostRuntime) -> Result<(), Fail> {
     let (again, bytes) = open(&rt, path)?;
     assert_eq!(rt; bytes.as_slice(), b"second file".as_slice());
     assert!(rt; fs::metadata(&rt, "envy_hostfile_second.envy-new").is_err());
+    assert_eq!(rt;
+        fs::metadata(&rt, path)?.permissions().mode() & 0o777,
+        0o640
+    );
     drop(again);
     fs::remove_file(&rt, path)?;
     Ok(())
@@ -81,14 +86,26 @@ fn a_second_file_in_use_is_left(rt: HostRuntime) -> Result<(), Fail> {
     Ok(())
 }
 
+// What is noted of the calls that end a batch or a second file, one digit for each.
+const CUT: u32 = 1;
+
+const DATA_SYNCED: u32 = 2;
+
+const SYNCED: u32 = 3;
+
+const RENAMED: u32 = 4;
+
+const FOLDER_SYNCED: u32 = 5;
+
 // A file that takes two bytes at a time, is interrupted at each third call, and fails at one. It notes whether each write
-// goes on where the one before ended.
+// goes on where the one before ended, and the calls behind the writes in their order.
 #[derive(Drop)]
 struct Slow {
     fails_at: u32,
     calls: Cell<u32>,
     next: Cell<u64>,
     is_straight: Cell<bool>,
+    order: Cell<u32>,
 }
 
 impl Slow {
@@ -98,6 +115,13 @@ impl Slow {
         if call == self.fails_at {
             return Err(io::ErrorKind::StorageFull.into());
         }
+        Ok(())
+    }
+
+    fn noted(&self, digit: u32) -> io::Result<()> {
+        self.call()?;
+        let order = self.order.get().wrapping_mul(10);
+        self.order.set(order.wrapping_add(digit));
         Ok(())
     }
 }
@@ -127,15 +151,15 @@ impl OpenFile for &Slow {
     }
 
     fn set_len(&self, _size: u64) -> io::Result<()> {
-        self.call()
+        self.noted(CUT)
     }
 
     fn sync_all(&self) -> io::Result<()> {
-        self.call()
+        self.noted(SYNCED)
     }
 
     fn sync_data(&self) -> io::Result<()> {
-        self.call()
+        self.noted(DATA_SYNCED)
     }
 }
 
@@ -147,11 +171,11 @@ impl<'a> Folder<&'a Slow> for &'a Slow {
     }
 
     fn rename(&self) -> io::Result<()> {
-        self.call()
+        self.noted(RENAMED)
     }
 
     fn sync(&self) -> io::Result<()> {
-        self.call()
+        self.noted(FOLDER_SYNCED)
     }
 }
 
@@ -162,6 +186,7 @@ fn failing_at(fails_at: u32) -> Slow {
         calls: Cell::new(0),
         next: Cell::new(0),
         is_straight: Cell::new(true),
+        order: Cell::new(0),
     }
 }
 
@@ -178,23 +203,24 @@ fn done_on(slow: &Slow) -> (bool, bool, bool, bool) {
 #[test]
 fn a_write_goes_on_and_a_failure_ends_the_file(rt: HostRuntime) -> Result<(), Fail> {
     let table = [
-        (0, 0),
-        (1, 2),
-        (2, 4),
-        (3, 4),
-        (4, 6),
-        (5, 7),
-        (6, 7),
-        (7, 7),
-        (8, 7),
+        (0, 0, 0),
+        (1, 2, 0),
+        (2, 4, 0),
+        (3, 4, 0),
+        (4, 6, 0),
+        (5, 7, 0),
+        (6, 7, 2),
+        (7, 7, 21),
+        (8, 7, 212),
     ];
-    for (fails_at, next) in table.as_slice() {
+    for (fails_at, next, order) in table.as_slice() {
         let fails_at = *fails_at;
         let slow = failing_at(fails_at);
         let wanted = (fails_at > 4, fails_at > 5, fails_at > 6, fails_at > 7);
         assert_eq!(rt; done_on(&slow), wanted, "at {fails_at}");
         assert!(rt; slow.is_straight.get());
         assert_eq!(rt; slow.next.get(), *next, "at {fails_at}");
+        assert_eq!(rt; slow.order.get(), *order, "at {fails_at}");
     }
     Ok(())
 }
@@ -214,21 +240,22 @@ fn replaced_on(slow: &Slow) -> ((bool, bool, bool, bool), bool) {
 #[test]
 fn a_failure_at_any_call_on_the_second_file_ends_the_file(rt: HostRuntime) -> Result<(), Fail> {
     let table = [
-        (0, 0),
-        (1, 1),
-        (2, 1),
-        (3, 1),
-        (4, 2),
-        (5, 3),
-        (6, 3),
-        (7, 3),
-        (9, 4),
+        (0, 0, 0),
+        (1, 1, 0),
+        (2, 1, 0),
+        (3, 1, 0),
+        (4, 2, 0),
+        (5, 3, 0),
+        (6, 3, 3),
+        (7, 3, 34),
+        (9, 4, 3452),
     ];
-    for (fails_at, passed) in table.as_slice() {
+    for (fails_at, passed, order) in table.as_slice() {
         let passed = *passed;
         let slow = failing_at(*fails_at);
         let wanted = (passed > 0, passed > 1, passed > 2, passed > 3);
         assert_eq!(rt; replaced_on(&slow), (wanted, passed > 3), "at {fails_at}");
+        assert_eq!(rt; slow.order.get(), *order, "at {fails_at}");
         assert!(rt; slow.is_straight.get());
     }
     Ok(())

@@ -6,7 +6,7 @@ use Rattle.envy_calls.specs.declared.code.Code.{Code}
 use Rattle.envy_calls.specs.declared.code.Code.TheVariants.{Done, Empty, Off}
 use Rattle.envy_disk.specs.Disk.{SyncsChart}
 use Rattle.envy_memory.specs.Picture.{Picture}
-use Rattle.envy_synced.specs.Disk.{IsSynced}
+use Rattle.envy_synced.specs.Disk.{IsCompact, IsSynced}
 
 abbrev pub sync_code : Result Unit OffBoard → Code
 sync_code (Ok done) = Done
@@ -24,6 +24,15 @@ pub record SyncsTo (p q : Picture) (code : ℕ) : Type 0 where
 abbrev pub DoesSync : Option Picture → Option Picture → ℕ → Type 0
 DoesSync None new code = (new ≡ None) × (code ≡ number_of Empty)
 DoesSync (Some p) new code = (q : Picture) × (new ≡ Some q) × SyncsTo p q code
+
+-- a sync that leaves no more in the file than a snapshot
+pub record CompactsTo (p q : Picture) (code : ℕ) : Type 0 where
+  pub syncs : SyncsTo p q code
+  pub compact : OnOk syncs.answer (IsCompact q.chart)
+
+abbrev pub DoesCompact : Option Picture → Option Picture → ℕ → Type 0
+DoesCompact None new code = (new ≡ None) × (code ≡ number_of Empty)
+DoesCompact (Some p) new code = (q : Picture) × (new ≡ Some q) × CompactsTo p q code
 
 -- whether a place holds a memory whose power is on, as a number: the file hasn't failed
 abbrev pub DoesTellPower : Option Picture → ℕ → Type 0

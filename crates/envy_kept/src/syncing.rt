@@ -1,6 +1,6 @@
 // What brings a memory to the disk.
 ghost use Rattle.envy_kept.specs.Flawless.{AreFlawless};
-ghost use Rattle.envy_kept.specs.Syncing.{DoesSync, DoesTellPower, sync_code};
+ghost use Rattle.envy_kept.specs.Syncing.{DoesCompact, DoesSync, DoesTellPower, sync_code};
 ghost use Rattle.std.specs.Prelude.{◌≡◌};
 ghost use denote.RawPtr.{InBlock};
 
@@ -27,7 +27,7 @@ fn sync(slot: &mut Slot) -> u32
 }
 
 fn compact(slot: &mut Slot) -> u32
-    ensures { DoesSync slot.old slot.new result }
+    ensures { DoesCompact slot.old slot.new result }
 {
     let Some(memory) = slot else {
         return Code::Empty.number();
@@ -65,7 +65,7 @@ pub extern "C" fn envy_kept_compact(m: &mut EnvyKept) -> u32
     requires { InBlock m.old.at }
     ensures live { InBlock m.new.at }
     ensures flawless { AreFlawless m.old.slot.now m.new.slot.now }
-    ensures syncs { DoesSync m.old.slot.now m.new.slot.now result }
+    ensures compacts { DoesCompact m.old.slot.now m.new.slot.now result }
 {
     let slot = lend(m);
     let code = compact(slot);

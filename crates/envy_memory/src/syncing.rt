@@ -29,6 +29,7 @@ impl<B: OnDisk> Memory<B> {
         ensures answer { SyncsChart self.old.chart result self.new.chart }
         ensures kept { self.new ≡ record self.old { chart = self.new.chart } }
         ensures synced { OnOk result (B.is_synced self.new.chart) }
+        ensures compact { OnOk result (B.is_compact self.new.chart) }
     {
         self.board.compact()
     }

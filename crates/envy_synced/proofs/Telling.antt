@@ -1,6 +1,7 @@
 -- What the numbers of a kept board tell.
-use Rattle.std.proofs.Common.{◌≡◌, ◌⊎◌, ◌∙◌, inl, inr, ℕ, List, false, refl, sym, ap, subst}
+use Rattle.std.proofs.Common.{◌≡◌, ◌⊎◌, ◌∙◌, ◌≤◌, inl, inr, ℕ, List, false, length, refl, sym, ap, subst, arith}
 use Rattle.std.proofs.Math.Logic.{∥∥₁_map}
+use Rattle.std.proofs.lemmas.List.{length-take}
 use Rattle.envy_base.specs.declared.shape.Shape.{Shape}
 use Rattle.envy_base.specs.State.{State}
 use Rattle.envy_map.specs.Fields.{Chart, chart, map_fields}
@@ -11,8 +12,9 @@ use Rattle.envy_journal.specs.Head.{StandsFor, head_bytes}
 use Rattle.envy_journal.specs.Journal.{IsFileOf, kept}
 use Rattle.envy_journal.specs.Log.{Begins, kept_bytes}
 use Rattle.envy_journal.specs.Reading.{operations}
+use Rattle.envy_journal.specs.Snapshot.{most_of}
 use Rattle.envy_synced.specs.Number.{number}
-use Rattle.envy_synced.specs.Disk.{disk_state, Ends, IsKept, Reopens, IsSynced, IsLast, IsBefore}
+use Rattle.envy_synced.specs.Disk.{disk_state, Ends, IsKept, Reopens, IsCompact, IsSynced, IsLast, IsBefore}
 use Rattle.envy_synced.proofs.Numbers.{number_one}
 
 -- the operations that a sync brought to the disk open as the board was
@@ -30,6 +32,14 @@ reopens_now s t file is shape content = record {
   head = subst (λ (x : Shape). Begins (head_bytes x) file) (sym shape) is.head;
   fields = subst (λ (x : Shape). map_fields x (holds x (operations file)).sram ≡ map_fields x t.sram) (sym shape) (ap (λ (x : Content). map_fields s.shape x.sram) (sym (content ∙ is.content)));
   flash = subst (λ (x : Shape). (holds x (operations file)).flash ≡ t.flash) (sym shape) (ap (λ (x : Content). x.flash) (sym (content ∙ is.content)));
+}
+
+-- a board just behind a compaction
+pub compact_now : {D : Type 0} (seen : D → List ℕ) (moment : D → ℕ) (log before : Log D) (s : State) → length (seen log.device) ≤ most_of s.shape → IsCompact (chart (disk_state seen moment log before s))
+compact_now seen moment log before s short = record {
+  bytes = kept_bytes seen log;
+  coded = refl;
+  short = (let few = length-take log.gate (seen log.device) in omega (arith, few, short));
 }
 
 -- a board just behind a sync

@@ -1,5 +1,5 @@
 -- What a kept board tells of the disk.
-use Rattle.std.specs.Prelude.{◌≡◌, ◌⊎◌, ℕ, ◌≤◌, false, IsTrue, List}
+use Rattle.std.specs.Prelude.{◌≡◌, ◌⊎◌, ℕ, ◌≤◌, false, IsTrue, List, length}
 use Rattle.envy_base.specs.State.{State, IsBoard}
 use Rattle.envy_map.specs.Fields.{Chart, map_fields}
 use Rattle.envy_journal.specs.declared.log.Log.{Log}
@@ -9,6 +9,7 @@ use Rattle.envy_journal.specs.Head.{StandsFor, head_bytes}
 use Rattle.envy_journal.specs.Journal.{IsFileOf, kept}
 use Rattle.envy_journal.specs.Log.{Begins, kept_bytes}
 use Rattle.envy_journal.specs.Reading.{operations}
+use Rattle.envy_journal.specs.Snapshot.{most_of}
 use Rattle.envy_disk.specs.Disk.{with_disk}
 use Rattle.envy_synced.specs.Number.{number}
 
@@ -41,6 +42,12 @@ pub record IsSynced (c : Chart) : Type 0 where
   pub coded : c.given ≡ number bytes
   pub fields : map_fields c.shape (holds c.shape (operations bytes)).sram ≡ c.fields
   pub flash : (holds c.shape (operations bytes)).flash ≡ c.flash
+
+-- the journal that its numbers tell is on the disk is no longer than a snapshot
+pub record IsCompact (c : Chart) : Type 0 where
+  pub bytes : List ℕ
+  pub coded : c.given ≡ number bytes
+  pub short : length bytes ≤ most_of c.shape
 
 -- by the numbers, it was so behind the last sync that succeeded
 pub record IsLast (was now : Chart) : Type 0 where

@@ -4,7 +4,7 @@ ghost use Rattle.envy_base.specs.State.{Puts, Programs, Erases};
 ghost use Rattle.envy_map.specs.Fields.{Chart, chart};
 ghost use Rattle.envy_journal.specs.Journal.{journal_state, kept, done};
 ghost use Rattle.envy_journal.specs.Log.{HasEnded};
-ghost use Rattle.envy_synced.specs.Disk.{IsKept, IsLast, IsBefore, IsSynced, Reopens, disk_state};
+ghost use Rattle.envy_synced.specs.Disk.{IsKept, IsLast, IsBefore, IsCompact, IsSynced, Reopens, disk_state};
 
 use envy_base::{Board, Off, Shape, Trouble};
 use envy_device::{Device, Place};
@@ -116,6 +116,8 @@ impl<B: Steady, D: Device> Board for Kept<B, D> {
 
 impl<B: Steady, D: Place> OnDisk for Kept<B, D> {
     ghost is_synced = { IsSynced };
+
+    ghost is_compact = { IsCompact };
 
     fn sync(&mut self) -> Result<(), Off> {
         match self.journal.sync() {

@@ -1,2 +1,3 @@
 mod Outcomes
 mod Written
+pub mod Other

@@ -1,5 +1,8 @@
-use Rattle.envy_begun.proofs.Again.{ok_on}
+use Rattle.envy_begun.proofs.Again.{err_on, ok_on}
 use Rattle.envy_begun.proofs.reopening.opened_as_asked.Goals as goal
 
 pub returns-in-Ok-clause-opened : goal.returns-in-Ok-clause-opened
 returns-in-Ok-clause-opened g c = ok_on c.compacted.result c.compacted.ensures.opened (λ after goes. goes (g.B.Board.state c.args.board).shape c.args.bytes.now c.in-Ok.ensures.opened)
+
+pub returns-in-Ok-clause-left : goal.returns-in-Ok-clause-left
+returns-in-Ok-clause-left g c = err_on c.compacted.result c.compacted.ensures.left (λ e stays. stays (g.B.Board.state c.args.board).shape c.args.bytes.now)

@@ -1,14 +1,15 @@
-use Rattle.std.proofs.Common.{◌≡◌, ◌∙◌, ℕ, Bool, true, List, refl, ap, subst}
+use Rattle.std.proofs.Common.{◌≡◌, ◌≤◌, ◌∙◌, length, sym, ℕ, Bool, true, List, refl, ap, subst}
 use Rattle.envy_journal.specs.declared.operation.Operation.{Operation}
 use Rattle.envy_journal.specs.Content.{content_of, holds}
 use Rattle.envy_journal.specs.Head.{StandsFor}
 use Rattle.envy_journal.specs.Journal.{journal_state, kept}
 use Rattle.envy_journal.specs.Log.{kept_bytes}
+use Rattle.envy_journal.specs.Snapshot.{most_of}
 use Rattle.envy_map.specs.Fields.{chart}
-use Rattle.envy_synced.specs.Disk.{IsKept, IsSynced, disk_state}
+use Rattle.envy_synced.specs.Disk.{IsCompact, IsKept, IsSynced, disk_state}
 use Rattle.envy_synced.specs.Number.{number}
 use Rattle.envy_synced.proofs.Going.{synced, failed, fails_told, stands_now}
-use Rattle.envy_synced.proofs.Telling.{synced_now}
+use Rattle.envy_synced.proofs.Telling.{compact_now, synced_now}
 use Rattle.envy_synced.proofs.kept.KeptOnDisk.compact.Goals as goal
 
 pub invariant_of-self : goal.invariant_of-self
@@ -62,6 +63,18 @@ returns-in-Ok-clause-synced g c =
     let content : content_of b ≡ holds b.shape (kept seen new.log) = (new.logged e.ok.still_alive).content ∙ ap (λ (p : List Operation). holds b.shape p) e.ok.all in
     let fresh : IsSynced (chart (disk_state seen moment new.log k.synced.value.log b)) = synced_now seen moment new.log k.synced.value.log b content in
     rw (c.replace-last.ensures.value, c.replace-last.ensures.after, c.of.ensures, e.ok.still_alive) fresh
+
+pub returns-in-Ok-clause-compact : goal.returns-in-Ok-clause-compact
+returns-in-Ok-clause-compact g c =
+    let k = c.args.self.now in
+    let new = c.compact.new.self in
+    let seen = g.D.Device.seen in
+    let moment = g.D.Device.moment in
+    let b = g.B.Board.state new.board in
+    let e = c.in-Ok.ensures in
+    let short = subst (λ (x : g.row.B.Denot). length (seen new.log.device) ≤ most_of (g.B.Board.state x).shape) (sym e.board) e.short in
+    let few : IsCompact (chart (disk_state seen moment new.log k.synced.value.log b)) = compact_now seen moment new.log k.synced.value.log b short in
+    rw (c.replace-last.ensures.value, c.replace-last.ensures.after, c.of.ensures, e.ok.still_alive) few
 
 pub returns-in-Err-clause-answer : goal.returns-in-Err-clause-answer
 returns-in-Err-clause-answer g c =
