@@ -86,6 +86,7 @@ impl KeptRows {
     }
 
     /// Sets a row to the page.
+    #[inline(always)]
     pub fn write(&mut self, row: usize, page: &[u64; 32])
         requires { row < length self.old }
         ensures { self.new ≡ slice_set self.old row page.now }

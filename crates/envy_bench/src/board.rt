@@ -181,6 +181,10 @@ impl Board for MemBoard {
             result (board_state self.new) }
         ensures power { board_power self.new ≡ after_put (board_power self.old) }
     {
+        if self.supply.is_calm() {
+            self.sram.put(w, v);
+            return Ok(());
+        }
         if !self.supply.powered() {
             return Err(Off);
         }

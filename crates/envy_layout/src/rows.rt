@@ -22,6 +22,7 @@ pub struct Kept {
 }
 
 /// Who keeps a row, or `None` where it isn't kept. Only the page that the row was claimed for can name it.
+#[inline(always)]
 pub fn keeper<B: Board>(board: &B, row: u32) -> Result<Option<Kept>, Off>
     requires sound { IsSound (chart (B.state board.now)) }
     requires row { row < (B.state board.now).shape.segments * (B.state board.now).shape.rows }

@@ -30,6 +30,7 @@ pub(crate) struct Switched {
 
 /// Switches the page that keeps the row that row `i` of the spare was copied from, if one does, to row `i`
 /// of the spare.
+#[inline(always)]
 pub(crate) fn switch_row<B: Board>(
     board: &mut B,
     spare: u32,

@@ -1,5 +1,5 @@
 -- The best entries of runs of places, and of the run below a node.
-use Rattle.std.proofs.Common.{◌≡◌, ◌⊎◌, inl, inr, Option, None, Some, ℕ, zero, suc, ◌+◌, ◌-◌, ◌*◌, ◌^◌, ◌<◌, ◌≤◌, Bool, true, false, cond, List, refl, sym, ◌∙◌, ap, subst, arith}
+use Rattle.std.proofs.Common.{◌≡◌, ◌⊎◌, inl, inr, Option, None, Some, ℕ, zero, suc, ◌+◌, ◌-◌, ◌*◌, ◌^◌, ◌<◌, ◌≤◌, Bool, true, false, cond, ◌≢◌, List, length, get_or, set, get_or-set_same, get_or-set_other, refl, sym, ◌∙◌, ap, subst, arith}
 use Rattle.std.specs.Prelude.{nat_lt}
 use Rattle.std.proofs.lemmas.Bool.{cases_lt, ltb-true, ltb-false}
 use Rattle.std.proofs.Math.Nat.{two-pow-succ, mul-le-mul_left, mul-le-mul_right}
@@ -217,3 +217,22 @@ IsRun-same f g first end e same run = record {
   has = λ some. sym (same e.place (run.above some) (run.below some)) ∙ run.has some;
   lowest = λ some k low high. let below = run.below some in let is = same k low (omega arith) in let less = run.lowest some k low high in omega arith;
 }
+
+-- Runs of scores of which one is another: those without that place, and those around it.
+module _ (xs ys : List ℕ) (o : Entry) (is : set xs o.place o.score ≡ ys) where
+  elsewhere : (k : ℕ) → k ≢ o.place → get_or xs k 0 ≡ get_or ys k 0
+  elsewhere k apart = sym (get_or-set_other xs o.place k o.score 0 apart) ∙ ap (λ (zs : List ℕ). get_or zs k 0) is
+
+  pub IsRun-apart : (first end : ℕ) (e : Entry) → ((k : ℕ) → first ≤ k → k < end → k ≢ o.place) → IsRun (λ (k : ℕ). get_or xs k 0) first end e → IsRun (λ (k : ℕ). get_or ys k 0) first end e
+  IsRun-apart first end e apart run = IsRun-same (λ (k : ℕ). get_or xs k 0) (λ (k : ℕ). get_or ys k 0) first end e (λ k low high. elsewhere k (apart k low high)) run
+
+  pub IsRun-around : (first end : ℕ) (left right e : Entry) → o.place < length xs → first ≤ o.place → o.place < end → IsRun (λ (k : ℕ). get_or xs k 0) first o.place left → IsRun (λ (k : ℕ). get_or xs k 0) (o.place + 1) end right → e ≡ better (better left o) right → IsRun (λ (k : ℕ). get_or ys k 0) first end e
+  IsRun-around first end left right e within low high before behind both =
+      let here : get_or ys o.place 0 ≡ o.score = ap (λ (zs : List ℕ). get_or zs o.place 0) (sym is) ∙ get_or-set_same xs o.place o.score 0 within in
+      let one = IsRun-one (λ (k : ℕ). get_or ys k 0) o.place (o.place + 1) o refl refl here in
+      let front = IsRun-apart first o.place left (λ k above below same. absurd (omega arith)) before in
+      let back = IsRun-apart (o.place + 1) end right (λ k above below same. absurd (omega arith)) behind in
+      subst (λ (x : Entry). IsRun (λ (k : ℕ). get_or ys k 0) first end x) (sym both)
+      (IsRun-better (λ (k : ℕ). get_or ys k 0) first (o.place + 1) end (better left o) right (omega arith) (omega arith)
+      (IsRun-better (λ (k : ℕ). get_or ys k 0) first o.place (o.place + 1) left o (omega arith) (omega arith) front one)
+      back)

@@ -1,5 +1,5 @@
 -- The place with the highest score among several, and the lowest and the highest place with a score.
-use Rattle.std.specs.Prelude.{◌≡◌, ℕ, ◌+◌, ◌*◌, ◌^◌, ◌<◌, ◌≤◌, nat_lt, min, List, length, map, drop, Option, None, Some, slice_index_or, slice_set, if◌then◌else◌}
+use Rattle.std.specs.Prelude.{◌≡◌, ◌≢◌, ℕ, ◌+◌, ◌*◌, ◌/◌, ◌^◌, ◌<◌, ◌≤◌, nat_lt, min, List, length, map, drop, Option, None, Some, slice_index_or, slice_set, if◌then◌else◌}
 use Rattle.envy_space.specs.declared.nodes.Entry.{Entry}
 
 -- from first to last, place k has the highest score, which isn't 0, and is the lowest of those with as much
@@ -84,6 +84,12 @@ pub record AreNodes (n : ℕ) (nodes : List Entry) : Type 0 where
 pub record IsTree (n : ℕ) (nodes : List Entry) : Type 0 where
   pub are : AreNodes n nodes
   pub right : (i : ℕ) → 1 ≤ i → i < n → IsRight nodes i
+
+-- The entry of node k has risen, and the node above it, which was the better of the two, is as before: it has no lower
+-- score than the node beside k, and is that one where it has a higher score than node k.
+pub record HasRisen (nodes : List Entry) (k : ℕ) : Type 0 where
+  pub least : (b : ℕ) → b / 2 ≡ k / 2 → b ≢ k → (node nodes b).score ≤ (node nodes (k / 2)).score
+  pub beside : (b : ℕ) → b / 2 ≡ k / 2 → b ≢ k → (node nodes k).score < (node nodes (k / 2)).score → node nodes (k / 2) ≡ node nodes b
 
 -- the scores, where the last that was written isn't in the nodes yet
 abbrev pub late_scores : ℕ → List Entry → Entry → List ℕ

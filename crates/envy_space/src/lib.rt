@@ -15,6 +15,7 @@ mod nodes;
 mod order;
 mod rebuild;
 mod rising;
+mod scores;
 mod space;
 mod winners;
 

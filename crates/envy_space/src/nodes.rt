@@ -1,5 +1,5 @@
-ghost use Rattle.std.specs.Prelude.{IsTrue, ◌≡◌, ◌≢◌, ◌+◌, ◌-◌, ◌*◌, ◌/◌, ◌^◌, ◌<◌, ◌≤◌, ℕ, length, replicate, map, drop, slice_index};
-ghost use Rattle.envy_space.specs.Winners.{AreNodes, IsTree, IsRight, IsRun, better, late_scores, node as node_of, score_in, scores_of};
+ghost use Rattle.std.specs.Prelude.{IsTrue, false, ◌≡◌, ◌≢◌, ◌+◌, ◌-◌, ◌*◌, ◌/◌, ◌%◌, ◌^◌, ◌<◌, ◌≤◌, ℕ, length, replicate, map, drop, slice_index};
+ghost use Rattle.envy_space.specs.Winners.{AreNodes, HasRisen, IsTree, IsRight, IsRun, better, late_scores, node as node_of, score_in, scores_of};
 
 /// A place and its score.
 #[derive(Clone, Copy)]
@@ -20,7 +20,7 @@ impl Entry {
     }
 
     /// The other entry, if its score is higher.
-    fn or_better(self, other: Entry) -> Entry
+    pub fn or_better(self, other: Entry) -> Entry
         ensures { result ≡ better self other }
     {
         if other.score > self.score {
@@ -97,6 +97,71 @@ pub fn mend_above(nodes: &mut [Entry], places: u32, mut at: u32)
     }
 }
 
+/// The same where the entry of node `at` has risen: it needs no look at the node beside it, but where it is level
+/// with the node above.
+fn raise_above(nodes: &mut [Entry], places: u32, mut at: u32)
+    requires nodes { AreNodes places nodes.old }
+    requires some { 1 ≤ at }
+    requires within { at < 2 * places }
+    requires others { (i : ℕ) → 1 ≤ i → i < places → i ≢ at / 2 → IsRight nodes.old i }
+    requires risen { 2 ≤ at → HasRisen nodes.old at }
+    ensures tree { IsTree places nodes.new }
+    ensures scores { scores_of places nodes.new ≡ scores_of places nodes.old }
+{
+    while 1 < at {
+        if !raise_one(nodes, places, at) {
+            return;
+        }
+        at /= 2;
+    }
+}
+
+/// Makes the node above node `at`, whose entry has risen, the better of its two. Answers whether it has changed.
+#[inline(always)]
+fn raise_one(nodes: &mut [Entry], places: u32, at: u32) -> bool
+    requires nodes { AreNodes places nodes.old }
+    requires some { 2 ≤ at }
+    requires within { at < 2 * places }
+    requires others { (i : ℕ) → 1 ≤ i → i < places → i ≢ at / 2 → IsRight nodes.old i }
+    requires risen { HasRisen nodes.old at }
+    ensures nodes { AreNodes places nodes.new }
+    ensures scores { scores_of places nodes.new ≡ scores_of places nodes.old }
+    ensures others { (i : ℕ) → 1 ≤ i → i < places → i ≢ at / 2 / 2 → IsRight nodes.new i }
+    ensures same { result ≡ false → IsTree places nodes.new }
+    ensures risen { IsTrue result → 2 ≤ at / 2 → HasRisen nodes.new (at / 2) }
+{
+    let above = node(nodes, at / 2);
+    if node(nodes, at).score < above.score {
+        return false;
+    }
+    let entry = risen_better(nodes, at);
+    if above.is(entry) {
+        return false;
+    }
+    nodes[(at / 2) as usize] = entry;
+    true
+}
+
+/// The better entry of node `at`, which has risen as high as the node above it, and of the node beside it.
+#[inline(always)]
+fn risen_better(nodes: &[Entry], at: u32) -> Entry
+    requires some { 2 ≤ at }
+    requires within { at < length nodes.now }
+    requires even { length nodes.now % 2 ≡ 0 }
+    requires few { length nodes.now < 2 ^ 32 }
+    requires risen { HasRisen nodes.now at }
+    requires level { (node_of nodes.now (at / 2)).score ≤ (node_of nodes.now at).score }
+    ensures better { result ≡ better (node_of nodes.now (2 * (at / 2))) (node_of nodes.now (2 * (at / 2) + 1)) }
+    ensures level { (node_of nodes.now (at / 2)).score ≤ result.score }
+{
+    let entry = node(nodes, at);
+    if entry.score > node(nodes, at / 2).score {
+        entry
+    } else {
+        better_below(nodes, at / 2)
+    }
+}
+
 /// The better entry of the two nodes below a node.
 fn better_below(nodes: &[Entry], i: u32) -> Entry
     requires below { 2 * i + 1 < length nodes.now }
@@ -138,8 +203,14 @@ pub fn settle(nodes: &mut [Entry], places: u32, entry: Entry)
     ensures scores { scores_of places nodes.new ≡ late_scores places nodes.old entry }
 {
     let at = places + entry.place;
-    if node(nodes, at).score != entry.score {
-        nodes[at as usize] = entry;
+    let score = node(nodes, at).score;
+    if score == entry.score {
+        return;
+    }
+    nodes[at as usize] = entry;
+    if score < entry.score {
+        raise_above(nodes, places, at);
+    } else {
         mend_above(nodes, places, at);
     }
 }

@@ -8,7 +8,7 @@ ghost use Rattle.envy_space.specs.Winners.{Wins};
 
 use crate::flags::Flags;
 use crate::order::Order;
-use crate::winners::Winners;
+use crate::scores::Scores;
 use envy_base::{NoMemory, Shape};
 use std::alloc::Global;
 use std::marker::Model;
@@ -22,7 +22,7 @@ pub struct Space {
     /// The segments in the order of their positions, and the spare after them.
     order: Order,
     /// The dead rows of each segment in that order.
-    dead: Winners,
+    dead: Scores,
     /// Which have free rows, and which have dead ones, in that order.
     pub(crate) has_free: Flags,
     pub(crate) has_dead: Flags,
@@ -51,7 +51,7 @@ impl Space {
         let fills = vec![in alloc; 0; shape.segments as usize]?;
         let kept = vec![in alloc; 0; shape.segments as usize]?;
         let order = Order::new(alloc, shape.segments)?;
-        let dead = Winners::new(alloc, shape.segments, 0)?;
+        let dead = Scores::new(alloc, shape.segments, 0)?;
         let has_free = Flags::new(alloc, shape.segments, shape.rows)?;
         let has_dead = Flags::new(alloc, shape.segments, 0)?;
         Ok(Space {
@@ -215,6 +215,7 @@ impl Space {
     }
 
     /// Writes the fill of a segment.
+    #[inline(always)]
     pub fn set_fill(&mut self, segment: u32, fill: u32)
         requires segment { segment < self.old.shape.segments }
         requires fits { fill ≤ self.old.shape.rows }
@@ -224,9 +225,9 @@ impl Space {
         self.fills[segment as usize] = fill;
         let dead = fill - self.kept[segment as usize];
         let place = self.order.place_of(segment);
-        self.dead.set(place, dead);
         self.has_free.set(place, self.shape.rows - fill);
         self.has_dead.set(place, dead);
+        self.dead.set(place, dead);
     }
 
     /// Writes how many rows of a segment are kept.
@@ -238,7 +239,7 @@ impl Space {
         self.kept[segment as usize] = kept;
         let dead = self.fills[segment as usize] - kept;
         let place = self.order.place_of(segment);
-        self.dead.set(place, dead);
         self.has_dead.set(place, dead);
+        self.dead.set(place, dead);
     }
 }

@@ -1,5 +1,5 @@
-ghost use Rattle.std.specs.Prelude.{◌≡◌, ◌^◌, ◌<◌, ◌≤◌, length, replicate, slice_index, slice_set, swap, IfOk};
-ghost use Rattle.envy_space.specs.Winners.{Wins};
+ghost use Rattle.std.specs.Prelude.{◌≡◌, ◌^◌, ◌<◌, ◌≤◌, false, length, replicate, slice_index, slice_set, IfOk, IsTrue};
+ghost use Rattle.envy_space.specs.Winners.{IsRun};
 
 use crate::nodes::{Entry, best_with, lay, settle};
 use envy_base::NoMemory;
@@ -61,7 +61,7 @@ impl Winners {
         ensures { self.new ≡ slice_set self.old place score }
     {
         if self.late.place == place {
-            self.late = Entry { place, score };
+            self.late.score = score;
             return;
         }
         settle(&mut self.nodes, self.places, self.late);
@@ -80,29 +80,26 @@ impl Winners {
         }
     }
 
-    /// Lets the scores of two places change places.
-    pub fn exchange(&mut self, i: u32, j: u32)
-        requires i { i < length self.old }
-        requires j { j < length self.old }
-        ensures { self.new ≡ swap self.old i j }
+    /// Writes the score of a place where it stands beside the tree. Answers whether it does.
+    #[inline(always)]
+    pub fn amend(&mut self, place: u32, score: u32) -> bool
+        requires { place < length self.old }
+        ensures written { IsTrue result → self.new ≡ slice_set self.old place score }
+        ensures kept { result ≡ false → self.new ≡ self.old }
     {
-        let (first, second) = (self.score(i), self.score(j));
-        self.set(i, second);
-        self.set(j, first);
+        if self.late.place != place {
+            return false;
+        }
+        self.late.score = score;
+        true
     }
 
-    /// The place from `first` to `last` with the highest score, the lowest of several, or `None` where
-    /// each score is 0.
-    pub fn best(&self, first: u32, last: u32) -> Option<u32>
-        requires order { first ≤ last }
-        requires last { last < length self.now }
-        ensures { Wins (slice_index self.now) first last result }
+    /// The entry with the highest score of the places from `first` to below `end`, the lowest of several.
+    pub fn best_between(&self, first: u32, end: u32) -> Entry
+        requires order { first ≤ end }
+        requires within { end ≤ length self.now }
+        ensures { IsRun (slice_index self.now) first end result }
     {
-        let best = best_with(&self.nodes, self.places, self.late, first, last + 1);
-        if best.score == 0 {
-            None
-        } else {
-            Some(best.place)
-        }
+        best_with(&self.nodes, self.places, self.late, first, end)
     }
 }

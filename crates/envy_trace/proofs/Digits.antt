@@ -1,12 +1,15 @@
 -- The value of decimal digits, read from the left.
-use Rattle.std.proofs.Common.{◌≡◌, ℕ, zero, suc, ◌+◌, ◌-◌, ◌*◌, ◌^◌, ◌<◌, ◌≤◌, true, false, IsTrue, List, [], ◌∷◌, length, take, drop, get_or, sym, ap, ◌∙◌, add_assoc, length-take, length-drop, arith}
+use Rattle.std.proofs.Common.{◌≡◌, ℕ, zero, suc, ◌+◌, ◌-◌, ◌*◌, ◌^◌, ◌<◌, ◌≤◌, true, false, not, IsTrue, List, [], ◌∷◌, length, take, drop, get_or, sym, ap, ◌∙◌, add_assoc, length-take, length-drop, arith}
+use Rattle.std.specs.List.{position_or_len}
 use Rattle.std.specs.Char.{digit_value, is_ascii_digit}
 use Rattle.std.specs.Str.{all_ascii_digits}
 use Rattle.std.specs.Str.Parse.{AllDigits, digits_value}
 use Rattle.std.proofs.lemmas.Bool.Decides.{nat_tests}
 use Rattle.std.proofs.lemmas.Int.Digits.{digits_value_more, digits_more}
 use Rattle.std.proofs.lemmas.Str.Parse.{IsNumeralModel, numerals_by_value, tells_all_ascii_digits, digit_at, digits_value-take-le, digits_value_short}
+use Rattle.std.proofs.lemmas.Bool.{cond-true, cond-false}
 use Rattle.std.proofs.lemmas.List.{take_all, get_or-drop}
+use Rattle.envy_trace.specs.Grammar.{is_blank}
 
 pub own : IsNumeralModel (λ ds. all_ascii_digits ds ≡ true) (digits_value 10)
 own = numerals_by_value (λ ds. all_ascii_digits ds ≡ true) tells_all_ascii_digits
@@ -44,6 +47,14 @@ digits_fit bs i lt few e all =
     let below = digits_value_short own (take (i + 1) bs) 19 (own.from (take (i + 1) bs) step.0) short in
     omega (arith, below, step.1)
 
+-- one digit more of the first 19
+pub digits_fit_front : (bs : List ℕ) (i : ℕ) → i < length bs → i < 19 → is_ascii_digit (get_or bs i 0) ≡ true → AllDigits 10 (take i bs) → 10 * digits_value 10 (take i bs) + (get_or bs i 0 - 48) < 2 ^ 64
+digits_fit_front bs i lt few e all =
+    let step = digits_step bs i lt e all in
+    let short : length (take (i + 1) bs) ≤ 19 = omega (arith, few, length-take (i + 1) bs) in
+    let below = digits_value_short own (take (i + 1) bs) 19 (own.from (take (i + 1) bs) step.0) short in
+    omega (arith, below, step.1)
+
 digits_take : (n : ℕ) (bs : List ℕ) → AllDigits 10 bs → AllDigits 10 (take n bs)
 digits_take zero bs all = tt
 digits_take (suc n) [] all = tt
@@ -78,3 +89,17 @@ front_begins bs front n value is few all v =
     let e : n + 0 ≡ n = omega arith in
     let below = digits_value_short own front 19 all few in
     rw (e, ← is) (own.to front all, v, omega (arith, below, v))
+
+-- digits that end at a blank, or with the list
+no_digit_is_blank : (b : ℕ) → 48 ≤ b → is_blank b ≡ false
+no_digit_is_blank b low = grind (arith, nat_tests)
+
+pub run-ends : (bs : List ℕ) (k : ℕ) → AllDigits 10 (take k bs) → k ≤ length bs → (k < length bs → is_blank (get_or bs k 0) ≡ true) → position_or_len is_blank bs ≡ k
+run-ends [] k all le ends = let none : k ≡ 0 = omega (arith, le) in sym none
+run-ends (b ∷ bs) zero all le ends = cond-false _ _ _ (ap not (ends (omega arith)))
+run-ends (b ∷ bs) (suc k) all le ends =
+    let digit = digit_at (b ∷ take k bs) 0 all (omega arith) in
+    let full : is_blank b ≡ false = no_digit_is_blank b digit.0 in
+    let rest : position_or_len is_blank bs ≡ k = run-ends bs k all.1 (omega (arith, le)) (λ lt. ends (omega (arith, lt))) in
+    let one : position_or_len is_blank (b ∷ bs) ≡ 1 + position_or_len is_blank bs = cond-true _ _ _ (ap not full) in
+    omega (arith, one, rest)

@@ -1,12 +1,14 @@
 -- The pieces between blanks, one by one.
-use Rattle.std.proofs.Common.{◌≡◌, ℕ, suc, ◌+◌, ◌<◌, ◌≤◌, Bool, true, false, not, cond, List, [], ◌∷◌, length, take, drop, filter, None, Some, position, unwrap_or, refl, sym, ap, ◌∙◌, subst, ◌⊎◌, inl, inr, arith, nat_lt}
+use Rattle.std.proofs.Common.{◌≡◌, ℕ, suc, ◌+◌, ◌<◌, ◌≤◌, Bool, true, false, not, cond, List, [], ◌∷◌, length, take, drop, get_or, filter, None, Some, position, unwrap_or, refl, sym, ap, ◌∙◌, subst, ◌⊎◌, inl, inr, arith, nat_lt}
 use Rattle.std.specs.List.{slice_split, onto_first, position_or_len}
 use Rattle.std.proofs.lemmas.Bool.{cond-true, cond-false, lt-ltb, ltb-false, ltb-true}
 use Rattle.std.proofs.lemmas.List.{length-drop}
 use Rattle.std.proofs.lemmas.List.Sums.{prefix_len-le-length}
 use Rattle.std.proofs.Math.ListN.{drop_of_length-le}
 use Rattle.std.proofs.lemmas.List.Splits.{slice_split-cons_yes, slice_split-cons_no}
+use Rattle.std.specs.Str.Parse.{AllDigits}
 use Rattle.envy_trace.specs.Grammar.{is_blank, pieces}
+use Rattle.envy_trace.proofs.Digits.{run-ends}
 
 abbrev is_full : List ℕ → Bool
 is_full piece = nat_lt 0 (length piece)
@@ -117,3 +119,10 @@ pieces-some bs n k e f =
         let first = subst (λ (r : List ℕ). pieces r ≡ take (position_or_len is_blank r) r ∷ pieces (drop (position_or_len is_blank r) r)) (sym h.2) (piece h.0 h.1 h.3) in
         let same : k ≡ position_or_len is_blank rest = f ∙ place_or_end (position_or_len is_blank rest) (length rest) (prefix_len-le-length (λ b. not (is_blank b)) rest) in
         subst (λ (i : ℕ). pieces rest ≡ take i rest ∷ pieces (drop i rest)) (sym same) first
+
+-- the first piece begins with digits, behind which a blank stands, or nothing
+pub pieces-digits : (bs rest : List ℕ) (n k : ℕ) → position no_blank bs ≡ Some n → rest ≡ drop n bs → AllDigits 10 (take k rest) → k ≤ length rest → (k < length rest → is_blank (get_or rest k 0) ≡ true) → pieces bs ≡ take k rest ∷ pieces (drop k rest)
+pieces-digits bs rest n k e is all within ends =
+    let ended : position_or_len is_blank (drop n bs) ≡ k = ap (λ (r : List ℕ). position_or_len is_blank r) (sym is) ∙ run-ends rest k all within ends in
+    let found = place_or_end (position_or_len is_blank (drop n bs)) (length (drop n bs)) (prefix_len-le-length (λ b. not (is_blank b)) (drop n bs)) in
+    subst (λ (r : List ℕ). pieces bs ≡ take k r ∷ pieces (drop k r)) (sym is) (pieces-some bs n k e (sym (found ∙ ended)))

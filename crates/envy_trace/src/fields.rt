@@ -45,8 +45,9 @@ pub fn next_field(bytes: &[u8]) -> Option<(&[u8], &[u8])>
     Some(rest.split_at(end))
 }
 
+/// Where the first field starts, if there is one.
 #[inline(always)]
-fn field_start(bytes: &[u8]) -> Option<usize>
+pub fn field_start(bytes: &[u8]) -> Option<usize>
     ensures { result ≡ position (λ byte. not (is_blank byte)) bytes.now }
 {
     bytes.iter().position(|byte| !is_blank(*byte))
@@ -59,8 +60,9 @@ fn field_end(bytes: &[u8]) -> Option<usize>
     bytes.iter().position(|byte| is_blank(*byte))
 }
 
+/// A space or a tab.
 #[inline(always)]
-fn is_blank(byte: u8) -> bool
+pub fn is_blank(byte: u8) -> bool
     ensures { result ≡ is_blank byte }
 {
     byte == b' ' || byte == b'\t'

@@ -1,12 +1,12 @@
-ghost use Rattle.std.specs.Prelude.{◌≡◌, ◌^◌, ◌<◌, ◌≤◌, [], ◌∷◌, length, IsTrue, IfOk, MatchResult};
+ghost use Rattle.std.specs.Prelude.{◌≡◌, ◌^◌, ◌<◌, ◌≤◌, [], ◌∷◌, Ok, Err, if◌then◌else◌, length, slice_index, take, IsTrue, IfOk, IfSome, MatchResult};
 ghost use Rattle.std.specs.Option.{SomeIff};
 ghost use Rattle.std.specs.Str.{all_ascii_digits};
-ghost use Rattle.std.specs.Str.Parse.{digits_value};
-ghost use Rattle.envy_trace.specs.Grammar.{pieces, number_in, none, one, two, three};
+ghost use Rattle.std.specs.Str.Parse.{AllDigits, digits_value};
+ghost use Rattle.envy_trace.specs.Grammar.{is_blank, pieces, lies_in, number_in, none, one, two, three};
 
 use crate::bounds::Bounds;
 use crate::fault::LineFault;
-use crate::fields::next_field;
+use crate::fields::{field_start, is_blank, next_field};
 
 /// So many decimal digits fit 64 bits, whatever they are.
 const SAFE_DIGITS: usize = 19;
@@ -20,6 +20,18 @@ pub fn read_number(field: &[u8], bounds: Bounds) -> Result<u64, LineFault>
     match value(field) {
         Some(n) if !field.is_empty() && bounds.least <= n && n <= bounds.greatest => Ok(n),
         _ => Err(LineFault::Number),
+    }
+}
+
+// A number, where it lies within the bounds.
+#[inline(always)]
+fn within(n: u64, bounds: Bounds) -> Result<u64, LineFault>
+    ensures { result ≡ (if lies_in bounds n then Ok n else Err LineFault.Number) }
+{
+    if bounds.least <= n && n <= bounds.greatest {
+        Ok(n)
+    } else {
+        Err(LineFault::Number)
     }
 }
 
@@ -67,6 +79,71 @@ fn need_field(rest: &[u8]) -> Result<(&[u8], &[u8]), LineFault>
     next_field(rest).ok_or(LineFault::Count)
 }
 
+// The digits that the bytes begin with, at most so many that 64 bits hold them: what they come to, and how many
+// they are.
+#[inline(always)]
+fn front_number(bytes: &[u8]) -> (u64, usize)
+    ensures within { result.1 ≤ length bytes.now }
+    ensures digits { AllDigits 10 (take result.1 bytes.now) }
+    ensures value { result.0 ≡ digits_value 10 (take result.1 bytes.now) }
+{
+    let most = bytes.len().min(SAFE_DIGITS);
+    let (mut value, mut end) = (0, 0);
+    while end < most {
+        let byte = bytes[end];
+        if !byte.is_ascii_digit() {
+            return (value, end);
+        }
+        value = 10 * value + u64::from(byte - b'0');
+        end += 1;
+    }
+    (value, end)
+}
+
+// Whether a field that begins with the bytes ends before one of them, or behind the last.
+#[inline(always)]
+fn ends_at(bytes: &[u8], end: usize) -> bool
+    requires { end ≤ length bytes.now }
+    ensures { IsTrue result → end < length bytes.now → IsTrue (is_blank (slice_index bytes.now end)) }
+{
+    end == bytes.len() || is_blank(bytes[end])
+}
+
+// The first field, where it is a few digits: it, what they come to, and the bytes after it. One pass is made over
+// its bytes.
+#[inline(always)]
+fn short_number(bytes: &[u8]) -> Option<(&[u8], u64, &[u8])>
+    ensures { IfSome result (λ found. (pieces bytes.now ≡ found.0.now ∷ pieces found.2.now)
+        × (0 < length found.0.now) × IsTrue (all_ascii_digits found.0.now)
+        × (found.1 ≡ digits_value 10 found.0.now)) }
+{
+    let start = field_start(bytes)?;
+    let (_, rest) = bytes.split_at(start);
+    let (value, end) = front_number(rest);
+    if end == 0 || !ends_at(rest, end) {
+        return None;
+    }
+    let (field, after) = rest.split_at(end);
+    Some((field, value, after))
+}
+
+// The first field: it, the number that it is within the bounds, or why it is none, and the bytes after it.
+#[inline(always)]
+fn need_number(
+    rest: &[u8],
+    bounds: Bounds,
+) -> Result<(&[u8], Result<u64, LineFault>, &[u8]), LineFault>
+    ensures { MatchResult result
+        (λ found. (pieces rest.now ≡ found.0.now ∷ pieces found.2.now) × (found.1 ≡ number_in bounds found.0.now))
+        (λ fault. (fault ≡ LineFault.Count) × (pieces rest.now ≡ [])) }
+{
+    if let Some((field, value, after)) = short_number(rest) {
+        return Ok((field, within(value, bounds), after));
+    }
+    let (field, after) = need_field(rest)?;
+    Ok((field, read_number(field, bounds), after))
+}
+
 /// Nothing is left. The fault is `Count`.
 #[inline(always)]
 pub fn no_number(rest: &[u8]) -> Result<(), LineFault>
@@ -84,9 +161,9 @@ pub fn one_number(rest: &[u8], bounds: Bounds) -> Result<u64, LineFault>
     ensures value { result ≡ one bounds (λ x. x) (pieces rest.now) }
     ensures within { IfOk result (λ x. x ≤ bounds.greatest) }
 {
-    let (first, rest) = need_field(rest)?;
+    let (_, first, rest) = need_number(rest, bounds)?;
     no_number(rest)?;
-    read_number(first, bounds)
+    first
 }
 
 /// The two numbers that are left. The fault is `Count` or `Number`.
@@ -95,10 +172,10 @@ pub fn two_numbers(rest: &[u8], first: Bounds, second: Bounds) -> Result<(u64, u
     ensures value { result ≡ two first second (λ x y. (x, y)) (pieces rest.now) }
     ensures within { IfOk result (λ p. (p.0 ≤ first.greatest) × (p.1 ≤ second.greatest)) }
 {
-    let (x, rest) = need_field(rest)?;
-    let (y, rest) = need_field(rest)?;
+    let (_, x, rest) = need_number(rest, first)?;
+    let (_, y, rest) = need_number(rest, second)?;
     no_number(rest)?;
-    Ok((read_number(x, first)?, read_number(y, second)?))
+    Ok((x?, y?))
 }
 
 /// The three numbers that are left. The fault is `Count` or `Number`.

@@ -12,4 +12,4 @@ invariant_of-self c =
     let long = i.kept_long in
     let seen : c.index.result.now ≡ get_or c.self.inside.kept.items c.args.segment 0 = read-at c.self.inside.kept.items c.args.segment c.index.result.now (omega arith) c.index.ensures in
     let order_long = i.order_long in
-    IsSpace-filled _ _ _ _ _ _ _ _ _ _ c.args.segment c.args.fill _ c.place_of-place.result (omega arith) (omega arith) seen (omega arith) (omega arith) c.place_of-place.ensures.stands c.self.invariant c.set.ensures c.set-2.ensures c.set-3.ensures
+    IsSpace-filled _ _ _ _ _ _ _ _ _ _ c.args.segment c.args.fill _ c.place_of-place.result (omega arith) (omega arith) seen (omega arith) (omega arith) c.place_of-place.ensures.stands c.self.invariant c.set-3.ensures c.set.ensures c.set-2.ensures

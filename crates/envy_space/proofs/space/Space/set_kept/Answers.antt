@@ -11,4 +11,4 @@ invariant_of-self c =
     let long = i.fills_long in
     let seen : c.index.result.now ≡ get_or c.self.inside.fills.items c.args.segment 0 = read-at c.self.inside.fills.items c.args.segment c.index.result.now (omega arith) c.index.ensures in
     let order_long = i.order_long in
-    IsSpace-kept _ _ _ _ _ _ _ _ _ c.args.segment c.args.kept _ c.place_of-place.result (omega arith) seen (omega arith) (omega arith) c.place_of-place.ensures.stands c.self.invariant c.set.ensures c.set-2.ensures
+    IsSpace-kept _ _ _ _ _ _ _ _ _ c.args.segment c.args.kept _ c.place_of-place.result (omega arith) seen (omega arith) (omega arith) c.place_of-place.ensures.stands c.self.invariant c.set-2.ensures c.set.ensures
