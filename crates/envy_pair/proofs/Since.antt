@@ -13,7 +13,7 @@ use Rattle.envy_trace.specs.declared.mirror_line.MirrorLine.TheVariants.{Array a
 use Rattle.envy_trace.specs.declared.mirror_reply.MirrorReply.{MirrorReply}
 use Rattle.envy_pair.specs.Bills.{Bill}
 use Rattle.envy_pair.specs.MirrorRun.{MirrorTurn, mirror_grammar, before_restart}
-use Rattle.envy_pair.specs.Serving.{Known, Costs, LineDone, LineDead, ObeysMirror, IsServed, Start, MirroredSince, FellSince, sums_since}
+use Rattle.envy_pair.specs.Serving.{Known, Costs, LineDone, LineDead, ObeysMirror, IsMirrorCall, Start, MirroredSince, FellSince, sums_since}
 use Rattle.envy_pair.proofs.Charging.{add_tolls, Charged-trans}
 
 -- a line's bill joins that of the lines before it
@@ -67,23 +67,20 @@ obeys-since start old new side new_side turns line Done sink then_sink t (replie
 obeys-since start old new side new_side turns line WriteFault sink then_sink t (replies, left, done, told) = (replies, joins-done start old new side new_side turns t line replies left done, told)
 obeys-since start old new side new_side turns line Dead sink then_sink t (dead, told) = (before_restart line, joins-dead start old new side turns t line dead, told)
 
--- what the grammar reads may be served
-served : (bytes : List ℕ) (line : MirrorLine) → ReadsMirror bytes line → IsServed line
-served bytes (OfArray Empty) reads = tt
-served bytes (OfArray (Load a)) reads = tt
-served bytes (OfArray (Look a)) reads = tt
-served bytes (OfArray (Store a w)) reads = tt
-served bytes (OfArray Begin) reads = tt
-served bytes (OfArray (Put t a w)) reads = tt
-served bytes (OfArray (Commit t)) reads = tt
-served bytes (OfArray (Abort t)) reads = tt
-served bytes (OfArray Tick) reads = tt
-served bytes (OfArray Power) reads = tt
-served bytes (OfArray (Cut k g)) reads = (ReadsMirror.ranges reads).0
-served bytes (OfArray (Bad k g)) reads = (ReadsMirror.ranges reads).0
-served bytes (OfArray Stat) reads = tt
-served bytes (Side x) reads = let le = ReadsMirror.ranges reads in omega arith
-served bytes Catch reads = tt
-
-pub said-served : (bytes : List ℕ) (line : MirrorLine) → mirror_line_of bytes ≡ Ok line → (mirror_line_of bytes ≡ Ok line) ↔ ReadsMirror bytes line → IsServed line
-said-served bytes line says spells = served bytes line (spells.0 says)
+-- what the grammar reads is one call, where it is neither empty nor `power`
+pub called : (bytes : List ℕ) (line : MirrorLine) → ReadsMirror bytes line → (line ≡ OfArray Empty → ⊥) → (line ≡ OfArray Power → ⊥) → IsMirrorCall line
+called bytes (OfArray Empty) reads full no_cut = full refl
+called bytes (OfArray (Load a)) reads full no_cut = tt
+called bytes (OfArray (Look a)) reads full no_cut = tt
+called bytes (OfArray (Store a w)) reads full no_cut = tt
+called bytes (OfArray Begin) reads full no_cut = tt
+called bytes (OfArray (Put t a w)) reads full no_cut = tt
+called bytes (OfArray (Commit t)) reads full no_cut = tt
+called bytes (OfArray (Abort t)) reads full no_cut = tt
+called bytes (OfArray Tick) reads full no_cut = tt
+called bytes (OfArray Power) reads full no_cut = no_cut refl
+called bytes (OfArray (Cut k g)) reads full no_cut = (ReadsMirror.ranges reads).0
+called bytes (OfArray (Bad k g)) reads full no_cut = (ReadsMirror.ranges reads).0
+called bytes (OfArray Stat) reads full no_cut = tt
+called bytes (Side x) reads full no_cut = let le = ReadsMirror.ranges reads in omega arith
+called bytes Catch reads full no_cut = tt

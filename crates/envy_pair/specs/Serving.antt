@@ -69,12 +69,6 @@ IsMirrorCall (OfArray line) = IsCall line
 IsMirrorCall (Side x) = x < 2
 IsMirrorCall Catch = ⊤
 
--- or it says that power is cut, or nothing
-abbrev pub IsServed : MirrorLine → Type 0
-IsServed (OfArray Empty) = ⊤
-IsServed (OfArray Power) = ⊤
-IsServed line = IsMirrorCall line
-
 -- the sums of one line, in which the sides went Gone so often
 abbrev pub sums_of : MirrorLine → List MirrorReply → ℕ → ℕ → Sums
 sums_of line replies first second = record { lines = 1; powers = one_if (is_power line); plans = one_if (is_plan line); losts = count_of is_lost replies; faults = count_of is_fault replies; first_falls = first; second_falls = second }

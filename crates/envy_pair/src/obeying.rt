@@ -4,7 +4,7 @@ ghost use Rattle.std.specs.Prelude.{◌≡◌, ◌<◌, ◌||◌};
 ghost use Rattle.envy_base.specs.Array.{Array};
 ghost use Rattle.envy_mirror.specs.Mirroring.{Mirrors};
 ghost use Rattle.envy_mirror.specs.Pair.{IsPair, is_good};
-ghost use Rattle.envy_pair.specs.Serving.{Known, Serves, IsMirrorCall, IsServed, ObeysMirror};
+ghost use Rattle.envy_pair.specs.Serving.{Known, Serves, IsMirrorCall, ObeysMirror};
 ghost use Rattle.envy_trace.specs.declared.line.Line.TheVariants.{Power};
 ghost use Rattle.envy_trace.specs.declared.mirror_line.MirrorLine.TheVariants.{Array as OfArray};
 
@@ -14,7 +14,7 @@ use envy_base::Bench;
 use envy_io::{Failed, Sink};
 use envy_mirror::Mirror;
 use envy_serve::Obeyed;
-use envy_trace::{Line, MirrorLine, MirrorReply};
+use envy_trace::{MirrorLine, MirrorReply};
 
 /// Whether some side is Good.
 fn has_good<A: Bench, B: Bench>(mirror: &Mirror<A, B>) -> bool
@@ -25,7 +25,7 @@ fn has_good<A: Bench, B: Bench>(mirror: &Mirror<A, B>) -> bool
 }
 
 /// Cuts the power of the chosen side by hand. Power is asked for where no side is Good then.
-fn obey_power<K: Sink, A: Bench, B: Bench>(
+pub fn obey_power<K: Sink, A: Bench, B: Bench>(
     mirror: &mut Mirror<A, B>,
     side: u8,
     sink: &mut K,
@@ -46,7 +46,7 @@ fn obey_power<K: Sink, A: Bench, B: Bench>(
 }
 
 /// Does a line that is one call, with its replies.
-fn obey_call<K: Sink, A: Bench, B: Bench>(
+pub fn obey_call<K: Sink, A: Bench, B: Bench>(
     mirror: &mut Mirror<A, B>,
     side: &mut u8,
     line: &MirrorLine,
@@ -67,26 +67,5 @@ fn obey_call<K: Sink, A: Bench, B: Bench>(
     match wrote {
         Ok(()) => Obeyed::Done,
         Err(Failed) => Obeyed::WriteFault,
-    }
-}
-
-/// Does a line, with its replies.
-pub fn obey_mirror<K: Sink, A: Bench, B: Bench>(
-    mirror: &mut Mirror<A, B>,
-    side: &mut u8,
-    line: &MirrorLine,
-    sink: &mut K,
-    buffer: &mut PairBuffer,
-) -> Obeyed
-    requires ready { (m : Array) × Mirrors mirror.old m }
-    requires side { side.old < 2 }
-    requires line { IsServed line.now }
-    ensures { (k : Known) → Serves k mirror.old
-        → ObeysMirror k line.now result mirror.old side.old mirror.new side.new (K.drain sink.old) (K.drain sink.new) }
-{
-    match *line {
-        MirrorLine::Array(Line::Empty) => Obeyed::Done,
-        MirrorLine::Array(Line::Power) => obey_power(mirror, *side, sink, buffer),
-        _ => obey_call(mirror, side, line, sink, buffer),
     }
 }

@@ -13,8 +13,8 @@ use Rattle.envy_trace.specs.declared.line.Line.TheVariants.{Empty, Power}
 use Rattle.envy_trace.specs.declared.reply.Reply.{Reply}
 use Rattle.envy_trace.specs.declared.reply.Reply.TheVariants.{Restarted}
 use Rattle.envy_trace.specs.Replies.{reply_bytes}
-use Rattle.envy_run.specs.Calm.{IsCalmReply, IsNoWork, ObeysCalmly, HasDoneCalmly, NeverDies}
-use Rattle.envy_run.specs.Turns.{TraceTurn, Says, Replies, Does, said, trace_grammar}
+use Rattle.envy_run.specs.Calm.{AnswersCalmly, IsCalmReply, IsNoWork, ObeysCalmly, HasDoneCalmly, NeverDies}
+use Rattle.envy_run.specs.Turns.{TraceTurn, Says, Replies, said, trace_grammar}
 use Rattle.envy_serve.specs.Turns.{texts}
 use Rattle.envy_serve.specs.Obeys.{Obeys}
 use Rattle.envy_serve.specs.declared.service.Obeyed.TheVariants.{Done as WasDone, WriteFault as WasCut}
@@ -34,21 +34,14 @@ texts-one : (reply : Reply) → texts trace_grammar (reply ∷ []) ≡ reply_byt
 texts-one reply = append-nil (reply_bytes reply ++ newline ∷ [])
 
 -- a line with one reply
-told-calmly : (m : Array) (line : Line) (reply : Reply) (n : Array) (sink then_sink : Drain) (wrote : Result Unit Failed) → Does IsNoWork m line (reply ∷ []) n → IsCalmReply reply → WritesAll sink (reply_bytes reply ++ newline ∷ []) wrote then_sink → ObeysCalmly m line wrote n sink then_sink
-told-calmly m line reply n sink then_sink (Ok done) does calm (whole, faults, after) =
-    (reply ∷ [], record { does = does; calm = (calm, tt) }, record { whole = whole ∙ ap (with_end sink.written) (sym (texts-one reply)); faults = faults })
-told-calmly m line reply n sink then_sink (Err failed) does calm (count, lt, front, faults) =
-    (reply ∷ [], record { does = does; calm = (calm, tt) }, record { count = count; front = front ∙ ap (λ (t : List ℕ). with_end sink.written (take count t)) (sym (texts-one reply)); faults = faults })
+pub told-calmly : (m : Array) (line : Line) (reply as_said : Reply) (n : Array) (sink then_sink : Drain) (wrote : Result Unit Failed) → reply ≡ as_said → AnswersCalmly m line (as_said ∷ []) n → WritesAll sink (reply_bytes reply ++ newline ∷ []) wrote then_sink → ObeysCalmly m line wrote n sink then_sink
+told-calmly m line reply as_said n sink then_sink (Ok done) is answers (whole, faults, after) =
+    (reply ∷ [], subst (λ (r : Reply). AnswersCalmly m line (r ∷ []) n) (sym is) answers, record { whole = whole ∙ ap (with_end sink.written) (sym (texts-one reply)); faults = faults })
+told-calmly m line reply as_said n sink then_sink (Err failed) is answers (count, lt, front, faults) =
+    (reply ∷ [], subst (λ (r : Reply). AnswersCalmly m line (r ∷ []) n) (sym is) answers, record { count = count; front = front ∙ ap (λ (t : List ℕ). with_end sink.written (take count t)) (sym (texts-one reply)); faults = faults })
 
-pub replied-calmly : (m : Array) (line : Line) (reply as_said : Reply) (n : Array) (sink then_sink : Drain) (wrote : Result Unit Failed) → reply ≡ as_said → Replies IsNoWork m line as_said n × IsCalmReply as_said → WritesAll sink (reply_bytes reply ++ newline ∷ []) wrote then_sink → ObeysCalmly m line wrote n sink then_sink
-replied-calmly m line reply as_said n sink then_sink wrote is (replies, calm) writes =
-    told-calmly m line reply n sink then_sink wrote (inr (inl (reply, refl, subst (λ (r : Reply). Replies IsNoWork m line r n) (sym is) replies))) (subst (λ (r : Reply). IsCalmReply r) (sym is) calm) writes
-
-pub restarted_calmly : (m : Array) (line : Line) (n : Array) (sink then_sink : Drain) (wrote : Result Unit Failed) → line ≡ Power → n ≡ restarted m → WritesAll sink (reply_bytes Restarted ++ newline ∷ []) wrote then_sink → ObeysCalmly m line wrote n sink then_sink
-restarted_calmly m line n sink then_sink wrote is left writes = told-calmly m line Restarted n sink then_sink wrote (inr (inr (inr (is, refl, left)))) tt writes
-
-pub empty-calmly : (m : Array) (line : Line) (sink : Drain) → line ≡ Empty → ObeysCalmly m line (Ok tt) m sink sink
-empty-calmly m line sink is = ([], record { does = inl (is, refl, refl); calm = tt }, record { whole = sym (with_end-nil sink.written); faults = omega arith })
+pub empty-calmly : (m : Array) (line : Line) (n : Array) (sink : Drain) → AnswersCalmly m line [] n → ObeysCalmly m line (Ok tt) n sink sink
+empty-calmly m line n sink answers = ([], answers, record { whole = sym (with_end-nil sink.written); faults = omega arith })
 
 -- the turn joins the others
 pub calm-done : (start old new : Array) (turns : List TraceTurn) (line : Line) (sink then_sink : Drain) → HasDoneCalmly start old turns → ObeysCalmly old line (Ok tt) new sink then_sink → Obeys WasDone trace_grammar (HasDoneCalmly start new) NeverDies turns line sink then_sink
@@ -57,6 +50,17 @@ calm-done start old new turns line sink then_sink did (replies, answers, told) =
 pub calm-cut : (start old new : Array) (turns : List TraceTurn) (line : Line) (failed : Failed) (sink then_sink : Drain) → HasDoneCalmly start old turns → ObeysCalmly old line (Err failed) new sink then_sink → Obeys WasCut trace_grammar (HasDoneCalmly start new) NeverDies turns line sink then_sink
 calm-cut start old new turns line failed sink then_sink did (replies, answers, told) = (replies, (old, did, answers), told)
 
+-- a line with one reply that is calm, where the line is this one
+pub replies-calmly : (m : Array) (line at : Line) (reply : Reply) (n : Array) → line ≡ at → Replies IsNoWork m at reply n → IsCalmReply reply → AnswersCalmly m line (reply ∷ []) n
+replies-calmly m line at reply n is replies calm =
+    subst (λ (l : Line). AnswersCalmly m l (reply ∷ []) n) (sym is) (record { does = inr (inl (reply, refl, replies)); calm = (calm, tt) })
+
+pub empty-answers : (m : Array) (line : Line) → line ≡ Empty → AnswersCalmly m line [] m
+empty-answers m line is = record { does = inl (is, refl, refl); calm = tt }
+
+pub power-answers : (m : Array) (line : Line) (n : Array) → line ≡ Power → n ≡ restarted m → AnswersCalmly m line (Restarted ∷ []) n
+power-answers m line n is left = record { does = inr (inr (inr (is, refl, left))); calm = (tt, tt) }
+
 -- the answer of a call of the plain machine, where the line is the command
-pub says-calmly : (m : Array) (line at : Line) (command : Command) (answer : Answer) (n : Array) → line ≡ at → (Says m command (said answer) n → Replies IsNoWork m at (said answer) n) → Step m command answer n → Replies IsNoWork m line (said answer) n × IsCalmReply (said answer)
-says-calmly m line at command answer n is reply step = (subst (λ (l : Line). Replies IsNoWork m l (said answer) n) (sym is) (reply (answer, step, refl)), said-calm answer)
+pub says-calmly : (m : Array) (line at : Line) (command : Command) (answer : Answer) (n : Array) → line ≡ at → (Says m command (said answer) n → Replies IsNoWork m at (said answer) n) → Step m command answer n → AnswersCalmly m line (said answer ∷ []) n
+says-calmly m line at command answer n is reply step = replies-calmly m line at (said answer) n is (reply (answer, step, refl)) (said-calm answer)

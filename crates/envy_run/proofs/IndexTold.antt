@@ -11,7 +11,7 @@ use Rattle.envy_base.specs.declared.shape.Shape.{Shape}
 use Rattle.envy_btree.specs.Grammar.{index_line_of}
 use Rattle.envy_btree.specs.Index.{IsIndex}
 use Rattle.envy_btree.specs.Replies.{index_bytes}
-use Rattle.envy_btree.specs.Spelling.{ReadsIndex}
+use Rattle.envy_btree.specs.Spelling.{IsIndexLine, ReadsIndex}
 use Rattle.envy_btree.proofs.Readiness.{zeros-index}
 use Rattle.envy_btree.specs.declared.line.IndexLine.{IndexLine}
 use Rattle.envy_btree.specs.declared.line.IndexLine.TheVariants.{Empty, Get, Insert, Remove, Power, Cut, Bad}
@@ -46,8 +46,8 @@ use Rattle.envy_serve.proofs.Advancing.{Serves-as, served-either}
 use Rattle.envy_run.specs.Done.{OnBoard}
 use Rattle.envy_run.specs.Headline.{index_task}
 use Rattle.envy_run.specs.IndexDone.{HoldsIndex, HoldsIndexOff, IndexDies, IndexLicences}
-use Rattle.envy_run.specs.IndexServing.{Serving, IsIndexCall, IsIndexServed, LostAt, AnswersIndex, ReplyLicence, LineLicence, IndexOff, IndexBack, RecoversIndex, IndexLineDone, IndexLineDead, ObeysIndex, IndexLicensed, IndexedSince, FellIn, FellSince}
-use Rattle.envy_run.specs.IndexTurns.{Pairs, IndexTurn, IndexRun, Says, Faults, DoesIndex, FailsIn, index_grammar, most_of, before_restart, is_power, is_plan, is_lost, is_fault}
+use Rattle.envy_run.specs.IndexServing.{Serving, LostAt, AnswersIndex, ReplyLicence, LineLicence, IndexOff, IndexBack, RecoversIndex, IndexLineDone, IndexLineDead, ObeysIndex, IndexLicensed, IndexedSince, FellIn, FellSince}
+use Rattle.envy_run.specs.IndexTurns.{Pairs, IndexTurn, IndexRun, Says, Faults, Loses, DoesIndex, is_command, FailsIn, index_grammar, most_of, before_restart, is_power, is_plan, is_lost, is_fault}
 use Rattle.envy_run.specs.Licence.{Licence}
 use Rattle.envy_run.specs.Outcome.{Outcome, ending_of, outcome_of}
 use Rattle.envy_run.specs.Prepares.{IsPrepared, IsReady, NoneBegun, WasMade}
@@ -61,14 +61,26 @@ use Rattle.envy_run.proofs.Replying.{Licence-refl}
 texts-one : (reply : IndexReply) → texts index_grammar (reply ∷ []) ≡ index_bytes reply ++ newline ∷ []
 texts-one reply = append-nil (index_bytes reply ++ newline ∷ [])
 
-no-power : (line : IndexLine) → IsIndexCall line → (is_power line ≡ false) × (before_restart line ≡ Lost ∷ [])
-no-power Empty call = absurd call
-no-power (Get key) call = (refl, refl)
-no-power (Insert key value) call = (refl, refl)
-no-power (Remove key) call = (refl, refl)
-no-power Power call = absurd call
-no-power (Cut k g) call = (refl, refl)
-no-power (Bad k g) call = (refl, refl)
+-- what the map answers is no reply to a line `power`
+says-no-power : (most : ℕ) (es : Pairs) (line : IndexLine) (reply : IndexReply) (n : Pairs) → Says most es line reply n ⊎ Faults most es line reply n → is_power line ≡ false
+says-no-power most es Empty reply n says = refl
+says-no-power most es (Get key) reply n says = refl
+says-no-power most es (Insert key value) reply n says = refl
+says-no-power most es (Remove key) reply n says = refl
+says-no-power most es Power reply n (inl never) = absurd never
+says-no-power most es Power reply n (inr never) = absurd never
+says-no-power most es (Cut k g) reply n says = refl
+says-no-power most es (Bad k g) reply n says = refl
+
+-- nor is power lost in one
+lost-no-power : (line : IndexLine) → IsTrue (is_command line) → (is_power line ≡ false) × (before_restart line ≡ Lost ∷ [])
+lost-no-power Empty command = (refl, refl)
+lost-no-power (Get key) command = (refl, refl)
+lost-no-power (Insert key value) command = (refl, refl)
+lost-no-power (Remove key) command = (refl, refl)
+lost-no-power Power command = absurd (let never : false ≡ true = command in cc)
+lost-no-power (Cut k g) command = (refl, refl)
+lost-no-power (Bad k g) command = (refl, refl)
 
 -- ---- restarts
 
@@ -95,8 +107,8 @@ back-after a b c begun x kept on shut = record { on = on; shut = and-shut c.char
 
 -- ---- one line
 
-one-line : (most : ℕ) (es : Pairs) (line : IndexLine) (reply : IndexReply) (old : Chart) (new : Picture) (begun : Bool) → IsIndexCall line → IsTrue new.chart.on → AnswersIndex most es line reply new begun → ReplyLicence line reply old new.chart → (left : Pairs) × IndexLineDone most es line (reply ∷ []) left old new begun
-one-line most es line reply old new begun call on answers licence = at reply answers licence
+one-line : (most : ℕ) (es : Pairs) (line : IndexLine) (reply : IndexReply) (old : Chart) (new : Picture) (begun : Bool) → IsTrue new.chart.on → AnswersIndex most es line reply new begun → ReplyLicence line reply old new.chart → (left : Pairs) × IndexLineDone most es line (reply ∷ []) left old new begun
+one-line most es line reply old new begun on answers licence = at reply answers licence
   where
     so : (reply : IndexReply) → (n : Pairs) × (Says most es line reply n ⊎ Faults most es line reply n) × Serving new begun n → ReplyLicence line reply old new.chart → (left : Pairs) × IndexLineDone most es line (reply ∷ []) left old new begun
     so reply (n, says, serving) x = (
@@ -104,7 +116,7 @@ one-line most es line reply old new begun call on answers licence = at reply ans
       record {
         does = inr (inl (reply, refl, says));
         serving = serving;
-        licensed = Licence-as 0 (one_if (is_plan line)) (one_if (is_lost reply)) (one_if (is_fault reply)) (one_if (is_power line)) (one_if (is_plan line)) (one_if (is_lost reply) + 0) (one_if (is_fault reply) + 0) old new.chart (sym (ap one_if (no-power line call).0)) refl (one-more (one_if (is_lost reply))) (one-more (one_if (is_fault reply))) x;
+        licensed = Licence-as 0 (one_if (is_plan line)) (one_if (is_lost reply)) (one_if (is_fault reply)) (one_if (is_power line)) (one_if (is_plan line)) (one_if (is_lost reply) + 0) (one_if (is_fault reply) + 0) old new.chart (sym (ap one_if (says-no-power most es line reply n says))) refl (one-more (one_if (is_lost reply))) (one-more (one_if (is_fault reply))) x;
       },
     )
 
@@ -127,14 +139,18 @@ lit-after most es line Lost new begun other a = absurd (other refl)
 lit-after most es line Restarted new begun other (n, says, s) = Serving.on s
 lit-after most es line Armed new begun other (n, says, s) = Serving.on s
 
-pub index-done : (most : ℕ) (es : Pairs) (line : IndexLine) (reply : IndexReply) (old : Chart) (new : Picture) (begun : Bool) (sink then_sink : Drain) → IsIndexCall line → (reply ≡ Lost → ⊥) → AnswersIndex most es line reply new begun → ReplyLicence line reply old new.chart → WritesAll sink (index_bytes reply ++ newline ∷ []) (Ok tt) then_sink → ObeysIndex most es line Done old new begun sink then_sink
-index-done most es line reply old new begun sink then_sink call other a x (whole, faults, after) =
-    let (left, done) = one-line most es line reply old new begun call (lit-after most es line reply new begun other a) a x in
+-- power is off behind a call that lost it
+pub lost-off : (most : ℕ) (es : Pairs) (line : IndexLine) (reply : IndexReply) (new : Picture) (begun : Bool) → AnswersIndex most es line reply new begun → reply ≡ Lost → new.chart.on ≡ false
+lost-off most es line reply new begun answers is = LostAt.off (subst (λ (r : IndexReply). AnswersIndex most es line r new begun) is answers)
+
+pub index-done : (most : ℕ) (es : Pairs) (line : IndexLine) (reply : IndexReply) (old : Chart) (new : Picture) (begun : Bool) (sink then_sink : Drain) → (reply ≡ Lost → ⊥) → AnswersIndex most es line reply new begun → ReplyLicence line reply old new.chart → WritesAll sink (index_bytes reply ++ newline ∷ []) (Ok tt) then_sink → ObeysIndex most es line Done old new begun sink then_sink
+index-done most es line reply old new begun sink then_sink other a x (whole, faults, after) =
+    let (left, done) = one-line most es line reply old new begun (lit-after most es line reply new begun other a) a x in
     (reply ∷ [], left, done, record { whole = whole ∙ ap (with_end sink.written) (sym (texts-one reply)); faults = faults })
 
-pub index-failed : (most : ℕ) (es : Pairs) (line : IndexLine) (reply : IndexReply) (old : Chart) (new : Picture) (begun : Bool) (sink then_sink : Drain) (failed : Failed) → IsIndexCall line → (reply ≡ Lost → ⊥) → AnswersIndex most es line reply new begun → ReplyLicence line reply old new.chart → WritesAll sink (index_bytes reply ++ newline ∷ []) (Err failed) then_sink → ObeysIndex most es line WriteFault old new begun sink then_sink
-index-failed most es line reply old new begun sink then_sink failed call other a x (n, lt, front, faults) =
-    let (left, done) = one-line most es line reply old new begun call (lit-after most es line reply new begun other a) a x in
+pub index-failed : (most : ℕ) (es : Pairs) (line : IndexLine) (reply : IndexReply) (old : Chart) (new : Picture) (begun : Bool) (sink then_sink : Drain) (failed : Failed) → (reply ≡ Lost → ⊥) → AnswersIndex most es line reply new begun → ReplyLicence line reply old new.chart → WritesAll sink (index_bytes reply ++ newline ∷ []) (Err failed) then_sink → ObeysIndex most es line WriteFault old new begun sink then_sink
+index-failed most es line reply old new begun sink then_sink failed other a x (n, lt, front, faults) =
+    let (left, done) = one-line most es line reply old new begun (lit-after most es line reply new begun other a) a x in
     (reply ∷ [], left, done, record { count = n; front = front ∙ ap (λ (t : List ℕ). with_end sink.written (take n t)) (sym (texts-one reply)); faults = faults })
 
 -- what stays while power is off
@@ -150,25 +166,28 @@ back-serving es old c new begun stays back map =
     let size = stays.size in
     record { on = back.on; shut = back.shut; room = omega arith; size = omega arith; map = subst (λ (ws : List ℕ). IsIndex ws es) (sym back.durable) map }
 
-pub index-recovers : (most : ℕ) (es : Pairs) (line : IndexLine) (reply : IndexReply) (old c : Chart) (new : Picture) (b begun : Bool) (p : Picture) (sink mid_sink then_sink : Drain) (wrote : Result Unit Failed) (obeyed : Obeyed) → p.chart ≡ c → IsIndexCall line → Stays es old c → reply ≡ Lost → AnswersIndex most es line reply p b → ReplyLicence line reply old c → WritesAll sink (index_bytes reply ++ newline ∷ []) wrote mid_sink → RecoversIndex wrote obeyed c new begun mid_sink then_sink → ObeysIndex most es line obeyed old new begun sink then_sink
-index-recovers most es line reply old c new b begun p sink mid_sink then_sink wrote obeyed same call stays is a x writes recovers =
+pub index-recovers : (most : ℕ) (es : Pairs) (line : IndexLine) (reply : IndexReply) (old c : Chart) (new : Picture) (b begun : Bool) (p : Picture) (sink mid_sink then_sink : Drain) (wrote : Result Unit Failed) (obeyed : Obeyed) → p.chart ≡ c → Stays es old c → reply ≡ Lost → AnswersIndex most es line reply p b → ReplyLicence line reply old c → WritesAll sink (index_bytes reply ++ newline ∷ []) wrote mid_sink → RecoversIndex wrote obeyed c new begun mid_sink then_sink → ObeysIndex most es line obeyed old new begun sink then_sink
+index-recovers most es line reply old c new b begun p sink mid_sink then_sink wrote obeyed same stays is a x writes recovers =
     lost-so (subst (λ (d : Chart). LostAt most es line d) same (subst (λ (r : IndexReply). AnswersIndex most es line r p b) is a)) (subst (λ (r : IndexReply). ReplyLicence line r old c) is x) wrote obeyed (subst (λ (r : IndexReply). WritesAll sink (index_bytes r ++ newline ∷ []) wrote mid_sink) is writes) recovers
   where
     first : List ℕ
     first = index_bytes Lost ++ newline ∷ []
 
-    licensed-one : ReplyLicence line Lost old c → Licence 0 0 0 0 c new.chart → LineLicence line (Lost ∷ []) old new.chart
-    licensed-one y z = Licence-as 0 (one_if (is_plan line) + 0) 1 0 (one_if (is_power line)) (one_if (is_plan line)) 1 0 old new.chart (sym (ap one_if (no-power line call).0)) (sym (one-more (one_if (is_plan line)))) refl refl (Licence-trans 0 (one_if (is_plan line)) 1 0 0 0 0 0 old c new.chart y z)
+    no-power : LostAt most es line c → (is_power line ≡ false) × (before_restart line ≡ Lost ∷ [])
+    no-power l = lost-no-power line (Loses.command (LostAt.loses l))
+
+    licensed-one : LostAt most es line c → ReplyLicence line Lost old c → Licence 0 0 0 0 c new.chart → LineLicence line (Lost ∷ []) old new.chart
+    licensed-one l y z = Licence-as 0 (one_if (is_plan line) + 0) 1 0 (one_if (is_power line)) (one_if (is_plan line)) 1 0 old new.chart (sym (ap one_if (no-power l).0)) (sym (one-more (one_if (is_plan line)))) refl refl (Licence-trans 0 (one_if (is_plan line)) 1 0 0 0 0 0 old c new.chart y z)
 
     done-both : ReplyLicence line Lost old c → (l : LostAt most es line c) → IndexBack c new begun → IndexLineDone most es line (Lost ∷ Restarted ∷ []) (LostAt.left l) old new begun
-    done-both y l back = record { does = inr (inr (inl (refl, LostAt.loses l))); serving = back-serving (LostAt.left l) old c new begun (record { room = stays.room; size = stays.size }) back (LostAt.map l); licensed = licensed-one y back.licence }
+    done-both y l back = record { does = inr (inr (inl (refl, LostAt.loses l))); serving = back-serving (LostAt.left l) old c new begun (record { room = stays.room; size = stays.size }) back (LostAt.map l); licensed = licensed-one l y back.licence }
 
     dead-so : ReplyLicence line Lost old c → LostAt most es line c → IndexOff c new.chart → new.chart.lives ≡ 0 → IndexLineDead most es line old new.chart
     dead-so y l off dead = record {
       off = off.off;
       dead = dead;
       found = (LostAt.left l, inl (LostAt.loses l), subst (λ (ws : List ℕ). IsIndex ws (LostAt.left l)) (sym off.durable) (LostAt.map l));
-      licensed = subst (λ (rs : List IndexReply). LineLicence line rs old new.chart) (sym (no-power line call).1) (licensed-one y off.licence);
+      licensed = subst (λ (rs : List IndexReply). LineLicence line rs old new.chart) (sym (no-power l).1) (licensed-one l y off.licence);
     }
 
     lost-so : LostAt most es line c → ReplyLicence line Lost old c → (wrote : Result Unit Failed) (obeyed : Obeyed) → WritesAll sink first wrote mid_sink → RecoversIndex wrote obeyed c new begun mid_sink then_sink → ObeysIndex most es line obeyed old new begun sink then_sink
@@ -182,9 +201,9 @@ index-recovers most es line reply old c new b begun p sink mid_sink then_sink wr
         (Lost ∷ Restarted ∷ [], LostAt.left l, done-both y l back, front-before sink then_sink first (texts index_grammar (Restarted ∷ [])) n lt (ap (λ (d : Drain). d.written) kept ∙ front) (subst (λ (d : Drain). Rises sink.faults d.faults) (sym kept) faults))
     lost-so l y (Err failed) WriteFault writes_all (back, inr (ok, part)) = absurd (let never = ok in cc)
     lost-so l y (Ok done) Dead (whole, faults, after) (off, dead, kept) =
-        (dead-so y l off dead, inl (subst (λ (rs : List IndexReply). Written (texts index_grammar rs) sink then_sink) (sym (no-power line call).1) (subst (λ (d : Drain). Written (texts index_grammar (Lost ∷ [])) sink d) (sym kept) (record { whole = whole ∙ ap (with_end sink.written) (sym (texts-one Lost)); faults = faults }))))
+        (dead-so y l off dead, inl (subst (λ (rs : List IndexReply). Written (texts index_grammar rs) sink then_sink) (sym (no-power l).1) (subst (λ (d : Drain). Written (texts index_grammar (Lost ∷ [])) sink d) (sym kept) (record { whole = whole ∙ ap (with_end sink.written) (sym (texts-one Lost)); faults = faults }))))
     lost-so l y (Err failed) Dead (n, lt, front, faults) (off, dead, kept) =
-        (dead-so y l off dead, inr (subst (λ (rs : List IndexReply). FrontWritten (texts index_grammar rs) sink then_sink) (sym (no-power line call).1) (subst (λ (d : Drain). FrontWritten (texts index_grammar (Lost ∷ [])) sink d) (sym kept) (record { count = n; front = front ∙ ap (λ (t : List ℕ). with_end sink.written (take n t)) (sym (texts-one Lost)); faults = faults }))))
+        (dead-so y l off dead, inr (subst (λ (rs : List IndexReply). FrontWritten (texts index_grammar rs) sink then_sink) (sym (no-power l).1) (subst (λ (d : Drain). FrontWritten (texts index_grammar (Lost ∷ [])) sink d) (sym kept) (record { count = n; front = front ∙ ap (λ (t : List ℕ). with_end sink.written (take n t)) (sym (texts-one Lost)); faults = faults }))))
 
 pub index-power : (most : ℕ) (es : Pairs) (p c new : Picture) (b begun : Bool) (sink then_sink : Drain) (obeyed : Obeyed) → Serving p b es → c ≡ record p { chart = pulled p.chart } → RecoversIndex (Ok tt) obeyed c.chart new begun sink then_sink → ObeysIndex most es Power obeyed p.chart new begun sink then_sink
 index-power most es p c new b begun sink then_sink obeyed s is recovers = at obeyed recovers
@@ -222,18 +241,9 @@ pub index-empty : (most : ℕ) (es : Pairs) (line : IndexLine) (p : Picture) (b 
 index-empty most es line p b sink is s = subst (λ (l : IndexLine). ObeysIndex most es l Done p.chart p b sink sink) (sym is)
     ([], es, record { does = inl (refl, refl, refl); serving = s; licensed = Licence-refl p.chart }, record { whole = sym (with_end-nil sink.written); faults = omega arith })
 
--- what the grammar reads may be served
-index-served : (bytes : List ℕ) (line : IndexLine) → ReadsIndex bytes line → IsIndexServed line
-index-served bytes Empty reads = tt
-index-served bytes (Get key) reads = tt
-index-served bytes (Insert key value) reads = tt
-index-served bytes (Remove key) reads = tt
-index-served bytes Power reads = tt
-index-served bytes (Cut k g) reads = (ReadsIndex.ranges reads).0
-index-served bytes (Bad k g) reads = (ReadsIndex.ranges reads).0
-
-pub said-served : (bytes : List ℕ) (line : IndexLine) → index_line_of bytes ≡ Ok line → (index_line_of bytes ≡ Ok line) ↔ ReadsIndex bytes line → IsIndexServed line
-said-served bytes line says spells = index-served bytes line (spells.0 says)
+-- what the grammar reads has its ranges
+pub said-ranges : (bytes : List ℕ) (line : IndexLine) → index_line_of bytes ≡ Ok line → (index_line_of bytes ≡ Ok line) ↔ ReadsIndex bytes line → IsIndexLine line
+said-ranges bytes line says spells = ReadsIndex.ranges (spells.0 says)
 
 -- ---- turns
 

@@ -30,7 +30,7 @@ use Rattle.envy_trace.specs.Replies.{reply_bytes}
 use Rattle.envy_serve.specs.declared.service.Obeyed.{Obeyed}
 use Rattle.envy_serve.specs.declared.service.Obeyed.TheVariants.{Done, WriteFault, Dead}
 use Rattle.envy_trace.specs.Spelling.{Reads}
-use Rattle.envy_run.specs.Answers.{IsCall, IsServed, AnswersTo, AnswerLicence, LosesIn}
+use Rattle.envy_run.specs.Answers.{IsCall, AnswersTo, AnswerLicence, LosesIn}
 use Rattle.envy_run.specs.Below.{WorksOf}
 use Rattle.envy_run.specs.Licence.{Licence}
 use Rattle.envy_run.specs.Obeys.{ObeysLine, Licensed, LineDone, LineDead}
@@ -317,18 +317,18 @@ pub empty-done : (May : Counts → Type 0) (m : Array) (line : Line) (c : Pictur
 empty-done May m line c sink is stood = subst (λ (l : Line). ObeysLine May m l Done c c sink sink) (sym is)
     ([], m, record { does = inl (refl, refl, refl); stands = stood; licensed = Licence-refl c.chart; spent = spends-none 0 0 c.chart c.chart refl refl; notes = notes-empty c }, record { whole = sym (with_end-nil sink.written); faults = omega arith })
 
--- what the grammar reads may be served
-pub served : (bytes : List ℕ) (line : Line) → Reads bytes line → IsServed line
-served bytes EmptyLine reads = tt
-served bytes (LoadLine a) reads = tt
-served bytes (LookLine a) reads = tt
-served bytes (StoreLine a w) reads = tt
-served bytes BeginLine reads = tt
-served bytes (PutLine t a w) reads = tt
-served bytes (CommitLine t) reads = tt
-served bytes (AbortLine t) reads = tt
-served bytes TickLine reads = tt
-served bytes PowerLine reads = tt
-served bytes (CutLine k g) reads = (Reads.ranges reads).0
-served bytes (BadLine k g) reads = (Reads.ranges reads).0
-served bytes StatLine reads = tt
+-- what the grammar reads is a call, where it is neither empty nor `power`
+pub called : (bytes : List ℕ) (line : Line) → Reads bytes line → (line ≡ EmptyLine → ⊥) → (line ≡ PowerLine → ⊥) → IsCall line
+called bytes EmptyLine reads full no_cut = full refl
+called bytes (LoadLine a) reads full no_cut = tt
+called bytes (LookLine a) reads full no_cut = tt
+called bytes (StoreLine a w) reads full no_cut = tt
+called bytes BeginLine reads full no_cut = tt
+called bytes (PutLine t a w) reads full no_cut = tt
+called bytes (CommitLine t) reads full no_cut = tt
+called bytes (AbortLine t) reads full no_cut = tt
+called bytes TickLine reads full no_cut = tt
+called bytes PowerLine reads full no_cut = no_cut refl
+called bytes (CutLine k g) reads full no_cut = (Reads.ranges reads).0
+called bytes (BadLine k g) reads full no_cut = (Reads.ranges reads).0
+called bytes StatLine reads full no_cut = tt

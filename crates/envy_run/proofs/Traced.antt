@@ -36,7 +36,6 @@ use Rattle.envy_serve.specs.Obeys.{Obeys}
 use Rattle.envy_serve.specs.Streams.{Streams}
 use Rattle.envy_serve.specs.Turns.{Turn, count_lines, count_of, count_replies, one_if}
 use Rattle.envy_serve.proofs.Advancing.{Serves-as, served-either}
-use Rattle.envy_run.specs.Answers.{IsServed as MayServe}
 use Rattle.envy_run.specs.Done.{Run, Dies, DiesIn, HoldsOff, OnBoard}
 use Rattle.envy_run.specs.Headline.{Licences, run_task, zeros_of}
 use Rattle.envy_run.specs.Task.{DoesTask}
@@ -54,13 +53,9 @@ use Rattle.envy_run.specs.Tracing.{Start, HasDone, LicensedTurns, SpentSince, Tr
 use Rattle.envy_run.specs.Turns.{TraceTurn, Does, trace_grammar, is_power, is_plan, is_lost, is_fault, FailsIn, before_restart}
 use Rattle.envy_run.proofs.Accounts.{account_of, served_outcome, unread}
 use Rattle.envy_run.proofs.Hitting.{telling-more}
-use Rattle.envy_run.proofs.Obeying.{served}
 use Rattle.envy_run.proofs.Recovering.{Licence-trans}
 use Rattle.envy_run.proofs.Replying.{Licence-refl}
 use Rattle.envy_run.proofs.Spent.{spends-none, spends-trans}
-
-pub said-served : (bytes : List ℕ) (line : Line) → line_of bytes ≡ Ok line → (line_of bytes ≡ Ok line) ↔ Reads bytes line → MayServe line
-said-served bytes line says spells = served bytes line (spells.0 says)
 
 -- a line began what it may
 spent-more : (start : Start) (old new : Picture) (turns : List TraceTurn) (line : Line) → SpentSince start old turns → old.chart.shape ≡ start.memory.chart.shape → Spends (programs_of old.chart.shape.rows line) (erases_of line) old.chart new.chart → Spends (programs_in start.memory.chart.shape.rows turns + programs_of start.memory.chart.shape.rows line) (erases_in turns + erases_of line) start.memory.chart new.chart

@@ -29,12 +29,6 @@ IsBoardCall (Cut k g) = ⊥
 IsBoardCall (Bad k g) = ⊥
 IsBoardCall line = ⊤
 
--- or it says that power is cut, or nothing
-abbrev pub IsServed : Line → Type 0
-IsServed Empty = ⊤
-IsServed Power = ⊤
-IsServed line = IsCall line
-
 -- power failed in the line
 pub record LosesIn (m : Array) (line : Line) (new : Chart) : Type 0 where
   pub command : Command

@@ -1,5 +1,5 @@
 -- What the plain machine answers: it has no power that fails, no flash operations, and no work to count.
-use Rattle.std.specs.Prelude.{◌≡◌, ⊤, List, Result, Ok, Err}
+use Rattle.std.specs.Prelude.{◌≡◌, ⊤, List, [], ◌∷◌, Option, None, Some, Result, Ok, Err}
 use Rattle.std.specs.List.{AllByRecursion}
 use Rattle.envy_base.specs.Array.{Array}
 use Rattle.envy_base.specs.declared.counts.Counts.{Counts}
@@ -8,7 +8,6 @@ use Rattle.envy_io.specs.Streams.{Drain}
 use Rattle.envy_serve.specs.Streams.{Written, FrontWritten}
 use Rattle.envy_serve.specs.Turns.{Leads, texts}
 use Rattle.envy_trace.specs.declared.line.Line.{Line}
-use Rattle.envy_trace.specs.declared.line.Line.TheVariants.{Empty, Power}
 use Rattle.envy_trace.specs.declared.reply.Reply.{Reply}
 use Rattle.envy_trace.specs.declared.reply.Reply.TheVariants.{Fault, Lost}
 use Rattle.envy_run.specs.Turns.{TraceTurn, Does, trace_grammar}
@@ -39,11 +38,10 @@ HasDoneCalmly first now turns = Leads (λ earlier. AnswersCalmly) first turns no
 abbrev pub NeverDies : List TraceTurn → Type 0
 NeverDies turns = ⊥
 
--- the line is neither empty nor `power`
-abbrev pub IsCommand : Line → Type 0
-IsCommand Empty = ⊥
-IsCommand Power = ⊥
-IsCommand line = ⊤
+-- the replies to a line that has one or none
+abbrev pub listed : Option Reply → List Reply
+listed None = []
+listed (Some reply) = reply ∷ []
 
 -- it does the line, and its replies are written, or a front of them
 abbrev pub ObeysCalmly : Array → Line → Result Unit Failed → Array → Drain → Drain → Type 0

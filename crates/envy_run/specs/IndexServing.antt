@@ -29,20 +29,6 @@ pub record Serving (p : Picture) (begun : Bool) (es : Pairs) : Type 0 where
   pub size : 32 * p.chart.shape.pages ≤ 2 ^ 25
   pub map : IsIndex (durable p.chart) es
 
--- the line is one call
-abbrev pub IsIndexCall : IndexLine → Type 0
-IsIndexCall Empty = ⊥
-IsIndexCall Power = ⊥
-IsIndexCall (Cut k g) = 1 ≤ k
-IsIndexCall (Bad k g) = 1 ≤ k
-IsIndexCall line = ⊤
-
--- or it says that power is cut, or nothing
-abbrev pub IsIndexServed : IndexLine → Type 0
-IsIndexServed Empty = ⊤
-IsIndexServed Power = ⊤
-IsIndexServed line = IsIndexCall line
-
 -- power failed in the line
 pub record LostAt (most : ℕ) (es : Pairs) (line : IndexLine) (c : Chart) : Type 0 where
   pub off : c.on ≡ false

@@ -1,12 +1,12 @@
-//! One line of an index, as one call of the tree.
+//! The calls of the tree and the plans that lines of an index name, each with its reply.
 
-ghost use Rattle.std.specs.Prelude.{◌≡◌, ◌↔◌, false, IsTrue};
-ghost use Rattle.envy_btree.specs.declared.line.IndexLine.TheVariants.{Get, Insert, Remove};
-ghost use Rattle.envy_run.specs.IndexServing.{Serving, AnswersIndex, ReplyLicence, IsIndexCall};
+ghost use Rattle.std.specs.Prelude.{◌≡◌, ◌≤◌};
+ghost use Rattle.envy_btree.specs.declared.line.IndexLine.TheVariants.{Get, Insert, Remove, Cut, Bad};
+ghost use Rattle.envy_run.specs.IndexServing.{Serving, AnswersIndex, ReplyLicence};
 ghost use Rattle.envy_run.specs.IndexTurns.{Pairs, most_of, told};
 
 use envy_base::Bench;
-use envy_btree::{IndexLine, IndexReply, TreeFault, get, insert, remove};
+use envy_btree::{IndexReply, TreeFault, get, insert, remove};
 use envy_memory::OneTx;
 
 fn tell(value: Option<u64>) -> IndexReply
@@ -18,7 +18,8 @@ fn tell(value: Option<u64>) -> IndexReply
     }
 }
 
-fn ask<B: Bench>(words: &mut OneTx<B>, key: u64) -> IndexReply
+/// Asks the tree for a key.
+pub fn ask<B: Bench>(words: &mut OneTx<B>, key: u64) -> IndexReply
     requires { (es : Pairs) × Serving words.old.memory words.old.begun es }
     ensures step { (es : Pairs) → Serving words.old.memory words.old.begun es
         → AnswersIndex (most_of words.old.memory.chart.shape.pages) es (Get key) result words.new.memory
@@ -31,7 +32,8 @@ fn ask<B: Bench>(words: &mut OneTx<B>, key: u64) -> IndexReply
     }
 }
 
-fn set<B: Bench>(words: &mut OneTx<B>, key: u64, value: u64) -> IndexReply
+/// Puts a pair into the tree.
+pub fn set<B: Bench>(words: &mut OneTx<B>, key: u64, value: u64) -> IndexReply
     requires { (es : Pairs) × Serving words.old.memory words.old.begun es }
     ensures step { (es : Pairs) → Serving words.old.memory words.old.begun es
         → AnswersIndex (most_of words.old.memory.chart.shape.pages) es (Insert key value) result words.new.memory
@@ -46,7 +48,8 @@ fn set<B: Bench>(words: &mut OneTx<B>, key: u64, value: u64) -> IndexReply
     }
 }
 
-fn take_out<B: Bench>(words: &mut OneTx<B>, key: u64) -> IndexReply
+/// Takes a key out of the tree.
+pub fn take_out<B: Bench>(words: &mut OneTx<B>, key: u64) -> IndexReply
     requires { (es : Pairs) × Serving words.old.memory words.old.begun es }
     ensures step { (es : Pairs) → Serving words.old.memory words.old.begun es
         → AnswersIndex (most_of words.old.memory.chart.shape.pages) es (Remove key) result words.new.memory
@@ -61,27 +64,28 @@ fn take_out<B: Bench>(words: &mut OneTx<B>, key: u64) -> IndexReply
     }
 }
 
-/// Does one line: the call of the tree that it names, and the reply.
-pub fn answer_index<B: Bench>(words: &mut OneTx<B>, line: &IndexLine) -> IndexReply
+/// Plans a cut of power.
+pub fn plan_cut<B: Bench>(words: &mut OneTx<B>, k: u32, g: u64) -> IndexReply
     requires ready { (es : Pairs) × Serving words.old.memory words.old.begun es }
-    requires call { IsIndexCall line.now }
+    requires place { 1 ≤ k }
     ensures step { (es : Pairs) → Serving words.old.memory words.old.begun es
-        → AnswersIndex (most_of words.old.memory.chart.shape.pages) es line.now result words.new.memory
+        → AnswersIndex (most_of words.old.memory.chart.shape.pages) es (Cut k g) result words.new.memory
         words.new.begun }
-    ensures licence { ReplyLicence line.now result words.old.memory.chart words.new.memory.chart }
+    ensures licence { ReplyLicence (Cut k g) result words.old.memory.chart words.new.memory.chart }
 {
-    match *line {
-        IndexLine::Get { key } => ask(words, key),
-        IndexLine::Insert { key, value } => set(words, key, value),
-        IndexLine::Remove { key } => take_out(words, key),
-        IndexLine::Cut { k, g } => {
-            words.arm_cut(k, g);
-            IndexReply::Armed
-        }
-        IndexLine::Bad { k, g } => {
-            words.arm_bad(k, g);
-            IndexReply::Armed
-        }
-        IndexLine::Empty | IndexLine::Power => unreachable!(),
-    }
+    words.arm_cut(k, g);
+    IndexReply::Armed
+}
+
+/// Plans that a flash operation goes bad.
+pub fn plan_bad<B: Bench>(words: &mut OneTx<B>, k: u32, g: u64) -> IndexReply
+    requires ready { (es : Pairs) × Serving words.old.memory words.old.begun es }
+    requires place { 1 ≤ k }
+    ensures step { (es : Pairs) → Serving words.old.memory words.old.begun es
+        → AnswersIndex (most_of words.old.memory.chart.shape.pages) es (Bad k g) result words.new.memory
+        words.new.begun }
+    ensures licence { ReplyLicence (Bad k g) result words.old.memory.chart words.new.memory.chart }
+{
+    words.arm_bad(k, g);
+    IndexReply::Armed
 }

@@ -1,14 +1,18 @@
 //! One line of an index with its replies.
 
-ghost use Rattle.std.specs.Prelude.{◌≡◌, [], ◌∷◌, ◌++◌, false, IsTrue};
+ghost use Rattle.std.specs.Prelude.{◌≡◌, Bool, [], ◌∷◌, ◌++◌, false, IsTrue};
 ghost use Rattle.envy_btree.specs.Replies.{index_bytes};
+ghost use Rattle.envy_btree.specs.Spelling.{IsIndexLine};
+ghost use Rattle.envy_btree.specs.declared.line.IndexLine.{IndexLine};
 ghost use Rattle.envy_btree.specs.declared.line.IndexLine.TheVariants.{Power};
+ghost use Rattle.envy_btree.specs.declared.reply.IndexReply.TheVariants.{Lost};
 ghost use Rattle.envy_io.specs.Lines.{newline};
 ghost use Rattle.envy_io.specs.Streams.{WritesAll};
-ghost use Rattle.envy_run.specs.IndexServing.{Serving, ObeysIndex, RestartsIndex, RecoversIndex, IsIndexCall, IsIndexServed};
+ghost use Rattle.envy_run.specs.IndexServing.{Serving, AnswersIndex, ReplyLicence, ObeysIndex, RestartsIndex, RecoversIndex};
+ghost use Rattle.envy_memory.specs.Picture.{Picture};
 ghost use Rattle.envy_run.specs.IndexTurns.{Pairs, most_of};
 
-use crate::index_answering::answer_index;
+use crate::index_answering::{ask, plan_bad, plan_cut, set, take_out};
 use crate::restart::ReplyBuffer;
 use envy_base::Bench;
 use envy_btree::{IndexLine, IndexReply, index_text};
@@ -84,22 +88,22 @@ fn obey_index_power<K: Sink, B: Bench>(
     recover_words(words, sink, Ok(()), buffer)
 }
 
-/// Does a line that is one call of the tree, with its replies.
-fn obey_index_call<K: Sink, B: Bench>(
+/// Writes the reply of a call of the tree, and asks for power where that call lost it.
+fn tell<K: Sink, B: Bench>(
     words: &mut OneTx<B>,
     sink: &mut K,
-    line: &IndexLine,
+    reply: &IndexReply,
     buffer: &mut ReplyBuffer,
 ) -> Obeyed
-    requires ready { (es : Pairs) × Serving words.old.memory words.old.begun es }
-    requires call { IsIndexCall line.now }
-    ensures { (es : Pairs) → Serving words.old.memory words.old.begun es
-        → ObeysIndex (most_of words.old.memory.chart.shape.pages) es line.now result words.old.memory.chart
-        words.new.memory words.new.begun (K.drain sink.old) (K.drain sink.new) }
+    requires { reply.now ≡ Lost → words.old.memory.chart.on ≡ false }
+    ensures { (line : IndexLine) (es : Pairs) (before : Picture) (begun : Bool) → Serving before begun es
+        → AnswersIndex (most_of before.chart.shape.pages) es line reply.now words.old.memory words.old.begun
+        → ReplyLicence line reply.now before.chart words.old.memory.chart
+        → ObeysIndex (most_of before.chart.shape.pages) es line result before.chart words.new.memory words.new.begun
+        (K.drain sink.old) (K.drain sink.new) }
 {
-    let reply = answer_index(words, line);
-    let wrote = write_index_reply(sink, &reply, buffer);
-    if let IndexReply::Lost = reply {
+    let wrote = write_index_reply(sink, reply, buffer);
+    if let IndexReply::Lost = *reply {
         return recover_words(words, sink, wrote, buffer);
     }
     match wrote {
@@ -116,7 +120,7 @@ pub fn obey_index<K: Sink, B: Bench>(
     buffer: &mut ReplyBuffer,
 ) -> Obeyed
     requires ready { (es : Pairs) × Serving words.old.memory words.old.begun es }
-    requires line { IsIndexServed line.now }
+    requires ranges { IsIndexLine line.now }
     ensures { (es : Pairs) → Serving words.old.memory words.old.begun es
         → ObeysIndex (most_of words.old.memory.chart.shape.pages) es line.now result words.old.memory.chart
         words.new.memory words.new.begun (K.drain sink.old) (K.drain sink.new) }
@@ -124,6 +128,25 @@ pub fn obey_index<K: Sink, B: Bench>(
     match *line {
         IndexLine::Empty => Obeyed::Done,
         IndexLine::Power => obey_index_power(words, sink, buffer),
-        _ => obey_index_call(words, sink, line, buffer),
+        IndexLine::Get { key } => {
+            let reply = ask(words, key);
+            tell(words, sink, &reply, buffer)
+        }
+        IndexLine::Insert { key, value } => {
+            let reply = set(words, key, value);
+            tell(words, sink, &reply, buffer)
+        }
+        IndexLine::Remove { key } => {
+            let reply = take_out(words, key);
+            tell(words, sink, &reply, buffer)
+        }
+        IndexLine::Cut { k, g } => {
+            let reply = plan_cut(words, k, g);
+            tell(words, sink, &reply, buffer)
+        }
+        IndexLine::Bad { k, g } => {
+            let reply = plan_bad(words, k, g);
+            tell(words, sink, &reply, buffer)
+        }
     }
 }

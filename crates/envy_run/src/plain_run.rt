@@ -4,7 +4,7 @@ ghost use Rattle.std.specs.Prelude.{◌≡◌, ◌≤◌, MatchResult, Ok, None}
 ghost use Rattle.envy_base.specs.State.{State};
 ghost use Rattle.envy_plain.specs.Refusals.{answer_of};
 ghost use Rattle.envy_policy.specs.Setup.{checked};
-ghost use Rattle.envy_run.specs.Calm.{IsCommand, IsCalmReply, IsNoWork, ObeysCalmly};
+ghost use Rattle.envy_run.specs.Calm.{AnswersCalmly, IsNoWork, ObeysCalmly, listed};
 ghost use Rattle.envy_run.specs.Headline.{plain_task};
 ghost use Rattle.envy_run.specs.Outcome.{outcome_of};
 ghost use Rattle.envy_run.specs.Task.{DoesTask};
@@ -35,64 +35,50 @@ fn refused(refusal: Refusal) -> Reply
     }
 }
 
-/// Does one command: the call of the plain machine that it names, and the reply. There is nothing to do in
-/// the background, no power to cut and no operation to fail, and no work to count.
-fn answer(plain: &mut Plain, line: &Line) -> Result<Reply, Refusal>
-    requires { IsCommand line.now }
+/// Does a line: the call of the plain machine that it names, and the reply; none to an empty line. There is nothing
+/// to do in the background, no operation to fail, and no work to count.
+fn answer(plain: &mut Plain, line: &Line) -> Result<Option<Reply>, Refusal>
     ensures { MatchResult result
-        (λ reply. Replies IsNoWork plain.old line.now reply plain.new × IsCalmReply reply)
+        (λ reply. AnswersCalmly plain.old line.now (listed reply) plain.new)
         (λ refusal. Replies IsNoWork plain.old line.now (said (answer_of refusal)) plain.new) }
 {
     match *line {
-        Line::Load { address } => Ok(Reply::Word(plain.load(address)?)),
-        Line::Look { address } => Ok(Reply::Word(plain.look(address)?)),
+        Line::Empty => Ok(None),
+        Line::Power => {
+            plain.power();
+            Ok(Some(Reply::Restarted))
+        }
+        Line::Load { address } => Ok(Some(Reply::Word(plain.load(address)?))),
+        Line::Look { address } => Ok(Some(Reply::Word(plain.look(address)?))),
         Line::Store { address, word } => {
             plain.store(address, word)?;
-            Ok(Reply::Done)
+            Ok(Some(Reply::Done))
         }
-        Line::Begin => Ok(Reply::Started(plain.begin()?)),
+        Line::Begin => Ok(Some(Reply::Started(plain.begin()?))),
         Line::Put {
             slot,
             address,
             word,
         } => {
             plain.put(slot, address, word)?;
-            Ok(Reply::Done)
+            Ok(Some(Reply::Done))
         }
         Line::Commit { slot } => {
             plain.commit(slot)?;
-            Ok(Reply::Done)
+            Ok(Some(Reply::Done))
         }
         Line::Abort { slot } => {
             plain.abort(slot)?;
-            Ok(Reply::Done)
+            Ok(Some(Reply::Done))
         }
-        Line::Tick => Ok(Reply::Done),
-        Line::Cut { .. } | Line::Bad { .. } => Ok(Reply::Armed),
-        Line::Stat => Ok(Reply::Stat(Counts::ZERO)),
-        Line::Empty | Line::Power => unreachable!(),
+        Line::Tick => Ok(Some(Reply::Done)),
+        Line::Cut { k: _, g: _ } => Ok(Some(Reply::Armed)),
+        Line::Bad { k: _, g: _ } => Ok(Some(Reply::Armed)),
+        Line::Stat => Ok(Some(Reply::Stat(Counts::ZERO))),
     }
 }
 
-/// Does a line that is a command, and writes its reply.
-fn obey_command<K: Sink>(
-    plain: &mut Plain,
-    sink: &mut K,
-    line: &Line,
-    buffer: &mut ReplyBuffer,
-) -> Result<(), Failed>
-    requires { IsCommand line.now }
-    ensures { ObeysCalmly plain.old line.now result plain.new (K.drain sink.old) (K.drain sink.new) }
-{
-    let reply = match answer(plain, line) {
-        Ok(reply) => reply,
-        Err(refusal) => refused(refusal),
-    };
-    write_reply(sink, &reply, buffer)
-}
-
 /// Does a line, and writes its reply.
-#[tactic(auto, using(crate::proofs::Calm::restarted_calmly))]
 fn obey_plain<K: Sink>(
     plain: &mut Plain,
     sink: &mut K,
@@ -101,13 +87,10 @@ fn obey_plain<K: Sink>(
 ) -> Result<(), Failed>
     ensures { ObeysCalmly plain.old line.now result plain.new (K.drain sink.old) (K.drain sink.new) }
 {
-    match *line {
-        Line::Empty => Ok(()),
-        Line::Power => {
-            plain.power();
-            write_reply(sink, &Reply::Restarted, buffer)
-        }
-        _ => obey_command(plain, sink, line, buffer),
+    match answer(plain, line) {
+        Ok(None) => Ok(()),
+        Ok(Some(reply)) => write_reply(sink, &reply, buffer),
+        Err(refusal) => write_reply(sink, &refused(refusal), buffer),
     }
 }
 

@@ -4,7 +4,6 @@ ghost use Rattle.std.specs.Prelude.{◌≡◌, ℕ, List, [], IfOk, IsTrue};
 ghost use Rattle.envy_base.specs.Array.{Array};
 ghost use Rattle.envy_run.specs.Hits.{MayTell};
 ghost use Rattle.envy_layout.specs.Stands.{Stands};
-ghost use Rattle.envy_run.specs.Answers.{IsServed};
 ghost use Rattle.envy_run.specs.Obeys.{ObeysLine};
 ghost use Rattle.envy_run.specs.Tells.{CanTell};
 ghost use Rattle.envy_run.specs.Turns.{TraceTurn};
@@ -30,27 +29,6 @@ pub fn read_any(bytes: &[u8]) -> Result<Line, LineFault>
     ensures { result ≡ line_of bytes.now }
 {
     read_line(bytes)
-}
-
-/// Does a line, with its replies.
-fn obey_line<K: Sink, B: Bench>(
-    memory: &mut Memory<B>,
-    sink: &mut K,
-    line: &Line,
-    buffer: &mut ReplyBuffer,
-) -> Obeyed
-    requires on { IsTrue memory.old.chart.on }
-    requires line { IsServed line.now }
-    ensures { (earlier : List TraceTurn) (m : Array) → Stands memory.old.chart m
-        → CanTell memory.old.chart.shape.entries earlier memory.old.parts
-        → ObeysLine (MayTell memory.old.chart.shape.entries earlier) m line.now result memory.old memory.new
-        (K.drain sink.old) (K.drain sink.new) }
-{
-    match *line {
-        Line::Empty => Obeyed::Done,
-        Line::Power => obey_power(memory, sink, buffer),
-        _ => obey_call(memory, sink, line, buffer),
-    }
 }
 
 impl<B: Bench> Service for Tracing<B> {
@@ -80,7 +58,11 @@ impl<B: Bench> Service for Tracing<B> {
 
     fn obey<K: Sink>(&mut self, line: &Line, sink: &mut K) -> Obeyed {
         grammar_holds_both_ways();
-        obey_line(&mut self.memory, sink, line, &mut self.buffer)
+        match *line {
+            Line::Empty => Obeyed::Done,
+            Line::Power => obey_power(&mut self.memory, sink, &mut self.buffer),
+            _ => obey_call(&mut self.memory, sink, line, &mut self.buffer),
+        }
     }
 
     fn close<K: Sink>(&self, _sink: &mut K) -> Result<(), Failed> {

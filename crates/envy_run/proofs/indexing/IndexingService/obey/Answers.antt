@@ -1,9 +1,9 @@
 use Rattle.envy_run.specs.IndexServing.{IndexedSince}
-use Rattle.envy_run.proofs.IndexTold.{said-served, index-obeys}
+use Rattle.envy_run.proofs.IndexTold.{said-ranges, index-obeys}
 use Rattle.envy_run.proofs.indexing.IndexingService.obey.Goals as goal
 
-pub obey_index-requires-clause-line : goal.obey_index-requires-clause-line
-obey_index-requires-clause-line g c = said-served c.requires.said.bytes c.args.line.now c.requires.said.says (c.index_grammar_holds_both_ways.ensures.spelled c.requires.said.bytes c.args.line.now)
+pub obey_index-requires-clause-ranges : goal.obey_index-requires-clause-ranges
+obey_index-requires-clause-ranges g c = said-ranges c.requires.said.bytes c.args.line.now c.requires.said.says (c.index_grammar_holds_both_ways.ensures.spelled c.requires.said.bytes c.args.line.now)
 
 pub returns : goal.returns
 returns g c start turns t =
