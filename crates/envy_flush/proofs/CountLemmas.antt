@@ -1,12 +1,10 @@
 -- What is counted composes.
 use Rattle.std.proofs.Common.{◌≡◌, inl, inr, ℕ, ◌≤◌, Bool, false, true, List, [], ◌∷◌, length, get_or, suc, refl, sym, ◌∙◌, ap, subst, arith}
-use Rattle.std.specs.Prelude.{sum, IsTrue, Result, Ok, Err, OnOk, OnErr, IfOk, IsErrOf}
+use Rattle.std.specs.Prelude.{sum, IsTrue, Result, Ok, Err, OnErr, IfOk}
 use Rattle.std.proofs.lemmas.List.Sums.{sum_by-cons}
 use Rattle.envy_base.specs.Counting.{Tally}
 use Rattle.envy_base.proofs.Counting.{Tally-trans}
 use Rattle.envy_base.specs.declared.board.Off.{Off}
-use Rattle.envy_base.specs.declared.board.Trouble.{Trouble}
-use Rattle.envy_base.specs.declared.board.Trouble.TheVariants.{Off as TroubleOff, Bad}
 use Rattle.envy_map.specs.Fields.{Fields, Chart}
 use Rattle.envy_map.specs.Writes.{Writes}
 use Rattle.envy_layout.specs.Same.{Powers, Counted, Grows}
@@ -43,11 +41,6 @@ on-before a b i j (inr (was, off, cuts)) on = was
 pub if-ends : {T : Type 0} (r : Result T Off) (P : T → Type 0) (b : Bool) (A : Type 0) → IfOk r P → ((x : T) → P x → A) → OnErr r (b ≡ false) → IsTrue b → A
 if-ends (Ok x) P b A p f off on = f x p
 if-ends (Err e) P b A p f off on = absurd (let no : false ≡ true = sym off ∙ on in cc)
-
-pub if-lit : (r : Result Unit Trouble) (b : Bool) (A : Type 0) → OnOk r A → (IsErrOf r Bad → A) → (r ≡ Err TroubleOff → b ≡ false) → IsTrue b → A
-if-lit (Ok done) b A a bad off on = a
-if-lit (Err Bad) b A a bad off on = bad refl
-if-lit (Err TroubleOff) b A a bad off on = absurd (let no : false ≡ true = sym (off refl) ∙ on in cc)
 
 -- a put of another field leaves the wear words
 pub wears-put : (c new : Chart) (change : Fields → Fields) (r : Result Unit Off) → (change c.fields).wears ≡ c.fields.wears → Writes change c r new → IsTrue new.on → new.fields.wears ≡ c.fields.wears

@@ -89,15 +89,6 @@ pub never-idle : (job : Option Job) (stages : List ℕ) → (job ≢ Some Idle) 
 never-idle job stages (inl runs) is none = runs is
 never-idle job stages (inr some) is none = let empty : length stages ≡ 0 = ap length none in omega arith
 
-pub on-three : {T E : Type 0} (r : Result T E) (A B C D : Type 0) → (A → B → C → D) → OnOk r A → OnOk r B → OnOk r C → OnOk r D
-on-three (Ok x) A B C D f a b c = f a b c
-on-three (Err e) A B C D f a b c = tt
-
--- what holds at Ok, of the answer and beside it
-pub if-done-two : {T E : Type 0} (r : Result T E) (P R : T → Type 0) (A : Type 0) → IfOk r P → OnOk r A → ((x : T) → P x → A → R x) → IfOk r R
-if-done-two (Ok x) P R A p a f = f x p a
-if-done-two (Err e) P R A p a f = p
-
 pub if-done : {T E : Type 0} (r : Result T E) (P R : T → Type 0) → IfOk r P → ((x : T) → P x → R x) → IfOk r R
 if-done (Ok x) P R p f = f x p
 if-done (Err e) P R p f = p

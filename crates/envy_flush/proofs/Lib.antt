@@ -8,6 +8,7 @@ pub mod EndLemmas
 pub mod FlushLemmas
 pub mod JobLemmas
 pub mod KeptLemmas
+pub mod Leaving
 pub mod LookLemmas
 pub mod NearLemmas
 pub mod PutLemmas

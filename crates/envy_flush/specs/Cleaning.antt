@@ -6,6 +6,8 @@ use Rattle.envy_layout.specs.Sound.{IsKept}
 use Rattle.envy_map.specs.Fields.{Fields, Chart, with_fields}
 use Rattle.envy_map.specs.Writes.{with_job}
 use Rattle.envy_policy.specs.History.{History, cleaned, first_of, end_of}
+use Rattle.envy_reloc.specs.Cleaning.{Cleans}
+use Rattle.envy_flush.specs.Leaving.{CountsBad}
 use Rattle.envy_flush.specs.Steps.{Finishes, StopsStep}
 use Rattle.envy_flush.specs.declared.parts.Parts.{Parts}
 
@@ -47,3 +49,20 @@ pub record StopsClean (k : ℕ) (aside : Option ℕ) (old : Chart) (was : Parts)
   pub plan : Parts
   pub begins : BeginsClean k aside old was begun plan
   pub stops : StopsStep begun plan new now
+
+-- job and stages were finished, and a cleaning that they were goes on as it began
+pub record FinishesClean (old : Chart) (was : Parts) (new : Chart) (now : Parts) : Type 0 where
+  pub finishes : Finishes old was new now
+  pub cleans : (positions : List ℕ) (k n : ℕ) → Cleans old.shape positions k n old.fields was.reloc.erased → Cleans old.shape positions k n new.fields now.reloc.erased
+
+-- position k was cleaned, which heats, turns and lives note: it has the spare of before, and one erase is counted
+pub record CleansWhole (k : ℕ) (aside : Option ℕ) (old : Chart) (was : Parts) (new : Chart) (now : Parts) : Type 0 where
+  pub whole : CleansAll k aside old was new now
+  pub chooser : now.chooser ≡ cleaned was.chooser k
+  pub cleans : Cleans old.shape old.fields.positions k was.reloc.erased new.fields now.reloc.erased
+
+-- it began, which heats, turns and lives note, and one of its steps was bad
+pub record StopsWhole (k : ℕ) (aside : Option ℕ) (old : Chart) (was : Parts) (new : Chart) (now : Parts) : Type 0 where
+  pub chooser : now.chooser ≡ cleaned was.chooser k
+  pub stops : StopsClean k aside old was new now
+  pub bads : CountsBad old new

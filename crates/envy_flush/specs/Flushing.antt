@@ -1,12 +1,16 @@
 -- What a flush does.
-use Rattle.std.specs.Prelude.{◌≡◌, ◌≢◌, ◌⊎◌, ℕ, ◌+◌, ◌-◌, ◌*◌, ◌/◌, ◌%◌, ◌<◌, List, [], length, drop, Option, None, Some, slice_get, slice_index, slice_set, Any, MatchOption}
+use Rattle.std.specs.Prelude.{◌≡◌, ◌≢◌, ◌⊎◌, ℕ, ◌+◌, ◌-◌, ◌*◌, ◌/◌, ◌%◌, ◌<◌, List, [], length, drop, Option, None, Some, slice_get, slice_index, slice_index_or, slice_set, Any, MatchOption}
+use Rattle.std.specs.List.{filter}
 use Rattle.envy_base.specs.Counting.{up}
+use Rattle.envy_base.specs.State.{ones}
 use Rattle.envy_base.specs.declared.fields.Job.TheVariants.{Idle}
 use Rattle.envy_base.specs.declared.fields.Place.{Place}
 use Rattle.envy_base.specs.declared.fields.Place.TheVariants.{Absent, Row, Frame}
 use Rattle.envy_base.specs.declared.shape.Shape.{Shape}
 use Rattle.envy_frames.specs.declared.held.Held.{Held}
+use Rattle.envy_frames.specs.Order.{is_other}
 use Rattle.envy_map.specs.Fields.{Fields, Chart, place}
+use Rattle.envy_map.specs.Writes.{with_place}
 use Rattle.envy_policy.specs.declared.choice.Choice.{Choice}
 use Rattle.envy_policy.specs.declared.choice.Choice.TheVariants.{Free, Clean}
 use Rattle.envy_policy.specs.History.{History, claimed, cleaned, partition_of}
@@ -14,9 +18,10 @@ use Rattle.envy_policy.specs.Lifetime.{IsBeside}
 use Rattle.envy_policy.specs.Notes.{Notes}
 use Rattle.envy_layout.specs.Sound.{Names, IsPlaced, IsSpare}
 use Rattle.envy_reloc.specs.Plan.{IsFreeOf}
-use Rattle.envy_space.specs.Pool.{Pool, PoolAgrees}
+use Rattle.envy_space.specs.Pool.{Pool, PoolAgrees, Claims as ClaimsIn}
 use Rattle.envy_choosing.specs.Choosing.{ChoiceFor, counts_in}
 use Rattle.envy_flush.specs.Cleaning.{CleansAll, StopsClean}
+use Rattle.envy_flush.specs.Leaving.{CountsBad}
 use Rattle.envy_flush.specs.Steps.{Finishes, StopsStep}
 use Rattle.envy_flush.specs.declared.parts.Parts.{Parts}
 
@@ -28,6 +33,17 @@ pub record Granted (sh : Shape) (f : Fields) (p q : ℕ) : Type 0 where
   pub unnamed : (r : ℕ) → Names f r q → ⊥
   pub placed : IsPlaced sh f.positions (q / sh.rows)
   pub free : IsFreeOf f.job (q / sh.rows)
+
+-- and it is erased
+pub record IsFresh (c : Chart) (p q : ℕ) : Type 0 where
+  pub granted : Granted c.shape c.fields p q
+  pub erased : slice_index_or c.flash q [] ≡ ones
+
+-- but for row q flash is as before, and so are the map and the erases
+pub record ProgramsOnly (q : ℕ) (old new : Chart) : Type 0 where
+  pub fields : new.fields ≡ old.fields
+  pub others : (r : ℕ) → r ≢ q → slice_index_or new.flash r [] ≡ slice_index_or old.flash r []
+  pub erases : new.erases ≡ old.erases
 
 -- row q lies at position k, and is the last one claimed there
 pub record IsLastAt (c : Chart) (k q : ℕ) : Type 0 where
@@ -46,6 +62,12 @@ Claims k page q old was new now =
     IsLastAt new k q
     × (new.fields.fills ≡ slice_set old.fields.fills (slice_index old.fields.positions k) (slice_index old.fields.fills (slice_index old.fields.positions k) + 1))
     × (new.fields.positions ≡ old.fields.positions) × (new.erases ≡ old.erases) × (now.chooser ≡ claimed was.chooser k page)
+
+-- row q was claimed at position k for a page, which its fill and its back word say, and is fresh
+pub record TakesFresh (k page q : ℕ) (old : Chart) (was : Parts) (new : Chart) (now : Parts) : Type 0 where
+  pub changes : ClaimsIn old (slice_index was.space.positions k) page q new
+  pub claims : Claims k page q old was new now
+  pub fresh : IsFresh new page q
 
 -- position k is cleaned, and then row q is claimed there
 pub record ClaimsCleaned (k : ℕ) (aside : Option ℕ) (page q : ℕ) (old : Chart) (was : Parts) (new : Chart) (now : Parts) : Type 0 where
@@ -71,6 +93,16 @@ Chooses home page q old was new now =
 abbrev pub Ends : Chart → Parts → Chart → Parts → Type 0
 Ends old was new now =
     ((new.fields.job ≡ old.fields.job) ⊎ (new.fields.job ≡ Some Idle)) × ((now.stages ≡ was.stages) ⊎ (now.stages ≡ []))
+
+-- position k was cleaned, and then row q was claimed there for a page, and is fresh
+pub record CleansFor (k : ℕ) (aside : Option ℕ) (page q : ℕ) (old : Chart) (was : Parts) (new : Chart) (now : Parts) : Type 0 where
+  pub fresh : IsFresh new page q
+  pub follows : Follows (Clean k aside) page q old was new now
+  pub ends : Ends old was new now
+
+-- no job runs, and no stage of a swap is left
+abbrev pub IsAtRest : Chart → Parts → Type 0
+IsAtRest c x = (c.fields.job ≡ Some Idle) × (x.stages ≡ [])
 
 -- a job runs, or a stage of a swap is left
 abbrev pub IsBusy : Chart → Parts → Type 0
@@ -139,6 +171,24 @@ pub record GetsRow (home page q : ℕ) (old : Chart) (was : Parts) (new : Chart)
   pub busy : IsBusy old was → ClaimsBeside home page q old was new now ⊎ ClaimsAfter home page q old was new now
   pub ends : Ends old was new now
 
+-- and that row is fresh
+pub record GetsFresh (home page q : ℕ) (old : Chart) (was : Parts) (new : Chart) (now : Parts) : Type 0 where
+  pub fresh : IsFresh new page q
+  pub gets : GetsRow home page q old was new now
+
+-- page p went from frame k, which is free again, to row q
+pub record MovesOut (p k q : ℕ) (old : Chart) (was : Parts) (new : Chart) (now : Parts) : Type 0 where
+  pub fields : new.fields ≡ with_place p (Some (Row q)) old.fields
+  pub erases : new.erases ≡ old.erases
+  pub held : now.frames.held ≡ filter (is_other k) was.frames.held
+
+-- the program of its row was bad: the page is held as before
+pub record StopsMove (old : Chart) (was : Parts) (new : Chart) (now : Parts) : Type 0 where
+  pub fields : new.fields ≡ old.fields
+  pub erases : new.erases ≡ old.erases
+  pub frames : now.frames ≡ was.frames
+  pub bads : new.bads ≡ up old.bads
+
 -- the oldest held page was programmed into a row that was claimed for it and stands there, and its frame is free
 pub record FlushesOldest (old : Chart) (was : Parts) (new : Chart) (now : Parts) : Type 0 where
   pub oldest : Held
@@ -192,6 +242,12 @@ pub record StopsChosen (home page : ℕ) (old : Chart) (was : Parts) (new : Char
 abbrev pub StopsRow : ℕ → ℕ → Chart → Parts → Chart → Parts → Type 0
 StopsRow home page old was new now = (IsBusy old was × IsNoneAvailable was home page old × StopsStep old was new now) ⊎ StopsChosen home page old was new now
 
+-- and what was claimed and cleaned meanwhile is noted, and the bad operation is counted
+pub record StopsGetting (home page : ℕ) (old : Chart) (was : Parts) (new : Chart) (now : Parts) : Type 0 where
+  pub noted : ChoosesBad home page old was now
+  pub halted : StopsRow home page old was new now
+  pub bads : CountsBad old new
+
 -- a row was claimed, and its program was bad, which counts as a flush
 pub record StopsProgram (home page : ℕ) (old : Chart) (was : Parts) (new : Chart) (now : Parts) : Type 0 where
   pub row : ℕ
@@ -202,6 +258,14 @@ pub record StopsProgram (home page : ℕ) (old : Chart) (was : Parts) (new : Cha
 pub record StopsFor (home page : ℕ) (old : Chart) (was : Parts) (new : Chart) (now : Parts) : Type 0 where
   pub noted : ChoosesBad home page old was now
   pub halted : StopsRow home page old was new now ⊎ StopsProgram home page old was new now
+
+-- a bad operation ended a flush of the oldest held page: the frames are held as before
+pub record StopsOldest (old : Chart) (was : Parts) (new : Chart) (now : Parts) : Type 0 where
+  pub frames : now.frames ≡ was.frames
+  pub oldest : Held
+  pub first : slice_get was.frames.held 0 ≡ Some oldest
+  pub stops : StopsFor oldest.home oldest.page old was new now
+  pub bads : CountsBad old new
 
 -- A bad operation ended a store or put to page p: frames are held as before, and heats, turns and lives have noted
 -- what was claimed and cleaned for the page that was to be programmed. The look at page p came first.

@@ -4,7 +4,9 @@ pub mod Cleaning
 pub mod Counts
 pub mod Ending
 pub mod Flushing
+pub mod Leaving
 pub mod Pages
+pub mod Power
 pub mod Putting
 pub mod Restarts
 pub mod Starting

@@ -7,12 +7,14 @@ use Rattle.envy_base.specs.declared.fields.Place.{Place}
 use Rattle.envy_base.specs.declared.fields.Place.TheVariants.{Absent, Row, Frame}
 use Rattle.envy_base.specs.declared.fields.Undo.{Undo}
 use Rattle.envy_base.specs.declared.fields.Undo.TheVariants.{Blank, Shadow}
-use Rattle.envy_map.specs.Fields.{Chart, place, undo}
+use Rattle.envy_map.specs.Fields.{Chart, with_fields, place, undo}
+use Rattle.envy_map.specs.Writes.{with_undo}
 use Rattle.envy_layout.specs.Same.{Same, SameWords, SameDurable}
 use Rattle.envy_layout.specs.Transactions.{Owns, PutDone}
 use Rattle.envy_layout.specs.May.{IsOpen}
 use Rattle.envy_txn.specs.Owners.{Ownership, AreOwned, owner_of}
-use Rattle.envy_flush.specs.Flushing.{GetsRow}
+use Rattle.envy_flush.specs.Flushing.{GetsRow, StopsFor}
+use Rattle.envy_flush.specs.Leaving.{CountsBad}
 use Rattle.envy_flush.specs.Storing.{Fetches, Brings}
 use Rattle.envy_flush.specs.declared.parts.Parts.{Parts}
 
@@ -34,6 +36,29 @@ given t p o = record o { pairs = o.pairs ++ (record { page = p; slot = t }) ∷ 
 abbrev pub OwnersAgree : Chart → Ownership → Type 0
 OwnersAgree c o = IsTrue c.on → AreOwned c.fields.slots c.fields.undos o.pairs
 
+-- and as many pages as before may be owned
+pub record KeepsOwners (c : Chart) (was now : Ownership) : Type 0 where
+  pub limit : now.limit ≡ was.limit
+  pub agree : OwnersAgree c now
+
+-- page p came to slot t, with row q as its shadow
+pub record ShadesPage (t p q : ℕ) (old : Chart) (was : Ownership) (new : Chart) (now : Ownership) : Type 0 where
+  pub fields : new ≡ with_fields old (with_undo p (Some (Shadow t q)) old.fields)
+  pub owns : Owns t p old new
+  pub gives : now ≡ given t p was
+
+-- the same, once that row is programmed
+pub record MarksPage (t p q : ℕ) (old : Chart) (was : Ownership) (new : Chart) (now : Ownership) : Type 0 where
+  pub fields : new.fields ≡ with_undo p (Some (Shadow t q)) old.fields
+  pub erases : new.erases ≡ old.erases
+  pub gives : now ≡ given t p was
+
+-- its program was bad: the map is as before
+pub record StopsMark (old new : Chart) : Type 0 where
+  pub fields : new.fields ≡ old.fields
+  pub erases : new.erases ≡ old.erases
+  pub bads : new.bads ≡ up old.bads
+
 -- a first put at each of its exits
 abbrev pub PutFirst : ℕ → ℕ → ℕ → ℕ → Chart → ℕ → ℕ → Result Unit Trouble → Chart → Type 0
 PutFirst k j t p old a w (Ok done) new = PutDone k j t p old new a w
@@ -51,6 +76,23 @@ abbrev pub undo_for : ℕ → Place → Option Undo
 undo_for t Absent = Some (Blank t)
 undo_for t (Row q) = Some (Shadow t q)
 undo_for t (Frame k) = None
+
+-- page p, in frame k, stays there, and its shadow is a row that was claimed for it and programmed
+pub record ShadesHere (t p k : ℕ) (old : Chart) (was : Parts) (new : Chart) (now : Parts) : Type 0 where
+  pub home : ℕ
+  pub homed : Any (λ h. (h.frame ≡ k) × (h.home ≡ home)) was.frames.held
+  pub row : ℕ
+  pub gets : GetsRow home p row old was new now
+  pub there : place new.fields p ≡ Some (Frame k)
+  pub shadow : undo new.fields p ≡ Some (Shadow t row)
+  pub flushes : now.flushes ≡ up was.flushes
+
+-- a bad operation ended that
+pub record StopsHere (p k : ℕ) (old : Chart) (was : Parts) (new : Chart) (now : Parts) : Type 0 where
+  pub home : ℕ
+  pub homed : Any (λ h. (h.frame ≡ k) × (h.home ≡ home)) was.frames.held
+  pub stops : StopsFor home p old was new now
+  pub bads : CountsBad old new
 
 -- a page in a frame stays there and in its order, and its shadow is a row that was claimed for it and programmed
 pub record ShadesFramed (t p : ℕ) (old : Chart) (was : Parts) (new : Chart) (now : Parts) : Type 0 where

@@ -1,11 +1,15 @@
 -- A board that was settled after power came.
-use Rattle.std.specs.Prelude.{◌≡◌, ◌⊎◌, ℕ, ◌<◌, Some}
+use Rattle.std.specs.Prelude.{◌≡◌, ◌⊎◌, ℕ, ◌<◌, [], None, Some}
 use Rattle.envy_base.specs.declared.fields.Job.TheVariants.{Idle, Erase}
 use Rattle.envy_base.specs.declared.fields.Slot.TheVariants.{Vacant}
 use Rattle.envy_base.specs.declared.fields.Undo.TheVariants.{Clear}
 use Rattle.envy_map.specs.Fields.{Chart, undo, slot}
 use Rattle.envy_reloc.specs.Settling.{Settles as SettlesJob}
 use Rattle.envy_txn.specs.Ending.{Settles as SettlesOwners}
+use Rattle.envy_frames.specs.Agreement.{held_by_default}
+use Rattle.envy_layout.specs.Words.{live, durable}
+use Rattle.envy_policy.specs.History.{started}
+use Rattle.envy_table.specs.Hits.{Empties}
 use Rattle.envy_flush.specs.declared.parts.Parts.{Parts}
 
 -- no transaction is open, each undo is clear, and a job is to erase the spare at most
@@ -21,6 +25,20 @@ pub record IsRestarted (old new : Chart) : Type 0 where
   pub undoes : SettlesOwners old undone
   pub settles : SettlesJob undone.shape undone.fields.job undone.fields new.fields
   pub flash : new.flash ≡ old.flash
+
+-- loads read what the restart found, and nothing is left open
+pub record SettlesAll (old new : Chart) : Type 0 where
+  pub live : live new ≡ durable old
+  pub settled : IsSettled new
+  pub restarted : IsRestarted old new
+
+-- all parts were read anew: frames are held with default homes, and heats, stages, entries and moves are gone
+pub record IsRebuilt (c : Chart) (was now : Parts) : Type 0 where
+  pub held : now.frames.held ≡ held_by_default c.shape c.fields.places
+  pub heats : now.chooser ≡ started was.chooser.policy was.chooser.pages was.chooser.positions
+  pub stages : now.stages ≡ []
+  pub empties : Empties was.cache now.cache
+  pub since : now.reloc ≡ record was.reloc { moves = []; aside = None; mark = 0; since = 0 }
 
 -- no count changed
 pub record SameCounts (was now : Parts) : Type 0 where

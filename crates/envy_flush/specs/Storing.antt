@@ -1,15 +1,16 @@
 -- What a store or a put of one word does below the memory.
-use Rattle.std.specs.Prelude.{◌≡◌, ◌≢◌, ◌⊎◌, ◌++◌, ◌∷◌, [], ℕ, ◌/◌, IsTrue, Some, Result, Ok, Err, slice_index, slice_set, ◌*◌, ◌<◌}
+use Rattle.std.specs.Prelude.{◌≡◌, ◌≢◌, ◌⊎◌, ◌++◌, ◌∷◌, [], ℕ, ◌/◌, IsTrue, Some, Result, Ok, Err, slice_index, slice_set, ◌*◌, ◌-◌, ◌<◌, List}
 use Rattle.envy_base.specs.declared.board.Trouble.{Trouble}
 use Rattle.envy_base.specs.declared.board.Trouble.TheVariants.{Off as TroubleOff, Bad}
 use Rattle.envy_base.specs.declared.fields.Job.TheVariants.{Switch}
 use Rattle.envy_base.specs.declared.fields.Place.{Place}
 use Rattle.envy_base.specs.declared.fields.Place.TheVariants.{Absent, Row, Frame}
 use Rattle.envy_base.specs.declared.shape.Shape.{Shape}
-use Rattle.envy_map.specs.Fields.{Fields, Chart, place}
+use Rattle.envy_map.specs.Fields.{Fields, Chart, with_fields, place}
+use Rattle.envy_map.specs.Writes.{with_frame}
 use Rattle.envy_frames.specs.Agreement.{AreHeld, IsElsewhere, default_home}
 use Rattle.envy_frames.specs.Order.{IsUnheld}
-use Rattle.envy_layout.specs.May.{IsUnnamed}
+use Rattle.envy_layout.specs.May.{HasChanged, IsUnnamed}
 use Rattle.envy_layout.specs.Same.{Counted, Framed, Wears, Same, Stored, Interrupted, Shadowed, Dropped}
 use Rattle.envy_layout.specs.Sound.{IsSound, IsSpare}
 use Rattle.envy_space.specs.Pool.{Pool, PoolAgrees, noted_dead}
@@ -67,6 +68,27 @@ pub record Near (c : Chart) (x : Parts) (p k : ℕ) (from : Place) : Type 0 wher
   pub current : AreCurrent c.shape.pages c.fields.places x.cache.entries
   pub job : IsPlanOf c.shape c.fields c.flash x.reloc
   pub two : AreParted c.fields.slots c.fields.undos c.fields.places
+
+-- frame k, which no page stands in, may take page p, whose place this is
+pub record Lands (c : Chart) (p k : ℕ) (from : Place) : Type 0 where
+  pub frame : k < c.shape.frames
+  pub here : place c.fields p ≡ Some from
+  pub elsewhere : IsElsewhere (Some from)
+  pub unnamed : IsUnnamed c.fields k
+
+-- frame k, which wasn't held, is held for page p with the home of the place that it leaves, and has the page's words,
+-- word i of them changed
+pub record FillsFrame (p : ℕ) (from : Place) (i w : ℕ) (old : Chart) (was : Parts) (new : Chart) (now : Parts) (k : ℕ) : Type 0 where
+  pub words : List ℕ
+  pub fields : new ≡ with_fields old (with_frame k words 32 old.fields)
+  pub range : k < old.shape.frames
+  pub unheld : IsUnheld was.frames.held k
+  pub unnamed : IsUnnamed new.fields k
+  pub copy : HasChanged new.fields new.flash p (Frame k) i w
+  pub home : ℕ
+  pub within : home < old.shape.segments - 1
+  pub homed : IsHome old.shape old.fields p from home
+  pub held : now.frames.held ≡ was.frames.held ++ (record { frame = k; page = p; home = home }) ∷ []
 
 -- what a store leaves at each exit: the owners, a sound board and the counts
 pub record Leaves (k j : ℕ) (old new : Chart) : Type 0 where

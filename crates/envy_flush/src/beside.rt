@@ -48,6 +48,7 @@ fn emptied<B: Board>(board: &B, parts: &Parts) -> Result<Option<u32>, Off>
 fn usable_near<B: Board>(board: &B, parts: &Parts, home: u32) -> Result<Option<u32>, Off>
     requires ready { Ready (chart (B.state board.now)) parts.now }
     requires home { home < (B.state board.now).shape.segments - 1 }
+
     ensures within { IfOk result (λ found. IfSome found (λ k. k < (B.state board.now).shape.segments - 1)) }
     ensures room { IfOk result (λ found.
         IfSome found (λ k. slice_index parts.now.space.fills (slice_index parts.now.space.positions k)
@@ -73,6 +74,7 @@ fn usable_by_lives<B: Board>(
     requires ready { Ready (chart (B.state board.now)) parts.now }
     requires positions { length lives.now.cleaned ≡ parts.now.space.shape.segments - 1 }
     requires page { page < length lives.now.born }
+
     ensures within { IfOk result (λ found. IfSome found (λ k. k < (B.state board.now).shape.segments - 1)) }
     ensures room { IfOk result (λ found.
         IfSome found (λ k. slice_index parts.now.space.fills (slice_index parts.now.space.positions k)
@@ -91,6 +93,7 @@ pub fn usable<B: Board>(board: &B, parts: &Parts, home: u32, page: u32) -> Resul
     requires ready { Ready (chart (B.state board.now)) parts.now }
     requires home { home < (B.state board.now).shape.segments - 1 }
     requires page { page < (B.state board.now).shape.pages }
+
     ensures within { IfOk result (λ found. IfSome found (λ k. k < (B.state board.now).shape.segments - 1)) }
     ensures room { IfOk result (λ found.
         IfSome found (λ k. slice_index parts.now.space.fills (slice_index parts.now.space.positions k)

@@ -1,14 +1,15 @@
-ghost use Rattle.std.specs.Prelude.{◌≡◌, ◌≢◌, ◌*◌, ◌+◌, ◌-◌, ◌/◌, ◌<◌, ℕ, true, false, IsTrue, List, [], ◌∷◌, ◌++◌, Some, IfOk, OnOk, OnErr, MatchResult, length, slice_index};
+ghost use Rattle.std.specs.Prelude.{◌≡◌, ◌*◌, ◌+◌, ◌<◌, true, false, Some, IfOk, OnOk, MatchResult, length};
 ghost use Rattle.envy_map.specs.Fields.{chart, with_fields, place as place_of, undo as undo_of};
-ghost use Rattle.envy_map.specs.Writes.{with_frame, with_place};
+ghost use Rattle.envy_map.specs.Writes.{with_place};
 ghost use Rattle.envy_frames.specs.Agreement.{IsElsewhere};
-ghost use Rattle.envy_frames.specs.Order.{IsUnheld};
-ghost use Rattle.envy_layout.specs.May.{IsUnnamed, HasChanged};
+ghost use Rattle.envy_layout.specs.May.{HasChanged};
 ghost use Rattle.envy_layout.specs.Same.{Counted, Same, Stored, Interrupted, Shadowed, Dropped};
 ghost use Rattle.envy_layout.specs.Sound.{owned_by};
 ghost use Rattle.envy_table.specs.Hits.{Rests};
 ghost use Rattle.envy_flush.specs.Agreement.{Ready, Steady};
-ghost use Rattle.envy_flush.specs.Storing.{Brings, IsHome, IsNotable, left_pool, Near};
+ghost use Rattle.envy_flush.specs.Storing.{Brings, IsNotable, left_pool, Near, FillsFrame};
+ghost use Rattle.envy_flush.specs.Leaving.{LeavesParts};
+ghost use Rattle.envy_flush.specs.Power.{power_of};
 
 use crate::homes::home_of;
 use crate::page::read_words;
@@ -33,23 +34,13 @@ pub fn fill_frame<B: Board>(
     requires room { length parts.old.frames.held < parts.old.frames.count }
     requires here { place_of (chart (B.state board.old)).fields page ≡ Some from }
     requires elsewhere { IsElsewhere (Some from) }
+
     ensures same { Same 0 0 (chart (B.state board.old)) (chart (B.state board.new)) }
-    ensures fields { IfOk result (λ frame. (ws : List ℕ)
-        × (chart (B.state board.new) ≡ with_fields (chart (B.state board.old))
-        (with_frame frame ws 32 (chart (B.state board.old)).fields))) }
-    ensures range { IfOk result (λ frame. frame < (B.state board.old).shape.frames) }
-    ensures unheld { IfOk result (IsUnheld parts.old.frames.held) }
-    ensures unnamed { IfOk result (λ frame. IsUnnamed (chart (B.state board.new)).fields frame) }
-    ensures copy { IfOk result (λ frame. HasChanged (chart (B.state board.new)).fields (B.state board.new).flash page
-        (Place.Frame frame) i w) }
-    ensures held { IfOk result (λ frame. (home : ℕ) × (home < (B.state board.old).shape.segments - 1)
-        × IsHome (B.state board.old).shape (chart (B.state board.old)).fields page from home
-        × (parts.new.frames.held ≡ parts.old.frames.held ++ (record { frame = frame; page = page; home = home })
-        ∷ [])) }
+    ensures fills { IfOk result
+        (FillsFrame page from i w (chart (B.state board.old)) parts.old (chart (B.state board.new)) parts.new) }
     ensures parts { parts.new ≡ record parts.old { frames = parts.new.frames } }
     ensures count { parts.new.frames.count ≡ parts.old.frames.count }
-    ensures on { OnOk result (IsTrue (B.state board.new).on) }
-    ensures off { OnErr result ((B.state board.new).on ≡ false) }
+    ensures power { (B.state board.new).on ≡ power_of result }
 {
     let home = home_of(board, parts, page, from)?;
     let mut words = [0; 32];
@@ -87,6 +78,7 @@ fn move_in<B: Board>(
     requires word { i < 32 }
     requires copy { HasChanged (chart (B.state board.old)).fields (B.state board.old).flash page
         (Place.Frame frame) i w }
+
     ensures free { let old = chart (B.state board.old) in
         let new = chart (B.state board.new) in
         owned_by old.fields.slots (undo_of old.fields page) ≡ false
@@ -102,8 +94,7 @@ fn move_in<B: Board>(
     ensures steady { Steady (chart (B.state board.new)) parts.new }
     ensures rests { Rests parts.old.cache parts.new.cache }
     ensures parts { parts.new ≡ record parts.old { space = parts.new.space; cache = parts.new.cache } }
-    ensures off { OnErr result ((B.state board.new).on ≡ false) }
-    ensures on { OnOk result (IsTrue (B.state board.new).on) }
+    ensures power { (B.state board.new).on ≡ power_of result }
 {
     move_to_frame(board, page, frame, i, w)?;
     parts.cache.retarget(page, Place::Frame(frame));
@@ -124,6 +115,7 @@ pub fn bring<B: Board>(
     requires word { i < 32 }
     requires room { length parts.old.frames.held < parts.old.frames.count }
     requires elsewhere { IsElsewhere (place_of (chart (B.state board.old)).fields page) }
+
     ensures free { let old = chart (B.state board.old) in
         let new = chart (B.state board.new) in
         owned_by old.fields.slots (undo_of old.fields page) ≡ false
@@ -136,12 +128,10 @@ pub fn bring<B: Board>(
     ensures counted { Counted 0 0 (chart (B.state board.old)) (chart (B.state board.new)) }
     ensures brings { OnOk result
         (Brings page (chart (B.state board.old)) parts.old (chart (B.state board.new)) parts.new) }
-    ensures steady { Steady (chart (B.state board.new)) parts.new }
-    ensures rests { Rests parts.old.cache parts.new.cache }
+    ensures leaves { LeavesParts (chart (B.state board.old)) parts.old (chart (B.state board.new)) parts.new }
     ensures parts { parts.new
         ≡ record parts.old { frames = parts.new.frames; space = parts.new.space; cache = parts.new.cache } }
-    ensures off { OnErr result ((B.state board.new).on ≡ false) }
-    ensures on { OnOk result (IsTrue (B.state board.new).on) }
+    ensures power { (B.state board.new).on ≡ power_of result }
 {
     let from = place(board, page)?;
     let frame = fill_frame(board, parts, page, from, i, w)?;

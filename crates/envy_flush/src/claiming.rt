@@ -1,12 +1,11 @@
-ghost use Rattle.std.specs.Prelude.{◌≡◌, ◌≢◌, ◌-◌, ◌+◌, ◌<◌, false, IsTrue, Some, IfOk, OnOk, OnErr, slice_index};
-ghost use Rattle.envy_base.specs.State.{ones, row_of};
+ghost use Rattle.std.specs.Prelude.{◌≡◌, ◌-◌, ◌<◌, IfOk, slice_index};
 ghost use Rattle.envy_map.specs.Fields.{chart};
 ghost use Rattle.envy_layout.specs.Same.{Same};
-ghost use Rattle.envy_policy.specs.History.{claimed};
-ghost use Rattle.envy_space.specs.Pool.{Claims, with_filled};
-ghost use Rattle.envy_flush.specs.Agreement.{Ready, Steady};
+ghost use Rattle.envy_flush.specs.Agreement.{Ready};
 ghost use Rattle.envy_reloc.specs.Plan.{IsFreeOf};
-ghost use Rattle.envy_flush.specs.Flushing.{Granted, IsLastAt};
+ghost use Rattle.envy_flush.specs.Leaving.{LeavesParts};
+ghost use Rattle.envy_flush.specs.Power.{power_of};
+ghost use Rattle.envy_flush.specs.Flushing.{TakesFresh};
 
 use crate::parts::Parts;
 use envy_base::{Board, Off};
@@ -24,18 +23,13 @@ pub fn claim_at<B: Board>(
     requires room { slice_index parts.old.space.fills (slice_index parts.old.space.positions position)
         < (B.state board.old).shape.rows }
     requires free { IsFreeOf (chart (B.state board.old)).fields.job (slice_index parts.old.space.positions position) }
+
     ensures same { Same 0 0 (chart (B.state board.old)) (chart (B.state board.new)) }
-    ensures steady { Steady (chart (B.state board.new)) parts.new }
-    ensures claims { let segment = slice_index parts.old.space.positions position in
-        IfOk result (λ row. Claims (chart (B.state board.old)) segment page row (chart (B.state board.new))) }
-    ensures last { IfOk result (IsLastAt (chart (B.state board.new)) position) }
-    ensures granted { IfOk result (λ row.
-        Granted (B.state board.new).shape (chart (B.state board.new)).fields page row) }
-    ensures erased { IfOk result (λ row. row_of (B.state board.new) row ≡ ones) }
-    ensures warmed { OnOk result (parts.new.chooser ≡ claimed parts.old.chooser position page) }
+    ensures leaves { LeavesParts (chart (B.state board.old)) parts.old (chart (B.state board.new)) parts.new }
+    ensures takes { IfOk result (λ row. TakesFresh position page row
+        (chart (B.state board.old)) parts.old (chart (B.state board.new)) parts.new) }
     ensures parts { parts.new ≡ record parts.old { space = parts.new.space; chooser = parts.new.chooser } }
-    ensures on { OnOk result (IsTrue (B.state board.new).on) }
-    ensures off { OnErr result ((B.state board.new).on ≡ false) }
+    ensures power { (B.state board.new).on ≡ power_of result }
 {
     let row = parts
         .space

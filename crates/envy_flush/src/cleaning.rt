@@ -1,21 +1,16 @@
-ghost use Rattle.std.specs.Prelude.{List, ◌≡◌, ◌≢◌, ◌↔◌, ◌+◌, ◌-◌, ◌*◌, ◌/◌, ◌^◌, ◌<◌, ◌≤◌, ℕ, false, IsTrue, [], Some, Err, IfOk, IfSome, OnOk, OnErr, IsErrOf, length, slice_index, All};
-ghost use Rattle.envy_base.specs.State.{ones, row_of};
-ghost use Rattle.envy_base.specs.declared.fields.Job.TheVariants.{Idle, Copy};
-ghost use Rattle.envy_map.specs.Fields.{chart, with_fields};
-ghost use Rattle.envy_map.specs.Writes.{with_job};
+ghost use Rattle.std.specs.Prelude.{◌≡◌, ◌+◌, ◌-◌, ◌/◌, ◌<◌, ◌≤◌, ℕ, false, IsTrue, [], Some, IfOk, IfSome, OnOk, OnErr, IsErrOf, length, slice_index, All};
+ghost use Rattle.envy_base.specs.declared.fields.Job.TheVariants.{Idle};
+ghost use Rattle.envy_map.specs.Fields.{chart};
 ghost use Rattle.envy_layout.specs.Same.{Same};
 ghost use Rattle.envy_layout.specs.Sound.{Names};
-ghost use Rattle.envy_policy.specs.History.{cleaned};
-ghost use Rattle.envy_policy.specs.declared.choice.Choice.TheVariants.{Clean};
 ghost use Rattle.envy_layout.specs.Frames.{FramesStay};
-ghost use Rattle.envy_table.specs.Hits.{Rests};
-ghost use Rattle.envy_flush.specs.Agreement.{Ready, Steady};
+ghost use Rattle.envy_flush.specs.Agreement.{Ready};
 ghost use Rattle.envy_flush.specs.Budgets.{Budget};
-ghost use Rattle.envy_reloc.specs.Cleaning.{Cleans};
-ghost use Rattle.envy_flush.specs.Counts.{Counting};
-ghost use Rattle.envy_flush.specs.Flushing.{Granted, Follows, Ends, NotesBad};
-ghost use Rattle.envy_flush.specs.Cleaning.{AreLowestKept, AreMoves, takers, BeginsClean, CleansAll, StopsClean};
-ghost use Rattle.envy_flush.specs.Steps.{Begins, CountsNone, Finishes, StopsStep};
+ghost use Rattle.envy_flush.specs.Cleaning.{AreLowestKept, AreMoves, takers, BeginsClean, FinishesClean, CleansWhole, StopsWhole};
+ghost use Rattle.envy_flush.specs.Steps.{Begins, CountsNone, StopsStep};
+ghost use Rattle.envy_flush.specs.Leaving.{LeavesParts, KeepsFrames, CountsBad};
+ghost use Rattle.envy_flush.specs.Power.{power_of, power_after};
+ghost use Rattle.envy_flush.specs.Flushing.{CleansFor, IsAtRest};
 
 use crate::claiming::claim_at;
 use crate::jobs::{runs, tick_job};
@@ -66,6 +61,7 @@ fn planned<B: Board>(
     requires ready { Ready (chart (B.state board.now)) parts.now }
     requires position { position < (B.state board.now).shape.segments - 1 }
     requires aside { IfSome aside (λ g. g < length parts.now.chooser.heats) }
+
     ensures rows { IfOk result (λ plan.
         All (λ q. q / (B.state board.now).shape.rows ≡ slice_index parts.now.space.positions position)
         plan.moves.items) }
@@ -103,19 +99,16 @@ pub fn begin_clean<B: Board>(
     requires idle { (chart (B.state board.old)).fields.job ≡ Some Idle }
     requires position { position < (B.state board.old).shape.segments - 1 }
     requires aside { IfSome aside (λ g. g < length parts.old.chooser.heats) }
+
     ensures same { Same 0 0 (chart (B.state board.old)) (chart (B.state board.new)) }
-    ensures steady { Steady (chart (B.state board.new)) parts.new }
+    ensures leaves { LeavesParts (chart (B.state board.old)) parts.old (chart (B.state board.new)) parts.new }
     ensures begins { OnOk result (Begins position (chart (B.state board.old)) (chart (B.state board.new))) }
-    ensures fields { OnOk result (chart (B.state board.new) ≡ with_fields (chart (B.state board.old))
-        (with_job (Some (Copy (slice_index parts.old.space.positions position))) (chart (B.state board.old)).fields)) }
     ensures cleans { OnOk result
         (BeginsClean position aside (chart (B.state board.old)) parts.old (chart (B.state board.new)) parts.new) }
-    ensures chooser { OnOk result (parts.new.chooser ≡ cleaned parts.old.chooser position) }
     ensures none { CountsNone parts.old parts.new }
     ensures since { parts.new.reloc.since ≡ parts.old.reloc.since }
     ensures parts { parts.new ≡ record parts.old { chooser = parts.new.chooser; reloc = parts.new.reloc } }
-    ensures on { OnOk result (IsTrue (B.state board.new).on) }
-    ensures off { OnErr result ((B.state board.new).on ≡ false) }
+    ensures power { (B.state board.new).on ≡ power_of result }
 {
     let plan = planned(board, parts, position, aside)?;
     parts
@@ -132,9 +125,9 @@ fn finish_clean<B: Board>(board: &mut B, parts: &mut Parts, rows: u32) -> Result
         × (s ≤ rows + 7) }
     requires none { parts.old.stages ≡ [] }
     requires few { rows ≤ 65536 }
+
     ensures same { Same (rows + 5) 2 (chart (B.state board.old)) (chart (B.state board.new)) }
-    ensures steady { Steady (chart (B.state board.new)) parts.new }
-    ensures counting { Counting (chart (B.state board.old)) parts.old (chart (B.state board.new)) parts.new }
+    ensures leaves { LeavesParts (chart (B.state board.old)) parts.old (chart (B.state board.new)) parts.new }
     ensures here { IsTrue (B.state board.new).on
         → FramesStay (chart (B.state board.old)).fields.places (chart (B.state board.new)).fields.places }
     ensures parts { parts.new
@@ -145,20 +138,12 @@ fn finish_clean<B: Board>(board: &mut B, parts: &mut Parts, rows: u32) -> Result
           stages =
               parts.new.stages;
         } }
-    ensures rests { Rests parts.old.cache parts.new.cache }
-    ensures idle { OnOk result ((chart (B.state board.new)).fields.job ≡ Some Idle) }
-    ensures none { OnOk result (parts.new.stages ≡ []) }
     ensures finishes { OnOk result
-        (Finishes (chart (B.state board.old)) parts.old (chart (B.state board.new)) parts.new) }
+        (FinishesClean (chart (B.state board.old)) parts.old (chart (B.state board.new)) parts.new) }
     ensures stops { IsErrOf result Trouble.Bad
         → StopsStep (chart (B.state board.old)) parts.old (chart (B.state board.new)) parts.new }
-    ensures cleans { OnOk result ((positions : List ℕ) (k n : ℕ)
-        → Cleans (B.state board.old).shape positions k n (chart (B.state board.old)).fields parts.old.reloc.erased
-        → Cleans (B.state board.old).shape positions k n (chart (B.state board.new)).fields parts.new.reloc.erased) }
-    ensures on { OnOk result (IsTrue (B.state board.new).on) }
-    ensures off { (result ≡ Err Trouble.Off) ↔ ((B.state board.new).on ≡ false) }
-    ensures bad { IsErrOf result Trouble.Bad → (B.state board.old).bads < 2 ^ 64 - 1
-        → (B.state board.old).bads < (B.state board.new).bads }
+    ensures power { (B.state board.new).on ≡ power_after result }
+    ensures bad { IsErrOf result Trouble.Bad → CountsBad (chart (B.state board.old)) (chart (B.state board.new)) }
 {
     for _turn in 0..rows + 8 {
         if !runs(board)? {
@@ -177,16 +162,17 @@ fn run_clean<B: Board>(
     aside: Option<u32>,
 ) -> Result<(), Trouble>
     requires ready { Ready (chart (B.state board.old)) parts.old }
-    requires idle { (chart (B.state board.old)).fields.job ≡ Some Idle }
-    requires stages { parts.old.stages ≡ [] }
+    requires rest { IsAtRest (chart (B.state board.old)) parts.old }
     requires position { position < (B.state board.old).shape.segments - 1 }
     requires aside { IfSome aside (λ g. g < length parts.old.chooser.heats) }
     requires dead { (d : ℕ)
         × (d / (B.state board.old).shape.rows ≡ slice_index (chart (B.state board.old)).fields.positions position)
         × ((p : ℕ) → Names (chart (B.state board.old)).fields p d → ⊥) }
+
     ensures same { Same ((B.state board.old).shape.rows + 5) 2 (chart (B.state board.old)) (chart (B.state board.new)) }
-    ensures steady { Steady (chart (B.state board.new)) parts.new }
-    ensures counting { Counting (chart (B.state board.old)) parts.old (chart (B.state board.new)) parts.new }
+    ensures leaves { LeavesParts (chart (B.state board.old)) parts.old (chart (B.state board.new)) parts.new }
+    ensures here { IsTrue (B.state board.new).on
+        → FramesStay (chart (B.state board.old)).fields.places (chart (B.state board.new)).fields.places }
     ensures parts { parts.new
         ≡ record parts.old {
           space = parts.new.space;
@@ -196,24 +182,11 @@ fn run_clean<B: Board>(
               parts.new.stages;
           chooser = parts.new.chooser;
         } }
-    ensures here { IsTrue (B.state board.new).on
-        → FramesStay (chart (B.state board.old)).fields.places (chart (B.state board.new)).fields.places }
-    ensures rests { Rests parts.old.cache parts.new.cache }
-    ensures idle { OnOk result ((chart (B.state board.new)).fields.job ≡ Some Idle) }
-    ensures none { OnOk result (parts.new.stages ≡ []) }
-    ensures chooser { OnOk result (parts.new.chooser ≡ cleaned parts.old.chooser position) }
-    ensures noted { IsErrOf result Trouble.Bad → parts.new.chooser ≡ cleaned parts.old.chooser position }
-    ensures whole { OnOk result
-        (CleansAll position aside (chart (B.state board.old)) parts.old (chart (B.state board.new)) parts.new) }
-    ensures stops { IsErrOf result Trouble.Bad
-        → StopsClean position aside (chart (B.state board.old)) parts.old (chart (B.state board.new)) parts.new }
     ensures cleans { OnOk result
-        (Cleans (B.state board.old).shape (chart (B.state board.old)).fields.positions position parts.old.reloc.erased
-        (chart (B.state board.new)).fields parts.new.reloc.erased) }
-    ensures on { OnOk result (IsTrue (B.state board.new).on) }
-    ensures off { (result ≡ Err Trouble.Off) ↔ ((B.state board.new).on ≡ false) }
-    ensures bad { IsErrOf result Trouble.Bad → (B.state board.old).bads < 2 ^ 64 - 1
-        → (B.state board.old).bads < (B.state board.new).bads }
+        (CleansWhole position aside (chart (B.state board.old)) parts.old (chart (B.state board.new)) parts.new) }
+    ensures stops { IsErrOf result Trouble.Bad
+        → StopsWhole position aside (chart (B.state board.old)) parts.old (chart (B.state board.new)) parts.new }
+    ensures power { (B.state board.new).on ≡ power_after result }
 {
     let rows = board.shape().rows;
     begin_clean(board, parts, position, aside)?;
@@ -230,35 +203,22 @@ pub fn clean<B: Board>(
     page: u32,
 ) -> Result<u32, Trouble>
     requires ready { Ready (chart (B.state board.old)) parts.old }
-    requires idle { (chart (B.state board.old)).fields.job ≡ Some Idle }
-    requires stages { parts.old.stages ≡ [] }
+    requires rest { IsAtRest (chart (B.state board.old)) parts.old }
     requires position { position < (B.state board.old).shape.segments - 1 }
     requires aside { IfSome aside (λ g. g < length parts.old.chooser.heats) }
     requires dead { (d : ℕ)
         × (d / (B.state board.old).shape.rows ≡ slice_index (chart (B.state board.old)).fields.positions position)
         × ((p : ℕ) → Names (chart (B.state board.old)).fields p d → ⊥) }
     requires page { page < (B.state board.old).shape.pages }
+
     ensures same { Same ((B.state board.old).shape.rows + 5) 2 (chart (B.state board.old)) (chart (B.state board.new)) }
-    ensures steady { Steady (chart (B.state board.new)) parts.new }
-    ensures granted { IfOk result (λ row.
-        Granted (B.state board.new).shape (chart (B.state board.new)).fields page row) }
-    ensures erased { IfOk result (λ row. row_of (B.state board.new) row ≡ ones) }
-    ensures counting { Counting (chart (B.state board.old)) parts.old (chart (B.state board.new)) parts.new }
-    ensures frames { parts.new.frames ≡ parts.old.frames }
-    ensures here { IsTrue (B.state board.new).on
-        → FramesStay (chart (B.state board.old)).fields.places (chart (B.state board.new)).fields.places }
-    ensures flushes { parts.new.flushes ≡ parts.old.flushes }
-    ensures rests { Rests parts.old.cache parts.new.cache }
-    ensures noted { IsErrOf result Trouble.Bad → NotesBad (Clean position aside) page parts.old parts.new }
+    ensures leaves { LeavesParts (chart (B.state board.old)) parts.old (chart (B.state board.new)) parts.new }
+    ensures keeps { KeepsFrames (chart (B.state board.old)) parts.old (chart (B.state board.new)) parts.new }
+    ensures gets { IfOk result (λ row. CleansFor position aside page row
+        (chart (B.state board.old)) parts.old (chart (B.state board.new)) parts.new) }
     ensures stops { IsErrOf result Trouble.Bad
-        → StopsClean position aside (chart (B.state board.old)) parts.old (chart (B.state board.new)) parts.new }
-    ensures follows { IfOk result (λ row. Follows (Clean position aside) page row (chart (B.state board.old)) parts.old
-        (chart (B.state board.new)) parts.new) }
-    ensures ends { OnOk result (Ends (chart (B.state board.old)) parts.old (chart (B.state board.new)) parts.new) }
-    ensures on { OnOk result (IsTrue (B.state board.new).on) }
-    ensures off { (result ≡ Err Trouble.Off) ↔ ((B.state board.new).on ≡ false) }
-    ensures bad { IsErrOf result Trouble.Bad → (B.state board.old).bads < 2 ^ 64 - 1
-        → (B.state board.old).bads < (B.state board.new).bads }
+        → StopsWhole position aside (chart (B.state board.old)) parts.old (chart (B.state board.new)) parts.new }
+    ensures power { (B.state board.new).on ≡ power_after result }
 {
     run_clean(board, parts, position, aside)?;
     Ok(claim_at(board, parts, position, page)?)

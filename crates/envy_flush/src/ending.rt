@@ -1,17 +1,14 @@
-ghost use Rattle.std.specs.Prelude.{◌≡◌, ◌≢◌, ◌⊎◌, ◌<◌, not, ℕ, true, false, IsTrue, Some, None, OnOk, OnErr, IfOk, MatchResult};
-ghost use Rattle.std.specs.List.{filter};
+ghost use Rattle.std.specs.Prelude.{◌≡◌, ◌≢◌, ◌⊎◌, ◌<◌, ℕ, true, false, Some, None, OnOk, OnErr, IfOk, MatchResult};
 ghost use Rattle.envy_base.specs.declared.fields.Slot.TheVariants.{Vacant, Active};
-ghost use Rattle.envy_map.specs.Fields.{chart, with_fields, slot as slot_of, undo as undo_of};
+ghost use Rattle.envy_map.specs.Fields.{chart, with_fields, slot as slot_of};
 ghost use Rattle.envy_map.specs.Writes.{with_slot};
 ghost use Rattle.envy_layout.specs.Same.{SameDurable, SameWords, Commits};
 ghost use Rattle.envy_layout.specs.Sound.{IsSound};
-ghost use Rattle.envy_layout.specs.Transactions.{Closes, TakesBack};
 ghost use Rattle.envy_table.specs.Hits.{Rests};
-ghost use Rattle.envy_txn.specs.Owners.{names_slot, others_of};
 ghost use Rattle.envy_flush.specs.Agreement.{Ready, Steady};
-ghost use Rattle.envy_flush.specs.Ending.{IsReleasing};
-ghost use Rattle.envy_flush.specs.Putting.{OwnersAgree};
-ghost use Rattle.envy_flush.specs.Storing.{Rows};
+ghost use Rattle.envy_flush.specs.Ending.{IsReleasing, EndsSlot, TakesSlot};
+ghost use Rattle.envy_flush.specs.Putting.{OwnersAgree, KeepsOwners};
+ghost use Rattle.envy_flush.specs.Power.{power_of};
 
 use crate::parts::Parts;
 use envy_base::{Board, Off, Slot};
@@ -58,13 +55,13 @@ pub fn open_slot<B: Board>(board: &mut B, parts: &Parts, owned: &Owned, t: u8) -
     requires version { (chart (B.state board.old)).fields.version ≡ 2 }
     requires slot { t < 64 }
     requires vacant { slot_of (chart (B.state board.old)).fields t ≡ Some Vacant }
+
     ensures same { SameWords 0 0 (chart (B.state board.old)) (chart (B.state board.new)) }
     ensures fields { OnOk result (chart (B.state board.new) ≡ with_fields (chart (B.state board.old))
         (with_slot t (Some Active) (chart (B.state board.old)).fields)) }
     ensures steady { Steady (chart (B.state board.new)) parts.now }
     ensures owners { OwnersAgree (chart (B.state board.new)) owned.now }
-    ensures on { OnOk result (IsTrue (B.state board.new).on) }
-    ensures off { OnErr result ((B.state board.new).on ≡ false) }
+    ensures power { (B.state board.new).on ≡ power_of result }
 {
     set_unused_slot(board, t, Slot::Active)
 }
@@ -77,16 +74,14 @@ fn release_pages<B: Board>(
     t: u8,
 ) -> Result<(), Off>
     requires releasing { IsReleasing t (chart (B.state board.old)) parts.old owned.old }
+
     ensures same { SameWords 0 0 (chart (B.state board.old)) (chart (B.state board.new)) }
-    ensures closes { OnOk result (Closes t (chart (B.state board.old)) (chart (B.state board.new))) }
-    ensures rows { OnOk result (Rows (chart (B.state board.old)) (chart (B.state board.new))) }
-    ensures pairs { OnOk result (owned.new ≡ record owned.old { pairs = others_of t owned.old.pairs }) }
-    ensures limit { owned.new.limit ≡ owned.old.limit }
-    ensures owners { OwnersAgree (chart (B.state board.new)) owned.new }
+    ensures ends { OnOk result
+        (EndsSlot t (chart (B.state board.old)) owned.old (chart (B.state board.new)) owned.new) }
+    ensures owners { KeepsOwners (chart (B.state board.new)) owned.old owned.new }
     ensures steady { Steady (chart (B.state board.new)) parts.new }
     ensures parts { parts.new ≡ record parts.old { space = parts.new.space } }
-    ensures on { OnOk result (IsTrue (B.state board.new).on) }
-    ensures off { OnErr result ((B.state board.new).on ≡ false) }
+    ensures power { (B.state board.new).on ≡ power_of result }
 {
     owned.release_all(board, &mut parts.space, t)?;
     set_unused_slot(board, t, Slot::Vacant)
@@ -104,18 +99,16 @@ pub fn commit_pages<B: Board>(
     requires version { (chart (B.state board.old)).fields.version ≡ 2 }
     requires slot { t < 64 }
     requires active { slot_of (chart (B.state board.old)).fields t ≡ Some Active }
+
     ensures commits { MatchResult result (λ _. Commits 0 0 t (chart (B.state board.old)) (chart (B.state board.new)))
         (λ _. SameDurable 0 0 (chart (B.state board.old)) (chart (B.state board.new))
         ⊎ Commits 0 0 t (chart (B.state board.old)) (chart (B.state board.new))) }
-    ensures closes { OnOk result (Closes t (chart (B.state board.old)) (chart (B.state board.new))) }
-    ensures rows { OnOk result (Rows (chart (B.state board.old)) (chart (B.state board.new))) }
-    ensures pairs { OnOk result (owned.new ≡ record owned.old { pairs = others_of t owned.old.pairs }) }
-    ensures limit { owned.new.limit ≡ owned.old.limit }
-    ensures owners { OwnersAgree (chart (B.state board.new)) owned.new }
+    ensures ends { OnOk result
+        (EndsSlot t (chart (B.state board.old)) owned.old (chart (B.state board.new)) owned.new) }
+    ensures owners { KeepsOwners (chart (B.state board.new)) owned.old owned.new }
     ensures steady { Steady (chart (B.state board.new)) parts.new }
     ensures parts { parts.new ≡ record parts.old { space = parts.new.space } }
-    ensures on { OnOk result (IsTrue (B.state board.new).on) }
-    ensures off { OnErr result ((B.state board.new).on ≡ false) }
+    ensures power { (B.state board.new).on ≡ power_of result }
 {
     commit_slot(board, t)?;
     release_pages(board, parts, owned, t)
@@ -133,22 +126,16 @@ pub fn abort_pages<B: Board>(
     requires version { (chart (B.state board.old)).fields.version ≡ 2 }
     requires slot { t < 64 }
     requires active { slot_of (chart (B.state board.old)).fields t ≡ Some Active }
+
     ensures durable { SameDurable 0 0 (chart (B.state board.old)) (chart (B.state board.new)) }
-    ensures takes { OnOk result (TakesBack t (chart (B.state board.old)) (chart (B.state board.new))) }
-    ensures closes { OnOk result (Closes t (chart (B.state board.old)) (chart (B.state board.new))) }
-    ensures rows { OnOk result (Rows (chart (B.state board.old)) (chart (B.state board.new))) }
-    ensures held { let f = (chart (B.state board.old)).fields in
-        OnOk result
-        (parts.new.frames.held ≡ filter (λ h. not (names_slot t (undo_of f h.page))) parts.old.frames.held) }
-    ensures pairs { OnOk result (owned.new ≡ record owned.old { pairs = others_of t owned.old.pairs }) }
-    ensures limit { owned.new.limit ≡ owned.old.limit }
-    ensures owners { OwnersAgree (chart (B.state board.new)) owned.new }
+    ensures aborts { OnOk result
+        (TakesSlot t (chart (B.state board.old)) parts.old owned.old (chart (B.state board.new)) parts.new owned.new) }
+    ensures owners { KeepsOwners (chart (B.state board.new)) owned.old owned.new }
     ensures rests { Rests parts.old.cache parts.new.cache }
     ensures steady { Steady (chart (B.state board.new)) parts.new }
     ensures parts { parts.new
         ≡ record parts.old { frames = parts.new.frames; space = parts.new.space; cache = parts.new.cache } }
-    ensures on { OnOk result (IsTrue (B.state board.new).on) }
-    ensures off { OnErr result ((B.state board.new).on ≡ false) }
+    ensures power { (B.state board.new).on ≡ power_of result }
 {
     owned.restore_all(
         board,

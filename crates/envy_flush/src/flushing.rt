@@ -1,19 +1,18 @@
-ghost use Rattle.std.specs.Prelude.{◌≡◌, ◌≢◌, ◌↔◌, ◌*◌, ◌+◌, ◌-◌, ◌^◌, ◌<◌, ℕ, false, IsTrue, [], Some, Err, OnOk, OnErr, IsErrOf, slice_get, slice_index};
+ghost use Rattle.std.specs.Prelude.{◌≡◌, ◌≢◌, ◌*◌, ◌+◌, ◌<◌, ℕ, [], Some, OnOk, IsErrOf, slice_index};
 ghost use Rattle.std.specs.List.{filter};
-ghost use Rattle.envy_base.specs.Counting.{up, Tally};
-ghost use Rattle.envy_base.specs.State.{ones, row_of};
+ghost use Rattle.envy_base.specs.Counting.{up};
+ghost use Rattle.envy_base.specs.State.{row_of};
 ghost use Rattle.envy_map.specs.Fields.{chart, with_fields, place};
 ghost use Rattle.envy_map.specs.Writes.{with_place};
-ghost use Rattle.envy_frames.specs.declared.held.Held.{Held};
 ghost use Rattle.envy_frames.specs.Order.{is_other};
 ghost use Rattle.envy_layout.specs.Same.{Same};
-ghost use Rattle.envy_table.specs.Hits.{Rests};
-ghost use Rattle.envy_flush.specs.Agreement.{Ready, Steady};
-ghost use Rattle.envy_flush.specs.Counts.{Counting};
-ghost use Rattle.envy_flush.specs.Flushing.{StopsFor, FlushesOldest, Granted};
+ghost use Rattle.envy_flush.specs.Agreement.{Ready};
+ghost use Rattle.envy_flush.specs.Flushing.{FlushesOldest, Granted, IsFresh, MovesOut, StopsMove, StopsOldest};
+ghost use Rattle.envy_flush.specs.Leaving.{LeavesParts};
+ghost use Rattle.envy_flush.specs.Power.{power_of, power_after};
 
 use crate::parts::Parts;
-use crate::programming::program_copy;
+use crate::programming::copy_row;
 use crate::rows::get_row;
 use envy_base::{Board, Off, Place, Trouble};
 use envy_layout::move_place;
@@ -33,16 +32,15 @@ fn move_out<B: Board>(
     requires copy { (j : ℕ) → j < 32
         → slice_index (row_of (B.state board.old) row) j ≡ slice_index (chart (B.state board.old)).fields.frames
         (32 * frame + j) }
+
     ensures same { Same 0 0 (chart (B.state board.old)) (chart (B.state board.new)) }
-    ensures steady { Steady (chart (B.state board.new)) parts.new }
+    ensures leaves { LeavesParts (chart (B.state board.old)) parts.old (chart (B.state board.new)) parts.new }
     ensures fields { OnOk result (chart (B.state board.new) ≡ with_fields (chart (B.state board.old))
         (with_place page (Some (Place.Row row)) (chart (B.state board.old)).fields)) }
     ensures frames { OnOk result (parts.new.frames.held ≡ filter (is_other frame) parts.old.frames.held) }
-    ensures rests { Rests parts.old.cache parts.new.cache }
     ensures parts { parts.new
         ≡ record parts.old { frames = parts.new.frames; space = parts.new.space; cache = parts.new.cache } }
-    ensures on { OnOk result (IsTrue (B.state board.new).on) }
-    ensures off { OnErr result ((B.state board.new).on ≡ false) }
+    ensures power { (B.state board.new).on ≡ power_of result }
 {
     move_place(board, page, Place::Row(row))?;
     parts.space.note_kept(row);
@@ -62,34 +60,25 @@ pub fn flush_into<B: Board>(
     requires ready { Ready (chart (B.state board.old)) parts.old }
     requires page { page < (B.state board.old).shape.pages }
     requires here { place (chart (B.state board.old)).fields page ≡ Some (Place.Frame frame) }
-    requires granted { Granted (B.state board.old).shape (chart (B.state board.old)).fields page row }
-    requires erased { row_of (B.state board.old) row ≡ ones }
+    requires fresh { IsFresh (chart (B.state board.old)) page row }
+
     ensures same { Same 1 0 (chart (B.state board.old)) (chart (B.state board.new)) }
-    ensures steady { Steady (chart (B.state board.new)) parts.new }
-    ensures tally { Tally (B.state board.old).begun parts.old.flushes (B.state board.new).begun parts.new.flushes }
-    ensures fields { OnOk result ((chart (B.state board.new)).fields ≡ with_place page (Some (Place.Row row))
-        (chart (B.state board.old)).fields) }
-    ensures erases { OnOk result ((B.state board.new).erases ≡ (B.state board.old).erases) }
-    ensures frames { OnOk result (parts.new.frames.held ≡ filter (is_other frame) parts.old.frames.held) }
-    ensures flushes { parts.new.flushes ≡ up parts.old.flushes }
-    ensures stops { IsErrOf result Trouble.Bad → parts.new.frames ≡ parts.old.frames }
-    ensures stays { IsErrOf result Trouble.Bad
-        → (chart (B.state board.new)).fields ≡ (chart (B.state board.old)).fields }
-    ensures unerased { IsErrOf result Trouble.Bad → (B.state board.new).erases ≡ (B.state board.old).erases }
-    ensures rests { Rests parts.old.cache parts.new.cache }
+    ensures leaves { LeavesParts (chart (B.state board.old)) parts.old (chart (B.state board.new)) parts.new }
+    ensures moves { OnOk result
+        (MovesOut page frame row (chart (B.state board.old)) parts.old (chart (B.state board.new)) parts.new) }
+    ensures stops { IsErrOf result Trouble.Bad
+        → StopsMove (chart (B.state board.old)) parts.old (chart (B.state board.new)) parts.new }
     ensures parts { parts.new
         ≡ record parts.old {
           frames = parts.new.frames;
           space = parts.new.space;
           cache = parts.new.cache;
           flushes =
-              parts.new.flushes;
+              up parts.old.flushes;
         } }
-    ensures on { OnOk result (IsTrue (B.state board.new).on) }
-    ensures off { (result ≡ Err Trouble.Off) ↔ ((B.state board.new).on ≡ false) }
-    ensures bad { IsErrOf result Trouble.Bad → (B.state board.new).bads ≡ up (B.state board.old).bads }
+    ensures power { (B.state board.new).on ≡ power_after result }
 {
-    program_copy(board, &mut parts.flushes, page, frame, row)?;
+    copy_row(board, parts, page, frame, row)?;
     move_out(board, parts, page, frame, row)?;
     Ok(())
 }
@@ -98,20 +87,15 @@ pub fn flush_into<B: Board>(
 pub fn flush_oldest<B: Board>(board: &mut B, parts: &mut Parts) -> Result<(), Trouble>
     requires ready { Ready (chart (B.state board.old)) parts.old }
     requires some { parts.old.frames.held ≢ [] }
+
     ensures same { Same (4 * (B.state board.old).shape.rows + 13) 6 (chart (B.state board.old))
         (chart (B.state board.new)) }
-    ensures steady { Steady (chart (B.state board.new)) parts.new }
-    ensures counting { Counting (chart (B.state board.old)) parts.old (chart (B.state board.new)) parts.new }
-    ensures rests { Rests parts.old.cache parts.new.cache }
+    ensures leaves { LeavesParts (chart (B.state board.old)) parts.old (chart (B.state board.new)) parts.new }
     ensures flushes { OnOk result
         (FlushesOldest (chart (B.state board.old)) parts.old (chart (B.state board.new)) parts.new) }
-    ensures stops { IsErrOf result Trouble.Bad → parts.new.frames ≡ parts.old.frames }
-    ensures noted { IsErrOf result Trouble.Bad → (h : Held) × (slice_get parts.old.frames.held 0 ≡ Some h)
-        × StopsFor h.home h.page (chart (B.state board.old)) parts.old (chart (B.state board.new)) parts.new }
-    ensures on { OnOk result (IsTrue (B.state board.new).on) }
-    ensures off { (result ≡ Err Trouble.Off) ↔ ((B.state board.new).on ≡ false) }
-    ensures bad { IsErrOf result Trouble.Bad → (B.state board.old).bads < 2 ^ 64 - 1
-        → (B.state board.old).bads < (B.state board.new).bads }
+    ensures stops { IsErrOf result Trouble.Bad
+        → StopsOldest (chart (B.state board.old)) parts.old (chart (B.state board.new)) parts.new }
+    ensures power { (B.state board.new).on ≡ power_after result }
 {
     let Some(held) = parts.frames.oldest() else {
         unreachable!();

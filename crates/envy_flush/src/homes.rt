@@ -15,6 +15,7 @@ pub fn home_of<B: Board>(board: &B, parts: &Parts, page: u32, from: Place) -> Re
     requires page { page < (B.state board.now).shape.pages }
     requires here { place_of (chart (B.state board.now)).fields page ≡ Some from }
     requires elsewhere { IsElsewhere (Some from) }
+
     ensures home { IfOk result (IsHome (B.state board.now).shape (chart (B.state board.now)).fields page from) }
     ensures within { IfOk result (λ home. home < (B.state board.now).shape.segments - 1) }
     ensures off { OnErr result ((B.state board.now).on ≡ false) }

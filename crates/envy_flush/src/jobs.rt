@@ -1,18 +1,17 @@
-ghost use Rattle.std.specs.Prelude.{List, ◌≡◌, ◌≢◌, ◌↔◌, ◌-◌, ◌^◌, ◌<◌, ◌≤◌, ℕ, true, false, IsTrue, [], Some, Err, IfOk, OnOk, OnErr, IsErrOf, length, drop};
-ghost use Rattle.envy_base.specs.Counting.{up};
-ghost use Rattle.envy_base.specs.declared.fields.Job.TheVariants.{Idle, Erase};
+ghost use Rattle.std.specs.Prelude.{List, ◌≡◌, ◌≢◌, ◌<◌, ℕ, true, false, IsTrue, Some, IfOk, OnOk, OnErr, IsErrOf, length, drop};
+ghost use Rattle.envy_base.specs.declared.fields.Job.TheVariants.{Idle};
 ghost use Rattle.envy_map.specs.Fields.{chart};
 ghost use Rattle.envy_layout.specs.Same.{Same};
 ghost use Rattle.envy_layout.specs.Sound.{IsSound};
 ghost use Rattle.envy_layout.specs.Frames.{FramesStay};
 ghost use Rattle.envy_reloc.specs.Effort.{Leaves, Spent};
-ghost use Rattle.envy_table.specs.Hits.{Rests};
-ghost use Rattle.envy_reloc.specs.Phases.{Does, SameOnce, Spoils};
-ghost use Rattle.envy_flush.specs.Agreement.{Ready, Steady};
+ghost use Rattle.envy_reloc.specs.Phases.{Does, SameOnce};
+ghost use Rattle.envy_flush.specs.Agreement.{Ready};
 ghost use Rattle.envy_reloc.specs.Cleaning.{Cleans};
 ghost use Rattle.envy_flush.specs.Budgets.{StageBegins};
-ghost use Rattle.envy_flush.specs.Counts.{Counting};
-ghost use Rattle.envy_flush.specs.Steps.{TicksJob, TicksStage, StopsJob};
+ghost use Rattle.envy_flush.specs.Steps.{TicksJob, TicksStage, StopsJob, SpoilsStep};
+ghost use Rattle.envy_flush.specs.Leaving.{LeavesParts, CountsBad};
+ghost use Rattle.envy_flush.specs.Power.{power_after};
 
 use crate::did::{Did, named};
 use crate::parts::Parts;
@@ -35,29 +34,24 @@ pub fn runs<B: Board>(board: &B) -> Result<bool, Off>
 pub fn step_job<B: Board>(board: &mut B, parts: &mut Parts) -> Result<Phase, Trouble>
     requires ready { Ready (chart (B.state board.old)) parts.old }
     requires running { (chart (B.state board.old)).fields.job ≢ Some Idle }
+
     ensures step { SameOnce (chart (B.state board.old)) (chart (B.state board.new)) }
-    ensures steady { Steady (chart (B.state board.new)) parts.new }
-    ensures counting { Counting (chart (B.state board.old)) parts.old (chart (B.state board.new)) parts.new }
-    ensures does { IfOk result (λ phase.
-        Does (chart (B.state board.old)) parts.old.reloc phase (chart (B.state board.new)) parts.new.reloc) }
-    ensures rests { Rests parts.old.cache parts.new.cache }
+    ensures leaves { LeavesParts (chart (B.state board.old)) parts.old (chart (B.state board.new)) parts.new }
     ensures here { IsTrue (B.state board.new).on
         → FramesStay (chart (B.state board.old)).fields.places (chart (B.state board.new)).fields.places }
     ensures parts { parts.new
         ≡ record parts.old { space = parts.new.space; cache = parts.new.cache; reloc = parts.new.reloc } }
+
+    ensures does { IfOk result (λ phase.
+        Does (chart (B.state board.old)) parts.old.reloc phase (chart (B.state board.new)) parts.new.reloc) }
     ensures cleans { OnOk result ((positions : List ℕ) (k n : ℕ)
         → Cleans (B.state board.old).shape positions k n (chart (B.state board.old)).fields parts.old.reloc.erased
         → Cleans (B.state board.old).shape positions k n (chart (B.state board.new)).fields parts.new.reloc.erased) }
     ensures left { OnOk result ((n e s : ℕ) → Leaves (chart (B.state board.old)) parts.old.reloc n e s
         → Spent (chart (B.state board.old)) (chart (B.state board.new)) parts.new.reloc n e s) }
-    ensures job { IsErrOf result Trouble.Bad → (chart (B.state board.new)).fields.job ≡ Some Erase }
-    ensures dropped { IsErrOf result Trouble.Bad → (chart (B.state board.old)).fields.job ≢ Some Erase
-        → parts.new.reloc.moves ≡ [] }
     ensures spoils { IsErrOf result Trouble.Bad
-        → Spoils (chart (B.state board.old)) parts.old.reloc (chart (B.state board.new)) parts.new.reloc }
-    ensures on { OnOk result (IsTrue (B.state board.new).on) }
-    ensures off { (result ≡ Err Trouble.Off) ↔ ((B.state board.new).on ≡ false) }
-    ensures bad { IsErrOf result Trouble.Bad → (B.state board.new).bads ≡ up (B.state board.old).bads }
+        → SpoilsStep (chart (B.state board.old)) parts.old.reloc (chart (B.state board.new)) parts.new.reloc }
+    ensures power { (B.state board.new).on ≡ power_after result }
 {
     parts.reloc.step(board, &mut parts.space, &mut parts.cache)
 }
@@ -66,14 +60,9 @@ pub fn step_job<B: Board>(board: &mut B, parts: &mut Parts) -> Result<Phase, Tro
 pub fn tick_job<B: Board>(board: &mut B, parts: &mut Parts) -> Result<Did, Trouble>
     requires ready { Ready (chart (B.state board.old)) parts.old }
     requires running { (chart (B.state board.old)).fields.job ≢ Some Idle }
+
     ensures step { SameOnce (chart (B.state board.old)) (chart (B.state board.new)) }
-    ensures steady { Steady (chart (B.state board.new)) parts.new }
-    ensures counting { Counting (chart (B.state board.old)) parts.old (chart (B.state board.new)) parts.new }
-    ensures does { IfOk result (λ did.
-        TicksJob did (chart (B.state board.old)) parts.old (chart (B.state board.new)) parts.new) }
-    ensures stops { IsErrOf result Trouble.Bad
-        → StopsJob (chart (B.state board.old)) parts.old (chart (B.state board.new)) parts.new }
-    ensures rests { Rests parts.old.cache parts.new.cache }
+    ensures leaves { LeavesParts (chart (B.state board.old)) parts.old (chart (B.state board.new)) parts.new }
     ensures here { IsTrue (B.state board.new).on
         → FramesStay (chart (B.state board.old)).fields.places (chart (B.state board.new)).fields.places }
     ensures parts { parts.new
@@ -84,16 +73,18 @@ pub fn tick_job<B: Board>(board: &mut B, parts: &mut Parts) -> Result<Did, Troub
           stages =
               parts.new.stages;
         } }
-    ensures stays { OnOk result (parts.new.stages ≡ parts.old.stages) }
-    ensures on { OnOk result (IsTrue (B.state board.new).on) }
+
+    ensures does { IfOk result
+        (λ did. TicksJob did (chart (B.state board.old)) parts.old (chart (B.state board.new)) parts.new) }
     ensures cleans { OnOk result ((positions : List ℕ) (k n : ℕ)
         → Cleans (B.state board.old).shape positions k n (chart (B.state board.old)).fields parts.old.reloc.erased
         → Cleans (B.state board.old).shape positions k n (chart (B.state board.new)).fields parts.new.reloc.erased) }
     ensures left { OnOk result ((n e s : ℕ) → Leaves (chart (B.state board.old)) parts.old.reloc n e s
         → Spent (chart (B.state board.old)) (chart (B.state board.new)) parts.new.reloc n e s) }
-    ensures off { (result ≡ Err Trouble.Off) ↔ ((B.state board.new).on ≡ false) }
-    ensures bad { IsErrOf result Trouble.Bad → (B.state board.old).bads < 2 ^ 64 - 1
-        → (B.state board.old).bads < (B.state board.new).bads }
+    ensures stops { IsErrOf result Trouble.Bad
+        → StopsJob (chart (B.state board.old)) parts.old (chart (B.state board.new)) parts.new }
+    ensures power { (B.state board.new).on ≡ power_after result }
+    ensures bad { IsErrOf result Trouble.Bad → CountsBad (chart (B.state board.old)) (chart (B.state board.new)) }
 {
     let erasing = job(board)? == Job::Erase;
     match step_job(board, parts) {
@@ -112,18 +103,16 @@ pub fn tick_stage<B: Board>(board: &mut B, parts: &mut Parts) -> Result<Did, Tro
     requires ready { Ready (chart (B.state board.old)) parts.old }
     requires idle { (chart (B.state board.old)).fields.job ≡ Some Idle }
     requires pending { 0 < length parts.old.stages }
+
     ensures same { Same 0 0 (chart (B.state board.old)) (chart (B.state board.new)) }
-    ensures steady { Steady (chart (B.state board.new)) parts.new }
-    ensures counting { Counting (chart (B.state board.old)) parts.old (chart (B.state board.new)) parts.new }
-    ensures does { IfOk result (λ did.
-        TicksStage did (chart (B.state board.old)) parts.old (chart (B.state board.new)) parts.new) }
+    ensures leaves { LeavesParts (chart (B.state board.old)) parts.old (chart (B.state board.new)) parts.new }
+    ensures does { IfOk result
+        (λ did. TicksStage did (chart (B.state board.old)) parts.old (chart (B.state board.new)) parts.new) }
     ensures begins { OnOk result (StageBegins (chart (B.state board.old)) (chart (B.state board.new)) parts.new.reloc) }
     ensures rest { parts.new.stages ≡ drop 1 parts.old.stages }
     ensures parts { parts.new ≡ record parts.old { reloc = parts.new.reloc; stages = parts.new.stages } }
-    ensures on { OnOk result (IsTrue (B.state board.new).on) }
-    ensures rests { Rests parts.old.cache parts.new.cache }
     ensures never { IsErrOf result Trouble.Bad → ⊥ }
-    ensures off { (result ≡ Err Trouble.Off) ↔ ((B.state board.new).on ≡ false) }
+    ensures power { (B.state board.new).on ≡ power_after result }
 {
     let Some(position) = parts.stages.next() else {
         unreachable!();

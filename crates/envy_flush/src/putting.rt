@@ -1,20 +1,20 @@
-ghost use Rattle.std.specs.Prelude.{◌≡◌, ◌≢◌, ◌↔◌, ◌*◌, ◌+◌, ◌-◌, ◌^◌, ◌<◌, ℕ, true, false, IsTrue, Some, Err, OnOk, OnErr, IfSome, IsErrOf, length, slice_get};
-ghost use Rattle.envy_base.specs.declared.fields.Place.{Place as ThePlace};
+ghost use Rattle.std.specs.Prelude.{◌≡◌, ◌*◌, ◌+◌, ◌<◌, IsTrue, Some, OnOk, OnErr, IsErrOf, length};
 ghost use Rattle.envy_map.specs.Fields.{Chart, chart, with_fields, place as place_of, undo as undo_of};
 ghost use Rattle.envy_map.specs.Writes.{with_place, with_undo};
 ghost use Rattle.envy_frames.specs.Agreement.{IsElsewhere};
-ghost use Rattle.envy_frames.specs.declared.held.Held.{Held};
-ghost use Rattle.envy_layout.specs.May.{HasChanged, IsUnnamed};
-ghost use Rattle.envy_layout.specs.Same.{SameWords, SameDurable};
+ghost use Rattle.envy_layout.specs.May.{HasChanged};
+ghost use Rattle.envy_layout.specs.Same.{SameDurable};
 ghost use Rattle.envy_layout.specs.Sound.{IsSound};
 ghost use Rattle.envy_layout.specs.Transactions.{PutDone};
-ghost use Rattle.envy_table.specs.Hits.{Accesses, Rests};
+ghost use Rattle.envy_table.specs.Hits.{Accesses};
 ghost use Rattle.envy_flush.specs.Agreement.{Ready, Steady};
 ghost use Rattle.envy_flush.specs.Counts.{Counting};
-ghost use Rattle.envy_flush.specs.Flushing.{StopsFor, MakesRoom, Stops};
-ghost use Rattle.envy_flush.specs.Putting.{MayGive, OwnersAgree, given, undo_for, PutFirst, PutsBy};
-ghost use Rattle.envy_flush.specs.Storing.{Brings, Near};
+ghost use Rattle.envy_flush.specs.Flushing.{MakesRoom, Stops, StopsOldest};
+ghost use Rattle.envy_flush.specs.Putting.{MayGive, given, undo_for, PutFirst, PutsBy, KeepsOwners};
+ghost use Rattle.envy_flush.specs.Storing.{Brings, Near, Lands};
 ghost use Rattle.envy_flush.specs.declared.parts.Parts.{Parts as TheParts};
+ghost use Rattle.envy_flush.specs.Leaving.{LeavesParts, CountsBad};
+ghost use Rattle.envy_flush.specs.Power.{power_after, power_of};
 
 use crate::bringing::fill_frame;
 use crate::parts::Parts;
@@ -52,13 +52,11 @@ fn shade_places<B: Board>(
     requires sound { IsSound (chart (B.state board.old)) }
     requires on { IsTrue (B.state board.old).on }
     requires may { MayGive slot page (chart (B.state board.old)) owned.old }
-    requires here { place_of (chart (B.state board.old)).fields page ≡ Some from }
-    requires elsewhere { IsElsewhere (Some from) }
-    requires frame { frame < (B.state board.old).shape.frames }
+    requires lands { Lands (chart (B.state board.old)) page frame from }
     requires word { i < 32 }
-    requires unnamed { IsUnnamed (chart (B.state board.old)).fields frame }
     requires copy { HasChanged (chart (B.state board.old)).fields (B.state board.old).flash page
         (Place.Frame frame) i w }
+
     ensures done { OnOk result (PutDone 0 0 slot page (chart (B.state board.old)) (chart (B.state board.new))
         (32 * page + i) w) }
     ensures durable { OnErr result (SameDurable 0 0 (chart (B.state board.old)) (chart (B.state board.new))) }
@@ -66,9 +64,8 @@ fn shade_places<B: Board>(
         (with_place page (Some (Place.Frame frame))
         (with_undo page (undo_for slot from) (chart (B.state board.old)).fields))) }
     ensures gives { OnOk result (owned.new ≡ given slot page owned.old) }
-    ensures limit { owned.new.limit ≡ owned.old.limit }
-    ensures owners { OwnersAgree (chart (B.state board.new)) owned.new }
-    ensures off { OnErr result ((B.state board.new).on ≡ false) }
+    ensures owners { KeepsOwners (chart (B.state board.new)) owned.old owned.new }
+    ensures power { (B.state board.new).on ≡ power_of result }
 {
     owned.own(board, page, undo_of_place(from, slot))?;
     move_to_frame(board, page, frame, i, w)
@@ -91,6 +88,7 @@ fn shade_in<B: Board>(
     requires word { i < 32 }
     requires copy { HasChanged (chart (B.state board.old)).fields (B.state board.old).flash page
         (Place.Frame frame) i w }
+
     ensures done { OnOk result (PutDone 0 0 slot page (chart (B.state board.old)) (chart (B.state board.new))
         (32 * page + i) w) }
     ensures durable { OnErr result (SameDurable 0 0 (chart (B.state board.old)) (chart (B.state board.new))) }
@@ -98,12 +96,10 @@ fn shade_in<B: Board>(
         (with_place page (Some (Place.Frame frame))
         (with_undo page (undo_for slot from) (chart (B.state board.old)).fields))) }
     ensures gives { OnOk result (owned.new ≡ given slot page owned.old) }
-    ensures limit { owned.new.limit ≡ owned.old.limit }
-    ensures owners { OwnersAgree (chart (B.state board.new)) owned.new }
-    ensures steady { Steady (chart (B.state board.new)) parts.new }
-    ensures rests { Rests parts.old.cache parts.new.cache }
+    ensures owners { KeepsOwners (chart (B.state board.new)) owned.old owned.new }
+    ensures leaves { LeavesParts (chart (B.state board.old)) parts.old (chart (B.state board.new)) parts.new }
     ensures parts { parts.new ≡ record parts.old { cache = parts.new.cache } }
-    ensures off { OnErr result ((B.state board.new).on ≡ false) }
+    ensures power { (B.state board.new).on ≡ power_of result }
 {
     shade_places(board, owned, page, frame, from, slot, i, w)?;
     parts.cache.retarget(page, Place::Frame(frame));
@@ -126,20 +122,18 @@ fn bring_shaded<B: Board>(
     requires word { i < 32 }
     requires room { length parts.old.frames.held < parts.old.frames.count }
     requires elsewhere { IsElsewhere (place_of (chart (B.state board.old)).fields page) }
+
     ensures done { OnOk result (PutDone 0 0 slot page (chart (B.state board.old)) (chart (B.state board.new))
         (32 * page + i) w) }
     ensures durable { OnErr result (SameDurable 0 0 (chart (B.state board.old)) (chart (B.state board.new))) }
     ensures brings { OnOk result
         ((b : Brings page (chart (B.state board.old)) parts.old (chart (B.state board.new)) parts.new)
-        × (undo_of (chart (B.state board.new)).fields page ≡ undo_for slot b.from)) }
-    ensures gives { OnOk result (owned.new ≡ given slot page owned.old) }
-    ensures limit { owned.new.limit ≡ owned.old.limit }
-    ensures owners { OwnersAgree (chart (B.state board.new)) owned.new }
-    ensures steady { Steady (chart (B.state board.new)) parts.new }
-    ensures counting { Counting (chart (B.state board.old)) parts.old (chart (B.state board.new)) parts.new }
-    ensures rests { Rests parts.old.cache parts.new.cache }
+        × (undo_of (chart (B.state board.new)).fields page ≡ undo_for slot b.from)
+        × (owned.new ≡ given slot page owned.old)) }
+    ensures owners { KeepsOwners (chart (B.state board.new)) owned.old owned.new }
+    ensures leaves { LeavesParts (chart (B.state board.old)) parts.old (chart (B.state board.new)) parts.new }
     ensures parts { parts.new ≡ record parts.old { frames = parts.new.frames; cache = parts.new.cache } }
-    ensures off { OnErr result ((B.state board.new).on ≡ false) }
+    ensures power { (B.state board.new).on ≡ power_of result }
 {
     let from = place(board, page)?;
     let frame = fill_frame(board, parts, page, from, i, w)?;
@@ -160,25 +154,19 @@ fn put_elsewhere<B: Board>(
     requires may { MayGive slot page (chart (B.state board.old)) owned.old }
     requires word { i < 32 }
     requires elsewhere { IsElsewhere (place_of (chart (B.state board.old)).fields page) }
+
     ensures put { PutFirst (4 * (B.state board.old).shape.rows + 13) 6 slot page (chart (B.state board.old))
         (32 * page + i) w result (chart (B.state board.new)) }
-    ensures steady { Steady (chart (B.state board.new)) parts.new }
-    ensures counting { Counting (chart (B.state board.old)) parts.old (chart (B.state board.new)) parts.new }
-    ensures rests { Rests parts.old.cache parts.new.cache }
+    ensures leaves { LeavesParts (chart (B.state board.old)) parts.old (chart (B.state board.new)) parts.new }
     ensures makes { OnOk result ((mid : Chart) × (between : TheParts)
         × MakesRoom (chart (B.state board.old)) parts.old mid between
         × (b : Brings page mid between (chart (B.state board.new)) parts.new)
         × (undo_of (chart (B.state board.new)).fields page ≡ undo_for slot b.from)) }
     ensures gives { OnOk result (owned.new ≡ given slot page owned.old) }
-    ensures limit { owned.new.limit ≡ owned.old.limit }
-    ensures owners { OwnersAgree (chart (B.state board.new)) owned.new }
-    ensures stays { IsErrOf result Trouble.Bad → owned.new ≡ owned.old }
-    ensures stops { IsErrOf result Trouble.Bad → parts.new.frames ≡ parts.old.frames }
-    ensures noted { IsErrOf result Trouble.Bad → (h : Held) × (slice_get parts.old.frames.held 0 ≡ Some h)
-        × StopsFor h.home h.page (chart (B.state board.old)) parts.old (chart (B.state board.new)) parts.new }
-    ensures off { (result ≡ Err Trouble.Off) ↔ ((B.state board.new).on ≡ false) }
-    ensures bad { IsErrOf result Trouble.Bad → (B.state board.old).bads < 2 ^ 64 - 1
-        → (B.state board.old).bads < (B.state board.new).bads }
+    ensures owners { KeepsOwners (chart (B.state board.new)) owned.old owned.new }
+    ensures stops { IsErrOf result Trouble.Bad → StopsOldest
+        (chart (B.state board.old)) parts.old (chart (B.state board.new)) parts.new × (owned.new ≡ owned.old) }
+    ensures power { (B.state board.new).on ≡ power_after result }
 {
     make_room(board, parts)?;
     Ok(bring_shaded(board, parts, owned, page, slot, i, w)?)
@@ -197,6 +185,7 @@ pub fn put_first<B: Board>(
     requires ready { Ready (chart (B.state board.old)) parts.old }
     requires may { MayGive slot page (chart (B.state board.old)) owned.old }
     requires word { i < 32 }
+
     ensures put { PutFirst (4 * (B.state board.old).shape.rows + 13) 6 slot page (chart (B.state board.old))
         (32 * page + i) w result (chart (B.state board.new)) }
     ensures steady { Steady (chart (B.state board.new)) parts.new }
@@ -205,14 +194,11 @@ pub fn put_first<B: Board>(
     ensures puts { OnOk result
         (PutsBy slot page (chart (B.state board.old)) parts.old (chart (B.state board.new)) parts.new) }
     ensures gives { OnOk result (owned.new ≡ given slot page owned.old) }
-    ensures limit { owned.new.limit ≡ owned.old.limit }
-    ensures owners { OwnersAgree (chart (B.state board.new)) owned.new }
-    ensures stays { IsErrOf result Trouble.Bad → owned.new ≡ owned.old }
+    ensures owners { KeepsOwners (chart (B.state board.new)) owned.old owned.new }
     ensures stops { IsErrOf result Trouble.Bad
-        → Stops page (chart (B.state board.old)) parts.old (chart (B.state board.new)) parts.new }
-    ensures off { (result ≡ Err Trouble.Off) ↔ ((B.state board.new).on ≡ false) }
-    ensures bad { IsErrOf result Trouble.Bad → (B.state board.old).bads < 2 ^ 64 - 1
-        → (B.state board.old).bads < (B.state board.new).bads }
+        → Stops page (chart (B.state board.old)) parts.old (chart (B.state board.new)) parts.new
+        × CountsBad (chart (B.state board.old)) (chart (B.state board.new)) × (owned.new ≡ owned.old) }
+    ensures power { (B.state board.new).on ≡ power_after result }
 {
     match parts.cache.translate(board, page)? {
         Place::Frame(frame) => put_framed(board, parts, owned, page, frame, slot, i, w),

@@ -1,13 +1,11 @@
-ghost use Rattle.std.specs.Prelude.{◌≡◌, false, IsTrue, [], None, OnOk, OnErr};
+ghost use Rattle.std.specs.Prelude.{◌≡◌, false, IsTrue, OnOk, OnErr};
 ghost use Rattle.envy_map.specs.Fields.{chart};
-ghost use Rattle.envy_frames.specs.Agreement.{held_by_default};
 ghost use Rattle.envy_layout.specs.Same.{SameDurable};
 ghost use Rattle.envy_layout.specs.Sound.{IsSound};
-ghost use Rattle.envy_layout.specs.Words.{live, durable};
-ghost use Rattle.envy_policy.specs.History.{started};
+ghost use Rattle.envy_layout.specs.Words.{durable};
 ghost use Rattle.envy_flush.specs.Agreement.{Fits, Ready};
-ghost use Rattle.envy_table.specs.Hits.{Empties};
-ghost use Rattle.envy_flush.specs.Restarts.{IsSettled, IsRestarted, SameCounts};
+ghost use Rattle.envy_flush.specs.Restarts.{IsSettled, IsRestarted, SameCounts, IsRebuilt, SettlesAll};
+ghost use Rattle.envy_flush.specs.Power.{power_of};
 
 use crate::parts::Parts;
 use envy_base::{Board, Off};
@@ -19,16 +17,10 @@ pub fn rebuild<B: Board>(board: &B, parts: &mut Parts) -> Result<(), Off>
     requires sound { IsSound (chart (B.state board.now)) }
     requires fits { Fits (B.state board.now).shape parts.old }
     requires settled { IsTrue (B.state board.now).on → IsSettled (chart (B.state board.now)) }
+
     ensures ready { OnOk result (Ready (chart (B.state board.now)) parts.new) }
     ensures fits { Fits (B.state board.now).shape parts.new }
-    ensures held { OnOk result (parts.new.frames.held ≡ held_by_default (B.state board.now).shape
-        (chart (B.state board.now)).fields.places) }
-    ensures heats { OnOk result
-        (parts.new.chooser ≡ started parts.old.chooser.policy parts.old.chooser.pages parts.old.chooser.positions) }
-    ensures stages { OnOk result (parts.new.stages ≡ []) }
-    ensures empties { OnOk result (Empties parts.old.cache parts.new.cache) }
-    ensures since { OnOk result
-        (parts.new.reloc ≡ record parts.old.reloc { moves = []; aside = None; mark = 0; since = 0 }) }
+    ensures rebuilt { OnOk result (IsRebuilt (chart (B.state board.now)) parts.old parts.new) }
     ensures counts { SameCounts parts.old parts.new }
     ensures kept { parts.new
         ≡ record parts.old {
@@ -61,8 +53,7 @@ fn settle_all<B: Board>(board: &mut B) -> Result<(), Off>
     ensures durable { SameDurable 0 0 (chart (B.state board.old)) (chart (B.state board.new)) }
     ensures settled { OnOk result (IsSettled (chart (B.state board.new))) }
     ensures restarted { OnOk result (IsRestarted (chart (B.state board.old)) (chart (B.state board.new))) }
-    ensures on { OnOk result (IsTrue (B.state board.new).on) }
-    ensures off { OnErr result ((B.state board.new).on ≡ false) }
+    ensures power { (B.state board.new).on ≡ power_of result }
 {
     settle(board)?;
     Reloc::settle(board)?;
@@ -75,20 +66,12 @@ pub fn restart<B: Board>(board: &mut B, parts: &mut Parts) -> Result<(), Off>
     requires sound { IsSound (chart (B.state board.old)) }
     requires version { (chart (B.state board.old)).fields.version ≡ 2 }
     requires fits { Fits (B.state board.old).shape parts.old }
+
     ensures durable { SameDurable 0 0 (chart (B.state board.old)) (chart (B.state board.new)) }
-    ensures live { OnOk result (live (chart (B.state board.new)) ≡ durable (chart (B.state board.old))) }
-    ensures settled { OnOk result (IsSettled (chart (B.state board.new))) }
-    ensures restarted { OnOk result (IsRestarted (chart (B.state board.old)) (chart (B.state board.new))) }
+    ensures restarts { OnOk result (SettlesAll (chart (B.state board.old)) (chart (B.state board.new))) }
     ensures ready { OnOk result (Ready (chart (B.state board.new)) parts.new) }
+    ensures rebuilt { OnOk result (IsRebuilt (chart (B.state board.new)) parts.old parts.new) }
     ensures fits { Fits (B.state board.new).shape parts.new }
-    ensures heats { OnOk result
-        (parts.new.chooser ≡ started parts.old.chooser.policy parts.old.chooser.pages parts.old.chooser.positions) }
-    ensures stages { OnOk result (parts.new.stages ≡ []) }
-    ensures empties { OnOk result (Empties parts.old.cache parts.new.cache) }
-    ensures since { OnOk result
-        (parts.new.reloc ≡ record parts.old.reloc { moves = []; aside = None; mark = 0; since = 0 }) }
-    ensures held { OnOk result (parts.new.frames.held ≡ held_by_default (B.state board.new).shape
-        (chart (B.state board.new)).fields.places) }
     ensures counts { SameCounts parts.old parts.new }
     ensures kept { parts.new
         ≡ record parts.old {
@@ -102,8 +85,7 @@ pub fn restart<B: Board>(board: &mut B, parts: &mut Parts) -> Result<(), Off>
         } }
     ensures halted { OnErr result
         (parts.new ≡ record parts.old { frames = parts.new.frames; space = parts.new.space }) }
-    ensures on { OnOk result (IsTrue (B.state board.new).on) }
-    ensures off { OnErr result ((B.state board.new).on ≡ false) }
+    ensures power { (B.state board.new).on ≡ power_of result }
 {
     settle_all(board)?;
     rebuild(board, parts)

@@ -1,4 +1,4 @@
-ghost use Rattle.std.specs.Prelude.{◌≡◌, ◌≢◌, ◌⊎◌, ◌↔◌, ◌-◌, ◌^◌, ◌<◌, ◌≤◌, ℕ, false, IsTrue, [], Some, Err, IfOk, OnOk, OnErr, IsErrOf, slice_get, slice_index, Ok, length};
+ghost use Rattle.std.specs.Prelude.{◌≡◌, ◌≢◌, ◌⊎◌, ◌-◌, ◌<◌, ◌≤◌, IsTrue, [], Some, IfOk, OnOk, IsErrOf, MatchResult, slice_get, slice_index, Ok, length};
 ghost use Rattle.envy_base.specs.declared.fields.Job.TheVariants.{Idle};
 ghost use Rattle.envy_map.specs.Fields.{chart};
 ghost use Rattle.envy_layout.specs.Same.{Same};
@@ -10,6 +10,9 @@ ghost use Rattle.envy_flush.specs.Counts.{Counting};
 ghost use Rattle.envy_choosing.specs.Choosing.{ChoiceFor};
 ghost use Rattle.envy_wear.specs.Swaps.{IsQuiet};
 ghost use Rattle.envy_flush.specs.Ticks.{IsNoneDue, TicksChoice, TicksFlush, TicksSwap, TicksNone, TicksBy, TicksBad, StopsFlush, CountsTick};
+ghost use Rattle.envy_flush.specs.Leaving.{LeavesParts, CountsBad};
+ghost use Rattle.envy_flush.specs.Power.{power_after};
+ghost use Rattle.envy_flush.specs.Flushing.{IsAtRest};
 
 use crate::claiming::claim_at;
 use crate::cleaning::begin_clean;
@@ -33,25 +36,21 @@ fn flush_at<B: Board>(
     position: u32,
 ) -> Result<(), Trouble>
     requires ready { Ready (chart (B.state board.old)) parts.old }
-    requires idle { (chart (B.state board.old)).fields.job ≡ Some Idle }
-    requires stages { parts.old.stages ≡ [] }
+    requires rest { IsAtRest (chart (B.state board.old)) parts.old }
     requires oldest { slice_get parts.old.frames.held 0 ≡ Some held }
     requires position { position < (B.state board.old).shape.segments - 1 }
     requires room { slice_index parts.old.space.fills (slice_index parts.old.space.positions position)
         < (B.state board.old).shape.rows }
     requires chosen { ChoiceFor parts.old.chooser parts.old.space held.home held.page (Free position) }
+
     ensures same { Same 1 0 (chart (B.state board.old)) (chart (B.state board.new)) }
-    ensures steady { Steady (chart (B.state board.new)) parts.new }
-    ensures counting { Counting (chart (B.state board.old)) parts.old (chart (B.state board.new)) parts.new }
+    ensures leaves { LeavesParts (chart (B.state board.old)) parts.old (chart (B.state board.new)) parts.new }
     ensures does { OnOk result (TicksChoice (Free position) Did.Flushed (chart (B.state board.old)) parts.old
         (chart (B.state board.new)) parts.new) }
-    ensures stops { IsErrOf result Trouble.Bad
-        → StopsFlush (chart (B.state board.old)) parts.old (chart (B.state board.new)) parts.new }
-    ensures rests { Rests parts.old.cache parts.new.cache }
+    ensures stops { IsErrOf result Trouble.Bad → StopsFlush (chart (B.state board.old)) parts.old
+        (chart (B.state board.new)) parts.new × CountsBad (chart (B.state board.old)) (chart (B.state board.new)) }
     ensures stages { parts.new.stages ≡ parts.old.stages }
-    ensures off { (result ≡ Err Trouble.Off) ↔ ((B.state board.new).on ≡ false) }
-    ensures bad { IsErrOf result Trouble.Bad → (B.state board.old).bads < 2 ^ 64 - 1
-        → (B.state board.old).bads < (B.state board.new).bads }
+    ensures power { (B.state board.new).on ≡ power_after result }
 {
     let row = claim_at(board, parts, position, held.page)?;
     flush_into(board, parts, held.page, held.frame, row)
@@ -60,20 +59,16 @@ fn flush_at<B: Board>(
 /// The third rule: by the choice for the oldest held page it is flushed, or a cleaning begins.
 pub fn tick_flush<B: Board>(board: &mut B, parts: &mut Parts) -> Result<Did, Trouble>
     requires ready { Ready (chart (B.state board.old)) parts.old }
-    requires idle { (chart (B.state board.old)).fields.job ≡ Some Idle }
-    requires stages { parts.old.stages ≡ [] }
+    requires rest { IsAtRest (chart (B.state board.old)) parts.old }
     requires some { parts.old.frames.held ≢ [] }
+
     ensures same { Same 1 0 (chart (B.state board.old)) (chart (B.state board.new)) }
-    ensures steady { Steady (chart (B.state board.new)) parts.new }
-    ensures counting { Counting (chart (B.state board.old)) parts.old (chart (B.state board.new)) parts.new }
-    ensures does { IfOk result (λ did.
-        TicksFlush did (chart (B.state board.old)) parts.old (chart (B.state board.new)) parts.new) }
-    ensures stops { IsErrOf result Trouble.Bad
-        → StopsFlush (chart (B.state board.old)) parts.old (chart (B.state board.new)) parts.new }
-    ensures rests { Rests parts.old.cache parts.new.cache }
-    ensures off { (result ≡ Err Trouble.Off) ↔ ((B.state board.new).on ≡ false) }
-    ensures bad { IsErrOf result Trouble.Bad → (B.state board.old).bads < 2 ^ 64 - 1
-        → (B.state board.old).bads < (B.state board.new).bads }
+    ensures leaves { LeavesParts (chart (B.state board.old)) parts.old (chart (B.state board.new)) parts.new }
+    ensures does { IfOk result
+        (λ did. TicksFlush did (chart (B.state board.old)) parts.old (chart (B.state board.new)) parts.new) }
+    ensures stops { IsErrOf result Trouble.Bad → StopsFlush (chart (B.state board.old)) parts.old
+        (chart (B.state board.new)) parts.new × CountsBad (chart (B.state board.old)) (chart (B.state board.new)) }
+    ensures power { (B.state board.new).on ≡ power_after result }
 {
     let Some(held) = parts.frames.oldest() else {
         unreachable!();
@@ -99,24 +94,25 @@ pub fn tick_swap<B: Board>(
     quiet: &mut u64,
 ) -> Result<Did, Trouble>
     requires ready { Ready (chart (B.state board.old)) parts.old }
-    requires idle { (chart (B.state board.old)).fields.job ≡ Some Idle }
-    requires stages { parts.old.stages ≡ [] }
+    requires rest { IsAtRest (chart (B.state board.old)) parts.old }
     requires quiet { IsQuiet (B.state board.old).shape (chart (B.state board.old)).fields limit parts.old.reloc.since
         quiet.old }
+
     ensures same { Same 0 0 (chart (B.state board.old)) (chart (B.state board.new)) }
     ensures steady { Steady (chart (B.state board.new)) parts.new }
-    ensures does { IfOk result (λ did.
-        TicksSwap limit did (chart (B.state board.old)) parts.old (chart (B.state board.new)) parts.new
-        ⊎ TicksNone limit did (chart (B.state board.old)) parts.old (chart (B.state board.new)) parts.new) }
-    ensures counts { CountsTick (chart (B.state board.old)) parts.old (chart (B.state board.new)) parts.new }
+    ensures does { IfOk result
+        (λ did. TicksSwap limit did (chart (B.state board.old)) parts.old
+        (chart (B.state board.new)) parts.new ⊎ TicksNone limit did
+        (chart (B.state board.old)) parts.old (chart (B.state board.new)) parts.new) }
+    ensures counts { MatchResult result
+        (λ _. CountsTick (chart (B.state board.old)) parts.old (chart (B.state board.new)) parts.new)
+        (λ _. Counting (chart (B.state board.old)) parts.old (chart (B.state board.new)) parts.new) }
     ensures idle { IsNoneDue limit (chart (B.state board.old)) parts.old.reloc.since → result ≡ Ok Did.Idle }
-    ensures still { OnErr result
-        (Counting (chart (B.state board.old)) parts.old (chart (B.state board.new)) parts.new) }
     ensures never { IsErrOf result Trouble.Bad → ⊥ }
     ensures quiet { IsTrue (B.state board.new).on
         → IsQuiet (B.state board.new).shape (chart (B.state board.new)).fields limit parts.new.reloc.since quiet.new }
     ensures rests { Rests parts.old.cache parts.new.cache }
-    ensures off { (result ≡ Err Trouble.Off) ↔ ((B.state board.new).on ≡ false) }
+    ensures power { (B.state board.new).on ≡ power_after result }
 {
     let Some(swap) = due_after(board, limit, parts.reloc.since(), quiet)? else {
         return Ok(Did::Idle);
@@ -143,24 +139,23 @@ pub fn tick_ruled<B: Board>(
     requires some { 1 ≤ mark }
     requires quiet { IsQuiet (B.state board.old).shape (chart (B.state board.old)).fields limit parts.old.reloc.since
         quiet.old }
+
     ensures step { SameOnce (chart (B.state board.old)) (chart (B.state board.new)) }
     ensures steady { Steady (chart (B.state board.new)) parts.new }
-    ensures does { IfOk result (λ did.
-        TicksBy limit mark did (chart (B.state board.old)) parts.old (chart (B.state board.new)) parts.new) }
-    ensures stops { IsErrOf result Trouble.Bad
-        → TicksBad mark (chart (B.state board.old)) parts.old (chart (B.state board.new)) parts.new }
-    ensures counts { CountsTick (chart (B.state board.old)) parts.old (chart (B.state board.new)) parts.new }
+    ensures does { IfOk result
+        (λ did. TicksBy limit mark did (chart (B.state board.old)) parts.old (chart (B.state board.new)) parts.new) }
+    ensures stops { IsErrOf result Trouble.Bad → TicksBad mark (chart (B.state board.old)) parts.old
+        (chart (B.state board.new)) parts.new × CountsBad (chart (B.state board.old)) (chart (B.state board.new)) }
+    ensures counts { MatchResult result
+        (λ _. CountsTick (chart (B.state board.old)) parts.old (chart (B.state board.new)) parts.new)
+        (λ _. Counting (chart (B.state board.old)) parts.old (chart (B.state board.new)) parts.new) }
     ensures idle { (chart (B.state board.old)).fields.job ≡ Some Idle → parts.old.stages ≡ []
         → length parts.old.frames.held < mark → IsNoneDue limit (chart (B.state board.old)) parts.old.reloc.since
         → result ≡ Ok Did.Idle }
-    ensures still { OnErr result
-        (Counting (chart (B.state board.old)) parts.old (chart (B.state board.new)) parts.new) }
     ensures quiet { IsTrue (B.state board.new).on
         → IsQuiet (B.state board.new).shape (chart (B.state board.new)).fields limit parts.new.reloc.since quiet.new }
     ensures rests { Rests parts.old.cache parts.new.cache }
-    ensures off { (result ≡ Err Trouble.Off) ↔ ((B.state board.new).on ≡ false) }
-    ensures bad { IsErrOf result Trouble.Bad → (B.state board.old).bads < 2 ^ 64 - 1
-        → (B.state board.old).bads < (B.state board.new).bads }
+    ensures power { (B.state board.new).on ≡ power_after result }
 {
     if runs(board)? {
         return tick_job(board, parts);

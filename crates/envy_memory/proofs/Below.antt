@@ -1,6 +1,6 @@
 -- What an accepted store or put does below the array, and one that a failure ended.
 use Rattle.std.proofs.Common.{◌≡◌, ◌/◌, inl, inr, false, ℕ, ◌++◌, ◌∷◌, [], Some, None, Ok, Err, refl, subst}
-use Rattle.std.specs.Prelude.{◌<◌, IsTrue, IsErrOf, IfOk, OnErr, MatchResult, length, Result}
+use Rattle.std.specs.Prelude.{◌<◌, IsTrue, IsErrOf, IfOk, MatchResult, length, Result}
 use Rattle.envy_base.specs.declared.board.Trouble.{Trouble}
 use Rattle.envy_base.specs.declared.board.Trouble.TheVariants.{Off as TroubleOff, Bad as TroubleBad}
 use Rattle.envy_base.specs.declared.fields.Job.TheVariants.{Idle as IdleJob}
@@ -140,14 +140,8 @@ pub record Ticked (answer : Result Did Trouble) (p : Picture) (new : Chart) (now
   pub does : IfOk answer (λ did. TicksBy p.limit p.mark did p.chart p.parts new now)
   pub idle : p.chart.fields.job ≡ Some IdleJob → p.parts.stages ≡ [] → length p.parts.frames.held < p.mark → IsNoneDue p.limit p.chart p.parts.reloc.since → answer ≡ Ok Idle
   pub stops : IsErrOf answer TroubleBad → TicksBad p.mark p.chart p.parts new now
-  pub counts : CountsTick p.chart p.parts new now
-  pub still : OnErr answer (Counting p.chart p.parts new now)
+  pub counts : MatchResult answer (λ _. CountsTick p.chart p.parts new now) (λ _. Counting p.chart p.parts new now)
   pub rests : Rests p.parts.cache now.cache
-
-counted : (answer : Result Did Trouble) (p : Picture) (new : Chart) (now : Parts) → Ticked answer p new now
-    → MatchResult answer (λ _. CountsTick p.chart p.parts new now) (λ _. Counting p.chart p.parts new now)
-counted (Ok did) p new now t = t.counts
-counted (Err e) p new now t = t.still
 
 pub below-ticked : (answer : Result Did Trouble) (p : Picture) (new : Chart) (now : Parts) → Ticked answer p new now → TicksBelow answer p (record p { chart = new; parts = now })
 below-ticked answer p new now t = record {
@@ -159,7 +153,7 @@ below-ticked answer p new now t = record {
     λ i. t.idle i.job i.stages i.few i.none,
   );
   stops = t.stops;
-  counts = counted answer p new now t;
+  counts = t.counts;
   rests = t.rests;
   kept = refl;
 }

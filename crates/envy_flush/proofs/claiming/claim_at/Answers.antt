@@ -1,13 +1,17 @@
-use Rattle.std.proofs.Common.{◌≡◌, ◌<◌, refl, sym, ap, subst, ◌∙◌, List, ℕ, get_or}
+use Rattle.std.proofs.Common.{◌≡◌, ◌<◌, ◌+◌, refl, sym, ap, subst, ◌∙◌, List, ℕ, get_or, set}
 use Rattle.envy_map.specs.Fields.{Chart, chart}
+use Rattle.envy_layout.specs.Same.{Same, Stays, Framed}
 use Rattle.envy_layout.specs.Sound.{IsPlaced}
 use Rattle.envy_reloc.specs.Plan.{IsFreeOf}
 use Rattle.envy_space.specs.Pool.{Claims}
+use Rattle.envy_table.proofs.HitLemmas.{Rests-refl}
+use Rattle.envy_flush.proofs.Leaving.{leaves_off}
+use Rattle.envy_flush.proofs.CountLemmas.{Counting-still}
 use Rattle.envy_flush.proofs.AgreeLemmas.{Agrees-claimed, Granted-claimed, IsLastAt-claimed, Fits-moved, claimed-sizes, sizes_of}
 use Rattle.envy_flush.proofs.claiming.claim_at.Goals as goal
 
-pub returns-clause-steady : goal.returns-clause-steady
-returns-clause-steady g c =
+pub returns-clause-leaves : goal.returns-clause-leaves
+returns-clause-leaves g c =
     let old = chart (g.B.Board.state c.args.board.now) in
     let new = chart (g.B.Board.state c.claim.new.board) in
     let r = c.requires.ready in
@@ -17,26 +21,45 @@ returns-clause-steady g c =
     let free : IsFreeOf old.fields.job c.segment_at.result = subst (λ (s : ℕ). IsFreeOf old.fields.job s) (sym c.segment_at.ensures.segment) c.requires.free in
     let chooser = ap sizes_of c.note_claim.ensures ∙ claimed-sizes c.args.parts.now.chooser c.args.position c.args.page in
     record {
-      fits = Fits-moved old.shape new.shape c.args.parts.now _ shape r.fits e.shape refl refl chooser refl;
-      agrees = λ on. Agrees-claimed old new c.args.parts.now _ c.segment_at.result c.in_ok-row.row c.args.page r.sound r.agrees placed free e.claims e.claimed (e.agrees on) refl refl refl;
+      steady = record {
+        fits = Fits-moved old.shape new.shape c.args.parts.now _ shape r.fits e.shape refl refl chooser refl;
+        agrees = λ on. Agrees-claimed old new c.args.parts.now _ c.segment_at.result c.in_ok-row.row c.args.page r.sound r.agrees placed free e.claims e.claimed (e.agrees on) refl refl refl;
+      };
+      counting = Counting-still old new c.args.parts.now _ (Stays.counted (Same.stays (e.same r.sound))) refl refl refl (λ on. ap (λ (z : Chart). z.fields.wears) e.claims.fields);
+      rests = Rests-refl c.args.parts.now.cache;
     }
 
-pub returns-clause-granted : goal.returns-clause-granted
-returns-clause-granted g c =
+pub returns-in_err-row-clause-leaves : goal.returns-in_err-row-clause-leaves
+returns-in_err-row-clause-leaves g c =
+    let old = chart (g.B.Board.state c.args.board.now) in
+    let new = chart (g.B.Board.state c.claim.new.board) in
+    let r = c.requires.ready in
+    let e = c.claim.ensures in
+    let s = Same.stays (e.same r.sound) in
+    leaves_off old new c.args.parts.now _ (Fits-moved old.shape new.shape c.args.parts.now _ (Framed.shape (Stays.framed s)) r.fits e.shape refl refl refl refl) (Stays.counted s) c.in_err-row.ensures.off refl refl refl (Rests-refl c.args.parts.now.cache)
+
+pub returns-clause-takes : goal.returns-clause-takes
+returns-clause-takes g c =
     let old = chart (g.B.Board.state c.args.board.now) in
     let new = chart (g.B.Board.state c.claim.new.board) in
     let r = c.requires.ready in
     let e = c.in_ok-row.ensures in
-    let placed : IsPlaced old.shape old.fields.positions c.segment_at.result = (c.args.position, c.requires.position, ap (λ (xs : List ℕ). get_or xs c.args.position 0) (sym r.agrees.pool.positions) ∙ sym c.segment_at.ensures.segment) in
+    let pool = c.args.parts.now.space in
+    let k = c.args.position in
+    let s = get_or pool.positions k 0 in
+    let order : s ≡ get_or old.fields.positions k 0 = ap (λ (xs : List ℕ). get_or xs k 0) r.agrees.pool.positions in
+    let placed : IsPlaced old.shape old.fields.positions c.segment_at.result = (k, c.requires.position, sym order ∙ sym c.segment_at.ensures.segment) in
     let free : IsFreeOf old.fields.job c.segment_at.result = subst (λ (s : ℕ). IsFreeOf old.fields.job s) (sym c.segment_at.ensures.segment) c.requires.free in
-    Granted-claimed old new c.segment_at.result c.in_ok-row.row c.args.page placed free e.claims e.claimed
-
-pub returns-clause-last : goal.returns-clause-last
-returns-clause-last g c =
-    let old = chart (g.B.Board.state c.args.board.now) in
-    let new = chart (g.B.Board.state c.claim.new.board) in
-    let r = c.requires.ready in
-    let s = get_or c.args.parts.now.space.positions c.args.position 0 in
     let room : get_or old.fields.fills s 0 < old.shape.rows = subst (λ (xs : List ℕ). get_or xs s 0 < old.shape.rows) r.agrees.pool.fills c.requires.room in
-    IsLastAt-claimed old new c.args.parts.now.space c.args.position c.in_ok-row.row c.args.page r.sound r.agrees.pool c.requires.position room
-    (subst (λ (n : ℕ). Claims old n c.args.page c.in_ok-row.row new) c.segment_at.ensures.segment c.in_ok-row.ensures.claims)
+    let changes = subst (λ (n : ℕ). Claims old n c.args.page c.in_ok-row.row new) c.segment_at.ensures.segment e.claims in
+    record {
+      changes = changes;
+      claims = (
+        IsLastAt-claimed old new pool k c.in_ok-row.row c.args.page r.sound r.agrees.pool c.requires.position room changes,
+        subst (λ (n : ℕ). new.fields.fills ≡ set old.fields.fills n (get_or old.fields.fills n 0 + 1)) order (ap (λ (w : Chart). w.fields.fills) changes.fields),
+        ap (λ (w : Chart). w.fields.positions) changes.fields,
+        ap (λ (w : Chart). w.erases) changes.fields,
+        c.note_claim.ensures,
+      );
+      fresh = record { granted = Granted-claimed old new c.segment_at.result c.in_ok-row.row c.args.page placed free e.claims e.claimed; erased = e.claimed.erased };
+    }

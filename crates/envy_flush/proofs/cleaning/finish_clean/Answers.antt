@@ -2,19 +2,18 @@ use Rattle.std.proofs.Common.{◌≡◌, ◌∙◌, ◌+◌, arith, inl, refl, s
 use Rattle.envy_base.specs.declared.shape.Shape.{Shape}
 use Rattle.std.proofs.lemmas.Result.{err_from_is_err_and}
 use Rattle.envy_map.specs.Fields.{chart}
-use Rattle.envy_layout.specs.Same.{Same, Stays, Framed}
+use Rattle.envy_layout.specs.Same.{Same, Stays, Framed, Counted}
 use Rattle.envy_flush.specs.Agreement.{Ready, Steady}
 use Rattle.envy_flush.specs.Budgets.{Going, Spends}
 use Rattle.envy_reloc.specs.Cleaning.{Cleans}
 use Rattle.envy_flush.specs.declared.parts.Parts.{Parts}
 use Rattle.envy_flush.proofs.BudgetLemmas.{Going-start, Going-more, Going-stops, Turns-job, step-both}
-use Rattle.envy_flush.proofs.CountLemmas.{Counting-trans, Counting-still}
+use Rattle.envy_flush.proofs.Leaving.{leaves_none, leaves_then, counts_bad_then}
 use Rattle.envy_flush.proofs.FlushLemmas.{err-at}
 use Rattle.envy_flush.proofs.StepLemmas.{StepsBy-more}
 use Rattle.envy_layout.proofs.FrameStay.{FramesStay-trans}
-use Rattle.envy_table.proofs.HitLemmas.{Rests-trans, Rests-refl}
 use Rattle.envy_flush.proofs.StoreLemmas.{shape-step}
-use Rattle.envy_layout.proofs.Composition.{Same-more, Same-refl}
+use Rattle.envy_layout.proofs.Composition.{Same-more}
 use Rattle.envy_flush.proofs.cleaning.finish_clean.Goals as goal
 
 pub loop-turn-init : goal.loop-turn-init
@@ -24,10 +23,9 @@ loop-turn-init g c =
     record {
       ready = c.requires.ready;
       going = Going-start _ _ b.0 b.1 b.2 (c.args.rows + 4) 1 (c.args.rows + 7) (Ready.sound c.requires.ready) b.3 b.4 b.5 b.6;
-      counting = Counting-still now now c.args.parts.now c.args.parts.now (Stays.counted (Same.stays (Same-refl now (Ready.sound c.requires.ready)))) refl refl refl (λ on. refl);
+      leaves = leaves_none now c.args.parts.now c.requires.ready;
       here = λ p k. ((λ h. h), (λ h. h));
       parts = refl;
-      rests = Rests-refl c.args.parts.now.cache;
       none = c.requires.none;
       steps = (refl, refl);
       cleans = λ positions k n a. a;
@@ -37,9 +35,6 @@ pub returns-in_err-tick_job-clause-same : goal.returns-in_err-tick_job-clause-sa
 returns-in_err-tick_job-clause-same g c =
     let k = c.loop-turn.invariant.going in
     Same-more (c.args.rows + 4 + 1) 2 (c.args.rows + 5) 2 _ _ (omega arith) (omega arith) (Going-stops _ (chart (g.B.Board.state c.loop-turn.board)) _ _ _ _ _ _ k (step-both _ _ c.tick_job.ensures.step))
-
-pub returns-in_err-tick_job-clause-counting : goal.returns-in_err-tick_job-clause-counting
-returns-in_err-tick_job-clause-counting g c = Counting-trans _ (chart (g.B.Board.state c.loop-turn.board)) _ _ c.loop-turn.parts _ c.loop-turn.invariant.counting c.tick_job.ensures.counting
 
 pub returns-in_err-tick_job-clause-here : goal.returns-in_err-tick_job-clause-here
 returns-in_err-tick_job-clause-here g c on =
@@ -59,16 +54,15 @@ loop-turn-preserved g c =
     let mid = chart (g.B.Board.state c.loop-turn.board) in
     let new = chart (g.B.Board.state c.tick_job.new.board) in
     let shape = shape-step mid new e.step in
-    let done = Turns-job mid new c.loop-turn.parts c.tick_job.new.parts shape o.stays o.left w.left_n w.left_e w.left_s w.left in
+    let done = Turns-job mid new c.loop-turn.parts c.tick_job.new.parts shape o.does.stages o.left w.left_n w.left_e w.left_s w.left in
     let since : mid.shape ≡ first.shape = Framed.shape (Stays.framed (Same.stays w.same)) in
     record {
-      ready = record { on = o.on; sound = Stays.sound (Same.stays (Spends.same done.0)); fits = Steady.fits e.steady; agrees = Steady.agrees e.steady o.on };
+      ready = record { on = o.power; sound = Stays.sound (Same.stays (Spends.same done.0)); fits = Steady.fits e.leaves.steady; agrees = Steady.agrees e.leaves.steady o.power };
       going = Going-more _ _ _ _ _ _ _ _ _ k done.0 done.1;
-      counting = Counting-trans first mid new c.args.parts.now c.loop-turn.parts c.tick_job.new.parts i.counting e.counting;
-      here = FramesStay-trans first.fields.places mid.fields.places new.fields.places i.here (e.here o.on);
+      leaves = leaves_then first mid new c.args.parts.now c.loop-turn.parts c.tick_job.new.parts i.leaves e.leaves;
+      here = FramesStay-trans first.fields.places mid.fields.places new.fields.places i.here (e.here o.power);
       parts = e.parts ∙ ap (λ (z : Parts). record z { space = c.tick_job.new.parts.space; cache = c.tick_job.new.parts.cache; reloc = c.tick_job.new.parts.reloc; stages = c.tick_job.new.parts.stages }) i.parts;
-      rests = Rests-trans _ _ _ i.rests e.rests;
-      none = o.stays ∙ i.none;
+      none = o.does.stages ∙ i.none;
       steps = StepsBy-more c.loop-turn._turn first c.args.parts.now mid c.loop-turn.parts new c.tick_job.new.parts i.steps (c.in_ok-tick_job.field-0, inl (c.in_ok-runs.ensures.busy c.if-not-branch.false, o.does));
       cleans = λ positions k n a. subst (λ (sh : Shape). Cleans sh positions k n new.fields c.tick_job.new.parts.reloc.erased) since (o.cleans positions k n (subst (λ (sh : Shape). Cleans sh positions k n mid.fields c.loop-turn.parts.reloc.erased) (sym since) (i.cleans positions k n a)));
     }
@@ -85,10 +79,23 @@ returns-in_err-tick_job-clause-stops g c =
       stops = c.in_err-tick_job.ensures.stops (err-at _ _ is);
     })
 
+pub returns-in_err-tick_job-clause-leaves : goal.returns-in_err-tick_job-clause-leaves
+returns-in_err-tick_job-clause-leaves g c = leaves_then _ (chart (g.B.Board.state c.loop-turn.board)) _ _ c.loop-turn.parts _ c.loop-turn.invariant.leaves c.tick_job.ensures.leaves
+
+pub returns-in_err-tick_job-clause-bad : goal.returns-in_err-tick_job-clause-bad
+returns-in_err-tick_job-clause-bad g c =
+    let p = err_from_is_err_and c.from_residual-in_err-tick_job.result c.from_residual-in_err-tick_job.ensures.1 in
+    let before = Counted.bads (Stays.counted (Same.stays (Spends.same (Going.work c.loop-turn.invariant.going)))) in
+    let after = Counted.bads (Stays.counted (Same.stays (step-both _ _ c.tick_job.ensures.step))) in
+    rw (p.1, p.2) (λ is. counts_bad_then before after (c.in_err-tick_job.ensures.bad (err-at _ _ is)))
+
 pub returns-then-not-branch-clause-finishes : goal.returns-then-not-branch-clause-finishes
 returns-then-not-branch-clause-finishes g c = record {
-  steps = c.loop-turn._turn;
-  made = c.loop-turn.invariant.steps;
-  job = c.in_ok-runs.ensures.idle c.if-not-branch.true;
-  stages = c.loop-turn.invariant.none;
+  finishes = record {
+    steps = c.loop-turn._turn;
+    made = c.loop-turn.invariant.steps;
+    job = c.in_ok-runs.ensures.idle c.if-not-branch.true;
+    stages = c.loop-turn.invariant.none;
+  };
+  cleans = c.loop-turn.invariant.cleans;
 }

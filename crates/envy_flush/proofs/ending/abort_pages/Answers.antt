@@ -4,12 +4,13 @@ use Rattle.envy_base.specs.declared.fields.Slot.TheVariants.{Vacant}
 use Rattle.envy_map.specs.Fields.{Chart, chart}
 use Rattle.envy_layout.specs.Same.{SameWords, SameDurable}
 use Rattle.envy_layout.proofs.Composition.{SameDurable-trans, SameDurable-words}
-use Rattle.envy_txn.specs.Owners.{AreOwned}
+use Rattle.envy_txn.specs.Owners.{AreOwned, Ownership}
 use Rattle.envy_table.specs.Hits.{Rests}
 use Rattle.envy_txn.specs.Ending.{Restores}
 use Rattle.envy_flush.proofs.AgreeLemmas.{Fits-moved}
 use Rattle.envy_flush.proofs.EndLemmas.{PartsAgree-restored, Closes-restored, Rows-restored, AreOwned-slot}
-use Rattle.envy_flush.proofs.FlushLemmas.{if-on, on-ok, ok-any}
+use Rattle.envy_flush.proofs.FlushLemmas.{if-on, on-ok}
+use Rattle.envy_flush.proofs.Leaving.{power_by}
 use Rattle.envy_flush.proofs.ending.abort_pages.Goals as goal
 
 pub returns-in_err-restore_all-clause-durable : goal.returns-in_err-restore_all-clause-durable
@@ -22,37 +23,37 @@ returns-clause-durable g c =
     let new = chart (g.B.Board.state c.set_unused_slot.new.board) in
     SameDurable-trans 0 0 0 0 old mid new (c.restore_all.ensures.durable c.requires.ready.sound) (SameDurable-words 0 0 mid new c.set_unused_slot.ensures.same)
 
-pub returns-clause-takes : goal.returns-clause-takes
-returns-clause-takes g c =
+pub returns-clause-aborts : goal.returns-clause-aborts
+returns-clause-aborts g c =
+    let old = chart (g.B.Board.state c.args.board.now) in
+    let mid = chart (g.B.Board.state c.restore_all.new.board) in
+    let new = chart (g.B.Board.state c.set_unused_slot.new.board) in
     let same = c.set_unused_slot.ensures.same in
-    let res = c.in_ok-restore_all.ensures.restores in
-    ok-any c.set_unused_slot.result _ (record {
-      own = λ a named. ap (λ (ws : List ℕ). get_or ws a 0) (SameWords.live same) ∙ Restores.own_words res a named;
-      others = λ a free. ap (λ (ws : List ℕ). get_or ws a 0) (SameWords.live same) ∙ Restores.other_words res a free;
+    let o = c.in_ok-restore_all.ensures in
+    let res = o.restores in
+    on-ok c.set_unused_slot.result _ _
+    (λ fields. record {
+      takes = record {
+        own = λ a named. ap (λ (ws : List ℕ). get_or ws a 0) (SameWords.live same) ∙ Restores.own_words res a named;
+        others = λ a free. ap (λ (ws : List ℕ). get_or ws a 0) (SameWords.live same) ∙ Restores.other_words res a free;
+      };
+      ends = record { closes = Closes-restored old mid new c.args.t res fields; rows = Rows-restored old mid new c.args.t res fields; pairs = o.pairs };
+      held = o.left;
     })
-
-pub returns-clause-closes : goal.returns-clause-closes
-returns-clause-closes g c =
-    let old = chart (g.B.Board.state c.args.board.now) in
-    let mid = chart (g.B.Board.state c.restore_all.new.board) in
-    let new = chart (g.B.Board.state c.set_unused_slot.new.board) in
-    on-ok c.set_unused_slot.result _ _ (λ fields. Closes-restored old mid new c.args.t c.in_ok-restore_all.ensures.restores fields) c.set_unused_slot.ensures.fields
-
-pub returns-clause-rows : goal.returns-clause-rows
-returns-clause-rows g c =
-    let old = chart (g.B.Board.state c.args.board.now) in
-    let mid = chart (g.B.Board.state c.restore_all.new.board) in
-    let new = chart (g.B.Board.state c.set_unused_slot.new.board) in
-    on-ok c.set_unused_slot.result _ _ (λ fields. Rows-restored old mid new c.args.t c.in_ok-restore_all.ensures.restores fields) c.set_unused_slot.ensures.fields
+    c.set_unused_slot.ensures.fields
 
 pub returns-clause-owners : goal.returns-clause-owners
-returns-clause-owners g c on =
+returns-clause-owners g c =
     let mid = chart (g.B.Board.state c.restore_all.new.board) in
     let new = chart (g.B.Board.state c.set_unused_slot.new.board) in
     let e = c.set_unused_slot.ensures in
-    let moved = if-on c.set_unused_slot.result new.on _ e.fields e.off on in
-    let was : IsTrue mid.on = ap (λ (z : Chart). z.on) (sym moved) ∙ on in
-    subst (λ (z : Chart). AreOwned z.fields.slots z.fields.undos c.restore_all.new.self.pairs) (sym moved) (AreOwned-slot mid.fields.slots mid.fields.undos c.restore_all.new.self.pairs c.args.t (Some Vacant) c.in_ok-restore_all.ensures.unused (c.restore_all.ensures.owned was))
+    record {
+      limit = ap (λ (o : Ownership). o.limit) c.in_ok-restore_all.ensures.pairs;
+      agree = λ on.
+          let moved = if-on c.set_unused_slot.result new.on _ e.fields e.off on in
+          let was : IsTrue mid.on = ap (λ (z : Chart). z.on) (sym moved) ∙ on in
+          subst (λ (z : Chart). AreOwned z.fields.slots z.fields.undos c.restore_all.new.self.pairs) (sym moved) (AreOwned-slot mid.fields.slots mid.fields.undos c.restore_all.new.self.pairs c.args.t (Some Vacant) c.in_ok-restore_all.ensures.unused (c.restore_all.ensures.owned was));
+    }
 
 pub returns-clause-steady : goal.returns-clause-steady
 returns-clause-steady g c =
@@ -68,3 +69,6 @@ returns-clause-steady g c =
       fits = Fits-moved old.shape new.shape c.args.parts.now _ shape r.fits a.shape a.count (Rests.size a.rests) refl refl;
       agrees = λ on. let moved = if-on c.set_unused_slot.result new.on _ e.fields e.off on in let was : IsTrue mid.on = ap (λ (z : Chart). z.on) (sym moved) ∙ on in PartsAgree-restored old mid new c.args.parts.now _ c.args.t r.agrees o.restores o.unused (a.pool was) (a.held was) (a.current was) (a.parted was) moved refl;
     }
+
+pub returns-clause-power : goal.returns-clause-power
+returns-clause-power g c = power_by c.set_unused_slot.result _ c.set_unused_slot.ensures.on c.set_unused_slot.ensures.off

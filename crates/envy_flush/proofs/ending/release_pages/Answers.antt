@@ -4,10 +4,11 @@ use Rattle.envy_base.specs.declared.fields.Slot.TheVariants.{Vacant}
 use Rattle.envy_map.specs.Fields.{Chart, chart}
 use Rattle.envy_layout.specs.Same.{SameWords}
 use Rattle.envy_layout.proofs.Composition.{SameWords-trans}
-use Rattle.envy_txn.specs.Owners.{AreOwned}
+use Rattle.envy_txn.specs.Owners.{AreOwned, Ownership}
 use Rattle.envy_flush.proofs.AgreeLemmas.{Fits-moved}
 use Rattle.envy_flush.proofs.EndLemmas.{PartsAgree-released, Closes-released, Rows-released, AreOwned-slot}
 use Rattle.envy_flush.proofs.FlushLemmas.{if-on, on-ok}
+use Rattle.envy_flush.proofs.Leaving.{power_by}
 use Rattle.envy_flush.proofs.ending.release_pages.Goals as goal
 
 pub returns-clause-same : goal.returns-clause-same
@@ -17,19 +18,12 @@ returns-clause-same g c =
     let new = chart (g.B.Board.state c.set_unused_slot.new.board) in
     SameWords-trans 0 0 0 0 old mid new (c.release_all.ensures.same c.requires.releasing.sound) c.set_unused_slot.ensures.same
 
-pub returns-clause-closes : goal.returns-clause-closes
-returns-clause-closes g c =
+pub returns-clause-ends : goal.returns-clause-ends
+returns-clause-ends g c =
     let old = chart (g.B.Board.state c.args.board.now) in
     let mid = chart (g.B.Board.state c.release_all.new.board) in
     let new = chart (g.B.Board.state c.set_unused_slot.new.board) in
-    on-ok c.set_unused_slot.result _ _ (λ fields. Closes-released old mid new c.args.t c.in_ok-release_all.ensures.releases fields) c.set_unused_slot.ensures.fields
-
-pub returns-clause-rows : goal.returns-clause-rows
-returns-clause-rows g c =
-    let old = chart (g.B.Board.state c.args.board.now) in
-    let mid = chart (g.B.Board.state c.release_all.new.board) in
-    let new = chart (g.B.Board.state c.set_unused_slot.new.board) in
-    on-ok c.set_unused_slot.result _ _ (λ fields. Rows-released old mid new c.args.t c.in_ok-release_all.ensures.releases fields) c.set_unused_slot.ensures.fields
+    on-ok c.set_unused_slot.result _ _ (λ fields. let r = c.in_ok-release_all.ensures in record { closes = Closes-released old mid new c.args.t r.releases fields; rows = Rows-released old mid new c.args.t r.releases fields; pairs = r.pairs }) c.set_unused_slot.ensures.fields
 
 pub returns-clause-steady : goal.returns-clause-steady
 returns-clause-steady g c =
@@ -47,13 +41,20 @@ returns-clause-steady g c =
     }
 
 pub returns-clause-owners : goal.returns-clause-owners
-returns-clause-owners g c on =
+returns-clause-owners g c =
     let mid = chart (g.B.Board.state c.release_all.new.board) in
     let new = chart (g.B.Board.state c.set_unused_slot.new.board) in
     let e = c.set_unused_slot.ensures in
-    let moved = if-on c.set_unused_slot.result new.on _ e.fields e.off on in
-    let was : IsTrue mid.on = ap (λ (z : Chart). z.on) (sym moved) ∙ on in
-    subst (λ (z : Chart). AreOwned z.fields.slots z.fields.undos c.release_all.new.self.pairs) (sym moved) (AreOwned-slot mid.fields.slots mid.fields.undos c.release_all.new.self.pairs c.args.t (Some Vacant) c.in_ok-release_all.ensures.unused (c.release_all.ensures.owned was))
+    record {
+      limit = ap (λ (o : Ownership). o.limit) c.in_ok-release_all.ensures.pairs;
+      agree = λ on.
+          let moved = if-on c.set_unused_slot.result new.on _ e.fields e.off on in
+          let was : IsTrue mid.on = ap (λ (z : Chart). z.on) (sym moved) ∙ on in
+          subst (λ (z : Chart). AreOwned z.fields.slots z.fields.undos c.release_all.new.self.pairs) (sym moved) (AreOwned-slot mid.fields.slots mid.fields.undos c.release_all.new.self.pairs c.args.t (Some Vacant) c.in_ok-release_all.ensures.unused (c.release_all.ensures.owned was));
+    }
 
 pub returns-in_err-release_all-clause-same : goal.returns-in_err-release_all-clause-same
 returns-in_err-release_all-clause-same g c = c.release_all.ensures.same c.requires.releasing.sound
+
+pub returns-clause-power : goal.returns-clause-power
+returns-clause-power g c = power_by c.set_unused_slot.result _ c.set_unused_slot.ensures.on c.set_unused_slot.ensures.off

@@ -6,12 +6,11 @@ use Rattle.envy_flush.specs.Agreement.{Ready, Steady}
 use Rattle.envy_flush.specs.Budgets.{Going, Spends}
 use Rattle.envy_flush.specs.declared.parts.Parts.{Parts}
 use Rattle.envy_flush.proofs.BudgetLemmas.{Going-start, Going-more, Going-stops, Going-last}
-use Rattle.envy_flush.proofs.CountLemmas.{Counting-trans, Counting-still}
+use Rattle.envy_flush.proofs.Leaving.{leaves_none, leaves_then}
 use Rattle.envy_flush.proofs.FlushLemmas.{err-at}
 use Rattle.envy_flush.proofs.StepLemmas.{StepsBy-more, StepsBy-still}
 use Rattle.envy_layout.proofs.FrameStay.{FramesStay-trans}
-use Rattle.envy_table.proofs.HitLemmas.{Rests-trans, Rests-refl}
-use Rattle.envy_layout.proofs.Composition.{Same-more, Same-refl}
+use Rattle.envy_layout.proofs.Composition.{Same-more}
 use Rattle.envy_flush.proofs.finishing.finish_all.Goals as goal
 
 pub loop-turn-init : goal.loop-turn-init
@@ -21,10 +20,9 @@ loop-turn-init g c =
     record {
       ready = c.requires.ready;
       going = Going-start _ _ b.0 b.1 b.2 (3 * c.args.rows + 4) 3 (3 * c.args.rows + 15) (Ready.sound c.requires.ready) b.3 b.4 b.5 b.6;
-      counting = Counting-still now now c.args.parts.now c.args.parts.now (Stays.counted (Same.stays (Same-refl now (Ready.sound c.requires.ready)))) refl refl refl (λ on. refl);
+      leaves = leaves_none now c.args.parts.now c.requires.ready;
       here = λ p k. ((λ h. h), (λ h. h));
       parts = refl;
-      rests = Rests-refl c.args.parts.now.cache;
       steps = (refl, refl);
     }
 
@@ -50,17 +48,13 @@ loop-turn-preserved g c =
     let mid = chart (g.B.Board.state c.loop-turn.board) in
     let new = chart (g.B.Board.state c.turn.new.board) in
     record {
-      ready = record { on = e.on; sound = Stays.sound (Same.stays (Spends.same done.0)); fits = Steady.fits e.steady; agrees = Steady.agrees e.steady e.on };
+      ready = record { on = e.power; sound = Stays.sound (Same.stays (Spends.same done.0)); fits = Steady.fits e.leaves.steady; agrees = Steady.agrees e.leaves.steady e.power };
       going = Going-more _ _ _ _ _ _ _ _ _ k done.0 (done.1 c.if-not-branch.false);
-      counting = Counting-trans first mid new c.args.parts.now c.loop-turn.parts c.turn.new.parts i.counting e.counting;
-      here = FramesStay-trans first.fields.places mid.fields.places new.fields.places i.here (e.here e.on);
+      leaves = leaves_then first mid new c.args.parts.now c.loop-turn.parts c.turn.new.parts i.leaves e.leaves;
+      here = FramesStay-trans first.fields.places mid.fields.places new.fields.places i.here (e.here e.power);
       parts = e.parts ∙ ap (λ (z : Parts). record z { space = c.turn.new.parts.space; cache = c.turn.new.parts.cache; reloc = c.turn.new.parts.reloc; stages = c.turn.new.parts.stages }) i.parts;
-      rests = Rests-trans _ _ _ i.rests e.rests;
       steps = StepsBy-more c.loop-turn._turn first c.args.parts.now mid c.loop-turn.parts new c.turn.new.parts i.steps (e.steps c.if-not-branch.false);
     }
-
-pub returns-in_err-turn-clause-counting : goal.returns-in_err-turn-clause-counting
-returns-in_err-turn-clause-counting g c = Counting-trans _ (chart (g.B.Board.state c.loop-turn.board)) _ _ c.loop-turn.parts _ c.loop-turn.invariant.counting c.turn.ensures.counting
 
 pub returns-in_err-turn-clause-here : goal.returns-in_err-turn-clause-here
 returns-in_err-turn-clause-here g c on =
@@ -68,9 +62,6 @@ returns-in_err-turn-clause-here g c on =
     let mid = chart (g.B.Board.state c.loop-turn.board) in
     let new = chart (g.B.Board.state c.turn.new.board) in
     FramesStay-trans first.fields.places mid.fields.places new.fields.places c.loop-turn.invariant.here (c.turn.ensures.here on)
-
-pub returns-then-not-branch-clause-counting : goal.returns-then-not-branch-clause-counting
-returns-then-not-branch-clause-counting g c = Counting-trans _ (chart (g.B.Board.state c.loop-turn.board)) _ _ c.loop-turn.parts _ c.loop-turn.invariant.counting c.turn.ensures.counting
 
 pub returns-then-not-branch-clause-here : goal.returns-then-not-branch-clause-here
 returns-then-not-branch-clause-here g c on =
@@ -98,3 +89,9 @@ returns-then-not-branch-clause-finishes g c =
       job = idle.0;
       stages = idle.1;
     }
+
+pub returns-in_err-turn-clause-leaves : goal.returns-in_err-turn-clause-leaves
+returns-in_err-turn-clause-leaves g c = leaves_then _ (chart (g.B.Board.state c.loop-turn.board)) _ _ c.loop-turn.parts _ c.loop-turn.invariant.leaves c.turn.ensures.leaves
+
+pub returns-then-not-branch-clause-leaves : goal.returns-then-not-branch-clause-leaves
+returns-then-not-branch-clause-leaves g c = leaves_then _ (chart (g.B.Board.state c.loop-turn.board)) _ _ c.loop-turn.parts _ c.loop-turn.invariant.leaves c.turn.ensures.leaves

@@ -9,7 +9,7 @@ pub returns-then-branch-clause-turns : goal.returns-then-branch-clause-turns
 returns-then-branch-clause-turns g c n e s b =
     let old = chart (g.B.Board.state c.args.board.now) in
     let new = chart (g.B.Board.state c.tick_job.new.board) in
-    let w = Turns-job old new c.args.parts.now c.tick_job.new.parts (shape-step old new c.tick_job.ensures.step) c.in_ok-tick_job.ensures.stays c.in_ok-tick_job.ensures.left n e s b in
+    let w = Turns-job old new c.args.parts.now c.tick_job.new.parts (shape-step old new c.tick_job.ensures.step) c.in_ok-tick_job.ensures.does.stages c.in_ok-tick_job.ensures.left n e s b in
     (w.0, λ yes. w.1)
 
 pub returns-then-pending-clause-turns : goal.returns-then-pending-clause-turns

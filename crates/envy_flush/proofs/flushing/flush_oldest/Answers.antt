@@ -13,28 +13,13 @@ use Rattle.envy_map.specs.Fields.{Fields, chart}
 use Rattle.envy_layout.specs.Same.{Same, Stays, Framed, Counted}
 use Rattle.envy_base.specs.Counting.{up}
 use Rattle.envy_flush.specs.declared.parts.Parts.{Parts}
-use Rattle.envy_flush.proofs.CountLemmas.{Counting-trans, Counting-flushed, if-lit}
-use Rattle.envy_flush.proofs.FlushLemmas.{err-at, on-ok, on-three, GetsRow-after, StopsFor-gets, bad-rises}
-use Rattle.envy_table.proofs.HitLemmas.{Rests-trans}
+use Rattle.envy_flush.proofs.Leaving.{leaves_then}
+use Rattle.envy_flush.proofs.FlushLemmas.{err-at, on-ok, GetsRow-after, StopsFor-gets, bad-rises}
 use Rattle.envy_flush.proofs.flushing.flush_oldest.Goals as goal
 use Rattle.envy_layout.proofs.Sames.{same_two as Same-two}
 
 pub returns-clause-same : goal.returns-clause-same
 returns-clause-same g c = let p = (g.B.Board.state c.args.board.now).shape.rows in Same-two (4 * p + 12) 6 1 0 (4 * p + 13) 6 _ _ _ (omega arith) (omega arith) c.get_row.ensures.same c.flush_into.ensures.same
-
-pub returns-clause-counting : goal.returns-clause-counting
-returns-clause-counting g c =
-    let e = c.flush_into.ensures in
-    Counting-trans _ (chart (g.B.Board.state c.get_row.new.board)) _ _ c.get_row.new.parts _ c.get_row.ensures.counting
-    (Counting-flushed _ _ _ _ (Stays.counted (Same.stays e.same)) e.tally (ap (λ (z : Parts). z.swaps) e.parts) (ap (λ (z : Parts). z.reloc) e.parts) (if-lit c.flush_into.result _ _ (on-ok c.flush_into.result _ _ (λ f. ap (λ (z : Fields). z.wears) f) e.fields) (λ is. ap (λ (z : Fields). z.wears) (e.stays is)) e.off.0))
-
-pub returns-clause-rests : goal.returns-clause-rests
-returns-clause-rests g c = Rests-trans _ _ _ c.get_row.ensures.rests c.flush_into.ensures.rests
-
-pub returns-clause-bad : goal.returns-clause-bad
-returns-clause-bad g c is low =
-    let rise = Counted.bads (Stays.counted (Same.stays c.get_row.ensures.same)) in
-    rw (c.flush_into.ensures.bad is) (bad-rises _ _ rise low)
 
 pub returns-clause-flushes : goal.returns-clause-flushes
 returns-clause-flushes g c =
@@ -53,28 +38,36 @@ returns-clause-flushes g c =
     let own = (oldest-held old.shape old.fields.places x.frames.held held r.agrees.held (sym c.in-Some.ensures.first)).0 in
     let page : held.page < mid.shape.pages = rw before (IsHeld.page own) in
     let long : length mid.fields.places ≡ mid.shape.pages = Places.long (Sound.places (Stays.sound (Same.stays c.get_row.ensures.same))) in
-    on-three c.flush_into.result _ _ _ _
-    (λ fields erases is. record {
+    on-ok c.flush_into.result _ _
+    (λ m. record {
       oldest = held;
       first = sym c.in-Some.ensures.first;
       row = row;
-      gets = GetsRow-after held.home held.page row old x mid y new z shape (ap (λ (f : Fields). f.job) fields) (ap (λ (f : Fields). f.fills) fields) (ap (λ (f : Fields). f.positions) fields) erases (ap (λ (p : Parts). p.chooser) e.parts) (ap (λ (p : Parts). p.reloc) e.parts) (ap (λ (p : Parts). p.stages) e.parts) c.in_ok-row.ensures.gets;
-      here = ap (λ (f : Fields). place f held.page) fields ∙ get_or-set_same mid.fields.places held.page (Some (Row row)) None (rw long page);
-      held = is ∙ ap (λ (o : Order). filter (is_other held.frame) o.held) c.get_row.ensures.frames ∙ filter-oldest x.frames.held held (sym c.in-Some.ensures.first) (AreHeld.apart r.agrees.held);
-      flushes = e.flushes ∙ ap up c.get_row.ensures.flushes;
+      gets = GetsRow-after held.home held.page row old x mid y new z shape (ap (λ (f : Fields). f.job) m.fields) (ap (λ (f : Fields). f.fills) m.fields) (ap (λ (f : Fields). f.positions) m.fields) m.erases (ap (λ (p : Parts). p.chooser) e.parts) (ap (λ (p : Parts). p.reloc) e.parts) (ap (λ (p : Parts). p.stages) e.parts) c.in_ok-row.ensures.gets.gets;
+      here = ap (λ (f : Fields). place f held.page) m.fields ∙ get_or-set_same mid.fields.places held.page (Some (Row row)) None (rw long page);
+      held = m.held ∙ ap (λ (o : Order). filter (is_other held.frame) o.held) c.get_row.ensures.keeps.frames ∙ filter-oldest x.frames.held held (sym c.in-Some.ensures.first) (AreHeld.apart r.agrees.held);
+      flushes = ap (λ (p : Parts). p.flushes) e.parts ∙ ap up c.get_row.ensures.keeps.flushes;
     })
-    e.fields e.erases e.frames
+    e.moves
 
-pub returns-clause-noted : goal.returns-clause-noted
-returns-clause-noted g c is =
-    let e = c.flush_into.ensures in (
-      c.in-Some.held,
-      sym c.in-Some.ensures.first,
-      StopsFor-gets c.in-Some.held.home c.in-Some.held.page c.in_ok-row.row (chart (g.B.Board.state c.args.board.now)) c.args.parts.now (chart (g.B.Board.state c.get_row.new.board)) c.get_row.new.parts (chart (g.B.Board.state c.flush_into.new.board)) c.flush_into.new.parts
-          (Framed.shape (Stays.framed (Same.stays e.same))) (e.stays is) (e.unerased is) (ap (λ (p : Parts). p.chooser) e.parts) (ap (λ (p : Parts). p.reloc) e.parts) (ap (λ (p : Parts). p.stages) e.parts) (e.flushes ∙ ap up c.get_row.ensures.flushes) c.in_ok-row.ensures.gets,
-    )
+pub returns-clause-leaves : goal.returns-clause-leaves
+returns-clause-leaves g c = leaves_then _ (chart (g.B.Board.state c.get_row.new.board)) _ _ c.get_row.new.parts _ c.get_row.ensures.leaves c.flush_into.ensures.leaves
 
-pub returns-in_err-row-clause-noted : goal.returns-in_err-row-clause-noted
-returns-in_err-row-clause-noted g c =
+pub returns-clause-stops : goal.returns-clause-stops
+returns-clause-stops g c is =
+    let e = c.flush_into.ensures in
+    let s = e.stops is in
+    let rise = Counted.bads (Stays.counted (Same.stays c.get_row.ensures.same)) in
+    record {
+      frames = s.frames ∙ c.get_row.ensures.keeps.frames;
+      oldest = c.in-Some.held;
+      first = sym c.in-Some.ensures.first;
+      stops = StopsFor-gets c.in-Some.held.home c.in-Some.held.page c.in_ok-row.row (chart (g.B.Board.state c.args.board.now)) c.args.parts.now (chart (g.B.Board.state c.get_row.new.board)) c.get_row.new.parts (chart (g.B.Board.state c.flush_into.new.board)) c.flush_into.new.parts
+          (Framed.shape (Stays.framed (Same.stays e.same))) s.fields s.erases (ap (λ (p : Parts). p.chooser) e.parts) (ap (λ (p : Parts). p.reloc) e.parts) (ap (λ (p : Parts). p.stages) e.parts) (ap (λ (p : Parts). p.flushes) e.parts ∙ ap up c.get_row.ensures.keeps.flushes) c.in_ok-row.ensures.gets.gets;
+      bads = λ low. rw s.bads (bad-rises _ _ rise low);
+    }
+
+pub returns-in_err-row-clause-stops : goal.returns-in_err-row-clause-stops
+returns-in_err-row-clause-stops g c =
     let p = err_from_is_err_and c.from_residual.result c.from_residual.ensures.1 in
-    rw (p.1, p.2) (λ is. (c.in-Some.held, sym c.in-Some.ensures.first, record { noted = c.in_err-row.ensures.noted (err-at _ _ is); halted = inl (c.in_err-row.ensures.stops (err-at _ _ is)) }))
+    rw (p.1, p.2) (λ is. let s = c.in_err-row.ensures.stops (err-at _ _ is) in record { frames = c.get_row.ensures.keeps.frames; oldest = c.in-Some.held; first = sym c.in-Some.ensures.first; stops = record { noted = s.noted; halted = inl s.halted }; bads = s.bads })

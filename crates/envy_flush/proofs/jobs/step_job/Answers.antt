@@ -7,21 +7,18 @@ use Rattle.envy_flush.proofs.WearLemmas.{Wearing-begun}
 use Rattle.envy_flush.proofs.StoreLemmas.{shape-step, begun-step}
 use Rattle.envy_flush.proofs.jobs.step_job.Goals as goal
 
-pub returns-clause-steady : goal.returns-clause-steady
-returns-clause-steady g c =
+pub returns-clause-leaves : goal.returns-clause-leaves
+returns-clause-leaves g c =
     let old = chart (g.B.Board.state c.args.board.now) in
     let new = chart (g.B.Board.state c.step.new.board) in
     let r = c.requires.ready in
     let e = c.step.ensures in
     let shape = shape-step old new (e.same r.sound) in
     record {
-      fits = Fits-moved old.shape new.shape c.args.parts.now _ shape r.fits e.shape refl (Rests.size e.rests) refl refl;
-      agrees = λ on. Agrees-stepped old new c.args.parts.now _ r.agrees shape (e.pool on) (e.cache on) (e.plan on) (e.parted on) (e.frames on) refl;
+      steady = record {
+        fits = Fits-moved old.shape new.shape c.args.parts.now _ shape r.fits e.shape refl (Rests.size e.rests) refl refl;
+        agrees = λ on. Agrees-stepped old new c.args.parts.now _ r.agrees shape (e.pool on) (e.cache on) (e.plan on) (e.parted on) (e.frames on) refl;
+      };
+      counting = Counting-begun old new c.args.parts.now _ (begun-step old new (e.same r.sound)) e.counts refl refl (Wearing-begun old new c.args.parts.now _ c.step.result r.sound r.on e.does e.spoils e.off.0);
+      rests = e.rests;
     }
-
-pub returns-clause-counting : goal.returns-clause-counting
-returns-clause-counting g c =
-    let old = chart (g.B.Board.state c.args.board.now) in
-    let new = chart (g.B.Board.state c.step.new.board) in
-    let e = c.step.ensures in
-    Counting-begun old new c.args.parts.now _ (begun-step old new (e.same c.requires.ready.sound)) e.counts refl refl (Wearing-begun old new c.args.parts.now _ c.step.result c.requires.ready.sound c.requires.ready.on e.does e.spoils e.off.0)

@@ -1,17 +1,11 @@
-use Rattle.std.proofs.Common.{◌∙◌, Some, refl, ap}
+use Rattle.std.proofs.Common.{◌∙◌, inl, Some, refl, ap}
 use Rattle.envy_base.specs.declared.fields.Place.{Place}
 use Rattle.envy_map.specs.Fields.{chart, place}
 use Rattle.envy_flush.specs.declared.parts.Parts.{Parts}
+use Rattle.envy_flush.proofs.FlushLemmas.{on-ok}
 use Rattle.envy_flush.proofs.LookLemmas.{Stops-framed, Stops-elsewhere, Puts-fetched, Counting-looked, elsewhere-of}
 use Rattle.envy_table.proofs.HitLemmas.{Accesses-then as Accesses-rests}
 use Rattle.envy_flush.proofs.putting.put_first.Goals as goal
-
-pub returns-in-Frame-clause-stops : goal.returns-in-Frame-clause-stops
-returns-in-Frame-clause-stops g c is =
-    let was = c.args.parts.now in
-    let looked : Parts = record was { cache = c.translate.new.self } in
-    let here = c.in_ok-frame.ensures.place.1 ∙ ap (λ (x : Place). Some x) c.in-Frame.is in
-    Stops-framed c.args.page c.in-Frame.frame (chart (g.B.Board.state c.args.board.now)) was looked (chart (g.B.Board.state c.put_framed.new.board)) c.put_framed.new.parts refl here c.put_framed.ensures.frames (c.put_framed.ensures.noted is)
 
 pub returns-in_default : goal.returns-in_default
 returns-in_default g c =
@@ -26,15 +20,34 @@ returns-in_default g c =
     let elsewhere = elsewhere-of (place old.fields c.args.page) from here c.in_default.not-Frame in
     record {
       put = e.put;
-      steady = e.steady;
-      counting = Counting-looked old new was now c.translate.new.self e.counting;
-      accesses = Accesses-rests c.args.page was.cache c.translate.new.self now.cache c.in_ok-frame.ensures.accesses e.rests;
+      steady = e.leaves.steady;
+      counting = Counting-looked old new was now c.translate.new.self e.leaves.counting;
+      accesses = Accesses-rests c.args.page was.cache c.translate.new.self now.cache c.in_ok-frame.ensures.accesses e.leaves.rests;
       puts = Puts-fetched c.args.slot c.args.page old was looked new now c.put_elsewhere.result refl elsewhere e.makes;
       gives = e.gives;
-      limit = e.limit;
       owners = e.owners;
-      stays = e.stays;
-      stops = λ is. Stops-elsewhere c.args.page from old was looked new now refl here elsewhere (e.stops is) (e.noted is);
-      off = e.off;
-      bad = e.bad;
+      stops = λ is. let s = (e.stops is).0 in (Stops-elsewhere c.args.page from old was looked new now refl here elsewhere s.frames (s.oldest, s.first, s.stops), s.bads, (e.stops is).1);
+      power = e.power;
+    }
+
+pub returns-in-Frame : goal.returns-in-Frame
+returns-in-Frame g c =
+    let old = chart (g.B.Board.state c.args.board.now) in
+    let new = chart (g.B.Board.state c.put_framed.new.board) in
+    let was = c.args.parts.now in
+    let looked : Parts = record was { cache = c.translate.new.self } in
+    let now = c.put_framed.new.parts in
+    let e = c.put_framed.ensures in
+    let k = c.in-Frame.frame in
+    let here = c.in_ok-frame.ensures.place.1 ∙ ap (λ (x : Place). Some x) c.in-Frame.is in
+    record {
+      put = e.put;
+      steady = e.leaves.steady;
+      counting = Counting-looked old new was now c.translate.new.self e.leaves.counting;
+      accesses = Accesses-rests c.args.page was.cache c.translate.new.self now.cache c.in_ok-frame.ensures.accesses e.leaves.rests;
+      puts = on-ok c.put_framed.result _ _ (λ s. inl (record { frame = k; here = here; there = s.there; home = s.home; homed = s.homed; looked = looked; after_look = refl; row = s.row; gets = s.gets; shadow = s.shadow; frames = e.frames; flushes = s.flushes })) e.puts;
+      gives = e.gives;
+      owners = e.owners;
+      stops = λ is. let s = (e.stops is).0 in (Stops-framed c.args.page k old was looked new now refl here e.frames (s.home, s.homed, s.stops), s.bads, (e.stops is).1);
+      power = e.power;
     }

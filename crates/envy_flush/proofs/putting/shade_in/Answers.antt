@@ -1,18 +1,34 @@
 use Rattle.std.proofs.Common.{◌≡◌, refl, ap}
 use Rattle.envy_map.specs.Fields.{Chart, chart}
+use Rattle.envy_base.specs.declared.fields.Place.TheVariants.{Frame}
+use Rattle.envy_layout.specs.Same.{SameDurable}
+use Rattle.envy_layout.specs.Transactions.{PutDone}
+use Rattle.envy_table.proofs.HitLemmas.{Rests-refl, Rests-retargeted}
 use Rattle.envy_flush.specs.Storing.{Near}
+use Rattle.envy_flush.proofs.Leaving.{leaves_off}
+use Rattle.envy_flush.proofs.CountLemmas.{Counting-still}
 use Rattle.envy_flush.proofs.AgreeLemmas.{Fits-moved}
 use Rattle.envy_flush.proofs.ElsewhereLemmas.{Agrees-shaded}
 use Rattle.envy_flush.proofs.putting.shade_in.Goals as goal
 
-pub returns-clause-steady : goal.returns-clause-steady
-returns-clause-steady g c =
+pub returns-clause-leaves : goal.returns-clause-leaves
+returns-clause-leaves g c =
     let old = chart (g.B.Board.state c.args.board.now) in
     let new = chart (g.B.Board.state c.shade_places.new.board) in
     let n = c.requires.near in
     let e = c.in_ok-shade_places.ensures in
     let shape : new.shape ≡ old.shape = ap (λ (z : Chart). z.shape) e.fields in
     record {
-      fits = Fits-moved old.shape new.shape c.args.parts.now _ shape n.fits refl refl c.retarget.ensures.size refl refl;
-      agrees = λ on. Agrees-shaded old new c.args.parts.now _ c.args.owned.now c.args.slot c.args.page c.args.frame c.args.from n c.requires.may e.fields (c.retarget.ensures.agrees old.shape.pages old.fields.places (Near.current n)) refl refl refl;
+      steady = record {
+        fits = Fits-moved old.shape new.shape c.args.parts.now _ shape n.fits refl refl c.retarget.ensures.size refl refl;
+        agrees = λ on. Agrees-shaded old new c.args.parts.now _ c.args.owned.now c.args.slot c.args.page c.args.frame c.args.from n c.requires.may e.fields (c.retarget.ensures.agrees old.shape.pages old.fields.places (Near.current n)) refl refl refl;
+      };
+      counting = Counting-still old new c.args.parts.now _ (PutDone.counted e.done) refl refl refl (λ on. ap (λ (z : Chart). z.fields.wears) e.fields);
+      rests = Rests-retargeted c.args.parts.now.cache c.retarget.new.self c.args.page (Frame c.args.frame) c.retarget.ensures.becomes;
     }
+
+pub returns-in_err-shade_places-clause-leaves : goal.returns-in_err-shade_places-clause-leaves
+returns-in_err-shade_places-clause-leaves g c =
+    let e = c.in_err-shade_places.ensures in
+    let x = c.args.parts.now in
+    leaves_off _ _ x x (rw (SameDurable.shape e.durable) (Near.fits c.requires.near)) (SameDurable.counted e.durable) e.power refl refl refl (Rests-refl x.cache)

@@ -15,17 +15,18 @@ use Rattle.envy_txn.specs.Owners.{Ownership, AreOwned}
 use Rattle.envy_flush.specs.Putting.{MayGive, undo_for}
 use Rattle.envy_flush.proofs.ElsewhereLemmas.{MayUndo-left, IsUndo-left, slot-left, Owns-left}
 use Rattle.envy_flush.proofs.FlushLemmas.{if-on, ok-any, ok-of, err-of, ok-written, on-ok}
+use Rattle.envy_flush.proofs.Leaving.{power_by}
 use Rattle.envy_flush.proofs.putting.shade_places.Goals as goal
 
 pub own-requires-clause-undo : goal.own-requires-clause-undo
 own-requires-clause-undo g c =
     let old = chart (g.B.Board.state c.args.board.now) in
-    IsUndo-left old c.args.owned.now c.args.slot c.args.page c.args.from c.undo_of_place.result (IsBoard.shape (g.met.B.Board.lawful c.args.board.now)) c.requires.sound c.requires.may c.requires.here c.undo_of_place.ensures
+    IsUndo-left old c.args.owned.now c.args.slot c.args.page c.args.from c.undo_of_place.result (IsBoard.shape (g.met.B.Board.lawful c.args.board.now)) c.requires.sound c.requires.may c.requires.lands.here c.undo_of_place.ensures
 
 pub own-requires-clause-may : goal.own-requires-clause-may
 own-requires-clause-may g c on =
     let old = chart (g.B.Board.state c.args.board.now) in
-    MayUndo-left old c.args.owned.now c.args.slot c.args.page c.args.from c.undo_of_place.result c.requires.may c.requires.here c.undo_of_place.ensures
+    MayUndo-left old c.args.owned.now c.args.slot c.args.page c.args.from c.undo_of_place.result c.requires.may c.requires.lands.here c.undo_of_place.ensures
 
 pub returns-in_err-own-clause-durable : goal.returns-in_err-own-clause-durable
 returns-in_err-own-clause-durable g c =
@@ -70,12 +71,19 @@ pub returns-clause-gives : goal.returns-clause-gives
 returns-clause-gives g c = ok-any c.move_to_frame.result _ (c.in_ok-own.ensures.newest c.args.slot (slot-left c.args.slot c.args.from c.undo_of_place.result c.undo_of_place.ensures))
 
 pub returns-clause-owners : goal.returns-clause-owners
-returns-clause-owners g c on =
+returns-clause-owners g c =
     let mid = chart (g.B.Board.state c.own.new.board) in
     let new = chart (g.B.Board.state c.move_to_frame.new.board) in
-    let moved = if-on c.move_to_frame.result new.on _ (ok-written mid new (with_place c.args.page (Some (Frame c.args.frame))) c.move_to_frame.result c.move_to_frame.ensures.writes) c.move_to_frame.ensures.off on in
-    let was : IsTrue mid.on = ap (λ (z : Chart). z.on) (sym moved) ∙ on in
-    subst (λ (z : Chart). AreOwned z.fields.slots z.fields.undos c.own.new.self.pairs) (sym moved) (c.own.ensures.agrees was)
+    record {
+      limit = ap (λ (o : Ownership). o.limit) (c.in_ok-own.ensures.newest c.args.slot (slot-left c.args.slot c.args.from c.undo_of_place.result c.undo_of_place.ensures));
+      agree = λ on.
+          let moved = if-on c.move_to_frame.result new.on _ (ok-written mid new (with_place c.args.page (Some (Frame c.args.frame))) c.move_to_frame.result c.move_to_frame.ensures.writes) c.move_to_frame.ensures.off on in
+          let was : IsTrue mid.on = ap (λ (z : Chart). z.on) (sym moved) ∙ on in
+          subst (λ (z : Chart). AreOwned z.fields.slots z.fields.undos c.own.new.self.pairs) (sym moved) (c.own.ensures.agrees was);
+    }
 
-pub returns-clause-limit : goal.returns-clause-limit
-returns-clause-limit g c = ap (λ (o : Ownership). o.limit) (c.in_ok-own.ensures.newest c.args.slot (slot-left c.args.slot c.args.from c.undo_of_place.result c.undo_of_place.ensures))
+pub returns-in_err-own-clause-owners : goal.returns-in_err-own-clause-owners
+returns-in_err-own-clause-owners g c = record { limit = ap (λ (o : Ownership). o.limit) c.in_err-own.ensures.unchanged; agree = c.own.ensures.agrees }
+
+pub returns-clause-power : goal.returns-clause-power
+returns-clause-power g c = power_by c.move_to_frame.result _ c.move_to_frame.ensures.on c.move_to_frame.ensures.off

@@ -1,15 +1,13 @@
-use Rattle.std.proofs.Common.{◌≡◌, ◌<◌, ◌+◌, ◌-◌, ℕ, List, set, inl, inr, get_or, refl, ap, subst}
+use Rattle.std.proofs.Common.{◌<◌, ◌-◌, inl, inr, get_or, refl, ap, subst}
 use Rattle.envy_base.specs.declared.shape.Shape.{Shape}
 use Rattle.envy_base.specs.State.{IsBoard}
 use Rattle.envy_map.specs.Fields.{Chart, chart}
 use Rattle.envy_policy.specs.declared.choice.Choice.{Choice}
 use Rattle.envy_policy.specs.declared.choice.Choice.TheVariants.{Free, Clean}
 use Rattle.envy_choosing.specs.Choosing.{ChoiceFor}
-use Rattle.envy_flush.proofs.FlushLemmas.{if-done-two, never-idle}
+use Rattle.envy_flush.proofs.FlushLemmas.{if-done, never-idle}
 use Rattle.envy_flush.proofs.RowLemmas.{some-rows, free-room, clean-room, dead-cleaned, aside-in}
 use Rattle.envy_flush.specs.declared.parts.Parts.{Parts}
-use Rattle.envy_layout.specs.Same.{Same, Stays}
-use Rattle.envy_flush.proofs.CountLemmas.{Counting-still}
 use Rattle.envy_flush.proofs.rows.idle_row.Goals as goal
 
 pub choose_row-requires-clause-some : goal.choose_row-requires-clause-some
@@ -56,45 +54,41 @@ pub returns-in-Clean-clause-gets : goal.returns-in-Clean-clause-gets
 returns-in-Clean-clause-gets g c =
     let x = c.args.parts.now in
     let chosen = subst (λ (y : Choice). ChoiceFor x.chooser x.space c.args.home c.args.page y) c.in-Clean.is c.choose_row.ensures in
-    if-done-two c.clean.result _ _ _ c.clean.ensures.follows c.clean.ensures.ends
-    (λ row follows ends. record { chooses = λ idle none. (Clean c.in-Clean.position c.in-Clean.aside, chosen, follows); busy = λ some. absurd (never-idle _ _ some c.requires.idle c.requires.stages); ends = ends })
-
-pub returns-in-Clean-clause-noted : goal.returns-in-Clean-clause-noted
-returns-in-Clean-clause-noted g c is idle none =
-    let x = c.args.parts.now in
-    (Clean c.in-Clean.position c.in-Clean.aside, subst (λ (y : Choice). ChoiceFor x.chooser x.space c.args.home c.args.page y) c.in-Clean.is c.choose_row.ensures, c.clean.ensures.noted is)
-
-pub returns-in_ok-claim_at-in-Free-clause-counting : goal.returns-in_ok-claim_at-in-Free-clause-counting
-returns-in_ok-claim_at-in-Free-clause-counting g c =
-    let e = c.claim_at.ensures in
-    Counting-still (chart (g.B.Board.state c.args.board.now)) (chart (g.B.Board.state c.claim_at.new.board)) c.args.parts.now c.claim_at.new.parts (Stays.counted (Same.stays e.same)) (ap (λ (z : Parts). z.flushes) e.parts) (ap (λ (z : Parts). z.swaps) e.parts) (ap (λ (z : Parts). z.reloc) e.parts) (λ on. ap (λ (w : Chart). w.fields.wears) c.in_ok-claim_at-in-Free.ensures.claims.fields)
+    if-done c.clean.result _ _ c.clean.ensures.gets
+    (λ row e. record {
+      fresh = e.fresh;
+      gets = record { chooses = λ idle none. (Clean c.in-Clean.position c.in-Clean.aside, chosen, e.follows); busy = λ some. absurd (never-idle _ _ some c.requires.rest.0 c.requires.rest.1); ends = e.ends };
+    })
 
 pub returns-in-Clean-clause-stops : goal.returns-in-Clean-clause-stops
 returns-in-Clean-clause-stops g c is =
     let x = c.args.parts.now in
-    inr (record {
-      mid = chart (g.B.Board.state c.args.board.now);
-      between = x;
-      settles = inl (c.requires.idle, c.requires.stages, refl, refl);
-      position = c.in-Clean.position;
-      aside = c.in-Clean.aside;
-      chosen = subst (λ (y : Choice). ChoiceFor x.chooser x.space c.args.home c.args.page y) c.in-Clean.is c.choose_row.ensures;
-      stops = c.clean.ensures.stops is;
-    })
+    let chosen = subst (λ (y : Choice). ChoiceFor x.chooser x.space c.args.home c.args.page y) c.in-Clean.is c.choose_row.ensures in
+    let s = c.clean.ensures.stops is in
+    record {
+      noted = λ idle none. (Clean c.in-Clean.position c.in-Clean.aside, chosen, inl s.chooser);
+      halted = inr (record {
+        mid = chart (g.B.Board.state c.args.board.now);
+        between = x;
+        settles = inl (c.requires.rest.0, c.requires.rest.1, refl, refl);
+        position = c.in-Clean.position;
+        aside = c.in-Clean.aside;
+        chosen = chosen;
+        stops = s.stops;
+      });
+      bads = s.bads;
+    }
 
 pub returns-in_ok-claim_at-in-Free-clause-gets : goal.returns-in_ok-claim_at-in-Free-clause-gets
 returns-in_ok-claim_at-in-Free-clause-gets g c =
-    let old = chart (g.B.Board.state c.args.board.now) in
-    let new = chart (g.B.Board.state c.claim_at.new.board) in
     let x = c.args.parts.now in
-    let e = c.in_ok-claim_at-in-Free.ensures in
-    let f = c.claim_at.ensures in
-    let k = c.in-Free.position in
+    let e = c.in_ok-claim_at-in-Free.ensures.takes in
     let chosen = subst (λ (y : Choice). ChoiceFor x.chooser x.space c.args.home c.args.page y) c.in-Free.is c.choose_row.ensures in
-    let fills : new.fields.fills ≡ set old.fields.fills (get_or old.fields.positions k 0) (get_or old.fields.fills (get_or old.fields.positions k 0) 0 + 1) =
-    subst (λ (s : ℕ). new.fields.fills ≡ set old.fields.fills s (get_or old.fields.fills s 0 + 1)) (ap (λ (xs : List ℕ). get_or xs k 0) c.requires.ready.agrees.pool.positions) (ap (λ (w : Chart). w.fields.fills) e.claims.fields) in
     record {
-      chooses = λ idle none. (Free k, chosen, (e.last, fills, ap (λ (w : Chart). w.fields.positions) e.claims.fields, ap (λ (w : Chart). w.erases) e.claims.fields, e.warmed));
-      busy = λ some. absurd (never-idle _ _ some c.requires.idle c.requires.stages);
-      ends = (inl (ap (λ (w : Chart). w.fields.job) e.claims.fields), inl (ap (λ (z : Parts). z.stages) f.parts));
+      fresh = e.fresh;
+      gets = record {
+        chooses = λ idle none. (Free c.in-Free.position, chosen, e.claims);
+        busy = λ some. absurd (never-idle _ _ some c.requires.rest.0 c.requires.rest.1);
+        ends = (inl (ap (λ (w : Chart). w.fields.job) e.changes.fields), inl (ap (λ (z : Parts). z.stages) c.claim_at.ensures.parts));
+      };
     }

@@ -12,8 +12,10 @@ use Rattle.std.proofs.lemmas.List.{get_or-set_same}
 use Rattle.envy_layout.specs.Sound.{Sound, Slots}
 use Rattle.envy_txn.specs.Owners.{AreOwned}
 use Rattle.envy_layout.specs.Same.{Same, SameWords, Stays, Framed, Counted}
+use Rattle.envy_table.proofs.HitLemmas.{Rests-refl}
 use Rattle.envy_flush.specs.declared.parts.Parts.{Parts}
-use Rattle.envy_flush.proofs.CountLemmas.{Counting-trans, Counting-still, wears-put}
+use Rattle.envy_flush.proofs.CountLemmas.{Counting-still, wears-put}
+use Rattle.envy_flush.proofs.Leaving.{leaves_then}
 use Rattle.envy_flush.proofs.FlushLemmas.{bad-rises, err-at, GetsRow-after, StopsFor-gets}
 use Rattle.envy_layout.proofs.Owners.{owned_by-owns}
 use Rattle.envy_layout.proofs.Putting.{PutDone-more, PutDone-shadowed}
@@ -22,7 +24,7 @@ use Rattle.envy_flush.proofs.PutLemmas.{MayGive-framed, Shadows-shape, PutFirst-
 use Rattle.envy_flush.proofs.shading.put_framed.Goals as goal
 
 pub shadow-requires-clause-here : goal.shadow-requires-clause-here
-shadow-requires-clause-here g c = (c.get_row.ensures.here c.in_ok-row.ensures.on c.args.page c.args.frame).1 c.requires.here
+shadow-requires-clause-here g c = (c.get_row.ensures.keeps.here c.in_ok-row.ensures.power c.args.page c.args.frame).1 c.requires.here
 
 pub shadow-requires-clause-may : goal.shadow-requires-clause-may
 shadow-requires-clause-may g c = MayGive-framed c.args.slot c.args.page _ _ c.args.owned.now (Stays.framed (Same.stays c.get_row.ensures.same)) c.requires.may
@@ -35,15 +37,6 @@ returns-in_err-shadow-clause-put g c =
     let n = 4 * old.shape.rows in
     let p = err_from_is_err_and c.from_residual-in_err-shadow.result c.from_residual-in_err-shadow.ensures.1 in
     rw (p.1, p.2) (PutFirst-shadow (n + 12) 6 (n + 13) 6 c.args.slot c.args.page old mid new (32 * c.args.page + c.args.i) c.args.w c.in_err-shadow.field-0.0 (omega arith) (omega arith) c.get_row.ensures.same c.in_err-shadow.ensures.shadows)
-
-pub returns-in_err-shadow-clause-counting : goal.returns-in_err-shadow-clause-counting
-returns-in_err-shadow-clause-counting g c = Counting-trans _ (chart (g.B.Board.state c.get_row.new.board)) _ _ c.get_row.new.parts _ c.get_row.ensures.counting c.shadow.ensures.counting
-
-pub returns-in_err-shadow-clause-bad : goal.returns-in_err-shadow-clause-bad
-returns-in_err-shadow-clause-bad g c =
-    let p = err_from_is_err_and c.from_residual-in_err-shadow.result c.from_residual-in_err-shadow.ensures.1 in
-    let rise = Counted.bads (Stays.counted (Same.stays c.get_row.ensures.same)) in
-    rw (p.1, p.2) (λ is low. rw (c.in_err-shadow.ensures.bad is) (bad-rises _ _ rise low))
 
 pub returns-in_err-change_frame_word-clause-put : goal.returns-in_err-change_frame_word-clause-put
 returns-in_err-change_frame_word-clause-put g c =
@@ -59,18 +52,6 @@ returns-in_err-change_frame_word-clause-put g c =
     let p = err_from_is_err_and c.from_residual-in_err-change_frame_word.result c.from_residual-in_err-change_frame_word.ensures.1 in
     rw (p.1, p.2) (PutFirst-dropped (n + 12) 6 (n + 13) 6 old mid next new (omega arith) (omega arith) c.get_row.ensures.same sh.0 (c.in_err-change_frame_word.ensures.owned (λ on. owned)))
 
-pub returns-in_err-change_frame_word-clause-steady : goal.returns-in_err-change_frame_word-clause-steady
-returns-in_err-change_frame_word-clause-steady g c =
-    Steady-word (chart (g.B.Board.state c.shadow.new.board)) _ c.shadow.new.parts c.args.frame c.args.i c.args.w c.change_frame_word.result c.in_ok-shadow.ensures.shadows.2 c.shadow.ensures.steady c.change_frame_word.ensures.writes
-
-pub returns-in_err-change_frame_word-clause-counting : goal.returns-in_err-change_frame_word-clause-counting
-returns-in_err-change_frame_word-clause-counting g c =
-    let next = chart (g.B.Board.state c.shadow.new.board) in
-    let new = chart (g.B.Board.state c.change_frame_word.new.board) in
-    Counting-trans _ next _ _ c.shadow.new.parts _
-    (Counting-trans _ (chart (g.B.Board.state c.get_row.new.board)) _ _ c.get_row.new.parts _ c.get_row.ensures.counting c.shadow.ensures.counting)
-    (Counting-still next new _ _ (Counted-put next new (with_frame_word c.args.frame c.args.i c.args.w) c.change_frame_word.result c.change_frame_word.ensures.writes) refl refl refl (wears-put next new (with_frame_word c.args.frame c.args.i c.args.w) c.change_frame_word.result refl c.change_frame_word.ensures.writes))
-
 pub returns-clause-put : goal.returns-clause-put
 returns-clause-put g c =
     let old = chart (g.B.Board.state c.args.board.now) in
@@ -84,34 +65,9 @@ returns-clause-put g c =
     let owned = owned_by-owns c.args.slot c.args.page mid next sh.1 active in
     PutDone-more (n + 12 + 1) 6 (n + 13) 6 c.args.slot c.args.page old new (32 * c.args.page + c.args.i) c.args.w (omega arith) (omega arith) (PutDone-shadowed (n + 12) 6 1 0 c.args.slot c.args.page old mid next new (32 * c.args.page + c.args.i) c.args.w c.get_row.ensures.same sh.0 sh.1 (c.in_ok-change_frame_word.ensures.owned (λ on. owned)))
 
-pub returns-clause-steady : goal.returns-clause-steady
-returns-clause-steady g c =
-    Steady-word (chart (g.B.Board.state c.shadow.new.board)) _ c.shadow.new.parts c.args.frame c.args.i c.args.w c.change_frame_word.result c.in_ok-shadow.ensures.shadows.2 c.shadow.ensures.steady c.change_frame_word.ensures.writes
-
-pub returns-clause-counting : goal.returns-clause-counting
-returns-clause-counting g c =
-    let next = chart (g.B.Board.state c.shadow.new.board) in
-    let new = chart (g.B.Board.state c.change_frame_word.new.board) in
-    Counting-trans _ next _ _ c.shadow.new.parts _
-    (Counting-trans _ (chart (g.B.Board.state c.get_row.new.board)) _ _ c.get_row.new.parts _ c.get_row.ensures.counting c.shadow.ensures.counting)
-    (Counting-still next new _ _ (Counted-put next new (with_frame_word c.args.frame c.args.i c.args.w) c.change_frame_word.result c.change_frame_word.ensures.writes) refl refl refl (wears-put next new (with_frame_word c.args.frame c.args.i c.args.w) c.change_frame_word.result refl c.change_frame_word.ensures.writes))
-
-pub returns-in_err-shadow-clause-noted : goal.returns-in_err-shadow-clause-noted
-returns-in_err-shadow-clause-noted g c =
-    let old = chart (g.B.Board.state c.args.board.now) in
-    let mid = chart (g.B.Board.state c.get_row.new.board) in
-    let new = chart (g.B.Board.state c.shadow.new.board) in
-    let e = c.shadow.ensures in
-    let p = err_from_is_err_and c.from_residual-in_err-shadow.result c.from_residual-in_err-shadow.ensures.1 in
-    rw (p.1, p.2) (λ is. let kept = c.in_err-shadow.ensures.spoils is in (
-      c.home-home.result,
-      c.home-home.ensures.value,
-      StopsFor-gets c.home-home.result c.args.page c.in_ok-row.row old c.args.parts.now mid c.get_row.new.parts new c.shadow.new.parts (Shadows-shape 1 0 c.args.slot c.args.page mid c.shadow.result new e.shadows) kept.0 kept.1 (ap (λ (z : Parts). z.chooser) e.parts) (ap (λ (z : Parts). z.reloc) e.parts) (ap (λ (z : Parts). z.stages) e.parts) (e.flushes ∙ ap up c.get_row.ensures.flushes) c.in_ok-row.ensures.gets,
-    ))
-
 pub change_frame_word-requires-clause-here : goal.change_frame_word-requires-clause-here
 change_frame_word-requires-clause-here g c on =
-    ap (λ (f : Fields). place f c.args.page) c.in_ok-shadow.ensures.fields ∙ (c.get_row.ensures.here c.in_ok-row.ensures.on c.args.page c.args.frame).1 c.requires.here
+    ap (λ (f : Fields). place f c.args.page) c.in_ok-shadow.ensures.marks.fields ∙ (c.get_row.ensures.keeps.here c.in_ok-row.ensures.power c.args.page c.args.frame).1 c.requires.here
 
 pub returns-clause-puts : goal.returns-clause-puts
 returns-clause-puts g c =
@@ -127,27 +83,77 @@ returns-clause-puts g c =
     let e = c.in_ok-shadow.ensures in
     let done = c.in_ok-change_frame_word.ensures.writes.1 in
     let shape : new.shape ≡ mid.shape = ap (λ (w : Chart). w.shape) done ∙ SameWords.shape e.shadows.0 in
-    let fields : new.fields ≡ with_frame_word c.args.frame c.args.i c.args.w (with_undo p (Some (Shadow c.args.slot row)) mid.fields) = ap (λ (w : Chart). w.fields) done ∙ ap (with_frame_word c.args.frame c.args.i c.args.w) e.fields in
+    let fields : new.fields ≡ with_frame_word c.args.frame c.args.i c.args.w (with_undo p (Some (Shadow c.args.slot row)) mid.fields) = ap (λ (w : Chart). w.fields) done ∙ ap (with_frame_word c.args.frame c.args.i c.args.w) e.marks.fields in
     let s = Same.stays c.get_row.ensures.same in
     let long : length mid.fields.undos ≡ mid.shape.pages = Slots.undos_long (Sound.slots (Stays.sound s)) in
     let pages : mid.shape.pages ≡ old.shape.pages = ap (λ (sh : Shape). sh.pages) (Framed.shape (Stays.framed s)) in
     let low : p < length mid.fields.undos = rw (long, pages) c.requires.may.page in
-    let parts = c.shadow.ensures.parts in (
-      c.home-home.result,
-      row,
-      c.home-home.ensures.value,
-      GetsRow-after c.home-home.result p row old x mid y new z shape (ap (λ (f : Fields). f.job) fields) (ap (λ (f : Fields). f.fills) fields) (ap (λ (f : Fields). f.positions) fields) (ap (λ (w : Chart). w.erases) done ∙ e.erases) (ap (λ (w : Parts). w.chooser) parts) (ap (λ (w : Parts). w.reloc) parts) (ap (λ (w : Parts). w.stages) parts) c.in_ok-row.ensures.gets,
-      ap (λ (f : Fields). place f p) fields ∙ (c.get_row.ensures.here c.in_ok-row.ensures.on p c.args.frame).1 c.requires.here,
-      ap (λ (f : Fields). undo f p) fields ∙ get_or-set_same mid.fields.undos p (Some (Shadow c.args.slot row)) None low,
-    )
+    let parts = c.shadow.ensures.parts in
+    record {
+      home = c.home-home.result;
+      homed = c.home-home.ensures.value;
+      row = row;
+      gets = GetsRow-after c.home-home.result p row old x mid y new z shape (ap (λ (f : Fields). f.job) fields) (ap (λ (f : Fields). f.fills) fields) (ap (λ (f : Fields). f.positions) fields) (ap (λ (w : Chart). w.erases) done ∙ e.marks.erases) (ap (λ (w : Parts). w.chooser) parts) (ap (λ (w : Parts). w.reloc) parts) (ap (λ (w : Parts). w.stages) parts) c.in_ok-row.ensures.gets.gets;
+      there = ap (λ (f : Fields). place f p) fields ∙ (c.get_row.ensures.keeps.here c.in_ok-row.ensures.power p c.args.frame).1 c.requires.here;
+      shadow = ap (λ (f : Fields). undo f p) fields ∙ get_or-set_same mid.fields.undos p (Some (Shadow c.args.slot row)) None low;
+      flushes = ap (λ (w : Parts). w.flushes) parts ∙ ap up c.get_row.ensures.keeps.flushes;
+    }
+
+pub returns-in_err-shadow-clause-leaves : goal.returns-in_err-shadow-clause-leaves
+returns-in_err-shadow-clause-leaves g c = leaves_then _ (chart (g.B.Board.state c.get_row.new.board)) _ _ c.get_row.new.parts _ c.get_row.ensures.leaves c.shadow.ensures.leaves
+
+pub returns-in_err-change_frame_word-clause-leaves : goal.returns-in_err-change_frame_word-clause-leaves
+returns-in_err-change_frame_word-clause-leaves g c =
+    let mid = chart (g.B.Board.state c.get_row.new.board) in
+    let next = chart (g.B.Board.state c.shadow.new.board) in
+    let new = chart (g.B.Board.state c.change_frame_word.new.board) in
+    let z = c.shadow.new.parts in
+    leaves_then _ next _ _ z _ (leaves_then _ mid _ _ c.get_row.new.parts _ c.get_row.ensures.leaves c.shadow.ensures.leaves)
+    (record {
+      steady = Steady-word next _ z c.args.frame c.args.i c.args.w c.change_frame_word.result c.in_ok-shadow.ensures.shadows.2 c.shadow.ensures.leaves.steady c.change_frame_word.ensures.writes;
+      counting = Counting-still next new z z (Counted-put next new (with_frame_word c.args.frame c.args.i c.args.w) c.change_frame_word.result c.change_frame_word.ensures.writes) refl refl refl (wears-put next new (with_frame_word c.args.frame c.args.i c.args.w) c.change_frame_word.result refl c.change_frame_word.ensures.writes);
+      rests = Rests-refl z.cache;
+    })
+
+pub returns-clause-leaves : goal.returns-clause-leaves
+returns-clause-leaves g c =
+    let mid = chart (g.B.Board.state c.get_row.new.board) in
+    let next = chart (g.B.Board.state c.shadow.new.board) in
+    let new = chart (g.B.Board.state c.change_frame_word.new.board) in
+    let z = c.shadow.new.parts in
+    leaves_then _ next _ _ z _ (leaves_then _ mid _ _ c.get_row.new.parts _ c.get_row.ensures.leaves c.shadow.ensures.leaves)
+    (record {
+      steady = Steady-word next _ z c.args.frame c.args.i c.args.w c.change_frame_word.result c.in_ok-shadow.ensures.shadows.2 c.shadow.ensures.leaves.steady c.change_frame_word.ensures.writes;
+      counting = Counting-still next new z z (Counted-put next new (with_frame_word c.args.frame c.args.i c.args.w) c.change_frame_word.result c.change_frame_word.ensures.writes) refl refl refl (wears-put next new (with_frame_word c.args.frame c.args.i c.args.w) c.change_frame_word.result refl c.change_frame_word.ensures.writes);
+      rests = Rests-refl z.cache;
+    })
+
+pub returns-in_err-row-clause-stops : goal.returns-in_err-row-clause-stops
+returns-in_err-row-clause-stops g c =
+    let p = err_from_is_err_and c.from_residual.result c.from_residual.ensures.1 in
+    rw (p.1, p.2) (λ is. let s = c.in_err-row.ensures.stops (err-at _ _ is) in (record { home = c.home-home.result; homed = c.home-home.ensures.value; stops = record { noted = s.noted; halted = inl s.halted }; bads = s.bads }, refl))
+
+pub returns-in_err-shadow-clause-stops : goal.returns-in_err-shadow-clause-stops
+returns-in_err-shadow-clause-stops g c =
+    let old = chart (g.B.Board.state c.args.board.now) in
+    let mid = chart (g.B.Board.state c.get_row.new.board) in
+    let new = chart (g.B.Board.state c.shadow.new.board) in
+    let e = c.shadow.ensures in
+    let rise = Counted.bads (Stays.counted (Same.stays c.get_row.ensures.same)) in
+    let p = err_from_is_err_and c.from_residual-in_err-shadow.result c.from_residual-in_err-shadow.ensures.1 in
+    rw (p.1, p.2) (λ is. let s = c.in_err-shadow.ensures.stops is in (
+      record {
+        home = c.home-home.result;
+        homed = c.home-home.ensures.value;
+        stops = StopsFor-gets c.home-home.result c.args.page c.in_ok-row.row old c.args.parts.now mid c.get_row.new.parts new c.shadow.new.parts (Shadows-shape 1 0 c.args.slot c.args.page mid c.shadow.result new e.shadows) s.0.fields s.0.erases (ap (λ (z : Parts). z.chooser) e.parts) (ap (λ (z : Parts). z.reloc) e.parts) (ap (λ (z : Parts). z.stages) e.parts) (ap (λ (z : Parts). z.flushes) e.parts ∙ ap up c.get_row.ensures.keeps.flushes) c.in_ok-row.ensures.gets.gets;
+        bads = λ low. rw s.0.bads (bad-rises _ _ rise low);
+      },
+      s.1,
+    ))
 
 pub returns-clause-owners : goal.returns-clause-owners
-returns-clause-owners g c on =
+returns-clause-owners g c =
     let next = chart (g.B.Board.state c.shadow.new.board) in
     let done = c.in_ok-change_frame_word.ensures.writes.1 in
-    subst (λ (w : Chart). AreOwned w.fields.slots w.fields.undos c.shadow.new.owned.pairs) (sym done) (c.shadow.ensures.owners c.in_ok-shadow.ensures.shadows.2)
-
-pub returns-in_err-row-clause-noted : goal.returns-in_err-row-clause-noted
-returns-in_err-row-clause-noted g c =
-    let p = err_from_is_err_and c.from_residual.result c.from_residual.ensures.1 in
-    rw (p.1, p.2) (λ is. (c.home-home.result, c.home-home.ensures.value, record { noted = c.in_err-row.ensures.noted (err-at _ _ is); halted = inl (c.in_err-row.ensures.stops (err-at _ _ is)) }))
+    let o = c.shadow.ensures.owners in
+    record { limit = o.limit; agree = λ on. subst (λ (w : Chart). AreOwned w.fields.slots w.fields.undos c.shadow.new.owned.pairs) (sym done) (o.agree c.in_ok-shadow.ensures.shadows.2) }

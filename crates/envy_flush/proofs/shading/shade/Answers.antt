@@ -4,6 +4,9 @@ use Rattle.envy_map.specs.Fields.{Chart, chart}
 use Rattle.envy_layout.specs.Sound.{Sound}
 use Rattle.envy_layout.specs.Same.{SameWords}
 use Rattle.envy_space.specs.Pool.{Pool}
+use Rattle.envy_table.proofs.HitLemmas.{Rests-refl}
+use Rattle.envy_flush.proofs.Leaving.{leaves_off}
+use Rattle.envy_flush.proofs.CountLemmas.{Counting-still}
 use Rattle.envy_flush.proofs.AgreeLemmas.{Fits-moved}
 use Rattle.envy_flush.proofs.ShadeLemmas.{Shades, Shades-given, room-shade, Agrees-shade, MayUndo-shade, Owns-shade}
 use Rattle.envy_txn.specs.Owners.{Ownership}
@@ -20,8 +23,8 @@ note_kept-requires-clause-room g c =
     subst (λ (sh : Shape). get_or x.space.kept (c.args.row / sh.rows) 0 < get_or x.space.fills (c.args.row / sh.rows) 0) (sym r.fits.pool)
     (room-shade old c.args.page c.args.frame c.args.row c.args.slot x.space s r.agrees.pool sound)
 
-pub returns-clause-steady : goal.returns-clause-steady
-returns-clause-steady g c =
+pub returns-clause-leaves : goal.returns-clause-leaves
+returns-clause-leaves g c =
     let old = chart (g.B.Board.state c.args.board.now) in
     let new = chart (g.B.Board.state c.own.new.board) in
     let x = c.args.parts.now in
@@ -30,20 +33,38 @@ returns-clause-steady g c =
     let s : Shades old c.args.page c.args.frame c.args.row c.args.slot = Shades-given old c.args.page c.args.frame c.args.row c.args.slot c.args.owned.now r.sound c.requires.may c.requires.here c.requires.granted c.requires.copy in
     let shape : new.shape ≡ old.shape = ap (λ (z : Chart). z.shape) e.fields in
     record {
-      fits = Fits-moved old.shape new.shape x _ shape r.fits (ap (λ (p : Pool). p.shape) c.note_kept.ensures) refl refl refl refl;
-      agrees = λ on. Agrees-shade old new x _ c.args.page c.args.frame c.args.row c.args.slot s r.agrees e.fields c.note_kept.ensures refl refl refl;
+      steady = record {
+        fits = Fits-moved old.shape new.shape x _ shape r.fits (ap (λ (p : Pool). p.shape) c.note_kept.ensures) refl refl refl refl;
+        agrees = λ on. Agrees-shade old new x _ c.args.page c.args.frame c.args.row c.args.slot s r.agrees e.fields c.note_kept.ensures refl refl refl;
+      };
+      counting = Counting-still old new x _ (SameWords.counted (c.own.ensures.same r.sound)) refl refl refl (λ on. ap (λ (z : Chart). z.fields.wears) e.fields);
+      rests = Rests-refl x.cache;
     }
+
+pub returns-in_err-own-clause-leaves : goal.returns-in_err-own-clause-leaves
+returns-in_err-own-clause-leaves g c =
+    let r = c.requires.ready in
+    let s = c.own.ensures.same r.sound in
+    leaves_off _ _ c.args.parts.now _ (rw (SameWords.shape s) r.fits) (SameWords.counted s) (c.in_err-own.ensures.off.0 refl) refl refl refl (Rests-refl c.args.parts.now.cache)
 
 pub own-requires-clause-may : goal.own-requires-clause-may
 own-requires-clause-may g c on =
     let old = chart (g.B.Board.state c.args.board.now) in
     MayUndo-shade old c.args.page c.args.frame c.args.row c.args.slot (Shades-given old c.args.page c.args.frame c.args.row c.args.slot c.args.owned.now c.requires.ready.sound c.requires.may c.requires.here c.requires.granted c.requires.copy)
 
-pub returns-clause-owns : goal.returns-clause-owns
-returns-clause-owns g c =
+pub returns-clause-shades : goal.returns-clause-shades
+returns-clause-shades g c =
     let old = chart (g.B.Board.state c.args.board.now) in
     let new = chart (g.B.Board.state c.own.new.board) in
-    Owns-shade old new c.args.page c.args.frame c.args.row c.args.slot (Shades-given old c.args.page c.args.frame c.args.row c.args.slot c.args.owned.now c.requires.ready.sound c.requires.may c.requires.here c.requires.granted c.requires.copy) c.in_ok-own.ensures.fields
+    let e = c.in_ok-own.ensures in
+    record {
+      fields = e.fields;
+      owns = Owns-shade old new c.args.page c.args.frame c.args.row c.args.slot (Shades-given old c.args.page c.args.frame c.args.row c.args.slot c.args.owned.now c.requires.ready.sound c.requires.may c.requires.here c.requires.granted c.requires.copy) e.fields;
+      gives = e.newest c.args.slot refl;
+    }
 
-pub returns-clause-limit : goal.returns-clause-limit
-returns-clause-limit g c = ap (λ (o : Ownership). o.limit) (c.in_ok-own.ensures.newest c.args.slot refl)
+pub returns-clause-owners : goal.returns-clause-owners
+returns-clause-owners g c = record { limit = ap (λ (o : Ownership). o.limit) (c.in_ok-own.ensures.newest c.args.slot refl); agree = c.own.ensures.agrees }
+
+pub returns-in_err-own-clause-owners : goal.returns-in_err-own-clause-owners
+returns-in_err-own-clause-owners g c = record { limit = ap (λ (o : Ownership). o.limit) c.in_err-own.ensures.unchanged; agree = c.own.ensures.agrees }

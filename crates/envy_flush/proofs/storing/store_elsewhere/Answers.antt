@@ -1,12 +1,9 @@
-use Rattle.std.proofs.Common.{◌≡◌, ◌∙◌, ◌*◌, ◌+◌, true, false, ap, arith}
+use Rattle.std.proofs.Common.{◌≡◌, ◌∙◌, ◌*◌, ◌+◌, true, false, arith}
 use Rattle.std.proofs.lemmas.Result.{err_from_is_err_and}
 use Rattle.envy_map.specs.Fields.{chart, undo}
 use Rattle.envy_layout.specs.Same.{Same, Stays}
 use Rattle.envy_layout.specs.Sound.{owned_by}
-use Rattle.envy_flush.specs.Storing.{Brings, Rows}
-use Rattle.envy_flush.specs.declared.parts.Parts.{Parts}
-use Rattle.envy_flush.proofs.CountLemmas.{Counting-trans, Counting-still}
-use Rattle.envy_flush.proofs.FlushLemmas.{on-ok, if-on}
+use Rattle.envy_flush.proofs.Leaving.{leaves_then}
 use Rattle.envy_layout.proofs.Owners.{owned_by-framed}
 use Rattle.envy_flush.proofs.StoreLemmas.{Stored-after, Stored-more, Interrupted-after, Interrupted-more, Shadowed-after, Shadowed-more}
 use Rattle.envy_layout.proofs.WordPuts.{Dropped-after, Dropped-more}
@@ -34,12 +31,6 @@ returns-in_err-bring-clause-owned g c owned =
     let own : owned_by mid.fields.slots (undo mid.fields c.args.page) ≡ true = owned_by-framed old mid c.args.page (Stays.framed (Same.stays s)) ∙ owned in
     rw (p.1, p.2) (Dropped-more (k + 0) 6 k 6 old new (omega arith) (omega arith) (Dropped-after k 6 0 0 old mid new s (c.in_err-bring.ensures.owned own)))
 
-pub returns-in_err-bring-clause-counting : goal.returns-in_err-bring-clause-counting
-returns-in_err-bring-clause-counting g c =
-    let e = c.bring.ensures in
-    Counting-trans _ (chart (g.B.Board.state c.make_room.new.board)) _ _ c.make_room.new.parts _ c.make_room.ensures.counting
-    (Counting-still _ _ _ _ e.counted (ap (λ (z : Parts). z.flushes) e.parts) (ap (λ (z : Parts). z.swaps) e.parts) (ap (λ (z : Parts). z.reloc) e.parts) (if-on c.bring.result _ _ (on-ok c.bring.result _ _ (λ b. Rows.wears (Brings.rows b)) e.brings) e.off))
-
 pub returns-clause-free : goal.returns-clause-free
 returns-clause-free g c unowned =
     let old = chart (g.B.Board.state c.args.board.now) in
@@ -60,11 +51,11 @@ returns-clause-owned g c owned =
     let own : owned_by mid.fields.slots (undo mid.fields c.args.page) ≡ true = owned_by-framed old mid c.args.page (Stays.framed (Same.stays s)) ∙ owned in
     Shadowed-more (k + 0) 6 k 6 old new (32 * c.args.page + c.args.i) c.args.w (omega arith) (omega arith) (Shadowed-after k 6 0 0 old mid new (32 * c.args.page + c.args.i) c.args.w s (c.in_ok-bring.ensures.owned own))
 
-pub returns-clause-counting : goal.returns-clause-counting
-returns-clause-counting g c =
-    let e = c.bring.ensures in
-    Counting-trans _ (chart (g.B.Board.state c.make_room.new.board)) _ _ c.make_room.new.parts _ c.make_room.ensures.counting
-    (Counting-still _ _ _ _ e.counted (ap (λ (z : Parts). z.flushes) e.parts) (ap (λ (z : Parts). z.swaps) e.parts) (ap (λ (z : Parts). z.reloc) e.parts) (if-on c.bring.result _ _ (on-ok c.bring.result _ _ (λ b. Rows.wears (Brings.rows b)) e.brings) e.off))
-
 pub returns-clause-makes : goal.returns-clause-makes
 returns-clause-makes g c = (chart (g.B.Board.state c.make_room.new.board), c.make_room.new.parts, c.in_ok-make_room.ensures.makes, c.in_ok-bring.ensures.brings)
+
+pub returns-in_err-bring-clause-leaves : goal.returns-in_err-bring-clause-leaves
+returns-in_err-bring-clause-leaves g c = leaves_then _ (chart (g.B.Board.state c.make_room.new.board)) _ _ c.make_room.new.parts _ c.make_room.ensures.leaves c.bring.ensures.leaves
+
+pub returns-clause-leaves : goal.returns-clause-leaves
+returns-clause-leaves g c = leaves_then _ (chart (g.B.Board.state c.make_room.new.board)) _ _ c.make_room.new.parts _ c.make_room.ensures.leaves c.bring.ensures.leaves

@@ -19,11 +19,10 @@ returns-in_default g c =
     record {
       free = e.free;
       owned = e.owned;
-      steady = e.steady;
-      counting = Counting-looked old new was now c.translate.new.self e.counting;
-      accesses = Accesses-rests c.args.page was.cache c.translate.new.self now.cache c.in_ok-frame.ensures.accesses e.rests;
+      steady = e.leaves.steady;
+      counting = Counting-looked old new was now c.translate.new.self e.leaves.counting;
+      accesses = Accesses-rests c.args.page was.cache c.translate.new.self now.cache c.in_ok-frame.ensures.accesses e.leaves.rests;
       stores = Stores-fetched c.args.page old was looked new now c.store_elsewhere.result refl elsewhere e.makes;
-      stops = λ is. Stops-elsewhere c.args.page from old was looked new now refl here elsewhere (e.stops is) (e.noted is);
-      off = e.off;
-      bad = e.bad;
+      stops = λ is. let s = e.stops is in (Stops-elsewhere c.args.page from old was looked new now refl here elsewhere s.frames (s.oldest, s.first, s.stops), s.bads);
+      power = e.power;
     }

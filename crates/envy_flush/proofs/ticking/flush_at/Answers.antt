@@ -1,4 +1,4 @@
-use Rattle.std.proofs.Common.{◌≡◌, ◌∙◌, ◌<◌, ◌+◌, ℕ, length, get_or, set, inl, None, Some, List, refl, sym, ap, subst, arith}
+use Rattle.std.proofs.Common.{◌≡◌, ◌∙◌, ◌<◌, length, inl, None, Some, refl, sym, ap, subst, arith}
 use Rattle.std.specs.List.{filter}
 use Rattle.envy_base.specs.declared.fields.Place.TheVariants.{Frame}
 use Rattle.envy_frames.specs.Agreement.{AreHeld, IsHeld}
@@ -10,13 +10,13 @@ use Rattle.envy_layout.specs.Same.{Same, Stays, Framed, Counted}
 use Rattle.envy_base.specs.Counting.{up}
 use Rattle.envy_policy.specs.declared.choice.Choice.TheVariants.{Free}
 use Rattle.envy_flush.specs.Agreement.{Steady}
-use Rattle.envy_flush.specs.Flushing.{Follows, GetsRow}
+use Rattle.envy_flush.specs.Flushing.{GetsRow}
 use Rattle.std.proofs.lemmas.List.{get_or-set_same}
 use Rattle.envy_base.specs.declared.fields.Place.TheVariants.{Row}
 use Rattle.envy_layout.specs.Sound.{Sound, Places}
 use Rattle.envy_flush.specs.declared.parts.Parts.{Parts}
-use Rattle.envy_flush.proofs.CountLemmas.{Counting-trans, Counting-still, Counting-flushed, if-lit}
-use Rattle.envy_flush.proofs.FlushLemmas.{bad-rises, never-idle, on-ok, on-three, GetsRow-after}
+use Rattle.envy_flush.proofs.Leaving.{leaves_then}
+use Rattle.envy_flush.proofs.FlushLemmas.{bad-rises, never-idle, on-ok, GetsRow-after}
 use Rattle.envy_flush.proofs.ticking.flush_at.Goals as goal
 use Rattle.envy_layout.proofs.Sames.{same_two as Same-two}
 
@@ -24,37 +24,24 @@ pub flush_into-requires-clause-here : goal.flush_into-requires-clause-here
 flush_into-requires-clause-here g c =
     let old = chart (g.B.Board.state c.args.board.now) in
     let held = (oldest-held old.shape old.fields.places c.args.parts.now.frames.held c.args.held c.requires.ready.agrees.held c.requires.oldest).0 in
-    subst (λ (z : Chart). place z.fields c.args.held.page ≡ Some (Frame c.args.held.frame)) (sym c.in_ok-row.ensures.claims.fields) (IsHeld.here held)
+    subst (λ (z : Chart). place z.fields c.args.held.page ≡ Some (Frame c.args.held.frame)) (sym c.in_ok-row.ensures.takes.changes.fields) (IsHeld.here held)
 
 pub flush_into-requires-clause-ready : goal.flush_into-requires-clause-ready
 flush_into-requires-clause-ready g c =
     let e = c.claim_at.ensures in
-    let on = c.in_ok-row.ensures.on in
-    record { on = on; sound = Stays.sound (Same.stays e.same); fits = Steady.fits e.steady; agrees = Steady.agrees e.steady on }
+    let on = c.in_ok-row.ensures.power in
+    record { on = on; sound = Stays.sound (Same.stays e.same); fits = Steady.fits e.leaves.steady; agrees = Steady.agrees e.leaves.steady on }
 
 pub flush_into-requires-clause-page : goal.flush_into-requires-clause-page
 flush_into-requires-clause-page g c =
     let old = chart (g.B.Board.state c.args.board.now) in
     let mid = chart (g.B.Board.state c.claim_at.new.board) in
-    let before : mid.shape ≡ old.shape = ap (λ (w : Chart). w.shape) c.in_ok-row.ensures.claims.fields in
+    let before : mid.shape ≡ old.shape = ap (λ (w : Chart). w.shape) c.in_ok-row.ensures.takes.changes.fields in
     let own = (oldest-held old.shape old.fields.places c.args.parts.now.frames.held c.args.held c.requires.ready.agrees.held c.requires.oldest).0 in
     rw before (IsHeld.page own)
 
 pub returns-clause-same : goal.returns-clause-same
 returns-clause-same g c = Same-two 0 0 1 0 1 0 _ _ _ (omega arith) (omega arith) c.claim_at.ensures.same c.flush_into.ensures.same
-
-pub returns-clause-counting : goal.returns-clause-counting
-returns-clause-counting g c =
-    let e = c.claim_at.ensures in
-    let f = c.flush_into.ensures in
-    Counting-trans _ (chart (g.B.Board.state c.claim_at.new.board)) _ _ c.claim_at.new.parts _
-    (Counting-still _ _ _ _ (Stays.counted (Same.stays e.same)) (ap (λ (z : Parts). z.flushes) e.parts) (ap (λ (z : Parts). z.swaps) e.parts) (ap (λ (z : Parts). z.reloc) e.parts) (λ on. ap (λ (w : Chart). w.fields.wears) c.in_ok-row.ensures.claims.fields))
-    (Counting-flushed _ _ _ _ (Stays.counted (Same.stays f.same)) f.tally (ap (λ (z : Parts). z.swaps) f.parts) (ap (λ (z : Parts). z.reloc) f.parts) (if-lit c.flush_into.result _ _ (on-ok c.flush_into.result _ _ (λ f. ap (λ (z : Fields). z.wears) f) f.fields) (λ is. ap (λ (z : Fields). z.wears) (f.stays is)) f.off.0))
-
-pub returns-clause-bad : goal.returns-clause-bad
-returns-clause-bad g c is low =
-    let rise = Counted.bads (Stays.counted (Same.stays c.claim_at.ensures.same)) in
-    rw (c.flush_into.ensures.bad is) (bad-rises _ _ rise low)
 
 pub returns-clause-does : goal.returns-clause-does
 returns-clause-does g c =
@@ -68,30 +55,28 @@ returns-clause-does g c =
     let f = c.flush_into.ensures in
     let k = c.args.position in
     let r = c.requires.ready in
-    let fills : mid.fields.fills ≡ set old.fields.fills (get_or old.fields.positions k 0) (get_or old.fields.fills (get_or old.fields.positions k 0) 0 + 1) =
-    subst (λ (s : ℕ). mid.fields.fills ≡ set old.fields.fills s (get_or old.fields.fills s 0 + 1)) (ap (λ (xs : List ℕ). get_or xs k 0) r.agrees.pool.positions) (ap (λ (w : Chart). w.fields.fills) e.claims.fields) in
-    let follows : Follows (Free k) c.args.held.page c.in_ok-row.row old x mid y = (e.last, fills, ap (λ (w : Chart). w.fields.positions) e.claims.fields, ap (λ (w : Chart). w.erases) e.claims.fields, e.warmed) in
+    let w = e.takes in
     let gets : GetsRow c.args.held.home c.args.held.page c.in_ok-row.row old x mid y = record {
-      chooses = λ idle none. (Free k, c.requires.chosen, follows);
-      busy = λ some. absurd (never-idle _ _ some c.requires.idle c.requires.stages);
-      ends = (inl (ap (λ (w : Chart). w.fields.job) e.claims.fields), inl (ap (λ (w : Parts). w.stages) e.parts));
+      chooses = λ idle none. (Free k, c.requires.chosen, w.claims);
+      busy = λ some. absurd (never-idle _ _ some c.requires.rest.0 c.requires.rest.1);
+      ends = (inl (ap (λ (z : Chart). z.fields.job) w.changes.fields), inl (ap (λ (z : Parts). z.stages) e.parts));
     } in
     let shape : new.shape ≡ mid.shape = Framed.shape (Stays.framed (Same.stays f.same)) in
-    let before : mid.shape ≡ old.shape = ap (λ (w : Chart). w.shape) e.claims.fields in
+    let before : mid.shape ≡ old.shape = ap (λ (z : Chart). z.shape) w.changes.fields in
     let own = (oldest-held old.shape old.fields.places x.frames.held c.args.held r.agrees.held c.requires.oldest).0 in
     let page : c.args.held.page < mid.shape.pages = rw before (IsHeld.page own) in
     let long : length mid.fields.places ≡ mid.shape.pages = Places.long (Sound.places (Stays.sound (Same.stays c.claim_at.ensures.same))) in
-    on-three c.flush_into.result _ _ _ _
-    (λ fields erases held. (
+    on-ok c.flush_into.result _ _
+    (λ m. (
       refl,
       record {
         oldest = c.args.held;
         first = c.requires.oldest;
         row = c.in_ok-row.row;
-        gets = GetsRow-after c.args.held.home c.args.held.page c.in_ok-row.row old x mid y new z shape (ap (λ (w : Fields). w.job) fields) (ap (λ (w : Fields). w.fills) fields) (ap (λ (w : Fields). w.positions) fields) erases (ap (λ (w : Parts). w.chooser) f.parts) (ap (λ (w : Parts). w.reloc) f.parts) (ap (λ (w : Parts). w.stages) f.parts) gets;
-        here = ap (λ (w : Fields). place w c.args.held.page) fields ∙ get_or-set_same mid.fields.places c.args.held.page (Some (Row c.in_ok-row.row)) None (rw long page);
-        held = held ∙ ap (λ (w : Parts). filter (is_other c.args.held.frame) w.frames.held) e.parts ∙ filter-oldest x.frames.held c.args.held c.requires.oldest (AreHeld.apart r.agrees.held);
-        flushes = f.flushes ∙ ap (λ (w : Parts). up w.flushes) e.parts;
+        gets = GetsRow-after c.args.held.home c.args.held.page c.in_ok-row.row old x mid y new z shape (ap (λ (w : Fields). w.job) m.fields) (ap (λ (w : Fields). w.fills) m.fields) (ap (λ (w : Fields). w.positions) m.fields) m.erases (ap (λ (w : Parts). w.chooser) f.parts) (ap (λ (w : Parts). w.reloc) f.parts) (ap (λ (w : Parts). w.stages) f.parts) gets;
+        here = ap (λ (w : Fields). place w c.args.held.page) m.fields ∙ get_or-set_same mid.fields.places c.args.held.page (Some (Row c.in_ok-row.row)) None (rw long page);
+        held = m.held ∙ ap (λ (w : Parts). filter (is_other c.args.held.frame) w.frames.held) e.parts ∙ filter-oldest x.frames.held c.args.held c.requires.oldest (AreHeld.apart r.agrees.held);
+        flushes = ap (λ (w : Parts). w.flushes) f.parts ∙ ap (λ (w : Parts). up w.flushes) e.parts;
       },
       record {
         copied = ap (λ (w : Parts). w.reloc.copied) f.parts ∙ ap (λ (w : Parts). w.reloc.copied) e.parts;
@@ -100,4 +85,36 @@ returns-clause-does g c =
       },
       ap (λ (w : Parts). w.swaps) f.parts ∙ ap (λ (w : Parts). w.swaps) e.parts,
     ))
-    f.fields f.erases f.frames
+    f.moves
+
+pub returns-clause-leaves : goal.returns-clause-leaves
+returns-clause-leaves g c = leaves_then _ (chart (g.B.Board.state c.claim_at.new.board)) _ _ c.claim_at.new.parts _ c.claim_at.ensures.leaves c.flush_into.ensures.leaves
+
+pub returns-clause-stops : goal.returns-clause-stops
+returns-clause-stops g c is =
+    let e = c.in_ok-row.ensures in
+    let w = e.takes in
+    let f = c.flush_into.ensures in
+    let s = f.stops is in
+    let rise = Counted.bads (Stays.counted (Same.stays c.claim_at.ensures.same)) in (
+      record {
+        oldest = c.args.held;
+        first = c.requires.oldest;
+        position = c.args.position;
+        chosen = c.requires.chosen;
+        fills = ap (λ (z : Fields). z.fills) s.fields ∙ w.claims.1;
+        places = ap (λ (z : Fields). z.places) s.fields ∙ ap (λ (z : Chart). z.fields.places) w.changes.fields;
+        job = ap (λ (z : Fields). z.job) s.fields ∙ ap (λ (z : Chart). z.fields.job) w.changes.fields;
+        chooser = ap (λ (z : Parts). z.chooser) f.parts ∙ w.claims.4;
+        flushes = ap (λ (z : Parts). z.flushes) f.parts ∙ ap (λ (z : Parts). up z.flushes) e.parts;
+        frames = s.frames ∙ ap (λ (z : Parts). z.frames) e.parts;
+        stages = ap (λ (z : Parts). z.stages) f.parts ∙ ap (λ (z : Parts). z.stages) e.parts;
+        swaps = ap (λ (z : Parts). z.swaps) f.parts ∙ ap (λ (z : Parts). z.swaps) e.parts;
+        none = record {
+          copied = ap (λ (z : Parts). z.reloc.copied) f.parts ∙ ap (λ (z : Parts). z.reloc.copied) e.parts;
+          moved = ap (λ (z : Parts). z.reloc.moved) f.parts ∙ ap (λ (z : Parts). z.reloc.moved) e.parts;
+          erased = ap (λ (z : Parts). z.reloc.erased) f.parts ∙ ap (λ (z : Parts). z.reloc.erased) e.parts;
+        };
+      },
+      λ low. rw s.bads (bad-rises _ _ rise low),
+    )

@@ -1,16 +1,11 @@
-use Rattle.std.proofs.Common.{◌<◌, ◌-◌, get_or, sym, subst, ap}
+use Rattle.std.proofs.Common.{◌<◌, ◌-◌, get_or, sym, subst}
 use Rattle.envy_base.specs.declared.shape.Shape.{Shape}
 use Rattle.envy_base.specs.State.{IsBoard}
 use Rattle.envy_frames.specs.Agreement.{IsHeld}
 use Rattle.envy_frames.proofs.Agreeing.{oldest-held}
-use Rattle.envy_map.specs.Fields.{Chart, chart}
-use Rattle.envy_layout.specs.Same.{Same, Stays}
+use Rattle.envy_map.specs.Fields.{chart}
 use Rattle.envy_policy.specs.declared.choice.Choice.{Choice}
 use Rattle.envy_choosing.specs.Choosing.{ChoiceFor}
-use Rattle.envy_flush.specs.Steps.{CountsNone}
-use Rattle.envy_flush.specs.declared.parts.Parts.{Parts}
-use Rattle.envy_flush.proofs.CountLemmas.{Counting-quiet}
-use Rattle.envy_flush.proofs.FlushLemmas.{on-ok, if-on}
 use Rattle.envy_flush.proofs.RowLemmas.{some-rows, free-room, clean-room, aside-in}
 use Rattle.envy_flush.proofs.ticking.tick_flush.Goals as goal
 
@@ -52,18 +47,6 @@ begin_clean-requires-clause-position g c =
     let x = c.args.parts.now in
     let choice = subst (λ (y : Choice). ChoiceFor x.chooser x.space c.in-Some.held.home c.in-Some.held.page y) c.in-Clean.is c.choose_row.ensures in
     subst (λ (sh : Shape). c.in-Clean.position < sh.segments - 1) r.fits.pool (clean-room x.chooser x.space c.in-Some.held.home c.in-Some.held.page c.in-Clean.position c.in-Clean.aside choice)
-
-pub returns-in_err-begin_clean-in-Clean-clause-counting : goal.returns-in_err-begin_clean-in-Clean-clause-counting
-returns-in_err-begin_clean-in-Clean-clause-counting g c =
-    let e = c.begin_clean.ensures in
-    Counting-quiet (chart (g.B.Board.state c.args.board.now)) (chart (g.B.Board.state c.begin_clean.new.board)) c.args.parts.now c.begin_clean.new.parts (Stays.counted (Same.stays e.same)) (ap (λ (z : Parts). z.flushes) e.parts) (ap (λ (z : Parts). z.swaps) e.parts)
-    (record { copied = CountsNone.copied e.none; moved = CountsNone.moved e.none; erased = CountsNone.erased e.none }) e.since (if-on c.begin_clean.result _ _ (on-ok c.begin_clean.result _ _ (λ f. ap (λ (z : Chart). z.fields.wears) f) e.fields) e.off)
-
-pub returns-in_ok-begin_clean-in-Clean-clause-counting : goal.returns-in_ok-begin_clean-in-Clean-clause-counting
-returns-in_ok-begin_clean-in-Clean-clause-counting g c =
-    let e = c.begin_clean.ensures in
-    Counting-quiet (chart (g.B.Board.state c.args.board.now)) (chart (g.B.Board.state c.begin_clean.new.board)) c.args.parts.now c.begin_clean.new.parts (Stays.counted (Same.stays e.same)) (ap (λ (z : Parts). z.flushes) e.parts) (ap (λ (z : Parts). z.swaps) e.parts)
-    (record { copied = CountsNone.copied e.none; moved = CountsNone.moved e.none; erased = CountsNone.erased e.none }) e.since (if-on c.begin_clean.result _ _ (on-ok c.begin_clean.result _ _ (λ f. ap (λ (z : Chart). z.fields.wears) f) e.fields) e.off)
 
 pub flush_at-requires-clause-chosen : goal.flush_at-requires-clause-chosen
 flush_at-requires-clause-chosen g c =

@@ -31,7 +31,7 @@ returns-in_err-open_slot-clause-step g c m stood =
     let t = c.in-Some.t in
     let low = c.in_ok-t.ensures.low t c.in-Some.is in
     let p = err_from_is_err_and c.from_residual-in_err-open_slot.result c.from_residual-in_err-open_slot.ensures.1 in
-    rw (p.1, p.2) (IsLost-begin 0 0 old new m t stands low.0 low.1 (c.in_ok-t.ensures.lowest t c.in-Some.is) c.open_slot.ensures.same c.in_err-open_slot.ensures.off)
+    rw (p.1, p.2) (IsLost-begin 0 0 old new m t stands low.0 low.1 (c.in_ok-t.ensures.lowest t c.in-Some.is) c.open_slot.ensures.same c.in_err-open_slot.ensures.power)
 
 pub returns-clause-step : goal.returns-clause-step
 returns-clause-step g c m stood =
@@ -40,7 +40,7 @@ returns-clause-step g c m stood =
     let stands : Stands old m = subst (λ (p : Picture). Stands p.chart m) (sym c.self.view_is) stood in
     let t = c.in-Some.t in
     let low = c.in_ok-t.ensures.low t c.in-Some.is in
-    Steps-begin 0 0 old new m t stands low.0 low.1 (c.in_ok-t.ensures.lowest t c.in-Some.is) c.open_slot.ensures.same c.in_ok-open_slot.ensures.fields c.in_ok-open_slot.ensures.on
+    Steps-begin 0 0 old new m t stands low.0 low.1 (c.in_ok-t.ensures.lowest t c.in-Some.is) c.open_slot.ensures.same c.in_ok-open_slot.ensures.fields c.in_ok-open_slot.ensures.power
 
 pub returns-in_err-open_slot-clause-cut : goal.returns-in_err-open_slot-clause-cut
 returns-in_err-open_slot-clause-cut g c =
@@ -52,7 +52,7 @@ pub returns-in_err-open_slot-clause-complete : goal.returns-in_err-open_slot-cla
 returns-in_err-open_slot-clause-complete g c calm is =
     let old = chart (g.B.Board.state c.self.inside.board) in
     let new = chart (g.B.Board.state c.open_slot.new.board) in
-    undisturbed-on old new (cause 0 0 old new (SameWords.counted c.open_slot.ensures.same)) c.in_err-open_slot.ensures.off (subst (λ (p : Picture). Undisturbed p.chart new) (sym c.self.view_is) calm)
+    undisturbed-on old new (cause 0 0 old new (SameWords.counted c.open_slot.ensures.same)) c.in_err-open_slot.ensures.power (subst (λ (p : Picture). Undisturbed p.chart new) (sym c.self.view_is) calm)
 
 pub returns-in_err-open_slot-clause-busy : goal.returns-in_err-open_slot-clause-busy
 returns-in_err-open_slot-clause-busy g c =

@@ -10,6 +10,7 @@ use Rattle.envy_layout.proofs.Ending.{closed-inactive, closed-past}
 use Rattle.envy_flush.specs.Storing.{Leaves}
 use Rattle.envy_flush.proofs.StoreLemmas.{Leaves-wrote}
 use Rattle.envy_layout.specs.Same.{Framed}
+use Rattle.envy_flush.proofs.Leaving.{powers_both}
 use Rattle.envy_memory.specs.Below.{PutsBelow}
 use Rattle.envy_memory.specs.Calls.{Works, IsCut, Undisturbed}
 use Rattle.envy_memory.specs.Faults.{put_fault}
@@ -106,7 +107,7 @@ returns-in_err-store_word-clause-complete g c calm =
     let e = c.store_word.ensures in
     let leaves = Leaves-wrote k 6 old new (32 * (c.args.a / 32) + c.args.a % 32) c.args.value (c.args.a / 32) c.store_word.result e.free e.owned in
     let quiet = subst (λ (p : Picture). Undisturbed p.chart new) (sym c.self.view_is) calm in
-    let no = never-ended old new c.in_err-store_word.field-0.0 (λ is. c.in_err-store_word.ensures.off.0 is) (λ is. c.in_err-store_word.ensures.bad is) (cause k 6 old new (Leaves.counted leaves)) quiet in
+    let no = never-ended old new c.in_err-store_word.field-0.0 (powers_both {T = Unit {0}} (Err c.in_err-store_word.field-0.0) _ c.in_err-store_word.ensures.power).0 (λ is. (c.in_err-store_word.ensures.stops is).1) (cause k 6 old new (Leaves.counted leaves)) quiet in
     ((λ is. no), (λ is. no))
 
 pub invariant_of-self-in-Some : goal.invariant_of-self-in-Some
@@ -163,7 +164,7 @@ invariant_of-self-in_err-put_first g c =
     let k = 4 * old.shape.rows + 13 in
     let e = c.put_first.ensures in
     let works = Works-first k 6 k 6 c.args.t (c.args.a / 32) old new (32 * (c.args.a / 32) + c.args.a % 32) c.args.value c.put_first.result (omega arith) (omega arith) (sym c.if-not-powered.ensures) e.put in (
-      IsMemory-first k 6 c.self.inside.limit c.self.inside.mark c.args.t (c.args.a / 32) old new c.self.inside.parts c.put_first.new.parts c.self.inside.owned c.put_first.new.owned (32 * (c.args.a / 32) + c.args.a % 32) c.args.value c.put_first.result (sym c.if-not-powered.ensures) c.self.invariant.0 e.put e.steady e.owners e.limit,
+      IsMemory-first k 6 c.self.inside.limit c.self.inside.mark c.args.t (c.args.a / 32) old new c.self.inside.parts c.put_first.new.parts c.self.inside.owned c.put_first.new.owned (32 * (c.args.a / 32) + c.args.a % 32) c.args.value c.put_first.result (sym c.if-not-powered.ensures) c.self.invariant.0 e.put e.steady e.owners.agree e.owners.limit,
       λ on. IsQuiet-counted old new c.self.inside.parts c.put_first.new.parts c.self.inside.limit c.self.inside.quiet (Works.shape works) (Works.worn works) e.counting on (c.self.invariant.1 (sym c.if-not-powered.ensures)),
     )
 
@@ -200,7 +201,7 @@ returns-in_err-put_first-clause-complete g c calm =
     let k = 4 * old.shape.rows + 13 in
     let e = c.put_first.ensures in
     let quiet = subst (λ (p : Picture). Undisturbed p.chart new) (sym c.self.view_is) calm in
-    let no = never-ended old new c.in_err-put_first.field-0.0 (λ is. c.in_err-put_first.ensures.off.0 is) (λ is. c.in_err-put_first.ensures.bad is) (cause k 6 old new (Counted-first k 6 c.args.t (c.args.a / 32) old new (32 * (c.args.a / 32) + c.args.a % 32) c.args.value c.put_first.result e.put)) quiet in
+    let no = never-ended old new c.in_err-put_first.field-0.0 (powers_both {T = Unit {0}} (Err c.in_err-put_first.field-0.0) _ c.in_err-put_first.ensures.power).0 (λ is. (c.in_err-put_first.ensures.stops is).1) (cause k 6 old new (Counted-first k 6 c.args.t (c.args.a / 32) old new (32 * (c.args.a / 32) + c.args.a % 32) c.args.value c.put_first.result e.put)) quiet in
     ((λ is. no), (λ is. no))
 
 pub returns-clause-step : goal.returns-clause-step
@@ -227,7 +228,7 @@ invariant_of-self-2 g c =
     let k = 4 * old.shape.rows + 13 in
     let e = c.put_first.ensures in
     let works = Works-first k 6 k 6 c.args.t (c.args.a / 32) old new (32 * (c.args.a / 32) + c.args.a % 32) c.args.value c.put_first.result (omega arith) (omega arith) (sym c.if-not-powered.ensures) e.put in (
-      IsMemory-first k 6 c.self.inside.limit c.self.inside.mark c.args.t (c.args.a / 32) old new c.self.inside.parts c.put_first.new.parts c.self.inside.owned c.put_first.new.owned (32 * (c.args.a / 32) + c.args.a % 32) c.args.value c.put_first.result (sym c.if-not-powered.ensures) c.self.invariant.0 e.put e.steady e.owners e.limit,
+      IsMemory-first k 6 c.self.inside.limit c.self.inside.mark c.args.t (c.args.a / 32) old new c.self.inside.parts c.put_first.new.parts c.self.inside.owned c.put_first.new.owned (32 * (c.args.a / 32) + c.args.a % 32) c.args.value c.put_first.result (sym c.if-not-powered.ensures) c.self.invariant.0 e.put e.steady e.owners.agree e.owners.limit,
       λ on. IsQuiet-counted old new c.self.inside.parts c.put_first.new.parts c.self.inside.limit c.self.inside.quiet (Works.shape works) (Works.worn works) e.counting on (c.self.invariant.1 (sym c.if-not-powered.ensures)),
     )
 
@@ -243,7 +244,7 @@ returns-in_err-store_word-clause-below g c =
     let p = err_from_is_err_and c.from_residual-in_err-store_word.result c.from_residual-in_err-store_word.ensures.1 in
     let fault = c.in_err-store_word.field-0.0 in
     rw (p.1, p.2) (subst (λ (p : Picture). PutsBelow c.args.t c.args.a (Err (put_fault fault)) p (record { chart = new; parts = c.store_word.new.parts; owned = c.self.inside.owned; limit = c.self.inside.limit; mark = c.self.inside.mark })) c.self.view_is
-    (below-put_ended c.args.t c.args.a was new c.store_word.new.parts c.self.inside.owned fault worked c.in_err-store_word.ensures.stops (λ is. refl)))
+    (below-put_ended c.args.t c.args.a was new c.store_word.new.parts c.self.inside.owned fault worked (λ is. (c.in_err-store_word.ensures.stops is).0) (λ is. refl)))
 
 pub returns-in-Some-clause-below : goal.returns-in-Some-clause-below
 returns-in-Some-clause-below g c =
@@ -270,7 +271,7 @@ returns-in_err-put_first-clause-below g c =
     let p = err_from_is_err_and c.from_residual-in_err-put_first.result c.from_residual-in_err-put_first.ensures.1 in
     let fault = c.in_err-put_first.field-0.0 in
     rw (p.1, p.2) (subst (λ (p : Picture). PutsBelow c.args.t c.args.a (Err (put_fault fault)) p (record { chart = new; parts = c.put_first.new.parts; owned = c.put_first.new.owned; limit = c.self.inside.limit; mark = c.self.inside.mark })) c.self.view_is
-    (below-put_ended c.args.t c.args.a was new c.put_first.new.parts c.put_first.new.owned fault worked c.in_err-put_first.ensures.stops c.in_err-put_first.ensures.stays))
+    (below-put_ended c.args.t c.args.a was new c.put_first.new.parts c.put_first.new.owned fault worked (λ is. (c.in_err-put_first.ensures.stops is).0) (λ is. (c.in_err-put_first.ensures.stops is).2)))
 
 pub returns-clause-below : goal.returns-clause-below
 returns-clause-below g c =

@@ -22,7 +22,7 @@ returns-in_err-restart-clause-cut g c is =
     let lights : mid ≡ lit_state old = c.if-not-power_on.ensures.state in
     let on : IsTrue mid.on = subst (λ (s : State). IsTrue s.on) (sym lights) refl in
     let e = c.in_err-restart.ensures in
-    let rose = cause 0 0 (chart mid) new (SameDurable.counted e.durable) on e.off in
+    let rose = cause 0 0 (chart mid) new (SameDurable.counted e.durable) on e.power in
     subst (λ (p : Picture). p.chart.cuts < 2 ^ 64 - 1 → p.chart.cuts < new.cuts) c.self.view_is
     (subst (λ (s : State). s.cuts < 2 ^ 64 - 1 → s.cuts < new.cuts) lights rose)
 
@@ -39,7 +39,7 @@ invariant_of-self-2 g c =
     let shape = SameDurable.shape o.durable ∙ ap (λ (s : State). s.shape) lights in
     let none = ap (λ (z : Ownership). z.pairs) c.forget.ensures in
     let shadows = ap (λ (z : Ownership). z.limit) c.forget.ensures ∙ i.shadows ∙ ap (λ (sh : Shape). sh.shadows) (sym shape) in (
-      IsMemory-settled new c.restart.new.parts c.forget.new.self c.self.inside.limit c.self.inside.mark magic version o.ready o.settled none shadows i.some_limit i.some,
+      IsMemory-settled new c.restart.new.parts c.forget.new.self c.self.inside.limit c.self.inside.mark magic version o.ready o.restarts.settled none shadows i.some_limit i.some,
       λ on. IsQuiet-none new.shape new.fields c.self.inside.limit c.restart.new.parts.reloc.since 0 refl,
     )
 
@@ -53,6 +53,6 @@ returns-clause-ok g c =
     let i = c.self.invariant.0 in
     let magic = SameDurable.magic o.durable ∙ ap (λ (s : State). (chart s).fields.magic) lights ∙ i.magic in
     let version = SameDurable.version o.durable ∙ ap (λ (s : State). (chart s).fields.version) lights ∙ i.version in
-    let stands = Stands-settled (chart mid) new o.on magic version (SameDurable.sound o.durable) o.settled (SameDurable.shape o.durable) (SameDurable.durable o.durable) o.live in
+    let stands = Stands-settled (chart mid) new o.power magic version (SameDurable.sound o.durable) o.restarts.settled (SameDurable.shape o.durable) (SameDurable.durable o.durable) o.restarts.live in
     subst (λ (p : Picture). Stands new (fresh p.chart.shape.shadows (durable p.chart))) c.self.view_is
     (subst (λ (s : State). Stands new (fresh (chart s).shape.shadows (durable (chart s)))) lights stands)

@@ -7,6 +7,7 @@ use Rattle.envy_layout.specs.Stands.{Stands}
 use Rattle.envy_layout.proofs.Composition.{cause}
 use Rattle.envy_flush.specs.Storing.{Leaves}
 use Rattle.envy_flush.proofs.StoreLemmas.{Leaves-wrote}
+use Rattle.envy_flush.proofs.Leaving.{powers_both}
 use Rattle.envy_memory.specs.Below.{StoresBelow}
 use Rattle.envy_memory.specs.Calls.{IsCut, Undisturbed}
 use Rattle.envy_memory.specs.Faults.{store_fault}
@@ -76,7 +77,7 @@ returns-in_err-store_word-clause-complete g c calm =
     let e = c.store_word.ensures in
     let leaves = Leaves-wrote k 6 old new (32 * (c.args.a / 32) + c.args.a % 32) c.args.value (c.args.a / 32) c.store_word.result e.free e.owned in
     let quiet = subst (λ (p : Picture). Undisturbed p.chart new) (sym c.self.view_is) calm in
-    let no = never-ended old new c.in_err-store_word.field-0.0 (λ is. c.in_err-store_word.ensures.off.0 is) (λ is. c.in_err-store_word.ensures.bad is) (cause k 6 old new (Leaves.counted leaves)) quiet in
+    let no = never-ended old new c.in_err-store_word.field-0.0 (powers_both {T = Unit {0}} (Err c.in_err-store_word.field-0.0) _ c.in_err-store_word.ensures.power).0 (λ is. (c.in_err-store_word.ensures.stops is).1) (cause k 6 old new (Leaves.counted leaves)) quiet in
     ((λ is. no), (λ is. no))
 
 pub invariant_of-self-2 : goal.invariant_of-self-2
@@ -115,7 +116,7 @@ returns-in_err-store_word-clause-below g c =
     let p = err_from_is_err_and c.from_residual.result c.from_residual.ensures.1 in
     let fault = c.in_err-store_word.field-0.0 in
     rw (p.1, p.2) (subst (λ (p : Picture). StoresBelow c.args.a (Err (store_fault fault)) p (record { chart = new; parts = c.store_word.new.parts; owned = c.self.inside.owned; limit = c.self.inside.limit; mark = c.self.inside.mark })) c.self.view_is
-    (below-store_ended c.args.a was new c.store_word.new.parts fault worked c.in_err-store_word.ensures.stops))
+    (below-store_ended c.args.a was new c.store_word.new.parts fault worked (λ is. (c.in_err-store_word.ensures.stops is).0)))
 
 pub returns-clause-below : goal.returns-clause-below
 returns-clause-below g c =

@@ -2,6 +2,7 @@ use Rattle.std.proofs.Common.{sym, subst}
 use Rattle.envy_map.specs.Fields.{chart}
 use Rattle.envy_layout.specs.Stands.{Stands}
 use Rattle.envy_layout.proofs.Composition.{cause}
+use Rattle.envy_flush.proofs.Leaving.{powers_both}
 use Rattle.envy_memory.specs.Below.{TicksBelow}
 use Rattle.envy_memory.specs.Calls.{IsCut, Undisturbed}
 use Rattle.envy_memory.specs.Picture.{Picture}
@@ -15,7 +16,7 @@ returns-clause-step g c m stood =
     let old = chart (g.B.Board.state c.self.inside.board) in
     let stands : Stands old m = subst (λ (p : Picture). Stands p.chart m) (sym c.self.view_is) stood in
     let new = chart (g.B.Board.state c.tick_ruled.new.board) in
-    Ticks-all old new m c.tick_ruled.result stands c.tick_ruled.ensures.step c.tick_ruled.ensures.off
+    Ticks-all old new m c.tick_ruled.result stands c.tick_ruled.ensures.step (powers_both c.tick_ruled.result _ c.tick_ruled.ensures.power)
 
 pub returns-clause-cut : goal.returns-clause-cut
 returns-clause-cut g c =
@@ -28,7 +29,7 @@ returns-clause-complete g c calm =
     let old = chart (g.B.Board.state c.self.inside.board) in
     let new = chart (g.B.Board.state c.tick_ruled.new.board) in
     let quiet = subst (λ (p : Picture). Undisturbed p.chart new) (sym c.self.view_is) calm in
-    ((λ is. undisturbed-on old new (cause 1 1 old new (counted-once old new c.tick_ruled.ensures.step)) (c.tick_ruled.ensures.off.0 is) quiet), (λ is. undisturbed-bad old new (c.tick_ruled.ensures.bad is) quiet))
+    ((λ is. undisturbed-on old new (cause 1 1 old new (counted-once old new c.tick_ruled.ensures.step)) ((powers_both c.tick_ruled.result _ c.tick_ruled.ensures.power).0 is) quiet), (λ is. undisturbed-bad old new ((c.tick_ruled.ensures.stops is).1) quiet))
 
 pub invariant_of-self : goal.invariant_of-self
 invariant_of-self g c =
@@ -43,6 +44,6 @@ returns-clause-below g c =
     let new = chart (g.B.Board.state c.tick_ruled.new.board) in
     let was : Picture = record { chart = old; parts = c.self.inside.parts; owned = c.self.inside.owned; limit = c.self.inside.limit; mark = c.self.inside.mark } in
     let e = c.tick_ruled.ensures in
-    let ticked : Ticked c.tick_ruled.result was new c.tick_ruled.new.parts = record { on = sym c.if-not-powered.ensures; step = e.step; does = e.does; idle = e.idle; stops = e.stops; counts = e.counts; still = e.still; rests = e.rests } in
+    let ticked : Ticked c.tick_ruled.result was new c.tick_ruled.new.parts = record { on = sym c.if-not-powered.ensures; step = e.step; does = e.does; idle = e.idle; stops = λ is. (e.stops is).0; counts = e.counts; rests = e.rests } in
     subst (λ (p : Picture). TicksBelow c.tick_ruled.result p (record { chart = new; parts = c.tick_ruled.new.parts; owned = c.self.inside.owned; limit = c.self.inside.limit; mark = c.self.inside.mark })) c.self.view_is
     (below-ticked c.tick_ruled.result was new c.tick_ruled.new.parts ticked)
