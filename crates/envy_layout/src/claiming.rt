@@ -17,6 +17,7 @@ pub fn claim_back<B: Board>(board: &mut B, row: u32, page: u32) -> Result<(), Of
     requires page { page < (B.state board.old).shape.pages }
     requires free { IsTrue (B.state board.old).on
         → IsFree (B.state board.old).shape (chart (B.state board.old)).fields row }
+
     ensures same { Same 0 0 (chart (B.state board.old)) (chart (B.state board.new)) }
     ensures fields { OnOk result (chart (B.state board.new) ≡ with_fields (chart (B.state board.old))
         (with_back row page (chart (B.state board.old)).fields)) }
@@ -36,6 +37,7 @@ pub fn raise_fill<B: Board>(board: &mut B, segment: u32, fill: u32) -> Result<()
         ≡ fill }
     requires usable { IsTrue (B.state board.old).on
         → IsUsable (B.state board.old).shape (chart (B.state board.old)).fields segment }
+
     ensures same { Same 0 0 (chart (B.state board.old)) (chart (B.state board.new)) }
     ensures fields { OnOk result (chart (B.state board.new) ≡ with_fields (chart (B.state board.old))
         (with_fill segment (fill + 1) (chart (B.state board.old)).fields)) }
@@ -52,6 +54,7 @@ pub fn note_origin<B: Board>(board: &mut B, i: u32, row: u32) -> Result<(), Off>
     requires place { i < (B.state board.old).shape.rows }
     requires row { row < (B.state board.old).shape.segments * (B.state board.old).shape.rows }
     requires copying { IsTrue (B.state board.old).on → IsCopying (chart (B.state board.old)).fields }
+
     ensures same { Same 0 0 (chart (B.state board.old)) (chart (B.state board.new)) }
     ensures fields { OnOk result (chart (B.state board.new) ≡ with_fields (chart (B.state board.old))
         (with_origin i row (chart (B.state board.old)).fields)) }

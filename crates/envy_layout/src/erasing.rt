@@ -83,6 +83,7 @@ pub fn empty_spare<B: Board>(board: &mut B, segment: u32) -> Result<(), Off>
     requires erasing { IsTrue (B.state board.old).on → (chart (B.state board.old)).fields.job ≡ Some Erase }
     requires spare { IsTrue (B.state board.old).on
         → IsSpare (B.state board.old).shape (chart (B.state board.old)).fields.positions segment }
+
     ensures same { Same 0 0 (chart (B.state board.old)) (chart (B.state board.new)) }
     ensures fields { OnOk result (chart (B.state board.new) ≡ with_fields (chart (B.state board.old))
         (with_fill segment 0 (chart (B.state board.old)).fields)) }

@@ -67,6 +67,7 @@ fn lay_regions<B: Board>(board: &mut B, slots: u8) -> Result<(), Off>
 fn lay_map<B: Board>(board: &mut B, version: u64, slots: u8) -> Result<(), Trouble>
     requires on { IsTrue (B.state board.old).on }
     requires slots { slots ≡ slots_of version }
+
     ensures laid { OnOk result (IsLaid (B.state board.old).shape version (chart (B.state board.new)).fields
         (B.state board.new).flash) }
     ensures done { OnOk result (Reached (B.state board.old).shape.segments (chart (B.state board.old))

@@ -14,6 +14,7 @@ pub fn write_free_frame<B: Board>(board: &mut B, frame: u32, page: &[u64; 32]) -
     requires sound { IsSound (chart (B.state board.old)) }
     requires frame { frame < (B.state board.old).shape.frames }
     requires unnamed { IsTrue (B.state board.old).on → IsUnnamed (chart (B.state board.old)).fields frame }
+
     ensures same { Same 0 0 (chart (B.state board.old)) (chart (B.state board.new)) }
     ensures fields { OnOk result (chart (B.state board.new) ≡ with_fields (chart (B.state board.old))
         (with_frame frame page.now 32 (chart (B.state board.old)).fields)) }
@@ -37,6 +38,7 @@ pub fn change_frame_word<B: Board>(
     requires place { i < 32 }
     requires here { IsTrue (B.state board.old).on
         → place (chart (B.state board.old)).fields page ≡ Some (Place.Frame frame) }
+
     ensures free { let old = chart (B.state board.old) in
         let new = chart (B.state board.new) in
         (IsTrue old.on → owned_by old.fields.slots (undo old.fields page) ≡ false)
@@ -72,6 +74,7 @@ pub fn move_to_frame<B: Board>(
     requires unnamed { IsTrue (B.state board.old).on → IsUnnamed (chart (B.state board.old)).fields frame }
     requires copy { IsTrue (B.state board.old).on
         → HasChanged (chart (B.state board.old)).fields (B.state board.old).flash page (Place.Frame frame) i word }
+
     ensures free { let old = chart (B.state board.old) in
         let new = chart (B.state board.new) in
         (IsTrue old.on → owned_by old.fields.slots (undo old.fields page) ≡ false)

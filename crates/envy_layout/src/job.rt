@@ -18,6 +18,7 @@ pub fn change_job<B: Board>(board: &mut B, job: Job) -> Result<(), Off>
     requires fits { IsTrue (B.state board.old).on
         → FitsJob (B.state board.old).shape (with_job (Some job) (chart (B.state board.old)).fields)
         (B.state board.old).flash }
+
     ensures same { Same 0 0 (chart (B.state board.old)) (chart (B.state board.new)) }
     ensures writes { Writes (with_job (Some job)) (chart (B.state board.old)) result (chart (B.state board.new)) }
     ensures fields { OnOk result (chart (B.state board.new) ≡ with_fields (chart (B.state board.old))
@@ -34,6 +35,7 @@ pub fn begin_copy<B: Board>(board: &mut B, segment: u32) -> Result<(), Off>
     requires idle { IsTrue (B.state board.old).on → (chart (B.state board.old)).fields.job ≡ Some Idle }
     requires placed { IsTrue (B.state board.old).on
         → IsPlaced (B.state board.old).shape (chart (B.state board.old)).fields.positions segment }
+
     ensures same { Same 0 0 (chart (B.state board.old)) (chart (B.state board.new)) }
     ensures fields { OnOk result (chart (B.state board.new) ≡ with_fields (chart (B.state board.old))
         (with_job (Some (Copy segment)) (chart (B.state board.old)).fields)) }
@@ -50,6 +52,7 @@ pub fn begin_switch<B: Board>(board: &mut B, segment: u32) -> Result<(), Off>
     requires copying { IsTrue (B.state board.old).on → (chart (B.state board.old)).fields.job ≡ Some (Copy segment) }
     requires copied { IsTrue (B.state board.old).on
         → IsCopiedWhole (B.state board.old).shape (chart (B.state board.old)).fields (B.state board.old).flash segment }
+
     ensures same { Same 0 0 (chart (B.state board.old)) (chart (B.state board.new)) }
     ensures fields { OnOk result (chart (B.state board.new) ≡ with_fields (chart (B.state board.old))
         (with_job (Some (Switch segment)) (chart (B.state board.old)).fields)) }

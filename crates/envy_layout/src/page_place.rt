@@ -22,6 +22,7 @@ pub fn move_place<B: Board>(board: &mut B, page: u32, place: Place) -> Result<()
         → MayTake (B.state board.old).shape (chart (B.state board.old)).fields page place }
     requires copy { IsTrue (B.state board.old).on
         → HasPage (chart (B.state board.old)).fields (B.state board.old).flash page place }
+
     ensures same { Same 0 0 (chart (B.state board.old)) (chart (B.state board.new)) }
     ensures fields { OnOk result (chart (B.state board.new) ≡ with_fields (chart (B.state board.old))
         (with_place page (Some place) (chart (B.state board.old)).fields)) }
@@ -44,6 +45,7 @@ pub fn switch_place<B: Board>(board: &mut B, page: u32, spare: u32, i: u32) -> R
     requires alone { let f = (chart (B.state board.old)).fields in
         IsTrue (B.state board.old).on → (t : ℕ) → undo f page ≡ Some (Shadow t (slice_index f.origins i))
         → slot f t ≢ Some Active }
+
     ensures same { Same 0 0 (chart (B.state board.old)) (chart (B.state board.new)) }
     ensures writes { let copy = spare * (B.state board.old).shape.rows + i in
         Writes (with_place page (Some (Place.Row copy))) (chart (B.state board.old)) result
@@ -66,6 +68,7 @@ pub fn restore_place<B: Board>(board: &mut B, page: u32, back: Place) -> Result<
     requires owned { let f = (chart (B.state board.old)).fields in
         IsTrue (B.state board.old).on → owned_by f.slots (undo f page) ≡ true }
     requires names { IsTrue (B.state board.old).on → kept (chart (B.state board.old)).fields page ≡ Some back }
+
     ensures durable { SameDurable 0 0 (chart (B.state board.old)) (chart (B.state board.new)) }
     ensures restored { OnOk result (Restored page (chart (B.state board.old)) (chart (B.state board.new))) }
     ensures fields { OnOk result (chart (B.state board.new) ≡ with_fields (chart (B.state board.old))

@@ -22,6 +22,7 @@ pub fn own_page<B: Board>(board: &mut B, page: u32, undo: Undo) -> Result<(), Of
         IsTrue (B.state board.old).on → count_by (owned_by f.slots) f.undos < (B.state board.old).shape.shadows }
     requires may { IsTrue (B.state board.old).on
         → MayUndo (B.state board.old).shape (chart (B.state board.old)).fields (B.state board.old).flash page undo }
+
     ensures same { SameWords 0 0 (chart (B.state board.old)) (chart (B.state board.new)) }
     ensures fields { OnOk result (chart (B.state board.new) ≡ with_fields (chart (B.state board.old))
         (with_undo page (Some undo) (chart (B.state board.old)).fields)) }
@@ -43,6 +44,7 @@ pub fn move_undo<B: Board>(board: &mut B, page: u32, slot: u8, row: u32) -> Resu
         → MayRefer (B.state board.old).shape (chart (B.state board.old)).fields page row }
     requires copy { IsTrue (B.state board.old).on
         → HasKept (chart (B.state board.old)).fields (B.state board.old).flash page (Some (Row row)) }
+
     ensures same { Same 0 0 (chart (B.state board.old)) (chart (B.state board.new)) }
     ensures fields { OnOk result (chart (B.state board.new) ≡ with_fields (chart (B.state board.old))
         (with_undo page (Some (Undo.Shadow slot row)) (chart (B.state board.old)).fields)) }
@@ -73,6 +75,7 @@ pub fn switch_undo<B: Board>(
     requires active { IsTrue (B.state board.old).on → slot_of (chart (B.state board.old)).fields slot ≡ Some Active }
     requires alone { let f = (chart (B.state board.old)).fields in
         IsTrue (B.state board.old).on → place f page ≢ Some (Row (slice_index f.origins i)) }
+
     ensures same { Same 0 0 (chart (B.state board.old)) (chart (B.state board.new)) }
     ensures fields { let copy = spare * (B.state board.old).shape.rows + i in
         OnOk result (chart (B.state board.new) ≡ with_fields (chart (B.state board.old))

@@ -20,6 +20,7 @@ pub fn change_position<B: Board>(board: &mut B, position: u32, segment: u32) -> 
     requires fits { IsTrue (B.state board.old).on
         → FitsPositions (B.state board.old).shape (with_position position segment (chart (B.state board.old)).fields)
         (B.state board.old).flash }
+
     ensures same { Same 0 0 (chart (B.state board.old)) (chart (B.state board.new)) }
     ensures writes { Writes (with_position position segment) (chart (B.state board.old)) result
         (chart (B.state board.new)) }
@@ -42,6 +43,7 @@ pub fn replace_segment<B: Board>(board: &mut B, position: u32, spare: u32) -> Re
         IsTrue (B.state board.old).on → f.job ≡ Some (Switch (slice_index f.positions position)) }
     requires clear { let f = (chart (B.state board.old)).fields in
         IsTrue (B.state board.old).on → IsClear (B.state board.old).shape f (slice_index f.positions position) }
+
     ensures same { Same 0 0 (chart (B.state board.old)) (chart (B.state board.new)) }
     ensures writes { Writes (with_position position spare) (chart (B.state board.old)) result
         (chart (B.state board.new)) }

@@ -16,6 +16,7 @@ pub fn program_row<B: Board>(board: &mut B, row: u32, page: &[u64; 32]) -> Resul
     requires row { row < (B.state board.old).shape.segments * (B.state board.old).shape.rows }
     requires may { IsTrue (B.state board.old).on
         → MayProgram (B.state board.old).shape (chart (B.state board.old)).fields row }
+
     ensures same { Same 1 0 (chart (B.state board.old)) (chart (B.state board.new)) }
     ensures fields { (chart (B.state board.new)).fields ≡ (chart (B.state board.old)).fields }
     ensures programs { Programs (B.state board.old) row page.now result (B.state board.new) }

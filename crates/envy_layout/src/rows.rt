@@ -78,6 +78,7 @@ pub fn program_counted<B: Board>(
     requires row { row < (B.state board.old).shape.segments * (B.state board.old).shape.rows }
     requires may { MayProgram (B.state board.old).shape (chart (B.state board.old)).fields row }
     requires erased { IsOnes (row_of (B.state board.old) row) }
+
     ensures same { Same 1 0 (chart (B.state board.old)) (chart (B.state board.new)) }
     ensures fields { (chart (B.state board.new)).fields ≡ (chart (B.state board.old)).fields }
     ensures written { OnOk result (row_of (B.state board.new) row ≡ words.now) }

@@ -36,6 +36,7 @@ pub fn upgrade<B: Board>(board: &mut B) -> Result<(), Off>
     requires sound { IsSound (chart (B.state board.old)) }
     requires magic { IsTrue (B.state board.old).on → (chart (B.state board.old)).fields.magic ≡ the_magic }
     requires version { IsTrue (B.state board.old).on → (chart (B.state board.old)).fields.version ≡ 1 }
+
     ensures kept { Kept (chart (B.state board.old)) (chart (B.state board.new)) }
     ensures live { live (chart (B.state board.new)) ≡ live (chart (B.state board.old)) }
     ensures fields { OnOk result (chart (B.state board.new) ≡ with_fields (chart (B.state board.old))

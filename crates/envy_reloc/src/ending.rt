@@ -27,6 +27,7 @@ pub(crate) fn place_spare<B: Board>(
     requires switching { (chart (B.state board.old)).fields.job ≡ Some (Switch segment) }
     requires placed { IsPlaced (B.state board.old).shape (chart (B.state board.old)).fields.positions segment }
     requires clear { IsClear (B.state board.old).shape (chart (B.state board.old)).fields segment }
+
     ensures same { Same 0 0 (chart (B.state board.old)) (chart (B.state board.new)) }
     ensures pool { IsTrue (B.state board.new).on
         → PoolAgrees (B.state board.new).shape (chart (B.state board.new)).fields space.new }

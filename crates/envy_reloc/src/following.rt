@@ -17,6 +17,7 @@ pub(crate) fn follow(space: &mut Space, cache: &mut Cache, row: u32, kept: Kept,
     requires some { 0 < slice_index space.old.kept (row / space.old.shape.rows) }
     requires room { slice_index (noted_dead row space.old).kept (copy / space.old.shape.rows)
         < slice_index space.old.fills (copy / space.old.shape.rows) }
+
     ensures space { space.new ≡ noted_kept copy (noted_dead row space.old) }
     ensures rests { Rests cache.old cache.new }
     ensures cache { (pages : ℕ) (f : Fields) → AreCurrent pages f.places cache.old.entries

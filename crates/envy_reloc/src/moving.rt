@@ -63,6 +63,7 @@ impl Reloc {
         requires plan { IsPlanOf (B.state board.now).shape (chart (B.state board.now)).fields (B.state board.now).flash
             self.old }
         requires copying { (chart (B.state board.now)).fields.job ≡ Some (Copy segment) }
+
         ensures next { IfOk result (λ next.
             NextMove (B.state board.now).shape (chart (B.state board.now)).fields segment self.old next self.new) }
         ensures plan { OnOk result (IsPlanOf (B.state board.now).shape (chart (B.state board.now)).fields
@@ -136,6 +137,7 @@ fn name_row<B: Board>(board: &mut B, kept: Kept, row: u32, target: u32) -> Resul
     requires named { IsNamed (chart (B.state board.old)).fields kept.page row kept.undo }
     requires may { MayName (B.state board.old).shape (chart (B.state board.old)).fields kept.page target }
     requires copy { row_of (B.state board.old) target ≡ row_of (B.state board.old) row }
+
     ensures same { Same 0 0 (chart (B.state board.old)) (chart (B.state board.new)) }
     ensures fields { OnOk result (chart (B.state board.new) ≡ with_fields (chart (B.state board.old))
         (with_named kept.page target kept.undo (chart (B.state board.old)).fields)) }

@@ -71,6 +71,7 @@ fn finish_switch<B: Board>(board: &mut B, segment: u32, position: u32) -> Result
     requires switching { (chart (B.state board.old)).fields.job ≡ Some (Switch segment) }
     requires position { position < (B.state board.old).shape.segments - 1 }
     requires here { slice_index (chart (B.state board.old)).fields.positions position ≡ segment }
+
     ensures same { Same 0 0 (chart (B.state board.old)) (chart (B.state board.new)) }
     ensures others { KeepsOthers (chart (B.state board.old)).fields (chart (B.state board.new)).fields }
     ensures finishes { OnOk result (Finishes (B.state board.old).shape segment (chart (B.state board.old)).fields
@@ -93,6 +94,7 @@ impl Reloc {
         requires sound { IsTrue (B.state board.old).on → IsSound (chart (B.state board.old)) }
         requires clear { IsTrue (B.state board.old).on → (p : ℕ) → p < (B.state board.old).shape.pages
             → undo (chart (B.state board.old)).fields p ≡ Some Clear }
+
         ensures same { IsSound (chart (B.state board.old))
             → Same 0 0 (chart (B.state board.old)) (chart (B.state board.new)) }
         ensures idle { (B.state board.old).on ≡ false → B.state board.new ≡ B.state board.old }

@@ -142,6 +142,7 @@ impl Reloc {
         requires copying { (v : ℕ) × ((chart (B.state board.old)).fields.job ≡ Some (Copy v)) }
         requires parted { AreParted (chart (B.state board.old)).fields.slots (chart (B.state board.old)).fields.undos
             (chart (B.state board.old)).fields.places }
+
         ensures same { Same 0 0 (chart (B.state board.old)) (chart (B.state board.new)) }
         ensures fields { IsTrue (B.state board.new).on
             → chart (B.state board.new) ≡ with_fields (chart (B.state board.old))

@@ -42,6 +42,7 @@ pub(crate) fn switch_row<B: Board>(
     requires row { i < (B.state board.old).shape.rows }
     requires spare { spare < (B.state board.old).shape.segments }
     requires copied { IsCopied (B.state board.old).shape (chart (B.state board.old)).fields spare i }
+
     ensures same { Same 0 0 (chart (B.state board.old)) (chart (B.state board.new)) }
     ensures flash { OnOk result ((B.state board.new).flash ≡ (B.state board.old).flash) }
     ensures others { ((p : ℕ) → p < (B.state board.old).shape.pages

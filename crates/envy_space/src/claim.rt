@@ -81,6 +81,7 @@ impl Space {
             IsTrue (B.state board.old).on → f.job ≡ Some (Switch (slice_index f.positions position)) }
         requires clear { let f = (chart (B.state board.old)).fields in
             IsTrue (B.state board.old).on → IsClear (B.state board.old).shape f (slice_index f.positions position) }
+
         ensures same { IsSound (chart (B.state board.old))
             → Same 0 0 (chart (B.state board.old)) (chart (B.state board.new)) }
         ensures idle { (B.state board.old).on ≡ false → (B.state board.new ≡ B.state board.old)
@@ -109,6 +110,7 @@ impl Space {
             IsTrue (B.state board.old).on → f.job ≡ Some (Switch (slice_index f.positions position)) }
         requires clear { let f = (chart (B.state board.old)).fields in
             IsTrue (B.state board.old).on → IsClear (B.state board.old).shape f (slice_index f.positions position) }
+
         ensures same { Same 0 0 (chart (B.state board.old)) (chart (B.state board.new)) }
         ensures agrees { IsTrue (B.state board.new).on
             → PoolAgrees (B.state board.new).shape (chart (B.state board.new)).fields self.new }

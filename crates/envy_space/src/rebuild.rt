@@ -33,6 +33,7 @@ impl Space {
     fn read_positions<B: Board>(&mut self, board: &B) -> Result<(), Off>
         requires sound { IsSound (chart (B.state board.now)) }
         requires shape { self.old.shape ≡ (B.state board.now).shape }
+
         ensures positions { OnOk result (self.new.positions ≡ (chart (B.state board.now)).fields.positions) }
         ensures shape { self.new.shape ≡ self.old.shape }
         ensures fills { self.new.fills ≡ self.old.fills }
@@ -50,6 +51,7 @@ impl Space {
         requires sound { IsSound (chart (B.state board.now)) }
         requires shape { self.old.shape ≡ (B.state board.now).shape }
         requires none { self.old.kept ≡ replicate self.old.shape.segments 0 }
+
         ensures fills { OnOk result (self.new.fills ≡ (chart (B.state board.now)).fields.fills) }
         ensures shape { self.new.shape ≡ self.old.shape }
         ensures kept { self.new.kept ≡ self.old.kept }
@@ -68,6 +70,7 @@ impl Space {
         requires shape { self.old.shape ≡ (B.state board.now).shape }
         requires fills { self.old.fills ≡ (chart (B.state board.now)).fields.fills }
         requires none { self.old.kept ≡ replicate self.old.shape.segments 0 }
+
         ensures counted { OnOk result (HasCounted (B.state board.now).shape (chart (B.state board.now)).fields
             (B.state board.now).shape.pages self.new) }
         ensures shape { self.new.shape ≡ self.old.shape }
@@ -90,6 +93,7 @@ impl Space {
         requires room { (s : ℕ)
             → kept_in_first (B.state board.now).shape (chart (B.state board.now)).fields (page + 1) s
             ≤ slice_index self.old.fills s }
+
         ensures counted { OnOk result (HasCounted (B.state board.now).shape (chart (B.state board.now)).fields
             (page + 1) self.new) }
         ensures shape { self.new.shape ≡ self.old.shape }

@@ -66,6 +66,7 @@ fn release_pairs<B: Board>(
     requires releasing { Releasing (chart (B.state board.old)) space.old t }
     requires named { AreNamed t (chart (B.state board.old)).fields.undos pairs.now }
     requires apart { AllPairs AreApart pairs.now }
+
     ensures same { SameWords 0 0 (chart (B.state board.old)) (chart (B.state board.new)) }
     ensures releasing { OnOk result (Releasing (chart (B.state board.new)) space.new t) }
     ensures released { OnOk result (ReleasedIn pairs.now t (chart (B.state board.old)) (chart (B.state board.new))) }
@@ -83,6 +84,7 @@ fn release_page<B: Board>(board: &mut B, space: &mut Space, page: u32, t: u8) ->
     requires releasing { Releasing (chart (B.state board.old)) space.old t }
     requires page { page < (B.state board.old).shape.pages }
     requires names { slot_named (undo_of (chart (B.state board.old)).fields page) ≡ Some t }
+
     ensures same { SameWords 0 0 (chart (B.state board.old)) (chart (B.state board.new)) }
     ensures fields { OnOk result (chart (B.state board.new) ≡ with_fields (chart (B.state board.old))
         (with_undo page (Some Undo.Clear) (chart (B.state board.old)).fields)) }

@@ -77,6 +77,7 @@ fn restore_pairs<B: Board>(
     requires restoring { Restoring (chart (B.state board.old)) space.old frames.old.held cache.old.entries t }
     requires named { AreNamed t (chart (B.state board.old)).fields.undos pairs.now }
     requires apart { AllPairs AreApart pairs.now }
+
     ensures durable { SameDurable 0 0 (chart (B.state board.old)) (chart (B.state board.new)) }
     ensures restoring { OnOk result
         (Restoring (chart (B.state board.new)) space.new frames.new.held cache.new.entries t) }
@@ -105,6 +106,7 @@ fn restore_page<B: Board>(
     requires restoring { Restoring (chart (B.state board.old)) space.old frames.old.held cache.old.entries t }
     requires page { page < (B.state board.old).shape.pages }
     requires names { slot_named (undo_of (chart (B.state board.old)).fields page) ≡ Some t }
+
     ensures durable { SameDurable 0 0 (chart (B.state board.old)) (chart (B.state board.new)) }
     ensures restoring { OnOk result
         (Restoring (chart (B.state board.new)) space.new frames.new.held cache.new.entries t) }

@@ -95,6 +95,7 @@ fn vacate_slot<B: Board>(board: &mut B, t: u8) -> Result<(), Off>
     requires slot { t < slots_of (chart (B.state board.old)).fields.version }
     requires clear { (p : ℕ) → p < (B.state board.old).shape.pages
         → undo_of (chart (B.state board.old)).fields p ≡ Some Clear }
+
     ensures same { SameWords 0 0 (chart (B.state board.old)) (chart (B.state board.new)) }
     ensures vacated { OnOk result ((c : Chart) → VacatedTo t c (chart (B.state board.old))
         → VacatedTo (t + 1) c (chart (B.state board.new))) }

@@ -41,6 +41,7 @@ pub fn put_back<B: Board>(board: &mut B, page: u32, back: Place) -> Result<(), O
     requires place { IsPlace back }
     requires owned { let f = (chart (B.state board.old)).fields in owned_by f.slots (undo_of f page) ≡ true }
     requires names { kept (chart (B.state board.old)).fields page ≡ Some back }
+
     ensures durable { SameDurable 0 0 (chart (B.state board.old)) (chart (B.state board.new)) }
     ensures fields { OnOk result (chart (B.state board.new) ≡ with_fields (chart (B.state board.old))
         (with_undo page (Some Undo.Clear) (with_place page (Some back) (chart (B.state board.old)).fields))) }

@@ -71,9 +71,9 @@ fn quiet_now<B: Board>(board: &B, limit: u64, since: u64) -> Result<u64, Off>
     )
 }
 
-/// The swap that is due, or `None`, as `due` answers, of a board of which is known that none is due before so many erases
-/// have begun since the last one. Wear is looked at only where so many have, and then it is known anew, of all segments.
-/// Nothing is known where a swap is due, which is to be begun. `Off` where power is off.
+/// The swap that is due, or `None`, as `due` answers, of a board of which is known that none is due before so many
+/// erases have begun since the last one. Wear is looked at only where so many have, and then it is known anew, of all
+/// segments. Nothing is known where a swap is due, which is to be begun. `Off` where power is off.
 pub fn due_after<B: Board>(
     board: &B,
     limit: u64,

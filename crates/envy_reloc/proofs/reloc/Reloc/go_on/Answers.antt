@@ -2,12 +2,10 @@ use Rattle.std.proofs.Common.{◌≡◌, ◌∙◌, inl, inr, ℕ, List, Option,
 use Rattle.envy_base.specs.Shape.{IsShape}
 use Rattle.envy_base.specs.State.{IsBoard}
 use Rattle.envy_base.specs.declared.shape.Shape.{Shape}
-use Rattle.envy_base.specs.declared.fields.Place.{Place}
 use Rattle.envy_map.specs.Fields.{Fields, chart}
 use Rattle.envy_layout.specs.Same.{Same, Stays, Framed}
 use Rattle.envy_layout.specs.Sound.{Sound, IsSpare}
 use Rattle.envy_space.specs.Pool.{IsPoolOf}
-use Rattle.envy_table.specs.Agreement.{AreCurrent}
 use Rattle.envy_reloc.specs.declared.copying.Left.{Left}
 use Rattle.envy_reloc.specs.declared.moving.Move.{Move}
 use Rattle.envy_reloc.specs.Phases.{NextMove}
