@@ -6,6 +6,7 @@ pub mod May
 pub mod Naming
 pub mod Same
 pub mod PageRows
+pub mod Power
 pub mod RowKinds
 pub mod Sound
 pub mod Stands

@@ -1,7 +1,8 @@
-ghost use Rattle.std.specs.Prelude.{◌≡◌, ◌+◌, ◌*◌, ◌<◌, false, IsTrue, OnOk, OnErr, slice_index};
+ghost use Rattle.std.specs.Prelude.{◌≡◌, ◌+◌, ◌*◌, ◌<◌, IsTrue, OnOk, slice_index};
 ghost use Rattle.envy_map.specs.Fields.{chart, with_fields};
 ghost use Rattle.envy_map.specs.Writes.{with_back, with_fill, with_origin};
 ghost use Rattle.envy_layout.specs.Claims.{IsCopying, IsUsable, FillsRise};
+ghost use Rattle.envy_layout.specs.Power.{power_of};
 ghost use Rattle.envy_layout.specs.Same.{Same};
 ghost use Rattle.envy_layout.specs.Sound.{IsSound, IsFree};
 
@@ -20,8 +21,7 @@ pub fn claim_back<B: Board>(board: &mut B, row: u32, page: u32) -> Result<(), Of
     ensures fields { OnOk result (chart (B.state board.new) ≡ with_fields (chart (B.state board.old))
         (with_back row page (chart (B.state board.old)).fields)) }
     ensures fills { (chart (B.state board.new)).fields.fills ≡ (chart (B.state board.old)).fields.fills }
-    ensures on { OnOk result (IsTrue (B.state board.new).on) }
-    ensures off { OnErr result ((B.state board.new).on ≡ false) }
+    ensures power { (B.state board.new).on ≡ power_of result }
 {
     set_back(board, row, page)
 }
@@ -40,8 +40,7 @@ pub fn raise_fill<B: Board>(board: &mut B, segment: u32, fill: u32) -> Result<()
     ensures fields { OnOk result (chart (B.state board.new) ≡ with_fields (chart (B.state board.old))
         (with_fill segment (fill + 1) (chart (B.state board.old)).fields)) }
     ensures rises { FillsRise (chart (B.state board.old)) (chart (B.state board.new)) }
-    ensures on { OnOk result (IsTrue (B.state board.new).on) }
-    ensures off { OnErr result ((B.state board.new).on ≡ false) }
+    ensures power { (B.state board.new).on ≡ power_of result }
 {
     set_fill(board, segment, fill + 1)
 }
@@ -56,8 +55,7 @@ pub fn note_origin<B: Board>(board: &mut B, i: u32, row: u32) -> Result<(), Off>
     ensures same { Same 0 0 (chart (B.state board.old)) (chart (B.state board.new)) }
     ensures fields { OnOk result (chart (B.state board.new) ≡ with_fields (chart (B.state board.old))
         (with_origin i row (chart (B.state board.old)).fields)) }
-    ensures on { OnOk result (IsTrue (B.state board.new).on) }
-    ensures off { OnErr result ((B.state board.new).on ≡ false) }
+    ensures power { (B.state board.new).on ≡ power_of result }
 {
     set_origin(board, i, row)
 }

@@ -1,9 +1,10 @@
-ghost use Rattle.std.specs.Prelude.{◌≡◌, ◌≢◌, ◌/◌, ◌<◌, ◌↔◌, ℕ, false, IsTrue, List, [], Some, Ok, Err, OnOk, OnErr, IsErrOf, slice_index, slice_index_or, slice_set, sum};
+ghost use Rattle.std.specs.Prelude.{◌≡◌, ◌≢◌, ◌/◌, ◌<◌, ℕ, IsTrue, List, [], Some, OnOk, IsErrOf, slice_index, slice_index_or, slice_set, sum};
 ghost use Rattle.envy_base.specs.Counting.{up, Tally};
 ghost use Rattle.envy_base.specs.State.{Only, IsOnes};
 ghost use Rattle.envy_base.specs.declared.fields.Job.TheVariants.{Erase};
 ghost use Rattle.envy_map.specs.Fields.{chart, with_fields};
 ghost use Rattle.envy_map.specs.Writes.{Writes, with_wear, with_fill};
+ghost use Rattle.envy_layout.specs.Power.{power_of, power_after};
 ghost use Rattle.envy_layout.specs.Sound.{IsSound, IsSpare};
 ghost use Rattle.envy_layout.specs.Same.{Same, Stays};
 
@@ -26,8 +27,7 @@ pub fn raise_wear<B: Board>(board: &mut B, segment: u32) -> Result<(), Off>
     ensures stays { Stays 0 0 (chart (B.state board.old)) (chart (B.state board.new)) }
     ensures writes { Writes (with_wear segment (up (slice_index (chart (B.state board.old)).fields.wears segment)))
         (chart (B.state board.old)) result (chart (B.state board.new)) }
-    ensures on { OnOk result (IsTrue (B.state board.new).on) }
-    ensures off { OnErr result ((B.state board.new).on ≡ false) }
+    ensures power { (B.state board.new).on ≡ power_of result }
 {
     let worn = wear(board, segment)?;
     set_wear(board, segment, one_more(worn))
@@ -66,8 +66,7 @@ pub fn erase_counted<B: Board>(
     ensures counted { IsTrue (B.state board.new).on → (count.new ≡ up count.old) × (since.new ≡ up since.old) }
     ensures counts { Tally (sum (B.state board.old).erases) count.old (sum (B.state board.new).erases) count.new }
     ensures counts_since { Tally (sum (B.state board.old).erases) since.old (sum (B.state board.new).erases) since.new }
-    ensures on { OnOk result (IsTrue (B.state board.new).on) }
-    ensures off { (result ≡ Err Trouble.Off) ↔ ((B.state board.new).on ≡ false) }
+    ensures power { (B.state board.new).on ≡ power_after result }
     ensures bad { IsErrOf result Trouble.Bad → (B.state board.new).bads ≡ up (B.state board.old).bads }
 {
     raise_wear(board, segment)?;
@@ -87,8 +86,7 @@ pub fn empty_spare<B: Board>(board: &mut B, segment: u32) -> Result<(), Off>
     ensures same { Same 0 0 (chart (B.state board.old)) (chart (B.state board.new)) }
     ensures fields { OnOk result (chart (B.state board.new) ≡ with_fields (chart (B.state board.old))
         (with_fill segment 0 (chart (B.state board.old)).fields)) }
-    ensures on { OnOk result (IsTrue (B.state board.new).on) }
-    ensures off { OnErr result ((B.state board.new).on ≡ false) }
+    ensures power { (B.state board.new).on ≡ power_of result }
 {
     set_fill(board, segment, 0)
 }

@@ -1,8 +1,9 @@
-ghost use Rattle.std.specs.Prelude.{◌≡◌, ◌+◌, ◌*◌, ◌<◌, true, false, IsTrue, Some, OnOk, OnErr, MatchResult};
+ghost use Rattle.std.specs.Prelude.{◌≡◌, ◌+◌, ◌*◌, ◌<◌, true, false, IsTrue, Some, OnOk, MatchResult};
 ghost use Rattle.envy_map.specs.Fields.{chart, with_fields, place, undo};
 ghost use Rattle.envy_map.specs.Writes.{Writes, with_frame, with_frame_word, with_place};
 ghost use Rattle.envy_layout.specs.Sound.{IsSound, owned_by};
 ghost use Rattle.envy_layout.specs.May.{IsUnnamed, HasChanged};
+ghost use Rattle.envy_layout.specs.Power.{power_of};
 ghost use Rattle.envy_layout.specs.Same.{Counted, Wears, Same, Stored, Interrupted, Shadowed, Dropped};
 
 use envy_base::{Board, Off, Place};
@@ -17,8 +18,7 @@ pub fn write_free_frame<B: Board>(board: &mut B, frame: u32, page: &[u64; 32]) -
     ensures fields { OnOk result (chart (B.state board.new) ≡ with_fields (chart (B.state board.old))
         (with_frame frame page.now 32 (chart (B.state board.old)).fields)) }
     ensures places { (chart (B.state board.new)).fields.places ≡ (chart (B.state board.old)).fields.places }
-    ensures on { OnOk result (IsTrue (B.state board.new).on) }
-    ensures off { OnErr result ((B.state board.new).on ≡ false) }
+    ensures power { (B.state board.new).on ≡ power_of result }
 {
     write_frame(board, frame, page)
 }
@@ -50,8 +50,7 @@ pub fn change_frame_word<B: Board>(
     ensures worn { Wears (chart (B.state board.old)) (chart (B.state board.new)) }
     ensures writes { Writes (with_frame_word frame i word) (chart (B.state board.old)) result
         (chart (B.state board.new)) }
-    ensures on { OnOk result (IsTrue (B.state board.new).on) }
-    ensures off { OnErr result ((B.state board.new).on ≡ false) }
+    ensures power { (B.state board.new).on ≡ power_of result }
 {
     set_frame_word(board, frame, i, word)
 }
@@ -86,8 +85,7 @@ pub fn move_to_frame<B: Board>(
     ensures worn { Wears (chart (B.state board.old)) (chart (B.state board.new)) }
     ensures writes { Writes (with_place page (Some (Place.Frame frame))) (chart (B.state board.old)) result
         (chart (B.state board.new)) }
-    ensures on { OnOk result (IsTrue (B.state board.new).on) }
-    ensures off { OnErr result ((B.state board.new).on ≡ false) }
+    ensures power { (B.state board.new).on ≡ power_of result }
 {
     set_place(board, page, Place::Frame(frame))
 }

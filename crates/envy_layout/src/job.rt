@@ -1,10 +1,11 @@
-ghost use Rattle.std.specs.Prelude.{◌≡◌, ◌<◌, ℕ, false, IsTrue, Some, OnOk, OnErr};
+ghost use Rattle.std.specs.Prelude.{◌≡◌, ◌<◌, ℕ, IsTrue, Some, OnOk};
 ghost use Rattle.envy_base.specs.declared.fields.Job.TheVariants.{Idle, Copy, Switch, Erase};
 ghost use Rattle.envy_map.specs.Codes.{IsJob};
 ghost use Rattle.envy_map.specs.Fields.{chart, with_fields};
 ghost use Rattle.envy_map.specs.Writes.{Writes, with_job};
 ghost use Rattle.envy_layout.specs.Sound.{IsSound, IsPlaced};
 ghost use Rattle.envy_layout.specs.Jobs.{FitsJob, AreHome, IsCopiedWhole, IsBlankSpare};
+ghost use Rattle.envy_layout.specs.Power.{power_of};
 ghost use Rattle.envy_layout.specs.Same.{Same};
 
 use envy_base::{Board, Job, Off};
@@ -21,8 +22,7 @@ pub fn change_job<B: Board>(board: &mut B, job: Job) -> Result<(), Off>
     ensures writes { Writes (with_job (Some job)) (chart (B.state board.old)) result (chart (B.state board.new)) }
     ensures fields { OnOk result (chart (B.state board.new) ≡ with_fields (chart (B.state board.old))
         (with_job (Some job) (chart (B.state board.old)).fields)) }
-    ensures on { OnOk result (IsTrue (B.state board.new).on) }
-    ensures off { OnErr result ((B.state board.new).on ≡ false) }
+    ensures power { (B.state board.new).on ≡ power_of result }
 {
     set_job(board, job)
 }
@@ -37,8 +37,7 @@ pub fn begin_copy<B: Board>(board: &mut B, segment: u32) -> Result<(), Off>
     ensures same { Same 0 0 (chart (B.state board.old)) (chart (B.state board.new)) }
     ensures fields { OnOk result (chart (B.state board.new) ≡ with_fields (chart (B.state board.old))
         (with_job (Some (Copy segment)) (chart (B.state board.old)).fields)) }
-    ensures on { OnOk result (IsTrue (B.state board.new).on) }
-    ensures off { OnErr result ((B.state board.new).on ≡ false) }
+    ensures power { (B.state board.new).on ≡ power_of result }
 {
     change_job(board, Job::Copy(segment))
 }
@@ -54,8 +53,7 @@ pub fn begin_switch<B: Board>(board: &mut B, segment: u32) -> Result<(), Off>
     ensures same { Same 0 0 (chart (B.state board.old)) (chart (B.state board.new)) }
     ensures fields { OnOk result (chart (B.state board.new) ≡ with_fields (chart (B.state board.old))
         (with_job (Some (Switch segment)) (chart (B.state board.old)).fields)) }
-    ensures on { OnOk result (IsTrue (B.state board.new).on) }
-    ensures off { OnErr result ((B.state board.new).on ≡ false) }
+    ensures power { (B.state board.new).on ≡ power_of result }
 {
     change_job(board, Job::Switch(segment))
 }
@@ -69,8 +67,7 @@ pub fn begin_erase<B: Board>(board: &mut B) -> Result<(), Off>
     ensures writes { Writes (with_job (Some Erase)) (chart (B.state board.old)) result (chart (B.state board.new)) }
     ensures fields { OnOk result (chart (B.state board.new) ≡ with_fields (chart (B.state board.old))
         (with_job (Some Erase) (chart (B.state board.old)).fields)) }
-    ensures on { OnOk result (IsTrue (B.state board.new).on) }
-    ensures off { OnErr result ((B.state board.new).on ≡ false) }
+    ensures power { (B.state board.new).on ≡ power_of result }
 {
     change_job(board, Job::Erase)
 }
@@ -84,8 +81,7 @@ pub fn end_job<B: Board>(board: &mut B) -> Result<(), Off>
     ensures same { Same 0 0 (chart (B.state board.old)) (chart (B.state board.new)) }
     ensures fields { OnOk result (chart (B.state board.new) ≡ with_fields (chart (B.state board.old))
         (with_job (Some Idle) (chart (B.state board.old)).fields)) }
-    ensures on { OnOk result (IsTrue (B.state board.new).on) }
-    ensures off { OnErr result ((B.state board.new).on ≡ false) }
+    ensures power { (B.state board.new).on ≡ power_of result }
 {
     change_job(board, Job::Idle)
 }

@@ -1,4 +1,4 @@
-ghost use Rattle.std.specs.Prelude.{◌≡◌, ◌≢◌, ◌+◌, ◌*◌, ◌<◌, ℕ, true, false, IsTrue, Some, OnOk, OnErr, slice_index};
+ghost use Rattle.std.specs.Prelude.{◌≡◌, ◌≢◌, ◌+◌, ◌*◌, ◌<◌, ℕ, true, IsTrue, Some, OnOk, slice_index};
 ghost use Rattle.envy_base.specs.declared.fields.Slot.TheVariants.{Active};
 ghost use Rattle.envy_base.specs.declared.fields.Undo.TheVariants.{Shadow};
 ghost use Rattle.envy_map.specs.Codes.{IsPlace};
@@ -7,6 +7,7 @@ ghost use Rattle.envy_map.specs.Writes.{Writes, with_place};
 ghost use Rattle.envy_layout.specs.Words.{kept};
 ghost use Rattle.envy_layout.specs.Sound.{IsSound, owned_by};
 ghost use Rattle.envy_layout.specs.May.{MayTake, HasPage, IsCopied};
+ghost use Rattle.envy_layout.specs.Power.{power_of};
 ghost use Rattle.envy_layout.specs.Same.{Same, SameDurable, Restored};
 
 use envy_base::{Board, Off, Place};
@@ -24,8 +25,7 @@ pub fn move_place<B: Board>(board: &mut B, page: u32, place: Place) -> Result<()
     ensures same { Same 0 0 (chart (B.state board.old)) (chart (B.state board.new)) }
     ensures fields { OnOk result (chart (B.state board.new) ≡ with_fields (chart (B.state board.old))
         (with_place page (Some place) (chart (B.state board.old)).fields)) }
-    ensures on { OnOk result (IsTrue (B.state board.new).on) }
-    ensures off { OnErr result ((B.state board.new).on ≡ false) }
+    ensures power { (B.state board.new).on ≡ power_of result }
 {
     set_place(board, page, place)
 }
@@ -51,8 +51,7 @@ pub fn switch_place<B: Board>(board: &mut B, page: u32, spare: u32, i: u32) -> R
     ensures fields { let copy = spare * (B.state board.old).shape.rows + i in
         OnOk result (chart (B.state board.new) ≡ with_fields (chart (B.state board.old))
         (with_place page (Some (Place.Row copy)) (chart (B.state board.old)).fields)) }
-    ensures on { OnOk result (IsTrue (B.state board.new).on) }
-    ensures off { OnErr result ((B.state board.new).on ≡ false) }
+    ensures power { (B.state board.new).on ≡ power_of result }
 {
     let copy = spare * board.shape().rows + i;
     set_place(board, page, Place::Row(copy))
@@ -71,8 +70,7 @@ pub fn restore_place<B: Board>(board: &mut B, page: u32, back: Place) -> Result<
     ensures restored { OnOk result (Restored page (chart (B.state board.old)) (chart (B.state board.new))) }
     ensures fields { OnOk result (chart (B.state board.new) ≡ with_fields (chart (B.state board.old))
         (with_place page (Some back) (chart (B.state board.old)).fields)) }
-    ensures on { OnOk result (IsTrue (B.state board.new).on) }
-    ensures off { OnErr result ((B.state board.new).on ≡ false) }
+    ensures power { (B.state board.new).on ≡ power_of result }
 {
     set_place(board, page, back)
 }

@@ -1,4 +1,4 @@
-ghost use Rattle.std.specs.Prelude.{◌≡◌, ◌≢◌, ◌+◌, ◌*◌, ◌<◌, ℕ, true, false, IsTrue, Some, OnOk, OnErr, count_by, slice_index};
+ghost use Rattle.std.specs.Prelude.{◌≡◌, ◌≢◌, ◌+◌, ◌*◌, ◌<◌, ℕ, IsTrue, Some, OnOk, count_by, slice_index};
 ghost use Rattle.envy_base.specs.declared.fields.Place.TheVariants.{Row};
 ghost use Rattle.envy_base.specs.declared.fields.Slot.TheVariants.{Active};
 ghost use Rattle.envy_map.specs.Codes.{IsUndo};
@@ -6,6 +6,7 @@ ghost use Rattle.envy_map.specs.Fields.{chart, with_fields, place, undo as undo_
 ghost use Rattle.envy_map.specs.Writes.{with_undo};
 ghost use Rattle.envy_layout.specs.Sound.{IsSound, owned_by, slot_named};
 ghost use Rattle.envy_layout.specs.May.{MayUndo, MayRefer, HasKept, IsCopied, IsSettled};
+ghost use Rattle.envy_layout.specs.Power.{power_of};
 ghost use Rattle.envy_layout.specs.Same.{Same, SameWords};
 
 use envy_base::{Board, Off, Undo};
@@ -24,8 +25,7 @@ pub fn own_page<B: Board>(board: &mut B, page: u32, undo: Undo) -> Result<(), Of
     ensures same { SameWords 0 0 (chart (B.state board.old)) (chart (B.state board.new)) }
     ensures fields { OnOk result (chart (B.state board.new) ≡ with_fields (chart (B.state board.old))
         (with_undo page (Some undo) (chart (B.state board.old)).fields)) }
-    ensures on { OnOk result (IsTrue (B.state board.new).on) }
-    ensures off { OnErr result ((B.state board.new).on ≡ false) }
+    ensures power { (B.state board.new).on ≡ power_of result }
 {
     set_undo(board, page, undo)
 }
@@ -46,8 +46,7 @@ pub fn move_undo<B: Board>(board: &mut B, page: u32, slot: u8, row: u32) -> Resu
     ensures same { Same 0 0 (chart (B.state board.old)) (chart (B.state board.new)) }
     ensures fields { OnOk result (chart (B.state board.new) ≡ with_fields (chart (B.state board.old))
         (with_undo page (Some (Undo.Shadow slot row)) (chart (B.state board.old)).fields)) }
-    ensures on { OnOk result (IsTrue (B.state board.new).on) }
-    ensures off { OnErr result ((B.state board.new).on ≡ false) }
+    ensures power { (B.state board.new).on ≡ power_of result }
 {
     set_undo(board, page, Undo::Shadow { slot, row })
 }
@@ -78,8 +77,7 @@ pub fn switch_undo<B: Board>(
     ensures fields { let copy = spare * (B.state board.old).shape.rows + i in
         OnOk result (chart (B.state board.new) ≡ with_fields (chart (B.state board.old))
         (with_undo page (Some (Undo.Shadow slot copy)) (chart (B.state board.old)).fields)) }
-    ensures on { OnOk result (IsTrue (B.state board.new).on) }
-    ensures off { OnErr result ((B.state board.new).on ≡ false) }
+    ensures power { (B.state board.new).on ≡ power_of result }
 {
     let copy = spare * board.shape().rows + i;
     set_undo(board, page, Undo::Shadow { slot, row: copy })
@@ -93,8 +91,7 @@ pub fn clear_settled_undo<B: Board>(board: &mut B, page: u32) -> Result<(), Off>
     ensures same { SameWords 0 0 (chart (B.state board.old)) (chart (B.state board.new)) }
     ensures fields { OnOk result (chart (B.state board.new) ≡ with_fields (chart (B.state board.old))
         (with_undo page (Some Undo.Clear) (chart (B.state board.old)).fields)) }
-    ensures on { OnOk result (IsTrue (B.state board.new).on) }
-    ensures off { OnErr result ((B.state board.new).on ≡ false) }
+    ensures power { (B.state board.new).on ≡ power_of result }
 {
     set_undo(board, page, Undo::Clear)
 }

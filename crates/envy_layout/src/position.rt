@@ -1,10 +1,11 @@
-ghost use Rattle.std.specs.Prelude.{◌≡◌, ◌⊎◌, ◌-◌, ◌<◌, ℕ, false, IsTrue, Some, OnOk, OnErr, slice_index};
+ghost use Rattle.std.specs.Prelude.{◌≡◌, ◌⊎◌, ◌-◌, ◌<◌, ℕ, IsTrue, Some, OnOk, slice_index};
 ghost use Rattle.envy_base.specs.Shape.{IsShape};
 ghost use Rattle.envy_base.specs.declared.fields.Job.TheVariants.{Switch};
 ghost use Rattle.envy_map.specs.Fields.{Chart, chart, with_fields};
 ghost use Rattle.envy_map.specs.Writes.{Writes, with_position};
 ghost use Rattle.envy_layout.specs.Sound.{IsSound, IsPlaced, IsSpare};
 ghost use Rattle.envy_layout.specs.Jobs.{FitsPositions, IsClear};
+ghost use Rattle.envy_layout.specs.Power.{power_of};
 ghost use Rattle.envy_layout.specs.Same.{Same};
 
 use envy_base::{Board, Off};
@@ -24,8 +25,7 @@ pub fn change_position<B: Board>(board: &mut B, position: u32, segment: u32) -> 
         (chart (B.state board.new)) }
     ensures fields { OnOk result (chart (B.state board.new) ≡ with_fields (chart (B.state board.old))
         (with_position position segment (chart (B.state board.old)).fields)) }
-    ensures on { OnOk result (IsTrue (B.state board.new).on) }
-    ensures off { OnErr result ((B.state board.new).on ≡ false) }
+    ensures power { (B.state board.new).on ≡ power_of result }
 {
     set_segment_at(board, position, segment)
 }
@@ -49,8 +49,7 @@ pub fn replace_segment<B: Board>(board: &mut B, position: u32, spare: u32) -> Re
         (with_position position spare (chart (B.state board.old)).fields)) }
     ensures freed { OnOk result (IsSpare (B.state board.new).shape (chart (B.state board.new)).fields.positions
         (slice_index (chart (B.state board.old)).fields.positions position)) }
-    ensures on { OnOk result (IsTrue (B.state board.new).on) }
-    ensures off { OnErr result ((B.state board.new).on ≡ false) }
+    ensures power { (B.state board.new).on ≡ power_of result }
 {
     change_position(board, position, spare)
 }

@@ -1,8 +1,9 @@
-ghost use Rattle.std.specs.Prelude.{◌≡◌, ◌≢◌, ◌↔◌, ℕ, ◌*◌, ◌<◌, false, IsTrue, Err, IsErrOf, OnOk};
+ghost use Rattle.std.specs.Prelude.{◌≡◌, ◌≢◌, ℕ, ◌*◌, ◌<◌, IsTrue, IsErrOf, OnOk};
 ghost use Rattle.envy_base.specs.Counting.{up};
 ghost use Rattle.envy_base.specs.State.{Programs, IsOnes, row_of};
 ghost use Rattle.envy_map.specs.Fields.{chart};
 ghost use Rattle.envy_layout.specs.Claims.{MayProgram};
+ghost use Rattle.envy_layout.specs.Power.{power_after};
 ghost use Rattle.envy_layout.specs.Same.{Same};
 ghost use Rattle.envy_layout.specs.Sound.{IsSound};
 
@@ -21,7 +22,7 @@ pub fn program_row<B: Board>(board: &mut B, row: u32, page: &[u64; 32]) -> Resul
     ensures written { OnOk result (IsOnes (row_of (B.state board.old) row)
         → row_of (B.state board.new) row ≡ page.now) }
     ensures others { (q : ℕ) → q ≢ row → row_of (B.state board.new) q ≡ row_of (B.state board.old) q }
-    ensures off { (result ≡ Err Trouble.Off) ↔ ((B.state board.new).on ≡ false) }
+    ensures power { (B.state board.new).on ≡ power_after result }
     ensures bad { IsErrOf result Trouble.Bad → (B.state board.new).bads ≡ up (B.state board.old).bads }
 {
     board.program(row, page)

@@ -1,9 +1,10 @@
-ghost use Rattle.std.specs.Prelude.{◌≡◌, ◌≢◌, ◌↔◌, ◌*◌, ◌<◌, ℕ, false, IsTrue, Err, IsErrOf, OnOk, OnErr, IfOk, length};
+ghost use Rattle.std.specs.Prelude.{◌≡◌, ◌≢◌, ◌*◌, ◌<◌, ℕ, IsTrue, IsErrOf, OnOk, IfOk, length};
 ghost use Rattle.envy_base.specs.Counting.{up, Tally};
 ghost use Rattle.envy_base.specs.State.{row_of, IsOnes};
 ghost use Rattle.envy_map.specs.Fields.{chart};
 ghost use Rattle.envy_layout.specs.Claims.{MayProgram};
 ghost use Rattle.envy_layout.specs.Naming.{Keeps};
+ghost use Rattle.envy_layout.specs.Power.{power_of, power_after};
 ghost use Rattle.envy_layout.specs.Same.{Same};
 ghost use Rattle.envy_layout.specs.Sound.{IsSound};
 
@@ -26,8 +27,7 @@ pub fn keeper<B: Board>(board: &B, row: u32) -> Result<Option<Kept>, Off>
     requires row { row < (B.state board.now).shape.segments * (B.state board.now).shape.rows }
     ensures keeps { IfOk result (λ found.
         Keeps (B.state board.now).shape (chart (B.state board.now)).fields row found) }
-    ensures on { OnOk result (IsTrue (B.state board.now).on) }
-    ensures off { OnErr result ((B.state board.now).on ≡ false) }
+    ensures power { (B.state board.now).on ≡ power_of result }
 {
     let page = back(board, row)?;
     if place(board, page)? == Place::Row(row) {
@@ -53,8 +53,7 @@ pub fn keeper<B: Board>(board: &B, row: u32) -> Result<Option<Kept>, Off>
 pub fn words_of_row<B: Board>(board: &B, row: u32) -> Result<[u64; 32], Off>
     requires { row < (B.state board.now).shape.segments * (B.state board.now).shape.rows }
     ensures words { IfOk result (λ words. words ≡ row_of (B.state board.now) row) }
-    ensures on { OnOk result (IsTrue (B.state board.now).on) }
-    ensures off { OnErr result ((B.state board.now).on ≡ false) }
+    ensures power { (B.state board.now).on ≡ power_of result }
 {
     let mut words = [0; 32];
     if !board.powered() {
@@ -84,8 +83,7 @@ pub fn program_counted<B: Board>(
     ensures others { (q : ℕ) → q ≢ row → row_of (B.state board.new) q ≡ row_of (B.state board.old) q }
     ensures counted { count.new ≡ up count.old }
     ensures counts { Tally (B.state board.old).begun count.old (B.state board.new).begun count.new }
-    ensures on { OnOk result (IsTrue (B.state board.new).on) }
-    ensures off { (result ≡ Err Trouble.Off) ↔ ((B.state board.new).on ≡ false) }
+    ensures power { (B.state board.new).on ≡ power_after result }
     ensures bad { IsErrOf result Trouble.Bad → (B.state board.new).bads ≡ up (B.state board.old).bads }
 {
     let answer = program_row(board, row, words);

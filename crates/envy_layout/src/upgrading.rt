@@ -1,6 +1,7 @@
-ghost use Rattle.std.specs.Prelude.{◌≡◌, false, IsTrue, OnOk, OnErr};
+ghost use Rattle.std.specs.Prelude.{◌≡◌, IsTrue, OnOk};
 ghost use Rattle.envy_map.specs.Codes.{the_magic};
 ghost use Rattle.envy_map.specs.Fields.{chart, with_fields};
+ghost use Rattle.envy_layout.specs.Power.{power_of};
 ghost use Rattle.envy_layout.specs.Same.{Kept, SameWords};
 ghost use Rattle.envy_layout.specs.Sound.{IsSound};
 ghost use Rattle.envy_layout.specs.Upgrading.{upgraded, with_slots_vacated};
@@ -17,8 +18,7 @@ fn vacate_new_slots<B: Board>(board: &mut B) -> Result<(), Off>
     ensures same { SameWords 0 0 (chart (B.state board.old)) (chart (B.state board.new)) }
     ensures fields { OnOk result (chart (B.state board.new) ≡ with_fields (chart (B.state board.old))
         (with_slots_vacated 64 (chart (B.state board.old)).fields)) }
-    ensures on { OnOk result (IsTrue (B.state board.new).on) }
-    ensures off { OnErr result ((B.state board.new).on ≡ false) }
+    ensures power { (B.state board.new).on ≡ power_of result }
 {
     for t in 16..64 {
         set_unused_slot(board, t, Slot::Vacant)?;
@@ -40,8 +40,7 @@ pub fn upgrade<B: Board>(board: &mut B) -> Result<(), Off>
     ensures live { live (chart (B.state board.new)) ≡ live (chart (B.state board.old)) }
     ensures fields { OnOk result (chart (B.state board.new) ≡ with_fields (chart (B.state board.old))
         (upgraded (chart (B.state board.old)).fields)) }
-    ensures on { OnOk result (IsTrue (B.state board.new).on) }
-    ensures off { OnErr result ((B.state board.new).on ≡ false) }
+    ensures power { (B.state board.new).on ≡ power_of result }
 {
     vacate_new_slots(board)?;
     set_version(board, 2)

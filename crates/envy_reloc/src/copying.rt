@@ -1,8 +1,9 @@
-ghost use Rattle.std.specs.Prelude.{◌≡◌, ◌≢◌, ◌↔◌, ◌*◌, ◌/◌, ◌<◌, ◌≤◌, ◌+◌, ◌-◌, ℕ, List, [], false, IsTrue, All, None, Some, Err, OnOk, OnErr, IfOk, IsErrOf, slice_index, slice_index_or};
+ghost use Rattle.std.specs.Prelude.{◌≡◌, ◌≢◌, ◌*◌, ◌/◌, ◌<◌, ◌≤◌, ◌+◌, ◌-◌, ℕ, List, [], false, IsTrue, All, None, Some, OnOk, OnErr, IfOk, IsErrOf, slice_index, slice_index_or};
 ghost use Rattle.envy_base.specs.Counting.{up, Tally};
 ghost use Rattle.envy_base.specs.State.{row_of};
 ghost use Rattle.envy_base.specs.declared.fields.Job.TheVariants.{Copy};
 ghost use Rattle.envy_map.specs.Fields.{chart};
+ghost use Rattle.envy_layout.specs.Power.{power_of, power_after};
 ghost use Rattle.envy_layout.specs.Same.{Same};
 ghost use Rattle.envy_layout.specs.Sound.{IsSound, IsPlaced, IsSpare};
 ghost use Rattle.envy_space.specs.Pool.{PoolAgrees};
@@ -52,8 +53,7 @@ pub(crate) fn next_kept<B: Board>(
 pub(crate) fn read_row<B: Board>(board: &B, row: u32, words: &mut [u64; 32]) -> Result<(), Off>
     requires { row < (B.state board.now).shape.segments * (B.state board.now).shape.rows }
     ensures words { OnOk result (words.new ≡ row_of (B.state board.now) row) }
-    ensures on { OnOk result (IsTrue (B.state board.now).on) }
-    ensures off { OnErr result ((B.state board.now).on ≡ false) }
+    ensures power { (B.state board.now).on ≡ power_of result }
 {
     if !board.powered() {
         return Err(Off);
@@ -100,7 +100,7 @@ pub(crate) fn copy_row<B: Board>(
         → row_of (B.state board.new) r ≡ row_of (B.state board.old) r }
     ensures counted { IsTrue (B.state board.new).on → copied.new ≡ up copied.old }
     ensures counts { Tally (B.state board.old).begun copied.old (B.state board.new).begun copied.new }
-    ensures off { (result ≡ Err Trouble.Off) ↔ ((B.state board.new).on ≡ false) }
+    ensures power { (B.state board.new).on ≡ power_after result }
     ensures bad { IsErrOf result Trouble.Bad → (B.state board.new).bads ≡ up (B.state board.old).bads }
 {
     let filled = space.fill(spare);

@@ -1,10 +1,11 @@
-ghost use Rattle.std.specs.Prelude.{◌≡◌, ◌≢◌, ◌↔◌, ◌*◌, ◌/◌, ◌<◌, ◌+◌, ◌-◌, ℕ, [], false, IsTrue, Some, Err, OnOk, OnErr, IsErrOf, slice_index, sum};
+ghost use Rattle.std.specs.Prelude.{◌≡◌, ◌≢◌, ◌*◌, ◌/◌, ◌<◌, ◌+◌, ◌-◌, ℕ, [], IsTrue, Some, OnOk, IsErrOf, slice_index, sum};
 ghost use Rattle.envy_base.specs.Counting.{up, Tally};
 ghost use Rattle.envy_base.specs.State.{row_of, Only, IsOnes};
 ghost use Rattle.envy_base.specs.declared.fields.Job.TheVariants.{Idle, Copy, Switch, Erase};
 ghost use Rattle.envy_map.specs.Fields.{chart, with_fields};
 ghost use Rattle.envy_map.specs.Writes.{with_fill, with_job, with_position, with_wear};
 ghost use Rattle.envy_layout.specs.Jobs.{IsClear};
+ghost use Rattle.envy_layout.specs.Power.{power_of, power_after};
 ghost use Rattle.envy_layout.specs.Same.{Same};
 ghost use Rattle.envy_layout.specs.Sound.{IsSound, IsPlaced, IsSpare};
 ghost use Rattle.envy_space.specs.Pool.{PoolAgrees};
@@ -34,8 +35,7 @@ pub(crate) fn place_spare<B: Board>(
         × IsSpare (B.state board.old).shape (chart (B.state board.old)).fields.positions e
         × (chart (B.state board.new) ≡ with_fields (chart (B.state board.old))
         (with_job (Some Erase) (with_position k e (chart (B.state board.old)).fields)))) }
-    ensures on { OnOk result (IsTrue (B.state board.new).on) }
-    ensures off { OnErr result ((B.state board.new).on ≡ false) }
+    ensures power { (B.state board.new).on ≡ power_of result }
 {
     let position = space.position_of(segment);
     space.replace(board, position)?;
@@ -73,8 +73,7 @@ pub(crate) fn erase<B: Board>(
         ≡ with_wear e (up (slice_index (chart (B.state board.old)).fields.wears e)) (chart (B.state board.old)).fields)
         × ((r : ℕ) → r / (B.state board.old).shape.rows ≢ e
         → row_of (B.state board.new) r ≡ row_of (B.state board.old) r) }
-    ensures on { OnOk result (IsTrue (B.state board.new).on) }
-    ensures off { (result ≡ Err Trouble.Off) ↔ ((B.state board.new).on ≡ false) }
+    ensures power { (B.state board.new).on ≡ power_after result }
     ensures bad { IsErrOf result Trouble.Bad → (B.state board.new).bads ≡ up (B.state board.old).bads }
 {
     let spare = space.spare();

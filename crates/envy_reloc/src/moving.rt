@@ -1,4 +1,4 @@
-ghost use Rattle.std.specs.Prelude.{◌≡◌, ◌≢◌, ◌↔◌, ◌*◌, ◌/◌, ◌<◌, ◌≤◌, ◌+◌, ◌-◌, ℕ, List, [], false, IsTrue, All, None, Some, Err, Ok, OnOk, OnErr, IfOk, IsErrOf, slice_index, slice_index_or};
+ghost use Rattle.std.specs.Prelude.{◌≡◌, ◌≢◌, ◌*◌, ◌/◌, ◌<◌, ◌≤◌, ◌+◌, ◌-◌, ℕ, List, [], false, IsTrue, All, None, Some, OnOk, OnErr, IfOk, IsErrOf, slice_index, slice_index_or};
 ghost use Rattle.envy_base.specs.Shape.{IsShape};
 ghost use Rattle.envy_base.specs.Counting.{up, Tally};
 ghost use Rattle.envy_base.specs.State.{row_of};
@@ -8,6 +8,7 @@ ghost use Rattle.envy_map.specs.Writes.{with_back, with_fill};
 ghost use Rattle.envy_layout.specs.Same.{Same};
 ghost use Rattle.envy_layout.specs.May.{MayName};
 ghost use Rattle.envy_layout.specs.Naming.{IsNamed, with_named, AreParted};
+ghost use Rattle.envy_layout.specs.Power.{power_of, power_after};
 ghost use Rattle.envy_layout.specs.Sound.{IsSound, IsPlaced, IsKept, Names};
 ghost use Rattle.envy_space.specs.Pool.{PoolAgrees};
 ghost use Rattle.envy_table.specs.Agreement.{AreCurrent};
@@ -135,8 +136,7 @@ fn program_move<B: Board>(
         → row_of (B.state board.new) r ≡ row_of (B.state board.old) r }
     ensures counted { IsTrue (B.state board.new).on → moved.new ≡ up moved.old }
     ensures counts { Tally (B.state board.old).begun moved.old (B.state board.new).begun moved.new }
-    ensures on { OnOk result (IsTrue (B.state board.new).on) }
-    ensures off { IsErrOf result Trouble.Off ↔ ((B.state board.new).on ≡ false) }
+    ensures power { (B.state board.new).on ≡ power_after result }
     ensures bad { IsErrOf result Trouble.Bad → (B.state board.new).bads ≡ up (B.state board.old).bads }
 {
     let target = space.claim(board, segment, page)?;
@@ -157,8 +157,7 @@ fn name_row<B: Board>(board: &mut B, kept: Kept, row: u32, target: u32) -> Resul
     ensures same { Same 0 0 (chart (B.state board.old)) (chart (B.state board.new)) }
     ensures fields { OnOk result (chart (B.state board.new) ≡ with_fields (chart (B.state board.old))
         (with_named kept.page target kept.undo (chart (B.state board.old)).fields)) }
-    ensures on { OnOk result (IsTrue (B.state board.new).on) }
-    ensures off { OnErr result ((B.state board.new).on ≡ false) }
+    ensures power { (B.state board.new).on ≡ power_of result }
 {
     match kept.undo {
         None => move_place(board, kept.page, Place::Row(target)),
@@ -199,8 +198,7 @@ fn rename<B: Board>(
     ensures shape { space.new.shape ≡ space.old.shape }
     ensures fields { OnOk result (chart (B.state board.new) ≡ with_fields (chart (B.state board.old))
         (with_named kept.page target kept.undo (chart (B.state board.old)).fields)) }
-    ensures on { OnOk result (IsTrue (B.state board.new).on) }
-    ensures off { OnErr result ((B.state board.new).on ≡ false) }
+    ensures power { (B.state board.new).on ≡ power_of result }
 {
     name_row(board, kept, row, target)?;
     follow(space, cache, row, kept, target);
@@ -252,7 +250,7 @@ pub(crate) fn move_row<B: Board>(
         → row_of (B.state board.new) r ≡ row_of (B.state board.old) r }
     ensures counted { IsTrue (B.state board.new).on → moved.new ≡ up moved.old }
     ensures counts { Tally (B.state board.old).begun moved.old (B.state board.new).begun moved.new }
-    ensures off { (result ≡ Err Trouble.Off) ↔ ((B.state board.new).on ≡ false) }
+    ensures power { (B.state board.new).on ≡ power_after result }
     ensures bad { IsErrOf result Trouble.Bad → (B.state board.new).bads ≡ up (B.state board.old).bads }
 {
     let segment = space.segment_at(next.position);

@@ -1,7 +1,8 @@
-ghost use Rattle.std.specs.Prelude.{length, ◌≡◌, ◌+◌, ◌-◌, ◌*◌, ◌/◌, ◌<◌, ◌≤◌, ℕ, [], false, IsTrue, All, None, Some, OnOk, OnErr, slice_index};
+ghost use Rattle.std.specs.Prelude.{length, ◌≡◌, ◌+◌, ◌-◌, ◌*◌, ◌/◌, ◌<◌, ◌≤◌, ℕ, [], false, IsTrue, All, None, Some, OnOk, slice_index};
 ghost use Rattle.envy_base.specs.declared.fields.Job.TheVariants.{Idle, Copy};
 ghost use Rattle.envy_map.specs.Fields.{chart, with_fields};
 ghost use Rattle.envy_map.specs.Writes.{with_job};
+ghost use Rattle.envy_layout.specs.Power.{power_of};
 ghost use Rattle.envy_layout.specs.Same.{Same};
 ghost use Rattle.envy_layout.specs.Sound.{IsSound, Names};
 ghost use Rattle.envy_space.specs.Pool.{PoolAgrees};
@@ -91,8 +92,7 @@ impl Reloc {
             → ((p : ℕ) → Names (chart (B.state board.old)).fields p d → ⊥)
             → Cleans (B.state board.old).shape (chart (B.state board.old)).fields.positions position self.old.erased
             (chart (B.state board.new)).fields self.new.erased) }
-        ensures on { OnOk result (IsTrue (B.state board.new).on) }
-        ensures off { OnErr result ((B.state board.new).on ≡ false) }
+        ensures power { (B.state board.new).on ≡ power_of result }
     {
         if !board.powered() {
             return Err(Off);

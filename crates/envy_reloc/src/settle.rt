@@ -2,6 +2,7 @@ ghost use Rattle.std.specs.Prelude.{◌≡◌, ◌≢◌, ◌⊎◌, ◌<◌, �
 ghost use Rattle.envy_base.specs.declared.fields.Job.TheVariants.{Idle, Switch, Erase};
 ghost use Rattle.envy_base.specs.declared.fields.Undo.TheVariants.{Clear};
 ghost use Rattle.envy_map.specs.Fields.{chart, undo};
+ghost use Rattle.envy_layout.specs.Power.{power_of};
 ghost use Rattle.envy_layout.specs.Same.{Same};
 ghost use Rattle.envy_layout.specs.Sound.{IsSound, IsPlaced, IsSpare};
 ghost use Rattle.envy_reloc.specs.Settling.{Finds, KeepsOthers, Finishes, Settles};
@@ -75,8 +76,7 @@ fn finish_switch<B: Board>(board: &mut B, segment: u32, position: u32) -> Result
     ensures finishes { OnOk result (Finishes (B.state board.old).shape segment (chart (B.state board.old)).fields
         (chart (B.state board.new)).fields) }
     ensures flash { OnOk result ((B.state board.new).flash ≡ (B.state board.old).flash) }
-    ensures on { OnOk result (IsTrue (B.state board.new).on) }
-    ensures off { OnErr result ((B.state board.new).on ≡ false) }
+    ensures power { (B.state board.new).on ≡ power_of result }
 {
     let spare = find_spare(board)?;
     for i in 0..fill(board, spare)? {
@@ -102,8 +102,7 @@ impl Reloc {
         ensures flash { OnOk result ((B.state board.new).flash ≡ (B.state board.old).flash) }
         ensures job { let f = (chart (B.state board.new)).fields in OnOk result ((f.job ≡ Some Idle)
             ⊎ (f.job ≡ Some Erase)) }
-        ensures on { OnOk result (IsTrue (B.state board.new).on) }
-        ensures off { OnErr result ((B.state board.new).on ≡ false) }
+        ensures power { (B.state board.new).on ≡ power_of result }
     {
         if !board.powered() {
             return Err(Off);

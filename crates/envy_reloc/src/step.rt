@@ -1,10 +1,11 @@
-ghost use Rattle.std.specs.Prelude.{◌≡◌, ◌≢◌, ◌⊎◌, ◌↔◌, ◌*◌, ◌/◌, ◌<◌, ◌≤◌, ◌+◌, ◌-◌, ℕ, List, [], false, IsTrue, All, None, Some, Err, Ok, OnOk, OnErr, IfOk, IsErrOf, slice_index, slice_index_or};
+ghost use Rattle.std.specs.Prelude.{◌≡◌, ◌≢◌, ◌⊎◌, ◌*◌, ◌/◌, ◌<◌, ◌≤◌, ◌+◌, ◌-◌, ℕ, List, [], false, IsTrue, All, None, Some, OnOk, IfOk, IsErrOf, slice_index, slice_index_or};
 ghost use Rattle.envy_base.specs.Counting.{up, Tally};
 ghost use Rattle.envy_base.specs.declared.fields.Job.TheVariants.{Idle, Copy, Erase};
 ghost use Rattle.envy_map.specs.Fields.{chart, with_fields};
 ghost use Rattle.envy_map.specs.Writes.{with_job};
 ghost use Rattle.envy_layout.specs.Frames.{FramesStay};
 ghost use Rattle.envy_layout.specs.Naming.{IsNamed, AreParted};
+ghost use Rattle.envy_layout.specs.Power.{power_after};
 ghost use Rattle.envy_layout.specs.Same.{Same};
 ghost use Rattle.envy_layout.specs.Sound.{IsSound, IsSpare};
 ghost use Rattle.envy_space.specs.Pool.{PoolAgrees};
@@ -103,8 +104,7 @@ impl Reloc {
         ensures dropped { IsErrOf result Trouble.Bad → (chart (B.state board.old)).fields.job ≢ Some Erase
             → self.new.moves ≡ [] }
         ensures bad { IsErrOf result Trouble.Bad → (B.state board.new).bads ≡ up (B.state board.old).bads }
-        ensures on { OnOk result (IsTrue (B.state board.new).on) }
-        ensures off { (result ≡ Err Trouble.Off) ↔ ((B.state board.new).on ≡ false) }
+        ensures power { (B.state board.new).on ≡ power_after result }
     {
         if !board.powered() {
             return Err(Trouble::Off);
@@ -167,7 +167,7 @@ impl Reloc {
         ensures spoils { IsErrOf result Trouble.Bad
             → Spoils (chart (B.state board.old)) self.old (chart (B.state board.new)) self.new }
         ensures bad { IsErrOf result Trouble.Bad → (B.state board.new).bads ≡ up (B.state board.old).bads }
-        ensures off { (result ≡ Err Trouble.Off) ↔ ((B.state board.new).on ≡ false) }
+        ensures power { (B.state board.new).on ≡ power_after result }
         ensures does { IfOk result (λ phase.
             Does (chart (B.state board.old)) self.old phase (chart (B.state board.new)) self.new) }
     {
@@ -206,7 +206,7 @@ impl Reloc {
             (chart (B.state board.new)).fields.places }
         ensures becomes { self.new ≡ record self.old { moves = [] } }
         ensures never { OnOk result ⊥ }
-        ensures off { (result ≡ Err Trouble.Off) ↔ ((B.state board.new).on ≡ false) }
+        ensures power { (B.state board.new).on ≡ power_after result }
     {
         self.moves.clear();
         begin_erase(board)?;
@@ -259,7 +259,7 @@ impl Reloc {
         ensures job { IsErrOf result Trouble.Bad → (chart (B.state board.new)).fields.job ≡ Some Erase }
         ensures dropped { IsErrOf result Trouble.Bad → self.new.moves ≡ [] }
         ensures bad { IsErrOf result Trouble.Bad → (B.state board.new).bads ≡ up (B.state board.old).bads }
-        ensures off { (result ≡ Err Trouble.Off) ↔ ((B.state board.new).on ≡ false) }
+        ensures power { (B.state board.new).on ≡ power_after result }
     {
         match copy_row(board, space, &mut self.copied, spare, left) {
             Ok(()) => {
@@ -325,7 +325,7 @@ impl Reloc {
         ensures job { IsErrOf result Trouble.Bad → (chart (B.state board.new)).fields.job ≡ Some Erase }
         ensures dropped { IsErrOf result Trouble.Bad → self.new.moves ≡ [] }
         ensures bad { IsErrOf result Trouble.Bad → (B.state board.new).bads ≡ up (B.state board.old).bads }
-        ensures off { (result ≡ Err Trouble.Off) ↔ ((B.state board.new).on ≡ false) }
+        ensures power { (B.state board.new).on ≡ power_after result }
     {
         match move_row(board, space, cache, &mut self.moved, next) {
             Ok(()) => Ok(()),

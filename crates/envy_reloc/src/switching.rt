@@ -1,10 +1,11 @@
-ghost use Rattle.std.specs.Prelude.{◌≡◌, ◌≢◌, ◌*◌, ◌/◌, ◌<◌, ◌≤◌, ◌+◌, ◌-◌, ℕ, List, [], Option, false, IsTrue, None, Some, OnOk, OnErr, IfOk, slice_index};
+ghost use Rattle.std.specs.Prelude.{◌≡◌, ◌≢◌, ◌*◌, ◌/◌, ◌<◌, ◌≤◌, ◌+◌, ◌-◌, ℕ, List, [], Option, IsTrue, None, Some, OnOk, IfOk, slice_index};
 ghost use Rattle.envy_base.specs.declared.fields.Job.TheVariants.{Copy, Switch};
 ghost use Rattle.envy_base.specs.declared.fields.Undo.TheVariants.{Clear};
 ghost use Rattle.envy_map.specs.Fields.{chart, undo};
 ghost use Rattle.envy_layout.specs.Jobs.{IsClear, IsCopiedWhole};
 ghost use Rattle.envy_layout.specs.May.{IsCopied};
 ghost use Rattle.envy_layout.specs.Naming.{AreParted};
+ghost use Rattle.envy_layout.specs.Power.{power_of};
 ghost use Rattle.envy_layout.specs.Same.{Same};
 ghost use Rattle.envy_layout.specs.Sound.{IsSound, IsPlaced, IsSpare};
 ghost use Rattle.envy_space.specs.Pool.{PoolAgrees};
@@ -50,8 +51,7 @@ pub(crate) fn switch_row<B: Board>(
     ensures switches { IfOk result (λ switched.
         SwitchesRow (B.state board.old).shape (chart (B.state board.old)).fields spare i switched
         (chart (B.state board.new)).fields) }
-    ensures on { OnOk result (IsTrue (B.state board.new).on) }
-    ensures off { OnErr result ((B.state board.new).on ≡ false) }
+    ensures power { (B.state board.new).on ≡ power_of result }
 {
     let row = origin(board, i)?;
     let Some(kept) = keeper(board, row)? else {
@@ -96,8 +96,7 @@ fn switch_noted<B: Board>(
     ensures switches { OnOk result ((switched : Option Switched)
         × SwitchesRow (B.state board.old).shape (chart (B.state board.old)).fields spare i switched
         (chart (B.state board.new)).fields) }
-    ensures on { OnOk result (IsTrue (B.state board.new).on) }
-    ensures off { OnErr result ((B.state board.new).on ≡ false) }
+    ensures power { (B.state board.new).on ≡ power_of result }
 {
     let copy = spare * board.shape().rows + i;
     let Some(switched) = switch_row(board, spare, i)? else {
@@ -141,8 +140,7 @@ pub(crate) fn switch_segment<B: Board>(
     ensures switches { OnOk result
         (SwitchesAll (B.state board.old).shape segment spare (chart (B.state board.old)).fields
         (chart (B.state board.new)).fields) }
-    ensures on { OnOk result (IsTrue (B.state board.new).on) }
-    ensures off { OnErr result ((B.state board.new).on ≡ false) }
+    ensures power { (B.state board.new).on ≡ power_of result }
 {
     begin_switch(board, segment)?;
     for i in 0..space.fill(spare) {

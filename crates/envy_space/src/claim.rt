@@ -1,8 +1,9 @@
-ghost use Rattle.std.specs.Prelude.{◌≡◌, ◌+◌, ◌-◌, ◌<◌, false, ℕ, IsTrue, Some, IfOk, OnOk, OnErr, slice_index};
+ghost use Rattle.std.specs.Prelude.{◌≡◌, ◌+◌, ◌-◌, ◌<◌, false, ℕ, IsTrue, Some, IfOk, OnOk, slice_index};
 ghost use Rattle.envy_base.specs.declared.fields.Job.TheVariants.{Switch};
 ghost use Rattle.envy_map.specs.Fields.{chart};
 ghost use Rattle.envy_layout.specs.Claims.{IsUsable, FillsRise};
 ghost use Rattle.envy_layout.specs.Jobs.{IsClear};
+ghost use Rattle.envy_layout.specs.Power.{power_of};
 ghost use Rattle.envy_layout.specs.Same.{Same};
 ghost use Rattle.envy_layout.specs.Sound.{IsSound, IsSpare};
 ghost use Rattle.envy_space.specs.Pool.{PoolAgrees, Claims, Claimed, Replaces, with_filled};
@@ -39,8 +40,7 @@ impl Space {
         ensures rises { FillsRise (chart (B.state board.old)) (chart (B.state board.new)) }
         ensures pool { IfOk result (λ _.
             self.new ≡ with_filled segment (slice_index self.old.fills segment + 1) self.old) }
-        ensures on { OnOk result (IsTrue (B.state board.new).on) }
-        ensures off { OnErr result ((B.state board.new).on ≡ false) }
+        ensures power { (B.state board.new).on ≡ power_of result }
     {
         if !board.powered() {
             return Err(Off);
@@ -69,8 +69,7 @@ impl Space {
         ensures rises { FillsRise (chart (B.state board.old)) (chart (B.state board.new)) }
         ensures pool { IfOk result (λ _.
             self.new ≡ with_filled segment (slice_index self.old.fills segment + 1) self.old) }
-        ensures on { OnOk result (IsTrue (B.state board.new).on) }
-        ensures off { OnErr result ((B.state board.new).on ≡ false) }
+        ensures power { (B.state board.new).on ≡ power_of result }
     {
         let fill = self.fill(segment);
         let row = segment * board.shape().rows + fill;
@@ -101,8 +100,7 @@ impl Space {
         ensures shape { self.new.shape ≡ self.old.shape }
         ensures replaces { OnOk result ((e : ℕ)
             × Replaces (chart (B.state board.old)) self.old position e (chart (B.state board.new)) self.new) }
-        ensures on { OnOk result (IsTrue (B.state board.new).on) }
-        ensures off { OnErr result ((B.state board.new).on ≡ false) }
+        ensures power { (B.state board.new).on ≡ power_of result }
     {
         if !board.powered() {
             return Err(Off);
@@ -127,8 +125,7 @@ impl Space {
         ensures shape { self.new.shape ≡ self.old.shape }
         ensures replaces { OnOk result ((e : ℕ)
             × Replaces (chart (B.state board.old)) self.old position e (chart (B.state board.new)) self.new) }
-        ensures on { OnOk result (IsTrue (B.state board.new).on) }
-        ensures off { OnErr result ((B.state board.new).on ≡ false) }
+        ensures power { (B.state board.new).on ≡ power_of result }
     {
         let spare = self.spare();
         replace_segment(board, position, spare)?;

@@ -1,5 +1,6 @@
 ghost use Rattle.std.specs.Prelude.{◌≡◌, ◌-◌, ◌<◌, ◌≤◌, ℕ, false, IsTrue, OnOk, OnErr, Some, IfOk, IfSome, ◌+◌, ◌*◌, replicate, slice_index};
 ghost use Rattle.envy_map.specs.Fields.{chart, place as place_of, undo as undo_of};
+ghost use Rattle.envy_layout.specs.Power.{power_of};
 ghost use Rattle.envy_layout.specs.Words.{kept};
 ghost use Rattle.envy_layout.specs.Sound.{IsSound};
 ghost use Rattle.envy_space.specs.Pool.{PoolAgrees, HasCounted, IsShadow, kept_in_first};
@@ -17,8 +18,7 @@ impl Space {
             (PoolAgrees (B.state board.now).shape (chart (B.state board.now)).fields self.new) }
         ensures shape { self.new.shape ≡ self.old.shape }
         ensures unchanged { OnErr result (self.new ≡ self.old) }
-        ensures on { OnOk result (IsTrue (B.state board.now).on) }
-        ensures off { OnErr result ((B.state board.now).on ≡ false) }
+        ensures power { (B.state board.now).on ≡ power_of result }
     {
         if !board.powered() {
             return Err(Off);

@@ -1,5 +1,6 @@
-ghost use Rattle.std.specs.Prelude.{◌≡◌, ◌↔◌, ◌+◌, ◌-◌, ◌<◌, ℕ, false, IsTrue, IsErr, IfOk, OnErr, MatchOption};
+ghost use Rattle.std.specs.Prelude.{◌≡◌, ◌+◌, ◌-◌, ◌<◌, ℕ, false, IsTrue, IfOk, OnErr, MatchOption};
 ghost use Rattle.envy_map.specs.Fields.{chart};
+ghost use Rattle.envy_layout.specs.Power.{power_of};
 ghost use Rattle.envy_layout.specs.Sound.{IsSound};
 ghost use Rattle.envy_wear.specs.declared.swap.Swap.{Swap as ASwap};
 ghost use Rattle.envy_wear.specs.Swaps.{wear_at, IsDue, IsMostWorn, IsLeastWorn};
@@ -29,7 +30,7 @@ pub fn due<B: Board>(board: &B, limit: u64, since: u64) -> Result<Option<Swap>, 
     ensures due { let c = chart (B.state board.now) in
         IfOk result (λ swap. MatchOption swap ((s : ASwap) → IsDue c.shape c.fields limit since s
         → ⊥) (IsDue c.shape c.fields limit since)) }
-    ensures off { IsErr result ↔ ((B.state board.now).on ≡ false) }
+    ensures power { (B.state board.now).on ≡ power_of result }
 {
     if !board.powered() {
         return Err(Off);

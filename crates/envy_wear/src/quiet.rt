@@ -1,5 +1,6 @@
-ghost use Rattle.std.specs.Prelude.{◌≡◌, ◌↔◌, ◌<◌, ◌≤◌, ℕ, false, IsTrue, IsErr, IfOk, IfSome, OnErr, MatchOption, slice_index};
+ghost use Rattle.std.specs.Prelude.{◌≡◌, ◌<◌, ◌≤◌, ℕ, false, IsTrue, IfOk, IfSome, OnErr, MatchOption, slice_index};
 ghost use Rattle.envy_map.specs.Fields.{chart};
+ghost use Rattle.envy_layout.specs.Power.{power_of};
 ghost use Rattle.envy_layout.specs.Sound.{IsSound};
 ghost use Rattle.envy_wear.specs.declared.swap.Swap.{Swap as ASwap};
 ghost use Rattle.envy_wear.specs.Swaps.{IsDue, IsQuiet};
@@ -88,7 +89,7 @@ pub fn due_after<B: Board>(
     ensures quiet { let c = chart (B.state board.now) in
         IsTrue c.on → IsQuiet c.shape c.fields limit since quiet.new }
     ensures anew { IfOk result (λ swap. IfSome swap (λ s. quiet.new ≡ 0)) }
-    ensures off { IsErr result ↔ ((B.state board.now).on ≡ false) }
+    ensures power { (B.state board.now).on ≡ power_of result }
 {
     if !board.powered() {
         return Err(Off);

@@ -28,7 +28,7 @@ returns-clause-counts g c =
     let long = IsBoard.erases (g.met.B.Board.lawful c.args.board.now) in
     let same : (chart (g.B.Board.state c.raise_wear.new.board)).erases ≡ old.erases = ap (λ (x : Chart). x.erases) raised in
     tally-erased old.erases (chart (g.B.Board.state c.erase-answer.new.self)).erases c.args.segment c.args.count.now c.one_more.result (rw long c.requires.segment)
-    (Began.erases (began (g.B.Board.state c.raise_wear.new.board) (g.B.Board.state c.erase-answer.new.self) c.args.segment c.erase-answer.result c.in_ok-raise_wear.ensures.on c.erase-answer.ensures) ∙ ap (λ (xs : List ℕ). set xs c.args.segment (up (get_or xs c.args.segment 0))) same)
+    (Began.erases (began (g.B.Board.state c.raise_wear.new.board) (g.B.Board.state c.erase-answer.new.self) c.args.segment c.erase-answer.result c.in_ok-raise_wear.ensures.power c.erase-answer.ensures) ∙ ap (λ (xs : List ℕ). set xs c.args.segment (up (get_or xs c.args.segment 0))) same)
     c.one_more.ensures
 
 pub returns-clause-counts_since : goal.returns-clause-counts_since
@@ -38,5 +38,5 @@ returns-clause-counts_since g c =
     let long = IsBoard.erases (g.met.B.Board.lawful c.args.board.now) in
     let same : (chart (g.B.Board.state c.raise_wear.new.board)).erases ≡ old.erases = ap (λ (x : Chart). x.erases) raised in
     tally-erased old.erases (chart (g.B.Board.state c.erase-answer.new.self)).erases c.args.segment c.args.since.now c.one_more-2.result (rw long c.requires.segment)
-    (Began.erases (began (g.B.Board.state c.raise_wear.new.board) (g.B.Board.state c.erase-answer.new.self) c.args.segment c.erase-answer.result c.in_ok-raise_wear.ensures.on c.erase-answer.ensures) ∙ ap (λ (xs : List ℕ). set xs c.args.segment (up (get_or xs c.args.segment 0))) same)
+    (Began.erases (began (g.B.Board.state c.raise_wear.new.board) (g.B.Board.state c.erase-answer.new.self) c.args.segment c.erase-answer.result c.in_ok-raise_wear.ensures.power c.erase-answer.ensures) ∙ ap (λ (xs : List ℕ). set xs c.args.segment (up (get_or xs c.args.segment 0))) same)
     c.one_more-2.ensures

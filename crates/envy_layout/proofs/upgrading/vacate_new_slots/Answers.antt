@@ -25,5 +25,5 @@ loop-t-preserved g c =
     record {
       same = SameWords-trans 0 0 0 0 (chart (g.B.Board.state c.args.board.now)) (chart (g.B.Board.state c.loop-t.board)) (chart (g.B.Board.state c.set_unused_slot.new.board)) inside.same c.set_unused_slot.ensures.same;
       is = vacated-next (chart (g.B.Board.state c.args.board.now)) (chart (g.B.Board.state c.loop-t.board)) (chart (g.B.Board.state c.set_unused_slot.new.board)) c.loop-t.t (Slots.long (Sound.slots c.requires.sound)) c.loop-t.auto.t inside.is c.in_ok-set_unused_slot.ensures.fields;
-      powered = λ lt. c.in_ok-set_unused_slot.ensures.on;
+      powered = λ lt. c.in_ok-set_unused_slot.ensures.power;
     }

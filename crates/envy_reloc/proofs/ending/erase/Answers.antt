@@ -32,7 +32,7 @@ end_job-requires-clause-blank g c on =
     let spare = subst (λ (sh : Shape). IsSpare sh old.fields.positions c.spare-spare.result) (IsPoolOf.shape c.requires.pool) (subst (λ (xs : List ℕ). IsSpare pool.shape xs c.spare-spare.result) (IsPoolOf.positions c.requires.pool) c.spare-spare.ensures.spare) in (
       c.spare-spare.result,
       BlankSpare-made old mid new c.spare-spare.result (up (get_or old.fields.wears c.spare-spare.result 0)) c.requires.sound spare (IsBoard.rows (g.met.B.Board.lawful c.args.board.now))
-          (Framed.shape (Stays.framed (Same.stays c.erase_counted.ensures.same))) (c.erase_counted.ensures.fields c.in_ok-erase_counted.ensures.on) c.in_ok-erase_counted.ensures.erased c.in_ok-empty_spare.ensures.fields,
+          (Framed.shape (Stays.framed (Same.stays c.erase_counted.ensures.same))) (c.erase_counted.ensures.fields c.in_ok-erase_counted.ensures.power) c.in_ok-erase_counted.ensures.erased c.in_ok-empty_spare.ensures.fields,
     )
 
 pub returns-in_err-end_job-clause-same : goal.returns-in_err-end_job-clause-same
@@ -56,5 +56,5 @@ returns-clause-pool g c on =
     let e = c.spare-spare.result in
     PoolAgrees-erased old new e (up (get_or old.fields.wears e 0)) c.args.space.now c.note_erased.new.self c.requires.pool
     (Framed.shape (Stays.framed (Same.stays c.end_job.ensures.same)) ∙ Framed.shape (Stays.framed (Same.stays c.empty_spare.ensures.same)) ∙ Framed.shape (Stays.framed (Same.stays c.erase_counted.ensures.same)))
-    (ap (λ (x : Chart). x.fields) c.in_ok-end_job.ensures.fields ∙ ap (λ (x : Chart). with_job (Some Idle) x.fields) c.in_ok-empty_spare.ensures.fields ∙ ap (λ (f : Fields). with_job (Some Idle) (with_fill e 0 f)) (c.erase_counted.ensures.fields c.in_ok-erase_counted.ensures.on))
+    (ap (λ (x : Chart). x.fields) c.in_ok-end_job.ensures.fields ∙ ap (λ (x : Chart). with_job (Some Idle) x.fields) c.in_ok-empty_spare.ensures.fields ∙ ap (λ (f : Fields). with_job (Some Idle) (with_fill e 0 f)) (c.erase_counted.ensures.fields c.in_ok-erase_counted.ensures.power))
     c.note_erased.ensures

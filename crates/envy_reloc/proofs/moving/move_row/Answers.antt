@@ -30,7 +30,7 @@ rename-requires-clause-may g c =
     let may = MayName-claimed old.shape old.fields old.flash s n c.args.next.kept.page c.requires.sound (omega arith) refl (omega arith)
     (c.args.next.position, (omega arith), ap (λ (xs : List ℕ). get_or xs c.args.next.position 0) (sym (IsPoolOf.positions c.requires.pool)) ∙ sym here) (unswitched-copying old.fields c.requires.copying.0 s c.requires.copying.1) in
     subst (λ (sh : Shape). MayName sh mid.fields c.args.next.kept.page c.in_ok-target.target) (sym (Framed.shape (Stays.framed (Same.stays c.program_move.ensures.same))))
-    (subst (λ (f : Fields). MayName old.shape f c.args.next.kept.page c.in_ok-target.target) (sym (c.program_move.ensures.fields c.in_ok-target.ensures.on))
+    (subst (λ (f : Fields). MayName old.shape f c.args.next.kept.page c.in_ok-target.target) (sym (c.program_move.ensures.fields c.in_ok-target.ensures.power))
     (subst (λ (t : ℕ). MayName old.shape (with_fill s (n + 1) (with_back (s * old.shape.rows + n) c.args.next.kept.page old.fields)) c.args.next.kept.page t) (sym c.in_ok-target.ensures.target) may))
 
 pub rename-requires-clause-free : goal.rename-requires-clause-free
@@ -44,7 +44,7 @@ rename-requires-clause-free g c = λ r names.
     let room = HasRoom.room c.requires.copying.2 in
     let fill : get_or pool.fills (get_or pool.positions c.args.next.position 0) 0 ≡ n = ap (λ (x : ℕ). get_or pool.fills x 0) (sym here) ∙ ap (λ (xs : List ℕ). get_or xs s 0) (IsPoolOf.fills c.requires.pool) in
     let named : Names (with_fill s (n + 1) (with_back (s * old.shape.rows + n) c.args.next.kept.page old.fields)) r (s * old.shape.rows + n) =
-    subst (λ (t : ℕ). Names (with_fill s (n + 1) (with_back (s * old.shape.rows + n) c.args.next.kept.page old.fields)) r t) c.in_ok-target.ensures.target (subst (λ (f : Fields). Names f r c.in_ok-target.target) (c.program_move.ensures.fields c.in_ok-target.ensures.on) names) in
+    subst (λ (t : ℕ). Names (with_fill s (n + 1) (with_back (s * old.shape.rows + n) c.args.next.kept.page old.fields)) r t) c.in_ok-target.ensures.target (subst (λ (f : Fields). Names f r c.in_ok-target.target) (c.program_move.ensures.fields c.in_ok-target.ensures.power) names) in
     unnamed-claimed old.shape old.fields old.flash s n r c.requires.sound refl (omega arith) named
 
 pub returns-in_err-rename-clause-same : goal.returns-in_err-rename-clause-same
@@ -62,7 +62,7 @@ returns-clause-fields g c =
     let t = s * old.shape.rows + get_or old.fields.fills s 0 in
     let next = c.args.next in
     let renamed = c.in_ok-rename.ensures.fields in
-    let on = c.in_ok-target.ensures.on in
+    let on = c.in_ok-target.ensures.power in
     let flash : new.flash ≡ mid.flash = ap (λ (x : Chart). x.flash) renamed in
     subst (λ (x : ℕ). MovesRow old x next new) c.segment_at-segment.ensures.segment (record {
       named = c.requires.named;

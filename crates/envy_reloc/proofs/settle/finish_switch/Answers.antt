@@ -32,7 +32,7 @@ loop-i-preserved g c =
     let same_undos = undos-switched now.shape now.fields new.fields e c.loop-i.i c.in_ok-switch_row.field-0 clear switches in
     record {
       same = then_same 0 0 old now new inv.same c.switch_row.ensures.same;
-      on = c.in_ok-switch_row.ensures.on;
+      on = c.in_ok-switch_row.ensures.power;
       flash = c.in_ok-switch_row.ensures.flash ∙ inv.flash;
       undos = same_undos ∙ inv.undos;
       parted = parted-clear new.shape new.fields (Slots.undos_long (Sound.slots (Stays.sound (Same.stays c.switch_row.ensures.same)))) (λ p lt. ap (λ (us : List (Option Undo)). get_or us p None) same_undos ∙ clear p (subst (λ (sh : Shape). p < sh.pages) shape lt));

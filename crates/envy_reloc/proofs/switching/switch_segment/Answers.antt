@@ -34,11 +34,11 @@ loop-i-preserved g c =
     let sound = subst (λ (fl : List (List ℕ)). Sound now.shape new.fields fl) c.in_ok-switch_noted.ensures.flash (subst (λ (sh : Shape). Sound sh new.fields new.flash) shape (Stays.sound (Same.stays c.switch_noted.ensures.same))) in
     record {
       same = then_same 0 0 begin now new inv.same c.switch_noted.ensures.same;
-      on = c.in_ok-switch_noted.ensures.on;
+      on = c.in_ok-switch_noted.ensures.power;
       flash = c.in_ok-switch_noted.ensures.flash ∙ inv.flash;
-      pool = c.switch_noted.ensures.pool c.in_ok-switch_noted.ensures.on;
-      cache = c.switch_noted.ensures.cache c.in_ok-switch_noted.ensures.on;
-      parted = c.switch_noted.ensures.parted c.in_ok-switch_noted.ensures.on;
+      pool = c.switch_noted.ensures.pool c.in_ok-switch_noted.ensures.power;
+      cache = c.switch_noted.ensures.cache c.in_ok-switch_noted.ensures.power;
+      parted = c.switch_noted.ensures.parted c.in_ok-switch_noted.ensures.power;
       rests = Rests-trans _ _ _ inv.rests c.switch_noted.ensures.rests;
       shape = c.switch_noted.ensures.shape ∙ inv.shape;
       rows = subst (λ (sh : Shape). SwitchesRows sh c.args.spare (c.loop-i.i + 1) begin.fields new.fields) (sym shape) (SwitchesRows-next now.shape begin.fields now.fields new.fields now.flash c.args.spare c.loop-i.i switches.0 (Stays.sound (Same.stays inv.same)) inv.parted copied inv.rows switches.1);

@@ -59,5 +59,5 @@ returns-in_ok-erase-in-Erase-clause-cleans g c = λ positions k n a.
     let new = chart (g.B.Board.state c.erase.new.board) in
     let here = c.in_ok-job.ensures.value.0 in
     let job : old.fields.job ≡ Some Erase = c.in_ok-job.ensures.value.1 ∙ ap (λ (j : Job). Some j) c.in-Erase.is in
-    let on : IsTrue (g.B.Board.state c.erase.new.board).on = c.in_ok-erase-in-Erase.ensures.on in
+    let on : IsTrue (g.B.Board.state c.erase.new.board).on = c.in_ok-erase-in-Erase.ensures.power in
     cleans-erased-at old new c.args.self.now _ old.shape positions k n refl (c.requires.sound here) job c.in_ok-erase-in-Erase.ensures.erases ((c.erase.ensures.counted on).0 ∙ ap (λ (p : Plan). up p.erased) c.self.view_is) a

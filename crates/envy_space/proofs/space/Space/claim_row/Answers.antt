@@ -11,7 +11,7 @@ pub returns-clause-agrees : goal.returns-clause-agrees
 returns-clause-agrees g c on =
     let before = chart (g.B.Board.state c.args.board.now) in
     let back = c.in_ok-claim_back.ensures.fields in
-    let was_on : IsTrue before.on = sym (ap (λ (x : Chart). x.on) back) ∙ c.in_ok-claim_back.ensures.on in
+    let was_on : IsTrue before.on = sym (ap (λ (x : Chart). x.on) back) ∙ c.in_ok-claim_back.ensures.power in
     PoolAgrees-claimed before (chart (g.B.Board.state c.raise_fill.new.board)) c.args.self.now c.set_fill.new.self c.args.segment (c.args.segment * c.shape.result.rows + c.fill-fill.result) c.args.page (c.fill-fill.result + 1)
     (c.requires.agrees was_on)
     (c.in_ok-raise_fill.ensures.fields ∙ ap (λ (x : Chart). with_fields x (with_fill c.args.segment (c.fill-fill.result + 1) x.fields)) back)
@@ -21,7 +21,7 @@ pub returns-clause-claimed : goal.returns-clause-claimed
 returns-clause-claimed g c =
     let before = chart (g.B.Board.state c.args.board.now) in
     let back = c.in_ok-claim_back.ensures.fields in
-    let was_on : IsTrue before.on = sym (ap (λ (x : Chart). x.on) back) ∙ c.in_ok-claim_back.ensures.on in
+    let was_on : IsTrue before.on = sym (ap (λ (x : Chart). x.on) back) ∙ c.in_ok-claim_back.ensures.power in
     let agrees = c.requires.agrees was_on in
     let same = c.requires.shape in
     let segments : c.args.self.now.shape.segments ≡ before.shape.segments = ap (λ (x : Shape). x.segments) same in

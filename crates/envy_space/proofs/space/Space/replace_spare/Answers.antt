@@ -19,7 +19,7 @@ pub returns-clause-replaces : goal.returns-clause-replaces
 returns-clause-replaces g c =
     let before = chart (g.B.Board.state c.args.board.now) in
     let written = c.in_ok-replace_segment.ensures.fields in
-    let was_on : IsTrue before.on = sym (ap (λ (x : Chart). x.on) written) ∙ c.in_ok-replace_segment.ensures.on in
+    let was_on : IsTrue before.on = sym (ap (λ (x : Chart). x.on) written) ∙ c.in_ok-replace_segment.ensures.power in
     let agrees = c.requires.agrees was_on in (
       c.spare-spare.result,
       record {
