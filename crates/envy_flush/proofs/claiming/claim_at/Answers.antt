@@ -1,4 +1,4 @@
-use Rattle.std.proofs.Common.{◌≡◌, ◌<◌, ◌+◌, refl, sym, ap, subst, ◌∙◌, List, ℕ, get_or, set}
+use Rattle.std.proofs.Common.{◌≡◌, ◌<◌, ◌+◌, inl, refl, sym, ap, subst, ◌∙◌, List, ℕ, get_or, set}
 use Rattle.envy_map.specs.Fields.{Chart, chart}
 use Rattle.envy_layout.specs.Same.{Same, Stays, Framed}
 use Rattle.envy_layout.specs.Sound.{IsPlaced}
@@ -63,3 +63,10 @@ returns-clause-takes g c =
       );
       fresh = record { granted = Granted-claimed old new c.segment_at.result c.in_ok-row.row c.args.page placed free e.claims.claims e.claims.claimed; erased = e.claims.claimed.erased };
     }
+
+pub claim-requires-clause-ready : goal.claim-requires-clause-ready
+claim-requires-clause-ready g c on =
+    let old = chart (g.B.Board.state c.args.board.now) in
+    let r = c.requires.ready in
+    let placed : IsPlaced old.shape old.fields.positions c.segment_at.result = (c.args.position, c.requires.position, ap (λ (xs : List ℕ). get_or xs c.args.position 0) (sym r.agrees.pool.positions) ∙ sym c.segment_at.ensures.segment) in
+    record { sound = r.sound; agrees = r.agrees.pool; usable = inl placed }
