@@ -49,9 +49,9 @@ pub fn erase_counted<B: Board>(
 ) -> Result<(), Trouble>
     requires sound { IsSound (chart (B.state board.old)) }
     requires segment { segment < (B.state board.old).shape.segments }
-    requires erasing { IsTrue (B.state board.old).on → (chart (B.state board.old)).fields.job ≡ Some Erase }
-    requires spare { IsTrue (B.state board.old).on
-        → IsSpare (B.state board.old).shape (chart (B.state board.old)).fields.positions segment }
+    requires erasing { IsTrue (B.state board.old).on → ((chart (B.state board.old)).fields.job ≡ Some Erase)
+        × IsSpare (B.state board.old).shape (chart (B.state board.old)).fields.positions segment }
+
     ensures same { Same 0 1 (chart (B.state board.old)) (chart (B.state board.new)) }
     ensures fields { let old = (chart (B.state board.old)).fields in
         IsTrue (B.state board.new).on
@@ -64,8 +64,8 @@ pub fn erase_counted<B: Board>(
     ensures others { (q : ℕ) → q / (B.state board.old).shape.rows ≢ segment
         → slice_index_or (B.state board.new).flash q [] ≡ slice_index_or (B.state board.old).flash q [] }
     ensures counted { IsTrue (B.state board.new).on → (count.new ≡ up count.old) × (since.new ≡ up since.old) }
-    ensures counts { Tally (sum (B.state board.old).erases) count.old (sum (B.state board.new).erases) count.new }
-    ensures counts_since { Tally (sum (B.state board.old).erases) since.old (sum (B.state board.new).erases) since.new }
+    ensures counts { Tally (sum (B.state board.old).erases) count.old (sum (B.state board.new).erases) count.new
+        × Tally (sum (B.state board.old).erases) since.old (sum (B.state board.new).erases) since.new }
     ensures power { (B.state board.new).on ≡ power_after result }
     ensures bad { IsErrOf result Trouble.Bad → (B.state board.new).bads ≡ up (B.state board.old).bads }
 {

@@ -81,8 +81,8 @@ pub fn program_counted<B: Board>(
     ensures fields { (chart (B.state board.new)).fields ≡ (chart (B.state board.old)).fields }
     ensures written { OnOk result (row_of (B.state board.new) row ≡ words.now) }
     ensures others { (q : ℕ) → q ≢ row → row_of (B.state board.new) q ≡ row_of (B.state board.old) q }
-    ensures counted { count.new ≡ up count.old }
-    ensures counts { Tally (B.state board.old).begun count.old (B.state board.new).begun count.new }
+    ensures counts { (count.new ≡ up count.old)
+        × Tally (B.state board.old).begun count.old (B.state board.new).begun count.new }
     ensures power { (B.state board.new).on ≡ power_after result }
     ensures bad { IsErrOf result Trouble.Bad → (B.state board.new).bads ≡ up (B.state board.old).bads }
 {

@@ -1,5 +1,6 @@
 pub mod Cleaning
 pub mod Effort
+pub mod Keeping
 pub mod Phases
 pub mod Plan
 pub mod Rows

@@ -1,15 +1,14 @@
-ghost use Rattle.std.specs.Prelude.{◌≡◌, ◌≢◌, ◌*◌, ◌/◌, ◌<◌, ◌≤◌, ◌+◌, ◌-◌, ℕ, List, [], false, IsTrue, All, None, Some, OnOk, OnErr, IfOk, IsErrOf, slice_index, slice_index_or};
+ghost use Rattle.std.specs.Prelude.{◌≡◌, ◌*◌, ◌<◌, ◌+◌, ◌-◌, false, IsTrue, None, Some, OnOk, OnErr, IfOk, IsErrOf, slice_index};
 ghost use Rattle.envy_base.specs.Counting.{up, Tally};
 ghost use Rattle.envy_base.specs.State.{row_of};
 ghost use Rattle.envy_base.specs.declared.fields.Job.TheVariants.{Copy};
 ghost use Rattle.envy_map.specs.Fields.{chart};
 ghost use Rattle.envy_layout.specs.Power.{power_of, power_after};
 ghost use Rattle.envy_layout.specs.Same.{Same};
-ghost use Rattle.envy_layout.specs.Sound.{IsSound, IsPlaced, IsSpare};
+ghost use Rattle.envy_layout.specs.Sound.{IsSound};
 ghost use Rattle.envy_space.specs.Pool.{PoolAgrees};
-ghost use Rattle.envy_reloc.specs.Phases.{copied_to};
-ghost use Rattle.envy_reloc.specs.Plan.{AreCopies};
-ghost use Rattle.envy_reloc.specs.Rows.{IsLeft, NextKept};
+ghost use Rattle.envy_reloc.specs.Keeping.{ClaimsCopy, MayCopy, PoolFollows};
+ghost use Rattle.envy_reloc.specs.Rows.{NextKept};
 
 use envy_base::{Board, Off, Trouble};
 use envy_layout::{keeper, note_origin, program_counted};
@@ -76,32 +75,19 @@ pub(crate) fn copy_row<B: Board>(
     requires sound { IsSound (chart (B.state board.old)) }
     requires on { IsTrue (B.state board.old).on }
     requires pool { PoolAgrees (B.state board.old).shape (chart (B.state board.old)).fields space.old }
-    requires spare { IsSpare (B.state board.old).shape (chart (B.state board.old)).fields.positions spare }
-    requires copies { (v : ℕ) × ((chart (B.state board.old)).fields.job ≡ Some (Copy v))
-        × (left.row / (B.state board.old).shape.rows ≡ v)
-        × AreCopies (B.state board.old).shape (chart (B.state board.old)).fields.fills
-        (chart (B.state board.old)).fields.backs (chart (B.state board.old)).fields.origins (B.state board.old).flash v
-        spare }
-    requires left { IsLeft (chart (B.state board.old)).fields
-        (slice_index (chart (B.state board.old)).fields.fills spare) left.row }
-    requires page { slice_index (chart (B.state board.old)).fields.backs left.row ≡ left.page }
+    requires copy { MayCopy (chart (B.state board.old)) spare left }
+
     ensures same { Same 1 0 (chart (B.state board.old)) (chart (B.state board.new)) }
-    ensures pool { IsTrue (B.state board.new).on
-        → PoolAgrees (B.state board.new).shape (chart (B.state board.new)).fields space.new }
-    ensures shape { space.new.shape ≡ space.old.shape }
-    ensures fields { IsTrue (B.state board.new).on
-        → (chart (B.state board.new)).fields ≡ copied_to (B.state board.old).shape spare
-        (slice_index (chart (B.state board.old)).fields.fills spare) left.row (chart (B.state board.old)).fields }
+    ensures follow { PoolFollows (chart (B.state board.new)) space.old space.new }
+    ensures power { (B.state board.new).on ≡ power_after result }
+
+    ensures claims { IsTrue (B.state board.new).on
+        → ClaimsCopy (chart (B.state board.old)) spare left.row copied.old (chart (B.state board.new)) copied.new }
     ensures copy { let target = spare * (B.state board.old).shape.rows + slice_index
         (chart (B.state board.old)).fields.fills spare in
         OnOk result (row_of (B.state board.new) target ≡ row_of (B.state board.old) left.row) }
-    ensures others { IsTrue (B.state board.new).on → (r : ℕ)
-        → r ≢ spare * (B.state board.old).shape.rows + slice_index (chart (B.state board.old)).fields.fills spare
-        → row_of (B.state board.new) r ≡ row_of (B.state board.old) r }
-    ensures counted { IsTrue (B.state board.new).on → copied.new ≡ up copied.old }
-    ensures counts { Tally (B.state board.old).begun copied.old (B.state board.new).begun copied.new }
-    ensures power { (B.state board.new).on ≡ power_after result }
     ensures bad { IsErrOf result Trouble.Bad → (B.state board.new).bads ≡ up (B.state board.old).bads }
+    ensures counts { Tally (B.state board.old).begun copied.old (B.state board.new).begun copied.new }
 {
     let filled = space.fill(spare);
     note_origin(board, filled, left.row)?;

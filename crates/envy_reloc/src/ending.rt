@@ -1,7 +1,7 @@
-ghost use Rattle.std.specs.Prelude.{◌≡◌, ◌≢◌, ◌*◌, ◌/◌, ◌<◌, ◌+◌, ◌-◌, ℕ, [], IsTrue, Some, OnOk, IsErrOf, slice_index, sum};
+ghost use Rattle.std.specs.Prelude.{◌≡◌, ◌≢◌, ◌/◌, ◌<◌, ◌-◌, ℕ, IsTrue, Some, OnOk, IsErrOf, slice_index, sum};
 ghost use Rattle.envy_base.specs.Counting.{up, Tally};
 ghost use Rattle.envy_base.specs.State.{row_of, Only, IsOnes};
-ghost use Rattle.envy_base.specs.declared.fields.Job.TheVariants.{Idle, Copy, Switch, Erase};
+ghost use Rattle.envy_base.specs.declared.fields.Job.TheVariants.{Idle, Switch, Erase};
 ghost use Rattle.envy_map.specs.Fields.{chart, with_fields};
 ghost use Rattle.envy_map.specs.Writes.{with_fill, with_job, with_position, with_wear};
 ghost use Rattle.envy_layout.specs.Jobs.{IsClear};
@@ -9,6 +9,7 @@ ghost use Rattle.envy_layout.specs.Power.{power_of, power_after};
 ghost use Rattle.envy_layout.specs.Same.{Same};
 ghost use Rattle.envy_layout.specs.Sound.{IsSound, IsPlaced, IsSpare};
 ghost use Rattle.envy_space.specs.Pool.{PoolAgrees};
+ghost use Rattle.envy_reloc.specs.Keeping.{PoolFollows};
 
 use envy_base::{Board, Off, Trouble};
 use envy_layout::{begin_erase, empty_spare, end_job, erase_counted};
@@ -53,13 +54,14 @@ pub(crate) fn erase<B: Board>(
     requires on { IsTrue (B.state board.old).on }
     requires pool { PoolAgrees (B.state board.old).shape (chart (B.state board.old)).fields space.old }
     requires erasing { (chart (B.state board.old)).fields.job ≡ Some Erase }
+
     ensures same { Same 0 1 (chart (B.state board.old)) (chart (B.state board.new)) }
-    ensures pool { IsTrue (B.state board.new).on
-        → PoolAgrees (B.state board.new).shape (chart (B.state board.new)).fields space.new }
+    ensures follow { PoolFollows (chart (B.state board.new)) space.old space.new }
+    ensures power { (B.state board.new).on ≡ power_after result }
+
     ensures counted { IsTrue (B.state board.new).on → (erased.new ≡ up erased.old) × (since.new ≡ up since.old) }
-    ensures counts { Tally (sum (B.state board.old).erases) erased.old (sum (B.state board.new).erases) erased.new }
-    ensures counts_since { Tally (sum (B.state board.old).erases) since.old (sum (B.state board.new).erases) since.new }
-    ensures shape { space.new.shape ≡ space.old.shape }
+    ensures counts { Tally (sum (B.state board.old).erases) erased.old (sum (B.state board.new).erases) erased.new
+        × Tally (sum (B.state board.old).erases) since.old (sum (B.state board.new).erases) since.new }
     ensures erases { OnOk result ((e : ℕ)
         × IsSpare (B.state board.old).shape (chart (B.state board.old)).fields.positions e
         × ((chart (B.state board.new)).fields
@@ -73,7 +75,6 @@ pub(crate) fn erase<B: Board>(
         ≡ with_wear e (up (slice_index (chart (B.state board.old)).fields.wears e)) (chart (B.state board.old)).fields)
         × ((r : ℕ) → r / (B.state board.old).shape.rows ≢ e
         → row_of (B.state board.new) r ≡ row_of (B.state board.old) r) }
-    ensures power { (B.state board.new).on ≡ power_after result }
     ensures bad { IsErrOf result Trouble.Bad → (B.state board.new).bads ≡ up (B.state board.old).bads }
 {
     let spare = space.spare();

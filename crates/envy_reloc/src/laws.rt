@@ -1,10 +1,9 @@
-ghost use Rattle.std.specs.Prelude.{◌≡◌, ◌≢◌, ◌⊎◌, ◌+◌, ◌/◌, ◌<◌, ℕ, List, [], Option, None, Some, slice_index, slice_index_or};
+ghost use Rattle.std.specs.Prelude.{◌≡◌, ◌≢◌, ◌⊎◌, ◌/◌, ◌<◌, ℕ, List, [], Some, slice_index, slice_index_or};
 ghost use Rattle.envy_base.specs.declared.fields.Job.TheVariants.{Idle};
 ghost use Rattle.envy_base.specs.declared.fields.Place.{Place};
 ghost use Rattle.envy_base.specs.declared.fields.Place.TheVariants.{Row};
 ghost use Rattle.envy_base.specs.declared.fields.Slot.{Slot};
 ghost use Rattle.envy_base.specs.declared.fields.Slot.TheVariants.{Active};
-ghost use Rattle.envy_base.specs.declared.fields.Undo.{Undo};
 ghost use Rattle.envy_base.specs.declared.fields.Undo.TheVariants.{Clear, Blank, Shadow};
 ghost use Rattle.envy_base.specs.declared.shape.Shape.{Shape};
 ghost use Rattle.envy_map.specs.Fields.{Fields};

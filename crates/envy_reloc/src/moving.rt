@@ -1,21 +1,19 @@
-ghost use Rattle.std.specs.Prelude.{◌≡◌, ◌≢◌, ◌*◌, ◌/◌, ◌<◌, ◌≤◌, ◌+◌, ◌-◌, ℕ, List, [], false, IsTrue, All, None, Some, OnOk, OnErr, IfOk, IsErrOf, slice_index, slice_index_or};
+ghost use Rattle.std.specs.Prelude.{◌≡◌, ◌<◌, ◌≤◌, ◌+◌, ◌-◌, ℕ, false, IsTrue, None, Some, OnOk, OnErr, IfOk, IsErrOf, slice_index};
 ghost use Rattle.envy_base.specs.Shape.{IsShape};
 ghost use Rattle.envy_base.specs.Counting.{up, Tally};
 ghost use Rattle.envy_base.specs.State.{row_of};
 ghost use Rattle.envy_base.specs.declared.fields.Job.TheVariants.{Copy};
 ghost use Rattle.envy_map.specs.Fields.{chart, with_fields};
-ghost use Rattle.envy_map.specs.Writes.{with_back, with_fill};
 ghost use Rattle.envy_layout.specs.Same.{Same};
 ghost use Rattle.envy_layout.specs.May.{MayName};
-ghost use Rattle.envy_layout.specs.Naming.{IsNamed, with_named, AreParted};
+ghost use Rattle.envy_layout.specs.Naming.{IsNamed, with_named};
 ghost use Rattle.envy_layout.specs.Power.{power_of, power_after};
-ghost use Rattle.envy_layout.specs.Sound.{IsSound, IsPlaced, IsKept, Names};
+ghost use Rattle.envy_layout.specs.Sound.{IsSound, Names};
 ghost use Rattle.envy_space.specs.Pool.{PoolAgrees};
-ghost use Rattle.envy_table.specs.Agreement.{AreCurrent};
-ghost use Rattle.envy_table.specs.Hits.{Rests};
+ghost use Rattle.envy_reloc.specs.Keeping.{ClaimsTarget, CopiesTo, IsKeptIn, IsMove, IsTarget, PartsAgree, PartsFollow, PoolFollows, WastesRow};
 ghost use Rattle.envy_reloc.specs.Phases.{MovesRow, NextMove};
 ghost use Rattle.envy_reloc.specs.Plan.{IsPlanOf};
-ghost use Rattle.envy_reloc.specs.Rows.{HasRoom, Rooms};
+ghost use Rattle.envy_reloc.specs.Rows.{Rooms};
 
 use crate::Reloc;
 use crate::copying::read_row;
@@ -110,34 +108,18 @@ fn program_move<B: Board>(
     requires sound { IsSound (chart (B.state board.old)) }
     requires on { IsTrue (B.state board.old).on }
     requires pool { PoolAgrees (B.state board.old).shape (chart (B.state board.old)).fields space.old }
-    requires placed { IsPlaced (B.state board.old).shape (chart (B.state board.old)).fields.positions segment }
-    requires copying { (v : ℕ) × ((chart (B.state board.old)).fields.job ≡ Some (Copy v)) × (v ≢ segment) }
-    requires room { slice_index space.old.fills segment < space.old.shape.rows }
-    requires row { row < (B.state board.old).shape.segments * (B.state board.old).shape.rows }
-    requires page { page < (B.state board.old).shape.pages }
-    requires kept { IsKept (chart (B.state board.old)).fields row }
+    requires target { IsTarget (chart (B.state board.old)) space.old segment }
+    requires kept { IsKeptIn (chart (B.state board.old)) row page }
+
     ensures same { Same 1 0 (chart (B.state board.old)) (chart (B.state board.new)) }
-    ensures pool { IsTrue (B.state board.new).on
-        → PoolAgrees (B.state board.new).shape (chart (B.state board.new)).fields space.new }
-    ensures shape { space.new.shape ≡ space.old.shape }
-    ensures target { IfOk result (λ target.
-        target ≡ segment * (B.state board.old).shape.rows + slice_index (chart (B.state board.old)).fields.fills
-        segment) }
-    ensures fields { let target = segment * (B.state board.old).shape.rows + slice_index
-        (chart (B.state board.old)).fields.fills segment in
-        IsTrue (B.state board.new).on → (chart (B.state board.new)).fields
-        ≡ with_fill segment (slice_index (chart (B.state board.old)).fields.fills segment + 1)
-        (with_back target page (chart (B.state board.old)).fields) }
-    ensures copy { let target = segment * (B.state board.old).shape.rows + slice_index
-        (chart (B.state board.old)).fields.fills segment in
-        OnOk result (row_of (B.state board.new) target ≡ row_of (B.state board.old) row) }
-    ensures others { IsTrue (B.state board.new).on → (r : ℕ)
-        → r ≢ segment * (B.state board.old).shape.rows + slice_index (chart (B.state board.old)).fields.fills segment
-        → row_of (B.state board.new) r ≡ row_of (B.state board.old) r }
-    ensures counted { IsTrue (B.state board.new).on → moved.new ≡ up moved.old }
-    ensures counts { Tally (B.state board.old).begun moved.old (B.state board.new).begun moved.new }
+    ensures follow { PoolFollows (chart (B.state board.new)) space.old space.new }
     ensures power { (B.state board.new).on ≡ power_after result }
+
+    ensures claims { IsTrue (B.state board.new).on
+        → ClaimsTarget (chart (B.state board.old)) segment page moved.old (chart (B.state board.new)) moved.new }
+    ensures copy { IfOk result (CopiesTo (chart (B.state board.old)) segment row (chart (B.state board.new))) }
     ensures bad { IsErrOf result Trouble.Bad → (B.state board.new).bads ≡ up (B.state board.old).bads }
+    ensures counts { Tally (B.state board.old).begun moved.old (B.state board.new).begun moved.new }
 {
     let target = space.claim(board, segment, page)?;
     let mut words = [0; 32];
@@ -176,26 +158,15 @@ fn rename<B: Board>(
 ) -> Result<(), Off>
     requires sound { IsSound (chart (B.state board.old)) }
     requires on { IsTrue (B.state board.old).on }
-    requires pool { PoolAgrees (B.state board.old).shape (chart (B.state board.old)).fields space.old }
-    requires cache { AreCurrent (B.state board.old).shape.pages (chart (B.state board.old)).fields.places
-        cache.old.entries }
-    requires parted { AreParted (chart (B.state board.old)).fields.slots (chart (B.state board.old)).fields.undos
-        (chart (B.state board.old)).fields.places }
+    requires agree { PartsAgree (chart (B.state board.old)) space.old cache.old.entries }
     requires page { kept.page < (B.state board.old).shape.pages }
     requires named { IsNamed (chart (B.state board.old)).fields kept.page row kept.undo }
     requires may { MayName (B.state board.old).shape (chart (B.state board.old)).fields kept.page target }
     requires free { (p : ℕ) → Names (chart (B.state board.old)).fields p target → ⊥ }
     requires copy { row_of (B.state board.old) target ≡ row_of (B.state board.old) row }
-    ensures rests { Rests cache.old cache.new }
+
     ensures same { Same 0 0 (chart (B.state board.old)) (chart (B.state board.new)) }
-    ensures pool { IsTrue (B.state board.new).on
-        → PoolAgrees (B.state board.new).shape (chart (B.state board.new)).fields space.new }
-    ensures cache { IsTrue (B.state board.new).on
-        → AreCurrent (B.state board.new).shape.pages (chart (B.state board.new)).fields.places cache.new.entries }
-    ensures parted { IsTrue (B.state board.new).on
-        → AreParted (chart (B.state board.new)).fields.slots (chart (B.state board.new)).fields.undos
-        (chart (B.state board.new)).fields.places }
-    ensures shape { space.new.shape ≡ space.old.shape }
+    ensures follow { PartsFollow (chart (B.state board.new)) space.old space.new cache.old cache.new }
     ensures fields { OnOk result (chart (B.state board.new) ≡ with_fields (chart (B.state board.old))
         (with_named kept.page target kept.undo (chart (B.state board.old)).fields)) }
     ensures power { (B.state board.new).on ≡ power_of result }
@@ -215,43 +186,21 @@ pub(crate) fn move_row<B: Board>(
 ) -> Result<(), Trouble>
     requires sound { IsSound (chart (B.state board.old)) }
     requires on { IsTrue (B.state board.old).on }
-    requires pool { PoolAgrees (B.state board.old).shape (chart (B.state board.old)).fields space.old }
-    requires cache { AreCurrent (B.state board.old).shape.pages (chart (B.state board.old)).fields.places
-        cache.old.entries }
-    requires parted { AreParted (chart (B.state board.old)).fields.slots (chart (B.state board.old)).fields.undos
-        (chart (B.state board.old)).fields.places }
-    requires copying { (v : ℕ) × ((chart (B.state board.old)).fields.job ≡ Some (Copy v))
-        × HasRoom space.old.shape space.old.fills space.old.positions v next.position }
-    requires position { next.position < space.old.shape.segments - 1 }
-    requires page { next.kept.page < (B.state board.old).shape.pages }
-    requires back { slice_index (chart (B.state board.old)).fields.backs next.row ≡ next.kept.page }
-    requires named { IsNamed (chart (B.state board.old)).fields next.kept.page next.row next.kept.undo }
-    ensures rests { Rests cache.old cache.new }
+    requires agree { PartsAgree (chart (B.state board.old)) space.old cache.old.entries }
+    requires next { IsMove (chart (B.state board.old)) space.old next }
+
     ensures same { Same 1 0 (chart (B.state board.old)) (chart (B.state board.new)) }
-    ensures pool { IsTrue (B.state board.new).on
-        → PoolAgrees (B.state board.new).shape (chart (B.state board.new)).fields space.new }
-    ensures cache { IsTrue (B.state board.new).on
-        → AreCurrent (B.state board.new).shape.pages (chart (B.state board.new)).fields.places cache.new.entries }
-    ensures parted { IsTrue (B.state board.new).on
-        → AreParted (chart (B.state board.new)).fields.slots (chart (B.state board.new)).fields.undos
-        (chart (B.state board.new)).fields.places }
-    ensures shape { space.new.shape ≡ space.old.shape }
-    ensures fields { OnOk result
+    ensures follow { PartsFollow (chart (B.state board.new)) space.old space.new cache.old cache.new }
+    ensures power { (B.state board.new).on ≡ power_after result }
+
+    ensures moves { OnOk result
         (MovesRow (chart (B.state board.old)) (slice_index space.old.positions next.position) next
         (chart (B.state board.new))) }
-    ensures spoilt { let s = slice_index space.old.positions next.position in
-        let f = (chart (B.state board.old)).fields in
-        IsErrOf result Trouble.Bad
-        → (chart (B.state board.new)).fields ≡ with_fill s (slice_index f.fills s + 1)
-        (with_back (s * (B.state board.old).shape.rows + slice_index f.fills s) next.kept.page f) }
-    ensures others { let s = slice_index space.old.positions next.position in
-        IsTrue (B.state board.new).on → (r : ℕ)
-        → r ≢ s * (B.state board.old).shape.rows + slice_index (chart (B.state board.old)).fields.fills s
-        → row_of (B.state board.new) r ≡ row_of (B.state board.old) r }
+    ensures fails { IsErrOf result Trouble.Bad
+        → WastesRow (chart (B.state board.old)) (slice_index space.old.positions next.position) next.kept.page
+        (chart (B.state board.new)) }
     ensures counted { IsTrue (B.state board.new).on → moved.new ≡ up moved.old }
     ensures counts { Tally (B.state board.old).begun moved.old (B.state board.new).begun moved.new }
-    ensures power { (B.state board.new).on ≡ power_after result }
-    ensures bad { IsErrOf result Trouble.Bad → (B.state board.new).bads ≡ up (B.state board.old).bads }
 {
     let segment = space.segment_at(next.position);
     let target = program_move(board, space, moved, next.row, next.kept.page, segment)?;

@@ -1,13 +1,10 @@
-ghost use Rattle.std.specs.Prelude.{length, ◌≡◌, ◌+◌, ◌-◌, ◌*◌, ◌/◌, ◌<◌, ◌≤◌, ℕ, [], false, IsTrue, All, None, Some, OnOk, slice_index};
-ghost use Rattle.envy_base.specs.declared.fields.Job.TheVariants.{Idle, Copy};
-ghost use Rattle.envy_map.specs.Fields.{chart, with_fields};
-ghost use Rattle.envy_map.specs.Writes.{with_job};
+ghost use Rattle.std.specs.Prelude.{length, ◌≡◌, ◌+◌, ◌-◌, ◌/◌, ◌<◌, ◌≤◌, ℕ, [], false, IsTrue, All, None, Some, OnOk, slice_index};
+ghost use Rattle.envy_map.specs.Fields.{chart};
 ghost use Rattle.envy_layout.specs.Power.{power_of};
 ghost use Rattle.envy_layout.specs.Same.{Same};
-ghost use Rattle.envy_layout.specs.Sound.{IsSound, Names};
+ghost use Rattle.envy_layout.specs.Sound.{IsSound};
 ghost use Rattle.envy_space.specs.Pool.{PoolAgrees};
-ghost use Rattle.envy_reloc.specs.Cleaning.{Cleans};
-ghost use Rattle.envy_reloc.specs.Effort.{Leaves};
+ghost use Rattle.envy_reloc.specs.Keeping.{Begins, MayBegin};
 ghost use Rattle.envy_reloc.specs.Plan.{Plan, IsPlanOf};
 
 use arrayvec::ArrayVec;
@@ -64,15 +61,13 @@ impl Reloc {
         moves: ArrayVec<u32, 4>,
         aside: Option<(u32, u32)>,
     ) -> Result<(), Off>
-        requires sound { IsTrue (B.state board.old).on → IsSound (chart (B.state board.old)) }
-        requires agrees { IsTrue (B.state board.old).on
-            → PoolAgrees (B.state board.old).shape (chart (B.state board.old)).fields space.now }
-        requires idle { IsTrue (B.state board.old).on → (chart (B.state board.old)).fields.job ≡ Some Idle }
+        requires ready { IsTrue (B.state board.old).on → MayBegin (chart (B.state board.old)) space.now }
         requires shape { space.now.shape ≡ (B.state board.old).shape }
         requires position { position < space.now.shape.segments - 1 }
         requires moves { All (λ q. q / space.now.shape.rows ≡ slice_index space.now.positions position) moves.items }
         requires aside { (first last : ℕ) → aside ≡ Some (first, last) → (first ≤ last)
             × (last < space.now.shape.segments - 1) }
+
         ensures same { IsSound (chart (B.state board.old))
             → Same 0 0 (chart (B.state board.old)) (chart (B.state board.new)) }
         ensures idle { (B.state board.old).on ≡ false → (B.state board.new ≡ B.state board.old)
@@ -83,15 +78,8 @@ impl Reloc {
             → PoolAgrees (B.state board.new).shape (chart (B.state board.new)).fields space.now }
         ensures plan { IsTrue (B.state board.old).on
             → self.new ≡ record self.old { moves = moves.items; aside = aside; mark = 0 } }
-        ensures fields { OnOk result (chart (B.state board.new) ≡ with_fields (chart (B.state board.old))
-            (with_job (Some (Copy (slice_index space.now.positions position))) (chart (B.state board.old)).fields)) }
-        ensures leaves { let n = length moves.items + (B.state board.old).shape.rows in
-            OnOk result (Leaves (chart (B.state board.new)) self.new n 1 (n + 3)) }
-        ensures cleans { OnOk result ((d : ℕ)
-            → d / (B.state board.old).shape.rows ≡ slice_index space.now.positions position
-            → ((p : ℕ) → Names (chart (B.state board.old)).fields p d → ⊥)
-            → Cleans (B.state board.old).shape (chart (B.state board.old)).fields.positions position self.old.erased
-            (chart (B.state board.new)).fields self.new.erased) }
+        ensures begins { OnOk result (Begins (chart (B.state board.old)) space.now position
+            (length moves.items + (B.state board.old).shape.rows) self.old (chart (B.state board.new)) self.new) }
         ensures power { (B.state board.new).on ≡ power_of result }
     {
         if !board.powered() {

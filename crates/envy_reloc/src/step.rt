@@ -1,21 +1,17 @@
-ghost use Rattle.std.specs.Prelude.{◌≡◌, ◌≢◌, ◌⊎◌, ◌*◌, ◌/◌, ◌<◌, ◌≤◌, ◌+◌, ◌-◌, ℕ, List, [], false, IsTrue, All, None, Some, OnOk, IfOk, IsErrOf, slice_index, slice_index_or};
-ghost use Rattle.envy_base.specs.Counting.{up, Tally};
+ghost use Rattle.std.specs.Prelude.{◌≡◌, ◌<◌, ◌+◌, ◌-◌, ℕ, [], false, IsTrue, None, Some, OnOk, IfOk, IsErrOf, slice_index};
 ghost use Rattle.envy_base.specs.declared.fields.Job.TheVariants.{Idle, Copy, Erase};
 ghost use Rattle.envy_map.specs.Fields.{chart, with_fields};
 ghost use Rattle.envy_map.specs.Writes.{with_job};
-ghost use Rattle.envy_layout.specs.Frames.{FramesStay};
-ghost use Rattle.envy_layout.specs.Naming.{IsNamed, AreParted};
+ghost use Rattle.envy_layout.specs.Naming.{AreParted};
 ghost use Rattle.envy_layout.specs.Power.{power_after};
 ghost use Rattle.envy_layout.specs.Same.{Same};
 ghost use Rattle.envy_layout.specs.Sound.{IsSound, IsSpare};
-ghost use Rattle.envy_space.specs.Pool.{PoolAgrees};
 ghost use Rattle.envy_table.specs.Agreement.{AreCurrent};
-ghost use Rattle.envy_reloc.specs.Phases.{Does, SameOnce, CountsBegun, CountsApart, CopiesLeft, MovesRow, Spoils, SpoilsRow, SpoilsTarget, counted_by};
-ghost use Rattle.envy_table.specs.Hits.{Rests};
-ghost use Rattle.envy_reloc.specs.Cleaning.{Cleans};
-ghost use Rattle.envy_reloc.specs.Effort.{programs_of, erases_of, Leaves, Spent};
+ghost use Rattle.envy_reloc.specs.Phases.{Does, SameOnce, CountsBegun, CountsApart};
+ghost use Rattle.envy_reloc.specs.Effort.{programs_of, erases_of, Leaves};
+ghost use Rattle.envy_reloc.specs.Keeping.{AllFollow, CopiesNext, CountsCopy, CountsMove, Fails, FailsCopy, FailsMove, IsMove, IsReady, MayStep, MovesNext, PlanFollows, Steps};
 ghost use Rattle.envy_reloc.specs.Plan.{IsPlanOf};
-ghost use Rattle.envy_reloc.specs.Rows.{NextKept, HasRoom};
+ghost use Rattle.envy_reloc.specs.Rows.{NextKept};
 
 use crate::Reloc;
 use crate::copying::{Left, copy_row, next_kept};
@@ -53,58 +49,27 @@ impl Reloc {
         space: &mut Space,
         cache: &mut Cache,
     ) -> Result<Phase, Trouble>
-        requires sound { IsTrue (B.state board.old).on → IsSound (chart (B.state board.old)) }
-        requires pool { IsTrue (B.state board.old).on
-            → PoolAgrees (B.state board.old).shape (chart (B.state board.old)).fields space.old }
-        requires cache { IsTrue (B.state board.old).on
-            → AreCurrent (B.state board.old).shape.pages (chart (B.state board.old)).fields.places cache.old.entries }
-        requires plan { IsTrue (B.state board.old).on
-            → IsPlanOf (B.state board.old).shape (chart (B.state board.old)).fields (B.state board.old).flash self.old }
-        requires parted { IsTrue (B.state board.old).on
-            → AreParted (chart (B.state board.old)).fields.slots (chart (B.state board.old)).fields.undos
-            (chart (B.state board.old)).fields.places }
+        requires ready { IsTrue (B.state board.old).on
+            → MayStep (chart (B.state board.old)) space.old self.old cache.old.entries }
         requires shape { space.old.shape ≡ (B.state board.old).shape }
-        requires busy { IsTrue (B.state board.old).on → (chart (B.state board.old)).fields.job ≢ Some Idle }
+
         ensures same { IsSound (chart (B.state board.old))
             → SameOnce (chart (B.state board.old)) (chart (B.state board.new)) }
         ensures idle { (B.state board.old).on ≡ false → (B.state board.new ≡ B.state board.old) × (self.new ≡ self.old)
             × (space.new ≡ space.old) × (cache.new ≡ cache.old) }
-        ensures pool { IsTrue (B.state board.new).on
-            → PoolAgrees (B.state board.new).shape (chart (B.state board.new)).fields space.new }
-        ensures cache { IsTrue (B.state board.new).on
-            → AreCurrent (B.state board.new).shape.pages (chart (B.state board.new)).fields.places cache.new.entries }
-        ensures plan { IsTrue (B.state board.new).on
-            → IsPlanOf (B.state board.new).shape (chart (B.state board.new)).fields (B.state board.new).flash self.new }
-        ensures parted { IsTrue (B.state board.new).on
-            → AreParted (chart (B.state board.new)).fields.slots (chart (B.state board.new)).fields.undos
-            (chart (B.state board.new)).fields.places }
-        ensures works { IfOk result (λ phase.
-            Same (programs_of phase) (erases_of phase) (chart (B.state board.old)) (chart (B.state board.new))) }
-        ensures rests { Rests cache.old cache.new }
-        ensures frames { IsTrue (B.state board.new).on
-            → FramesStay (chart (B.state board.old)).fields.places (chart (B.state board.new)).fields.places }
-        ensures left { IfOk result (λ phase. (n e s : ℕ) → Leaves (chart (B.state board.old)) self.old n e s
-            → Spent (chart (B.state board.old)) (chart (B.state board.new)) self.new n e s) }
+        ensures follow { AllFollow (chart (B.state board.old)) (chart (B.state board.new)) space.old space.new self.new
+            cache.old cache.new }
+        ensures power { (B.state board.new).on ≡ power_after result }
+
+        ensures steps { IfOk result (λ phase.
+            Steps (chart (B.state board.old)) self.old phase (chart (B.state board.new)) self.new) }
+        ensures fails { IsErrOf result Trouble.Bad
+            → Fails (chart (B.state board.old)) self.old (chart (B.state board.new)) self.new }
         ensures within { IsSound (chart (B.state board.old)) → (n e s : ℕ)
             → Leaves (chart (B.state board.old)) self.old n e s
             → Same n e (chart (B.state board.old)) (chart (B.state board.new)) }
-        ensures cleans { IfOk result (λ phase. (positions : List ℕ) (k n : ℕ)
-            → Cleans (B.state board.old).shape positions k n (chart (B.state board.old)).fields self.old.erased
-            → Cleans (B.state board.old).shape positions k n (chart (B.state board.new)).fields self.new.erased) }
-        ensures shape { space.new.shape ≡ space.old.shape }
-        ensures does { IfOk result (λ phase.
-            Does (chart (B.state board.old)) self.old phase (chart (B.state board.new)) self.new) }
-        ensures counted { IfOk result (λ phase.
-            self.new ≡ record (counted_by phase self.old) { moves = self.new.moves; mark = self.new.mark }) }
-        ensures spoils { IsErrOf result Trouble.Bad
-            → Spoils (chart (B.state board.old)) self.old (chart (B.state board.new)) self.new }
         ensures counts { CountsBegun (chart (B.state board.old)) self.old (chart (B.state board.new)) self.new }
         ensures apart { CountsApart (chart (B.state board.old)) self.old self.new }
-        ensures job { IsErrOf result Trouble.Bad → (chart (B.state board.new)).fields.job ≡ Some Erase }
-        ensures dropped { IsErrOf result Trouble.Bad → (chart (B.state board.old)).fields.job ≢ Some Erase
-            → self.new.moves ≡ [] }
-        ensures bad { IsErrOf result Trouble.Bad → (B.state board.new).bads ≡ up (B.state board.old).bads }
-        ensures power { (B.state board.new).on ≡ power_after result }
     {
         if !board.powered() {
             return Err(Trouble::Off);
@@ -132,44 +97,26 @@ impl Reloc {
         cache: &mut Cache,
         segment: u32,
     ) -> Result<Phase, Trouble>
-        requires sound { IsSound (chart (B.state board.old)) }
-        requires on { IsTrue (B.state board.old).on }
-        requires pool { PoolAgrees (B.state board.old).shape (chart (B.state board.old)).fields space.old }
-        requires plan { IsPlanOf (B.state board.old).shape (chart (B.state board.old)).fields (B.state board.old).flash
-            self.old }
-        requires parted { AreParted (chart (B.state board.old)).fields.slots (chart (B.state board.old)).fields.undos
-            (chart (B.state board.old)).fields.places }
+        requires ready { IsReady (chart (B.state board.old)) space.old self.old }
         requires cache { AreCurrent (B.state board.old).shape.pages (chart (B.state board.old)).fields.places
             cache.old.entries }
         requires copying { (chart (B.state board.old)).fields.job ≡ Some (Copy segment) }
+
         ensures same { Same 1 0 (chart (B.state board.old)) (chart (B.state board.new)) }
-        ensures works { IfOk result (λ phase.
-            Same (programs_of phase) (erases_of phase) (chart (B.state board.old)) (chart (B.state board.new))) }
-        ensures rests { Rests cache.old cache.new }
-        ensures frames { IsTrue (B.state board.new).on
-            → FramesStay (chart (B.state board.old)).fields.places (chart (B.state board.new)).fields.places }
-        ensures pool { IsTrue (B.state board.new).on
-            → PoolAgrees (B.state board.new).shape (chart (B.state board.new)).fields space.new }
-        ensures cache { IsTrue (B.state board.new).on
-            → AreCurrent (B.state board.new).shape.pages (chart (B.state board.new)).fields.places cache.new.entries }
-        ensures plan { IsTrue (B.state board.new).on
-            → IsPlanOf (B.state board.new).shape (chart (B.state board.new)).fields (B.state board.new).flash self.new }
-        ensures parted { IsTrue (B.state board.new).on
-            → AreParted (chart (B.state board.new)).fields.slots (chart (B.state board.new)).fields.undos
-            (chart (B.state board.new)).fields.places }
-        ensures shape { space.new.shape ≡ space.old.shape }
-        ensures counts { CountsBegun (chart (B.state board.old)) self.old (chart (B.state board.new)) self.new }
-        ensures apart { CountsApart (chart (B.state board.old)) self.old self.new }
-        ensures job { IsErrOf result Trouble.Bad → (chart (B.state board.new)).fields.job ≡ Some Erase }
-        ensures dropped { IsErrOf result Trouble.Bad → self.new.moves ≡ [] }
-        ensures within { (n e s : ℕ) → Leaves (chart (B.state board.old)) self.old n e s
-            → Same n e (chart (B.state board.old)) (chart (B.state board.new)) }
-        ensures spoils { IsErrOf result Trouble.Bad
-            → Spoils (chart (B.state board.old)) self.old (chart (B.state board.new)) self.new }
-        ensures bad { IsErrOf result Trouble.Bad → (B.state board.new).bads ≡ up (B.state board.old).bads }
+        ensures follow { AllFollow (chart (B.state board.old)) (chart (B.state board.new)) space.old space.new self.new
+            cache.old cache.new }
         ensures power { (B.state board.new).on ≡ power_after result }
+
         ensures does { IfOk result (λ phase.
             Does (chart (B.state board.old)) self.old phase (chart (B.state board.new)) self.new) }
+        ensures works { IfOk result (λ phase.
+            Same (programs_of phase) (erases_of phase) (chart (B.state board.old)) (chart (B.state board.new))) }
+        ensures fails { IsErrOf result Trouble.Bad
+            → Fails (chart (B.state board.old)) self.old (chart (B.state board.new)) self.new }
+        ensures within { (n e s : ℕ) → Leaves (chart (B.state board.old)) self.old n e s
+            → Same n e (chart (B.state board.old)) (chart (B.state board.new)) }
+        ensures counts { CountsBegun (chart (B.state board.old)) self.old (chart (B.state board.new)) self.new }
+        ensures apart { CountsApart (chart (B.state board.old)) self.old self.new }
     {
         if let Some(next) = self.next_move(board, space, segment)? {
             self.move_next(board, space, cache, next)?;
@@ -222,44 +169,23 @@ impl Reloc {
         spare: u32,
         left: Left,
     ) -> Result<(), Trouble>
-        requires sound { IsSound (chart (B.state board.old)) }
-        requires on { IsTrue (B.state board.old).on }
-        requires pool { PoolAgrees (B.state board.old).shape (chart (B.state board.old)).fields space.old }
-        requires plan { IsPlanOf (B.state board.old).shape (chart (B.state board.old)).fields (B.state board.old).flash
-            self.old }
-        requires parted { AreParted (chart (B.state board.old)).fields.slots (chart (B.state board.old)).fields.undos
-            (chart (B.state board.old)).fields.places }
+        requires ready { IsReady (chart (B.state board.old)) space.old self.old }
         requires left { (v : ℕ) × ((chart (B.state board.old)).fields.job ≡ Some (Copy v))
             × NextKept (B.state board.old).shape (chart (B.state board.old)).fields v self.old.mark (Some left) }
         requires spare { IsSpare (B.state board.old).shape (chart (B.state board.old)).fields.positions spare }
         requires done { self.old.moves ≡ [] }
+
         ensures same { Same 1 0 (chart (B.state board.old)) (chart (B.state board.new)) }
-        ensures pool { IsTrue (B.state board.new).on
-            → PoolAgrees (B.state board.new).shape (chart (B.state board.new)).fields space.new }
-        ensures plan { IsTrue (B.state board.new).on
-            → IsPlanOf (B.state board.new).shape (chart (B.state board.new)).fields (B.state board.new).flash self.new }
-        ensures parted { IsTrue (B.state board.new).on
-            → AreParted (chart (B.state board.new)).fields.slots (chart (B.state board.new)).fields.undos
-            (chart (B.state board.new)).fields.places }
-        ensures shape { space.new.shape ≡ space.old.shape }
-        ensures counts { Tally (B.state board.old).begun self.old.copied (B.state board.new).begun self.new.copied }
-        ensures copied { OnOk result
-            (CopiesLeft (chart (B.state board.old)) spare left.row (chart (B.state board.new))) }
+        ensures follow { PlanFollows (chart (B.state board.new)) space.old space.new self.new }
+        ensures power { (B.state board.new).on ≡ power_after result }
+
+        ensures copies { OnOk result
+            (CopiesNext (chart (B.state board.old)) spare left.row self.old (chart (B.state board.new)) self.new) }
+        ensures fails { IsErrOf result Trouble.Bad
+            → FailsCopy (chart (B.state board.old)) spare left.row self.old (chart (B.state board.new)) self.new }
         ensures places { IsTrue (B.state board.new).on
             → (chart (B.state board.new)).fields.places ≡ (chart (B.state board.old)).fields.places }
-        ensures spoilt { IsErrOf result Trouble.Bad
-            → SpoilsRow (chart (B.state board.old)) spare left.row (chart (B.state board.new)) }
-        ensures becomes { OnOk result
-            (self.new ≡ record self.old { mark = left.row + 1; copied = up self.old.copied }) }
-        ensures becomes_bad { IsErrOf result Trouble.Bad
-            → self.new ≡ record self.old { moves = []; copied = up self.old.copied } }
-        ensures moved { self.new.moved ≡ self.old.moved }
-        ensures erased { self.new.erased ≡ self.old.erased }
-        ensures since { self.new.since ≡ self.old.since }
-        ensures job { IsErrOf result Trouble.Bad → (chart (B.state board.new)).fields.job ≡ Some Erase }
-        ensures dropped { IsErrOf result Trouble.Bad → self.new.moves ≡ [] }
-        ensures bad { IsErrOf result Trouble.Bad → (B.state board.new).bads ≡ up (B.state board.old).bads }
-        ensures power { (B.state board.new).on ≡ power_after result }
+        ensures counts { CountsCopy (chart (B.state board.old)) self.old (chart (B.state board.new)) self.new }
     {
         match copy_row(board, space, &mut self.copied, spare, left) {
             Ok(()) => {
@@ -280,52 +206,23 @@ impl Reloc {
         cache: &mut Cache,
         next: Move,
     ) -> Result<(), Trouble>
-        requires sound { IsSound (chart (B.state board.old)) }
-        requires on { IsTrue (B.state board.old).on }
-        requires pool { PoolAgrees (B.state board.old).shape (chart (B.state board.old)).fields space.old }
-        requires plan { IsPlanOf (B.state board.old).shape (chart (B.state board.old)).fields (B.state board.old).flash
-            self.old }
-        requires parted { AreParted (chart (B.state board.old)).fields.slots (chart (B.state board.old)).fields.undos
-            (chart (B.state board.old)).fields.places }
+        requires ready { IsReady (chart (B.state board.old)) space.old self.old }
         requires cache { AreCurrent (B.state board.old).shape.pages (chart (B.state board.old)).fields.places
             cache.old.entries }
-        requires next { (v : ℕ) × ((chart (B.state board.old)).fields.job ≡ Some (Copy v))
-            × HasRoom space.old.shape space.old.fills space.old.positions v next.position }
-        requires position { next.position < space.old.shape.segments - 1 }
-        requires page { next.kept.page < (B.state board.old).shape.pages }
-        requires back { slice_index (chart (B.state board.old)).fields.backs next.row ≡ next.kept.page }
-        requires named { IsNamed (chart (B.state board.old)).fields next.kept.page next.row next.kept.undo }
+        requires next { IsMove (chart (B.state board.old)) space.old next }
+
         ensures same { Same 1 0 (chart (B.state board.old)) (chart (B.state board.new)) }
-        ensures rests { Rests cache.old cache.new }
-        ensures frames { IsTrue (B.state board.new).on
-            → FramesStay (chart (B.state board.old)).fields.places (chart (B.state board.new)).fields.places }
-        ensures pool { IsTrue (B.state board.new).on
-            → PoolAgrees (B.state board.new).shape (chart (B.state board.new)).fields space.new }
-        ensures cache { IsTrue (B.state board.new).on
-            → AreCurrent (B.state board.new).shape.pages (chart (B.state board.new)).fields.places cache.new.entries }
-        ensures plan { IsTrue (B.state board.new).on
-            → IsPlanOf (B.state board.new).shape (chart (B.state board.new)).fields (B.state board.new).flash self.new }
-        ensures parted { IsTrue (B.state board.new).on
-            → AreParted (chart (B.state board.new)).fields.slots (chart (B.state board.new)).fields.undos
-            (chart (B.state board.new)).fields.places }
-        ensures shape { space.new.shape ≡ space.old.shape }
-        ensures counts { Tally (B.state board.old).begun self.old.moved (B.state board.new).begun self.new.moved }
-        ensures moved { OnOk result
-            (MovesRow (chart (B.state board.old)) (slice_index space.old.positions next.position) next
-            (chart (B.state board.new))) }
-        ensures spoilt { IsErrOf result Trouble.Bad
-            → SpoilsTarget (chart (B.state board.old)) (slice_index space.old.positions next.position) next.kept.page
-            (chart (B.state board.new)) }
-        ensures becomes { OnOk result (self.new ≡ record self.old { moved = up self.old.moved }) }
-        ensures becomes_bad { IsErrOf result Trouble.Bad
-            → self.new ≡ record self.old { moves = []; moved = up self.old.moved } }
-        ensures copied { self.new.copied ≡ self.old.copied }
-        ensures erased { self.new.erased ≡ self.old.erased }
-        ensures since { self.new.since ≡ self.old.since }
-        ensures job { IsErrOf result Trouble.Bad → (chart (B.state board.new)).fields.job ≡ Some Erase }
-        ensures dropped { IsErrOf result Trouble.Bad → self.new.moves ≡ [] }
-        ensures bad { IsErrOf result Trouble.Bad → (B.state board.new).bads ≡ up (B.state board.old).bads }
+        ensures follow { AllFollow (chart (B.state board.old)) (chart (B.state board.new)) space.old space.new self.new
+            cache.old cache.new }
         ensures power { (B.state board.new).on ≡ power_after result }
+
+        ensures moves { OnOk result
+            (MovesNext (chart (B.state board.old)) (slice_index space.old.positions next.position) next self.old
+            (chart (B.state board.new)) self.new) }
+        ensures fails { IsErrOf result Trouble.Bad
+            → FailsMove (chart (B.state board.old)) (slice_index space.old.positions next.position) next.kept.page
+            self.old (chart (B.state board.new)) self.new }
+        ensures counts { CountsMove (chart (B.state board.old)) self.old (chart (B.state board.new)) self.new }
     {
         match move_row(board, space, cache, &mut self.moved, next) {
             Ok(()) => Ok(()),

@@ -1,16 +1,14 @@
-ghost use Rattle.std.specs.Prelude.{◌≡◌, ◌≢◌, ◌*◌, ◌/◌, ◌<◌, ◌≤◌, ◌+◌, ◌-◌, ℕ, List, [], Option, IsTrue, None, Some, OnOk, IfOk, slice_index};
-ghost use Rattle.envy_base.specs.declared.fields.Job.TheVariants.{Copy, Switch};
+ghost use Rattle.std.specs.Prelude.{◌≡◌, ◌*◌, ◌<◌, ◌+◌, ◌-◌, ℕ, Option, IsTrue, None, Some, OnOk, IfOk};
+ghost use Rattle.envy_base.specs.declared.fields.Job.TheVariants.{Copy};
 ghost use Rattle.envy_base.specs.declared.fields.Undo.TheVariants.{Clear};
 ghost use Rattle.envy_map.specs.Fields.{chart, undo};
-ghost use Rattle.envy_layout.specs.Jobs.{IsClear, IsCopiedWhole};
+ghost use Rattle.envy_layout.specs.Jobs.{IsCopiedWhole};
 ghost use Rattle.envy_layout.specs.May.{IsCopied};
 ghost use Rattle.envy_layout.specs.Naming.{AreParted};
 ghost use Rattle.envy_layout.specs.Power.{power_of};
 ghost use Rattle.envy_layout.specs.Same.{Same};
-ghost use Rattle.envy_layout.specs.Sound.{IsSound, IsPlaced, IsSpare};
-ghost use Rattle.envy_space.specs.Pool.{PoolAgrees};
-ghost use Rattle.envy_table.specs.Agreement.{AreCurrent};
-ghost use Rattle.envy_table.specs.Hits.{Rests};
+ghost use Rattle.envy_layout.specs.Sound.{IsSound, IsSpare};
+ghost use Rattle.envy_reloc.specs.Keeping.{PartsAgree, PartsFollow};
 ghost use Rattle.envy_reloc.specs.Settling.{KeepsOthers};
 ghost use Rattle.envy_reloc.specs.Switching.{SwitchesRow, SwitchesAll};
 ghost use Rattle.envy_reloc.specs.declared.switching.Switched.{Switched};
@@ -74,25 +72,14 @@ fn switch_noted<B: Board>(
 ) -> Result<(), Off>
     requires sound { IsSound (chart (B.state board.old)) }
     requires on { IsTrue (B.state board.old).on }
-    requires pool { PoolAgrees (B.state board.old).shape (chart (B.state board.old)).fields space.old }
-    requires cache { AreCurrent (B.state board.old).shape.pages (chart (B.state board.old)).fields.places
-        cache.old.entries }
-    requires parted { AreParted (chart (B.state board.old)).fields.slots (chart (B.state board.old)).fields.undos
-        (chart (B.state board.old)).fields.places }
+    requires agree { PartsAgree (chart (B.state board.old)) space.old cache.old.entries }
     requires row { i < (B.state board.old).shape.rows }
     requires spare { spare < (B.state board.old).shape.segments }
     requires copied { IsCopied (B.state board.old).shape (chart (B.state board.old)).fields spare i }
-    ensures rests { Rests cache.old cache.new }
+
     ensures same { Same 0 0 (chart (B.state board.old)) (chart (B.state board.new)) }
+    ensures follow { PartsFollow (chart (B.state board.new)) space.old space.new cache.old cache.new }
     ensures flash { OnOk result ((B.state board.new).flash ≡ (B.state board.old).flash) }
-    ensures pool { IsTrue (B.state board.new).on
-        → PoolAgrees (B.state board.new).shape (chart (B.state board.new)).fields space.new }
-    ensures cache { IsTrue (B.state board.new).on
-        → AreCurrent (B.state board.new).shape.pages (chart (B.state board.new)).fields.places cache.new.entries }
-    ensures shape { space.new.shape ≡ space.old.shape }
-    ensures parted { IsTrue (B.state board.new).on
-        → AreParted (chart (B.state board.new)).fields.slots (chart (B.state board.new)).fields.undos
-        (chart (B.state board.new)).fields.places }
     ensures switches { OnOk result ((switched : Option Switched)
         × SwitchesRow (B.state board.old).shape (chart (B.state board.old)).fields spare i switched
         (chart (B.state board.new)).fields) }
@@ -116,27 +103,16 @@ pub(crate) fn switch_segment<B: Board>(
 ) -> Result<(), Off>
     requires sound { IsSound (chart (B.state board.old)) }
     requires on { IsTrue (B.state board.old).on }
-    requires pool { PoolAgrees (B.state board.old).shape (chart (B.state board.old)).fields space.old }
-    requires cache { AreCurrent (B.state board.old).shape.pages (chart (B.state board.old)).fields.places
-        cache.old.entries }
-    requires parted { AreParted (chart (B.state board.old)).fields.slots (chart (B.state board.old)).fields.undos
-        (chart (B.state board.old)).fields.places }
+    requires agree { PartsAgree (chart (B.state board.old)) space.old cache.old.entries }
     requires segment { segment < (B.state board.old).shape.segments }
     requires spare { IsSpare (B.state board.old).shape (chart (B.state board.old)).fields.positions spare }
     requires copying { (chart (B.state board.old)).fields.job ≡ Some (Copy segment) }
     requires copied { IsCopiedWhole (B.state board.old).shape (chart (B.state board.old)).fields
         (B.state board.old).flash segment }
-    ensures rests { Rests cache.old cache.new }
+
     ensures same { Same 0 0 (chart (B.state board.old)) (chart (B.state board.new)) }
+    ensures follow { PartsFollow (chart (B.state board.new)) space.old space.new cache.old cache.new }
     ensures flash { OnOk result ((B.state board.new).flash ≡ (B.state board.old).flash) }
-    ensures pool { IsTrue (B.state board.new).on
-        → PoolAgrees (B.state board.new).shape (chart (B.state board.new)).fields space.new }
-    ensures cache { IsTrue (B.state board.new).on
-        → AreCurrent (B.state board.new).shape.pages (chart (B.state board.new)).fields.places cache.new.entries }
-    ensures parted { IsTrue (B.state board.new).on
-        → AreParted (chart (B.state board.new)).fields.slots (chart (B.state board.new)).fields.undos
-        (chart (B.state board.new)).fields.places }
-    ensures shape { space.new.shape ≡ space.old.shape }
     ensures switches { OnOk result
         (SwitchesAll (B.state board.old).shape segment spare (chart (B.state board.old)).fields
         (chart (B.state board.new)).fields) }

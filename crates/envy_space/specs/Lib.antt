@@ -1,4 +1,5 @@
 pub mod Bits
+pub mod Claiming
 pub mod Following
 pub mod Noting
 pub mod Order

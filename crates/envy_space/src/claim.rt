@@ -1,12 +1,13 @@
-ghost use Rattle.std.specs.Prelude.{◌≡◌, ◌+◌, ◌-◌, ◌<◌, false, ℕ, IsTrue, Some, IfOk, OnOk, slice_index};
+ghost use Rattle.std.specs.Prelude.{◌≡◌, ◌-◌, ◌<◌, false, ℕ, IsTrue, Some, IfOk, OnOk, slice_index};
 ghost use Rattle.envy_base.specs.declared.fields.Job.TheVariants.{Switch};
 ghost use Rattle.envy_map.specs.Fields.{chart};
-ghost use Rattle.envy_layout.specs.Claims.{IsUsable, FillsRise};
+ghost use Rattle.envy_layout.specs.Claims.{FillsRise};
 ghost use Rattle.envy_layout.specs.Jobs.{IsClear};
 ghost use Rattle.envy_layout.specs.Power.{power_of};
 ghost use Rattle.envy_layout.specs.Same.{Same};
-ghost use Rattle.envy_layout.specs.Sound.{IsSound, IsSpare};
-ghost use Rattle.envy_space.specs.Pool.{PoolAgrees, Claims, Claimed, Replaces, with_filled};
+ghost use Rattle.envy_layout.specs.Sound.{IsSound};
+ghost use Rattle.envy_space.specs.Claiming.{ClaimsRow, MayClaim};
+ghost use Rattle.envy_space.specs.Pool.{PoolAgrees, Replaces};
 
 use crate::Space;
 use envy_base::{Board, Off};
@@ -18,15 +19,12 @@ impl Space {
     /// before the fill is raised leaves the row free, and no fill is ever lowered. The array stays. Without
     /// power nothing changes.
     pub fn claim<B: Board>(&mut self, board: &mut B, segment: u32, page: u32) -> Result<u32, Off>
-        requires sound { IsTrue (B.state board.old).on → IsSound (chart (B.state board.old)) }
-        requires agrees { IsTrue (B.state board.old).on
-            → PoolAgrees (B.state board.old).shape (chart (B.state board.old)).fields self.old }
+        requires ready { IsTrue (B.state board.old).on → MayClaim (chart (B.state board.old)) self.old segment }
         requires shape { self.old.shape ≡ (B.state board.old).shape }
         requires segment { segment < self.old.shape.segments }
         requires page { page < self.old.shape.pages }
         requires room { slice_index self.old.fills segment < self.old.shape.rows }
-        requires usable { IsTrue (B.state board.old).on
-            → IsUsable (B.state board.old).shape (chart (B.state board.old)).fields segment }
+
         ensures same { IsSound (chart (B.state board.old))
             → Same 0 0 (chart (B.state board.old)) (chart (B.state board.new)) }
         ensures idle { (B.state board.old).on ≡ false → (B.state board.new ≡ B.state board.old)
@@ -35,11 +33,8 @@ impl Space {
             → PoolAgrees (B.state board.new).shape (chart (B.state board.new)).fields self.new }
         ensures shape { self.new.shape ≡ self.old.shape }
         ensures claims { IfOk result (λ row.
-            Claims (chart (B.state board.old)) segment page row (chart (B.state board.new))) }
-        ensures claimed { IfOk result (λ row. Claimed (chart (B.state board.new)) segment page row) }
+            ClaimsRow (chart (B.state board.old)) self.old segment page row (chart (B.state board.new)) self.new) }
         ensures rises { FillsRise (chart (B.state board.old)) (chart (B.state board.new)) }
-        ensures pool { IfOk result (λ _.
-            self.new ≡ with_filled segment (slice_index self.old.fills segment + 1) self.old) }
         ensures power { (B.state board.new).on ≡ power_of result }
     {
         if !board.powered() {
@@ -50,25 +45,20 @@ impl Space {
 
     // The same from a sound board.
     fn claim_row<B: Board>(&mut self, board: &mut B, segment: u32, page: u32) -> Result<u32, Off>
-        requires sound { IsSound (chart (B.state board.old)) }
-        requires agrees { IsTrue (B.state board.old).on
-            → PoolAgrees (B.state board.old).shape (chart (B.state board.old)).fields self.old }
+        requires on { IsTrue (B.state board.old).on }
+        requires ready { MayClaim (chart (B.state board.old)) self.old segment }
         requires shape { self.old.shape ≡ (B.state board.old).shape }
         requires segment { segment < self.old.shape.segments }
         requires page { page < self.old.shape.pages }
         requires room { slice_index self.old.fills segment < self.old.shape.rows }
-        requires usable { IsTrue (B.state board.old).on
-            → IsUsable (B.state board.old).shape (chart (B.state board.old)).fields segment }
+
         ensures same { Same 0 0 (chart (B.state board.old)) (chart (B.state board.new)) }
         ensures agrees { IsTrue (B.state board.new).on
             → PoolAgrees (B.state board.new).shape (chart (B.state board.new)).fields self.new }
         ensures shape { self.new.shape ≡ self.old.shape }
         ensures claims { IfOk result (λ row.
-            Claims (chart (B.state board.old)) segment page row (chart (B.state board.new))) }
-        ensures claimed { IfOk result (λ row. Claimed (chart (B.state board.new)) segment page row) }
+            ClaimsRow (chart (B.state board.old)) self.old segment page row (chart (B.state board.new)) self.new) }
         ensures rises { FillsRise (chart (B.state board.old)) (chart (B.state board.new)) }
-        ensures pool { IfOk result (λ _.
-            self.new ≡ with_filled segment (slice_index self.old.fills segment + 1) self.old) }
         ensures power { (B.state board.new).on ≡ power_of result }
     {
         let fill = self.fill(segment);

@@ -1,6 +1,7 @@
 pub mod Ending
 pub mod Entries
 pub mod Owners
+pub mod Owning
 pub mod Turns
 pub use Rattle.envy_base.specs.Shape
 pub use Rattle.envy_base.specs.State

@@ -1,11 +1,11 @@
-ghost use Rattle.std.specs.Prelude.{◌≡◌, ◌≢◌, ◌↔◌, ◌<◌, ◌≤◌, ℕ, false, IsTrue, [], ◌∷◌, ◌++◌, length, None, Some, IsErr, All, IsNone, IfOk, OnOk, OnErr};
+ghost use Rattle.std.specs.Prelude.{◌≡◌, ◌≢◌, ◌↔◌, ◌<◌, ◌≤◌, false, IsTrue, [], ◌∷◌, ◌++◌, length, None, Some, All, IsNone, IfOk, OnOk, OnErr};
 ghost use Rattle.envy_map.specs.Codes.{IsUndo};
-ghost use Rattle.envy_map.specs.Fields.{chart, with_fields};
-ghost use Rattle.envy_map.specs.Writes.{with_undo};
-ghost use Rattle.envy_layout.specs.May.{MayUndo};
+ghost use Rattle.envy_map.specs.Fields.{chart};
+ghost use Rattle.envy_layout.specs.Power.{power_of};
 ghost use Rattle.envy_layout.specs.Same.{SameWords};
-ghost use Rattle.envy_layout.specs.Sound.{IsSound, slot_named};
+ghost use Rattle.envy_layout.specs.Sound.{IsSound};
 ghost use Rattle.envy_txn.specs.Owners.{IsOwnership, AreOwned, owner_of, others_of};
+ghost use Rattle.envy_txn.specs.Owning.{MayOwn, Owns};
 
 use crate::ledger::Ledger;
 use crate::pair::Pair;
@@ -88,28 +88,23 @@ impl Owned {
     /// Gives a page to an open transaction: its undo is written, which names the words that a restart
     /// leaves of the page and goes on to leave. No word changes. Without power nothing changes.
     pub fn own<B: Board>(&mut self, board: &mut B, page: u32, undo: Undo) -> Result<(), Off>
-        requires sound { IsTrue (B.state board.old).on → IsSound (chart (B.state board.old)) }
-        requires agrees { let f = (chart (B.state board.old)).fields in
-            IsTrue (B.state board.old).on → AreOwned f.slots f.undos self.old.pairs }
+        requires ready { IsTrue (B.state board.old).on → MayOwn (chart (B.state board.old)) self.old.pairs page undo }
         requires limit { self.old.limit ≤ (B.state board.old).shape.shadows }
         requires page { page < (B.state board.old).shape.pages }
         requires undo { IsUndo undo }
         requires room { length self.old.pairs < self.old.limit }
         requires free { owner_of self.old.pairs page ≡ None }
-        requires may { IsTrue (B.state board.old).on
-            → MayUndo (B.state board.old).shape (chart (B.state board.old)).fields (B.state board.old).flash page undo }
+
         ensures same { IsSound (chart (B.state board.old))
             → SameWords 0 0 (chart (B.state board.old)) (chart (B.state board.new)) }
         ensures idle { (B.state board.old).on ≡ false → (B.state board.new ≡ B.state board.old)
             × (self.new ≡ self.old) }
         ensures agrees { let f = (chart (B.state board.new)).fields in
             IsTrue (B.state board.new).on → AreOwned f.slots f.undos self.new.pairs }
-        ensures fields { OnOk result (chart (B.state board.new) ≡ with_fields (chart (B.state board.old))
-            (with_undo page (Some undo) (chart (B.state board.old)).fields)) }
-        ensures newest { OnOk result ((t : ℕ) → slot_named (Some undo) ≡ Some t
-            → self.new ≡ record self.old { pairs = self.old.pairs ++ (record { page = page; slot = t }) ∷ [] }) }
+        ensures owns { OnOk result
+            (Owns page undo (chart (B.state board.old)) self.old (chart (B.state board.new)) self.new) }
         ensures unchanged { OnErr result (self.new ≡ self.old) }
-        ensures off { IsErr result ↔ ((B.state board.new).on ≡ false) }
+        ensures power { (B.state board.new).on ≡ power_of result }
     {
         let _ = &self.ledger;
         if !board.powered() {

@@ -1,14 +1,12 @@
-ghost use Rattle.std.specs.Prelude.{◌≡◌, ◌↔◌, ◌<◌, false, IsTrue, Some, IsErr, AllPairs, OnOk, OnErr};
-ghost use Rattle.envy_base.specs.declared.fields.Slot.TheVariants.{Active, Committed};
-ghost use Rattle.envy_map.specs.Fields.{chart, with_fields, slot as slot_of, undo as undo_of};
+ghost use Rattle.std.specs.Prelude.{◌≡◌, ◌<◌, false, IsTrue, Some, AllPairs, OnOk, OnErr};
+ghost use Rattle.envy_base.specs.declared.fields.Slot.TheVariants.{Active};
+ghost use Rattle.envy_map.specs.Fields.{chart, with_fields, undo as undo_of};
 ghost use Rattle.envy_map.specs.Writes.{with_slot, with_undo};
-ghost use Rattle.envy_layout.specs.May.{IsUnused};
-ghost use Rattle.envy_layout.specs.Naming.{AreParted};
+ghost use Rattle.envy_layout.specs.Power.{power_of};
 ghost use Rattle.envy_layout.specs.Same.{SameWords};
 ghost use Rattle.envy_layout.specs.Sound.{IsSound, slot_named};
-ghost use Rattle.envy_space.specs.Pool.{PoolAgrees};
-ghost use Rattle.envy_txn.specs.Owners.{AreApart, AreOwned, others_of};
-ghost use Rattle.envy_txn.specs.Ending.{Releases};
+ghost use Rattle.envy_txn.specs.Owners.{AreApart, AreOwned};
+ghost use Rattle.envy_txn.specs.Owning.{OwnersAgree, ReleasesAll};
 ghost use Rattle.envy_txn.specs.Turns.{AreNamed, Releasing, ReleasedIn, IsDroppable, dropped_pool};
 
 use crate::owned::Owned;
@@ -30,33 +28,23 @@ impl Owned {
         space: &mut Space,
         t: u8,
     ) -> Result<(), Off>
-        requires sound { IsTrue (B.state board.old).on → IsSound (chart (B.state board.old)) }
+        requires releasing { IsTrue (B.state board.old).on → Releasing (chart (B.state board.old)) space.old t }
         requires slot { t < 64 }
-        requires committed { IsTrue (B.state board.old).on
-            → slot_of (chart (B.state board.old)).fields t ≡ Some Committed }
         requires owned { let f = with_slot t (Some Active) (chart (B.state board.old)).fields in
             IsTrue (B.state board.old).on → AreOwned f.slots f.undos self.old.pairs }
-        requires pool { let f = with_slot t (Some Active) (chart (B.state board.old)).fields in
-            IsTrue (B.state board.old).on → PoolAgrees (B.state board.old).shape f space.old }
-        requires parted { let f = with_slot t (Some Active) (chart (B.state board.old)).fields in
-            IsTrue (B.state board.old).on → AreParted f.slots f.undos f.places }
         requires shape { space.old.shape ≡ (B.state board.old).shape }
+
         ensures same { IsSound (chart (B.state board.old))
             → SameWords 0 0 (chart (B.state board.old)) (chart (B.state board.new)) }
         ensures idle { (B.state board.old).on ≡ false → (B.state board.new ≡ B.state board.old) × (self.new ≡ self.old)
             × (space.new ≡ space.old) }
-        ensures releases { OnOk result (Releases t (chart (B.state board.old)) (chart (B.state board.new))) }
-        ensures unused { OnOk result (IsUnused (chart (B.state board.new)).fields t) }
-        ensures owned { let f = (chart (B.state board.new)).fields in
-            IsTrue (B.state board.new).on → AreOwned f.slots f.undos self.new.pairs }
-        ensures pool { IsTrue (B.state board.new).on
-            → PoolAgrees (B.state board.new).shape (chart (B.state board.new)).fields space.new }
-        ensures parted { let f = (chart (B.state board.new)).fields in
-            IsTrue (B.state board.new).on → AreParted f.slots f.undos f.places }
-        ensures pairs { OnOk result (self.new ≡ record self.old { pairs = others_of t self.old.pairs }) }
+        ensures releases { OnOk result
+            (ReleasesAll t (chart (B.state board.old)) self.old (chart (B.state board.new)) self.new) }
+        ensures agrees { IsTrue (B.state board.new).on
+            → OwnersAgree (chart (B.state board.new)) self.new.pairs space.new }
         ensures unchanged { OnErr result (self.new ≡ self.old) }
         ensures shape { space.new.shape ≡ space.old.shape }
-        ensures off { IsErr result ↔ ((B.state board.new).on ≡ false) }
+        ensures power { (B.state board.new).on ≡ power_of result }
     {
         if !board.powered() {
             return Err(Off);
@@ -82,7 +70,7 @@ fn release_pairs<B: Board>(
     ensures releasing { OnOk result (Releasing (chart (B.state board.new)) space.new t) }
     ensures released { OnOk result (ReleasedIn pairs.now t (chart (B.state board.old)) (chart (B.state board.new))) }
     ensures shape { space.new.shape ≡ space.old.shape }
-    ensures off { OnErr result ((B.state board.new).on ≡ false) }
+    ensures power { (B.state board.new).on ≡ power_of result }
 {
     for pair in pairs {
         release_page(board, space, pair.page, t)?;
@@ -100,7 +88,7 @@ fn release_page<B: Board>(board: &mut B, space: &mut Space, page: u32, t: u8) ->
         (with_undo page (Some Undo.Clear) (chart (B.state board.old)).fields)) }
     ensures releasing { OnOk result (Releasing (chart (B.state board.new)) space.new t) }
     ensures shape { space.new.shape ≡ space.old.shape }
-    ensures off { OnErr result ((B.state board.new).on ≡ false) }
+    ensures power { (B.state board.new).on ≡ power_of result }
 {
     let undo = undo(board, page)?;
     clear_settled_undo(board, page)?;

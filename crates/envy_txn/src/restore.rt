@@ -1,20 +1,15 @@
-ghost use Rattle.std.specs.Prelude.{◌≡◌, ◌↔◌, ◌<◌, ◌==◌, ℕ, not, false, IsTrue, Some, IsErr, AllPairs, Any, OnOk, OnErr};
+ghost use Rattle.std.specs.Prelude.{◌≡◌, ◌<◌, ◌==◌, ℕ, not, false, IsTrue, Some, AllPairs, Any, OnOk, OnErr};
 ghost use Rattle.std.specs.List.{filter};
 ghost use Rattle.envy_base.specs.declared.fields.Place.{Place as APlace};
-ghost use Rattle.envy_base.specs.declared.fields.Slot.TheVariants.{Active};
-ghost use Rattle.envy_map.specs.Fields.{chart, with_fields, slot as slot_of, undo as undo_of};
+ghost use Rattle.envy_map.specs.Fields.{chart, with_fields, undo as undo_of};
 ghost use Rattle.envy_map.specs.Writes.{with_place, with_undo};
-ghost use Rattle.envy_layout.specs.May.{IsUnused};
-ghost use Rattle.envy_layout.specs.Naming.{AreParted};
+ghost use Rattle.envy_layout.specs.Power.{power_of};
 ghost use Rattle.envy_layout.specs.Same.{SameDurable};
 ghost use Rattle.envy_layout.specs.Sound.{IsSound, slot_named};
 ghost use Rattle.envy_layout.specs.Words.{kept};
-ghost use Rattle.envy_frames.specs.Agreement.{AreHeld};
-ghost use Rattle.envy_space.specs.Pool.{PoolAgrees};
-ghost use Rattle.envy_table.specs.Agreement.{AreCurrent};
 ghost use Rattle.envy_table.specs.Hits.{Rests};
-ghost use Rattle.envy_txn.specs.Owners.{AreApart, AreOwned, names_slot, others_of};
-ghost use Rattle.envy_txn.specs.Ending.{Restores};
+ghost use Rattle.envy_txn.specs.Owners.{AreApart, AreOwned};
+ghost use Rattle.envy_txn.specs.Owning.{RestoresAll, TurnsAgree};
 ghost use Rattle.envy_txn.specs.Turns.{AreNamed, Restoring, RestoredIn, IsLeavable, is_among, left_pool, left_held};
 
 use crate::owned::Owned;
@@ -39,45 +34,26 @@ impl Owned {
         cache: &mut Cache,
         t: u8,
     ) -> Result<(), Off>
-        requires sound { IsTrue (B.state board.old).on → IsSound (chart (B.state board.old)) }
+        requires restoring { IsTrue (B.state board.old).on
+            → Restoring (chart (B.state board.old)) space.old frames.old.held cache.old.entries t }
         requires slot { t < 64 }
-        requires active { IsTrue (B.state board.old).on → slot_of (chart (B.state board.old)).fields t ≡ Some Active }
         requires owned { let f = (chart (B.state board.old)).fields in
             IsTrue (B.state board.old).on → AreOwned f.slots f.undos self.old.pairs }
-        requires pool { IsTrue (B.state board.old).on
-            → PoolAgrees (B.state board.old).shape (chart (B.state board.old)).fields space.old }
-        requires held { IsTrue (B.state board.old).on
-            → AreHeld (B.state board.old).shape (chart (B.state board.old)).fields.places frames.old.held }
-        requires current { IsTrue (B.state board.old).on
-            → AreCurrent (B.state board.old).shape.pages (chart (B.state board.old)).fields.places cache.old.entries }
-        requires parted { let f = (chart (B.state board.old)).fields in
-            IsTrue (B.state board.old).on → AreParted f.slots f.undos f.places }
         requires shape { space.old.shape ≡ (B.state board.old).shape }
+
         ensures durable { IsSound (chart (B.state board.old))
             → SameDurable 0 0 (chart (B.state board.old)) (chart (B.state board.new)) }
         ensures idle { (B.state board.old).on ≡ false
             → (B.state board.new ≡ B.state board.old) × (self.new ≡ self.old) × (space.new ≡ space.old)
             × (frames.new ≡ frames.old) × (cache.new ≡ cache.old) }
-        ensures restores { OnOk result (Restores t (chart (B.state board.old)) (chart (B.state board.new))) }
-        ensures unused { OnOk result (IsUnused (chart (B.state board.new)).fields t) }
-        ensures owned { let f = (chart (B.state board.new)).fields in
-            IsTrue (B.state board.new).on → AreOwned f.slots f.undos self.new.pairs }
-        ensures pool { IsTrue (B.state board.new).on
-            → PoolAgrees (B.state board.new).shape (chart (B.state board.new)).fields space.new }
-        ensures held { IsTrue (B.state board.new).on
-            → AreHeld (B.state board.new).shape (chart (B.state board.new)).fields.places frames.new.held }
-        ensures current { IsTrue (B.state board.new).on
-            → AreCurrent (B.state board.new).shape.pages (chart (B.state board.new)).fields.places cache.new.entries }
-        ensures parted { let f = (chart (B.state board.new)).fields in
-            IsTrue (B.state board.new).on → AreParted f.slots f.undos f.places }
-        ensures pairs { OnOk result (self.new ≡ record self.old { pairs = others_of t self.old.pairs }) }
+        ensures restores { OnOk result (RestoresAll t (chart (B.state board.old)) self.old frames.old.held
+            (chart (B.state board.new)) self.new frames.new.held) }
+        ensures agrees { IsTrue (B.state board.new).on
+            → TurnsAgree (chart (B.state board.new)) self.new.pairs space.new frames.new.held cache.new.entries }
         ensures unchanged { OnErr result (self.new ≡ self.old) }
-        ensures left { let f = (chart (B.state board.old)).fields in
-            OnOk result (frames.new.held ≡ filter (λ h. not (names_slot t (undo_of f h.page))) frames.old.held) }
-        ensures count { frames.new.count ≡ frames.old.count }
         ensures rests { Rests cache.old cache.new }
-        ensures shape { space.new.shape ≡ space.old.shape }
-        ensures off { IsErr result ↔ ((B.state board.new).on ≡ false) }
+        ensures sizes { (space.new.shape ≡ space.old.shape) × (frames.new.count ≡ frames.old.count) }
+        ensures power { (B.state board.new).on ≡ power_of result }
     {
         if !board.powered() {
             return Err(Off);
@@ -109,7 +85,7 @@ fn restore_pairs<B: Board>(
     ensures count { frames.new.count ≡ frames.old.count }
     ensures rests { Rests cache.old cache.new }
     ensures shape { space.new.shape ≡ space.old.shape }
-    ensures off { OnErr result ((B.state board.new).on ≡ false) }
+    ensures power { (B.state board.new).on ≡ power_of result }
 {
     for pair in pairs {
         restore_page(board, space, frames, cache, pair.page, t)?;
@@ -139,7 +115,7 @@ fn restore_page<B: Board>(
     ensures count { frames.new.count ≡ frames.old.count }
     ensures rests { Rests cache.old cache.new }
     ensures shape { space.new.shape ≡ space.old.shape }
-    ensures off { OnErr result ((B.state board.new).on ≡ false) }
+    ensures power { (B.state board.new).on ≡ power_of result }
 {
     let now = place(board, page)?;
     let Some(back) = place_in(undo(board, page)?) else {

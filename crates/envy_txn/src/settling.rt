@@ -1,6 +1,7 @@
-ghost use Rattle.std.specs.Prelude.{◌≡◌, ◌↔◌, ◌+◌, ◌<◌, ◌≤◌, ℕ, false, IsTrue, Some, IsErr, IfOk, OnOk, OnErr};
+ghost use Rattle.std.specs.Prelude.{◌≡◌, ◌+◌, ◌<◌, ◌≤◌, ℕ, false, IsTrue, Some, IfOk, OnOk, OnErr};
 ghost use Rattle.envy_base.specs.declared.fields.Undo.TheVariants.{Clear};
 ghost use Rattle.envy_map.specs.Fields.{Chart, chart, undo as undo_of};
+ghost use Rattle.envy_layout.specs.Power.{power_of};
 ghost use Rattle.envy_layout.specs.Same.{SameDurable, SameWords};
 ghost use Rattle.envy_layout.specs.Sound.{IsSound, slots_of};
 ghost use Rattle.envy_txn.specs.Ending.{Settles};
@@ -20,7 +21,7 @@ pub fn settle<B: Board>(board: &mut B) -> Result<(), Off>
         → SameDurable 0 0 (chart (B.state board.old)) (chart (B.state board.new)) }
     ensures idle { (B.state board.old).on ≡ false → B.state board.new ≡ B.state board.old }
     ensures settles { OnOk result (Settles (chart (B.state board.old)) (chart (B.state board.new))) }
-    ensures off { IsErr result ↔ ((B.state board.new).on ≡ false) }
+    ensures power { (B.state board.new).on ≡ power_of result }
 {
     if !board.powered() {
         return Err(Off);
@@ -37,8 +38,7 @@ fn settle_pages<B: Board>(board: &mut B) -> Result<(), Off>
     ensures durable { SameDurable 0 0 (chart (B.state board.old)) (chart (B.state board.new)) }
     ensures settled { OnOk result (SettledTo (B.state board.old).shape.pages (chart (B.state board.old))
         (chart (B.state board.new))) }
-    ensures on { OnOk result (IsTrue (B.state board.new).on) }
-    ensures off { OnErr result ((B.state board.new).on ≡ false) }
+    ensures power { (B.state board.new).on ≡ power_of result }
 {
     let pages = board.shape().pages;
     for page in 0..pages {
@@ -55,8 +55,7 @@ fn settle_page<B: Board>(board: &mut B, page: u32) -> Result<(), Off>
     ensures durable { SameDurable 0 0 (chart (B.state board.old)) (chart (B.state board.new)) }
     ensures settled { OnOk result ((c : Chart) → SettledTo page c (chart (B.state board.old))
         → SettledTo (page + 1) c (chart (B.state board.new))) }
-    ensures on { OnOk result (IsTrue (B.state board.new).on) }
-    ensures off { OnErr result ((B.state board.new).on ≡ false) }
+    ensures power { (B.state board.new).on ≡ power_of result }
 {
     let undo = undo(board, page)?;
     let (Some(t), Some(back)) = (slot_in(undo), place_in(undo)) else {
@@ -80,8 +79,7 @@ fn vacate_slots<B: Board>(board: &mut B) -> Result<(), Off>
     ensures vacated { OnOk result
         (VacatedTo (slots_of (chart (B.state board.old)).fields.version) (chart (B.state board.old))
         (chart (B.state board.new))) }
-    ensures on { OnOk result (IsTrue (B.state board.new).on) }
-    ensures off { OnErr result ((B.state board.new).on ≡ false) }
+    ensures power { (B.state board.new).on ≡ power_of result }
 {
     let count = slot_count(board)?;
     for t in 0..count {
@@ -100,8 +98,7 @@ fn vacate_slot<B: Board>(board: &mut B, t: u8) -> Result<(), Off>
     ensures same { SameWords 0 0 (chart (B.state board.old)) (chart (B.state board.new)) }
     ensures vacated { OnOk result ((c : Chart) → VacatedTo t c (chart (B.state board.old))
         → VacatedTo (t + 1) c (chart (B.state board.new))) }
-    ensures on { OnOk result (IsTrue (B.state board.new).on) }
-    ensures off { OnErr result ((B.state board.new).on ≡ false) }
+    ensures power { (B.state board.new).on ≡ power_of result }
 {
     if slot(board, t)? == Slot::Vacant {
         return Ok(());

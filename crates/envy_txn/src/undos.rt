@@ -1,8 +1,9 @@
-ghost use Rattle.std.specs.Prelude.{◌≡◌, ◌<◌, true, false, IsTrue, Some, IfSome, OnOk, OnErr};
+ghost use Rattle.std.specs.Prelude.{◌≡◌, ◌<◌, true, IsTrue, Some, IfSome, OnOk};
 ghost use Rattle.envy_map.specs.Codes.{IsPlace, IsUndo};
 ghost use Rattle.envy_map.specs.Fields.{chart, with_fields, undo as undo_of};
 ghost use Rattle.envy_map.specs.Writes.{with_place, with_undo};
 ghost use Rattle.envy_layout.specs.May.{named_by};
+ghost use Rattle.envy_layout.specs.Power.{power_of};
 ghost use Rattle.envy_layout.specs.Same.{SameDurable};
 ghost use Rattle.envy_layout.specs.Sound.{IsSound, owned_by, slot_named};
 ghost use Rattle.envy_layout.specs.Words.{kept};
@@ -43,8 +44,7 @@ pub fn put_back<B: Board>(board: &mut B, page: u32, back: Place) -> Result<(), O
     ensures durable { SameDurable 0 0 (chart (B.state board.old)) (chart (B.state board.new)) }
     ensures fields { OnOk result (chart (B.state board.new) ≡ with_fields (chart (B.state board.old))
         (with_undo page (Some Undo.Clear) (with_place page (Some back) (chart (B.state board.old)).fields))) }
-    ensures on { OnOk result (IsTrue (B.state board.new).on) }
-    ensures off { OnErr result ((B.state board.new).on ≡ false) }
+    ensures power { (B.state board.new).on ≡ power_of result }
 {
     restore_place(board, page, back)?;
     clear_settled_undo(board, page)?;

@@ -14,7 +14,7 @@ returns-clause-same g c =
     let raised = c.in_ok-raise_wear.ensures.writes in
     Same-raised (chart (g.B.Board.state c.args.board.now)) (g.B.Board.state c.raise_wear.new.board) (g.B.Board.state c.erase-answer.new.self) c.args.segment c.erase-answer.result
     (record {
-      can = record { sound = c.requires.sound; job = c.requires.erasing raised.0; spare = c.requires.spare raised.0 };
+      can = record { sound = c.requires.sound; job = (c.requires.erasing raised.0).0; spare = (c.requires.erasing raised.0).1 };
       on = raised.0;
       raised = raised.1;
       long = IsBoard.erases (g.met.B.Board.lawful c.raise_wear.new.board);
@@ -24,19 +24,13 @@ returns-clause-same g c =
 pub returns-clause-counts : goal.returns-clause-counts
 returns-clause-counts g c =
     let old = chart (g.B.Board.state c.args.board.now) in
+    let new = chart (g.B.Board.state c.erase-answer.new.self) in
+    let e = c.args.segment in
     let raised = c.in_ok-raise_wear.ensures.writes.1 in
     let long = IsBoard.erases (g.met.B.Board.lawful c.args.board.now) in
     let same : (chart (g.B.Board.state c.raise_wear.new.board)).erases ≡ old.erases = ap (λ (x : Chart). x.erases) raised in
-    tally-erased old.erases (chart (g.B.Board.state c.erase-answer.new.self)).erases c.args.segment c.args.count.now c.one_more.result (rw long c.requires.segment)
-    (Began.erases (began (g.B.Board.state c.raise_wear.new.board) (g.B.Board.state c.erase-answer.new.self) c.args.segment c.erase-answer.result c.in_ok-raise_wear.ensures.power c.erase-answer.ensures) ∙ ap (λ (xs : List ℕ). set xs c.args.segment (up (get_or xs c.args.segment 0))) same)
-    c.one_more.ensures
-
-pub returns-clause-counts_since : goal.returns-clause-counts_since
-returns-clause-counts_since g c =
-    let old = chart (g.B.Board.state c.args.board.now) in
-    let raised = c.in_ok-raise_wear.ensures.writes.1 in
-    let long = IsBoard.erases (g.met.B.Board.lawful c.args.board.now) in
-    let same : (chart (g.B.Board.state c.raise_wear.new.board)).erases ≡ old.erases = ap (λ (x : Chart). x.erases) raised in
-    tally-erased old.erases (chart (g.B.Board.state c.erase-answer.new.self)).erases c.args.segment c.args.since.now c.one_more-2.result (rw long c.requires.segment)
-    (Began.erases (began (g.B.Board.state c.raise_wear.new.board) (g.B.Board.state c.erase-answer.new.self) c.args.segment c.erase-answer.result c.in_ok-raise_wear.ensures.power c.erase-answer.ensures) ∙ ap (λ (xs : List ℕ). set xs c.args.segment (up (get_or xs c.args.segment 0))) same)
-    c.one_more-2.ensures
+    let erased = Began.erases (began (g.B.Board.state c.raise_wear.new.board) (g.B.Board.state c.erase-answer.new.self) e c.erase-answer.result c.in_ok-raise_wear.ensures.power c.erase-answer.ensures)
+    ∙ ap (λ (xs : List ℕ). set xs e (up (get_or xs e 0))) same in (
+      tally-erased old.erases new.erases e c.args.count.now c.one_more.result (rw long c.requires.segment) erased c.one_more.ensures,
+      tally-erased old.erases new.erases e c.args.since.now c.one_more-2.result (rw long c.requires.segment) erased c.one_more-2.ensures,
+    )

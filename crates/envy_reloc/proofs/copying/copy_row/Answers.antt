@@ -1,10 +1,11 @@
-use Rattle.std.proofs.Common.{◌≡◌, ◌∙◌, ℕ, ◌*◌, List, get_or, ap, arith}
+use Rattle.std.proofs.Common.{◌≡◌, ◌∙◌, inr, ℕ, ◌*◌, List, get_or, sym, ap, subst, arith}
 use Rattle.envy_base.specs.Shape.{IsShape}
 use Rattle.envy_base.specs.State.{IsBoard}
 use Rattle.envy_base.specs.declared.shape.Shape.{Shape}
-use Rattle.envy_map.specs.Fields.{chart}
+use Rattle.envy_map.specs.Fields.{Chart, chart}
+use Rattle.envy_layout.specs.Claims.{IsUsable}
 use Rattle.envy_layout.specs.Same.{Same, Stays, Framed}
-use Rattle.envy_space.specs.Pool.{IsPoolOf}
+use Rattle.envy_space.specs.Pool.{IsPoolOf, PoolAgrees}
 use Rattle.envy_reloc.specs.Rows.{IsLeft}
 use Rattle.envy_layout.proofs.KeptLemmas.{Names-range}
 use Rattle.envy_reloc.proofs.CopyLemmas.{room-left}
@@ -16,16 +17,26 @@ note_origin-requires-clause-place g c =
     let old = chart (g.B.Board.state c.args.board.now) in
     let shape = IsBoard.shape (g.met.B.Board.lawful c.args.board.now) in
     let some = IsShape.rows shape in
-    let room = room-left old.shape old.fields old.flash c.requires.copies.0 c.args.spare c.args.left.row c.requires.sound (omega arith) c.requires.copies.3 c.requires.copies.2 (IsLeft.uncopied c.requires.left) in
+    let room = room-left old.shape old.fields old.flash c.requires.copy.v c.args.spare c.args.left.row c.requires.sound (omega arith) c.requires.copy.copies c.requires.copy.segment (IsLeft.uncopied c.requires.copy.left) in
     let fill : c.fill-filled.result ≡ get_or old.fields.fills c.args.spare 0 = c.fill-filled.ensures.fill ∙ ap (λ (xs : List ℕ). get_or xs c.args.spare 0) (IsPoolOf.fills c.requires.pool) in
     omega arith
+
+pub claim-requires-clause-ready : goal.claim-requires-clause-ready
+claim-requires-clause-ready g c on =
+    let old = chart (g.B.Board.state c.args.board.now) in
+    let fields = c.in_ok-note_origin.ensures.fields in
+    record {
+      sound = Stays.sound (Same.stays c.note_origin.ensures.same);
+      agrees = subst (λ (x : Chart). PoolAgrees x.shape x.fields c.args.space.now) (sym fields) c.requires.pool;
+      usable = subst (λ (x : Chart). IsUsable x.shape x.fields c.args.spare) (sym fields) (inr ((c.requires.copy.v, c.requires.copy.copying), c.requires.copy.spare));
+    }
 
 pub claim-requires-clause-room : goal.claim-requires-clause-room
 claim-requires-clause-room g c =
     let old = chart (g.B.Board.state c.args.board.now) in
     let shape = IsBoard.shape (g.met.B.Board.lawful c.args.board.now) in
     let some = IsShape.rows shape in
-    let room = room-left old.shape old.fields old.flash c.requires.copies.0 c.args.spare c.args.left.row c.requires.sound (omega arith) c.requires.copies.3 c.requires.copies.2 (IsLeft.uncopied c.requires.left) in
+    let room = room-left old.shape old.fields old.flash c.requires.copy.v c.args.spare c.args.left.row c.requires.sound (omega arith) c.requires.copy.copies c.requires.copy.segment (IsLeft.uncopied c.requires.copy.left) in
     let fill : get_or c.args.space.now.fills c.args.spare 0 ≡ get_or old.fields.fills c.args.spare 0 = ap (λ (xs : List ℕ). get_or xs c.args.spare 0) (IsPoolOf.fills c.requires.pool) in
     let rows : c.args.space.now.shape.rows ≡ old.shape.rows = ap (λ (sh : Shape). sh.rows) (IsPoolOf.shape c.requires.pool) in
     omega arith
@@ -36,7 +47,7 @@ read_row-requires g c =
     let long = IsBoard.rows (g.met.B.Board.lawful c.claim.new.board) in
     let same = Framed.shape (Stays.framed (Same.stays c.note_origin.ensures.same)) in
     let again = Framed.shape (Stays.framed (Same.stays (c.claim.ensures.same (Stays.sound (Same.stays c.note_origin.ensures.same))))) in
-    let kept = IsLeft.kept c.requires.left in
+    let kept = IsLeft.kept c.requires.copy.left in
     let range = Names-range old.shape old.fields old.flash kept.0 c.args.left.row c.requires.sound kept.1 in
     let size = long ∙ ap (λ (sh : Shape). sh.segments * sh.rows) (again ∙ same) in
     omega arith

@@ -1,5 +1,5 @@
 use Rattle.std.proofs.Common.{◌∙◌, ℕ, List, get_or, ap, subst}
-use Rattle.std.specs.Prelude.{Some}
+use Rattle.std.specs.Prelude.{Some, IsTrue}
 use Rattle.envy_base.specs.Counting.{up}
 use Rattle.envy_base.specs.State.{IsBoard}
 use Rattle.envy_base.specs.declared.shape.Shape.{Shape}
@@ -8,7 +8,7 @@ use Rattle.envy_map.specs.Fields.{Fields, Chart, chart}
 use Rattle.envy_map.specs.Writes.{with_fill, with_job}
 use Rattle.envy_layout.specs.Same.{Same, Stays, Framed}
 use Rattle.envy_layout.specs.Sound.{IsSpare}
-use Rattle.envy_space.specs.Pool.{IsPoolOf}
+use Rattle.envy_space.specs.Pool.{Pool, IsPoolOf}
 use Rattle.envy_reloc.proofs.EndLemmas.{none-kept, BlankSpare-made, PoolAgrees-erased}
 use Rattle.envy_layout.proofs.Sames.{then_same}
 use Rattle.envy_reloc.proofs.ending.erase.Goals as goal
@@ -49,12 +49,13 @@ returns-clause-same g c =
     let empty = chart (g.B.Board.state c.empty_spare.new.board) in
     then_same 0 1 old empty (chart (g.B.Board.state c.end_job.new.board)) (then_same 0 1 old mid empty c.erase_counted.ensures.same c.empty_spare.ensures.same) c.end_job.ensures.same
 
-pub returns-clause-pool : goal.returns-clause-pool
-returns-clause-pool g c on =
+pub returns-clause-follow : goal.returns-clause-follow
+returns-clause-follow g c =
     let old = chart (g.B.Board.state c.args.board.now) in
     let new = chart (g.B.Board.state c.end_job.new.board) in
     let e = c.spare-spare.result in
-    PoolAgrees-erased old new e (up (get_or old.fields.wears e 0)) c.args.space.now c.note_erased.new.self c.requires.pool
+    let pooled = λ (on : IsTrue new.on). PoolAgrees-erased old new e (up (get_or old.fields.wears e 0)) c.args.space.now c.note_erased.new.self c.requires.pool
     (Framed.shape (Stays.framed (Same.stays c.end_job.ensures.same)) ∙ Framed.shape (Stays.framed (Same.stays c.empty_spare.ensures.same)) ∙ Framed.shape (Stays.framed (Same.stays c.erase_counted.ensures.same)))
     (ap (λ (x : Chart). x.fields) c.in_ok-end_job.ensures.fields ∙ ap (λ (x : Chart). with_job (Some Idle) x.fields) c.in_ok-empty_spare.ensures.fields ∙ ap (λ (f : Fields). with_job (Some Idle) (with_fill e 0 f)) (c.erase_counted.ensures.fields c.in_ok-erase_counted.ensures.power))
-    c.note_erased.ensures
+    c.note_erased.ensures in
+    record { pool = pooled; shape = ap (λ (p : Pool). p.shape) c.note_erased.ensures }

@@ -18,7 +18,7 @@ follow-requires-clause-some g c =
     let shape = Framed.shape (Stays.framed (Same.stays c.switch_row.ensures.same)) in
     let sound = subst (λ (fl : List (List ℕ)). Sound old.shape new.fields fl) c.in_ok-switched.ensures.flash (subst (λ (sh : Shape). Sound sh new.fields new.flash) shape (Stays.sound (Same.stays c.switch_row.ensures.same))) in
     let switches = subst (λ (s : Option Switched). SwitchesRow old.shape old.fields c.args.spare c.args.i s new.fields) c.in-Some.is c.in_ok-switched.ensures.switches in
-    Followed.some (Followed-switched old.shape old.fields new.fields old.flash c.args.spare c.args.i (c.args.spare * c.shape.result.rows + c.args.i) c.in-Some.switched c.args.space.now c.requires.sound sound c.requires.parted c.requires.pool c.requires.copied c.requires.spare c.requires.row (ap (λ (sh : Shape). c.args.spare * sh.rows + c.args.i) c.shape.ensures) switches)
+    Followed.some (Followed-switched old.shape old.fields new.fields old.flash c.args.spare c.args.i (c.args.spare * c.shape.result.rows + c.args.i) c.in-Some.switched c.args.space.now c.requires.sound sound c.requires.agree.parted c.requires.agree.pool c.requires.copied c.requires.spare c.requires.row (ap (λ (sh : Shape). c.args.spare * sh.rows + c.args.i) c.shape.ensures) switches)
 
 pub follow-requires-clause-room : goal.follow-requires-clause-room
 follow-requires-clause-room g c =
@@ -27,30 +27,23 @@ follow-requires-clause-room g c =
     let shape = Framed.shape (Stays.framed (Same.stays c.switch_row.ensures.same)) in
     let sound = subst (λ (fl : List (List ℕ)). Sound old.shape new.fields fl) c.in_ok-switched.ensures.flash (subst (λ (sh : Shape). Sound sh new.fields new.flash) shape (Stays.sound (Same.stays c.switch_row.ensures.same))) in
     let switches = subst (λ (s : Option Switched). SwitchesRow old.shape old.fields c.args.spare c.args.i s new.fields) c.in-Some.is c.in_ok-switched.ensures.switches in
-    Followed.room (Followed-switched old.shape old.fields new.fields old.flash c.args.spare c.args.i (c.args.spare * c.shape.result.rows + c.args.i) c.in-Some.switched c.args.space.now c.requires.sound sound c.requires.parted c.requires.pool c.requires.copied c.requires.spare c.requires.row (ap (λ (sh : Shape). c.args.spare * sh.rows + c.args.i) c.shape.ensures) switches)
+    Followed.room (Followed-switched old.shape old.fields new.fields old.flash c.args.spare c.args.i (c.args.spare * c.shape.result.rows + c.args.i) c.in-Some.switched c.args.space.now c.requires.sound sound c.requires.agree.parted c.requires.agree.pool c.requires.copied c.requires.spare c.requires.row (ap (λ (sh : Shape). c.args.spare * sh.rows + c.args.i) c.shape.ensures) switches)
 
-pub returns-clause-pool : goal.returns-clause-pool
-returns-clause-pool g c on =
+pub returns-clause-follow : goal.returns-clause-follow
+returns-clause-follow g c =
     let old = chart (g.B.Board.state c.args.board.now) in
     let new = chart (g.B.Board.state c.switch_row.new.board) in
+    let copy = c.args.spare * c.shape.result.rows + c.args.i in
+    let is = ap (λ (sh : Shape). c.args.spare * sh.rows + c.args.i) c.shape.ensures in
     let shape = Framed.shape (Stays.framed (Same.stays c.switch_row.ensures.same)) in
     let sound = subst (λ (fl : List (List ℕ)). Sound old.shape new.fields fl) c.in_ok-switched.ensures.flash (subst (λ (sh : Shape). Sound sh new.fields new.flash) shape (Stays.sound (Same.stays c.switch_row.ensures.same))) in
     let switches = subst (λ (s : Option Switched). SwitchesRow old.shape old.fields c.args.spare c.args.i s new.fields) c.in-Some.is c.in_ok-switched.ensures.switches in
-    let followed = Followed-switched old.shape old.fields new.fields old.flash c.args.spare c.args.i (c.args.spare * c.shape.result.rows + c.args.i) c.in-Some.switched c.args.space.now c.requires.sound sound c.requires.parted c.requires.pool c.requires.copied c.requires.spare c.requires.row (ap (λ (sh : Shape). c.args.spare * sh.rows + c.args.i) c.shape.ensures) switches in
-    subst (λ (sh : Shape). PoolAgrees sh new.fields c.follow.new.space) (sym shape) (subst (λ (p : Pool). PoolAgrees old.shape new.fields p) (sym c.follow.ensures.space) (Followed.agrees followed))
-
-pub returns-clause-cache : goal.returns-clause-cache
-returns-clause-cache g c on =
-    let old = chart (g.B.Board.state c.args.board.now) in
-    let new = chart (g.B.Board.state c.switch_row.new.board) in
-    let shape = Framed.shape (Stays.framed (Same.stays c.switch_row.ensures.same)) in
-    let switches = subst (λ (s : Option Switched). SwitchesRow old.shape old.fields c.args.spare c.args.i s new.fields) c.in-Some.is c.in_ok-switched.ensures.switches in
-    subst (λ (sh : Shape). AreCurrent sh.pages new.fields.places c.follow.new.cache.entries) (sym shape)
-    (AreCurrent-switched old.shape old.fields new.fields c.args.spare c.args.i (c.args.spare * c.shape.result.rows + c.args.i) old.shape.pages c.in-Some.switched c.args.cache.now.entries c.follow.new.cache.entries (ap (λ (sh : Shape). c.args.spare * sh.rows + c.args.i) c.shape.ensures) switches c.requires.cache c.follow.ensures.cache)
-
-pub returns-clause-parted : goal.returns-clause-parted
-returns-clause-parted g c on =
-    let old = chart (g.B.Board.state c.args.board.now) in
-    let new = chart (g.B.Board.state c.switch_row.new.board) in
-    let switches = subst (λ (s : Option Switched). SwitchesRow old.shape old.fields c.args.spare c.args.i s new.fields) c.in-Some.is c.in_ok-switched.ensures.switches in
-    AreParted-switched old.shape old.fields new.fields old.flash c.args.spare c.args.i c.in-Some.switched c.requires.sound c.requires.parted c.requires.copied switches
+    let followed = Followed-switched old.shape old.fields new.fields old.flash c.args.spare c.args.i copy c.in-Some.switched c.args.space.now c.requires.sound sound c.requires.agree.parted c.requires.agree.pool c.requires.copied c.requires.spare c.requires.row is switches in
+    record {
+      pool = λ on. subst (λ (sh : Shape). PoolAgrees sh new.fields c.follow.new.space) (sym shape) (subst (λ (p : Pool). PoolAgrees old.shape new.fields p) (sym c.follow.ensures.space) (Followed.agrees followed));
+      cache = λ on. subst (λ (sh : Shape). AreCurrent sh.pages new.fields.places c.follow.new.cache.entries) (sym shape)
+          (AreCurrent-switched old.shape old.fields new.fields c.args.spare c.args.i copy old.shape.pages c.in-Some.switched c.args.cache.now.entries c.follow.new.cache.entries is switches c.requires.agree.cache c.follow.ensures.cache);
+      parted = λ on. AreParted-switched old.shape old.fields new.fields old.flash c.args.spare c.args.i c.in-Some.switched c.requires.sound c.requires.agree.parted c.requires.copied switches;
+      shape = ap (λ (p : Pool). p.shape) c.follow.ensures.space;
+      rests = c.follow.ensures.rests;
+    }

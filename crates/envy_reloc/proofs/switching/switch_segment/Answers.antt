@@ -29,18 +29,18 @@ loop-i-preserved g c =
     let shape = Framed.shape (Stays.framed (Same.stays c.switch_noted.ensures.same)) in
     let switches = c.in_ok-switch_noted.ensures.switches in
     let less = c.loop-i-test.true in
-    let fill : c.fill-i-end.result ≡ get_or old.fields.fills c.args.spare 0 = c.fill-i-end.ensures.fill ∙ ap (λ (xs : List ℕ). get_or xs c.args.spare 0) (IsPoolOf.fills c.requires.pool) in
+    let fill : c.fill-i-end.result ≡ get_or old.fields.fills c.args.spare 0 = c.fill-i-end.ensures.fill ∙ ap (λ (xs : List ℕ). get_or xs c.args.spare 0) (IsPoolOf.fills c.requires.agree.pool) in
     let copied = IsCopied-going old begin now c.args.segment c.args.spare c.loop-i.i c.loop-i.i c.requires.sound c.requires.copying c.requires.spare c.in_ok-begin_switch.ensures.fields (going ∙ begun) inv.rows (omega arith) in
     let sound = subst (λ (fl : List (List ℕ)). Sound now.shape new.fields fl) c.in_ok-switch_noted.ensures.flash (subst (λ (sh : Shape). Sound sh new.fields new.flash) shape (Stays.sound (Same.stays c.switch_noted.ensures.same))) in
     record {
       same = then_same 0 0 begin now new inv.same c.switch_noted.ensures.same;
       on = c.in_ok-switch_noted.ensures.power;
       flash = c.in_ok-switch_noted.ensures.flash ∙ inv.flash;
-      pool = c.switch_noted.ensures.pool c.in_ok-switch_noted.ensures.power;
-      cache = c.switch_noted.ensures.cache c.in_ok-switch_noted.ensures.power;
-      parted = c.switch_noted.ensures.parted c.in_ok-switch_noted.ensures.power;
-      rests = Rests-trans _ _ _ inv.rests c.switch_noted.ensures.rests;
-      shape = c.switch_noted.ensures.shape ∙ inv.shape;
+      pool = c.switch_noted.ensures.follow.pool c.in_ok-switch_noted.ensures.power;
+      cache = c.switch_noted.ensures.follow.cache c.in_ok-switch_noted.ensures.power;
+      parted = c.switch_noted.ensures.follow.parted c.in_ok-switch_noted.ensures.power;
+      rests = Rests-trans _ _ _ inv.rests c.switch_noted.ensures.follow.rests;
+      shape = c.switch_noted.ensures.follow.shape ∙ inv.shape;
       rows = subst (λ (sh : Shape). SwitchesRows sh c.args.spare (c.loop-i.i + 1) begin.fields new.fields) (sym shape) (SwitchesRows-next now.shape begin.fields now.fields new.fields now.flash c.args.spare c.loop-i.i switches.0 (Stays.sound (Same.stays inv.same)) inv.parted copied inv.rows switches.1);
     }
 
@@ -52,7 +52,18 @@ returns-clause-switches g c =
     let inv = c.loop-i.invariant in
     let begun = Framed.shape (Stays.framed (Same.stays c.begin_switch.ensures.same)) in
     let going = Framed.shape (Stays.framed (Same.stays inv.same)) in
-    let fill : c.fill-i-end.result ≡ get_or old.fields.fills c.args.spare 0 = c.fill-i-end.ensures.fill ∙ ap (λ (xs : List ℕ). get_or xs c.args.spare 0) (IsPoolOf.fills c.requires.pool) in
+    let fill : c.fill-i-end.result ≡ get_or old.fields.fills c.args.spare 0 = c.fill-i-end.ensures.fill ∙ ap (λ (xs : List ℕ). get_or xs c.args.spare 0) (IsPoolOf.fills c.requires.agree.pool) in
     let end = c.loop-i-test.false in
     let within = c.loop-i.auto.i-end in
     SwitchesAll-made old begin new c.args.segment c.args.spare c.loop-i.i c.requires.sound (c.requires.copied c.args.spare c.requires.spare) c.requires.copying c.requires.spare c.in_ok-begin_switch.ensures.fields (going ∙ begun) (subst (λ (sh : Shape). SwitchesRows sh c.args.spare c.loop-i.i begin.fields new.fields) (going ∙ begun) inv.rows) (omega arith)
+
+pub returns-in_err-switch_noted-clause-follow : goal.returns-in_err-switch_noted-clause-follow
+returns-in_err-switch_noted-clause-follow g c =
+    let follow = c.switch_noted.ensures.follow in
+    record {
+      pool = follow.pool;
+      cache = follow.cache;
+      parted = follow.parted;
+      shape = follow.shape ∙ c.loop-i.invariant.shape;
+      rests = Rests-trans _ _ _ c.loop-i.invariant.rests follow.rests;
+    }

@@ -22,4 +22,4 @@ returns-clause-releasing g c =
     let pool : PoolAgrees new.shape (with_slot c.args.t (Some Active) new.fields) c.note_dropped.new.space =
     subst (λ (x : Pool). PoolAgrees new.shape (with_slot c.args.t (Some Active) new.fields) x) (sym c.note_dropped.ensures)
     (PoolAgrees-released old new c.args.space.now c.args.page c.args.t c.in_ok-undo.undo r c.in_ok-undo.ensures.value.1 e.fields) in
-    Releasing-after old new c.args.space.now c.note_dropped.new.space c.args.page c.args.t c.requires.releasing c.requires.page e.on e.same e.fields pool
+    Releasing-after old new c.args.space.now c.note_dropped.new.space c.args.page c.args.t c.requires.releasing c.requires.page e.power e.same e.fields pool

@@ -42,7 +42,7 @@ returns-clause-restoring g c =
     } in
     let e = c.in_ok-put_back.ensures in
     Restoring-after old new c.args.page c.args.t c.in_ok-undo.field-0 c.in_ok-now.now c.in-Some.back c.args.space.now c.note_left.new.space c.args.frames.now.held c.leave_frame.new.frames.held c.args.cache.now.entries c.retarget.new.self.entries b r
-    e.on (SameDurable.sound e.durable) e.fields c.note_left.ensures (ap (λ (o : Order). o.held) c.leave_frame.ensures) (c.retarget.ensures.agrees old.shape.pages old.fields.places r.current)
+    e.power (SameDurable.sound e.durable) e.fields c.note_left.ensures (ap (λ (o : Order). o.held) c.leave_frame.ensures) (c.retarget.ensures.agrees old.shape.pages old.fields.places r.current)
 
 pub returns-clause-left : goal.returns-clause-left
 returns-clause-left g c =

@@ -8,7 +8,7 @@ loop-page-preserved g c =
     let inv = c.loop-page.invariant in
     let turn = c.in_ok-settle_page.ensures in
     record {
-      on = turn.on;
+      on = turn.power;
       durable = SameDurable-trans 0 0 0 0 first (chart (g.B.Board.state c.loop-page.board)) (chart (g.B.Board.state c.settle_page.new.board)) inv.durable turn.durable;
       settled = turn.settled first inv.settled;
     }

@@ -8,7 +8,7 @@ loop-t-preserved g c =
     let inv = c.loop-t.invariant in
     let turn = c.in_ok-vacate_slot.ensures in
     record {
-      on = turn.on;
+      on = turn.power;
       same = SameWords-trans 0 0 0 0 first (chart (g.B.Board.state c.loop-t.board)) (chart (g.B.Board.state c.vacate_slot.new.board)) inv.same turn.same;
       vacated = turn.vacated first inv.vacated;
     }

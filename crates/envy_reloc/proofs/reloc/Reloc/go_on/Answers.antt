@@ -3,7 +3,7 @@ use Rattle.envy_base.specs.Shape.{IsShape}
 use Rattle.envy_base.specs.State.{IsBoard}
 use Rattle.envy_base.specs.declared.shape.Shape.{Shape}
 use Rattle.envy_base.specs.declared.fields.Place.{Place}
-use Rattle.envy_map.specs.Fields.{chart}
+use Rattle.envy_map.specs.Fields.{Fields, chart}
 use Rattle.envy_layout.specs.Same.{Same, Stays, Framed}
 use Rattle.envy_layout.specs.Sound.{Sound, IsSpare}
 use Rattle.envy_space.specs.Pool.{IsPoolOf}
@@ -12,47 +12,84 @@ use Rattle.envy_reloc.specs.declared.copying.Left.{Left}
 use Rattle.envy_reloc.specs.declared.moving.Move.{Move}
 use Rattle.envy_reloc.specs.Phases.{NextMove}
 use Rattle.envy_reloc.specs.Plan.{Plan, IsPlanOf}
-use Rattle.envy_reloc.specs.Rows.{NextKept, IsLowestRoom}
+use Rattle.envy_reloc.specs.Rows.{NextKept, HasRoom, IsLowestRoom}
 use Rattle.envy_reloc.proofs.Counts.{apart_by_move}
+use Rattle.envy_reloc.proofs.KeepLemmas.{AllFollow-still, FramesStay-switched}
 use Rattle.envy_reloc.proofs.CopyLemmas.{AllCopied-next, CopiedWhole-made}
 use Rattle.envy_reloc.proofs.StepLemmas.{Found, spare-is, within-move, within-copy, err-of, SpoilsCopy-found, CopiesOne-found, SwitchesSegment-made}
 use Rattle.envy_reloc.proofs.PlanLemmas.{Plan-switched}
 use Rattle.envy_reloc.proofs.reloc.Reloc.go_on.Goals as goal
 
-pub move_next-requires-clause-position : goal.move_next-requires-clause-position
-move_next-requires-clause-position g c =
+pub move_next-requires-clause-ready : goal.move_next-requires-clause-ready
+move_next-requires-clause-ready g c =
+    let ready = c.requires.ready in
+    record { on = ready.on; sound = ready.sound; pool = ready.pool; plan = c.in_ok-next.ensures.plan; parted = ready.parted }
+
+pub move_next-requires-clause-next : goal.move_next-requires-clause-next
+move_next-requires-clause-next g c =
     let old = chart (g.B.Board.state c.args.board.now) in
+    let pool = c.args.space.now in
     let next = subst (λ (m : Option Move). NextMove old.shape old.fields c.args.segment c.args.self.now m c.next_move.new.self) c.in-Some.is c.in_ok-next.ensures.next in
-    let bound = c.requires.plan.prepared.aside c.args.segment next.5 next.6 c.requires.copying next.7 in
+    let bound = c.requires.ready.plan.prepared.aside c.args.segment next.5 next.6 c.requires.copying next.7 in
     let last = bound.1 in
     let low = IsLowestRoom.below next.8 in
-    let segments : c.args.space.now.shape.segments ≡ old.shape.segments = ap (λ (sh : Shape). sh.segments) (IsPoolOf.shape c.requires.pool) in
-    omega arith
+    let segments : pool.shape.segments ≡ old.shape.segments = ap (λ (sh : Shape). sh.segments) (IsPoolOf.shape c.requires.ready.pool) in
+    record {
+      v = c.args.segment;
+      copying = c.requires.copying;
+      room = subst (λ (sh : Shape). HasRoom sh pool.fills pool.positions c.args.segment c.in-Some.next.position) (sym (IsPoolOf.shape c.requires.ready.pool))
+          (subst (λ (xs : List ℕ). HasRoom old.shape xs pool.positions c.args.segment c.in-Some.next.position) (sym (IsPoolOf.fills c.requires.ready.pool))
+          (subst (λ (xs : List ℕ). HasRoom old.shape old.fields.fills xs c.args.segment c.in-Some.next.position) (sym (IsPoolOf.positions c.requires.ready.pool)) (IsLowestRoom.has next.8)));
+      position = omega arith;
+      page = next.2;
+      back = next.3;
+      named = next.4;
+    }
 
-pub returns-in_err-copy_left-in-Some-2-clause-cache : goal.returns-in_err-copy_left-in-Some-2-clause-cache
-returns-in_err-copy_left-in-Some-2-clause-cache g c on =
-    let old = chart (g.B.Board.state c.args.board.now) in
-    let new = chart (g.B.Board.state c.copy_left.new.board) in
-    subst (λ (sh : Shape). AreCurrent sh.pages new.fields.places c.args.cache.now.entries) (sym (Framed.shape (Stays.framed (Same.stays c.copy_left.ensures.same))))
-    (subst (λ (ps : List (Option Place)). AreCurrent old.shape.pages ps c.args.cache.now.entries) (sym (c.copy_left.ensures.places on)) c.requires.cache)
+pub copy_left-requires-clause-ready : goal.copy_left-requires-clause-ready
+copy_left-requires-clause-ready g c =
+    let ready = c.requires.ready in
+    record { on = ready.on; sound = ready.sound; pool = ready.pool; plan = c.in_ok-next.ensures.plan; parted = ready.parted }
+
+pub switch_segment-requires-clause-agree : goal.switch_segment-requires-clause-agree
+switch_segment-requires-clause-agree g c = record { pool = c.requires.ready.pool; cache = c.requires.cache; parted = c.requires.ready.parted }
+
+pub returns-in_err-copy_left-in-Some-2-clause-follow : goal.returns-in_err-copy_left-in-Some-2-clause-follow
+returns-in_err-copy_left-in-Some-2-clause-follow g c =
+    let e = c.copy_left.ensures in
+    AllFollow-still (chart (g.B.Board.state c.args.board.now)) (chart (g.B.Board.state c.copy_left.new.board)) c.args.space.now c.copy_left.new.space c.copy_left.new.self c.args.cache.now e.same e.follow e.places c.requires.cache
+
+pub returns-in_ok-copy_left-in-Some-2-clause-follow : goal.returns-in_ok-copy_left-in-Some-2-clause-follow
+returns-in_ok-copy_left-in-Some-2-clause-follow g c =
+    let e = c.copy_left.ensures in
+    AllFollow-still (chart (g.B.Board.state c.args.board.now)) (chart (g.B.Board.state c.copy_left.new.board)) c.args.space.now c.copy_left.new.space c.copy_left.new.self c.args.cache.now e.same e.follow e.places c.requires.cache
 
 pub switch_segment-requires-clause-copied : goal.switch_segment-requires-clause-copied
 switch_segment-requires-clause-copied g c =
     let old = chart (g.B.Board.state c.args.board.now) in
     let e = c.spare-spare.result in
     let plan = c.in_ok-next.ensures.plan in
-    let spare = subst (λ (sh : Shape). IsSpare sh old.fields.positions e) (IsPoolOf.shape c.requires.pool) (subst (λ (xs : List ℕ). IsSpare c.args.space.now.shape xs e) (IsPoolOf.positions c.requires.pool) c.spare-spare.ensures.spare) in
+    let spare = subst (λ (sh : Shape). IsSpare sh old.fields.positions e) (IsPoolOf.shape c.requires.ready.pool) (subst (λ (xs : List ℕ). IsSpare c.args.space.now.shape xs e) (IsPoolOf.positions c.requires.ready.pool) c.spare-spare.ensures.spare) in
     let none = subst (λ (l : Option Left). NextKept old.shape old.fields c.args.segment c.next_move.new.self.mark l) c.in-None.is (subst (λ (m : ℕ). NextKept old.shape old.fields c.args.segment m c.in_ok-left.field-0) (ap (λ (p : Plan). p.mark) c.self.view_is) c.in_ok-left.ensures.next) in
     let all = AllCopied-next old.shape old.fields c.args.segment e c.next_move.new.self.mark c.requires.copying spare plan.marked none in
-    CopiedWhole-made old.shape old.fields old.flash c.args.segment e c.requires.sound c.requires.copying spare (plan.prepared.copies c.args.segment e c.requires.copying spare) all
+    CopiedWhole-made old.shape old.fields old.flash c.args.segment e c.requires.ready.sound c.requires.copying spare (plan.prepared.copies c.args.segment e c.requires.copying spare) all
 
-pub returns-in_ok-switch_segment-in-None-clause-plan : goal.returns-in_ok-switch_segment-in-None-clause-plan
-returns-in_ok-switch_segment-in-None-clause-plan g c on =
+pub returns-in_ok-switch_segment-in-None-clause-follow : goal.returns-in_ok-switch_segment-in-None-clause-follow
+returns-in_ok-switch_segment-in-None-clause-follow g c =
     let old = chart (g.B.Board.state c.args.board.now) in
     let new = chart (g.B.Board.state c.switch_segment.new.board) in
-    let e = c.spare-spare.result in
-    subst (λ (sh : Shape). IsPlanOf sh new.fields new.flash c.next_move.new.self) (sym (Framed.shape (Stays.framed (Same.stays c.switch_segment.ensures.same))))
-    (Plan-switched old.shape old.fields new.fields new.flash c.args.segment e c.next_move.new.self (subst (λ (fl : List (List ℕ)). Sound old.shape old.fields fl) (sym c.in_ok-switch_segment-in-None.ensures.flash) c.requires.sound) c.requires.copying c.in_ok-switch_segment-in-None.ensures.switches)
+    let follow = c.switch_segment.ensures.follow in
+    let all = c.in_ok-switch_segment-in-None.ensures.switches in
+    record {
+      pool = follow.pool;
+      plan = λ on. subst (λ (sh : Shape). IsPlanOf sh new.fields new.flash c.next_move.new.self) (sym (Framed.shape (Stays.framed (Same.stays c.switch_segment.ensures.same))))
+          (Plan-switched old.shape old.fields new.fields new.flash c.args.segment c.spare-spare.result c.next_move.new.self (subst (λ (fl : List (List ℕ)). Sound old.shape old.fields fl) (sym c.in_ok-switch_segment-in-None.ensures.flash) c.requires.ready.sound) c.requires.copying all);
+      parted = follow.parted;
+      cache = follow.cache;
+      frames = λ on. FramesStay-switched old.shape c.args.segment c.spare-spare.result old.fields new.fields all;
+      shape = follow.shape;
+      rests = follow.rests;
+    }
 
 pub returns-in_err-move_next-clause-within : goal.returns-in_err-move_next-clause-within
 returns-in_err-move_next-clause-within g c n e s left =
@@ -75,14 +112,14 @@ returns-in_err-copy_left-in-Some-2-clause-within g c n e s left_over =
     let none = subst (λ (m : Option Move). NextMove old.shape old.fields c.args.segment c.args.self.now m mid) c.in_default.is c.in_ok-next.ensures.next in
     let next = subst (λ (l : Option Left). NextKept old.shape old.fields c.args.segment mid.mark l) c.in-Some-2.is (subst (λ (m : ℕ). NextKept old.shape old.fields c.args.segment m c.in_ok-left.field-0) (ap (λ (p : Plan). p.mark) c.self.view_is) c.in_ok-left.ensures.next) in
     let found : Found old c.args.self.now mid c.args.segment c.spare-spare.result c.in-Some-2.left = record {
-      sound = c.requires.sound;
+      sound = c.requires.ready.sound;
       some = (let two = IsShape.rows (IsBoard.shape (g.met.B.Board.lawful c.args.board.now)) in omega arith);
       copying = c.requires.copying;
       no_move = none.0;
       agrees = c.in_ok-next.ensures.plan;
       none = none.1;
       becomes = c.next_move.ensures.becomes;
-      spare = spare-is old.shape old.fields c.args.space.now c.spare-spare.result c.requires.pool c.spare-spare.ensures.spare;
+      spare = spare-is old.shape old.fields c.args.space.now c.spare-spare.result c.requires.ready.pool c.spare-spare.ensures.spare;
       next = next;
     } in
     within-copy old (chart (g.B.Board.state c.copy_left.new.board)) c.args.self.now mid c.args.segment c.spare-spare.result n e s c.in-Some-2.left found c.copy_left.ensures.same left_over
@@ -94,38 +131,43 @@ returns-in_ok-copy_left-in-Some-2-clause-within g c n e s left_over =
     let none = subst (λ (m : Option Move). NextMove old.shape old.fields c.args.segment c.args.self.now m mid) c.in_default.is c.in_ok-next.ensures.next in
     let next = subst (λ (l : Option Left). NextKept old.shape old.fields c.args.segment mid.mark l) c.in-Some-2.is (subst (λ (m : ℕ). NextKept old.shape old.fields c.args.segment m c.in_ok-left.field-0) (ap (λ (p : Plan). p.mark) c.self.view_is) c.in_ok-left.ensures.next) in
     let found : Found old c.args.self.now mid c.args.segment c.spare-spare.result c.in-Some-2.left = record {
-      sound = c.requires.sound;
+      sound = c.requires.ready.sound;
       some = (let two = IsShape.rows (IsBoard.shape (g.met.B.Board.lawful c.args.board.now)) in omega arith);
       copying = c.requires.copying;
       no_move = none.0;
       agrees = c.in_ok-next.ensures.plan;
       none = none.1;
       becomes = c.next_move.ensures.becomes;
-      spare = spare-is old.shape old.fields c.args.space.now c.spare-spare.result c.requires.pool c.spare-spare.ensures.spare;
+      spare = spare-is old.shape old.fields c.args.space.now c.spare-spare.result c.requires.ready.pool c.spare-spare.ensures.spare;
       next = next;
     } in
     within-copy old (chart (g.B.Board.state c.copy_left.new.board)) c.args.self.now mid c.args.segment c.spare-spare.result n e s c.in-Some-2.left found c.copy_left.ensures.same left_over
 
-pub returns-in_err-copy_left-in-Some-2-clause-spoils : goal.returns-in_err-copy_left-in-Some-2-clause-spoils
-returns-in_err-copy_left-in-Some-2-clause-spoils g c bad =
+pub returns-in_err-copy_left-in-Some-2-clause-fails : goal.returns-in_err-copy_left-in-Some-2-clause-fails
+returns-in_err-copy_left-in-Some-2-clause-fails g c bad =
     let old = chart (g.B.Board.state c.args.board.now) in
     let mid = c.next_move.new.self in
     let none = subst (λ (m : Option Move). NextMove old.shape old.fields c.args.segment c.args.self.now m mid) c.in_default.is c.in_ok-next.ensures.next in
     let next = subst (λ (l : Option Left). NextKept old.shape old.fields c.args.segment mid.mark l) c.in-Some-2.is (subst (λ (m : ℕ). NextKept old.shape old.fields c.args.segment m c.in_ok-left.field-0) (ap (λ (p : Plan). p.mark) c.self.view_is) c.in_ok-left.ensures.next) in
     let found : Found old c.args.self.now mid c.args.segment c.spare-spare.result c.in-Some-2.left = record {
-      sound = c.requires.sound;
+      sound = c.requires.ready.sound;
       some = (let two = IsShape.rows (IsBoard.shape (g.met.B.Board.lawful c.args.board.now)) in omega arith);
       copying = c.requires.copying;
       no_move = none.0;
       agrees = c.in_ok-next.ensures.plan;
       none = none.1;
       becomes = c.next_move.ensures.becomes;
-      spare = spare-is old.shape old.fields c.args.space.now c.spare-spare.result c.requires.pool c.spare-spare.ensures.spare;
+      spare = spare-is old.shape old.fields c.args.space.now c.spare-spare.result c.requires.ready.pool c.spare-spare.ensures.spare;
       next = next;
     } in
     let was = err-of c.from_residual-in_err-copy_left-in-Some-2.result c.copy_left.result _ c.from_residual-in_err-copy_left-in-Some-2.ensures.1 c.in_err-copy_left-in-Some-2.was bad in
-    inr (inl (SpoilsCopy-found old (chart (g.B.Board.state c.copy_left.new.board)) c.args.self.now mid c.copy_left.new.self c.args.segment c.spare-spare.result c.in-Some-2.left found (c.copy_left.ensures.spoilt was)
-    (c.copy_left.ensures.becomes_bad was)))
+    let fails = c.copy_left.ensures.fails was in
+    record {
+      spoils = inr (inl (SpoilsCopy-found old (chart (g.B.Board.state c.copy_left.new.board)) c.args.self.now mid c.copy_left.new.self c.args.segment c.spare-spare.result c.in-Some-2.left found fails.spoilt fails.becomes));
+      job = ap (λ (f : Fields). f.job) fails.spoilt.fields;
+      dropped = λ _. ap (λ (p : Plan). p.moves) fails.becomes;
+      bad = fails.bad;
+    }
 
 pub returns-in_ok-copy_left-in-Some-2-clause-does : goal.returns-in_ok-copy_left-in-Some-2-clause-does
 returns-in_ok-copy_left-in-Some-2-clause-does g c =
@@ -134,18 +176,18 @@ returns-in_ok-copy_left-in-Some-2-clause-does g c =
     let none = subst (λ (m : Option Move). NextMove old.shape old.fields c.args.segment c.args.self.now m mid) c.in_default.is c.in_ok-next.ensures.next in
     let next = subst (λ (l : Option Left). NextKept old.shape old.fields c.args.segment mid.mark l) c.in-Some-2.is (subst (λ (m : ℕ). NextKept old.shape old.fields c.args.segment m c.in_ok-left.field-0) (ap (λ (p : Plan). p.mark) c.self.view_is) c.in_ok-left.ensures.next) in
     let found : Found old c.args.self.now mid c.args.segment c.spare-spare.result c.in-Some-2.left = record {
-      sound = c.requires.sound;
+      sound = c.requires.ready.sound;
       some = (let two = IsShape.rows (IsBoard.shape (g.met.B.Board.lawful c.args.board.now)) in omega arith);
       copying = c.requires.copying;
       no_move = none.0;
       agrees = c.in_ok-next.ensures.plan;
       none = none.1;
       becomes = c.next_move.ensures.becomes;
-      spare = spare-is old.shape old.fields c.args.space.now c.spare-spare.result c.requires.pool c.spare-spare.ensures.spare;
+      spare = spare-is old.shape old.fields c.args.space.now c.spare-spare.result c.requires.ready.pool c.spare-spare.ensures.spare;
       next = next;
     } in
-    CopiesOne-found old (chart (g.B.Board.state c.copy_left.new.board)) c.args.self.now mid c.copy_left.new.self c.args.segment c.spare-spare.result c.in-Some-2.left found c.in_ok-copy_left-in-Some-2.ensures.copied
-    c.in_ok-copy_left-in-Some-2.ensures.becomes
+    CopiesOne-found old (chart (g.B.Board.state c.copy_left.new.board)) c.args.self.now mid c.copy_left.new.self c.args.segment c.spare-spare.result c.in-Some-2.left found c.in_ok-copy_left-in-Some-2.ensures.copies.copied
+    c.in_ok-copy_left-in-Some-2.ensures.copies.becomes
 
 pub returns-in_ok-switch_segment-in-None-clause-does : goal.returns-in_ok-switch_segment-in-None-clause-does
 returns-in_ok-switch_segment-in-None-clause-does g c =
@@ -154,16 +196,16 @@ returns-in_ok-switch_segment-in-None-clause-does g c =
     let none = subst (λ (m : Option Move). NextMove old.shape old.fields c.args.segment c.args.self.now m mid) c.in_default.is c.in_ok-next.ensures.next in
     let next = subst (λ (l : Option Left). NextKept old.shape old.fields c.args.segment mid.mark l) c.in-None.is (subst (λ (m : ℕ). NextKept old.shape old.fields c.args.segment m c.in_ok-left.field-0) (ap (λ (p : Plan). p.mark) c.self.view_is) c.in_ok-left.ensures.next) in
     SwitchesSegment-made old (chart (g.B.Board.state c.switch_segment.new.board)) c.args.self.now mid c.args.segment c.spare-spare.result c.requires.copying none.0 c.in_ok-next.ensures.plan none.1 c.next_move.ensures.becomes
-    (spare-is old.shape old.fields c.args.space.now c.spare-spare.result c.requires.pool c.spare-spare.ensures.spare) next c.in_ok-switch_segment-in-None.ensures.switches c.in_ok-switch_segment-in-None.ensures.flash
+    (spare-is old.shape old.fields c.args.space.now c.spare-spare.result c.requires.ready.pool c.spare-spare.ensures.spare) next c.in_ok-switch_segment-in-None.ensures.switches c.in_ok-switch_segment-in-None.ensures.flash
 
 pub returns-in_err-move_next-clause-apart : goal.returns-in_err-move_next-clause-apart
 returns-in_err-move_next-clause-apart g c =
     let old = chart (g.B.Board.state c.args.board.now) in
     let next = subst (λ (m : Option Move). NextMove old.shape old.fields c.args.segment c.args.self.now m c.next_move.new.self) c.in-Some.is c.in_ok-next.ensures.next in
-    apart_by_move old c.args.segment c.args.self.now c.next_move.new.self c.move_next.new.self c.in-Some.next c.requires.copying next (c.move_next.ensures.copied ∙ ap (λ (p : Plan). p.copied) c.next_move.ensures.becomes)
+    apart_by_move old c.args.segment c.args.self.now c.next_move.new.self c.move_next.new.self c.in-Some.next c.requires.copying next (c.move_next.ensures.counts.copied ∙ ap (λ (p : Plan). p.copied) c.next_move.ensures.becomes)
 
 pub returns-in-Some-clause-apart : goal.returns-in-Some-clause-apart
 returns-in-Some-clause-apart g c =
     let old = chart (g.B.Board.state c.args.board.now) in
     let next = subst (λ (m : Option Move). NextMove old.shape old.fields c.args.segment c.args.self.now m c.next_move.new.self) c.in-Some.is c.in_ok-next.ensures.next in
-    apart_by_move old c.args.segment c.args.self.now c.next_move.new.self c.move_next.new.self c.in-Some.next c.requires.copying next (c.move_next.ensures.copied ∙ ap (λ (p : Plan). p.copied) c.next_move.ensures.becomes)
+    apart_by_move old c.args.segment c.args.self.now c.next_move.new.self c.move_next.new.self c.in-Some.next c.requires.copying next (c.move_next.ensures.counts.copied ∙ ap (λ (p : Plan). p.copied) c.next_move.ensures.becomes)

@@ -10,26 +10,37 @@ use Rattle.envy_layout.proofs.Sames.{then_same}
 use Rattle.envy_reloc.proofs.EffortLemmas.{FramesStay-moved}
 use Rattle.envy_reloc.proofs.reloc.Reloc.move_next.Goals as goal
 
-pub returns-in-Ok-clause-plan : goal.returns-in-Ok-clause-plan
-returns-in-Ok-clause-plan g c on =
+pub move_row-requires-clause-agree : goal.move_row-requires-clause-agree
+move_row-requires-clause-agree g c = record { pool = c.requires.ready.pool; cache = c.requires.cache; parted = c.requires.ready.parted }
+
+pub returns-in-Ok-clause-follow : goal.returns-in-Ok-clause-follow
+returns-in-Ok-clause-follow g c =
     let old = chart (g.B.Board.state c.args.board.now) in
     let new = chart (g.B.Board.state c.move_row.new.board) in
     let pool = c.args.space.now in
+    let agrees = c.requires.ready.pool in
+    let next = c.requires.next in
     let s = get_or pool.positions c.args.next.position 0 in
-    let rows : pool.shape.rows ≡ old.shape.rows = ap (λ (sh : Shape). sh.rows) (IsPoolOf.shape c.requires.pool) in
-    let segments : pool.shape.segments ≡ old.shape.segments = ap (λ (sh : Shape). sh.segments) (IsPoolOf.shape c.requires.pool) in
-    let room = HasRoom.room c.requires.next.2 in
-    let fill : get_or pool.fills s 0 ≡ get_or old.fields.fills s 0 = ap (λ (xs : List ℕ). get_or xs s 0) (IsPoolOf.fills c.requires.pool) in
-    let position = c.requires.position in
-    Plan-moved old new c.requires.next.0 s c.args.next c.args.self.now _ c.requires.sound c.requires.plan c.requires.next.1 (HasRoom.other c.requires.next.2)
-    (c.args.next.position, (omega arith), ap (λ (xs : List ℕ). get_or xs c.args.next.position 0) (sym (IsPoolOf.positions c.requires.pool)))
-    (omega arith)
-    (Framed.shape (Stays.framed (Same.stays c.move_row.ensures.same)))
-    c.in-Ok.ensures.fields
-    (ap (λ (p : Plan). p.moves) c.self.view_is) (ap (λ (p : Plan). p.aside) c.self.view_is) (ap (λ (p : Plan). p.mark) c.self.view_is)
+    let rows : pool.shape.rows ≡ old.shape.rows = ap (λ (sh : Shape). sh.rows) (IsPoolOf.shape agrees) in
+    let segments : pool.shape.segments ≡ old.shape.segments = ap (λ (sh : Shape). sh.segments) (IsPoolOf.shape agrees) in
+    let room = HasRoom.room next.room in
+    let fill : get_or pool.fills s 0 ≡ get_or old.fields.fills s 0 = ap (λ (xs : List ℕ). get_or xs s 0) (IsPoolOf.fills agrees) in
+    let position = next.position in
+    let follow = c.move_row.ensures.follow in
+    record {
+      pool = follow.pool;
+      plan = λ on. Plan-moved old new next.v s c.args.next c.args.self.now _ c.requires.ready.sound c.requires.ready.plan next.copying (HasRoom.other next.room)
+          (c.args.next.position, (omega arith), ap (λ (xs : List ℕ). get_or xs c.args.next.position 0) (sym (IsPoolOf.positions agrees)))
+          (omega arith)
+          (Framed.shape (Stays.framed (Same.stays c.move_row.ensures.same)))
+          c.in-Ok.ensures.moves
+          (ap (λ (p : Plan). p.moves) c.self.view_is) (ap (λ (p : Plan). p.aside) c.self.view_is) (ap (λ (p : Plan). p.mark) c.self.view_is);
+      parted = follow.parted;
+      cache = follow.cache;
+      frames = λ on. FramesStay-moved old new _ c.args.next c.requires.ready.sound c.in-Ok.ensures.moves;
+      shape = follow.shape;
+      rests = follow.rests;
+    }
 
 pub returns-in-Err-Bad-clause-same : goal.returns-in-Err-Bad-clause-same
 returns-in-Err-Bad-clause-same g c = then_same 1 0 (chart (g.B.Board.state c.args.board.now)) (chart (g.B.Board.state c.move_row.new.board)) (chart (g.B.Board.state c.give_up.new.board)) c.move_row.ensures.same c.give_up.ensures.same
-
-pub returns-in-Ok-clause-frames : goal.returns-in-Ok-clause-frames
-returns-in-Ok-clause-frames g c on = FramesStay-moved (chart (g.B.Board.state c.args.board.now)) (chart (g.B.Board.state c.move_row.new.board)) _ c.args.next c.requires.sound c.in-Ok.ensures.fields

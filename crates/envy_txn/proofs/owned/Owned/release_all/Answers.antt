@@ -4,10 +4,10 @@ use Rattle.envy_base.specs.declared.fields.Slot.TheVariants.{Active}
 use Rattle.envy_map.specs.Fields.{chart}
 use Rattle.envy_txn.specs.declared.pair.Pair.{Pair}
 use Rattle.envy_txn.specs.Entries.{own_of}
-use Rattle.envy_txn.specs.Owners.{Ownership, IsOwnership, AreApart}
+use Rattle.envy_txn.specs.Owners.{Ownership, IsOwnership, AreApart, others_of}
 use Rattle.envy_txn.specs.Turns.{AreNamed, Releasing, ReleasedIn}
 use Rattle.envy_txn.proofs.OwnLemmas.{own-apart, own-listed, own-named, ReleasedIn-own}
-use Rattle.envy_txn.proofs.ReleaseLoop.{Releases-all, unused-released, AreOwned-released, PoolAgrees-unused}
+use Rattle.envy_txn.proofs.ReleaseLoop.{Releases-all, unused-released, AreOwned-released, AreParted-unused, PoolAgrees-unused}
 use Rattle.envy_txn.proofs.owned.Owned.release_all.Goals as goal
 
 pub release_pairs-requires-clause-named : goal.release_pairs-requires-clause-named
@@ -31,21 +31,21 @@ returns-clause-releases g c =
     let pairs : c.self.inside.ledger.pairs ≡ c.args.self.now.pairs = ap (λ (o : Ownership). o.pairs) c.self.view_is in
     let apart = subst (λ (ps : List Pair). AllPairs AreApart ps) pairs (IsOwnership.apart c.self.invariant.owners) in
     let listed : c.deref.result.now ≡ own_of c.args.t c.args.self.now.pairs = own-listed c.args.t c.deref.result.now c.list.new.list.items c.self.inside.ledger.pairs c.args.self.now.pairs c.deref.ensures.value c.list.ensures.pairs pairs in
-    Releases-all old new c.args.self.now.pairs c.args.t (c.requires.sound lit) c.requires.slot apart (c.requires.owned lit)
-    (ReleasedIn-own c.args.t c.args.self.now.pairs old new (subst (λ (ps : List Pair). ReleasedIn ps c.args.t old new) listed c.in_ok-release_pairs.ensures.released))
+    let releases = Releases-all old new c.args.self.now.pairs c.args.t (c.requires.releasing lit).sound c.requires.slot apart (c.requires.owned lit)
+    (ReleasedIn-own c.args.t c.args.self.now.pairs old new (subst (λ (ps : List Pair). ReleasedIn ps c.args.t old new) listed c.in_ok-release_pairs.ensures.released)) in
+    record { releases = releases; unused = unused-released old new c.args.t releases; pairs = c.leave.ensures ∙ ap (λ (o : Ownership). record o { pairs = others_of c.args.t o.pairs }) c.self.view_is }
 
-pub returns-clause-unused : goal.returns-clause-unused
-returns-clause-unused g c = unused-released (chart (g.B.Board.state c.args.board.now)) (chart (g.B.Board.state c.release_pairs.new.board)) c.args.t (returns-clause-releases g c)
-
-pub returns-clause-owned : goal.returns-clause-owned
-returns-clause-owned g c = λ on.
+pub returns-clause-agrees : goal.returns-clause-agrees
+returns-clause-agrees g c on =
     let old = chart (g.B.Board.state c.args.board.now) in
     let new = chart (g.B.Board.state c.release_pairs.new.board) in
     let lit : old.on ≡ true = sym c.powered.ensures ∙ c.if-not-powered.false in
     let pairs : c.self.inside.ledger.pairs ≡ c.args.self.now.pairs = ap (λ (o : Ownership). o.pairs) c.self.view_is in
     let apart = subst (λ (ps : List Pair). AllPairs AreApart ps) pairs (IsOwnership.apart c.self.invariant.owners) in
-    rw (c.leave.ensures, pairs) (AreOwned-released old new c.args.self.now.pairs c.args.t apart (c.requires.owned lit) (returns-clause-releases g c))
-
-pub returns-clause-pool : goal.returns-clause-pool
-returns-clause-pool g c = λ on.
-    PoolAgrees-unused (chart (g.B.Board.state c.release_pairs.new.board)) c.release_pairs.new.space c.args.t (returns-clause-unused g c) (Releasing.agrees c.in_ok-release_pairs.ensures.releasing)
+    let done = returns-clause-releases g c in
+    let releasing = c.in_ok-release_pairs.ensures.releasing in
+    record {
+      owned = rw (c.leave.ensures, pairs) (AreOwned-released old new c.args.self.now.pairs c.args.t apart (c.requires.owned lit) done.releases);
+      pool = PoolAgrees-unused new c.release_pairs.new.space c.args.t done.unused (Releasing.agrees releasing);
+      parted = AreParted-unused new c.args.t done.unused (Releasing.parted releasing);
+    }

@@ -3,8 +3,8 @@ use Rattle.std.specs.List.{AllPairs, filter}
 use Rattle.envy_map.specs.Fields.{chart}
 use Rattle.envy_txn.specs.declared.pair.Pair.{Pair}
 use Rattle.envy_txn.specs.Entries.{own_of}
-use Rattle.envy_txn.specs.Owners.{Ownership, IsOwnership, AreApart}
-use Rattle.envy_txn.specs.Turns.{AreNamed, RestoredIn}
+use Rattle.envy_txn.specs.Owners.{Ownership, IsOwnership, AreApart, others_of}
+use Rattle.envy_txn.specs.Turns.{AreNamed, Restoring, RestoredIn}
 use Rattle.envy_txn.proofs.BackLoop.{Restores-all, unused-restored, AreOwned-restored, held-restored}
 use Rattle.envy_txn.proofs.HeldLemmas.{is_kept_by}
 use Rattle.envy_txn.proofs.OwnLemmas.{own-apart, own-listed, own-named, RestoredIn-own, kept-own}
@@ -28,30 +28,36 @@ returns-clause-restores g c =
     let old = chart (g.B.Board.state c.args.board.now) in
     let new = chart (g.B.Board.state c.restore_pairs.new.board) in
     let lit : old.on ≡ true = sym c.powered.ensures ∙ c.if-not-powered.false in
+    let active = (c.requires.restoring lit).active in
     let pairs : c.self.inside.ledger.pairs ≡ c.args.self.now.pairs = ap (λ (o : Ownership). o.pairs) c.self.view_is in
     let apart = subst (λ (ps : List Pair). AllPairs AreApart ps) pairs (IsOwnership.apart c.self.invariant.owners) in
     let listed : c.deref.result.now ≡ own_of c.args.t c.args.self.now.pairs = own-listed c.args.t c.deref.result.now c.list.new.list.items c.self.inside.ledger.pairs c.args.self.now.pairs c.deref.ensures.value c.list.ensures.pairs pairs in
-    Restores-all old new c.args.self.now.pairs c.args.t (c.requires.active lit) apart (c.requires.owned lit)
-    (RestoredIn-own c.args.t c.args.self.now.pairs old new (subst (λ (ps : List Pair). RestoredIn ps c.args.t old new) listed c.in_ok-restore_pairs.ensures.restored))
+    let restores = Restores-all old new c.args.self.now.pairs c.args.t active apart (c.requires.owned lit)
+    (RestoredIn-own c.args.t c.args.self.now.pairs old new (subst (λ (ps : List Pair). RestoredIn ps c.args.t old new) listed c.in_ok-restore_pairs.ensures.restored)) in
+    record {
+      restores = restores;
+      unused = unused-restored old new c.args.t restores;
+      pairs = c.leave.ensures ∙ ap (λ (o : Ownership). record o { pairs = others_of c.args.t o.pairs }) c.self.view_is;
+      left = held-restored old c.args.self.now.pairs c.args.t c.args.frames.now.held c.restore_pairs.new.frames.held active apart (c.requires.owned lit)
+          (subst (λ (ps : List Pair). c.restore_pairs.new.frames.held ≡ filter (is_kept_by ps c.args.t) c.args.frames.now.held) listed c.in_ok-restore_pairs.ensures.left
+          ∙ kept-own c.args.t c.args.self.now.pairs c.args.frames.now.held);
+    }
 
-pub returns-clause-unused : goal.returns-clause-unused
-returns-clause-unused g c = unused-restored (chart (g.B.Board.state c.args.board.now)) (chart (g.B.Board.state c.restore_pairs.new.board)) c.args.t (returns-clause-restores g c)
-
-pub returns-clause-owned : goal.returns-clause-owned
-returns-clause-owned g c = λ on.
+pub returns-clause-agrees : goal.returns-clause-agrees
+returns-clause-agrees g c on =
     let old = chart (g.B.Board.state c.args.board.now) in
+    let new = chart (g.B.Board.state c.restore_pairs.new.board) in
     let lit : old.on ≡ true = sym c.powered.ensures ∙ c.if-not-powered.false in
     let pairs : c.self.inside.ledger.pairs ≡ c.args.self.now.pairs = ap (λ (o : Ownership). o.pairs) c.self.view_is in
     let apart = subst (λ (ps : List Pair). AllPairs AreApart ps) pairs (IsOwnership.apart c.self.invariant.owners) in
-    rw (c.leave.ensures, pairs) (AreOwned-restored old (chart (g.B.Board.state c.restore_pairs.new.board)) c.args.self.now.pairs c.args.t apart (c.requires.owned lit) (returns-clause-restores g c))
-
-pub returns-clause-left : goal.returns-clause-left
-returns-clause-left g c =
-    let old = chart (g.B.Board.state c.args.board.now) in
-    let lit : old.on ≡ true = sym c.powered.ensures ∙ c.if-not-powered.false in
-    let pairs : c.self.inside.ledger.pairs ≡ c.args.self.now.pairs = ap (λ (o : Ownership). o.pairs) c.self.view_is in
-    let apart = subst (λ (ps : List Pair). AllPairs AreApart ps) pairs (IsOwnership.apart c.self.invariant.owners) in
-    let listed : c.deref.result.now ≡ own_of c.args.t c.args.self.now.pairs = own-listed c.args.t c.deref.result.now c.list.new.list.items c.self.inside.ledger.pairs c.args.self.now.pairs c.deref.ensures.value c.list.ensures.pairs pairs in
-    held-restored old c.args.self.now.pairs c.args.t c.args.frames.now.held c.restore_pairs.new.frames.held (c.requires.active lit) apart (c.requires.owned lit)
-    (subst (λ (ps : List Pair). c.restore_pairs.new.frames.held ≡ filter (is_kept_by ps c.args.t) c.args.frames.now.held) listed c.in_ok-restore_pairs.ensures.left
-    ∙ kept-own c.args.t c.args.self.now.pairs c.args.frames.now.held)
+    let done = returns-clause-restores g c in
+    let restoring = c.in_ok-restore_pairs.ensures.restoring in
+    record {
+      owners = record {
+        owned = rw (c.leave.ensures, pairs) (AreOwned-restored old new c.args.self.now.pairs c.args.t apart (c.requires.owned lit) done.restores);
+        pool = Restoring.agrees restoring;
+        parted = Restoring.parted restoring;
+      };
+      held = Restoring.are_held restoring;
+      current = Restoring.current restoring;
+    }
