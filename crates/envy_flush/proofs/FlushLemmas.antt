@@ -93,6 +93,10 @@ pub if-done : {T E : Type 0} (r : Result T E) (P R : T → Type 0) → IfOk r P 
 if-done (Ok x) P R p f = f x p
 if-done (Err e) P R p f = p
 
+pub on-if : {T E : Type 0} (r : Result T E) (P : T → Type 0) (A : Type 0) → IfOk r P → ((x : T) → P x → A) → OnOk r A
+on-if (Ok x) P A p f = f x p
+on-if (Err e) P A p f = tt
+
 -- the same fault, of another answer
 pub err-at : {T U : Type 0} (f x : Trouble) → IsErrOf {T = T} {E = Trouble} (Err f) x → IsErrOf {T = U} {E = Trouble} (Err f) x
 err-at {T} {U} f x is = let same : f ≡ x = cc in ap (λ (e : Trouble). Err e) same

@@ -15,7 +15,7 @@ use Rattle.envy_flush.specs.Agreement.{Fits, Ready}
 use Rattle.envy_flush.specs.Counts.{Counting}
 use Rattle.envy_flush.specs.Ticks.{CountsTick}
 use Rattle.envy_flush.specs.Leaving.{LeavesParts, KeepsFrames}
-use Rattle.envy_flush.specs.Power.{power_of, power_after}
+use Rattle.envy_layout.specs.Power.{power_of, power_after}
 use Rattle.envy_flush.specs.declared.parts.Parts.{Parts}
 use Rattle.envy_flush.proofs.CountLemmas.{Counting-still, Counting-trans}
 

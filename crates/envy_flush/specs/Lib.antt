@@ -6,7 +6,6 @@ pub mod Ending
 pub mod Flushing
 pub mod Leaving
 pub mod Pages
-pub mod Power
 pub mod Putting
 pub mod Restarts
 pub mod Starting

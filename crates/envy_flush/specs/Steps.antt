@@ -1,11 +1,9 @@
 -- Steps of a job and of the stages that are left of a swap.
 use Rattle.std.specs.Prelude.{◌≡◌, ◌≢◌, ◌⊎◌, ℕ, zero, suc, [], drop, Some, slice_get, slice_index}
 use Rattle.envy_base.specs.declared.fields.Job.TheVariants.{Idle as IdleJob, Copy, Erase}
-use Rattle.envy_base.specs.Counting.{up}
 use Rattle.envy_map.specs.Fields.{Chart, with_fields}
 use Rattle.envy_map.specs.Writes.{with_job}
 use Rattle.envy_reloc.specs.Phases.{Does, Spoils}
-use Rattle.envy_reloc.specs.Plan.{Plan}
 use Rattle.envy_reloc.specs.declared.step.Phase.{Phase}
 use Rattle.envy_reloc.specs.declared.step.Phase.TheVariants.{Moved as MovedPhase, Copied as CopiedPhase, Switched as SwitchedPhase, Placed as PlacedPhase, Erased as ErasedPhase}
 use Rattle.envy_flush.specs.declared.parts.Parts.{Parts}
@@ -18,13 +16,6 @@ did_of CopiedPhase = Copied
 did_of SwitchedPhase = Switched
 did_of PlacedPhase = Placed
 did_of ErasedPhase = Erased
-
--- A step of the job was bad, and that is counted: the spare is to be erased, and but for a failed erase no move is left.
-pub record SpoilsStep (old : Chart) (was : Plan) (new : Chart) (now : Plan) : Type 0 where
-  pub job : new.fields.job ≡ Some Erase
-  pub dropped : old.fields.job ≢ Some Erase → now.moves ≡ []
-  pub spoils : Spoils old was new now
-  pub bads : new.bads ≡ up old.bads
 
 -- flushes, heats, turns, frames and swaps are as before
 pub record Idles (was now : Parts) : Type 0 where

@@ -9,7 +9,7 @@ ghost use Rattle.envy_table.specs.Hits.{Rests};
 ghost use Rattle.envy_flush.specs.Agreement.{Ready, Steady};
 ghost use Rattle.envy_flush.specs.Storing.{Brings, IsNotable, left_pool, Near, FillsFrame};
 ghost use Rattle.envy_flush.specs.Leaving.{LeavesParts};
-ghost use Rattle.envy_flush.specs.Power.{power_of};
+ghost use Rattle.envy_layout.specs.Power.{power_of};
 
 use crate::homes::home_of;
 use crate::page::read_words;

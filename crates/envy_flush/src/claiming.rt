@@ -4,7 +4,7 @@ ghost use Rattle.envy_layout.specs.Same.{Same};
 ghost use Rattle.envy_flush.specs.Agreement.{Ready};
 ghost use Rattle.envy_reloc.specs.Plan.{IsFreeOf};
 ghost use Rattle.envy_flush.specs.Leaving.{LeavesParts};
-ghost use Rattle.envy_flush.specs.Power.{power_of};
+ghost use Rattle.envy_layout.specs.Power.{power_of};
 ghost use Rattle.envy_flush.specs.Flushing.{TakesFresh};
 
 use crate::parts::Parts;

@@ -9,7 +9,7 @@ ghost use Rattle.envy_flush.specs.Budgets.{Budget};
 ghost use Rattle.envy_flush.specs.Cleaning.{AreLowestKept, AreMoves, takers, BeginsClean, FinishesClean, CleansWhole, StopsWhole};
 ghost use Rattle.envy_flush.specs.Steps.{Begins, CountsNone, StopsStep};
 ghost use Rattle.envy_flush.specs.Leaving.{LeavesParts, KeepsFrames, CountsBad};
-ghost use Rattle.envy_flush.specs.Power.{power_of, power_after};
+ghost use Rattle.envy_layout.specs.Power.{power_of, power_after};
 ghost use Rattle.envy_flush.specs.Flushing.{CleansFor, IsAtRest};
 
 use crate::claiming::claim_at;

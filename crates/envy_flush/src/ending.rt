@@ -8,7 +8,7 @@ ghost use Rattle.envy_table.specs.Hits.{Rests};
 ghost use Rattle.envy_flush.specs.Agreement.{Ready, Steady};
 ghost use Rattle.envy_flush.specs.Ending.{IsReleasing, EndsSlot, TakesSlot};
 ghost use Rattle.envy_flush.specs.Putting.{OwnersAgree, KeepsOwners};
-ghost use Rattle.envy_flush.specs.Power.{power_of};
+ghost use Rattle.envy_layout.specs.Power.{power_of};
 
 use crate::parts::Parts;
 use envy_base::{Board, Off, Slot};

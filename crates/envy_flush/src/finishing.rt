@@ -7,7 +7,7 @@ ghost use Rattle.envy_flush.specs.Agreement.{Ready};
 ghost use Rattle.envy_flush.specs.Budgets.{Budget, Turns};
 ghost use Rattle.envy_flush.specs.Steps.{StepsOnce, Finishes, StopsJob, StopsStep};
 ghost use Rattle.envy_flush.specs.Leaving.{LeavesParts, KeepsFrames, CountsBad};
-ghost use Rattle.envy_flush.specs.Power.{power_after};
+ghost use Rattle.envy_layout.specs.Power.{power_after};
 ghost use Rattle.envy_flush.specs.Flushing.{IsAtRest};
 
 use crate::jobs::{runs, tick_job, tick_stage};

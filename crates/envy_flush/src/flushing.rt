@@ -9,7 +9,7 @@ ghost use Rattle.envy_layout.specs.Same.{Same};
 ghost use Rattle.envy_flush.specs.Agreement.{Ready};
 ghost use Rattle.envy_flush.specs.Flushing.{FlushesOldest, Granted, IsFresh, MovesOut, StopsMove, StopsOldest};
 ghost use Rattle.envy_flush.specs.Leaving.{LeavesParts};
-ghost use Rattle.envy_flush.specs.Power.{power_of, power_after};
+ghost use Rattle.envy_layout.specs.Power.{power_of, power_after};
 
 use crate::parts::Parts;
 use crate::programming::copy_row;

@@ -5,13 +5,14 @@ ghost use Rattle.envy_layout.specs.Same.{Same};
 ghost use Rattle.envy_layout.specs.Sound.{IsSound};
 ghost use Rattle.envy_layout.specs.Frames.{FramesStay};
 ghost use Rattle.envy_reloc.specs.Effort.{Leaves, Spent};
+ghost use Rattle.envy_reloc.specs.Keeping.{Fails};
 ghost use Rattle.envy_reloc.specs.Phases.{Does, SameOnce};
 ghost use Rattle.envy_flush.specs.Agreement.{Ready};
 ghost use Rattle.envy_reloc.specs.Cleaning.{Cleans};
 ghost use Rattle.envy_flush.specs.Budgets.{StageBegins};
-ghost use Rattle.envy_flush.specs.Steps.{TicksJob, TicksStage, StopsJob, SpoilsStep};
+ghost use Rattle.envy_flush.specs.Steps.{TicksJob, TicksStage, StopsJob};
 ghost use Rattle.envy_flush.specs.Leaving.{LeavesParts, CountsBad};
-ghost use Rattle.envy_flush.specs.Power.{power_after};
+ghost use Rattle.envy_layout.specs.Power.{power_after};
 
 use crate::did::{Did, named};
 use crate::parts::Parts;
@@ -50,7 +51,7 @@ pub fn step_job<B: Board>(board: &mut B, parts: &mut Parts) -> Result<Phase, Tro
     ensures left { OnOk result ((n e s : ℕ) → Leaves (chart (B.state board.old)) parts.old.reloc n e s
         → Spent (chart (B.state board.old)) (chart (B.state board.new)) parts.new.reloc n e s) }
     ensures spoils { IsErrOf result Trouble.Bad
-        → SpoilsStep (chart (B.state board.old)) parts.old.reloc (chart (B.state board.new)) parts.new.reloc }
+        → Fails (chart (B.state board.old)) parts.old.reloc (chart (B.state board.new)) parts.new.reloc }
     ensures power { (B.state board.new).on ≡ power_after result }
 {
     parts.reloc.step(board, &mut parts.space, &mut parts.cache)

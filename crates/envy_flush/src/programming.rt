@@ -6,7 +6,7 @@ ghost use Rattle.envy_layout.specs.Same.{Same};
 ghost use Rattle.envy_flush.specs.Agreement.{Ready};
 ghost use Rattle.envy_flush.specs.Flushing.{IsFresh, ProgramsOnly};
 ghost use Rattle.envy_flush.specs.Leaving.{LeavesParts};
-ghost use Rattle.envy_flush.specs.Power.{power_after};
+ghost use Rattle.envy_layout.specs.Power.{power_after};
 
 use crate::page::read_words;
 use crate::parts::Parts;

@@ -14,7 +14,7 @@ ghost use Rattle.envy_flush.specs.Putting.{MayGive, given, undo_for, PutFirst, P
 ghost use Rattle.envy_flush.specs.Storing.{Brings, Near, Lands};
 ghost use Rattle.envy_flush.specs.declared.parts.Parts.{Parts as TheParts};
 ghost use Rattle.envy_flush.specs.Leaving.{LeavesParts, CountsBad};
-ghost use Rattle.envy_flush.specs.Power.{power_after, power_of};
+ghost use Rattle.envy_layout.specs.Power.{power_after, power_of};
 
 use crate::bringing::fill_frame;
 use crate::parts::Parts;

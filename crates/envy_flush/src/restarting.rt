@@ -5,7 +5,7 @@ ghost use Rattle.envy_layout.specs.Sound.{IsSound};
 ghost use Rattle.envy_layout.specs.Words.{durable};
 ghost use Rattle.envy_flush.specs.Agreement.{Fits, Ready};
 ghost use Rattle.envy_flush.specs.Restarts.{IsSettled, IsRestarted, SameCounts, IsRebuilt, SettlesAll};
-ghost use Rattle.envy_flush.specs.Power.{power_of};
+ghost use Rattle.envy_layout.specs.Power.{power_of};
 
 use crate::parts::Parts;
 use envy_base::{Board, Off};

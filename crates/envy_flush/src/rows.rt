@@ -4,7 +4,7 @@ ghost use Rattle.envy_layout.specs.Same.{Same};
 ghost use Rattle.envy_flush.specs.Agreement.{Ready};
 ghost use Rattle.envy_flush.specs.Flushing.{IsBusy, IsAtRest, GetsFresh, StopsGetting};
 ghost use Rattle.envy_flush.specs.Leaving.{LeavesParts, KeepsFrames};
-ghost use Rattle.envy_flush.specs.Power.{power_of, power_after};
+ghost use Rattle.envy_layout.specs.Power.{power_of, power_after};
 
 use crate::beside::usable;
 use crate::claiming::claim_at;

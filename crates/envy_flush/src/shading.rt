@@ -7,7 +7,7 @@ ghost use Rattle.envy_flush.specs.Agreement.{Ready};
 ghost use Rattle.envy_flush.specs.Flushing.{Granted, IsFresh};
 ghost use Rattle.envy_flush.specs.Putting.{MayGive, given, PutFirst, Shadows, KeepsOwners, ShadesPage, MarksPage, StopsMark, ShadesHere, StopsHere};
 ghost use Rattle.envy_flush.specs.Leaving.{LeavesParts};
-ghost use Rattle.envy_flush.specs.Power.{power_of, power_after};
+ghost use Rattle.envy_layout.specs.Power.{power_of, power_after};
 
 use crate::parts::Parts;
 use crate::programming::copy_row;

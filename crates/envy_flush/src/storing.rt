@@ -10,7 +10,7 @@ ghost use Rattle.envy_table.specs.Hits.{Accesses};
 ghost use Rattle.envy_flush.specs.Storing.{Brings, StoresBy, Wrote, Shaded};
 ghost use Rattle.envy_flush.specs.declared.parts.Parts.{Parts as TheParts};
 ghost use Rattle.envy_flush.specs.Leaving.{LeavesParts, CountsBad};
-ghost use Rattle.envy_flush.specs.Power.{power_after};
+ghost use Rattle.envy_layout.specs.Power.{power_after};
 
 use crate::bringing::bring;
 use crate::flushing::flush_oldest;

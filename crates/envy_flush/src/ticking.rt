@@ -11,7 +11,7 @@ ghost use Rattle.envy_choosing.specs.Choosing.{ChoiceFor};
 ghost use Rattle.envy_wear.specs.Swaps.{IsQuiet};
 ghost use Rattle.envy_flush.specs.Ticks.{IsNoneDue, TicksChoice, TicksFlush, TicksSwap, TicksNone, TicksBy, TicksBad, StopsFlush, CountsTick};
 ghost use Rattle.envy_flush.specs.Leaving.{LeavesParts, CountsBad};
-ghost use Rattle.envy_flush.specs.Power.{power_after};
+ghost use Rattle.envy_layout.specs.Power.{power_after};
 ghost use Rattle.envy_flush.specs.Flushing.{IsAtRest};
 
 use crate::claiming::claim_at;

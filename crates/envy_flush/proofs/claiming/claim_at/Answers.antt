@@ -1,4 +1,4 @@
-use Rattle.std.proofs.Common.{◌≡◌, ◌<◌, ◌+◌, refl, sym, ap, subst, ◌∙◌, List, ℕ, get_or, set}
+use Rattle.std.proofs.Common.{◌≡◌, ◌<◌, ◌+◌, inl, refl, sym, ap, subst, ◌∙◌, List, ℕ, get_or, set}
 use Rattle.envy_map.specs.Fields.{Chart, chart}
 use Rattle.envy_layout.specs.Same.{Same, Stays, Framed}
 use Rattle.envy_layout.specs.Sound.{IsPlaced}
@@ -16,16 +16,16 @@ returns-clause-leaves g c =
     let new = chart (g.B.Board.state c.claim.new.board) in
     let r = c.requires.ready in
     let e = c.in_ok-row.ensures in
-    let shape : new.shape ≡ old.shape = ap (λ (z : Chart). z.shape) e.claims.fields in
+    let shape : new.shape ≡ old.shape = ap (λ (z : Chart). z.shape) e.claims.claims.fields in
     let placed : IsPlaced old.shape old.fields.positions c.segment_at.result = (c.args.position, c.requires.position, ap (λ (xs : List ℕ). get_or xs c.args.position 0) (sym r.agrees.pool.positions) ∙ sym c.segment_at.ensures.segment) in
     let free : IsFreeOf old.fields.job c.segment_at.result = subst (λ (s : ℕ). IsFreeOf old.fields.job s) (sym c.segment_at.ensures.segment) c.requires.free in
     let chooser = ap sizes_of c.note_claim.ensures ∙ claimed-sizes c.args.parts.now.chooser c.args.position c.args.page in
     record {
       steady = record {
         fits = Fits-moved old.shape new.shape c.args.parts.now _ shape r.fits e.shape refl refl chooser refl;
-        agrees = λ on. Agrees-claimed old new c.args.parts.now _ c.segment_at.result c.in_ok-row.row c.args.page r.sound r.agrees placed free e.claims e.claimed (e.agrees on) refl refl refl;
+        agrees = λ on. Agrees-claimed old new c.args.parts.now _ c.segment_at.result c.in_ok-row.row c.args.page r.sound r.agrees placed free e.claims.claims e.claims.claimed (e.agrees on) refl refl refl;
       };
-      counting = Counting-still old new c.args.parts.now _ (Stays.counted (Same.stays (e.same r.sound))) refl refl refl (λ on. ap (λ (z : Chart). z.fields.wears) e.claims.fields);
+      counting = Counting-still old new c.args.parts.now _ (Stays.counted (Same.stays (e.same r.sound))) refl refl refl (λ on. ap (λ (z : Chart). z.fields.wears) e.claims.claims.fields);
       rests = Rests-refl c.args.parts.now.cache;
     }
 
@@ -36,7 +36,7 @@ returns-in_err-row-clause-leaves g c =
     let r = c.requires.ready in
     let e = c.claim.ensures in
     let s = Same.stays (e.same r.sound) in
-    leaves_off old new c.args.parts.now _ (Fits-moved old.shape new.shape c.args.parts.now _ (Framed.shape (Stays.framed s)) r.fits e.shape refl refl refl refl) (Stays.counted s) c.in_err-row.ensures.off refl refl refl (Rests-refl c.args.parts.now.cache)
+    leaves_off old new c.args.parts.now _ (Fits-moved old.shape new.shape c.args.parts.now _ (Framed.shape (Stays.framed s)) r.fits e.shape refl refl refl refl) (Stays.counted s) c.in_err-row.ensures.power refl refl refl (Rests-refl c.args.parts.now.cache)
 
 pub returns-clause-takes : goal.returns-clause-takes
 returns-clause-takes g c =
@@ -51,7 +51,7 @@ returns-clause-takes g c =
     let placed : IsPlaced old.shape old.fields.positions c.segment_at.result = (k, c.requires.position, sym order ∙ sym c.segment_at.ensures.segment) in
     let free : IsFreeOf old.fields.job c.segment_at.result = subst (λ (s : ℕ). IsFreeOf old.fields.job s) (sym c.segment_at.ensures.segment) c.requires.free in
     let room : get_or old.fields.fills s 0 < old.shape.rows = subst (λ (xs : List ℕ). get_or xs s 0 < old.shape.rows) r.agrees.pool.fills c.requires.room in
-    let changes = subst (λ (n : ℕ). Claims old n c.args.page c.in_ok-row.row new) c.segment_at.ensures.segment e.claims in
+    let changes = subst (λ (n : ℕ). Claims old n c.args.page c.in_ok-row.row new) c.segment_at.ensures.segment e.claims.claims in
     record {
       changes = changes;
       claims = (
@@ -61,5 +61,12 @@ returns-clause-takes g c =
         ap (λ (w : Chart). w.erases) changes.fields,
         c.note_claim.ensures,
       );
-      fresh = record { granted = Granted-claimed old new c.segment_at.result c.in_ok-row.row c.args.page placed free e.claims e.claimed; erased = e.claimed.erased };
+      fresh = record { granted = Granted-claimed old new c.segment_at.result c.in_ok-row.row c.args.page placed free e.claims.claims e.claims.claimed; erased = e.claims.claimed.erased };
     }
+
+pub claim-requires-clause-ready : goal.claim-requires-clause-ready
+claim-requires-clause-ready g c on =
+    let old = chart (g.B.Board.state c.args.board.now) in
+    let r = c.requires.ready in
+    let placed : IsPlaced old.shape old.fields.positions c.segment_at.result = (c.args.position, c.requires.position, ap (λ (xs : List ℕ). get_or xs c.args.position 0) (sym r.agrees.pool.positions) ∙ sym c.segment_at.ensures.segment) in
+    record { sound = r.sound; agrees = r.agrees.pool; usable = inl placed }

@@ -20,7 +20,7 @@ returns-clause-cleans g c =
     let plan = c.begin.ensures.plan c.requires.ready.on in
     let order : get_or c.args.parts.now.space.positions k 0 ≡ get_or old.fields.positions k 0 = ap (λ (xs : List ℕ). get_or xs k 0) (IsPoolOf.positions c.requires.ready.agrees.pool) in
     record {
-      fields = subst (λ (s : ℕ). new ≡ with_fields old (with_job (Some (Copy s)) old.fields)) order c.in_ok-begin.ensures.fields;
+      fields = subst (λ (s : ℕ). new ≡ with_fields old (with_job (Some (Copy s)) old.fields)) order c.in_ok-begin.ensures.begins.fields;
       moves = subst (λ (xs : List ℕ). AreMoves old.shape old.fields k c.args.aside xs) (sym (ap (λ (p : Plan). p.moves) plan)) c.in_ok-plan.ensures.moves;
       takes = ap (λ (p : Plan). p.aside) plan ∙ c.in_ok-plan.ensures.takers;
       chooser = c.note_clean.ensures;
@@ -40,9 +40,9 @@ returns-in_err-begin-clause-leaves g c =
     record {
       steady = record {
         fits = Fits-moved old.shape new.shape c.args.parts.now _ (Framed.shape (Stays.framed s)) r.fits refl refl refl refl refl;
-        agrees = λ on. absurd (let no : false ≡ true = sym c.in_err-begin.ensures.off ∙ on in cc);
+        agrees = λ on. absurd (let no : false ≡ true = sym c.in_err-begin.ensures.power ∙ on in cc);
       };
-      counting = Counting-quiet old new c.args.parts.now _ (Stays.counted s) refl refl (record { copied = ap (λ (p : Plan). p.copied) plan; moved = ap (λ (p : Plan). p.moved) plan; erased = ap (λ (p : Plan). p.erased) plan }) (ap (λ (p : Plan). p.since) plan) (λ on. absurd (let no : false ≡ true = sym c.in_err-begin.ensures.off ∙ on in cc));
+      counting = Counting-quiet old new c.args.parts.now _ (Stays.counted s) refl refl (record { copied = ap (λ (p : Plan). p.copied) plan; moved = ap (λ (p : Plan). p.moved) plan; erased = ap (λ (p : Plan). p.erased) plan }) (ap (λ (p : Plan). p.since) plan) (λ on. absurd (let no : false ≡ true = sym c.in_err-begin.ensures.power ∙ on in cc));
       rests = Rests-refl c.args.parts.now.cache;
     }
 
@@ -53,7 +53,7 @@ returns-clause-leaves g c =
     let r = c.requires.ready in
     let s = Same.stays (c.begin.ensures.same r.sound) in
     let plan = c.begin.ensures.plan r.on in
-    let fields = c.in_ok-begin.ensures.fields in
+    let fields = c.in_ok-begin.ensures.begins.fields in
     record {
       steady = record {
         fits = Fits-moved old.shape new.shape c.args.parts.now _ (Framed.shape (Stays.framed s)) r.fits refl refl refl (ap sizes_of c.note_clean.ensures) refl;

@@ -9,8 +9,8 @@ use Rattle.envy_table.specs.Hits.{Rests}
 use Rattle.envy_txn.specs.Ending.{Restores}
 use Rattle.envy_flush.proofs.AgreeLemmas.{Fits-moved}
 use Rattle.envy_flush.proofs.EndLemmas.{PartsAgree-restored, Closes-restored, Rows-restored, AreOwned-slot}
-use Rattle.envy_flush.proofs.FlushLemmas.{if-on, on-ok}
-use Rattle.envy_flush.proofs.Leaving.{power_by}
+use Rattle.envy_flush.proofs.FlushLemmas.{on-ok}
+use Rattle.envy_flush.proofs.Leaving.{if_powered}
 use Rattle.envy_flush.proofs.ending.abort_pages.Goals as goal
 
 pub returns-in_err-restore_all-clause-durable : goal.returns-in_err-restore_all-clause-durable
@@ -30,15 +30,15 @@ returns-clause-aborts g c =
     let new = chart (g.B.Board.state c.set_unused_slot.new.board) in
     let same = c.set_unused_slot.ensures.same in
     let o = c.in_ok-restore_all.ensures in
-    let res = o.restores in
+    let res = o.restores.restores in
     on-ok c.set_unused_slot.result _ _
     (λ fields. record {
       takes = record {
         own = λ a named. ap (λ (ws : List ℕ). get_or ws a 0) (SameWords.live same) ∙ Restores.own_words res a named;
         others = λ a free. ap (λ (ws : List ℕ). get_or ws a 0) (SameWords.live same) ∙ Restores.other_words res a free;
       };
-      ends = record { closes = Closes-restored old mid new c.args.t res fields; rows = Rows-restored old mid new c.args.t res fields; pairs = o.pairs };
-      held = o.left;
+      ends = record { closes = Closes-restored old mid new c.args.t res fields; rows = Rows-restored old mid new c.args.t res fields; pairs = o.restores.pairs };
+      held = o.restores.left;
     })
     c.set_unused_slot.ensures.fields
 
@@ -48,11 +48,11 @@ returns-clause-owners g c =
     let new = chart (g.B.Board.state c.set_unused_slot.new.board) in
     let e = c.set_unused_slot.ensures in
     record {
-      limit = ap (λ (o : Ownership). o.limit) c.in_ok-restore_all.ensures.pairs;
+      limit = ap (λ (o : Ownership). o.limit) c.in_ok-restore_all.ensures.restores.pairs;
       agree = λ on.
-          let moved = if-on c.set_unused_slot.result new.on _ e.fields e.off on in
+          let moved = if_powered c.set_unused_slot.result new.on _ e.fields e.power on in
           let was : IsTrue mid.on = ap (λ (z : Chart). z.on) (sym moved) ∙ on in
-          subst (λ (z : Chart). AreOwned z.fields.slots z.fields.undos c.restore_all.new.self.pairs) (sym moved) (AreOwned-slot mid.fields.slots mid.fields.undos c.restore_all.new.self.pairs c.args.t (Some Vacant) c.in_ok-restore_all.ensures.unused (c.restore_all.ensures.owned was));
+          subst (λ (z : Chart). AreOwned z.fields.slots z.fields.undos c.restore_all.new.self.pairs) (sym moved) (AreOwned-slot mid.fields.slots mid.fields.undos c.restore_all.new.self.pairs c.args.t (Some Vacant) c.in_ok-restore_all.ensures.restores.unused (c.restore_all.ensures.agrees was).owners.owned);
     }
 
 pub returns-clause-steady : goal.returns-clause-steady
@@ -66,9 +66,9 @@ returns-clause-steady g c =
     let o = c.in_ok-restore_all.ensures in
     let shape = SameWords.shape e.same ∙ SameDurable.shape (a.durable r.sound) in
     record {
-      fits = Fits-moved old.shape new.shape c.args.parts.now _ shape r.fits a.shape a.count (Rests.size a.rests) refl refl;
-      agrees = λ on. let moved = if-on c.set_unused_slot.result new.on _ e.fields e.off on in let was : IsTrue mid.on = ap (λ (z : Chart). z.on) (sym moved) ∙ on in PartsAgree-restored old mid new c.args.parts.now _ c.args.t r.agrees o.restores o.unused (a.pool was) (a.held was) (a.current was) (a.parted was) moved refl;
+      fits = Fits-moved old.shape new.shape c.args.parts.now _ shape r.fits a.sizes.0 a.sizes.1 (Rests.size a.rests) refl refl;
+      agrees = λ on. let moved = if_powered c.set_unused_slot.result new.on _ e.fields e.power on in let was : IsTrue mid.on = ap (λ (z : Chart). z.on) (sym moved) ∙ on in PartsAgree-restored old mid new c.args.parts.now _ c.args.t r.agrees o.restores.restores o.restores.unused (a.agrees was).owners.pool (a.agrees was).held (a.agrees was).current (a.agrees was).owners.parted moved refl;
     }
 
 pub returns-clause-power : goal.returns-clause-power
-returns-clause-power g c = power_by c.set_unused_slot.result _ c.set_unused_slot.ensures.on c.set_unused_slot.ensures.off
+returns-clause-power g c = c.set_unused_slot.ensures.power

@@ -11,7 +11,7 @@ release_pages-requires g c =
     let mid = chart (g.B.Board.state c.commit_slot.new.board) in
     let r = c.requires in
     let o = c.in_ok-commit_slot.ensures in
-    record { releasing = IsReleasing-start old mid c.args.parts.now c.args.owned.now c.args.t r.ready (r.owners r.ready.on) r.version r.slot r.active o.on (Commits.sound o.commits) o.fields }
+    record { releasing = IsReleasing-start old mid c.args.parts.now c.args.owned.now c.args.t r.ready (r.owners r.ready.on) r.version r.slot r.active o.power (Commits.sound o.commits) o.fields }
 
 pub returns-clause-ends : goal.returns-clause-ends
 returns-clause-ends g c =

@@ -6,8 +6,7 @@ use Rattle.envy_txn.specs.Owners.{AreOwned}
 use Rattle.envy_flush.specs.Agreement.{Fits, PartsAgree}
 use Rattle.envy_base.specs.declared.shape.Shape.{Shape}
 use Rattle.envy_flush.proofs.EndLemmas.{Agrees-slot, AreOwned-slot, unused-vacant}
-use Rattle.envy_flush.proofs.FlushLemmas.{if-on}
-use Rattle.envy_flush.proofs.Leaving.{power_by}
+use Rattle.envy_flush.proofs.Leaving.{if_powered}
 use Rattle.envy_flush.proofs.ending.open_slot.Goals as goal
 
 pub set_unused_slot-requires-clause-unused : goal.set_unused_slot-requires-clause-unused
@@ -22,7 +21,7 @@ returns-clause-steady g c =
     let unused = unused-vacant old c.args.t r.sound c.requires.vacant in
     record {
       fits = subst (λ (sh : Shape). Fits sh c.args.parts.now) (sym (SameWords.shape e.same)) r.fits;
-      agrees = λ on. subst (λ (z : Chart). PartsAgree z c.args.parts.now) (sym (if-on c.set_unused_slot.result new.on _ e.fields e.off on)) (Agrees-slot old.shape old.fields old.flash c.args.parts.now c.args.t (Some Active) unused r.agrees);
+      agrees = λ on. subst (λ (z : Chart). PartsAgree z c.args.parts.now) (sym (if_powered c.set_unused_slot.result new.on _ e.fields e.power on)) (Agrees-slot old.shape old.fields old.flash c.args.parts.now c.args.t (Some Active) unused r.agrees);
     }
 
 pub returns-clause-owners : goal.returns-clause-owners
@@ -32,7 +31,7 @@ returns-clause-owners g c on =
     let r = c.requires.ready in
     let e = c.set_unused_slot.ensures in
     let unused = unused-vacant old c.args.t r.sound c.requires.vacant in
-    subst (λ (z : Chart). AreOwned z.fields.slots z.fields.undos c.args.owned.now.pairs) (sym (if-on c.set_unused_slot.result new.on _ e.fields e.off on)) (AreOwned-slot old.fields.slots old.fields.undos c.args.owned.now.pairs c.args.t (Some Active) unused (c.requires.owners r.on))
+    subst (λ (z : Chart). AreOwned z.fields.slots z.fields.undos c.args.owned.now.pairs) (sym (if_powered c.set_unused_slot.result new.on _ e.fields e.power on)) (AreOwned-slot old.fields.slots old.fields.undos c.args.owned.now.pairs c.args.t (Some Active) unused (c.requires.owners r.on))
 
 pub returns-clause-power : goal.returns-clause-power
-returns-clause-power g c = power_by c.set_unused_slot.result _ c.set_unused_slot.ensures.on c.set_unused_slot.ensures.off
+returns-clause-power g c = c.set_unused_slot.ensures.power

@@ -7,8 +7,8 @@ use Rattle.envy_layout.proofs.Composition.{SameWords-trans}
 use Rattle.envy_txn.specs.Owners.{AreOwned, Ownership}
 use Rattle.envy_flush.proofs.AgreeLemmas.{Fits-moved}
 use Rattle.envy_flush.proofs.EndLemmas.{PartsAgree-released, Closes-released, Rows-released, AreOwned-slot}
-use Rattle.envy_flush.proofs.FlushLemmas.{if-on, on-ok}
-use Rattle.envy_flush.proofs.Leaving.{power_by}
+use Rattle.envy_flush.proofs.FlushLemmas.{on-ok}
+use Rattle.envy_flush.proofs.Leaving.{if_powered}
 use Rattle.envy_flush.proofs.ending.release_pages.Goals as goal
 
 pub returns-clause-same : goal.returns-clause-same
@@ -23,7 +23,7 @@ returns-clause-ends g c =
     let old = chart (g.B.Board.state c.args.board.now) in
     let mid = chart (g.B.Board.state c.release_all.new.board) in
     let new = chart (g.B.Board.state c.set_unused_slot.new.board) in
-    on-ok c.set_unused_slot.result _ _ (λ fields. let r = c.in_ok-release_all.ensures in record { closes = Closes-released old mid new c.args.t r.releases fields; rows = Rows-released old mid new c.args.t r.releases fields; pairs = r.pairs }) c.set_unused_slot.ensures.fields
+    on-ok c.set_unused_slot.result _ _ (λ fields. let r = c.in_ok-release_all.ensures in record { closes = Closes-released old mid new c.args.t r.releases.releases fields; rows = Rows-released old mid new c.args.t r.releases.releases fields; pairs = r.releases.pairs }) c.set_unused_slot.ensures.fields
 
 pub returns-clause-steady : goal.returns-clause-steady
 returns-clause-steady g c =
@@ -37,7 +37,7 @@ returns-clause-steady g c =
     let shape = SameWords.shape e.same ∙ SameWords.shape (a.same r.sound) in
     record {
       fits = Fits-moved old.shape new.shape c.args.parts.now _ shape r.fits a.shape refl refl refl refl;
-      agrees = λ on. let moved = if-on c.set_unused_slot.result new.on _ e.fields e.off on in let was : IsTrue mid.on = ap (λ (z : Chart). z.on) (sym moved) ∙ on in PartsAgree-released old mid new c.args.parts.now _ c.args.t r.agrees o.releases o.unused (a.pool was) (a.parted was) moved refl;
+      agrees = λ on. let moved = if_powered c.set_unused_slot.result new.on _ e.fields e.power on in let was : IsTrue mid.on = ap (λ (z : Chart). z.on) (sym moved) ∙ on in PartsAgree-released old mid new c.args.parts.now _ c.args.t r.agrees o.releases.releases o.releases.unused (a.agrees was).pool (a.agrees was).parted moved refl;
     }
 
 pub returns-clause-owners : goal.returns-clause-owners
@@ -46,15 +46,15 @@ returns-clause-owners g c =
     let new = chart (g.B.Board.state c.set_unused_slot.new.board) in
     let e = c.set_unused_slot.ensures in
     record {
-      limit = ap (λ (o : Ownership). o.limit) c.in_ok-release_all.ensures.pairs;
+      limit = ap (λ (o : Ownership). o.limit) c.in_ok-release_all.ensures.releases.pairs;
       agree = λ on.
-          let moved = if-on c.set_unused_slot.result new.on _ e.fields e.off on in
+          let moved = if_powered c.set_unused_slot.result new.on _ e.fields e.power on in
           let was : IsTrue mid.on = ap (λ (z : Chart). z.on) (sym moved) ∙ on in
-          subst (λ (z : Chart). AreOwned z.fields.slots z.fields.undos c.release_all.new.self.pairs) (sym moved) (AreOwned-slot mid.fields.slots mid.fields.undos c.release_all.new.self.pairs c.args.t (Some Vacant) c.in_ok-release_all.ensures.unused (c.release_all.ensures.owned was));
+          subst (λ (z : Chart). AreOwned z.fields.slots z.fields.undos c.release_all.new.self.pairs) (sym moved) (AreOwned-slot mid.fields.slots mid.fields.undos c.release_all.new.self.pairs c.args.t (Some Vacant) c.in_ok-release_all.ensures.releases.unused (c.release_all.ensures.agrees was).owned);
     }
 
 pub returns-in_err-release_all-clause-same : goal.returns-in_err-release_all-clause-same
 returns-in_err-release_all-clause-same g c = c.release_all.ensures.same c.requires.releasing.sound
 
 pub returns-clause-power : goal.returns-clause-power
-returns-clause-power g c = power_by c.set_unused_slot.result _ c.set_unused_slot.ensures.on c.set_unused_slot.ensures.off
+returns-clause-power g c = c.set_unused_slot.ensures.power

@@ -44,4 +44,4 @@ returns-clause-leaves g c =
     }
 
 pub returns-in_err-move_place-clause-leaves : goal.returns-in_err-move_place-clause-leaves
-returns-in_err-move_place-clause-leaves g c = leaves_off_same _ _ _ c.requires.ready c.move_place.ensures.same c.in_err-move_place.ensures.off
+returns-in_err-move_place-clause-leaves g c = leaves_off_same _ _ _ c.requires.ready c.move_place.ensures.same c.in_err-move_place.ensures.power

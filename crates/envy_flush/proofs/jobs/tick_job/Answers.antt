@@ -36,10 +36,10 @@ unfolding fault_of
 raised b d f r is bad same lt = rw (bad (is ∙ ap (λ (x : Trouble). Err x) (ap (λ (s : Result Did Trouble). fault_of s) same))) (up-rises b lt)
 
 pub returns-then-not-erasing-clause-bad : goal.returns-then-not-erasing-clause-bad
-returns-then-not-erasing-clause-bad g c = raised (g.B.Board.state c.args.board.now).bads (g.B.Board.state c.step_job.new.board).bads c.in-Err.fault c.step_job.result c.in-Err.is (λ is. (c.step_job.ensures.spoils is).bads)
+returns-then-not-erasing-clause-bad g c = raised (g.B.Board.state c.args.board.now).bads (g.B.Board.state c.step_job.new.board).bads c.in-Err.fault c.step_job.result c.in-Err.is (λ is. (c.step_job.ensures.spoils is).bad)
 
 pub returns-else-eq-clause-bad : goal.returns-else-eq-clause-bad
-returns-else-eq-clause-bad g c = raised (g.B.Board.state c.args.board.now).bads (g.B.Board.state c.step_job.new.board).bads c.in-Err.fault c.step_job.result c.in-Err.is (λ is. (c.step_job.ensures.spoils is).bads)
+returns-else-eq-clause-bad g c = raised (g.B.Board.state c.args.board.now).bads (g.B.Board.state c.step_job.new.board).bads c.in-Err.fault c.step_job.result c.in-Err.is (λ is. (c.step_job.ensures.spoils is).bad)
 
 pub returns-then-not-erasing-clause-stops : goal.returns-then-not-erasing-clause-stops
 unfolding fault_of

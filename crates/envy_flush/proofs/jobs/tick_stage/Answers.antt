@@ -25,9 +25,9 @@ returns-in_err-begin-clause-leaves g c =
     record {
       steady = record {
         fits = Fits-next old.shape new.shape c.args.parts.now _ shape r.fits c.next.ensures.rest (c.next.ensures.below _ (AreStages.within (Fits.stages r.fits))).1 refl refl refl refl;
-        agrees = λ on. absurd (let no : false ≡ true = sym c.in_err-begin.ensures.off ∙ on in cc);
+        agrees = λ on. absurd (let no : false ≡ true = sym c.in_err-begin.ensures.power ∙ on in cc);
       };
-      counting = Counting-quiet old new c.args.parts.now _ (Stays.counted s) refl refl (record { copied = ap (λ (p : Plan). p.copied) plan; moved = ap (λ (p : Plan). p.moved) plan; erased = ap (λ (p : Plan). p.erased) plan }) (ap (λ (p : Plan). p.since) plan) (λ on. absurd (let no : false ≡ true = sym c.in_err-begin.ensures.off ∙ on in cc));
+      counting = Counting-quiet old new c.args.parts.now _ (Stays.counted s) refl refl (record { copied = ap (λ (p : Plan). p.copied) plan; moved = ap (λ (p : Plan). p.moved) plan; erased = ap (λ (p : Plan). p.erased) plan }) (ap (λ (p : Plan). p.since) plan) (λ on. absurd (let no : false ≡ true = sym c.in_err-begin.ensures.power ∙ on in cc));
       rests = Rests-refl c.args.parts.now.cache;
     }
 
@@ -42,8 +42,8 @@ returns-clause-leaves g c =
     record {
       steady = record {
         fits = Fits-next old.shape new.shape c.args.parts.now _ shape r.fits c.next.ensures.rest (c.next.ensures.below _ (AreStages.within (Fits.stages r.fits))).1 refl refl refl refl;
-        agrees = λ on. Agrees-begun old new c.args.parts.now _ _ r.agrees c.in_ok-begin.ensures.fields (c.begin.ensures.agrees on) refl refl refl;
+        agrees = λ on. Agrees-begun old new c.args.parts.now _ _ r.agrees c.in_ok-begin.ensures.begins.fields (c.begin.ensures.agrees on) refl refl refl;
       };
-      counting = Counting-quiet old new c.args.parts.now _ (Stays.counted s) refl refl (record { copied = ap (λ (p : Plan). p.copied) plan; moved = ap (λ (p : Plan). p.moved) plan; erased = ap (λ (p : Plan). p.erased) plan }) (ap (λ (p : Plan). p.since) plan) (λ on. ap (λ (z : Chart). z.fields.wears) c.in_ok-begin.ensures.fields);
+      counting = Counting-quiet old new c.args.parts.now _ (Stays.counted s) refl refl (record { copied = ap (λ (p : Plan). p.copied) plan; moved = ap (λ (p : Plan). p.moved) plan; erased = ap (λ (p : Plan). p.erased) plan }) (ap (λ (p : Plan). p.since) plan) (λ on. ap (λ (z : Chart). z.fields.wears) c.in_ok-begin.ensures.begins.fields);
       rests = Rests-refl c.args.parts.now.cache;
     }

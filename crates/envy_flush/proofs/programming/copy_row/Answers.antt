@@ -23,7 +23,7 @@ returns-clause-leaves g c =
         fits = Fits-moved old.shape new.shape x _ shape r.fits refl refl refl refl refl;
         agrees = λ on. Agrees-programmed old new x _ c.args.page c.args.row r.sound r.agrees c.requires.fresh.granted shape e.fields e.others refl refl refl refl;
       };
-      counting = Counting-flushed _ _ _ _ (Stays.counted (Same.stays e.same)) e.counts refl refl (λ on. ap (λ (f : Fields). f.wears) e.fields);
+      counting = Counting-flushed _ _ _ _ (Stays.counted (Same.stays e.same)) e.counts.1 refl refl (λ on. ap (λ (f : Fields). f.wears) e.fields);
       rests = Rests-refl x.cache;
     }
 

@@ -14,8 +14,8 @@ use Rattle.envy_layout.proofs.Putting.{PutDone-shadowed}
 use Rattle.envy_txn.specs.Owners.{Ownership, AreOwned}
 use Rattle.envy_flush.specs.Putting.{MayGive, undo_for}
 use Rattle.envy_flush.proofs.ElsewhereLemmas.{MayUndo-left, IsUndo-left, slot-left, Owns-left}
-use Rattle.envy_flush.proofs.FlushLemmas.{if-on, ok-any, ok-of, err-of, ok-written, on-ok}
-use Rattle.envy_flush.proofs.Leaving.{power_by}
+use Rattle.envy_flush.proofs.FlushLemmas.{ok-any, ok-of, err-of, ok-written, on-ok}
+use Rattle.envy_flush.proofs.Leaving.{if_powered}
 use Rattle.envy_flush.proofs.putting.shade_places.Goals as goal
 
 pub own-requires-clause-undo : goal.own-requires-clause-undo
@@ -23,10 +23,10 @@ own-requires-clause-undo g c =
     let old = chart (g.B.Board.state c.args.board.now) in
     IsUndo-left old c.args.owned.now c.args.slot c.args.page c.args.from c.undo_of_place.result (IsBoard.shape (g.met.B.Board.lawful c.args.board.now)) c.requires.sound c.requires.may c.requires.lands.here c.undo_of_place.ensures
 
-pub own-requires-clause-may : goal.own-requires-clause-may
-own-requires-clause-may g c on =
+pub own-requires-clause-ready : goal.own-requires-clause-ready
+own-requires-clause-ready g c on =
     let old = chart (g.B.Board.state c.args.board.now) in
-    MayUndo-left old c.args.owned.now c.args.slot c.args.page c.args.from c.undo_of_place.result c.requires.may c.requires.lands.here c.undo_of_place.ensures
+    record { sound = c.requires.sound; agrees = MayGive.owned c.requires.may; may = MayUndo-left old c.args.owned.now c.args.slot c.args.page c.args.from c.undo_of_place.result c.requires.may c.requires.lands.here c.undo_of_place.ensures }
 
 pub returns-in_err-own-clause-durable : goal.returns-in_err-own-clause-durable
 returns-in_err-own-clause-durable g c =
@@ -41,7 +41,7 @@ returns-clause-done g c =
     let words = c.own.ensures.same c.requires.sound in
     let long = Slots.undos_long (Sound.slots c.requires.sound) in
     let low : c.args.page < length old.fields.undos = rw long (MayGive.page c.requires.may) in
-    let owns : Owns c.args.slot c.args.page old mid = Owns-left old mid c.args.slot c.args.page c.undo_of_place.result low (slot-left c.args.slot c.args.from c.undo_of_place.result c.undo_of_place.ensures) c.in_ok-own.ensures.fields in
+    let owns : Owns c.args.slot c.args.page old mid = Owns-left old mid c.args.slot c.args.page c.undo_of_place.result low (slot-left c.args.slot c.args.from c.undo_of_place.result c.undo_of_place.ensures) c.in_ok-own.ensures.owns.fields in
     let owned = owned_by-owns c.args.slot c.args.page old mid owns (MayGive.opened c.requires.may).1 in
     ok-of c.move_to_frame.result _ _ _ (λ done. PutDone-shadowed 0 0 0 0 c.args.slot c.args.page old old mid new (32 * c.args.page + c.args.i) c.args.w (Same-refl old c.requires.sound) words owns done) (c.move_to_frame.ensures.owned (λ on. owned))
 
@@ -53,7 +53,7 @@ returns-clause-durable g c =
     let words = c.own.ensures.same c.requires.sound in
     let long = Slots.undos_long (Sound.slots c.requires.sound) in
     let low : c.args.page < length old.fields.undos = rw long (MayGive.page c.requires.may) in
-    let owns : Owns c.args.slot c.args.page old mid = Owns-left old mid c.args.slot c.args.page c.undo_of_place.result low (slot-left c.args.slot c.args.from c.undo_of_place.result c.undo_of_place.ensures) c.in_ok-own.ensures.fields in
+    let owns : Owns c.args.slot c.args.page old mid = Owns-left old mid c.args.slot c.args.page c.undo_of_place.result low (slot-left c.args.slot c.args.from c.undo_of_place.result c.undo_of_place.ensures) c.in_ok-own.ensures.owns.fields in
     let owned = owned_by-owns c.args.slot c.args.page old mid owns (MayGive.opened c.requires.may).1 in
     err-of c.move_to_frame.result _ _ _ (λ dropped. SameDurable-trans 0 0 0 0 old mid new (SameDurable-words 0 0 old mid words) (SameDurable-dropped 0 0 mid new dropped)) (c.move_to_frame.ensures.owned (λ on. owned))
 
@@ -64,20 +64,20 @@ returns-clause-fields g c =
     let new = chart (g.B.Board.state c.move_to_frame.new.board) in
     let p = c.args.page in
     let k = c.args.frame in
-    let is : mid ≡ with_fields old (with_undo p (undo_for c.args.slot c.args.from) old.fields) = subst (λ (u : Option Undo). mid ≡ with_fields old (with_undo p u old.fields)) (sym c.undo_of_place.ensures) c.in_ok-own.ensures.fields in
+    let is : mid ≡ with_fields old (with_undo p (undo_for c.args.slot c.args.from) old.fields) = subst (λ (u : Option Undo). mid ≡ with_fields old (with_undo p u old.fields)) (sym c.undo_of_place.ensures) c.in_ok-own.ensures.owns.fields in
     on-ok c.move_to_frame.result _ _ (λ moved. subst (λ (z : Chart). new ≡ with_fields z (with_place p (Some (Frame k)) z.fields)) is moved) (ok-written mid new (with_place p (Some (Frame k))) c.move_to_frame.result c.move_to_frame.ensures.writes)
 
 pub returns-clause-gives : goal.returns-clause-gives
-returns-clause-gives g c = ok-any c.move_to_frame.result _ (c.in_ok-own.ensures.newest c.args.slot (slot-left c.args.slot c.args.from c.undo_of_place.result c.undo_of_place.ensures))
+returns-clause-gives g c = ok-any c.move_to_frame.result _ (c.in_ok-own.ensures.owns.newest c.args.slot (slot-left c.args.slot c.args.from c.undo_of_place.result c.undo_of_place.ensures))
 
 pub returns-clause-owners : goal.returns-clause-owners
 returns-clause-owners g c =
     let mid = chart (g.B.Board.state c.own.new.board) in
     let new = chart (g.B.Board.state c.move_to_frame.new.board) in
     record {
-      limit = ap (λ (o : Ownership). o.limit) (c.in_ok-own.ensures.newest c.args.slot (slot-left c.args.slot c.args.from c.undo_of_place.result c.undo_of_place.ensures));
+      limit = ap (λ (o : Ownership). o.limit) (c.in_ok-own.ensures.owns.newest c.args.slot (slot-left c.args.slot c.args.from c.undo_of_place.result c.undo_of_place.ensures));
       agree = λ on.
-          let moved = if-on c.move_to_frame.result new.on _ (ok-written mid new (with_place c.args.page (Some (Frame c.args.frame))) c.move_to_frame.result c.move_to_frame.ensures.writes) c.move_to_frame.ensures.off on in
+          let moved = if_powered c.move_to_frame.result new.on _ (ok-written mid new (with_place c.args.page (Some (Frame c.args.frame))) c.move_to_frame.result c.move_to_frame.ensures.writes) c.move_to_frame.ensures.power on in
           let was : IsTrue mid.on = ap (λ (z : Chart). z.on) (sym moved) ∙ on in
           subst (λ (z : Chart). AreOwned z.fields.slots z.fields.undos c.own.new.self.pairs) (sym moved) (c.own.ensures.agrees was);
     }
@@ -86,4 +86,4 @@ pub returns-in_err-own-clause-owners : goal.returns-in_err-own-clause-owners
 returns-in_err-own-clause-owners g c = record { limit = ap (λ (o : Ownership). o.limit) c.in_err-own.ensures.unchanged; agree = c.own.ensures.agrees }
 
 pub returns-clause-power : goal.returns-clause-power
-returns-clause-power g c = power_by c.move_to_frame.result _ c.move_to_frame.ensures.on c.move_to_frame.ensures.off
+returns-clause-power g c = c.move_to_frame.ensures.power

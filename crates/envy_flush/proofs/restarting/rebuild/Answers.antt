@@ -7,7 +7,7 @@ use Rattle.envy_flush.proofs.restarting.rebuild.Goals as goal
 pub returns-clause-ready : goal.returns-clause-ready
 returns-clause-ready g c =
     let now = chart (g.B.Board.state c.args.board.now) in
-    let on = c.in_ok-rebuild-2.ensures.on in
+    let on = c.in_ok-rebuild-2.ensures.power in
     let settled = c.requires.settled on in
     record {
       on = on;

@@ -19,7 +19,7 @@ note_kept-requires-clause-room g c =
     let r = c.requires.ready in
     let e = c.in_ok-own.ensures in
     let s : Shades old c.args.page c.args.frame c.args.row c.args.slot = Shades-given old c.args.page c.args.frame c.args.row c.args.slot c.args.owned.now r.sound c.requires.may c.requires.here c.requires.granted c.requires.copy in
-    let sound = subst (λ (z : Chart). Sound z.shape z.fields z.flash) e.fields (SameWords.sound (c.own.ensures.same r.sound)) in
+    let sound = subst (λ (z : Chart). Sound z.shape z.fields z.flash) e.owns.fields (SameWords.sound (c.own.ensures.same r.sound)) in
     subst (λ (sh : Shape). get_or x.space.kept (c.args.row / sh.rows) 0 < get_or x.space.fills (c.args.row / sh.rows) 0) (sym r.fits.pool)
     (room-shade old c.args.page c.args.frame c.args.row c.args.slot x.space s r.agrees.pool sound)
 
@@ -31,13 +31,13 @@ returns-clause-leaves g c =
     let r = c.requires.ready in
     let e = c.in_ok-own.ensures in
     let s : Shades old c.args.page c.args.frame c.args.row c.args.slot = Shades-given old c.args.page c.args.frame c.args.row c.args.slot c.args.owned.now r.sound c.requires.may c.requires.here c.requires.granted c.requires.copy in
-    let shape : new.shape ≡ old.shape = ap (λ (z : Chart). z.shape) e.fields in
+    let shape : new.shape ≡ old.shape = ap (λ (z : Chart). z.shape) e.owns.fields in
     record {
       steady = record {
         fits = Fits-moved old.shape new.shape x _ shape r.fits (ap (λ (p : Pool). p.shape) c.note_kept.ensures) refl refl refl refl;
-        agrees = λ on. Agrees-shade old new x _ c.args.page c.args.frame c.args.row c.args.slot s r.agrees e.fields c.note_kept.ensures refl refl refl;
+        agrees = λ on. Agrees-shade old new x _ c.args.page c.args.frame c.args.row c.args.slot s r.agrees e.owns.fields c.note_kept.ensures refl refl refl;
       };
-      counting = Counting-still old new x _ (SameWords.counted (c.own.ensures.same r.sound)) refl refl refl (λ on. ap (λ (z : Chart). z.fields.wears) e.fields);
+      counting = Counting-still old new x _ (SameWords.counted (c.own.ensures.same r.sound)) refl refl refl (λ on. ap (λ (z : Chart). z.fields.wears) e.owns.fields);
       rests = Rests-refl x.cache;
     }
 
@@ -45,12 +45,12 @@ pub returns-in_err-own-clause-leaves : goal.returns-in_err-own-clause-leaves
 returns-in_err-own-clause-leaves g c =
     let r = c.requires.ready in
     let s = c.own.ensures.same r.sound in
-    leaves_off _ _ c.args.parts.now _ (rw (SameWords.shape s) r.fits) (SameWords.counted s) (c.in_err-own.ensures.off.0 refl) refl refl refl (Rests-refl c.args.parts.now.cache)
+    leaves_off _ _ c.args.parts.now _ (rw (SameWords.shape s) r.fits) (SameWords.counted s) c.in_err-own.ensures.power refl refl refl (Rests-refl c.args.parts.now.cache)
 
-pub own-requires-clause-may : goal.own-requires-clause-may
-own-requires-clause-may g c on =
+pub own-requires-clause-ready : goal.own-requires-clause-ready
+own-requires-clause-ready g c on =
     let old = chart (g.B.Board.state c.args.board.now) in
-    MayUndo-shade old c.args.page c.args.frame c.args.row c.args.slot (Shades-given old c.args.page c.args.frame c.args.row c.args.slot c.args.owned.now c.requires.ready.sound c.requires.may c.requires.here c.requires.granted c.requires.copy)
+    record { sound = c.requires.ready.sound; agrees = c.requires.may.owned; may = MayUndo-shade old c.args.page c.args.frame c.args.row c.args.slot (Shades-given old c.args.page c.args.frame c.args.row c.args.slot c.args.owned.now c.requires.ready.sound c.requires.may c.requires.here c.requires.granted c.requires.copy) }
 
 pub returns-clause-shades : goal.returns-clause-shades
 returns-clause-shades g c =
@@ -58,13 +58,13 @@ returns-clause-shades g c =
     let new = chart (g.B.Board.state c.own.new.board) in
     let e = c.in_ok-own.ensures in
     record {
-      fields = e.fields;
-      owns = Owns-shade old new c.args.page c.args.frame c.args.row c.args.slot (Shades-given old c.args.page c.args.frame c.args.row c.args.slot c.args.owned.now c.requires.ready.sound c.requires.may c.requires.here c.requires.granted c.requires.copy) e.fields;
-      gives = e.newest c.args.slot refl;
+      fields = e.owns.fields;
+      owns = Owns-shade old new c.args.page c.args.frame c.args.row c.args.slot (Shades-given old c.args.page c.args.frame c.args.row c.args.slot c.args.owned.now c.requires.ready.sound c.requires.may c.requires.here c.requires.granted c.requires.copy) e.owns.fields;
+      gives = e.owns.newest c.args.slot refl;
     }
 
 pub returns-clause-owners : goal.returns-clause-owners
-returns-clause-owners g c = record { limit = ap (λ (o : Ownership). o.limit) (c.in_ok-own.ensures.newest c.args.slot refl); agree = c.own.ensures.agrees }
+returns-clause-owners g c = record { limit = ap (λ (o : Ownership). o.limit) (c.in_ok-own.ensures.owns.newest c.args.slot refl); agree = c.own.ensures.agrees }
 
 pub returns-in_err-own-clause-owners : goal.returns-in_err-own-clause-owners
 returns-in_err-own-clause-owners g c = record { limit = ap (λ (o : Ownership). o.limit) c.in_err-own.ensures.unchanged; agree = c.own.ensures.agrees }

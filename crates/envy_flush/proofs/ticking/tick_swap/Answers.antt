@@ -18,5 +18,5 @@ returns-clause-steady g c =
     let within = (c.next-begun.ensures.below (old.shape.segments - 1) (c.start.ensures.below (old.shape.segments - 1) (IsMostWorn.below (IsDue.worn due)) (IsLeastWorn.below (IsDue.young due)))).1 in
     record {
       fits = rw shape (Fits-staged old.shape c.args.parts.now _ r.fits (record { within = within; few = rw (c.next-begun.ensures.rest, c.start.ensures.stages) (omega arith) }) refl refl refl refl);
-      agrees = λ on. Agrees-begun old new c.args.parts.now _ _ r.agrees c.in_ok-begin.ensures.fields (IsPlanOf-anew new.shape new.fields new.flash c.begin.new.self c.count_anew.new.self c.count_anew.ensures (c.begin.ensures.agrees on)) refl refl refl;
+      agrees = λ on. Agrees-begun old new c.args.parts.now _ _ r.agrees c.in_ok-begin.ensures.begins.fields (IsPlanOf-anew new.shape new.fields new.flash c.begin.new.self c.count_anew.new.self c.count_anew.ensures (c.begin.ensures.agrees on)) refl refl refl;
     }
