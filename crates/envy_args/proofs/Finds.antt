@@ -4,6 +4,7 @@ use Rattle.std.specs.List.{list_any, list_all}
 use Rattle.std.specs.Str.{bytes_eq}
 use Rattle.std.proofs.lemmas.Bool.{or_parts}
 use Rattle.std.proofs.lemmas.Slice.Eq.{bytes_eq-Decides}
+use Rattle.std.proofs.Math.Bool.{or-false}
 use Rattle.clap.specs.Walk.{Row, Rule, Text, arg_by_id, arg_by_index, arg_by_long, arg_by_short, at_row, has_row, with_default}
 use Rattle.clap.specs.Takes.{is_given}
 use Rattle.clap.specs.Simple.{filled, filled_from}
@@ -28,10 +29,6 @@ rules-built (n ∷ names) = ap (λ rs. rule n ∷ rs) (rules-built names)
 pub same : (n name : Text) → bytes_eq n name ≡ true → n ≡ name
 same n name e = (bytes_eq-Decides n name).0 e
 
-or_false : (b : Bool) → (b || false) ≡ b
-or_false true = refl
-or_false false = refl
-
 -- ---- by a long name
 
 pub long-known : (names : List Text) (name : Text) → is_among name names ≡ true → arg_by_long (rules names) name ≡ Some (rule name)
@@ -40,14 +37,14 @@ long-known (n ∷ names) name e = go (bytes_eq n name) refl (long-known names na
   where
     go : (b : Bool) → bytes_eq n name ≡ b → (is_among name names ≡ true → arg_by_long (rules names) name ≡ Some (rule name))
         → arg_by_long (rules (n ∷ names)) name ≡ Some (rule name)
-    go true is others = rw (or_false (bytes_eq n name), is) (ap (λ t. Some (rule t)) (same n name is))
-    go false is others = rw (or_false (bytes_eq n name), is) (others (sym (ap (λ b. b || is_among name names) is) ∙ e))
+    go true is others = rw (or-false (bytes_eq n name), is) (ap (λ t. Some (rule t)) (same n name is))
+    go false is others = rw (or-false (bytes_eq n name), is) (others (sym (ap (λ b. b || is_among name names) is) ∙ e))
 
 pub long-unknown : (names : List Text) (name : Text) → is_among name names ≡ false → arg_by_long (rules names) name ≡ None
 long-unknown [] name e = refl
 long-unknown (n ∷ names) name e =
     let parts = or_parts (bytes_eq n name) _ e in
-    rw (or_false (bytes_eq n name), parts.0) (long-unknown names name parts.1)
+    rw (or-false (bytes_eq n name), parts.0) (long-unknown names name parts.1)
 
 -- ---- by its id
 

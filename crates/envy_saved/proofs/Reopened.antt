@@ -1,5 +1,5 @@
 -- A board that was opened from a file.
-use Rattle.std.proofs.Common.{◌≡◌, ◌∙◌, ℕ, List, Ok, refl, sym, ap, subst}
+use Rattle.std.proofs.Common.{◌≡◌, ◌∙◌, ℕ, List, Ok, sym, ap, subst}
 use Rattle.envy_base.specs.State.{State}
 use Rattle.envy_base.specs.declared.shape.Shape.{Shape}
 use Rattle.envy_disk.specs.Disk.{SyncsChart}

@@ -1,17 +1,15 @@
-use Rattle.std.proofs.Common.{◌≡◌, ◌∙◌, inl, ap, sym, subst, map, List, String, Global, Some, string_bytes}
+use Rattle.std.proofs.Common.{◌≡◌, ◌∙◌, inl, ap, sym, subst, map, List, Some}
 use Rattle.std.specs.Borrow.{Bor}
 use Rattle.std.proofs.lemmas.Result.{err_from_is_err_and}
 use Rattle.clap.specs.Words.{App, HasKind, Row, fault_of, is_simple, is_simple_and_free, matches_of}
 use Rattle.envy_args.specs.Words.{Text, are_known}
 use Rattle.envy_args.specs.Parser.{option_of, row_of}
 use Rattle.envy_args.proofs.Parsing.{app-is_simple, app-simple, gives, options-of_rows, refused}
+use Rattle.envy_args.proofs.Tables.{bytes}
 use Rattle.envy_args.proofs.options.Options.read.Goals as goal
 
 abbrev texts : List (Bor Text) → List Text
 texts = map (λ name. name.now)
-
-abbrev bytes : List (String Global) → List Text
-bytes = map (λ word. string_bytes word)
 
 pub returns-in_err-parser : goal.returns-in_err-parser
 returns-in_err-parser c =
