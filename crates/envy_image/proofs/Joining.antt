@@ -7,9 +7,10 @@ use Rattle.std.proofs.lemmas.List.{append-nil, take_more, drop_more, take_all, t
 use Rattle.std.proofs.Math.Seq.{take-append-add}
 use Rattle.std.proofs.lemmas.Grind.{flat_map-append}
 use Rattle.envy_io.specs.declared.source.Failed.{Failed as NoWrite}
-use Rattle.envy_io.specs.Streams.{Drain, WritesAll, AfterPiece, with_end}
+use Rattle.envy_io.specs.Streams.{Drain, WritesAll, with_end}
 use Rattle.envy_io.proofs.WritesLemmas.{with_end-with_end, with_end-nil}
 use Rattle.envy_io.proofs.Counts.{Rises-after}
+use Rattle.envy_io.proofs.Pieces.{AfterPiece-append}
 use Rattle.envy_image.specs.declared.writing.OutFault.{OutFault}
 use Rattle.envy_image.specs.declared.writing.OutFault.TheVariants.{Off, Failed}
 use Rattle.envy_base.specs.declared.shape.Shape.{Shape}
@@ -21,17 +22,12 @@ use Rattle.envy_image.specs.Writing.{WritesOut}
 pub written-none : (d : Drain) → WritesAll d [] (Ok tt) d
 written-none d = (sym (with_end-nil d.written), omega arith, refl)
 
-after-both : (a b : List ℕ) (old mid new : Drain) → AfterPiece a old mid → AfterPiece b mid new → AfterPiece (a ++ b) old new
-after-both [] b old mid new first second = subst (λ (d : Drain). AfterPiece b d new) first second
-after-both (x ∷ a) [] old mid new first second = ap (λ (d : Drain). d.flushed) second ∙ first
-after-both (x ∷ a) (y ∷ b) old mid new first second = second
-
 -- two pieces that are written whole
 pub written-more : (a b : List ℕ) (old mid new : Drain) → WritesAll old a (Ok tt) mid → WritesAll mid b (Ok tt) new → WritesAll old (a ++ b) (Ok tt) new
 written-more a b old mid new (first, less, after) (second, less', after') = (
   second ∙ (ap (λ (w : Option (List ℕ)). with_end w b) first ∙ with_end-with_end old.written a b),
   omega (arith, less, less'),
-  after-both a b old mid new after after',
+  AfterPiece-append a b old mid new after after',
 )
 
 front-both : (a b rest : List ℕ) (n : ℕ) → n ≤ length b → a ++ take n b ≡ take (length a + n) (a ++ (b ++ rest))

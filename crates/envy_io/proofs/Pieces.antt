@@ -13,7 +13,7 @@ pub Written-nothing : (drain : Drain) (whole : List ℕ) → Written drain whole
 Written-nothing drain whole = record { done = []; split = refl; written = sym (with_end-nil drain.written); faults = omega arith; after = refl }
 
 -- two pieces one after the other leave the sink as one piece does
-AfterPiece-append : (a b : List ℕ) (old mid new : Drain) → AfterPiece a old mid → AfterPiece b mid new → AfterPiece (a ++ b) old new
+pub AfterPiece-append : (a b : List ℕ) (old mid new : Drain) → AfterPiece a old mid → AfterPiece b mid new → AfterPiece (a ++ b) old new
 AfterPiece-append [] b old mid new same after = subst (λ (s : Drain). AfterPiece b s new) same after
 AfterPiece-append (x ∷ a) [] old mid new unflushed same = ap (λ (s : Drain). s.flushed) same ∙ unflushed
 AfterPiece-append (x ∷ a) (y ∷ b) old mid new unflushed after = after

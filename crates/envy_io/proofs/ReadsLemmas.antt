@@ -12,7 +12,7 @@ use Rattle.envy_io.specs.Asking.{Gathers}
 use Rattle.envy_io.proofs.LinesLemmas.{lines_of-nil, lines_of-spelled, lines_of-last, lines_of-long}
 
 -- no line has a newline, nor has the next
-each-push : (lines : List (List ℕ)) (line : List ℕ) → AllByRecursion NoNewline lines → NoNewline line → AllByRecursion NoNewline (lines ++ line ∷ [])
+pub each-push : (lines : List (List ℕ)) (line : List ℕ) → AllByRecursion NoNewline lines → NoNewline line → AllByRecursion NoNewline (lines ++ line ∷ [])
 each-push [] line each plain = (plain, tt)
 each-push (first ∷ lines) line (here, each) plain = (here, each-push lines line each plain)
 
