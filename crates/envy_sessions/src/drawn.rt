@@ -186,8 +186,8 @@ const POLICIES: [(&str, Policy); 5] = [
 
 #[test]
 fn memory_is_the_plain_machine(rt: HostRuntime) -> Result<(), Fail> {
-    for (name, policy) in POLICIES {
-        run(&rt, rt.alloc(), name, policy, 1500)?;
+    for (name, policy) in POLICIES.as_slice() {
+        run(&rt, rt.alloc(), name, *policy, 1500)?;
     }
     Ok(())
 }

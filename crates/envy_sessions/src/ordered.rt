@@ -158,16 +158,18 @@ fn programs_that_break_a_rule_are_seen(rt: HostRuntime) -> Result<(), Fail> {
         (&[0, 1, 3], None),
         (&[0, 2, 2], Some(Breach::OutOfOrder(2))),
         (&[0, 2, 1], Some(Breach::OutOfOrder(1))),
-    ] {
+    ]
+    .as_slice()
+    {
         let mut board = new_board(rt.alloc(), &COMMON, 0)?;
-        for row in rows {
+        for row in rows.as_slice() {
             let shape = board.shape();
             assert!(&rt; *row < shape.segments * shape.rows);
             assert_eq!(rt; board.program(*row, &page), Ok(()));
         }
-        assert_eq!(rt; board.breach(), breach);
+        assert_eq!(rt; board.breach(), *breach);
         assert_eq!(rt; board.erase(0), Ok(()));
-        assert_eq!(rt; board.breach(), breach);
+        assert_eq!(rt; board.breach(), *breach);
     }
     Ok(())
 }

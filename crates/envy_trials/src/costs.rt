@@ -52,23 +52,35 @@ enum Call {
     Tick(Did),
 }
 
-/// Whether a call isn't refused, and does what it names.
-fn is_done(memory: &mut Memory<CountingBoard>, call: Call) -> bool {
+/// Stands in a list of calls for the first word of the last page.
+const LAST: u32 = 0x10_0000;
+
+/// An address of a list, in a memory whose last page begins at this one.
+fn address(a: u32, last: u32) -> u32 {
+    if a < LAST {
+        a
+    } else {
+        (a - LAST).wrapping_add(last)
+    }
+}
+
+/// Whether a call to a memory whose last page begins at this address isn't refused, and does what it names.
+fn is_done(memory: &mut Memory<CountingBoard>, call: Call, last: u32) -> bool {
     match call {
-        Call::Load(a) => memory.load(a).is_ok(),
-        Call::Look(a) => memory.look(a).is_ok(),
-        Call::Store(a) => memory.store(a, 1).is_ok(),
+        Call::Load(a) => memory.load(address(a, last)).is_ok(),
+        Call::Look(a) => memory.look(address(a, last)).is_ok(),
+        Call::Store(a) => memory.store(address(a, last), 1).is_ok(),
         Call::Begin(t) => memory.begin() == Ok(t),
-        Call::Put(t, a) => memory.put(t, a, 2).is_ok(),
+        Call::Put(t, a) => memory.put(t, address(a, last), 2).is_ok(),
         Call::Commit(t) => memory.commit(t).is_ok(),
         Call::Abort(t) => memory.abort(t).is_ok(),
         Call::Tick(did) => memory.tick() == Ok(did),
     }
 }
 
-/// Makes a call, which is done.
+/// Makes a call that names its address, which is done.
 fn make(rt: &impl Abort, memory: &mut Memory<CountingBoard>, call: Call) {
-    assert!(rt; is_done(memory, call), "{call:?}");
+    assert!(rt; is_done(memory, call, 0), "{call:?}");
 }
 
 /// How often the board was read since it was last asked.
@@ -148,9 +160,6 @@ fn a_cleaning_looks_at_each_row_a_few_times(rt: HostRuntime) -> Result<(), Fail>
     Ok(())
 }
 
-/// Stands in a list of calls for the first word of the last page.
-const LAST: u32 = 0x10_0000;
-
 /// Calls to a memory. No call cleans.
 const CALLS: [Call; 28] = [
     Call::Tick(Did::Idle),
@@ -187,26 +196,6 @@ const CALLS: [Call; 28] = [
     Call::Tick(Did::Idle),
 ];
 
-/// An address of the list, in a memory whose last page begins at this one.
-fn address(a: u32, last: u32) -> u32 {
-    if a < LAST {
-        a
-    } else {
-        (a - LAST).wrapping_add(last)
-    }
-}
-
-/// A call of the list, to such a memory.
-fn placed(call: Call, last: u32) -> Call {
-    match call {
-        Call::Load(a) => Call::Load(address(a, last)),
-        Call::Look(a) => Call::Look(address(a, last)),
-        Call::Store(a) => Call::Store(address(a, last)),
-        Call::Put(t, a) => Call::Put(t, address(a, last)),
-        _ => call,
-    }
-}
-
 /// How often each of these calls reads the board of a memory whose last page begins at this address.
 fn reads_by_call(
     rt: &(impl Abort + Alloc<A = Global>),
@@ -217,7 +206,7 @@ fn reads_by_call(
     let mut reads = Vec::new(rt.alloc());
     let _before = reads_since(memory);
     for call in calls {
-        make(rt, memory, placed(*call, last));
+        assert!(rt; is_done(memory, *call, last), "{call:?}");
         reads.push(reads_since(memory))?;
     }
     Ok(reads)
@@ -401,21 +390,17 @@ fn idle_reads(rt: &(impl Abort + Alloc<A = Global>), segments: u32) -> Result<(u
     // both rows of the page's home are left, so the home is cleaned for the page
     flush(rt, &mut memory, 0);
     flush(rt, &mut memory, 0);
-    assert_eq!(rt; memory.store(0, 1), Ok(()));
-    for did in [
-        Did::Began,
-        Did::Switched,
-        Did::Placed,
-        Did::Erased,
-        Did::Flushed,
-    ] {
-        assert_eq!(rt; memory.tick(), Ok(did));
+    make(rt, &mut memory, Call::Store(0));
+    make(rt, &mut memory, Call::Tick(Did::Began));
+    for did in LAST_STEPS.as_slice() {
+        make(rt, &mut memory, Call::Tick(*did));
     }
-    let _before = memory.board().take_reads();
-    assert_eq!(rt; memory.tick(), Ok(Did::Idle));
-    let first = memory.board().take_reads();
-    assert_eq!(rt; memory.tick(), Ok(Did::Idle));
-    Ok((first, memory.board().take_reads()))
+    make(rt, &mut memory, Call::Tick(Did::Flushed));
+    let _before = reads_since(&memory);
+    make(rt, &mut memory, Call::Tick(Did::Idle));
+    let first = reads_since(&memory);
+    make(rt, &mut memory, Call::Tick(Did::Idle));
+    Ok((first, reads_since(&memory)))
 }
 
 // A tick looks whether a job runs, which is one word. As many erases have begun as the limit says, so the first tick
