@@ -22,7 +22,6 @@ pub mod Families
 pub mod Lessening
 pub mod Diving
 pub mod Felling
-pub mod Lengths
 pub mod Lines
 pub mod Readings
 pub mod Readiness

@@ -1,43 +1,36 @@
 -- Lines of a trace for a memory that is kept: by their command words, and exactly from their spellings.
-use Rattle.std.proofs.Common.{◌≡◌, ℕ, ◌<◌, ◌≤◌, Bool, true, false, ◌||◌, cond, ◌==◌, List, [], ◌∷◌, ◌++◌, length, map, codes, Option, None, Some, Result, Ok, Err, refl, sym, ap, ◌∙◌, subst, ◌⊎◌, inl, inr, arith}
+use Rattle.std.proofs.Common.{◌≡◌, ℕ, ◌<◌, ◌≤◌, Bool, true, false, ◌||◌, cond, ◌==◌, List, [], ◌∷◌, ◌++◌, length, codes, Option, None, Some, Result, Ok, Err, refl, sym, ap, ◌∙◌, subst, ◌⊎◌, inl, inr, arith}
 use Rattle.std.specs.List.{AllZip, All, starts_with}
 use Rattle.std.specs.Str.{bytes_eq}
-use Rattle.std.proofs.lemmas.Bool.{cond-true, cond-false, cases_lt, cases_Bool, lt-ltb, le-ltb}
+use Rattle.std.proofs.lemmas.Bool.{cond-true, cond-false, cases_lt, cases_Bool}
 use Rattle.std.proofs.lemmas.Slice.Eq.{bytes_eq-Decides}
 use Rattle.envy_trace.specs.declared.fault.LineFault.{LineFault}
 use Rattle.envy_trace.specs.declared.fault.LineFault.TheVariants.{Long, Word}
 use Rattle.envy_trace.specs.declared.line.Line.{Line}
 use Rattle.envy_trace.specs.declared.line.Line.TheVariants.{Empty, Load, Look, Store, Begin, Put, Commit, Abort, Tick, Power, Cut, Bad, Stat}
-use Rattle.envy_trace.specs.Grammar.{Entry, ◌takes◌, ◌>>=◌, line_of, fields_of, command_in, says, look_up, commands, none, one, two, three, slot, address, word, place}
+use Rattle.envy_trace.specs.Grammar.{Entry, ◌takes◌, line_of, fields_of, command_in, says, look_up, commands, none, one, two, three, slot, address, word, place}
 use Rattle.envy_trace.specs.Spelling.{parts, IsLine, IsNumeralOf, Spells, Reads, line_bytes, written, written_parts}
-use Rattle.envy_trace.proofs.Faults.{long-only, no_numbers}
+use Rattle.envy_trace.proofs.Faults.{no_numbers}
 use Rattle.envy_trace.proofs.Written.{HasForm, Prints, form, spells_written, prints}
-use Rattle.envy_trace.proofs.Lines.{line-short}
+use Rattle.envy_trace.proofs.Lines.{line-short, long-only}
+use Rattle.envy_trace.proofs.Tables.{by-long, by-short, eq-flip, look-up-as, made_as, made-ok, made-long, of_command, same-word}
 use Rattle.envy_trace.proofs.Numerals.{none_ok, none_read}
 use Rattle.envy_trace.proofs.Readings.{line-read, line-spelled}
 use Rattle.envy_keep_trace.specs.declared.keep_line.KeepLine.{KeepLine}
 use Rattle.envy_keep_trace.specs.declared.keep_line.KeepLine.TheVariants.{Trace, Sync}
-use Rattle.envy_keep_trace.specs.Keep.{kept_commands, of_trace, keep_commands, keep_line_of, names_failure, keep_parts, keep_line_bytes, IsKeepLine, ReadsKeep}
+use Rattle.envy_keep_trace.specs.Keep.{kept_commands, keep_commands, keep_line_of, names_failure, keep_parts, keep_line_bytes, IsKeepLine, ReadsKeep}
 
 -- a line of one array, as one of the kept memory
 abbrev pub as_trace : Result Line LineFault → Result KeepLine LineFault
-as_trace r = r >>= λ line. Ok (Trace line)
+as_trace = made_as Trace
 
 pub keep-long : (bs : List ℕ) → 120 < length bs → keep_line_of bs ≡ Err Long
 unfolding keep_line_of
-keep-long bs long = cond-true _ _ _ (lt-ltb 120 (length bs) long)
+keep-long = by-long (Trace Empty) keep_commands
 
 pub keep-short : (bs : List ℕ) → length bs ≤ 120 → keep_line_of bs ≡ says (Trace Empty) keep_commands (command_in (fields_of bs))
 unfolding keep_line_of
-keep-short bs short = cond-false _ _ _ (le-ltb 120 (length bs) short)
-
-in-trace : (table : List (Entry Line)) (name : List ℕ) (fs : List (List ℕ)) → look_up (map of_trace table) name fs ≡ as_trace (look_up table name fs)
-in-trace [] name fs = refl
-in-trace (entry ∷ table) name fs = at (bytes_eq entry.name name) (in-trace table name fs)
-  where
-    at : (b : Bool) → look_up (map of_trace table) name fs ≡ as_trace (look_up table name fs) → cond b (as_trace (entry.read fs)) (look_up (map of_trace table) name fs) ≡ as_trace (cond b (entry.read fs) (look_up table name fs))
-    at true rest = refl
-    at false rest = rest
+keep-short = by-short (Trace Empty) keep_commands
 
 -- tables with the same front
 over : (front one-end other : List (Entry Line)) (name : List ℕ) (fs : List (List ℕ)) → look_up one-end name fs ≡ look_up other name fs → look_up (front ++ one-end) name fs ≡ look_up (front ++ other) name fs
@@ -71,19 +64,7 @@ pub word-sync : (name : List ℕ) (fs : List (List ℕ)) → bytes_eq (codes "sy
 word-sync name fs e = cond-true _ _ _ e
 
 pub word-trace : (name : List ℕ) (fs : List (List ℕ)) → bytes_eq (codes "sync") name ≡ false → IsKept name → look_up keep_commands name fs ≡ as_trace (look_up commands name fs)
-word-trace name fs e is = cond-false _ _ _ e ∙ in-trace kept_commands name fs ∙ ap as_trace (keeps-table name fs is)
-
--- a comparison of bytes does not depend on which side is first
-eq-flip : (a b : List ℕ) → bytes_eq a b ≡ bytes_eq b a
-eq-flip a b = at (cases_Bool (bytes_eq a b)) (cases_Bool (bytes_eq b a))
-  where
-    at : (bytes_eq a b ≡ true) ⊎ (bytes_eq a b ≡ false) → (bytes_eq b a ≡ true) ⊎ (bytes_eq b a ≡ false) → bytes_eq a b ≡ bytes_eq b a
-    at (inl e) f = let same = (bytes_eq-Decides a b).0 e in rw same refl
-    at (inr e) (inr f) = e ∙ sym f
-    at (inr e) (inl f) = let same = (bytes_eq-Decides b a).0 f in rw same refl
-
-pub is-word : (name word slice : List ℕ) (r v : Bool) → r ≡ bytes_eq name slice → slice ≡ word → r ≡ v → bytes_eq word name ≡ v
-is-word name word slice r v e same is = eq-flip word name ∙ ap (bytes_eq name) (sym same) ∙ sym e ∙ is
+word-trace name fs e is = cond-false _ _ _ e ∙ look-up-as Trace kept_commands name fs ∙ ap as_trace (keeps-table name fs is)
 
 or-false : (a b : Bool) → (a || b) ≡ false → (a ≡ false) × (b ≡ false)
 or-false true b e = absurd (let never : ⊥ = cc in never)
@@ -163,24 +144,8 @@ cases bs short = at (command_in (fields_of bs)) refl
     at None is = IsTrace (keep-trace bs short None is (λ c e. absurd (let never : ⊥ = cc in never))) (λ c e. absurd (let never : ⊥ = cc (sym is ∙ e) in never))
     at (Some c) is = some-in c is
 
-as_trace-ok : (r : Result Line LineFault) (line : KeepLine) → as_trace r ≡ Ok line → (x : Line) × (r ≡ Ok x) × (Trace x ≡ line)
-as_trace-ok (Ok x) line e = (x, refl, cc)
-as_trace-ok (Err fault) line e = absurd (let never : ⊥ = cc in never)
-
-as_trace-long : (r : Result Line LineFault) → as_trace r ≡ Err Long → r ≡ Err Long
-as_trace-long (Ok x) e = absurd (let never : ⊥ = cc in never)
-as_trace-long (Err fault) e = let same : fault ≡ Long = cc in ap (λ (f : LineFault). Err f) same
-
 abbrev HasOf : List ℕ → KeepLine → Type 0
 HasOf bs line = Spells (fields_of bs) (keep_parts line) × IsKeepLine line
-
-of-command : (fs : List (List ℕ)) (name : List ℕ) (others : List (List ℕ)) → command_in fs ≡ Some (name, others) → fs ≡ name ∷ others
-of-command [] name others e = absurd (let never : ⊥ = cc in never)
-of-command (f ∷ fs) name others e = go (starts_with ◌==◌ f (codes "#")) e
-  where
-    go : (v : Bool) → cond {A = Option (List ℕ × List (List ℕ))} v None (Some (f, fs)) ≡ Some (name, others) → f ∷ fs ≡ name ∷ others
-    go true h = absurd (let never : ⊥ = cc in never)
-    go false h = let same : (f, fs) ≡ (name, others) = cc in ap (λ (p : List ℕ × List (List ℕ)). p.0 ∷ p.1) same
 
 -- the command of fields that begin with a word which isn't a comment
 command-of : (fs : List (List ℕ)) (name : List ℕ) (others : List (List ℕ)) → fs ≡ name ∷ others → starts_with ◌==◌ name (codes "#") ≡ false → command_in fs ≡ Some (name, others)
@@ -204,12 +169,12 @@ keep-range bs Stat words r = r.ranges
 
 of-case : (bs : List ℕ) (line : KeepLine) → Cases bs → keep_line_of bs ≡ Ok line → HasOf bs line
 of-case bs line (IsTrace read words) e =
-    let a = as_trace-ok (line_of bs) line (sym read ∙ e) in
+    let a = made-ok Trace (line_of bs) line (sym read ∙ e) in
     let r = line-read bs a.0 a.1 in
     subst (λ (l : KeepLine). HasOf bs l) a.2 (r.fields, keep-range bs a.0 words r)
 of-case bs line (IsSync fs is read) e =
     let a = none_ok Sync line fs (sym read ∙ e) in
-    subst (λ (l : KeepLine). HasOf bs l) a.1 ((fs, of-command (fields_of bs) (codes "sync") fs is, subst (λ (gs : List (List ℕ)). AllZip IsNumeralOf gs []) (sym a.0) tt), tt)
+    subst (λ (l : KeepLine). HasOf bs l) a.1 ((fs, of_command (fields_of bs) (codes "sync", fs) is, subst (λ (gs : List (List ℕ)). AllZip IsNumeralOf gs []) (sym a.0) tt), tt)
 of-case bs line (IsFailure read) e = absurd (let never : ⊥ = cc (sym read ∙ e) in never)
 
 pub keep-read : (bs : List ℕ) (line : KeepLine) → keep_line_of bs ≡ Ok line → ReadsKeep bs line
@@ -219,31 +184,24 @@ keep-read bs line e = go (cases_lt 120 (length bs))
     go (inl long) = let fault = keep-long bs long in absurd (let never : ⊥ = cc in never)
     go (inr short) = let h = of-case bs line (cases bs short) e in record { short = short; fields = h.0; ranges = h.1 }
 
-named : (bs : List ℕ) (c : List ℕ × List (List ℕ)) → command_in (fields_of bs) ≡ Some c → (name : List ℕ) (others : List (List ℕ)) → fields_of bs ≡ name ∷ others → starts_with ◌==◌ name (codes "#") ≡ false → IsTraceWord name → IsTraceWord c.0
-named bs c is name others fields plain word =
-    let found : command_in (name ∷ others) ≡ Some c = subst (λ (fs : List (List ℕ)). command_in fs ≡ Some c) fields is in
-    let some : Some (name, others) ≡ Some c = sym (cond-false _ _ _ plain) ∙ found in
-    let same : (name, others) ≡ c = cc in
-    subst (λ (d : List ℕ × List (List ℕ)). IsTraceWord d.0) same word
-
 abbrev all_false : {name : List ℕ} → bytes_eq (codes "power") name ≡ false → bytes_eq (codes "cut") name ≡ false → bytes_eq (codes "bad") name ≡ false → IsKept name
 all_false p c b = record { power = p; cut = c; bad = b }
 
 -- a line that is kept has none of the other words
 trace-words : (bs : List ℕ) (line : Line) → length bs ≤ 120 → IsKeepLine (Trace line) → Spells (fields_of bs) (parts line) → Named bs IsTraceWord
 trace-words bs Empty short r s c is = let no : None ≡ Some c = sym s ∙ is in absurd (let never : ⊥ = cc in never)
-trace-words bs (Load a) short r s c is = named bs c is (codes "load") s.0 s.1 refl (refl, all_false refl refl refl)
-trace-words bs (Look a) short r s c is = named bs c is (codes "look") s.0 s.1 refl (refl, all_false refl refl refl)
-trace-words bs (Store a w) short r s c is = named bs c is (codes "store") s.0 s.1 refl (refl, all_false refl refl refl)
-trace-words bs Begin short r s c is = named bs c is (codes "begin") s.0 s.1 refl (refl, all_false refl refl refl)
-trace-words bs (Put t a w) short r s c is = named bs c is (codes "put") s.0 s.1 refl (refl, all_false refl refl refl)
-trace-words bs (Commit t) short r s c is = named bs c is (codes "commit") s.0 s.1 refl (refl, all_false refl refl refl)
-trace-words bs (Abort t) short r s c is = named bs c is (codes "abort") s.0 s.1 refl (refl, all_false refl refl refl)
-trace-words bs Tick short r s c is = named bs c is (codes "tick") s.0 s.1 refl (refl, all_false refl refl refl)
+trace-words bs (Load a) short r s c is = same-word IsTraceWord bs c is (codes "load") s.0 s.1 refl (refl, all_false refl refl refl)
+trace-words bs (Look a) short r s c is = same-word IsTraceWord bs c is (codes "look") s.0 s.1 refl (refl, all_false refl refl refl)
+trace-words bs (Store a w) short r s c is = same-word IsTraceWord bs c is (codes "store") s.0 s.1 refl (refl, all_false refl refl refl)
+trace-words bs Begin short r s c is = same-word IsTraceWord bs c is (codes "begin") s.0 s.1 refl (refl, all_false refl refl refl)
+trace-words bs (Put t a w) short r s c is = same-word IsTraceWord bs c is (codes "put") s.0 s.1 refl (refl, all_false refl refl refl)
+trace-words bs (Commit t) short r s c is = same-word IsTraceWord bs c is (codes "commit") s.0 s.1 refl (refl, all_false refl refl refl)
+trace-words bs (Abort t) short r s c is = same-word IsTraceWord bs c is (codes "abort") s.0 s.1 refl (refl, all_false refl refl refl)
+trace-words bs Tick short r s c is = same-word IsTraceWord bs c is (codes "tick") s.0 s.1 refl (refl, all_false refl refl refl)
 trace-words bs Power short r s c is = absurd r
 trace-words bs (Cut k g) short r s c is = absurd r
 trace-words bs (Bad k g) short r s c is = absurd r
-trace-words bs Stat short r s c is = named bs c is (codes "stat") s.0 s.1 refl (refl, all_false refl refl refl)
+trace-words bs Stat short r s c is = same-word IsTraceWord bs c is (codes "stat") s.0 s.1 refl (refl, all_false refl refl refl)
 
 pub is-line : (line : Line) → IsKeepLine (Trace line) → IsLine line
 is-line Empty r = r
@@ -268,7 +226,7 @@ keep-spelled bs Sync r =
     keep-short bs r.short ∙ ap (λ (gs : List (List ℕ)). says (Trace Empty) keep_commands (command_in gs)) r.fields.1 ∙ none_read Sync r.fields.0 r.fields.2
 
 long-case : (bs : List ℕ) → Cases bs → keep_line_of bs ≡ Err Long → length bs ≤ 120 → ⊥
-long-case bs (IsTrace read words) e short = let long = long-only bs (as_trace-long (line_of bs) (sym read ∙ e)) in omega arith
+long-case bs (IsTrace read words) e short = let long = long-only bs (made-long Trace (line_of bs) (sym read ∙ e)) in omega arith
 long-case bs (IsSync fs is read) e short = no_numbers Sync fs (sym read ∙ e)
 long-case bs (IsFailure read) e short = let never : ⊥ = cc (sym read ∙ e) in never
 
@@ -278,10 +236,6 @@ keep-long-only bs e = go (cases_lt 120 (length bs))
     go : (120 < length bs) ⊎ (length bs ≤ 120) → 120 < length bs
     go (inl long) = long
     go (inr short) = absurd (long-case bs (cases bs short) e short)
-
-pub none-as : (fs : List (List ℕ)) → none Sync fs ≡ (none {L = Unit {0}} tt fs >>= λ u. Ok Sync)
-none-as [] = refl
-none-as (f ∷ fs) = refl
 
 -- ---- the written form
 

@@ -1,12 +1,11 @@
 -- What a pair did in a trace, from what it does in one line.
 use Rattle.std.proofs.Common.{◌≡◌, ℕ, List, ◌∷◌, refl, arith}
-use Rattle.std.specs.Prelude.{Ok, ◌↔◌}
 use Rattle.envy_io.specs.Streams.{Drain}
 use Rattle.envy_mirror.specs.Pair.{Pair}
 use Rattle.envy_serve.specs.declared.service.Obeyed.{Obeyed}
 use Rattle.envy_serve.specs.declared.service.Obeyed.TheVariants.{Done, WriteFault, Dead}
 use Rattle.envy_serve.specs.Obeys.{Obeys}
-use Rattle.envy_trace.specs.Mirror.{mirror_line_of, ReadsMirror}
+use Rattle.envy_trace.specs.Mirror.{ReadsMirror}
 use Rattle.envy_trace.specs.declared.line.Line.TheVariants.{Empty, Load, Look, Store, Begin, Put, Commit, Abort, Tick, Power, Cut, Bad, Stat}
 use Rattle.envy_trace.specs.declared.mirror_line.MirrorLine.{MirrorLine}
 use Rattle.envy_trace.specs.declared.mirror_line.MirrorLine.TheVariants.{Array as OfArray, Side, Catch}

@@ -1,6 +1,6 @@
 -- What a memory did in a trace, from what it does in one line, and what its board's counts say then.
-use Rattle.std.proofs.Common.{◌≡◌, ◌⊎◌, inl, inr, ℕ, zero, suc, ◌+◌, ◌*◌, ◌-◌, ◌^◌, ◌<◌, ◌≤◌, Bool, true, false, List, [], ◌∷◌, length, refl, sym, ◌∙◌, ap, subst, arith}
-use Rattle.std.specs.Prelude.{◌↔◌, IfSome, Option, None, Some, Ok, slice_index, sum}
+use Rattle.std.proofs.Common.{◌≡◌, ◌⊎◌, inl, inr, ℕ, zero, suc, ◌+◌, ◌*◌, ◌-◌, ◌^◌, ◌<◌, ◌≤◌, Bool, List, [], ◌∷◌, length, refl, sym, ◌∙◌, ap, subst, arith}
+use Rattle.std.specs.Prelude.{IfSome, Option, None, Some, slice_index, sum}
 use Rattle.envy_base.specs.Array.{Array, zeros}
 use Rattle.envy_base.specs.declared.counts.Counts.{Counts}
 use Rattle.envy_base.specs.declared.shape.Shape.{Shape}
@@ -9,7 +9,6 @@ use Rattle.std.proofs.Math.Nat.{mul-le-mul_left}
 use Rattle.std.proofs.lemmas.Bool.{cases_lt}
 use Rattle.std.proofs.lemmas.List.{length-replicate}
 use Rattle.std.proofs.lemmas.List.Sums.{sum_by-cons}
-use Rattle.std.specs.Option.{option_map}
 use Rattle.envy_io.specs.Streams.{Feed, Drain}
 use Rattle.envy_map.specs.Fields.{Chart, chart}
 use Rattle.envy_base.specs.Counting.{up, Tally}
@@ -26,15 +25,13 @@ use Rattle.envy_policy.specs.declared.setup.Setup.{Setup}
 use Rattle.envy_trace.specs.declared.line.Line.{Line}
 use Rattle.envy_trace.specs.declared.line.Line.TheVariants.{Empty, Load, Look, Store, Begin, Put, Commit, Abort, Tick, Power, Cut, Bad, Stat}
 use Rattle.envy_trace.specs.declared.reply.Reply.{Reply}
-use Rattle.envy_trace.specs.Grammar.{line_of}
-use Rattle.envy_trace.specs.Spelling.{Reads}
 use Rattle.envy_serve.specs.declared.service.Obeyed.{Obeyed}
 use Rattle.envy_serve.specs.declared.service.Obeyed.TheVariants.{Done, WriteFault, Dead}
 use Rattle.envy_serve.specs.declared.serving.End.{End}
 use Rattle.envy_serve.specs.Ends.{Serves, Ends, most_bytes}
 use Rattle.envy_serve.specs.Obeys.{Obeys}
 use Rattle.envy_serve.specs.Streams.{Streams}
-use Rattle.envy_serve.specs.Turns.{Turn, count_lines, count_of, count_replies, one_if}
+use Rattle.envy_serve.specs.Turns.{count_lines, count_replies}
 use Rattle.envy_serve.proofs.Advancing.{Serves-as, served-either}
 use Rattle.envy_run.specs.Done.{Run, Dies, DiesIn, HoldsOff, OnBoard}
 use Rattle.envy_run.specs.Headline.{Licences, run_task, zeros_of}
@@ -47,7 +44,7 @@ use Rattle.envy_run.specs.Obeys.{ObeysLine, LineDone}
 use Rattle.envy_run.specs.declared.ending.Finished.{Finished}
 use Rattle.envy_run.specs.Prepares.{HasTried, IsBegun, IsPrepared, IsReady, NoneBegun, WasMade}
 use Rattle.envy_run.specs.Resumes.{LicencesBehind}
-use Rattle.envy_run.specs.Outcome.{Outcome, ending_of, numbers_of, outcome_of}
+use Rattle.envy_run.specs.Outcome.{Outcome, ending_of, outcome_of}
 use Rattle.envy_run.specs.Spending.{IsThrifty, Spends, programs_in, programs_of, erases_in, erases_of, tries_of}
 use Rattle.envy_run.specs.Tracing.{Start, HasDone, LicensedTurns, SpentSince, TracedSince, DiedSince}
 use Rattle.envy_run.specs.Turns.{TraceTurn, Does, trace_grammar, is_power, is_plan, is_lost, is_fault, FailsIn, before_restart}

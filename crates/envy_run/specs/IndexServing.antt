@@ -1,8 +1,7 @@
 -- What the words of an index are between lines, and what one line does to them.
-use Rattle.std.specs.Prelude.{◌≡◌, ◌⊎◌, ℕ, ◌*◌, ◌^◌, ◌≤◌, ◌<◌, Bool, true, false, IsTrue, List, [], ◌∷◌, length, Result, Err, IsOk, IsErr, ⊤, refl, nat_lt}
+use Rattle.std.specs.Prelude.{◌≡◌, ◌⊎◌, ℕ, ◌*◌, ◌^◌, ◌≤◌, ◌<◌, Bool, true, false, IsTrue, List, [], ◌∷◌, length, Result, Err, IsOk, IsErr, refl, nat_lt}
 use Rattle.std.proofs.lemmas.Bool.{lt-ltb}
 use Rattle.envy_btree.specs.declared.line.IndexLine.{IndexLine}
-use Rattle.envy_btree.specs.declared.line.IndexLine.TheVariants.{Empty, Power, Cut, Bad}
 use Rattle.envy_btree.specs.declared.reply.IndexReply.{IndexReply}
 use Rattle.envy_btree.specs.declared.reply.IndexReply.TheVariants.{Lost, Restarted}
 use Rattle.envy_btree.specs.Grammar.{index_line_of}

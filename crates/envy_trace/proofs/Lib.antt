@@ -6,4 +6,5 @@ pub mod Mirrored
 pub mod Numerals
 pub mod Pieces
 pub mod Readings
+pub mod Tables
 pub mod Written

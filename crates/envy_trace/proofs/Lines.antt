@@ -1,47 +1,70 @@
 -- A line by its length and its command word.
-use Rattle.std.proofs.Common.{◌≡◌, ℕ, ◌<◌, ◌≤◌, Bool, true, false, List, [], ◌∷◌, length, find, None, Some, Err, refl, sym, ap, ◌∙◌}
-use Rattle.std.specs.List.{AllZip}
+use Rattle.std.proofs.Common.{◌≡◌, ℕ, ◌<◌, ◌≤◌, List, length, find, None, Some, Err, refl}
+use Rattle.std.specs.List.{AllByRecursion}
 use Rattle.std.specs.Str.{bytes_eq}
-use Rattle.std.proofs.lemmas.Bool.{cond-true, cond-false, lt-ltb, le-ltb}
-use Rattle.std.proofs.lemmas.Slice.Eq.{bytes_eq-Decides}
 use Rattle.envy_trace.specs.declared.command.Command.{Command}
 use Rattle.envy_trace.specs.declared.fault.LineFault.TheVariants.{Long, Word}
-use Rattle.envy_trace.specs.declared.line.Line.{Line}
 use Rattle.envy_trace.specs.declared.line.Line.TheVariants.{Empty}
 use Rattle.envy_trace.specs.Commands.{name_of, all}
-use Rattle.envy_trace.specs.Grammar.{Entry, line_of, fields_of, command_in, says, look_up, commands}
+use Rattle.envy_trace.specs.Grammar.{line_of, fields_of, command_in, says, look_up, commands}
+use Rattle.envy_trace.proofs.Faults.{no_numbers, one_number, two_numbers, three_numbers}
+use Rattle.envy_trace.proofs.Tables.{ReadsShort, by-long, by-short, by-long-only, by-none, by-some}
 
 pub line-long : (bs : List ℕ) → 120 < length bs → line_of bs ≡ Err Long
 unfolding line_of
-line-long bs long = cond-true _ _ _ (lt-ltb 120 (length bs) long)
+line-long = by-long Empty commands
 
 pub line-short : (bs : List ℕ) → length bs ≤ 120 → line_of bs ≡ says Empty commands (command_in (fields_of bs))
 unfolding line_of
-line-short bs short = cond-false _ _ _ (le-ltb 120 (length bs) short)
+line-short = by-short Empty commands
 
-module _ (name : List ℕ) (others : List (List ℕ)) where
-  -- a word that names no command stands in no row of the table
-  none_of : (rows : List (Entry Line)) (known : List Command) → AllZip (λ (row : Entry Line) (k : Command). row.name ≡ name_of k) rows known → find (λ k. bytes_eq (name_of k) name) known ≡ None → look_up rows name others ≡ Err Word
-  none_of [] [] same none = refl
-  none_of [] (k ∷ known) same none = absurd same
-  none_of (row ∷ rows) [] same none = absurd same
-  none_of (row ∷ rows) (k ∷ known) same none = go (bytes_eq (name_of k) name) refl (λ h. none_of rows known same.1 h)
-    where
-      go : (v : Bool) → bytes_eq (name_of k) name ≡ v → (find (λ j. bytes_eq (name_of j) name) known ≡ None → look_up rows name others ≡ Err Word) → look_up (row ∷ rows) name others ≡ Err Word
-      go true e more = absurd (let never : ⊥ = cc (cond-true _ (Some k) (find (λ j. bytes_eq (name_of j) name) known) e) in never)
-      go false e more = cond-false _ _ _ (ap (λ w. bytes_eq w name) same.0 ∙ e) ∙ more (sym (cond-false _ (Some k) _ e) ∙ none)
+entries : AllByRecursion ReadsShort commands
+entries = (
+  one_number _ _,
+  (
+    one_number _ _,
+    (
+      two_numbers _ _ _,
+      (
+        no_numbers _,
+        (
+          three_numbers _ _ _ _,
+          (
+            one_number _ _,
+            (
+              one_number _ _,
+              (
+                no_numbers _,
+                (
+                  no_numbers _,
+                  (
+                    two_numbers _ _ _,
+                    (
+                      two_numbers _ _ _,
+                      (
+                        no_numbers _,
+                        tt,
+                      ),
+                    ),
+                  ),
+                ),
+              ),
+            ),
+          ),
+        ),
+      ),
+    ),
+  ),
+)
 
-  pub named-none : find (λ k. bytes_eq (name_of k) name) all ≡ None → look_up commands name others ≡ Err Word
-  named-none none = none_of commands all (refl, (refl, (refl, (refl, (refl, (refl, (refl, (refl, (refl, (refl, (refl, (refl, tt)))))))))))) none
+pub long-only : (bs : List ℕ) → line_of bs ≡ Err Long → 120 < length bs
+unfolding line_of
+long-only = by-long-only Empty commands entries
+
+-- a word that names no command stands in no row of the table
+pub named-none : (name : List ℕ) (others : List (List ℕ)) → find (λ k. bytes_eq (name_of k) name) all ≡ None → look_up commands name others ≡ Err Word
+named-none name others none = by-none name_of name others commands all (refl, (refl, (refl, (refl, (refl, (refl, (refl, (refl, (refl, (refl, (refl, (refl, tt)))))))))))) none
 
 -- a word that names a command is its word
 pub named-some : (name : List ℕ) (known : List Command) (k : Command) → find (λ j. bytes_eq (name_of j) name) known ≡ Some k → name ≡ name_of k
-named-some name [] k some = absurd (let never : ⊥ = cc in never)
-named-some name (j ∷ known) k some = go (bytes_eq (name_of j) name) refl (λ h. named-some name known k h)
-  where
-    go : (v : Bool) → bytes_eq (name_of j) name ≡ v → (find (λ i. bytes_eq (name_of i) name) known ≡ Some k → name ≡ name_of k) → name ≡ name_of k
-    go true e more =
-        let found = sym (cond-true _ (Some j) (find (λ i. bytes_eq (name_of i) name) known) e) ∙ some in
-        let same : j ≡ k = cc in
-        sym ((bytes_eq-Decides (name_of j) name).0 e) ∙ ap name_of same
-    go false e more = more (sym (cond-false _ (Some j) _ e) ∙ some)
+named-some = by-some name_of

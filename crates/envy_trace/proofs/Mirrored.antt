@@ -1,8 +1,8 @@
 -- Lines of a trace for a pair of boards: by their command words, and exactly from their spellings.
-use Rattle.std.proofs.Common.{◌≡◌, ◌≢◌, ℕ, ◌<◌, ◌≤◌, Bool, true, false, cond, ◌==◌, List, [], ◌∷◌, length, map, codes, Option, None, Some, Result, Ok, Err, refl, sym, ap, ◌∙◌, subst, ◌⊎◌, inl, inr, arith}
-use Rattle.std.specs.List.{AllZip, All, starts_with}
+use Rattle.std.proofs.Common.{◌≡◌, ℕ, ◌<◌, ◌≤◌, true, false, List, [], ◌∷◌, length, codes, Option, None, Some, Result, Ok, Err, refl, sym, ap, ◌∙◌, subst, ◌⊎◌, inl, inr, arith}
+use Rattle.std.specs.List.{AllZip, All}
 use Rattle.std.specs.Str.{bytes_eq}
-use Rattle.std.proofs.lemmas.Bool.{cond-true, cond-false, cases_lt, cases_Bool, lt-ltb, le-ltb}
+use Rattle.std.proofs.lemmas.Bool.{cond-true, cond-false, cases_lt, cases_Bool}
 use Rattle.std.proofs.lemmas.Slice.Eq.{bytes_eq-Decides}
 use Rattle.envy_trace.specs.declared.fault.LineFault.{LineFault}
 use Rattle.envy_trace.specs.declared.fault.LineFault.TheVariants.{Long}
@@ -10,34 +10,27 @@ use Rattle.envy_trace.specs.declared.line.Line.{Line}
 use Rattle.envy_trace.specs.declared.line.Line.TheVariants.{Empty, Load, Look, Store, Begin, Put, Commit, Abort, Tick, Power, Cut, Bad, Stat}
 use Rattle.envy_trace.specs.declared.mirror_line.MirrorLine.{MirrorLine}
 use Rattle.envy_trace.specs.declared.mirror_line.MirrorLine.TheVariants.{Array, Side, Catch}
-use Rattle.envy_trace.specs.Grammar.{Entry, ◌>>=◌, line_of, fields_of, command_in, says, look_up, commands, number_in, none, one}
-use Rattle.envy_trace.specs.Mirror.{side, of_array, mirror_commands, mirror_line_of, mirror_parts, mirror_line_bytes, IsMirrorLine, ReadsMirror}
-use Rattle.envy_trace.specs.Spelling.{parts, IsLine, IsNumeralOf, Spells, Reads, line_bytes, written, written_parts}
-use Rattle.envy_trace.proofs.Faults.{long-only, no_numbers, one_number}
+use Rattle.envy_trace.specs.Grammar.{◌>>=◌, line_of, fields_of, command_in, says, look_up, commands, number_in, none, one}
+use Rattle.envy_trace.specs.Mirror.{side, mirror_commands, mirror_line_of, mirror_parts, mirror_line_bytes, IsMirrorLine, ReadsMirror}
+use Rattle.envy_trace.specs.Spelling.{parts, IsNumeralOf, Spells, line_bytes, written, written_parts}
+use Rattle.envy_trace.proofs.Faults.{no_numbers, one_number}
 use Rattle.envy_trace.proofs.Written.{HasForm, Prints, form, spells_written, prints}
-use Rattle.envy_trace.proofs.Lines.{line-short}
-use Rattle.envy_trace.proofs.Numerals.{Fits, OneOk, none_ok, one_ok, none_read, one_read}
+use Rattle.envy_trace.proofs.Lines.{line-short, long-only}
+use Rattle.envy_trace.proofs.Tables.{by-long, by-short, look-up-as, made_as, made-ok, made-long, of_command, same-word}
+use Rattle.envy_trace.proofs.Numerals.{Fits, none_ok, one_ok, none_read, one_read}
 use Rattle.envy_trace.proofs.Readings.{line-read, line-spelled}
 
 -- a line of one array, as one of the pair
 abbrev pub as_array : Result Line LineFault → Result MirrorLine LineFault
-as_array r = r >>= λ line. Ok (Array line)
+as_array = made_as Array
 
 pub mirror-long : (bs : List ℕ) → 120 < length bs → mirror_line_of bs ≡ Err Long
 unfolding mirror_line_of
-mirror-long bs long = cond-true _ _ _ (lt-ltb 120 (length bs) long)
+mirror-long = by-long (Array Empty) mirror_commands
 
 pub mirror-short : (bs : List ℕ) → length bs ≤ 120 → mirror_line_of bs ≡ says (Array Empty) mirror_commands (command_in (fields_of bs))
 unfolding mirror_line_of
-mirror-short bs short = cond-false _ _ _ (le-ltb 120 (length bs) short)
-
-in-array : (table : List (Entry Line)) (name : List ℕ) (fs : List (List ℕ)) → look_up (map of_array table) name fs ≡ as_array (look_up table name fs)
-in-array [] name fs = refl
-in-array (entry ∷ table) name fs = at (bytes_eq entry.name name) (in-array table name fs)
-  where
-    at : (b : Bool) → look_up (map of_array table) name fs ≡ as_array (look_up table name fs) → cond b (as_array (entry.read fs)) (look_up (map of_array table) name fs) ≡ as_array (cond b (entry.read fs) (look_up table name fs))
-    at true rest = refl
-    at false rest = rest
+mirror-short = by-short (Array Empty) mirror_commands
 
 pub word-side : (name : List ℕ) (fs : List (List ℕ)) → bytes_eq (codes "side") name ≡ true → look_up mirror_commands name fs ≡ one side Side fs
 word-side name fs e = cond-true _ _ _ e
@@ -46,7 +39,7 @@ pub word-catch : (name : List ℕ) (fs : List (List ℕ)) → bytes_eq (codes "s
 word-catch name fs e f = cond-false _ _ _ e ∙ cond-true _ _ _ f
 
 pub word-array : (name : List ℕ) (fs : List (List ℕ)) → bytes_eq (codes "side") name ≡ false → bytes_eq (codes "catch") name ≡ false → look_up mirror_commands name fs ≡ as_array (look_up commands name fs)
-word-array name fs e f = cond-false _ _ _ e ∙ cond-false _ _ _ f ∙ in-array commands name fs
+word-array name fs e f = cond-false _ _ _ e ∙ cond-false _ _ _ f ∙ look-up-as Array commands name fs
 
 -- ---- both ways
 
@@ -90,36 +83,20 @@ cases bs short = at (command_in (fields_of bs)) refl
     at None is = none-in bs short is
     at (Some c) is = some-in bs short c is
 
-as_array-ok : (r : Result Line LineFault) (line : MirrorLine) → as_array r ≡ Ok line → (x : Line) × (r ≡ Ok x) × (Array x ≡ line)
-as_array-ok (Ok x) line e = (x, refl, cc)
-as_array-ok (Err fault) line e = absurd (let never : ⊥ = cc in never)
-
-as_array-long : (r : Result Line LineFault) → as_array r ≡ Err Long → r ≡ Err Long
-as_array-long (Ok x) e = absurd (let never : ⊥ = cc in never)
-as_array-long (Err fault) e = let same : fault ≡ Long = cc in ap (λ (f : LineFault). Err f) same
-
 abbrev HasOf : List ℕ → MirrorLine → Type 0
 HasOf bs line = Spells (fields_of bs) (mirror_parts line) × IsMirrorLine line
 
-of-command : (fs : List (List ℕ)) (name : List ℕ) (others : List (List ℕ)) → command_in fs ≡ Some (name, others) → fs ≡ name ∷ others
-of-command [] name others e = absurd (let never : ⊥ = cc in never)
-of-command (f ∷ fs) name others e = go (starts_with ◌==◌ f (codes "#")) e
-  where
-    go : (v : Bool) → cond {A = Option (List ℕ × List (List ℕ))} v None (Some (f, fs)) ≡ Some (name, others) → f ∷ fs ≡ name ∷ others
-    go true h = absurd (let never : ⊥ = cc in never)
-    go false h = let same : (f, fs) ≡ (name, others) = cc in ap (λ (p : List ℕ × List (List ℕ)). p.0 ∷ p.1) same
-
 of-case : (bs : List ℕ) (line : MirrorLine) → Cases bs → mirror_line_of bs ≡ Ok line → HasOf bs line
 of-case bs line (IsArray read) e =
-    let a = as_array-ok (line_of bs) line (sym read ∙ e) in
+    let a = made-ok Array (line_of bs) line (sym read ∙ e) in
     let r = line-read bs a.0 a.1 in
     subst (λ (l : MirrorLine). HasOf bs l) a.2 (r.fields, r.ranges)
 of-case bs line (IsSide fs is read) e =
     let a = one_ok side Side line fs (sym read ∙ e) in
-    subst (λ (l : MirrorLine). HasOf bs l) a.made ((fs, of-command (fields_of bs) (codes "side") fs is, a.numerals), Fits.high a.fits)
+    subst (λ (l : MirrorLine). HasOf bs l) a.made ((fs, of_command (fields_of bs) (codes "side", fs) is, a.numerals), Fits.high a.fits)
 of-case bs line (IsCatch fs is read) e =
     let a = none_ok Catch line fs (sym read ∙ e) in
-    subst (λ (l : MirrorLine). HasOf bs l) a.1 ((fs, of-command (fields_of bs) (codes "catch") fs is, subst (λ (gs : List (List ℕ)). AllZip IsNumeralOf gs []) (sym a.0) tt), tt)
+    subst (λ (l : MirrorLine). HasOf bs l) a.1 ((fs, of_command (fields_of bs) (codes "catch", fs) is, subst (λ (gs : List (List ℕ)). AllZip IsNumeralOf gs []) (sym a.0) tt), tt)
 
 pub mirror-read : (bs : List ℕ) (line : MirrorLine) → mirror_line_of bs ≡ Ok line → ReadsMirror bs line
 mirror-read bs line e = go (cases_lt 120 (length bs))
@@ -127,13 +104,6 @@ mirror-read bs line e = go (cases_lt 120 (length bs))
     go : (120 < length bs) ⊎ (length bs ≤ 120) → ReadsMirror bs line
     go (inl long) = let fault = mirror-long bs long in absurd (let never : ⊥ = cc in never)
     go (inr short) = let h = of-case bs line (cases bs short) e in record { short = short; fields = h.0; ranges = h.1 }
-
-named : (bs : List ℕ) (c : List ℕ × List (List ℕ)) → command_in (fields_of bs) ≡ Some c → (name : List ℕ) (others : List (List ℕ)) → fields_of bs ≡ name ∷ others → starts_with ◌==◌ name (codes "#") ≡ false → IsArrayWord name → IsArrayWord c.0
-named bs c is name others fields plain word =
-    let found : command_in (name ∷ others) ≡ Some c = subst (λ (fs : List (List ℕ)). command_in fs ≡ Some c) fields is in
-    let some : Some (name, others) ≡ Some c = sym (cond-false _ _ _ plain) ∙ found in
-    let same : (name, others) ≡ c = cc in
-    subst (λ (d : List ℕ × List (List ℕ)). IsArrayWord d.0) same word
 
 -- a number that is read, and what is made of it
 bind-as : {A B : Type 0} (r : Result A LineFault) (make : A → B) → (r >>= λ x. Ok (make x)) ≡ ((r >>= λ x. Ok x) >>= λ x. Ok (make x))
@@ -145,37 +115,21 @@ one-as [] = refl
 one-as (f ∷ []) = bind-as (number_in side f) Side
 one-as (f ∷ g ∷ fs) = refl
 
-pub none-as : (fs : List (List ℕ)) → none Catch fs ≡ (none {L = Unit {0}} tt fs >>= λ u. Ok Catch)
-none-as [] = refl
-none-as (f ∷ fs) = refl
-
--- a comparison of bytes does not depend on which side is first
-eq-flip : (a b : List ℕ) → bytes_eq a b ≡ bytes_eq b a
-eq-flip a b = at (cases_Bool (bytes_eq a b)) (cases_Bool (bytes_eq b a))
-  where
-    at : (bytes_eq a b ≡ true) ⊎ (bytes_eq a b ≡ false) → (bytes_eq b a ≡ true) ⊎ (bytes_eq b a ≡ false) → bytes_eq a b ≡ bytes_eq b a
-    at (inl e) f = let same = (bytes_eq-Decides a b).0 e in rw same refl
-    at (inr e) (inr f) = e ∙ sym f
-    at (inr e) (inl f) = let same = (bytes_eq-Decides b a).0 f in rw same refl
-
-pub is-word : (name word slice : List ℕ) (r v : Bool) → r ≡ bytes_eq name slice → slice ≡ word → r ≡ v → bytes_eq word name ≡ v
-is-word name word slice r v e same is = eq-flip word name ∙ ap (bytes_eq name) (sym same) ∙ sym e ∙ is
-
 -- a line of one array is none of the two others
 array-words : (bs : List ℕ) (line : Line) → length bs ≤ 120 → Spells (fields_of bs) (parts line) → (c : List ℕ × List (List ℕ)) → command_in (fields_of bs) ≡ Some c → IsArrayWord c.0
 array-words bs Empty short s c is = let no : None ≡ Some c = sym s ∙ is in absurd (let never : ⊥ = cc in never)
-array-words bs (Load a) short s c is = named bs c is (codes "load") s.0 s.1 refl (refl, refl)
-array-words bs (Look a) short s c is = named bs c is (codes "look") s.0 s.1 refl (refl, refl)
-array-words bs (Store a w) short s c is = named bs c is (codes "store") s.0 s.1 refl (refl, refl)
-array-words bs Begin short s c is = named bs c is (codes "begin") s.0 s.1 refl (refl, refl)
-array-words bs (Put t a w) short s c is = named bs c is (codes "put") s.0 s.1 refl (refl, refl)
-array-words bs (Commit t) short s c is = named bs c is (codes "commit") s.0 s.1 refl (refl, refl)
-array-words bs (Abort t) short s c is = named bs c is (codes "abort") s.0 s.1 refl (refl, refl)
-array-words bs Tick short s c is = named bs c is (codes "tick") s.0 s.1 refl (refl, refl)
-array-words bs Power short s c is = named bs c is (codes "power") s.0 s.1 refl (refl, refl)
-array-words bs (Cut k g) short s c is = named bs c is (codes "cut") s.0 s.1 refl (refl, refl)
-array-words bs (Bad k g) short s c is = named bs c is (codes "bad") s.0 s.1 refl (refl, refl)
-array-words bs Stat short s c is = named bs c is (codes "stat") s.0 s.1 refl (refl, refl)
+array-words bs (Load a) short s c is = same-word IsArrayWord bs c is (codes "load") s.0 s.1 refl (refl, refl)
+array-words bs (Look a) short s c is = same-word IsArrayWord bs c is (codes "look") s.0 s.1 refl (refl, refl)
+array-words bs (Store a w) short s c is = same-word IsArrayWord bs c is (codes "store") s.0 s.1 refl (refl, refl)
+array-words bs Begin short s c is = same-word IsArrayWord bs c is (codes "begin") s.0 s.1 refl (refl, refl)
+array-words bs (Put t a w) short s c is = same-word IsArrayWord bs c is (codes "put") s.0 s.1 refl (refl, refl)
+array-words bs (Commit t) short s c is = same-word IsArrayWord bs c is (codes "commit") s.0 s.1 refl (refl, refl)
+array-words bs (Abort t) short s c is = same-word IsArrayWord bs c is (codes "abort") s.0 s.1 refl (refl, refl)
+array-words bs Tick short s c is = same-word IsArrayWord bs c is (codes "tick") s.0 s.1 refl (refl, refl)
+array-words bs Power short s c is = same-word IsArrayWord bs c is (codes "power") s.0 s.1 refl (refl, refl)
+array-words bs (Cut k g) short s c is = same-word IsArrayWord bs c is (codes "cut") s.0 s.1 refl (refl, refl)
+array-words bs (Bad k g) short s c is = same-word IsArrayWord bs c is (codes "bad") s.0 s.1 refl (refl, refl)
+array-words bs Stat short s c is = same-word IsArrayWord bs c is (codes "stat") s.0 s.1 refl (refl, refl)
 
 pub mirror-spelled : (bs : List ℕ) (line : MirrorLine) → ReadsMirror bs line → mirror_line_of bs ≡ Ok line
 mirror-spelled bs (Array line) r =
@@ -187,7 +141,7 @@ mirror-spelled bs Catch r =
     mirror-short bs r.short ∙ ap (λ (gs : List (List ℕ)). says (Array Empty) mirror_commands (command_in gs)) r.fields.1 ∙ none_read Catch r.fields.0 r.fields.2
 
 long-case : (bs : List ℕ) → Cases bs → mirror_line_of bs ≡ Err Long → length bs ≤ 120 → ⊥
-long-case bs (IsArray read) e short = let long = long-only bs (as_array-long (line_of bs) (sym read ∙ e)) in omega arith
+long-case bs (IsArray read) e short = let long = long-only bs (made-long Array (line_of bs) (sym read ∙ e)) in omega arith
 long-case bs (IsSide fs is read) e short = one_number side Side fs (sym read ∙ e)
 long-case bs (IsCatch fs is read) e short = no_numbers Catch fs (sym read ∙ e)
 

@@ -1,5 +1,4 @@
-use Rattle.envy_btree.proofs.Lengths.{long-only}
-use Rattle.envy_btree.proofs.Lines.{line-long}
+use Rattle.envy_btree.proofs.Lines.{line-long, long-only}
 use Rattle.envy_btree.proofs.Readings.{line-read, line-spelled}
 use Rattle.envy_btree.proofs.laws.index_grammar_holds_both_ways.Goals as goal
 

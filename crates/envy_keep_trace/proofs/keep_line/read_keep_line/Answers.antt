@@ -5,7 +5,8 @@ use Rattle.envy_trace.specs.declared.line.Line.TheVariants.{Empty}
 use Rattle.envy_trace.specs.Grammar.{says, pieces, ◌>>=◌}
 use Rattle.envy_keep_trace.specs.declared.keep_line.KeepLine.TheVariants.{Trace, Sync}
 use Rattle.envy_keep_trace.specs.Keep.{keep_commands}
-use Rattle.envy_keep_trace.proofs.KeepLines.{keep-long, keep-short, word-sync, word-failure, keep-trace-named, is-word, is-kept, none-as, as_trace}
+use Rattle.envy_keep_trace.proofs.KeepLines.{keep-long, keep-short, word-sync, word-failure, keep-trace-named, is-kept, as_trace}
+use Rattle.envy_trace.proofs.Tables.{is-word, none-as}
 use Rattle.envy_keep_trace.proofs.keep_line.read_keep_line.Goals as goal
 
 pub returns-in_err-name : goal.returns-in_err-name
@@ -25,14 +26,14 @@ returns-in_err-no_number c =
     let found = c.in_ok-name.ensures in
     let line = keep-short c.args.bytes.now found.0 ∙ ap (says (Trace Empty) keep_commands) (rw c.in-Some.is at found.1) in
     let read = word-sync c.in-Some.name.now (pieces c.in-Some.rest.now) (is-word c.in-Some.name.now (codes "sync") c.as_slice.result.now c.eq.result true c.eq.ensures c.as_slice.ensures c.if-eq.true) in
-    rw (p.1, p.2) (sym (line ∙ read ∙ none-as (pieces c.in-Some.rest.now) ∙ ap (λ (r : Result (Unit {0}) LineFault). r >>= λ x. Ok Sync) (sym c.in_err-no_number.ensures)))
+    rw (p.1, p.2) (sym (line ∙ read ∙ none-as Sync (pieces c.in-Some.rest.now) ∙ ap (λ (r : Result (Unit {0}) LineFault). r >>= λ x. Ok Sync) (sym c.in_err-no_number.ensures)))
 
 pub returns-then-eq : goal.returns-then-eq
 returns-then-eq c =
     let found = c.in_ok-name.ensures in
     let line = keep-short c.args.bytes.now found.0 ∙ ap (says (Trace Empty) keep_commands) (rw c.in-Some.is at found.1) in
     let read = word-sync c.in-Some.name.now (pieces c.in-Some.rest.now) (is-word c.in-Some.name.now (codes "sync") c.as_slice.result.now c.eq.result true c.eq.ensures c.as_slice.ensures c.if-eq.true) in
-    sym (line ∙ read ∙ none-as (pieces c.in-Some.rest.now) ∙ ap (λ (r : Result (Unit {0}) LineFault). r >>= λ x. Ok Sync) (sym c.in_ok-no_number.ensures))
+    sym (line ∙ read ∙ none-as Sync (pieces c.in-Some.rest.now) ∙ ap (λ (r : Result (Unit {0}) LineFault). r >>= λ x. Ok Sync) (sym c.in_ok-no_number.ensures))
 
 pub returns-then-names_failure : goal.returns-then-names_failure
 returns-then-names_failure c =

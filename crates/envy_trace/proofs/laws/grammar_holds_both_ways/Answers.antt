@@ -1,5 +1,4 @@
-use Rattle.envy_trace.proofs.Faults.{long-only}
-use Rattle.envy_trace.proofs.Lines.{line-long}
+use Rattle.envy_trace.proofs.Lines.{line-long, long-only}
 use Rattle.envy_trace.proofs.Readings.{line-read, line-spelled}
 use Rattle.envy_trace.proofs.Written.{prints, one_line}
 use Rattle.envy_trace.specs.Spelling.{line_bytes}

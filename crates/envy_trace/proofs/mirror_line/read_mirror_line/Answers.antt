@@ -6,7 +6,8 @@ use Rattle.envy_trace.specs.declared.line.Line.TheVariants.{Empty}
 use Rattle.envy_trace.specs.declared.mirror_line.MirrorLine.TheVariants.{Array, Side, Catch}
 use Rattle.envy_trace.specs.Grammar.{says, pieces, ◌>>=◌}
 use Rattle.envy_trace.specs.Mirror.{mirror_commands}
-use Rattle.envy_trace.proofs.Mirrored.{mirror-long, mirror-short, word-side, word-catch, mirror-array-named, is-word, one-as, none-as, as_array}
+use Rattle.envy_trace.proofs.Mirrored.{mirror-long, mirror-short, word-side, word-catch, mirror-array-named, one-as, as_array}
+use Rattle.envy_trace.proofs.Tables.{is-word, none-as}
 use Rattle.envy_trace.proofs.mirror_line.read_mirror_line.Goals as goal
 
 pub returns-in_err-name : goal.returns-in_err-name
@@ -41,14 +42,14 @@ returns-in_err-no_number c =
     let found = c.in_ok-name.ensures in
     let line = mirror-short c.args.bytes.now found.0 ∙ ap (says (Array Empty) mirror_commands) (rw c.in-Some.is at found.1) in
     let read = word-catch c.in-Some.name.now (pieces c.in-Some.rest.now) (is-word c.in-Some.name.now (codes "side") c.as_slice.result.now c.eq.result false c.eq.ensures c.as_slice.ensures c.if-eq.false) (is-word c.in-Some.name.now (codes "catch") c.as_slice-2.result.now c.eq-2.result true c.eq-2.ensures c.as_slice-2.ensures c.if-eq-2.true) in
-    rw (p.1, p.2) (sym (line ∙ read ∙ none-as (pieces c.in-Some.rest.now) ∙ ap (λ (r : Result (Unit {0}) LineFault). r >>= λ x. Ok Catch) (sym c.in_err-no_number.ensures)))
+    rw (p.1, p.2) (sym (line ∙ read ∙ none-as Catch (pieces c.in-Some.rest.now) ∙ ap (λ (r : Result (Unit {0}) LineFault). r >>= λ x. Ok Catch) (sym c.in_err-no_number.ensures)))
 
 pub returns-then-eq-2 : goal.returns-then-eq-2
 returns-then-eq-2 c =
     let found = c.in_ok-name.ensures in
     let line = mirror-short c.args.bytes.now found.0 ∙ ap (says (Array Empty) mirror_commands) (rw c.in-Some.is at found.1) in
     let read = word-catch c.in-Some.name.now (pieces c.in-Some.rest.now) (is-word c.in-Some.name.now (codes "side") c.as_slice.result.now c.eq.result false c.eq.ensures c.as_slice.ensures c.if-eq.false) (is-word c.in-Some.name.now (codes "catch") c.as_slice-2.result.now c.eq-2.result true c.eq-2.ensures c.as_slice-2.ensures c.if-eq-2.true) in
-    sym (line ∙ read ∙ none-as (pieces c.in-Some.rest.now) ∙ ap (λ (r : Result (Unit {0}) LineFault). r >>= λ x. Ok Catch) (sym c.in_ok-no_number.ensures))
+    sym (line ∙ read ∙ none-as Catch (pieces c.in-Some.rest.now) ∙ ap (λ (r : Result (Unit {0}) LineFault). r >>= λ x. Ok Catch) (sym c.in_ok-no_number.ensures))
 
 pub returns-in_err-read_line : goal.returns-in_err-read_line
 returns-in_err-read_line c =

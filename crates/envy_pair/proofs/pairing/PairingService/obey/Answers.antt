@@ -1,6 +1,6 @@
 use Rattle.std.proofs.Common.{◌≡◌, rules, sym, subst}
 use Rattle.envy_serve.specs.declared.service.Obeyed.TheVariants.{Done}
-use Rattle.envy_trace.specs.declared.line.Line.TheVariants.{Empty, Power}
+use Rattle.envy_trace.specs.declared.line.Line.TheVariants.{Power}
 use Rattle.envy_trace.specs.declared.mirror_line.MirrorLine.{MirrorLine}
 use Rattle.envy_trace.specs.declared.mirror_line.MirrorLine.TheVariants.{Array as OfArray}
 use Rattle.envy_pair.specs.Serving.{IsReady, MirroredSince, ObeysMirror}
