@@ -4,6 +4,7 @@ ghost use Rattle.std.specs.Prelude.{◌≡◌, ◌≢◌, ◌≤◌, IfOk, IsErr
 ghost use Rattle.envy_device.specs.Device.{Only};
 ghost use Rattle.envy_hostfile.specs.Host.{host_bytes, host_outcome};
 ghost use Rattle.envy_hostfile.specs.declared.opening.OpenFault.TheVariants.{Unreadable, InUse, Memory as OfMemory};
+ghost use Rattle.envy_serve.specs.Ends.{most_bytes};
 
 use crate::streams::{AskedSource, HeldSink, StdSink, StdSource};
 use crate::{NO_MEMORY, WRITE_FAULT};
@@ -89,7 +90,7 @@ fn serve_file(
 ) -> Result<Told, NoMemory>
     requires bytes { host_bytes device ≡ bytes.now }
     requires durable { Only (host_bytes device) (host_outcome device) }
-    ensures { IfOk result (λ told. told.lines ≤ 1099511627776) }
+    ensures { IfOk result (λ told. told.lines ≤ most_bytes) }
 {
     let output = RefCell::new(BufferedSink::new(rt.alloc(), StdSink::new(rt.stdout()))?);
     let input = AskedSource::new(StdSource::new(rt.stdin()), &output);
@@ -116,7 +117,7 @@ fn serve_file(
 
 /// Serves the memory in the file that the words behind `keep` name.
 pub fn keep_words(rt: &HostRuntime, words: &[String]) -> Told
-    ensures { result.lines ≤ 1099511627776 }
+    ensures { result.lines ≤ most_bytes }
 {
     let said = match read_keep(rt.alloc(), words) {
         Ok(said) => said,

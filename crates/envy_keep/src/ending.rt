@@ -3,6 +3,7 @@ ghost use Rattle.envy_keep.specs.Ending.{Concludes, KeepsServed};
 ghost use Rattle.envy_keep.specs.Since.{KeptSince, Start};
 ghost use Rattle.envy_run.specs.Outcome.{why_of};
 ghost use Rattle.envy_serve.specs.declared.serving.End.TheVariants.{Done as EndDone};
+ghost use Rattle.envy_serve.specs.Ends.{most_bytes};
 
 use crate::keeping::Keeping;
 use crate::replying::ReplyBuffer;
@@ -77,7 +78,7 @@ pub fn serve_kept<S: Source, K: Sink, B: Steady + Drop, D: Place>(
     ensures stopped { result.status ≡ 6 → length (D.seen result.device) + result.held < 2 ^ 60
         → IsTrue (D.has_failed result.device) }
     ensures few { result.lines ≤ result.taken }
-    ensures read { result.taken ≤ 1099511627776 }
+    ensures read { result.taken ≤ most_bytes }
 {
     let mut keeping = Keeping {
         memory,

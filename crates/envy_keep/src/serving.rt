@@ -8,6 +8,7 @@ ghost use Rattle.envy_journal.specs.Content.{blank, content_of};
 ghost use Rattle.envy_policy.specs.Setup.{checked};
 ghost use Rattle.envy_keep.specs.Keeping.{IsServed, IsUnserved, told};
 ghost use Rattle.envy_serve.specs.Streams.{Streams};
+ghost use Rattle.envy_serve.specs.Ends.{most_bytes};
 
 use crate::ending::{KeepEnded, serve_kept};
 use envy_args::KeepOptions;
@@ -71,7 +72,7 @@ fn serve_on<S: Source, K: Sink, B: Steady + Drop, D: Place + Drop>(
     ensures stopped { result.status ≡ 6 → length (D.seen result.device) + result.held < 2 ^ 60
         → IsTrue (D.has_failed result.device) }
     ensures few { result.lines ≤ result.taken }
-    ensures read { result.taken ≤ 1099511627776 }
+    ensures read { result.taken ≤ most_bytes }
 {
     match begin(alloc, board, device, options, bytes, setup, holding) {
         Ok(memory) => serve_kept(memory, source, sink),
@@ -110,7 +111,7 @@ pub fn keep<S: Source, K: Sink, D: Place + Drop>(
     ensures stopped { result.status ≡ 6 → length (D.seen result.device) + result.held < 2 ^ 60
         → IsTrue (D.has_failed result.device) }
     ensures few { result.lines ≤ result.taken }
-    ensures read { result.taken ≤ 1099511627776 }
+    ensures read { result.taken ≤ most_bytes }
 {
     let (setup, holding) = match plan(options, bytes) {
         Ok(plan) => plan,
