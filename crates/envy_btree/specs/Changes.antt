@@ -1,5 +1,5 @@
 -- What a change makes of a tree.
-use Rattle.std.specs.Prelude.{◌≡◌, ◌⊎◌, ◌∷◌, slice_set, ℕ, ◌+◌, ◌-◌, ◌*◌, ◌<◌, ◌≤◌, ◌≢◌, ◌==◌, Result, Ok, Err, Some, None, true, false, Bool, Option, List, ◌++◌, length, slice_index}
+use Rattle.std.specs.Prelude.{◌≡◌, ◌⊎◌, ◌∷◌, slice_set, ℕ, ◌+◌, ◌<◌, ◌≤◌, ◌≢◌, ◌==◌, Result, Ok, Err, Some, None, true, false, Bool, Option, List, ◌++◌, length, slice_index}
 use Rattle.std.specs.List.{remove}
 use Rattle.envy_heap.specs.Pieces.{IsHeap, Takes, Freed, handed, spare, at, one}
 use Rattle.envy_base.specs.declared.board.Trouble.{Trouble}

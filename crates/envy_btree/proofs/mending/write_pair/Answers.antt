@@ -1,4 +1,4 @@
-use Rattle.std.proofs.Common.{◌≡◌, ◌+◌, ◌≤◌, ◌<◌, ◌∙◌, ap, sym, subst, arith, length, get_or, List, ℕ, inl}
+use Rattle.std.proofs.Common.{◌≡◌, ◌+◌, ◌∙◌, sym, subst, arith, get_or, List, ℕ, inl}
 use Rattle.envy_heap.specs.Pieces.{IsHeap, handed, Freed, one}
 use Rattle.envy_heap.proofs.Heaps.{Chain-one}
 use Rattle.envy_btree.specs.Tree.{Shows}

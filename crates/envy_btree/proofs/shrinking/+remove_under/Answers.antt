@@ -1,11 +1,10 @@
-use Rattle.std.proofs.Common.{rules, ◌≡◌, IfOk, IfSome, Ok, Err, Result, Option, List, ℕ, ◌+◌, ◌-◌, ◌*◌, ◌<◌, ◌≤◌, ◌∙◌, suc, length, arith, sym, ap, subst, Some, None, get_or, false}
+use Rattle.std.proofs.Common.{◌≡◌, IfOk, IfSome, List, ℕ, ◌+◌, ◌-◌, ◌*◌, ◌∙◌, suc, arith, sym, subst, get_or, false}
 use Rattle.envy_base.specs.Words.{Works}
 use Rattle.envy_base.proofs.Working.{Works-trans, Works-more}
-use Rattle.envy_heap.specs.Pieces.{IsHeap}
 use Rattle.envy_btree.specs.Pairs.{without}
 use Rattle.envy_btree.specs.Tree.{Rising, keys_of, values_of}
-use Rattle.envy_btree.specs.Changes.{Rests, Beside, joined_keys}
-use Rattle.envy_btree.specs.Shrinking.{Back, MendedBack, Shrinks}
+use Rattle.envy_btree.specs.Changes.{Rests}
+use Rattle.envy_btree.specs.Shrinking.{Back, Shrinks}
 use Rattle.envy_btree.proofs.Descent.{Rests-within, Rests-few}
 use Rattle.envy_btree.proofs.Diving.{Rests-dives, Rests-lands, leaf-shrinks, front-shrinks, rear-shrinks, dive-fits, hand-more}
 use Rattle.envy_btree.proofs.shrinking.+remove_under.Goals as goal
