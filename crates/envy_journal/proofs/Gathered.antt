@@ -5,6 +5,7 @@ use Rattle.envy_base.specs.State.{State}
 use Rattle.envy_base.specs.declared.shape.Shape.{Shape}
 use Rattle.envy_journal.specs.declared.operation.Operation.{Operation}
 use Rattle.envy_journal.specs.declared.log.Log.{Log}
+use Rattle.envy_journal.specs.Held.{most_held}
 use Rattle.envy_journal.specs.Content.{Content, blank, changed, content_of, holds}
 use Rattle.envy_journal.specs.Head.{head_bytes}
 use Rattle.envy_journal.specs.Journal.{IsFileOf}
@@ -34,8 +35,8 @@ module _ {D : Type 0} (second : D → List ℕ) (log : Log D) (is : Gathers seco
     spilled_gathered = append-nil (second device) ∙ spilled_file
 
     -- and gathering goes on with an empty buffer
-    pub spilled_gathers : Gathers second (record log { device = device; end = log.end + log.used; used = 0 })
-    spilled_gathers = record { fits = omega arith; room = is.room; end = ap length spilled_file ∙ gathered_length }
+    pub spilled_gathers : (fits : 0 ≤ length log.buffer.items) (few : length log.buffer.items ≤ most_held) → Gathers second (record log { device = device; end = log.end + log.used; used = 0; fits = fits; few = few })
+    spilled_gathers fits few = record { fits = omega arith; room = is.room; end = ap length spilled_file ∙ gathered_length }
 
 -- bytes behind those that were gathered
 pub gathered_more : (file used bytes now : List ℕ) → now ≡ used ++ bytes → file ++ now ≡ (file ++ used) ++ bytes
