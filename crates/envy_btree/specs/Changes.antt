@@ -132,6 +132,19 @@ pub record Pair (ws : List ℕ) (p q : ℕ) : Type 0 where
   pub second : handed ws free q ≡ 1
   pub apart : p ≢ q
 
+-- a node of these keys and slots has children j and j + 1, in two pieces that are handed out
+pub record HasPair (ws : List ℕ) (j : ℕ) (keys slots : List ℕ) : Type 0 where
+  pub place : j < length keys
+  pub many : length keys ≤ 31
+  pub long : length slots ≡ length keys + 1
+  pub pair : Pair ws (slice_index slots j) (slice_index slots (j + 1))
+
+-- a node in hand has these keys and slots, one key too few, and stands beside one of its kind in the piece
+pub record IsShort (ws : List ℕ) (piece : ℕ) (inner : Bool) (keys slots : List ℕ) : Type 0 where
+  pub beside : Beside ws piece inner
+  pub few : length keys ≤ 14
+  pub long : length slots ≡ length keys + one inner
+
 -- Children j and j + 1 of a node, in hand as one, are written as one, and the second piece is given back. These are the node's lists then.
 pub record MendedAsOne (old new free : List ℕ) (j : ℕ) (keys slots : List ℕ) (inner : Bool) (joined joined_slots after after_slots : List ℕ) : Type 0 where
   pub few : length joined ≤ 31
