@@ -34,7 +34,8 @@ pub fn hand_made_words_are_maps()
 /// nodes of 15 children under a root.
 pub fn broken_words_are_no_map()
     ensures leaf { (es : List (ℕ × ℕ)) → (IsIndex (two_levels 14 14) es → ⊥) × (IsIndex crowded es → ⊥) }
-    ensures key { (es : List (ℕ × ℕ)) → (IsIndex (two_levels 15 14) es → ⊥) × (IsIndex (two_levels 15 16) es → ⊥) }
+    ensures key { (es : List (ℕ × ℕ)) → (IsIndex (two_levels 15 14) es → ⊥)
+        × (IsIndex (two_levels 15 16) es → ⊥) }
     ensures falling { (es : List (ℕ × ℕ)) → IsIndex (one_leaf 2 (6 ∷ 5 ∷ []) (60 ∷ 50 ∷ [])) es → ⊥ }
     ensures miscounted { (es : List (ℕ × ℕ)) → IsIndex (one_leaf 2 (5 ∷ []) (50 ∷ [])) es → ⊥ }
     ensures twice { (es : List (ℕ × ℕ)) → IsIndex named_twice es → ⊥ }

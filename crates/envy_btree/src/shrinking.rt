@@ -73,8 +73,8 @@ fn shrink_with_front<W: Words>(
     requires room { length (W.sheet words.old).pages + 6 ≤ (W.sheet words.old).room }
     requires inner { node.inner ≡ true }
     requires children { HasPair (W.sheet words.old).words j node.keys.items node.slots.items }
-    requires short { IsShort (W.sheet words.old).words (slice_index node.slots.items j) child.inner child.keys.items
-        child.slots.items }
+    requires short { IsShort (W.sheet words.old).words (slice_index node.slots.items j) child.inner
+        child.keys.items child.slots.items }
 
     ensures works { Works 6 (W.sheet words.old) (W.sheet words.new) }
     ensures fails { Fails (W.sheet words.old) result (W.sheet words.new) }
@@ -103,8 +103,8 @@ fn shrink_with_rear<W: Words>(
     requires room { length (W.sheet words.old).pages + 6 ≤ (W.sheet words.old).room }
     requires inner { node.inner ≡ true }
     requires children { HasPair (W.sheet words.old).words j node.keys.items node.slots.items }
-    requires short { IsShort (W.sheet words.old).words (slice_index node.slots.items (j + 1)) child.inner child.keys.items
-        child.slots.items }
+    requires short { IsShort (W.sheet words.old).words (slice_index node.slots.items (j + 1)) child.inner
+        child.keys.items child.slots.items }
 
     ensures works { Works 6 (W.sheet words.old) (W.sheet words.new) }
     ensures fails { Fails (W.sheet words.old) result (W.sheet words.new) }
