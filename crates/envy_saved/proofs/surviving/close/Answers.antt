@@ -22,5 +22,5 @@ returns-clause-time g c =
 pub returns-clause-ended : goal.returns-clause-ended
 returns-clause-ended g c off few =
     let log = c.into_journal-journal.result.log in
-    let small = subst (λ (d : g.row.D.Denot). length (g.D.Device.seen d) + log.used < 2 ^ 60) c.close.ensures (subst (λ (n : ℕ). length (g.D.Device.seen c.close.result) + n < 2 ^ 60) c.held-held.ensures few) in
+    let small = subst (λ (d : g.row.D.Denot). length (g.D.Device.seen d) + log.used < 2 ^ 60) c.close.ensures (subst (λ (n : ℕ). length (g.D.Device.seen c.close.result) + n < 2 ^ 60) c.held-held.ensures.used few) in
     subst (λ (d : g.row.D.Denot). IsTrue (g.D.Device.has_failed d)) (sym c.close.ensures) (c.into_journal-journal.ensures.ended (ap (λ (p : Chart). p.on) c.into_board-kept.ensures.same ∙ off) small)
