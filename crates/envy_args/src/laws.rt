@@ -23,8 +23,8 @@ pub fn words_name_commands()
     ensures total { command_of (codes "run" ∷ codes "--segments" ∷ codes "17" ∷ codes "--rows=65536" ∷ [])
         ≡ Err (Rule 7) }
     ensures transfers { command_of (codes "tpca" ∷ codes "--transfers" ∷ codes "1070" ∷ []) ≡ Err (Rule 11) }
-    ensures judged { command_of (codes "audit" ∷ []) ≡ Ok Audit }
-    ensures mapped { command_of (codes "map" ∷ []) ≡ Ok Segments }
+    ensures judged { (command_of (codes "audit" ∷ []) ≡ Ok Audit)
+        × (command_of (codes "map" ∷ []) ≡ Ok Segments) }
     ensures open { command_of (codes "resume" ∷ []) ≡ Ok (Resume Greedy 100 None 4294967295) }
     ensures tree { command_of (codes "index" ∷ codes "--pages=19" ∷ codes "--shadows=31" ∷ []) ≡ Err (Rule 13) }
     ensures heap { command_of (codes "index" ∷ codes "--pages=19" ∷ []) ≡ Err (Rule 14) }

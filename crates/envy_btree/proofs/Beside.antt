@@ -1,5 +1,5 @@
 -- One step down a tree to the pair that is nearest to a key, and to the neighbour of the child.
-use Rattle.std.proofs.Common.{◌≡◌, ◌≢◌, ◌⊎◌, ℕ, zero, suc, ◌+◌, ◌-◌, ◌<◌, ◌≤◌, Bool, true, false, List, [], ◌∷◌, ◌++◌, length, map, take, drop, get_or, Option, Some, None, refl, ap, sym, subst, ◌∙◌, arith}
+use Rattle.std.proofs.Common.{◌≡◌, ◌≢◌, ℕ, zero, suc, ◌+◌, ◌-◌, ◌<◌, ◌≤◌, Bool, true, false, List, [], ◌∷◌, ◌++◌, length, map, take, drop, get_or, Option, Some, None, refl, ap, sym, subst, ◌∙◌, arith}
 use Rattle.std.specs.List.{All, flat_map}
 use Rattle.std.specs.Option.{is_some}
 use Rattle.std.proofs.lemmas.List.{append_assoc, append-nil, get_or-map, length-map, set-get_or, take_more, drop_all}
@@ -15,7 +15,7 @@ use Rattle.envy_btree.specs.Changes.{Rests}
 use Rattle.envy_btree.specs.Nearest.{first_from, last_to}
 use Rattle.envy_btree.proofs.Trees.{low_of, high_of, Fans-long, Fans-at, Fans-before, Fans-after, Ordered-within}
 use Rattle.envy_btree.proofs.Descent.{bare, around, read-shows, Rests-within, Rests-leaf}
-use Rattle.envy_btree.proofs.Counting.{nodes, nodes-pairs}
+use Rattle.envy_btree.proofs.Counting.{nodes-pairs}
 use Rattle.envy_btree.proofs.Nearest.{first-below, first-here, first-none, first-above, last-above, last-here, last-before, last-below}
 
 -- child j of a node

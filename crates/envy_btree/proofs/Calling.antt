@@ -1,6 +1,5 @@
 -- The calls that find the nearest pair, as one relation by cases.
-use Rattle.std.proofs.Common.{◌≡◌, ◌≢◌, ℕ, ◌+◌, ◌-◌, ◌^◌, ◌<◌, ◌≤◌, false, IsTrue, List, [], length, get_or, Option, None, Some, Result, Ok, Err, IfOk, OnOk, MatchResult, ap, sym, subst, ◌∙◌, arith}
-use Rattle.std.specs.List.{All}
+use Rattle.std.proofs.Common.{◌≡◌, ◌≢◌, ℕ, ◌-◌, ◌^◌, ◌<◌, ◌≤◌, false, IsTrue, List, length, get_or, Option, None, Result, Ok, Err, IfOk, OnOk, MatchResult, ap, sym, subst, ◌∙◌}
 use Rattle.std.proofs.lemmas.List.Elements.{All-nil, All-weaker}
 use Rattle.envy_base.specs.declared.board.Off.{Off}
 use Rattle.envy_base.specs.Words.{Sheet, Loads}
@@ -12,7 +11,7 @@ use Rattle.envy_btree.specs.Pairs.{Below, Above}
 use Rattle.envy_btree.specs.Tree.{pairs_of}
 use Rattle.envy_btree.proofs.Calls.{planted-rising}
 use Rattle.envy_btree.proofs.Nearest.{first-is, last-is}
-use Rattle.envy_btree.proofs.Rooting.{Roots, Root-rests, Root-empty}
+use Rattle.envy_btree.proofs.Rooting.{Root-rests, Root-empty}
 use Rattle.envy_btree.proofs.Trees.{Rising-within}
 
 pub finds-of : (P : Option (ℕ × ℕ) → Type 0) (best : Option (ℕ × ℕ)) (es : List (ℕ × ℕ)) (old new : Sheet) (r : Result (Option (ℕ × ℕ)) Off) → P best → old.words ≡ old.kept → new.kept ≡ old.kept → IsIndex old.words es

@@ -1,16 +1,14 @@
 -- The calls at the root, as one relation by cases.
-use Rattle.std.proofs.Common.{◌≡◌, ◌≢◌, ◌⊎◌, ℕ, zero, suc, ◌+◌, ◌-◌, ◌*◌, ◌^◌, ◌<◌, ◌≤◌, Bool, true, false, cond, IsTrue, List, [], ◌∷◌, ◌++◌, length, get_or, set, Option, None, Some, Result, Ok, Err, IfOk, OnOk, MatchResult, MatchOption, refl, ap, sym, subst, ◌∙◌, inl, inr, eqb, arith}
+use Rattle.std.proofs.Common.{◌≡◌, ℕ, zero, suc, ◌+◌, ◌-◌, ◌^◌, ◌<◌, ◌≤◌, false, IsTrue, List, [], ◌∷◌, length, get_or, set, Option, None, Some, Result, Ok, Err, IfOk, OnOk, MatchResult, MatchOption, ap, sym, subst, ◌∙◌, inl, inr, arith}
 use Rattle.std.specs.List.{flat_map}
 use Rattle.std.proofs.lemmas.Bool.{cases_lt, cases_eq}
 use Rattle.std.proofs.lemmas.List.{append-nil, get_or-set_same}
 use Rattle.envy_base.specs.declared.board.Off.{Off}
 use Rattle.envy_base.specs.declared.board.Trouble.{Trouble}
-use Rattle.envy_base.specs.declared.board.Trouble.TheVariants.{Off as TroubleOff, Bad as TroubleBad}
-use Rattle.envy_base.specs.Words.{Sheet, IsSheet, Works, Keeps, Puts, Fails, Rose}
-use Rattle.envy_heap.specs.Pieces.{pieces}
+use Rattle.envy_base.specs.Words.{Sheet, IsSheet, Fails, Rose}
 use Rattle.envy_btree.specs.declared.fault.TreeFault.{TreeFault}
 use Rattle.envy_btree.specs.declared.fault.TreeFault.TheVariants.{Off as FaultOff, Full, Bad}
-use Rattle.envy_btree.specs.Pairs.{assoc, with_pair, without, Above}
+use Rattle.envy_btree.specs.Pairs.{assoc, with_pair, without}
 use Rattle.envy_btree.specs.Tree.{Tree, Fans, Rising, Ordered, pairs_of}
 use Rattle.envy_btree.specs.Index.{IsIndex, IsPlanted, Rooted, most_pairs}
 use Rattle.envy_btree.specs.Answers.{Gets, Inserts, Removes, IsFull, Ends, Settles}

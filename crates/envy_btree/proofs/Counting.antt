@@ -1,14 +1,14 @@
 -- How many nodes a tree has, against its pairs, its depth and the pieces.
-use Rattle.std.proofs.Common.{◌≡◌, ◌≢◌, ◌⊎◌, ℕ, zero, suc, ◌+◌, ◌-◌, ◌*◌, ◌/◌, ◌^◌, ◌<◌, ◌≤◌, Bool, true, false, List, [], ◌∷◌, length, get_or, refl, ap, sym, subst, ◌∙◌, inl, inr, eqb, ltb, arith}
-use Rattle.std.specs.List.{All, flat_map, sum_by}
+use Rattle.std.proofs.Common.{◌≡◌, ℕ, zero, suc, ◌+◌, ◌-◌, ◌*◌, ◌<◌, ◌≤◌, true, false, List, [], ◌∷◌, length, get_or, refl, ap, sym, subst, ◌∙◌, inl, inr, eqb, ltb, arith}
+use Rattle.std.specs.List.{All, sum_by}
 use Rattle.std.proofs.Math.Nat.{mul-le-mul_right}
 use Rattle.std.proofs.lemmas.Bool.{cases_eq, cases_lt}
 use Rattle.std.proofs.lemmas.List.Concat.{length-flat_map}
 use Rattle.std.proofs.lemmas.List.Sums.{sum_by-cons}
 use Rattle.std.proofs.lemmas.List.Elements.{All-head, All-tail}
 use Rattle.envy_heap.specs.Pieces.{IsHeap, handed, pieces, spare, one, times}
-use Rattle.envy_heap.proofs.Heaps.{one-le, one-same, one-apart, one-lt, one-ge, lt-one, times-cons, free-below}
-use Rattle.envy_btree.specs.Tree.{Tree, uses, Sized, pairs_of, piece_of}
+use Rattle.envy_heap.proofs.Heaps.{one-same, one-apart, one-lt, one-ge, lt-one, times-cons, free-below}
+use Rattle.envy_btree.specs.Tree.{Tree, uses, Sized, pairs_of}
 
 -- the sum of f below n
 abbrev pub total : (ℕ → ℕ) → ℕ → ℕ

@@ -1,20 +1,19 @@
 -- One step down a tree, and the look-up in a leaf.
-use Rattle.std.proofs.Common.{◌≡◌, ◌≢◌, ◌⊎◌, ℕ, zero, suc, ◌+◌, ◌-◌, ◌*◌, ◌/◌, ◌%◌, ◌^◌, ◌<◌, ◌≤◌, Bool, true, false, List, [], ◌∷◌, ◌++◌, length, map, take, drop, get_or, set, Option, Some, None, refl, ap, sym, subst, ◌∙◌, inl, inr, eqb, ltb, arith}
-use Rattle.std.specs.List.{All, flat_map, sum_by}
-use Rattle.std.proofs.lemmas.List.{append_assoc, append-nil, set_split, set-get_or, get_or-map, length-map}
+use Rattle.std.proofs.Common.{◌≡◌, ◌≢◌, ◌⊎◌, ℕ, zero, suc, ◌+◌, ◌-◌, ◌/◌, ◌%◌, ◌^◌, ◌<◌, ◌≤◌, Bool, true, false, List, [], ◌∷◌, ◌++◌, length, map, take, drop, get_or, set, Some, None, refl, ap, sym, subst, ◌∙◌, inl, inr, eqb, arith}
+use Rattle.std.specs.List.{flat_map}
+use Rattle.std.proofs.lemmas.List.{set_split, set-get_or, get_or-map, length-map}
 use Rattle.std.proofs.lemmas.List.Concat.{flat_map-append}
 use Rattle.std.proofs.lemmas.List.Sums.{get_or-le-sum_by}
-use Rattle.std.proofs.lemmas.List.Elements.{All-head, All-tail, All-cons, All-nil, All-get_or, All-more, All-weaker}
-use Rattle.std.proofs.lemmas.Bool.Decides.{nat_tests}
-use Rattle.envy_heap.specs.Pieces.{IsHeap, handed, pieces, head, at, one}
+use Rattle.std.proofs.lemmas.List.Elements.{All-cons, All-nil, All-get_or, All-more, All-weaker}
+use Rattle.envy_heap.specs.Pieces.{IsHeap, handed, pieces, head, at}
 use Rattle.envy_heap.proofs.Heaps.{lt-one, within, one-same}
 use Rattle.envy_btree.specs.Pairs.{assoc, Below, Above}
-use Rattle.envy_btree.specs.Tree.{Tree, Fans, Rising, Ordered, pairs_of, piece_of, uses, Sized, Holds, Shows, window, keys_of, values_of}
+use Rattle.envy_btree.specs.Tree.{Tree, Rising, Ordered, pairs_of, piece_of, uses, Sized, Holds, Shows, window, keys_of, values_of}
 use Rattle.envy_btree.specs.Nodes.{Ranks, IsRead}
 use Rattle.envy_btree.specs.Index.{Stands}
 use Rattle.envy_btree.specs.Changes.{Rests}
 use Rattle.envy_btree.proofs.Maps.{assoc-below, assoc-above, assoc-here, assoc-none}
-use Rattle.envy_btree.proofs.Trees.{Within, Below-from, Above-from, Rising-within, Fans-long, Fans-at, Fans-before, Fans-after, Ordered-within, low_of, high_of, Ranks-tail}
+use Rattle.envy_btree.proofs.Trees.{Above-from, Rising-within, Fans-long, Fans-at, Fans-before, Fans-after, Ordered-within, low_of, high_of, Ranks-tail}
 
 -- a default for look-ups
 pub bare : (d : ℕ) → Tree d

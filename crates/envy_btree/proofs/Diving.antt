@@ -1,6 +1,6 @@
 -- A removal at an inner node: what goes on at the child and comes back.
-use Rattle.std.proofs.Common.{◌≡◌, ◌≢◌, ◌⊎◌, ℕ, zero, suc, ◌+◌, ◌-◌, ◌*◌, ◌^◌, ◌<◌, ◌≤◌, Bool, true, false, List, [], ◌∷◌, ◌++◌, length, map, take, drop, get_or, set, refl, ap, sym, subst, ◌∙◌, inl, inr, IfOk, IfSome, Option, None, Some, Result, Ok, Err, eqb, arith}
-use Rattle.std.specs.List.{flat_map, sum_by, remove}
+use Rattle.std.proofs.Common.{◌≡◌, ◌≢◌, ◌⊎◌, ℕ, zero, suc, ◌+◌, ◌-◌, ◌^◌, ◌<◌, ◌≤◌, Bool, true, false, List, ◌++◌, length, map, take, drop, get_or, set, refl, ap, sym, subst, ◌∙◌, inl, inr, IfOk, IfSome, Option, None, Some, Result, Ok, Err, arith}
+use Rattle.std.specs.List.{flat_map}
 use Rattle.std.proofs.lemmas.List.{length-map, length-set, get_or-map, get_or-set_same, get_or-set_other}
 use Rattle.std.proofs.lemmas.List.Edits.{length-remove}
 use Rattle.std.proofs.lemmas.List.Sums.{get_or-le-sum_by}
@@ -23,7 +23,7 @@ use Rattle.envy_btree.proofs.Halving.{keys-long, slots-long, one-kind}
 use Rattle.envy_btree.proofs.Holding.{leaf-hand}
 use Rattle.envy_btree.proofs.Joining.{joined, joined-keys, joined-slots, Rising-without, without-long, without-short}
 use Rattle.envy_btree.proofs.Spreading.{without-local, inner-became, spread}
-use Rattle.envy_btree.proofs.Families.{Couple, Joint, joint, family}
+use Rattle.envy_btree.proofs.Families.{Couple, joint, family}
 use Rattle.envy_btree.proofs.Lessening.{Above, couple, above-hand, back-shrinks, beside-of}
 
 fewest-two : (root : Bool) (d : ℕ) → 2 ≤ fewest root (suc d)

@@ -1,11 +1,10 @@
 -- Small maps, word by word.
-use Rattle.std.proofs.Common.{◌≡◌, ◌⊎◌, ℕ, zero, suc, ◌+◌, ◌-◌, ◌*◌, ◌^◌, ◌<◌, ◌≤◌, true, false, List, [], ◌∷◌, ◌++◌, length, refl, inl, inr, arith, lit≤, lit<}
+use Rattle.std.proofs.Common.{ℕ, zero, suc, ◌+◌, ◌-◌, ◌^◌, ◌<◌, ◌≤◌, false, [], ◌∷◌, refl, inr, arith, lit≤, lit<}
 use Rattle.std.specs.List.{All}
 use Rattle.std.proofs.lemmas.Bool.Decides.{nat_tests}
 use Rattle.std.proofs.lemmas.List.Elements.{All-cons, All-nil}
-use Rattle.envy_heap.specs.Pieces.{IsHeap, handed, one}
-use Rattle.envy_btree.specs.Tree.{Tree, Rising, Sized, Holds, Shows, uses}
-use Rattle.envy_btree.specs.Index.{IsTree, IsIndex, IsPlanted}
+use Rattle.envy_btree.specs.Tree.{Tree, Rising, Sized, Holds}
+use Rattle.envy_btree.specs.Index.{IsIndex}
 use Rattle.envy_btree.specs.Examples.{one_leaf, row_of, two_levels}
 
 pub leaf-example : IsIndex (one_leaf 1 (5 ∷ []) (50 ∷ [])) ((5, 50) ∷ [])

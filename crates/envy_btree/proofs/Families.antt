@@ -1,18 +1,18 @@
 -- Children of one node, two neighbours among them written anew.
-use Rattle.std.proofs.Common.{◌≡◌, ◌≢◌, ◌⊎◌, ℕ, zero, suc, ◌+◌, ◌-◌, ◌*◌, ◌/◌, ◌<◌, ◌≤◌, Bool, true, false, List, [], ◌∷◌, ◌++◌, length, map, take, drop, get_or, set, refl, ap, sym, subst, ◌∙◌, inl, inr, eqb, arith}
+use Rattle.std.proofs.Common.{◌≡◌, ◌≢◌, ℕ, suc, ◌+◌, ◌-◌, ◌<◌, ◌≤◌, Bool, false, List, ◌∷◌, length, map, get_or, set, ap, sym, subst, ◌∙◌, inl, inr, eqb, arith}
 use Rattle.std.specs.List.{All, flat_map, sum_by, remove}
-use Rattle.std.proofs.lemmas.List.{length-map, length-set, get_or-map}
+use Rattle.std.proofs.lemmas.List.{length-set, get_or-map}
 use Rattle.std.proofs.lemmas.List.Sums.{get_or-le-sum_by}
-use Rattle.envy_heap.specs.Pieces.{IsHeap, Freed, handed, spare, head, at, one}
-use Rattle.envy_heap.proofs.Heaps.{one-same, one-le}
-use Rattle.envy_btree.specs.Tree.{Tree, Fans, Ordered, Sized, Holds, Shows, uses, piece_of, pairs_of, fewest}
-use Rattle.envy_btree.specs.Nodes.{OnlyPiece, Halves, half, is_inner, kind_of, keys_in, slots_in, width, Loose, KidsSized, IsNode}
+use Rattle.envy_heap.specs.Pieces.{IsHeap, Freed, handed, spare, at, one}
+use Rattle.envy_heap.proofs.Heaps.{one-same}
+use Rattle.envy_btree.specs.Tree.{Tree, Fans, Ordered, Sized, Holds, Shows, uses, piece_of, pairs_of}
+use Rattle.envy_btree.specs.Nodes.{OnlyPiece, Halves, half, kind_of, keys_in, slots_in, width, Loose, KidsSized, IsNode}
 use Rattle.envy_btree.specs.Changes.{Elsewhere, MendedAsOne, MendedAsTwo, Mended}
 use Rattle.envy_btree.proofs.Trees.{low_of, high_of, low-next, Fans-long, Fans-at, Fans-pair, Fans-merge}
 use Rattle.envy_btree.proofs.Descent.{bare, uses-root, owned-within}
 use Rattle.envy_btree.proofs.Setting.{heap-kept}
 use Rattle.envy_btree.proofs.Framing.{Shows-same, Holds-same, sum-two, other-piece, handed-le, handed-within}
-use Rattle.envy_btree.proofs.Halving.{loose-kept, keys-long, slots-long, kind-le, fewest-le, Sized-of, Holds-of, fore, hind, fore-piece, hind-piece, halves-pairs, halves-uses, Twins}
+use Rattle.envy_btree.proofs.Halving.{loose-kept, keys-long, slots-long, kind-le, fewest-le, Sized-of, Holds-of, fore, hind, fore-piece, hind-piece, halves-pairs, halves-uses}
 use Rattle.envy_btree.proofs.Holding.{halves-twins, shows-tree}
 use Rattle.envy_btree.proofs.Merging.{get_or-any, length-merge, All-merge, All-pair, sum-merge, sum-pair, flat_map-merge, flat_map-pair, map-merge, map-pair}
 use Rattle.envy_btree.proofs.Joining.{joined, joined-ordered, joined-pairs, joined-uses, joined-width, joined-piece, joined-loose, joined-sized, Fans-gap}

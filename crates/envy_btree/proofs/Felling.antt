@@ -1,5 +1,5 @@
 -- The tree of the whole after a removal.
-use Rattle.std.proofs.Common.{◌≡◌, ◌≢◌, ◌⊎◌, ℕ, zero, suc, ◌+◌, ◌-◌, ◌*◌, ◌^◌, ◌<◌, ◌≤◌, Bool, true, false, cond, List, [], ◌∷◌, ◌++◌, length, map, get_or, set, refl, ap, sym, subst, ◌∙◌, inl, inr, Option, None, Some, Result, Ok, Err, OnOk, eqb, arith}
+use Rattle.std.proofs.Common.{◌≡◌, ◌≢◌, ℕ, zero, suc, ◌+◌, ◌-◌, ◌^◌, ◌<◌, ◌≤◌, Bool, true, false, List, [], ◌∷◌, length, map, get_or, set, refl, ap, sym, subst, ◌∙◌, inl, inr, None, Some, Result, Ok, Err, OnOk, eqb, arith}
 use Rattle.std.specs.List.{All, flat_map, sum_by}
 use Rattle.std.proofs.lemmas.Bool.{cases_eq}
 use Rattle.std.proofs.lemmas.Bool.Decides.{nat_tests}
@@ -7,16 +7,15 @@ use Rattle.std.proofs.lemmas.List.{length-map, length-set, get_or-set_same, get_
 use Rattle.std.proofs.lemmas.List.Elements.{All-head}
 use Rattle.std.proofs.lemmas.List.Sums.{sum_by-cons}
 use Rattle.envy_base.specs.declared.board.Trouble.{Trouble}
-use Rattle.envy_base.specs.Words.{Sheet, Puts}
-use Rattle.envy_heap.specs.Pieces.{IsHeap, Freed, handed, spare, head, at, one}
+use Rattle.envy_heap.specs.Pieces.{IsHeap, Freed, handed, head, at, one}
 use Rattle.envy_heap.proofs.Heaps.{one-same}
 use Rattle.envy_btree.specs.declared.node.Node.{Node}
 use Rattle.envy_btree.specs.Pairs.{assoc, without}
-use Rattle.envy_btree.specs.Tree.{Tree, Fans, Ordered, Sized, Holds, Shows, uses, piece_of, pairs_of, keys_of, values_of, fewest}
-use Rattle.envy_btree.specs.Nodes.{OnlyPiece, width, kind_of, is_inner, keys_in, slots_in}
-use Rattle.envy_btree.specs.Index.{Stands, IsTree, Rooted, IsPlanted, most_pairs}
+use Rattle.envy_btree.specs.Tree.{Tree, Fans, Ordered, Sized, Holds, Shows, uses, piece_of, pairs_of, fewest}
+use Rattle.envy_btree.specs.Nodes.{OnlyPiece, kind_of, is_inner, keys_in}
+use Rattle.envy_btree.specs.Index.{IsTree, Rooted, IsPlanted}
 use Rattle.envy_btree.specs.Changes.{Rests, InHand}
-use Rattle.envy_btree.specs.Shrinking.{Short, Shrinks, next_root}
+use Rattle.envy_btree.specs.Shrinking.{Shrinks, next_root}
 use Rattle.envy_btree.proofs.Maps.{eqb-same}
 use Rattle.envy_btree.proofs.Counting.{depth-few}
 use Rattle.envy_btree.proofs.Descent.{uses-root, owned-within, Rests-within}

@@ -1,23 +1,19 @@
 -- What a change under one child leaves of its sisters, and what becomes of the node above.
-use Rattle.std.proofs.Common.{◌≡◌, ◌≢◌, ◌⊎◌, ℕ, zero, suc, ◌+◌, ◌-◌, ◌*◌, ◌<◌, ◌≤◌, Bool, true, false, List, [], ◌∷◌, ◌++◌, length, map, take, drop, get_or, set, refl, ap, sym, subst, ◌∙◌, inl, inr, eqb, ltb, arith}
+use Rattle.std.proofs.Common.{◌≡◌, ◌≢◌, ℕ, zero, suc, ◌+◌, ◌-◌, ◌<◌, ◌≤◌, Bool, false, List, [], ◌∷◌, ◌++◌, length, map, take, drop, get_or, set, refl, ap, sym, subst, ◌∙◌, inl, inr, ltb, arith}
 use Rattle.std.specs.List.{All, flat_map, sum_by, insert}
 use Rattle.std.proofs.lemmas.Bool.{cases_eq, cases_lt}
-use Rattle.std.proofs.lemmas.List.{append_assoc, length-map, length-set, map-set, set-get_or, get_or-map, get_or-set_same, get_or-set_other}
-use Rattle.std.proofs.lemmas.List.Sums.{get_or-le-sum_by, sum_by-set, sum_by-insert, sum_by-cons}
-use Rattle.std.proofs.lemmas.List.Edits.{length-insert}
-use Rattle.std.proofs.lemmas.List.Elements.{All-head, All-tail, All-cons, All-nil, All-get_or, All-set, All-append, All-take, All-drop, All-from_get_or}
-use Rattle.envy_heap.specs.Pieces.{IsHeap, handed, pieces, spare, head, at, one, times}
-use Rattle.envy_heap.proofs.Heaps.{one-same, one-le, lt-one, within}
-use Rattle.envy_btree.specs.Pairs.{with_pair, Below, Above}
-use Rattle.envy_btree.specs.Tree.{Tree, Fans, Rising, Ordered, Sized, Holds, Shows, window, keys_of, values_of, uses, piece_of, pairs_of}
-use Rattle.envy_btree.specs.Nodes.{Ranks, OnlyPiece}
+use Rattle.std.proofs.lemmas.List.{append_assoc, length-map, length-set, map-set, set-get_or, get_or-set_same, get_or-set_other}
+use Rattle.std.proofs.lemmas.List.Sums.{get_or-le-sum_by, sum_by-cons}
+use Rattle.std.proofs.lemmas.List.Elements.{All-cons, All-get_or, All-append, All-take, All-drop, All-from_get_or}
+use Rattle.envy_heap.specs.Pieces.{IsHeap, handed, head, at}
+use Rattle.envy_heap.proofs.Heaps.{one-same, one-le, within}
+use Rattle.envy_btree.specs.Tree.{Tree, Ordered, Sized, Holds, Shows, keys_of, values_of, uses, piece_of}
+use Rattle.envy_btree.specs.Nodes.{OnlyPiece}
 use Rattle.envy_btree.specs.Index.{Stands}
-use Rattle.envy_btree.specs.Changes.{Became, Parted, Elsewhere}
-use Rattle.envy_btree.proofs.Maps.{with_pair-below, with_pair-above}
-use Rattle.envy_btree.proofs.Trees.{Fans-long, Fans-at, Fans-set, Fans-insert, Fans-before, Fans-after, Ordered-within, low_of, high_of}
-use Rattle.envy_btree.proofs.Setting.{heap-kept}
+use Rattle.envy_btree.specs.Changes.{Elsewhere}
+use Rattle.envy_btree.proofs.Trees.{Fans-long, Fans-at, low_of, high_of}
 use Rattle.envy_btree.proofs.Writing.{window-is, window-at}
-use Rattle.envy_btree.proofs.Descent.{bare, around, uses-root, owned-within}
+use Rattle.envy_btree.proofs.Descent.{bare, uses-root, owned-within}
 
 pub Shows-same : (old new : List ℕ) (p kind : ℕ) (keys slots : List ℕ) → at p 63 < length new → length keys ≤ 31 → length slots ≤ 32 → ((i : ℕ) → i < 64 → get_or new (at p i) 0 ≡ get_or old (at p i) 0) → Shows old p kind keys slots → Shows new p kind keys slots
 Shows-same old new p kind keys slots within few fewer same s =

@@ -1,5 +1,5 @@
 -- An insertion on its way down: what goes on at the child and comes back, and what the leaf makes of it.
-use Rattle.std.proofs.Common.{◌≡◌, ◌≢◌, ℕ, zero, suc, ◌+◌, ◌-◌, ◌*◌, ◌^◌, ◌<◌, ◌≤◌, Bool, true, false, List, [], ◌∷◌, length, map, take, drop, get_or, refl, ap, sym, subst, ◌∙◌, IfOk, Option, None, Some, Result, Ok, Err, eqb, arith}
+use Rattle.std.proofs.Common.{◌≡◌, ℕ, zero, suc, ◌+◌, ◌-◌, ◌^◌, ◌<◌, ◌≤◌, Bool, true, false, List, [], ◌∷◌, length, map, get_or, refl, ap, sym, subst, ◌∙◌, IfOk, Option, None, Some, Result, Ok, Err, arith}
 use Rattle.std.specs.List.{insert}
 use Rattle.std.proofs.lemmas.List.{length-map, get_or-map}
 use Rattle.std.proofs.lemmas.List.Edits.{length-insert}
@@ -8,7 +8,7 @@ use Rattle.std.proofs.lemmas.List.Elements.{All-get_or}
 use Rattle.envy_base.specs.declared.board.Trouble.{Trouble}
 use Rattle.envy_heap.specs.Pieces.{IsHeap, handed, spare, at}
 use Rattle.envy_btree.specs.Pairs.{with_pair}
-use Rattle.envy_btree.specs.Tree.{Tree, Ordered, Rising, Sized, Holds, uses, piece_of, pairs_of, keys_of, values_of, fewest}
+use Rattle.envy_btree.specs.Tree.{Tree, Ordered, Rising, Sized, Holds, uses, piece_of, pairs_of, keys_of, values_of}
 use Rattle.envy_btree.specs.Nodes.{Ranks, IsRead, width}
 use Rattle.envy_btree.specs.Index.{Stands}
 use Rattle.envy_btree.specs.Changes.{Rests, Way, Grows, Saved, InHand, Ready}

@@ -1,12 +1,12 @@
 -- What writing a node as two makes of a tree.
-use Rattle.std.proofs.Common.{◌≡◌, ◌≢◌, ℕ, zero, suc, ◌+◌, ◌-◌, ◌*◌, ◌<◌, ◌≤◌, Bool, true, false, List, [], ◌∷◌, ◌++◌, length, map, take, drop, get_or, refl, ap, sym, subst, ◌∙◌, eqb, arith}
+use Rattle.std.proofs.Common.{◌≡◌, ◌≢◌, ℕ, zero, suc, ◌+◌, ◌-◌, ◌<◌, ◌≤◌, Bool, true, false, List, [], ◌∷◌, ◌++◌, length, take, drop, get_or, refl, ap, sym, subst, ◌∙◌, eqb, arith}
 use Rattle.std.proofs.lemmas.List.{length-take, length-drop, length-map, take-map, drop-map}
 use Rattle.std.specs.List.{All, flat_map, sum_by}
 use Rattle.std.proofs.lemmas.List.Concat.{flat_map-append}
 use Rattle.std.proofs.lemmas.List.Sums.{get_or-le-sum_by, sum_by-take-drop}
 use Rattle.std.proofs.lemmas.List.Elements.{All-get_or, All-take, All-drop, All-from_get_or}
-use Rattle.envy_heap.specs.Pieces.{IsHeap, handed, head, at, one}
-use Rattle.envy_heap.proofs.Heaps.{one-same, one-le}
+use Rattle.envy_heap.specs.Pieces.{IsHeap, handed, at, one}
+use Rattle.envy_heap.proofs.Heaps.{one-same}
 use Rattle.envy_btree.specs.Tree.{Tree, pairs_of, Rising, Fans, Ordered, Sized, Holds, uses, piece_of, Shows, keys_of, values_of, fewest}
 use Rattle.envy_btree.specs.Nodes.{kind_of, is_inner, keys_in, slots_in, width, Loose, KidsSized}
 use Rattle.envy_btree.proofs.Descent.{bare, take-drop}

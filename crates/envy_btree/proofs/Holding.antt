@@ -1,16 +1,16 @@
 -- A tree in hand, written whole or as two.
-use Rattle.std.proofs.Common.{◌≡◌, ◌≢◌, ℕ, zero, suc, ◌+◌, ◌-◌, ◌*◌, ◌/◌, ◌<◌, ◌≤◌, Bool, true, false, List, [], ◌∷◌, ◌++◌, length, take, drop, get_or, Option, Some, None, Result, Ok, Err, refl, ap, sym, subst, ◌∙◌, eqb, arith}
-use Rattle.std.proofs.lemmas.List.{length-take, length-drop}
-use Rattle.envy_heap.specs.Pieces.{IsHeap, Takes, handed, spare, head, at, one}
-use Rattle.envy_heap.proofs.Heaps.{one-same, one-le}
-use Rattle.envy_btree.specs.Tree.{Tree, Rising, Ordered, Sized, uses, piece_of, pairs_of, Shows, keys_of, values_of, fewest}
-use Rattle.envy_btree.specs.Nodes.{OnlyPiece, Halves, half, kind_of, is_inner, keys_in, slots_in, width, IsNode, Loose, KidsSized}
+use Rattle.std.proofs.Common.{◌≡◌, ◌≢◌, ℕ, ◌+◌, ◌-◌, ◌/◌, ◌<◌, ◌≤◌, Bool, false, List, length, take, drop, get_or, Option, Some, None, Ok, refl, ap, sym, subst, ◌∙◌, eqb, arith}
+use Rattle.std.proofs.lemmas.List.{length-drop}
+use Rattle.envy_heap.specs.Pieces.{IsHeap, Takes, handed, at, one}
+use Rattle.envy_heap.proofs.Heaps.{one-same}
+use Rattle.envy_btree.specs.Tree.{Tree, Rising, Ordered, uses, piece_of, Shows, keys_of, values_of, fewest}
+use Rattle.envy_btree.specs.Nodes.{OnlyPiece, Halves, half, kind_of, keys_in, slots_in, width, IsNode, Loose, KidsSized}
 use Rattle.envy_btree.specs.Index.{Stands}
 use Rattle.envy_btree.specs.Changes.{Became, Parted, InHand, Elsewhere, Saved, Outcome}
 use Rattle.envy_btree.proofs.Descent.{uses-root, owned-within}
 use Rattle.envy_btree.proofs.Setting.{heap-kept}
-use Rattle.envy_btree.proofs.Framing.{Shows-same, other-piece, handed-le}
-use Rattle.envy_btree.proofs.Halving.{loose-kept, keys-long, slots-long, kind-le, one-kind, fewest-le, Sized-of, Holds-of, fore, hind, fore-piece, hind-piece, halves-pairs, halves-uses, Twins, twins}
+use Rattle.envy_btree.proofs.Framing.{Shows-same, other-piece}
+use Rattle.envy_btree.proofs.Halving.{loose-kept, keys-long, slots-long, kind-le, one-kind, Sized-of, Holds-of, fore, hind, fore-piece, hind-piece, halves-pairs, halves-uses, Twins, twins}
 
 -- a leaf's pairs have changed in hand
 pub leaf-hand : (ws free : List ℕ) (es : List (ℕ × ℕ)) (root : Bool) (low high : ℕ) (t : Tree 0) (keys slots : List ℕ) → IsHeap ws free → Stands ws free root low high 0 t → Rising low high es → keys ≡ keys_of es → slots ≡ values_of es → InHand ws ws free es low high 0 t false keys slots

@@ -1,17 +1,14 @@
 -- Two neighbours as one tree: what a removal makes of them, and parts again where it is too large.
-use Rattle.std.proofs.Common.{◌≡◌, ◌≢◌, ℕ, zero, suc, ◌+◌, ◌-◌, ◌*◌, ◌<◌, ◌≤◌, Bool, true, false, cond, List, [], ◌∷◌, ◌++◌, length, map, take, drop, get_or, set, refl, ap, sym, subst, ◌∙◌, eqb, arith}
-use Rattle.std.specs.List.{All, flat_map, sum_by, remove}
-use Rattle.std.proofs.lemmas.List.{length-append, append_assoc, map-append}
+use Rattle.std.proofs.Common.{◌≡◌, ℕ, zero, suc, ◌+◌, ◌-◌, ◌<◌, ◌≤◌, true, false, cond, List, [], ◌∷◌, ◌++◌, length, get_or, refl, sym, eqb, arith}
+use Rattle.std.proofs.lemmas.List.{length-append, map-append}
 use Rattle.std.proofs.lemmas.List.Concat.{flat_map-append}
 use Rattle.std.proofs.lemmas.List.Sums.{sum_by-append}
 use Rattle.std.proofs.lemmas.List.Elements.{All-append}
-use Rattle.std.proofs.lemmas.Bool.{cases_eq, cases_lt}
 use Rattle.envy_heap.specs.Pieces.{one}
-use Rattle.envy_btree.specs.Pairs.{without, Below, Above}
-use Rattle.envy_btree.specs.Tree.{Tree, Fans, Rising, Ordered, Sized, Holds, uses, piece_of, pairs_of, fewest}
+use Rattle.envy_btree.specs.Pairs.{without}
+use Rattle.envy_btree.specs.Tree.{Tree, Fans, Rising, Ordered, Sized, Holds, uses, piece_of, pairs_of}
 use Rattle.envy_btree.specs.Nodes.{is_inner, keys_in, slots_in, width, Loose, KidsSized}
 use Rattle.envy_btree.specs.Changes.{joined_keys}
-use Rattle.envy_btree.proofs.Maps.{eqb-same, eqb-lt, eqb-gt}
 use Rattle.envy_btree.proofs.Trees.{Fans-join, Rising-join, Rising-wider, low_of, high_of}
 
 -- the two as one, in the first one's piece

@@ -1,28 +1,24 @@
 -- A removal on its way down, and the node above a short child.
-use Rattle.std.proofs.Common.{◌≡◌, ◌≢◌, ◌⊎◌, ℕ, zero, suc, ◌+◌, ◌-◌, ◌*◌, ◌^◌, ◌<◌, ◌≤◌, Bool, true, false, List, [], ◌∷◌, ◌++◌, length, map, take, drop, get_or, set, refl, ap, sym, subst, ◌∙◌, inl, inr, IfOk, Option, None, Some, Result, Ok, Err, eqb, arith}
+use Rattle.std.proofs.Common.{◌≡◌, ◌≢◌, ◌⊎◌, ℕ, zero, suc, ◌+◌, ◌-◌, ◌<◌, ◌≤◌, Bool, true, false, List, [], ◌++◌, length, take, drop, get_or, set, refl, ap, sym, subst, ◌∙◌, inl, inr, Option, None, Some, arith}
 use Rattle.std.specs.List.{flat_map, sum_by}
 use Rattle.std.proofs.lemmas.Bool.{cases_eq}
-use Rattle.std.proofs.lemmas.List.{length-map, length-set, get_or-map, get_or-set_same, get_or-set_other}
+use Rattle.std.proofs.lemmas.List.{length-set, get_or-set_same, get_or-set_other}
 use Rattle.std.proofs.lemmas.List.Sums.{get_or-le-sum_by, sum_by-set}
 use Rattle.std.proofs.lemmas.List.Elements.{All-get_or}
-use Rattle.envy_base.specs.declared.board.Trouble.{Trouble}
-use Rattle.envy_heap.specs.Pieces.{IsHeap, handed, spare, at, one}
-use Rattle.envy_heap.proofs.Heaps.{one-same}
+use Rattle.envy_heap.specs.Pieces.{IsHeap, handed, spare, one}
 use Rattle.envy_btree.specs.declared.node.Node.{Node}
 use Rattle.envy_btree.specs.Pairs.{without}
-use Rattle.envy_btree.specs.Tree.{Tree, Ordered, Rising, Sized, Holds, Shows, uses, piece_of, pairs_of, keys_of, values_of, fewest}
-use Rattle.envy_btree.specs.Nodes.{Ranks, IsRead, OnlyPiece, width, is_inner, kind_of, keys_in, slots_in, Loose, KidsSized, IsNode}
+use Rattle.envy_btree.specs.Tree.{Tree, Ordered, Sized, Holds, Shows, uses, piece_of, pairs_of, fewest}
+use Rattle.envy_btree.specs.Nodes.{OnlyPiece, width, is_inner, kind_of, keys_in, slots_in, Loose, KidsSized}
 use Rattle.envy_btree.specs.Index.{Stands}
-use Rattle.envy_btree.specs.Changes.{Rests, Became, InHand, Elsewhere, Pair, Beside, Mended, joined_keys}
-use Rattle.envy_btree.specs.Shrinking.{Back, MendedBack, Short, Shrinks}
-use Rattle.envy_btree.proofs.Trees.{low_of, high_of, Fans-long, Fans-at, Fans-set}
-use Rattle.envy_btree.proofs.Descent.{bare, around, read-shows, Rests-within, uses-root}
-use Rattle.envy_btree.proofs.Framing.{sister, sum-two, handed-le, pieces-same}
+use Rattle.envy_btree.specs.Changes.{Rests, InHand, Elsewhere, Beside}
+use Rattle.envy_btree.specs.Shrinking.{Back, Short, Shrinks}
+use Rattle.envy_btree.proofs.Trees.{low_of, high_of, Fans-long, Fans-set}
+use Rattle.envy_btree.proofs.Descent.{bare, around}
+use Rattle.envy_btree.proofs.Framing.{sister, handed-le}
 use Rattle.envy_btree.proofs.Halving.{keys-long, slots-long, kind-le, one-kind}
-use Rattle.envy_btree.proofs.Holding.{leaf-hand, hand-out, settled}
-use Rattle.envy_btree.proofs.Joining.{joined, joined-keys, joined-slots, Rising-without, without-long}
-use Rattle.envy_btree.proofs.Spreading.{without-local, inner-became, spread}
-use Rattle.envy_btree.proofs.Families.{Couple, Family, family}
+use Rattle.envy_btree.proofs.Holding.{settled}
+use Rattle.envy_btree.proofs.Families.{Couple, Family}
 
 pub Loose-of : (ws : List ℕ) (d : ℕ) (t : Tree d) → Holds ws d t → Loose ws d t
 Loose-of ws zero t h = tt

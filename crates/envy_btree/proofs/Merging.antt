@@ -1,7 +1,7 @@
 -- Two neighbours in a list give way to one, or to two others.
-use Rattle.std.proofs.Common.{◌≡◌, ◌≢◌, ℕ, zero, suc, ◌+◌, ◌<◌, ◌≤◌, List, [], ◌∷◌, ◌++◌, length, map, get_or, set, refl, ap, sym, subst, ◌∙◌, arith}
+use Rattle.std.proofs.Common.{◌≡◌, ◌≢◌, ℕ, zero, suc, ◌+◌, ◌<◌, List, [], ◌∷◌, ◌++◌, length, map, get_or, set, refl, ap, sym, ◌∙◌, arith}
 use Rattle.std.specs.List.{All, flat_map, sum_by, remove}
-use Rattle.std.proofs.lemmas.List.{append_assoc, length-set, get_or-set_other, map-set, set-get_or}
+use Rattle.std.proofs.lemmas.List.{append_assoc, length-set, get_or-set_other}
 use Rattle.std.proofs.lemmas.List.Sums.{sum_by-cons, sum_by-set}
 use Rattle.std.proofs.lemmas.List.Elements.{All-cons, All-from_get_or}
 

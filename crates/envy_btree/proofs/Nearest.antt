@@ -1,14 +1,13 @@
 -- The nearest pair in a list of pairs by rising key.
-use Rattle.std.proofs.Common.{◌≡◌, ◌≢◌, ◌⊎◌, ℕ, zero, suc, ◌+◌, ◌-◌, ◌<◌, ◌≤◌, Bool, true, false, cond, List, [], ◌∷◌, ◌++◌, length, take, drop, get_or, Option, Some, None, refl, ap, sym, subst, ◌∙◌, inl, inr, eqb, ltb, arith}
-use Rattle.std.specs.List.{All}
-use Rattle.std.proofs.lemmas.Bool.{cases_lt, cases_eq}
-use Rattle.std.proofs.lemmas.List.{append_assoc, append-nil, drop_all, length-map}
+use Rattle.std.proofs.Common.{◌≡◌, ◌≢◌, ◌⊎◌, ℕ, suc, ◌+◌, ◌-◌, ◌<◌, ◌≤◌, Bool, true, false, cond, List, [], ◌∷◌, ◌++◌, length, take, drop, get_or, Option, Some, None, refl, ap, sym, subst, ◌∙◌, inl, inr, eqb, ltb, arith}
+use Rattle.std.proofs.lemmas.Bool.{cases_lt}
+use Rattle.std.proofs.lemmas.List.{drop_all, length-map}
 use Rattle.std.proofs.lemmas.List.Elements.{All-head, All-tail, All-cons, All-nil, All-weaker}
 use Rattle.envy_btree.specs.Pairs.{assoc, Below, Above}
 use Rattle.envy_btree.specs.Tree.{Rising, keys_of, values_of}
 use Rattle.envy_btree.specs.Nodes.{Ranks}
-use Rattle.envy_btree.specs.Nearest.{IsLeastFrom, IsGreatestTo, Scans, pairs_from, first_from, last_to, or_pair}
-use Rattle.envy_btree.proofs.Maps.{assoc-none, eqb-lt, eqb-gt, eqb-same, ltb-lt, ltb-ge}
+use Rattle.envy_btree.specs.Nearest.{IsLeastFrom, IsGreatestTo, first_from, last_to, or_pair}
+use Rattle.envy_btree.proofs.Maps.{assoc-none, eqb-lt, eqb-same, ltb-lt, ltb-ge}
 use Rattle.envy_btree.proofs.Trees.{Within, Rising-within, Above-from}
 use Rattle.envy_btree.proofs.Descent.{pairs-split, take-drop, Rising-below, Rising-above, Below-rank}
 

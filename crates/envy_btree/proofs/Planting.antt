@@ -1,20 +1,18 @@
 -- The tree of the whole after a change.
-use Rattle.std.proofs.Common.{◌≡◌, ◌≢◌, ◌⊎◌, ℕ, zero, suc, ◌+◌, ◌-◌, ◌*◌, ◌/◌, ◌^◌, ◌<◌, ◌≤◌, Bool, true, false, List, [], ◌∷◌, ◌++◌, length, map, get_or, set, refl, ap, sym, subst, ◌∙◌, inl, inr, Option, Some, None, Result, Ok, Err, OnOk, eqb, ltb, arith}
-use Rattle.std.specs.List.{All, sum_by}
-use Rattle.std.proofs.lemmas.Bool.{cases_lt, cases_eq}
+use Rattle.std.proofs.Common.{◌≡◌, ◌≢◌, ℕ, zero, suc, ◌+◌, ◌-◌, ◌^◌, ◌<◌, ◌≤◌, Bool, true, false, List, [], ◌∷◌, ◌++◌, length, get_or, set, refl, ap, sym, subst, ◌∙◌, inl, inr, Some, None, Result, Ok, Err, OnOk, ltb, arith}
 use Rattle.std.proofs.lemmas.List.{get_or-set_same, get_or-set_other, length-set, append-nil}
 use Rattle.std.proofs.lemmas.List.Elements.{All-cons, All-nil}
 use Rattle.envy_base.specs.declared.board.Trouble.{Trouble}
 use Rattle.envy_base.specs.Words.{Sheet, Puts}
-use Rattle.envy_heap.specs.Pieces.{IsHeap, Takes, Chain, handed, pieces, spare, head, at, one, times}
-use Rattle.envy_heap.proofs.Heaps.{Chain-same, one-same, one-le, one-apart}
-use Rattle.envy_btree.specs.Pairs.{assoc, with_pair}
-use Rattle.envy_btree.specs.Tree.{Tree, Ordered, Sized, Holds, Shows, uses, piece_of, pairs_of, keys_of, values_of}
+use Rattle.envy_heap.specs.Pieces.{IsHeap, Takes, Chain, handed, spare, head, at, one, times}
+use Rattle.envy_heap.proofs.Heaps.{Chain-same, one-same}
+use Rattle.envy_btree.specs.Pairs.{with_pair}
+use Rattle.envy_btree.specs.Tree.{Tree, Sized, Holds, Shows, uses, piece_of, pairs_of}
 use Rattle.envy_btree.specs.Nodes.{OnlyPiece}
-use Rattle.envy_btree.specs.Index.{Stands, IsTree, Rooted, IsPlanted, IsIndex, most_pairs}
-use Rattle.envy_btree.specs.Changes.{Rests, Way, Grows, Became, Parted, Crowned}
+use Rattle.envy_btree.specs.Index.{Stands, IsTree, Rooted, IsPlanted, most_pairs}
+use Rattle.envy_btree.specs.Changes.{Way, Grows, Became, Parted, Crowned}
 use Rattle.envy_btree.proofs.Counting.{depth-few, spare-enough, spare-all}
-use Rattle.envy_btree.proofs.Descent.{owned-within, uses-root, Rests-within}
+use Rattle.envy_btree.proofs.Descent.{owned-within, Rests-within}
 use Rattle.envy_btree.proofs.Framing.{Shows-same, Holds-same, handed-within, other-piece}
 use Rattle.envy_btree.proofs.Setting.{heap-kept}
 

@@ -1,8 +1,8 @@
 -- The calls leave words that they may be made of again.
-use Rattle.std.proofs.Common.{◌≡◌, ◌⊎◌, ℕ, ◌^◌, ◌≤◌, ◌∙◌, false, List, [], length, replicate, refl, arith, Option, Result, Ok, Err, IfOk, sym, subst, inl, inr}
+use Rattle.std.proofs.Common.{◌≡◌, ℕ, ◌^◌, ◌≤◌, false, List, [], length, replicate, refl, arith, Option, Result, Ok, Err, IfOk, sym, subst, inl, inr}
 use Rattle.std.proofs.lemmas.List.{length-replicate}
 use Rattle.envy_base.specs.declared.board.Off.{Off}
-use Rattle.envy_base.specs.Words.{Sheet, IsSheet}
+use Rattle.envy_base.specs.Words.{Sheet}
 use Rattle.envy_btree.specs.declared.fault.TreeFault.{TreeFault}
 use Rattle.envy_btree.specs.declared.fault.TreeFault.TheVariants.{Off as FaultOff, Full, Bad}
 use Rattle.envy_btree.specs.Pairs.{with_pair, without}

@@ -1,8 +1,8 @@
 -- What an index is at its root.
-use Rattle.std.proofs.Common.{◌≡◌, ◌≢◌, ◌⊎◌, ℕ, ◌+◌, ◌-◌, ◌^◌, ◌<◌, ◌≤◌, true, List, [], get_or, length, Option, None, refl, ap, sym, subst, ◌∙◌, inl, inr, arith}
+use Rattle.std.proofs.Common.{◌≡◌, ◌≢◌, ℕ, ◌-◌, ◌^◌, ◌<◌, ◌≤◌, true, List, [], get_or, length, None, ap, inl, inr, arith}
 use Rattle.envy_btree.specs.Pairs.{assoc}
-use Rattle.envy_btree.specs.Tree.{Tree, pairs_of, piece_of}
-use Rattle.envy_btree.specs.Index.{IsPlanted, IsTree, Rooted}
+use Rattle.envy_btree.specs.Tree.{pairs_of}
+use Rattle.envy_btree.specs.Index.{IsPlanted, Rooted}
 use Rattle.envy_btree.specs.Changes.{Rests}
 use Rattle.envy_btree.proofs.Descent.{Rests-within}
 use Rattle.envy_btree.proofs.Counting.{depth-few}

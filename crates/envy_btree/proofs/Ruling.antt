@@ -1,23 +1,23 @@
 -- Words that stand for a map obey the rules of the tree.
-use Rattle.std.proofs.Common.{◌≡◌, ◌≢◌, ◌⊎◌, ℕ, zero, suc, ◌+◌, ◌-◌, ◌*◌, ◌/◌, ◌%◌, ◌^◌, ◌<◌, ◌≤◌, Bool, true, false, cond, List, [], ◌∷◌, ◌++◌, length, map, take, drop, get_or, Option, Some, None, refl, ap, sym, subst, ◌∙◌, inl, inr, eqb, ltb, arith}
-use Rattle.std.specs.List.{All, flat_map, sum_by}
+use Rattle.std.proofs.Common.{◌≡◌, ◌≢◌, ◌⊎◌, ℕ, zero, suc, ◌+◌, ◌-◌, ◌^◌, ◌<◌, ◌≤◌, Bool, true, false, List, [], ◌∷◌, length, map, get_or, Some, refl, ap, sym, subst, ◌∙◌, inl, inr, eqb, arith}
+use Rattle.std.specs.List.{All, sum_by}
 use Rattle.std.proofs.lemmas.List.{get_or-map, length-map}
 use Rattle.std.proofs.lemmas.List.Concat.{length-flat_map}
 use Rattle.std.proofs.lemmas.List.Sums.{get_or-le-sum_by, sum_by-cons}
 use Rattle.std.proofs.lemmas.List.Elements.{All-get_or, All-head, All-tail}
 use Rattle.std.proofs.lemmas.Bool.{cases_lt, cases_eq, cond-true, cond-false}
 use Rattle.std.proofs.lemmas.Bool.Decides.{nat_tests}
-use Rattle.envy_heap.specs.Pieces.{IsHeap, handed, head, at, one}
-use Rattle.envy_heap.proofs.Heaps.{Chain-one, one-same, one-apart, one-le}
+use Rattle.envy_heap.specs.Pieces.{IsHeap, at, one}
+use Rattle.envy_heap.proofs.Heaps.{Chain-one, one-same, one-apart}
 use Rattle.envy_btree.specs.Pairs.{assoc}
-use Rattle.envy_btree.specs.Tree.{Tree, Fans, Rising, Ordered, Sized, Holds, Shows, fewest, pairs_of, piece_of, uses, window, keys_of, values_of}
-use Rattle.envy_btree.specs.Index.{Stands, IsTree, IsIndex, IsPlanted, Rooted}
+use Rattle.envy_btree.specs.Tree.{Tree, Fans, Ordered, Holds, pairs_of, piece_of, uses, window, keys_of, values_of}
+use Rattle.envy_btree.specs.Index.{Stands, IsTree, IsIndex, Rooted}
 use Rattle.envy_btree.specs.Rules.{key_count, kind_at, key_at, slot_at, Leads, pairs_under, InLeaf, ObeysRules}
-use Rattle.envy_btree.proofs.Trees.{Within, Rising-within, Ordered-within, low_of, high_of, low-next}
+use Rattle.envy_btree.proofs.Trees.{Rising-within, Ordered-within, low_of, high_of, low-next}
 use Rattle.envy_btree.proofs.Descent.{bare, uses-root, assoc-found}
 use Rattle.envy_btree.proofs.Framing.{handed-le, sum-two}
 use Rattle.envy_btree.proofs.Merging.{get_or-any}
-use Rattle.envy_btree.proofs.Walking.{LeafAt, leaf-at, InnerAt, inner-at, child-stands, child-assoc, Fans-bounds, Rising-keys, Fans-keys, Fans-key, Reaches, reach, still_root}
+use Rattle.envy_btree.proofs.Walking.{leaf-at, inner-at, child-stands, child-assoc, Rising-keys, Fans-keys, Fans-key, reach, still_root}
 
 -- One node
 

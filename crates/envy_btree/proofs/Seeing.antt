@@ -1,9 +1,8 @@
 -- A scan sees the pairs from its key on.
-use Rattle.std.proofs.Common.{◌≡◌, ◌⊎◌, ℕ, ◌+◌, ◌^◌, ◌<◌, ◌≤◌, List, [], ◌∷◌, Option, Some, None, refl, ap, sym, subst, ◌∙◌, inl, inr, eqb, ltb, arith}
-use Rattle.std.specs.List.{All}
+use Rattle.std.proofs.Common.{◌≡◌, ℕ, ◌+◌, ◌^◌, ◌<◌, ◌≤◌, List, [], ◌∷◌, Option, Some, None, refl, ap, sym, subst, ◌∙◌, inl, inr, arith}
 use Rattle.std.proofs.lemmas.Bool.{cases_lt}
 use Rattle.std.proofs.lemmas.List.Elements.{All-head, All-tail}
-use Rattle.envy_btree.specs.Pairs.{assoc, Below}
+use Rattle.envy_btree.specs.Pairs.{assoc}
 use Rattle.envy_btree.specs.Tree.{Rising}
 use Rattle.envy_btree.specs.Nearest.{IsLeastFrom, Scans, pairs_from}
 use Rattle.envy_btree.specs.Index.{IsIndex}

@@ -1,17 +1,15 @@
 -- A pair set in a leaf.
-use Rattle.std.proofs.Common.{◌≡◌, ◌≢◌, ◌⊎◌, ℕ, zero, suc, ◌+◌, ◌-◌, ◌*◌, ◌<◌, ◌≤◌, Bool, true, false, List, [], ◌∷◌, ◌++◌, length, take, drop, get_or, set, Option, Some, None, refl, ap, sym, subst, ◌∙◌, inl, inr, eqb, ltb, arith}
+use Rattle.std.proofs.Common.{◌≡◌, ◌≢◌, ◌⊎◌, ℕ, zero, suc, ◌+◌, ◌-◌, ◌<◌, ◌≤◌, List, [], ◌∷◌, ◌++◌, length, take, drop, get_or, set, refl, ap, sym, subst, ◌∙◌, inl, inr, ltb, arith}
 use Rattle.std.specs.List.{insert, remove}
-use Rattle.std.proofs.lemmas.List.{length-map}
 use Rattle.std.proofs.lemmas.Bool.{cases_eq, cases_lt}
-use Rattle.envy_heap.specs.Pieces.{Chain, IsHeap, handed, pieces, spare, head, at, one, times}
-use Rattle.envy_heap.proofs.Heaps.{Chain-same, lt-one, one-same, one-le, within}
-use Rattle.envy_btree.specs.Pairs.{assoc, with_pair, without, Below, Above}
-use Rattle.envy_btree.specs.Tree.{Tree, Rising, Sized, Holds, Shows, keys_of, values_of, uses, piece_of, pairs_of}
-use Rattle.envy_btree.specs.Nodes.{Ranks, IsSet, IsDropped, OnlyPiece, IsRead}
-use Rattle.envy_btree.specs.Index.{Stands}
-use Rattle.envy_btree.specs.Changes.{Became, Elsewhere}
+use Rattle.envy_heap.specs.Pieces.{Chain, IsHeap, handed, spare, head, at, one, times}
+use Rattle.envy_heap.proofs.Heaps.{Chain-same, one-le}
+use Rattle.envy_btree.specs.Pairs.{with_pair, without, Below}
+use Rattle.envy_btree.specs.Tree.{Rising, keys_of, values_of}
+use Rattle.envy_btree.specs.Nodes.{Ranks, IsSet, IsDropped, OnlyPiece}
+use Rattle.envy_btree.specs.Changes.{Elsewhere}
 use Rattle.envy_btree.proofs.Maps.{with_pair-here, with_pair-new, without-below, without-none, ltb-lt, ltb-ge, eqb-same, eqb-gt}
-use Rattle.envy_btree.proofs.Descent.{Rising-below, Rising-above, Below-rank, pairs-split, take-drop, assoc-found, assoc-missing, read-shows, owned-within, uses-root}
+use Rattle.envy_btree.proofs.Descent.{Rising-below, Rising-above, Below-rank, pairs-split, take-drop}
 
 keys-insert : (es : List (ℕ × ℕ)) (i k v : ℕ) → keys_of (take i es ++ (k, v) ∷ drop i es) ≡ insert (keys_of es) i k
 keys-insert [] zero k v = refl

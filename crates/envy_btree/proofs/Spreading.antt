@@ -1,10 +1,10 @@
 -- A change of pairs about one key, under the child where the key belongs.
-use Rattle.std.proofs.Common.{◌≡◌, ◌≢◌, ℕ, zero, suc, ◌+◌, ◌-◌, ◌*◌, ◌<◌, ◌≤◌, Bool, true, false, List, [], ◌∷◌, ◌++◌, length, map, take, drop, get_or, set, refl, ap, sym, subst, ◌∙◌, eqb, arith}
-use Rattle.std.specs.List.{All, flat_map, sum_by, insert}
+use Rattle.std.proofs.Common.{◌≡◌, ℕ, suc, ◌+◌, ◌-◌, ◌<◌, Bool, true, false, List, ◌++◌, length, map, take, drop, get_or, set, refl, ap, sym, subst, ◌∙◌, arith}
+use Rattle.std.specs.List.{flat_map, sum_by, insert}
 use Rattle.std.proofs.lemmas.List.{length-set, set-get_or}
 use Rattle.std.proofs.lemmas.List.Sums.{get_or-le-sum_by, sum_by-set, sum_by-insert}
 use Rattle.std.proofs.lemmas.List.Elements.{All-set}
-use Rattle.envy_heap.specs.Pieces.{IsHeap, handed, spare, at, one}
+use Rattle.envy_heap.specs.Pieces.{IsHeap}
 use Rattle.envy_btree.specs.Pairs.{with_pair, without, Below, Above}
 use Rattle.envy_btree.specs.Tree.{Tree, Ordered, Sized, Holds, Shows, uses, piece_of, pairs_of}
 use Rattle.envy_btree.specs.Nodes.{Ranks}

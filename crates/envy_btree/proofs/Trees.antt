@@ -1,7 +1,7 @@
 -- Orders and parts of trees.
-use Rattle.std.proofs.Common.{◌≡◌, ◌≢◌, ◌⊎◌, ℕ, zero, suc, ◌+◌, ◌<◌, ◌≤◌, Bool, true, false, cond, List, [], ◌∷◌, ◌++◌, length, map, take, drop, get_or, set, Option, Some, None, refl, ap, sym, subst, ◌∙◌, inl, inr, eqb, ltb, arith}
+use Rattle.std.proofs.Common.{◌≡◌, ℕ, zero, suc, ◌+◌, ◌<◌, ◌≤◌, List, [], ◌∷◌, ◌++◌, length, take, drop, get_or, set, refl, arith}
 use Rattle.std.specs.List.{All, flat_map, insert, remove}
-use Rattle.std.proofs.lemmas.List.Elements.{All-head, All-tail, All-cons, All-nil, All-append, All-weaker}
+use Rattle.std.proofs.lemmas.List.Elements.{All-cons, All-nil, All-append, All-weaker}
 use Rattle.envy_btree.specs.Pairs.{Below, Above}
 use Rattle.envy_btree.specs.Tree.{Tree, Fans, Rising, Ordered, pairs_of}
 use Rattle.envy_btree.specs.Nodes.{Ranks}

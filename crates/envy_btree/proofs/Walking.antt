@@ -1,23 +1,18 @@
 -- Ways down a tree that the words hold.
-use Rattle.std.proofs.Common.{◌≡◌, ◌≢◌, ◌⊎◌, ℕ, zero, suc, ◌+◌, ◌-◌, ◌*◌, ◌/◌, ◌%◌, ◌<◌, ◌≤◌, Bool, true, false, cond, List, [], ◌∷◌, ◌++◌, length, map, take, drop, get_or, Option, Some, None, refl, ap, sym, subst, ◌∙◌, inl, inr, eqb, ltb, arith}
-use Rattle.std.specs.List.{All, flat_map, sum_by}
+use Rattle.std.proofs.Common.{◌≡◌, ℕ, zero, suc, ◌+◌, ◌-◌, ◌<◌, ◌≤◌, Bool, false, List, [], ◌∷◌, length, map, take, drop, get_or, refl, ap, sym, subst, ◌∙◌, arith}
+use Rattle.std.specs.List.{flat_map}
 use Rattle.std.proofs.lemmas.List.{get_or-map, length-map, set-get_or}
-use Rattle.std.proofs.lemmas.List.Concat.{length-flat_map}
-use Rattle.std.proofs.lemmas.List.Sums.{get_or-le-sum_by, sum_by-cons}
-use Rattle.std.proofs.lemmas.List.Elements.{All-get_or, All-head, All-tail}
-use Rattle.std.proofs.lemmas.Bool.{cases_lt}
-use Rattle.envy_heap.specs.Pieces.{IsHeap, handed, head, at, one}
-use Rattle.envy_heap.proofs.Heaps.{one-same, one-apart, one-le}
+use Rattle.std.proofs.lemmas.List.Sums.{get_or-le-sum_by}
+use Rattle.std.proofs.lemmas.List.Elements.{All-get_or}
+use Rattle.envy_heap.specs.Pieces.{IsHeap, at}
 use Rattle.envy_btree.specs.Pairs.{assoc}
-use Rattle.envy_btree.specs.Tree.{Tree, Fans, Rising, Ordered, Sized, Holds, Shows, fewest, pairs_of, piece_of, uses, window, keys_of, values_of}
+use Rattle.envy_btree.specs.Tree.{Tree, Fans, Rising, Ordered, Sized, Holds, pairs_of, piece_of, uses, keys_of, values_of}
 use Rattle.envy_btree.specs.Nodes.{Ranks}
 use Rattle.envy_btree.specs.Index.{Stands}
-use Rattle.envy_btree.specs.Rules.{key_count, kind_at, key_at, slot_at, Leads, pairs_under}
-use Rattle.envy_btree.proofs.Trees.{Within, Rising-within, Fans-long, Fans-at, Fans-before, Fans-after, Ordered-within, low_of, high_of, low-next}
-use Rattle.envy_btree.proofs.Descent.{bare, uses-root, around, assoc-mid}
-use Rattle.envy_btree.proofs.Framing.{handed-le, sum-two}
+use Rattle.envy_btree.specs.Rules.{key_count, kind_at, key_at, slot_at, Leads}
+use Rattle.envy_btree.proofs.Trees.{Fans-long, Fans-at, Fans-before, Fans-after, Ordered-within, low_of, high_of}
+use Rattle.envy_btree.proofs.Descent.{bare, around, assoc-mid}
 use Rattle.envy_btree.proofs.Writing.{window-at}
-use Rattle.envy_btree.proofs.Merging.{get_or-any}
 
 -- A node, and where it stands
 

@@ -1,7 +1,7 @@
 -- What writing a node leaves in the words.
-use Rattle.std.proofs.Common.{◌≡◌, ◌≢◌, ◌⊎◌, ℕ, ◌+◌, ◌-◌, ◌*◌, ◌<◌, ◌≤◌, Bool, List, [], ◌∷◌, ◌++◌, length, take, drop, get_or, set, refl, ap, sym, subst, ◌∙◌, arith}
-use Rattle.std.proofs.lemmas.List.{places, get_or-set_same, get_or-set_other, length-set, get_or-take, get_or-drop, length-take, length-drop, length-append, get_or_append_left, get_or-append_right, take_all, ext_get_or}
-use Rattle.envy_heap.specs.Pieces.{head, at, one}
+use Rattle.std.proofs.Common.{◌≡◌, ℕ, ◌+◌, ◌-◌, ◌*◌, ◌<◌, ◌≤◌, List, ◌++◌, length, take, drop, get_or, set, ap, sym, subst, ◌∙◌, arith}
+use Rattle.std.proofs.lemmas.List.{get_or-set_same, get_or-set_other, length-set, get_or-take, get_or-drop, length-take, length-drop, length-append, get_or_append_left, get_or-append_right, ext_get_or}
+use Rattle.envy_heap.specs.Pieces.{head, at}
 use Rattle.envy_btree.specs.Tree.{Shows, window}
 use Rattle.envy_btree.specs.Nodes.{OnlyPiece, pasted}
 

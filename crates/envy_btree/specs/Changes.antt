@@ -1,5 +1,5 @@
 -- What a change makes of a tree.
-use Rattle.std.specs.Prelude.{◌≡◌, ◌⊎◌, ◌∷◌, slice_set, ℕ, ◌+◌, ◌-◌, ◌*◌, ◌<◌, ◌≤◌, ◌≢◌, ◌==◌, Result, Ok, Err, Some, None, true, false, Bool, Option, List, ◌++◌, length, slice_index}
+use Rattle.std.specs.Prelude.{◌≡◌, ◌⊎◌, ◌∷◌, slice_set, ℕ, ◌+◌, ◌<◌, ◌≤◌, ◌≢◌, ◌==◌, Result, Ok, Err, Some, None, true, false, Bool, Option, List, ◌++◌, length, slice_index}
 use Rattle.std.specs.List.{remove}
 use Rattle.envy_heap.specs.Pieces.{IsHeap, Takes, Freed, handed, spare, at, one}
 use Rattle.envy_base.specs.declared.board.Trouble.{Trouble}
@@ -131,6 +131,19 @@ pub record Pair (ws : List ℕ) (p q : ℕ) : Type 0 where
   pub first : handed ws free p ≡ 1
   pub second : handed ws free q ≡ 1
   pub apart : p ≢ q
+
+-- a node of these keys and slots has children j and j + 1, in two pieces that are handed out
+pub record HasPair (ws : List ℕ) (j : ℕ) (keys slots : List ℕ) : Type 0 where
+  pub place : j < length keys
+  pub many : length keys ≤ 31
+  pub long : length slots ≡ length keys + 1
+  pub pair : Pair ws (slice_index slots j) (slice_index slots (j + 1))
+
+-- a node in hand has these keys and slots, one key too few, and stands beside one of its kind in the piece
+pub record IsShort (ws : List ℕ) (piece : ℕ) (inner : Bool) (keys slots : List ℕ) : Type 0 where
+  pub beside : Beside ws piece inner
+  pub few : length keys ≤ 14
+  pub long : length slots ≡ length keys + one inner
 
 -- Children j and j + 1 of a node, in hand as one, are written as one, and the second piece is given back. These are the node's lists then.
 pub record MendedAsOne (old new free : List ℕ) (j : ℕ) (keys slots : List ℕ) (inner : Bool) (joined joined_slots after after_slots : List ℕ) : Type 0 where

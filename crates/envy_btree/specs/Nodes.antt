@@ -1,5 +1,5 @@
 -- Nodes as they are read, edited and written.
-use Rattle.std.specs.Prelude.{◌≡◌, ℕ, zero, suc, ◌+◌, ◌-◌, ◌*◌, ◌<◌, ◌≤◌, ◌==◌, Bool, true, false, List, [], ◌∷◌, ◌++◌, length, map, take, drop, slice_index, ◌/◌, ◌%◌}
+use Rattle.std.specs.Prelude.{◌≡◌, ℕ, zero, suc, ◌+◌, ◌-◌, ◌<◌, ◌≤◌, ◌==◌, Bool, true, false, List, ◌++◌, length, map, take, drop, slice_index, ◌/◌, ◌%◌}
 use Rattle.std.specs.List.{All}
 use Rattle.envy_btree.specs.Pairs.{with_pair, without}
 use Rattle.envy_btree.specs.Tree.{Tree, piece_of, window, keys_of, values_of, Shows, Holds, Sized}

@@ -1,5 +1,5 @@
 -- The rules of the tree, said of the words alone.
-use Rattle.std.specs.Prelude.{◌≡◌, ℕ, zero, suc, ◌+◌, ◌-◌, ◌*◌, ◌/◌, ◌%◌, ◌<◌, ◌≤◌, List, [], ◌∷◌, length, slice_index, Option, Some}
+use Rattle.std.specs.Prelude.{◌≡◌, ℕ, zero, suc, ◌+◌, ◌/◌, ◌%◌, ◌<◌, ◌≤◌, List, [], ◌∷◌, length, slice_index, Some}
 use Rattle.std.specs.List.{sum_by}
 use Rattle.envy_heap.specs.Pieces.{head, at, handed}
 use Rattle.envy_btree.specs.Pairs.{assoc}

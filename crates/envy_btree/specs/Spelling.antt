@@ -1,5 +1,5 @@
 -- What spells a line of a trace of the index.
-use Rattle.std.specs.Prelude.{◌≡◌, ℕ, ◌^◌, ◌<◌, ◌≤◌, ⊤, List, [], ◌∷◌, length, codes, Option, None, Some}
+use Rattle.std.specs.Prelude.{ℕ, ◌^◌, ◌<◌, ◌≤◌, ⊤, List, [], ◌∷◌, length, codes, Option, None, Some}
 use Rattle.envy_trace.specs.Grammar.{fields_of}
 use Rattle.envy_trace.specs.Spelling.{Spells}
 use Rattle.envy_btree.specs.declared.line.IndexLine.{IndexLine}

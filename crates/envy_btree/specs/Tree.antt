@@ -1,7 +1,6 @@
 -- Trees of equal depth, whose leaves have the pairs of a map.
-use Rattle.std.specs.Prelude.{◌≡◌, ℕ, zero, suc, ◌+◌, ◌*◌, ◌<◌, ◌≤◌, ◌==◌, Bool, true, false, List, [], ◌∷◌, ◌++◌, length, map, take, drop, slice_index, slice_index_or, ◌/◌, ◌%◌, Option, if◌then◌else◌}
+use Rattle.std.specs.Prelude.{◌≡◌, ℕ, zero, suc, ◌+◌, ◌*◌, ◌<◌, ◌≤◌, ◌==◌, Bool, false, List, [], ◌∷◌, length, map, take, drop, slice_index, if◌then◌else◌}
 use Rattle.std.specs.List.{All, flat_map, sum_by}
-use Rattle.envy_btree.specs.Pairs.{assoc, with_pair}
 use Rattle.envy_heap.specs.Pieces.{head, at, one}
 
 pub record Leaf : Type 0 where

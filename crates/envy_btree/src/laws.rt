@@ -27,15 +27,15 @@ pub fn hand_made_words_are_maps()
     ensures levels { IsIndex (two_levels 15 15) (row_of 0 30) }
 {}
 
-/// Words made by hand that break one rule stand for no map: a leaf of 14 pairs under a root, a key of the
-/// root that is one too small or too large, keys that fall in a leaf, another number of pairs, a piece
-/// named twice, a leaf deeper than another, a piece handed out that is no node, a root that is free, one
-/// pair more than the pieces have room for, a leaf of 32 pairs, a root of one child, keys that fall in a
-/// root, and inner nodes of 15 children under a root.
+/// Words made by hand that break one rule stand for no map: a leaf of 14 pairs under a root or of 32, a key
+/// of the root that is one too small or too large, keys that fall in a leaf, another number of pairs, a
+/// piece named twice, a leaf deeper than another, a piece handed out that is no node, a root that is free,
+/// one pair more than the pieces have room for, a root of one child, keys that fall in a root, and inner
+/// nodes of 15 children under a root.
 pub fn broken_words_are_no_map()
-    ensures leaf_of_14 { (es : List (ℕ × ℕ)) → IsIndex (two_levels 14 14) es → ⊥ }
-    ensures key_too_small { (es : List (ℕ × ℕ)) → IsIndex (two_levels 15 14) es → ⊥ }
-    ensures key_too_large { (es : List (ℕ × ℕ)) → IsIndex (two_levels 15 16) es → ⊥ }
+    ensures leaf { (es : List (ℕ × ℕ)) → (IsIndex (two_levels 14 14) es → ⊥) × (IsIndex crowded es → ⊥) }
+    ensures key { (es : List (ℕ × ℕ)) → (IsIndex (two_levels 15 14) es → ⊥)
+        × (IsIndex (two_levels 15 16) es → ⊥) }
     ensures falling { (es : List (ℕ × ℕ)) → IsIndex (one_leaf 2 (6 ∷ 5 ∷ []) (60 ∷ 50 ∷ [])) es → ⊥ }
     ensures miscounted { (es : List (ℕ × ℕ)) → IsIndex (one_leaf 2 (5 ∷ []) (50 ∷ [])) es → ⊥ }
     ensures twice { (es : List (ℕ × ℕ)) → IsIndex named_twice es → ⊥ }
@@ -43,7 +43,6 @@ pub fn broken_words_are_no_map()
     ensures idle { (es : List (ℕ × ℕ)) → IsIndex idle_piece es → ⊥ }
     ensures free { (es : List (ℕ × ℕ)) → IsIndex free_root es → ⊥ }
     ensures too_many { (es : List (ℕ × ℕ)) → IsIndex too_many es → ⊥ }
-    ensures leaf_of_32 { (es : List (ℕ × ℕ)) → IsIndex crowded es → ⊥ }
     ensures one_child { (es : List (ℕ × ℕ)) → IsIndex one_child es → ⊥ }
     ensures falling_above { (es : List (ℕ × ℕ)) → IsIndex crossed es → ⊥ }
     ensures inner_of_15 { (es : List (ℕ × ℕ)) → IsIndex (three_levels 15) es → ⊥ }

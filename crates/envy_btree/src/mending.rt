@@ -2,7 +2,7 @@ ghost use Rattle.std.specs.Prelude.{◌≡◌, ◌≢◌, ℕ, List, Bool, ◌+�
 ghost use Rattle.envy_base.specs.Words.{Works, Fails};
 ghost use Rattle.envy_heap.specs.Pieces.{IsHeap, handed, at, one};
 ghost use Rattle.envy_btree.specs.Tree.{Shows};
-ghost use Rattle.envy_btree.specs.Changes.{joined_keys, Beside, Pair, Mended};
+ghost use Rattle.envy_btree.specs.Changes.{joined_keys, Beside, HasPair, IsShort, Mended};
 
 use crate::node::{Node, read_node, write_node};
 use crate::saving::write_halves;
@@ -38,13 +38,10 @@ fn write_pair<W: Words>(
 ) -> Result<(), Trouble>
     requires begun { IsTrue (W.sheet words.old).started }
     requires room { length (W.sheet words.old).pages + 4 ≤ (W.sheet words.old).room }
-    requires place { j < length node.old.keys.items }
-    requires many { length node.old.keys.items ≤ 31 }
-    requires long { length node.old.slots.items ≡ length node.old.keys.items + 1 }
-    requires pair { Pair (W.sheet words.old).words (slice_index node.old.slots.items j)
-        (slice_index node.old.slots.items (j + 1)) }
+    requires children { HasPair (W.sheet words.old).words j node.old.keys.items node.old.slots.items }
     requires keys { length joined.now.keys.items ≤ 46 }
     requires slots { length joined.now.slots.items ≡ length joined.now.keys.items + one joined.now.inner }
+
     ensures works { Works 4 (W.sheet words.old) (W.sheet words.new) }
     ensures fails { Fails (W.sheet words.old) result (W.sheet words.new) }
     ensures kind { node.new.inner ≡ node.old.inner }
@@ -78,14 +75,10 @@ pub(crate) fn mend_with_front<W: Words>(
 ) -> Result<(), Trouble>
     requires begun { IsTrue (W.sheet words.old).started }
     requires room { length (W.sheet words.old).pages + 4 ≤ (W.sheet words.old).room }
-    requires place { j < length node.old.keys.items }
-    requires many { length node.old.keys.items ≤ 31 }
-    requires long { length node.old.slots.items ≡ length node.old.keys.items + 1 }
-    requires pair { Pair (W.sheet words.old).words (slice_index node.old.slots.items j)
-        (slice_index node.old.slots.items (j + 1)) }
-    requires beside { Beside (W.sheet words.old).words (slice_index node.old.slots.items j) child.now.inner }
-    requires keys { length child.now.keys.items ≤ 14 }
-    requires slots { length child.now.slots.items ≡ length child.now.keys.items + one child.now.inner }
+    requires children { HasPair (W.sheet words.old).words j node.old.keys.items node.old.slots.items }
+    requires short { IsShort (W.sheet words.old).words (slice_index node.old.slots.items j) child.now.inner
+        child.now.keys.items child.now.slots.items }
+
     ensures works { Works 4 (W.sheet words.old) (W.sheet words.new) }
     ensures fails { Fails (W.sheet words.old) result (W.sheet words.new) }
     ensures kind { node.new.inner ≡ node.old.inner }
@@ -112,14 +105,10 @@ pub(crate) fn mend_with_rear<W: Words>(
 ) -> Result<(), Trouble>
     requires begun { IsTrue (W.sheet words.old).started }
     requires room { length (W.sheet words.old).pages + 4 ≤ (W.sheet words.old).room }
-    requires place { j < length node.old.keys.items }
-    requires many { length node.old.keys.items ≤ 31 }
-    requires long { length node.old.slots.items ≡ length node.old.keys.items + 1 }
-    requires pair { Pair (W.sheet words.old).words (slice_index node.old.slots.items j)
-        (slice_index node.old.slots.items (j + 1)) }
-    requires beside { Beside (W.sheet words.old).words (slice_index node.old.slots.items (j + 1)) child.old.inner }
-    requires keys { length child.old.keys.items ≤ 14 }
-    requires slots { length child.old.slots.items ≡ length child.old.keys.items + one child.old.inner }
+    requires children { HasPair (W.sheet words.old).words j node.old.keys.items node.old.slots.items }
+    requires short { IsShort (W.sheet words.old).words (slice_index node.old.slots.items (j + 1)) child.old.inner
+        child.old.keys.items child.old.slots.items }
+
     ensures works { Works 4 (W.sheet words.old) (W.sheet words.new) }
     ensures fails { Fails (W.sheet words.old) result (W.sheet words.new) }
     ensures kind { node.new.inner ≡ node.old.inner }

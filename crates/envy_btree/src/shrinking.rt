@@ -4,7 +4,7 @@ ghost use Rattle.envy_heap.specs.Pieces.{IsHeap, at, one};
 ghost use Rattle.envy_btree.specs.Pairs.{without};
 ghost use Rattle.envy_btree.specs.Tree.{Rising, keys_of, values_of};
 ghost use Rattle.envy_btree.specs.Nodes.{Ranks};
-ghost use Rattle.envy_btree.specs.Changes.{Rests, Pair, Beside, joined_keys};
+ghost use Rattle.envy_btree.specs.Changes.{Rests, Beside, HasPair, IsShort, joined_keys};
 ghost use Rattle.envy_btree.specs.Shrinking.{Back, MendedBack, Shrinks};
 
 use crate::mending::{mend_with_front, mend_with_rear};
@@ -72,14 +72,10 @@ fn shrink_with_front<W: Words>(
     requires within { at piece 63 < length (W.sheet words.old).words }
     requires room { length (W.sheet words.old).pages + 6 ≤ (W.sheet words.old).room }
     requires inner { node.inner ≡ true }
-    requires place { j < length node.keys.items }
-    requires many { length node.keys.items ≤ 31 }
-    requires long { length node.slots.items ≡ length node.keys.items + 1 }
-    requires pair { Pair (W.sheet words.old).words (slice_index node.slots.items j)
-        (slice_index node.slots.items (j + 1)) }
-    requires beside { Beside (W.sheet words.old).words (slice_index node.slots.items j) child.inner }
-    requires keys { length child.keys.items ≤ 14 }
-    requires slots { length child.slots.items ≡ length child.keys.items + one child.inner }
+    requires children { HasPair (W.sheet words.old).words j node.keys.items node.slots.items }
+    requires short { IsShort (W.sheet words.old).words (slice_index node.slots.items j) child.inner
+        child.keys.items child.slots.items }
+
     ensures works { Works 6 (W.sheet words.old) (W.sheet words.new) }
     ensures fails { Fails (W.sheet words.old) result (W.sheet words.new) }
     ensures hand { IfOk result (λ r. IfSome r (λ _. Works 4 (W.sheet words.old) (W.sheet words.new))) }
@@ -106,14 +102,10 @@ fn shrink_with_rear<W: Words>(
     requires within { at piece 63 < length (W.sheet words.old).words }
     requires room { length (W.sheet words.old).pages + 6 ≤ (W.sheet words.old).room }
     requires inner { node.inner ≡ true }
-    requires place { j < length node.keys.items }
-    requires many { length node.keys.items ≤ 31 }
-    requires long { length node.slots.items ≡ length node.keys.items + 1 }
-    requires pair { Pair (W.sheet words.old).words (slice_index node.slots.items j)
-        (slice_index node.slots.items (j + 1)) }
-    requires beside { Beside (W.sheet words.old).words (slice_index node.slots.items (j + 1)) child.inner }
-    requires keys { length child.keys.items ≤ 14 }
-    requires slots { length child.slots.items ≡ length child.keys.items + one child.inner }
+    requires children { HasPair (W.sheet words.old).words j node.keys.items node.slots.items }
+    requires short { IsShort (W.sheet words.old).words (slice_index node.slots.items (j + 1)) child.inner
+        child.keys.items child.slots.items }
+
     ensures works { Works 6 (W.sheet words.old) (W.sheet words.new) }
     ensures fails { Fails (W.sheet words.old) result (W.sheet words.new) }
     ensures hand { IfOk result (λ r. IfSome r (λ _. Works 4 (W.sheet words.old) (W.sheet words.new))) }

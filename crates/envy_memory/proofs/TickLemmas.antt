@@ -1,5 +1,5 @@
 -- What holds of a memory after a background step.
-use Rattle.std.proofs.Common.{◌≡◌, inl, inr, Bool, true, false, ℕ, refl, arith}
+use Rattle.std.proofs.Common.{◌≡◌, inl, inr, false, ℕ, refl, arith}
 use Rattle.std.specs.Prelude.{IsTrue, Result, Ok, Err, IsErrOf, ◌↔◌}
 use Rattle.envy_base.specs.Array.{Array}
 use Rattle.envy_base.specs.Step.{Tick, Done}

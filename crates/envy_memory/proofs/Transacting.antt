@@ -1,49 +1,33 @@
 -- A memory with one transaction: what its calls do to the words.
-use Rattle.std.proofs.Common.{◌≡◌, ◌≢◌, ◌⊎◌, inl, inr, ℕ, zero, suc, ◌+◌, ◌*◌, ◌-◌, ◌/◌, ◌^◌, ◌<◌, ◌≤◌, Bool, true, false, List, [], ◌∷◌, ◌++◌, map, length, get_or, set, Option, None, Some, refl, sym, ◌∙◌, ap, subst, arith}
-use Rattle.std.specs.Prelude.{◌&&◌, ◌==◌, ◌↔◌, IsTrue, Result, Ok, Err, OnOk, IsErrOf, replicate, slice_index, slice_set, position}
-use Rattle.std.specs.List.{list_any}
+use Rattle.std.proofs.Common.{◌≡◌, ◌≢◌, ◌⊎◌, inl, inr, ℕ, zero, suc, ◌+◌, ◌*◌, ◌-◌, ◌<◌, ◌≤◌, Bool, true, false, List, [], ◌∷◌, ◌++◌, map, length, get_or, Option, None, Some, refl, sym, ◌∙◌, ap, subst, arith}
+use Rattle.std.specs.Prelude.{◌&&◌, ◌==◌, IsTrue, Result, Ok, Err, replicate, slice_index, slice_set, position}
 use Rattle.std.proofs.Math.Logic.{∥∥₁_elim, ∥∥₁_map}
 use Rattle.std.proofs.Props.{props}
-use Rattle.std.proofs.lemmas.Bool.{cases_eq, cases_lt, eq-eqb, ne_eqb, or_cases, or_left, or_right}
-use Rattle.std.proofs.lemmas.List.{get_or-replicate, get_or_past, length-replicate, map-append, length-map, length-append}
-use Rattle.std.proofs.lemmas.List.Folds.{list_any-append, list_any_none, list_any-from_Any}
-use Rattle.envy_base.specs.Array.{Array, Saved, slot_of, undone, undo_all, owns, owner, put, put_back, saving, restarted, with_slot, aborted, is_closed, page_of}
-use Rattle.envy_base.specs.Step.{Command, Answer, Step, Lost, Accepts, Load, Begin, Put, Commit, Abort, Word, Done, Started, Range, Held, Closed, Full, Busy}
-use Rattle.envy_base.specs.Words.{Sheet, Works as SheetWorks, OnPage, Keeps, Loads as SheetLoads, Puts as SheetPuts, Starts, Finishes, Undoes, Rose, has}
-use Rattle.envy_base.specs.declared.board.Off.{Off}
-use Rattle.envy_base.specs.declared.fields.Slot.{Slot}
-use Rattle.envy_base.specs.declared.fields.Slot.TheVariants.{Active, Committed, Vacant}
+use Rattle.std.proofs.lemmas.Bool.{cases_eq, eq-eqb, ne_eqb, or_cases, or_left, or_right}
+use Rattle.envy_base.specs.Array.{Array, Saved, slot_of, undone, undo_all, owns, owner, put, put_back, saving, is_closed, page_of}
+use Rattle.envy_base.specs.Step.{Answer, Step, Lost, Begin, Put, Done, Started, Range, Held, Closed, Full, Busy}
+use Rattle.envy_base.specs.Words.{Sheet, Works as SheetWorks, OnPage, Keeps, has}
+use Rattle.envy_base.specs.declared.fields.Slot.TheVariants.{Active, Vacant}
 use Rattle.envy_base.specs.declared.shape.Shape.{Shape}
-use Rattle.envy_base.proofs.Keeping.{first-closed}
-use Rattle.envy_base.proofs.Owning.{owner-Some, owner-nobody}
-use Rattle.envy_base.proofs.Undoing.{undo_all-closed, undone-begun, undone-put, length-undone}
+use Rattle.envy_base.proofs.Owning.{owner-Some}
+use Rattle.envy_base.proofs.Undoing.{undo_all-closed, undone-begun, undone-put}
 use Rattle.envy_base.proofs.Undoing.{has as has-address}
 use Rattle.envy_base.proofs.Working.{Works-refl}
-use Rattle.envy_map.specs.Codes.{the_magic}
-use Rattle.envy_map.specs.Fields.{Chart, slot, undo}
-use Rattle.envy_layout.specs.Same.{Counted, Powers}
-use Rattle.envy_layout.specs.Sound.{Sound, IsSound, Slots, slot_named}
-use Rattle.envy_layout.proofs.Owners.{owner_in-holds}
-use Rattle.envy_layout.proofs.WordLists.{length-durable}
-use Rattle.envy_layout.specs.Stands.{Holds, Stands, Steps, IsLost, Fails, slot_word}
+use Rattle.envy_map.specs.Fields.{Chart, slot}
+use Rattle.envy_layout.specs.Same.{Counted}
+use Rattle.envy_layout.specs.Stands.{Holds, Stands, Steps, IsLost, slot_word}
 use Rattle.envy_layout.specs.Words.{live, durable}
-use Rattle.envy_txn.specs.Owners.{Ownership, AreOwned, owner_of, owner_in}
+use Rattle.envy_txn.specs.Owners.{Ownership, owner_of}
 use Rattle.envy_txn.specs.declared.pair.Pair.{Pair}
-use Rattle.envy_memory.proofs.AttachLemmas.{IsArray-fresh}
 use Rattle.envy_memory.proofs.Facts.{none-open, on-from}
-use Rattle.envy_memory.specs.Calls.{Loads, Begins, Puts, Commits, Aborts, Works, IsCut, HasFailed, fresh, planned}
+use Rattle.envy_memory.specs.Calls.{Loads, Begins, Puts, Works, IsCut}
 use Rattle.envy_memory.specs.Effects.{PutEffect}
-use Rattle.envy_memory.specs.Faults.{IsNoRefusal, trouble_of}
 use Rattle.envy_memory.specs.Lawful.{words_long}
 use Rattle.envy_memory.specs.Picture.{Picture}
-use Rattle.envy_memory.specs.Sheets.{words_read, fixed_of, sheet_of, OnlyFirst, IsHeld}
-use Rattle.envy_memory.specs.declared.faults.LoadFault.TheVariants.{Range as LoadRange}
-use Rattle.envy_memory.specs.declared.faults.BeginFault.{BeginFault}
-use Rattle.envy_memory.specs.declared.faults.EndFault.{EndFault}
-use Rattle.envy_memory.specs.declared.faults.BeginFault.TheVariants.{Off as BeginOff, Busy as BeginBusy}
+use Rattle.envy_memory.specs.Sheets.{words_read, fixed_of, sheet_of, IsHeld}
+use Rattle.envy_memory.specs.declared.faults.BeginFault.TheVariants.{Off as BeginOff}
 use Rattle.envy_memory.specs.declared.faults.PutFault.{PutFault}
 use Rattle.envy_memory.specs.declared.faults.PutFault.TheVariants.{Off as PutOff, Range as PutRange, Closed as PutClosed, Held as PutHeld, Full as PutFull, Bad as PutBad}
-use Rattle.envy_memory.specs.declared.faults.EndFault.TheVariants.{Off as EndOff, Closed as EndClosed}
 
 -- ---- slots
 

@@ -1,6 +1,6 @@
 -- What each call of a memory does below the array: to power, flash, counters, cache, frames, policy and job. The calls'
 -- own clauses say what is done to the array, and when each answer comes.
-use Rattle.std.specs.Prelude.{◌≡◌, ◌≢◌, ◌↔◌, ◌+◌, ◌*◌, ◌/◌, ◌<◌, ◌≤◌, not, ℕ, false, IsTrue, IsErrOf, OnOk, IfOk, MatchResult, length, Option, None, Some, Result, Ok, Err}
+use Rattle.std.specs.Prelude.{◌≡◌, ◌≢◌, ◌↔◌, ◌+◌, ◌*◌, ◌/◌, ◌<◌, ◌≤◌, not, ℕ, false, IsTrue, IsErrOf, OnOk, IfOk, MatchResult, length, None, Some, Result, Ok, Err}
 use Rattle.std.specs.List.{filter}
 use Rattle.envy_base.specs.declared.board.Trouble.{Trouble}
 use Rattle.envy_base.specs.declared.board.Trouble.TheVariants.{Bad as TroubleBad}

@@ -6,7 +6,6 @@ use Rattle.envy_layout.proofs.WordLists.{length-live, length-durable}
 use Rattle.envy_map.specs.Fields.{Chart}
 use Rattle.envy_memory.specs.Picture.{Picture}
 use Rattle.envy_memory.specs.Sheets.{words_read, sheet_of}
-use Rattle.envy_layout.specs.Words.{durable}
 
 -- there are as many words as the pages have, open or not
 pub words_long : (open_now : Bool) (c : Chart) → length (words_read open_now c) ≡ 32 * c.shape.pages

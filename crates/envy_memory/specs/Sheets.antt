@@ -1,5 +1,5 @@
 -- A memory with one transaction at a time, as words.
-use Rattle.std.specs.Prelude.{◌≡◌, ◌⊎◌, ℕ, ◌&&◌, Bool, true, false, IsTrue, List, [], ◌∷◌, map, replicate, Option, None, Some, Result, Ok, Err}
+use Rattle.std.specs.Prelude.{◌≡◌, ℕ, ◌&&◌, Bool, true, false, List, [], ◌∷◌, map, replicate, Option, None, Some}
 use Rattle.envy_base.specs.Array.{Array, Saved}
 use Rattle.envy_base.specs.Words.{Sheet}
 use Rattle.envy_map.specs.Fields.{Chart}

@@ -3,8 +3,7 @@ use Rattle.std.proofs.Common.{◌≡◌, ◌⊎◌, inl, inr, ℕ, ◌+◌, Bool
 use Rattle.std.specs.Prelude.{IsTrue, ◌||◌}
 use Rattle.std.proofs.lemmas.Bool.{or_cases}
 use Rattle.envy_base.specs.Array.{Array}
-use Rattle.envy_base.specs.Step.{Command, Answer, Step, Lost as LostAs, Load, Look, Store, Begin, Put, Commit, Abort, Tick}
-use Rattle.envy_base.specs.Step.{Word as IsWord, Done as IsDone, Started as IsStarted, Range as IsRange, Held as IsHeld, Closed as IsClosed, Full as IsFull, Busy as IsBusy}
+use Rattle.envy_base.specs.Step.{Command}
 use Rattle.envy_base.specs.declared.shape.Shape.{Shape}
 use Rattle.envy_layout.specs.Sound.{IsSound}
 use Rattle.envy_layout.specs.Stands.{Stands, Holds, IsLost as LostIn}

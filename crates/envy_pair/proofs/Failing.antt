@@ -9,11 +9,9 @@ use Rattle.envy_layout.specs.Sound.{IsSound}
 use Rattle.envy_layout.specs.Words.{durable}
 use Rattle.envy_memory.specs.Calls.{fresh}
 use Rattle.envy_memory.specs.Picture.{counts_of}
-use Rattle.envy_pair.proofs.Sides.{neither}
 use Rattle.envy_mirror.specs.Mirroring.{Mirrors}
 use Rattle.envy_mirror.specs.Pair.{Side, Pair, is_good, side_at, IsDark, IsPair}
 use Rattle.envy_mirror.specs.Reviving.{which, LeavesCut, cut_pair}
-use Rattle.envy_mirror.specs.declared.standing.Standing.TheVariants.{Good}
 use Rattle.envy_mirror.specs.declared.standing.Which.{Which}
 use Rattle.envy_serve.specs.Turns.{one_if, count_of}
 use Rattle.envy_trace.specs.declared.line.Line.{Line}

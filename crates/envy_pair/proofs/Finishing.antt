@@ -1,5 +1,5 @@
 -- What both boards say once a trace was done, from what the pair did since it began with no counts.
-use Rattle.std.proofs.Common.{◌≡◌, ◌⊎◌, inl, inr, ℕ, ◌+◌, ◌-◌, ◌^◌, ◌<◌, ◌≤◌, Bool, true, false, List, [], ◌∷◌, length, sym, ap, subst, arith}
+use Rattle.std.proofs.Common.{◌≡◌, ◌⊎◌, inl, inr, ℕ, ◌+◌, ◌-◌, ◌^◌, ◌<◌, ◌≤◌, Bool, false, List, [], ◌∷◌, length, sym, ap, subst, arith}
 use Rattle.std.specs.Prelude.{IfSome, Option, None, Some}
 use Rattle.std.proofs.lemmas.Bool.{cases_lt}
 use Rattle.envy_base.specs.Array.{Array}
@@ -21,7 +21,7 @@ use Rattle.envy_mirror.specs.declared.standing.Which.{Which}
 use Rattle.envy_mirror.specs.declared.standing.Which.TheVariants.{First, Second}
 use Rattle.envy_serve.proofs.Counts.{count-lines}
 use Rattle.envy_serve.specs.Ends.{most_bytes}
-use Rattle.envy_serve.specs.Turns.{Turn, count_lines, count_replies, one_if}
+use Rattle.envy_serve.specs.Turns.{count_lines, count_replies}
 use Rattle.envy_pair.specs.Bills.{Toll, Charged, Bill}
 use Rattle.envy_pair.specs.Ending.{Boards, board_at, Keeps, AddsUp, HasMirrored, HasFallen, PairLicences}
 use Rattle.envy_pair.specs.MirrorRun.{MirrorTurn, is_power, is_plan, is_lost, is_fault, just_told}

@@ -13,7 +13,7 @@ use Rattle.envy_base.specs.declared.shape.Shape.{Shape}
 use Rattle.envy_base.specs.declared.fields.Job.TheVariants.{Copy}
 use Rattle.envy_map.specs.Fields.{Fields, Chart}
 use Rattle.envy_layout.specs.Jobs.{IsCopiedWhole}
-use Rattle.envy_layout.specs.Sound.{Sound, Numbers, Rows, Jobs, IsSound, IsKept, Names, IsPlaced, IsSpare}
+use Rattle.envy_layout.specs.Sound.{Sound, Numbers, Rows, Jobs, IsSound, Names, IsPlaced, IsSpare}
 use Rattle.envy_layout.specs.Sound as Layout
 use Rattle.envy_layout.proofs.Claimed.{AreHome-copying}
 use Rattle.envy_layout.proofs.References.{apart-spare, copy-segment}

@@ -140,17 +140,19 @@ fn failures_while_formatting_end_the_run(rt: HostRuntime) -> Result<(), Fail> {
             0,
             0,
         ),
-    ] {
+    ]
+    .as_slice()
+    {
         let given = calm(command, b"store 5 1\n");
-        let played = play_planned(rt.alloc(), &given, [plan, Plan::Nothing])?;
-        let ends = Ends::Stops(status, 0, 0, text);
+        let played = play_planned(rt.alloc(), &given, [*plan, Plan::Nothing])?;
+        let ends = Ends::Stops(*status, 0, 0, text);
         check_played(&rt, "a failure in formatting", &given, &played, ends, b"");
         assert_eq!(rt; played.ended.taken, 0, "{command}");
         let Some(board) = &played.ended.board else {
             return Err(Fail::new("no board"));
         };
-        assert_eq!(rt; peek(&rt, &board.inner, 0), word, "{command}");
-        assert_eq!(rt; board.inner.bads(), bads, "{command}");
+        assert_eq!(rt; peek(&rt, &board.inner, 0), *word, "{command}");
+        assert_eq!(rt; board.inner.bads(), *bads, "{command}");
     }
     Ok(())
 }

@@ -172,13 +172,13 @@ fn failures_leave_the_counters_that_the_rules_give(rt: HostRuntime) -> Result<()
     let alloc = rt.alloc();
     let calm = written(&rt, "gen --start 13 --lines 20000 --pages 26", b"")?;
     let trace = with_failures(alloc, &calm)?;
-    for (policy, faults, told) in OF_FAILURES {
+    for (policy, faults, told) in OF_FAILURES.as_slice() {
         let command = format!(in alloc; "run {SMALL} --policy {policy}")?;
         let memory = written(&rt, command.as_str(), &trace)?;
         assert!(rt; memory.ends_with(told.as_bytes()), "{policy}");
         assert_eq!(rt;
             (count_of(&memory, b"lost"), count_of(&memory, b"fault")),
-            (400, faults),
+            (400, *faults),
             "{policy}"
         );
     }

@@ -160,13 +160,15 @@ fn a_sink_may_fail_behind_an_image(rt: HostRuntime) -> Result<(), Fail> {
         ("resume", 1, 1, "envy: write fault after 1 lines", ""),
         ("resume", 2, 2, two, "1\n"),
         ("resume", 3, 2, two, "1\ntx 0\n"),
-    ] {
+    ]
+    .as_slice()
+    {
         let given = Given {
-            sink_fails: call,
+            sink_fails: *call,
             ..calm(command, &bytes)
         };
         let played = play(rt.alloc(), &given)?;
-        let ends = Ends::Stops(4, 0, lines, text);
+        let ends = Ends::Stops(4, 0, *lines, text);
         check_played(
             &rt,
             "a failing sink",

@@ -99,19 +99,19 @@ fn a_stream_that_fails_ends_the_run(rt: HostRuntime) -> Result<(), Fail> {
         check_held(&rt, "a write that fails", &given, ends, 53, call - 1)?;
     }
     // how many lines are whole in the bytes of the fills before
-    for (call, lines) in [(1_u64, 0), (2, 1), (3, 2), (4, 3), (5, 4), (6, 4)] {
+    for (call, lines) in [(1_u64, 0), (2, 1), (3, 2), (4, 3), (5, 4), (6, 4)].as_slice() {
         let given = Given {
-            source_fails: call,
+            source_fails: *call,
             ..pieces
         };
-        let ends = Ends::Stops(3, 0, lines, read_fault(lines));
+        let ends = Ends::Stops(3, 0, *lines, read_fault(*lines));
         check_held(
             &rt,
             "a fill that fails",
             &given,
             ends,
             8 * (call - 1),
-            lines,
+            *lines,
         )?;
     }
     Ok(())
@@ -140,13 +140,13 @@ const CUT_SHORT: [(usize, usize, u8, u8, u64); 17] = [
 
 #[test]
 fn a_trace_may_be_cut_short_anywhere(rt: HostRuntime) -> Result<(), Fail> {
-    for (first, last, status, why, lines) in CUT_SHORT {
-        for count in first..=last {
+    for (first, last, status, why, lines) in CUT_SHORT.as_slice() {
+        for count in *first..=*last {
             let trace = HELD.get(..count).ok_or("too long")?;
-            let ends = if status == 0 {
+            let ends = if *status == 0 {
                 Ends::Done
             } else {
-                Ends::Stops(status, why, lines, refused(why, lines))
+                Ends::Stops(*status, *why, *lines, refused(*why, *lines))
             };
             check_held(
                 &rt,
@@ -154,7 +154,7 @@ fn a_trace_may_be_cut_short_anywhere(rt: HostRuntime) -> Result<(), Fail> {
                 &calm("", trace),
                 ends,
                 count as u64,
-                lines,
+                *lines,
             )?;
         }
     }

@@ -195,11 +195,11 @@ const TEXTS: [(u8, u8, u64, &str); 37] = [
 
 #[test]
 fn each_end_has_its_text(rt: HostRuntime) -> Result<(), Fail> {
-    for (status, why, lines, wanted) in TEXTS {
+    for (status, why, lines, wanted) in TEXTS.as_slice() {
         let ended: Ended<MemBoard> = Ended {
-            status,
-            why,
-            lines,
+            status: *status,
+            why: *why,
+            lines: *lines,
             taken: 0,
             board: None,
             second: None,
@@ -220,13 +220,15 @@ fn a_trace_is_generated(rt: HostRuntime) -> Result<(), Fail> {
         ("gen --start 7 --lines 0", 0, Ends::Unread, ""),
         ("gen --start 7 --lines 5", 0, Ends::Unread, first),
         ("gen --start 7", 2, fault, "tick\n"),
-    ] {
+    ]
+    .as_slice()
+    {
         let given = Given {
-            sink_fails,
+            sink_fails: *sink_fails,
             ..calm(command, b"load 0\n")
         };
         let played = play(rt.alloc(), &given)?;
-        check_played(&rt, "generated", &given, &played, ends, text.as_bytes());
+        check_played(&rt, "generated", &given, &played, *ends, text.as_bytes());
     }
     Ok(())
 }

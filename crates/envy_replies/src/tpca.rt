@@ -158,7 +158,7 @@ fn lives_are_forgotten_where_power_fails(rt: HostRuntime) -> Result<(), Fail> {
 #[test]
 fn sums_stay_where_power_fails(rt: HostRuntime) -> Result<(), Fail> {
     let alloc = rt.alloc();
-    for policy in POLICIES {
+    for policy in POLICIES.as_slice() {
         let command = format!(in alloc; "tpca --every=7 --policy {policy}")?;
         let played = play(alloc, &calm(command.as_str(), b""))?;
         assert_eq!(rt; played.ended.status, 0, "under {policy}");
@@ -203,16 +203,16 @@ const MARK: u64 = 0x654E_5679_464C_5348;
 #[test]
 fn a_bad_operation_is_not_reported(rt: HostRuntime) -> Result<(), Fail> {
     let ends = Ends::Stops(7, 0, 0, "envy: bad flash operation");
-    for (k, mark) in [(1, 0), (100, MARK)] {
+    for (k, mark) in [(1, 0), (100, MARK)].as_slice() {
         let given = calm("tpca", b"");
-        let plans = [Plan::Bad(k, 3), Plan::Nothing];
+        let plans = [Plan::Bad(*k, 3), Plan::Nothing];
         let played = play_planned(rt.alloc(), &given, plans)?;
         check_played(&rt, "a bad operation", &given, &played, ends, b"");
         let Some(board) = &played.ended.board else {
             return Err(Fail::new("no board"));
         };
         assert_eq!(rt; board.inner.bads(), 1, "at {k}");
-        assert_eq!(rt; peek(&rt, &board.inner, 0), mark, "at {k}");
+        assert_eq!(rt; peek(&rt, &board.inner, 0), *mark, "at {k}");
     }
     Ok(())
 }
@@ -225,14 +225,16 @@ fn a_cut_is_planned_at_the_number_of_the_transfer(rt: HostRuntime) -> Result<(),
         ("7", (1, 0)),
         ("8", (260, 7)),
         ("15", (7, 14)),
-    ] {
+    ]
+    .as_slice()
+    {
         let command = format!(in rt.alloc(); "tpca --every 7 --transfers {transfers}")?;
         let given = calm(command.as_str(), b"");
         let played = play_planned(rt.alloc(), &given, [Plan::Nothing, Plan::Nothing])?;
         let Some(board) = &played.ended.board else {
             return Err(Fail::new("no board"));
         };
-        assert_eq!(rt; board.last_cut, cut, "at {transfers}");
+        assert_eq!(rt; board.last_cut, *cut, "at {transfers}");
     }
     Ok(())
 }

@@ -117,7 +117,7 @@ fn check_value(
         told,
         erases,
     } = *value;
-    for word in ["run", "mirror"] {
+    for word in ["run", "mirror"].as_slice() {
         let command = format!(in alloc; "{word} {shape} {options}")?;
         let replies = written(rt, command.as_str(), &lines)?;
         assert!(rt; replies.ends_with(told.as_bytes()), "{command}");
@@ -173,7 +173,7 @@ fn counters_of(rt: &(impl Abort + Alloc<A = Global>), command: &str) -> Result<V
 #[test]
 fn limit_and_mark_are_handed_on_to_a_load(rt: HostRuntime) -> Result<(), Fail> {
     let usual = counters_of(&rt, "tpca")?;
-    for command in ["tpca --limit 1", "tpca --mark 1"] {
+    for command in ["tpca --limit 1", "tpca --mark 1"].as_slice() {
         let counters = counters_of(&rt, command)?;
         assert!(rt; counters.as_slice() != usual.as_slice(), "{command}");
     }
@@ -210,7 +210,9 @@ fn policy_and_part_are_handed_on_to_an_index(rt: HostRuntime) -> Result<(), Fail
         "index --policy hybrid --part 3",
         "index --policy hybrid --part 15",
         "index --policy lifetime",
-    ] {
+    ]
+    .as_slice()
+    {
         let map = map_of(&rt, command, &trace)?;
         assert!(rt; map.as_slice() != greedy.as_slice(), "{command}");
         assert!(rt; map.as_slice() != last.as_slice(), "{command}");

@@ -1,5 +1,5 @@
 -- From a trace that was served, with what is said of the boards then, to the account of it, and back.
-use Rattle.std.proofs.Common.{◌≡◌, ◌⊎◌, inl, inr, ℕ, List, [], refl, sym, ap, subst, arith}
+use Rattle.std.proofs.Common.{◌≡◌, ◌⊎◌, inl, inr, ℕ, List, [], refl, ap, subst, arith}
 use Rattle.std.specs.Prelude.{Option, None, Some, Result, Ok, Err}
 use Rattle.envy_base.specs.State.{State}
 use Rattle.envy_io.specs.declared.source.Failed.{Failed}
@@ -10,9 +10,8 @@ use Rattle.envy_serve.specs.declared.serving.End.TheVariants.{Done as EndDone, R
 use Rattle.envy_serve.specs.Ends.{Serves, Ends, HasServed}
 use Rattle.envy_serve.specs.Streams.{Streams}
 use Rattle.envy_serve.specs.Turns.{Turn}
-use Rattle.envy_run.specs.Meaning.{Does}
 use Rattle.envy_run.specs.Outcome.{Outcome, EndsBy, IsQuiet, ending_after, ending_of, numbers_of, outcome_of}
-use Rattle.envy_run.specs.Task.{Task, Session, IsServed, MaybeServed, MaybeHeld, DoesTask, serving, turns_of}
+use Rattle.envy_run.specs.Task.{Task, Session, MaybeServed, MaybeHeld, DoesTask, turns_of}
 use Rattle.envy_run.specs.Writing.{WritesAs, WritesOut, WritesTrace}
 use Rattle.envy_run.specs.declared.ending.Ending.{Ending}
 use Rattle.envy_run.specs.declared.ending.Ending.TheVariants.{Done, WordsRefused, ReadFault, WriteFault, LineRefused, PowerLost, FlashFailed, OutOfMemory, TooLong, ImageRefused, NotInstalled}

@@ -1,5 +1,5 @@
 -- A mirrored run where nothing goes wrong.
-use Rattle.std.proofs.Common.{◌≡◌, ◌⊎◌, inl, inr, ℕ, ◌<◌, false, List, [], ◌∷◌, refl, ◌∙◌, ap, subst, arith}
+use Rattle.std.proofs.Common.{◌≡◌, ◌⊎◌, inl, inr, ℕ, ◌<◌, false, List, [], ◌∷◌, refl, subst, arith}
 use Rattle.std.specs.Prelude.{Some}
 use Rattle.envy_base.specs.Array.{Array, zeros}
 use Rattle.envy_mirror.specs.declared.standing.Which.{Which}

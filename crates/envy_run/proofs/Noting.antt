@@ -7,7 +7,7 @@ use Rattle.envy_base.specs.declared.counts.Counts.{Counts}
 use Rattle.envy_flush.specs.Counts.{Tallies}
 use Rattle.envy_flush.specs.Ticks.{CountsTick}
 use Rattle.envy_flush.specs.declared.parts.Parts.{Parts}
-use Rattle.envy_layout.specs.Same.{Counted, Grows}
+use Rattle.envy_layout.specs.Same.{Counted}
 use Rattle.envy_memory.proofs.Counted.{Tallies-stay, begun-stay}
 use Rattle.envy_memory.specs.Picture.{Picture, counts_of}
 use Rattle.envy_table.proofs.HitLemmas.{Rests-refl}

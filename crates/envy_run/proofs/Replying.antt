@@ -1,7 +1,6 @@
 -- The reply of a line, from what the call of the memory answered.
 use Rattle.std.proofs.Common.{◌≡◌, ◌⊎◌, inl, inr, ℕ, ◌+◌, ◌-◌, ◌^◌, ◌<◌, ◌≤◌, refl, sym, subst, arith}
 use Rattle.envy_base.specs.Array.{Array}
-use Rattle.envy_base.specs.Counting.{up}
 use Rattle.envy_base.specs.Step.{Command, Answer}
 use Rattle.envy_map.specs.Fields.{Chart}
 use Rattle.envy_layout.specs.Same.{Counted}

@@ -1,6 +1,6 @@
 -- A trace behind an image, from what was said of the image and of the memory that was attached to its board.
 use Rattle.std.proofs.Common.{◌≡◌, ◌⊎◌, inl, inr, ℕ, ◌*◌, ◌<◌, ◌≤◌, List, [], ◌++◌, length, refl, sym, ◌∙◌, ap, subst, arith}
-use Rattle.std.specs.Prelude.{IfSome, IsErr, IsTrue, true, false, Option, None, Some, Result, Ok, Err, slice_index, sum}
+use Rattle.std.specs.Prelude.{IsErr, IsTrue, true, false, Option, None, Some, Result, Ok, Err, slice_index, sum}
 use Rattle.std.specs.Option.{option_map}
 use Rattle.std.specs.Result.{is_err}
 use Rattle.std.proofs.lemmas.List.{append_assoc}
@@ -29,7 +29,7 @@ use Rattle.envy_serve.specs.declared.serving.End.{End}
 use Rattle.envy_serve.specs.Ends.{Serves, Ends, most_bytes}
 use Rattle.envy_serve.specs.GoodTrace.{IsGoodTrace}
 use Rattle.envy_serve.specs.Streams.{Streams}
-use Rattle.envy_serve.proofs.Advancing.{Serves-as, served-either}
+use Rattle.envy_serve.proofs.Advancing.{served-either}
 use Rattle.envy_serve.proofs.Earlier.{serves-earlier}
 use Rattle.envy_serve.proofs.GoodTraces.{front-taken}
 use Rattle.envy_trace.specs.declared.line.Line.{Line}

@@ -1,6 +1,6 @@
 -- What of a board's counts licenses the replies: a failure of power for each `lost`, a bad operation for
 -- each `fault`, a cut by hand for each line `power`, and a plan for each line `cut` or `bad`.
-use Rattle.std.specs.Prelude.{◌≡◌, ℕ, ◌+◌, ◌-◌, ◌^◌, ◌<◌, ◌≤◌}
+use Rattle.std.specs.Prelude.{◌≡◌, ℕ, ◌+◌}
 use Rattle.envy_map.specs.Fields.{Chart}
 use Rattle.envy_memory.specs.Rises.{RoseBy, RoseOver}
 

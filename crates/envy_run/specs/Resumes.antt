@@ -1,5 +1,5 @@
 -- The word `resume`: an image is installed on a new board, and the trace behind it is answered as under `run`.
-use Rattle.std.specs.Prelude.{◌≡◌, ◌⊎◌, ℕ, ◌+◌, ◌*◌, ◌≤◌, List, [], ◌++◌, length, Option, None, Some, IfSome, unwrap_or, IsErr, Ok, ⊤}
+use Rattle.std.specs.Prelude.{◌≡◌, ◌⊎◌, ℕ, ◌+◌, ◌*◌, ◌≤◌, List, [], ◌++◌, length, Option, None, IfSome, unwrap_or, IsErr, Ok, ⊤}
 use Rattle.envy_audit.specs.Judging.{Judges}
 use Rattle.envy_audit.specs.declared.verdict.Verdict.TheVariants.{Sound}
 use Rattle.envy_base.specs.Array.{Array}

@@ -1,5 +1,5 @@
 -- How many turns and replies pass a test.
-use Rattle.std.proofs.Common.{ℕ, ◌+◌, ◌≤◌, Bool, true, false, List, [], ◌∷◌, length, arith}
+use Rattle.std.proofs.Common.{◌+◌, ◌≤◌, Bool, true, false, List, [], ◌∷◌, length, arith}
 use Rattle.envy_serve.specs.Turns.{Turn, count_lines, count_of, one_if}
 
 -- there are no more such lines than lines

@@ -1,5 +1,5 @@
 -- The lines of a trace for a pair of boards, how they are spelled, and how the replies are written.
-use Rattle.std.specs.Prelude.{◌≡◌, ℕ, ◌≤◌, ⊤, List, [], ◌∷◌, ◌++◌, map, length, codes, decimal, Option, None, Some, Result, Ok, Err}
+use Rattle.std.specs.Prelude.{ℕ, ◌≤◌, ⊤, List, [], ◌∷◌, ◌++◌, map, length, codes, decimal, Option, Some, Result, Ok}
 use Rattle.envy_trace.specs.declared.bounds.Bounds.{Bounds}
 use Rattle.envy_trace.specs.declared.fault.LineFault.{LineFault}
 use Rattle.envy_trace.specs.declared.line.Line.{Line}

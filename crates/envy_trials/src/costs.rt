@@ -88,6 +88,11 @@ fn reads_since(memory: &Memory<CountingBoard>) -> u64 {
     memory.board().take_reads()
 }
 
+/// How many segments were erased.
+fn erases_of(memory: &Memory<CountingBoard>) -> u64 {
+    memory.counts().erases
+}
+
 /// A page is stored, and goes to the next free row.
 fn flush(rt: &impl Abort, memory: &mut Memory<CountingBoard>, page: u16) {
     make(rt, memory, Call::Store(32 * page as u32));
@@ -302,9 +307,12 @@ fn full_reads(
     rt: &(impl Abort + Alloc<A = Global>),
     segments: u16,
 ) -> Result<(Vec<u64>, u64), Fail> {
-    let mut setup = setup_of(segments as u32, 2, BUSY as u32 + 1, 1);
-    setup.shape.shadows = 8;
-    let mut memory = memory_by(rt, setup)?;
+    let setup = setup_of(segments as u32, 2, BUSY as u32 + 1, 1);
+    let shape = Shape {
+        shadows: 8,
+        ..setup.shape
+    };
+    let mut memory = memory_by(rt, Setup { shape, ..setup })?;
     for page in 0..13 {
         flush(rt, &mut memory, page);
         flush(rt, &mut memory, BUSY);
@@ -315,9 +323,9 @@ fn full_reads(
         BUSY,
         2 * segments.saturating_sub(14) as u32,
     );
-    let before = memory.counts().erases;
+    let before = erases_of(&memory);
     let reads = reads_by_call(rt, &mut memory, FULL.as_slice(), 0)?;
-    Ok((reads, memory.counts().erases.wrapping_sub(before)))
+    Ok((reads, erases_of(&memory).wrapping_sub(before)))
 }
 
 // Nothing but the number of segments differs, and the positions that are cleaned have the same rows.

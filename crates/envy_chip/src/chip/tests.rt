@@ -29,9 +29,7 @@ fn a_new_chip_is_erased_and_ready(rt: HostRuntime) -> Result<(), Fail> {
 }
 
 #[test]
-fn each_command_leaves_the_status_and_bytes_of_the_data_sheet(
-    rt: HostRuntime,
-) -> Result<(), Fail> {
+fn each_command_leaves_the_status_and_bytes_of_the_data_sheet(rt: HostRuntime) -> Result<(), Fail> {
     let mut chip = Chip::new(rt.alloc(), 1, 2)?;
     for (writes, status, bytes) in COMMANDS.as_slice() {
         for (addr, byte) in *writes {

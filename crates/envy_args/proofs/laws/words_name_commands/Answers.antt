@@ -38,7 +38,7 @@ returns-clause-shadows c = refl
 
 pub returns-clause-judged : goal.returns-clause-judged
 unfolding command_of options_in are_known checked shape_checked
-returns-clause-judged c = refl
+returns-clause-judged c = (refl, refl)
 
 pub returns-clause-open : goal.returns-clause-open
 unfolding command_of options_in are_known checked shape_checked
@@ -51,7 +51,3 @@ returns-clause-tree c = refl
 pub returns-clause-heap : goal.returns-clause-heap
 unfolding command_of options_in are_known checked shape_checked
 returns-clause-heap c = refl
-
-pub returns-clause-mapped : goal.returns-clause-mapped
-unfolding command_of options_in are_known checked shape_checked
-returns-clause-mapped c = refl

@@ -1,4 +1,4 @@
-use Rattle.std.proofs.Common.{◌≡◌, ◌+◌, ◌≤◌, ap, subst, arith, length, List, ℕ, Ok}
+use Rattle.std.proofs.Common.{subst, arith, Ok}
 use Rattle.envy_heap.specs.Pieces.{TakesAs, one}
 use Rattle.envy_heap.proofs.Heaps.{exhausted-spare}
 use Rattle.envy_btree.proofs.Planting.{crown-ok}

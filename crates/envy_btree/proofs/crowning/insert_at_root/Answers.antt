@@ -1,9 +1,7 @@
-use Rattle.std.proofs.Common.{◌≡◌, ◌≢◌, ◌+◌, ◌-◌, ◌≤◌, ◌<◌, ◌^◌, ◌∙◌, [], ◌∷◌, ap, sym, subst, arith, length, get_or, List, ℕ, Some, None, OnOk}
+use Rattle.std.proofs.Common.{◌≢◌, ◌-◌, ◌≤◌, ◌∙◌, [], ◌∷◌, ap, sym, subst, arith, get_or, List, ℕ, OnOk}
 use Rattle.envy_heap.specs.Pieces.{IsHeap, spare}
-use Rattle.envy_btree.specs.Pairs.{with_pair}
-use Rattle.envy_btree.specs.Index.{IsPlanted}
 use Rattle.envy_btree.specs.Changes.{Way, Grows, Crowned}
-use Rattle.envy_btree.proofs.Planting.{Enters, planted-enters, planted-spare, first-ok, crowned-ok, way-fits}
+use Rattle.envy_btree.proofs.Planting.{planted-enters, planted-spare, first-ok, crowned-ok, way-fits}
 use Rattle.envy_btree.proofs.crowning.insert_at_root.Goals as goal
 
 pub crown-requires-clause-heap : goal.crown-requires-clause-heap

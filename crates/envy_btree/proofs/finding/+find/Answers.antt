@@ -1,4 +1,4 @@
-use Rattle.std.proofs.Common.{rules, ◌≡◌, IfOk, Ok, Err, Result, Option, ℕ, ◌+◌, ◌-◌, ◌<◌, ◌≤◌, length, arith, sym, ap, subst, ◌∙◌, Some, None}
+use Rattle.std.proofs.Common.{◌≡◌, IfOk, ◌-◌, arith, sym, ap, subst, ◌∙◌, Some}
 use Rattle.envy_btree.specs.Pairs.{assoc}
 use Rattle.envy_btree.specs.Tree.{pairs_of}
 use Rattle.envy_btree.specs.Changes.{Rests}

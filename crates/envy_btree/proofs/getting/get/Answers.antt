@@ -1,4 +1,4 @@
-use Rattle.std.proofs.Common.{◌≡◌, ◌≢◌, ◌-◌, ◌∙◌, ℕ, List, IfOk, OnOk, ap, sym, subst, arith, length, get_or}
+use Rattle.std.proofs.Common.{◌≡◌, ◌≢◌, ◌-◌, ◌∙◌, IfOk, OnOk, ap, sym, subst, arith, get_or}
 use Rattle.envy_btree.specs.Pairs.{assoc}
 use Rattle.envy_btree.specs.Tree.{pairs_of}
 use Rattle.envy_btree.specs.Changes.{Rests}

@@ -1,12 +1,11 @@
-use Rattle.std.proofs.Common.{rules, ◌≡◌, IfOk, Ok, Err, Result, Option, List, ℕ, ◌+◌, ◌-◌, ◌*◌, ◌<◌, ◌≤◌, length, arith, sym, ap, subst, ◌∙◌, Some, None, get_or, true, false}
-use Rattle.std.specs.List.{insert}
+use Rattle.std.proofs.Common.{◌≡◌, List, ℕ, ◌+◌, ◌-◌, ◌*◌, arith, sym, subst, ◌∙◌, get_or, true, false}
 use Rattle.envy_base.proofs.Working.{Works-trans, Works-more}
 use Rattle.envy_heap.specs.Pieces.{IsHeap, handed}
 use Rattle.envy_btree.specs.Pairs.{with_pair}
 use Rattle.envy_btree.specs.Tree.{Rising, keys_of, values_of}
-use Rattle.envy_btree.specs.Changes.{Rests, Way, Grows, Saved, Ready}
+use Rattle.envy_btree.specs.Changes.{Way, Grows, Saved, Ready}
 use Rattle.envy_btree.proofs.Descent.{Rests-within, Rests-few}
-use Rattle.envy_btree.proofs.Going.{Way-goes, Way-halts, leaf-grows, node-grows, child-fits, Ready-within}
+use Rattle.envy_btree.proofs.Going.{Way-goes, Way-halts, leaf-grows, node-grows, child-fits}
 use Rattle.envy_btree.proofs.growing.+insert_under.Goals as goal
 
 pub read_node-requires-clause-within : goal.read_node-requires-clause-within

@@ -1,4 +1,4 @@
-use Rattle.std.proofs.Common.{◌≡◌, ◌+◌, ◌≤◌, ◌<◌, ◌∙◌, ap, sym, subst, arith, length, get_or, List, ℕ, MatchOption}
+use Rattle.std.proofs.Common.{◌≡◌, ◌+◌, ◌≤◌, ◌∙◌, sym, subst, arith, length, MatchOption}
 use Rattle.envy_btree.specs.Index.{IsIndex, most_pairs}
 use Rattle.envy_btree.proofs.Calls.{count-of, has-room, inserts-err, not-full}
 use Rattle.envy_btree.proofs.inserting.insert.Goals as goal

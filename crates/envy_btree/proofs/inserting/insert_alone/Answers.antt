@@ -1,6 +1,6 @@
-use Rattle.std.proofs.Common.{◌≡◌, ◌+◌, ◌≤◌, ◌∙◌, ap, sym, subst, arith, length, get_or, List, ℕ, OnOk}
+use Rattle.std.proofs.Common.{◌≡◌, ◌≤◌, ◌∙◌, subst, length, get_or, List, ℕ, OnOk}
 use Rattle.envy_btree.specs.Pairs.{with_pair}
-use Rattle.envy_btree.specs.Index.{IsIndex, IsPlanted, most_pairs}
+use Rattle.envy_btree.specs.Index.{IsPlanted, most_pairs}
 use Rattle.envy_btree.proofs.Calls.{settles-of, index-of}
 use Rattle.envy_btree.proofs.inserting.insert_alone.Goals as goal
 

@@ -1,5 +1,5 @@
-use Rattle.std.proofs.Common.{◌≡◌, ◌+◌, ◌≤◌, ◌∙◌, ap, sym, subst, arith, length, List, ℕ}
-use Rattle.envy_btree.specs.Index.{IsPlanted, most_pairs}
+use Rattle.std.proofs.Common.{sym, subst, arith}
+use Rattle.envy_btree.specs.Index.{IsPlanted}
 use Rattle.envy_btree.proofs.Planting.{planted-aside}
 use Rattle.envy_btree.proofs.Calls.{inside-ok}
 use Rattle.envy_btree.proofs.inserting.insert_inside.Goals as goal

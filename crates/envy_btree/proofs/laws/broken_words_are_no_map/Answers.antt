@@ -1,14 +1,11 @@
 use Rattle.envy_btree.proofs.Broken.{leaf-of-14, key-too-small, key-too-large, falling, miscounted, twice, deeper, idle, free-root, full-by-one, leaf-of-32, one-child, keys-crossed, inner-of-15}
 use Rattle.envy_btree.proofs.laws.broken_words_are_no_map.Goals as goal
 
-pub returns-clause-leaf_of_14 : goal.returns-clause-leaf_of_14
-returns-clause-leaf_of_14 c es i = leaf-of-14 es i
+pub returns-clause-leaf : goal.returns-clause-leaf
+returns-clause-leaf c es = (λ i. leaf-of-14 es i, λ i. leaf-of-32 es i)
 
-pub returns-clause-key_too_small : goal.returns-clause-key_too_small
-returns-clause-key_too_small c es i = key-too-small es i
-
-pub returns-clause-key_too_large : goal.returns-clause-key_too_large
-returns-clause-key_too_large c es i = key-too-large es i
+pub returns-clause-key : goal.returns-clause-key
+returns-clause-key c es = (λ i. key-too-small es i, λ i. key-too-large es i)
 
 pub returns-clause-falling : goal.returns-clause-falling
 returns-clause-falling c es i = falling es i
@@ -30,9 +27,6 @@ returns-clause-deeper c es i = deeper es i
 
 pub returns-clause-too_many : goal.returns-clause-too_many
 returns-clause-too_many c es i = full-by-one es i
-
-pub returns-clause-leaf_of_32 : goal.returns-clause-leaf_of_32
-returns-clause-leaf_of_32 c es i = leaf-of-32 es i
 
 pub returns-clause-one_child : goal.returns-clause-one_child
 returns-clause-one_child c es i = one-child es i

@@ -1,4 +1,4 @@
-use Rattle.std.proofs.Common.{◌≡◌, ◌+◌, ◌≤◌, ◌<◌, ◌∙◌, ap, sym, subst, arith, length, get_or, List, ℕ, inl}
+use Rattle.std.proofs.Common.{◌≡◌, ◌+◌, ◌∙◌, sym, subst, arith, get_or, List, ℕ, inl}
 use Rattle.envy_heap.specs.Pieces.{IsHeap, handed, Freed, one}
 use Rattle.envy_heap.proofs.Heaps.{Chain-one}
 use Rattle.envy_btree.specs.Tree.{Shows}
@@ -11,7 +11,7 @@ give-requires-clause-heap g c =
     let old = (g.W.Words.sheet c.args.words.now).words in
     let mid = (g.W.Words.sheet c.write_node.new.words).words in
     let slots = c.args.node.now.slots.items in
-    let p = c.requires.pair in
+    let p = c.requires.children.pair in
     let only = subst (λ x. OnlyPiece x old mid) c.slot-first.ensures c.in_ok-write_node.ensures.only in
     let k = heap-kept old mid p.free (get_or slots c.args.j 0) p.heap (omega (arith, p.first)) only in
     (p.free, k.0, subst (λ x. handed mid p.free x ≡ 1) (sym c.slot-second.ensures) (k.1 (get_or slots (c.args.j + 1) 0) ∙ p.second))
@@ -24,7 +24,7 @@ returns-clause-mended g c free heap =
     let slots = c.args.node.now.slots.items in
     let kind = one c.args.joined.now.inner in
     let keys = c.args.joined.now.keys.items in
-    let p = c.requires.pair in
+    let p = c.requires.children.pair in
     let first = get_or slots c.args.j 0 in
     let second = get_or slots (c.args.j + 1) 0 in
     let same : p.free ≡ free = Chain-one old (get_or old 1 0) p.free free p.heap.chain heap.chain in

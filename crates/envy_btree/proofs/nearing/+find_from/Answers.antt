@@ -1,7 +1,5 @@
-use Rattle.std.proofs.Common.{◌≡◌, ◌≢◌, ◌⊎◌, ◌-◌, ◌+◌, ◌<◌, ◌≤◌, ℕ, List, ◌∙◌, ap, IfOk, Option, arith, length, subst, sym, get_or}
+use Rattle.std.proofs.Common.{◌≡◌, ◌-◌, ◌<◌, ◌∙◌, ap, IfOk, arith, length, subst, sym}
 use Rattle.envy_btree.specs.Nearest.{first_from}
-use Rattle.envy_btree.specs.Tree.{pairs_of}
-use Rattle.envy_btree.specs.Changes.{Rests}
 use Rattle.envy_btree.proofs.Descent.{Rests-within, Rests-few}
 use Rattle.envy_btree.proofs.Beside.{From-made, any-here, none-here, child-says, child-rests, rests-fits, leaf-long, leaf-says}
 use Rattle.envy_btree.proofs.nearing.+find_from.Goals as goal

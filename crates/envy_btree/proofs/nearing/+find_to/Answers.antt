@@ -1,8 +1,6 @@
-use Rattle.std.proofs.Common.{◌≡◌, ◌≢◌, ◌⊎◌, ◌-◌, ◌+◌, ◌<◌, ◌≤◌, ℕ, List, ◌∙◌, IfOk, Option, arith, length, subst, sym, get_or}
+use Rattle.std.proofs.Common.{◌≡◌, ◌-◌, ◌∙◌, IfOk, arith, subst, sym}
 use Rattle.envy_btree.specs.Nearest.{last_to}
-use Rattle.envy_btree.specs.Tree.{pairs_of}
 use Rattle.envy_btree.specs.Nodes.{Ranks}
-use Rattle.envy_btree.specs.Changes.{Rests}
 use Rattle.envy_btree.proofs.Descent.{Rests-within, Rests-few}
 use Rattle.envy_btree.proofs.Beside.{To-made, any-here, none-here, child-says, child-rests, rests-fits, leaf-long, leaf-says}
 use Rattle.envy_btree.proofs.nearing.+find_to.Goals as goal

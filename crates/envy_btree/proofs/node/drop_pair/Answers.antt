@@ -1,7 +1,7 @@
-use Rattle.std.proofs.Common.{◌≡◌, ◌≢◌, ◌⊎◌, ◌+◌, ◌-◌, ◌∙◌, ap, sym, subst, arith, length, get_or, refl, inl, inr, List, ℕ}
+use Rattle.std.proofs.Common.{◌≡◌, ◌≢◌, ◌⊎◌, ◌+◌, ◌-◌, ◌∙◌, ap, sym, subst, arith, length, get_or, inl, inr, ℕ}
 use Rattle.std.specs.List.{remove}
 use Rattle.std.proofs.lemmas.List.{length-map}
-use Rattle.envy_btree.specs.Nodes.{Ranks, IsDropped}
+use Rattle.envy_btree.specs.Nodes.{Ranks}
 use Rattle.envy_btree.proofs.Setting.{Dropped-found, Dropped-missing}
 use Rattle.envy_btree.proofs.node.drop_pair.Goals as goal
 use Rattle.envy_btree.proofs.node.drop_pair.Goals.{else-i-gt0-via-then-i-gt0+else-key, else-i-gt0-via-else-i-gt0}

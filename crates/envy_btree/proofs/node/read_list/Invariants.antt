@@ -1,4 +1,4 @@
-use Rattle.std.proofs.Common.{◌≡◌, ◌<◌, ◌≤◌, ◌+◌, length, ℕ, IsTrue}
+use Rattle.std.proofs.Common.{◌≡◌, IsTrue}
 use Rattle.arrayvec.specs.ArrayVec.{array_vec_len}
 use Rattle.envy_base.specs.Words.{Works}
 use Rattle.envy_btree.specs.Tree.{window}

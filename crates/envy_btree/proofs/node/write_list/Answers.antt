@@ -1,4 +1,4 @@
-use Rattle.std.proofs.Common.{◌≡◌, ◌+◌, ◌/◌, ◌∙◌, ap, sym, subst, get_or, set, length, arith, List, ℕ}
+use Rattle.std.proofs.Common.{◌≡◌, ◌+◌, ◌/◌, ◌∙◌, ap, subst, get_or, set, arith}
 use Rattle.std.proofs.lemmas.List.Edits.{paste_more}
 use Rattle.envy_base.specs.Words.{OnPage}
 use Rattle.envy_base.proofs.Working.{on_from, OnPage-room, OnPage-trans}

@@ -1,4 +1,4 @@
-use Rattle.std.proofs.Common.{◌≡◌, ◌<◌, ◌≤◌, ◌+◌, ◌/◌, length, ℕ, IsTrue}
+use Rattle.std.proofs.Common.{◌≡◌, ◌/◌, IsTrue}
 use Rattle.envy_base.specs.Words.{OnPage}
 use Rattle.envy_btree.specs.Nodes.{pasted}
 use Rattle.envy_btree.proofs.node.write_list.Given as goal

@@ -1,5 +1,5 @@
-use Rattle.std.proofs.Common.{◌≡◌, ◌+◌, ◌*◌, ◌∙◌, ap, sym, subst, arith, length, set, refl, List, ℕ}
-use Rattle.envy_heap.specs.Pieces.{head, at, one}
+use Rattle.std.proofs.Common.{◌+◌, ◌*◌, ◌∙◌, ap, sym, subst, arith, length, refl}
+use Rattle.envy_heap.specs.Pieces.{at, one}
 use Rattle.envy_btree.specs.Tree.{Shows}
 use Rattle.envy_btree.specs.Nodes.{pasted, OnlyPiece}
 use Rattle.envy_btree.proofs.Writing.{written}

@@ -1,4 +1,4 @@
-use Rattle.std.proofs.Common.{◌≡◌, ◌+◌, ◌-◌, ◌≤◌, ◌<◌, ◌∙◌, ap, sym, subst, arith, length, get_or, List, ℕ, Some, None}
+use Rattle.std.proofs.Common.{◌≡◌, ◌-◌, ◌≤◌, ◌∙◌, sym, subst, arith, length, None}
 use Rattle.envy_btree.specs.Pairs.{assoc, without}
 use Rattle.envy_btree.specs.Index.{IsIndex, most_pairs}
 use Rattle.envy_btree.proofs.Calls.{removes-err}

@@ -1,4 +1,4 @@
-use Rattle.std.proofs.Common.{◌≡◌, ◌≤◌, sym, subst, length, List, ℕ}
+use Rattle.std.proofs.Common.{sym, subst}
 use Rattle.envy_btree.specs.Index.{IsPlanted}
 use Rattle.envy_btree.proofs.Planting.{planted-aside}
 use Rattle.envy_btree.proofs.Felling.{removed-inside-ok}

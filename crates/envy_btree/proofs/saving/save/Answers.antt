@@ -1,4 +1,4 @@
-use Rattle.std.proofs.Common.{◌≡◌, ◌+◌, ◌≤◌, ◌<◌, ap, subst, arith, length, List, ℕ, Ok}
+use Rattle.std.proofs.Common.{◌≤◌, subst, arith, length, Ok}
 use Rattle.envy_heap.specs.Pieces.{TakesAs}
 use Rattle.envy_heap.proofs.Heaps.{exhausted-spare}
 use Rattle.envy_btree.proofs.saving.save.Goals as goal

@@ -1,4 +1,4 @@
-use Rattle.std.proofs.Common.{◌≡◌, ◌≢◌, ◌-◌, ◌∙◌, ℕ, List, OnOk, ap, sym, subst, arith, get_or}
+use Rattle.std.proofs.Common.{◌≡◌, ◌≢◌, ◌-◌, ◌∙◌, OnOk, ap, sym, subst, arith, get_or}
 use Rattle.envy_btree.specs.Changes.{Rests}
 use Rattle.envy_btree.specs.Index.{IsIndex}
 use Rattle.envy_btree.specs.Nearest.{IsLeastFrom, first_from}

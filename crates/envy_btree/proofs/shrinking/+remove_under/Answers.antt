@@ -1,11 +1,10 @@
-use Rattle.std.proofs.Common.{rules, ◌≡◌, IfOk, IfSome, Ok, Err, Result, Option, List, ℕ, ◌+◌, ◌-◌, ◌*◌, ◌<◌, ◌≤◌, ◌∙◌, suc, length, arith, sym, ap, subst, Some, None, get_or, false}
+use Rattle.std.proofs.Common.{◌≡◌, IfOk, IfSome, List, ℕ, ◌+◌, ◌-◌, ◌*◌, ◌∙◌, suc, arith, sym, subst, get_or, false}
 use Rattle.envy_base.specs.Words.{Works}
 use Rattle.envy_base.proofs.Working.{Works-trans, Works-more}
-use Rattle.envy_heap.specs.Pieces.{IsHeap}
 use Rattle.envy_btree.specs.Pairs.{without}
 use Rattle.envy_btree.specs.Tree.{Rising, keys_of, values_of}
-use Rattle.envy_btree.specs.Changes.{Rests, Beside, joined_keys}
-use Rattle.envy_btree.specs.Shrinking.{Back, MendedBack, Shrinks}
+use Rattle.envy_btree.specs.Changes.{Rests}
+use Rattle.envy_btree.specs.Shrinking.{Back, Shrinks}
 use Rattle.envy_btree.proofs.Descent.{Rests-within, Rests-few}
 use Rattle.envy_btree.proofs.Diving.{Rests-dives, Rests-lands, leaf-shrinks, front-shrinks, rear-shrinks, dive-fits, hand-more}
 use Rattle.envy_btree.proofs.shrinking.+remove_under.Goals as goal
@@ -92,14 +91,8 @@ shrink_with_front-requires-clause-room g t c =
     let so_far = Works-trans 0 (4 * (c.args.level - 1)) _ _ _ n.works short in
     omega (arith, s.lower, c.requires.room, so_far.few c.in_ok-short.ensures.fails, so_far.room)
 
-pub shrink_with_front-requires-clause-many : goal.shrink_with_front-requires-clause-many
-shrink_with_front-requires-clause-many g t c = (Rests-dives _ _ _ _ _ _ _ _ _ c.requires.rests c.in_ok-node.ensures.node c.if-not-node.false c.deref.ensures.0 c.rank-i.ensures).few
-
-pub shrink_with_front-requires-clause-long : goal.shrink_with_front-requires-clause-long
-shrink_with_front-requires-clause-long g t c = (Rests-dives _ _ _ _ _ _ _ _ _ c.requires.rests c.in_ok-node.ensures.node c.if-not-node.false c.deref.ensures.0 c.rank-i.ensures).long
-
-pub shrink_with_front-requires-clause-pair : goal.shrink_with_front-requires-clause-pair
-shrink_with_front-requires-clause-pair g t c =
+pub shrink_with_front-requires-clause-children : goal.shrink_with_front-requires-clause-children
+shrink_with_front-requires-clause-children g t c =
     let old = (g.W.Words.sheet c.args.words.now).words in
     let mid = (g.W.Words.sheet c.remove_under.new.words).words in
     let ks = c.in_ok-node.node.keys.items in
@@ -111,10 +104,10 @@ shrink_with_front-requires-clause-pair g t c =
     let a = subst (λ w. (h : Rests w c.slot-child.result below) → Shrinks w mid c.slot-child.result below c.args.key h c.in_ok-short.field-0) c.in_ok-node.ensures.same c.in_ok-short.ensures.shrinks in
     let b = subst (λ q. (h : Rests old q below) → Shrinks old mid q below c.args.key h c.in_ok-short.field-0) c.slot-child.ensures a in
     let d = subst (λ r. Shrinks old mid (get_or ss i 0) below c.args.key s.child r) c.in-Some.is (b s.child) in
-    (s.front mid c.in-Some.short (i - 1) (let e : i ≡ suc (i - 1) = omega (arith, c.if-i-gt0.true) in e) d).0
+    record { place = omega (arith, c.if-i-gt0.true, s.place); many = s.few; long = s.long; pair = ((s.front mid c.in-Some.short (i - 1) (let e : i ≡ suc (i - 1) = omega (arith, c.if-i-gt0.true) in e) d)).0 }
 
-pub shrink_with_front-requires-clause-beside : goal.shrink_with_front-requires-clause-beside
-shrink_with_front-requires-clause-beside g t c =
+pub shrink_with_front-requires-clause-short : goal.shrink_with_front-requires-clause-short
+shrink_with_front-requires-clause-short g t c =
     let old = (g.W.Words.sheet c.args.words.now).words in
     let mid = (g.W.Words.sheet c.remove_under.new.words).words in
     let ks = c.in_ok-node.node.keys.items in
@@ -126,37 +119,8 @@ shrink_with_front-requires-clause-beside g t c =
     let a = subst (λ w. (h : Rests w c.slot-child.result below) → Shrinks w mid c.slot-child.result below c.args.key h c.in_ok-short.field-0) c.in_ok-node.ensures.same c.in_ok-short.ensures.shrinks in
     let b = subst (λ q. (h : Rests old q below) → Shrinks old mid q below c.args.key h c.in_ok-short.field-0) c.slot-child.ensures a in
     let d = subst (λ r. Shrinks old mid (get_or ss i 0) below c.args.key s.child r) c.in-Some.is (b s.child) in
-    (s.front mid c.in-Some.short (i - 1) (let e : i ≡ suc (i - 1) = omega (arith, c.if-i-gt0.true) in e) d).1
-
-pub shrink_with_front-requires-clause-keys : goal.shrink_with_front-requires-clause-keys
-shrink_with_front-requires-clause-keys g t c =
-    let old = (g.W.Words.sheet c.args.words.now).words in
-    let mid = (g.W.Words.sheet c.remove_under.new.words).words in
-    let ks = c.in_ok-node.node.keys.items in
-    let ss = c.in_ok-node.node.slots.items in
-    let p = c.args.piece in
-    let i = c.rank-i.result in
-    let below = c.args.level - 1 in
-    let s = Rests-dives old p c.args.level c.args.key i ks _ ss _ c.requires.rests c.in_ok-node.ensures.node c.if-not-node.false c.deref.ensures.0 c.rank-i.ensures in
-    let a = subst (λ w. (h : Rests w c.slot-child.result below) → Shrinks w mid c.slot-child.result below c.args.key h c.in_ok-short.field-0) c.in_ok-node.ensures.same c.in_ok-short.ensures.shrinks in
-    let b = subst (λ q. (h : Rests old q below) → Shrinks old mid q below c.args.key h c.in_ok-short.field-0) c.slot-child.ensures a in
-    let d = subst (λ r. Shrinks old mid (get_or ss i 0) below c.args.key s.child r) c.in-Some.is (b s.child) in
-    (s.sizes mid c.in-Some.short d).0
-
-pub shrink_with_front-requires-clause-slots : goal.shrink_with_front-requires-clause-slots
-shrink_with_front-requires-clause-slots g t c =
-    let old = (g.W.Words.sheet c.args.words.now).words in
-    let mid = (g.W.Words.sheet c.remove_under.new.words).words in
-    let ks = c.in_ok-node.node.keys.items in
-    let ss = c.in_ok-node.node.slots.items in
-    let p = c.args.piece in
-    let i = c.rank-i.result in
-    let below = c.args.level - 1 in
-    let s = Rests-dives old p c.args.level c.args.key i ks _ ss _ c.requires.rests c.in_ok-node.ensures.node c.if-not-node.false c.deref.ensures.0 c.rank-i.ensures in
-    let a = subst (λ w. (h : Rests w c.slot-child.result below) → Shrinks w mid c.slot-child.result below c.args.key h c.in_ok-short.field-0) c.in_ok-node.ensures.same c.in_ok-short.ensures.shrinks in
-    let b = subst (λ q. (h : Rests old q below) → Shrinks old mid q below c.args.key h c.in_ok-short.field-0) c.slot-child.ensures a in
-    let d = subst (λ r. Shrinks old mid (get_or ss i 0) below c.args.key s.child r) c.in-Some.is (b s.child) in
-    (s.sizes mid c.in-Some.short d).1
+    let sizes = s.sizes mid c.in-Some.short d in
+    record { beside = ((s.front mid c.in-Some.short (i - 1) (let e : i ≡ suc (i - 1) = omega (arith, c.if-i-gt0.true) in e) d)).1; few = sizes.0; long = sizes.1 }
 
 pub returns-then-i-gt0-clause-works : goal.returns-then-i-gt0-clause-works
 returns-then-i-gt0-clause-works g t c =
@@ -200,17 +164,8 @@ shrink_with_rear-requires-clause-room g t c =
     let so_far = Works-trans 0 (4 * (c.args.level - 1)) _ _ _ n.works short in
     omega (arith, s.lower, c.requires.room, so_far.few c.in_ok-short.ensures.fails, so_far.room)
 
-pub shrink_with_rear-requires-clause-many : goal.shrink_with_rear-requires-clause-many
-shrink_with_rear-requires-clause-many g t c = (Rests-dives _ _ _ _ _ _ _ _ _ c.requires.rests c.in_ok-node.ensures.node c.if-not-node.false c.deref.ensures.0 c.rank-i.ensures).few
-
-pub shrink_with_rear-requires-clause-long : goal.shrink_with_rear-requires-clause-long
-shrink_with_rear-requires-clause-long g t c = (Rests-dives _ _ _ _ _ _ _ _ _ c.requires.rests c.in_ok-node.ensures.node c.if-not-node.false c.deref.ensures.0 c.rank-i.ensures).long
-
-pub shrink_with_rear-requires-clause-place : goal.shrink_with_rear-requires-clause-place
-shrink_with_rear-requires-clause-place g t c = (Rests-dives _ _ _ _ _ _ _ _ _ c.requires.rests c.in_ok-node.ensures.node c.if-not-node.false c.deref.ensures.0 c.rank-i.ensures).some
-
-pub shrink_with_rear-requires-clause-pair : goal.shrink_with_rear-requires-clause-pair
-shrink_with_rear-requires-clause-pair g t c =
+pub shrink_with_rear-requires-clause-children : goal.shrink_with_rear-requires-clause-children
+shrink_with_rear-requires-clause-children g t c =
     let old = (g.W.Words.sheet c.args.words.now).words in
     let mid = (g.W.Words.sheet c.remove_under.new.words).words in
     let ks = c.in_ok-node.node.keys.items in
@@ -222,10 +177,10 @@ shrink_with_rear-requires-clause-pair g t c =
     let a = subst (λ w. (h : Rests w c.slot-child.result below) → Shrinks w mid c.slot-child.result below c.args.key h c.in_ok-short.field-0) c.in_ok-node.ensures.same c.in_ok-short.ensures.shrinks in
     let b = subst (λ q. (h : Rests old q below) → Shrinks old mid q below c.args.key h c.in_ok-short.field-0) c.slot-child.ensures a in
     let d = subst (λ r. Shrinks old mid (get_or ss i 0) below c.args.key s.child r) c.in-Some.is (b s.child) in
-    (s.rear mid c.in-Some.short 0 (let e : i ≡ 0 = omega (arith, c.if-i-gt0.false) in e) (omega (arith, s.some)) d).0
+    record { place = omega (arith, s.some); many = s.few; long = s.long; pair = ((s.rear mid c.in-Some.short 0 (let e : i ≡ 0 = omega (arith, c.if-i-gt0.false) in e) (omega (arith, s.some)) d)).0 }
 
-pub shrink_with_rear-requires-clause-beside : goal.shrink_with_rear-requires-clause-beside
-shrink_with_rear-requires-clause-beside g t c =
+pub shrink_with_rear-requires-clause-short : goal.shrink_with_rear-requires-clause-short
+shrink_with_rear-requires-clause-short g t c =
     let old = (g.W.Words.sheet c.args.words.now).words in
     let mid = (g.W.Words.sheet c.remove_under.new.words).words in
     let ks = c.in_ok-node.node.keys.items in
@@ -237,37 +192,8 @@ shrink_with_rear-requires-clause-beside g t c =
     let a = subst (λ w. (h : Rests w c.slot-child.result below) → Shrinks w mid c.slot-child.result below c.args.key h c.in_ok-short.field-0) c.in_ok-node.ensures.same c.in_ok-short.ensures.shrinks in
     let b = subst (λ q. (h : Rests old q below) → Shrinks old mid q below c.args.key h c.in_ok-short.field-0) c.slot-child.ensures a in
     let d = subst (λ r. Shrinks old mid (get_or ss i 0) below c.args.key s.child r) c.in-Some.is (b s.child) in
-    (s.rear mid c.in-Some.short 0 (let e : i ≡ 0 = omega (arith, c.if-i-gt0.false) in e) (omega (arith, s.some)) d).1
-
-pub shrink_with_rear-requires-clause-keys : goal.shrink_with_rear-requires-clause-keys
-shrink_with_rear-requires-clause-keys g t c =
-    let old = (g.W.Words.sheet c.args.words.now).words in
-    let mid = (g.W.Words.sheet c.remove_under.new.words).words in
-    let ks = c.in_ok-node.node.keys.items in
-    let ss = c.in_ok-node.node.slots.items in
-    let p = c.args.piece in
-    let i = c.rank-i.result in
-    let below = c.args.level - 1 in
-    let s = Rests-dives old p c.args.level c.args.key i ks _ ss _ c.requires.rests c.in_ok-node.ensures.node c.if-not-node.false c.deref.ensures.0 c.rank-i.ensures in
-    let a = subst (λ w. (h : Rests w c.slot-child.result below) → Shrinks w mid c.slot-child.result below c.args.key h c.in_ok-short.field-0) c.in_ok-node.ensures.same c.in_ok-short.ensures.shrinks in
-    let b = subst (λ q. (h : Rests old q below) → Shrinks old mid q below c.args.key h c.in_ok-short.field-0) c.slot-child.ensures a in
-    let d = subst (λ r. Shrinks old mid (get_or ss i 0) below c.args.key s.child r) c.in-Some.is (b s.child) in
-    (s.sizes mid c.in-Some.short d).0
-
-pub shrink_with_rear-requires-clause-slots : goal.shrink_with_rear-requires-clause-slots
-shrink_with_rear-requires-clause-slots g t c =
-    let old = (g.W.Words.sheet c.args.words.now).words in
-    let mid = (g.W.Words.sheet c.remove_under.new.words).words in
-    let ks = c.in_ok-node.node.keys.items in
-    let ss = c.in_ok-node.node.slots.items in
-    let p = c.args.piece in
-    let i = c.rank-i.result in
-    let below = c.args.level - 1 in
-    let s = Rests-dives old p c.args.level c.args.key i ks _ ss _ c.requires.rests c.in_ok-node.ensures.node c.if-not-node.false c.deref.ensures.0 c.rank-i.ensures in
-    let a = subst (λ w. (h : Rests w c.slot-child.result below) → Shrinks w mid c.slot-child.result below c.args.key h c.in_ok-short.field-0) c.in_ok-node.ensures.same c.in_ok-short.ensures.shrinks in
-    let b = subst (λ q. (h : Rests old q below) → Shrinks old mid q below c.args.key h c.in_ok-short.field-0) c.slot-child.ensures a in
-    let d = subst (λ r. Shrinks old mid (get_or ss i 0) below c.args.key s.child r) c.in-Some.is (b s.child) in
-    (s.sizes mid c.in-Some.short d).1
+    let sizes = s.sizes mid c.in-Some.short d in
+    record { beside = ((s.rear mid c.in-Some.short 0 (let e : i ≡ 0 = omega (arith, c.if-i-gt0.false) in e) (omega (arith, s.some)) d)).1; few = sizes.0; long = sizes.1 }
 
 pub returns-clause-works : goal.returns-clause-works
 returns-clause-works g t c =

@@ -1,4 +1,4 @@
-use Rattle.std.proofs.Common.{◌≡◌, ◌∙◌, ◌++◌, get_or, List, ℕ}
+use Rattle.std.proofs.Common.{◌∙◌, ◌++◌, get_or}
 use Rattle.envy_btree.specs.Changes.{joined_keys}
 use Rattle.envy_btree.proofs.Diving.{mended-back}
 use Rattle.envy_btree.proofs.shrinking.shrink_with_front.Goals as goal

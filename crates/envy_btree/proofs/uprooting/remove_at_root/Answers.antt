@@ -1,5 +1,5 @@
-use Rattle.std.proofs.Common.{◌≡◌, ◌≢◌, ◌+◌, ◌-◌, ◌≤◌, ◌<◌, ◌^◌, ◌∙◌, [], ap, sym, subst, arith, length, get_or, List, ℕ, Some, None, OnOk}
-use Rattle.envy_heap.specs.Pieces.{IsHeap, at, one}
+use Rattle.std.proofs.Common.{◌≡◌, ◌≢◌, ◌-◌, ◌≤◌, ◌∙◌, ap, sym, subst, arith, length, get_or, OnOk}
+use Rattle.envy_heap.specs.Pieces.{one}
 use Rattle.envy_btree.specs.Pairs.{without}
 use Rattle.envy_btree.specs.Tree.{Shows}
 use Rattle.envy_btree.specs.Index.{IsPlanted}

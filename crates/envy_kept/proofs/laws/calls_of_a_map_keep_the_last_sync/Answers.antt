@@ -1,4 +1,4 @@
-use Rattle.std.proofs.Common.{◌≡◌, ◌∙◌, sym}
+use Rattle.std.proofs.Common.{◌∙◌, sym}
 use Rattle.envy_index_calls.specs.Indexed.{Works}
 use Rattle.envy_synced.specs.Disk.{IsLast, IsBefore}
 use Rattle.envy_kept.proofs.laws.calls_of_a_map_keep_the_last_sync.Goals as goal

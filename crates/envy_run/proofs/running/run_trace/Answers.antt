@@ -1,7 +1,6 @@
 use Rattle.std.proofs.Common.{ap, ◌∙◌, arith}
 use Rattle.envy_base.specs.Shape.{IsShape}
 use Rattle.envy_base.specs.State.{IsMade}
-use Rattle.envy_base.specs.declared.shape.Shape.{Shape}
 use Rattle.envy_io.specs.Taking.{Taking}
 use Rattle.envy_map.specs.Fields.{chart}
 use Rattle.envy_run.specs.Outcome.{outcome_of}

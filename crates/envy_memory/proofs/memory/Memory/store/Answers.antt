@@ -1,4 +1,4 @@
-use Rattle.std.proofs.Common.{◌≡◌, ◌∙◌, ◌<◌, ◌*◌, ◌+◌, ◌/◌, ◌%◌, Ok, Err, refl, sym, subst, ap, arith}
+use Rattle.std.proofs.Common.{◌∙◌, ◌<◌, ◌*◌, ◌+◌, ◌/◌, ◌%◌, Ok, Err, refl, sym, subst, ap, arith}
 use Rattle.std.proofs.lemmas.Result.{err_from_is_err_and}
 use Rattle.envy_base.specs.declared.shape.Shape.{Shape}
 use Rattle.envy_map.specs.Fields.{chart}

@@ -1,4 +1,4 @@
-use Rattle.std.proofs.Common.{ap, refl, sym, ◌∙◌}
+use Rattle.std.proofs.Common.{ap, sym, ◌∙◌}
 use Rattle.envy_base.specs.Words.{Sheet}
 use Rattle.envy_map.specs.Fields.{Chart}
 use Rattle.envy_memory.specs.Picture.{Picture}

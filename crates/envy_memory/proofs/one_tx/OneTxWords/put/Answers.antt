@@ -1,4 +1,4 @@
-use Rattle.std.proofs.Common.{ap, sym, subst}
+use Rattle.std.proofs.Common.{sym, subst}
 use Rattle.std.specs.Prelude.{Result}
 use Rattle.envy_base.specs.Words.{Puts}
 use Rattle.envy_base.specs.declared.board.Trouble.{Trouble}

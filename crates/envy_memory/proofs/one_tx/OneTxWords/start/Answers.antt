@@ -1,5 +1,5 @@
-use Rattle.std.proofs.Common.{◌≡◌, ap, refl, sym, subst, true, false, ◌∙◌, ℕ}
-use Rattle.std.specs.Prelude.{Result, Ok, Err}
+use Rattle.std.proofs.Common.{ap, sym, subst, true, false, ◌∙◌, ℕ}
+use Rattle.std.specs.Prelude.{Result, Err}
 use Rattle.envy_base.specs.Array.{Array}
 use Rattle.envy_layout.specs.Stands.{Stands}
 use Rattle.envy_memory.specs.Calls.{Begins, Works}

@@ -1,11 +1,10 @@
-use Rattle.std.proofs.Common.{◌≡◌, ap, refl, sym, subst, true, false, ◌∙◌, ◌⊎◌, List, ℕ}
-use Rattle.std.specs.Prelude.{Result, Ok, Err}
+use Rattle.std.proofs.Common.{ap, subst, true, false, ◌∙◌}
+use Rattle.std.specs.Prelude.{Result, Err}
 use Rattle.envy_base.specs.Array.{Array}
 use Rattle.envy_layout.specs.Stands.{Stands}
-use Rattle.envy_layout.specs.Words.{durable}
 use Rattle.envy_memory.specs.Calls.{Aborts, Works}
 use Rattle.envy_memory.specs.declared.faults.EndFault.{EndFault}
-use Rattle.envy_memory.proofs.Ended.{few-as, lit-ok, and-false, undo-all, undo-kept, undo-lost, words-as}
+use Rattle.envy_memory.proofs.Ended.{few-as, lit-ok, and-false, undo-all, undo-kept, undo-lost}
 use Rattle.envy_memory.proofs.Transacting.{flag-is, begun-on, is-active, sheet-keeps}
 use Rattle.envy_memory.proofs.one_tx.OneTxWords.undo.Goals as goal
 
