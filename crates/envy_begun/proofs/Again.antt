@@ -120,7 +120,7 @@ module _ {D : Type 0} (seen : D → List ℕ) (has_failed : D → Bool) (sh : Sh
     where
       go : (error : OpenError) → (error ≡ Misfit → HasMisfit sh (operations file)) → (error ≡ OpenFailed → IsTrue (has_failed device)) → Declines seen has_failed sh file (unopened_as error) device
       go OpenMemory misfit failed = tt
-      go OpenFailed misfit failed = λ few. failed refl
+      go OpenFailed misfit failed = (omega arith, λ few. failed refl)
       go Misfit misfit failed = inl (misfit refl)
 
   pub stopped-declines : (unbegun : Unbegun) → IsStopped seen has_failed unbegun device → Declines seen has_failed sh file unbegun device

@@ -2,7 +2,7 @@
 use Rattle.std.proofs.Common.{◌≡◌, inr, ℕ, ◌+◌, ◌^◌, ◌<◌, Bool, List, length, refl, sym, ◌∙◌, subst, arith}
 use Rattle.std.specs.Prelude.{IsTrue, IfErr, Result, Ok, Err}
 use Rattle.envy_args.specs.declared.keep.KeepOptions.{KeepOptions}
-use Rattle.envy_begun.specs.Beginning.{IsStopped}
+use Rattle.envy_begun.specs.Beginning.{HasStopped, IsStopped}
 use Rattle.envy_begun.specs.Plans.{IsFound}
 use Rattle.envy_begun.specs.Unserved.{Causes, Declines, IsOver, Refuses, status_for}
 use Rattle.envy_begun.specs.declared.unbegun.Unbegun.{Unbegun}
@@ -37,15 +37,15 @@ module _ {D : Type 0} (seen : D → List ℕ) (has_failed : D → Bool) (options
   declined-causes setup Memory f d = tt
   declined-causes setup (Failed held) f d = d
 
-  -- at status 6 the file has failed, or is at the end of its range
-  pub stopped-unserved : (unbegun : Unbegun) (status held : ℕ) → status ≡ status_for unbegun → ((n : ℕ) → unbegun ≡ Failed n → held ≡ n) → Causes seen has_failed options file old new unbegun → status ≡ 6 → length (seen new) + held < 2 ^ 60 → IsTrue (has_failed new)
-  stopped-unserved (Setup fault) status held is held_is causes six few = let never : 2 ≡ 6 = sym is ∙ six in absurd (omega arith)
-  stopped-unserved NoJournal status held is held_is causes six few = let never : 10 ≡ 6 = sym is ∙ six in absurd (omega arith)
-  stopped-unserved OtherVersion status held is held_is causes six few = let never : 10 ≡ 6 = sym is ∙ six in absurd (omega arith)
-  stopped-unserved OtherSizes status held is held_is causes six few = let never : 10 ≡ 6 = sym is ∙ six in absurd (omega arith)
-  stopped-unserved (Options fault) status held is held_is causes six few = let never : 10 ≡ 6 = sym is ∙ six in absurd (omega arith)
-  stopped-unserved Memory status held is held_is causes six few = let never : 8 ≡ 6 = sym is ∙ six in absurd (omega arith)
-  stopped-unserved (Failed n) status held is held_is causes six few = causes (subst (λ (k : ℕ). length (seen new) + k < 2 ^ 60) (held_is n refl) few)
+  -- at status 6 the file has failed, or with what was held back from it is at the end of its range
+  pub stopped-unserved : (unbegun : Unbegun) (status held : ℕ) → status ≡ status_for unbegun → ((n : ℕ) → unbegun ≡ Failed n → held ≡ n) → Causes seen has_failed options file old new unbegun → status ≡ 6 → HasStopped seen has_failed held new
+  stopped-unserved (Setup fault) status held is held_is causes six = let never : 2 ≡ 6 = sym is ∙ six in absurd (omega arith)
+  stopped-unserved NoJournal status held is held_is causes six = let never : 10 ≡ 6 = sym is ∙ six in absurd (omega arith)
+  stopped-unserved OtherVersion status held is held_is causes six = let never : 10 ≡ 6 = sym is ∙ six in absurd (omega arith)
+  stopped-unserved OtherSizes status held is held_is causes six = let never : 10 ≡ 6 = sym is ∙ six in absurd (omega arith)
+  stopped-unserved (Options fault) status held is held_is causes six = let never : 10 ≡ 6 = sym is ∙ six in absurd (omega arith)
+  stopped-unserved Memory status held is held_is causes six = let never : 8 ≡ 6 = sym is ∙ six in absurd (omega arith)
+  stopped-unserved (Failed n) status held is held_is causes six = subst (λ (k : ℕ). HasStopped seen has_failed k new) (sym (held_is n refl)) causes
 
 -- the same of an answer
 pub all-stopped : {M D : Type 0} (seen : D → List ℕ) (has_failed : D → Bool) (options : KeepOptions) (file : List ℕ) (old : D) (result : Result M (Unbegun × D))

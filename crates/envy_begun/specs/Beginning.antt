@@ -1,8 +1,9 @@
 -- A memory that is kept in a file, before its first line.
-use Rattle.std.specs.Prelude.{◌≡◌, ℕ, ◌+◌, ◌^◌, ◌<◌, ⊤, IsTrue, Bool, List, length}
+use Rattle.std.specs.Prelude.{◌≡◌, ℕ, ◌+◌, ◌^◌, ◌<◌, ◌≤◌, ⊤, IsTrue, Bool, List, length}
 use Rattle.envy_base.specs.Array.{Array, undone}
 use Rattle.envy_begun.specs.declared.unbegun.Unbegun.{Unbegun}
 use Rattle.envy_begun.specs.declared.unbegun.Unbegun.TheVariants.{Failed, Memory}
+use Rattle.envy_journal.specs.Held.{most_held}
 use Rattle.envy_synced.specs.Disk.{IsLast, IsSynced}
 use Rattle.envy_layout.specs.Sound.{IsSound}
 use Rattle.envy_layout.specs.Stands.{Stands}
@@ -27,9 +28,9 @@ pub record HasBegun (setup : Setup) (array : Array) (p : Picture) : Type 0 where
   pub begins : IsStarted setup p
   pub shape : p.chart.shape ≡ setup.shape
 
--- the file failed, or with so many bytes held back from it is at the end of its range
+-- the file failed, or with so many bytes held back from it, and no more than a log holds, is at the end of its range
 abbrev pub HasStopped : {D : Type 0} → (D → List ℕ) → (D → Bool) → ℕ → D → Type 0
-HasStopped seen has_failed held device = length (seen device) + held < 2 ^ 60 → IsTrue (has_failed device)
+HasStopped seen has_failed held device = (held ≤ most_held) × (length (seen device) + held < 2 ^ 60 → IsTrue (has_failed device))
 
 -- why a new memory isn't there
 abbrev pub IsStopped : {D : Type 0} → (D → List ℕ) → (D → Bool) → Unbegun → D → Type 0

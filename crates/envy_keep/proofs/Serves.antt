@@ -4,7 +4,7 @@ use Rattle.std.specs.Prelude.{IsTrue, Ok}
 use Rattle.envy_args.specs.declared.keep.KeepOptions.{KeepOptions}
 use Rattle.envy_base.specs.Array.{Array}
 use Rattle.envy_base.specs.declared.shape.Shape.{Shape}
-use Rattle.envy_begun.specs.Beginning.{HasBegun}
+use Rattle.envy_begun.specs.Beginning.{HasBegun, HasStopped}
 use Rattle.envy_begun.specs.Plans.{BeginsAs, Plans}
 use Rattle.envy_begun.specs.Unserved.{Causes, status_for, why_for}
 use Rattle.envy_begun.specs.declared.planning.Holding.{Holding}
@@ -45,6 +45,6 @@ unserved-as {D} seen has_failed options file old device new unbegun end feed dra
 
 pub unserved-stopped : {D : Type 0} (seen : D → List ℕ) (has_failed : D → Bool) (options : KeepOptions) (file : List ℕ) (old device new : D) (unbegun : Unbegun) (status why lines taken held : ℕ)
     → told status why lines taken ≡ told (status_for unbegun) (why_for unbegun) 0 0 → new ≡ device → ((n : ℕ) → unbegun ≡ Failed n → held ≡ n) → Causes seen has_failed options file old device unbegun
-    → status ≡ 6 → length (seen new) + held < 2 ^ 60 → IsTrue (has_failed new)
-unserved-stopped {D} seen has_failed options file old device new unbegun status why lines taken held says same held_is causes six few =
-    stopped-unserved seen has_failed options file old new unbegun status held (ap (λ (t : Told). t.status) says) held_is (subst (λ (d : D). Causes seen has_failed options file old d unbegun) (sym same) causes) six few
+    → status ≡ 6 → HasStopped seen has_failed held new
+unserved-stopped {D} seen has_failed options file old device new unbegun status why lines taken held says same held_is causes six =
+    stopped-unserved seen has_failed options file old new unbegun status held (ap (λ (t : Told). t.status) says) held_is (subst (λ (d : D). Causes seen has_failed options file old d unbegun) (sym same) causes) six

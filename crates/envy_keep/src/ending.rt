@@ -1,4 +1,5 @@
-ghost use Rattle.std.specs.Prelude.{◌≡◌, ◌+◌, ◌^◌, ◌<◌, ◌≤◌, [], length, IsTrue};
+ghost use Rattle.std.specs.Prelude.{◌≡◌, ◌≤◌, [], IsTrue};
+ghost use Rattle.envy_begun.specs.Beginning.{HasStopped};
 ghost use Rattle.envy_keep.specs.Ending.{Concludes, KeepsServed};
 ghost use Rattle.envy_keep.specs.Since.{KeptSince, Start};
 ghost use Rattle.envy_run.specs.Outcome.{why_of};
@@ -75,8 +76,7 @@ pub fn serve_kept<S: Source, K: Sink, B: Steady + Drop, D: Place>(
         (D.left_since result.device) (D.moment result.device)
         (record { from = S.feed source.old; feed = S.feed source.new; to = K.drain sink.old; sink = K.drain sink.new }) }
     // power is off only where the file failed, or came to the end of its range
-    ensures stopped { result.status ≡ 6 → length (D.seen result.device) + result.held < 2 ^ 60
-        → IsTrue (D.has_failed result.device) }
+    ensures stopped { result.status ≡ 6 → HasStopped D.seen D.has_failed result.held result.device }
     ensures few { result.lines ≤ result.taken }
     ensures read { result.taken ≤ most_bytes }
 {

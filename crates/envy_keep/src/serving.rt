@@ -1,5 +1,6 @@
 // A trace over the memory in a file.
-ghost use Rattle.std.specs.Prelude.{◌≡◌, ◌⊎◌, ◌+◌, ◌^◌, ◌<◌, ◌≤◌, ℕ, length, IsTrue, Ok};
+ghost use Rattle.std.specs.Prelude.{◌≡◌, ◌⊎◌, ◌<◌, ◌≤◌, ℕ, Ok};
+ghost use Rattle.envy_begun.specs.Beginning.{HasStopped};
 ghost use Rattle.envy_begun.specs.Unserved.{status_for, why_for};
 ghost use Rattle.envy_begun.specs.declared.unbegun.Unbegun.TheVariants.{Failed};
 ghost use Rattle.envy_begun.specs.Plans.{Plans};
@@ -69,8 +70,7 @@ fn serve_on<S: Source, K: Sink, B: Steady + Drop, D: Place + Drop>(
         let end = told result.status result.why result.lines result.taken in
         IsServed options.now bytes.now end (D.left_since result.device) (D.moment result.device) io
         ⊎ IsUnserved D.seen D.has_failed options.now bytes.now device result.device end io }
-    ensures stopped { result.status ≡ 6 → length (D.seen result.device) + result.held < 2 ^ 60
-        → IsTrue (D.has_failed result.device) }
+    ensures stopped { result.status ≡ 6 → HasStopped D.seen D.has_failed result.held result.device }
     ensures few { result.lines ≤ result.taken }
     ensures read { result.taken ≤ most_bytes }
 {
@@ -108,8 +108,7 @@ pub fn keep<S: Source, K: Sink, D: Place + Drop>(
         IsServed options.now bytes.now end (D.left_since result.device) (D.moment result.device) io
         ⊎ IsUnserved D.seen D.has_failed options.now bytes.now device result.device end io }
     // power is off only where the file failed, or came to the end of its range
-    ensures stopped { result.status ≡ 6 → length (D.seen result.device) + result.held < 2 ^ 60
-        → IsTrue (D.has_failed result.device) }
+    ensures stopped { result.status ≡ 6 → HasStopped D.seen D.has_failed result.held result.device }
     ensures few { result.lines ≤ result.taken }
     ensures read { result.taken ≤ most_bytes }
 {

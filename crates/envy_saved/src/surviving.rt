@@ -1,5 +1,6 @@
 ghost use Rattle.std.specs.Prelude.{◌≡◌, ◌⊎◌, ◌+◌, ◌^◌, ◌<◌, ◌≤◌, ℕ, List, length, false, IsTrue};
 ghost use Rattle.envy_map.specs.Fields.{Chart};
+ghost use Rattle.envy_journal.specs.Held.{most_held};
 ghost use Rattle.envy_synced.specs.Disk.{IsBefore, IsLast, IsSynced, Reopens};
 
 use envy_device::Device;
@@ -37,6 +38,7 @@ pub fn close<B: Steady + Drop, D: Device>(memory: Memory<Kept<B, D>>) -> (D, usi
     ensures time { memory.chart.plans ≤ D.moment result.0 }
     ensures ended { memory.chart.on ≡ false → length (D.seen result.0) + result.1 < 2 ^ 60
         → IsTrue (D.has_failed result.0) }
+    ensures few { result.1 ≤ most_held }
 {
     let kept = memory.into_board();
     let _device = kept.device();

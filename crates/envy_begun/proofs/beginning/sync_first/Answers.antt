@@ -7,4 +7,4 @@ returns-in-Ok-clause-begun g c =
     new-begun c.args._setup (zeros c.args._setup.shape.pages c.args._setup.shape.shadows) c.args.memory c.sync.new.self c.in-Ok.ensures.synced c.in-Ok.ensures.answer c.sync.ensures.kept c.requires.stands c.requires.begins c.requires.shape
 
 pub returns-in-Err-clause-failed : goal.returns-in-Err-clause-failed
-returns-in-Err-clause-failed g c = c.close-device.ensures.ended (err-off c.args.memory.chart c.sync.new.self.chart _ c.in-Err.ensures.answer)
+returns-in-Err-clause-failed g c = (c.close-device.ensures.few, c.close-device.ensures.ended (err-off c.args.memory.chart c.sync.new.self.chart _ c.in-Err.ensures.answer))

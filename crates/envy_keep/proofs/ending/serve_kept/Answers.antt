@@ -18,4 +18,4 @@ pub returns-clause-stopped : goal.returns-clause-stopped
 returns-clause-stopped g c six =
     let (start, kept) = c.requires.begun in
     let (turns, s) = c.serve-served.ensures.serves start kept in
-    c.close-device.ensures.ended (off-at start c.serve-served.new.service.memory c.conclude-status.new.memory c.serve-served.result.end c.conclude-status.result.0 turns (Ends.served (Serves.ends s)) c.conclude-status.ensures.status six)
+    (c.close-device.ensures.few, c.close-device.ensures.ended (off-at start c.serve-served.new.service.memory c.conclude-status.new.memory c.serve-served.result.end c.conclude-status.result.0 turns (Ends.served (Serves.ends s)) c.conclude-status.ensures.status six))
