@@ -8,7 +8,10 @@ abbrev pub host_bytes : {F P : Type 0} → Recorded (HostCalls F P) → List ℕ
 host_bytes host = seen_after host.file.record.calls
 
 abbrev pub host_outcome : {F P : Type 0} → Recorded (HostCalls F P) → List ℕ → Type 0
-host_outcome host c = MayLeave host.file.record.calls c
+host_outcome host c = MayLeave host.bytewise host.file.record.calls c
 
 abbrev pub host_failed : {F P : Type 0} → Recorded (HostCalls F P) → Bool
 host_failed host = host.failed
+
+abbrev pub host_bytewise : {F P : Type 0} → Recorded (HostCalls F P) → Bool
+host_bytewise host = host.bytewise

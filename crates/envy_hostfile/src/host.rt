@@ -32,13 +32,15 @@ pub struct HostCalls<F, P> {
 pub type HostFile<F, P> = Recorded<HostCalls<F, P>>;
 
 impl<F: FileExt + OpenFile + Drop, P: Folder<F>> HostCalls<F, P> {
-    ghost use Rattle.envy_hostfile.specs.Host.{host_bytes, host_failed, host_outcome};
+    ghost use Rattle.envy_hostfile.specs.Host.{host_bytes, host_bytewise, host_failed, host_outcome};
 
-    /// A file that was synced, with its name, and then read whole: it holds these bytes, and they are on the disk.
-    pub fn found(file: F, folder: P, bytes: &[u8]) -> HostFile<F, P>
+    /// A file that was synced, with its name, and then read whole: it holds these bytes, and they are on the disk. That it is
+    /// written byte by byte is a premise, which the caller states or doesn't.
+    pub fn found(file: F, folder: P, bytes: &[u8], bytewise: bool) -> HostFile<F, P>
         ensures bytes { host_bytes result ≡ bytes.now }
         ensures durable { Only (host_bytes result) (host_outcome result) }
         ensures works { host_failed result ≡ false }
+        ensures bytewise { host_bytewise result ≡ bytewise }
     {
         let calls = HostCalls {
             file,
@@ -46,7 +48,7 @@ impl<F: FileExt + OpenFile + Drop, P: Folder<F>> HostCalls<F, P> {
             second: None,
             record: Record::new().and(&Made::Found { bytes }),
         };
-        Recorded::found(calls, bytes)
+        Recorded::found(calls, bytes, bytewise)
     }
 
     // Notes a call that was just made, by its answer.
@@ -109,12 +111,11 @@ impl<F: FileExt + OpenFile + Drop, P: Folder<F>> RawFile for HostCalls<F, P> {
 
     // Where the system is interrupted, or writes a part, the write goes on with what is left.
     fn write_at(&mut self, at: usize, bytes: &[u8]) -> Result<(), DeviceFailed> {
-        let size = bytes.len();
         let answer = self.file.write_all_at(bytes, at as u64);
         self.note(
             answer,
             &Made::Wrote { at, bytes },
-            &Made::WriteFailed { at, size },
+            &Made::WriteFailed { at, bytes },
         )
     }
 

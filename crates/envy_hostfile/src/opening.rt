@@ -1,6 +1,6 @@
 ghost use Rattle.std.specs.Prelude.{◌≡◌, false, IfOk};
 ghost use Rattle.envy_device.specs.Device.{Only};
-ghost use Rattle.envy_hostfile.specs.Host.{host_bytes, host_outcome, host_failed};
+ghost use Rattle.envy_hostfile.specs.Host.{host_bytes, host_bytewise, host_outcome, host_failed};
 
 use crate::folder::{Names, is_named};
 use crate::host::{HostCalls, HostFile};
@@ -69,14 +69,16 @@ fn named<'a>(rt: &'a HostRuntime, path: &str) -> Result<Names<'a>, OpenFault> {
 
 /// Opens the file at a path, or makes an empty one, locks it, brings it and its name to the disk, and reads it whole. The
 /// lock goes with the file. A file that was locked and that the path doesn't name any more was replaced by the process
-/// that had it open.
+/// that had it open. That the file is written byte by byte is a premise, which the caller states or doesn't.
 pub fn open<'a>(
     rt: &'a HostRuntime,
     path: &str,
+    bytewise: bool,
 ) -> Result<(HostFile<File, Names<'a>>, Vec<u8>), OpenFault>
     ensures bytes { IfOk result (λ opened. host_bytes opened.0 ≡ opened.1.items) }
     ensures durable { IfOk result (λ opened. Only (host_bytes opened.0) (host_outcome opened.0)) }
     ensures works { IfOk result (λ opened. host_failed opened.0 ≡ false) }
+    ensures bytewise { IfOk result (λ opened. host_bytewise opened.0 ≡ bytewise) }
 {
     let mut file = locked(rt, path)?;
     let place = named(rt, path)?;
@@ -87,5 +89,5 @@ pub fn open<'a>(
     place.folder.sync_all()?;
     let mut bytes = Vec::new(rt.alloc());
     file.read_to_end(&mut bytes)?;
-    Ok((HostCalls::found(file, place, &bytes), bytes))
+    Ok((HostCalls::found(file, place, &bytes, bytewise), bytes))
 }

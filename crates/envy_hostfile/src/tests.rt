@@ -12,14 +12,14 @@ const PATH: &str = "envy_hostfile_test";
 #[test]
 fn a_file_is_locked_written_synced_and_read_again(rt: HostRuntime) -> Result<(), Fail> {
     let _ = fs::remove_file(&rt, PATH);
-    let (mut file, bytes) = open(&rt, PATH)?;
+    let (mut file, bytes) = open(&rt, PATH, false)?;
     assert!(rt; bytes.is_empty());
-    assert!(rt; matches!(open(&rt, PATH), Err(OpenFault::InUse)));
+    assert!(rt; matches!(open(&rt, PATH, false), Err(OpenFault::InUse)));
     file.write_at(0, b"abcdef")?;
     file.write_at(0, b"xy")?;
     file.sync()?;
     drop(file);
-    let (mut again, bytes) = open(&rt, PATH)?;
+    let (mut again, bytes) = open(&rt, PATH, false)?;
     assert_eq!(rt; bytes.as_slice(), b"xycdef".as_slice());
     again.cut(0)?;
     again.sync()?;
@@ -38,7 +38,7 @@ fn a_second_file_takes_the_place(rt: HostRuntime) -> Result<(), Fail> {
         "envy_hostfile_second.envy-new",
         b"left behind by a crash",
     )?;
-    let (mut file, _) = open(&rt, path)?;
+    let (mut file, _) = open(&rt, path, false)?;
     fs::set_permissions(&rt, path, Permissions::from_mode(0o640))?;
     file.write_at(0, b"first")?;
     file.sync()?;
@@ -47,13 +47,13 @@ fn a_second_file_takes_the_place(rt: HostRuntime) -> Result<(), Fail> {
     file.write_second(b"se")?;
     file.write_second(b"cond")?;
     file.replace()?;
-    assert!(rt; matches!(open(&rt, path), Err(OpenFault::InUse)));
+    assert!(rt; matches!(open(&rt, path, false), Err(OpenFault::InUse)));
     assert!(rt; opened_before.try_lock().is_ok());
     assert!(rt; !is_named(&rt, path, &opened_before)?);
     file.write_at(6, b" file")?;
     file.sync()?;
     drop(file);
-    let (again, bytes) = open(&rt, path)?;
+    let (again, bytes) = open(&rt, path, false)?;
     assert_eq!(rt; bytes.as_slice(), b"second file".as_slice());
     assert!(rt; fs::metadata(&rt, "envy_hostfile_second.envy-new").is_err());
     assert_eq!(rt;
@@ -72,10 +72,10 @@ fn a_second_file_in_use_is_left(rt: HostRuntime) -> Result<(), Fail> {
     let other = "envy_hostfile_used.envy-new";
     let _ = fs::remove_file(&rt, path);
     let _ = fs::remove_file(&rt, other);
-    let (mut in_use, _) = open(&rt, other)?;
+    let (mut in_use, _) = open(&rt, other, false)?;
     in_use.write_at(0, b"kept")?;
     in_use.sync()?;
-    let (mut file, _) = open(&rt, path)?;
+    let (mut file, _) = open(&rt, path, false)?;
     assert!(rt; file.begin_second().is_err());
     assert!(rt; file.sync().is_err());
     assert_eq!(rt; fs::metadata(&rt, other)?.len(), 4);
@@ -192,7 +192,7 @@ fn failing_at(fails_at: u32) -> Slow {
 
 // Whether a write, a sync, a cut and a further sync of a slow file are done.
 fn done_on(slow: &Slow) -> (bool, bool, bool, bool) {
-    let mut file = HostCalls::found(slow, slow, &[]);
+    let mut file = HostCalls::found(slow, slow, &[], false);
     let wrote = file.write_at(0, b"1234567").is_ok();
     let synced = file.sync().is_ok();
     let cut = file.cut(0).is_ok();
@@ -227,7 +227,7 @@ fn a_write_goes_on_and_a_failure_ends_the_file(rt: HostRuntime) -> Result<(), Fa
 
 // Whether the steps to a second file of a slow one are done, and a sync behind them.
 fn replaced_on(slow: &Slow) -> ((bool, bool, bool, bool), bool) {
-    let mut file = HostCalls::found(slow, slow, &[]);
+    let mut file = HostCalls::found(slow, slow, &[], false);
     let begun = file.begin_second().is_ok();
     let wrote = file.write_second(b"123").is_ok();
     let more = file.write_second(b"45").is_ok();

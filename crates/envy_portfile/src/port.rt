@@ -23,14 +23,16 @@ pub struct FilePort {
 pub type PortFile = Recorded<FilePort>;
 
 impl FilePort {
-    /// The file behind a port, which was brought to the disk and then read whole: it holds these bytes.
-    pub fn found(number: i32, bytes: &[u8]) -> PortFile
+    /// The file behind a port, which was brought to the disk and then read whole: it holds these bytes. That it is written
+    /// byte by byte is a premise, which the caller states or doesn't.
+    pub fn found(number: i32, bytes: &[u8], bytewise: bool) -> PortFile
         ensures bytes { seen_after result.file.record.calls ≡ bytes.now }
-        ensures durable { Only (seen_after result.file.record.calls) (MayLeave result.file.record.calls) }
+        ensures durable { Only (seen_after result.file.record.calls) (MayLeave result.bytewise result.file.record.calls) }
         ensures works { result.failed ≡ false }
+        ensures bytewise { result.bytewise ≡ bytewise }
     {
         let record = Record::new().and(&Made::Found { bytes });
-        Recorded::found(FilePort { number, record }, bytes)
+        Recorded::found(FilePort { number, record }, bytes, bytewise)
     }
 
     // Gives an order, with these bytes behind it, and waits for the answer.
@@ -75,12 +77,11 @@ impl RawFile for FilePort {
     ghost calls = { λ port. port.record.calls };
 
     fn write_at(&mut self, at: usize, bytes: &[u8]) -> Result<(), DeviceFailed> {
-        let size = bytes.len();
         let answer = self.order(Call::Write, at, bytes);
         self.note(
             answer,
             &Made::Wrote { at, bytes },
-            &Made::WriteFailed { at, size },
+            &Made::WriteFailed { at, bytes },
         )
     }
 

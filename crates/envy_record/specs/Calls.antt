@@ -2,13 +2,13 @@
 -- what a crash may leave of the file. The newest call stands first.
 use Rattle.std.specs.Prelude.{◌≡◌, ◌⊎◌, ℕ, suc, ◌+◌, ◌≤◌, ◌==◌, Bool, true, false, if◌then◌else◌, List, [], ◌∷◌, ◌++◌, length, take, drop, Result, Ok, Err, refl}
 use Rattle.std.specs.Coded.{Coded, code_by, coded×, coded_list, coded_ℕ}
-use Rattle.envy_device.specs.Device.{Torn, Cut as CutShort}
+use Rattle.envy_device.specs.Device.{Torn, Mixed, Cut as CutShort}
 
 pub data Call : Type 0 where
   -- it was synced, and then read whole
   Found : (bytes : List ℕ) → Call
   Wrote : (at : ℕ) (bytes : List ℕ) → Call
-  WriteFailed : (at size : ℕ) → Call
+  WriteFailed : (at : ℕ) (bytes : List ℕ) → Call
   CutTo : (size : ℕ) → Call
   CutFailed : (size : ℕ) → Call
   Synced : Call
@@ -45,29 +45,35 @@ abbrev pub seen_after : List Call → List ℕ
 seen_after [] = []
 seen_after (call ∷ past) = seen_by call (second_after past) (seen_after past)
 
--- What a crash may leave after a call, where the files held these bytes and a crash before the call might have left d.
--- Until a sync each range that was written may hold anything; a sync that succeeded leaves what the file holds. A second
--- file that was put in the file's place was brought to the disk first; where that failed, either may be there.
-abbrev pub Leaves : Call → List ℕ → List ℕ → List ℕ → List ℕ → Type 0
-Leaves (Found bytes) second seen d e = e ≡ bytes
-Leaves (Wrote at bytes) second seen d e = Torn at (length bytes) d e
-Leaves (WriteFailed at size) second seen d e = Torn at size d e
-Leaves (CutTo size) second seen d e = CutShort size d e
-Leaves (CutFailed size) second seen d e = CutShort size d e
-Leaves Synced second seen d e = (e ≡ seen) × (d ≡ e)
-Leaves Replaced second seen d e = e ≡ second
-Leaves ReplaceFailed second seen d e = (d ≡ e) ⊎ (e ≡ second)
-Leaves other second seen d e = d ≡ e
+-- What a crash may leave of a write of these bytes: in a file that is written byte by byte each byte of the range is the old
+-- one or the one that was written, and else it is any.
+abbrev pub Tears : Bool → ℕ → List ℕ → List ℕ → List ℕ → Type 0
+Tears true at bytes d e = Mixed at bytes d e
+Tears false at bytes d e = Torn at (length bytes) d e
 
--- what a crash may leave after these calls
-abbrev pub MayLeave : List Call → List ℕ → Type 0
-MayLeave [] c = c ≡ []
-MayLeave (call ∷ past) c = (d : List ℕ) × MayLeave past d × Leaves call (second_after past) (seen_after past) d c
+-- What a crash may leave after a call, where the files held these bytes and a crash before the call might have left d.
+-- A sync that succeeded leaves what the file holds. A second file that was put in the file's place was brought to the disk
+-- first; where that failed, either may be there.
+abbrev pub Leaves : Bool → Call → List ℕ → List ℕ → List ℕ → List ℕ → Type 0
+Leaves bytewise (Found bytes) second seen d e = e ≡ bytes
+Leaves bytewise (Wrote at bytes) second seen d e = Tears bytewise at bytes d e
+Leaves bytewise (WriteFailed at bytes) second seen d e = Tears bytewise at bytes d e
+Leaves bytewise (CutTo size) second seen d e = CutShort size d e
+Leaves bytewise (CutFailed size) second seen d e = CutShort size d e
+Leaves bytewise Synced second seen d e = (e ≡ seen) × (d ≡ e)
+Leaves bytewise Replaced second seen d e = e ≡ second
+Leaves bytewise ReplaceFailed second seen d e = (d ≡ e) ⊎ (e ≡ second)
+Leaves bytewise other second seen d e = d ≡ e
+
+-- what a crash may leave after these calls on a file that is written byte by byte, or isn't
+abbrev pub MayLeave : Bool → List Call → List ℕ → Type 0
+MayLeave bytewise [] c = c ≡ []
+MayLeave bytewise (call ∷ past) c = (d : List ℕ) × MayLeave bytewise past d × Leaves bytewise call (second_after past) (seen_after past) d c
 
 -- what a crash after so many of the calls, or later, might have left
-abbrev pub LeftSince : List Call → ℕ → List ℕ → Type 0
-LeftSince [] t c = MayLeave [] c
-LeftSince (call ∷ past) t c = MayLeave (call ∷ past) c ⊎ ((t ≤ length past) × LeftSince past t c)
+abbrev pub LeftSince : Bool → List Call → ℕ → List ℕ → Type 0
+LeftSince bytewise [] t c = MayLeave bytewise [] c
+LeftSince bytewise (call ∷ past) t c = MayLeave bytewise (call ∷ past) c ⊎ ((t ≤ length past) × LeftSince bytewise past t c)
 
 -- the file was on the disk when the call had ended
 abbrev pub is_sync : Call → Bool
@@ -85,7 +91,7 @@ synced_at (call ∷ past) = if is_sync call then suc (length past) else synced_a
 abbrev pub parts : Call → ℕ × (ℕ × (ℕ × List ℕ))
 parts (Found bytes) = (0, (0, (0, bytes)))
 parts (Wrote at bytes) = (1, (at, (0, bytes)))
-parts (WriteFailed at size) = (2, (at, (size, [])))
+parts (WriteFailed at bytes) = (2, (at, (0, bytes)))
 parts (CutTo size) = (3, (0, (size, [])))
 parts (CutFailed size) = (4, (0, (size, [])))
 parts Synced = (5, (0, (0, [])))
@@ -101,7 +107,7 @@ abbrev pub whole : ℕ → ℕ → ℕ → List ℕ → Call
 whole kind at size bytes =
     if kind == 0 then Found bytes
     else (if kind == 1 then Wrote at bytes
-    else (if kind == 2 then WriteFailed at size
+    else (if kind == 2 then WriteFailed at bytes
     else (if kind == 3 then CutTo size
     else (if kind == 4 then CutFailed size
     else (if kind == 5 then Synced
@@ -119,7 +125,7 @@ made_of p = whole p.0 p.1.0 p.1.1.0 p.1.1.1
 pub made_of_parts : (call : Call) → made_of (parts call) ≡ call
 made_of_parts (Found bytes) = refl
 made_of_parts (Wrote at bytes) = refl
-made_of_parts (WriteFailed at size) = refl
+made_of_parts (WriteFailed at bytes) = refl
 made_of_parts (CutTo size) = refl
 made_of_parts (CutFailed size) = refl
 made_of_parts Synced = refl

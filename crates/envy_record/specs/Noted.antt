@@ -6,7 +6,7 @@ use Rattle.envy_record.specs.Calls.{Call, Found, Wrote, WriteFailed, CutTo, CutF
 abbrev pub call_of : Made → Call
 call_of (made.Found bytes) = Found bytes.now
 call_of (made.Wrote at bytes) = Wrote at bytes.now
-call_of (made.WriteFailed at size) = WriteFailed at size
+call_of (made.WriteFailed at bytes) = WriteFailed at bytes.now
 call_of (made.CutTo size) = CutTo size
 call_of (made.CutFailed size) = CutFailed size
 call_of made.Synced = Synced

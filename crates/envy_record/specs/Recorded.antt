@@ -5,14 +5,14 @@ use Rattle.envy_record.specs.Calls.{Call, is_sync, MayLeave, LeftSince, synced_a
 
 -- since the last call there is no other, and each moment is one of those since an earlier one
 
-pub counts : (calls : List Call) (t : ℕ) (c : List ℕ) → t ≤ length calls → MayLeave calls c → LeftSince calls t c
-counts [] t c le now = now
-counts (call ∷ past) t c le now = inl now
+pub counts : (w : Bool) (calls : List Call) (t : ℕ) (c : List ℕ) → t ≤ length calls → MayLeave w calls c → LeftSince w calls t c
+counts w [] t c le now = now
+counts w (call ∷ past) t c le now = inl now
 
-pub only : (calls : List Call) (c : List ℕ) → LeftSince calls (length calls) c → MayLeave calls c
-only [] c left = left
-only (call ∷ past) c (inl now) = now
-only (call ∷ past) c (inr (late, was)) = let no : ⊥ = omega (arith, late) in absurd no
+pub only : (w : Bool) (calls : List Call) (c : List ℕ) → LeftSince w calls (length calls) c → MayLeave w calls c
+only w [] c left = left
+only w (call ∷ past) c (inl now) = now
+only w (call ∷ past) c (inr (late, was)) = let no : ⊥ = omega (arith, late) in absurd no
 
 step : (sync : Bool) (past : List Call) → synced_at past ≤ length past → (if sync then suc (length past) else synced_at past) ≤ suc (length past)
 step true past le = omega arith

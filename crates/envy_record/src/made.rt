@@ -5,8 +5,8 @@ pub enum Made<'a> {
     Found { bytes: &'a [u8] },
     /// These bytes were written at this offset.
     Wrote { at: usize, bytes: &'a [u8] },
-    /// A write failed. Any part of it may be done.
-    WriteFailed { at: usize, size: usize },
+    /// A write of these bytes failed. Any part of it may be done.
+    WriteFailed { at: usize, bytes: &'a [u8] },
     /// The file was cut to a size.
     CutTo { size: usize },
     /// A cut failed. It may be done.

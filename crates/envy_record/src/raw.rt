@@ -14,7 +14,7 @@ pub trait RawFile {
 
     /// Writes all of the bytes at an offset.
     fn write_at(&mut self, at: usize, bytes: &[u8]) -> Result<(), DeviceFailed>
-        ensures { Notes (Wrote at bytes.now) (WriteFailed at (length bytes.now)) result (calls self.old)
+        ensures { Notes (Wrote at bytes.now) (WriteFailed at bytes.now) result (calls self.old)
             (calls self.new) };
 
     /// Cuts the file to a size.

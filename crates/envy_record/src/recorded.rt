@@ -14,19 +14,24 @@ pub struct Recorded<F> {
     pub file: F,
     /// Whether a call has failed.
     pub failed: bool,
+    /// Whether the file is trusted to be written byte by byte.
+    pub bytewise: bool,
 }
 
 impl<F: RawFile> Recorded<F> {
-    /// A file that was brought to the disk and then read whole, on which no other call was made.
-    pub fn found(file: F, _bytes: &[u8]) -> Recorded<F>
+    /// A file that was brought to the disk and then read whole, on which no other call was made. That it is written byte by
+    /// byte is a premise, which the caller states or doesn't.
+    pub fn found(file: F, _bytes: &[u8], bytewise: bool) -> Recorded<F>
         requires { F.calls file ≡ Found _bytes.now ∷ [] }
         ensures bytes { seen_after (F.calls result.file) ≡ _bytes.now }
-        ensures durable { Only (seen_after (F.calls result.file)) (MayLeave (F.calls result.file)) }
+        ensures durable { Only (seen_after (F.calls result.file)) (MayLeave result.bytewise (F.calls result.file)) }
         ensures works { result.failed ≡ false }
+        ensures bytewise { result.bytewise ≡ bytewise }
     {
         Recorded {
             file,
             failed: false,
+            bytewise,
         }
     }
 }
@@ -38,21 +43,27 @@ impl<F: RawFile> Device for Recorded<F> {
 
     ghost seen = { λ f. seen_after (F.calls f.file) };
 
-    ghost may_leave = { λ f. MayLeave (F.calls f.file) };
+    ghost may_leave = { λ f. MayLeave f.bytewise (F.calls f.file) };
 
     ghost moment = { λ f. length (F.calls f.file) };
 
-    ghost left_since = { λ f. LeftSince (F.calls f.file) };
+    ghost left_since = { λ f. LeftSince f.bytewise (F.calls f.file) };
 
     ghost synced = { λ f. synced_at (F.calls f.file) };
 
     ghost has_failed = { λ f. f.failed };
 
-    ghost counts_now = { λ f. counts (F.calls f.file) };
+    ghost bytewise = { λ f. f.bytewise };
 
-    ghost only_now = { λ f. only (F.calls f.file) };
+    ghost counts_now = { λ f. counts f.bytewise (F.calls f.file) };
+
+    ghost only_now = { λ f. only f.bytewise (F.calls f.file) };
 
     ghost synced_before = { λ f. before (F.calls f.file) };
+
+    fn is_bytewise(&self) -> bool {
+        self.bytewise
+    }
 
     fn write_at(&mut self, at: usize, bytes: &[u8]) -> Result<(), DeviceFailed> {
         if self.failed {

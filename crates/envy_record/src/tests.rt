@@ -32,8 +32,7 @@ impl RawFile for Fake {
     ghost calls = { λ fake. fake.record.calls };
 
     fn write_at(&mut self, at: usize, bytes: &[u8]) -> Result<(), DeviceFailed> {
-        let size = bytes.len();
-        self.call(&Made::Wrote { at, bytes }, &Made::WriteFailed { at, size })
+        self.call(&Made::Wrote { at, bytes }, &Made::WriteFailed { at, bytes })
     }
 
     fn cut(&mut self, size: usize) -> Result<(), DeviceFailed> {
@@ -68,7 +67,7 @@ fn behind_a_failure_no_call_is_made(rt: HostRuntime) -> Result<(), Fail> {
             calls: 0,
             fails_at,
         };
-        let mut file = Recorded::found(fake, b"abc");
+        let mut file = Recorded::found(fake, b"abc", false);
         let answers = [
             file.write_at(0, b"x").is_ok(),
             file.sync().is_ok(),

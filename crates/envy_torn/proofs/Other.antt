@@ -1,7 +1,7 @@
 -- A write of other bytes in the same place leaves what a torn write may leave.
 use Rattle.std.proofs.Common.{◌≡◌, ◌∙◌, ℕ, ◌+◌, ◌-◌, ◌≤◌, List, ◌++◌, length, take, drop, ap, sym, arith, length-append, append_assoc}
-use Rattle.std.proofs.lemmas.List.{length-drop, length-take-le, take-append-le, take_all}
-use Rattle.std.proofs.Math.Seq.{drop-append-add, drop-append_seam, take-append_seam}
+use Rattle.std.proofs.lemmas.List.{length-drop, length-take-le}
+use Rattle.std.proofs.Math.Seq.{drop-append_seam, take-append_seam}
 use Rattle.envy_device.specs.Device.{Torn}
 use Rattle.envy_torn.specs.Calls.{written}
 

@@ -1,5 +1,5 @@
 -- What one call more makes of what a crash may leave.
-use Rattle.std.proofs.Common.{◌≡◌, ◌⊎◌, inl, inr, ℕ, ◌+◌, ◌≤◌, List, [], ◌∷◌, ◌++◌, length, take, refl, sym, subst, arith, length-append}
+use Rattle.std.proofs.Common.{◌≡◌, ◌⊎◌, inl, inr, ℕ, ◌+◌, ◌≤◌, List, [], ◌∷◌, ◌++◌, length, take, Bool, refl, sym, subst, arith, length-append}
 use Rattle.std.proofs.lemmas.Bool.{cases_lt}
 use Rattle.std.proofs.lemmas.List.{take_all, take-append-le}
 use Rattle.envy_device.specs.Device.{Elapses}
@@ -12,14 +12,14 @@ seen_more [] call seen = refl
 seen_more (x ∷ calls) call seen = seen_more calls call (seen_by x seen)
 
 -- and may be left by a crash, or not
-pub outcome_more : (calls : List Call) (call : Call) (seen : List ℕ) (may : List ℕ → Type 0) (c : List ℕ) → Outcome (calls ++ call ∷ []) seen may c
-    → (d : List ℕ) × Outcome calls seen may d × Leaves call (seen_after calls seen) d c
-outcome_more [] call seen may c some = some
-outcome_more (x ∷ calls) call seen may c some = outcome_more calls call (seen_by x seen) (λ e. (d : List ℕ) × may d × Leaves x seen d e) c some
+pub outcome_more : (w : Bool) (calls : List Call) (call : Call) (seen : List ℕ) (may : List ℕ → Type 0) (c : List ℕ) → Outcome w (calls ++ call ∷ []) seen may c
+    → (d : List ℕ) × Outcome w calls seen may d × Leaves w call (seen_after calls seen) d c
+outcome_more w [] call seen may c some = some
+outcome_more w (x ∷ calls) call seen may c some = outcome_more w calls call (seen_by x seen) (λ e. (d : List ℕ) × may d × Leaves w x seen d e) c some
 
-module _ (first : List ℕ) (calls : List Call) where
+module _ (w : Bool) (first : List ℕ) (calls : List Call) where
   -- without a call no time goes by
-  pub time_same : Elapses (length calls) (length calls) (LeftBy first calls) (LeftBy first calls) (OutcomeOf first calls)
+  pub time_same : Elapses (length calls) (length calls) (LeftBy w first calls) (LeftBy w first calls) (OutcomeOf w first calls)
   time_same = record { later = omega arith; nothing_else = λ t c le left. inl left; keeps = λ t c le left. left }
 
   module _ (call : Call) where
@@ -32,17 +32,17 @@ module _ (first : List ℕ) (calls : List Call) where
     early : (k : ℕ) → k ≤ length calls → take k more ≡ take k calls
     early k le = take-append-le k calls (call ∷ []) le
 
-    nothing_else : (t : ℕ) (c : List ℕ) → t ≤ length calls → LeftBy first more t c → LeftBy first calls t c ⊎ OutcomeOf first more c
+    nothing_else : (t : ℕ) (c : List ℕ) → t ≤ length calls → LeftBy w first more t c → LeftBy w first calls t c ⊎ OutcomeOf w first more c
     nothing_else t c le (k, after, within, left) = elim (cases_lt k (length more)) [
       | inl lt ↦
           let small : k ≤ length calls = omega (arith, long) in
-          inl (k, after, small, subst (λ (l : List Call). OutcomeOf first l c) (early k small) left)
-      | inr ge ↦ inr (subst (λ (l : List Call). OutcomeOf first l c) (take_all k more ge) left)
+          inl (k, after, small, subst (λ (l : List Call). OutcomeOf w first l c) (early k small) left)
+      | inr ge ↦ inr (subst (λ (l : List Call). OutcomeOf w first l c) (take_all k more ge) left)
     ]
 
-    keeps : (t : ℕ) (c : List ℕ) → t ≤ length calls → LeftBy first calls t c → LeftBy first more t c
-    keeps t c le (k, after, within, left) = (k, after, omega (arith, long), subst (λ (l : List Call). OutcomeOf first l c) (sym (early k within)) left)
+    keeps : (t : ℕ) (c : List ℕ) → t ≤ length calls → LeftBy w first calls t c → LeftBy w first more t c
+    keeps t c le (k, after, within, left) = (k, after, omega (arith, long), subst (λ (l : List Call). OutcomeOf w first l c) (sym (early k within)) left)
 
     -- each call takes time
-    pub time_more : Elapses (length calls) (length more) (LeftBy first calls) (LeftBy first more) (OutcomeOf first more)
+    pub time_more : Elapses (length calls) (length more) (LeftBy w first calls) (LeftBy w first more) (OutcomeOf w first more)
     time_more = record { later = omega (arith, long); nothing_else = nothing_else; keeps = keeps }

@@ -1,8 +1,8 @@
 -- What a file that keeps all its calls holds, and what a crash may leave of it.
-use Rattle.std.specs.Prelude.{◌≡◌, ◌⊎◌, ℕ, ◌+◌, ◌≤◌, List, [], ◌∷◌, ◌++◌, length, take, drop}
+use Rattle.std.specs.Prelude.{◌≡◌, ◌⊎◌, ℕ, ◌+◌, ◌≤◌, Bool, true, false, List, [], ◌∷◌, ◌++◌, length, take, drop}
 use Rattle.envy_torn.specs.declared.torn.Call.{Call}
 use Rattle.envy_torn.specs.declared.torn.Call.TheVariants.{Write, Cut as CutCall, Sync, Replace, BadWrite, BadCut, BadReplace}
-use Rattle.envy_device.specs.Device.{Torn, Cut}
+use Rattle.envy_device.specs.Device.{Torn, Mixed, Cut}
 
 -- old with these bytes at this offset
 abbrev pub written : List ℕ → ℕ → List ℕ → List ℕ
@@ -14,7 +14,7 @@ seen_by (Write at bytes) seen = written seen at bytes.items
 seen_by (CutCall len) seen = take len seen
 seen_by Sync seen = seen
 seen_by (Replace bytes) seen = bytes.items
-seen_by (BadWrite at len) seen = seen
+seen_by (BadWrite at bytes) seen = seen
 seen_by (BadCut len) seen = seen
 seen_by (BadReplace bytes) seen = seen
 
@@ -23,25 +23,31 @@ abbrev pub seen_after : List Call → List ℕ → List ℕ
 seen_after [] seen = seen
 seen_after (call ∷ calls) seen = seen_after calls (seen_by call seen)
 
+-- what a crash may leave of a write of these bytes: in a file that is written byte by byte each byte of the range is the old
+-- one or the one that was written, and else it is any
+abbrev pub Tears : Bool → ℕ → List ℕ → List ℕ → List ℕ → Type 0
+Tears true at bytes d e = Mixed at bytes d e
+Tears false at bytes d e = Torn at (length bytes) d e
+
 -- what a crash may leave after a call, where it might have left d before it and the file held these bytes
-abbrev pub Leaves : Call → List ℕ → List ℕ → List ℕ → Type 0
-Leaves (Write at bytes) seen d e = Torn at (length bytes.items) d e
-Leaves (CutCall len) seen d e = Cut len d e
-Leaves Sync seen d e = (e ≡ seen) × (d ≡ e)
-Leaves (Replace bytes) seen d e = e ≡ bytes.items
-Leaves (BadWrite at len) seen d e = Torn at len d e
-Leaves (BadCut len) seen d e = Cut len d e
-Leaves (BadReplace bytes) seen d e = d ≡ e ⊎ e ≡ bytes.items
+abbrev pub Leaves : Bool → Call → List ℕ → List ℕ → List ℕ → Type 0
+Leaves bytewise (Write at bytes) seen d e = Tears bytewise at bytes.items d e
+Leaves bytewise (CutCall len) seen d e = Cut len d e
+Leaves bytewise Sync seen d e = (e ≡ seen) × (d ≡ e)
+Leaves bytewise (Replace bytes) seen d e = e ≡ bytes.items
+Leaves bytewise (BadWrite at bytes) seen d e = Tears bytewise at bytes.items d e
+Leaves bytewise (BadCut len) seen d e = Cut len d e
+Leaves bytewise (BadReplace bytes) seen d e = d ≡ e ⊎ e ≡ bytes.items
 
 -- what a crash may leave after these calls, where it might have left what has this property before them
-abbrev pub Outcome : List Call → List ℕ → (List ℕ → Type 0) → List ℕ → Type 0
-Outcome [] seen may c = may c
-Outcome (call ∷ calls) seen may c = Outcome calls (seen_by call seen) (λ e. (d : List ℕ) × may d × Leaves call seen d e) c
+abbrev pub Outcome : Bool → List Call → List ℕ → (List ℕ → Type 0) → List ℕ → Type 0
+Outcome bytewise [] seen may c = may c
+Outcome bytewise (call ∷ calls) seen may c = Outcome bytewise calls (seen_by call seen) (λ e. (d : List ℕ) × may d × Leaves bytewise call seen d e) c
 
 -- what a crash may leave of a file that held these bytes at first, all of them on the disk
-abbrev pub OutcomeOf : List ℕ → List Call → List ℕ → Type 0
-OutcomeOf first calls c = Outcome calls first (λ e. e ≡ first) c
+abbrev pub OutcomeOf : Bool → List ℕ → List Call → List ℕ → Type 0
+OutcomeOf bytewise first calls c = Outcome bytewise calls first (λ e. e ≡ first) c
 
 -- what a crash after so many of the calls, or later, might have left
-abbrev pub LeftBy : List ℕ → List Call → ℕ → List ℕ → Type 0
-LeftBy first calls t c = (k : ℕ) × (t ≤ k) × (k ≤ length calls) × OutcomeOf first (take k calls) c
+abbrev pub LeftBy : Bool → List ℕ → List Call → ℕ → List ℕ → Type 0
+LeftBy bytewise first calls t c = (k : ℕ) × (t ≤ k) × (k ≤ length calls) × OutcomeOf bytewise first (take k calls) c

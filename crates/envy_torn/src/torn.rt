@@ -17,7 +17,7 @@ pub enum Call {
     /// These bytes take the place of all.
     Replace { bytes: Vec<u8> },
     /// A write or a cut that failed, of which any part may be done.
-    BadWrite { at: usize, len: usize },
+    BadWrite { at: usize, bytes: Vec<u8> },
     BadCut { len: usize },
     /// A replacement that failed. It may be done.
     BadReplace { bytes: Vec<u8> },
@@ -37,6 +37,8 @@ pub struct TornFile {
     failed: bool,
     // how many calls can still succeed
     left: usize,
+    // whether it is trusted to be written byte by byte
+    bytewise: bool,
     ghost seen: { bytes.items ≡ seen_after calls.items first.items },
     ghost synced_before: { synced ≤ length calls.items },
 }
@@ -45,11 +47,18 @@ impl TornFile {
     ghost use Rattle.std.specs.Prelude.{◌⊎◌, IfSome};
     ghost use Rattle.envy_device.specs.Device.{Only};
     ghost use Rattle.envy_torn.specs.Calls.{seen_by};
-    ghost use Rattle.envy_torn.specs.Torn.{file_bytes, file_second, file_calls, file_outcome, Kept, Noted, Finished};
+    ghost use Rattle.envy_torn.specs.Torn.{file_bytes, file_second, file_calls, file_bytewise, file_outcome, Kept, Noted, Finished, Unwritten};
 
-    /// A file with these bytes, all of them on the disk. So many calls succeed, and every later one fails.
-    pub fn new(alloc: Global, bytes: Vec<u8>, left: usize) -> Result<TornFile, AllocError>
+    /// A file with these bytes, all of them on the disk. So many calls succeed, and every later one fails. It may be one
+    /// that is trusted to be written byte by byte.
+    pub fn new(
+        alloc: Global,
+        bytes: Vec<u8>,
+        left: usize,
+        bytewise: bool,
+    ) -> Result<TornFile, AllocError>
         ensures bytes { IfOk result (λ file. file_bytes file ≡ bytes.items) }
+        ensures bytewise { IfOk result (λ file. file_bytewise file ≡ bytewise) }
         ensures durable { IfOk result (λ file. Only (file_bytes file) (file_outcome file)) }
     {
         let first = bytes.to_vec(alloc)?;
@@ -62,6 +71,7 @@ impl TornFile {
             synced: 0,
             failed: false,
             left,
+            bytewise,
         })
     }
 
@@ -72,7 +82,8 @@ impl TornFile {
         &self.bytes
     }
 
-    /// What a crash at this moment leaves, drawn: each write since the last sync is done, lost or torn.
+    /// What a crash at this moment leaves, drawn: each write since the last sync is done, lost or torn, to any bytes or, where
+    /// the file is trusted to be written byte by byte, to bytes that were there and bytes that were written.
     pub fn crash(&self, alloc: Global, dice: &mut Dice) -> Result<Vec<u8>, AllocError> {
         let mut seen = self.first.to_vec(alloc)?;
         let mut disk = self.first.to_vec(alloc)?;
@@ -80,17 +91,14 @@ impl TornFile {
             match call {
                 Call::Write { at, bytes } => {
                     write_over(&mut seen, *at, bytes)?;
-                    tear(&mut disk, *at, bytes, dice)?;
+                    self.lose(&mut disk, *at, bytes, dice)?;
                 }
                 Call::Cut { len } => {
                     seen.truncate(*len);
                     cut_some(&mut disk, *len, dice);
                 }
                 Call::Sync => disk = seen.to_vec(alloc)?,
-                Call::BadWrite { at, len } => {
-                    let junk = vec![in alloc; 1; *len]?;
-                    tear(&mut disk, *at, &junk, dice)?;
-                }
+                Call::BadWrite { at, bytes } => self.lose(&mut disk, *at, bytes, dice)?,
                 Call::BadCut { len } => cut_some(&mut disk, *len, dice),
                 Call::Replace { bytes } => {
                     seen = bytes.to_vec(alloc)?;
@@ -104,6 +112,24 @@ impl TornFile {
             }
         }
         Ok(disk)
+    }
+
+    // Does a write in part, as a crash may leave it.
+    fn lose(
+        &self,
+        disk: &mut Vec<u8>,
+        at: usize,
+        bytes: &[u8],
+        dice: &mut Dice,
+    ) -> Result<(), AllocError> {
+        if at > disk.len() {
+            return Ok(());
+        }
+        if self.bytewise {
+            mix(disk, at, bytes, dice)
+        } else {
+            tear(disk, at, bytes, dice)
+        }
     }
 
     // Whether this call may succeed.
@@ -184,6 +210,17 @@ impl TornFile {
         self.failed = true;
         add_call(&mut self.calls, call);
     }
+
+    // Notes a write that failed, where there is memory for it.
+    fn fail_write(&mut self, at: usize, bytes: &[u8])
+        ensures call { Unwritten at bytes.now self.old self.new }
+        ensures failed { self.new.failed ≡ true }
+    {
+        match bytes.to_vec(self.alloc) {
+            Ok(copy) => self.fail(Call::BadWrite { at, bytes: copy }),
+            Err(_) => self.failed = true,
+        }
+    }
 }
 
 // Adds a call, where there is memory for it.
@@ -230,11 +267,31 @@ fn write_over(file: &mut Vec<u8>, at: usize, bytes: &[u8]) -> Result<(), AllocEr
     Ok(())
 }
 
+// The same, done in part: to any length, and each byte old or new; one behind the old end is new or 0.
+fn mix(file: &mut Vec<u8>, at: usize, bytes: &[u8], dice: &mut Dice) -> Result<(), AllocError> {
+    let most = if dice.below(2) == 0 {
+        bytes.len()
+    } else {
+        dice.below(bytes.len().saturating_add(1))
+    };
+    // of four bytes so many are new
+    let share = dice.below(5);
+    for i in 0..most.min(bytes.len()) {
+        let is_new = dice.below(4) < share;
+        match at.checked_add(i) {
+            Some(place) if place < file.len() => {
+                if is_new {
+                    file[place] = bytes[i];
+                }
+            }
+            _ => file.push(if is_new { bytes[i] } else { 0 })?,
+        }
+    }
+    Ok(())
+}
+
 // The same, done in part: to any length, and each byte old, new or neither.
 fn tear(file: &mut Vec<u8>, at: usize, bytes: &[u8], dice: &mut Dice) -> Result<(), AllocError> {
-    if at > file.len() {
-        return Ok(());
-    }
     let way = dice.below(6);
     if way == 0 {
         return Ok(());
@@ -275,7 +332,7 @@ fn cut_some(file: &mut Vec<u8>, len: usize, dice: &mut Dice) {
 }
 
 impl Device for TornFile {
-    ghost use Rattle.envy_torn.specs.Torn.{file_bytes, file_calls, file_outcome, file_left, file_synced, file_failed, counts_now_lem, only_now_lem, synced_before_lem};
+    ghost use Rattle.envy_torn.specs.Torn.{file_bytes, file_calls, file_outcome, file_left, file_synced, file_failed, file_bytewise, counts_now_lem, only_now_lem, synced_before_lem};
 
     ghost seen = { file_bytes };
 
@@ -289,20 +346,23 @@ impl Device for TornFile {
 
     ghost has_failed = { file_failed };
 
+    ghost bytewise = { file_bytewise };
+
     ghost counts_now = { counts_now_lem };
 
     ghost only_now = { only_now_lem };
 
     ghost synced_before = { synced_before_lem };
 
+    fn is_bytewise(&self) -> bool {
+        self.bytewise
+    }
+
     fn write_at(&mut self, at: usize, bytes: &[u8]) -> Result<(), DeviceFailed> {
         match self.planned_write(at, bytes) {
             Some((copy, next)) => self.finish(Call::Write { at, bytes: copy }, next),
             None => {
-                self.fail(Call::BadWrite {
-                    at,
-                    len: bytes.len(),
-                });
+                self.fail_write(at, bytes);
                 Err(DeviceFailed)
             }
         }
