@@ -139,6 +139,16 @@ free-flags sh fills kept order dead has_free has_dead are k lt = are.free_flags 
 pub dead-flags : (sh : Shape) (fills kept order dead has_free has_dead : List ℕ) → IsSpace sh fills kept order dead has_free has_dead → (k : ℕ) → k < sh.segments - 1 → get_or has_dead k 0 ≡ flag (dead_at (pool_of sh fills kept order) k)
 dead-flags sh fills kept order dead has_free has_dead are k lt = are.dead_flags k (omega arith) ∙ ap (λ (s : ℕ). flag (get_or fills s 0 - get_or kept s 0)) (sym (get_or-take (sh.segments - 1) order k 0 lt))
 
+-- and what they say of the place where a segment stands
+pub free-flag-here : (sh : Shape) (fills kept order dead has_free has_dead : List ℕ) (s n place : ℕ) → IsSpace sh fills kept order dead has_free has_dead → place < sh.segments → get_or order place 0 ≡ s → n ≡ get_or fills s 0 → get_or has_free place 0 ≡ flag (sh.rows - n)
+free-flag-here sh fills kept order dead has_free has_dead s n place are lt stands n_is = are.free_flags place lt ∙ ap (λ (x : ℕ). flag (sh.rows - x)) (ap (λ (i : ℕ). get_or fills i 0) stands ∙ sym n_is)
+
+pub dead-flag-here : (sh : Shape) (fills kept order dead has_free has_dead : List ℕ) (s n m place : ℕ) → IsSpace sh fills kept order dead has_free has_dead → place < sh.segments → get_or order place 0 ≡ s → n ≡ get_or fills s 0 → m ≡ get_or kept s 0 → get_or has_dead place 0 ≡ flag (n - m)
+dead-flag-here sh fills kept order dead has_free has_dead s n m place are lt stands n_is m_is =
+    are.dead_flags place lt
+    ∙ ap (λ (x : ℕ). flag (x - get_or kept (get_or order place 0) 0)) (ap (λ (i : ℕ). get_or fills i 0) stands ∙ sym n_is)
+    ∙ ap (λ (x : ℕ). flag (n - x)) (ap (λ (i : ℕ). get_or kept i 0) stands ∙ sym m_is)
+
 -- a number that was read
 pub read-at : (xs : List ℕ) (s m : ℕ) → s < length xs → m ≡ get_or xs s m → m ≡ get_or xs s 0
 read-at xs s m lt is = is ∙ sym (get_or_from_slice_get xs s (get_or xs s m) 0 (slice_get-get_or xs s m lt))

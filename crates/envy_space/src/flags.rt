@@ -65,6 +65,18 @@ impl Flags {
         self.write(place, rows.min(1));
     }
 
+    /// Gives a place, which had `before` rows, so many. Its flag is looked at only where rows come or go.
+    #[inline(always)]
+    pub fn change(&mut self, place: u32, before: u32, rows: u32)
+        requires place { place < length self.old }
+        requires before { slice_index self.old place ≡ flag_of before }
+        ensures { self.new ≡ slice_set self.old place (flag_of rows) }
+    {
+        if (before == 0) != (rows == 0) {
+            self.turn(place);
+        }
+    }
+
     /// Lets two places change places.
     pub fn exchange(&mut self, i: u32, j: u32)
         requires i { i < length self.old }

@@ -222,12 +222,13 @@ impl Space {
         requires kept { slice_index self.old.kept segment ≤ fill }
         ensures { self.new ≡ with_filled segment fill self.old }
     {
+        let (before, kept) = (self.fill(segment), self.kept(segment));
         self.fills[segment as usize] = fill;
-        let dead = fill - self.kept[segment as usize];
         let place = self.order.place_of(segment);
-        self.has_free.set(place, self.shape.rows - fill);
-        self.has_dead.set(place, dead);
-        self.dead.set(place, dead);
+        let rows = self.shape.rows;
+        self.has_free.change(place, rows - before, rows - fill);
+        self.has_dead.change(place, before - kept, fill - kept);
+        self.dead.set(place, fill - kept);
     }
 
     /// Writes how many rows of a segment are kept.
@@ -236,10 +237,10 @@ impl Space {
         requires fits { kept ≤ slice_index self.old.fills segment }
         ensures { self.new ≡ with_kept segment kept self.old }
     {
+        let (fill, before) = (self.fill(segment), self.kept(segment));
         self.kept[segment as usize] = kept;
-        let dead = self.fills[segment as usize] - kept;
         let place = self.order.place_of(segment);
-        self.has_dead.set(place, dead);
-        self.dead.set(place, dead);
+        self.has_dead.change(place, fill - before, fill - kept);
+        self.dead.set(place, fill - kept);
     }
 }
