@@ -5,11 +5,11 @@ use Rattle.std.proofs.lemmas.Bool.{cases_lt}
 use Rattle.std.proofs.lemmas.List.{map-append, length-append, length-take-le, take-append-drop}
 use Rattle.envy_io.specs.declared.lines.Next.{Next}
 use Rattle.envy_io.specs.declared.lines.Next.TheVariants.{Line as NextIsLine, End as NextIsEnd, Long, Failed as NextFailed, Spent}
-use Rattle.std.specs.List.{AllByRecursion}
 use Rattle.envy_io.specs.Lines.{NoNewline, lines_of, spelled}
 use Rattle.envy_io.specs.Streams.{Feed, Rises, IsDry, with_front}
 use Rattle.envy_io.specs.Taking.{Taking, HasGiven, NextLine, Takes, Reads, Wants, IsOpen, Keeps}
 use Rattle.envy_io.proofs.TakesLemmas.{with_front-with_front}
+use Rattle.envy_io.proofs.ReadsLemmas.{each-push}
 use Rattle.envy_trace.specs.declared.fault.LineFault.{LineFault}
 use Rattle.envy_trace.specs.declared.fault.LineFault.TheVariants.{Long as TooLongLine}
 use Rattle.envy_serve.specs.Reading.{HasRead, IsMet, ReadAll, ReadBetween, ReadStuck}
@@ -65,10 +65,6 @@ whole-met bytes piece pieces reader g = at g.split
 
 pub read-refused : {Line : Type 0} (reads : List ℕ → Result Line LineFault) (skipped : ℕ) (from feed : Feed) (reader : Taking) (lines : List Line) (piece : List ℕ) (fault : LineFault) → HasMet reads skipped from feed reader lines NextIsLine piece → reads piece ≡ Err fault → ReadStuck fault reads skipped from feed reader lines
 read-refused reads skipped from feed reader lines piece fault m is = record { bytes = m.bytes; pieces = m.pieces; piece = piece; source = m.source; dry = m.dry; count = m.count; each = HasGiven.each m.met_reads; met = whole-met m.bytes piece m.pieces reader m.met_reads; says = m.says; refused = is }
-
-each-push : (lines : List (List ℕ)) (line : List ℕ) → AllByRecursion NoNewline lines → NoNewline line → AllByRecursion NoNewline (lines ++ line ∷ [])
-each-push [] line each plain = (plain, tt)
-each-push (first ∷ lines) line (here, each) plain = (here, each-push lines line each plain)
 
 -- what is held stands behind the lines given, where anything is held
 held-behind : (bytes : List ℕ) (pieces : List (List ℕ)) (reader : Taking) → HasGiven bytes pieces reader → 0 < length reader.held → bytes ≡ spelled pieces ++ reader.held

@@ -10,7 +10,7 @@ use Rattle.std.specs.Str.Parse.{AllDigits}
 use Rattle.envy_trace.specs.Grammar.{is_blank, pieces}
 use Rattle.envy_trace.proofs.Digits.{run-ends}
 
-abbrev is_full : List ℕ → Bool
+abbrev pub is_full : List ℕ → Bool
 is_full piece = nat_lt 0 (length piece)
 
 abbrev no_blank : ℕ → Bool

@@ -14,6 +14,7 @@ use Rattle.envy_trace.specs.declared.line.Line.TheVariants.{Empty, Load, Look, S
 use Rattle.envy_trace.specs.Grammar.{is_blank, pieces, without_return, fields_of}
 use Rattle.envy_trace.proofs.Numerals.{both}
 use Rattle.envy_trace.specs.Spelling.{parts, IsLine, IsNumeralOf, written, written_parts, line_bytes, Spells, Reads}
+use Rattle.envy_trace.proofs.Pieces.{is_full}
 
 -- a field as it is written: not empty, of bytes above the space
 pub record IsField (w : List ℕ) : Type 0 where
@@ -25,9 +26,6 @@ above b h = grind (arith, nat_tests)
 
 no_blanks : (w : List ℕ) → IsField w → All (λ b. is_blank b ≡ false) w
 no_blanks w is = All-weaker (λ b. 32 < b) (λ b. is_blank b ≡ false) above w is.bytes
-
-abbrev is_full : List ℕ → Bool
-is_full piece = nat_lt 0 (length piece)
 
 piece_alone : (w : List ℕ) → IsField w → pieces w ≡ w ∷ []
 piece_alone w is =
