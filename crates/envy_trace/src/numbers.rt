@@ -189,13 +189,9 @@ pub fn three_numbers(
     ensures within { IfOk result
         (λ p. (p.0 ≤ first.greatest) × (p.1 ≤ second.greatest) × (p.2 ≤ third.greatest)) }
 {
-    let (x, rest) = need_field(rest)?;
-    let (y, rest) = need_field(rest)?;
-    let (z, rest) = need_field(rest)?;
+    let (_, x, rest) = need_number(rest, first)?;
+    let (_, y, rest) = need_number(rest, second)?;
+    let (_, z, rest) = need_number(rest, third)?;
     no_number(rest)?;
-    Ok((
-        read_number(x, first)?,
-        read_number(y, second)?,
-        read_number(z, third)?,
-    ))
+    Ok((x?, y?, z?))
 }
