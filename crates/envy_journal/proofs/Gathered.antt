@@ -12,7 +12,8 @@ use Rattle.envy_journal.specs.Journal.{IsFileOf}
 use Rattle.envy_journal.specs.Log.{Begins}
 use Rattle.envy_journal.specs.Reading.{operations, Leads}
 use Rattle.envy_journal.specs.Snapshot.{Gathers, Makes, gathered}
-use Rattle.envy_journal.proofs.Logged.{begins_front, shut_gate}
+use Rattle.envy_journal.proofs.Batches.{closed_ends}
+use Rattle.envy_journal.proofs.Logged.{begins_front, ends_gate}
 use Rattle.envy_journal.proofs.Parsed.{leads_over, leads_open, leads_close, leads_both, leads_to}
 use Rattle.envy_journal.proofs.Replayed.{after-append}
 
@@ -118,7 +119,7 @@ module _ (s : State) (most : ℕ) (bytes file : List ℕ) (is : Makes s.shape (c
     content =
         sym is.content
         ∙ ap (λ (p : List Operation). holds s.shape p)
-        (sym (shut_gate kept file (operations bytes) 0 kept_leads (λ e. let no : 0 ≡ 4 = e in cc) (subst (λ (l : List ℕ). Begins l file) closed (begins_self file))));
+        (sym (ends_gate kept file (operations bytes) kept_leads (closed_ends kept file (subst (λ (l : List ℕ). Begins l file) closed (begins_self file)))));
   }
 
   -- behind a replacement what lies before the gate is the new file,

@@ -6,17 +6,17 @@ use Rattle.std.proofs.lemmas.Nat.{le_bytes_4}
 use Rattle.std.proofs.Math.Seq.{take-add}
 use Rattle.std.specs.Int.{w32, from_le_bytes}
 use Rattle.envy_base.specs.declared.shape.Shape.{Shape}
-use Rattle.envy_journal.specs.Head.{head_bytes, mark}
+use Rattle.envy_journal.specs.Head.{head_bytes, mark, version}
 use Rattle.envy_journal.specs.Log.{Begins}
 use Rattle.envy_journal.specs.Reading.{number_bytes}
 
 -- a head is a mark, a version and six numbers
-pub pieces : (sh : Shape) (named versioned a b c d e f : List ℕ) → named ≡ mark → versioned ≡ named ++ 1 ∷ []
+pub pieces : (sh : Shape) (named versioned a b c d e f : List ℕ) → named ≡ mark → versioned ≡ named ++ version ∷ []
     → a ≡ versioned ++ number_bytes sh.segments → b ≡ a ++ number_bytes sh.rows → c ≡ b ++ number_bytes sh.pages
     → d ≡ c ++ number_bytes sh.shadows → e ≡ d ++ number_bytes sh.frames → f ≡ e ++ number_bytes sh.entries → f ≡ head_bytes sh
 pieces sh named versioned a b c d e f is_named is_versioned is_a is_b is_c is_d is_e is_f =
-    let with_version : versioned ≡ mark ++ 1 ∷ [] = is_versioned ∙ ap (λ (l : List ℕ). l ++ 1 ∷ []) is_named in
-    let with_a : a ≡ (mark ++ 1 ∷ []) ++ number_bytes sh.segments = is_a ∙ ap (λ (l : List ℕ). l ++ number_bytes sh.segments) with_version in
+    let with_version : versioned ≡ mark ++ version ∷ [] = is_versioned ∙ ap (λ (l : List ℕ). l ++ version ∷ []) is_named in
+    let with_a : a ≡ (mark ++ version ∷ []) ++ number_bytes sh.segments = is_a ∙ ap (λ (l : List ℕ). l ++ number_bytes sh.segments) with_version in
     let with_b = is_b ∙ ap (λ (l : List ℕ). l ++ number_bytes sh.rows) with_a in
     let with_c = is_c ∙ ap (λ (l : List ℕ). l ++ number_bytes sh.pages) with_b in
     let with_d = is_d ∙ ap (λ (l : List ℕ). l ++ number_bytes sh.shadows) with_c in

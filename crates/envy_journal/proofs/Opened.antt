@@ -50,7 +50,7 @@ made_new sh =
     let h = head_bytes sh in
     record {
       head = take_at h (0 ∷ []) (length h) refl;
-      reads = leads_end false false 33 h (0 ∷ []) [] (leads_over false 33 h refl) (shut 0 [] (λ e. let no : 0 ≡ 4 = e in cc));
+      reads = leads_end false false 33 h (0 ∷ []) [] (leads_over false 33 h refl) (shut 0 [] refl);
     }
 
 -- the same at rest

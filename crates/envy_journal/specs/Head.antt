@@ -9,10 +9,14 @@ use Rattle.envy_journal.specs.Reading.{operations, number_bytes}
 abbrev pub mark : List ℕ
 mark = 1 ∷ codes "eNVyJNL"
 
+-- the version of the format: the second has counted batches
+abbrev pub version : ℕ
+version = 2
+
 -- the mark, the version and the sizes: 33 bytes
 abbrev pub head_bytes : Shape → List ℕ
 head_bytes sh =
-    mark ++ 1 ∷ number_bytes sh.segments ++ number_bytes sh.rows ++ number_bytes sh.pages
+    mark ++ version ∷ number_bytes sh.segments ++ number_bytes sh.rows ++ number_bytes sh.pages
     ++ number_bytes sh.shadows ++ number_bytes sh.frames ++ number_bytes sh.entries
 
 -- a journal of a board of this shape, with these operations
@@ -35,4 +39,4 @@ HasNoJournal file = (length file < 33) ⊎ (take 8 file ≢ mark)
 -- a journal of a version that isn't known here
 pub record IsOtherVersion (file : List ℕ) : Type 0 where
   pub marked : take 8 file ≡ mark
-  pub version : slice_index file 8 ≢ 1
+  pub other : slice_index file 8 ≢ version

@@ -190,7 +190,7 @@ fn gather<B: Steady, D: Place>(board: &B, log: &mut Log<D>) -> Result<(), Device
 pub(crate) fn rewrite<B: Steady, D: Place>(board: &B, log: &mut Log<D>) -> Result<(), DeviceFailed>
     requires room { 263 ≤ length log.old.buffer.items }
     ensures rest { OnOk result (IsAtRest D.seen D.may_leave D.moment D.synced log.new.device log.new.gate
-        × (log.new.end ≡ log.new.gate + 1) × (log.new.used ≡ 0)) }
+        × (log.new.end ≡ log.new.gate + 1) × (log.new.used ≡ 0) × (log.new.zeros ≡ 0)) }
     ensures leads { OnOk result
         (Leads false 33 (take log.new.gate (D.seen log.new.device))
         (operations (take log.new.gate (D.seen log.new.device))) false) }

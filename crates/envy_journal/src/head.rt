@@ -13,8 +13,8 @@ pub(crate) const HEAD: usize = 33;
 /// What a journal that is made begins with.
 pub(crate) const MARK: [u8; 8] = [1, b'e', b'N', b'V', b'y', b'J', b'N', b'L'];
 
-/// The version of the format.
-pub(crate) const VERSION: u8 = 1;
+/// The version of the format. The second has counted batches, which a program of the first would take for what a crash left.
+pub(crate) const VERSION: u8 = 2;
 
 /// Why bytes don't begin as a journal does.
 #[derive(Clone, Copy, Debug, PartialEq, Eq)]

@@ -94,7 +94,7 @@ impl<D: Place> Log<D> {
         requires gathers { Gathers D.second self.old }
         requires small { length (gathered D.second self.old) < 2 ^ 62 }
         ensures file { OnOk result ((D.seen self.new.device ≡ gathered D.second self.old ++ 5 ∷ 0 ∷ [])
-            × (self.new.used ≡ 0)) }
+            × (self.new.used ≡ 0) × (self.new.zeros ≡ 0)) }
         ensures gate { OnOk result ((self.new.gate ≡ length (gathered D.second self.old) + 1)
             × (self.new.end ≡ self.new.gate + 1)) }
         ensures durable { OnOk result (Only (D.seen self.new.device) (D.may_leave self.new.device)) }
@@ -108,6 +108,7 @@ impl<D: Place> Log<D> {
         self.spill_second()?;
         self.device.replace()?;
         self.gate = self.end - 1;
+        self.zeros = 0;
         Ok(())
     }
 }

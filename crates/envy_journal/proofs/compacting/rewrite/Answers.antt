@@ -22,6 +22,7 @@ returns-clause-rest g c =
       },
       is.gate.1,
       is.file.1,
+      is.file.2,
     )
 
 pub returns-clause-leads : goal.returns-clause-leads

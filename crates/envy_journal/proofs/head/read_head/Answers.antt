@@ -9,13 +9,13 @@ returns-clause-sizes c =
     let bytes = c.args.bytes.now in
     let long : 33 ≤ length bytes = omega (arith, c.if-bytes-lt-HEAD.false) in
     let named : take 8 bytes ≡ mark = search rules in
-    let version : get_or bytes 8 0 ≡ 1 = c.if-bytes-ne-VERSION.false in
+    let version : get_or bytes 8 0 ≡ 2 = c.if-bytes-ne-VERSION.false in
     let small : (i : ℕ) → get_or bytes i 0 < 256 = λ i. omega (arith, c.type_inv.bytes i) in
     let sh : Shape =
     record { segments = c.number_at.result; rows = c.number_at-2.result; pages = c.number_at-3.result; shadows = c.number_at-4.result; frames = c.number_at-5.result; entries = c.number_at-6.result } in
     pieces sh (take 8 bytes) (take 9 bytes) (take 13 bytes) (take 17 bytes) (take 21 bytes) (take 25 bytes) (take 29 bytes) (take 33 bytes)
     named
-    (byte_back bytes 8 1 (omega (arith, long)) version)
+    (byte_back bytes 8 2 (omega (arith, long)) version)
     (number_back bytes small 9 sh.segments (omega (arith, long)) c.number_at.ensures)
     (number_back bytes small 13 sh.rows (omega (arith, long)) c.number_at-2.ensures)
     (number_back bytes small 17 sh.pages (omega (arith, long)) c.number_at-3.ensures)

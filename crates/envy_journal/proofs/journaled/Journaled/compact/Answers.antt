@@ -1,5 +1,6 @@
 use Rattle.std.proofs.Common.{◌∙◌, refl, sym}
 use Rattle.std.proofs.lemmas.Bool.{false≢true}
+use Rattle.envy_journal.proofs.Batches.{counted_rest}
 use Rattle.envy_journal.proofs.Caused.{by_device, by_end, no_fault}
 use Rattle.envy_journal.proofs.Compacted.{crash_compacted, crash_kept_now, kept_compacted, logged_compacted, stands_compacted}
 use Rattle.envy_journal.proofs.Ran.{run_sync}
@@ -18,6 +19,7 @@ invariant_of-self g c =
       stands = λ sure.
           stands_compacted g.D.Device.seen g.D.Device.may_leave g.D.Device.left_since g.D.Device.synced j.log s (j.logged c.if-self.false) g.D.Device.moment new is.rest.0 is.rest.1 is.rest.2 is.leads is.file (g.met.D.Device.only_now new.device) c.rewrite.ensures.room;
       ended = λ dead. absurd (false≢true (sym c.if-self.false ∙ dead));
+      counted = λ alive. counted_rest g.D.Device.seen g.D.Device.may_leave g.D.Device.moment g.D.Device.synced g.D.Device.bytewise new is.rest.0 is.rest.2 is.rest.3;
     }
 
 pub invariant_of-self-in-Err : goal.invariant_of-self-in-Err
@@ -25,6 +27,7 @@ invariant_of-self-in-Err g c = record {
   logged = λ alive. absurd (false≢true (sym alive));
   stands = λ sure. absurd (false≢true (sym sure));
   ended = λ dead small. c.in-Err.ensures.failed;
+  counted = λ alive. absurd (false≢true (sym alive));
 }
 
 pub returns-in-Ok-clause-ok : goal.returns-in-Ok-clause-ok

@@ -21,16 +21,17 @@ invariant_of-self g c =
     let s = g.B.Board.state j.board in
     let sound = ok.0 in
     record {
-      logged = λ alive. logged_synced g.D.Device.seen g.D.Device.may_leave g.D.Device.left_since g.D.Device.synced j.log (g.B.Board.state j.board) (j.logged alive) c.sync.new.self c.sync.ensures.room ok.0 ok.1 ok.2;
-      stands = λ sure. stands_tied seen leave left last c.sync.new.self s (logged_synced seen leave left last j.log s (j.logged c.if-self.false) c.sync.new.self c.sync.ensures.room ok.0 ok.1 ok.2) c.sync.new.self s refl refl sound.tied;
+      logged = λ alive. logged_synced g.D.Device.seen g.D.Device.may_leave g.D.Device.left_since g.D.Device.synced j.log (g.B.Board.state j.board) (j.logged alive) c.sync.new.self c.sync.ensures.room ok.0 ok.1.0 ok.1.1 ok.1.2 ok.2;
+      stands = λ sure. stands_tied seen leave left last c.sync.new.self s (logged_synced seen leave left last j.log s (j.logged c.if-self.false) c.sync.new.self c.sync.ensures.room ok.0 ok.1.0 ok.1.1 ok.1.2 ok.2) c.sync.new.self s refl refl sound.tied;
       ended = λ dead. absurd (false≢true (sym c.if-self.false ∙ dead));
+      counted = λ alive. c.in-Ok.ensures.counted;
     }
 
 pub returns-in-Ok-clause-appended : goal.returns-in-Ok-clause-appended
 returns-in-Ok-clause-appended g c =
     let j = c.args.self.now in
     let ok = c.in-Ok.ensures.ok in
-    kept_all g.D.Device.seen g.D.Device.may_leave g.D.Device.left_since g.D.Device.synced j.log (g.B.Board.state j.board) (j.logged c.if-self.false) c.sync.new.self c.sync.ensures.room ok.0 ok.1 ok.2
+    kept_all g.D.Device.seen g.D.Device.may_leave g.D.Device.left_since g.D.Device.synced j.log (g.B.Board.state j.board) (j.logged c.if-self.false) c.sync.new.self c.sync.ensures.room ok.0 ok.1.0 ok.1.1 ok.1.2 ok.2
 
 pub returns-in-Ok-clause-ok : goal.returns-in-Ok-clause-ok
 returns-in-Ok-clause-ok g c =
@@ -39,11 +40,11 @@ returns-in-Ok-clause-ok g c =
     let ok = c.in-Ok.ensures.ok in
     let s = g.B.Board.state j.board in
     let kept_now = returns-in-Ok-clause-appended g c in
-    let done_now = done_same g.D.Device.seen g.D.Device.may_leave g.D.Device.left_since g.D.Device.synced j.log s (j.logged alive) c.sync.new.self c.sync.ensures.room ok.0 ok.1 ok.2 in
+    let done_now = done_same g.D.Device.seen g.D.Device.may_leave g.D.Device.left_since g.D.Device.synced j.log s (j.logged alive) c.sync.new.self c.sync.ensures.room ok.0 ok.1.0 ok.1.1 ok.1.2 ok.2 in
     record {
       alive = alive;
       still_alive = alive;
-      none_held = held_none g.D.Device.seen g.D.Device.may_leave g.D.Device.left_since g.D.Device.synced j.log s (j.logged alive) c.sync.new.self c.sync.ensures.room ok.0 ok.1 ok.2;
+      none_held = held_none g.D.Device.seen g.D.Device.may_leave g.D.Device.left_since g.D.Device.synced j.log s (j.logged alive) c.sync.new.self c.sync.ensures.room ok.0 ok.1.0 ok.1.1 ok.1.2 ok.2;
       all = done_now ∙ sym kept_now;
       same = ap (λ (p : List Operation). holds s.shape p) kept_now;
     }
@@ -53,7 +54,7 @@ returns-in-Ok-clause-size g c =
     let j = c.args.self.now in
     let ok = c.in-Ok.ensures.ok in
     let logged = j.logged c.if-self.false in
-    size_synced g.D.Device.seen g.D.Device.may_leave g.D.Device.left_since g.D.Device.synced j.log logged.sound c.sync.new.self ok.0 ok.1 ok.2
+    size_synced g.D.Device.seen g.D.Device.may_leave g.D.Device.left_since g.D.Device.synced j.log logged.sound ok.1.0 ok.1.1 c.sync.new.self ok.0 ok.1.2 ok.2
 
 pub returns-in-Ok-clause-any_moment : goal.returns-in-Ok-clause-any_moment
 returns-in-Ok-clause-any_moment g c = λ alive.
@@ -81,6 +82,7 @@ invariant_of-self-in-Err g c = record {
   logged = λ alive. absurd (false≢true (sym alive));
   stands = λ sure. absurd (false≢true (sym sure));
   ended = λ dead. ended_by g.D.Device.seen g.D.Device.has_failed c.sync.new.self c.in-Err.error c.in-Err.ensures.cause;
+  counted = λ alive. absurd (false≢true (sym alive));
 }
 
 pub returns-in-Err-clause-cause : goal.returns-in-Err-clause-cause
