@@ -25,7 +25,7 @@ understood() {
 }
 
 # value OPTION: one that is in every range
-value() { case $1 in policy) echo fifo ;; file) echo "$work/kept" ;; segments) echo 40 ;; rows) echo 40 ;; mark | branches | compact) echo 1 ;; *) echo 32 ;; esac; }
+value() { case $1 in policy) echo fifo ;; file) echo "$work/kept" ;; segments) echo 40 ;; rows) echo 40 ;; mark | branches | bytewise | compact) echo 1 ;; *) echo 32 ;; esac; }
 
 pairs=0
 options=$(sed -n 's/^option | \([a-z]*\) .*/\1/p' words/table)
@@ -104,6 +104,7 @@ keep --file -a|--file: -a is no path
 keep --file a --file b|--file twice
 keep --file a --lives 3|keep takes no --lives
 keep --file a --compact 2|--compact: 2 is above 1
+keep --file a --bytewise 2|--bytewise: 2 is above 1
 run -- --rows 3|behind -- stands --rows
 TEXT
 echo "words: $mistakes mistakes are told, and the program refuses each"

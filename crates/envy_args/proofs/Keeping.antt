@@ -1,11 +1,12 @@
 -- The words behind `keep`, and what they name.
-use Rattle.std.proofs.Common.{◌≡◌, ◌∙◌, Bool, true, false, ◌&&◌, ap, sym, refl, List, Option, Some, None, Ok, Err, codes, option_and_then, if◌then◌else◌, true≢false}
+use Rattle.std.proofs.Common.{◌≡◌, ◌∙◌, Bool, true, false, ◌&&◌, ap, sym, refl, List, [], ◌∷◌, Option, Some, None, Ok, Err, codes, option_and_then, if◌then◌else◌, true≢false}
 use Rattle.std.specs.Option.{option_map_or}
 use Rattle.std.proofs.lemmas.Bool.{and_from, and_right, false_from_ne_true}
 use Rattle.envy_args.specs.declared.command.WordsFault.TheVariants.{Form}
+use Rattle.envy_args.specs.declared.keep.KeepOptions.{KeepOptions}
 use Rattle.envy_args.specs.Words.{Options, Text, accepted, are_known, have_values, is_path, is_value, options_in, plain_options, value_of}
 use Rattle.envy_args.specs.Reading.{are_readable, is_readable}
-use Rattle.envy_args.specs.Keep.{at_path, beside_file, keep_names, keep_of, keep_options_of, keeping}
+use Rattle.envy_args.specs.Keep.{at_path, beside_file, bytewise_of, keep_names, keep_of, keep_options_of, keeping}
 use Rattle.envy_args.proofs.Valued.{all-readable, have-values}
 
 -- an option of `plain` that can't be read
@@ -37,21 +38,34 @@ module _ (words : List Text) (o : Options) (read : options_in words None ≡ Som
   pub no-options : are_readable beside_file o ≡ false → keep_of words ≡ Err Form
   no-options e = unvalued (false_from_ne_true (have_values o) (λ valued. true≢false (sym (all-readable beside_file o valued) ∙ e)))
 
+  pub no-trust : is_readable o (codes "bytewise") ≡ false → keep_of words ≡ Err Form
+  no-trust e = unvalued (false_from_ne_true (have_values o) (λ valued. true≢false (sym (all-readable (codes "bytewise" ∷ []) o valued) ∙ ap (λ b. b && true) e)))
+
   pub no-path : option_map_or is_path (value_of o (codes "file")) false ≡ false → keep_of words ≡ Err Form
   no-path e = go file refl e
     where
       none : (b : Bool) → file ≡ None → keep_of words ≡ (if b then keeping o else Err Form) → keep_of words ≡ Err Form
-      none true is all = all ∙ ap (λ (p : Option Text). at_path p (keep_options_of o)) is
+      none true is all = all ∙ ap (λ (p : Option Text). at_path p (bytewise_of o) (keep_options_of o)) is
       none false is all = all
 
       go : (v : Option Text) → file ≡ v → option_map_or is_path v false ≡ false → keep_of words ≡ Err Form
       go None is bad = none (have_values o) is (by-values (have_values o) refl)
       go (Some text) is bad =
           let unread : is_readable o (codes "file") ≡ false = ap (λ (v : Option Text). option_map_or (is_value (codes "file")) v true) is ∙ bad in
-          unvalued (false_from_ne_true (have_values o) (λ valued. true≢false (sym (all-readable keep_names o valued) ∙ ap (λ b. b && are_readable beside_file o) unread)))
+          unvalued (false_from_ne_true (have_values o) (λ valued. true≢false (sym (all-readable keep_names o valued) ∙ ap (λ b. b && are_readable (codes "bytewise" ∷ beside_file) o) unread)))
 
-  pub named : (path : Text) → value_of o (codes "file") ≡ Some path → is_path path ≡ true → are_readable beside_file o ≡ true → keep_of words ≡ Ok (path, keep_options_of o)
-  named path is good plain =
+  named : (path : Text) → value_of o (codes "file") ≡ Some path → is_path path ≡ true → is_readable o (codes "bytewise") ≡ true → are_readable beside_file o ≡ true
+      → keep_of words ≡ Ok (path, bytewise_of o, keep_options_of o)
+  named path is good told plain =
       let readable : is_readable o (codes "file") ≡ true = ap (λ (v : Option Text). option_map_or (is_value (codes "file")) v true) is ∙ good in
-      by-values true (have-values keep_names o known (and_from (is_readable o (codes "file")) _ readable plain))
-      ∙ ap (λ (p : Option Text). at_path p (keep_options_of o)) is
+      by-values true (have-values keep_names o known (and_from (is_readable o (codes "file")) _ readable (and_from (is_readable o (codes "bytewise")) _ told plain)))
+      ∙ ap (λ (p : Option Text). at_path p (bytewise_of o) (keep_options_of o)) is
+
+  -- the same of what was read
+  pub named-as : (path : Text) (bytewise : Bool) (options : KeepOptions) → value_of o (codes "file") ≡ Some path → is_path path ≡ true
+      → is_readable o (codes "bytewise") ≡ true → are_readable beside_file o ≡ true → bytewise ≡ bytewise_of o → options ≡ keep_options_of o
+      → keep_of words ≡ Ok (path, bytewise, options)
+  named-as path bytewise options is good told plain trusted asked =
+      named path is good told plain
+      ∙ ap (λ (b : Bool). Ok (path, b, keep_options_of o)) (sym trusted)
+      ∙ ap (λ (k : KeepOptions). Ok (path, bytewise, k)) (sym asked)

@@ -1,5 +1,5 @@
 -- Which memory in a file the words behind `keep` name.
-use Rattle.std.specs.Prelude.{◌==◌, List, ◌∷◌, codes, Option, None, Some, unwrap_or, Result, Ok, Err}
+use Rattle.std.specs.Prelude.{◌==◌, Bool, List, ◌∷◌, codes, Option, None, Some, unwrap_or, Result, Ok, Err}
 use Rattle.std.specs.Option.{option_map_or}
 use Rattle.envy_base.specs.declared.shape.Shape.{Shape}
 use Rattle.envy_policy.specs.declared.setup.Setup.{Setup}
@@ -13,7 +13,7 @@ abbrev pub beside_file : List Text
 beside_file = codes "compact" ∷ plain_options
 
 abbrev pub keep_names : List Text
-keep_names = codes "file" ∷ beside_file
+keep_names = codes "file" ∷ codes "bytewise" ∷ beside_file
 
 -- a size that isn't given isn't named
 abbrev pub sizes_of : Options → Sizes
@@ -35,16 +35,21 @@ keep_options_of options = record {
   compact = number_of options (codes "compact") 0 == 1;
 }
 
+-- whether the words say that the file is written byte by byte
+abbrev pub bytewise_of : Options → Bool
+bytewise_of options = number_of options (codes "bytewise") 0 == 1
+
 -- a path is needed
-abbrev pub at_path : Option Text → KeepOptions → Result (Text × KeepOptions) WordsFault
-at_path None options = Err Form
-at_path (Some path) options = Ok (path, options)
+abbrev pub at_path : Option Text → Bool → KeepOptions → Result (Text × Bool × KeepOptions) WordsFault
+at_path None bytewise options = Err Form
+at_path (Some path) bytewise options = Ok (path, bytewise, options)
 
-abbrev pub keeping : Options → Result (Text × KeepOptions) WordsFault
-keeping options = at_path (value_of options (codes "file")) (keep_options_of options)
+abbrev pub keeping : Options → Result (Text × Bool × KeepOptions) WordsFault
+keeping options = at_path (value_of options (codes "file")) (bytewise_of options) (keep_options_of options)
 
--- the path and the options that the words name, or why they are refused; no rule is asked before the file is read
-unfoldable pub keep_of : List Text → Result (Text × KeepOptions) WordsFault
+-- the path, what is said of its writes, and the options that the words name, or why they are refused; no rule is asked before
+-- the file is read
+unfoldable pub keep_of : List Text → Result (Text × Bool × KeepOptions) WordsFault
 keep_of words = option_map_or keeping (accepted keep_names words) (Err Form)
 
 -- the sizes that are named, and of the others those of a shape

@@ -82,7 +82,7 @@ policy_named part text =
 abbrev pub bits_of : Text → ℕ
 bits_of name =
     if bytes_eq name (codes "limit") || bytes_eq name (codes "start") then 64
-    else (if bytes_eq name (codes "compact") then 1 else 32)
+    else (if bytes_eq name (codes "compact") || bytes_eq name (codes "bytewise") then 1 else 32)
 
 -- a path: it isn't empty, and doesn't begin with `-`
 abbrev pub is_path : Text → Bool

@@ -40,13 +40,15 @@ pub struct KeepOptions {
 pub struct KeepWords<'a> {
     /// The path of the file.
     pub file: &'a str,
+    /// Whether the file is trusted to be written byte by byte.
+    pub bytewise: bool,
     pub options: KeepOptions,
 }
 
 /// The options of `keep`.
-const NAMES: [&str; 12] = [
-    "file", "compact", "segments", "rows", "pages", "shadows", "frames", "entries", "part",
-    "policy", "limit", "mark",
+const NAMES: [&str; 13] = [
+    "file", "bytewise", "compact", "segments", "rows", "pages", "shadows", "frames", "entries",
+    "part", "policy", "limit", "mark",
 ];
 
 impl Sizes {
@@ -86,17 +88,24 @@ impl KeepOptions {
     }
 }
 
-/// Reads the words behind `keep`. `--file` is needed, with a path that doesn't begin with `-`; beside it stand `--compact`,
-/// of 0 or 1, and the options of `plain`, each at most once. `Form` where the words are others. No rule is asked: that waits for the file.
+/// Reads the words behind `keep`. `--file` is needed, with a path that doesn't begin with `-`; beside it stand `--bytewise`
+/// and `--compact`, of 0 or 1, and the options of `plain`, each at most once. `Form` where the words are others. No rule is
+/// asked: that waits for the file.
 pub fn read_keep(alloc: Global, words: &[String]) -> Result<KeepWords<'_>, WordsFault>
-    ensures said { IfOk result (λ said. keep_of (map string_bytes words.now) ≡ Ok (said.file.now, said.options)) }
+    ensures said { IfOk result (λ said. keep_of (map string_bytes words.now)
+        ≡ Ok (said.file.now, said.bytewise, said.options)) }
     ensures refused { IfErr result (λ fault. (fault ≡ WordsFault.Memory)
         ⊎ (keep_of (map string_bytes words.now) ≡ Err fault)) }
 {
     let given = Options::read(alloc, &NAMES, words)?;
     let file = given.path()?;
+    let bytewise = given.flag("bytewise")?;
     let options = keep_options(&given)?;
-    Ok(KeepWords { file, options })
+    Ok(KeepWords {
+        file,
+        bytewise,
+        options,
+    })
 }
 
 fn keep_options(options: &Options) -> Result<KeepOptions, WordsFault>

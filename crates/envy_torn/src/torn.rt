@@ -4,6 +4,7 @@ ghost use Rattle.std.specs.Prelude.{◌≡◌, ◌≤◌, ℕ, List, [], ◌∷�
 ghost use Rattle.envy_torn.specs.Calls.{seen_after, written};
 
 use crate::Dice;
+use crate::drawn::{cut_some, mix, tear, write_over};
 use envy_device::{Device, DeviceFailed, Place};
 use std::alloc::{AllocError, Global};
 use std::mem;
@@ -254,81 +255,6 @@ fn overwritten(
         next.extend_from_slice(&file[at + bytes.len()..])?;
     }
     Ok((bytes.to_vec(alloc)?, next))
-}
-
-// Bytes over what is there, and past the end.
-fn write_over(file: &mut Vec<u8>, at: usize, bytes: &[u8]) -> Result<(), AllocError> {
-    for i in 0..bytes.len() {
-        match at.checked_add(i) {
-            Some(place) if place < file.len() => file[place] = bytes[i],
-            _ => file.push(bytes[i])?,
-        }
-    }
-    Ok(())
-}
-
-// The same, done in part: to any length, and each byte old or new; one behind the old end is new or 0.
-fn mix(file: &mut Vec<u8>, at: usize, bytes: &[u8], dice: &mut Dice) -> Result<(), AllocError> {
-    let most = if dice.below(2) == 0 {
-        bytes.len()
-    } else {
-        dice.below(bytes.len().saturating_add(1))
-    };
-    // of four bytes so many are new
-    let share = dice.below(5);
-    for i in 0..most.min(bytes.len()) {
-        let is_new = dice.below(4) < share;
-        match at.checked_add(i) {
-            Some(place) if place < file.len() => {
-                if is_new {
-                    file[place] = bytes[i];
-                }
-            }
-            _ => file.push(if is_new { bytes[i] } else { 0 })?,
-        }
-    }
-    Ok(())
-}
-
-// The same, done in part: to any length, and each byte old, new or neither.
-fn tear(file: &mut Vec<u8>, at: usize, bytes: &[u8], dice: &mut Dice) -> Result<(), AllocError> {
-    let way = dice.below(6);
-    if way == 0 {
-        return Ok(());
-    }
-    let most = if way <= 2 {
-        bytes.len()
-    } else {
-        dice.below(bytes.len().saturating_add(1))
-    };
-    for i in 0..most.min(bytes.len()) {
-        let byte = match (way, dice.below(4)) {
-            (5, 0) => (dice.below(256) % 256) as u8,
-            (4 | 5, 1) => 0,
-            _ => bytes[i],
-        };
-        match at.checked_add(i) {
-            Some(place) if place < file.len() => {
-                if way == 1 || dice.below(3) > 0 {
-                    file[place] = byte;
-                }
-            }
-            _ => file.push(byte)?,
-        }
-    }
-    Ok(())
-}
-
-fn cut_some(file: &mut Vec<u8>, len: usize, dice: &mut Dice) {
-    if len < file.len() {
-        let more = dice.below((file.len() - len).saturating_add(1));
-        let keep = len.saturating_add(more);
-        if dice.below(3) > 0 {
-            file.truncate(keep);
-        } else {
-            file.truncate(len);
-        }
-    }
 }
 
 impl Device for TornFile {
