@@ -16,6 +16,7 @@ use Rattle.envy_tpca.specs.Driving.{IsLoadOf, HasCounted, IsToldBefore, plans_in
 use Rattle.envy_tpca.specs.Load.{Draws, first}
 use Rattle.envy_tpca.specs.Loading.{Loaded}
 use Rattle.envy_tpca.specs.Running.{IsWithin}
+use Rattle.envy_tpca.specs.Since.{RisesWithin}
 use Rattle.envy_tpca.specs.Summing.{Small, balances_in, history_in}
 use Rattle.envy_tpca.specs.Tpc.{TpcAt, Tpc, deltas, places_of}
 use Rattle.envy_tpca.specs.Trial.{AreSmall}
@@ -37,8 +38,8 @@ has-counted area load pages done words p size same few tpc =
 pub counted-within : (area : Area) (load : Draws) (every : ℕ) (old p : Picture) → IsWithin area load every old p → HasCounted area load p
 counted-within area load every old p w = has-counted area load old.chart.shape.pages w.done (durable p.chart) p (ap (λ (sh : Shape). sh.pages) w.since.keeps.shape) refl w.few w.words
 
-pub few-plans : (area : Area) (load : Draws) (every : ℕ) (old p : Picture) → IsWithin area load every old p → p.chart.plans ≤ old.chart.plans + plans_in every area.transfers
-few-plans area load every old p w = let e = w.since.plans.most in let f = plans-within every w.planned area.transfers w.few_planned in omega arith
+pub few-plans : (area : Area) (load : Draws) (every : ℕ) (old p : Picture) → IsWithin area load every old p → RisesWithin (plans_in every area.transfers) old.chart.plans p.chart.plans
+few-plans area load every old p w = let e = w.since.plans.most in let f = plans-within every w.planned area.transfers w.few_planned in (w.since.plans.least, omega arith)
 
 -- all that is known of the words of an area whose transfers are done
 pub record Sized (area : Area) (l : Places) (load : Draws) (pages : ℕ) : Type 0 where

@@ -7,6 +7,10 @@ use Rattle.envy_memory.specs.Picture.{Picture}
 abbrev pub IsPast : ℕ → ℕ → Type 0
 IsPast old new = old < 2 ^ 64 - 1 → old < new
 
+-- a count rose by n at most
+abbrev pub RisesWithin : ℕ → ℕ → ℕ → Type 0
+RisesWithin n old new = old ≤ new × new ≤ old + n
+
 -- a count rose by n, or stopped at the top
 pub record Rises (n old new : ℕ) : Type 0 where
   pub least : old ≤ new

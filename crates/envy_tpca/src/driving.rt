@@ -11,7 +11,7 @@ ghost use Rattle.envy_tpca.specs.Driving.{IsLoadOf, HasCounted, IsDriven, is_pla
 ghost use Rattle.envy_tpca.specs.Load.{after};
 ghost use Rattle.envy_tpca.specs.Loading.{CountsUncut};
 ghost use Rattle.envy_tpca.specs.Running.{MayDrive, AfterAll};
-ghost use Rattle.envy_tpca.specs.Since.{IsPast, Keeps, Since};
+ghost use Rattle.envy_tpca.specs.Since.{IsPast, Keeps, RisesWithin, Since};
 ghost use Rattle.envy_tpca.specs.Trial.{IsTried, writes};
 ghost use Rattle.envy_tpca.specs.Trying.{AfterTransfer, Trial};
 
@@ -116,12 +116,11 @@ pub fn drive<B: Bench>(
     ensures driven { IfOk result (λ sums. IsDriven area.now load.old every memory.old sums memory.new) }
     ensures drawn { OnOk result (load.new ≡ after area.now.transfers load.old) }
     ensures dead { (result ≡ Err DriveFault.Dead) ↔ (memory.new.chart.on ≡ false) }
-    ensures lives { (result ≡ Err DriveFault.Dead) → memory.new.chart.lives ≡ 0 }
-    ensures cut { (result ≡ Err DriveFault.Dead) → IsPast memory.old.chart.cuts memory.new.chart.cuts }
+    ensures lost { (result ≡ Err DriveFault.Dead) → (memory.new.chart.lives ≡ 0)
+        × IsPast memory.old.chart.cuts memory.new.chart.cuts }
     ensures bad { (result ≡ Err DriveFault.Bad) → IsPast memory.old.chart.bads memory.new.chart.bads }
     ensures keeps { Keeps memory.old memory.new }
-    ensures some_plans { memory.old.chart.plans ≤ memory.new.chart.plans }
-    ensures few_plans { memory.new.chart.plans ≤ memory.old.chart.plans + plans_in every area.now.transfers }
+    ensures plans { RisesWithin (plans_in every area.now.transfers) memory.old.chart.plans memory.new.chart.plans }
 {
     let given = memory.lives();
     let places = lay_out(area, memory.board());

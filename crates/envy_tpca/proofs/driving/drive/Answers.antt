@@ -79,8 +79,8 @@ returns-in_err-deltas-clause-counted g c =
     counted-within c.args.area.now c.args.load.now c.args.every c.args.memory.now c.transfer_all.new.memory
     (all-err c.args.area.now c.args.load.now c.args.every c.args.memory.now c.transfer_all.new.memory c.transfer_all.result c.transfer_all.new.load c.in_err-deltas.field-0.0 c.transfer_all.ensures.after c.in_err-deltas.was).1
 
-pub returns-in_err-deltas-clause-few_plans : goal.returns-in_err-deltas-clause-few_plans
-returns-in_err-deltas-clause-few_plans g c =
+pub returns-in_err-deltas-clause-plans : goal.returns-in_err-deltas-clause-plans
+returns-in_err-deltas-clause-plans g c =
     few-plans c.args.area.now c.args.load.now c.args.every c.args.memory.now c.transfer_all.new.memory
     (all-err c.args.area.now c.args.load.now c.args.every c.args.memory.now c.transfer_all.new.memory c.transfer_all.result c.transfer_all.new.load c.in_err-deltas.field-0.0 c.transfer_all.ensures.after c.in_err-deltas.was).1
 

@@ -7,7 +7,7 @@ use Rattle.envy_tpca.specs.declared.transfer.Transfer.{Transfer}
 use Rattle.envy_tpca.specs.Load.{Draws, next_transfer, after, first}
 use Rattle.envy_tpca.specs.Running.{IsAt}
 use Rattle.envy_tpca.specs.Tpc.{deltas}
-use Rattle.envy_tpca.specs.Trial.{writes}
+use Rattle.envy_tpca.specs.Trial.{IsTried, writes}
 use Rattle.envy_tpca.proofs.Chaining.{small-delta}
 use Rattle.envy_tpca.proofs.Drawing.{after-none, after-more, first-none, length-first}
 use Rattle.envy_tpca.proofs.Loading.{accessed-same}
@@ -15,7 +15,22 @@ use Rattle.envy_tpca.proofs.Uncut.{next-uncut}
 use Rattle.envy_tpca.proofs.Since.{Since-refl}
 use Rattle.envy_tpca.proofs.Stepping.{step-range, range-wide, step-tried, step-done, step-ended, at-first, rests-planned, all-fails, once-ok, once-err, load-small}
 use Rattle.envy_tpca.proofs.Totals.{delta-step, small-deltas}
+use Rattle.envy_tpca.proofs.driving.transfer_all.Given.{Over}
+use Rattle.envy_tpca.proofs.driving.transfer_all.Goals.{After-next-t, After-spots}
 use Rattle.envy_tpca.proofs.driving.transfer_all.Goals as goal
+
+-- the transfer that was drawn
+drawn : (g : Over) (c : After-next-t g) → c.next-t.result ≡ (next_transfer (after c.loop-i.i c.args.load.now)).0
+drawn g c = ap (λ (d : Transfer × Draws). d.0) c.next-t.ensures ∙ ap (λ (d : Draws). (next_transfer d).0) c.loop-i.invariant.load
+
+-- it may be tried on the words after those before it
+tried : (g : Over) (c : After-spots g) → c.next-t.result ≡ (next_transfer (after c.loop-i.i c.args.load.now)).0
+    → IsTried c.plan_cut.new.memory.chart.shape.shadows c.args.places (32 * c.args.memory.now.chart.shape.pages) (first c.loop-i.i c.args.load.now) (durable c.plan_cut.new.memory.chart) c.loop-i.i c.next-t.result c.spots.result
+tried g c is =
+    let room = c.requires.fits.room in
+    let low = c.requires.low in
+    let few : c.args.area.now.transfers < 2 ^ 32 = omega arith in
+    step-tried c.args.area.now c.args.places c.args.load.now c.args.every c.loop-i.i c.args.memory.now c.loop-i.memory c.plan_cut.new.memory c.next-t.result c.spots.result c.requires c.loop-i.invariant.reached c.plan_cut.ensures.same c.plan_cut.ensures.since.keeps.shape c.loop-i-test.true few is c.spots.ensures
 
 pub loop-i-init : goal.loop-i-init
 loop-i-init g c = record {
@@ -28,36 +43,22 @@ loop-i-init g c = record {
 
 pub spots-requires : goal.spots-requires
 spots-requires g c =
-    let old = c.args.memory.now in
-    let load = c.args.load.now in
-    let mid = c.loop-i.memory in
-    let may = c.requires in
-    let lt = c.loop-i-test.true in
     let room = c.requires.fits.room in
     let low = c.requires.low in
     let few : c.args.area.now.transfers < 2 ^ 32 = omega arith in
-    let is : c.next-t.result ≡ (next_transfer (after c.loop-i.i load)).0 = ap (λ (d : Transfer × Draws). d.0) c.next-t.ensures ∙ ap (λ (d : Draws). (next_transfer d).0) c.loop-i.invariant.load in
-    range-wide c.args.places (32 * old.chart.shape.pages) (2 ^ 25) c.loop-i.i c.next-t.result (omega arith) (step-range c.args.area.now c.args.places load old c.loop-i.i c.next-t.result may lt few is)
+    range-wide c.args.places (32 * c.args.memory.now.chart.shape.pages) (2 ^ 25) c.loop-i.i c.next-t.result (omega arith) (step-range c.args.area.now c.args.places c.args.load.now c.args.memory.now c.loop-i.i c.next-t.result c.requires c.loop-i-test.true few (drawn g (goal.at.spots-requires g c).After-next-t))
 
 pub transfer_once-requires-clause-trial : goal.transfer_once-requires-clause-trial
 transfer_once-requires-clause-trial g c =
-    let old = c.args.memory.now in
-    let load = c.args.load.now in
+    let at = goal.at.transfer_once-requires-clause-trial g c in
     let mid = c.loop-i.memory in
-    let may = c.requires in
-    let lt = c.loop-i-test.true in
-    let room = c.requires.fits.room in
-    let low = c.requires.low in
-    let few : c.args.area.now.transfers < 2 ^ 32 = omega arith in
-    let is : c.next-t.result ≡ (next_transfer (after c.loop-i.i load)).0 = ap (λ (d : Transfer × Draws). d.0) c.next-t.ensures ∙ ap (λ (d : Draws). (next_transfer d).0) c.loop-i.invariant.load in
     let p = c.plan_cut.new.memory in
-    let tried = step-tried c.args.area.now c.args.places load c.args.every c.loop-i.i old mid p c.next-t.result c.spots.result may c.loop-i.invariant.reached c.plan_cut.ensures.same c.plan_cut.ensures.since.keeps.shape lt few is c.spots.ensures in
     record {
       rests = rests-planned mid p c.loop-i.invariant.rests (c.plan_cut.ensures.stands (fresh mid.chart.shape.shadows (durable mid.chart)) c.loop-i.invariant.rests) c.plan_cut.ensures.since.keeps.shape c.plan_cut.ensures.same;
       places = c.args.places;
-      size = 32 * old.chart.shape.pages;
-      done = first c.loop-i.i load;
-      tried = tried;
+      size = 32 * c.args.memory.now.chart.shape.pages;
+      done = first c.loop-i.i c.args.load.now;
+      tried = tried g at.After-spots (drawn g at.After-next-t);
     }
 
 pub returns-in_err-transfer_once-clause-after : goal.returns-in_err-transfer_once-clause-after
@@ -65,18 +66,13 @@ returns-in_err-transfer_once-clause-after g c =
     let old = c.args.memory.now in
     let load = c.args.load.now in
     let mid = c.loop-i.memory in
-    let may = c.requires in
-    let lt = c.loop-i-test.true in
-    let room = c.requires.fits.room in
-    let low = c.requires.low in
-    let few : c.args.area.now.transfers < 2 ^ 32 = omega arith in
-    let is : c.next-t.result ≡ (next_transfer (after c.loop-i.i load)).0 = ap (λ (d : Transfer × Draws). d.0) c.next-t.ensures ∙ ap (λ (d : Draws). (next_transfer d).0) c.loop-i.invariant.load in
     let p = c.plan_cut.new.memory in
-    let tried = step-tried c.args.area.now c.args.places load c.args.every c.loop-i.i old mid p c.next-t.result c.spots.result may c.loop-i.invariant.reached c.plan_cut.ensures.same c.plan_cut.ensures.since.keeps.shape lt few is c.spots.ensures in
+    let at = goal.at.returns-in_err-transfer_once-clause-after g c in
+    let t = tried g at.After-spots (drawn g at.After-next-t) in
     let now = put_back (writes c.args.places (first c.loop-i.i load) c.next-t.result) (durable p.chart) in
-    let a = once-err 0 p (durable p.chart) now c.transfer_once.result c.transfer_once.new.memory c.in_err-transfer_once.field-0.0 (c.transfer_once.ensures.after c.args.places (32 * old.chart.shape.pages) (first c.loop-i.i load) tried) c.in_err-transfer_once.was in
+    let a = once-err 0 p (durable p.chart) now c.transfer_once.result c.transfer_once.new.memory c.in_err-transfer_once.field-0.0 (c.transfer_once.ensures.after c.args.places (32 * old.chart.shape.pages) (first c.loop-i.i load) t) c.in_err-transfer_once.was in
     all-fails c.args.area.now load c.args.every old c.transfer_once.new.memory c.from_residual.result c.next-t.new.self c.in_err-transfer_once.field-0.0
-    (step-ended c.args.area.now c.args.places load c.args.every c.loop-i.i old mid p c.transfer_once.new.memory c.next-t.result c.spots.result c.in_err-transfer_once.field-0.0 may c.loop-i.invariant.reached c.plan_cut.ensures.since c.plan_cut.ensures.same lt tried is a)
+    (step-ended c.args.area.now c.args.places load c.args.every c.loop-i.i old mid p c.transfer_once.new.memory c.next-t.result c.spots.result c.in_err-transfer_once.field-0.0 c.requires c.loop-i.invariant.reached c.plan_cut.ensures.since c.plan_cut.ensures.same c.loop-i-test.true t (drawn g at.After-next-t) a)
     c.from_residual.ensures.0 c.from_residual.ensures.1
 
 pub loop-i-preserved : goal.loop-i-preserved
@@ -84,22 +80,22 @@ loop-i-preserved g c =
     let old = c.args.memory.now in
     let load = c.args.load.now in
     let mid = c.loop-i.memory in
-    let may = c.requires in
+    let p = c.plan_cut.new.memory in
     let lt = c.loop-i-test.true in
     let room = c.requires.fits.room in
     let low = c.requires.low in
     let few : c.args.area.now.transfers < 2 ^ 32 = omega arith in
-    let is : c.next-t.result ≡ (next_transfer (after c.loop-i.i load)).0 = ap (λ (d : Transfer × Draws). d.0) c.next-t.ensures ∙ ap (λ (d : Draws). (next_transfer d).0) c.loop-i.invariant.load in
-    let p = c.plan_cut.new.memory in
-    let tried = step-tried c.args.area.now c.args.places load c.args.every c.loop-i.i old mid p c.next-t.result c.spots.result may c.loop-i.invariant.reached c.plan_cut.ensures.same c.plan_cut.ensures.since.keeps.shape lt few is c.spots.ensures in
+    let at = goal.at.loop-i-preserved g c in
+    let is = drawn g at.After-next-t in
+    let t = tried g at.After-spots is in
     let now = put_back (writes c.args.places (first c.loop-i.i load) c.next-t.result) (durable p.chart) in
-    let a = once-ok 0 p (durable p.chart) now c.transfer_once.result c.transfer_once.new.memory _ (c.transfer_once.ensures.after c.args.places (32 * old.chart.shape.pages) (first c.loop-i.i load) tried) c.in_ok-transfer_once.was in
-    let d = step-done c.args.area.now c.args.places load c.args.every c.loop-i.i old mid p c.transfer_once.new.memory c.next-t.result c.spots.result _ may c.loop-i.invariant.reached c.plan_cut.ensures.since tried is a in
+    let a = once-ok 0 p (durable p.chart) now c.transfer_once.result c.transfer_once.new.memory _ (c.transfer_once.ensures.after c.args.places (32 * old.chart.shape.pages) (first c.loop-i.i load) t) c.in_ok-transfer_once.was in
+    let d = step-done c.args.area.now c.args.places load c.args.every c.loop-i.i old mid p c.transfer_once.new.memory c.next-t.result c.spots.result _ c.requires c.loop-i.invariant.reached c.plan_cut.ensures.since t is a in
     let long = length-first (c.loop-i.i + 1) load in
     record {
       load = ap (λ (d : Transfer × Draws). d.1) c.next-t.ensures ∙ ap (λ (d : Draws). (next_transfer d).1) c.loop-i.invariant.load ∙ sym (after-more c.loop-i.i load);
-      sum = delta-step c.loop-i.deltas-bits c.loop-i.i load c.next-t.result.delta (omega arith) c.loop-i.invariant.sum (ap (λ (u : Transfer). u.delta) is) (small-delta c.next-t.result.delta tried.range.delta)
-          (small-deltas (first (c.loop-i.i + 1) load) (load-small c.args.area.now load old.chart.shape.pages (c.loop-i.i + 1) may.fits may.sizes) (omega arith));
+      sum = delta-step c.loop-i.deltas-bits c.loop-i.i load c.next-t.result.delta (omega arith) c.loop-i.invariant.sum (ap (λ (u : Transfer). u.delta) is) (small-delta c.next-t.result.delta t.range.delta)
+          (small-deltas (first (c.loop-i.i + 1) load) (load-small c.args.area.now load old.chart.shape.pages (c.loop-i.i + 1) c.requires.fits c.requires.sizes) (omega arith));
       rests = d.1;
       reached = d.0;
       uncut = next-uncut _ _ c.loop-i.i old mid p c.transfer_once.new.memory c.loop-i.invariant.reached.since c.loop-i.invariant.uncut c.plan_cut.ensures.since c.plan_cut.ensures.parts a.1 c.in_ok-transfer_once.ensures.uncut;
