@@ -11,6 +11,7 @@ use envy_space::Space;
 use envy_table::Cache;
 
 /// Lets the pool and the cache follow a page that names a row in place of another that it kept.
+#[inline(always)]
 pub(crate) fn follow(space: &mut Space, cache: &mut Cache, row: u32, kept: Kept, copy: u32)
     requires row { row < space.old.shape.segments * space.old.shape.rows }
     requires copy { copy < space.old.shape.segments * space.old.shape.rows }
