@@ -6,7 +6,7 @@ use Rattle.envy_base.specs.Step.{Command, Answer, Step}
 use Rattle.envy_base.specs.Step.{Load as DoLoad, Look as DoLook, Store as DoStore, Begin as DoBegin, Put as DoPut, Commit as DoCommit, Abort as DoAbort, Tick as DoTick}
 use Rattle.envy_base.specs.Step.{Word as IsWord, Range as IsRange}
 use Rattle.envy_layout.specs.Stands.{Stands}
-use Rattle.envy_layout.specs.Words.{durable, live}
+use Rattle.envy_layout.specs.Words.{live}
 use Rattle.envy_map.specs.Fields.{Chart}
 use Rattle.envy_memory.specs.Calls.{fresh, planned}
 use Rattle.envy_memory.specs.Picture.{counts_of}
@@ -38,7 +38,8 @@ use Rattle.envy_pair.specs.Bills.{Charged, Sums, Bill}
 use Rattle.envy_pair.specs.Hearing.{shown, Loaded, Looked, HearsLine, Hears, caught}
 use Rattle.envy_pair.specs.MirrorRun.{DoesLine, said, is_power, is_plan, is_lost, is_fault}
 use Rattle.envy_pair.specs.Restarting.{no_toll}
-use Rattle.envy_pair.specs.Serving.{Known, side_of, state_of, Serves, IsMirrorCall, Costs, LineDone, sums_of}
+use Rattle.envy_trace.specs.Mirror.{IsMirrorLine}
+use Rattle.envy_pair.specs.Serving.{Known, side_of, state_of, Serves, Costs, LineDone, sums_of}
 use Rattle.envy_pair.specs.State.{MirrorState}
 use Rattle.envy_pair.proofs.Charging.{one_plan, Charged-refl, Charged-same, Charged-looked, Charged-planned}
 use Rattle.envy_pair.proofs.Commanding.{sums, quiet-said, stood_as}
@@ -277,11 +278,11 @@ line-heard (Cut n g) reply k old new side within i s (armed, same) = plan-heard 
 line-heard (Bad n g) reply k old new side within i s (armed, same) = plan-heard (Bad n g) reply k old new side (λ x t is. (refl, is)) refl within s armed same
 line-heard Stat reply k old new side within i s (says, same) = stat-heard reply k old new side within s says same
 
-pub heard : (line : MirrorLine) (reply : MirrorReply) (k : Known) (old new : Pair) (side new_side : ℕ) → IsMirrorCall line → side < 2 → IsPair new → Serves k old → Hears line reply old side new new_side → HeardLine k line reply old side new new_side
+pub heard : (line : MirrorLine) (reply : MirrorReply) (k : Known) (old new : Pair) (side new_side : ℕ) → IsMirrorLine line → side < 2 → IsPair new → Serves k old → Hears line reply old side new new_side → HeardLine k line reply old side new new_side
 heard (OfArray line) reply k old new side new_side call within i s (one, says, h, stays) =
     subst (λ (r : MirrorReply). HeardLine k (OfArray line) r old side new new_side) (sym says)
     (subst (λ (n : ℕ). HeardLine k (OfArray line) (Plain one) old side new n) (sym stays) (line-heard line one k old new side within i s h))
-heard (ChooseSide x) reply k old new side new_side call within i s (says, same, is) = side-heard x reply k old new side new_side call s says same is
+heard (ChooseSide x) reply k old new side new_side call within i s (says, same, is) = side-heard x reply k old new side new_side (omega arith) s says same is
 heard Catch reply k old new side new_side call within i s (result, says, catches, mirrors, stays) =
     subst (λ (r : MirrorReply). HeardLine k Catch r old side new new_side) (sym says)
     (subst (λ (n : ℕ). HeardLine k Catch (caught result) old side new n) (sym stays) (catch-heard result k old new side within s catches mirrors))

@@ -1,18 +1,15 @@
 -- What a pair did in a trace, from what it does in one line.
-use Rattle.std.proofs.Common.{◌≡◌, ℕ, List, ◌∷◌, refl, arith}
+use Rattle.std.proofs.Common.{ℕ, List, ◌∷◌, refl, arith}
 use Rattle.envy_io.specs.Streams.{Drain}
 use Rattle.envy_mirror.specs.Pair.{Pair}
 use Rattle.envy_serve.specs.declared.service.Obeyed.{Obeyed}
 use Rattle.envy_serve.specs.declared.service.Obeyed.TheVariants.{Done, WriteFault, Dead}
 use Rattle.envy_serve.specs.Obeys.{Obeys}
-use Rattle.envy_trace.specs.Mirror.{ReadsMirror}
-use Rattle.envy_trace.specs.declared.line.Line.TheVariants.{Empty, Load, Look, Store, Begin, Put, Commit, Abort, Tick, Power, Cut, Bad, Stat}
 use Rattle.envy_trace.specs.declared.mirror_line.MirrorLine.{MirrorLine}
-use Rattle.envy_trace.specs.declared.mirror_line.MirrorLine.TheVariants.{Array as OfArray, Side, Catch}
 use Rattle.envy_trace.specs.declared.mirror_reply.MirrorReply.{MirrorReply}
 use Rattle.envy_pair.specs.Bills.{Bill}
 use Rattle.envy_pair.specs.MirrorRun.{MirrorTurn, mirror_grammar, before_restart}
-use Rattle.envy_pair.specs.Serving.{Known, Costs, LineDone, LineDead, ObeysMirror, IsMirrorCall, Start, MirroredSince, FellSince, sums_since}
+use Rattle.envy_pair.specs.Serving.{Known, Costs, LineDone, LineDead, ObeysMirror, Start, MirroredSince, FellSince, sums_since}
 use Rattle.envy_pair.proofs.Charging.{add_tolls, Charged-trans}
 
 -- a line's bill joins that of the lines before it
@@ -65,21 +62,3 @@ pub obeys-since : (start : Start) (old new : Pair) (side new_side : ℕ) (turns 
 obeys-since start old new side new_side turns line Done sink then_sink t (replies, left, done, told) = (replies, joins-done start old new side new_side turns t line replies left done, told)
 obeys-since start old new side new_side turns line WriteFault sink then_sink t (replies, left, done, told) = (replies, joins-done start old new side new_side turns t line replies left done, told)
 obeys-since start old new side new_side turns line Dead sink then_sink t (dead, told) = (before_restart line, joins-dead start old new side turns t line dead, told)
-
--- what the grammar reads is one call, where it is neither empty nor `power`
-pub called : (bytes : List ℕ) (line : MirrorLine) → ReadsMirror bytes line → (line ≡ OfArray Empty → ⊥) → (line ≡ OfArray Power → ⊥) → IsMirrorCall line
-called bytes (OfArray Empty) reads full no_cut = full refl
-called bytes (OfArray (Load a)) reads full no_cut = tt
-called bytes (OfArray (Look a)) reads full no_cut = tt
-called bytes (OfArray (Store a w)) reads full no_cut = tt
-called bytes (OfArray Begin) reads full no_cut = tt
-called bytes (OfArray (Put t a w)) reads full no_cut = tt
-called bytes (OfArray (Commit t)) reads full no_cut = tt
-called bytes (OfArray (Abort t)) reads full no_cut = tt
-called bytes (OfArray Tick) reads full no_cut = tt
-called bytes (OfArray Power) reads full no_cut = no_cut refl
-called bytes (OfArray (Cut k g)) reads full no_cut = (ReadsMirror.ranges reads).0
-called bytes (OfArray (Bad k g)) reads full no_cut = (ReadsMirror.ranges reads).0
-called bytes (OfArray Stat) reads full no_cut = tt
-called bytes (Side x) reads full no_cut = let le = ReadsMirror.ranges reads in omega arith
-called bytes Catch reads full no_cut = tt

@@ -11,7 +11,7 @@ use Rattle.envy_serve.specs.declared.service.Obeyed.{Obeyed}
 use Rattle.envy_serve.specs.declared.service.Obeyed.TheVariants.{Done, WriteFault, Dead}
 use Rattle.envy_serve.specs.Streams.{Written, FrontWritten}
 use Rattle.envy_serve.specs.Turns.{texts}
-use Rattle.envy_trace.specs.Mirror.{mirror_bytes}
+use Rattle.envy_trace.specs.Mirror.{IsMirrorLine, mirror_bytes}
 use Rattle.envy_trace.specs.declared.line.Line.TheVariants.{Empty, Power}
 use Rattle.envy_trace.specs.declared.mirror_line.MirrorLine.{MirrorLine}
 use Rattle.envy_trace.specs.declared.mirror_line.MirrorLine.TheVariants.{Array as OfArray}
@@ -21,7 +21,7 @@ use Rattle.envy_trace.specs.declared.mirror_reply.MirrorReply.TheVariants.{Array
 use Rattle.envy_pair.specs.Hearing.{Hears}
 use Rattle.envy_pair.specs.MirrorRun.{mirror_grammar, before_restart}
 use Rattle.envy_pair.specs.Restarting.{Recovers}
-use Rattle.envy_pair.specs.Serving.{Known, Serves, IsMirrorCall, LineDone, ObeysMirror}
+use Rattle.envy_pair.specs.Serving.{Known, Serves, LineDone, ObeysMirror}
 use Rattle.envy_pair.proofs.Sides.{neither}
 use Rattle.envy_pair.proofs.Commanded.{both-false}
 use Rattle.envy_pair.proofs.Failing.{HeardLine, DarkLine, dark-done, dark-dead, power-lit, power-dark}
@@ -44,12 +44,12 @@ lit-heard k line reply old new side new_side good (inl done) = done
 lit-heard k line reply old new side new_side good (inr (lost, dark, stays)) =
     absurd (let never = both-false (is_good new.first) (is_good new.second) dark.fallen.dark.0 dark.fallen.dark.1 in let clash : true ≡ false = sym good ∙ never in cc)
 
-pub call-done : (k : Known) (line : MirrorLine) (reply : MirrorReply) (old new : Pair) (side new_side : ℕ) (sink then_sink : Drain) → IsMirrorCall line → side < 2 → IsPair new → (is_good new.first || is_good new.second) ≡ true → Serves k old → Hears line reply old side new new_side → WritesAll sink (mirror_bytes reply ++ newline ∷ []) (Ok tt) then_sink → ObeysMirror k line Done old side new new_side sink then_sink
+pub call-done : (k : Known) (line : MirrorLine) (reply : MirrorReply) (old new : Pair) (side new_side : ℕ) (sink then_sink : Drain) → IsMirrorLine line → side < 2 → IsPair new → (is_good new.first || is_good new.second) ≡ true → Serves k old → Hears line reply old side new new_side → WritesAll sink (mirror_bytes reply ++ newline ∷ []) (Ok tt) then_sink → ObeysMirror k line Done old side new new_side sink then_sink
 call-done k line reply old new side new_side sink then_sink call within i good s hears writes =
     let (left, done) = lit-heard k line reply old new side new_side good (heard line reply k old new side new_side call within i s hears) in
     (reply ∷ [], left, done, told-one reply sink then_sink writes)
 
-pub call-failed : (k : Known) (line : MirrorLine) (reply : MirrorReply) (old new : Pair) (side new_side : ℕ) (sink then_sink : Drain) (failed : Failed) → IsMirrorCall line → side < 2 → IsPair new → (is_good new.first || is_good new.second) ≡ true → Serves k old → Hears line reply old side new new_side → WritesAll sink (mirror_bytes reply ++ newline ∷ []) (Err failed) then_sink → ObeysMirror k line WriteFault old side new new_side sink then_sink
+pub call-failed : (k : Known) (line : MirrorLine) (reply : MirrorReply) (old new : Pair) (side new_side : ℕ) (sink then_sink : Drain) (failed : Failed) → IsMirrorLine line → side < 2 → IsPair new → (is_good new.first || is_good new.second) ≡ true → Serves k old → Hears line reply old side new new_side → WritesAll sink (mirror_bytes reply ++ newline ∷ []) (Err failed) then_sink → ObeysMirror k line WriteFault old side new new_side sink then_sink
 call-failed k line reply old new side new_side sink then_sink failed call within i good s hears writes =
     let (left, done) = lit-heard k line reply old new side new_side good (heard line reply k old new side new_side call within i s hears) in
     (reply ∷ [], left, done, front-one reply sink then_sink failed writes)
@@ -82,7 +82,7 @@ lost-so k line old mid new side sink mid_sink then_sink (Err failed) WriteFault 
 lost-so k line old mid new side sink mid_sink then_sink wrote Dead within d writes (good, same) =
     (dark-dead (Plain Lost ∷ []) k line old mid new side d good, before-told k line old mid side sink mid_sink then_sink wrote d.before same writes)
 
-pub call-recovers : (k : Known) (line : MirrorLine) (reply : MirrorReply) (old mid new : Pair) (side new_side : ℕ) (sink mid_sink then_sink : Drain) (wrote : Result Unit Failed) (obeyed : Obeyed) → IsMirrorCall line → side < 2 → IsPair mid → IsDark mid → Serves k old → Hears line reply old side mid new_side → WritesAll sink (mirror_bytes reply ++ newline ∷ []) wrote mid_sink → Recovers wrote obeyed mid new mid_sink then_sink → ObeysMirror k line obeyed old side new new_side sink then_sink
+pub call-recovers : (k : Known) (line : MirrorLine) (reply : MirrorReply) (old mid new : Pair) (side new_side : ℕ) (sink mid_sink then_sink : Drain) (wrote : Result Unit Failed) (obeyed : Obeyed) → IsMirrorLine line → side < 2 → IsPair mid → IsDark mid → Serves k old → Hears line reply old side mid new_side → WritesAll sink (mirror_bytes reply ++ newline ∷ []) wrote mid_sink → Recovers wrote obeyed mid new mid_sink then_sink → ObeysMirror k line obeyed old side new new_side sink then_sink
 call-recovers k line reply old mid new side new_side sink mid_sink then_sink wrote obeyed call within i dark s hears writes recovers =
     let (lost, d, stays) = dark-heard k line reply old mid side new_side dark (heard line reply k old mid side new_side call within i s hears) in
     subst (λ (n : ℕ). ObeysMirror k line obeyed old side new n sink then_sink) (sym stays)

@@ -17,7 +17,7 @@ use Rattle.envy_mirror.specs.declared.catching.Caught.TheVariants.{Whole as Caug
 use Rattle.envy_mirror.specs.declared.catching.CatchFault.{CatchFault}
 use Rattle.envy_mirror.specs.declared.catching.CatchFault.TheVariants.{Off as CatchOff, Dead as CatchDead, Slipped as CatchSlipped, Bad as CatchBad}
 use Rattle.envy_trace.specs.declared.line.Line.{Line}
-use Rattle.envy_trace.specs.declared.line.Line.TheVariants.{Load, Look, Store, Begin, Put, Commit, Abort, Tick, Cut, Bad, Stat}
+use Rattle.envy_trace.specs.declared.line.Line.TheVariants.{Empty, Load, Look, Store, Begin, Put, Commit, Abort, Tick, Power, Cut, Bad, Stat}
 use Rattle.envy_trace.specs.declared.mirror_line.MirrorLine.{MirrorLine}
 use Rattle.envy_trace.specs.declared.mirror_line.MirrorLine.TheVariants.{Array as OfArray, Side, Catch}
 use Rattle.envy_trace.specs.declared.reply.Reply.{Reply}
@@ -25,6 +25,8 @@ use Rattle.envy_trace.specs.declared.reply.Reply.TheVariants.{Done, Fault, Lost,
 use Rattle.envy_trace.specs.declared.mirror_reply.MirrorReply.{MirrorReply}
 use Rattle.envy_trace.specs.declared.mirror_reply.MirrorReply.TheVariants.{Array as Plain, Whole, Waiting, Woken, Copied, Joined, Dead, Slipped}
 use Rattle.envy_pair.specs.MirrorRun.{said, may_fault}
+use Rattle.envy_pair.specs.declared.answering.Beside.{Beside}
+use Rattle.envy_pair.specs.declared.answering.Beside.TheVariants.{Nothing, Power as OfPower}
 
 -- the reply that shows what the pair answered
 abbrev pub shown : PairReply → Reply
@@ -84,3 +86,8 @@ abbrev pub Hears : MirrorLine → MirrorReply → Pair → ℕ → Pair → ℕ 
 Hears (OfArray line) reply old side new new_side = (one : Reply) × (reply ≡ Plain one) × HearsLine side line one old new × (new_side ≡ side)
 Hears (Side x) reply old side new new_side = (reply ≡ Plain Done) × (new ≡ old) × (new_side ≡ x)
 Hears Catch reply old side new new_side = (result : Result Caught CatchFault) × (reply ≡ caught result) × CatchesUp result old new × ((m : Array) → Mirrors old m → Mirrors new m) × (new_side ≡ side)
+
+-- the line that asks for this, which is no call of a pair
+abbrev pub line_beside : Beside → Line
+line_beside Nothing = Empty
+line_beside OfPower = Power

@@ -1,5 +1,5 @@
 -- What a pair of memories is between lines, and what one line does to it.
-use Rattle.std.specs.Prelude.{◌≡◌, ◌⊎◌, ℕ, ◌+◌, ◌≤◌, ◌<◌, Bool, true, false, IsTrue, IfSome, List, [], ◌∷◌, length, Err, ⊤, refl, nat_lt}
+use Rattle.std.specs.Prelude.{◌≡◌, ◌⊎◌, ℕ, ◌+◌, ◌<◌, Bool, true, false, IsTrue, IfSome, List, [], ◌∷◌, length, Err, refl, nat_lt}
 use Rattle.std.proofs.lemmas.Bool.{lt-ltb}
 use Rattle.envy_base.specs.Array.{Array}
 use Rattle.envy_io.specs.Streams.{Drain}
@@ -16,10 +16,7 @@ use Rattle.envy_serve.specs.Streams.{Written, FrontWritten}
 use Rattle.envy_serve.specs.Turns.{count_lines, count_replies, count_of, one_if, texts}
 use Rattle.envy_trace.specs.Mirror.{mirror_line_of}
 use Rattle.envy_trace.specs.declared.fault.LineFault.TheVariants.{Long}
-use Rattle.envy_trace.specs.declared.line.Line.{Line}
-use Rattle.envy_trace.specs.declared.line.Line.TheVariants.{Empty, Power, Cut, Bad}
 use Rattle.envy_trace.specs.declared.mirror_line.MirrorLine.{MirrorLine}
-use Rattle.envy_trace.specs.declared.mirror_line.MirrorLine.TheVariants.{Array as OfArray, Side, Catch}
 use Rattle.envy_trace.specs.declared.mirror_reply.MirrorReply.{MirrorReply}
 use Rattle.envy_pair.specs.Bills.{Sums, Bill}
 use Rattle.envy_pair.specs.MirrorRun.{MirrorTurn, DoesMirror, MirrorRun, FailsIn, mirror_grammar, before_restart, is_power, is_plan, is_lost, is_fault, just_told, told_in}
@@ -55,19 +52,6 @@ pub record Serves (k : Known) (p : Pair) : Type 0 where
   pub mirrors : Mirrors p k.array
   pub first : IsSpent k.first p.first
   pub second : IsSpent k.second p.second
-
--- the line is one call
-abbrev pub IsCall : Line → Type 0
-IsCall Empty = ⊥
-IsCall Power = ⊥
-IsCall (Cut k g) = 1 ≤ k
-IsCall (Bad k g) = 1 ≤ k
-IsCall line = ⊤
-
-abbrev pub IsMirrorCall : MirrorLine → Type 0
-IsMirrorCall (OfArray line) = IsCall line
-IsMirrorCall (Side x) = x < 2
-IsMirrorCall Catch = ⊤
 
 -- the sums of one line, in which the sides went Gone so often
 abbrev pub sums_of : MirrorLine → List MirrorReply → ℕ → ℕ → Sums

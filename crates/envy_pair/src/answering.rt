@@ -1,12 +1,13 @@
 //! One line of a trace, as one call of the pair.
 
-ghost use Rattle.std.specs.Prelude.{◌≡◌, ◌<◌, ℕ};
+ghost use Rattle.std.specs.Prelude.{◌≡◌, ◌<◌, ℕ, IfOk, Err};
 ghost use Rattle.envy_base.specs.Array.{Array};
 ghost use Rattle.envy_base.specs.Step.{Store, Begin, Put, Commit, Abort, Tick};
 ghost use Rattle.envy_mirror.specs.Mirroring.{Mirrors};
-ghost use Rattle.envy_pair.specs.Hearing.{Commanded, Loaded, Looked, HearsLine, Hears, caught};
-ghost use Rattle.envy_pair.specs.Serving.{IsCall, IsMirrorCall};
-ghost use Rattle.envy_trace.specs.declared.mirror_line.MirrorLine.TheVariants.{Catch};
+ghost use Rattle.envy_pair.specs.Hearing.{Commanded, Loaded, Looked, HearsLine, Hears, caught, line_beside};
+ghost use Rattle.envy_trace.specs.Mirror.{IsMirrorLine};
+ghost use Rattle.envy_trace.specs.Spelling.{IsLine};
+ghost use Rattle.envy_trace.specs.declared.mirror_line.MirrorLine.TheVariants.{Array as OfArray, Catch};
 
 use envy_base::{Bench, Trouble};
 use envy_memory::{BeginFault, EndFault, LoadFault, PutFault, StoreFault};
@@ -119,56 +120,77 @@ fn catch<A: Bench, B: Bench>(mirror: &mut Mirror<A, B>) -> MirrorReply
     }
 }
 
-/// Does a line of the array: the call of the pair that it names, and the reply.
-fn answer_line<A: Bench, B: Bench>(mirror: &mut Mirror<A, B>, side: u8, line: &Line) -> Reply
+/// What a line asks for that is no call of a pair: its caller does it.
+#[derive(Clone, Copy, Debug, PartialEq, Eq)]
+pub enum Beside {
+    /// Nothing: it is empty.
+    Nothing,
+    /// Power is cut by hand.
+    Power,
+}
+
+/// Does a line of the array: the call of the pair that it names, and the reply. Else nothing changes.
+fn answer_line<A: Bench, B: Bench>(
+    mirror: &mut Mirror<A, B>,
+    side: u8,
+    line: &Line,
+) -> Result<Reply, Beside>
     requires ready { (m : Array) × Mirrors mirror.old m }
     requires side { side < 2 }
-    requires call { IsCall line.now }
-    ensures { HearsLine side line.now result mirror.old mirror.new }
+    requires ranges { IsLine line.now }
+    ensures heard { IfOk result (λ reply. HearsLine side line.now reply mirror.old mirror.new) }
+    ensures beside { (other : Beside) → result ≡ Err other → (line.now ≡ line_beside other)
+        × (mirror.new ≡ mirror.old) }
 {
     match *line {
-        Line::Load { address } => load(mirror, address),
-        Line::Look { address } => look(mirror, address),
-        Line::Store { address, word } => store(mirror, address, word),
-        Line::Begin => begin(mirror),
+        Line::Empty => Err(Beside::Nothing),
+        Line::Load { address } => Ok(load(mirror, address)),
+        Line::Look { address } => Ok(look(mirror, address)),
+        Line::Store { address, word } => Ok(store(mirror, address, word)),
+        Line::Begin => Ok(begin(mirror)),
         Line::Put {
             slot,
             address,
             word,
-        } => put(mirror, slot, address, word),
-        Line::Commit { slot } => commit(mirror, slot),
-        Line::Abort { slot } => abort(mirror, slot),
-        Line::Tick => tick(mirror),
+        } => Ok(put(mirror, slot, address, word)),
+        Line::Commit { slot } => Ok(commit(mirror, slot)),
+        Line::Abort { slot } => Ok(abort(mirror, slot)),
+        Line::Tick => Ok(tick(mirror)),
+        Line::Power => Err(Beside::Power),
         Line::Cut { k, g } => {
             mirror.arm_cut(side, k, g);
-            Reply::Armed
+            Ok(Reply::Armed)
         }
         Line::Bad { k, g } => {
             mirror.arm_bad(side, k, g);
-            Reply::Armed
+            Ok(Reply::Armed)
         }
-        Line::Stat => Reply::Stat(mirror.counts(side)),
-        Line::Empty | Line::Power => unreachable!(),
+        Line::Stat => Ok(Reply::Stat(mirror.counts(side))),
     }
 }
 
-/// Does a line that is one call: of the pair, or the choice of a side.
+/// Does a line: the call of the pair that it names, or the choice of a side, and the reply. Else nothing changes.
 pub fn answer<A: Bench, B: Bench>(
     mirror: &mut Mirror<A, B>,
     side: &mut u8,
     line: &MirrorLine,
-) -> MirrorReply
+) -> Result<MirrorReply, Beside>
     requires ready { (m : Array) × Mirrors mirror.old m }
     requires side { side.old < 2 }
-    requires call { IsMirrorCall line.now }
-    ensures { Hears line.now result mirror.old side.old mirror.new side.new }
+    requires ranges { IsMirrorLine line.now }
+    ensures heard { IfOk result (λ reply. Hears line.now reply mirror.old side.old mirror.new side.new) }
+    ensures beside { (other : Beside) → result ≡ Err other → (line.now ≡ OfArray (line_beside other))
+        × (mirror.new ≡ mirror.old) × (side.new ≡ side.old) }
 {
     match *line {
-        MirrorLine::Array(ref line) => MirrorReply::Array(answer_line(mirror, *side, line)),
+        MirrorLine::Array(ref line) => match answer_line(mirror, *side, line) {
+            Ok(reply) => Ok(MirrorReply::Array(reply)),
+            Err(beside) => Err(beside),
+        },
         MirrorLine::Side(chosen) => {
             *side = chosen;
-            MirrorReply::Array(Reply::Done)
+            Ok(MirrorReply::Array(Reply::Done))
         }
-        MirrorLine::Catch => catch(mirror),
+        MirrorLine::Catch => Ok(catch(mirror)),
     }
 }

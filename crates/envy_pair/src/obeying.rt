@@ -1,20 +1,20 @@
 //! One line of a trace with its replies.
 
-ghost use Rattle.std.specs.Prelude.{◌≡◌, ◌<◌, ◌||◌};
-ghost use Rattle.envy_base.specs.Array.{Array};
-ghost use Rattle.envy_mirror.specs.Mirroring.{Mirrors};
-ghost use Rattle.envy_mirror.specs.Pair.{IsPair, is_good};
-ghost use Rattle.envy_pair.specs.Serving.{Known, Serves, IsMirrorCall, ObeysMirror};
+ghost use Rattle.std.specs.Prelude.{◌≡◌, ◌<◌, ◌||◌, ℕ};
+ghost use Rattle.envy_mirror.specs.Pair.{IsPair, Pair, is_good};
+ghost use Rattle.envy_pair.specs.Hearing.{Hears};
+ghost use Rattle.envy_pair.specs.Serving.{Known, Serves, ObeysMirror};
 ghost use Rattle.envy_trace.specs.declared.line.Line.TheVariants.{Power};
+ghost use Rattle.envy_trace.specs.Mirror.{IsMirrorLine};
+ghost use Rattle.envy_trace.specs.declared.mirror_line.MirrorLine.{MirrorLine};
 ghost use Rattle.envy_trace.specs.declared.mirror_line.MirrorLine.TheVariants.{Array as OfArray};
 
-use crate::answering::answer;
 use crate::restarting::{PairBuffer, recover, write_mirror_reply};
 use envy_base::Bench;
 use envy_io::{Failed, Sink};
 use envy_mirror::Mirror;
 use envy_serve::Obeyed;
-use envy_trace::{MirrorLine, MirrorReply};
+use envy_trace::MirrorReply;
 
 /// Whether some side is Good.
 fn has_good<A: Bench, B: Bench>(mirror: &Mirror<A, B>) -> bool
@@ -45,22 +45,18 @@ pub fn obey_power<K: Sink, A: Bench, B: Bench>(
     }
 }
 
-/// Does a line that is one call, with its replies.
-pub fn obey_call<K: Sink, A: Bench, B: Bench>(
+/// Writes the reply to a line, and asks for power where no side is Good behind it.
+pub fn tell<K: Sink, A: Bench, B: Bench>(
     mirror: &mut Mirror<A, B>,
-    side: &mut u8,
-    line: &MirrorLine,
+    reply: &MirrorReply,
     sink: &mut K,
     buffer: &mut PairBuffer,
 ) -> Obeyed
-    requires ready { (m : Array) × Mirrors mirror.old m }
-    requires side { side.old < 2 }
-    requires call { IsMirrorCall line.now }
-    ensures { (k : Known) → Serves k mirror.old
-        → ObeysMirror k line.now result mirror.old side.old mirror.new side.new (K.drain sink.old) (K.drain sink.new) }
+    ensures { (k : Known) (line : MirrorLine) (before : Pair) (side chosen : ℕ) → side < 2 → IsMirrorLine line
+        → Serves k before → Hears line reply.now before side mirror.old chosen
+        → ObeysMirror k line result before side mirror.new chosen (K.drain sink.old) (K.drain sink.new) }
 {
-    let reply = answer(mirror, side, line);
-    let wrote = write_mirror_reply(sink, &reply, buffer);
+    let wrote = write_mirror_reply(sink, reply, buffer);
     if !has_good(mirror) {
         return recover(mirror, sink, wrote, buffer);
     }

@@ -2,14 +2,15 @@ ghost use Rattle.std.specs.Prelude.{◌≡◌, ◌<◌};
 ghost use Rattle.envy_base.specs.Array.{Array};
 ghost use Rattle.envy_mirror.specs.Mirroring.{Mirrors};
 
-use crate::obeying::{obey_call, obey_power};
+use crate::answering::{Beside, answer};
+use crate::obeying::{obey_power, tell};
 use crate::restarting::PairBuffer;
 use envy_base::Bench;
 use envy_io::{Failed, Sink};
 use envy_mirror::Mirror;
 use envy_serve::{Obeyed, Service};
 use envy_trace::{
-    Line, LineFault, MirrorLine, MirrorReply, mirror_grammar_holds_both_ways, read_mirror_line,
+    LineFault, MirrorLine, MirrorReply, mirror_grammar_holds_both_ways, read_mirror_line,
 };
 
 /// A pair of memories that answers the lines of a trace, and the side that its lines speak of.
@@ -74,18 +75,10 @@ impl<A: Bench, B: Bench> Service for Pairing<A, B> {
 
     fn obey<K: Sink>(&mut self, line: &MirrorLine, sink: &mut K) -> Obeyed {
         mirror_grammar_holds_both_ways();
-        match *line {
-            MirrorLine::Array(Line::Empty) => Obeyed::Done,
-            MirrorLine::Array(Line::Power) => {
-                obey_power(&mut self.mirror, self.side, sink, &mut self.buffer)
-            }
-            _ => obey_call(
-                &mut self.mirror,
-                &mut self.side,
-                line,
-                sink,
-                &mut self.buffer,
-            ),
+        match answer(&mut self.mirror, &mut self.side, line) {
+            Ok(reply) => tell(&mut self.mirror, &reply, sink, &mut self.buffer),
+            Err(Beside::Nothing) => Obeyed::Done,
+            Err(Beside::Power) => obey_power(&mut self.mirror, self.side, sink, &mut self.buffer),
         }
     }
 

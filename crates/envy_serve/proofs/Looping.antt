@@ -1,6 +1,6 @@
 -- The whole of a trace, whatever service does its lines.
-use Rattle.std.proofs.Common.{◌≡◌, ◌⊎◌, inl, inr, ℕ, suc, ◌+◌, ◌≤◌, Bool, true, false, List, [], ◌∷◌, ◌++◌, length, map, refl, sym, ◌∙◌, ap, arith}
-use Rattle.std.specs.Prelude.{IsTrue, Option, None, Some, Ok, ◌==◌, if◌then◌else◌}
+use Rattle.std.proofs.Common.{◌≡◌, ◌⊎◌, inl, inr, ℕ, suc, ◌+◌, ◌≤◌, Bool, true, false, List, [], ◌∷◌, ◌++◌, length, map, refl, sym, ◌∙◌, ap, subst, arith}
+use Rattle.std.specs.Prelude.{IsTrue, Ok, ◌==◌, if◌then◌else◌}
 use Rattle.std.proofs.lemmas.List.{length-map, length-append}
 use Rattle.envy_io.specs.Lines.{newline, lines_of, onto_first, spelled}
 use Rattle.envy_io.specs.Streams.{Feed, Drain}
@@ -8,11 +8,13 @@ use Rattle.envy_io.specs.Taking.{Taking, HasGiven}
 use Rattle.envy_io.proofs.TakesLemmas.{with_front-nil}
 use Rattle.envy_io.proofs.WritesLemmas.{with_end-nil}
 use Rattle.envy_serve.specs.declared.serving.End.{End}
+use Rattle.envy_serve.specs.declared.serving.Served.{Served}
 use Rattle.envy_serve.specs.declared.serving.End.TheVariants.{Done as EndDone, ReadFault, WriteFault, FlushFault, Refused, Dead as EndDead, TooLong}
-use Rattle.envy_serve.specs.Ends.{Progress, Ends, Advances, Serves, IsAtStart, lines_of_end, most_bytes}
+use Rattle.envy_serve.specs.Ends.{Progress, Ends, Serves, IsAtStart, most_bytes}
 use Rattle.envy_serve.specs.Grammar.{Grammar}
 use Rattle.envy_serve.specs.Reading.{HasRead, IsMet, ReadAll, ReadBetween, ReadStuck}
 use Rattle.envy_trace.specs.declared.fault.LineFault.{LineFault}
+use Rattle.envy_serve.specs.Streams.{Streams}
 use Rattle.envy_serve.specs.Turns.{Turn, lines_done}
 
 pub record IsServing {Line Reply : Type 0} (g : Grammar Line Reply) (skipped : ℕ) (Done : List (Turn Line Reply) → Type 0) (n : ℕ) (from : Feed) (to : Drain) (feed : Feed) (sink : Drain) (reader : Taking) : Type 0 where
@@ -43,23 +45,20 @@ serving-none g Done feed sink reader done start = record {
   within = start.within;
 }
 
--- one turn of the loop that didn't end it
-pub serving-more : {Line Reply : Type 0} (g : Grammar Line Reply) (skipped : ℕ) (Done Dead : List (Turn Line Reply) → Type 0) (tail : List ℕ) (n : ℕ) (from : Feed) (to : Drain) (feed : Feed) (sink : Drain) (reader then_reader : Taking) (result : Option End) → reader.cap ≡ most_bytes → ((end : End) → result ≡ Some end → ⊥) → Advances result g skipped Done Dead tail from to n feed sink then_reader → then_reader.cap ≡ reader.cap → then_reader.taken ≤ then_reader.cap → IsServing g skipped Done (n + 1) from to feed sink then_reader
-serving-more g skipped Done Dead tail n from to feed sink reader then_reader None most going progress cap within = record { progress = progress; cap = cap ∙ most; within = within }
-serving-more g skipped Done Dead tail n from to feed sink reader then_reader (Some end) most going stops cap within = absurd (going end refl)
+-- a further line was done
+pub serving-more : {Line Reply : Type 0} (g : Grammar Line Reply) (skipped : ℕ) (Done : List (Turn Line Reply) → Type 0) (n : ℕ) (from : Feed) (to : Drain) (feed : Feed) (sink : Drain) (reader then_reader : Taking) → reader.cap ≡ most_bytes → Progress g skipped Done from to (n + 1) feed sink then_reader → then_reader.cap ≡ reader.cap → then_reader.taken ≤ then_reader.cap → IsServing g skipped Done (n + 1) from to feed sink then_reader
+serving-more g skipped Done n from to feed sink reader then_reader most progress cap within = record { progress = progress; cap = cap ∙ most; within = within }
 
--- the turn of the loop that ended it
-pub serving-ends : {Line Reply : Type 0} (g : Grammar Line Reply) (skipped : ℕ) (Done Dead : List (Turn Line Reply) → Type 0) (tail : List ℕ) (n lines taken : ℕ) (from : Feed) (to : Drain) (feed : Feed) (sink : Drain) (reader then_reader : Taking) (end : End) → reader.cap ≡ most_bytes → Advances (Some end) g skipped Done Dead tail from to n feed sink then_reader → then_reader.cap ≡ reader.cap → lines ≡ lines_of_end end n → taken ≡ then_reader.taken → (turns : List (Turn Line Reply)) × Serves end lines taken g skipped Done Dead tail turns (record { from = from; feed = feed; to = to; sink = sink })
-serving-ends g skipped Done Dead tail n lines taken from to feed sink reader then_reader end most (turns, count, ends) cap lines_are taken_are = (
-  turns,
-  record {
-    lines_are = lines_are ∙ sym count;
-    reader = then_reader;
-    taken_are = taken_are;
-    cap = cap ∙ most;
-    ends = ends;
-  },
-)
+-- no line is done after these
+pub serving-ends : {Line Reply : Type 0} (g : Grammar Line Reply) (skipped : ℕ) (Done Dead : List (Turn Line Reply) → Type 0) (tail : List ℕ) (n : ℕ) (from : Feed) (to : Drain) (feed : Feed) (sink : Drain) (reader then_reader : Taking) (end : End) (turns : List (Turn Line Reply)) (said : Served) → said ≡ record { end = end; lines = n; taken = then_reader.taken } → reader.cap ≡ most_bytes → then_reader.cap ≡ reader.cap → length turns ≡ n → Ends end g skipped Done Dead tail turns from to feed sink then_reader → Serves said.end said.lines said.taken g skipped Done Dead tail turns (record { from = from; feed = feed; to = to; sink = sink })
+serving-ends g skipped Done Dead tail n from to feed sink reader then_reader end turns said is most cap count ends =
+    subst (λ (x : Served). Serves x.end x.lines x.taken g skipped Done Dead tail turns (record { from = from; feed = feed; to = to; sink = sink })) (sym is) (record {
+      lines_are = sym count;
+      reader = then_reader;
+      taken_are = refl;
+      cap = cap ∙ most;
+      ends = ends;
+    })
 
 spelled-long : (pieces : List (List ℕ)) → length pieces ≤ length (spelled pieces)
 spelled-long [] = omega arith
@@ -129,4 +128,12 @@ serving-few g skipped Done n from to feed sink reader s =
     let count = Progress.count p in
     let cap = s.cap in
     let within = s.within in
+    omega arith
+
+-- so of a trace that was served
+pub serves-few : {Line Reply : Type 0} (end : End) (lines taken : ℕ) (g : Grammar Line Reply) (skipped : ℕ) (Done Dead : List (Turn Line Reply) → Type 0) (tail : List ℕ) (turns : List (Turn Line Reply)) (io : Streams) → Serves end lines taken g skipped Done Dead tail turns io → lines ≤ taken
+serves-few end lines taken g skipped Done Dead tail turns io s =
+    let few = ends-few end g skipped Done Dead tail turns io.from io.to io.feed io.sink s.reader s.ends in
+    let told = s.lines_are in
+    let read = s.taken_are in
     omega arith

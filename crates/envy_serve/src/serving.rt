@@ -1,6 +1,5 @@
-ghost use Rattle.std.specs.Prelude.{◌≡◌, ◌≤◌, ℕ, List, []};
-ghost use Rattle.envy_io.specs.Streams.{Feed, Drain};
-ghost use Rattle.envy_serve.specs.Ends.{Progress, Advances, Serves, IsAtStart, lines_of_end, most_bytes};
+ghost use Rattle.std.specs.Prelude.{◌≡◌, ◌≤◌, List, []};
+ghost use Rattle.envy_serve.specs.Ends.{Serves, IsAtStart, most_bytes};
 ghost use Rattle.envy_serve.specs.Turns.{Turn};
 ghost use Rattle.envy_serve.specs.Concludes.{Closes, Concludes};
 
@@ -69,42 +68,14 @@ fn conclude<V: Service, K: Sink>(service: &V, stop: Stop, sink: &mut K) -> End
     }
 }
 
-/// Reads the next line and does it. Answers how serving ends, where it does.
-fn advance<V: Service, S: Source, K: Sink>(
-    service: &mut V,
-    source: &mut S,
-    sink: &mut K,
-    reader: &mut Lines,
-    text: &mut ArrayVec<u8, 120>,
-) -> Option<End>
-    requires { V.IsReady service.old }
-    ensures goes { (start : V.Start) (skipped : ℕ) (from : Feed) (to : Drain) (n : ℕ)
-        → Progress V.grammar skipped (V.Did start service.old) from to n (S.feed source.old)
-        (K.drain sink.old) reader.old
-        → Advances result V.grammar skipped (V.Did start service.new) (V.Died start service.new)
-        (V.tail service.new) from to n (S.feed source.new) (K.drain sink.new) reader.new }
-    ensures cap { reader.new.cap ≡ reader.old.cap }
-    ensures within { reader.new.taken ≤ reader.new.cap }
+/// How a trace was served, where serving ends with so many lines accepted.
+fn stopped(end: End, lines: u64, reader: &Lines) -> Served
+    ensures { result ≡ record { end = end; lines = lines; taken = reader.now.taken } }
 {
-    let line = match fetch::<V, S>(source, reader, text) {
-        Ok(line) => line,
-        Err(stop) => return Some(conclude(service, stop, sink)),
-    };
-    match service.obey(&line, sink) {
-        Obeyed::Done => None,
-        Obeyed::WriteFault => Some(End::WriteFault),
-        Obeyed::Dead => Some(End::Dead),
-    }
-}
-
-/// The lines accepted, where so many were done and told.
-fn lines_accepted(end: End, told: u64) -> u64
-    requires { told ≤ most_bytes }
-    ensures { result ≡ lines_of_end end told }
-{
-    match end {
-        End::WriteFault | End::Dead => told + 1,
-        _ => told,
+    Served {
+        end,
+        lines,
+        taken: reader.taken(),
     }
 }
 
@@ -129,12 +100,14 @@ pub fn serve<V: Service, S: Source, K: Sink>(
     let mut reader = reader;
     let mut text = ArrayVec::new();
     for told in 0..MOST_BYTES + 1 {
-        if let Some(end) = advance(service, source, sink, &mut reader, &mut text) {
-            return Served {
-                end,
-                lines: lines_accepted(end, told),
-                taken: reader.taken(),
-            };
+        let line = match fetch::<V, S>(source, &mut reader, &mut text) {
+            Ok(line) => line,
+            Err(stop) => return stopped(conclude(service, stop, sink), told, &reader),
+        };
+        match service.obey(&line, sink) {
+            Obeyed::Done => {}
+            Obeyed::WriteFault => return stopped(End::WriteFault, told + 1, &reader),
+            Obeyed::Dead => return stopped(End::Dead, told + 1, &reader),
         }
     }
     unreachable!()

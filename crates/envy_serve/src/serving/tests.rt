@@ -1,4 +1,5 @@
-use super::{End, advance};
+use super::{End, conclude};
+use crate::fetch::fetch;
 use crate::{Obeyed, Service};
 use arrayvec::ArrayVec;
 use envy_io::{Failed, Lines, MemSink, MemSource, Sink, write_all};
@@ -70,9 +71,11 @@ fn serve_within(
     let mut reader = Lines::new(cap.max(1));
     let mut text = ArrayVec::new();
     for _ in 0..5 {
-        let end = advance(&mut Digits, &mut source, &mut sink, &mut reader, &mut text);
-        if end.is_some() {
-            return Ok((end, sink));
+        match fetch::<Digits, MemSource>(&mut source, &mut reader, &mut text) {
+            Ok(line) => {
+                let _ = Digits.obey(&line, &mut sink);
+            }
+            Err(stop) => return Ok((Some(conclude(&Digits, stop, &mut sink)), sink)),
         }
     }
     Ok((None, sink))
