@@ -1,6 +1,8 @@
 ghost use Rattle.std.specs.Prelude.{◌≡◌, ◌⊎◌, ◌+◌, ◌^◌, ◌<◌, ◌≤◌, ℕ, List, length, false, IsTrue};
 ghost use Rattle.envy_map.specs.Fields.{Chart};
+ghost use Rattle.envy_journal.specs.Head.{StandsFor};
 ghost use Rattle.envy_journal.specs.Held.{most_held};
+ghost use Rattle.envy_journal.specs.Reading.{operations};
 ghost use Rattle.envy_synced.specs.Disk.{IsBefore, IsLast, IsSynced, Reopens};
 
 use envy_device::Device;
@@ -31,6 +33,11 @@ pub fn close<B: Steady + Drop, D: Device>(memory: Memory<Kept<B, D>>) -> (D, usi
     ensures last { (was : Chart) → IsSynced was → IsLast was memory.chart
         → (file : List ℕ) → D.left_since result.0 was.plans file
         → ∥ Reopens was file ⊎ ((memory.chart.on ≡ false) × Reopens memory.chart file) ∥₁ }
+    // a file of the first kind has the operations that were on the disk then
+    ensures reads { (was : Chart) (synced : IsSynced was) → IsLast was memory.chart
+        → (file : List ℕ) → D.left_since result.0 was.plans file
+        → ∥ StandsFor was.shape (operations synced.bytes) file
+        ⊎ ((memory.chart.on ≡ false) × Reopens memory.chart file) ∥₁ }
     ensures one_before { (first was : Chart) → IsSynced first → IsSynced was → IsBefore first memory.chart
         → IsLast was memory.chart
         → (file : List ℕ) → D.left_since result.0 first.plans file

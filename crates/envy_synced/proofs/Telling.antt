@@ -51,6 +51,11 @@ synced_now seen moment log before s content = record {
   flash = ap (λ (x : Content). x.flash) (sym content);
 }
 
+-- what it brought to the disk are the operations that are kept
+pub reads_now : {D : Type 0} (seen : D → List ℕ) (moment : D → ℕ) (log before : Log D) (s : State) → content_of s ≡ holds s.shape (kept seen log) → (synced : IsSynced (chart (disk_state seen moment log before s))) × (operations synced.bytes ≡ kept seen log)
+unfolding synced_now
+reads_now seen moment log before s content = (synced_now seen moment log before s content, refl)
+
 module _ {D : Type 0} (seen : D → List ℕ) (moment : D → ℕ) (left_since : D → ℕ → List ℕ → Type 0) (now was before : Log D) (s : State) (is : IsKept seen moment left_since now was before s) where
   abbrev told : State
   told = disk_state seen moment was before s
@@ -62,6 +67,16 @@ module _ {D : Type 0} (seen : D → List ℕ) (moment : D → ℕ) (left_since :
   -- a crash since the last sync leaves a file that reopens to what was synced then
   pub told_last : (c : Chart) (file : List ℕ) → IsSynced c → IsLast c (chart told) → left_since now.device c.plans file → ∥ Reopens c file ⊎ ((told.on ≡ false) × Reopens (chart told) file) ∥₁
   told_last c file good last left = ∥∥₁_map (is.each file (subst (λ (t : ℕ). left_since now.device t file) (sym last.moment) left)) (λ e. told_ends c file good last e)
+
+  told_stands : (c : Chart) (file : List ℕ) (good : IsSynced c) → IsLast c (chart told) → Ends s (kept seen was) file → StandsFor c.shape (operations good.bytes) file ⊎ ((told.on ≡ false) × Reopens (chart told) file)
+  told_stands c file good last (inl stands) =
+      inl (subst (λ (sh : Shape). StandsFor sh (operations good.bytes) file) (sym last.shape)
+      (subst (λ (p : List Operation). StandsFor s.shape p file) (ap operations (number_one (kept_bytes seen was) good.bytes (last.bytes ∙ good.coded))) stands))
+  told_stands c file good last (inr (off, holding)) = inr (off, reopens_now s told file holding refl refl)
+
+  -- it has the operations that were on the disk then
+  pub told_reads : (c : Chart) (file : List ℕ) (good : IsSynced c) → IsLast c (chart told) → left_since now.device c.plans file → ∥ StandsFor c.shape (operations good.bytes) file ⊎ ((told.on ≡ false) × Reopens (chart told) file) ∥₁
+  told_reads c file good last left = ∥∥₁_map (is.each file (subst (λ (t : ℕ). left_since now.device t file) (sym last.moment) left)) (λ e. told_stands c file good last e)
 
   told_either : (b c : Chart) (file : List ℕ) → IsSynced b → IsSynced c → IsBefore b (chart told) → IsLast c (chart told) → StandsFor s.shape (kept seen before) file ⊎ Ends s (kept seen was) file → Reopens b file ⊎ (Reopens c file ⊎ ((told.on ≡ false) × Reopens (chart told) file))
   told_either b c file fine good first last (inl stands) = inl (reopens_synced b s.shape (kept_bytes seen before) file fine first.shape first.bytes stands)

@@ -2,8 +2,10 @@ ghost use Rattle.std.specs.Prelude.{◌≡◌, ◌⊎◌, ◌<◌, ◌≤◌, �
 ghost use Rattle.std.proofs.Props.{props};
 ghost use Rattle.envy_base.specs.State.{Puts, Programs, Erases};
 ghost use Rattle.envy_map.specs.Fields.{Chart, chart};
+ghost use Rattle.envy_journal.specs.Head.{StandsFor};
 ghost use Rattle.envy_journal.specs.Journal.{journal_state, kept, done};
 ghost use Rattle.envy_journal.specs.Log.{HasEnded};
+ghost use Rattle.envy_journal.specs.Reading.{operations};
 ghost use Rattle.envy_synced.specs.Disk.{IsKept, IsLast, IsBefore, IsCompact, IsSynced, Reopens, disk_state};
 
 use envy_base::{Board, Off, Shape, Trouble};
@@ -30,6 +32,8 @@ impl<B: Steady, D: Device> Kept<B, D> {
         requires rests { done D.seen journal.log ≡ kept D.seen journal.log }
         ensures journal { result.journal ≡ journal }
         ensures synced { IsSynced (chart (⟦<Kept<B, D> as Board>⟧.state result)) }
+        ensures reads { (synced : IsSynced (chart (⟦<Kept<B, D> as Board>⟧.state result)))
+            × (operations synced.bytes ≡ kept D.seen journal.log) }
     {
         let synced = Snapshot::of(&journal);
         let before = Snapshot::of(&journal);
@@ -41,7 +45,8 @@ impl<B: Steady, D: Device> Kept<B, D> {
     }
 
     /// The device. A crash of the machine at any moment since the last sync that succeeded leaves a file that opens as
-    /// the board was behind it, or, where power is off, as it is now: then a later sync may have done its work and failed.
+    /// the board was behind it, with the operations that were on the disk then, or, where power is off, as it is now: then a
+    /// later sync may have done its work and failed.
     /// One since the sync before leaves what that one brought to the disk, or one of these.
     pub fn device(&self) -> &D
         ensures here { result.now ≡ self.now.journal.log.device }
@@ -49,6 +54,12 @@ impl<B: Steady, D: Device> Kept<B, D> {
         ensures last { (was : Chart) → IsSynced was → IsLast was (chart (⟦<Kept<B, D> as Board>⟧.state self.now))
             → (file : List ℕ) → D.left_since result.now was.plans file
             → ∥ Reopens was file
+            ⊎ (((⟦<Kept<B, D> as Board>⟧.state self.now).on ≡ false)
+            × Reopens (chart (⟦<Kept<B, D> as Board>⟧.state self.now)) file) ∥₁ }
+        ensures reads { (was : Chart) (synced : IsSynced was)
+            → IsLast was (chart (⟦<Kept<B, D> as Board>⟧.state self.now))
+            → (file : List ℕ) → D.left_since result.now was.plans file
+            → ∥ StandsFor was.shape (operations synced.bytes) file
             ⊎ (((⟦<Kept<B, D> as Board>⟧.state self.now).on ≡ false)
             × Reopens (chart (⟦<Kept<B, D> as Board>⟧.state self.now)) file) ∥₁ }
         ensures one_before { (first was : Chart) → IsSynced first → IsSynced was

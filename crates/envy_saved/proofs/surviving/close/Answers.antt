@@ -1,6 +1,8 @@
 use Rattle.std.proofs.Common.{◌⊎◌, ◌≡◌, ◌∙◌, ◌+◌, ◌^◌, ◌<◌, ◌≤◌, ℕ, List, length, false, sym, ap, subst}
 use Rattle.std.specs.Prelude.{IsTrue}
 use Rattle.envy_map.specs.Fields.{Chart}
+use Rattle.envy_journal.specs.Head.{StandsFor}
+use Rattle.envy_journal.specs.Reading.{operations}
 use Rattle.envy_synced.specs.Disk.{IsBefore, IsLast, Reopens}
 use Rattle.envy_saved.proofs.surviving.close.Goals as goal
 
@@ -8,6 +10,11 @@ pub returns-clause-last : goal.returns-clause-last
 returns-clause-last g c was good =
     subst (λ (p : Chart). IsLast was p → (file : List ℕ) → g.D.Device.left_since c.close.result was.plans file → ∥ Reopens was file ⊎ ((p.on ≡ false) × Reopens p file) ∥₁) c.into_board-kept.ensures.same
     (rw (c.close.ensures, c.into_journal-journal.ensures.journal, sym c.device-device.ensures.here) (c.device-device.ensures.last was good))
+
+pub returns-clause-reads : goal.returns-clause-reads
+returns-clause-reads g c was good =
+    subst (λ (p : Chart). IsLast was p → (file : List ℕ) → g.D.Device.left_since c.close.result was.plans file → ∥ StandsFor was.shape (operations good.bytes) file ⊎ ((p.on ≡ false) × Reopens p file) ∥₁) c.into_board-kept.ensures.same
+    (rw (c.close.ensures, c.into_journal-journal.ensures.journal, sym c.device-device.ensures.here) (c.device-device.ensures.reads was good))
 
 pub returns-clause-one_before : goal.returns-clause-one_before
 returns-clause-one_before g c first was fine good =

@@ -1,6 +1,6 @@
 use Rattle.std.proofs.Common.{◌≤◌, subst, sym}
 use Rattle.envy_journal.specs.Journal.{journal_state}
-use Rattle.envy_synced.proofs.Telling.{told_last, told_before}
+use Rattle.envy_synced.proofs.Telling.{told_last, told_reads, told_before}
 use Rattle.envy_synced.proofs.kept.Kept.device.Goals as goal
 
 pub returns-clause-time : goal.returns-clause-time
@@ -14,6 +14,14 @@ returns-clause-last g c was good last file left =
     let j = k.journal in
     let since = g.D.Device.left_since in
     told_last g.D.Device.seen g.D.Device.moment since j.log k.synced.value.log k.before.value.log (journal_state j.dead (g.B.Board.state j.board)) k.kept was file good last
+    (subst (λ (d : g.row.D.Denot). since d was.plans file) c.device.ensures left)
+
+pub returns-clause-reads : goal.returns-clause-reads
+returns-clause-reads g c was good last file left =
+    let k = c.args.self.now in
+    let j = k.journal in
+    let since = g.D.Device.left_since in
+    told_reads g.D.Device.seen g.D.Device.moment since j.log k.synced.value.log k.before.value.log (journal_state j.dead (g.B.Board.state j.board)) k.kept was file good last
     (subst (λ (d : g.row.D.Denot). since d was.plans file) c.device.ensures left)
 
 pub returns-clause-one_before : goal.returns-clause-one_before

@@ -3,7 +3,7 @@ use Rattle.envy_journal.specs.declared.operation.Operation.{Operation}
 use Rattle.envy_journal.specs.Content.{holds}
 use Rattle.envy_synced.specs.Disk.{IsKept}
 use Rattle.envy_synced.proofs.Going.{kept_new, stands_now}
-use Rattle.envy_synced.proofs.Telling.{synced_now}
+use Rattle.envy_synced.proofs.Telling.{reads_now, synced_now}
 use Rattle.envy_synced.proofs.kept.Kept.new.Goals as goal
 
 pub invariant_of-result : goal.invariant_of-result
@@ -28,3 +28,14 @@ returns-clause-synced g c =
     let is = j.logged alive in
     rw (c.of-synced.ensures, c.of-before.ensures, alive)
     (synced_now seen moment j.log j.log a (is.content ∙ ap (λ (p : List Operation). holds a.shape p) c.requires.rests))
+
+pub returns-clause-reads : goal.returns-clause-reads
+returns-clause-reads g c =
+    let j = c.args.journal in
+    let seen = g.D.Device.seen in
+    let moment = g.D.Device.moment in
+    let a = g.B.Board.state j.board in
+    let alive = c.requires.alive in
+    let is = j.logged alive in
+    rw (c.of-synced.ensures, c.of-before.ensures, alive)
+    (reads_now seen moment j.log j.log a (is.content ∙ ap (λ (p : List Operation). holds a.shape p) c.requires.rests))
