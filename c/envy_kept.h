@@ -100,13 +100,20 @@ uint32_t envy_kept_new(envy_kept *m);
    ENVY_OTHER_JOURNAL and ENVY_OTHER_SHAPE no call of the disk is made. */
 uint32_t envy_kept_open(envy_kept *m, const envy_setup *setup, const uint8_t *file, size_t n, int32_t port);
 
+/* The same, of a file of which the program states that it is written byte by byte: in place of point 1 at envy_disk, a stop
+   of the machine leaves at each place of a range that was being written the byte that was written or the one that was
+   there; behind the old end that is a 0. Nothing checks it. Then envy_kept_sync makes one sync of the file, and not two.
+   How a file was opened stays for as long as the memory is open; the next call may open the same file either way. */
+uint32_t envy_kept_open_bytewise(envy_kept *m, const envy_setup *setup, const uint8_t *file, size_t n, int32_t port);
+
 /* Ends the memory and frees what it took from the heap. It makes no call of the disk: what was done since the last sync
    is lost, unless the program syncs before. The file may be opened again. On an empty place it does nothing. */
 void envy_kept_close(envy_kept *m);
 
 /* Brings all that the memory holds to the disk, with what open transactions put, by two writes and two syncs of the
-   file; where the file would be longer then than 1 MiB and than twice what the whole board takes (36 bytes, 13 for each
-   word of SRAM and 261 for each row), by envy_kept_compact.
+   file, or by three writes and one sync where it was opened as written byte by byte; where the file would be longer then
+   than 1 MiB and than twice what the whole board takes (36 bytes, 13 for each word of SRAM and 261 for each row), by
+   envy_kept_compact.
    ENVY_DONE: it is on the disk. ENVY_EMPTY. ENVY_OFF: it may be there or not; close the memory and open the file again,
    which gives the array of this sync or of the last one that was done. */
 uint32_t envy_kept_sync(envy_kept *m);

@@ -141,13 +141,16 @@ static uint8_t *read_whole(int descriptor, size_t *n) {
     return bytes;
 }
 
+/* The two ways in which a memory in a file is opened. */
+typedef uint32_t opening(envy_kept *m, const envy_setup *setup, const uint8_t *file, size_t n, int32_t port);
+
 /* Brings the file that was opened to the disk, reads it, and has the memory in it made or taken up. */
-static uint32_t taken(envy_kept_file *f, const envy_setup *setup) {
+static uint32_t taken(envy_kept_file *f, const envy_setup *setup, opening *open_it) {
     size_t n;
     if (fsync(f->descriptor) || sync_folder(f)) return ENVY_SYSTEM;
     uint8_t *bytes = read_whole(f->descriptor, &n);
     if (!bytes) return errno == ENOMEM ? ENVY_NO_MEMORY : ENVY_SYSTEM;
-    uint32_t code = envy_kept_open(&f->memory, setup, bytes, n, f->port);
+    uint32_t code = open_it(&f->memory, setup, bytes, n, f->port);
     free(bytes);
     return code;
 }
@@ -166,16 +169,24 @@ static void let_go(envy_kept_file *f) {
     errno = why;
 }
 
-uint32_t envy_kept_open_file(envy_kept_file *f, const char *path, const envy_setup *setup) {
+static uint32_t opened(envy_kept_file *f, const char *path, const envy_setup *setup, opening *open_it) {
     if (f->descriptor >= 0) return ENVY_OPEN;
     uint32_t code = ENVY_DONE;
     if (!f->memory.at && (code = envy_kept_new(&f->memory)) != ENVY_DONE) return code;
     f->disk = (envy_disk){f, write_file, cut_file, sync_file, begin_second, append_second, replace_file};
     if ((f->port = envy_disk_open(&f->disk)) < 0) code = ENVY_NO_MEMORY;
     if (code == ENVY_DONE) code = locked(f, path);
-    if (code == ENVY_DONE) code = taken(f, setup);
+    if (code == ENVY_DONE) code = taken(f, setup, open_it);
     if (code != ENVY_DONE) let_go(f);
     return code;
+}
+
+uint32_t envy_kept_open_file(envy_kept_file *f, const char *path, const envy_setup *setup) {
+    return opened(f, path, setup, envy_kept_open);
+}
+
+uint32_t envy_kept_open_file_bytewise(envy_kept_file *f, const char *path, const envy_setup *setup) {
+    return opened(f, path, setup, envy_kept_open_bytewise);
 }
 
 uint32_t envy_kept_close_file(envy_kept_file *f) {

@@ -29,6 +29,10 @@ typedef struct envy_kept_file {
    empty file that was made stays. */
 uint32_t envy_kept_open_file(envy_kept_file *f, const char *path, const envy_setup *setup);
 
+/* The same by envy_kept_open_bytewise: the program states that the file system and the disk under it write the file byte by
+   byte. */
+uint32_t envy_kept_open_file_bytewise(envy_kept_file *f, const char *path, const envy_setup *setup);
+
 /* Syncs, ends the memory, and gives up the file and its lock. The place may be opened again. ENVY_DONE, also on a place
    without a file; ENVY_OFF where the last sync failed: then the file opens as of that sync or of the one before. */
 uint32_t envy_kept_close_file(envy_kept_file *f);

@@ -63,7 +63,7 @@ printf 'abc' >"$work/text"
 keeps "$work/text" < <(printf 'load 5\n')
 ends "a small file of another kind" 10 '' 'envy: no journal'
 [ "$(cat "$work/text")" = abc ] || fail "a small file was written"
-{ head -c 8 "$work/a"; printf '\002'; tail -c +10 "$work/a"; } >"$work/version"
+{ head -c 8 "$work/a"; printf '\003'; tail -c +10 "$work/a"; } >"$work/version"
 keeps "$work/version" < <(printf 'load 5\n')
 ends "another version" 10 '' 'envy: a journal of another version'
 keeps "$work" < <(printf 'load 5\n')
@@ -112,10 +112,11 @@ eval "exec $to>&-"
 wait "$first" || fail "the first process ended with status $?"
 
 # Killed at any moment: two words of two pages are stored and synced, one number after another; the two that are found are
-# the same, no smaller than the last that was told to be synced, and no larger than the last that was sent.
+# the same, no smaller than the last that was told to be synced, and no larger than the last that was sent. Every other
+# process takes the file as one that is written byte by byte.
 synced=0
 for ((kill = 0; kill < kills; kill++)); do
-    coproc KILLED { exec "$program" keep --file "$work/killed" 2>/dev/null; }
+    coproc KILLED { exec "$program" keep --file "$work/killed" --bytewise $((kill % 2)) 2>/dev/null; }
     pid=$KILLED_PID
     exec {to}>&"${KILLED[1]}" {replies}<&"${KILLED[0]}"
     (for ((n = synced + 1; n < synced + 100000; n++)); do printf 'store 0 %d\nstore 900 %d\nsync\n' $n $n; done >&"$to" 2>/dev/null) &

@@ -17,11 +17,11 @@ trap 'rm -rf "$work" "$memory"' EXIT
 # compiles WORDS..: whether a program with these words is made
 compiles() { echo 'int main(void) { return 0; }' | gcc -x c -o "$work/none" - "$@" 2>/dev/null; }
 
-engines='disk keep'
+engines='disk keep keep-bytewise'
 with=
 if [ -e ../crates/envy_kept/out/libenvy_kept.a ]; then
     make -s out/lib/libenvy_kept.a
-    engines="$engines kept" with="$with -DWITH_KEPT out/lib/libenvy_kept.a"
+    engines="$engines kept kept-bytewise" with="$with -DWITH_KEPT out/lib/libenvy_kept.a"
 fi
 if compiles -include sqlite3.h -lsqlite3; then
     engines="$engines sqlite-full sqlite-full-each sqlite-normal" with="$with -DWITH_SQLITE -lsqlite3"
@@ -88,20 +88,6 @@ for ((round = 0; round < 3; round++)); do
     FILE_CALLS_WAIT=1000 LD_PRELOAD=$work/calls.so a_round "$memory"
 done >"$work/waiting"
 table "The same, where each sync waits for 1 ms: the best of 3 runs (the middle one)" "$work/waiting"
-# what one sync of the file in place of two would bring: each of the two waits for half
-of_all=$engines
-for engines in $of_all; do
-    case $engines in
-    keep | kept)
-        for ((round = 0; round < 3; round++)); do
-            FILE_CALLS_WAIT=500 LD_PRELOAD=$work/calls.so a_round "$memory" | sed 's/^[a-z]*/&-with-one-sync/'
-        done >"$work/halved"
-        engines=$engines-with-one-sync
-        table - "$work/halved" | tail -n 1
-        ;;
-    esac
-done
-engines=$of_all
 
 # counted ENGINE TRANSFERS EVERY: bytes that were written to the files, and syncs
 counted() {
@@ -151,13 +137,16 @@ fi
 counted_instructions() {
     rm -f "$memory"/file*
     set -- "$@" valgrind --tool=callgrind --callgrind-out-file=/dev/null
-    if [ "$1" = keep ]; then
+    case $1 in
+    keep*)
+        local bytewise=0
+        [ "$1" = keep ] || bytewise=1
         "$work/speed" trace - "$2" "$3" >"$memory/trace"
-        "${@:4}" "$program" keep --file "$memory/file" --segments=64 --rows=512 --shadows=64 --frames=256 --entries=4096 \
-            --pages=17675 <"$memory/trace" 2>"$work/said" >/dev/null
-    else
-        "${@:4}" "$work/speed" "$1" "$memory/file" "$2" "$3" 2>"$work/said" >/dev/null
-    fi
+        "${@:4}" "$program" keep --file "$memory/file" --bytewise=$bytewise --segments=64 --rows=512 --shadows=64 \
+            --frames=256 --entries=4096 --pages=17675 <"$memory/trace" 2>"$work/said" >/dev/null
+        ;;
+    *) "${@:4}" "$work/speed" "$1" "$memory/file" "$2" "$3" 2>"$work/said" >/dev/null ;;
+    esac
     awk '/Collected/ { print $NF }' "$work/said"
 }
 

@@ -9,7 +9,9 @@
 
      disk               2 KiB are written behind a file's end and synced, and nothing else is done
      keep PROGRAM       the program's word keep, fed by a pipe: each transfer a transaction of its own
+     keep-bytewise PROGRAM   the same with --bytewise 1: the file is trusted to be written byte by byte
      kept               the same memory through the library (built with -DWITH_KEPT)
+     kept-bytewise      the same with that premise
      sqlite-full        write-ahead log, synchronous = full: the transfers between two syncs are one transaction
      sqlite-full-each   the same; each is a transaction of its own, and only the last before a sync waits for the disk
      sqlite-normal      synchronous = normal: a sync comes with a checkpoint alone, so the last transfers may be lost
@@ -111,7 +113,7 @@ static double seconds(void) {
 
 /* Feeds the program by a pipe, and takes its replies from another: seconds from the reply to the first sync, behind which
    the transfers are given, to the end. */
-static double through_pipe(const char *program, const char *path, uint32_t transfers, uint32_t every) {
+static double through_pipe(const char *program, const char *path, uint32_t transfers, uint32_t every, int bytewise) {
     int in[2], out[2], go[2];
     must(!pipe(in) && !pipe(out) && !pipe(go), "pipe");
     char pages[32];
@@ -120,7 +122,7 @@ static double through_pipe(const char *program, const char *path, uint32_t trans
     if (!served) {
         dup2(in[0], 0), dup2(out[1], 1);
         close(in[0]), close(in[1]), close(out[0]), close(out[1]), close(go[0]), close(go[1]);
-        execl(program, program, "keep", "--file", path, SIZES, pages, (char *)NULL);
+        execl(program, program, "keep", "--file", path, bytewise ? "--bytewise=1" : "--bytewise=0", SIZES, pages, (char *)NULL);
         _exit(127);
     }
     close(in[0]), close(out[1]);
@@ -174,16 +176,19 @@ static envy_kept_file kept = ENVY_KEPT_FILE_INIT;
 
 static void answers(uint32_t code, const char *what) { must(code == ENVY_DONE, what); }
 
-static void kept_open(const char *path) {
+static void kept_open_by(uint32_t (*open_file)(envy_kept_file *, const char *, const envy_setup *), const char *path) {
     const envy_setup setup = {
         .segments = 64, .rows = 512, .pages = PAGES, .shadows = 64, .frames = 256, .entries = 4096,
         .policy = ENVY_GREEDY, .part = 2, .limit = 100, .mark = 256,
     };
     uint32_t holder;
-    answers(envy_kept_open_file(&kept, path, &setup), "open");
+    answers(open_file(&kept, path, &setup), "open");
     for (uint32_t page = 0; page < PAGES; page++) answers(envy_kept_store(&kept.memory, 32 * page, 0, &holder), "store");
     answers(envy_kept_sync(&kept.memory), "sync");
 }
+
+static void kept_open(const char *path) { kept_open_by(envy_kept_open_file, path); }
+static void kept_open_bytewise(const char *path) { kept_open_by(envy_kept_open_file_bytewise, path); }
 
 static void kept_transfer(const transfer *t, int is_first, int is_last) {
     (void)is_first;
@@ -353,6 +358,7 @@ static const engine engines[] = {
     {"disk", disk_open, disk_transfer, NULL},
 #ifdef WITH_KEPT
     {"kept", kept_open, kept_transfer, kept_sum},
+    {"kept-bytewise", kept_open_bytewise, kept_transfer, kept_sum},
 #endif
 #ifdef WITH_SQLITE
     {"sqlite-full", sqlite_open_full, sqlite_transfer, sqlite_sum},
@@ -389,7 +395,8 @@ int main(int words, char **word) {
         write_transfers(stdout, transfers, every);
         return 0;
     }
-    if (!strcmp(word[1], "keep") && words == 6) took = through_pipe(word[5], word[2], transfers, every);
+    int bytewise = !strcmp(word[1], "keep-bytewise");
+    if ((bytewise || !strcmp(word[1], "keep")) && words == 6) took = through_pipe(word[5], word[2], transfers, every, bytewise);
     for (size_t i = 0; i < sizeof engines / sizeof *engines; i++)
         if (!strcmp(engines[i].name, word[1])) took = driven(&engines[i], word[2], transfers, every);
     if (took < 0) return 2;

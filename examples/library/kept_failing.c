@@ -1,5 +1,6 @@
 /* The library over a file in this program's memory, whose calls fail where they are told: each answer of opening; a
-   session whose k-th call of the disk fails, for each k, with any part of it done; an opening whose k-th block of the heap
+   session whose k-th call of the disk fails, for each k, with any part of it done, also where the file is opened as written
+   byte by byte; an opening whose k-th block of the heap
    isn't given; and a compaction, which leaves a shorter file that opens as the same words.
 
      kept_failing SEED */
@@ -117,6 +118,7 @@ static int do_replace(void *context) {
     return failed;
 }
 
+static bool bytewise;
 static const envy_disk disk = {NULL, do_write, do_cut, do_sync, do_begin, do_append, do_replace};
 static envy_kept m = ENVY_KEPT_INIT;
 static int32_t port;
@@ -125,7 +127,7 @@ static int32_t port;
 static uint32_t open_file(const envy_setup *s) {
     uint8_t *copy = malloc(first.n + 1);
     memcpy(copy, first.bytes, first.n);
-    uint32_t code = envy_kept_open(&m, s, copy, first.n, port);
+    uint32_t code = (bytewise ? envy_kept_open_bytewise : envy_kept_open)(&m, s, copy, first.n, port);
     free(copy);
     return code;
 }
@@ -322,9 +324,12 @@ static void answers(void) {
     other.mark = 3;
     WANT(open_file(&other), ENVY_DONE);
     envy_kept_close(&m);
-    first.bytes[8] = 2;
-    REFUSES(ENVY_OTHER_JOURNAL);
+    /* the versions before and behind this one */
     first.bytes[8] = 1;
+    REFUSES(ENVY_OTHER_JOURNAL);
+    first.bytes[8] = 3;
+    REFUSES(ENVY_OTHER_JOURNAL);
+    first.bytes[8] = 2;
     first.bytes[1] ^= 1;
     REFUSES(ENVY_NO_JOURNAL);
     first.bytes[1] ^= 1;
@@ -406,17 +411,21 @@ int main(int words, char **word) {
     answers();
     without_blocks();
     compacted();
-    session_with(NEVER, seed);
-    int all = 0;
-    for (int k = 0;; k++) {
-        session_with(k, seed + (uint64_t)k / 7);
-        if (in_session <= k) break; /* the session ended before its k-th call */
-        all = k + 1;
+    int all[2] = {0};
+    for (int way = 0; way < 2; way++) {
+        bytewise = way;
+        session_with(NEVER, seed);
+        for (int k = 0;; k++) {
+            session_with(k, seed + (uint64_t)k / 7);
+            if (in_session <= k) break; /* the session ended before its k-th call */
+            all[way] = k + 1;
+        }
     }
     envy_disk_close(port);
     WANT(open_file(&setup), ENVY_OFF); /* no such port */
     free(first.bytes);
     free(second.bytes);
-    printf("kept files: each answer of opening, and a session with each of its %d calls of the disk failing\n", all);
+    printf("kept files: each answer of opening, and a session with each of its %d calls of the disk failing, or of its %d where "
+           "the file is written byte by byte\n", all[0], all[1]);
     return 0;
 }

@@ -1,6 +1,7 @@
 /* Kills a process that works in transactions on a kept file and syncs from time to time, at a drawn moment, again and
    again. The process tells through a pipe which sync it begins, and once it was done. After each kill the file opens as
-   just what was committed at the last sync that was done, or at the one in flight.
+   just what was committed at the last sync that was done, or at the one in flight. Every other process takes the file as
+   one that is written byte by byte.
 
      kept_killed FILE ROUNDS SEED */
 #include "../../c/envy_kept_file.h"
@@ -86,9 +87,9 @@ static void tell(int pipe, uint64_t n, uint64_t is_done) {
 }
 
 /* Works from piece n on until it is killed. */
-static void work(const char *path, uint64_t seed, uint64_t n, int pipe) {
+static void work(const char *path, uint64_t seed, uint64_t n, int pipe, int is_bytewise) {
     uint64_t state = seed + n;
-    must(envy_kept_open_file(&kept, path, &setup), "open");
+    must((is_bytewise ? envy_kept_open_file_bytewise : envy_kept_open_file)(&kept, path, &setup), "open");
     for (;; n++) {
         piece p = piece_of(seed, n);
         do_piece(&p, &state);
@@ -100,14 +101,15 @@ static void work(const char *path, uint64_t seed, uint64_t n, int pipe) {
 }
 
 /* Runs the worker for a while and kills it. The last sync that was done, and the one in flight, or the same. */
-static void killed_after(const char *path, uint64_t seed, useconds_t moment, uint64_t *done, uint64_t *begun) {
+static void killed_after(const char *path, uint64_t seed, useconds_t moment, int is_bytewise, uint64_t *done,
+                         uint64_t *begun) {
     int ends[2];
     if (pipe(ends)) exit(1);
     pid_t worker = fork();
     if (worker < 0) exit(1);
     if (worker == 0) {
         close(ends[0]);
-        work(path, seed, *done + 1, ends[1]);
+        work(path, seed, *done + 1, ends[1], is_bytewise);
     }
     close(ends[1]);
     /* what it tells is read while it works, since a pipe holds no more than so much */
@@ -153,7 +155,7 @@ int main(int words, char **word) {
     for (int round = 1; round <= rounds; round++) {
         setup.policy = draw(&state) % 5;
         uint64_t done = last, begun;
-        killed_after(word[1], seed, (useconds_t)(draw(&state) % 150000), &done, &begun);
+        killed_after(word[1], seed, (useconds_t)(draw(&state) % 150000), round % 2, &done, &begun);
         for (; last < done; last++) {
             piece p = piece_of(seed, last + 1);
             syncs += (uint64_t)p.is_synced;

@@ -6,6 +6,7 @@ use crate::memory::{counts_of, did_of, Counts, Did};
 use crate::setup::{c_path, Setup};
 use crate::sys;
 use std::cell::UnsafeCell;
+use std::ffi::c_char;
 use std::mem::ManuallyDrop;
 use std::path::Path;
 use std::ptr;
@@ -24,6 +25,9 @@ pub struct KeptMemory {
 // SAFETY: a handle may be used from any thread, by one call at a time; without `Sync` no two threads call at once.
 unsafe impl Send for KeptMemory {}
 
+/// A call that opens a file.
+type Opening = unsafe extern "C" fn(*mut sys::KeptFile, *const c_char, *const sys::Setup) -> u32;
+
 /// The places of memories that were closed, as numbers: a place stays until the process ends, and serves again.
 static PLACES: Mutex<Vec<usize>> = Mutex::new(Vec::new());
 
@@ -35,7 +39,22 @@ impl KeptMemory {
     /// `Locked`; `System`; `Setup` or `Policy`; `NoJournal`, `OtherJournal` or `OtherShape`; `NoMemory`; `Off`, where the
     /// file failed.
     pub fn open(path: impl AsRef<Path>, setup: &Setup) -> Result<KeptMemory, Error> {
-        let path = c_path(path.as_ref())?;
+        KeptMemory::opened(path.as_ref(), setup, sys::envy_kept_open_file)
+    }
+
+    /// The same, of a file of which the caller states that it is written byte by byte: a stop of the machine leaves at each
+    /// place of a range that was being written the byte that was written or the one that was there; behind the old end that
+    /// is a 0. Nothing checks it. Then a sync waits for the disk once, and not twice.
+    ///
+    /// # Errors
+    ///
+    /// As of [`open`](KeptMemory::open).
+    pub fn open_bytewise(path: impl AsRef<Path>, setup: &Setup) -> Result<KeptMemory, Error> {
+        KeptMemory::opened(path.as_ref(), setup, sys::envy_kept_open_file_bytewise)
+    }
+
+    fn opened(path: &Path, setup: &Setup, open: Opening) -> Result<KeptMemory, Error> {
+        let path = c_path(path)?;
         let place = PLACES.lock().ok().and_then(|mut it| it.pop());
         let memory = KeptMemory {
             file: Box::new(UnsafeCell::new(sys::KeptFile {
@@ -51,7 +70,7 @@ impl KeptMemory {
         };
         // SAFETY: the pointers are to this memory's file, which stays where it is, and to a string and a setup of this
         // call's.
-        Error::check(unsafe { sys::envy_kept_open_file(memory.file.get(), path.as_ptr(), &setup.numbers()) })?;
+        Error::check(unsafe { open(memory.file.get(), path.as_ptr(), &setup.numbers()) })?;
         Ok(memory)
     }
 

@@ -143,6 +143,7 @@ extern "C" {
 #[cfg(feature = "kept")]
 extern "C" {
     pub fn envy_kept_open_file(file: *mut KeptFile, path: *const c_char, setup: *const Setup) -> u32;
+    pub fn envy_kept_open_file_bytewise(file: *mut KeptFile, path: *const c_char, setup: *const Setup) -> u32;
     pub fn envy_kept_close_file(file: *mut KeptFile) -> u32;
     pub fn envy_kept_sync(m: *mut Handle) -> u32;
     pub fn envy_kept_compact(m: *mut Handle) -> u32;

@@ -32,7 +32,7 @@ fn what_was_synced_is_found() {
 
     let found = KeptMemory::open(&copy, &setup).unwrap();
     assert_eq!((found.load(5).unwrap(), found.load(42).unwrap()), (7, 3));
-    let again = KeptMemory::open(&path, &setup).unwrap();
+    let again = KeptMemory::open_bytewise(&path, &setup).unwrap();
     let mut words = [0; 3];
     again.read(40, &mut words).unwrap();
     assert_eq!((again.look(5).unwrap(), words), (8, [1, 2, 3]));

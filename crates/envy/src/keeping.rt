@@ -123,7 +123,7 @@ pub fn keep_words(rt: &HostRuntime, words: &[String]) -> Told
         Ok(said) => said,
         Err(fault) => return refused(fault),
     };
-    let (device, bytes) = match open(rt, said.file) {
+    let (device, bytes) = match open(rt, said.file, said.bytewise) {
         Ok(opened) => opened,
         Err(fault) => return unopened(fault),
     };

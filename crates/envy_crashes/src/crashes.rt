@@ -97,25 +97,37 @@ fn found(alloc: Global, opened: Opened<'_>) -> Result<Found, Fail> {
 }
 
 // Makes a journal in an empty file, whose calls fail from one on.
-fn made(rt: &impl Abort, alloc: Global, bytes: Vec<u8>, left: usize) -> Result<Found, Fail> {
+fn made(
+    rt: &impl Abort,
+    alloc: Global,
+    bytes: Vec<u8>,
+    left: usize,
+    bytewise: bool,
+) -> Result<Found, Fail> {
     assert!(rt; bytes.is_empty());
     SHAPE.check()?;
     let mut cells = Cells::blank(alloc, &SHAPE)?;
-    let file = TornFile::new(alloc, bytes, left)?;
+    let file = TornFile::new(alloc, bytes, left, bytewise)?;
     found(alloc, create(alloc, cells.board(), file, ROOM))
 }
 
 // Takes up a file whose calls fail from one on.
-fn taken_up(rt: &impl Abort, alloc: Global, bytes: Vec<u8>, left: usize) -> Result<Found, Fail> {
+fn taken_up(
+    rt: &impl Abort,
+    alloc: Global,
+    bytes: Vec<u8>,
+    left: usize,
+    bytewise: bool,
+) -> Result<Found, Fail> {
     match read_head(&bytes) {
         Ok(shape) => {
             assert_eq!(rt; shape, SHAPE);
             shape.check()?;
             let mut cells = Cells::blank(alloc, &shape)?;
-            let file = TornFile::new(alloc, bytes.to_vec(alloc)?, left)?;
+            let file = TornFile::new(alloc, bytes.to_vec(alloc)?, left, bytewise)?;
             found(alloc, open(alloc, cells.board(), file, &bytes, ROOM))
         }
-        Err(HeadError::NoJournal) => made(rt, alloc, bytes, left),
+        Err(HeadError::NoJournal) => made(rt, alloc, bytes, left, bytewise),
         Err(HeadError::OtherVersion) => Err(Fail::new("another version")),
     }
 }
@@ -125,14 +137,15 @@ fn reopened(
     rt: &impl Abort,
     alloc: Global,
     bytes: Vec<u8>,
+    bytewise: bool,
     dice: &mut Dice,
 ) -> Result<Vec<u64>, Fail> {
     let mut bytes = bytes;
     for _ in 0..dice.below(3) {
-        let (_, file) = taken_up(rt, alloc, bytes, dice.below(8))?;
+        let (_, file) = taken_up(rt, alloc, bytes, dice.below(8), bytewise)?;
         bytes = file.crash(alloc, dice)?;
     }
-    let (held, _file) = taken_up(rt, alloc, bytes, MOST_CALLS)?;
+    let (held, _file) = taken_up(rt, alloc, bytes, MOST_CALLS, bytewise)?;
     match held {
         Some(words) => Ok(words),
         None => Err(Fail::new("the file doesn't open")),
@@ -149,10 +162,10 @@ struct Session {
 }
 
 // Runs a session over a file whose calls fail from one on.
-fn run(rt: &impl Abort, alloc: Global, left: usize) -> Result<Session, Fail> {
+fn run(rt: &impl Abort, alloc: Global, left: usize, bytewise: bool) -> Result<Session, Fail> {
     SHAPE.check()?;
     let mut cells = Cells::blank(alloc, &SHAPE)?;
-    let file = TornFile::new(alloc, Vec::new(alloc), left)?;
+    let file = TornFile::new(alloc, Vec::new(alloc), left, bytewise)?;
     let mut journal = match create(alloc, cells.board(), file, ROOM) {
         Ok(journal) => journal,
         Err((_, file)) => {
@@ -195,9 +208,9 @@ fn run(rt: &impl Abort, alloc: Global, left: usize) -> Result<Session, Fail> {
     })
 }
 
-#[test]
-fn each_crash_leaves_the_operations_before_some_sync(rt: HostRuntime) -> Result<(), Fail> {
-    let alloc = rt.alloc();
+// Sessions over files of one kind, each of which fails at another call, and what is found behind crashes then and while the
+// file is opened.
+fn each_crash_leaves_a_sync(rt: &impl Abort, alloc: Global, bytewise: bool) -> Result<(), Fail> {
     let mut dice = Dice::new(5);
     let mut some_ended = false;
     let mut some_before = false;
@@ -208,12 +221,12 @@ fn each_crash_leaves_the_operations_before_some_sync(rt: HostRuntime) -> Result<
             synced,
             begun,
             ended,
-        } = run(&rt, alloc, left)?;
-        let before = wanted(&rt, alloc, synced)?;
-        let after = wanted(&rt, alloc, begun)?;
+        } = run(rt, alloc, left, bytewise)?;
+        let before = wanted(rt, alloc, synced)?;
+        let after = wanted(rt, alloc, begun)?;
         for _ in 0..CRASHES {
             let bytes = file.crash(alloc, &mut dice)?;
-            let found = reopened(&rt, alloc, bytes, &mut dice)?;
+            let found = reopened(rt, alloc, bytes, bytewise, &mut dice)?;
             let is_before = found.as_slice() == before.as_slice();
             let is_after = found.as_slice() == after.as_slice();
             assert!(rt; is_before || is_after, "after {left} calls");
@@ -224,4 +237,14 @@ fn each_crash_leaves_the_operations_before_some_sync(rt: HostRuntime) -> Result<
     }
     assert!(rt; some_ended && some_before && some_after);
     Ok(())
+}
+
+#[test]
+fn each_crash_leaves_the_operations_before_some_sync(rt: HostRuntime) -> Result<(), Fail> {
+    each_crash_leaves_a_sync(&rt, rt.alloc(), false)
+}
+
+#[test]
+fn so_does_each_of_a_file_that_is_written_byte_by_byte(rt: HostRuntime) -> Result<(), Fail> {
+    each_crash_leaves_a_sync(&rt, rt.alloc(), true)
 }

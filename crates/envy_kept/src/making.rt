@@ -45,6 +45,7 @@ fn begun(
     setup: &Setup,
     file: &[u8],
     port: i32,
+    bytewise: bool,
 ) -> Result<Memory<Kept<CellBoard, PortFile>>, Unbegun>
     requires { checked setup.now ≡ Ok tt }
     ensures begun { IfOk result (λ memory. (holding : OfHolding) × (array : Array)
@@ -57,7 +58,7 @@ fn begun(
     let Ok(board) = CellBoard::blank(alloc, &setup.shape) else {
         return Err(Unbegun::Memory);
     };
-    let device = FilePort::found(port, file);
+    let device = FilePort::found(port, file, bytewise);
     match begin(alloc, board, device, &options, file, setup, holding) {
         Ok(memory) => Ok(memory),
         Err((unbegun, _device)) => Err(unbegun),
@@ -70,6 +71,7 @@ fn opened(
     given: &EnvySetup,
     file: &[u8],
     port: i32,
+    bytewise: bool,
 ) -> Result<Memory<Kept<CellBoard, PortFile>>, KeptCode>
     ensures { MatchResult result (Opened given.now file.now) (RefusesOpen given.now file.now) }
 {
@@ -77,26 +79,28 @@ fn opened(
         Ok(setup) => setup,
         Err(code) => return Err(KeptCode::Of(code)),
     };
-    match begun(alloc, &setup, file, port) {
+    match begun(alloc, &setup, file, port, bytewise) {
         Ok(memory) => Ok(memory),
         Err(unbegun) => Err(unbegun_code(unbegun)),
     }
 }
 
-/// Makes or takes up the memory in a file, in a place that holds none.
+/// Makes or takes up the memory in a file, in a place that holds none. That the file is written byte by byte is a premise,
+/// which the caller states or doesn't.
 pub fn open_place(
     alloc: Global,
     slot: &mut Slot,
     given: &EnvySetup,
     file: &[u8],
     port: i32,
+    bytewise: bool,
 ) -> KeptCode
     ensures { Opens (Opened given.now file.now) (RefusesOpen given.now file.now) slot.old slot.new result }
 {
     if slot.is_some() {
         return KeptCode::Of(Code::Open);
     }
-    match opened(alloc, given, file, port) {
+    match opened(alloc, given, file, port, bytewise) {
         Ok(memory) => {
             drop(slot.replace(memory));
             KeptCode::Of(Code::Done)

@@ -44,7 +44,27 @@ pub extern "C" fn envy_kept_open(
     ensures opens { DoesOpen setup.now file.now m.old.slot.now m.new.slot.now result }
 {
     let slot = lend(m);
-    let code = open_place(alloc, slot, setup, file, port);
+    let code = open_place(alloc, slot, setup, file, port, false);
+    give_back(m, slot);
+    code.number()
+}
+
+/// The same, of a file of which the caller states that it is written byte by byte.
+#[unsafe(no_mangle)]
+pub extern "C" fn envy_kept_open_bytewise(
+    alloc: Global,
+    m: &mut EnvyKept,
+    setup: &EnvySetup,
+    file: &[u8],
+    port: i32,
+) -> u32
+    requires { InBlock m.old.at }
+    ensures live { InBlock m.new.at }
+    ensures flawless { AreFlawless m.old.slot.now m.new.slot.now }
+    ensures opens { DoesOpen setup.now file.now m.old.slot.now m.new.slot.now result }
+{
+    let slot = lend(m);
+    let code = open_place(alloc, slot, setup, file, port, true);
     give_back(m, slot);
     code.number()
 }

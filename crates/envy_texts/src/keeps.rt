@@ -105,8 +105,16 @@ const FORMS: [Row; 12] = [
     ),
 ];
 
+// Whether these words say that the file is written byte by byte.
+const PREMISES: [(&str, bool); 4] = [
+    ("--file a", false),
+    ("--file a --bytewise 0", false),
+    ("--bytewise=1 --file a", true),
+    ("--compact 1 --file a --bytewise 01", true),
+];
+
 // None of these is.
-const OTHERS: [&str; 19] = [
+const OTHERS: [&str; 21] = [
     "",
     "a",
     "keep --file a",
@@ -123,6 +131,8 @@ const OTHERS: [&str; 19] = [
     "--file a --rows ten",
     "--file a --compact 2",
     "--file a --compact yes",
+    "--file a --bytewise 2",
+    "--file a --bytewise 1 --bytewise 1",
     "--file a --policy lru",
     "--file a --mark 4294967296",
     "--File a",
@@ -153,6 +163,19 @@ fn check(rt: &impl Abort, alloc: Global, row: &Row) -> Result<(), Fail> {
 fn words_of_keep_name_a_file_and_its_options(rt: HostRuntime) -> Result<(), Fail> {
     for row in &FORMS {
         check(&rt, rt.alloc(), row)?;
+    }
+    Ok(())
+}
+
+#[test]
+fn words_of_keep_say_how_the_file_is_written(rt: HostRuntime) -> Result<(), Fail> {
+    for row in &PREMISES {
+        let (line, bytewise) = row;
+        let words = words(rt.alloc(), line)?;
+        match read_keep(rt.alloc(), &words) {
+            Ok(said) => assert_eq!(rt; said.bytewise, *bytewise, "at {line:?}"),
+            Err(_) => return Err(Fail::new("refused")),
+        }
     }
     Ok(())
 }
