@@ -15,7 +15,7 @@ ghost use Rattle.envy_policy.specs.Setup.{checked};
 use crate::unbegun::Unbegun;
 use envy_args::KeepOptions;
 use envy_base::Shape;
-use envy_journal::{HeadError, read_head};
+use envy_journal::{HeadError, has_batch, read_head};
 use envy_policy::Setup;
 
 /// What a file holds.
@@ -29,21 +29,15 @@ pub enum Holding {
     Written,
 }
 
-/// How many bytes stand before the first gate of a journal.
-const HEAD: usize = 33;
-
-/// A gate that is open.
-const OPEN: u8 = 4;
-
-// What a journal holds: where its first gate isn't open, or isn't there, nothing was done.
+// What a journal holds: where its first gate leads into no batch, nothing was done.
 fn holding_of(bytes: &[u8]) -> Holding
     requires { 33 ≤ length bytes.now }
     ensures { result ≡ Holding.Written ⊎ ((result ≡ Holding.Blank) × (operations bytes.now ≡ [])) }
 {
-    if bytes.len() <= HEAD || bytes[HEAD] != OPEN {
-        Holding::Blank
-    } else {
+    if has_batch(bytes) {
         Holding::Written
+    } else {
+        Holding::Blank
     }
 }
 
