@@ -1,7 +1,7 @@
 //! The program: does what its words say over standard input and output, writes the last line, and exits.
 #![tactic(auto)]
 
-ghost use Rattle.std.specs.Prelude.{◌≡◌, ◌≢◌, ◌≤◌, IfOk, IsErr, IsOk};
+ghost use Rattle.std.specs.Prelude.{◌≡◌, ◌≢◌, ◌≤◌, IsErr, IsOk};
 
 mod keeping;
 mod streams;
@@ -12,7 +12,7 @@ use envy_bench::{MemBoard, MemMaker};
 use envy_io::{Failed, Sink};
 use envy_keep::keep_end_text;
 use envy_run::{Ended, end_text, run};
-use envy_streams::{BufferedSink, BufferedSource, NoMemory};
+use envy_streams::{BufferedSink, BufferedSource};
 use keeping::keep_words;
 use std::cell::RefCell;
 use std::process::ExitCode;
@@ -48,24 +48,6 @@ fn handed_on(mut ended: Ended<MemBoard>, handing: Result<(), Failed>) -> Ended<M
     ended
 }
 
-/// Does what the words say over standard input and output, and hands on every reply, however it ends.
-fn serve(rt: &HostRuntime, words: &[String]) -> Result<Ended<MemBoard>, NoMemory>
-    ensures { IfOk result (λ ended. ended.lines ≤ 1099511627777) }
-{
-    let output = RefCell::new(BufferedSink::new(rt.alloc(), StdSink::new(rt.stdout()))?);
-    let input = AskedSource::new(StdSource::new(rt.stdin()), &output);
-    let mut source = BufferedSource::new(rt.alloc(), input)?;
-    let mut sink = HeldSink::new(&output);
-    let ended = run(
-        rt.alloc(),
-        words,
-        &mut source,
-        &mut sink,
-        &mut MemMaker::new(),
-    );
-    Ok(handed_on(ended, sink.flush()))
-}
-
 /// Serves the memory in a file, and says how it ended.
 fn main_of_keep(rt: &HostRuntime, words: &[String]) -> ExitCode {
     let told = keep_words(rt, words);
@@ -77,12 +59,10 @@ fn main_of_keep(rt: &HostRuntime, words: &[String]) -> ExitCode {
     ExitCode::from(told.status)
 }
 
-/// Does what the words say in memory, and says how it ended.
-fn main_of_run(rt: &HostRuntime, words: &[String]) -> ExitCode {
-    let Ok(ended) = serve(rt, words) else {
-        say(rt, b"envy: out of memory");
-        return ExitCode::from(NO_MEMORY);
-    };
+/// Says how a run ended.
+fn main_of_run(rt: &HostRuntime, ended: Ended<MemBoard>) -> ExitCode
+    requires { ended.lines ≤ 1099511627777 }
+{
     if ended.status != 0 {
         let mut text = ArrayVec::new();
         end_text(&ended, &mut text);
@@ -91,6 +71,13 @@ fn main_of_run(rt: &HostRuntime, words: &[String]) -> ExitCode {
     ExitCode::from(ended.status)
 }
 
+/// Says that memory ran out before anything was done.
+fn main_without_memory(rt: &HostRuntime) -> ExitCode {
+    say(rt, b"envy: out of memory");
+    ExitCode::from(NO_MEMORY)
+}
+
+/// Does what the words say over standard input and output, hands on every reply, however it ends, and says how it ended.
 fn main(rt: HostRuntime) -> ExitCode {
     let words = match words(&rt) {
         Ok(words) => words,
@@ -100,7 +87,24 @@ fn main(rt: HostRuntime) -> ExitCode {
         }
     };
     match words.split_first() {
-        Some((first, others)) if first.as_bytes() == KEEP => main_of_keep(&rt, others),
-        _ => main_of_run(&rt, &words),
+        Some((first, others)) if first.as_bytes() == KEEP => return main_of_keep(&rt, others),
+        _ => {}
     }
+    let Ok(held) = BufferedSink::new(rt.alloc(), StdSink::new(rt.stdout())) else {
+        return main_without_memory(&rt);
+    };
+    let output = RefCell::new(held);
+    let input = AskedSource::new(StdSource::new(rt.stdin()), &output);
+    let Ok(mut source) = BufferedSource::new(rt.alloc(), input) else {
+        return main_without_memory(&rt);
+    };
+    let mut sink = HeldSink::new(&output);
+    let ended = run(
+        rt.alloc(),
+        &words,
+        &mut source,
+        &mut sink,
+        &mut MemMaker::new(),
+    );
+    main_of_run(&rt, handed_on(ended, sink.flush()))
 }

@@ -24,13 +24,13 @@ use Rattle.envy_keep_trace.specs.declared.keep_line.KeepLine.{KeepLine}
 use Rattle.envy_keep_trace.specs.declared.keep_line.KeepLine.TheVariants.{Trace, Sync}
 use Rattle.envy_keep_trace.specs.declared.keep_reply.KeepReply.{KeepReply}
 use Rattle.envy_keep_trace.specs.declared.keep_reply.KeepReply.TheVariants.{Trace as TraceReply, Synced}
-use Rattle.envy_keep_trace.specs.Keep.{IsKeepLine, ReadsKeep, keep_bytes, keep_line_of}
+use Rattle.envy_keep_trace.specs.Keep.{IsKeepLine, keep_bytes}
 use Rattle.envy_saved.proofs.Reopened.{last_stays}
 use Rattle.envy_serve.specs.Obeys.{Obeys}
 use Rattle.envy_serve.specs.declared.service.Obeyed.TheVariants.{Done, WriteFault, Dead}
 use Rattle.envy_serve.specs.Streams.{Written, FrontWritten}
 use Rattle.envy_serve.specs.Turns.{texts}
-use Rattle.envy_run.specs.Answers.{AnswersTo, IsBoardCall, LosesIn}
+use Rattle.envy_run.specs.Answers.{AnswersTo, LosesIn, line_beside}
 use Rattle.envy_run.specs.Below.{WorksOf}
 use Rattle.envy_run.specs.Hits.{MayTell}
 use Rattle.envy_run.specs.Licence.{Licence}
@@ -38,7 +38,10 @@ use Rattle.envy_run.specs.Tells.{Telling}
 use Rattle.envy_run.proofs.Hitting.{telling-more}
 use Rattle.envy_run.proofs.Noting.{notes-empty}
 use Rattle.envy_run.proofs.Obeying.{answered}
-use Rattle.envy_keep.specs.Answers.{AnswersKeep, IsKeepCall, IsKeptLine, SyncsTo, TraceAnswers}
+use Rattle.envy_run.specs.declared.answering.Beside.{Beside}
+use Rattle.envy_run.specs.declared.answering.Beside.TheVariants.{Nothing, Power as OfPower, Plan as OfPlan}
+use Rattle.envy_run.specs.declared.answering.Plan.TheVariants.{Cut as PlanCut, Bad as PlanBad}
+use Rattle.envy_keep.specs.Answers.{AnswersKeep, SyncsTo, TraceAnswers}
 use Rattle.envy_keep.specs.Since.{IsSaved, KeptSince, LostSince, Start}
 use Rattle.envy_keep.specs.Turns.{KeepRun, KeepTurn, keep_grammar, trace_turns}
 
@@ -53,8 +56,8 @@ syncs-err old new off on (inr (lit, is)) kept = inr (refl, kept ∙ ap (λ (c : 
 
 -- the last sync stays
 
-last-works : (line : Line) (was old new : Chart) → IsBoardCall line → WorksOf line old new → IsLast was old → IsLast was new
-last-works Empty was old new call works last = absurd call
+last-works : (line : Line) (was old new : Chart) → IsKeepLine (Trace line) → WorksOf line old new → IsLast was old → IsLast was new
+last-works Empty was old new call works last = subst (λ (c : Chart). IsLast was c) (sym works) last
 last-works (Load a) was old new call works last = subst (λ (c : Chart). IsLast was c) (sym works) last
 last-works (Look a) was old new call works last = subst (λ (c : Chart). IsLast was c) (sym works) last
 last-works (Store a w) was old new call works last = last_stays was old new _ _ works last
@@ -91,7 +94,7 @@ saved-more start now turns line reply s = record { was = s.was; synced = s.synce
 
 -- a line of the array joins the turns
 
-module _ (start : Start) (old new : Picture) (turns : List KeepTurn) (line : Line) (reply : Reply) (t : KeptSince start old turns) (call : IsBoardCall line) (a : TraceAnswers line reply old new) where
+module _ (start : Start) (old new : Picture) (turns : List KeepTurn) (line : Line) (reply : Reply) (t : KeptSince start old turns) (call : IsKeepLine (Trace line)) (a : TraceAnswers line reply old new) where
   answers : AnswersTo (MayTell old.chart.shape.entries (trace_turns turns)) t.array line reply new.chart
   answers = a.step (trace_turns turns) t.array t.stands (Telling.can t.telling)
 
@@ -177,7 +180,7 @@ sync-lost start old turns t =
 
 -- a line with its reply, power staying on or not
 
-pub more : (start : Start) (old new : Picture) (turns : List KeepTurn) (line : KeepLine) (reply : KeepReply) → KeptSince start old turns → IsKeepCall line → AnswersKeep line reply old new → IsTrue new.chart.on → KeptSince start new (record { line = line; replies = reply ∷ [] } ∷ turns)
+pub more : (start : Start) (old new : Picture) (turns : List KeepTurn) (line : KeepLine) (reply : KeepReply) → KeptSince start old turns → IsKeepLine line → AnswersKeep line reply old new → IsTrue new.chart.on → KeptSince start new (record { line = line; replies = reply ∷ [] } ∷ turns)
 more start old new turns (Trace line) reply t call (said, is, a) on =
     subst (λ (r : KeepReply). KeptSince start new (record { line = Trace line; replies = r ∷ [] } ∷ turns)) (sym is) (trace-more start old new turns line said t call a on)
 more start old new turns Sync reply t call (inl (is, good, plans, given, same)) on =
@@ -185,7 +188,7 @@ more start old new turns Sync reply t call (inl (is, good, plans, given, same)) 
     (subst (λ (p : Picture). KeptSince start p (record { line = Sync; replies = Synced ∷ [] } ∷ turns)) (sym same) (sync-more start old turns t plans given (subst (λ (p : Picture). IsSynced p.chart) same good)))
 more start old new turns Sync reply t call (inr (is, same)) on = absurd (false≢true (sym (ap (λ (p : Picture). p.chart.on) same) ∙ on))
 
-pub lost : (start : Start) (old new : Picture) (turns : List KeepTurn) (line : KeepLine) (reply : KeepReply) → KeptSince start old turns → IsKeepCall line → AnswersKeep line reply old new → new.chart.on ≡ false → LostSince start new (record { line = line; replies = reply ∷ [] } ∷ turns)
+pub lost : (start : Start) (old new : Picture) (turns : List KeepTurn) (line : KeepLine) (reply : KeepReply) → KeptSince start old turns → IsKeepLine line → AnswersKeep line reply old new → new.chart.on ≡ false → LostSince start new (record { line = line; replies = reply ∷ [] } ∷ turns)
 lost start old new turns (Trace line) reply t call (said, is, a) off =
     subst (λ (r : KeepReply). LostSince start new (record { line = Trace line; replies = r ∷ [] } ∷ turns)) (sym is) (trace-lost start old new turns line said t call a off)
 lost start old new turns Sync reply t call (inl (is, good, plans, given, same)) off = absurd (false≢true (sym off ∙ ap (λ (p : Picture). p.chart.on) same ∙ Stands.on (KeptSince.stands t)))
@@ -210,13 +213,13 @@ written-either reply (Err failed) sink then_sink w = inr (front-one reply failed
 
 -- doing a line
 
-pub obeys-done : (start : Start) (old new : Picture) (turns : List KeepTurn) (line : KeepLine) (reply : KeepReply) (sink then_sink : Drain) → KeptSince start old turns → IsKeepCall line → AnswersKeep line reply old new → IsTrue new.chart.on → WritesAll sink (keep_bytes reply ++ newline ∷ []) (Ok tt) then_sink → Obeys Done keep_grammar (KeptSince start new) (LostSince start new) turns line sink then_sink
+pub obeys-done : (start : Start) (old new : Picture) (turns : List KeepTurn) (line : KeepLine) (reply : KeepReply) (sink then_sink : Drain) → KeptSince start old turns → IsKeepLine line → AnswersKeep line reply old new → IsTrue new.chart.on → WritesAll sink (keep_bytes reply ++ newline ∷ []) (Ok tt) then_sink → Obeys Done keep_grammar (KeptSince start new) (LostSince start new) turns line sink then_sink
 obeys-done start old new turns line reply sink then_sink t call a on w = (reply ∷ [], more start old new turns line reply t call a on, written-one reply sink then_sink w)
 
-pub obeys-failed : (start : Start) (old new : Picture) (turns : List KeepTurn) (line : KeepLine) (reply : KeepReply) (sink then_sink : Drain) (failed : Failed) → KeptSince start old turns → IsKeepCall line → AnswersKeep line reply old new → IsTrue new.chart.on → WritesAll sink (keep_bytes reply ++ newline ∷ []) (Err failed) then_sink → Obeys WriteFault keep_grammar (KeptSince start new) (LostSince start new) turns line sink then_sink
+pub obeys-failed : (start : Start) (old new : Picture) (turns : List KeepTurn) (line : KeepLine) (reply : KeepReply) (sink then_sink : Drain) (failed : Failed) → KeptSince start old turns → IsKeepLine line → AnswersKeep line reply old new → IsTrue new.chart.on → WritesAll sink (keep_bytes reply ++ newline ∷ []) (Err failed) then_sink → Obeys WriteFault keep_grammar (KeptSince start new) (LostSince start new) turns line sink then_sink
 obeys-failed start old new turns line reply sink then_sink failed t call a on w = (reply ∷ [], more start old new turns line reply t call a on, front-one reply failed sink then_sink w)
 
-pub obeys-dead : (start : Start) (old new : Picture) (turns : List KeepTurn) (line : KeepLine) (reply : KeepReply) (wrote : Result Unit Failed) (sink then_sink : Drain) → KeptSince start old turns → IsKeepCall line → AnswersKeep line reply old new → new.chart.on ≡ false → WritesAll sink (keep_bytes reply ++ newline ∷ []) wrote then_sink → Obeys Dead keep_grammar (KeptSince start new) (LostSince start new) turns line sink then_sink
+pub obeys-dead : (start : Start) (old new : Picture) (turns : List KeepTurn) (line : KeepLine) (reply : KeepReply) (wrote : Result Unit Failed) (sink then_sink : Drain) → KeptSince start old turns → IsKeepLine line → AnswersKeep line reply old new → new.chart.on ≡ false → WritesAll sink (keep_bytes reply ++ newline ∷ []) wrote then_sink → Obeys Dead keep_grammar (KeptSince start new) (LostSince start new) turns line sink then_sink
 obeys-dead start old new turns line reply wrote sink then_sink t call a off w = (reply ∷ [], lost start old new turns line reply t call a off, written-either reply wrote sink then_sink w)
 
 -- an empty line does nothing
@@ -234,26 +237,9 @@ still start p turns t = record {
 pub obeys-empty : (start : Start) (p : Picture) (turns : List KeepTurn) (line : KeepLine) (sink : Drain) → line ≡ Trace Empty → KeptSince start p turns → Obeys Done keep_grammar (KeptSince start p) (LostSince start p) turns line sink sink
 obeys-empty start p turns line sink is t = subst (λ (l : KeepLine). Obeys Done keep_grammar (KeptSince start p) (LostSince start p) turns l sink sink) (sym is) ([], still start p turns t, record { whole = sym (with_end-nil sink.written); faults = omega arith })
 
--- what the grammar reads may be served
-
-trace-kept : (line : Line) → IsKeepLine (Trace line) → IsKeptLine (Trace line)
-trace-kept Empty r = tt
-trace-kept (Load a) r = tt
-trace-kept (Look a) r = tt
-trace-kept (Store a w) r = tt
-trace-kept Begin r = tt
-trace-kept (Put t a w) r = tt
-trace-kept (Commit t) r = tt
-trace-kept (Abort t) r = tt
-trace-kept Tick r = tt
-trace-kept Power r = absurd r
-trace-kept (Cut k g) r = absurd r
-trace-kept (Bad k g) r = absurd r
-trace-kept Stat r = tt
-
-line-kept : (line : KeepLine) → IsKeepLine line → IsKeptLine line
-line-kept (Trace line) r = trace-kept line r
-line-kept Sync r = tt
-
-pub said-kept : (bytes : List ℕ) (line : KeepLine) → keep_line_of bytes ≡ Ok line → (keep_line_of bytes ≡ Ok line) ↔ ReadsKeep bytes line → IsKeptLine line
-said-kept bytes line says spells = line-kept line (ReadsKeep.ranges (spells.0 says))
+-- a line that asks for something beside the memory's calls is empty: the grammar has no other
+pub empty-beside : (line : KeepLine) (other : Beside) → IsKeepLine line → line ≡ Trace (line_beside other) → line ≡ Trace Empty
+empty-beside line Nothing ranges is = is
+empty-beside line OfPower ranges is = absurd (subst IsKeepLine is ranges)
+empty-beside line (OfPlan (PlanCut k g)) ranges is = absurd (subst IsKeepLine is ranges)
+empty-beside line (OfPlan (PlanBad k g)) ranges is = absurd (subst IsKeepLine is ranges)

@@ -1,5 +1,5 @@
 -- What answering a line of a kept memory's trace does, power being on at entry.
-use Rattle.std.specs.Prelude.{◌≡◌, ◌⊎◌, ◌↔◌, ℕ, false, ⊤, List, [], ◌∷◌}
+use Rattle.std.specs.Prelude.{◌≡◌, ◌⊎◌, ◌↔◌, ℕ, false, List, [], ◌∷◌}
 use Rattle.envy_base.specs.Array.{Array}
 use Rattle.envy_disk.specs.Disk.{with_numbers}
 use Rattle.envy_synced.specs.Disk.{IsSynced}
@@ -7,28 +7,17 @@ use Rattle.envy_layout.specs.Stands.{Stands}
 use Rattle.envy_map.specs.Fields.{failed}
 use Rattle.envy_memory.specs.Picture.{Picture}
 use Rattle.envy_trace.specs.declared.line.Line.{Line}
-use Rattle.envy_trace.specs.declared.line.Line.TheVariants.{Empty}
 use Rattle.envy_trace.specs.declared.reply.Reply.{Reply}
 use Rattle.envy_trace.specs.declared.reply.Reply.TheVariants.{Lost}
 use Rattle.envy_keep_trace.specs.declared.keep_line.KeepLine.{KeepLine}
 use Rattle.envy_keep_trace.specs.declared.keep_line.KeepLine.TheVariants.{Trace, Sync}
 use Rattle.envy_keep_trace.specs.declared.keep_reply.KeepReply.{KeepReply}
 use Rattle.envy_keep_trace.specs.declared.keep_reply.KeepReply.TheVariants.{Trace as TraceReply, Synced}
-use Rattle.envy_run.specs.Answers.{AnswerLicence, AnswersTo, IsBoardCall}
+use Rattle.envy_run.specs.Answers.{AnswerLicence, AnswersTo}
 use Rattle.envy_run.specs.Below.{WorksOf}
 use Rattle.envy_run.specs.Hits.{MayTell}
 use Rattle.envy_run.specs.Tells.{CanTell, Notes}
 use Rattle.envy_run.specs.Turns.{TraceTurn}
-
--- the line is one call of the memory
-abbrev pub IsKeepCall : KeepLine → Type 0
-IsKeepCall (Trace line) = IsBoardCall line
-IsKeepCall Sync = ⊤
-
--- or it is empty
-abbrev pub IsKeptLine : KeepLine → Type 0
-IsKeptLine (Trace Empty) = ⊤
-IsKeptLine line = IsKeepCall line
 
 -- a line of one array is answered
 pub record TraceAnswers (line : Line) (reply : Reply) (old new : Picture) : Type 0 where

@@ -1,12 +1,15 @@
-ghost use Rattle.std.specs.Prelude.{◌≡◌, ◌↔◌, false, IsTrue};
-ghost use Rattle.envy_keep.specs.Answers.{AnswersKeep, IsKeepCall, SyncsTo};
+ghost use Rattle.std.specs.Prelude.{◌≡◌, IfOk, IsTrue, Err};
+ghost use Rattle.envy_keep.specs.Answers.{AnswersKeep, SyncsTo};
+ghost use Rattle.envy_keep_trace.specs.declared.keep_line.KeepLine.TheVariants.{Trace};
+ghost use Rattle.envy_run.specs.Answers.{line_beside};
+ghost use Rattle.envy_run.specs.declared.answering.Beside.{Beside};
 
 use envy_base::Off;
 use envy_device::Place;
 use envy_journal::Steady;
 use envy_keep_trace::{KeepLine, KeepReply};
 use envy_memory::Memory;
-use envy_run::answer_board;
+use envy_run::{Beside, answer};
 use envy_synced::Kept;
 use envy_trace::Reply;
 
@@ -22,17 +25,21 @@ fn sync<B: Steady, D: Place>(memory: &mut Memory<Kept<B, D>>) -> KeepReply
     }
 }
 
-/// Does one line that isn't empty, and the reply.
-pub(crate) fn answer<B: Steady, D: Place>(
+/// Does one line, and the reply. What else a line asks for is handed back, and nothing changes.
+pub(crate) fn answer_kept<B: Steady, D: Place>(
     memory: &mut Memory<Kept<B, D>>,
     line: &KeepLine,
-) -> KeepReply
-    requires on { IsTrue memory.old.chart.on }
-    requires call { IsKeepCall line.now }
-    ensures { AnswersKeep line.now result memory.old memory.new }
+) -> Result<KeepReply, Beside>
+    requires { IsTrue memory.old.chart.on }
+    ensures answers { IfOk result (λ reply. AnswersKeep line.now reply memory.old memory.new) }
+    ensures beside { (other : Beside) → result ≡ Err other → (line.now ≡ Trace (line_beside other))
+        × (memory.new ≡ memory.old) }
 {
-    match line {
-        KeepLine::Trace(plain) => KeepReply::Trace(answer_board(memory, plain)),
-        KeepLine::Sync => sync(memory),
+    match *line {
+        KeepLine::Trace(ref plain) => match answer(memory, plain) {
+            Ok(reply) => Ok(KeepReply::Trace(reply)),
+            Err(beside) => Err(beside),
+        },
+        KeepLine::Sync => Ok(sync(memory)),
     }
 }

@@ -8,6 +8,7 @@ pub mod Completing
 pub mod Driving
 pub mod Equating
 pub mod Generating
+pub mod Handing
 pub mod Hitting
 pub mod Imaged
 pub mod Loaded

@@ -1,12 +1,12 @@
 -- What a line does, from the answer of its call and from how power returned.
 use Rattle.std.proofs.Common.{◌≡◌, ◌⊎◌, inl, inr, ℕ, ◌+◌, ◌-◌, ◌^◌, ◌<◌, ◌≤◌, false, List, [], ◌∷◌, ◌++◌, length, take, refl, sym, ◌∙◌, ap, subst, arith}
-use Rattle.std.specs.Prelude.{IsTrue, Option, Result, Ok, Err, sum}
+use Rattle.std.specs.Prelude.{IsTrue, Option, Some, Result, Ok, Err, sum}
 use Rattle.std.proofs.lemmas.Bool.{cases_lt}
 use Rattle.std.proofs.Math.Seq.{take-append-add}
 use Rattle.std.proofs.lemmas.List.{append-nil, take-append-le}
 use Rattle.envy_base.specs.Array.{Array, undone, restarted}
 use Rattle.envy_base.proofs.Counting.{up-least, up-below}
-use Rattle.envy_base.specs.Step.{Lost as LostAs}
+use Rattle.envy_base.specs.Step.{Command, Lost as LostAs}
 use Rattle.envy_base.specs.declared.shape.Shape.{Shape}
 use Rattle.envy_flush.proofs.CountLemmas.{Tallies-trans}
 use Rattle.envy_io.specs.declared.source.Failed.{Failed}
@@ -29,15 +29,14 @@ use Rattle.envy_trace.specs.declared.reply.Reply.TheVariants.{Word, Done as Said
 use Rattle.envy_trace.specs.Replies.{reply_bytes}
 use Rattle.envy_serve.specs.declared.service.Obeyed.{Obeyed}
 use Rattle.envy_serve.specs.declared.service.Obeyed.TheVariants.{Done, WriteFault, Dead}
-use Rattle.envy_trace.specs.Spelling.{Reads}
-use Rattle.envy_run.specs.Answers.{IsCall, AnswersTo, AnswerLicence, LosesIn}
+use Rattle.envy_run.specs.Answers.{AnswersTo, AnswerLicence, LosesIn}
 use Rattle.envy_run.specs.Below.{WorksOf}
 use Rattle.envy_run.specs.Licence.{Licence}
 use Rattle.envy_run.specs.Obeys.{ObeysLine, Licensed, LineDone, LineDead}
 use Rattle.envy_run.specs.Restarts.{Recovers, IsStillOff, IsBack}
 use Rattle.envy_serve.specs.Streams.{Written, FrontWritten}
 use Rattle.envy_serve.specs.Turns.{texts, one_if}
-use Rattle.envy_run.specs.Turns.{Replies, trace_grammar, is_power, is_plan, is_lost, is_fault, before_restart}
+use Rattle.envy_run.specs.Turns.{Replies, trace_grammar, is_power, is_plan, is_lost, is_fault, before_restart, losable}
 use Rattle.envy_base.specs.declared.counts.Counts.{Counts}
 use Rattle.envy_run.specs.Counters.{is_empty}
 use Rattle.envy_run.specs.Hits.{accessed}
@@ -59,21 +58,41 @@ Licence-as a b c d i j k l p q ea eb ec ed x = record {
   bads = record { kept = RoseOver.kept x.bads; rise = λ lt. let e = RoseOver.rise x.bads lt in omega arith };
 }
 
--- a call is no line `power`
-no-power : (line : Line) → IsCall line → (is_power line ≡ false) × (before_restart line ≡ Lost ∷ [])
-no-power EmptyLine call = absurd call
-no-power (LoadLine a) call = (refl, refl)
-no-power (LookLine a) call = (refl, refl)
-no-power (StoreLine a w) call = (refl, refl)
-no-power BeginLine call = (refl, refl)
-no-power (PutLine t a w) call = (refl, refl)
-no-power (CommitLine t) call = (refl, refl)
-no-power (AbortLine t) call = (refl, refl)
-no-power TickLine call = (refl, refl)
-no-power PowerLine call = absurd call
-no-power (CutLine k g) call = (refl, refl)
-no-power (BadLine k g) call = (refl, refl)
-no-power StatLine call = (refl, refl)
+-- the line is neither empty nor `power`
+abbrev IsSaidLine : Line → Type 0
+IsSaidLine line = (is_power line ≡ false) × (before_restart line ≡ Lost ∷ []) × (is_empty line ≡ false)
+
+-- a line with one reply is neither
+replied : (May : Counts → Type 0) (m : Array) (line : Line) (reply : Reply) (n : Array) → Replies May m line reply n → IsSaidLine line
+replied May m EmptyLine reply n r = absurd r
+replied May m (LoadLine a) reply n r = (refl, refl, refl)
+replied May m (LookLine a) reply n r = (refl, refl, refl)
+replied May m (StoreLine a w) reply n r = (refl, refl, refl)
+replied May m BeginLine reply n r = (refl, refl, refl)
+replied May m (PutLine t a w) reply n r = (refl, refl, refl)
+replied May m (CommitLine t) reply n r = (refl, refl, refl)
+replied May m (AbortLine t) reply n r = (refl, refl, refl)
+replied May m TickLine reply n r = (refl, refl, refl)
+replied May m PowerLine reply n r = absurd r
+replied May m (CutLine k g) reply n r = (refl, refl, refl)
+replied May m (BadLine k g) reply n r = (refl, refl, refl)
+replied May m StatLine reply n r = (refl, refl, refl)
+
+-- nor is one in which power failed
+lost-in : (line : Line) (command : Command) → losable line ≡ Some command → IsSaidLine line
+lost-in EmptyLine command is = absurd (let never = is in cc)
+lost-in (LoadLine a) command is = (refl, refl, refl)
+lost-in (LookLine a) command is = (refl, refl, refl)
+lost-in (StoreLine a w) command is = (refl, refl, refl)
+lost-in BeginLine command is = (refl, refl, refl)
+lost-in (PutLine t a w) command is = (refl, refl, refl)
+lost-in (CommitLine t) command is = (refl, refl, refl)
+lost-in (AbortLine t) command is = (refl, refl, refl)
+lost-in TickLine command is = (refl, refl, refl)
+lost-in PowerLine command is = absurd (let never = is in cc)
+lost-in (CutLine k g) command is = (refl, refl, refl)
+lost-in (BadLine k g) command is = (refl, refl, refl)
+lost-in StatLine command is = (refl, refl, refl)
 
 -- where power is on, the answer isn't `lost`
 pub answered : (May : Counts → Type 0) (m : Array) (line : Line) (reply : Reply) (c : Chart) → IsTrue c.on → AnswersTo May m line reply c → (n : Array) × Replies May m line reply n × Stands c n
@@ -97,27 +116,28 @@ texts-one reply = append-nil (reply_bytes reply ++ newline ∷ [])
 pub one-more : (x : ℕ) → x ≡ x + 0
 one-more x = omega arith
 
-done-so : (May : Counts → Type 0) (m : Array) (line : Line) (reply : Reply) (old c : Picture) → IsCall line → IsTrue c.chart.on → AnswersTo May m line reply c.chart → AnswerLicence line reply old.chart c.chart → WorksOf line old.chart c.chart → Notes line (reply ∷ []) old c → (left : Array) × LineDone May m line (reply ∷ []) left old c
-done-so May m line reply old c call on a licence works notes =
-    let (left, replies, stands) = answered May m line reply c.chart on a in (
+done-so : (May : Counts → Type 0) (m : Array) (line : Line) (reply : Reply) (old c : Picture) → IsTrue c.chart.on → AnswersTo May m line reply c.chart → AnswerLicence line reply old.chart c.chart → WorksOf line old.chart c.chart → Notes line (reply ∷ []) old c → (left : Array) × LineDone May m line (reply ∷ []) left old c
+done-so May m line reply old c on a licence works notes =
+    let (left, replies, stands) = answered May m line reply c.chart on a in
+    let (no_power, before, full) = replied May m line reply left replies in (
       left,
       record {
         does = inr (inl (reply, refl, replies));
         stands = stands;
-        licensed = Licence-as 0 (one_if (is_plan line)) (one_if (is_lost reply)) (one_if (is_fault reply)) (one_if (is_power line)) (one_if (is_plan line)) (one_if (is_lost reply) + 0) (one_if (is_fault reply) + 0) old.chart c.chart (sym (ap one_if (no-power line call).0)) refl (one-more (one_if (is_lost reply))) (one-more (one_if (is_fault reply))) licence;
+        licensed = Licence-as 0 (one_if (is_plan line)) (one_if (is_lost reply)) (one_if (is_fault reply)) (one_if (is_power line)) (one_if (is_plan line)) (one_if (is_lost reply) + 0) (one_if (is_fault reply) + 0) old.chart c.chart (sym (ap one_if no_power)) refl (one-more (one_if (is_lost reply))) (one-more (one_if (is_fault reply))) licence;
         spent = spends-line line old.chart c.chart works;
         notes = notes;
       },
     )
 
-pub call-done : (May : Counts → Type 0) (m : Array) (line : Line) (reply : Reply) (old c : Picture) (sink then_sink : Drain) → IsCall line → IsTrue c.chart.on → AnswersTo May m line reply c.chart → AnswerLicence line reply old.chart c.chart → WorksOf line old.chart c.chart → Notes line (reply ∷ []) old c → WritesAll sink (reply_bytes reply ++ newline ∷ []) (Ok tt) then_sink → ObeysLine May m line Done old c sink then_sink
-call-done May m line reply old c sink then_sink call on a licence works notes (whole, faults, after) =
-    let (left, done) = done-so May m line reply old c call on a licence works notes in
+pub call-done : (May : Counts → Type 0) (m : Array) (line : Line) (reply : Reply) (old c : Picture) (sink then_sink : Drain) → IsTrue c.chart.on → AnswersTo May m line reply c.chart → AnswerLicence line reply old.chart c.chart → WorksOf line old.chart c.chart → Notes line (reply ∷ []) old c → WritesAll sink (reply_bytes reply ++ newline ∷ []) (Ok tt) then_sink → ObeysLine May m line Done old c sink then_sink
+call-done May m line reply old c sink then_sink on a licence works notes (whole, faults, after) =
+    let (left, done) = done-so May m line reply old c on a licence works notes in
     (reply ∷ [], left, done, record { whole = whole ∙ ap (with_end sink.written) (sym (texts-one reply)); faults = faults })
 
-pub call-failed : (May : Counts → Type 0) (m : Array) (line : Line) (reply : Reply) (old c : Picture) (sink then_sink : Drain) (failed : Failed) → IsCall line → IsTrue c.chart.on → AnswersTo May m line reply c.chart → AnswerLicence line reply old.chart c.chart → WorksOf line old.chart c.chart → Notes line (reply ∷ []) old c → WritesAll sink (reply_bytes reply ++ newline ∷ []) (Err failed) then_sink → ObeysLine May m line WriteFault old c sink then_sink
-call-failed May m line reply old c sink then_sink failed call on a licence works notes (n, lt, front, faults) =
-    let (left, done) = done-so May m line reply old c call on a licence works notes in
+pub call-failed : (May : Counts → Type 0) (m : Array) (line : Line) (reply : Reply) (old c : Picture) (sink then_sink : Drain) (failed : Failed) → IsTrue c.chart.on → AnswersTo May m line reply c.chart → AnswerLicence line reply old.chart c.chart → WorksOf line old.chart c.chart → Notes line (reply ∷ []) old c → WritesAll sink (reply_bytes reply ++ newline ∷ []) (Err failed) then_sink → ObeysLine May m line WriteFault old c sink then_sink
+call-failed May m line reply old c sink then_sink failed on a licence works notes (n, lt, front, faults) =
+    let (left, done) = done-so May m line reply old c on a licence works notes in
     (reply ∷ [], left, done, record { count = n; front = front ∙ ap (λ (t : List ℕ). with_end sink.written (take n t)) (sym (texts-one reply)); faults = faults })
 
 -- two texts one after the other, of which the second has a front written
@@ -142,21 +162,6 @@ front-before a c first second n lt front faults = record {
   front = front ∙ ap (with_end a.written) (sym (take-append-le n first second (omega arith)));
   faults = faults;
 }
-
-not-empty : (line : Line) → IsCall line → is_empty line ≡ false
-not-empty EmptyLine call = absurd call
-not-empty (LoadLine a) call = refl
-not-empty (LookLine a) call = refl
-not-empty (StoreLine a w) call = refl
-not-empty BeginLine call = refl
-not-empty (PutLine t a w) call = refl
-not-empty (CommitLine t) call = refl
-not-empty (AbortLine t) call = refl
-not-empty TickLine call = refl
-not-empty PowerLine call = absurd call
-not-empty (CutLine k g) call = refl
-not-empty (BadLine k g) call = refl
-not-empty StatLine call = refl
 
 -- the access of a line that was lost
 accessed-lost : (line : Line) → accessed line (Lost ∷ []) ≡ accessed line (Lost ∷ Restarted ∷ [])
@@ -211,8 +216,8 @@ Notes-power old c new is back =
       empty = λ e. absurd (let never = e in cc);
     }
 
-pub call-recovers : (May : Counts → Type 0) (m : Array) (line : Line) (reply : Reply) (old c new : Picture) (sink mid_sink then_sink : Drain) (wrote : Result Unit Failed) (obeyed : Obeyed) → IsCall line → Stands old.chart m → c.chart.shape ≡ old.chart.shape → reply ≡ Lost → AnswersTo May m line reply c.chart → AnswerLicence line reply old.chart c.chart → WorksOf line old.chart c.chart → Notes line (reply ∷ []) old c → WritesAll sink (reply_bytes reply ++ newline ∷ []) wrote mid_sink → Recovers wrote obeyed c new mid_sink then_sink → ObeysLine May m line obeyed old new sink then_sink
-call-recovers May m line reply old c new sink mid_sink then_sink wrote obeyed call stood shape is a licence works notes writes recovers =
+pub call-recovers : (May : Counts → Type 0) (m : Array) (line : Line) (reply : Reply) (old c new : Picture) (sink mid_sink then_sink : Drain) (wrote : Result Unit Failed) (obeyed : Obeyed) → Stands old.chart m → c.chart.shape ≡ old.chart.shape → reply ≡ Lost → AnswersTo May m line reply c.chart → AnswerLicence line reply old.chart c.chart → WorksOf line old.chart c.chart → Notes line (reply ∷ []) old c → WritesAll sink (reply_bytes reply ++ newline ∷ []) wrote mid_sink → Recovers wrote obeyed c new mid_sink then_sink → ObeysLine May m line obeyed old new sink then_sink
+call-recovers May m line reply old c new sink mid_sink then_sink wrote obeyed stood shape is a licence works notes writes recovers =
     lost-so (subst (λ (r : Reply). AnswersTo May m line r c.chart) is a) (subst (λ (r : Reply). AnswerLicence line r old.chart c.chart) is licence) wrote obeyed (subst (λ (r : Reply). WritesAll sink (reply_bytes r ++ newline ∷ []) wrote mid_sink) is writes) recovers
   where
     first : List ℕ
@@ -226,22 +231,25 @@ call-recovers May m line reply old c new sink mid_sink then_sink wrote obeyed ca
         let (left, lost, words) = LostIn.words (LosesIn.lost loses) in
         (left, lost, subst (λ (x : Array). Stands new.chart x) (lost-fresh m (LosesIn.command loses) left lost) (subst (λ (s : ℕ). Stands new.chart (fresh s left.words)) (sym shadows) (subst (λ (ws : List ℕ). Stands new.chart (fresh c.chart.shape.shadows ws)) words back.stands)))
 
-    licensed-both : AnswerLicence line Lost old.chart c.chart → Licence 0 0 0 0 c.chart new.chart → Licensed line (Lost ∷ Restarted ∷ []) old.chart new.chart
-    licensed-both x y = Licence-as 0 (one_if (is_plan line) + 0) 1 0 (one_if (is_power line)) (one_if (is_plan line)) 1 0 old.chart new.chart (sym (ap one_if (no-power line call).0)) (sym (one-more (one_if (is_plan line)))) refl refl (Licence-trans 0 (one_if (is_plan line)) 1 0 0 0 0 0 old.chart c.chart new.chart x y)
+    said-so : (loses : LosesIn m line c.chart) → IsSaidLine line
+    said-so loses = lost-in line loses.command loses.is
 
-    licensed-one : AnswerLicence line Lost old.chart c.chart → Licence 0 0 0 0 c.chart new.chart → Licensed line (Lost ∷ []) old.chart new.chart
-    licensed-one x y = Licence-as 0 (one_if (is_plan line) + 0) 1 0 (one_if (is_power line)) (one_if (is_plan line)) 1 0 old.chart new.chart (sym (ap one_if (no-power line call).0)) (sym (one-more (one_if (is_plan line)))) refl refl (Licence-trans 0 (one_if (is_plan line)) 1 0 0 0 0 0 old.chart c.chart new.chart x y)
+    licensed-both : LosesIn m line c.chart → AnswerLicence line Lost old.chart c.chart → Licence 0 0 0 0 c.chart new.chart → Licensed line (Lost ∷ Restarted ∷ []) old.chart new.chart
+    licensed-both loses x y = Licence-as 0 (one_if (is_plan line) + 0) 1 0 (one_if (is_power line)) (one_if (is_plan line)) 1 0 old.chart new.chart (sym (ap one_if (said-so loses).0)) (sym (one-more (one_if (is_plan line)))) refl refl (Licence-trans 0 (one_if (is_plan line)) 1 0 0 0 0 0 old.chart c.chart new.chart x y)
+
+    licensed-one : LosesIn m line c.chart → AnswerLicence line Lost old.chart c.chart → Licence 0 0 0 0 c.chart new.chart → Licensed line (Lost ∷ []) old.chart new.chart
+    licensed-one loses x y = Licence-as 0 (one_if (is_plan line) + 0) 1 0 (one_if (is_power line)) (one_if (is_plan line)) 1 0 old.chart new.chart (sym (ap one_if (said-so loses).0)) (sym (one-more (one_if (is_plan line)))) refl refl (Licence-trans 0 (one_if (is_plan line)) 1 0 0 0 0 0 old.chart c.chart new.chart x y)
 
     spent-so : CountsStay c new → Spends (programs_of old.chart.shape.rows line) (erases_of line) old.chart new.chart
     spent-so stay = spends-stay (programs_of old.chart.shape.rows line) (erases_of line) old.chart c new (spends-line line old.chart c.chart works) stay
 
-    notes-back : IsBack c new → Notes line (Lost ∷ Restarted ∷ []) old new
-    notes-back back = Notes-restarted line old c new (not-empty line call) (subst (λ (r : Reply). Notes line (r ∷ []) old c) is notes) back
+    notes-back : LosesIn m line c.chart → IsBack c new → Notes line (Lost ∷ Restarted ∷ []) old new
+    notes-back loses back = Notes-restarted line old c new (said-so loses).2 (subst (λ (r : Reply). Notes line (r ∷ []) old c) is notes) back
 
     done-both : AnswerLicence line Lost old.chart c.chart → (loses : LosesIn m line c.chart) → IsBack c new → (left : Array) × LineDone May m line (Lost ∷ Restarted ∷ []) left old new
     done-both x loses back =
         let (left, lost, stands) = back-so loses back in
-        (left, record { does = inr (inr (inl (refl, record { command = loses.command; is = loses.is; lost = lost }))); stands = stands; licensed = licensed-both x back.licence; spent = spent-so back.counts; notes = notes-back back })
+        (left, record { does = inr (inr (inl (refl, record { command = loses.command; is = loses.is; lost = lost }))); stands = stands; licensed = licensed-both loses x back.licence; spent = spent-so back.counts; notes = notes-back loses back })
 
     dead-so : AnswerLicence line Lost old.chart c.chart → (loses : LosesIn m line c.chart) → IsStillOff c new → new.chart.lives ≡ 0 → LineDead m line old.chart new.chart
     dead-so x loses still dead =
@@ -253,7 +261,7 @@ call-recovers May m line reply old c new sink mid_sink then_sink wrote obeyed ca
           sound = still.sound (LostIn.sound loses.lost);
           dead = dead;
           found = (left, inl (record { command = loses.command; is = loses.is; lost = lost }), still.durable ∙ words);
-          licensed = subst (λ (rs : List Reply). Licensed line rs old.chart new.chart) (sym (no-power line call).1) (licensed-one x still.licence);
+          licensed = subst (λ (rs : List Reply). Licensed line rs old.chart new.chart) (sym (said-so loses).1) (licensed-one loses x still.licence);
           spent = spent-so still.counts;
         }
 
@@ -271,9 +279,9 @@ call-recovers May m line reply old c new sink mid_sink then_sink wrote obeyed ca
         (Lost ∷ Restarted ∷ [], left, done_both, front-before sink then_sink first (texts trace_grammar (Restarted ∷ [])) n lt (ap (λ (d : Drain). d.written) same ∙ front) (subst (λ (d : Drain). Rises sink.faults d.faults) (sym same) faults))
     lost-so loses x (Err failed) WriteFault writes (back, inr (ok, part)) = absurd (let never = ok in cc)
     lost-so loses x (Ok done) Dead (whole, faults, after) (still, dead, same) =
-        (dead-so x loses still dead, inl (subst (λ (rs : List Reply). Written (texts trace_grammar rs) sink then_sink) (sym (no-power line call).1) (subst (λ (d : Drain). Written (texts trace_grammar (Lost ∷ [])) sink d) (sym same) (record { whole = whole ∙ ap (with_end sink.written) (sym (texts-one Lost)); faults = faults }))))
+        (dead-so x loses still dead, inl (subst (λ (rs : List Reply). Written (texts trace_grammar rs) sink then_sink) (sym (said-so loses).1) (subst (λ (d : Drain). Written (texts trace_grammar (Lost ∷ [])) sink d) (sym same) (record { whole = whole ∙ ap (with_end sink.written) (sym (texts-one Lost)); faults = faults }))))
     lost-so loses x (Err failed) Dead (n, lt, front, faults) (still, dead, same) =
-        (dead-so x loses still dead, inr (subst (λ (rs : List Reply). FrontWritten (texts trace_grammar rs) sink then_sink) (sym (no-power line call).1) (subst (λ (d : Drain). FrontWritten (texts trace_grammar (Lost ∷ [])) sink d) (sym same) (record { count = n; front = front ∙ ap (λ (t : List ℕ). with_end sink.written (take n t)) (sym (texts-one Lost)); faults = faults }))))
+        (dead-so x loses still dead, inr (subst (λ (rs : List Reply). FrontWritten (texts trace_grammar rs) sink then_sink) (sym (said-so loses).1) (subst (λ (d : Drain). FrontWritten (texts trace_grammar (Lost ∷ [])) sink d) (sym same) (record { count = n; front = front ∙ ap (λ (t : List ℕ). with_end sink.written (take n t)) (sym (texts-one Lost)); faults = faults }))))
 
 pub power-recovers : (May : Counts → Type 0) (m : Array) (old c new : Picture) (sink then_sink : Drain) (obeyed : Obeyed) → Stands old.chart m → c ≡ record old { chart = pulled old.chart } → IsSound c.chart × (durable c.chart ≡ undone m) → Recovers (Ok tt) obeyed c new sink then_sink → ObeysLine May m PowerLine obeyed old new sink then_sink
 power-recovers May m old c new sink then_sink obeyed stood is (sound, words) recovers = at obeyed recovers
@@ -316,19 +324,3 @@ power-recovers May m old c new sink then_sink obeyed stood is (sound, words) rec
 pub empty-done : (May : Counts → Type 0) (m : Array) (line : Line) (c : Picture) (sink : Drain) → line ≡ EmptyLine → Stands c.chart m → ObeysLine May m line Done c c sink sink
 empty-done May m line c sink is stood = subst (λ (l : Line). ObeysLine May m l Done c c sink sink) (sym is)
     ([], m, record { does = inl (refl, refl, refl); stands = stood; licensed = Licence-refl c.chart; spent = spends-none 0 0 c.chart c.chart refl refl; notes = notes-empty c }, record { whole = sym (with_end-nil sink.written); faults = omega arith })
-
--- what the grammar reads is a call, where it is neither empty nor `power`
-pub called : (bytes : List ℕ) (line : Line) → Reads bytes line → (line ≡ EmptyLine → ⊥) → (line ≡ PowerLine → ⊥) → IsCall line
-called bytes EmptyLine reads full no_cut = full refl
-called bytes (LoadLine a) reads full no_cut = tt
-called bytes (LookLine a) reads full no_cut = tt
-called bytes (StoreLine a w) reads full no_cut = tt
-called bytes BeginLine reads full no_cut = tt
-called bytes (PutLine t a w) reads full no_cut = tt
-called bytes (CommitLine t) reads full no_cut = tt
-called bytes (AbortLine t) reads full no_cut = tt
-called bytes TickLine reads full no_cut = tt
-called bytes PowerLine reads full no_cut = no_cut refl
-called bytes (CutLine k g) reads full no_cut = (Reads.ranges reads).0
-called bytes (BadLine k g) reads full no_cut = (Reads.ranges reads).0
-called bytes StatLine reads full no_cut = tt

@@ -1,5 +1,5 @@
 -- What answering a line does, power being on at entry.
-use Rattle.std.specs.Prelude.{◌≡◌, ◌≤◌, ⊤, Some}
+use Rattle.std.specs.Prelude.{◌≡◌, Some}
 use Rattle.envy_base.specs.Array.{Array}
 use Rattle.envy_base.specs.declared.counts.Counts.{Counts}
 use Rattle.envy_base.specs.Step.{Command}
@@ -10,24 +10,23 @@ use Rattle.envy_trace.specs.declared.line.Line.TheVariants.{Empty, Power, Cut, B
 use Rattle.envy_trace.specs.declared.reply.Reply.{Reply}
 use Rattle.envy_trace.specs.declared.reply.Reply.TheVariants.{Lost}
 use Rattle.envy_run.specs.Licence.{Licence}
+use Rattle.envy_run.specs.declared.answering.Beside.{Beside}
+use Rattle.envy_run.specs.declared.answering.Beside.TheVariants.{Nothing, Power as OfPower, Plan as OfPlan}
+use Rattle.envy_run.specs.declared.answering.Plan.{Plan}
+use Rattle.envy_run.specs.declared.answering.Plan.TheVariants.{Cut as PlanCut, Bad as PlanBad}
 use Rattle.envy_run.specs.Turns.{Replies, losable, is_plan, is_fault, is_lost}
 use Rattle.envy_serve.specs.Turns.{one_if}
 
--- the line is one call of the memory
-abbrev pub IsCall : Line → Type 0
-IsCall Empty = ⊥
-IsCall Power = ⊥
-IsCall (Cut k g) = 1 ≤ k
-IsCall (Bad k g) = 1 ≤ k
-IsCall line = ⊤
+-- the line that plans this
+abbrev pub line_of_plan : Plan → Line
+line_of_plan (PlanCut k g) = Cut k g
+line_of_plan (PlanBad k g) = Bad k g
 
--- and plans no failure
-abbrev pub IsBoardCall : Line → Type 0
-IsBoardCall Empty = ⊥
-IsBoardCall Power = ⊥
-IsBoardCall (Cut k g) = ⊥
-IsBoardCall (Bad k g) = ⊥
-IsBoardCall line = ⊤
+-- the line that asks for this, which is no call of a memory over any board
+abbrev pub line_beside : Beside → Line
+line_beside Nothing = Empty
+line_beside OfPower = Power
+line_beside (OfPlan plan) = line_of_plan plan
 
 -- power failed in the line
 pub record LosesIn (m : Array) (line : Line) (new : Chart) : Type 0 where

@@ -1,5 +1,5 @@
 -- What doing one line does to the board and to what is written, from a board that stood for the array m.
-use Rattle.std.specs.Prelude.{◌≡◌, ◌⊎◌, false, List}
+use Rattle.std.specs.Prelude.{◌≡◌, ◌⊎◌, ◌↔◌, false, List, [], ◌∷◌}
 use Rattle.envy_base.specs.Array.{Array}
 use Rattle.envy_map.specs.Codes.{the_magic}
 use Rattle.envy_map.specs.Fields.{Chart}
@@ -9,9 +9,12 @@ use Rattle.envy_layout.specs.Stands.{Stands}
 use Rattle.envy_layout.specs.Words.{durable}
 use Rattle.envy_trace.specs.declared.line.Line.{Line}
 use Rattle.envy_trace.specs.declared.reply.Reply.{Reply}
+use Rattle.envy_trace.specs.declared.reply.Reply.TheVariants.{Lost}
 use Rattle.envy_serve.specs.declared.service.Obeyed.{Obeyed}
 use Rattle.envy_serve.specs.declared.service.Obeyed.TheVariants.{Done, WriteFault, Dead}
 use Rattle.envy_memory.specs.Picture.{Picture}
+use Rattle.envy_run.specs.Answers.{AnswerLicence, AnswersTo}
+use Rattle.envy_run.specs.Below.{WorksOf}
 use Rattle.envy_run.specs.Licence.{Licence}
 use Rattle.envy_run.specs.Spending.{Spends, programs_of, erases_of}
 use Rattle.envy_run.specs.Tells.{Notes}
@@ -23,6 +26,14 @@ use Rattle.envy_serve.specs.Turns.{texts, one_if, count_of}
 -- the counts that license a line with these replies
 abbrev pub Licensed : Line → List Reply → Chart → Chart → Type 0
 Licensed line replies old new = Licence (one_if (is_power line)) (one_if (is_plan line)) (count_of is_lost replies) (count_of is_fault replies) old new
+
+-- the line was answered by a call that power was on for
+pub record LineAnswers (May : Counts → Type 0) (m : Array) (line : Line) (reply : Reply) (old new : Picture) : Type 0 where
+  pub step : AnswersTo May m line reply new.chart
+  pub lost : (reply ≡ Lost) ↔ (new.chart.on ≡ false)
+  pub licence : AnswerLicence line reply old.chart new.chart
+  pub notes : Notes line (reply ∷ []) old new
+  pub works : WorksOf line old.chart new.chart
 
 -- the line was done, and the board stands for what it left
 pub record LineDone (May : Counts → Type 0) (m : Array) (line : Line) (replies : List Reply) (left : Array) (old new : Picture) : Type 0 where

@@ -1,12 +1,13 @@
-ghost use Rattle.std.specs.Prelude.{◌≡◌, ◌≢◌, ◌↔◌, List, [], ◌∷◌, false, IsTrue};
+ghost use Rattle.std.specs.Prelude.{◌≡◌, ◌≢◌, ◌↔◌, List, [], ◌∷◌, false, IsTrue, IfOk, Ok, Err};
 ghost use Rattle.envy_base.specs.Array.{Array};
 ghost use Rattle.envy_layout.specs.Stands.{Stands};
 ghost use Rattle.envy_memory.specs.Picture.{counts_of};
-ghost use Rattle.envy_run.specs.Answers.{Answered, IsBoardCall, IsCall, AnswersTo, AnswerLicence};
+ghost use Rattle.envy_run.specs.Answers.{Answered, AnswersTo, AnswerLicence, line_beside, line_of_plan};
 ghost use Rattle.envy_run.specs.Below.{WorksOf, FollowsRules};
 ghost use Rattle.envy_run.specs.Hits.{MayTell};
 ghost use Rattle.envy_run.specs.Tells.{CanTell, Notes};
 ghost use Rattle.envy_run.specs.Turns.{TraceTurn};
+ghost use Rattle.envy_trace.specs.Spelling.{IsLine};
 ghost use Rattle.envy_trace.specs.declared.line.Line.TheVariants.{Load, Look, Store, Begin, Put, Commit, Abort, Tick, Stat};
 
 use envy_base::{Bench, Board, Trouble};
@@ -146,70 +147,92 @@ fn tick<B: Board>(memory: &mut Memory<B>) -> Reply
     }
 }
 
-/// Does one line that is a call of a memory over any board, and the reply. Each line but one of counters is answered by the
-/// array, whatever was done before; a line of counters tells the memory's, and nothing changes. `Lost` is the answer exactly
-/// where power failed in this call, `Fault` only where a flash operation failed in it. It begins as much flash
-/// work as that call may, by the memory's own rules.
-pub fn answer_board<B: Board>(memory: &mut Memory<B>, line: &Line) -> Reply
-    requires on { IsTrue memory.old.chart.on }
-    requires call { IsBoardCall line.now }
+/// What a line plans.
+#[derive(Clone, Copy, Debug, PartialEq, Eq)]
+pub enum Plan {
+    /// A cut of power in the k-th device operation from here; `g` chooses what it leaves.
+    Cut { k: u32, g: u64 },
+    /// That the k-th flash operation from here goes bad; `g` chooses what it leaves.
+    Bad { k: u32, g: u64 },
+}
+
+/// What a line asks for that no board does: its caller does it.
+#[derive(Clone, Copy, Debug, PartialEq, Eq)]
+pub enum Beside {
+    /// Nothing: it is empty.
+    Nothing,
+    /// Power is cut by hand.
+    Power,
+    /// A failure is planned.
+    Plan(Plan),
+}
+
+/// Does one line, where it is a call of a memory over any board, and the reply; what else a line asks for is handed back, and
+/// nothing changes. Each call but that for counters is answered by the array, whatever was done before; a line of counters
+/// tells the memory's, and nothing changes. `Lost` is the answer exactly where power failed in this call, `Fault` only where
+/// a flash operation failed in it. It begins as much flash work as that call may, by the memory's own rules.
+pub fn answer<B: Board>(memory: &mut Memory<B>, line: &Line) -> Result<Reply, Beside>
+    requires { IsTrue memory.old.chart.on }
     ensures step { (earlier : List TraceTurn) (m : Array) → Stands memory.old.chart m
         → CanTell memory.old.chart.shape.entries earlier memory.old.parts
-        → AnswersTo (MayTell memory.old.chart.shape.entries earlier) m line.now result memory.new.chart }
+        → IfOk result (λ reply.
+        AnswersTo (MayTell memory.old.chart.shape.entries earlier) m line.now reply memory.new.chart) }
     ensures alone { (m : Array) → Stands memory.old.chart m → line.now ≢ Stat
-        → Answered m line.now result memory.new.chart }
-    ensures tells { line.now ≡ Stat → (result ≡ Reply.Stat (counts_of memory.old.parts)) × (memory.new ≡ memory.old) }
-    ensures lost { (result ≡ Reply.Lost) ↔ (memory.new.chart.on ≡ false) }
-    ensures licence { AnswerLicence line.now result memory.old.chart memory.new.chart }
-    ensures notes { Notes line.now (result ∷ []) memory.old memory.new }
-    ensures works { WorksOf line.now memory.old.chart memory.new.chart }
-    ensures rules { FollowsRules line.now result memory.old memory.new }
+        → IfOk result (λ reply. Answered m line.now reply memory.new.chart) }
+    ensures tells { line.now ≡ Stat → (result ≡ Ok (Reply.Stat (counts_of memory.old.parts)))
+        × (memory.new ≡ memory.old) }
+    ensures lost { (result ≡ Ok Reply.Lost) ↔ (memory.new.chart.on ≡ false) }
+    ensures licence { IfOk result (λ reply. AnswerLicence line.now reply memory.old.chart memory.new.chart) }
+    ensures notes { IfOk result (λ reply. Notes line.now (reply ∷ []) memory.old memory.new) }
+    ensures works { IfOk result (λ _. WorksOf line.now memory.old.chart memory.new.chart) }
+    ensures rules { IfOk result (λ reply. FollowsRules line.now reply memory.old memory.new) }
+    ensures beside { (other : Beside) → result ≡ Err other → (line.now ≡ line_beside other)
+        × (memory.new ≡ memory.old) }
 {
     match *line {
-        Line::Load { address } => load(memory, address),
-        Line::Look { address } => look(memory, address),
-        Line::Store { address, word } => store(memory, address, word),
-        Line::Begin => begin(memory),
+        Line::Empty => Err(Beside::Nothing),
+        Line::Load { address } => Ok(load(memory, address)),
+        Line::Look { address } => Ok(look(memory, address)),
+        Line::Store { address, word } => Ok(store(memory, address, word)),
+        Line::Begin => Ok(begin(memory)),
         Line::Put {
             slot,
             address,
             word,
-        } => put(memory, slot, address, word),
-        Line::Commit { slot } => commit(memory, slot),
-        Line::Abort { slot } => abort(memory, slot),
-        Line::Tick => tick(memory),
-        Line::Stat => Reply::Stat(memory.counts()),
-        Line::Empty | Line::Power | Line::Cut { k: _, g: _ } | Line::Bad { k: _, g: _ } => {
-            unreachable!()
-        }
+        } => Ok(put(memory, slot, address, word)),
+        Line::Commit { slot } => Ok(commit(memory, slot)),
+        Line::Abort { slot } => Ok(abort(memory, slot)),
+        Line::Tick => Ok(tick(memory)),
+        Line::Power => Err(Beside::Power),
+        Line::Cut { k, g } => Err(Beside::Plan(Plan::Cut { k, g })),
+        Line::Bad { k, g } => Err(Beside::Plan(Plan::Bad { k, g })),
+        Line::Stat => Ok(Reply::Stat(memory.counts())),
     }
 }
 
-/// The same of a line that may plan a failure besides.
-pub fn answer<B: Bench>(memory: &mut Memory<B>, line: &Line) -> Reply
+/// Plans what a line plans, and the reply.
+pub fn arm<B: Bench>(memory: &mut Memory<B>, plan: Plan) -> Reply
     requires on { IsTrue memory.old.chart.on }
-    requires call { IsCall line.now }
+    requires ranges { IsLine (line_of_plan plan) }
     ensures step { (earlier : List TraceTurn) (m : Array) → Stands memory.old.chart m
         → CanTell memory.old.chart.shape.entries earlier memory.old.parts
-        → AnswersTo (MayTell memory.old.chart.shape.entries earlier) m line.now result memory.new.chart }
-    ensures alone { (m : Array) → Stands memory.old.chart m → line.now ≢ Stat
-        → Answered m line.now result memory.new.chart }
-    ensures tells { line.now ≡ Stat → (result ≡ Reply.Stat (counts_of memory.old.parts)) × (memory.new ≡ memory.old) }
+        → AnswersTo (MayTell memory.old.chart.shape.entries earlier) m (line_of_plan plan) result memory.new.chart }
+    ensures alone { (m : Array) → Stands memory.old.chart m
+        → Answered m (line_of_plan plan) result memory.new.chart }
     ensures lost { (result ≡ Reply.Lost) ↔ (memory.new.chart.on ≡ false) }
-    ensures licence { AnswerLicence line.now result memory.old.chart memory.new.chart }
-    ensures notes { Notes line.now (result ∷ []) memory.old memory.new }
-    ensures works { WorksOf line.now memory.old.chart memory.new.chart }
-    ensures rules { FollowsRules line.now result memory.old memory.new }
+    ensures licence { AnswerLicence (line_of_plan plan) result memory.old.chart memory.new.chart }
+    ensures notes { Notes (line_of_plan plan) (result ∷ []) memory.old memory.new }
+    ensures works { WorksOf (line_of_plan plan) memory.old.chart memory.new.chart }
+    ensures rules { FollowsRules (line_of_plan plan) result memory.old memory.new }
 {
-    match *line {
-        Line::Cut { k, g } => {
+    match plan {
+        Plan::Cut { k, g } => {
             memory.arm_cut(k, g);
             Reply::Armed
         }
-        Line::Bad { k, g } => {
+        Plan::Bad { k, g } => {
             memory.arm_bad(k, g);
             Reply::Armed
         }
-        _ => answer_board(memory, line),
     }
 }

@@ -1,9 +1,10 @@
 //! How a run ends, and the two numbers that say so.
 
 ghost use Rattle.std.specs.Prelude.{◌≡◌, None};
-ghost use Rattle.envy_run.specs.Outcome.{ending_after, ending_of, image_number, numbers_of};
+ghost use Rattle.envy_run.specs.Outcome.{ending_after, ending_of, image_number, numbers_of, refusal_of};
 
 use crate::ended::Ended;
+use envy_args::WordsFault;
 use envy_io::Failed;
 use envy_serve::{End, Served};
 use envy_trace::LineFault;
@@ -149,6 +150,17 @@ pub(crate) fn unserved<B>(ending: Ending, board: Option<B>) -> Finished<B>
     ensures { result ≡ record { ending = ending; lines = 0; taken = 0; board = board; second = None } }
 {
     stopped_at(ending, 0, board)
+}
+
+/// An end where the words name no command.
+pub(crate) fn refused<B>(fault: WordsFault) -> Finished<B>
+    ensures { result ≡ record { ending = refusal_of fault; lines = 0; taken = 0; board = None; second = None } }
+{
+    match fault {
+        WordsFault::Form => unserved(Ending::WordsRefused(0), None),
+        WordsFault::Setup(rule) => unserved(Ending::WordsRefused(rule), None),
+        WordsFault::Memory => unserved(Ending::OutOfMemory, None),
+    }
 }
 
 /// The ending of a trace that was served.

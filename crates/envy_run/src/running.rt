@@ -6,12 +6,12 @@ ghost use Rattle.envy_run.specs.Drives.{FailsAsPlanned, TellsAll};
 ghost use Rattle.envy_run.specs.Headline.{Headline, run_task, command_in};
 ghost use Rattle.envy_run.specs.Outcome.{outcome, outcome_of};
 ghost use Rattle.envy_run.specs.Task.{DoesTask};
-ghost use Rattle.envy_run.specs.Theorem.{IsAlone, IsAloneIn, Leaves, Licenses, Prints};
+ghost use Rattle.envy_run.specs.Theorem.{IsAlone, Leaves, Licenses, Prints};
 ghost use Rattle.envy_serve.specs.Ends.{most_bytes};
 
 use crate::audit_run::run_audit;
 use crate::ended::Ended;
-use crate::ending::{Ending, Finished, finished_with, hand_back, unserved};
+use crate::ending::{Finished, finished_with, hand_back, refused};
 use crate::gen_run::run_gen;
 use crate::index_run::run_index;
 use crate::map_run::run_map;
@@ -23,7 +23,7 @@ use crate::resume_run::{Resuming, run_resume};
 use crate::save_run::run_save;
 use crate::tpca_run::run_tpca;
 use crate::tracing::Tracing;
-use envy_args::{Command, WordsFault, read_words, the_area_is_asked_to_fit};
+use envy_args::{Command, read_words, the_area_is_asked_to_fit};
 use envy_base::Maker;
 use envy_io::{Lines, Sink, Source};
 use envy_policy::Setup;
@@ -113,31 +113,6 @@ fn perform<S: Source, K: Sink, M: Maker>(
     }
 }
 
-/// Does what the words say, where they can be read and name a command.
-fn obey_words<S: Source, K: Sink, M: Maker>(
-    alloc: Global,
-    words: &[String],
-    source: &mut S,
-    sink: &mut K,
-    maker: &mut M,
-) -> Finished<M::Made>
-    ensures headline { Headline (command_in words.now) (outcome_of M.Made.Board.state result)
-        (record { from = S.feed source.old; feed = S.feed source.new; to = K.drain sink.old; sink = K.drain sink.new }) }
-    ensures told { FailsAsPlanned M.Made.Board.state
-        → TellsAll (command_in words.now) (outcome_of M.Made.Board.state result)
-        (record { from = S.feed source.old; feed = S.feed source.new; to = K.drain sink.old; sink = K.drain sink.new }) }
-    ensures few { result.lines ≤ result.taken }
-    ensures read { result.taken ≤ most_bytes }
-    ensures alone { IsAloneIn (command_in words.now) (outcome_of M.Made.Board.state result) }
-{
-    match read_words(alloc, words) {
-        Ok(command) => perform(alloc, command, source, sink, maker),
-        Err(WordsFault::Form) => unserved(Ending::WordsRefused(0), None),
-        Err(WordsFault::Setup(rule)) => unserved(Ending::WordsRefused(rule), None),
-        Err(WordsFault::Memory) => unserved(Ending::OutOfMemory, None),
-    }
-}
-
 /// Does what the words say: answers the trace of the source over a board of the maker's or on a plain
 /// machine, writes a generated trace, or drives a load and reports its sums.
 ///
@@ -162,5 +137,8 @@ pub fn run<S: Source, K: Sink, M: Maker>(
         → TellsAll (command_in words.now) (outcome M.Made.Board.state result)
         (record { from = S.feed source.old; feed = S.feed source.new; to = K.drain sink.old; sink = K.drain sink.new }) }
 {
-    hand_back(obey_words(alloc, words, source, sink, maker))
+    match read_words(alloc, words) {
+        Ok(command) => hand_back(perform(alloc, command, source, sink, maker)),
+        Err(fault) => hand_back(refused(fault)),
+    }
 }

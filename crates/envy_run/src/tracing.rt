@@ -10,7 +10,8 @@ ghost use Rattle.envy_run.specs.Turns.{TraceTurn};
 ghost use Rattle.envy_trace.specs.Grammar.{line_of};
 ghost use Rattle.envy_serve.specs.Grammar.{IsSaid};
 
-use crate::obey::{obey_call, obey_power};
+use crate::answering::{Beside, answer, arm};
+use crate::obey::{obey_power, tell};
 use crate::restart::ReplyBuffer;
 use envy_base::Bench;
 use envy_io::{Failed, Sink};
@@ -58,10 +59,14 @@ impl<B: Bench> Service for Tracing<B> {
 
     fn obey<K: Sink>(&mut self, line: &Line, sink: &mut K) -> Obeyed {
         grammar_holds_both_ways();
-        match *line {
-            Line::Empty => Obeyed::Done,
-            Line::Power => obey_power(&mut self.memory, sink, &mut self.buffer),
-            _ => obey_call(&mut self.memory, sink, line, &mut self.buffer),
+        match answer(&mut self.memory, line) {
+            Ok(reply) => tell(&mut self.memory, sink, &reply, &mut self.buffer),
+            Err(Beside::Nothing) => Obeyed::Done,
+            Err(Beside::Power) => obey_power(&mut self.memory, sink, &mut self.buffer),
+            Err(Beside::Plan(plan)) => {
+                let reply = arm(&mut self.memory, plan);
+                tell(&mut self.memory, sink, &reply, &mut self.buffer)
+            }
         }
     }
 
