@@ -20,6 +20,7 @@ use envy_map::place;
 use envy_space::Space;
 
 /// Fills a frame that is taken for a page with the page's words, one of them changed.
+#[inline(always)]
 pub fn fill_frame<B: Board>(
     board: &mut B,
     parts: &mut Parts,

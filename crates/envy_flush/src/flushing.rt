@@ -50,6 +50,7 @@ fn move_out<B: Board>(
 }
 
 /// Programs a row that was claimed for a held page with its words, lets it stand there, and gives its frame back.
+#[inline(always)]
 pub fn flush_into<B: Board>(
     board: &mut B,
     parts: &mut Parts,

@@ -58,6 +58,7 @@ pub fn step_job<B: Board>(board: &mut B, parts: &mut Parts) -> Result<Phase, Tro
 }
 
 /// The first rule: one step of the job. A swap whose copy failed is given up.
+#[inline(always)]
 pub fn tick_job<B: Board>(board: &mut B, parts: &mut Parts) -> Result<Did, Trouble>
     requires ready { Ready (chart (B.state board.old)) parts.old }
     requires running { (chart (B.state board.old)).fields.job ≢ Some Idle }

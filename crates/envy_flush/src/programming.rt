@@ -22,6 +22,7 @@ pub fn one_more(count: u64) -> u64
 }
 
 /// Programs a claimed row with the words of a frame, and counts it. Nothing else changes.
+#[inline(always)]
 pub fn copy_row<B: Board>(
     board: &mut B,
     parts: &mut Parts,

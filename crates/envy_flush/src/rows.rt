@@ -87,6 +87,7 @@ fn busy_row<B: Board>(
 }
 
 /// A row for a page with this home.
+#[inline(always)]
 pub fn get_row<B: Board>(
     board: &mut B,
     parts: &mut Parts,
