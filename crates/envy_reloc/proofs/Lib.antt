@@ -11,3 +11,4 @@ pub mod StepLemmas
 pub mod StepsLemma
 pub mod SwitchLemmas
 pub mod WriteLemmas
+mod Exits

@@ -9,7 +9,8 @@ use Rattle.envy_space.specs.Pool.{IsPoolOf, PoolAgrees}
 use Rattle.envy_reloc.specs.Rows.{IsLeft}
 use Rattle.envy_layout.proofs.KeptLemmas.{Names-range}
 use Rattle.envy_reloc.proofs.CopyLemmas.{room-left}
-use Rattle.envy_layout.proofs.Sames.{same_then}
+use Rattle.envy_layout.proofs.Sames.{same_then, same_within, tally_still, tally_then}
+use Rattle.envy_reloc.proofs.Exits.{unpowered}
 use Rattle.envy_reloc.proofs.copying.copy_row.Goals as goal
 
 pub note_origin-requires-clause-place : goal.note_origin-requires-clause-place
@@ -59,3 +60,56 @@ returns-clause-same g c =
     let claimed = chart (g.B.Board.state c.claim.new.board) in
     let new = chart (g.B.Board.state c.program_counted.new.board) in
     same_then 1 0 old mid new c.note_origin.ensures.same (same_then 1 0 mid claimed new (c.claim.ensures.same (Stays.sound (Same.stays c.note_origin.ensures.same))) c.program_counted.ensures.same)
+
+pub returns-in_err-note_origin-clause-same : goal.returns-in_err-note_origin-clause-same
+returns-in_err-note_origin-clause-same g c =
+    let old = chart (g.B.Board.state c.args.board.now) in
+    let mid = chart (g.B.Board.state c.note_origin.new.board) in
+    same_within 1 0 old mid c.note_origin.ensures.same
+
+pub returns-in_err-note_origin-clause-counts : goal.returns-in_err-note_origin-clause-counts
+returns-in_err-note_origin-clause-counts g c =
+    let old = chart (g.B.Board.state c.args.board.now) in
+    let mid = chart (g.B.Board.state c.note_origin.new.board) in
+    tally_still c.args.copied.now old mid c.note_origin.ensures.same
+
+pub returns-in_err-target-clause-same : goal.returns-in_err-target-clause-same
+returns-in_err-target-clause-same g c =
+    let old = chart (g.B.Board.state c.args.board.now) in
+    let mid = chart (g.B.Board.state c.note_origin.new.board) in
+    let claimed = chart (g.B.Board.state c.claim.new.board) in
+    let still = same_then 0 0 old mid claimed c.note_origin.ensures.same (c.claim.ensures.same (Stays.sound (Same.stays c.note_origin.ensures.same))) in
+    same_within 1 0 old claimed still
+
+pub returns-in_err-target-clause-counts : goal.returns-in_err-target-clause-counts
+returns-in_err-target-clause-counts g c =
+    let old = chart (g.B.Board.state c.args.board.now) in
+    let mid = chart (g.B.Board.state c.note_origin.new.board) in
+    let claimed = chart (g.B.Board.state c.claim.new.board) in
+    let still = same_then 0 0 old mid claimed c.note_origin.ensures.same (c.claim.ensures.same (Stays.sound (Same.stays c.note_origin.ensures.same))) in
+    tally_still c.args.copied.now old claimed still
+
+pub returns-in_err-read_row-clause-same : goal.returns-in_err-read_row-clause-same
+returns-in_err-read_row-clause-same g c =
+    let old = chart (g.B.Board.state c.args.board.now) in
+    let mid = chart (g.B.Board.state c.note_origin.new.board) in
+    let claimed = chart (g.B.Board.state c.claim.new.board) in
+    let still = same_then 0 0 old mid claimed c.note_origin.ensures.same (c.claim.ensures.same (Stays.sound (Same.stays c.note_origin.ensures.same))) in
+    same_within 1 0 old claimed still
+
+pub returns-in_err-read_row-clause-counts : goal.returns-in_err-read_row-clause-counts
+returns-in_err-read_row-clause-counts g c =
+    let old = chart (g.B.Board.state c.args.board.now) in
+    let mid = chart (g.B.Board.state c.note_origin.new.board) in
+    let claimed = chart (g.B.Board.state c.claim.new.board) in
+    let still = same_then 0 0 old mid claimed c.note_origin.ensures.same (c.claim.ensures.same (Stays.sound (Same.stays c.note_origin.ensures.same))) in
+    tally_still c.args.copied.now old claimed still
+
+pub returns-clause-counts : goal.returns-clause-counts
+returns-clause-counts g c =
+    let old = chart (g.B.Board.state c.args.board.now) in
+    let mid = chart (g.B.Board.state c.note_origin.new.board) in
+    let claimed = chart (g.B.Board.state c.claim.new.board) in
+    let still = same_then 0 0 old mid claimed c.note_origin.ensures.same (c.claim.ensures.same (Stays.sound (Same.stays c.note_origin.ensures.same))) in
+    let new = chart (g.B.Board.state c.program_counted.new.board) in
+    tally_then c.args.copied.now c.program_counted.new.count old claimed new still c.program_counted.ensures.counts.1

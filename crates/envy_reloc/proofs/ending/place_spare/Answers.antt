@@ -4,6 +4,7 @@ use Rattle.envy_layout.specs.Same.{Same, Stays}
 use Rattle.envy_layout.specs.Sound.{IsSpare}
 use Rattle.envy_layout.proofs.JobLaw.{AreHome-freed}
 use Rattle.envy_space.specs.Pool.{IsPoolOf, Replaces}
+use Rattle.envy_layout.proofs.Sames.{same_then}
 use Rattle.envy_reloc.proofs.ending.place_spare.Goals as goal
 
 pub begin_erase-requires-clause-home : goal.begin_erase-requires-clause-home
@@ -15,3 +16,14 @@ begin_erase-requires-clause-home g c on =
     AreHome-freed new.shape new.fields new.flash c.args.segment (Stays.sound (Same.stays (c.replace.ensures.same c.requires.sound)))
     (ap (λ (x : Chart). x.fields.job) (Replaces.fields made.1) ∙ c.requires.switching)
     (subst (λ (s : ℕ). IsSpare new.shape new.fields.positions s) here (Replaces.freed made.1))
+
+pub returns-in_err-replace-clause-same : goal.returns-in_err-replace-clause-same
+returns-in_err-replace-clause-same g c =
+    c.replace.ensures.same c.requires.sound
+
+pub returns-clause-same : goal.returns-clause-same
+returns-clause-same g c =
+    let old = chart (g.B.Board.state c.args.board.now) in
+    let mid = chart (g.B.Board.state c.replace.new.board) in
+    let new = chart (g.B.Board.state c.begin_erase.new.board) in
+    same_then 0 0 old mid new (c.replace.ensures.same c.requires.sound) c.begin_erase.ensures.same

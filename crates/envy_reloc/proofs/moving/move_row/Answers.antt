@@ -16,7 +16,7 @@ use Rattle.envy_reloc.specs.Phases.{MovesRow}
 use Rattle.envy_layout.specs.Naming.{with_named, AreParted}
 use Rattle.envy_reloc.specs.Rows.{HasRoom}
 use Rattle.envy_layout.proofs.Claimed.{MayName-claimed, unnamed-claimed, unswitched-copying}
-use Rattle.envy_layout.proofs.Sames.{then_same}
+use Rattle.envy_layout.proofs.Sames.{then_same, tally_end}
 use Rattle.envy_reloc.proofs.moving.move_row.Goals as goal
 
 pub program_move-requires-clause-target : goal.program_move-requires-clause-target
@@ -143,3 +143,33 @@ returns-clause-moves g c =
       copy = ap (λ (xs : List (List ℕ)). get_or xs t []) flash ∙ CopiesTo.copy c.in_ok-target.ensures.copy;
       others = λ r other. ap (λ (xs : List (List ℕ)). get_or xs r []) flash ∙ ClaimsTarget.others (c.program_move.ensures.claims on) r other;
     })
+
+pub returns-in_err-target-clause-same : goal.returns-in_err-target-clause-same
+returns-in_err-target-clause-same g c =
+    c.program_move.ensures.same
+
+pub returns-in_err-target-clause-counts : goal.returns-in_err-target-clause-counts
+returns-in_err-target-clause-counts g c =
+    c.program_move.ensures.counts
+
+pub returns-in_err-rename-clause-counts : goal.returns-in_err-rename-clause-counts
+returns-in_err-rename-clause-counts g c =
+    let old = chart (g.B.Board.state c.args.board.now) in
+    let mid = chart (g.B.Board.state c.program_move.new.board) in
+    let new = chart (g.B.Board.state c.rename.new.board) in
+    tally_end c.args.moved.now c.program_move.new.moved old mid new c.program_move.ensures.counts c.rename.ensures.same
+
+pub returns-clause-counts : goal.returns-clause-counts
+returns-clause-counts g c =
+    let old = chart (g.B.Board.state c.args.board.now) in
+    let mid = chart (g.B.Board.state c.program_move.new.board) in
+    let new = chart (g.B.Board.state c.rename.new.board) in
+    tally_end c.args.moved.now c.program_move.new.moved old mid new c.program_move.ensures.counts c.rename.ensures.same
+
+pub returns-in_err-target-clause-counted : goal.returns-in_err-target-clause-counted
+returns-in_err-target-clause-counted g c =
+    λ on. ClaimsTarget.counted (c.program_move.ensures.claims on)
+
+pub returns-clause-counted : goal.returns-clause-counted
+returns-clause-counted g c =
+    λ on. ClaimsTarget.counted (c.program_move.ensures.claims c.in_ok-target.ensures.power)

@@ -1,13 +1,17 @@
-use Rattle.std.proofs.Common.{sym, ap, subst}
+use Rattle.std.proofs.Common.{ℕ, ◌*◌, ◌<◌, refl, sym, ap, subst}
+use Rattle.envy_base.specs.declared.shape.Shape.{Shape}
 use Rattle.envy_map.specs.Fields.{Chart, chart}
 use Rattle.envy_layout.specs.Same.{Same, Stays}
 use Rattle.envy_layout.specs.May.{MayName}
 use Rattle.envy_layout.specs.Sound.{IsSound}
-use Rattle.envy_space.specs.Pool.{Pool, PoolAgrees}
+use Rattle.envy_space.specs.Pool.{Pool, IsPoolOf, PoolAgrees}
 use Rattle.envy_layout.specs.Naming.{AreParted}
 use Rattle.envy_layout.specs.Naming.{with_named}
 use Rattle.envy_table.specs.Agreement.{AreCurrent}
-use Rattle.envy_layout.proofs.NamingLemmas.{AreParted-named}
+use Rattle.envy_layout.proofs.NamingLemmas.{AreParted-named, Names-named}
+use Rattle.envy_layout.proofs.KeptLemmas.{Names-range}
+use Rattle.envy_table.proofs.HitLemmas.{Rests-refl}
+use Rattle.envy_reloc.proofs.Exits.{unpowered}
 use Rattle.envy_space.specs.Following.{Followed}
 use Rattle.envy_space.proofs.FollowLemmas.{Followed-named}
 use Rattle.envy_reloc.proofs.moving.rename.Goals as goal
@@ -42,3 +46,30 @@ returns-clause-follow g c =
       shape = ap (λ (p : Pool). p.shape) c.follow.ensures.space;
       rests = c.follow.ensures.rests;
     }
+
+pub follow-requires-clause-row : goal.follow-requires-clause-row
+follow-requires-clause-row g c =
+    let old = chart (g.B.Board.state c.args.board.now) in
+    subst (λ (sh : Shape). c.args.row < sh.segments * sh.rows) (sym (IsPoolOf.shape c.requires.agree.pool)) (Names-range old.shape old.fields old.flash c.args.kept.page c.args.row c.requires.sound (Names-named old.fields c.args.kept.page c.args.row c.args.kept.undo c.requires.named))
+
+pub follow-requires-clause-copy : goal.follow-requires-clause-copy
+follow-requires-clause-copy g c =
+    let old = chart (g.B.Board.state c.args.board.now) in
+    subst (λ (sh : Shape). c.args.target < sh.segments * sh.rows) (sym (IsPoolOf.shape c.requires.agree.pool)) (MayName.range c.requires.may)
+
+pub returns-in_err-name_row-clause-same : goal.returns-in_err-name_row-clause-same
+returns-in_err-name_row-clause-same g c =
+    c.name_row.ensures.same
+
+pub returns-clause-same : goal.returns-clause-same
+returns-clause-same g c =
+    c.name_row.ensures.same
+
+pub returns-clause-fields : goal.returns-clause-fields
+returns-clause-fields g c =
+    c.in_ok-name_row.ensures.fields
+
+pub returns-in_err-name_row-clause-follow : goal.returns-in_err-name_row-clause-follow
+returns-in_err-name_row-clause-follow g c =
+    let off = c.in_err-name_row.ensures.power in
+    record { pool = λ on. unpowered _ off on; cache = λ on. unpowered _ off on; parted = λ on. unpowered _ off on; shape = refl; rests = Rests-refl _ }

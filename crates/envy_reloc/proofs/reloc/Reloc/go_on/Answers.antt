@@ -1,4 +1,5 @@
 use Rattle.std.proofs.Common.{◌≡◌, ◌∙◌, inl, inr, ℕ, List, Option, sym, ap, subst, arith}
+use Rattle.envy_base.specs.Counting.{Tally}
 use Rattle.envy_base.specs.Shape.{IsShape}
 use Rattle.envy_base.specs.State.{IsBoard}
 use Rattle.envy_base.specs.declared.shape.Shape.{Shape}
@@ -11,7 +12,7 @@ use Rattle.envy_reloc.specs.declared.moving.Move.{Move}
 use Rattle.envy_reloc.specs.Phases.{NextMove}
 use Rattle.envy_reloc.specs.Plan.{Plan, IsPlanOf}
 use Rattle.envy_reloc.specs.Rows.{NextKept, HasRoom, IsLowestRoom}
-use Rattle.envy_reloc.proofs.Counts.{apart_by_move}
+use Rattle.envy_reloc.proofs.Counts.{counts_by_copy, counts_by_move, counts_by_none, apart_by_copy, apart_by_move, apart_by_none}
 use Rattle.envy_reloc.proofs.KeepLemmas.{AllFollow-still, FramesStay-switched}
 use Rattle.envy_reloc.proofs.CopyLemmas.{AllCopied-next, CopiedWhole-made}
 use Rattle.envy_reloc.proofs.StepLemmas.{Found, spare-is, within-move, within-copy, err-of, SpoilsCopy-found, CopiesOne-found, SwitchesSegment-made}
@@ -207,3 +208,81 @@ returns-in-Some-clause-apart g c =
     let old = chart (g.B.Board.state c.args.board.now) in
     let next = subst (λ (m : Option Move). NextMove old.shape old.fields c.args.segment c.args.self.now m c.next_move.new.self) c.in-Some.is c.in_ok-next.ensures.next in
     apart_by_move old c.args.segment c.args.self.now c.next_move.new.self c.move_next.new.self c.in-Some.next c.requires.copying next (c.move_next.ensures.counts.copied ∙ ap (λ (p : Plan). p.copied) c.next_move.ensures.becomes)
+
+pub returns-in_err-move_next-clause-counts : goal.returns-in_err-move_next-clause-counts
+returns-in_err-move_next-clause-counts g c =
+    let old = chart (g.B.Board.state c.args.board.now) in
+    let mid = c.next_move.new.self in
+    let new = chart (g.B.Board.state c.move_next.new.board) in
+    let was = c.next_move.ensures.becomes in
+    let counts = c.move_next.ensures.counts in
+    counts_by_move old new c.args.self.now c.move_next.new.self c.move_next.ensures.same (subst (λ (n : ℕ). Tally old.begun n new.begun c.move_next.new.self.moved) (ap (λ (p : Plan). p.moved) was) counts.moved) (counts.copied ∙ ap (λ (p : Plan). p.copied) was) (counts.erased ∙ ap (λ (p : Plan). p.erased) was) (counts.since ∙ ap (λ (p : Plan). p.since) was)
+
+pub returns-in-Some-clause-counts : goal.returns-in-Some-clause-counts
+returns-in-Some-clause-counts g c =
+    let old = chart (g.B.Board.state c.args.board.now) in
+    let mid = c.next_move.new.self in
+    let new = chart (g.B.Board.state c.move_next.new.board) in
+    let was = c.next_move.ensures.becomes in
+    let counts = c.move_next.ensures.counts in
+    counts_by_move old new c.args.self.now c.move_next.new.self c.move_next.ensures.same (subst (λ (n : ℕ). Tally old.begun n new.begun c.move_next.new.self.moved) (ap (λ (p : Plan). p.moved) was) counts.moved) (counts.copied ∙ ap (λ (p : Plan). p.copied) was) (counts.erased ∙ ap (λ (p : Plan). p.erased) was) (counts.since ∙ ap (λ (p : Plan). p.since) was)
+
+pub returns-in_err-copy_left-in-Some-2-clause-counts : goal.returns-in_err-copy_left-in-Some-2-clause-counts
+returns-in_err-copy_left-in-Some-2-clause-counts g c =
+    let old = chart (g.B.Board.state c.args.board.now) in
+    let mid = c.next_move.new.self in
+    let new = chart (g.B.Board.state c.copy_left.new.board) in
+    let was = c.next_move.ensures.becomes in
+    let counts = c.copy_left.ensures.counts in
+    counts_by_copy old new c.args.self.now c.copy_left.new.self c.copy_left.ensures.same (subst (λ (n : ℕ). Tally old.begun n new.begun c.copy_left.new.self.copied) (ap (λ (p : Plan). p.copied) was) counts.copied) (counts.moved ∙ ap (λ (p : Plan). p.moved) was) (counts.erased ∙ ap (λ (p : Plan). p.erased) was) (counts.since ∙ ap (λ (p : Plan). p.since) was)
+
+pub returns-in_err-copy_left-in-Some-2-clause-apart : goal.returns-in_err-copy_left-in-Some-2-clause-apart
+returns-in_err-copy_left-in-Some-2-clause-apart g c =
+    let old = chart (g.B.Board.state c.args.board.now) in
+    let mid = c.next_move.new.self in
+    let none = subst (λ (m : Option Move). NextMove old.shape old.fields c.args.segment c.args.self.now m mid) c.in_default.is c.in_ok-next.ensures.next in
+    apart_by_copy old c.args.segment c.args.self.now c.copy_left.new.self c.requires.copying none.0 (c.copy_left.ensures.counts.moved ∙ ap (λ (p : Plan). p.moved) c.next_move.ensures.becomes)
+
+pub returns-in_ok-copy_left-in-Some-2-clause-counts : goal.returns-in_ok-copy_left-in-Some-2-clause-counts
+returns-in_ok-copy_left-in-Some-2-clause-counts g c =
+    let old = chart (g.B.Board.state c.args.board.now) in
+    let mid = c.next_move.new.self in
+    let new = chart (g.B.Board.state c.copy_left.new.board) in
+    let was = c.next_move.ensures.becomes in
+    let counts = c.copy_left.ensures.counts in
+    counts_by_copy old new c.args.self.now c.copy_left.new.self c.copy_left.ensures.same (subst (λ (n : ℕ). Tally old.begun n new.begun c.copy_left.new.self.copied) (ap (λ (p : Plan). p.copied) was) counts.copied) (counts.moved ∙ ap (λ (p : Plan). p.moved) was) (counts.erased ∙ ap (λ (p : Plan). p.erased) was) (counts.since ∙ ap (λ (p : Plan). p.since) was)
+
+pub returns-in_ok-copy_left-in-Some-2-clause-apart : goal.returns-in_ok-copy_left-in-Some-2-clause-apart
+returns-in_ok-copy_left-in-Some-2-clause-apart g c =
+    let old = chart (g.B.Board.state c.args.board.now) in
+    let mid = c.next_move.new.self in
+    let none = subst (λ (m : Option Move). NextMove old.shape old.fields c.args.segment c.args.self.now m mid) c.in_default.is c.in_ok-next.ensures.next in
+    apart_by_copy old c.args.segment c.args.self.now c.copy_left.new.self c.requires.copying none.0 (c.copy_left.ensures.counts.moved ∙ ap (λ (p : Plan). p.moved) c.next_move.ensures.becomes)
+
+pub returns-in_err-switch_segment-in-None-clause-counts : goal.returns-in_err-switch_segment-in-None-clause-counts
+returns-in_err-switch_segment-in-None-clause-counts g c =
+    let old = chart (g.B.Board.state c.args.board.now) in
+    let mid = c.next_move.new.self in
+    let was = c.next_move.ensures.becomes in
+    counts_by_none old (chart (g.B.Board.state c.switch_segment.new.board)) c.args.self.now mid c.switch_segment.ensures.same (ap (λ (p : Plan). p.copied) was) (ap (λ (p : Plan). p.moved) was) (ap (λ (p : Plan). p.erased) was) (ap (λ (p : Plan). p.since) was)
+
+pub returns-in_err-switch_segment-in-None-clause-apart : goal.returns-in_err-switch_segment-in-None-clause-apart
+returns-in_err-switch_segment-in-None-clause-apart g c =
+    let old = chart (g.B.Board.state c.args.board.now) in
+    let mid = c.next_move.new.self in
+    let was = c.next_move.ensures.becomes in
+    apart_by_none old c.args.self.now mid (ap (λ (p : Plan). p.copied) was) (ap (λ (p : Plan). p.moved) was)
+
+pub returns-in_ok-switch_segment-in-None-clause-counts : goal.returns-in_ok-switch_segment-in-None-clause-counts
+returns-in_ok-switch_segment-in-None-clause-counts g c =
+    let old = chart (g.B.Board.state c.args.board.now) in
+    let mid = c.next_move.new.self in
+    let was = c.next_move.ensures.becomes in
+    counts_by_none old (chart (g.B.Board.state c.switch_segment.new.board)) c.args.self.now mid c.switch_segment.ensures.same (ap (λ (p : Plan). p.copied) was) (ap (λ (p : Plan). p.moved) was) (ap (λ (p : Plan). p.erased) was) (ap (λ (p : Plan). p.since) was)
+
+pub returns-in_ok-switch_segment-in-None-clause-apart : goal.returns-in_ok-switch_segment-in-None-clause-apart
+returns-in_ok-switch_segment-in-None-clause-apart g c =
+    let old = chart (g.B.Board.state c.args.board.now) in
+    let mid = c.next_move.new.self in
+    let was = c.next_move.ensures.becomes in
+    apart_by_none old c.args.self.now mid (ap (λ (p : Plan). p.copied) was) (ap (λ (p : Plan). p.moved) was)
