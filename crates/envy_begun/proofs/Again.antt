@@ -10,7 +10,7 @@ use Rattle.envy_base.proofs.Undoing.{undo_all-closed}
 use Rattle.envy_begun.specs.Beginning.{HasBegun, HasStopped, IsStopped}
 use Rattle.envy_begun.specs.Opens.{OpensAs}
 use Rattle.envy_begun.specs.Plans.{IsOpened}
-use Rattle.envy_begun.specs.Unserved.{Declines, HasNoMemory, unopened_as}
+use Rattle.envy_begun.specs.Unserved.{Declines, HasNoMemory}
 use Rattle.envy_begun.specs.declared.unbegun.Unbegun.{Unbegun}
 use Rattle.envy_begun.specs.declared.unbegun.Unbegun.TheVariants.{Failed, Memory, NoJournal}
 use Rattle.envy_begun.proofs.Opening.{IsGood, opens-as}
@@ -36,6 +36,8 @@ use Rattle.envy_map.specs.Fields.{Chart, chart, map_fields, shape_of}
 use Rattle.envy_map.proofs.Sizes.{shape_of-sizes_of}
 use Rattle.envy_memory.specs.Attaching.{Attaches}
 use Rattle.envy_memory.specs.Calls.{fresh}
+use Rattle.envy_memory.specs.declared.faults.FormatFault.{FormatFault}
+use Rattle.envy_memory.specs.declared.faults.FormatFault.TheVariants.{Off as FormatOff}
 use Rattle.envy_memory.specs.Picture.{Picture}
 use Rattle.envy_policy.specs.Setup.{checked}
 use Rattle.envy_policy.specs.declared.setup.Setup.{Setup}
@@ -110,28 +112,50 @@ module _ (sh : Shape) (file : List ℕ) (s : State) (o : IsOpened sh file s) whe
       not-declined (OfSetup fault) new a b (same, (whole, bad)) = absurd (let never = sym checks ∙ bad in cc)
       not-declined other new a b (same, never) = absurd never
 
--- why there is none, by the code
-abbrev pub Says : Code → ℕ → Unbegun → Type 0
-Says code held unbegun = ((code ≡ Off) × (unbegun ≡ Failed held)) ⊎ (((code ≡ NoMemory) × (unbegun ≡ Memory)) ⊎ ((code ≢ Off) × (code ≢ NoMemory) × (unbegun ≡ NoJournal)))
+-- why a journal wasn't opened, or a memory attached, and the file: by what was found
+module _ {D : Type 0} (seen : D → List ℕ) (has_failed : D → Bool) (old new : D) (unbegun : Unbegun) where
+  abbrev pub SaysError : OpenError → Type 0
+  SaysError error = ((error ≡ OpenMemory) × IsStopped seen has_failed unbegun new) ⊎ (((error ≡ OpenFailed) × (unbegun ≡ Failed 0) × (new ≡ old)) ⊎ ((error ≡ Misfit) × (unbegun ≡ NoJournal) × (new ≡ old)))
 
-module _ {D : Type 0} (seen : D → List ℕ) (has_failed : D → Bool) (sh : Shape) (file : List ℕ) (device : D) where
-  pub unopened-declines : (error : OpenError) (unbegun : Unbegun) → unbegun ≡ unopened_as error → (error ≡ Misfit → HasMisfit sh (operations file)) → (error ≡ OpenFailed → IsTrue (has_failed device)) → Declines seen has_failed sh file unbegun device
-  unopened-declines error unbegun is misfit failed = subst (λ (u : Unbegun). Declines seen has_failed sh file u device) (sym is) (go error misfit failed)
-    where
-      go : (error : OpenError) → (error ≡ Misfit → HasMisfit sh (operations file)) → (error ≡ OpenFailed → IsTrue (has_failed device)) → Declines seen has_failed sh file (unopened_as error) device
-      go OpenMemory misfit failed = tt
-      go OpenFailed misfit failed = (omega arith, λ few. failed refl)
-      go Misfit misfit failed = inl (misfit refl)
+  abbrev pub SaysCode : Code → ℕ → Type 0
+  SaysCode code held = ((code ≡ Off) × (unbegun ≡ Failed held) × (new ≡ old)) ⊎ (((code ≡ NoMemory) × IsStopped seen has_failed unbegun new) ⊎ ((code ≢ Off) × (code ≢ NoMemory) × (unbegun ≡ NoJournal) × (new ≡ old)))
 
-  pub stopped-declines : (unbegun : Unbegun) → IsStopped seen has_failed unbegun device → Declines seen has_failed sh file unbegun device
-  stopped-declines (Failed held) stopped = stopped
-  stopped-declines Memory stopped = tt
-  stopped-declines other stopped = absurd stopped
+  abbrev pub SaysFault : FormatFault → ℕ → Type 0
+  SaysFault fault held = ((fault ≡ FormatOff) × (unbegun ≡ Failed held) × (new ≡ old)) ⊎ ((fault ≢ FormatOff) × IsStopped seen has_failed unbegun new)
 
-  pub code-declines : (code : Code) (held : ℕ) (unbegun : Unbegun) → Says code held unbegun → (code ≡ Off → HasStopped seen has_failed held device) → ((code ≡ Off → ⊥) → (code ≡ NoMemory → ⊥) → HasNoMemory sh file) → Declines seen has_failed sh file unbegun device
-  code-declines code held unbegun (inl (off, is)) stopped none = subst (λ (u : Unbegun). Declines seen has_failed sh file u device) (sym is) (stopped off)
-  code-declines code held unbegun (inr (inl (memory, is))) stopped none = subst (λ (u : Unbegun). Declines seen has_failed sh file u device) (sym is) tt
-  code-declines code held unbegun (inr (inr (on, enough, is))) stopped none = subst (λ (u : Unbegun). Declines seen has_failed sh file u device) (sym is) (none on enough)
+  stops-as : (held : ℕ) → unbegun ≡ Failed held → new ≡ old → HasStopped seen has_failed held old → IsStopped seen has_failed unbegun new
+  stops-as held why same stopped = subst (λ (u : Unbegun). IsStopped seen has_failed u new) (sym why) (subst (λ (x : D). HasStopped seen has_failed held x) (sym same) stopped)
+
+  -- a journal wasn't made
+  pub uncreated-stopped : (error : OpenError) → SaysError error → (error ≡ Misfit → ⊥) → (error ≡ OpenFailed → IsTrue (has_failed old)) → IsStopped seen has_failed unbegun new
+  uncreated-stopped error (inl (is, stopped)) fits failed = stopped
+  uncreated-stopped error (inr (inl (is, why, same))) fits failed = stops-as 0 why same (omega arith, λ few. failed is)
+  uncreated-stopped error (inr (inr (is, why, same))) fits failed = absurd (fits is)
+
+  -- a memory wasn't formatted
+  pub unformatted-stopped : (fault : FormatFault) (held : ℕ) → SaysFault fault held → (fault ≡ FormatOff → HasStopped seen has_failed held old) → IsStopped seen has_failed unbegun new
+  unformatted-stopped fault held (inl (off, why, same)) stopped = stops-as held why same (stopped off)
+  unformatted-stopped fault held (inr (on, is)) stopped = is
+
+module _ {D : Type 0} (seen : D → List ℕ) (has_failed : D → Bool) (sh : Shape) (file : List ℕ) where
+  pub stopped-declines : (device : D) (unbegun : Unbegun) → IsStopped seen has_failed unbegun device → Declines seen has_failed sh file unbegun device
+  stopped-declines device (Failed held) stopped = stopped
+  stopped-declines device Memory stopped = stopped
+  stopped-declines device other stopped = absurd stopped
+
+  module _ (old new : D) (unbegun : Unbegun) where
+    declines-as : (why : Unbegun) → unbegun ≡ why → new ≡ old → Declines seen has_failed sh file why old → Declines seen has_failed sh file unbegun new
+    declines-as why is same d = subst (λ (u : Unbegun). Declines seen has_failed sh file u new) (sym is) (subst (λ (x : D). Declines seen has_failed sh file why x) (sym same) d)
+
+    pub unopened-declines : (error : OpenError) → SaysError seen has_failed old new unbegun error → (error ≡ Misfit → HasMisfit sh (operations file)) → (error ≡ OpenFailed → IsTrue (has_failed old)) → Declines seen has_failed sh file unbegun new
+    unopened-declines error (inl (is, stopped)) misfit failed = stopped-declines new unbegun stopped
+    unopened-declines error (inr (inl (is, why, same))) misfit failed = declines-as (Failed 0) why same (omega arith, λ few. failed is)
+    unopened-declines error (inr (inr (is, why, same))) misfit failed = declines-as NoJournal why same (inl (misfit is))
+
+    pub code-declines : (code : Code) (held : ℕ) → SaysCode seen has_failed old new unbegun code held → (code ≡ Off → HasStopped seen has_failed held old) → ((code ≡ Off → ⊥) → (code ≡ NoMemory → ⊥) → HasNoMemory sh file) → Declines seen has_failed sh file unbegun new
+    code-declines code held (inl (off, why, same)) stopped none = declines-as (Failed held) why same (stopped off)
+    code-declines code held (inr (inl (memory, is))) stopped none = stopped-declines new unbegun is
+    code-declines code held (inr (inr (on, enough, why, same))) stopped none = declines-as NoJournal why same (none on enough)
 
 pub declined-same : (code : Code) (old new : State) (setup : Setup) → (code ≡ Off → ⊥) → Declined code old setup new → new ≡ old
 declined-same Off old new setup on d = absurd (on refl)

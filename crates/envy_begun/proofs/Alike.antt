@@ -1,25 +1,58 @@
--- A journal that isn't taken up opens as before.
-use Rattle.std.proofs.Common.{◌≡◌, ◌⊎◌, ◌∙◌, ◌≤◌, inl, inr, ℕ, List, false, refl, sym, ap, subst}
+-- A file in which no memory began: what a crash leaves of it.
+use Rattle.std.proofs.Common.{◌≡◌, ◌⊎◌, ◌∙◌, ◌≤◌, inl, inr, ⊎_elim, ℕ, Bool, List, false, Err, refl, sym, ap, subst, arith}
+use Rattle.std.specs.Prelude.{IfErr, Result}
 use Rattle.std.proofs.Math.Logic.{∥∥₁_map}
 use Rattle.envy_base.specs.State.{State}
+use Rattle.envy_base.specs.declared.board.Off.{Off}
 use Rattle.envy_base.specs.declared.shape.Shape.{Shape}
-use Rattle.envy_begun.specs.Left.{LeavesAlike, OpensAlike, StaysAlike}
+use Rattle.envy_begun.specs.Left.{KeepsWords, Leaves, OpensAlike, Stays, StaysWritten}
 use Rattle.envy_begun.specs.Plans.{IsOpened}
+use Rattle.envy_begun.specs.declared.planning.Holding.{Holding}
 use Rattle.envy_begun.specs.declared.unbegun.Unbegun.{Unbegun}
-use Rattle.envy_begun.specs.declared.unbegun.Unbegun.TheVariants.{Failed}
-use Rattle.envy_begun.proofs.Again.{Says}
+use Rattle.envy_begun.specs.declared.unbegun.Unbegun.TheVariants.{Failed, Memory, NoJournal, Setup, OtherVersion, OtherSizes, Options}
+use Rattle.envy_begun.proofs.Again.{SaysCode, declined-same, err_on}
+use Rattle.envy_calls.specs.Making.{Declined}
 use Rattle.envy_calls.specs.declared.code.Code.{Code}
-use Rattle.envy_calls.specs.declared.code.Code.TheVariants.{Off}
-use Rattle.envy_device.specs.Device.{LeavesOnly}
-use Rattle.envy_journal.specs.Content.{Content, holds}
+use Rattle.envy_calls.specs.declared.code.Code.TheVariants.{Off as CodeOff}
+use Rattle.envy_device.specs.Device.{Elapses, LeavesOnly}
+use Rattle.envy_disk.specs.Disk.{Syncs}
+use Rattle.envy_journal.specs.Content.{Content, content_of, holds}
 use Rattle.envy_journal.specs.Head.{StandsFor, head_bytes}
 use Rattle.envy_journal.specs.Log.{Begins}
 use Rattle.envy_journal.specs.Reading.{operations}
 use Rattle.envy_journal.specs.declared.operation.Operation.{Operation}
-use Rattle.envy_map.specs.Fields.{Chart, chart, map_fields}
+use Rattle.envy_layout.specs.Same.{Counted, Kept}
+use Rattle.envy_map.specs.Fields.{Chart, Fields, chart, map_fields}
+use Rattle.envy_policy.specs.declared.setup.Setup.{Setup as OfSetup}
+use Rattle.envy_saved.proofs.Reopened.{same_fields, same_sound, same_words}
 use Rattle.envy_synced.specs.Disk.{IsLast, IsSynced, Reopens}
 
-stands-alike : (sh : Shape) (was file : List ℕ) → StandsFor sh (operations was) file → OpensAlike sh was file
+module _ {D : Type 0} (left_since : D → ℕ → List ℕ → Type 0) (moment : D → ℕ) where
+  -- each such file is another such file
+  pub leaves-as : (device : D) (Such Other : List ℕ → Type 0) → ((file : List ℕ) → Such file → Other file) → Leaves left_since moment device Such → Leaves left_since moment device Other
+  leaves-as device Such Other goes l = record { since = l.since; before = l.before; each = λ file left. ∥∥₁_map (l.each file left) (λ such. goes file such) }
+
+  -- a call that leaves nothing else
+  pub leaves-on : (old new : D) (Such : List ℕ → Type 0) → moment old ≤ moment new → ((t : ℕ) (file : List ℕ) → t ≤ moment old → left_since new t file → left_since old t file) → Leaves left_since moment old Such → Leaves left_since moment new Such
+  leaves-on old new Such later only l = record { since = l.since; before = omega (arith, later, l.before); each = λ file left. l.each file (only l.since file l.before left) }
+
+  pub leaves-only : (old new : D) (Such : List ℕ → Type 0) → LeavesOnly moment left_since old new Such → Leaves left_since moment new Such
+  leaves-only old new Such only = record { since = moment old; before = only.later; each = λ file left. ∣ only.each file left ∣₁ }
+
+-- a call behind which a crash leaves nothing that it might not have left before
+pub no-more : {D : Type 0} (may_leave : D → List ℕ → Type 0) (moment : D → ℕ) (left_since : D → ℕ → List ℕ → Type 0) (old new : D)
+    → Elapses (moment old) (moment new) (left_since old) (left_since new) (may_leave new) → ((c : List ℕ) → may_leave new c → may_leave old c) → ((t : ℕ) (c : List ℕ) → t ≤ moment old → may_leave old c → left_since old t c)
+    → (t : ℕ) (c : List ℕ) → t ≤ moment old → left_since new t c → left_since old t c
+no-more may_leave moment left_since old new time crash now t c early left = ⊎_elim (λ past. past) (λ may. now t c early (crash c may)) (time.nothing_else t c early left)
+
+-- what is left, by what a file held
+pub all-stays : {M D : Type 0} (left_since : D → ℕ → List ℕ → Type 0) (moment : D → ℕ) (sh : Shape) (was : List ℕ) (holding held : Holding) (result : Result M (Unbegun × D)) (Such : Unbegun → List ℕ → Type 0)
+    → holding ≡ held → ((unbegun : Unbegun) (file : List ℕ) → Such unbegun file → Stays held unbegun sh was file)
+    → IfErr result (λ e. Leaves left_since moment e.1 (Such e.0)) → IfErr result (λ e. Leaves left_since moment e.1 (Stays holding e.0 sh was))
+all-stays left_since moment sh was holding held result Such is goes left =
+    err_on result left (λ e l. subst (λ (h : Holding). Leaves left_since moment e.1 (Stays h e.0 sh was)) (sym is) (leaves-as left_since moment e.1 (Such e.0) (Stays held e.0 sh was) (goes e.0) l))
+
+pub stands-alike : (sh : Shape) (was file : List ℕ) → StandsFor sh (operations was) file → OpensAlike sh was file
 stands-alike sh was file stands = record {
   head = stands.head;
   fields = ap (λ (p : List Operation). map_fields sh (holds sh p).sram) stands.reads;
@@ -33,33 +66,77 @@ reopens-alike sh was s o file r = record {
   flash = subst (λ (x : Shape). (holds x (operations file)).flash ≡ s.flash) o.shape r.flash ∙ ap (λ (y : Content). y.flash) o.content;
 }
 
-module _ {D : Type 0} (left_since : D → ℕ → List ℕ → Type 0) (moment : D → ℕ) (sh : Shape) (was : List ℕ) where
-  unopened-alike : (old new : D) → LeavesOnly moment left_since old new (StandsFor sh (operations was)) → LeavesAlike left_since moment sh was new
-  unopened-alike old new only = record {
-    since = moment old;
-    before = only.later;
-    each = λ file left. ∣ stands-alike sh was file (only.each file left) ∣₁;
-  }
+-- where a file is alike it is so also where less is said
+pub alike-stays : (sh : Shape) (was : List ℕ) (unbegun : Unbegun) (file : List ℕ) → OpensAlike sh was file → StaysWritten unbegun sh was file
+alike-stays sh was (Failed held) file alike = inl alike
+alike-stays sh was Memory file alike = alike
+alike-stays sh was NoJournal file alike = alike
+alike-stays sh was (Setup fault) file alike = alike
+alike-stays sh was OtherVersion file alike = alike
+alike-stays sh was OtherSizes file alike = alike
+alike-stays sh was (Options fault) file alike = alike
 
-  pub unopened-stays : (unbegun : Unbegun) (old new : D) → LeavesOnly moment left_since old new (StandsFor sh (operations was)) → StaysAlike left_since moment sh was unbegun new
-  unopened-stays (Failed held) old new only = tt
-  unopened-stays other old new only = unopened-alike old new only
+-- a sync that failed leaves a board on which the same operations were done
+module _ (s t : State) (off : Off) where
+  pub fails-opened : (sh : Shape) (was : List ℕ) → Syncs s (Err off) t → IsOpened sh was s → IsOpened sh was t
+  fails-opened sh was (inl (dark, is)) o = subst (λ (x : State). IsOpened sh was x) (sym is) o
+  fails-opened sh was (inr (on, is)) o = subst (λ (x : State). IsOpened sh was x) (sym is) (record { head = o.head; shape = o.shape; content = o.content })
 
-  module _ (device : D) where
-    either : (s t : State) → IsOpened sh was s → t ≡ s → (file : List ℕ) → Reopens (chart s) file ⊎ ((t.on ≡ false) × Reopens (chart t) file) → OpensAlike sh was file
-    either s t o same file (inl r) = reopens-alike sh was s o file r
-    either s t o same file (inr (off, r)) = reopens-alike sh was s o file (subst (λ (x : State). Reopens (chart x) file) same r)
+  pub fails-last : Syncs s (Err off) t → IsLast (chart s) (chart t)
+  fails-last (inl (dark, is)) = subst (λ (x : State). IsLast (chart s) (chart x)) (sym is) (record { shape = refl; moment = refl; bytes = refl })
+  fails-last (inr (on, is)) = subst (λ (x : State). IsLast (chart s) (chart x)) (sym is) (record { shape = refl; moment = refl; bytes = refl })
 
-    pub leaves-alike : (s t : State) → IsOpened sh was s → IsSynced (chart s) → t ≡ s
-        → ((c : Chart) → IsSynced c → IsLast c (chart t) → (file : List ℕ) → left_since device c.plans file → ∥ Reopens c file ⊎ ((t.on ≡ false) × Reopens (chart t) file) ∥₁)
-        → t.plans ≤ moment device → LeavesAlike left_since moment sh was device
-    leaves-alike s t o synced same last time = record {
-      since = s.plans;
-      before = subst (λ (x : State). x.plans ≤ moment device) same time;
-      each = λ file left. ∥∥₁_map (last (chart s) synced (subst (λ (x : State). IsLast (chart s) (chart x)) (sym same) (record { shape = refl; moment = refl; bytes = refl })) file left) (either s t o same file);
+-- the words that the file that was there opens as are found on a board that a restart began to take up
+kept-words : (sh : Shape) (was : List ℕ) (s t : State) → IsOpened sh was s → Kept (chart s) (chart t) → (file : List ℕ) → Reopens (chart t) file → KeepsWords sh was file
+kept-words sh was s t o kept file r words opens =
+    let here : content_of s ≡ holds s.shape (operations was) = o.content ∙ ap (λ (x : Shape). holds x (operations was)) (sym o.shape) in
+    let shape : t.shape ≡ sh = kept.shape ∙ o.shape in
+    record {
+      head = subst (λ (x : Shape). Begins (head_bytes x) file) shape r.head;
+      finds = λ x is content. same_words (chart t) x file r (is ∙ sym shape) content ∙ kept.durable ∙ opens.finds s o.shape here;
+      magic = λ x is content. ap (λ (f : Fields). f.magic) (same_fields (chart t) x file r (is ∙ sym shape) content) ∙ kept.magic ∙ opens.magic s o.shape here;
+      sound = λ x is content. same_sound (chart t) x file r (is ∙ sym shape) content kept.sound;
     }
 
-    pub code-stays : (code : Code) (held : ℕ) (unbegun : Unbegun) → Says code held unbegun → ((code ≡ Off → ⊥) → LeavesAlike left_since moment sh was device) → StaysAlike left_since moment sh was unbegun device
-    code-stays code held unbegun (inl (off, is)) alike = subst (λ (u : Unbegun). StaysAlike left_since moment sh was u device) (sym is) tt
-    code-stays code held unbegun (inr (inl (memory, is))) alike = subst (λ (u : Unbegun). StaysAlike left_since moment sh was u device) (sym is) (alike (λ off. absurd (let never = sym memory ∙ off in cc)))
-    code-stays code held unbegun (inr (inr (on, enough, is))) alike = subst (λ (u : Unbegun). StaysAlike left_since moment sh was u device) (sym is) (alike on)
+module _ {D : Type 0} (left_since : D → ℕ → List ℕ → Type 0) (moment : D → ℕ) (sh : Shape) (was : List ℕ) (device : D) (s t : State) (o : IsOpened sh was s) (synced : IsSynced (chart s))
+    (last : (c : Chart) → IsSynced c → IsLast c (chart t) → (file : List ℕ) → left_since device c.plans file → ∥ Reopens c file ⊎ ((t.on ≡ false) × Reopens (chart t) file) ∥₁) (time : t.plans ≤ moment device) where
+  -- a journal that was opened and closed again
+  leaves-such : (Such : List ℕ → Type 0) → IsLast (chart s) (chart t) → ((file : List ℕ) → OpensAlike sh was file → Such file) → ((file : List ℕ) → Reopens (chart t) file → Such file) → Leaves left_since moment device Such
+  leaves-such Such l alike now = record {
+    since = s.plans;
+    before = (let same : t.plans ≡ s.plans = l.moment in omega (arith, time, same));
+    each = λ file left. ∥∥₁_map (last (chart s) synced l file left) (λ e. either file e);
+  }
+    where
+      either : (file : List ℕ) → Reopens (chart s) file ⊎ ((t.on ≡ false) × Reopens (chart t) file) → Such file
+      either file (inl r) = alike file (reopens-alike sh was s o file r)
+      either file (inr (off, r)) = now file r
+
+  pub leaves-alike : IsOpened sh was t → IsLast (chart s) (chart t) → Leaves left_since moment device (OpensAlike sh was)
+  leaves-alike then l = leaves-such (OpensAlike sh was) l (λ file alike. alike) (λ file r. reopens-alike sh was t then file r)
+
+  -- power failed while a memory was attached
+  pub off-leaves : (setup : OfSetup) (held : ℕ) → Declined CodeOff s setup t → Leaves left_since moment device (StaysWritten (Failed held) sh was)
+  off-leaves setup held (off, inl (dark, is)) =
+      leaves-such (StaysWritten (Failed held) sh was) (subst (λ (x : State). IsLast (chart s) (chart x)) (sym is) (record { shape = refl; moment = refl; bytes = refl }))
+      (λ file alike. inl alike) (λ file r. inl (reopens-alike sh was s o file (subst (λ (x : State). Reopens (chart x) file) is r)))
+  off-leaves setup held (off, inr (may, kept, cuts)) =
+      let counted : Counted 0 0 (chart s) (chart t) = kept.counted in
+      leaves-such (StaysWritten (Failed held) sh was) (record { shape = sym kept.shape; moment = counted.plans; bytes = counted.given })
+      (λ file alike. inl alike) (λ file r. inr (kept-words sh was s t o kept file r))
+
+  -- a memory wasn't attached, by the code
+  pub code-leaves : (seen : D → List ℕ) (has_failed : D → Bool) (setup : OfSetup) (new : D) (unbegun : Unbegun) (code : Code) (held : ℕ) → Declined code s setup t → SaysCode seen has_failed device new unbegun code held
+      → moment device ≤ moment new → ((n : ℕ) (file : List ℕ) → n ≤ moment device → left_since new n file → left_since device n file) → Leaves left_since moment new (StaysWritten unbegun sh was)
+  code-leaves seen has_failed setup new unbegun code held d says later only = leaves-on left_since moment device new (StaysWritten unbegun sh was) later only (go says)
+    where
+      lit : (code ≡ CodeOff → ⊥) → Leaves left_since moment device (StaysWritten unbegun sh was)
+      lit on =
+          let same = declined-same code s t setup on d in
+          leaves-as left_since moment device (OpensAlike sh was) (StaysWritten unbegun sh was) (alike-stays sh was unbegun)
+          (leaves-alike (subst (λ (x : State). IsOpened sh was x) (sym same) o) (subst (λ (x : State). IsLast (chart s) (chart x)) (sym same) (record { shape = refl; moment = refl; bytes = refl })))
+
+      go : SaysCode seen has_failed device new unbegun code held → Leaves left_since moment device (StaysWritten unbegun sh was)
+      go (inl (off, why, goes)) = subst (λ (u : Unbegun). Leaves left_since moment device (StaysWritten u sh was)) (sym why) (off-leaves setup held (subst (λ (x : Code). Declined x s setup t) off d))
+      go (inr (inl (memory, stopped))) = lit (λ off. absurd (let never = sym memory ∙ off in cc))
+      go (inr (inr (on, enough, why, goes))) = lit on

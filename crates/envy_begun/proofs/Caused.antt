@@ -16,7 +16,7 @@ module _ {D : Type 0} (seen : D → List ℕ) (has_failed : D → Bool) (options
   refused-causes OtherVersion r same = (r, same)
   refused-causes OtherSizes r same = (r, same)
   refused-causes (Options fault) r same = (r, same)
-  refused-causes Memory r same = tt
+  refused-causes Memory r same = absurd r
   refused-causes (Failed held) r same = absurd r
 
   pub stopped-causes : (unbegun : Unbegun) → IsStopped seen has_failed unbegun new → Causes seen has_failed options file old new unbegun
@@ -25,7 +25,7 @@ module _ {D : Type 0} (seen : D → List ℕ) (has_failed : D → Bool) (options
   stopped-causes OtherVersion s = absurd s
   stopped-causes OtherSizes s = absurd s
   stopped-causes (Options fault) s = absurd s
-  stopped-causes Memory s = tt
+  stopped-causes Memory s = inr s
   stopped-causes (Failed held) s = s
 
   pub declined-causes : (setup : OfSetup) (unbegun : Unbegun) → IsFound options file setup → Declines seen has_failed setup.shape file unbegun new → Causes seen has_failed options file old new unbegun
@@ -34,7 +34,7 @@ module _ {D : Type 0} (seen : D → List ℕ) (has_failed : D → Bool) (options
   declined-causes setup OtherVersion f d = absurd d
   declined-causes setup OtherSizes f d = absurd d
   declined-causes setup (Options fault) f d = absurd d
-  declined-causes setup Memory f d = tt
+  declined-causes setup Memory f d = inr d
   declined-causes setup (Failed held) f d = d
 
   -- at status 6 the file has failed, or with what was held back from it is at the end of its range

@@ -1,5 +1,5 @@
 -- A memory that is kept in a file, before its first line.
-use Rattle.std.specs.Prelude.{◌≡◌, ℕ, ◌+◌, ◌^◌, ◌<◌, ◌≤◌, ⊤, IsTrue, Bool, List, length}
+use Rattle.std.specs.Prelude.{◌≡◌, ℕ, ◌+◌, ◌^◌, ◌<◌, ◌≤◌, IsTrue, Bool, false, List, length}
 use Rattle.envy_base.specs.Array.{Array, undone}
 use Rattle.envy_begun.specs.declared.unbegun.Unbegun.{Unbegun}
 use Rattle.envy_begun.specs.declared.unbegun.Unbegun.TheVariants.{Failed, Memory}
@@ -32,8 +32,8 @@ pub record HasBegun (setup : Setup) (array : Array) (p : Picture) : Type 0 where
 abbrev pub HasStopped : {D : Type 0} → (D → List ℕ) → (D → Bool) → ℕ → D → Type 0
 HasStopped seen has_failed held device = (held ≤ most_held) × (length (seen device) + held < 2 ^ 60 → IsTrue (has_failed device))
 
--- why a new memory isn't there
+-- why a new memory isn't there: the file stopped, or memory ran out and the last call on the file was done
 abbrev pub IsStopped : {D : Type 0} → (D → List ℕ) → (D → Bool) → Unbegun → D → Type 0
 IsStopped seen has_failed (Failed held) device = HasStopped seen has_failed held device
-IsStopped seen has_failed Memory device = ⊤
+IsStopped seen has_failed Memory device = has_failed device ≡ false
 IsStopped seen has_failed other device = ⊥

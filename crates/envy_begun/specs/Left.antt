@@ -1,13 +1,27 @@
--- What a crash leaves of a journal that isn't taken up.
-use Rattle.std.specs.Prelude.{◌≡◌, ℕ, ◌≤◌, ⊤, List}
+-- What a crash leaves of a file in which no memory began.
+use Rattle.std.specs.Prelude.{◌≡◌, ◌⊎◌, ℕ, ◌≤◌, List, [], slice_index}
+use Rattle.envy_base.specs.Array.{zeros}
+use Rattle.envy_base.specs.State.{State}
 use Rattle.envy_base.specs.declared.shape.Shape.{Shape}
+use Rattle.envy_begun.specs.Opens.{OpensAs}
+use Rattle.envy_begun.specs.declared.planning.Holding.{Holding}
+use Rattle.envy_begun.specs.declared.planning.Holding.TheVariants.{Unmade, Blank, Written}
 use Rattle.envy_begun.specs.declared.unbegun.Unbegun.{Unbegun}
 use Rattle.envy_begun.specs.declared.unbegun.Unbegun.TheVariants.{Failed}
-use Rattle.envy_journal.specs.Content.{holds}
-use Rattle.envy_journal.specs.Head.{head_bytes}
+use Rattle.envy_journal.specs.Content.{content_of, holds}
+use Rattle.envy_journal.specs.Head.{IsUnmade, StandsFor, head_bytes}
 use Rattle.envy_journal.specs.Log.{Begins}
 use Rattle.envy_journal.specs.Reading.{operations}
-use Rattle.envy_map.specs.Fields.{map_fields}
+use Rattle.envy_layout.specs.Sound.{IsSound}
+use Rattle.envy_layout.specs.Words.{durable}
+use Rattle.envy_map.specs.Codes.{the_magic}
+use Rattle.envy_map.specs.Fields.{chart, map_fields}
+
+-- each file that a crash has left since some moment is such a one
+pub record Leaves {D : Type 0} (left_since : D → ℕ → List ℕ → Type 0) (moment : D → ℕ) (device : D) (Such : List ℕ → Type 0) : Type 0 where
+  pub since : ℕ
+  pub before : since ≤ moment device
+  pub each : (file : List ℕ) → left_since device since file → ∥ Such file ∥₁
 
 -- a journal of these sizes that makes the same map and the same flash as the file that was there
 pub record OpensAlike (sh : Shape) (was file : List ℕ) : Type 0 where
@@ -15,13 +29,40 @@ pub record OpensAlike (sh : Shape) (was file : List ℕ) : Type 0 where
   pub fields : map_fields sh (holds sh (operations file)).sram ≡ map_fields sh (holds sh (operations was)).sram
   pub flash : (holds sh (operations file)).flash ≡ (holds sh (operations was)).flash
 
--- each file that a crash has left since some moment is one
-pub record LeavesAlike {D : Type 0} (left_since : D → ℕ → List ℕ → Type 0) (moment : D → ℕ) (sh : Shape) (was : List ℕ) (device : D) : Type 0 where
-  pub since : ℕ
-  pub before : since ≤ moment device
-  pub each : (file : List ℕ) → left_since device since file → ∥ OpensAlike sh was file ∥₁
+-- A journal of a board of these sizes. A board on which its operations are done anew is formatted and sound, and a restart
+-- finds these words on it: `OpensAs`, in one of the two versions.
+pub record HasWords (sh : Shape) (words file : List ℕ) : Type 0 where
+  pub head : Begins (head_bytes sh) file
+  pub finds : (s : State) → s.shape ≡ sh → content_of s ≡ holds s.shape (operations file) → durable (chart s) ≡ words
+  pub magic : (s : State) → s.shape ≡ sh → content_of s ≡ holds s.shape (operations file) → (chart s).fields.magic ≡ the_magic
+  pub sound : (s : State) → s.shape ≡ sh → content_of s ≡ holds s.shape (operations file) → IsSound (chart s)
 
--- so it is where a journal isn't taken up, unless the file failed
-abbrev pub StaysAlike : {D : Type 0} → (D → ℕ → List ℕ → Type 0) → (D → ℕ) → Shape → List ℕ → Unbegun → D → Type 0
-StaysAlike left_since moment sh was (Failed held) device = ⊤
-StaysAlike left_since moment sh was other device = LeavesAlike left_since moment sh was device
+-- whatever words the file that was there opens as are found in this one
+abbrev pub KeepsWords : Shape → List ℕ → List ℕ → Type 0
+KeepsWords sh was file = (words : List ℕ) → OpensAs sh words was → HasWords sh words file
+
+-- a journal of a board of these sizes on which no memory was formatted
+pub record IsUnformatted (sh : Shape) (file : List ℕ) : Type 0 where
+  pub head : Begins (head_bytes sh) file
+  pub magic : slice_index (holds sh (operations file)).sram 0 ≡ 0
+
+-- zeros, as a restart finds them
+abbrev pub OpensAsZeros : Shape → List ℕ → Type 0
+OpensAsZeros sh file = OpensAs sh (zeros sh.pages sh.shadows).words file
+
+-- what is left of a journal in which nothing was done: that; or, where the file failed while the memory was formatted or
+-- brought to the disk, also zeros, or a memory that isn't formatted
+abbrev pub StaysNew : Unbegun → Shape → List ℕ → Type 0
+StaysNew (Failed held) sh file = StandsFor sh [] file ⊎ (OpensAsZeros sh file ⊎ IsUnformatted sh file)
+StaysNew other sh file = StandsFor sh [] file
+
+-- what is left of a journal with operations: one alike; or, where the file failed, one in which the same words are found
+abbrev pub StaysWritten : Unbegun → Shape → List ℕ → List ℕ → Type 0
+StaysWritten (Failed held) sh was file = OpensAlike sh was file ⊎ KeepsWords sh was file
+StaysWritten other sh was file = OpensAlike sh was file
+
+-- what is left of a file, by what it held
+abbrev pub Stays : Holding → Unbegun → Shape → List ℕ → List ℕ → Type 0
+Stays Unmade unbegun sh was file = IsUnmade file ⊎ StaysNew unbegun sh file
+Stays Blank unbegun sh was file = StaysNew unbegun sh file
+Stays Written unbegun sh was file = StaysWritten unbegun sh was file

@@ -1,5 +1,5 @@
 -- Why a file isn't served.
-use Rattle.std.specs.Prelude.{◌≡◌, ◌≢◌, ◌⊎◌, ℕ, ⊤, Bool, List, Err}
+use Rattle.std.specs.Prelude.{◌≡◌, ◌≢◌, ◌⊎◌, ℕ, Bool, false, List, Err}
 use Rattle.envy_args.specs.declared.keep.KeepOptions.{KeepOptions}
 use Rattle.envy_args.specs.Keep.{new_shape, setup_over, shape_named}
 use Rattle.envy_base.specs.declared.shape.Shape.{Shape}
@@ -9,8 +9,6 @@ use Rattle.envy_journal.specs.Content.{HasMisfit}
 use Rattle.envy_journal.specs.Head.{HasNoJournal, IsOtherVersion, IsUnmade, head_bytes}
 use Rattle.envy_journal.specs.Log.{Begins}
 use Rattle.envy_journal.specs.Reading.{operations}
-use Rattle.envy_journal.specs.declared.opening.OpenError.{OpenError}
-use Rattle.envy_journal.specs.declared.opening.OpenError.TheVariants.{Memory as OpenMemory, Failed as OpenFailed, Misfit}
 use Rattle.envy_policy.specs.Setup.{checked, rule_of}
 use Rattle.envy_begun.specs.Beginning.{HasStopped}
 use Rattle.envy_begun.specs.Opens.{OpensAs}
@@ -35,12 +33,6 @@ why_for (Options fault) = 9
 why_for Memory = 0
 why_for (Failed held) = 0
 
--- where a journal wasn't opened
-abbrev pub unopened_as : OpenError → Unbegun
-unopened_as OpenMemory = Memory
-unopened_as OpenFailed = Failed 0
-unopened_as Misfit = NoJournal
-
 -- a journal of these sizes that holds no memory: an operation isn't within them, or it opens as no words
 abbrev pub HasNoMemory : Shape → List ℕ → Type 0
 HasNoMemory sh file = HasMisfit sh (operations file) ⊎ ((words : List ℕ) → OpensAs sh words file → ⊥)
@@ -63,16 +55,17 @@ Refuses options file OtherSizes = (IsUnmade file → ⊥) × (sh : Shape) × Beg
 Refuses options file (Options fault) = (IsUnmade file → ⊥) × (sh : Shape) × IsOver options sh file × (checked (setup_over options sh) ≡ Err fault)
 Refuses options file other = ⊥
 
--- why a file that held these bytes isn't served, and what became of it
+-- Why a file that held these bytes isn't served, and what became of it. Want of memory is told only where no call was made
+-- on the file, or where the last one was done.
 abbrev pub Causes : {D : Type 0} → (D → List ℕ) → (D → Bool) → KeepOptions → List ℕ → D → D → Unbegun → Type 0
 Causes seen has_failed options file old new (Failed held) = HasStopped seen has_failed held new
-Causes seen has_failed options file old new Memory = ⊤
+Causes seen has_failed options file old new Memory = (new ≡ old) ⊎ (has_failed new ≡ false)
 Causes seen has_failed options file old new NoJournal = Refuses options file NoJournal
 Causes seen has_failed options file old new unbegun = Refuses options file unbegun × (new ≡ old)
 
 -- why a journal of these sizes isn't taken up
 abbrev pub Declines : {D : Type 0} → (D → List ℕ) → (D → Bool) → Shape → List ℕ → Unbegun → D → Type 0
 Declines seen has_failed sh file (Failed held) device = HasStopped seen has_failed held device
-Declines seen has_failed sh file Memory device = ⊤
+Declines seen has_failed sh file Memory device = has_failed device ≡ false
 Declines seen has_failed sh file NoJournal device = HasNoMemory sh file
 Declines seen has_failed sh file other device = ⊥

@@ -1,19 +1,22 @@
-ghost use Rattle.std.specs.Prelude.{◌≡◌, ◌⊎◌, ◌≤◌, List, ℕ, false, IfOk, IfErr};
+ghost use Rattle.std.specs.Prelude.{◌≡◌, ◌⊎◌, ◌≤◌, [], List, ℕ, false, IfOk, IfErr};
 ghost use Rattle.envy_base.specs.Array.{zeros};
 ghost use Rattle.envy_device.specs.Device.{Only};
 ghost use Rattle.envy_journal.specs.Content.{blank, content_of};
-ghost use Rattle.envy_journal.specs.Head.{IsUnmade};
+ghost use Rattle.envy_journal.specs.Head.{IsUnmade, StandsFor};
+ghost use Rattle.envy_journal.specs.Reading.{operations};
 ghost use Rattle.envy_begun.specs.Beginning.{HasBegun, HasStopped, IsStopped};
+ghost use Rattle.envy_begun.specs.Left.{Leaves, StaysNew};
 ghost use Rattle.envy_layout.specs.Stands.{Stands};
 ghost use Rattle.envy_map.specs.Fields.{Chart, chart};
 ghost use Rattle.envy_synced.specs.Disk.{IsLast, IsSynced, Reopens};
 ghost use Rattle.envy_memory.specs.Formats.{IsStarted};
 
+use crate::stopping::{unformatted, unopened};
 use crate::unbegun::Unbegun;
 use envy_base::Off;
 use envy_device::{Device, Place};
-use envy_journal::{OpenError, Steady, create};
-use envy_memory::{FormatFault, Memory};
+use envy_journal::{Steady, create};
+use envy_memory::Memory;
 use envy_policy::Setup;
 use envy_saved::close;
 use envy_synced::Kept;
@@ -29,6 +32,12 @@ pub(crate) fn closed<B: Steady + Drop, D: Device>(kept: Kept<B, D>) -> (D, usize
     ensures last { (was : Chart) → IsSynced was → IsLast was (chart (⟦<Kept<B, D> as envy_base::Board>⟧.state kept))
         → (file : List ℕ) → D.left_since result.0 was.plans file
         → ∥ Reopens was file
+        ⊎ (((⟦<Kept<B, D> as envy_base::Board>⟧.state kept).on ≡ false)
+        × Reopens (chart (⟦<Kept<B, D> as envy_base::Board>⟧.state kept)) file) ∥₁ }
+    ensures reads { (was : Chart) (synced : IsSynced was)
+        → IsLast was (chart (⟦<Kept<B, D> as envy_base::Board>⟧.state kept))
+        → (file : List ℕ) → D.left_since result.0 was.plans file
+        → ∥ StandsFor was.shape (operations synced.bytes) file
         ⊎ (((⟦<Kept<B, D> as envy_base::Board>⟧.state kept).on ≡ false)
         × Reopens (chart (⟦<Kept<B, D> as envy_base::Board>⟧.state kept)) file) ∥₁ }
     ensures time { (⟦<Kept<B, D> as envy_base::Board>⟧.state kept).plans ≤ D.moment result.0 }
@@ -49,6 +58,9 @@ fn sync_first<B: Steady + Drop, D: Place>(
     requires shape { memory.chart.shape ≡ _setup.shape }
     ensures begun { IfOk result (HasBegun _setup (zeros _setup.shape.pages _setup.shape.shadows)) }
     ensures failed { IfErr result (λ e. IsStopped D.seen D.has_failed e.0 e.1) }
+    // where nothing was done in the journal before
+    ensures left { (was : Chart) (synced : IsSynced was) → IsLast was memory.chart → operations synced.bytes ≡ []
+        → IfErr result (λ e. Leaves D.left_since D.moment e.1 (StaysNew e.0 _setup.shape)) }
 {
     match memory.sync() {
         Ok(()) => Ok(memory),
@@ -68,14 +80,17 @@ pub(crate) fn make_memory<B: Steady + Drop, D: Place>(
     requires shape { (⟦<Kept<B, D> as envy_base::Board>⟧.state kept).shape ≡ setup.shape }
     ensures begun { IfOk result (HasBegun setup (zeros setup.shape.pages setup.shape.shadows)) }
     ensures failed { IfErr result (λ e. IsStopped D.seen D.has_failed e.0 e.1) }
+    // where nothing was done in the journal before
+    ensures left { (synced : IsSynced (chart (⟦<Kept<B, D> as envy_base::Board>⟧.state kept)))
+        → operations synced.bytes ≡ []
+        → IfErr result (λ e. Leaves D.left_since D.moment e.1 (StaysNew e.0 setup.shape)) }
 {
     match Memory::format(alloc, kept, setup) {
         Ok(memory) => sync_first(memory, setup),
-        Err((kept, FormatFault::Off)) => {
+        Err((kept, fault)) => {
             let (device, held) = closed(kept);
-            Err((Unbegun::Failed(held), device))
+            Err(unformatted(fault, held, device))
         }
-        Err((kept, _)) => Err((Unbegun::Memory, closed(kept).0)),
     }
 }
 
@@ -92,11 +107,13 @@ pub fn begin_new<B: Steady + Drop, D: Place + Drop>(
     requires shape { (B.state board).shape ≡ setup.shape }
     ensures begun { IfOk result (HasBegun setup (zeros setup.shape.pages setup.shape.shadows)) }
     ensures failed { IfErr result (λ e. IsStopped D.seen D.has_failed e.0 e.1) }
+    // a crash leaves the empty file, or a journal in which nothing was done, unless the file failed behind that
+    ensures left { IfErr result (λ e.
+        Leaves D.left_since D.moment e.1 (λ file. IsUnmade file ⊎ StaysNew e.0 setup.shape file)) }
 {
     let journal = match create(alloc, board, device, ROOM) {
         Ok(journal) => journal,
-        Err((OpenError::Failed, device)) => return Err((Unbegun::Failed(0), device)),
-        Err((_, device)) => return Err((Unbegun::Memory, device)),
+        Err((error, device)) => return Err(unopened(error, device)),
     };
     make_memory(alloc, Kept::new(journal), setup)
 }

@@ -8,6 +8,7 @@
 mod beginning;
 mod planning;
 mod reopening;
+mod stopping;
 mod taking;
 mod unbegun;
 

@@ -1,59 +1,34 @@
 // A journal that a file holds is opened, and a memory is attached.
-ghost use Rattle.std.specs.Prelude.{◌≡◌, ◌≢◌, ◌⊎◌, [], List, ℕ, IfOk, IfErr, IsTrue, Ok};
+ghost use Rattle.std.specs.Prelude.{◌≡◌, [], List, ℕ, IfOk, IfErr, IsTrue, Ok};
 ghost use Rattle.envy_base.specs.Array.{zeros};
-ghost use Rattle.envy_calls.specs.declared.code.Code.TheVariants.{Off as CodeOff, NoMemory as CodeNoMemory};
 ghost use Rattle.envy_device.specs.Device.{Only};
 ghost use Rattle.envy_journal.specs.Content.{blank, content_of};
-ghost use Rattle.envy_journal.specs.Head.{head_bytes};
+ghost use Rattle.envy_journal.specs.Head.{StandsFor, head_bytes};
 ghost use Rattle.envy_journal.specs.Log.{Begins};
 ghost use Rattle.envy_journal.specs.Reading.{operations};
 ghost use Rattle.envy_base.specs.declared.shape.Shape.{Shape};
 ghost use Rattle.envy_begun.specs.Beginning.{HasBegun, IsStopped};
 ghost use Rattle.envy_begun.specs.Plans.{IsOpened};
-ghost use Rattle.envy_begun.specs.Left.{StaysAlike};
+ghost use Rattle.envy_begun.specs.Left.{Leaves, OpensAlike, StaysNew, StaysWritten};
 ghost use Rattle.envy_begun.specs.Opens.{OpensAs};
-ghost use Rattle.envy_begun.specs.Unserved.{Declines, unopened_as};
-ghost use Rattle.envy_begun.specs.declared.unbegun.Unbegun.TheVariants.{Failed, Memory as OfMemory, NoJournal};
+ghost use Rattle.envy_begun.specs.Unserved.{Declines};
 ghost use Rattle.envy_synced.specs.Disk.{IsCompact, IsSynced};
 ghost use Rattle.envy_map.specs.Fields.{chart};
 ghost use Rattle.envy_memory.specs.Calls.{fresh};
 ghost use Rattle.envy_policy.specs.Setup.{checked};
 
 use crate::beginning::{ROOM, closed, make_memory};
+use crate::stopping::{declined, unopened};
 use crate::unbegun::Unbegun;
 use envy_base::Off;
-use envy_calls::{Code, attach};
+use envy_calls::attach;
 use envy_device::{Device, Place};
 use envy_disk::OnDisk;
-use envy_journal::{OpenError, Steady, open};
+use envy_journal::{Steady, open};
 use envy_memory::Memory;
 use envy_policy::Setup;
 use envy_synced::Kept;
 use std::alloc::Global;
-
-// Why a journal wasn't opened.
-fn unopened(error: OpenError) -> Unbegun
-    ensures { result ≡ unopened_as error }
-{
-    match error {
-        OpenError::Memory => Unbegun::Memory,
-        OpenError::Failed => Unbegun::Failed(0),
-        OpenError::Misfit => Unbegun::NoJournal,
-    }
-}
-
-// Why a memory wasn't attached to a board.
-fn declined(code: Code, held: usize) -> Unbegun
-    ensures { ((code ≡ CodeOff) × (result ≡ Failed held))
-        ⊎ (((code ≡ CodeNoMemory) × (result ≡ OfMemory))
-        ⊎ ((code ≢ CodeOff) × (code ≢ CodeNoMemory) × (result ≡ NoJournal))) }
-{
-    match code {
-        Code::Off => Unbegun::Failed(held),
-        Code::NoMemory => Unbegun::Memory,
-        _ => Unbegun::NoJournal,
-    }
-}
 
 // Opens the journal that a file holds, on a blank board.
 fn opened<B: Steady + Drop, D: Device + Drop>(
@@ -69,13 +44,15 @@ fn opened<B: Steady + Drop, D: Device + Drop>(
     ensures synced { IfOk result (λ kept. IsSynced (chart (⟦<Kept<B, D> as envy_base::Board>⟧.state kept))) }
     ensures opened { IfOk result (λ kept.
         IsOpened (B.state board).shape bytes.now (⟦<Kept<B, D> as envy_base::Board>⟧.state kept)) }
+    ensures reads { IfOk result (λ kept. (synced : IsSynced (chart (⟦<Kept<B, D> as envy_base::Board>⟧.state kept)))
+        × (operations synced.bytes ≡ operations bytes.now)) }
     ensures left { IfErr result (λ e.
-        StaysAlike D.left_since D.moment (B.state board).shape bytes.now e.0 e.1) }
+        Leaves D.left_since D.moment e.1 (StandsFor (B.state board).shape (operations bytes.now))) }
     ensures failed { IfErr result (λ e. Declines D.seen D.has_failed (B.state board).shape bytes.now e.0 e.1) }
 {
     match open(alloc, board, device, bytes, ROOM) {
         Ok(journal) => Ok(Kept::new(journal)),
-        Err((error, device)) => Err((unopened(error), device)),
+        Err((error, device)) => Err(unopened(error, device)),
     }
 }
 
@@ -92,7 +69,8 @@ fn compacted<B: Steady + Drop, D: Place>(
     ensures compacted { IsTrue compact
         → IfOk result (λ after. IsCompact (chart (⟦<Kept<B, D> as envy_base::Board>⟧.state after))) }
     ensures left { IfErr result (λ e. (sh : Shape) (file : List ℕ)
-        → StaysAlike D.left_since D.moment sh file e.0 e.1) }
+        → IsOpened sh file (⟦<Kept<B, D> as envy_base::Board>⟧.state kept)
+        → Leaves D.left_since D.moment e.1 (OpensAlike sh file)) }
     ensures failed { IfErr result (λ e. IsStopped D.seen D.has_failed e.0 e.1) }
 {
     if !compact {
@@ -125,7 +103,7 @@ fn opened_as_asked<B: Steady + Drop, D: Place + Drop>(
     ensures compacted { IsTrue compact
         → IfOk result (λ kept. IsCompact (chart (⟦<Kept<B, D> as envy_base::Board>⟧.state kept))) }
     ensures left { IfErr result (λ e.
-        StaysAlike D.left_since D.moment (B.state board).shape bytes.now e.0 e.1) }
+        Leaves D.left_since D.moment e.1 (OpensAlike (B.state board).shape bytes.now)) }
     ensures failed { IfErr result (λ e. Declines D.seen D.has_failed (B.state board).shape bytes.now e.0 e.1) }
 {
     match opened(alloc, board, device, bytes) {
@@ -149,6 +127,9 @@ pub(crate) fn begin_blank<B: Steady + Drop, D: Place + Drop>(
     requires shape { (B.state board).shape ≡ setup.shape }
     ensures begun { IfOk result (HasBegun setup (zeros setup.shape.pages setup.shape.shadows)) }
     ensures failed { IfErr result (λ e. Declines D.seen D.has_failed setup.shape bytes.now e.0 e.1) }
+    // a crash leaves a journal in which nothing was done, unless the file failed behind its opening
+    ensures left { operations bytes.now ≡ []
+        → IfErr result (λ e. Leaves D.left_since D.moment e.1 (StaysNew e.0 setup.shape)) }
 {
     let kept = match opened(alloc, board, device, bytes) {
         Ok(kept) => kept,
@@ -177,8 +158,9 @@ pub fn begin_again<B: Steady + Drop, D: Place + Drop>(
         × HasBegun setup (fresh setup.shape.shadows words) memory) }
     // where that was asked for, the journal is no longer than a snapshot
     ensures compacted { IsTrue compact → IfOk result (λ memory. IsCompact memory.chart) }
-    // unless the file failed, a crash leaves a journal that opens as the one that was there
-    ensures left { IfErr result (λ e. StaysAlike D.left_since D.moment setup.shape bytes.now e.0 e.1) }
+    // a crash leaves a journal that opens as the one that was there; where the file failed, one with the same words
+    ensures left { IfErr result (λ e.
+        Leaves D.left_since D.moment e.1 (StaysWritten e.0 setup.shape bytes.now)) }
     ensures failed { IfErr result (λ e. Declines D.seen D.has_failed setup.shape bytes.now e.0 e.1) }
 {
     let kept = match opened_as_asked(alloc, board, device, bytes, compact) {
@@ -189,7 +171,7 @@ pub fn begin_again<B: Steady + Drop, D: Place + Drop>(
         Ok(memory) => Ok(memory),
         Err((kept, code)) => {
             let (device, held) = closed(kept);
-            Err((declined(code, held), device))
+            Err(declined(code, held, device))
         }
     }
 }

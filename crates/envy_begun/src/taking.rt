@@ -2,7 +2,7 @@
 ghost use Rattle.std.specs.Prelude.{◌≡◌, IfOk, IfErr, IsTrue, Ok};
 ghost use Rattle.envy_base.specs.Array.{Array};
 ghost use Rattle.envy_begun.specs.Beginning.{HasBegun};
-ghost use Rattle.envy_begun.specs.Left.{StaysAlike};
+ghost use Rattle.envy_begun.specs.Left.{Leaves, Stays};
 ghost use Rattle.envy_begun.specs.Plans.{BeginsAs, Plans};
 ghost use Rattle.envy_begun.specs.Unserved.{Causes};
 ghost use Rattle.envy_device.specs.Device.{Only};
@@ -44,9 +44,9 @@ pub fn begin<B: Steady + Drop, D: Place + Drop>(
     // where that was asked for, the journal is no longer than a snapshot
     ensures compacted { holding ≡ Holding.Written → IsTrue options.now.compact
         → IfOk result (λ memory. IsCompact memory.chart) }
-    // a journal with operations that isn't taken up opens as before, unless the file failed
-    ensures left { holding ≡ Holding.Written
-        → IfErr result (λ e. StaysAlike D.left_since D.moment setup.shape bytes.now e.0 e.1) }
+    // what a crash leaves of the file, by what it held
+    ensures left { IfErr result (λ e.
+        Leaves D.left_since D.moment e.1 (Stays holding e.0 setup.shape bytes.now)) }
     ensures failed { IfErr result (λ e. Causes D.seen D.has_failed options.now bytes.now device e.1 e.0) }
 {
     match holding {

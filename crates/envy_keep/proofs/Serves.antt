@@ -1,23 +1,25 @@
 -- The ends of the memory in a file.
-use Rattle.std.proofs.Common.{◌≡◌, ℕ, ◌+◌, ◌^◌, ◌<◌, Bool, List, length, refl, sym, ap, subst}
+use Rattle.std.proofs.Common.{◌≡◌, ℕ, ◌+◌, ◌^◌, ◌<◌, Bool, List, length, refl, sym, ◌∙◌, ap, subst, arith}
 use Rattle.std.specs.Prelude.{IsTrue, Ok}
 use Rattle.envy_args.specs.declared.keep.KeepOptions.{KeepOptions}
 use Rattle.envy_base.specs.Array.{Array}
 use Rattle.envy_base.specs.declared.shape.Shape.{Shape}
 use Rattle.envy_begun.specs.Beginning.{HasBegun, HasStopped}
+use Rattle.envy_begun.specs.Left.{Leaves}
 use Rattle.envy_begun.specs.Plans.{BeginsAs, Plans}
 use Rattle.envy_begun.specs.Unserved.{Causes, status_for, why_for}
 use Rattle.envy_begun.specs.declared.planning.Holding.{Holding}
 use Rattle.envy_begun.specs.declared.unbegun.Unbegun.{Unbegun}
 use Rattle.envy_begun.specs.declared.unbegun.Unbegun.TheVariants.{Failed}
 use Rattle.envy_begun.proofs.Caused.{stopped-unserved}
+use Rattle.envy_device.specs.Device.{Only}
 use Rattle.envy_io.specs.Streams.{Drain, Feed}
 use Rattle.envy_memory.specs.Picture.{Picture}
 use Rattle.envy_policy.specs.Setup.{checked}
 use Rattle.envy_policy.specs.declared.setup.Setup.{Setup}
 use Rattle.envy_serve.specs.Streams.{Streams}
 use Rattle.envy_keep.specs.Ending.{KeepsServed}
-use Rattle.envy_keep.specs.Keeping.{IsServed, IsUnserved, Told, told}
+use Rattle.envy_keep.specs.Keeping.{IsServed, IsUnserved, LeavesUnserved, Told, told}
 
 pub served-as : (options : KeepOptions) (file : List ℕ) (setup : Setup) (holding : Holding) (array : Array) (p : Picture) (status why lines taken : ℕ) (left : ℕ → List ℕ → Type 0) (now : ℕ) (io : Streams)
     → Plans holding options file setup → checked setup ≡ Ok tt → BeginsAs holding file setup array → HasBegun setup array p
@@ -32,16 +34,27 @@ served-as options file setup holding array p status why lines taken left now io 
   served = subst (λ (sh : Shape). KeepsServed array sh status why lines taken left now io) (HasBegun.shape begun) served;
 }
 
-pub unserved-as : {D : Type 0} (seen : D → List ℕ) (has_failed : D → Bool) (options : KeepOptions) (file : List ℕ) (old device new : D) (unbegun : Unbegun) (end : Told) (feed : Feed) (drain : Drain)
-    → end ≡ told (status_for unbegun) (why_for unbegun) 0 0 → new ≡ device → Causes seen has_failed options file old device unbegun
-    → IsUnserved seen has_failed options file old new end (record { from = feed; feed = feed; to = drain; sink = drain })
-unserved-as {D} seen has_failed options file old device new unbegun end feed drain says same causes = record {
-  unbegun = unbegun;
-  says = says;
-  causes = subst (λ (d : D). Causes seen has_failed options file old d unbegun) (sym same) causes;
-  source = refl;
-  sink = refl;
+-- a crash leaves a file on which no call was made as it was
+pub as-it-was : {D : Type 0} (seen : D → List ℕ) (may_leave : D → List ℕ → Type 0) (left_since : D → ℕ → List ℕ → Type 0) (moment : D → ℕ) (device : D) (file : List ℕ)
+    → seen device ≡ file → Only (seen device) (may_leave device) → ((c : List ℕ) → left_since device (moment device) c → may_leave device c) → Leaves left_since moment device (λ c. c ≡ file)
+as-it-was seen may_leave left_since moment device file is durable only = record {
+  since = moment device;
+  before = omega arith;
+  each = λ c left. ∣ durable c (only c left) ∙ is ∣₁;
 }
+
+module _ {D : Type 0} (seen : D → List ℕ) (has_failed : D → Bool) (left_since : D → ℕ → List ℕ → Type 0) (moment : D → ℕ) (options : KeepOptions) (file : List ℕ) (old device new : D) (unbegun : Unbegun) where
+  pub unserved-as : (end : Told) (feed : Feed) (drain : Drain) → end ≡ told (status_for unbegun) (why_for unbegun) 0 0 → new ≡ device → Causes seen has_failed options file old device unbegun
+      → LeavesUnserved left_since moment options file unbegun device
+      → IsUnserved seen has_failed left_since moment options file old new end (record { from = feed; feed = feed; to = drain; sink = drain })
+  unserved-as end feed drain says same causes left = record {
+    unbegun = unbegun;
+    says = says;
+    causes = subst (λ (d : D). Causes seen has_failed options file old d unbegun) (sym same) causes;
+    left = subst (λ (d : D). LeavesUnserved left_since moment options file unbegun d) (sym same) left;
+    source = refl;
+    sink = refl;
+  }
 
 pub unserved-stopped : {D : Type 0} (seen : D → List ℕ) (has_failed : D → Bool) (options : KeepOptions) (file : List ℕ) (old device new : D) (unbegun : Unbegun) (status why lines taken held : ℕ)
     → told status why lines taken ≡ told (status_for unbegun) (why_for unbegun) 0 0 → new ≡ device → ((n : ℕ) → unbegun ≡ Failed n → held ≡ n) → Causes seen has_failed options file old device unbegun

@@ -1,9 +1,10 @@
 -- What is served of the memory in a file.
-use Rattle.std.specs.Prelude.{◌≡◌, ℕ, Bool, List, Ok}
+use Rattle.std.specs.Prelude.{◌≡◌, ◌⊎◌, ℕ, Bool, List, Ok}
 use Rattle.envy_args.specs.declared.keep.KeepOptions.{KeepOptions}
 use Rattle.envy_base.specs.Array.{Array}
 use Rattle.envy_begun.specs.declared.planning.Holding.{Holding}
 use Rattle.envy_begun.specs.declared.unbegun.Unbegun.{Unbegun}
+use Rattle.envy_begun.specs.Left.{Leaves, Stays}
 use Rattle.envy_begun.specs.Plans.{BeginsAs, Plans}
 use Rattle.envy_begun.specs.Unserved.{Causes, status_for, why_for}
 use Rattle.envy_policy.specs.Setup.{checked}
@@ -31,10 +32,18 @@ pub record IsServed (options : KeepOptions) (file : List ℕ) (end : Told) (left
   pub begins : BeginsAs holding file setup array
   pub served : KeepsServed array setup.shape end.status end.why end.lines end.taken left_since now io
 
+-- What a crash leaves of a file that isn't served: it as it was; or, where a memory was to begin in it, what is left by what
+-- it held.
+abbrev pub LeavesUnserved : {D : Type 0} → (D → ℕ → List ℕ → Type 0) → (D → ℕ) → KeepOptions → List ℕ → Unbegun → D → Type 0
+LeavesUnserved left_since moment options file unbegun device =
+    Leaves left_since moment device (λ c. c ≡ file)
+    ⊎ ((setup : Setup) × (holding : Holding) × Plans holding options file setup × Leaves left_since moment device (Stays holding unbegun setup.shape file))
+
 -- nothing was read or written on the streams
-pub record IsUnserved {D : Type 0} (seen : D → List ℕ) (has_failed : D → Bool) (options : KeepOptions) (file : List ℕ) (old new : D) (end : Told) (io : Streams) : Type 0 where
+pub record IsUnserved {D : Type 0} (seen : D → List ℕ) (has_failed : D → Bool) (left_since : D → ℕ → List ℕ → Type 0) (moment : D → ℕ) (options : KeepOptions) (file : List ℕ) (old new : D) (end : Told) (io : Streams) : Type 0 where
   pub unbegun : Unbegun
   pub says : end ≡ told (status_for unbegun) (why_for unbegun) 0 0
   pub causes : Causes seen has_failed options file old new unbegun
+  pub left : LeavesUnserved left_since moment options file unbegun new
   pub source : io.feed ≡ io.from
   pub sink : io.sink ≡ io.to

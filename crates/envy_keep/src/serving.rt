@@ -69,7 +69,7 @@ fn serve_on<S: Source, K: Sink, B: Steady + Drop, D: Place + Drop>(
     } in
         let end = told result.status result.why result.lines result.taken in
         IsServed options.now bytes.now end (D.left_since result.device) (D.moment result.device) io
-        ⊎ IsUnserved D.seen D.has_failed options.now bytes.now device result.device end io }
+        ⊎ IsUnserved D.seen D.has_failed D.left_since D.moment options.now bytes.now device result.device end io }
     ensures stopped { result.status ≡ 6 → HasStopped D.seen D.has_failed result.held result.device }
     ensures few { result.lines ≤ result.taken }
     ensures read { result.taken ≤ most_bytes }
@@ -86,7 +86,8 @@ fn serve_on<S: Source, K: Sink, B: Steady + Drop, D: Place + Drop>(
 /// and where the options say so the journal is compacted first.
 ///
 /// Every end but status 0 has its cause, but for want of memory. Where nothing is served nothing is read or written on the
-/// streams.
+/// streams, and what a crash leaves of the file is as good a beginning as it was, but where the file failed while a new
+/// memory was made in it.
 pub fn keep<S: Source, K: Sink, D: Place + Drop>(
     alloc: Global,
     options: &KeepOptions,
@@ -106,7 +107,7 @@ pub fn keep<S: Source, K: Sink, D: Place + Drop>(
     } in
         let end = told result.status result.why result.lines result.taken in
         IsServed options.now bytes.now end (D.left_since result.device) (D.moment result.device) io
-        ⊎ IsUnserved D.seen D.has_failed options.now bytes.now device result.device end io }
+        ⊎ IsUnserved D.seen D.has_failed D.left_since D.moment options.now bytes.now device result.device end io }
     // power is off only where the file failed, or came to the end of its range
     ensures stopped { result.status ≡ 6 → HasStopped D.seen D.has_failed result.held result.device }
     ensures few { result.lines ≤ result.taken }

@@ -14,5 +14,9 @@ pub returns-clause-last : goal.returns-clause-last
 returns-clause-last g c was good last =
     rw (c.close.ensures, c.into_journal-journal.ensures.journal, sym c.device-device.ensures.here) (c.device-device.ensures.last was good last)
 
+pub returns-clause-reads : goal.returns-clause-reads
+returns-clause-reads g c was good last =
+    rw (c.close.ensures, c.into_journal-journal.ensures.journal, sym c.device-device.ensures.here) (c.device-device.ensures.reads was good last)
+
 pub returns-clause-time : goal.returns-clause-time
 returns-clause-time g c = rw (c.close.ensures, c.into_journal-journal.ensures.journal, sym c.device-device.ensures.here) c.device-device.ensures.time

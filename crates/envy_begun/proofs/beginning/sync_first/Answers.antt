@@ -1,5 +1,6 @@
 use Rattle.envy_base.specs.Array.{zeros}
 use Rattle.envy_begun.proofs.Begins.{err-off, new-begun}
+use Rattle.envy_begun.proofs.Fresh.{sync-off}
 use Rattle.envy_begun.proofs.beginning.sync_first.Goals as goal
 
 pub returns-in-Ok-clause-begun : goal.returns-in-Ok-clause-begun
@@ -8,3 +9,8 @@ returns-in-Ok-clause-begun g c =
 
 pub returns-in-Err-clause-failed : goal.returns-in-Err-clause-failed
 returns-in-Err-clause-failed g c = (c.close-device.ensures.few, c.close-device.ensures.ended (err-off c.args.memory.chart c.sync.new.self.chart _ c.in-Err.ensures.answer))
+
+pub returns-in-Err-clause-left : goal.returns-in-Err-clause-left
+returns-in-Err-clause-left g c was synced last none =
+    sync-off g.D.Device.left_since g.D.Device.moment c.args._setup.shape c.close-device.result.0 was c.args.memory.chart c.sync.new.self.chart _ c.close-device.result.1 synced none last c.requires.shape
+    c.in-Err.ensures.answer c.requires.stands (c.close-device.ensures.reads was synced) c.close-device.ensures.time

@@ -1,9 +1,9 @@
 use Rattle.std.proofs.Common.{inr, subst}
 use Rattle.envy_base.specs.declared.shape.Shape.{Shape}
 use Rattle.envy_begun.specs.Unserved.{Declines}
-use Rattle.envy_begun.proofs.Again.{code-declines, declined-same, not-declined, off-declined, still-compact, taken-up}
-use Rattle.envy_begun.proofs.Alike.{code-stays, leaves-alike}
-use Rattle.envy_begun.specs.Left.{LeavesAlike, StaysAlike}
+use Rattle.envy_begun.proofs.Again.{code-declines, not-declined, off-declined, still-compact, taken-up}
+use Rattle.envy_begun.proofs.Alike.{alike-stays, code-leaves, leaves-as}
+use Rattle.envy_begun.specs.Left.{Leaves, OpensAlike, StaysWritten}
 use Rattle.envy_journal.specs.Journal.{lawful_lem}
 use Rattle.envy_synced.specs.Disk.{lawful_disk}
 use Rattle.envy_layout.specs.Same.{Kept}
@@ -22,7 +22,7 @@ pub returns-in-Err-attach-clause-failed : goal.returns-in-Err-attach-clause-fail
 returns-in-Err-attach-clause-failed g c =
     let j = c.in-Ok.kept.journal in
     let board = lawful_disk _ _ _ _ _ (lawful_lem j.dead (g.B.Board.state j.board) (g.met.B.Board.lawful j.board)) in
-    code-declines g.D.Device.seen g.D.Device.has_failed c.args.setup.shape c.args.bytes.now c.closed-device.result.0 c.in-Err-attach.code c.closed-device.result.1 c.declined.result c.declined.ensures
+    code-declines g.D.Device.seen g.D.Device.has_failed c.args.setup.shape c.args.bytes.now c.closed-device.result.0 c.declined.result.1 c.declined.result.0 c.in-Err-attach.code c.closed-device.result.1 c.declined.ensures.says
     (λ off. c.closed-device.ensures.stopped (off-declined c.in-Err-attach.code _ _ c.args.setup off c.in-Err-attach.ensures))
     (λ on enough. inr (λ words opens. not-declined (g.B.Board.state c.args.board).shape c.args.bytes.now _ c.in-Ok.ensures.opened c.args.setup c.requires.shape board c.requires.setup words opens c.in-Err-attach.code _ on enough c.in-Err-attach.ensures))
 
@@ -33,11 +33,14 @@ returns-in-Ok-attach-clause-compacted g c asked =
 
 pub returns-in-Err-clause-left : goal.returns-in-Err-clause-left
 returns-in-Err-clause-left g c =
-    subst (λ (sh : Shape). StaysAlike g.D.Device.left_since g.D.Device.moment sh c.args.bytes.now c.in-Err.unbegun.0 c.in-Err.unbegun.1) c.requires.shape c.in-Err.ensures.left
+    let sh = (g.B.Board.state c.args.board).shape in
+    let unbegun = c.in-Err.unbegun.0 in
+    subst (λ (x : Shape). Leaves g.D.Device.left_since g.D.Device.moment c.in-Err.unbegun.1 (StaysWritten unbegun x c.args.bytes.now)) c.requires.shape
+    (leaves-as g.D.Device.left_since g.D.Device.moment c.in-Err.unbegun.1 (OpensAlike sh c.args.bytes.now) (StaysWritten unbegun sh c.args.bytes.now) (alike-stays sh c.args.bytes.now unbegun) c.in-Err.ensures.left)
 
 pub returns-in-Err-attach-clause-left : goal.returns-in-Err-attach-clause-left
 returns-in-Err-attach-clause-left g c =
-    code-stays g.D.Device.left_since g.D.Device.moment c.args.setup.shape c.args.bytes.now c.closed-device.result.0 c.in-Err-attach.code c.closed-device.result.1 c.declined.result c.declined.ensures
-    (λ on. subst (λ (sh : Shape). LeavesAlike g.D.Device.left_since g.D.Device.moment sh c.args.bytes.now c.closed-device.result.0) c.requires.shape
-    (leaves-alike g.D.Device.left_since g.D.Device.moment (g.B.Board.state c.args.board).shape c.args.bytes.now c.closed-device.result.0 _ _ c.in-Ok.ensures.opened c.in-Ok.ensures.synced
-    (declined-same c.in-Err-attach.code _ _ c.args.setup on c.in-Err-attach.ensures) c.closed-device.ensures.last c.closed-device.ensures.time))
+    let unbegun = c.declined.result.0 in
+    subst (λ (x : Shape). Leaves g.D.Device.left_since g.D.Device.moment c.declined.result.1 (StaysWritten unbegun x c.args.bytes.now)) c.requires.shape
+    (code-leaves g.D.Device.left_since g.D.Device.moment (g.B.Board.state c.args.board).shape c.args.bytes.now c.closed-device.result.0 _ _ c.in-Ok.ensures.opened c.in-Ok.ensures.synced c.closed-device.ensures.last c.closed-device.ensures.time
+    g.D.Device.seen g.D.Device.has_failed c.args.setup c.declined.result.1 unbegun c.in-Err-attach.code c.closed-device.result.1 c.in-Err-attach.ensures c.declined.ensures.says c.declined.ensures.time c.declined.ensures.left)

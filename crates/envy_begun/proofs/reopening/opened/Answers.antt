@@ -1,5 +1,8 @@
+use Rattle.std.proofs.Common.{◌∙◌}
 use Rattle.envy_begun.proofs.Again.{opened-state, unopened-declines}
-use Rattle.envy_begun.proofs.Alike.{unopened-stays}
+use Rattle.envy_begun.proofs.Alike.{leaves-on, leaves-only}
+use Rattle.envy_journal.specs.Head.{StandsFor}
+use Rattle.envy_journal.specs.Reading.{operations}
 use Rattle.envy_begun.proofs.reopening.opened.Goals as goal
 
 pub returns-in-Ok-clause-opened : goal.returns-in-Ok-clause-opened
@@ -8,10 +11,15 @@ returns-in-Ok-clause-opened g c =
     rw c.new.ensures.journal
     (opened-state (g.B.Board.state j.board) j.dead _ _ _ _ (g.B.Board.state c.args.board).shape c.args.bytes.now c.in-Ok.ensures.alive.0 c.requires.head c.in-Ok.ensures.shape c.in-Ok.ensures.content)
 
+pub returns-in-Ok-clause-reads : goal.returns-in-Ok-clause-reads
+returns-in-Ok-clause-reads g c = (c.new.ensures.reads.0, c.new.ensures.reads.1 ∙ c.in-Ok.ensures.kept)
+
 pub returns-in-Err-clause-failed : goal.returns-in-Err-clause-failed
 returns-in-Err-clause-failed g c =
-    unopened-declines g.D.Device.seen g.D.Device.has_failed (g.B.Board.state c.args.board).shape c.args.bytes.now c.in-Err.device c.in-Err.error c.unopened.result c.unopened.ensures c.in-Err.ensures.misfit c.in-Err.ensures.failed
+    unopened-declines g.D.Device.seen g.D.Device.has_failed (g.B.Board.state c.args.board).shape c.args.bytes.now c.in-Err.device c.unopened.result.1 c.unopened.result.0 c.in-Err.error c.unopened.ensures.says c.in-Err.ensures.misfit c.in-Err.ensures.failed
 
 pub returns-in-Err-clause-left : goal.returns-in-Err-clause-left
 returns-in-Err-clause-left g c =
-    unopened-stays g.D.Device.left_since g.D.Device.moment (g.B.Board.state c.args.board).shape c.args.bytes.now c.unopened.result c.args.device c.in-Err.device c.in-Err.ensures.any_moment_err
+    let stands = StandsFor (g.B.Board.state c.args.board).shape (operations c.args.bytes.now) in
+    leaves-on g.D.Device.left_since g.D.Device.moment c.in-Err.device c.unopened.result.1 stands c.unopened.ensures.time c.unopened.ensures.left
+    (leaves-only g.D.Device.left_since g.D.Device.moment c.args.device c.in-Err.device stands c.in-Err.ensures.any_moment_err)

@@ -1,7 +1,11 @@
-use Rattle.std.proofs.Common.{subst}
+use Rattle.std.proofs.Common.{◌⊎◌, subst}
+use Rattle.envy_begun.specs.Left.{StaysNew, StaysWritten}
 use Rattle.envy_begun.specs.Plans.{Plans}
 use Rattle.envy_begun.specs.declared.planning.Holding.{Holding}
+use Rattle.envy_begun.specs.declared.planning.Holding.TheVariants.{Unmade, Blank, Written}
+use Rattle.envy_begun.proofs.Alike.{all-stays}
 use Rattle.envy_begun.proofs.Caused.{all-declined}
+use Rattle.envy_journal.specs.Head.{IsUnmade}
 use Rattle.envy_begun.proofs.taking.begin.Goals as goal
 
 pub returns-in-Blank-clause-failed : goal.returns-in-Blank-clause-failed
@@ -13,3 +17,16 @@ pub returns-in-Written-clause-failed : goal.returns-in-Written-clause-failed
 returns-in-Written-clause-failed g c =
     let found = subst (λ (h : Holding). Plans h c.args.options.now c.args.bytes.now c.args.setup) c.in-Written.is c.requires.plans in
     all-declined g.D.Device.seen g.D.Device.has_failed c.args.options.now c.args.bytes.now c.args.device c.args.setup c.begin_again.result found c.begin_again.ensures.failed
+
+pub returns-in-Unmade-clause-left : goal.returns-in-Unmade-clause-left
+returns-in-Unmade-clause-left g c =
+    all-stays g.D.Device.left_since g.D.Device.moment c.args.setup.shape c.args.bytes.now c.args.holding Unmade c.begin_new.result (λ unbegun file. IsUnmade file ⊎ StaysNew unbegun c.args.setup.shape file) c.in-Unmade.is (λ unbegun file stays. stays) c.begin_new.ensures.left
+
+pub returns-in-Blank-clause-left : goal.returns-in-Blank-clause-left
+returns-in-Blank-clause-left g c =
+    let found = subst (λ (h : Holding). Plans h c.args.options.now c.args.bytes.now c.args.setup) c.in-Blank.is c.requires.plans in
+    all-stays g.D.Device.left_since g.D.Device.moment c.args.setup.shape c.args.bytes.now c.args.holding Blank c.begin_blank.result (λ unbegun. StaysNew unbegun c.args.setup.shape) c.in-Blank.is (λ unbegun file stays. stays) (c.begin_blank.ensures.left found.1)
+
+pub returns-in-Written-clause-left : goal.returns-in-Written-clause-left
+returns-in-Written-clause-left g c =
+    all-stays g.D.Device.left_since g.D.Device.moment c.args.setup.shape c.args.bytes.now c.args.holding Written c.begin_again.result (λ unbegun. StaysWritten unbegun c.args.setup.shape c.args.bytes.now) c.in-Written.is (λ unbegun file stays. stays) c.begin_again.ensures.left

@@ -1,0 +1,162 @@
+-- What a crash leaves of a journal in which nothing was done, where no memory of zeros began.
+use Rattle.std.proofs.Common.{◌≡◌, ◌⊎◌, ◌∙◌, ◌≤◌, inl, inr, ℕ, zero, suc, Bool, List, [], replicate, false, true, Err, refl, sym, ap, subst, arith}
+use Rattle.std.specs.Prelude.{IsTrue, slice_index}
+use Rattle.std.proofs.Math.Logic.{∥∥₁_map}
+use Rattle.std.proofs.lemmas.Bool.{false≢true}
+use Rattle.envy_base.specs.Array.{Array, zeros}
+use Rattle.envy_base.specs.Map.{words_of}
+use Rattle.envy_base.specs.State.{State}
+use Rattle.envy_base.specs.declared.board.Off.{Off}
+use Rattle.envy_base.specs.declared.shape.Shape.{Shape}
+use Rattle.envy_base.proofs.Undoing.{undo_all-closed}
+use Rattle.envy_begun.specs.Left.{IsUnformatted, Leaves, OpensAsZeros, StaysNew}
+use Rattle.envy_begun.specs.Opens.{OpensAs}
+use Rattle.envy_begun.specs.declared.unbegun.Unbegun.{Unbegun}
+use Rattle.envy_begun.specs.declared.unbegun.Unbegun.TheVariants.{Failed, Memory, NoJournal, Setup, OtherVersion, OtherSizes, Options}
+use Rattle.envy_begun.proofs.Again.{SaysFault}
+use Rattle.envy_begun.proofs.Alike.{leaves-as, leaves-on}
+use Rattle.envy_begun.proofs.Opening.{opens-as}
+use Rattle.envy_disk.specs.Disk.{SyncsChart}
+use Rattle.envy_journal.specs.Content.{holds}
+use Rattle.envy_journal.specs.Head.{IsNewOrUnmade, IsUnmade, StandsFor}
+use Rattle.envy_journal.specs.Reading.{operations}
+use Rattle.envy_journal.specs.declared.operation.Operation.{Operation}
+use Rattle.envy_layout.specs.Stands.{Holds, Stands}
+use Rattle.envy_layout.specs.Words.{durable}
+use Rattle.envy_map.specs.Fields.{Chart, Fields, chart, map_fields}
+use Rattle.envy_memory.specs.Formats.{CountsFormat, MayFormat, Refuses}
+use Rattle.envy_memory.specs.declared.faults.FormatFault.{FormatFault}
+use Rattle.envy_memory.specs.declared.faults.FormatFault.TheVariants.{Off as FormatOff, Setup as FormatSetup, OtherShape, Memory as FormatMemory, Bad}
+use Rattle.envy_policy.specs.declared.setup.Setup.{Setup as OfSetup}
+use Rattle.envy_synced.specs.Disk.{IsLast, IsSynced, Reopens}
+
+-- where nothing was done in a journal it is so also where less is said
+pub stands-stays : (sh : Shape) (unbegun : Unbegun) (file : List ℕ) → StandsFor sh [] file → StaysNew unbegun sh file
+stands-stays sh (Failed held) file stands = inl stands
+stands-stays sh Memory file stands = stands
+stands-stays sh NoJournal file stands = stands
+stands-stays sh (Setup fault) file stands = stands
+stands-stays sh OtherVersion file stands = stands
+stands-stays sh OtherSizes file stands = stands
+stands-stays sh (Options fault) file stands = stands
+
+-- what creating a journal may leave
+pub new-stays : (made sh : Shape) → made ≡ sh → (unbegun : Unbegun) (file : List ℕ) → IsNewOrUnmade made file → IsUnmade file ⊎ StaysNew unbegun sh file
+new-stays made sh is unbegun file (inl unmade) = inl unmade
+new-stays made sh is unbegun file (inr stands) = inr (stands-stays sh unbegun file (subst (λ (x : Shape). StandsFor x [] file) is stands))
+
+-- power is on where formatting was refused for another reason
+pub refused-on : (old new : State) (setup : OfSetup) (fault : FormatFault) → (fault ≡ FormatOff → ⊥) → Refuses old setup fault new → IsTrue new.on
+refused-on old new setup FormatOff other r = absurd (other refl)
+refused-on old new setup (FormatSetup rule) other (on, bad, is) = subst (λ (x : State). IsTrue x.on) (sym is) on
+refused-on old new setup OtherShape other (on, checks, shape, is) = subst (λ (x : State). IsTrue x.on) (sym is) on
+refused-on old new setup FormatMemory other (may, is) = subst (λ (x : State). IsTrue x.on) (sym is) (MayFormat.on may)
+refused-on old new setup Bad other (may, on, clear, bads) = on
+
+pub counts-last : (was old new : Chart) → CountsFormat old new → IsLast was old → IsLast was new
+counts-last was old new c l = record { shape = l.shape ∙ sym c.shape; moment = c.counted.plans ∙ l.moment; bytes = c.counted.given ∙ l.bytes }
+
+word-first : (sh : Shape) (sram : List ℕ) → (map_fields sh sram).magic ≡ slice_index sram 0
+unfolding map_fields
+word-first sh sram = refl
+
+zero-first : (n : ℕ) → slice_index (replicate n 0) 0 ≡ 0
+zero-first zero = refl
+zero-first (suc n) = refl
+
+-- a board on which nothing was done isn't formatted
+blank-first : (s : State) (synced : IsSynced (chart s)) → operations synced.bytes ≡ [] → slice_index s.sram 0 ≡ 0
+blank-first s synced none =
+    sym (word-first s.shape s.sram)
+    ∙ ap (λ (f : Fields). f.magic) (sym synced.fields)
+    ∙ word-first s.shape (holds s.shape (operations synced.bytes)).sram
+    ∙ ap (λ (p : List Operation). slice_index (holds s.shape p).sram 0) none
+    ∙ zero-first (words_of s.shape)
+
+unformatted : (sh : Shape) (t : State) → t.shape ≡ sh → slice_index t.sram 0 ≡ 0 → (file : List ℕ) → Reopens (chart t) file → IsUnformatted sh file
+unformatted sh t is clear file r = subst (λ (x : Shape). IsUnformatted x file) is (record {
+  head = r.head;
+  magic = sym (word-first t.shape (holds t.shape (operations file)).sram) ∙ ap (λ (f : Fields). f.magic) r.fields ∙ word-first t.shape t.sram ∙ clear;
+})
+
+opens-zeros : (sh : Shape) (c : Chart) → c.shape ≡ sh → Holds c (zeros c.shape.pages c.shape.shadows) → (file : List ℕ) → Reopens c file → OpensAsZeros sh file
+opens-zeros sh c is h file r =
+    let none : durable c ≡ (zeros c.shape.pages c.shape.shadows).words = h.durable ∙ undo_all-closed 64 (zeros c.shape.pages c.shape.shadows).words in
+    subst (λ (x : Shape). OpensAsZeros x file) is
+    (subst (λ (words : List ℕ). OpensAs c.shape words file) none (opens-as c file (record { magic = h.magic; version = h.version; sound = h.sound }) r))
+
+-- power failed while a memory was formatted
+off-stays : (sh : Shape) (s t : State) (setup : OfSetup) (synced : IsSynced (chart s)) → operations synced.bytes ≡ [] → s.shape ≡ sh → t.shape ≡ s.shape → Refuses s setup FormatOff t → (file : List ℕ) → Reopens (chart t) file → OpensAsZeros sh file ⊎ IsUnformatted sh file
+off-stays sh s t setup synced none is same (off, inl (dark, still)) file r = inr (unformatted sh t (same ∙ is) (ap (λ (x : State). slice_index x.sram 0) still ∙ blank-first s synced none) file r)
+off-stays sh s t setup synced none is same (off, inr (may, inl clear, cuts)) file r = inr (unformatted sh t (same ∙ is) clear file r)
+off-stays sh s t setup synced none is same (off, inr (may, inr (inl (flash, sram)), cuts)) file r = inr (unformatted sh t (same ∙ is) (ap (λ (xs : List ℕ). slice_index xs 0) sram ∙ blank-first s synced none) file r)
+off-stays sh s t setup synced none is same (off, inr (may, inr (inr stood), cuts)) file r = inl (opens-zeros sh (chart t) (same ∙ is) stood file r)
+
+module _ {D : Type 0} (left_since : D → ℕ → List ℕ → Type 0) (moment : D → ℕ) (sh : Shape) (device : D) (was now : Chart) (synced : IsSynced was) (none : operations synced.bytes ≡ []) (is : was.shape ≡ sh) (l : IsLast was now)
+    (reads : (file : List ℕ) → left_since device was.plans file → ∥ StandsFor was.shape (operations synced.bytes) file ⊎ ((now.on ≡ false) × Reopens now file) ∥₁) (time : now.plans ≤ moment device) where
+  leaves-new : (Such : List ℕ → Type 0) → ((file : List ℕ) → StandsFor sh [] file → Such file) → ((file : List ℕ) → now.on ≡ false → Reopens now file → Such file) → Leaves left_since moment device Such
+  leaves-new Such stands off = record {
+    since = was.plans;
+    before = (let same : now.plans ≡ was.plans = l.moment in omega (arith, time, same));
+    each = λ file left. ∥∥₁_map (reads file left) (λ e. either file e);
+  }
+    where
+      either : (file : List ℕ) → StandsFor was.shape (operations synced.bytes) file ⊎ ((now.on ≡ false) × Reopens now file) → Such file
+      either file (inl s) = stands file (subst (λ (x : Shape). StandsFor x [] file) is (subst (λ (p : List Operation). StandsFor was.shape p file) none s))
+      either file (inr (dark, r)) = off file dark r
+
+  -- while power is on
+  pub lit-leaves : IsTrue now.on → Leaves left_since moment device (StandsFor sh [])
+  lit-leaves on = leaves-new (StandsFor sh []) (λ file stands. stands) (λ file dark r. absurd (false≢true (sym dark ∙ on)))
+
+  -- where power failed
+  pub dark-leaves : (held : ℕ) → ((file : List ℕ) → Reopens now file → OpensAsZeros sh file ⊎ IsUnformatted sh file) → Leaves left_since moment device (StaysNew (Failed held) sh)
+  dark-leaves held such = leaves-new (StaysNew (Failed held) sh) (λ file stands. inl stands) (λ file dark r. inr (such file r))
+
+module _ {D : Type 0} (left_since : D → ℕ → List ℕ → Type 0) (moment : D → ℕ) (sh : Shape) (device : D) (s t : State) (synced : IsSynced (chart s)) (none : operations synced.bytes ≡ []) (is : s.shape ≡ sh) (counts : CountsFormat (chart s) (chart t))
+    (reads : (file : List ℕ) → left_since device s.plans file → ∥ StandsFor s.shape (operations synced.bytes) file ⊎ ((t.on ≡ false) × Reopens (chart t) file) ∥₁) (time : t.plans ≤ moment device) where
+  last : IsLast (chart s) (chart t)
+  last = counts-last (chart s) (chart s) (chart t) counts (record { shape = refl; moment = refl; bytes = refl })
+
+  format-off : (setup : OfSetup) (held : ℕ) → Refuses s setup FormatOff t → Leaves left_since moment device (StaysNew (Failed held) sh)
+  format-off setup held r = dark-leaves left_since moment sh device (chart s) (chart t) synced none is last reads time held (λ file re. off-stays sh s t setup synced none is counts.shape r file re)
+
+  format-on : (setup : OfSetup) (fault : FormatFault) → (fault ≡ FormatOff → ⊥) → Refuses s setup fault t → Leaves left_since moment device (StandsFor sh [])
+  format-on setup fault other r = lit-leaves left_since moment sh device (chart s) (chart t) synced none is last reads time (refused-on s t setup fault other r)
+
+  -- a memory wasn't formatted
+  pub format-leaves : (seen : D → List ℕ) (has_failed : D → Bool) (setup : OfSetup) (new : D) (unbegun : Unbegun) (fault : FormatFault) (held : ℕ) → Refuses s setup fault t → SaysFault seen has_failed device new unbegun fault held
+      → moment device ≤ moment new → ((n : ℕ) (file : List ℕ) → n ≤ moment device → left_since new n file → left_since device n file) → Leaves left_since moment new (StaysNew unbegun sh)
+  format-leaves seen has_failed setup new unbegun fault held r says later only = leaves-on left_since moment device new (StaysNew unbegun sh) later only (go says)
+    where
+      go : SaysFault seen has_failed device new unbegun fault held → Leaves left_since moment device (StaysNew unbegun sh)
+      go (inl (off, why, goes)) = subst (λ (u : Unbegun). Leaves left_since moment device (StaysNew u sh)) (sym why) (format-off setup held (subst (λ (f : FormatFault). Refuses s setup f t) off r))
+      go (inr (other, stopped)) = leaves-as left_since moment device (StandsFor sh []) (StaysNew unbegun sh) (stands-stays sh unbegun) (format-on setup fault other r)
+
+pub off-refused : (s t : State) (setup : OfSetup) (fault : FormatFault) → Refuses s setup fault t → fault ≡ FormatOff → t.on ≡ false
+off-refused s t setup fault r off = (subst (λ (f : FormatFault). Refuses s setup f t) off r).0
+
+-- a sync that failed
+fails-holds : (old new : Chart) (off : Off) (m : Array) → SyncsChart old (Err off) new → Holds old m → Holds new m
+fails-holds old new off m (inl (dark, is)) h = subst (λ (c : Chart). Holds c m) (sym is) h
+fails-holds old new off m (inr (on, is)) h = subst (λ (c : Chart). Holds c m) (sym is) (record { magic = h.magic; version = h.version; sound = h.sound; array = h.array; shadows = h.shadows; live = h.live; durable = h.durable; slots = h.slots; owners = h.owners })
+
+fails-shape : (old new : Chart) (off : Off) → SyncsChart old (Err off) new → new.shape ≡ old.shape
+fails-shape old new off (inl (dark, is)) = ap (λ (c : Chart). c.shape) is
+fails-shape old new off (inr (on, is)) = ap (λ (c : Chart). c.shape) is
+
+fails-last : (was old new : Chart) (off : Off) → SyncsChart old (Err off) new → IsLast was old → IsLast was new
+fails-last was old new off (inl (dark, is)) l = subst (λ (c : Chart). IsLast was c) (sym is) l
+fails-last was old new off (inr (on, is)) l = subst (λ (c : Chart). IsLast was c) (sym is) (record { shape = l.shape; moment = l.moment; bytes = l.bytes })
+
+-- the first sync of a memory of zeros failed
+pub sync-off : {D : Type 0} (left_since : D → ℕ → List ℕ → Type 0) (moment : D → ℕ) (sh : Shape) (device : D) (was old new : Chart) (off : Off) (held : ℕ) (synced : IsSynced was) → operations synced.bytes ≡ [] → IsLast was old → old.shape ≡ sh
+    → SyncsChart old (Err off) new → Stands old (zeros sh.pages sh.shadows)
+    → (IsLast was new → (file : List ℕ) → left_since device was.plans file → ∥ StandsFor was.shape (operations synced.bytes) file ⊎ ((new.on ≡ false) × Reopens new file) ∥₁) → new.plans ≤ moment device
+    → Leaves left_since moment device (StaysNew (Failed held) sh)
+sync-off left_since moment sh device was old new off held synced none l is fails stands reads time =
+    let then = fails-last was old new off fails l in
+    let shape : new.shape ≡ sh = fails-shape old new off fails ∙ is in
+    let stood : Holds new (zeros sh.pages sh.shadows) = fails-holds old new off (zeros sh.pages sh.shadows) fails (Stands.holds stands) in
+    dark-leaves left_since moment sh device was new synced none (then.shape ∙ shape) then (reads then) time held
+    (λ file r. inl (opens-zeros sh new shape (subst (λ (x : Shape). Holds new (zeros x.pages x.shadows)) (sym shape) stood) file r))
