@@ -29,3 +29,4 @@ pub mod Examples
 pub mod Walking
 pub mod Ruling
 pub mod Broken
+mod Keeping

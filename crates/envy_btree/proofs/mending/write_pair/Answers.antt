@@ -1,4 +1,5 @@
 use Rattle.std.proofs.Common.{◌≡◌, ◌+◌, ◌∙◌, sym, subst, arith, get_or, List, ℕ, inl}
+use Rattle.envy_base.proofs.Working.{Works-trans, Works-more}
 use Rattle.envy_heap.specs.Pieces.{IsHeap, handed, Freed, one}
 use Rattle.envy_heap.proofs.Heaps.{Chain-one}
 use Rattle.envy_btree.specs.Tree.{Shows}
@@ -44,3 +45,15 @@ returns-clause-mended g c free heap =
       front = c.remove.ensures.items;
       back = c.remove-2.ensures.items;
     })
+
+pub returns-in_err-write_node-clause-works : goal.returns-in_err-write_node-clause-works
+returns-in_err-write_node-clause-works g c =
+    Works-more 2 4 (g.W.Words.sheet c.args.words.now) (g.W.Words.sheet c.write_node.new.words) (omega arith) c.write_node.ensures.works
+
+pub returns-in_err-give-clause-works : goal.returns-in_err-give-clause-works
+returns-in_err-give-clause-works g c =
+    Works-trans 2 2 (g.W.Words.sheet c.args.words.now) (g.W.Words.sheet c.write_node.new.words) (g.W.Words.sheet c.give.new.words) c.write_node.ensures.works c.give.ensures.works
+
+pub returns-clause-works : goal.returns-clause-works
+returns-clause-works g c =
+    Works-trans 2 2 (g.W.Words.sheet c.args.words.now) (g.W.Words.sheet c.write_node.new.words) (g.W.Words.sheet c.give.new.words) c.write_node.ensures.works c.give.ensures.works

@@ -1,6 +1,7 @@
 use Rattle.std.proofs.Common.{◌≡◌, ◌-◌, ◌≤◌, ◌∙◌, sym, subst, arith, length, None}
 use Rattle.envy_btree.specs.Pairs.{assoc, without}
 use Rattle.envy_btree.specs.Index.{IsIndex, most_pairs}
+use Rattle.envy_btree.proofs.Keeping.{keeps-works, works-keep}
 use Rattle.envy_btree.proofs.Calls.{removes-err}
 use Rattle.envy_btree.proofs.Felling.{without-missing, without-present}
 use Rattle.envy_btree.proofs.removing.remove.Goals as goal
@@ -34,3 +35,34 @@ returns-in-Err-clause-removes g c es x =
     let count : c.in_ok-pairs.pairs - 1 ≡ length (without c.args.key es) = omega arith in
     let few : c.in_ok-pairs.pairs - 1 ≤ most_pairs two.words = omega (arith, now.few) in
     removes-err c.args.key es old two (g.W.Words.sheet c.remove_alone.new.words) c.in-Err.fault (omega (arith, c.in_ok-was.ensures.works.bads, c.in_ok-pairs.ensures.works.bads)) c.in-Err.ensures.keeps.bads (c.in-Err.ensures.settles es now count few)
+
+pub returns-in_err-was-clause-keeps : goal.returns-in_err-was-clause-keeps
+returns-in_err-was-clause-keeps g c =
+    keeps-works 0 (g.W.Words.sheet c.args.words.now) (g.W.Words.sheet c.get.new.words) c.get.ensures.works
+
+pub returns-in_default-clause-keeps : goal.returns-in_default-clause-keeps
+returns-in_default-clause-keeps g c =
+    keeps-works 0 (g.W.Words.sheet c.args.words.now) (g.W.Words.sheet c.get.new.words) c.get.ensures.works
+
+pub returns-in_err-pairs-clause-keeps : goal.returns-in_err-pairs-clause-keeps
+returns-in_err-pairs-clause-keeps g c =
+    let old = g.W.Words.sheet c.args.words.now in
+    let one = g.W.Words.sheet c.get.new.words in
+    let two = g.W.Words.sheet c.load.new.self in
+    works-keep 0 old one two c.get.ensures.works (keeps-works 0 one two c.load.ensures.works)
+
+pub returns-in-Ok-clause-keeps : goal.returns-in-Ok-clause-keeps
+returns-in-Ok-clause-keeps g c =
+    let old = g.W.Words.sheet c.args.words.now in
+    let one = g.W.Words.sheet c.get.new.words in
+    let two = g.W.Words.sheet c.load.new.self in
+    let new = g.W.Words.sheet c.remove_alone.new.words in
+    works-keep 0 old one new c.get.ensures.works (works-keep 0 one two new c.load.ensures.works c.remove_alone.ensures.keeps)
+
+pub returns-in-Err-clause-keeps : goal.returns-in-Err-clause-keeps
+returns-in-Err-clause-keeps g c =
+    let old = g.W.Words.sheet c.args.words.now in
+    let one = g.W.Words.sheet c.get.new.words in
+    let two = g.W.Words.sheet c.load.new.self in
+    let new = g.W.Words.sheet c.remove_alone.new.words in
+    works-keep 0 old one new c.get.ensures.works (works-keep 0 one two new c.load.ensures.works c.remove_alone.ensures.keeps)

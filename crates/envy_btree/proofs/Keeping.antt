@@ -1,0 +1,30 @@
+-- What a change keeps, after look-ups.
+use Rattle.std.proofs.Common.{◌≡◌, ◌⊎◌, ℕ, ◌-◌, ◌^◌, ◌<◌, ◌≤◌, Bool, true, false, IsTrue, refl, ◌∙◌, inl, inr, arith}
+use Rattle.std.proofs.lemmas.Bool.{cases_lt}
+use Rattle.envy_base.specs.Words.{Sheet, Works, Keeps, Rose}
+
+on_or_off : (b : Bool) → IsTrue b ⊎ (b ≡ false)
+on_or_off true = inl refl
+on_or_off false = inr refl
+
+rose-low : (a b c : ℕ) → Rose a b → b ≤ c → Rose a c
+rose-low a b c r le lt = let h = r lt in omega arith
+
+rose-high : (a b c : ℕ) → a ≤ b → b ≤ c → Rose b c → Rose a c
+rose-high a b c ab bc r lt = elim (cases_lt b (2 ^ 64 - 1)) [ inl l ↦ (let h : b < c = r l in omega arith) | inr g ↦ omega arith ]
+
+-- work keeps what calls keep
+pub keeps-works : (k : ℕ) (a b : Sheet) → Works k a b → Keeps a b
+keeps-works k a b w = record { long = w.long; room = w.room; fixed = w.fixed; cuts = w.cuts; bads = w.bads; dark = w.dark; cut = w.cut }
+
+-- and so does a call after it
+pub works-keep : (k : ℕ) (a b c : Sheet) → Works k a b → Keeps b c → Keeps a c
+works-keep k a b c v w = record {
+  long = w.long ∙ v.long;
+  room = w.room ∙ v.room;
+  fixed = w.fixed ∙ v.fixed;
+  cuts = omega (arith, v.cuts, w.cuts);
+  bads = omega (arith, v.bads, w.bads);
+  dark = λ e. w.dark (v.dark e);
+  cut = λ on off. elim (on_or_off b.on) [ inl y ↦ rose-high a.cuts b.cuts c.cuts v.cuts w.cuts (w.cut y off) | inr n ↦ rose-low a.cuts b.cuts c.cuts (v.cut on n) w.cuts ];
+}
