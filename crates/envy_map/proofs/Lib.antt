@@ -5,3 +5,4 @@ pub mod OnePut
 pub mod Readings
 pub mod Going
 pub mod Sizes
+pub mod Filling

@@ -1,11 +1,27 @@
 ghost use Rattle.std.specs.Prelude.{◌≡◌, ℕ, ◌+◌, ◌*◌, ◌<◌, ◌≤◌, IsTrue, OnOk, OnErr, slice_index};
 ghost use Rattle.envy_base.specs.Map.{frames_at};
+ghost use Rattle.envy_base.specs.Shape.{IsShape};
 ghost use Rattle.envy_base.specs.State.{Puts, Reads};
 ghost use Rattle.envy_map.specs.Fields.{chart, with_fields};
 ghost use Rattle.envy_map.specs.Writes.{Stopped, Writes, with_frame, with_frame_word};
 
 use crate::region::frame_start;
-use envy_base::{Board, Off};
+use envy_base::{Board, Off, Shape};
+
+/// The first word of a frame. That its last fits in 32 bits is known to who goes over its words, so that they are read
+/// side by side.
+#[inline(always)]
+fn first_word(shape: &Shape, frame: u32) -> u32
+    requires shape { IsShape shape.now }
+    requires frame { frame < shape.now.frames }
+    ensures { result ≡ frames_at shape.now + 32 * frame }
+{
+    let first = frame_start(shape) + 32 * frame;
+    if first > u32::MAX - 31 {
+        unreachable!();
+    }
+    first
+}
 
 /// Word `i`, of 32, of a frame.
 pub fn frame_word<B: Board>(board: &B, frame: u32, i: u32) -> Result<u64, Off>
@@ -14,7 +30,8 @@ pub fn frame_word<B: Board>(board: &B, frame: u32, i: u32) -> Result<u64, Off>
     ensures { Reads (B.state board.now) (slice_index (chart (B.state board.now)).fields.frames (32 * frame + i))
         result }
 {
-    board.get(frame_start(&board.shape()) + 32 * frame + i)
+    let first = first_word(&board.shape(), frame);
+    board.get(first + i)
 }
 
 /// Writes word `i`, of 32, of a frame that begins at word `first` of SRAM.
@@ -45,11 +62,11 @@ pub fn set_frame_word<B: Board>(board: &mut B, frame: u32, i: u32, word: u64) ->
     ensures put { Puts (B.state board.old) (frames_at (B.state board.old).shape + (32 * frame + i)) word result
         (B.state board.new) }
 {
-    let first = frame_start(&board.shape()) + 32 * frame;
+    let first = first_word(&board.shape(), frame);
     put_frame_word(board, first, frame, i, word)
 }
 
-/// Writes the 32 words of a frame, from the first. Where power fails some of them are written.
+/// Writes the 32 words of a frame, from the first, four at a turn. Where power fails some of them are written.
 /// The words below the frames stay.
 pub fn write_frame<B: Board>(board: &mut B, frame: u32, page: &[u64; 32]) -> Result<(), Off>
     requires { frame < (B.state board.old).shape.frames }
@@ -62,9 +79,13 @@ pub fn write_frame<B: Board>(board: &mut B, frame: u32, page: &[u64; 32]) -> Res
     ensures below { (w : ℕ) → w < frames_at (B.state board.old).shape
         → slice_index (B.state board.new).sram w ≡ slice_index (B.state board.old).sram w }
 {
-    let first = frame_start(&board.shape()) + 32 * frame;
-    for i in 0..32u32 {
+    let first = first_word(&board.shape(), frame);
+    for k in 0..8u32 {
+        let i = 4 * k;
         put_frame_word(board, first, frame, i, page[i as usize])?;
+        put_frame_word(board, first, frame, i + 1, page[i as usize + 1])?;
+        put_frame_word(board, first, frame, i + 2, page[i as usize + 2])?;
+        put_frame_word(board, first, frame, i + 3, page[i as usize + 3])?;
     }
     Ok(())
 }
