@@ -8,10 +8,6 @@ use Rattle.envy_base.specs.declared.shape.Shape.{Shape}
 use Rattle.envy_base.specs.State.{State, IsBoard}
 use Rattle.envy_map.specs.Fields.{chart, map_fields, sizes_of}
 
-pub version-is : (s : State) → (chart s).fields.version ≡ slice_index s.sram 1
-unfolding map_fields
-version-is s = refl
-
 three : (xs : List ℕ) → 3 ≤ length xs → take 3 xs ≡ get_or xs 0 0 ∷ get_or xs 1 0 ∷ get_or xs 2 0 ∷ []
 three [] long = absurd (omega arith)
 three (x ∷ []) long = absurd (omega arith)

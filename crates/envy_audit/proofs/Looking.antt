@@ -2,14 +2,12 @@
 use Rattle.std.proofs.Common.{◌≡◌, ◌⊎◌, ℕ, ◌<◌, ◌≤◌, ◌↔◌, IsTrue, leb, leb-true, le-leb, take, count_by, List, length, get_or, Option, Some, None, refl, sym, ◌∙◌, ap, inl, inr, arith}
 use Rattle.std.proofs.lemmas.Bool.{cases_lt}
 use Rattle.std.proofs.lemmas.List.{get_or_past, take_all}
-use Rattle.std.proofs.lemmas.Option.{none-some, same_Some}
+use Rattle.std.proofs.lemmas.Option.{none-some}
 use Rattle.envy_base.specs.declared.fields.Place.{Place}
-use Rattle.envy_base.specs.declared.fields.Slot.{Slot}
 use Rattle.envy_base.specs.declared.fields.Undo.{Undo}
-use Rattle.envy_base.specs.declared.fields.Undo.TheVariants.{Clear, Blank, Shadow}
 use Rattle.envy_base.specs.State.{State, IsBoard}
 use Rattle.envy_map.specs.Fields.{chart, place, undo}
-use Rattle.envy_layout.specs.Sound.{slot_named, owned_by, is_active}
+use Rattle.envy_layout.specs.Sound.{slot_named, owned_by}
 use Rattle.envy_audit.specs.Points.{FewAreOwned}
 use Rattle.envy_map.proofs.Sizes.{length-places, length-undos}
 
@@ -32,12 +30,6 @@ named-within s board p t named = by_undo (undo (chart s).fields p) refl named
     by_undo : (u : Option Undo) → undo (chart s).fields p ≡ u → slot_named u ≡ Some t → p < s.shape.pages
     by_undo None e named = absurd (none-some t named)
     by_undo (Some u) e named = undo-within s board p u e
-
-pub owned_by-some : (slots : List (Option Slot)) (u : Option Undo) (t : ℕ) (x : Slot) → slot_named u ≡ Some t → get_or slots t None ≡ Some x → owned_by slots u ≡ is_active (Some x)
-owned_by-some slots None t x e is = absurd (none-some t e)
-owned_by-some slots (Some Clear) t x e is = absurd (none-some t e)
-owned_by-some slots (Some (Blank r)) t x e is = ap (λ k. is_active (get_or slots k None)) (same_Some r t e) ∙ ap is_active is
-owned_by-some slots (Some (Shadow r q)) t x e is = ap (λ k. is_active (get_or slots k None)) (same_Some r t e) ∙ ap is_active is
 
 -- a count over all pages
 pub few-tell : (s : State) (owned page told : ℕ) → IsBoard s → page ≡ s.shape.pages → told ≡ s.shape.shadows → owned ≡ count_by (owned_by (chart s).fields.slots) (take page (chart s).fields.undos) → IsTrue (leb owned told) ↔ FewAreOwned (chart s)

@@ -14,13 +14,6 @@ IsMarked R k table = (q : ℕ) → q < length table → IsTrue (slice_index_or t
 abbrev pub IsApart : (ℕ → ℕ → Type 0) → ℕ → Type 0
 IsApart R k = (i j q : ℕ) → i < k → j < k → R i q → R j q → i ≡ j
 
--- nothing is marked before the first
-pub none-marked : (R : ℕ → ℕ → Type 0) (table : List Bool) → ((q : ℕ) → slice_index_or table q false ≡ false) → IsMarked R 0 table
-none-marked R table all q within = (λ yes. absurd (false≢true (sym (all q) ∙ yes)), λ (i, below, named). absurd (omega (arith, below)))
-
-pub none-apart : (R : ℕ → ℕ → Type 0) → IsApart R 0
-none-apart R i j q below _ _ _ = absurd (omega (arith, below))
-
 module _ (R : ℕ → ℕ → Type 0) (k : ℕ) (table : List Bool) (marked : IsMarked R k table) where
   wider : (q : ℕ) → Named R k q → Named R (k + 1) q
   wider q (i, below, named) = (i, omega (arith, below), named)

@@ -18,9 +18,6 @@ Says T owners = (q p : ℕ) → q < length owners → (slice_index owners q ≡ 
 abbrev pub Joined : (ℕ → ℕ → Type 0) → ℕ → Place → ℕ → ℕ → Type 0
 Joined T page place p q = T p q ⊎ ((p ≡ page) × (place ≡ Row q))
 
-pub Says-none : (owners : List ℕ) → ((q : ℕ) → slice_index owners q ≡ 0) → Says (λ p q. ⊥) owners
-Says-none owners all q p within = (λ is. omega (arith, all q, is), λ no. absurd no)
-
 -- two ways to say who names a row
 pub Says-as : (T U : ℕ → ℕ → Type 0) (owners : List ℕ) → ((p q : ℕ) → T p q → U p q) → ((p q : ℕ) → U p q → T p q) → Says T owners → Says U owners
 Says-as T U owners to from says q p within = (λ is. to p q ((says q p within).0 is), λ named. (says q p within).1 (from p q named))

@@ -113,19 +113,6 @@ tells-copies c v e fill (Ok answer) is stand all same = (
       same = λ i below kept. are_same i (omega (arith, below)) kept;
     }
 
--- a switch whose origins don't stand isn't one of copies
-pub not-stand : (c : Chart) (v e fill : ℕ) (b : Bool) → fill ≡ slice_index c.fields.fills e → IsTrue b ↔ OriginsStand c v fill → b ≡ false → IsTrue false ↔ CopiesOf c v e
-not-stand c v e fill b is tells wrong =
-    refuted (λ copies. not-so b tells wrong (record {
-      rows = λ i below. copies.rows i (omega (arith, below));
-      differ = λ i j bi bj. copies.differ i j (omega (arith, bi)) (omega (arith, bj));
-    }))
-
--- nor is one with a row that isn't copied
-pub not-all : (c : Chart) (v e fill : ℕ) (b : Bool) → fill ≡ slice_index c.fields.fills e → IsTrue b ↔ KeptAreCopied c v fill → b ≡ false → IsTrue false ↔ CopiesOf c v e
-not-all c v e fill b is tells wrong =
-    refuted (λ copies. not-so b tells wrong (λ p q named there. let (i, below, from) = copies.all p q named there in (i, omega (arith, below), from)))
-
 -- a copy, as it was told by the board's own numbers, and as the map knows it
 module _ (c : Chart) (e i from : ℕ) (told : Shape) (rows : told.rows ≡ c.shape.rows) (is : from ≡ slice_index c.fields.origins i) where
   abbrev IsCopy : ℕ → ℕ → Type 0

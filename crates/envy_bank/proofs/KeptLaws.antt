@@ -139,11 +139,6 @@ paged-erased marks new pages first end are marked = record {
 pub whole_after : (len : ℕ) (marks slice new : List Bool) (first end : ℕ) → len ≡ length marks → slice ≡ marks → MarksRange first end slice new → after len marks new ≡ new
 whole_after len marks slice new first end long as_slice marked = take_at new (drop (length new) marks) len (marked.long ∙ ap length as_slice ∙ sym long)
 
-pub paged_after : (len : ℕ) (marks slice new : List Bool) (pages : List (List ℕ)) (first end : ℕ) → len ≡ length marks → slice ≡ marks → ArePaged marks pages → MarksRange first end slice new → ArePaged (after len marks new) pages
-paged_after len marks slice new pages first end long as_slice are marked =
-    subst (λ (ms : List Bool). ArePaged ms pages) (sym (whole_after len marks slice new first end long as_slice marked))
-    (paged-erased marks new pages first end are (subst (λ (old : List Bool). MarksRange first end old new) as_slice marked))
-
 pub erased_range : (len : ℕ) (marks slice new : List Bool) (pages s : List (List ℕ)) (first end : ℕ) → len ≡ length marks → slice ≡ marks → ArePaged marks pages → kept_rows marks pages ≡ s
     → end ≤ length s → MarksRange first end slice new → ErasesRange first end s (kept_rows (after len marks new) pages)
 erased_range len marks slice new pages s first end long as_slice are is fits marked =
@@ -181,12 +176,6 @@ ands-ones page is =
 
 pub kept_new : (count : ℕ) (marks : List Bool) (pages : List (List ℕ)) → marks ≡ replicate count true → pages ≡ [] → kept_rows marks pages ≡ replicate count ones
 kept_new count marks pages is none = rw (is, none) (kept-replicate count)
-
-pub paged_new : (count : ℕ) (marks : List Bool) (pages : List (List ℕ)) → marks ≡ replicate count true → pages ≡ [] → ArePaged marks pages
-paged_new count marks pages is none = rw (is, none) (record {
-  fits = omega arith;
-  beyond = λ q le lt. get_or-replicate {A = Bool} count q true false (let long = length-replicate {A = Bool} count true in omega arith);
-})
 
 pub word_erased : (marks : List Bool) (pages s : List (List ℕ)) (q i : ℕ) (mark : Bool) → ArePaged marks pages → kept_rows marks pages ≡ s → q < length s → mark ≡ get_or marks q mark → mark ≡ true → i < 32
     → 18446744073709551615 ≡ get_or (get_or s q []) i 0

@@ -1,9 +1,8 @@
 -- A memory that was just made, once it is on the disk.
 use Rattle.std.proofs.Common.{◌≡◌, inl, inr, ℕ, false, refl, sym, ◌∙◌, ap, subst}
 use Rattle.std.specs.Prelude.{Ok, Err}
-use Rattle.envy_base.specs.Array.{Array, zeros}
+use Rattle.envy_base.specs.Array.{Array}
 use Rattle.envy_base.specs.declared.board.Off.{Off}
-use Rattle.envy_base.specs.declared.shape.Shape.{Shape}
 use Rattle.envy_begun.specs.Beginning.{HasBegun}
 use Rattle.envy_begun.proofs.Opening.{IsGood}
 use Rattle.envy_disk.specs.Disk.{SyncsChart, with_numbers}
@@ -48,6 +47,3 @@ new-begun setup array old new good (on, plans, given, is) kept stood b shape =
       begins = subst (λ (p : Picture). IsStarted setup p) (sym same) (record { counts = b.counts; since = b.since; entries = b.entries; chooser = b.chooser; stages = b.stages; moves = b.moves; held = b.held; owners = b.owners; limit = b.limit; mark = b.mark });
       shape = ap (λ (p : Picture). p.chart.shape) same ∙ shape;
     }
-
-pub stands-as : (c : Chart) (sh : Shape) → c.shape ≡ sh → Stands c (zeros c.shape.pages c.shape.shadows) → Stands c (zeros sh.pages sh.shadows)
-stands-as c sh is stood = subst (λ (x : Shape). Stands c (zeros x.pages x.shadows)) is stood

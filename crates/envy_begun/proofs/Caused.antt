@@ -1,6 +1,6 @@
 -- Why a file isn't served, by where it was found.
-use Rattle.std.proofs.Common.{◌≡◌, inr, ℕ, ◌+◌, ◌^◌, ◌<◌, Bool, List, length, refl, sym, ◌∙◌, subst, arith}
-use Rattle.std.specs.Prelude.{IsTrue, IfErr, Result, Ok, Err}
+use Rattle.std.proofs.Common.{◌≡◌, inr, ℕ, Bool, List, refl, sym, ◌∙◌, subst, arith}
+use Rattle.std.specs.Prelude.{IfErr, Result, Ok, Err}
 use Rattle.envy_args.specs.declared.keep.KeepOptions.{KeepOptions}
 use Rattle.envy_begun.specs.Beginning.{HasStopped, IsStopped}
 use Rattle.envy_begun.specs.Plans.{IsFound}
@@ -46,12 +46,6 @@ module _ {D : Type 0} (seen : D → List ℕ) (has_failed : D → Bool) (options
   stopped-unserved (Options fault) status held is held_is causes six = let never : 10 ≡ 6 = sym is ∙ six in absurd (omega arith)
   stopped-unserved Memory status held is held_is causes six = let never : 8 ≡ 6 = sym is ∙ six in absurd (omega arith)
   stopped-unserved (Failed n) status held is held_is causes six = subst (λ (k : ℕ). HasStopped seen has_failed k new) (sym (held_is n refl)) causes
-
--- the same of an answer
-pub all-stopped : {M D : Type 0} (seen : D → List ℕ) (has_failed : D → Bool) (options : KeepOptions) (file : List ℕ) (old : D) (result : Result M (Unbegun × D))
-    → IfErr result (λ e. IsStopped seen has_failed e.0 e.1) → IfErr result (λ e. Causes seen has_failed options file old e.1 e.0)
-all-stopped seen has_failed options file old (Ok memory) stopped = tt
-all-stopped seen has_failed options file old (Err e) stopped = stopped-causes seen has_failed options file old e.1 e.0 stopped
 
 pub all-declined : {M D : Type 0} (seen : D → List ℕ) (has_failed : D → Bool) (options : KeepOptions) (file : List ℕ) (old : D) (setup : OfSetup) (result : Result M (Unbegun × D)) → IsFound options file setup
     → IfErr result (λ e. Declines seen has_failed setup.shape file e.0 e.1) → IfErr result (λ e. Causes seen has_failed options file old e.1 e.0)

@@ -1,8 +1,8 @@
 -- Rows of a block that are filled one after another.
-use Rattle.std.proofs.Common.{◌≡◌, ◌≢◌, ◌∙◌, ℕ, ◌+◌, ◌*◌, ◌/◌, ◌%◌, ◌<◌, ◌≤◌, List, [], length, get_or, set, refl, ap, subst, arith, below_more, get_or-set_same, get_or-set_other, length-set}
+use Rattle.std.proofs.Common.{◌≡◌, ◌≢◌, ◌∙◌, ℕ, ◌+◌, ◌*◌, ◌/◌, ◌<◌, List, [], length, get_or, set, refl, ap, arith, below_more, get_or-set_same, get_or-set_other, length-set}
 use Rattle.std.proofs.lemmas.Nat.{div-mul-add}
 use Rattle.envy_power.specs.Draws.{seeded, next_word}
-use Rattle.envy_bench.specs.TornRows.{after_steps, torn_row, TearsRows}
+use Rattle.envy_bench.specs.TornRows.{after_steps, torn_row}
 use Rattle.envy_bench.proofs.Draws.{after_both}
 
 -- the first n rows of the block are filled
@@ -27,17 +27,6 @@ TearsUpTo-more rows e g n old now row lt room is so_far =
           (λ r h. let apart : e * rows + r ≢ e * rows + n = omega arith in get_or-set_other now (e * rows + n) (e * rows + r) row [] apart ∙ so_far.inside r h)
           (get_or-set_same now (e * rows + n) row [] room ∙ is);
     }
-
--- a segment whose rows are torn
-pub TearsUpTo-all : (rows e g n : ℕ) (old new : List (List ℕ)) → 1 ≤ rows → n ≡ rows → TearsUpTo rows e g n old new → TearsRows rows e g old new
-TearsUpTo-all rows e g n old new some all is = record {
-  long = is.long;
-  others = is.others;
-  inside = λ q lt here.
-      let place : e * rows + q % rows ≡ q = rw (← here) (omega arith) in
-      let below : q % rows < n = omega arith in
-      subst (λ k. get_or new k [] ≡ torn_row g (q % rows)) place (is.inside (q % rows) below);
-}
 
 -- the row of the next words, and the generator after them
 pub torn_row-next : (g n : ℕ) → after_steps next_word 32 (after_steps next_word (32 * n) (seeded g)) ≡ after_steps next_word (32 * (n + 1)) (seeded g)

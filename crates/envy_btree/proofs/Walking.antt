@@ -94,10 +94,6 @@ Fans-ranks P low high (k ∷ ks) (c ∷ cs) (suc j) key f le a b =
 
 -- Keys rise
 
-Rising-low : (l h : ℕ) (es : List (ℕ × ℕ)) → Rising l h es → l ≤ h
-Rising-low l h [] r = r
-Rising-low l h (e ∷ es) r = omega (arith, r.0, r.1)
-
 pub Rising-keys : (low high : ℕ) (es : List (ℕ × ℕ)) (i : ℕ) → Rising low high es → suc i < length es → get_or (keys_of es) i 0 < get_or (keys_of es) (suc i) 0
 Rising-keys low high [] i r lt = absurd (omega arith)
 Rising-keys low high (e ∷ []) i r lt = absurd (omega arith)

@@ -1,5 +1,5 @@
 -- So many loads and puts, one after another.
-use Rattle.std.proofs.Common.{◌≡◌, ◌↔◌, ◌+◌, ◌*◌, ◌<◌, ◌≤◌, ◌∙◌, refl, sym, ap, subst, arith, below_more, ℕ, zero, suc, Bool, false, IsTrue, List, get_or, set, length, add-one, Result, Ok, Err}
+use Rattle.std.proofs.Common.{◌≡◌, ◌↔◌, ◌+◌, ◌<◌, ◌≤◌, ◌∙◌, refl, sym, ap, subst, arith, below_more, ℕ, zero, suc, Bool, false, IsTrue, List, get_or, set, length, add-one, Result, Ok, Err}
 use Rattle.std.proofs.lemmas.List.{get_or-set_same, get_or-set_other}
 use Rattle.envy_base.specs.Array.{Array}
 use Rattle.envy_base.specs.Step.{Put, Done as DoneOf}
@@ -11,9 +11,9 @@ use Rattle.envy_memory.specs.declared.faults.LoadFault.{LoadFault}
 use Rattle.envy_memory.specs.declared.faults.LoadFault.TheVariants.{Off as LoadOff, Range as LoadRange}
 use Rattle.envy_memory.specs.declared.faults.PutFault.{PutFault}
 use Rattle.envy_memory.specs.declared.faults.PutFault.TheVariants.{Off as PutOff, Range as PutRange, Closed as PutClosed, Held as PutHeld, Full as PutFull, Bad as PutBad}
-use Rattle.envy_calls.specs.Answers.{LoadsTo, PutsTo}
+use Rattle.envy_calls.specs.Answers.{LoadsTo}
 use Rattle.envy_calls.specs.Bulk.{Loaded, Wrote, Written}
-use Rattle.envy_calls.specs.Codes.{number_of, load_code, loaded, put_code, put_holder}
+use Rattle.envy_calls.specs.Codes.{number_of, load_code, loaded, put_code}
 use Rattle.envy_calls.specs.declared.code.Code.TheVariants.{Done}
 
 -- a word behind those that were loaded may change
@@ -68,25 +68,6 @@ within : (answer : Result Unit PutFault) (on then_on : Bool) (a n : ℕ) → num
     → (answer ≡ Err PutOff) ↔ (then_on ≡ false) → (on ≡ false → then_on ≡ false) → (answer ≡ Err PutRange) ↔ (IsTrue on × (n ≤ a)) → a < n
 within answer on then_on a n is off unpowered range = grind (arith, is, off, unpowered, range)
 
--- a put that is done is within the array
-pub put-within : (p q : Picture) (t a w before after : ℕ) → PutsTo p q t a w (number_of Done) before after → a < 32 * p.chart.shape.pages
-put-within p q t a w before after puts =
-    within puts.answer p.chart.on q.chart.on a (32 * p.chart.shape.pages) puts.coded puts.off
-    (λ e. ap (λ (m : Picture). m.chart.on) (puts.below.unpowered e) ∙ e) puts.range
-
-same_holder : (answer : Result Unit PutFault) (before after : ℕ) → number_of Done ≡ number_of (put_code answer) → after ≡ put_holder before answer → after ≡ before
-same_holder (Ok done) before after is e = e
-same_holder (Err PutOff) before after is e = absurd (omega (arith, is))
-same_holder (Err PutRange) before after is e = absurd (omega (arith, is))
-same_holder (Err PutClosed) before after is e = absurd (omega (arith, is))
-same_holder (Err (PutHeld u)) before after is e = absurd (omega (arith, is))
-same_holder (Err PutFull) before after is e = absurd (omega (arith, is))
-same_holder (Err PutBad) before after is e = absurd (omega (arith, is))
-
--- and leaves the place of the holder
-pub put-holder : (p q : Picture) (t a w before after : ℕ) → PutsTo p q t a w (number_of Done) before after → after ≡ before
-put-holder p q t a w before after puts = same_holder puts.answer before after puts.coded puts.written
-
 stepped : (answer : Result Unit PutFault) (m : Array) (t a w : ℕ) (c : Chart) → number_of Done ≡ number_of (put_code answer) → Puts m t a w answer c → Steps m (Put t a w) DoneOf c
 stepped (Ok done) m t a w c is puts = puts
 stepped (Err PutOff) m t a w c is puts = absurd (omega (arith, is))
@@ -95,17 +76,6 @@ stepped (Err PutClosed) m t a w c is puts = absurd (omega (arith, is))
 stepped (Err (PutHeld u)) m t a w c is puts = absurd (omega (arith, is))
 stepped (Err PutFull) m t a w c is puts = absurd (omega (arith, is))
 stepped (Err PutBad) m t a w c is puts = absurd (omega (arith, is))
-
--- one more put
-pub Wrote-more : (k t a holder before after : ℕ) (words : List ℕ) (p r q : Picture) → Wrote k words t a holder p r → before ≡ holder
-    → PutsTo r q t (a + k) (get_or words k 0) (number_of Done) before after → Wrote (k + 1) words t a holder p q
-Wrote-more k t a holder before after words p r q wrote is last =
-    subst (λ (n : ℕ). Wrote n words t a holder p q) (sym (add-one k)) (
-      r,
-      wrote,
-      subst (λ (x : ℕ). PutsTo r q t (a + k) (get_or words k 0) (number_of Done) holder x) (put-holder r q t (a + k) (get_or words k 0) before after last ∙ is)
-          (subst (λ (x : ℕ). PutsTo r q t (a + k) (get_or words k 0) (number_of Done) x after) is last),
-    )
 
 -- what the puts make of the array
 pub Wrote-written : (k t a holder : ℕ) (words : List ℕ) (p q : Picture) → Wrote k words t a holder p q

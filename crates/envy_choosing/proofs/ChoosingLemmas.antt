@@ -302,23 +302,6 @@ beside-none h pool g first end avoided whole same low high lowest k is =
     let some = is.free in
     omega arith
 
--- the lowest position with a free row is another's
-pub beside-first : (h : History) (pool : Pool) (g first end k : ℕ) (avoided : Option ℕ) → IsHistory h → h.positions ≡ pool.shape.segments - 1 → first ≡ first_of h g → end ≡ end_of h g → IsLowest (free_at pool) first end k → avoided ≢ Some (slice_index pool.positions k) → IsLeast (IsFreeBeside h pool g avoided) (λ x. x) k
-beside-first h pool g first end k avoided whole same low high lowest other =
-    let above = lowest.above in
-    let below = lowest.below in
-    record {
-      holds = record { position = omega arith; near = within-is h g k whole (omega arith) (omega arith); free = lowest.some; other = other };
-      least = λ y is. least y is;
-      lowest = λ y is e. least y is;
-    }
-  where
-    least : (y : ℕ) → IsFreeBeside h pool g avoided y → k ≤ y
-    least y is = elim (cases_lt y k) [
-      | inl less ↦ let low_y = within-first h g y whole is.near in let none = lowest.none y (omega arith) less in let some = is.free in absurd (omega arith)
-      | inr at_least ↦ at_least
-    ]
-
 -- it is the avoided one's, so that it is another's at each position above
 pub beside-next : (h : History) (pool : Pool) (g first end k : ℕ) (avoided found : Option ℕ) → IsHistory h → IsPool pool → h.positions ≡ pool.shape.segments - 1 → first ≡ first_of h g → end ≡ end_of h g → IsLowest (free_at pool) first end k → avoided ≡ Some (slice_index pool.positions k) → Lowest (free_at pool) (k + 1) end found → MatchOption found ((y : ℕ) → IsFreeBeside h pool g avoided y → ⊥) (IsLeast (IsFreeBeside h pool g avoided) (λ x. x))
 beside-next h pool g first end k avoided None whole are same low high lowest it none = λ y is. past y is (cases_lt y k) (cases_eq y k)

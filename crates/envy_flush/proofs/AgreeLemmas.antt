@@ -1,12 +1,10 @@
 -- The parts agree with the board again after each kind of change.
-use Rattle.std.proofs.Common.{◌≡◌, ◌≢◌, inr, ℕ, ◌+◌, ◌-◌, ◌*◌, ◌/◌, ◌%◌, ◌<◌, List, [], length, get_or, set, Option, Some, refl, sym, ◌∙◌, ap, subst, arith, drop}
+use Rattle.std.proofs.Common.{◌≡◌, ◌≢◌, ℕ, ◌+◌, ◌-◌, ◌/◌, ◌%◌, ◌<◌, List, [], length, get_or, set, Option, Some, refl, sym, ◌∙◌, ap, subst, arith, drop}
 use Rattle.std.proofs.lemmas.List.{length-drop}
 use Rattle.std.specs.Prelude.{All, Bool, true, false, map, ◌==◌, if◌then◌else◌}
 use Rattle.std.specs.List.{filter}
 use Rattle.envy_base.specs.declared.shape.Shape.{Shape}
 use Rattle.envy_base.specs.declared.fields.Job.{Job}
-use Rattle.envy_base.specs.declared.fields.Job.TheVariants.{Switch}
-use Rattle.envy_base.specs.declared.fields.Place.{Place}
 use Rattle.envy_base.specs.declared.fields.Place.TheVariants.{Row, Frame}
 use Rattle.envy_map.specs.Fields.{Fields, Chart, with_fields, place}
 use Rattle.envy_map.specs.Writes.{with_back, with_fill, with_job, with_place}
@@ -14,9 +12,7 @@ use Rattle.envy_frames.specs.Agreement.{AreHeld}
 use Rattle.envy_frames.specs.Order.{is_other}
 use Rattle.envy_frames.proofs.Agreeing.{AreHeld-given, AreHeld-stay}
 use Rattle.std.proofs.lemmas.List.Elements.{All-nil}
-use Rattle.envy_layout.specs.May.{MayTake, HasPage}
 use Rattle.envy_layout.specs.Sound.{Sound, IsSound, Numbers, IsPlaced}
-use Rattle.envy_layout.specs.Words.{word_at}
 use Rattle.std.specs.Option.{option_map}
 use Rattle.envy_policy.specs.History.{History, claimed, warmed}
 use Rattle.envy_policy.specs.Notes.{noted_flush}
@@ -157,20 +153,6 @@ Agrees-rowed c new x y p k q a long lt here g is space current held task =
       two = AreParted-rowed c.fields p q (rw long lt) (g.unnamed p) a.two;
     } in
     subst (λ (z : Chart). PartsAgree z y) (sym is) made
-
--- that page may have it
-pub MayTake-granted : (sh : Shape) (f : Fields) (p q : ℕ) → Granted sh f p q → MayTake sh f p (Row q)
-MayTake-granted sh f p q g = inr (record {
-  range = g.range;
-  filled = g.filled;
-  claimed = g.claimed;
-  alone = λ r names. absurd (g.unnamed r names);
-  home = g.placed;
-  unswitched = λ v switch same. g.free.1 (switch ∙ ap (λ (s : ℕ). Some (Switch s)) (sym same));
-})
-
-pub HasPage-copied : (f : Fields) (flash : List (List ℕ)) (p k q : ℕ) → place f p ≡ Some (Frame k) → ((j : ℕ) → j < 32 → get_or (get_or flash q []) j 0 ≡ get_or f.frames (32 * k + j) 0) → HasPage f flash p (Row q)
-HasPage-copied f flash p k q here copy j lt = copy j lt ∙ ap (λ (x : Option Place). word_at f.frames flash x j) (sym here)
 
 -- a relocation began
 pub Agrees-begun : (c new : Chart) (x y : Parts) (j : Option Job) → PartsAgree c x → new ≡ with_fields c (with_job j c.fields) → IsPlanOf new.shape new.fields new.flash y.reloc → y.space ≡ x.space → y.frames ≡ x.frames → y.cache ≡ x.cache → PartsAgree new y

@@ -44,10 +44,6 @@ Going-more c d f x y n e s t g w lt =
       count = omega arith;
     }
 
--- what was done is within the budget, also with a last turn that ended it
-pub Going-ends : (c d : Chart) (x : Parts) (n e s t : ℕ) → Going c d x n e s t → Same n e c d
-Going-ends c d x n e s t g = let a = Going.work g in let a1 = a.few in let a2 = a.few_erases in Same-more a.programs a.erases n e c d (omega arith) (omega arith) a.same
-
 pub Going-stops : (c d f : Chart) (x : Parts) (n e s t : ℕ) → (g : Going c d x n e s t) → Same 1 1 d f → Same (n + 1) (e + 1) c f
 Going-stops c d f x n e s t g stop =
     let a = Going.work g in let a1 = a.few in let a2 = a.few_erases in

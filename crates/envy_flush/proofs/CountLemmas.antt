@@ -1,6 +1,6 @@
 -- What is counted composes.
 use Rattle.std.proofs.Common.{◌≡◌, inl, inr, ℕ, ◌≤◌, Bool, false, true, List, [], ◌∷◌, length, get_or, suc, refl, sym, ◌∙◌, ap, subst, arith}
-use Rattle.std.specs.Prelude.{sum, IsTrue, Result, Ok, Err, OnErr, IfOk}
+use Rattle.std.specs.Prelude.{sum, IsTrue, Result, Ok, Err}
 use Rattle.std.proofs.lemmas.List.Sums.{sum_by-cons}
 use Rattle.envy_base.specs.Counting.{Tally}
 use Rattle.envy_base.proofs.Counting.{Tally-trans}
@@ -36,11 +36,6 @@ Tallies-trans c d e x y z p q = record {
 pub on-before : (a b : Bool) (i j : ℕ) → Powers a i b j → IsTrue b → IsTrue a
 on-before a b i j (inl (same, cuts)) on = subst (λ (x : Bool). IsTrue x) same on
 on-before a b i j (inr (was, off, cuts)) on = was
-
--- what a call that power ended hasn't shown is needed only where power is on
-pub if-ends : {T : Type 0} (r : Result T Off) (P : T → Type 0) (b : Bool) (A : Type 0) → IfOk r P → ((x : T) → P x → A) → OnErr r (b ≡ false) → IsTrue b → A
-if-ends (Ok x) P b A p f off on = f x p
-if-ends (Err e) P b A p f off on = absurd (let no : false ≡ true = sym off ∙ on in cc)
 
 -- a put of another field leaves the wear words
 pub wears-put : (c new : Chart) (change : Fields → Fields) (r : Result Unit Off) → (change c.fields).wears ≡ c.fields.wears → Writes change c r new → IsTrue new.on → new.fields.wears ≡ c.fields.wears

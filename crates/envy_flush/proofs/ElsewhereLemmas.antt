@@ -15,7 +15,7 @@ use Rattle.envy_map.specs.Codes.{IsUndo}
 use Rattle.envy_map.specs.Fields.{Fields, Chart, with_fields, place, undo}
 use Rattle.envy_map.specs.Writes.{with_place, with_undo}
 use Rattle.envy_frames.specs.Agreement.{IsElsewhere}
-use Rattle.envy_layout.specs.May.{MayUndo, HasChanged}
+use Rattle.envy_layout.specs.May.{MayUndo}
 use Rattle.envy_layout.specs.Naming.{AreParted}
 use Rattle.envy_layout.specs.PageRows.{page_kept_in}
 use Rattle.envy_layout.specs.RowKinds.{is_shadow_in}
@@ -78,9 +78,6 @@ Owns-left c new t p u lt named is = subst (Owns t p c) (sym is) (record {
 
 zero_more : (n : ℕ) → 0 + n ≡ n
 zero_more n = omega arith
-
-more_zero : (n : ℕ) → n + 0 ≡ n
-more_zero n = omega arith
 
 whole : (b : Bool) → (b && true) ≡ b
 whole true = refl
@@ -168,7 +165,3 @@ Agrees-shaded c new x y o t p k from n may is current space frames task =
       two = parted-shaded c x t p k from n;
     } in
     subst (λ (z : Chart). PartsAgree z y) (sym is) made
-
--- the words of the frame are the page's still after its undo was written
-pub HasChanged-undone : (f : Fields) (flash : List (List ℕ)) (p k i w : ℕ) (u : Option Undo) → HasChanged f flash p (Frame k) i w → HasChanged (with_undo p u f) flash p (Frame k) i w
-HasChanged-undone f flash p k i w u same = same

@@ -72,6 +72,3 @@ PutDone-after i l k j t p old mid new a w le less s d =
       counted = Counted-more (i + 0) (l + 0) k j old new (omega arith) (omega arith) (Counted-trans i l 0 0 old mid new y.counted d.counted);
       worn = Wears-trans 0 0 old mid new (Framed.shape y.framed) d.counted s.worn d.worn;
     }
-
-pub PutFirst-ended : (i l k j : ℕ) (old mid new : Chart) → i ≤ k → l ≤ j → Same i l old mid → SameDurable 0 0 mid new → new.on ≡ false → SameDurable k j old new × (new.on ≡ false)
-PutFirst-ended i l k j old mid new le less s d off = (SameDurable-more (i + 0) (l + 0) k j old new (omega arith) (omega arith) (SameDurable-trans i l 0 0 old mid new (SameDurable-same i l old mid s) d), off)

@@ -10,9 +10,9 @@ use Rattle.envy_base.specs.declared.board.Trouble.TheVariants.{Off as TroubleOff
 use Rattle.envy_base.specs.declared.shape.Shape.{Shape}
 use Rattle.envy_map.specs.Fields.{Fields, Chart}
 use Rattle.envy_layout.specs.Naming.{with_named}
-use Rattle.envy_layout.specs.Same.{Same, Stays, Framed, Worn, Wears}
+use Rattle.envy_layout.specs.Same.{Worn, Wears}
 use Rattle.envy_layout.specs.Sound.{Sound, IsSound, Numbers, IsSpare}
-use Rattle.envy_reloc.specs.Phases.{SameOnce, Does, Spoils, MovesRow, CopiesLeft, SpoilsTarget, SpoilsRow}
+use Rattle.envy_reloc.specs.Phases.{Does, Spoils, MovesRow, CopiesLeft, SpoilsTarget, SpoilsRow}
 use Rattle.envy_reloc.specs.Plan.{Plan}
 use Rattle.envy_reloc.specs.Switching.{SwitchesAll}
 use Rattle.envy_reloc.specs.declared.step.Phase.{Phase}
@@ -95,13 +95,6 @@ IsQuiet-worn c d x y limit quiet shape wears rises wearing on q = record {
 -- what counts its erases, and begins no swap, leaves the board as quiet as it was
 pub IsQuiet-counted : (c d : Chart) (x y : Parts) (limit quiet : ℕ) → d.shape ≡ c.shape → Wears c d → Counting c x d y → IsTrue d.on → IsQuiet c.shape c.fields limit x.reloc.since quiet → IsQuiet d.shape d.fields limit y.reloc.since quiet
 IsQuiet-counted c d x y limit quiet shape wears counting = IsQuiet-worn c d x y limit quiet shape wears (Tally.second counting.since) counting.wearing
-
-pub IsQuiet-same : (k j : ℕ) (c d : Chart) (x y : Parts) (limit quiet : ℕ) → Same k j c d → Counting c x d y → IsTrue d.on → IsQuiet c.shape c.fields limit x.reloc.since quiet → IsQuiet d.shape d.fields limit y.reloc.since quiet
-IsQuiet-same k j c d x y limit quiet same counting = IsQuiet-counted c d x y limit quiet (Framed.shape (Stays.framed same.stays)) same.worn counting
-
-pub IsQuiet-step : (c d : Chart) (x y : Parts) (limit quiet : ℕ) → SameOnce c d → Counting c x d y → IsTrue d.on → IsQuiet c.shape c.fields limit x.reloc.since quiet → IsQuiet d.shape d.fields limit y.reloc.since quiet
-IsQuiet-step c d x y limit quiet (inl same) counting = IsQuiet-same 1 0 c d x y limit quiet same counting
-IsQuiet-step c d x y limit quiet (inr same) counting = IsQuiet-same 0 1 c d x y limit quiet same counting
 
 -- the wear words stay
 pub IsQuiet-still : (c d : Chart) (x y : Parts) (limit quiet : ℕ) → d.shape ≡ c.shape → d.fields.wears ≡ c.fields.wears → y.reloc.since ≡ x.reloc.since → IsQuiet c.shape c.fields limit x.reloc.since quiet → IsQuiet d.shape d.fields limit y.reloc.since quiet

@@ -14,7 +14,7 @@ use Rattle.envy_base.specs.declared.fields.Place.TheVariants.{Frame}
 use Rattle.envy_frames.specs.declared.held.Held.{Held}
 use Rattle.envy_frames.specs.Order.{IsApart, IsUnheld, is_other}
 use Rattle.envy_frames.specs.Agreement.{IsHeld, AreHeld, IsElsewhere}
-use Rattle.envy_frames.proofs.Lists.{Any-filter, Any-left, Any-weaker, same-one}
+use Rattle.envy_frames.proofs.Lists.{Any-filter, Any-left, same-one}
 use Rattle.envy_frames.proofs.Stacks.{other-frame}
 
 -- a place that names a frame is one of the list
@@ -36,10 +36,6 @@ IsHeld-other sh places h p x other mine = record {
   page = mine.page;
   home = mine.home;
 }
-
--- some held frame is the page's
-pub Any-held : (sh : Shape) (places : List (Option Place)) (held : List Held) (p k : ℕ) → AreHeld sh places held → get_or places p None ≡ Some (Frame k) → Any (λ h. h.frame ≡ k) held
-Any-held sh places held p k a is = Any-weaker (λ h. (h.page ≡ p) × (h.frame ≡ k)) (λ h. h.frame ≡ k) held (λ h both. both.1) (a.named p k is)
 
 -- two held frames of one number are one
 pub same-page : (sh : Shape) (places : List (Option Place)) (held : List Held) (p r k : ℕ) → AreHeld sh places held → get_or places p None ≡ Some (Frame k) → get_or places r None ≡ Some (Frame k) → p ≡ r
@@ -94,13 +90,6 @@ AreHeld-elsewhere sh places held p x a before after = record {
     at r j names (inl same) (inl lt) = absurd (after j (sym (get_or-set_same places p x None lt) ∙ ap (λ (n : ℕ). get_or (set places p x) n None) (sym same) ∙ names))
     at r j names (inl same) (inr past) = a.named r j (ap (λ (ys : List (Option Place)). get_or ys r None) (sym (set_past places p x past)) ∙ names)
     at r j names (inr other) any = a.named r j (sym (get_or-set_other places p r x None other) ∙ names)
-
--- the home of a held frame is a position
-pub home-fits : (sh : Shape) (places : List (Option Place)) (held : List Held) (k home : ℕ) → AreHeld sh places held → Any (λ h. (h.frame ≡ k) × (h.home ≡ home)) held → home < sh.segments - 1
-home-fits sh places held k home a (i, h, lt, is, both) =
-    let mine : IsHeld sh places h = subst (IsHeld sh places) is (a.each i h lt) in
-    let fits = IsHeld.home mine in
-    omega (arith, both.1)
 
 -- the oldest is held
 pub oldest-held : (sh : Shape) (places : List (Option Place)) (held : List Held) (h : Held) → AreHeld sh places held → slice_get held 0 ≡ Some h → IsHeld sh places h × Any (λ e. e.frame ≡ h.frame) held

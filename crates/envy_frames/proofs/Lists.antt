@@ -1,6 +1,6 @@
 -- Lists whose elements are told apart by a number, and what a filter leaves of them.
 use Rattle.std.proofs.Common.{◌≡◌, ◌≢◌, ◌⊎◌, inl, inr, ℕ, zero, suc, ◌+◌, ◌<◌, ◌≤◌, zero-add, Bool, true, false, cond, not, ◌&&◌, List, [], ◌∷◌, ◌++◌, length, length-append, get_or, None, Some, refl, sym, ◌∙◌, ap, subst, arith}
-use Rattle.std.specs.Prelude.{◌==◌, ◌↔◌, IsNone, slice_get}
+use Rattle.std.specs.Prelude.{◌==◌}
 use Rattle.std.specs.List.{filter, find, All, AllPairs, Any, range_with_len}
 use Rattle.std.proofs.lemmas.List.Elements.{All-cons}
 use Rattle.std.proofs.lemmas.List.{get_or_default, get_or_append_left, get_or_push, length_push}
@@ -148,8 +148,3 @@ range_below n k d lt = let long = length-range_with_len 0 n in let is = get_or-r
 
 pub range_has : (n f : ℕ) → f < n → Any (λ x. x ≡ f) (range_with_len 0 n)
 range_has n f lt = (f, f, omega (arith, length-range_with_len 0 n), get_or-range_with_len 0 n f f lt ∙ zero-add f, refl)
-
--- a list has no first element where it is empty
-pub slice_get-none : {X : Type 0} (xs : List X) → IsNone (slice_get xs 0) ↔ (xs ≡ [])
-slice_get-none [] = (λ e. refl, λ e. refl)
-slice_get-none (x ∷ xs) = (λ e. cc, λ e. cc)

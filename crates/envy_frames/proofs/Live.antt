@@ -170,25 +170,6 @@ module _ (xs : List Entry) (stamps : List ℕ) (f x : ℕ) where
     fits = omega (arith, stamped.fits, length-filter (is_kept stamps f) xs, count_by-le-length (is_kept stamps f) xs);
   }
 
--- a stale entry leaves the front
-pub held-dropped : (stamps : List ℕ) (xs : List Entry) (e : Entry) → slice_get xs 0 ≡ Some e → get_or stamps e.held.frame 0 ≢ e.stamp → held_in stamps (drop 1 xs) ≡ held_in stamps xs
-held-dropped stamps [] e front stale = cc
-held-dropped stamps (x ∷ xs) e front stale =
-    let same : x ≡ e = cc in
-    let dead : is_live stamps x ≡ false = ne_eqb (get_or stamps x.held.frame 0) x.stamp (subst (λ (y : Entry). get_or stamps y.held.frame 0 ≢ y.stamp) (sym same) stale) in
-    sym (rw dead refl)
-
-pub AreStamped-dropped : (entries : Buffer Entry) (stamps : List ℕ) (new : Buffer Entry) → new ≡ buffer (drop 1 entries.items) entries.capacity → AreStamped entries stamps → AreStamped new stamps
-AreStamped-dropped entries stamps new is stamped = rw is (record {
-  below = All-drop (λ e. e.held.frame < length stamps) 1 entries.items stamped.below;
-  past = All-drop (λ e. e.stamp ≤ get_or stamps e.held.frame 0) 1 entries.items stamped.past;
-  fits = let fits = stamped.fits in at entries.items fits;
-})
-  where
-    at : (xs : List Entry) → length xs ≤ entries.capacity → length (drop 1 xs) ≤ entries.capacity
-    at [] le = le
-    at (x ∷ xs) le = omega arith
-
 -- the page of the first entry is the oldest
 pub first-held : (stamps : List ℕ) (xs : List Entry) (e : Entry) → IsLiveFirst stamps xs → slice_get xs 0 ≡ Some e → slice_get (held_in stamps xs) 0 ≡ Some e.held
 first-held stamps [] e live front = cc

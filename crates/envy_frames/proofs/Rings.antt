@@ -1,6 +1,6 @@
 -- The ring of entries with the stamps and the homes, as a whole.
 use Rattle.std.proofs.Common.{◌≡◌, ℕ, ◌*◌, ◌<◌, ◌≤◌, List, [], ◌∷◌, ◌++◌, map, length, get_or, replicate, set, refl, sym, ◌∙◌, ap, subst, arith}
-use Rattle.std.specs.List.{filter, All, Any}
+use Rattle.std.specs.List.{filter, All}
 use Rattle.std.proofs.lemmas.Bool.{eq-eqb}
 use Rattle.std.proofs.lemmas.List.{get_or-replicate, length-map, length-replicate, length-set}
 use Rattle.std.proofs.lemmas.List.Elements.{All-filter, All-map}
@@ -42,15 +42,6 @@ IsRing-given entries new stamps then_stamps homes f r long stamped held live cap
   under = subst (AreHomes homes) (sym held) (All-filter (is_other f) (λ h. get_or homes h.frame 0 ≡ h.home) (held_in stamps entries.items) r.under);
   long = r.long ∙ sym long;
 }
-
--- the home of a held page stands under its frame
-pub home-of : (homes : List ℕ) (held : List Held) (f : ℕ) → AreHomes homes held → Any (λ h. h.frame ≡ f) held → Any (λ h. (h.frame ≡ f) × (h.home ≡ get_or homes f 0)) held
-home-of homes held f are (i, h, lt, is, same) =
-    let here : get_or homes h.frame 0 ≡ h.home = subst (λ (x : Held). get_or homes x.frame 0 ≡ x.home) is (are i h lt) in
-    (i, h, lt, is, (same, sym here ∙ ap (λ (n : ℕ). get_or homes n 0) same))
-
-pub held-below : (held : List Held) (count f : ℕ) → All (λ h. h.frame < count) held → Any (λ h. h.frame ≡ f) held → f < count
-held-below held count f below (i, h, lt, is, same) = let low : h.frame < count = subst (λ (x : Held). x.frame < count) is (below i h lt) in omega arith
 
 pub held-of-unstamped : (hs : List Held) → map (λ (e : Entry). e.held) (map unstamped hs) ≡ hs
 held-of-unstamped [] = refl

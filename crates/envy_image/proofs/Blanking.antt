@@ -1,23 +1,12 @@
 -- Segments that are erased one after another.
 use Rattle.std.proofs.Common.{◌≡◌, ◌⊎◌, inl, inr, ℕ, ◌+◌, ◌/◌, ◌<◌, [], length, get_or, set, refl, sym, ◌∙◌, ap, subst, arith}
-use Rattle.std.specs.Prelude.{IsTrue, Ok}
+use Rattle.std.specs.Prelude.{Ok}
 use Rattle.std.proofs.lemmas.Bool.{cases_eq}
 use Rattle.std.proofs.lemmas.List.{get_or-set_same, get_or-set_other, length-set}
 use Rattle.envy_base.specs.Counting.{up}
 use Rattle.envy_base.specs.State.{State, Only, Erases, with_segment, IsOnes, ones}
 use Rattle.envy_base.specs.declared.shape.Shape.{Shape}
 use Rattle.envy_image.specs.Installing.{Goes, Blanked}
-
-pub blanked-none : (s : State) → IsTrue s.on → Blanked 0 s s
-blanked-none s on = record {
-  on = on;
-  same = refl;
-  long = refl;
-  blank = λ q lt below. absurd (omega arith);
-  segments = refl;
-  once = λ e lt. absurd (omega arith);
-  others = λ e le. refl;
-}
 
 -- blanking segments keeps power on and the sizes
 pub blanked-goes : (n : ℕ) (old new : State) → Blanked n old new → Goes old new

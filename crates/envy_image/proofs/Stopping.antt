@@ -22,9 +22,6 @@ use Rattle.envy_image.proofs.Programming.{programmed-goes, filled-goes}
 pub within-head : (sh : _) (t : Taking) (feed : Feed) → HasReadHead sh t feed → IsWithin t
 within-head sh t feed h = record { within = h.head.draws.within; below = h.head.draws.below }
 
-pub within-read : (was now : Taking) (from to : Feed) (bytes : List ℕ) → Consumes was from bytes now to → IsWithin now
-within-read was now from to bytes c = record { within = c.draws.within; below = c.draws.below }
-
 -- what stops a piece stops the image
 pub stops-as : (stop : Stop) (size : ℕ) (old new : State) (was now : Taking) (from to : Feed) → StopsInBody stop size old was from new now to → StopsAs (in_fault stop) size old was from new now to
 stops-as StopShort size old new was now from to s = s

@@ -39,10 +39,6 @@ module _ {D : Type 0} (second : D → List ℕ) (log : Log D) (is : Gathers seco
     pub spilled_gathers : (fits : 0 ≤ length log.buffer.items) (few : length log.buffer.items ≤ most_held) → Gathers second (record log { device = device; end = log.end + log.used; used = 0; fits = fits; few = few })
     spilled_gathers fits few = record { fits = omega arith; room = is.room; end = ap length spilled_file ∙ gathered_length }
 
--- bytes behind those that were gathered
-pub gathered_more : (file used bytes now : List ℕ) → now ≡ used ++ bytes → file ++ now ≡ (file ++ used) ++ bytes
-gathered_more file used bytes now is = ap (λ (l : List ℕ). file ++ l) is ∙ sym (append_assoc file used bytes)
-
 -- a head and an open gate
 pub makes_front : (sh : Shape) (file : List ℕ) → file ≡ head_bytes sh ++ 4 ∷ [] → Makes sh (blank sh) 34 file
 makes_front sh file is =

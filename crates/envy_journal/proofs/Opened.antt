@@ -40,10 +40,6 @@ module _ {D : Type 0} (moment : D → ℕ) (left_since : D → ℕ → List ℕ 
       subst (λ (l : List ℕ). LeavesOnly moment left_since old new (StandsFor sh (operations l))) (sym is)
       (widened moment left_since old new (ReadsAlike end file) (StandsFor sh (operations file)) only (λ c alike. alike_stands sh end file c le (subst (λ (l : List ℕ). Begins (head_bytes sh) l) is head) alike))
 
--- a file with a head stands for what is read of it
-pub stands_itself : (sh : Shape) (bytes : List ℕ) → Begins (head_bytes sh) bytes → StandsFor sh (operations bytes) bytes
-stands_itself sh bytes head = record { head = head; reads = refl }
-
 -- a head and a closed gate are a journal without operations
 pub made_new : (sh : Shape) → StandsFor sh [] (head_bytes sh ++ 0 ∷ [])
 made_new sh =

@@ -231,9 +231,6 @@ same-held c d b is held = subst (λ (x : Chart). ∥ (IsTrue x.on → IsHeld x b
 pub in-range : (p : Picture) (b : Bool) (a : ℕ) → a < length (sheet_of p b).words → 32 * p.chart.shape.pages ≤ a → ⊥
 in-range p b a lt le = let n = words_long (p.chart.on && b) p.chart in absurd (omega arith)
 
-pub inside-of : (p : Picture) (b : Bool) (a : ℕ) → a < length (sheet_of p b).words → a < 32 * p.chart.shape.pages
-inside-of p b a lt = let n = words_long (p.chart.on && b) p.chart in omega arith
-
 -- ---- what is held after each call, whatever it answered
 
 pub start-held : (c d : Chart) (b : Bool) (r : Result ℕ BeginFault) → b ≡ false → IsTrue c.on → ∥ (IsTrue c.on → IsHeld c b) ∥₁ → ((m : Array) → Stands c m → Begins m r d) → ((r ≡ Err BeginOff) ↔ (d.on ≡ false)) → ((r ≡ Err BeginBusy) ↔ (IsTrue c.on × ((u : ℕ) → u < 64 → slot c.fields u ≡ Some Active))) → ∥ (IsTrue d.on → IsHeld d true) ∥₁

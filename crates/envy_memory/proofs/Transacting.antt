@@ -6,13 +6,12 @@ use Rattle.std.proofs.Props.{props}
 use Rattle.std.proofs.lemmas.Bool.{cases_eq, eq-eqb, ne_eqb, or_cases, or_left, or_right}
 use Rattle.envy_base.specs.Array.{Array, Saved, slot_of, undone, undo_all, owns, owner, put, put_back, saving, is_closed, page_of}
 use Rattle.envy_base.specs.Step.{Answer, Step, Lost, Begin, Put, Done, Started, Range, Held, Closed, Full, Busy}
-use Rattle.envy_base.specs.Words.{Sheet, Works as SheetWorks, OnPage, Keeps, has}
+use Rattle.envy_base.specs.Words.{Works as SheetWorks, OnPage, Keeps, has}
 use Rattle.envy_base.specs.declared.fields.Slot.TheVariants.{Active, Vacant}
 use Rattle.envy_base.specs.declared.shape.Shape.{Shape}
 use Rattle.envy_base.proofs.Owning.{owner-Some}
 use Rattle.envy_base.proofs.Undoing.{undo_all-closed, undone-begun, undone-put}
 use Rattle.envy_base.proofs.Undoing.{has as has-address}
-use Rattle.envy_base.proofs.Working.{Works-refl}
 use Rattle.envy_map.specs.Fields.{Chart, slot}
 use Rattle.envy_layout.specs.Same.{Counted}
 use Rattle.envy_layout.specs.Stands.{Holds, Stands, Steps, IsLost, slot_word}
@@ -71,9 +70,6 @@ words-held p b on h = subst (λ (x : Bool). words_read (x && b) p.chart ≡ (IsH
 pub kept-held : (p : Picture) (b : Bool) (h : IsHeld p.chart b) → durable p.chart ≡ undone (IsHeld.array h)
 kept-held p b h = Holds.durable (Stands.holds (IsHeld.stands h))
 
-pub words-off : (p : Picture) (b : Bool) → p.chart.on ≡ false → (sheet_of p b).words ≡ durable p.chart
-words-off p b off = ap (λ (x : Bool). words_read (x && b) p.chart) off
-
 -- ---- what every call keeps
 
 fixed-same : (i j : ℕ) (c d : Chart) → d.shape ≡ c.shape → Counted i j c d → fixed_of d ≡ fixed_of c
@@ -128,9 +124,6 @@ pub sheet-same : (p q : Picture) (b : Bool) → q.chart ≡ p.chart → q.owned 
 sheet-same p q b chart owned = ap (λ (c : Chart). sheet_of (record p { chart = c; owned = q.owned }) b) chart ∙ ap (λ (o : Ownership). sheet_of (record p { owned = o }) b) owned
 
 -- ---- load
-
-pub load-works : (p q : Picture) (b : Bool) → q.chart ≡ p.chart → q.owned ≡ p.owned → SheetWorks 0 (sheet_of p b) (sheet_of q b)
-load-works p q b chart owned = subst (λ (s : Sheet). SheetWorks 0 (sheet_of p b) s) (sym (sheet-same p q b chart owned)) (Works-refl (sheet_of p b))
 
 pub load-word : (p : Picture) (b : Bool) (d : Chart) (a v : ℕ) → IsTrue p.chart.on → ∥ (IsTrue p.chart.on → IsHeld p.chart b) ∥₁ → ((m : Array) → Stands p.chart m → Loads m a (Ok v) d) → v ≡ slice_index (sheet_of p b).words a
 load-word p b d a v on held step = ∥∥₁_elim held (search props) (λ hold. at (hold on))
@@ -248,9 +241,6 @@ put-done c d a w step h = at (IsHeld.slots h) (step m (IsHeld.stands h))
         let (slots, words, kept) = put-moves c d m n saved other a w is open_is same in
         record { held = record { array = n; stands = stands; slots = (_, slots) }; words = words; kept = kept }
 
-pub put-held : (c d : Chart) (a w : ℕ) → IsTrue c.on → ∥ (IsTrue c.on → IsHeld c true) ∥₁ → ((m : Array) → Stands c m → Puts m 0 a w (Ok tt) d) → ∥ (IsTrue d.on → IsHeld d true) ∥₁
-put-held c d a w on held step = ∥∥₁_map held (λ hold lit. PutMoved.held (put-done c d a w step (hold on)))
-
 pub put-words : (p q : Picture) (a w : ℕ) → IsTrue p.chart.on → IsTrue q.chart.on → ∥ (IsTrue p.chart.on → IsHeld p.chart true) ∥₁ → ((m : Array) → Stands p.chart m → Puts m 0 a w (Ok tt) q.chart) → (sheet_of q true).words ≡ slice_set (sheet_of p true).words a w
 put-words p q a w on lit held step = ∥∥₁_elim held (search props) (λ hold. at (hold on) (put-done p.chart q.chart a w step (hold on)))
   where
@@ -297,9 +287,6 @@ put-kept c d a w r on held step = ∥∥₁_elim held (search props) (λ hold. p
 -- a flash operation failed
 pub bad-moves : (c d : Chart) (a w : ℕ) → ((m : Array) → Stands c m → Puts m 0 a w (Err PutBad) d) → (h : IsHeld c true) → (e : IsHeld d true) × ((IsHeld.array e).words ≡ (IsHeld.array h).words)
 bad-moves c d a w step h = let (n, accepts, stands) = step (IsHeld.array h) (IsHeld.stands h) in (record { array = IsHeld.array h; stands = stands; slots = IsHeld.slots h }, refl)
-
-pub bad-held : (c d : Chart) (a w : ℕ) → IsTrue c.on → ∥ (IsTrue c.on → IsHeld c true) ∥₁ → ((m : Array) → Stands c m → Puts m 0 a w (Err PutBad) d) → ∥ (IsTrue d.on → IsHeld d true) ∥₁
-bad-held c d a w on held step = ∥∥₁_map held (λ hold lit. (bad-moves c d a w step (hold on)).0)
 
 pub bad-words : (p q : Picture) (a w : ℕ) → IsTrue p.chart.on → IsTrue q.chart.on → ∥ (IsTrue p.chart.on → IsHeld p.chart true) ∥₁ → ((m : Array) → Stands p.chart m → Puts m 0 a w (Err PutBad) q.chart) → (sheet_of q true).words ≡ (sheet_of p true).words
 bad-words p q a w on lit held step = ∥∥₁_elim held (search props) (λ hold. at (hold on) (bad-moves p.chart q.chart a w step (hold on)))

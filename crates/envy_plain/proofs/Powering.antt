@@ -19,10 +19,6 @@ pub record IsClosedBelow (old now : Array) (t : ℕ) : Type 0 where
   pub shadows : now.shadows ≡ old.shadows
   pub closed : (u : ℕ) → u < t → slot_of now u ≡ None
 
--- before the first slot
-pub IsClosedBelow-none : (m : Array) → IsArray m → IsClosedBelow m m 0
-IsClosedBelow-none m i = record { array = i; same = refl; shadows = refl; closed = λ u lt. absurd (omega arith) }
-
 after-aborted : (old mid new : Array) (t : ℕ) (saved : Saved) → IsClosedBelow old mid t → slot_of mid t ≡ Some saved → new ≡ aborted mid t saved → IsClosedBelow old new (t + 1)
 after-aborted old mid new t saved below opened is = record {
   array = step-keeps mid new (Abort t) Done below.array (saved, opened, is);

@@ -8,8 +8,7 @@ use Rattle.envy_base.specs.declared.fields.Job.{Job}
 use Rattle.envy_base.specs.declared.fields.Job.TheVariants.{Idle, Copy, Switch, Erase}
 use Rattle.envy_base.specs.declared.shape.Shape.{Shape}
 use Rattle.envy_map.specs.Fields.{Fields, Chart, with_fields}
-use Rattle.envy_base.specs.State.{Only, IsOnes}
-use Rattle.envy_map.specs.Writes.{with_back, with_fill, with_job, with_position, with_wear}
+use Rattle.envy_map.specs.Writes.{with_back, with_fill, with_job}
 use Rattle.envy_layout.specs.Sound.{Sound, IsSound, IsPlaced, IsSpare, Names, Numbers, Blanks}
 use Rattle.envy_layout.proofs.NamingLemmas.{Names-into, named-page, job-named, fills-named, positions-named, origins-named}
 use Rattle.envy_layout.proofs.References.{apart-spare, row-of}
@@ -232,19 +231,3 @@ pub cleans-begun-at : (old new : Chart) (k n m d v : ℕ) → IsSound old → Is
 cleans-begun-at old new k n m d v sound shape idle sh same low here row dead is count =
     subst (λ (x : ℕ). Cleans old.shape old.fields.positions k n new.fields x) (sym count)
     (cleans-begun old new k n sound shape idle (subst (λ (z : Shape). k < z.segments - 1) same low) (d, row, dead) (is ∙ ap (λ (x : ℕ). with_fields old (with_job (Some (Copy x)) old.fields)) here))
-
--- the spare was placed, and the count stays
-pub cleans-placed-at : (old new : Chart) (p : Plan) (b : ℕ) (sh : Shape) (ps : List ℕ) (k n v : ℕ) → sh ≡ old.shape → IsSound old → old.fields.job ≡ Some (Switch v)
-    → (made : (j : ℕ) × (e : ℕ) × (j < old.shape.segments - 1) × (get_or old.fields.positions j 0 ≡ v) × IsSpare old.shape old.fields.positions e × (new ≡ with_fields old (with_job (Some Erase) (with_position j e old.fields))))
-    → b ≡ p.erased → Cleans sh ps k n old.fields p.erased → Cleans sh ps k n new.fields b
-cleans-placed-at old new p b sh ps k n v same sound switching (j, e, low, here, spare, is) count a =
-    subst (λ (x : ℕ). Cleans sh ps k n new.fields x) (sym count)
-    (cleans-placed old new p p sh ps k n same sound (record { v = v; switching = switching; k = j; position = low; here = here; e = e; spare = spare; is = is; plan_is = refl }) a)
-
--- the spare was erased, and counted
-pub cleans-erased-at : (old new : Chart) (p : Plan) (b : ℕ) (sh : Shape) (ps : List ℕ) (k n : ℕ) → sh ≡ old.shape → IsSound old → old.fields.job ≡ Some Erase
-    → (made : (e : ℕ) × IsSpare old.shape old.fields.positions e × (new.fields ≡ with_job (Some Idle) (with_fill e 0 (with_wear e (up (get_or old.fields.wears e 0)) old.fields))) × Only old.shape.rows e IsOnes old.flash new.flash)
-    → b ≡ up p.erased → Cleans sh ps k n old.fields p.erased → Cleans sh ps k n new.fields b
-cleans-erased-at old new p b sh ps k n same sound erasing (e, spare, fields, only) count a =
-    subst (λ (x : ℕ). Cleans sh ps k n new.fields x) (sym count)
-    (cleans-erased old new p (record p { erased = up p.erased; since = up p.since }) sh ps k n same sound (record { erasing = erasing; e = e; spare = spare; fields = fields; erased_rows = only; plan_is = refl }) a)

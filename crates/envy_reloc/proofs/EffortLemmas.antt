@@ -184,12 +184,6 @@ within-one old new plan v n e s copying some same left = at (Leaves-at old plan 
     at : LeftOf old.shape (Some (Copy v)) old.fields.fills old.fields.positions plan.moves n e s → Same n e old new
     at (x, spare, is, one, steps) = let low = some x spare in Same-more 1 0 n e old new (omega arith) (omega arith) same
 
-pub within-none : (n e : ℕ) (old new : Chart) → Same 0 0 old new → Same n e old new
-within-none n e old new same = Same-more 0 0 n e old new (omega arith) (omega arith) same
-
-pub within-erase : (old new : Chart) (plan : Plan) (n e s : ℕ) → old.fields.job ≡ Some Erase → Same 0 1 old new → Leaves old plan n e s → Same n e old new
-within-erase old new plan n e s erasing same left = let is = Leaves-at old plan Erase n e s erasing left in let one = is.1 in Same-more 0 1 n e old new (omega arith) (omega arith) same
-
 -- what is left at the beginning
 pub Leaves-begun : (old new : Chart) (moves : List ℕ) (v n : ℕ) → IsSound old → IsShape old.shape → old.fields.job ≡ Some Idle → new ≡ with_fields old (with_job (Some (Copy v)) old.fields) → n ≡ length moves + old.shape.rows → LeftOf new.shape new.fields.job new.fields.fills new.fields.positions moves n 1 (n + 3)
 Leaves-begun old new moves v n sound shape idle is count =

@@ -1,5 +1,5 @@
 -- What stands at an exit where power is off, and where nothing was erased any more.
-use Rattle.std.proofs.Common.{◌≡◌, ◌∙◌, ℕ, ◌+◌, ◌≤◌, Bool, true, false, IsTrue, sym, subst, arith}
+use Rattle.std.proofs.Common.{◌≡◌, ◌∙◌, ℕ, Bool, true, false, IsTrue, sym, subst, arith}
 use Rattle.std.specs.Prelude.{sum}
 use Rattle.envy_base.specs.Counting.{Tally}
 use Rattle.envy_map.specs.Fields.{Chart}

@@ -1,36 +1,12 @@
 -- Plans that agree with the map after each phase.
-use Rattle.std.proofs.Common.{◌≡◌, ◌≢◌, ◌⊎◌, inl, inr, ℕ, ◌-◌, ◌/◌, ◌<◌, ◌≤◌, List, get_or, Some, sym, ◌∙◌, ap, subst, arith}
+use Rattle.std.proofs.Common.{◌≡◌, ◌≢◌, ◌⊎◌, inl, inr, ℕ, ◌-◌, ◌/◌, List, Some, sym, ◌∙◌, ap, subst}
 use Rattle.std.specs.Prelude.{All}
 use Rattle.envy_base.specs.declared.shape.Shape.{Shape}
 use Rattle.envy_base.specs.declared.fields.Job.TheVariants.{Idle, Copy, Switch, Erase}
 use Rattle.envy_map.specs.Fields.{Fields}
-use Rattle.envy_map.specs.Writes.{with_job}
-use Rattle.envy_layout.specs.Sound.{Sound, Blanks, Jobs, IsPlaced}
+use Rattle.envy_layout.specs.Sound.{Sound, Jobs, IsPlaced}
 use Rattle.envy_reloc.specs.Switching.{SwitchesAll}
 use Rattle.envy_reloc.specs.Plan.{Plan, IsMarked, IsPlanOf}
-
--- a copy has begun
-pub IsPlanOf-begun : (sh : Shape) (f : Fields) (flash : List (List ℕ)) (v : ℕ) (plan : Plan) → Sound sh f flash → f.job ≡ Some Idle → All (λ (q : ℕ). q / sh.rows ≡ v) plan.moves → ((first last : ℕ) → plan.aside ≡ Some (first, last) → (first ≤ last) × (last < sh.segments - 1)) → plan.mark ≡ 0 → IsPlanOf sh (with_job (Some (Copy v)) f) flash plan
-IsPlanOf-begun sh f flash v plan sound idle moves aside unmarked = record {
-  prepared = record {
-    moves = λ w is. let same : v ≡ w = cc in subst (λ (x : ℕ). All (λ (q : ℕ). q / sh.rows ≡ x) plan.moves) same moves;
-    aside = λ w first last is at. aside first last at;
-    copies = λ w e is spare.
-        let none : get_or f.fills e 0 ≡ 0 = Blanks.idle sound.blanks e idle spare in
-        record {
-          each = λ i lt. absurd (omega arith);
-          apart = λ i j lt less same. absurd (omega arith);
-        };
-  };
-  marked = record {
-    kept = λ w e p q is spare names at lt. absurd (omega arith);
-    copied = λ w e i is spare lt. let none : get_or f.fills e 0 ≡ 0 = Blanks.idle sound.blanks e idle spare in absurd (omega arith);
-  };
-  switched = record {
-    placed = λ w is. absurd (let clash : Some (Copy v) ≡ Some (Switch w) = is in cc);
-    clear = λ w p q is named. absurd (let clash : Some (Copy v) ≡ Some (Switch w) = is in cc);
-  };
-}
 
 -- the spare is to be erased, or nothing runs
 pub IsPlanOf-ended : (sh : Shape) (f : Fields) (flash : List (List ℕ)) (plan : Plan) → (f.job ≡ Some Idle) ⊎ (f.job ≡ Some Erase) → IsPlanOf sh f flash plan

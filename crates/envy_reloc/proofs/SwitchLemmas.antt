@@ -59,14 +59,6 @@ origin-apart sh f flash e i j sound copied lt same = from copied.switching
         let one : e ≡ v = sym (copy-segment sh f flash e i sound copied.row) ∙ ap (λ (x : ℕ). x / sh.rows) (sym same) ∙ Copies.rows (Jobs.copies sound.job v e switch placed copied.spare) j lt in
         apart-spare sh f.positions v placed (subst (λ (x : ℕ). IsSpare sh f.positions x) one copied.spare)
 
--- before the first row
-pub SwitchesRows-none : (sh : Shape) (e : ℕ) (f : Fields) → SwitchesRows sh e 0 f f
-SwitchesRows-none sh e f = record {
-  fields = refl;
-  by_place = λ p. inl (refl, λ i lt is. absurd (omega arith));
-  by_undo = λ p. inl (refl, λ i t lt is active. absurd (omega arith));
-}
-
 -- One row more: from f, which is what begin became, to g. No page of f names the row, so nothing changes.
 next-none : (sh : Shape) (begin f : Fields) (e i : ℕ) → ((p : ℕ) → Names f p (get_or f.origins i 0) → ⊥) → SwitchesRows sh e i begin f → SwitchesRows sh e (i + 1) begin f
 next-none sh begin f e i none was = record {
@@ -244,15 +236,6 @@ IsCopied-going old begin now v e n i sound copying spare begins shape rows lt =
 
     positions : now.fields.positions ≡ old.fields.positions
     positions = ap (λ (x : Fields). x.positions) going
-
--- row i of the spare is a copy then, too
-pub IsCopied-switched : (sh : Shape) (f g : Fields) (e i : ℕ) (s : Option Switched) → IsCopied sh f e i → SwitchesRow sh f e i s g → IsCopied sh g e i
-IsCopied-switched sh f g e i None copied (is, none) = subst (λ (x : Fields). IsCopied sh x e i) (sym is) copied
-IsCopied-switched sh f g e i (Some s) copied (row, page, named, is) = subst (λ (x : Fields). IsCopied sh x e i) (sym is) (at s.kept.undo)
-  where
-    at : (u : Option ℕ) → IsCopied sh (with_named s.kept.page (e * sh.rows + i) u f) e i
-    at None = record { switching = copied.switching; spare = copied.spare; row = copied.row }
-    at (Some t) = record { switching = copied.switching; spare = copied.spare; row = copied.row }
 
 -- the whole segment, from its job of before
 pub SwitchesAll-rows : (sh : Shape) (f g : Fields) (flash : List (List ℕ)) (v e n : ℕ) → Copies sh f.slots f.undos f.places f.fills f.backs f.origins flash v e → IsPlaced sh f.positions v → IsSpare sh f.positions e → n ≡ get_or f.fills e 0 → ((i : ℕ) → i < n → (e * sh.rows + i) / sh.rows ≡ e) → SwitchesRows sh e n (with_job (Some (Switch v)) f) g → SwitchesAll sh v e f g

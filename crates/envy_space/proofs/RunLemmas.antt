@@ -1,11 +1,11 @@
 -- The best entries of runs of places, and of the run below a node.
-use Rattle.std.proofs.Common.{◌≡◌, ◌⊎◌, inl, inr, Option, None, Some, ℕ, zero, suc, ◌+◌, ◌-◌, ◌*◌, ◌^◌, ◌<◌, ◌≤◌, Bool, true, false, cond, ◌≢◌, List, length, get_or, set, get_or-set_same, get_or-set_other, refl, sym, ◌∙◌, ap, subst, arith}
+use Rattle.std.proofs.Common.{◌≡◌, ◌⊎◌, inl, inr, ℕ, zero, suc, ◌+◌, ◌-◌, ◌*◌, ◌^◌, ◌<◌, ◌≤◌, Bool, true, false, cond, ◌≢◌, List, length, get_or, set, get_or-set_same, get_or-set_other, refl, sym, ◌∙◌, ap, subst, arith}
 use Rattle.std.specs.Prelude.{nat_lt}
 use Rattle.std.proofs.lemmas.Bool.{cases_lt, ltb-true, ltb-false}
 use Rattle.std.proofs.Math.Nat.{two-pow-succ, mul-le-mul_left, mul-le-mul_right}
 use Rattle.std.proofs.lemmas.Nat.{pow_pos}
 use Rattle.envy_space.specs.declared.nodes.Entry.{Entry}
-use Rattle.envy_space.specs.Winners.{IsTree, IsRun, IsWinner, Wins, nobody, node, better, score_in}
+use Rattle.envy_space.specs.Winners.{IsTree, IsRun, node, better, score_in}
 
 -- the better of the best of two runs side by side is the best of both
 pub IsRun-better : (score : ℕ → ℕ) (first mid end : ℕ) (a b : Entry) → first ≤ mid → mid ≤ end → IsRun score first mid a → IsRun score mid end b → IsRun score first end (better a b)
@@ -42,16 +42,6 @@ IsRun-better score first mid end a b low high left right = at (nat_lt a.score b.
           has = left.has;
           lowest = left.lowest;
         })
-
--- no place, and one
-pub IsRun-none : (score : ℕ → ℕ) (first : ℕ) → IsRun score first first nobody
-IsRun-none score first = record {
-  most = λ k low high. absurd (omega arith);
-  above = λ some. absurd (omega arith);
-  below = λ some. absurd (omega arith);
-  has = λ some. absurd (omega arith);
-  lowest = λ some. absurd (omega arith);
-}
 
 pub IsRun-one : (score : ℕ → ℕ) (k end : ℕ) (e : Entry) → end ≡ k + 1 → e.place ≡ k → score k ≡ e.score → IsRun score k end e
 IsRun-one score k end e next here is = record {
@@ -94,20 +84,6 @@ pub record Narrowed (score : ℕ → ℕ) (n first end low high : ℕ) (left rig
   pub to : b ≤ end
   pub before : IsRun score first a left
   pub after : IsRun score b end right
-
-pub Narrowed-start : (score : ℕ → ℕ) (n first end : ℕ) → first ≤ end → Narrowed score n first end (n + first) (n + end) nobody nobody
-Narrowed-start score n first end le = record {
-  level = 0;
-  a = first;
-  b = end;
-  starts = omega arith;
-  stops = omega arith;
-  order = omega arith;
-  from = omega arith;
-  to = omega arith;
-  before = IsRun-none score first;
-  after = IsRun-none score end;
-}
 
 -- the first node is done
 pub Narrowed-low : (n first end low high : ℕ) (nodes : List Entry) (left right : Entry) → IsTree n nodes → end ≤ n → low < high → Narrowed (score_in n nodes) n first end low high left right → Narrowed (score_in n nodes) n first end (low + 1) high (better left (node nodes low)) right
@@ -168,45 +144,6 @@ Narrowed-up score n first end low high left right was =
       to = was.to;
       before = was.before;
       after = was.after;
-    }
-
--- nothing is left
-pub Narrowed-end : (score : ℕ → ℕ) (n first end low high : ℕ) (left right : Entry) → high ≤ low → Narrowed score n first end low high left right → IsRun score first end (better left right)
-Narrowed-end score n first end low high left right le was =
-    let starts = was.starts in
-    let stops = was.stops in
-    let order = was.order in
-    let same : low * 2 ^ was.level ≡ high * 2 ^ was.level = ap (λ (i : ℕ). i * 2 ^ was.level) (omega arith) in
-    let met : was.b ≡ was.a = omega arith in
-    IsRun-better score first was.a end left right was.from (let to = was.to in omega arith) was.before (subst (λ (b : ℕ). IsRun score b end right) met was.after)
-
--- the best entry of a run tells its winner
-pub Wins-run_none : (score : ℕ → ℕ) (first last : ℕ) (e : Entry) → IsRun score first (last + 1) e → e.score ≡ 0 → Wins score first last None
-Wins-run_none score first last e run none k low high = let most = run.most k low (omega arith) in omega arith
-
-pub IsWinner-run : (score : ℕ → ℕ) (first last : ℕ) (e : Entry) → IsRun score first (last + 1) e → 0 < e.score → IsWinner score first last e.place
-IsWinner-run score first last e run some =
-    let below = run.below some in
-    let is = run.has some in
-    record {
-      above = run.above some;
-      below = omega arith;
-      some = omega arith;
-      most = λ j low high. let most = run.most j low (omega arith) in omega arith;
-      lowest = λ j low high. let less = run.lowest some j low high in omega arith;
-    }
-
--- where scores are the same
-pub Wins-same : (f g : ℕ → ℕ) (first last : ℕ) (answer : Option ℕ) → ((k : ℕ) → k ≤ last → f k ≡ g k) → Wins f first last answer → Wins g first last answer
-Wins-same f g first last None same wins = λ j low high. let e = same j high in let none = wins j low high in omega arith
-Wins-same f g first last (Some k) same wins =
-    let here = same k wins.below in
-    record {
-      above = wins.above;
-      below = wins.below;
-      some = let some = wins.some in omega arith;
-      most = λ j low high. let most = wins.most j low high in let e = same j high in omega arith;
-      lowest = λ j low high. let less = wins.lowest j low high in let below = wins.below in let e = same j (omega arith) in omega arith;
     }
 
 pub IsRun-same : (f g : ℕ → ℕ) (first end : ℕ) (e : Entry) → ((k : ℕ) → first ≤ k → k < end → f k ≡ g k) → IsRun f first end e → IsRun g first end e

@@ -23,25 +23,10 @@ use Rattle.envy_journal.proofs.Redone.{bads-never}
 use Rattle.envy_disk.specs.Disk.{Syncs, with_disk}
 use Rattle.envy_synced.specs.Disk.{Ends, IsKept}
 
--- a journaled board and the one in it
-pub journal_on : (dead : Bool) (s : State) → IsTrue (journal_state dead s).on → dead ≡ false
-journal_on true s on = absurd (false≢true on)
-journal_on false s on = refl
-
 -- a journaled board is off though its board is on only where it has ended
 pub journal_off : (dead : Bool) (s : State) → IsTrue s.on → (journal_state dead s).on ≡ false → IsTrue dead
 journal_off true s on off = refl
 journal_off false s on off = absurd (false≢true (sym off ∙ on))
-
--- whether a journal has ended changes no size
-pub journal_shape : (dead : Bool) (s : State) → (journal_state dead s).shape ≡ s.shape
-journal_shape true s = refl
-journal_shape false s = refl
-
--- whether a journal has ended changes no content
-pub journal_content : (dead : Bool) (s : State) → content_of (journal_state dead s) ≡ content_of s
-journal_content true s = refl
-journal_content false s = refl
 
 journal_bads : (dead : Bool) (s : State) → (journal_state dead s).bads ≡ s.bads
 journal_bads true s = refl

@@ -1,11 +1,11 @@
 -- Which pages the entries of a cache hold after a call.
-use Rattle.std.proofs.Common.{◌≡◌, ◌⊎◌, inl, inr, Bool, true, false, ℕ, ◌%◌, ◌<◌, ◌≤◌, zero, suc, List, length, get_or, None, Some, refl, sym, ◌∙◌, ap, subst, arith}
-use Rattle.std.specs.Prelude.{◌==◌, if◌then◌else◌}
-use Rattle.std.proofs.lemmas.Bool.{cases_eq, cases_lt, eq-eqb, ne_eqb, eqb-true}
+use Rattle.std.proofs.Common.{◌≡◌, ◌⊎◌, inl, inr, Bool, true, false, ℕ, ◌%◌, ◌<◌, ◌≤◌, List, length, get_or, None, Some, refl, sym, ◌∙◌, ap, subst}
+use Rattle.std.specs.Prelude.{if◌then◌else◌}
+use Rattle.std.proofs.lemmas.Bool.{cases_eq, cases_lt, eqb-true}
 use Rattle.std.proofs.lemmas.List.{get_or-set_same, get_or-set_other, set_past, length-set}
 use Rattle.envy_base.specs.declared.fields.Place.{Place}
-use Rattle.envy_table.specs.Entries.{Entry, Translations, entry, holds, is_hit, counted, filled, retargeted, vacant}
-use Rattle.envy_table.specs.Hits.{page_in, page_at, Accesses, Rests, Empties}
+use Rattle.envy_table.specs.Entries.{Entry, Translations, entry, holds, is_hit, filled, retargeted}
+use Rattle.envy_table.specs.Hits.{page_in, page_at, Accesses, Rests}
 
 pub Rests-refl : (t : Translations) → Rests t t
 Rests-refl t = record { size = refl; pages = λ i. refl; hits = refl; misses = refl }
@@ -17,13 +17,6 @@ Rests-trans a b c x y = record { size = y.size ∙ x.size; pages = λ i. y.pages
 held-page : (e : Entry) (p : ℕ) → holds e p ≡ true → page_in e ≡ Some p
 held-page None p hit = cc
 held-page (Some kept) p hit = ap (λ (n : ℕ). Some n) (eqb-true kept.0 p hit)
-
-filled-page : (entries : List Entry) (p i : ℕ) (x : Place) → 0 < length entries → page_at (filled entries p x) i ≡ (if i == p % length entries then Some p else page_at entries i)
-filled-page entries p i x some = at (cases_eq i (p % length entries))
-  where
-    at : (i ≡ p % length entries) ⊎ (i ≡ p % length entries → ⊥) → page_at (filled entries p x) i ≡ (if i == p % length entries then Some p else page_at entries i)
-    at (inl same) = rw (eq-eqb i (p % length entries) same) (ap page_in (ap (λ (n : ℕ). get_or (filled entries p x) n None) same ∙ get_or-set_same entries (p % length entries) (Some (p, x)) None (omega arith)))
-    at (inr other) = rw (ne_eqb i (p % length entries) other) (ap page_in (get_or-set_other entries (p % length entries) i (Some (p, x)) None other))
 
 -- the same page with another place
 retargeted-page : (entries : List Entry) (p i : ℕ) (x : Place) (b : Bool) → is_hit entries p ≡ b → page_at (if b then filled entries p x else entries) i ≡ page_at entries i
@@ -51,36 +44,9 @@ Rests-retargeted t new p x is = subst (Rests t) (sym is) (record {
   misses = refl;
 })
 
--- an access fills its entry and counts one
-pub Accesses-translated : (t new : Translations) (p : ℕ) (x : Place) → 0 < length t.entries → new ≡ record (counted t p) { entries = filled t.entries p x } → Accesses p t new
-Accesses-translated t new p x some is = subst (Accesses p t) (sym is) (at (is_hit t.entries p) refl)
-  where
-    at : (b : Bool) → is_hit t.entries p ≡ b → Accesses p t (record (counted t p) { entries = filled t.entries p x })
-    at true hit = record { size = length-set t.entries (p % length t.entries) (Some (p, x)); pages = λ i. filled-page t.entries p i x some; hits = rw hit refl; misses = rw hit refl }
-    at false miss = record { size = length-set t.entries (p % length t.entries) (Some (p, x)); pages = λ i. filled-page t.entries p i x some; hits = rw miss refl; misses = rw miss refl }
-
 -- what doesn't change rests
 pub Rests-same : (t new : Translations) → new ≡ t → Rests t new
 Rests-same t new is = subst (Rests t) (sym is) (Rests-refl t)
-
--- an entry that holds nothing, or is past the last
-get_or-vacant : (n i : ℕ) → get_or (vacant n) i None ≡ None
-get_or-vacant zero i = refl
-get_or-vacant (suc n) zero = refl
-get_or-vacant (suc n) (suc i) = get_or-vacant n i
-
--- an emptied cache counts nothing
-pub Empties-vacated : (t new : Translations) → length new.entries ≡ length t.entries → new ≡ record t { entries = vacant (length t.entries) } → Empties t new
-Empties-vacated t new size is = record {
-  size = size;
-  pages = λ i. ap (λ (x : Translations). page_at x.entries i) is ∙ ap page_in (get_or-vacant (length t.entries) i);
-  hits = ap (λ (x : Translations). x.hits) is;
-  misses = ap (λ (x : Translations). x.misses) is;
-}
-
--- emptied, and at rest since
-pub Empties-then : (a b c : Translations) → Empties a b → Rests b c → Empties a c
-Empties-then a b c x y = record { size = y.size ∙ x.size; pages = λ i. y.pages i ∙ x.pages i; hits = y.hits ∙ x.hits; misses = y.misses ∙ x.misses }
 
 -- accessed, and at rest since
 pub Accesses-then : (p : ℕ) (a b c : Translations) → Accesses p a b → Rests b c → Accesses p a c

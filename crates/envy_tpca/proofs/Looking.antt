@@ -1,8 +1,8 @@
 -- What a restart finds, and how large the sums are.
-use Rattle.std.proofs.Common.{◌≡◌, ◌≢◌, ◌⊎◌, inl, inr, ℕ, suc, ◌<◌, ◌≤◌, ◌+◌, ◌*◌, true, false, cond, List, [], ◌∷◌, length, get_or, replicate, ◌∙◌, arith}
-use Rattle.std.specs.Prelude.{ℤ, pos, negsuc, ◌+ℤ◌, ◌==◌, ◌++◌, ◌^◌, slice_index, unsigned_abs}
+use Rattle.std.proofs.Common.{◌≡◌, ◌⊎◌, inl, inr, ℕ, suc, ◌<◌, ◌≤◌, ◌+◌, ◌*◌, true, false, cond, List, [], ◌∷◌, length, get_or, replicate, arith}
+use Rattle.std.specs.Prelude.{ℤ, pos, negsuc, ◌+ℤ◌, ◌==◌, ◌^◌, unsigned_abs}
 use Rattle.std.proofs.Common.{w64}
-use Rattle.std.proofs.lemmas.List.{length_push, length-replicate, get_or-replicate, get_or_past}
+use Rattle.std.proofs.lemmas.List.{length-replicate, get_or-replicate, get_or_past}
 use Rattle.std.proofs.lemmas.Int.{fits_signed_from_abs, ints}
 use Rattle.std.proofs.lemmas.Bool.{cases_lt, cases_Bool}
 use Rattle.envy_tpca.specs.declared.places.Places.{Places}
@@ -11,11 +11,6 @@ use Rattle.envy_tpca.specs.Summing.{Small}
 use Rattle.envy_tpca.specs.Tpc.{TpcAt, deltas_of, branch_at, teller_at, account_at}
 use Rattle.envy_tpca.specs.Trial.{AreSmall}
 
--- what a restart may find of a transfer that was cut, and what word 0 then says
-abbrev pub LookLaw : Type 0
-LookLaw = (l : Places) (size : ℕ) (ts : List Transfer) (t : Transfer) (words : List ℕ) → TpcAt l size ts words ⊎ TpcAt l size (ts ++ (t ∷ [])) words
-    → (slice_index words 0 ≡ length ts + 1 → TpcAt l size (ts ++ (t ∷ [])) words) × (slice_index words 0 ≢ length ts + 1 → TpcAt l size ts words)
-
 -- words of zeros are those after no transfer
 abbrev pub ZerosLaw : Type 0
 ZerosLaw = (l : Places) (size : ℕ) → TpcAt l size [] (replicate size 0)
@@ -23,10 +18,6 @@ ZerosLaw = (l : Places) (size : ℕ) → TpcAt l size [] (replicate size 0)
 -- sums of so many small deltas are far from the ends of a signed word
 abbrev pub BoundLaw : Type 0
 BoundLaw = (at : Transfer → ℕ) (k : ℕ) (ts : List Transfer) → AreSmall ts → length ts ≤ 2 ^ 32 → Small (deltas_of at k ts)
-
-pub look-law : LookLaw
-look-law l size ts t words (inl before) = (λ e. let c = before.count in absurd (omega arith), λ ne. before)
-look-law l size ts t words (inr after) = (λ e. after, λ ne. absurd (ne (after.count ∙ length_push ts t)))
 
 zero-at : (n a : ℕ) → get_or {A = ℕ} (replicate n 0) a 0 ≡ 0
 zero-at n a = at (cases_lt a n)

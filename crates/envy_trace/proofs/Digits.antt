@@ -32,10 +32,6 @@ digits_step bs i lt e all =
     let d = digit_from (get_or bs i 0) e in
     (digits_more 10 bs i lt all (omega arith), omega (arith, digits_value_more 10 bs i lt))
 
--- a value only grows with further digits
-pub digits_over : (bs : List ℕ) (i : ℕ) → 2 ^ 64 ≤ digits_value 10 (take (i + 1) bs) → digits_value 10 bs < 2 ^ 64 → ⊥
-digits_over bs i over fits = let more = digits_value-take-le 10 bs (i + 1) (omega arith) in omega arith
-
 pub digits_all : (bs : List ℕ) (i : ℕ) → length bs ≤ i → AllDigits 10 (take i bs) → IsTrue (all_ascii_digits bs) × (digits_value 10 (take i bs) ≡ digits_value 10 bs)
 digits_all bs i le all = let e = take_all i bs le in (own.from bs (rw e at all), ap (λ ds. digits_value 10 ds) e)
 

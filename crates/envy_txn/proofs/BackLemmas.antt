@@ -45,9 +45,6 @@ room-places c p t u now back b = rw (Places.long (Sound.places b.sound)) b.page
 pub room-undos : (c : Chart) (p t : ℕ) (u : Undo) (now back : Place) → Backs c p t u now back → p < length c.fields.undos
 room-undos c p t u now back b = rw (Slots.undos_long (Sound.slots b.sound)) b.page
 
-pub kept-back : (c : Chart) (p t : ℕ) (u : Undo) (now back : Place) → Backs c p t u now back → kept c.fields p ≡ Some back
-kept-back c p t u now back b = ap (λ (z : Option Undo). kept_by c.fields.slots z (place c.fields p)) b.owns ∙ kept_by-active c.fields.slots u t (place c.fields p) b.named b.active ∙ b.names
-
 -- in a frame, the page keeps what its undo names, and it stands there then
 back-many : (sh : Shape) (slots : List (Option Slot)) (u : Undo) (t k s : ℕ) → slot_named (Some u) ≡ Some t → get_or slots t None ≡ Some Active → page_kept_in sh slots (Some Clear) (named_by u) s ≡ page_kept_in sh slots (Some u) (Some (Frame k)) s
 back-many sh slots Clear t k s named active = absurd (let no : None ≡ Some t = named in cc)

@@ -12,11 +12,10 @@ use Rattle.envy_base.specs.declared.fields.Undo.TheVariants.{Clear, Blank, Shado
 use Rattle.envy_base.specs.declared.shape.Shape.{Shape}
 use Rattle.envy_map.specs.Fields.{Fields, Chart, with_fields, place, undo}
 use Rattle.envy_map.specs.Writes.{with_slot, with_undo}
-use Rattle.envy_layout.specs.May.{IsSettled}
 use Rattle.envy_layout.specs.PageRows.{page_kept_in}
 use Rattle.envy_layout.specs.RowKinds.{is_in, is_row, is_shadow_in}
 use Rattle.envy_layout.specs.Sound.{Slots, Sound, slot_named}
-use Rattle.envy_layout.specs.Words.{kept_by, if_active}
+use Rattle.envy_layout.specs.Words.{if_active}
 use Rattle.envy_space.specs.Noting.{ChangesPage, NamesOneMore, NamesAsMany, lies_in}
 use Rattle.envy_space.specs.Pool.{Pool, PoolAgrees, IsPoolOf}
 use Rattle.envy_space.proofs.NotingLemmas.{PoolAgrees-dead, PoolAgrees-same}
@@ -27,16 +26,6 @@ pub record Releases (c : Chart) (pool : Pool) (p t : ℕ) : Type 0 where
   pub releasing : Releasing c pool t
   pub page : p < c.shape.pages
   pub names : slot_named (undo c.fields p) ≡ Some t
-
--- a restart reads the page at its place
-pub settled-released : (c : Chart) (pool : Pool) (p t : ℕ) → Releases c pool p t → IsSettled c.fields p
-settled-released c pool p t r = at (undo c.fields p) r.names
-  where
-    at : (u : Option Undo) → slot_named u ≡ Some t → kept_by c.fields.slots u (place c.fields p) ≡ place c.fields p
-    at None e = cc
-    at (Some Clear) e = cc
-    at (Some (Blank u)) e = let same : u ≡ t = cc in ap (λ (x : ℕ). if_active (get_or c.fields.slots x None) (Some Absent) (place c.fields p)) same ∙ ap (λ (s : Option Slot). if_active s (Some Absent) (place c.fields p)) (Releasing.committed r.releasing)
-    at (Some (Shadow u q)) e = let same : u ≡ t = cc in ap (λ (x : ℕ). if_active (get_or c.fields.slots x None) (Some (Row q)) (place c.fields p)) same ∙ ap (λ (s : Option Slot). if_active s (Some (Row q)) (place c.fields p)) (Releasing.committed r.releasing)
 
 -- the map as if the slot were active, before and after
 abbrev before : Chart → ℕ → Fields

@@ -1,5 +1,5 @@
 -- The pages of a slot that has committed, one pair after another.
-use Rattle.std.proofs.Common.{◌≡◌, ◌≢◌, ◌⊎◌, inl, inr, true, false, ℕ, ◌<◌, List, [], ◌∷◌, ◌++◌, length, get_or, set, Option, None, Some, refl, sym, ◌∙◌, ap, subst}
+use Rattle.std.proofs.Common.{◌≡◌, ◌≢◌, ◌⊎◌, inl, inr, true, false, ℕ, ◌<◌, List, [], ◌∷◌, ◌++◌, length, get_or, set, Option, None, Some, sym, ◌∙◌, ap, subst}
 use Rattle.std.specs.Prelude.{IsTrue}
 use Rattle.std.specs.List.{AllPairs}
 use Rattle.std.proofs.lemmas.Bool.{cases_eq}
@@ -35,9 +35,6 @@ Releasing-after c new pool then_pool p t r lt on same is agrees = record {
     parted : (o s q : ℕ) → (o ≡ p) ⊎ (o ≡ p → ⊥) → get_or (set c.fields.undos p (Some Clear)) o None ≡ Some (Shadow s q) → get_or (set c.fields.slots t (Some Active)) s None ≡ Some Active → get_or c.fields.places o None ≡ Some (Row q) → ⊥
     parted o s q (inl eq) shadow active at = let no : Some Clear ≡ Some (Shadow s q) = sym (get_or-set_same c.fields.undos p (Some Clear) None (rw (Slots.undos_long (Sound.slots r.sound)) lt)) ∙ ap (λ (n : ℕ). get_or (set c.fields.undos p (Some Clear)) n None) (sym eq) ∙ shadow in cc
     parted o s q (inr other) shadow active at = r.parted o s q (sym (get_or-set_other c.fields.undos p o (Some Clear) None other) ∙ shadow) active at
-
-pub ReleasedIn-none : (t : ℕ) (c : Chart) → ReleasedIn [] t c c
-ReleasedIn-none t c = record { own = λ p is. cc; others = λ p is. refl; rest = refl }
 
 pub ReleasedIn-more : (ps : List Pair) (e : Pair) (t : ℕ) (c d new : Chart) → e.slot ≡ t → e.page < length d.fields.undos → new ≡ with_fields d (with_undo e.page (Some Clear) d.fields) → ReleasedIn ps t c d → ReleasedIn (ps ++ e ∷ []) t c new
 ReleasedIn-more ps e t c d new slot low is r = record {

@@ -82,9 +82,6 @@ SettlesOne-cleared n t d new low named idle is = record {
 pub slot-decodes : (c : Chart) (p t : ℕ) → IsSound c → slot_named (undo c.fields p) ≡ Some t → slot c.fields t ≢ None
 slot-decodes c p t sound named = Slots.decode (Sound.slots sound) t (Slots.named (Sound.slots sound) p t named)
 
-pub SettledTo-none : (c : Chart) → SettledTo 0 c c
-SettledTo-none c = record { below = λ p lt. absurd (omega arith); above = λ p le. (refl, refl); rest = refl }
-
 -- all pages, and then all slots
 pub Settles-all : (c d e : Chart) → IsSound c → IsSound d → SettledTo c.shape.pages c d → VacatedTo (slots_of c.fields.version) d e → SameWords 0 0 d e → Settles c e
 Settles-all c d e sound mid s v same = record {

@@ -10,7 +10,6 @@ use Rattle.envy_reloc.specs.Rows.{IsLeft}
 use Rattle.envy_layout.proofs.KeptLemmas.{Names-range}
 use Rattle.envy_reloc.proofs.CopyLemmas.{room-left}
 use Rattle.envy_layout.proofs.Sames.{same_then, same_within, tally_still, tally_then}
-use Rattle.envy_reloc.proofs.Exits.{unpowered}
 use Rattle.envy_reloc.proofs.copying.copy_row.Goals as goal
 
 pub note_origin-requires-clause-place : goal.note_origin-requires-clause-place

@@ -6,7 +6,7 @@ use Rattle.envy_journal.proofs.Moments.{started, goes_on}
 use Rattle.envy_journal.proofs.Once.{counted, ended, ended_left, ended_torn, gate_in, once_batch, once_length, opened_file, opened_once}
 use Rattle.envy_journal.proofs.Synced.{P, at_first, synced}
 use Rattle.envy_journal.proofs.log.Log.sync_counted.Given.{Over}
-use Rattle.envy_journal.proofs.log.Log.sync_counted.Goals.{After-write_at, After-write_at-2, After-sync}
+use Rattle.envy_journal.proofs.log.Log.sync_counted.Goals.{After-write_at, After-write_at-2}
 use Rattle.envy_journal.proofs.log.Log.sync_counted.Goals as goal
 
 -- what a crash leaves by the end of each call of the device, given what it leaves before
