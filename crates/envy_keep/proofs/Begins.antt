@@ -8,6 +8,7 @@ use Rattle.envy_run.specs.Tracing.{TracedSince}
 use Rattle.envy_run.proofs.Traced.{traced-first}
 use Rattle.envy_keep.specs.Since.{KeptSince}
 
+-- a memory that has begun keeps its array before the first line
 pub kept-first : (setup : Setup) (array : Array) (p : Picture) → 0 < setup.shape.entries → HasBegun setup array p → KeptSince (record { array = array; memory = p }) p []
 kept-first setup array p some h = record {
   array = array;

@@ -27,13 +27,16 @@ use Rattle.envy_keep.specs.Turns.{KeepRun, KeepTurn, keep_grammar, says_synced, 
 
 -- the last sync
 
+-- the last sync, done: the end is status 0
 pub concludes-ok : (old new : Picture) → IsSynced new.chart → SyncsChart old.chart (Ok tt) new.chart → new ≡ record old { chart = new.chart } → Concludes EndDone 0 old new
 concludes-ok old new good (on, plans, given, is) kept = inl (refl, good, plans, given, kept ∙ ap (λ (c : Chart). record old { chart = c }) is)
 
+-- the last sync, failed: power is off, and the end is status 6
 pub concludes-err : (old new : Picture) (off : Off) → IsTrue old.chart.on → SyncsChart old.chart (Err off) new.chart → new ≡ record old { chart = new.chart } → Concludes EndDone 6 old new
 concludes-err old new off on (inl (dark, is)) kept = absurd (false≢true (sym dark ∙ on))
 concludes-err old new off on (inr (lit, is)) kept = inr (refl, kept ∙ ap (λ (c : Chart). record old { chart = c }) is)
 
+-- a trace that was read to its end leaves power on
 pub done-on : (start : Start) (p : Picture) (end : End) (turns : List KeepTurn) → HasServed end (KeptSince start p) (LostSince start p) turns → end ≡ EndDone → IsTrue p.chart.on
 done-on start p end turns s is = on_since start p turns (subst (λ (e : End). HasServed e (KeptSince start p) (LostSince start p) turns) is s)
 
@@ -49,13 +52,12 @@ off-at start old new FlushFault status turns t (is, same) six = let no : 4 ≡ 6
 off-at start old new (Refused fault) status turns t (is, same) six = let no : 5 ≡ 6 = sym is ∙ six in absurd (omega arith)
 off-at start old new TooLong status turns t (is, same) six = let no : 9 ≡ 6 = sym is ∙ six in absurd (omega arith)
 
+-- a file from which a good board is read again opens as the words of that board
 opens-so : (was : Chart) (sh : Shape) (words file : List ℕ) → IsGood was → was.shape ≡ sh → durable was ≡ words → Reopens was file → OpensAs sh words file
 opens-so was sh words file good shape is opens =
     subst (λ (x : Shape). OpensAs x words file) shape (subst (λ (ws : List ℕ). OpensAs was.shape ws file) is (opens-as was file good opens))
 
-stood-good : (c : Chart) (m : Array) → Stands c m → IsGood c
-stood-good c m s = record { magic = Holds.magic s.holds; version = Holds.version s.holds; sound = Holds.sound s.holds }
-
+-- turns know of a shape only how many entries the cache has
 run-as : (a b : Shape) (first m : Array) (turns : List KeepTurn) → a ≡ b → KeepRun a.entries first turns m → KeepRun b.entries first turns m
 run-as a b first m turns same run = subst (λ (sh : Shape). KeepRun sh.entries first turns m) same run
 

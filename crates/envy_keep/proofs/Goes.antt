@@ -1,6 +1,6 @@
 -- How a kept memory goes on from line to line.
 use Rattle.std.proofs.Common.{◌≡◌, ◌⊎◌, inl, inr, ℕ, false, List, [], ◌∷◌, ◌++◌, take, refl, sym, ◌∙◌, ap, subst, arith, append-nil}
-use Rattle.std.specs.Prelude.{◌↔◌, IsTrue, Result, Ok, Err}
+use Rattle.std.specs.Prelude.{IsTrue, Result, Ok, Err}
 use Rattle.std.proofs.lemmas.Bool.{false≢true}
 use Rattle.envy_base.specs.Array.{Array, restarted}
 use Rattle.envy_base.specs.declared.board.Off.{Off}
@@ -47,15 +47,18 @@ use Rattle.envy_keep.specs.Turns.{KeepRun, KeepTurn, keep_grammar, trace_turns}
 
 -- what a sync answers
 
+-- a sync that is done is answered `synced`
 pub syncs-ok : (old new : Picture) → IsSynced new.chart → SyncsChart old.chart (Ok tt) new.chart → new ≡ record old { chart = new.chart } → SyncsTo Synced old new
 syncs-ok old new good (on, plans, given, is) kept = inl (refl, good, plans, given, kept ∙ ap (λ (c : Chart). record old { chart = c }) is)
 
+-- a sync that fails is answered `lost`
 pub syncs-err : (old new : Picture) (off : Off) → IsTrue old.chart.on → SyncsChart old.chart (Err off) new.chart → new ≡ record old { chart = new.chart } → SyncsTo (TraceReply Lost) old new
 syncs-err old new off on (inl (dark, is)) kept = absurd (false≢true (sym dark ∙ on))
 syncs-err old new off on (inr (lit, is)) kept = inr (refl, kept ∙ ap (λ (c : Chart). record old { chart = c }) is)
 
 -- the last sync stays
 
+-- no line of the array changes what a board tells of its last sync
 last-works : (line : Line) (was old new : Chart) → IsKeepLine (Trace line) → WorksOf line old new → IsLast was old → IsLast was new
 last-works Empty was old new call works last = subst (λ (c : Chart). IsLast was c) (sym works) last
 last-works (Load a) was old new call works last = subst (λ (c : Chart). IsLast was c) (sym works) last
@@ -72,9 +75,11 @@ last-works (Cut k g) was old new call works last = absurd call
 last-works (Bad k g) was old new call works last = absurd call
 last-works Stat was old new call works last = subst (λ (c : Chart). IsLast was c) (sym works) last
 
+-- turns lead on where the shape stays
 entries-as : (old new : Chart) (first m : Array) (turns : List KeepTurn) → new.shape ≡ old.shape → KeepRun old.shape.entries first turns m → KeepRun new.shape.entries first turns m
 entries-as old new first m turns shape run = subst (λ (sh : Shape). KeepRun sh.entries first turns m) (sym shape) run
 
+-- what was saved stays saved while the board tells of the same sync
 saved-on : (start : Start) (old new : Chart) (turns : List KeepTurn) → new.shape ≡ old.shape → ((was : Chart) → IsLast was old → IsLast was new) → IsSaved start old turns → IsSaved start new turns
 saved-on start old new turns shape stays s = record {
   was = s.was;
@@ -139,6 +144,7 @@ module _ (start : Start) (old new : Picture) (turns : List KeepTurn) (line : Lin
 
 -- a sync joins the turns
 
+-- a sync that is done saves all turns so far
 sync-more : (start : Start) (old : Picture) (turns : List KeepTurn) (t : KeptSince start old turns) (plans given : ℕ) → IsSynced (with_numbers old.chart plans given old.chart.plans old.chart.given) → KeptSince start (record old { chart = with_numbers old.chart plans given old.chart.plans old.chart.given }) (record { line = Sync; replies = Synced ∷ [] } ∷ turns)
 sync-more start old turns t plans given good =
     let stood = t.stands in
@@ -162,6 +168,7 @@ sync-more start old turns t plans given good =
       };
     }
 
+-- a sync that fails leaves what was saved before
 sync-lost : (start : Start) (old : Picture) (turns : List KeepTurn) → KeptSince start old turns → LostSince start (record old { chart = failed old.chart }) (record { line = Sync; replies = TraceReply Lost ∷ [] } ∷ turns)
 sync-lost start old turns t =
     let stood = t.stands in
@@ -180,6 +187,7 @@ sync-lost start old turns t =
 
 -- a line with its reply, power staying on or not
 
+-- a line that was answered while power stays on
 pub more : (start : Start) (old new : Picture) (turns : List KeepTurn) (line : KeepLine) (reply : KeepReply) → KeptSince start old turns → IsKeepLine line → AnswersKeep line reply old new → IsTrue new.chart.on → KeptSince start new (record { line = line; replies = reply ∷ [] } ∷ turns)
 more start old new turns (Trace line) reply t call (said, is, a) on =
     subst (λ (r : KeepReply). KeptSince start new (record { line = Trace line; replies = r ∷ [] } ∷ turns)) (sym is) (trace-more start old new turns line said t call a on)
@@ -188,6 +196,7 @@ more start old new turns Sync reply t call (inl (is, good, plans, given, same)) 
     (subst (λ (p : Picture). KeptSince start p (record { line = Sync; replies = Synced ∷ [] } ∷ turns)) (sym same) (sync-more start old turns t plans given (subst (λ (p : Picture). IsSynced p.chart) same good)))
 more start old new turns Sync reply t call (inr (is, same)) on = absurd (false≢true (sym (ap (λ (p : Picture). p.chart.on) same) ∙ on))
 
+-- a line in which power failed
 pub lost : (start : Start) (old new : Picture) (turns : List KeepTurn) (line : KeepLine) (reply : KeepReply) → KeptSince start old turns → IsKeepLine line → AnswersKeep line reply old new → new.chart.on ≡ false → LostSince start new (record { line = line; replies = reply ∷ [] } ∷ turns)
 lost start old new turns (Trace line) reply t call (said, is, a) off =
     subst (λ (r : KeepReply). LostSince start new (record { line = Trace line; replies = r ∷ [] } ∷ turns)) (sym is) (trace-lost start old new turns line said t call a off)
@@ -201,29 +210,36 @@ lost start old new turns Sync reply t call (inr (is, same)) off =
 texts-one : (reply : KeepReply) → texts keep_grammar (reply ∷ []) ≡ keep_bytes reply ++ newline ∷ []
 texts-one reply = append-nil (keep_bytes reply ++ newline ∷ [])
 
+-- one reply, whole
 written-one : (reply : KeepReply) (sink then_sink : Drain) → WritesAll sink (keep_bytes reply ++ newline ∷ []) (Ok tt) then_sink → Written (texts keep_grammar (reply ∷ [])) sink then_sink
 written-one reply sink then_sink (whole, faults, after) = record { whole = whole ∙ ap (with_end sink.written) (sym (texts-one reply)); faults = faults }
 
+-- and a front of it
 front-one : (reply : KeepReply) (failed : Failed) (sink then_sink : Drain) → WritesAll sink (keep_bytes reply ++ newline ∷ []) (Err failed) then_sink → FrontWritten (texts keep_grammar (reply ∷ [])) sink then_sink
 front-one reply failed sink then_sink (n, lt, front, faults) = record { count = n; front = front ∙ ap (λ (t : List ℕ). with_end sink.written (take n t)) (sym (texts-one reply)); faults = faults }
 
+-- one reply, as far as it was written
 written-either : (reply : KeepReply) (wrote : Result Unit Failed) (sink then_sink : Drain) → WritesAll sink (keep_bytes reply ++ newline ∷ []) wrote then_sink → Written (texts keep_grammar (reply ∷ [])) sink then_sink ⊎ FrontWritten (texts keep_grammar (reply ∷ [])) sink then_sink
 written-either reply (Ok done) sink then_sink w = inl (written-one reply sink then_sink w)
 written-either reply (Err failed) sink then_sink w = inr (front-one reply failed sink then_sink w)
 
 -- doing a line
 
+-- a line was done and its reply was written
 pub obeys-done : (start : Start) (old new : Picture) (turns : List KeepTurn) (line : KeepLine) (reply : KeepReply) (sink then_sink : Drain) → KeptSince start old turns → IsKeepLine line → AnswersKeep line reply old new → IsTrue new.chart.on → WritesAll sink (keep_bytes reply ++ newline ∷ []) (Ok tt) then_sink → Obeys Done keep_grammar (KeptSince start new) (LostSince start new) turns line sink then_sink
 obeys-done start old new turns line reply sink then_sink t call a on w = (reply ∷ [], more start old new turns line reply t call a on, written-one reply sink then_sink w)
 
+-- a line was done and its reply was not
 pub obeys-failed : (start : Start) (old new : Picture) (turns : List KeepTurn) (line : KeepLine) (reply : KeepReply) (sink then_sink : Drain) (failed : Failed) → KeptSince start old turns → IsKeepLine line → AnswersKeep line reply old new → IsTrue new.chart.on → WritesAll sink (keep_bytes reply ++ newline ∷ []) (Err failed) then_sink → Obeys WriteFault keep_grammar (KeptSince start new) (LostSince start new) turns line sink then_sink
 obeys-failed start old new turns line reply sink then_sink failed t call a on w = (reply ∷ [], more start old new turns line reply t call a on, front-one reply failed sink then_sink w)
 
+-- power failed in a line
 pub obeys-dead : (start : Start) (old new : Picture) (turns : List KeepTurn) (line : KeepLine) (reply : KeepReply) (wrote : Result Unit Failed) (sink then_sink : Drain) → KeptSince start old turns → IsKeepLine line → AnswersKeep line reply old new → new.chart.on ≡ false → WritesAll sink (keep_bytes reply ++ newline ∷ []) wrote then_sink → Obeys Dead keep_grammar (KeptSince start new) (LostSince start new) turns line sink then_sink
 obeys-dead start old new turns line reply wrote sink then_sink t call a off w = (reply ∷ [], lost start old new turns line reply t call a off, written-either reply wrote sink then_sink w)
 
 -- an empty line does nothing
 
+-- an empty line changes nothing
 still : (start : Start) (p : Picture) (turns : List KeepTurn) → KeptSince start p turns → KeptSince start p (record { line = Trace Empty; replies = [] } ∷ turns)
 still start p turns t = record {
   array = t.array;

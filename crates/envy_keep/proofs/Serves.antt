@@ -1,6 +1,6 @@
 -- The ends of the memory in a file.
-use Rattle.std.proofs.Common.{◌≡◌, ℕ, ◌+◌, ◌^◌, ◌<◌, Bool, List, length, refl, sym, ◌∙◌, ap, subst, arith}
-use Rattle.std.specs.Prelude.{IsTrue, Ok}
+use Rattle.std.proofs.Common.{◌≡◌, ℕ, Bool, List, refl, sym, ◌∙◌, ap, subst, arith}
+use Rattle.std.specs.Prelude.{Ok}
 use Rattle.envy_args.specs.declared.keep.KeepOptions.{KeepOptions}
 use Rattle.envy_base.specs.Array.{Array}
 use Rattle.envy_base.specs.declared.shape.Shape.{Shape}
@@ -21,6 +21,7 @@ use Rattle.envy_serve.specs.Streams.{Streams}
 use Rattle.envy_keep.specs.Ending.{KeepsServed}
 use Rattle.envy_keep.specs.Keeping.{IsServed, IsUnserved, LeavesUnserved, Told, told}
 
+-- what a trace over the memory in a file left, said of the file
 pub served-as : (options : KeepOptions) (file : List ℕ) (setup : Setup) (holding : Holding) (array : Array) (p : Picture) (status why lines taken : ℕ) (left : ℕ → List ℕ → Type 0) (now : ℕ) (io : Streams)
     → Plans holding options file setup → checked setup ≡ Ok tt → BeginsAs holding file setup array → HasBegun setup array p
     → KeepsServed array p.chart.shape status why lines taken left now io → IsServed options file (told status why lines taken) left now io
@@ -56,6 +57,7 @@ module _ {D : Type 0} (seen : D → List ℕ) (has_failed : D → Bool) (left_si
     sink = refl;
   }
 
+-- status 6 of a file that was not served comes of its device
 pub unserved-stopped : {D : Type 0} (seen : D → List ℕ) (has_failed : D → Bool) (options : KeepOptions) (file : List ℕ) (old device new : D) (unbegun : Unbegun) (status why lines taken held : ℕ)
     → told status why lines taken ≡ told (status_for unbegun) (why_for unbegun) 0 0 → new ≡ device → ((n : ℕ) → unbegun ≡ Failed n → held ≡ n) → Causes seen has_failed options file old device unbegun
     → status ≡ 6 → HasStopped seen has_failed held new

@@ -5,6 +5,7 @@ ghost use Rattle.envy_keep.specs.Since.{KeptSince, Start};
 ghost use Rattle.envy_run.specs.Outcome.{why_of};
 ghost use Rattle.envy_serve.specs.declared.serving.End.TheVariants.{Done as EndDone};
 ghost use Rattle.envy_serve.specs.Ends.{most_bytes};
+ghost use Rattle.envy_serve.specs.Streams.{streams_of};
 
 use crate::keeping::Keeping;
 use crate::replying::ReplyBuffer;
@@ -74,7 +75,7 @@ pub fn serve_kept<S: Source, K: Sink, B: Steady + Drop, D: Place>(
     ensures served { (start : Start) → KeptSince start memory []
         → KeepsServed start.array start.memory.chart.shape result.status result.why result.lines result.taken
         (D.left_since result.device) (D.moment result.device)
-        (record { from = S.feed source.old; feed = S.feed source.new; to = K.drain sink.old; sink = K.drain sink.new }) }
+        (streams_of (S.feed source.old) (S.feed source.new) (K.drain sink.old) (K.drain sink.new)) }
     // power is off only where the file failed, or came to the end of its range
     ensures stopped { result.status ≡ 6 → HasStopped D.seen D.has_failed result.held result.device }
     ensures few { result.lines ≤ result.taken }

@@ -8,7 +8,7 @@ ghost use Rattle.envy_device.specs.Device.{Only};
 ghost use Rattle.envy_journal.specs.Content.{blank, content_of};
 ghost use Rattle.envy_policy.specs.Setup.{checked};
 ghost use Rattle.envy_keep.specs.Keeping.{IsServed, IsUnserved, told};
-ghost use Rattle.envy_serve.specs.Streams.{Streams};
+ghost use Rattle.envy_serve.specs.Streams.{streams_of};
 ghost use Rattle.envy_serve.specs.Ends.{most_bytes};
 
 use crate::ending::{KeepEnded, serve_kept};
@@ -60,13 +60,7 @@ fn serve_on<S: Source, K: Sink, B: Steady + Drop, D: Place + Drop>(
     requires plans { Plans holding options.now bytes.now setup }
     requires checks { checked setup ≡ Ok tt }
     requires entries { 0 < setup.shape.entries }
-    ensures keeps { let io : Streams = record {
-      from = S.feed source.old;
-      feed = S.feed source.new;
-      to = K.drain
-          sink.old;
-      sink = K.drain sink.new;
-    } in
+    ensures keeps { let io = streams_of (S.feed source.old) (S.feed source.new) (K.drain sink.old) (K.drain sink.new) in
         let end = told result.status result.why result.lines result.taken in
         IsServed options.now bytes.now end (D.left_since result.device) (D.moment result.device) io
         ⊎ IsUnserved D.seen D.has_failed D.left_since D.moment options.now bytes.now device result.device end io }
@@ -98,13 +92,7 @@ pub fn keep<S: Source, K: Sink, D: Place + Drop>(
 ) -> KeepEnded<D>
     requires bytes { D.seen device ≡ bytes.now }
     requires durable { Only (D.seen device) (D.may_leave device) }
-    ensures keeps { let io : Streams = record {
-      from = S.feed source.old;
-      feed = S.feed source.new;
-      to = K.drain
-          sink.old;
-      sink = K.drain sink.new;
-    } in
+    ensures keeps { let io = streams_of (S.feed source.old) (S.feed source.new) (K.drain sink.old) (K.drain sink.new) in
         let end = told result.status result.why result.lines result.taken in
         IsServed options.now bytes.now end (D.left_since result.device) (D.moment result.device) io
         ⊎ IsUnserved D.seen D.has_failed D.left_since D.moment options.now bytes.now device result.device end io }

@@ -25,7 +25,8 @@ use Rattle.envy_trace.specs.declared.reply.Reply.TheVariants.{Lost}
 use Rattle.envy_trace.specs.declared.mirror_reply.MirrorReply.TheVariants.{Array as Plain}
 use Rattle.envy_pair.specs.Bills.{Charged, Bill}
 use Rattle.envy_pair.specs.Hearing.{shown, Commanded}
-use Rattle.envy_pair.specs.MirrorRun.{said, may_fault, is_lost, is_fault, told_in, IsTold, Darkens}
+use Rattle.envy_serve.specs.Answering.{said}
+use Rattle.envy_pair.specs.MirrorRun.{may_fault, is_lost, is_fault, told_in, IsTold, Darkens}
 use Rattle.envy_pair.specs.Restarting.{last_side, IsFallen}
 use Rattle.envy_pair.specs.Serving.{Known, state_of, IsSpent, Serves}
 use Rattle.envy_pair.specs.State.{Falls}

@@ -11,7 +11,8 @@ use Rattle.envy_mirror.specs.declared.standing.Standing.TheVariants.{Good, Behin
 use Rattle.envy_serve.specs.Turns.{one_if, count_of}
 use Rattle.envy_trace.specs.declared.mirror_reply.MirrorReply.TheVariants.{Array as Plain}
 use Rattle.envy_pair.specs.Bills.{Toll, Charged, Sums, Bill}
-use Rattle.envy_pair.specs.MirrorRun.{said, is_lost, is_fault, told_in}
+use Rattle.envy_serve.specs.Answering.{said}
+use Rattle.envy_pair.specs.MirrorRun.{is_lost, is_fault, told_in}
 use Rattle.envy_pair.specs.Restarting.{no_toll}
 use Rattle.envy_pair.specs.Serving.{Past, side_of, IsSpent}
 use Rattle.envy_pair.specs.State.{SideState, MayFall}

@@ -70,10 +70,6 @@ firm-powers s replies t powers a = at (has_good (cut_chosen s)) powers
     at true (says, is) = firm-same (cut_chosen s) t is (firm-chosen s a)
     at false (says, is) = firm-revived (undo_all_in (cut_chosen s)) t is (firm-undone (cut_chosen s) (firm-chosen s a))
 
--- what a side that follows may become
-pub record Follower (old new : SideState) : Type 0 where
-  pub firm : IsFirm old → IsFirm new
-
 behind-firm : (old new : SideState) → new ≡ old → IsFirm old → IsFirm new
 behind-firm old new same firm = subst IsFirm (sym same) firm
 

@@ -36,7 +36,8 @@ use Rattle.envy_trace.specs.declared.mirror_reply.MirrorReply.{MirrorReply}
 use Rattle.envy_trace.specs.declared.mirror_reply.MirrorReply.TheVariants.{Array as Plain}
 use Rattle.envy_pair.specs.Bills.{Charged, Sums, Bill}
 use Rattle.envy_pair.specs.Hearing.{shown, Loaded, Looked, HearsLine, Hears, caught}
-use Rattle.envy_pair.specs.MirrorRun.{DoesLine, said, is_power, is_plan, is_lost, is_fault}
+use Rattle.envy_serve.specs.Answering.{said}
+use Rattle.envy_pair.specs.MirrorRun.{DoesLine, is_power, is_plan, is_lost, is_fault}
 use Rattle.envy_pair.specs.Restarting.{no_toll}
 use Rattle.envy_trace.specs.Mirror.{IsMirrorLine}
 use Rattle.envy_pair.specs.Serving.{Known, side_of, state_of, Serves, Costs, LineDone, sums_of}

@@ -46,10 +46,6 @@ changed-twice : (one : Which) (s t : Side) (left more : List Bool) (p : Pair) �
 changed-twice First s t left more p = refl
 changed-twice Second s t left more p = refl
 
-changed-at : (one : Which) (s : Side) (left : List Bool) (p : Pair) → side_at one (changed one s left p) ≡ s
-changed-at First s left p = refl
-changed-at Second s left p = refl
-
 changed-dark : (one : Which) (s : Side) (left : List Bool) (p : Pair) → is_good s ≡ false → IsDark p → IsDark (changed one s left p)
 changed-dark First s left p gone dark = (gone, dark.1)
 changed-dark Second s left p gone dark = (dark.0, gone)

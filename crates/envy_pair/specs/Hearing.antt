@@ -24,7 +24,8 @@ use Rattle.envy_trace.specs.declared.reply.Reply.{Reply}
 use Rattle.envy_trace.specs.declared.reply.Reply.TheVariants.{Done, Fault, Lost, Armed, Stat as StatLine}
 use Rattle.envy_trace.specs.declared.mirror_reply.MirrorReply.{MirrorReply}
 use Rattle.envy_trace.specs.declared.mirror_reply.MirrorReply.TheVariants.{Array as Plain, Whole, Waiting, Woken, Copied, Joined, Dead, Slipped}
-use Rattle.envy_pair.specs.MirrorRun.{said, may_fault}
+use Rattle.envy_serve.specs.Answering.{said}
+use Rattle.envy_pair.specs.MirrorRun.{may_fault}
 use Rattle.envy_pair.specs.declared.answering.Beside.{Beside}
 use Rattle.envy_pair.specs.declared.answering.Beside.TheVariants.{Nothing, Power as OfPower}
 

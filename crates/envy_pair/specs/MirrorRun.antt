@@ -4,7 +4,6 @@ use Rattle.envy_base.specs.Array.{Array, slot_of, restarted}
 use Rattle.envy_base.specs.declared.counts.Counts.{Counts}
 use Rattle.envy_base.specs.Step.{Command, Answer, Step, Accepts, Lost}
 use Rattle.envy_base.specs.Step.{Load as DoLoad, Look as DoLook, Store as DoStore, Begin as DoBegin, Put as DoPut, Commit as DoCommit, Abort as DoAbort, Tick as DoTick}
-use Rattle.envy_base.specs.Step.{Word as IsWord, Done as IsDone, Started as IsStarted, Range as IsRange, Held as IsHeld, Closed as IsClosed, Full as IsFull, Busy as IsBusy}
 use Rattle.envy_io.specs.Lines.{newline}
 use Rattle.envy_mirror.specs.Catching.{IsLowestStale, NoneStale}
 use Rattle.envy_mirror.specs.Replies.{Said, marked}
@@ -13,12 +12,13 @@ use Rattle.envy_mirror.specs.declared.standing.Standing.TheVariants.{Good, Behin
 use Rattle.envy_serve.specs.Grammar.{Grammar}
 use Rattle.envy_serve.specs.Turns.{Turn, Leads}
 use Rattle.envy_trace.specs.Mirror.{mirror_line_of, mirror_bytes}
+use Rattle.envy_serve.specs.Answering.{said, losable}
 use Rattle.envy_trace.specs.declared.line.Line.{Line}
 use Rattle.envy_trace.specs.declared.line.Line.TheVariants.{Empty, Load, Look, Store, Begin, Put, Commit, Abort, Tick, Power, Cut, Bad, Stat}
 use Rattle.envy_trace.specs.declared.mirror_line.MirrorLine.{MirrorLine}
 use Rattle.envy_trace.specs.declared.mirror_line.MirrorLine.TheVariants.{Array as OfArray, Side, Catch}
 use Rattle.envy_trace.specs.declared.reply.Reply.{Reply}
-use Rattle.envy_trace.specs.declared.reply.Reply.TheVariants.{Word, Done, Started, Range, Held, Closed, Full, Busy, Fault, Lost as IsLost, Restarted, Armed, Stat as StatLine}
+use Rattle.envy_trace.specs.declared.reply.Reply.TheVariants.{Done, Fault, Lost as IsLost, Restarted, Armed, Stat as StatLine}
 use Rattle.envy_trace.specs.declared.mirror_reply.MirrorReply.{MirrorReply}
 use Rattle.envy_trace.specs.declared.mirror_reply.MirrorReply.TheVariants.{Array as Plain, Gone, Whole, Waiting, Woken, Copied, Joined, Dead, Slipped}
 use Rattle.envy_pair.specs.State.{SideState, MirrorState, Falls, has_good, is_up, gone, cut_chosen, revived}
@@ -35,17 +35,6 @@ mirror_grammar = record { reads = mirror_line_of; text = λ reply. mirror_bytes 
 -- a line of a trace and the replies to it
 abbrev pub MirrorTurn : Type 0
 MirrorTurn = Turn MirrorLine MirrorReply
-
--- the reply that says the array's answer
-abbrev pub said : Answer → Reply
-said (IsWord w) = Word w
-said IsDone = Done
-said (IsStarted t) = Started t
-said IsRange = Range
-said (IsHeld u) = Held u
-said IsClosed = Closed
-said IsFull = Full
-said IsBusy = Busy
 
 -- the commands that need flash
 abbrev pub may_fault : Command → Bool
@@ -174,16 +163,6 @@ DoesMirror s Catch replies t = (reply : MirrorReply) × (replies ≡ reply ∷ [
 -- lines with their replies, the newest first, lead from one state to another
 abbrev pub MirrorRun : MirrorState → List MirrorTurn → MirrorState → Type 0
 MirrorRun first turns s = Leads (λ earlier. DoesMirror) first turns s
-
--- the command of a line in which power may fail
-abbrev pub losable : Line → Option Command
-losable (Store a w) = Some (DoStore a w)
-losable Begin = Some DoBegin
-losable (Put t a w) = Some (DoPut t a w)
-losable (Commit t) = Some (DoCommit t)
-losable (Abort t) = Some (DoAbort t)
-losable Tick = Some DoTick
-losable line = None
 
 -- No side is Good at the end of the line, before power returns: the state then, with the array that a restart finds.
 abbrev pub FailsIn : MirrorState → MirrorLine → MirrorState → Type 0

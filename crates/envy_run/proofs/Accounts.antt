@@ -48,6 +48,7 @@ parted w o (Refused fault) turns s = s
 parted w o EndDead turns s = s
 parted w o EndTooLong turns s = s
 
+-- what a trace leads to and what the board holds then are one account
 joined : {Line Reply Left : Type 0} (w : Task Line Reply Left) (o : Outcome) (end : End) (turns : List (Turn Line Reply)) (left : Left) → HasServed end (λ t. w.Leads t left) (λ t. w.Dies t left) turns → HasServed end (λ t. w.HoldsLeft o left) (λ t. w.HoldsDead o left) turns → HasServed end (Did w o) (Died w o) turns
 joined w o EndDone turns left did holds = (left, did, holds)
 joined w o EndReadFault turns left did holds = (left, did, holds)

@@ -15,7 +15,8 @@ use Rattle.envy_run.specs.Calm.{AnswersCalmly, IsCalmReply, IsNoWork}
 use Rattle.envy_run.specs.Done.{Run}
 use Rattle.envy_run.specs.Equal.{Answers, IsOwn}
 use Rattle.envy_run.specs.Hits.{MayTell}
-use Rattle.envy_run.specs.Turns.{TraceTurn, Does, Replies, Says, Faults, trace_grammar, is_lost, is_fault, said}
+use Rattle.envy_serve.specs.Answering.{said}
+use Rattle.envy_run.specs.Turns.{TraceTurn, Does, Replies, Says, Faults, trace_grammar, is_lost, is_fault}
 
 -- a command has one answer
 abbrev pub OneAnswer : Type 0
@@ -53,10 +54,12 @@ pub record IsPlainReplies (replies : List Reply) : Type 0 where
 no-fault : (reply : Reply) (replies : List Reply) → replies ≡ reply ∷ [] → reply ≡ Fault → IsPlainReplies replies → ⊥
 no-fault reply replies is fault plain = let e = ap (count_of is_fault) (is ∙ ap (λ (x : Reply). x ∷ []) fault) in let none = plain.faults in omega arith
 
+-- of replies without `fault` the array says its own answer
 says-or-own : (m : Array) (command : Command) (reply : Reply) (replies : List Reply) (n : Array) → replies ≡ reply ∷ [] → IsPlainReplies replies → Says m command reply n ⊎ Faults m command reply n → Answers m command replies n
 says-or-own m command reply replies n is plain (inl says) = says-own m command reply replies n is says
 says-or-own m command reply replies n is plain (inr (k, accepts, fault, stays)) = absurd (no-fault reply replies is fault plain)
 
+-- so does a line with one reply, but that of counters
 one-own : (May : Counts → Type 0) (m : Array) (line : Line) (reply : Reply) (replies : List Reply) (n : Array) → replies ≡ reply ∷ [] → IsPlainReplies replies → line ≢ Stat → Replies May m line reply n → IsOwn m line replies n
 one-own May m Empty reply replies n is plain other r = absurd r
 one-own May m (Load a) reply replies n is plain other r = says-own m (DoLoad a) reply replies n is r

@@ -1,5 +1,5 @@
 -- What the plain machine did, from what its calls say.
-use Rattle.std.proofs.Common.{◌≡◌, inl, inr, ℕ, List, [], ◌∷◌, ◌++◌, take, refl, sym, ◌∙◌, ap, subst, arith}
+use Rattle.std.proofs.Common.{◌≡◌, inl, inr, ℕ, List, [], ◌∷◌, ◌++◌, take, refl, sym, ◌∙◌, ap, subst}
 use Rattle.std.specs.Prelude.{Result, Ok, Err}
 use Rattle.std.proofs.lemmas.List.{append-nil}
 use Rattle.envy_base.specs.Array.{Array, restarted}
@@ -7,17 +7,15 @@ use Rattle.envy_base.specs.Step.{Command, Step, Answer, Word as IsWord, Done as 
 use Rattle.envy_io.specs.declared.source.Failed.{Failed}
 use Rattle.envy_io.specs.Lines.{newline}
 use Rattle.envy_io.specs.Streams.{Drain, WritesAll, with_end}
-use Rattle.envy_io.proofs.WritesLemmas.{with_end-nil}
 use Rattle.envy_trace.specs.declared.line.Line.{Line}
 use Rattle.envy_trace.specs.declared.line.Line.TheVariants.{Empty, Power}
 use Rattle.envy_trace.specs.declared.reply.Reply.{Reply}
 use Rattle.envy_trace.specs.declared.reply.Reply.TheVariants.{Restarted}
 use Rattle.envy_trace.specs.Replies.{reply_bytes}
-use Rattle.envy_run.specs.Calm.{AnswersCalmly, IsCalmReply, IsNoWork, ObeysCalmly, HasDoneCalmly, NeverDies}
-use Rattle.envy_run.specs.Turns.{TraceTurn, Says, Replies, said, trace_grammar}
+use Rattle.envy_run.specs.Calm.{AnswersCalmly, IsCalmReply, IsNoWork, ObeysCalmly}
+use Rattle.envy_serve.specs.Answering.{said}
+use Rattle.envy_run.specs.Turns.{Says, Replies, trace_grammar}
 use Rattle.envy_serve.specs.Turns.{texts}
-use Rattle.envy_serve.specs.Obeys.{Obeys}
-use Rattle.envy_serve.specs.declared.service.Obeyed.TheVariants.{Done as WasDone, WriteFault as WasCut}
 
 -- an answer of the array is calm
 pub said-calm : (answer : Answer) → IsCalmReply (said answer)
@@ -30,7 +28,7 @@ said-calm IsClosed = tt
 said-calm IsFull = tt
 said-calm IsBusy = tt
 
-texts-one : (reply : Reply) → texts trace_grammar (reply ∷ []) ≡ reply_bytes reply ++ newline ∷ []
+pub texts-one : (reply : Reply) → texts trace_grammar (reply ∷ []) ≡ reply_bytes reply ++ newline ∷ []
 texts-one reply = append-nil (reply_bytes reply ++ newline ∷ [])
 
 -- a line with one reply
@@ -39,16 +37,6 @@ told-calmly m line reply as_said n sink then_sink (Ok done) is answers (whole, f
     (reply ∷ [], subst (λ (r : Reply). AnswersCalmly m line (r ∷ []) n) (sym is) answers, record { whole = whole ∙ ap (with_end sink.written) (sym (texts-one reply)); faults = faults })
 told-calmly m line reply as_said n sink then_sink (Err failed) is answers (count, lt, front, faults) =
     (reply ∷ [], subst (λ (r : Reply). AnswersCalmly m line (r ∷ []) n) (sym is) answers, record { count = count; front = front ∙ ap (λ (t : List ℕ). with_end sink.written (take count t)) (sym (texts-one reply)); faults = faults })
-
-pub empty-calmly : (m : Array) (line : Line) (n : Array) (sink : Drain) → AnswersCalmly m line [] n → ObeysCalmly m line (Ok tt) n sink sink
-empty-calmly m line n sink answers = ([], answers, record { whole = sym (with_end-nil sink.written); faults = omega arith })
-
--- the turn joins the others
-pub calm-done : (start old new : Array) (turns : List TraceTurn) (line : Line) (sink then_sink : Drain) → HasDoneCalmly start old turns → ObeysCalmly old line (Ok tt) new sink then_sink → Obeys WasDone trace_grammar (HasDoneCalmly start new) NeverDies turns line sink then_sink
-calm-done start old new turns line sink then_sink did (replies, answers, told) = (replies, (old, did, answers), told)
-
-pub calm-cut : (start old new : Array) (turns : List TraceTurn) (line : Line) (failed : Failed) (sink then_sink : Drain) → HasDoneCalmly start old turns → ObeysCalmly old line (Err failed) new sink then_sink → Obeys WasCut trace_grammar (HasDoneCalmly start new) NeverDies turns line sink then_sink
-calm-cut start old new turns line failed sink then_sink did (replies, answers, told) = (replies, (old, did, answers), told)
 
 -- a line with one reply that is calm, where the line is this one
 pub replies-calmly : (m : Array) (line at : Line) (reply : Reply) (n : Array) → line ≡ at → Replies IsNoWork m at reply n → IsCalmReply reply → AnswersCalmly m line (reply ∷ []) n

@@ -110,6 +110,7 @@ completes-gen start count mix o io g low = at g.writes
     at (inl (done, written, flushed)) = inl done
     at (inr (failed, front)) = absurd (still-written (trace_bytes start count mix) io.to io.to io.sink low (omega arith) front)
 
+-- under `tpca` a load that goes well is done to its end
 completes-tpca : (setup : Setup) (returns start : ℕ) (area : Area) (every : ℕ) (o : Outcome) (io : Streams) → Does (driving setup returns start area every) o io → StaysLow io.to.faults io.sink.faults → IsWell o → IsComplete o
 completes-tpca setup returns start area every o io d low well = at d.account d.printed d.board
   where
@@ -121,6 +122,7 @@ completes-tpca setup returns start area every o io d low well = at d.account d.p
     at (Some sums) tells paid = told (report area sums) (TellsSums.writes tells)
     at None (quiet, ending) (why, found) = unready-well o quiet.taken why well
 
+-- under `resume` the trace behind a sound image is
 completes-resume : (setup : Shape → Setup) (returns : ℕ) (o : Outcome) (io : Streams) → Does (resuming setup returns) o io → (holds : HoldsImage io) → HoldsTrace setup io holds → IsWellInstalled o → IsComplete o
 completes-resume setup returns o io d holds trace well = at d.account d.printed d.board d.licences
   where
@@ -196,6 +198,7 @@ pub headline-read : (words : List Text) (read : Result Command WordsFault) (comm
 headline-read words read command o io (inl none) e headline = absurd (let never = none in cc)
 headline-read words read command o io (inr is) e headline = subst (λ (x : Result Command WordsFault). Headline x o io) (sym e ∙ is) headline
 
+-- what is said of a second board by the command is so by the words
 pub alone-read : (words : List Text) (read : Result Command WordsFault) (command : Command) (o : Outcome) → (read ≡ Err Memory) ⊎ (read ≡ command_of words) → read ≡ Ok command → IsAlone command o.second → IsAloneIn (command_of words) o
 alone-read words read command o (inl none) e alone = absurd (let never = none in cc)
 alone-read words read command o (inr is) e alone = subst (λ (x : Result Command WordsFault). IsAloneIn x o) (sym e ∙ is) alone

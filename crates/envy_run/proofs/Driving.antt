@@ -1,5 +1,5 @@
 -- A load that was driven over a board that was made and formatted.
-use Rattle.std.proofs.Common.{◌≡◌, ◌⊎◌, inl, inr, ℕ, zero, suc, ◌+◌, ◌-◌, ◌*◌, ◌^◌, ◌<◌, ◌≤◌, Bool, true, false, List, refl, sym, ◌∙◌, ap, subst, arith}
+use Rattle.std.proofs.Common.{◌≡◌, ◌⊎◌, inl, inr, ℕ, zero, suc, ◌+◌, ◌-◌, ◌^◌, ◌<◌, ◌≤◌, Bool, true, false, List, refl, sym, ◌∙◌, ap, subst, arith}
 use Rattle.std.specs.Prelude.{IfSome, Option, None, Some, Result, Ok, Err, slice_index, if◌then◌else◌}
 use Rattle.std.proofs.lemmas.Bool.{cases_lt}
 use Rattle.envy_args.specs.declared.command.Command.{Command}
@@ -7,7 +7,6 @@ use Rattle.envy_args.specs.declared.command.Command.TheVariants.{Run, Plain, Tpc
 use Rattle.envy_args.specs.declared.command.WordsFault.{WordsFault}
 use Rattle.envy_args.specs.declared.command.WordsFault.TheVariants.{Memory}
 use Rattle.envy_args.specs.Words.{Text, command_of}
-use Rattle.envy_base.specs.Area.{Fits}
 use Rattle.envy_base.specs.State.{State, IsMade}
 use Rattle.envy_base.specs.declared.area.Area.{Area}
 use Rattle.envy_base.specs.declared.counts.Counts.{Counts}
@@ -38,13 +37,6 @@ use Rattle.envy_run.specs.declared.ending.Ending.TheVariants.{Done, FlashFailed,
 use Rattle.envy_run.specs.declared.ending.Finished.{Finished}
 use Rattle.envy_run.proofs.Accounts.{unread}
 use Rattle.envy_run.proofs.Traced.{Began, adds-up, began-of}
-
--- a load that fits is one that can be drawn
-pub few-records : (area : Area) (pages : ℕ) → Fits area pages → pages ≤ 2 ^ 20 → area.branches * (area.accounts + 11) < 2 ^ 25
-few-records area pages fits low =
-    let room = fits.room in
-    let all : area.branches * (area.accounts + 11) ≡ 11 * area.branches + area.branches * area.accounts = omega arith in
-    omega arith
 
 -- there are no more plans than transfers
 plans-few : (every n : ℕ) → plans_in every n ≤ n

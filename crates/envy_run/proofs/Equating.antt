@@ -44,6 +44,7 @@ read-all reads skipped io reader lines bytes told all =
     let same : bytes ≡ HasRead.bytes read = is ∙ ap (λ (r : List ℕ). HasRead.bytes read ++ r) none ∙ append-nil (HasRead.bytes read) in
     ap (λ (b : List ℕ). map reads (lines_of b)) same ∙ ap (map reads) (ReadAll.all_lines all) ∙ HasRead.says read
 
+-- an end with status 0 is the one at which all was read and written
 done-served : {Line Reply Left : Type 0} (end : End) (w : Task Line Reply Left) (turns : List (Turn Line Reply)) (o : Outcome) (io : Streams) (bytes : List ℕ) → (numbers_of (ending_of end)).0 ≡ 0 → io.from.left ≡ Some bytes → Serves end o.lines o.taken w.grammar w.skipped (Did w o) (Died w o) (w.tail o) turns io → IsDone w bytes turns o io
 done-served EndDone w turns o io bytes zero told s = record {
   did = Ends.served (Serves.ends s);
@@ -57,6 +58,7 @@ done-served (Refused fault) w turns o io bytes zero told s = absurd (let never =
 done-served EndDead w turns o io bytes zero told s = absurd (let never = zero in omega arith)
 done-served TooLong w turns o io bytes zero told s = absurd (let never = zero in omega arith)
 
+-- so a trace with status 0 was done
 pub is-done : {Line Reply Left : Type 0} (w : Task Line Reply Left) (turns : List (Turn Line Reply)) (o : Outcome) (io : Streams) (bytes : List ℕ) → o.status ≡ 0 → io.from.left ≡ Some bytes → WasServed w turns o io → IsDone w bytes turns o io
 is-done w turns o io bytes done told s = done-served s.end w turns o io bytes (sym (EndsBy.status s.ending) ∙ done) told s.serves
 
@@ -96,14 +98,17 @@ both-done one setup returns bytes o p io jo turns others run plain licences no_s
 
 -- a run that was done served its trace
 
+-- of two accounts of a run with status 0 the one with lines is left
 run-served : (setup : Setup) (returns : ℕ) (o : Outcome) (io : Streams) (turns : List TraceTurn) → o.status ≡ 0 → WasServed (run_task setup returns) turns o io ⊎ ((turns ≡ []) × IsUnread o io × IsUnready o) → WasServed (run_task setup returns) turns o io
 run-served setup returns o io turns done (inl served) = served
 run-served setup returns o io turns done (inr (none, unread, why)) = absurd (never-unready o done why)
 
+-- and of the plain machine
 plain-served : (setup : Setup) (o : Outcome) (io : Streams) (turns : List TraceTurn) → o.status ≡ 0 → WasServed (plain_task setup) turns o io ⊎ ((turns ≡ []) × (IsQuiet o io × EndsBy OutOfMemory o) × (o.board ≡ None)) → WasServed (plain_task setup) turns o io
 plain-served setup o io turns done (inl served) = served
 plain-served setup o io turns done (inr (none, (quiet, out), boardless)) = absurd (let eight = out.status in omega arith)
 
+-- two traces of the same bytes, both done, wrote the same
 both-tasks : OneAnswer → (setup : Setup) (returns : ℕ) (bytes : List ℕ) (o p : Outcome) (io jo : Streams) → WasDone (run_task setup returns) o io → WasDone (plain_task setup) p jo → io.from.left ≡ Some bytes → jo.from.left ≡ Some bytes → HasNoStat bytes → o.status ≡ 0 → p.status ≡ 0 → NothingFailed o.board → (text : List ℕ) × Wrote text io × Wrote text jo
 both-tasks one setup returns bytes o p io jo run plain told also no_stat done also_done well =
     both-done one setup returns bytes o p io jo run.turns plain.turns
@@ -114,6 +119,7 @@ both-tasks one setup returns bytes o p io jo run plain told also no_stat done al
 out-never : (o : Outcome) (io : Streams) → o.status ≡ 0 → IsWithoutMemory o io → ⊥
 out-never o io done without = never-unready o done (inl (IsWithoutMemory.memory without))
 
+-- so did the two runs
 pub write-alike : OneAnswer → (setup : Setup) (returns : ℕ) (bytes : List ℕ) (o p : Outcome) (io jo : Streams) → Headline (Ok (RunWords setup returns)) o io → Headline (Ok (PlainWords setup)) p jo → io.from.left ≡ Some bytes → jo.from.left ≡ Some bytes → HasNoStat bytes → o.status ≡ 0 → p.status ≡ 0 → NothingFailed o.board → (text : List ℕ) × Wrote text io × Wrote text jo
 write-alike one setup returns bytes o p io jo (inl run) (inl plain) told also no_stat done also_done well = both-tasks one setup returns bytes o p io jo (done_of (run_task setup returns) o io run) (done_of (plain_task setup) p jo plain) told also no_stat done also_done well
 write-alike one setup returns bytes o p io jo (inr without) plain told also no_stat done also_done well = absurd (out-never o io done without)

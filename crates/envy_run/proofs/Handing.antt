@@ -1,6 +1,6 @@
 -- What `run` promises, from what was done and how its words were read.
-use Rattle.std.proofs.Common.{◌≡◌, ◌⊎◌, inl, inr, ℕ, ◌≤◌, List, refl, sym, ap, subst}
-use Rattle.std.specs.Prelude.{Option, None, Result, Ok, Err}
+use Rattle.std.proofs.Common.{◌≡◌, ◌⊎◌, inl, inr, ◌≤◌, List, refl, sym, subst}
+use Rattle.std.specs.Prelude.{None, Result, Ok, Err}
 use Rattle.envy_args.specs.Words.{Text, command_of}
 use Rattle.envy_args.specs.declared.command.Command.{Command}
 use Rattle.envy_args.specs.declared.command.Command.TheVariants.{Run, Plain, Tpca, Gen, Save, Resume, Audit, Segments, Index, Mirror}
@@ -17,7 +17,6 @@ use Rattle.envy_run.specs.Outcome.{Outcome, numbers_of, outcome, outcome_of, ref
 use Rattle.envy_run.specs.Theorem.{IsAloneIn, Leaves, Licenses, Prints}
 use Rattle.envy_run.specs.Unserved.{IsUnserved}
 use Rattle.envy_run.specs.declared.ended.Ended.{Ended}
-use Rattle.envy_run.specs.declared.ending.Ending.TheVariants.{OutOfMemory}
 use Rattle.envy_run.specs.declared.ending.Finished.{Finished}
 use Rattle.envy_run.proofs.Completing.{completes, form-known, headline-refused, leaves, prints, rule-known, words-refused}
 use Rattle.envy_run.proofs.Driving.{tells-refused}
@@ -49,6 +48,7 @@ unread fault = record { ending = refusal_of fault; lines = 0; taken = 0; board =
 abbrev pub silent_on : Feed → Drain → Streams
 silent_on feed sink = record { from = feed; feed = feed; to = sink; sink = sink }
 
+-- what is promised of words that were refused
 pub refused-headline : {B : Type 0} (state : B → State) (words : List Text) (read : Result Command WordsFault) (fault : WordsFault) (e : Finished B) (feed : Feed) (sink : Drain) → (read ≡ Err Memory) ⊎ (read ≡ command_of words) → read ≡ Err fault → e ≡ unread fault → Headline (command_of words) (outcome_of state e) (silent_on feed sink)
 refused-headline {B} state words read Form e feed sink reads is says = headline-refused words read Form (outcome_of state e) (silent_on feed sink) reads is form-known (words-refused state 0 0 e feed sink refl says)
 refused-headline {B} state words read (Rule rule) e feed sink reads is says = headline-refused words read (Rule rule) (outcome_of state e) (silent_on feed sink) reads is (rule-known rule) (words-refused state rule rule e feed sink refl says)
@@ -56,6 +56,7 @@ refused-headline {B} state words read Memory e feed sink reads is says =
     subst (λ (x : Finished B). Headline (command_of words) (outcome_of state x) (silent_on feed sink)) (sym says)
     (inr (record { memory = record { ending = record { status = refl; why = refl }; board = tt }; quiet = record { lines = refl; taken = refl; source = refl; sink = refl }; board_none = refl }))
 
+-- where memory ran out nothing was served
 unserved-so : {B : Type 0} (state : B → State) (fault : WordsFault) (e : Finished B) (feed : Feed) (sink : Drain) → e ≡ unread fault → fault ≡ Memory → IsUnserved (outcome_of state e) (silent_on feed sink)
 unserved-so {B} state Form e feed sink says same = absurd (form-known same)
 unserved-so {B} state (Rule rule) e feed sink says same = absurd (rule-known rule same)
@@ -63,6 +64,7 @@ unserved-so {B} state Memory e feed sink says same =
     subst (λ (x : Finished B). IsUnserved (outcome_of state x) (silent_on feed sink)) (sym says)
     (record { lines = refl; taken = refl; source = refl; sink = refl }, inl (record { ending = record { status = refl; why = refl }; board = tt }))
 
+-- of returns of power nothing is to be told then
 pub refused-told : {B : Type 0} (state : B → State) (words : List Text) (read : Result Command WordsFault) (fault : WordsFault) (e : Finished B) (feed : Feed) (sink : Drain) → (read ≡ Err Memory) ⊎ (read ≡ command_of words) → read ≡ Err fault → e ≡ unread fault → TellsAll (command_of words) (outcome_of state e) (silent_on feed sink)
 refused-told state words read fault e feed sink reads is says = tells-refused words read fault (outcome_of state e) (silent_on feed sink) reads is (unserved-so state fault e feed sink says)
 

@@ -16,7 +16,7 @@ use Rattle.envy_table.specs.Hits.{page_at, page_in}
 use Rattle.envy_trace.specs.declared.line.Line.{Line}
 use Rattle.envy_trace.specs.declared.reply.Reply.{Reply}
 use Rattle.envy_run.specs.Counters.{NoneFell, counter, is_empty, just_told, last_told, or_else, told_in}
-use Rattle.envy_run.specs.Hits.{MayTell, accessed, counted, decides, hits_in, is_hit, is_restarted, misses_in}
+use Rattle.envy_run.specs.Hits.{accessed, counted, decides, hits_in, is_hit, is_restarted, misses_in}
 use Rattle.envy_run.specs.Tells.{CanTell, Notes, Telling, Tracks, Translates, hits_after, last_in, misses_after, placed}
 use Rattle.envy_run.specs.Turns.{TraceTurn}
 
@@ -57,6 +57,7 @@ counter-up n = omega arith
 counter-none : (n : ℕ) → counter n ≡ counter (n + 0)
 counter-none n = ap counter (omega arith)
 
+-- the hits counted are those of the turns, and of this access
 hits-so : (entries : ℕ) (turns : List TraceTurn) (cache : Translations) (page : Option ℕ) → Tracks entries turns cache → hits_after page cache.entries cache.hits ≡ counter (hits_in entries turns + counted (λ hit. hit) entries page turns)
 hits-so entries turns cache None t = t.hits ∙ counter-none (hits_in entries turns)
 hits-so entries turns cache (Some page) t = rw (held-is entries page turns cache t) (at (is_hit entries page turns))
@@ -65,6 +66,7 @@ hits-so entries turns cache (Some page) t = rw (held-is entries page turns cache
     at true = ap up t.hits ∙ counter-up (hits_in entries turns)
     at false = t.hits ∙ counter-none (hits_in entries turns)
 
+-- and the misses
 misses-so : (entries : ℕ) (turns : List TraceTurn) (cache : Translations) (page : Option ℕ) → Tracks entries turns cache → misses_after page cache.entries cache.misses ≡ counter (misses_in entries turns + counted not entries page turns)
 misses-so entries turns cache None t = t.misses ∙ counter-none (misses_in entries turns)
 misses-so entries turns cache (Some page) t = rw (held-is entries page turns cache t) (at (is_hit entries page turns))
@@ -129,6 +131,7 @@ fell-more None None old new fell told never = tt
 fell-more None (Some counts) old new fell told never = fell-trans counts old new never fell
 fell-more (Some counts) before old new fell told never = subst (λ (c : Counts). NoneFell c new) (sym told) (fell-refl new)
 
+-- what the last line told is what is counted now
 last-more : (first : Picture) (turn : TraceTurn) (turns : List TraceTurn) (old new : Picture) → IfSome (just_told turns) (λ c. c ≡ counts_of old.parts) → Notes turn.line turn.replies old new → IfSome (just_told (turn ∷ turns)) (λ c. c ≡ counts_of new.parts)
 last-more first turn turns old new last notes = at (is_empty turn.line) notes.empty
   where
@@ -136,6 +139,7 @@ last-more first turn turns old new last notes = at (is_empty turn.line) notes.em
     at true same = subst (λ (p : Picture). IfSome (just_told turns) (λ c. c ≡ counts_of p.parts)) (sym (same refl)) last
     at false same = notes.tells
 
+-- and so from line to line
 pub telling-more : (first : Picture) (turn : TraceTurn) (turns : List TraceTurn) (old new : Picture) → Telling first turns old → new.chart.shape ≡ old.chart.shape → Notes turn.line turn.replies old new → Telling first (turn ∷ turns) new
 telling-more first turn turns old new t shape notes = record {
   can = record {
@@ -145,7 +149,3 @@ telling-more first turn turns old new t shape notes = record {
   last = last-more first turn turns old new t.last notes;
   tallies = Tallies-trans _ _ _ _ _ _ t.tallies notes.tallies;
 }
-
--- what it may say then
-pub may-tell : (entries : ℕ) (turns : List TraceTurn) (p : Picture) → CanTell entries turns p.parts → MayTell entries turns (counts_of p.parts)
-may-tell entries turns p c = record { hits = Tracks.hits (CanTell.tracks c); misses = Tracks.misses (CanTell.tracks c); never_fell = CanTell.never_fell c }

@@ -65,6 +65,7 @@ fixed-says c d same = record {
   given = cc;
 }
 
+-- counts that the calls of the tree leave license its replies
 licence-kept : (losts faults : ℕ) (c d : Chart) → Fixed c d → c.cuts ≤ d.cuts → c.bads ≤ d.bads → (d.cuts < 2 ^ 64 - 1 → c.cuts + losts ≤ d.cuts) → (d.bads < 2 ^ 64 - 1 → c.bads + faults ≤ d.bads) → Licence 0 0 losts faults c d
 licence-kept losts faults c d f cuts bads lost bad = record {
   shape = f.shape;
@@ -108,10 +109,12 @@ next p q b d es n s k on map =
 
 -- ---- replies
 
+-- a reply that tells a value or that there is none
 told-answers : (most : ℕ) (es n : Pairs) (line : IndexLine) (q : Picture) (d : Bool) (value : Option ℕ) → Says most es line (told value) n → Serving q d n → AnswersIndex most es line (told value) q d
 told-answers most es n line q d None says s = (n, inl says, s)
 told-answers most es n line q d (Some v) says s = (n, inl says, s)
 
+-- and it needs no licence
 pub told-licence : (line : IndexLine) (value : Option ℕ) (reply : IndexReply) (c d : Chart) → is_plan line ≡ false → reply ≡ told value → Licence 0 0 0 0 c d → ReplyLicence line reply c d
 told-licence line value reply c d plain is x = subst (λ (r : IndexReply). ReplyLicence line r c d) (sym is) (subst (λ (z : Bool). Licence 0 (one_if z) (one_if (is_lost (told value))) (one_if (is_fault (told value))) c d) (sym plain) (at value))
   where
@@ -121,11 +124,13 @@ told-licence line value reply c d plain is x = subst (λ (r : IndexReply). Reply
 
 -- ---- get
 
+-- a key that was looked for
 pub ask-told : (p q : Picture) (b d : Bool) (key : ℕ) (es : Pairs) (value : Option ℕ) (reply : IndexReply) → Serving p b es → Calls p q b d → Gets key es (sheet_of p b) (Ok value) (sheet_of q d) → reply ≡ told value → AnswersIndex (most_of p.chart.shape.pages) es (Get key) reply q d
 ask-told p q b d key es value reply s k g is =
     subst (λ (r : IndexReply). AnswersIndex (most_of p.chart.shape.pages) es (Get key) r q d) (sym is)
     (told-answers (most_of p.chart.shape.pages) es es (Get key) q d value (ap told g.1, refl) (next p q b d es es s k g.0 g.2))
 
+-- power failed as it was looked for
 pub ask-lost : (p q : Picture) (b d : Bool) (key : ℕ) (es : Pairs) (off : Off) → Gets key es (sheet_of p b) (Err off) (sheet_of q d) → AnswersIndex (most_of p.chart.shape.pages) es (Get key) Lost q d
 ask-lost p q b d key es off g = record { off = g.0; left = es; loses = record { command = refl; either = inl refl }; map = g.1 }
 
@@ -173,12 +178,6 @@ out-lost p q b d key es g = at g.1
     at (inr map) = record { off = g.0; left = without key es; loses = record { command = refl; either = inr (told (assoc key es), (refl, refl)) }; map = map }
 
 -- ---- plans
-
-serving-planned : (p : Picture) (b : Bool) (es : Pairs) → Serving p b es → Serving (record p { chart = planned p.chart }) b es
-serving-planned p b es s = record { on = s.on; shut = s.shut; room = s.room; size = s.size; map = s.map }
-
-pub serving-plan : (p q : Picture) (b d : Bool) (es : Pairs) → Serving p b es → q ≡ record p { chart = planned p.chart } → d ≡ b → Serving q d es
-serving-plan p q b d es s is same = subst (λ (x : Bool). Serving q x es) (sym same) (subst (λ (x : Picture). Serving x b es) (sym is) (serving-planned p b es s))
 
 pub plan-licence : (p q : Picture) → q ≡ record p { chart = planned p.chart } → Licence 0 1 0 0 p.chart q.chart
 plan-licence p q is = Licence-planned p.chart q.chart (ap (λ (x : Picture). x.chart) is)

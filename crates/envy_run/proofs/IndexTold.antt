@@ -83,9 +83,6 @@ lost-no-power (Bad k g) command = (refl, refl)
 
 -- ---- restarts
 
-pub off-refl : (c : Chart) → c.on ≡ false → IndexOff c c
-off-refl c off = record { off = off; durable = refl; licence = Licence-refl c }
-
 off-more : (a b c : Chart) → IndexOff a b → Kept (lit b) c → c.on ≡ false → IndexOff a c
 off-more a b c x kept off = record { off = off; durable = kept.durable ∙ x.durable; licence = Licence-trans 0 0 0 0 0 0 0 0 a b c x.licence (Licence-revived b c kept) }
 
@@ -137,10 +134,6 @@ lit-after most es line Fault new begun other (n, says, s) = Serving.on s
 lit-after most es line Lost new begun other a = absurd (other refl)
 lit-after most es line Restarted new begun other (n, says, s) = Serving.on s
 lit-after most es line Armed new begun other (n, says, s) = Serving.on s
-
--- power is off behind a call that lost it
-pub lost-off : (most : ℕ) (es : Pairs) (line : IndexLine) (reply : IndexReply) (new : Picture) (begun : Bool) → AnswersIndex most es line reply new begun → reply ≡ Lost → new.chart.on ≡ false
-lost-off most es line reply new begun answers is = LostAt.off (subst (λ (r : IndexReply). AnswersIndex most es line r new begun) is answers)
 
 pub index-done : (most : ℕ) (es : Pairs) (line : IndexLine) (reply : IndexReply) (old : Chart) (new : Picture) (begun : Bool) (sink then_sink : Drain) → (reply ≡ Lost → ⊥) → AnswersIndex most es line reply new begun → ReplyLicence line reply old new.chart → WritesAll sink (index_bytes reply ++ newline ∷ []) (Ok tt) then_sink → ObeysIndex most es line Done old new begun sink then_sink
 index-done most es line reply old new begun sink then_sink other a x (whole, faults, after) =
@@ -320,9 +313,11 @@ pub record IndexBegan (setup : Setup) (returns : ℕ) (first : Chart) : Type 0 w
   pub pulled : first.pulled ≡ 0
   pub plans : first.plans ≡ 0
 
+-- before the first line there is nothing to license
 licences-none : (setup : Setup) (returns : ℕ) (c : Chart) → IndexBegan setup returns c → IndexLicences setup returns [] c
 licences-none setup returns c b = record { shape = b.shape; given = b.given; pulled = b.pulled; plans = b.plans; losts = omega arith; faults = omega arith }
 
+-- what the board's counts say of the turns since it was formatted
 licences-since : (setup : Setup) (returns : ℕ) (first : Chart) (p : Picture) (d : Bool) (turns : List IndexTurn) → IndexBegan setup returns first → length turns ≤ most_bytes → IndexedSince first p d turns ⊎ FellSince first p.chart turns → IndexLicences setup returns turns p.chart
 licences-since setup returns first p d turns b few since =
     let l = licensed-either first p d turns since in
@@ -373,6 +368,7 @@ pub record Back (p : Picture) (b : Bool) (now : Chart) : Type 0 where
   pub version : now.fields.version ≡ 2
   pub stands : IsTrue p.chart.on → (sheet_of p b).started ≡ false → Stands now (fresh now.shape.shadows (durable now))
 
+-- a map that stands for the turns is on the board
 indexed : (most : ℕ) (first : Chart) (p : Picture) (b : Bool) (now : Chart) (turns : List IndexTurn) (o : Outcome) → o.board ≡ Some now → most_of p.chart.shape.pages ≡ most → Back p b now → IndexedSince first p b turns → (pairs : Pairs) × IndexRun most turns pairs × OnBoard (HoldsIndex pairs) o
 indexed most first p b now turns o board same x t = (
   IndexedSince.pairs t,
@@ -387,6 +383,7 @@ indexed most first p b now turns o board same x t = (
   ),
 )
 
+-- and where power failed for good, what a restart finds
 fallen : (most : ℕ) (first : Chart) (p : Picture) (b : Bool) (now : Chart) (turns : List IndexTurn) (o : Outcome) → o.board ≡ Some now → most_of p.chart.shape.pages ≡ most → Back p b now → FellSince first p.chart turns → (left : Pairs) × IndexDies most turns left × OnBoard (HoldsIndexOff left) o
 fallen most first p b now [] o board same x d = absurd (FellSince.fell d)
 fallen most first p b now (turn ∷ earlier) o board same x d =
@@ -430,10 +427,12 @@ index-quiet setup returns o feed sink n =
       licences = index-made setup returns o.board n.board;
     })
 
+-- the size of the map stays
 index-pages : (setup : Setup) (returns : ℕ) (first : Chart) (p : Picture) (b : Bool) (turns : List IndexTurn) → IndexBegan setup returns first → IndexedSince first p b turns ⊎ FellSince first p.chart turns → most_of p.chart.shape.pages ≡ most_of setup.shape.pages
 index-pages setup returns first p b turns began (inl t) = ap (λ (sh : Shape). most_of sh.pages) (Licence.shape (IndexedSince.licensed t) ∙ IndexBegan.shape began)
 index-pages setup returns first p b turns began (inr d) = ap (λ (sh : Shape). most_of sh.pages) (Licence.shape (FellSince.licensed d) ∙ IndexBegan.shape began)
 
+-- from a trace of the index that was served to its account
 index-ends : (whole : State) (setup : Setup) (returns : ℕ) (first : Chart) (p : Picture) (b : Bool) (now : Chart) (end : End) (lines taken : ℕ) (io : Streams) → Back p b now → IndexBegan setup returns first → lines ≤ most_bytes → (turns : List IndexTurn) × Serves end lines taken index_grammar 0 (IndexedSince first p b) (FellSince first p.chart) [] turns io → DoesTask (index_task setup returns) (served_outcome end lines taken now whole) io
 index-ends whole setup returns first p b now end lines taken io x began few (turns, s) =
     let o : Outcome = served_outcome end lines taken now whole in

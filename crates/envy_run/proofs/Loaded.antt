@@ -77,16 +77,6 @@ body-short sh s =
 pub memory-unmade : (sh : Shape) (returns : ℕ) (from feed : Feed) (was : Taking) → checked sh ≡ Ok tt → HasTaken (head_of sh) from was feed → Unloaded sh returns from None Memory was feed
 memory-unmade sh returns from feed was checks head = record { shape = tt; bytes = head_of sh; head = ([], sym (append-nil (head_of sh))); taken = head; cause = (sh, checks, refl, tt); unharmed = tt }
 
-pub memory-made : (sh : Shape) (returns : ℕ) (from feed : Feed) (old : State) (was : Taking) → checked sh ≡ Ok tt → IsMade sh returns old → HasTaken (head_of sh) from was feed → Unloaded sh returns from (Some old) Memory was feed
-memory-made sh returns from feed old was checks made head = record {
-  shape = made.shape;
-  bytes = head_of sh;
-  head = ([], sym (append-nil (head_of sh)));
-  taken = head;
-  cause = (sh, checks, refl, record { shape = made.shape; flawless = record { on = made.on; cuts = made.cuts; bads = made.bads }; begun = made.begun; erases = made.erases });
-  unharmed = record { given = made.given; lives = made.lives; pulled = made.pulled; plans = made.plans };
-}
-
 unharmed-goes : (sh : Shape) (returns : ℕ) (old new : State) → IsMade sh returns old → Goes old new → IsUnharmed returns (chart new)
 unharmed-goes sh returns old new made goes = record {
   given = ap (λ (s : State). s.given) goes.same ∙ made.given;
@@ -217,6 +207,7 @@ pub image-refused : {B : Type 0} (state : B → State) (sh : Shape) (refusal : R
 image-refused {B} state sh refusal returns taken None from feed sink now same u = record { ending = record { status = refl; why = refl }; took = record { lines = refl; taken = same ∙ u.taken.taken; source = u.taken.left; sink = refl }; cause = u.cause }
 image-refused {B} state sh refusal returns taken (Some board) from feed sink now same u = record { ending = record { status = refl; why = refl }; took = record { lines = refl; taken = same ∙ u.taken.taken; source = u.taken.left; sink = refl }; cause = u.cause }
 
+-- the board of an image that is refused has not failed
 pub refused-unharmed : {B : Type 0} (state : B → State) (sh : Shape) (refusal : Refusal) (returns : ℕ) (board : Option B) (from feed : Feed) (now : Taking) → Unloaded sh returns from (option_map state board) refusal now feed → IfSome (option_map (λ b. chart (state b)) board) (IsUnharmed returns)
 refused-unharmed {B} state sh refusal returns None from feed now u = u.unharmed
 refused-unharmed {B} state sh refusal returns (Some board) from feed now u = u.unharmed
@@ -241,6 +232,7 @@ refused-within {B} {ending} {taken} e board now is same below cap =
 
 -- the words `audit` and `map`
 
+-- and the run tells so
 pub tells-refused : {B : Type 0} (Says : Verdict → Chart → List ℕ → Type 0) (state : B → State) (sh : Shape) (refusal : Refusal) (taken : ℕ) (board : Option B) (e : Finished B) (from feed : Feed) (sink : Drain) (now : Taking) → e ≡ record { ending = ending_for refusal; lines = 0; taken = taken; board = board; second = None } → taken ≡ now.taken → Unloaded sh audit_lives from (option_map state board) refusal now feed → Does (judging Says) (outcome_of state e) (record { from = from; feed = feed; to = sink; sink = sink })
 tells-refused {B} Says state sh refusal taken board e from feed sink now is same u =
     subst (λ (x : Finished B). Does (judging Says) (outcome_of state x) (record { from = from; feed = feed; to = sink; sink = sink })) (sym is)
@@ -251,6 +243,7 @@ tells-refused {B} Says state sh refusal taken board e from feed sink now is same
       licences = tt;
     })
 
+-- an image that was judged, and the run tells the verdict
 pub tells-judged : {B : Type 0} (Says : Verdict → Chart → List ℕ → Type 0) (state : B → State) (sh : Shape) (verdict : Verdict) (text : List ℕ) (ending : Ending) (taken : ℕ) (board : B) (e : Finished B) (from feed : Feed) (to sink : Drain) (now : Taking) → e ≡ record { ending = ending; lines = 0; taken = taken; board = Some board; second = None } → taken ≡ now.taken → Loaded sh audit_lives from (state board) verdict now feed → Says verdict (chart (state board)) text → WritesAs text ending to sink → Does (judging Says) (outcome_of state e) (record { from = from; feed = feed; to = to; sink = sink })
 tells-judged {B} Says state sh verdict text ending taken board e from feed to sink now is same l says writes =
     subst (λ (x : Finished B). Does (judging Says) (outcome_of state x) (record { from = from; feed = feed; to = to; sink = sink })) (sym is)

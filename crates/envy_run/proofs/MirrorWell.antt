@@ -64,6 +64,7 @@ fallen-off : (one : Which) (o : Outcome) (boards : Boards) → o.board ≡ Some 
 fallen-off First o boards e f off none = (boards.first, inl e, (off, none))
 fallen-off Second o boards e f off none = (boards.second, inr f, (off, none))
 
+-- of a pair that fell one board is off for good
 fallen-either : (first : Array) (count : ℕ) (o : Outcome) (boards : Boards) (turns : List MirrorTurn) → o.board ≡ Some boards.first → o.second ≡ Some boards.second → HasFallen first count boards turns → OfEither IsOffForGood o
 fallen-either first count o boards [] e f never = absurd never
 fallen-either first count o boards (turn ∷ earlier) e f d = fallen-off d.mid.last o boards e f d.off d.dead
@@ -73,6 +74,7 @@ spoilt-well : (o : Outcome) → AreWell o → o.taken ≡ 0 → OfEither (λ now
 spoilt-well o well none (now, inl is, some) = let clean = well.first now is none in omega arith
 spoilt-well o well none (now, inr is, some) = let clean = well.second now is none in omega arith
 
+-- a mirrored run that goes well is done to its end, or its power is off for good
 pub completes-mirror : (setup : Setup) (returns : ℕ) (o : Outcome) (io : Streams) (d : WasDone (mirror_task setup returns) o io) → IsGoodTrace mirror_grammar 0 io → AreWell o → IsComplete o ⊎ HasDiedOut o
 completes-mirror setup returns o io d good well = at d.answers
   where

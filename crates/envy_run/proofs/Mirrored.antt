@@ -104,6 +104,7 @@ mirror-unmade {B} state setup returns board e feed sink is as_made =
 abbrev pub two_boards : {B : Type 0} → Ending → B → B → Finished B
 two_boards ending one two = record { ending = ending; lines = 0; taken = 0; board = Some one; second = Some two }
 
+-- over two boards on which nothing was done there is nothing to license
 both-blank : {B : Type 0} (state : B → State) (setup : Setup) (returns : ℕ) (ending : Ending) (one two : B) → IsBlank setup returns (chart (state one)) → IsBlank setup returns (chart (state two)) → MirrorLicences setup returns (outcome_of state (two_boards ending one two)) []
 both-blank state setup returns ending one two first second = licences-of setup returns (outcome_of state (two_boards ending one two)) [] (chart (state one)) (chart (state two)) refl refl first.made second.made (blank-licences (chart (state one)) (chart (state two)) first.pulled second.pulled first.plans second.plans)
 
@@ -155,6 +156,7 @@ pub record AreReady (setup : Setup) (returns : ℕ) (a b : Picture) : Type 0 whe
   pub second : IsMadeFor setup returns b.chart
   pub unused : AreUnused (started a b)
 
+-- two memories that were formatted are ready for a pair
 pub are-ready : (s t : State) (setup : Setup) (returns : ℕ) (a b : Picture) → IsMade setup.shape returns s → IsMade setup.shape returns t → IsReady (chart s) setup a → IsReady (chart t) setup b → AreReady setup returns a b
 are-ready s t setup returns a b made made_second ready ready_second = record {
   first = made-ready s setup returns a made ready;
@@ -165,6 +167,7 @@ are-ready s t setup returns a b made made_second ready ready_second = record {
 abbrev pub start_of : Picture → Picture → Start
 start_of a b = record { state = begun (zeros a.chart.shape.pages a.chart.shape.shadows) a.chart.shape.pages; pair = started a b }
 
+-- both boards of a pair are still those that were made
 made-since : (setup : Setup) (returns : ℕ) (a b : Picture) (p : Pair) (side : ℕ) (turns : List MirrorTurn) → AreReady setup returns a b → MirroredSince (start_of a b) p side turns ⊎ FellSince (start_of a b) p turns → IsMadeFor setup returns p.first.memory.chart × IsMadeFor setup returns p.second.memory.chart
 made-since setup returns a b p side turns ready since =
     let (first, second) = bill-either (start_of a b) p side turns since in (
@@ -204,11 +207,13 @@ begins-as a b p side is none mirrors =
     (subst (λ (n : ℕ). MirroredSince (start_of a b) (started a b) n []) (sym none)
     (begins (zeros a.chart.shape.pages a.chart.shape.shadows) a b (subst (λ (q : Pair). Mirrors q (zeros a.chart.shape.pages a.chart.shape.shadows)) is mirrors)))
 
+-- how a mirrored run ends, as its own record
 pub ended-so : {B : Type 0} (ending : Ending) (end : End) (lines taken : ℕ) (one two : B) (e : Finished B) → e ≡ record { ending = ending; lines = lines; taken = taken; board = Some one; second = Some two } → ending ≡ ending_of end → e ≡ both_ended end lines taken one two
 ended-so {B} ending end lines taken one two e is same =
     let with_ending : Ending → Finished B = λ x. record { ending = x; lines = lines; taken = taken; board = Some one; second = Some two } in
     is ∙ ap with_ending same
 
+-- from a pair that was served to the account of the run
 pub mirror-ended : {B : Type 0} (state : B → State) (setup : Setup) (returns : ℕ) (a b : Picture) (first_pair p : Pair) (first_side side : ℕ) (end : End) (lines taken skipped : ℕ) (one two : B) (e : Finished B) (io : Streams) → e ≡ both_ended end lines taken one two → chart (state one) ≡ p.first.memory.chart → chart (state two) ≡ p.second.memory.chart → skipped ≡ 0 → lines ≤ most_bytes → AreReady setup returns a b → MirroredSince (start_of a b) first_pair first_side [] → ((start : Start) → MirroredSince start first_pair first_side [] → (turns : List MirrorTurn) × Serves end lines taken mirror_grammar skipped (MirroredSince start p side) (FellSince start p) [] turns io) → DoesTask (mirror_task setup returns) (outcome_of state e) io
 mirror-ended {B} state setup returns a b first_pair p first_side side end lines taken skipped one two e io is same same_second none few ready first serves =
     let served = subst (λ (k : ℕ). (turns : List MirrorTurn) × Serves end lines taken mirror_grammar k (MirroredSince (start_of a b) p side) (FellSince (start_of a b) p) [] turns io) none (serves (start_of a b) first) in

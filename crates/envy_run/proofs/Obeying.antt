@@ -3,7 +3,7 @@ use Rattle.std.proofs.Common.{◌≡◌, ◌⊎◌, inl, inr, ℕ, ◌+◌, ◌-
 use Rattle.std.specs.Prelude.{IsTrue, Option, Some, Result, Ok, Err, sum}
 use Rattle.std.proofs.lemmas.Bool.{cases_lt}
 use Rattle.std.proofs.Math.Seq.{take-append-add}
-use Rattle.std.proofs.lemmas.List.{append-nil, take-append-le}
+use Rattle.std.proofs.lemmas.List.{take-append-le}
 use Rattle.envy_base.specs.Array.{Array, undone, restarted}
 use Rattle.envy_base.proofs.Counting.{up-least, up-below}
 use Rattle.envy_base.specs.Step.{Command, Lost as LostAs}
@@ -36,12 +36,14 @@ use Rattle.envy_run.specs.Obeys.{ObeysLine, Licensed, LineDone, LineDead}
 use Rattle.envy_run.specs.Restarts.{Recovers, IsStillOff, IsBack}
 use Rattle.envy_serve.specs.Streams.{Written, FrontWritten}
 use Rattle.envy_serve.specs.Turns.{texts, one_if}
-use Rattle.envy_run.specs.Turns.{Replies, trace_grammar, is_power, is_plan, is_lost, is_fault, before_restart, losable}
+use Rattle.envy_serve.specs.Answering.{losable}
+use Rattle.envy_run.specs.Turns.{Replies, trace_grammar, is_power, is_plan, is_lost, is_fault, before_restart}
 use Rattle.envy_base.specs.declared.counts.Counts.{Counts}
 use Rattle.envy_run.specs.Counters.{is_empty}
 use Rattle.envy_run.specs.Hits.{accessed}
 use Rattle.envy_run.specs.Spending.{Spends, programs_of, erases_of}
 use Rattle.envy_run.specs.Tells.{CountsStay, Notes, Translates, hits_after, misses_after}
+use Rattle.envy_run.proofs.Calm.{texts-one}
 use Rattle.envy_run.proofs.Noting.{notes-empty, swaps-stay}
 use Rattle.envy_run.proofs.Recovering.{Licence-trans}
 use Rattle.envy_run.proofs.Replying.{Licence-refl}
@@ -110,12 +112,10 @@ answered May m line Restarted c on a = a
 answered May m line Armed c on a = a
 answered May m line (Stat counts) c on a = a
 
-texts-one : (reply : Reply) → texts trace_grammar (reply ∷ []) ≡ reply_bytes reply ++ newline ∷ []
-texts-one reply = append-nil (reply_bytes reply ++ newline ∷ [])
-
 pub one-more : (x : ℕ) → x ≡ x + 0
 one-more x = omega arith
 
+-- a call that was answered with power on
 done-so : (May : Counts → Type 0) (m : Array) (line : Line) (reply : Reply) (old c : Picture) → IsTrue c.chart.on → AnswersTo May m line reply c.chart → AnswerLicence line reply old.chart c.chart → WorksOf line old.chart c.chart → Notes line (reply ∷ []) old c → (left : Array) × LineDone May m line (reply ∷ []) left old c
 done-so May m line reply old c on a licence works notes =
     let (left, replies, stands) = answered May m line reply c.chart on a in
@@ -130,11 +130,13 @@ done-so May m line reply old c on a licence works notes =
       },
     )
 
+-- its reply was written
 pub call-done : (May : Counts → Type 0) (m : Array) (line : Line) (reply : Reply) (old c : Picture) (sink then_sink : Drain) → IsTrue c.chart.on → AnswersTo May m line reply c.chart → AnswerLicence line reply old.chart c.chart → WorksOf line old.chart c.chart → Notes line (reply ∷ []) old c → WritesAll sink (reply_bytes reply ++ newline ∷ []) (Ok tt) then_sink → ObeysLine May m line Done old c sink then_sink
 call-done May m line reply old c sink then_sink on a licence works notes (whole, faults, after) =
     let (left, done) = done-so May m line reply old c on a licence works notes in
     (reply ∷ [], left, done, record { whole = whole ∙ ap (with_end sink.written) (sym (texts-one reply)); faults = faults })
 
+-- its reply was not written
 pub call-failed : (May : Counts → Type 0) (m : Array) (line : Line) (reply : Reply) (old c : Picture) (sink then_sink : Drain) (failed : Failed) → IsTrue c.chart.on → AnswersTo May m line reply c.chart → AnswerLicence line reply old.chart c.chart → WorksOf line old.chart c.chart → Notes line (reply ∷ []) old c → WritesAll sink (reply_bytes reply ++ newline ∷ []) (Err failed) then_sink → ObeysLine May m line WriteFault old c sink then_sink
 call-failed May m line reply old c sink then_sink failed on a licence works notes (n, lt, front, faults) =
     let (left, done) = done-so May m line reply old c on a licence works notes in
@@ -216,6 +218,7 @@ Notes-power old c new is back =
       empty = λ e. absurd (let never = e in cc);
     }
 
+-- power failed in a call, and was asked for
 pub call-recovers : (May : Counts → Type 0) (m : Array) (line : Line) (reply : Reply) (old c new : Picture) (sink mid_sink then_sink : Drain) (wrote : Result Unit Failed) (obeyed : Obeyed) → Stands old.chart m → c.chart.shape ≡ old.chart.shape → reply ≡ Lost → AnswersTo May m line reply c.chart → AnswerLicence line reply old.chart c.chart → WorksOf line old.chart c.chart → Notes line (reply ∷ []) old c → WritesAll sink (reply_bytes reply ++ newline ∷ []) wrote mid_sink → Recovers wrote obeyed c new mid_sink then_sink → ObeysLine May m line obeyed old new sink then_sink
 call-recovers May m line reply old c new sink mid_sink then_sink wrote obeyed stood shape is a licence works notes writes recovers =
     lost-so (subst (λ (r : Reply). AnswersTo May m line r c.chart) is a) (subst (λ (r : Reply). AnswerLicence line r old.chart c.chart) is licence) wrote obeyed (subst (λ (r : Reply). WritesAll sink (reply_bytes r ++ newline ∷ []) wrote mid_sink) is writes) recovers
@@ -283,6 +286,7 @@ call-recovers May m line reply old c new sink mid_sink then_sink wrote obeyed st
     lost-so loses x (Err failed) Dead (n, lt, front, faults) (still, dead, same) =
         (dead-so x loses still dead, inr (subst (λ (rs : List Reply). FrontWritten (texts trace_grammar rs) sink then_sink) (sym (said-so loses).1) (subst (λ (d : Drain). FrontWritten (texts trace_grammar (Lost ∷ [])) sink d) (sym same) (record { count = n; front = front ∙ ap (λ (t : List ℕ). with_end sink.written (take n t)) (sym (texts-one Lost)); faults = faults }))))
 
+-- power was cut by the line, and was asked for
 pub power-recovers : (May : Counts → Type 0) (m : Array) (old c new : Picture) (sink then_sink : Drain) (obeyed : Obeyed) → Stands old.chart m → c ≡ record old { chart = pulled old.chart } → IsSound c.chart × (durable c.chart ≡ undone m) → Recovers (Ok tt) obeyed c new sink then_sink → ObeysLine May m PowerLine obeyed old new sink then_sink
 power-recovers May m old c new sink then_sink obeyed stood is (sound, words) recovers = at obeyed recovers
   where

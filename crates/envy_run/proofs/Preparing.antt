@@ -4,7 +4,7 @@ use Rattle.std.specs.Prelude.{IsTrue, Option, None, Some, slice_index}
 use Rattle.std.specs.Option.{option_map}
 use Rattle.std.proofs.lemmas.Bool.{cases_lt}
 use Rattle.envy_base.specs.Counting.{up}
-use Rattle.envy_base.specs.State.{State, IsMade, lit}
+use Rattle.envy_base.specs.State.{State, lit}
 use Rattle.envy_base.specs.declared.shape.Shape.{Shape}
 use Rattle.envy_layout.specs.Same.{Counted, Grows}
 use Rattle.envy_map.specs.Fields.{Chart, chart}
@@ -13,13 +13,7 @@ use Rattle.envy_memory.specs.Picture.{Picture}
 use Rattle.envy_memory.specs.Rises.{RoseOver}
 use Rattle.envy_memory.specs.declared.faults.FormatFault.TheVariants.{Off}
 use Rattle.envy_policy.specs.declared.setup.Setup.{Setup}
-use Rattle.envy_run.specs.Outcome.{outcome_of}
-use Rattle.envy_run.specs.Prepares.{HasTried, IsPrepared, IsReady, IsUnspent, NoneBegun, Unprepared, ending_of_unready}
-use Rattle.envy_run.specs.declared.ending.Ending.TheVariants.{OutOfMemory}
-use Rattle.envy_run.specs.declared.ending.Finished.{Finished}
-use Rattle.envy_run.specs.declared.prepare.Unready.{Unready}
-use Rattle.envy_run.specs.declared.prepare.Unready.TheVariants.{Memory, Bad, Dead}
-use Rattle.envy_run.specs.Unserved.{IsStanding}
+use Rattle.envy_run.specs.Prepares.{HasTried, IsPrepared, IsReady, IsUnspent}
 
 begun-same : (s t : Chart) → CountsFormat s t → t.begun ≡ s.begun
 begun-same s t f = let c = CountsFormat.counted f in let low = Counted.begun c in let few = Counted.few c in omega arith
@@ -126,14 +120,6 @@ prepared-again old s t u setup on some (p, spent) f refuses is =
       },
     )
 
--- no memory was made, and the board is as it was
-pub prepared-short : (old : Chart) (s t : State) → IsTrue s.on → IsPrepared old (chart s) × IsUnspent old (chart s) → t ≡ s → IsPrepared old (chart t) × IsUnspent old (chart t) × IsTrue t.on
-prepared-short old s t on (p, spent) same = subst (λ (x : State). IsPrepared old (chart x) × IsUnspent old (chart x) × IsTrue x.on) (sym same) (p, spent, on)
-
--- and of a board that was just made
-pub unspent-standing : (setup : Setup) (returns : ℕ) (s : State) (now : Chart) → IsMade setup.shape returns s → IsUnspent (chart s) now → IsTrue now.on → IsStanding now
-unspent-standing setup returns s now made spent on = record { on = on; bads = λ none. spent.bads none ∙ made.bads }
-
 -- a memory was made
 pub prepared-ready : (old : Chart) (s : State) (setup : Setup) (m : Picture) → IsPrepared old (chart s) × IsUnspent old (chart s) → CountsFormat (chart s) m.chart → Makes s setup m → IsReady old setup m
 prepared-ready old s setup m (p, spent) f makes = record {
@@ -170,40 +156,6 @@ prepared-first old = record {
   returned = 0;
   tried = let t = tried-first old in let erases = t.erases in record { lives = t.lives; cuts = t.cuts; erases = omega arith };
 }
-
--- no board was made
-pub none-made : {B : Type 0} (state : B → State) (setup : Setup) (returns : ℕ) (e : Finished B) → e ≡ record { ending = OutOfMemory; lines = 0; taken = 0; board = None; second = None } → NoneBegun setup returns (outcome_of state e)
-none-made {B} state setup returns e is =
-    subst (λ (x : Finished B). NoneBegun setup returns (outcome_of state x)) (sym is)
-    (record { lines = refl; taken = refl; second = refl; cause = inl (record { ending = record { status = refl; why = refl }; board = tt }); board = tt })
-
--- no memory begins on a board that was made
-pub none-begun : {B : Type 0} (state : B → State) (setup : Setup) (returns : ℕ) (unready : Unready) (made : State) (board : B) (e : Finished B) → e ≡ record { ending = ending_of_unready unready; lines = 0; taken = 0; board = Some board; second = None } → IsMade setup.shape returns made → Unprepared unready (chart made) (chart (state board)) → NoneBegun setup returns (outcome_of state e)
-none-begun {B} state setup returns unready made board e is new u =
-    subst (λ (x : Finished B). NoneBegun setup returns (outcome_of state x)) (sym is) (at unready u)
-  where
-    at : (why : Unready) → Unprepared why (chart made) (chart (state board)) → NoneBegun setup returns (outcome_of state (record { ending = ending_of_unready why; lines = 0; taken = 0; board = Some board; second = None }))
-    at Memory (prepared, spent, on) = record {
-      lines = refl;
-      taken = refl;
-      second = refl;
-      cause = inl (record { ending = record { status = refl; why = refl }; board = unspent-standing setup returns made (chart (state board)) new spent on });
-      board = record { made = made; new = new; prepared = prepared };
-    }
-    at Bad (prepared, rose) = record {
-      lines = refl;
-      taken = refl;
-      second = refl;
-      cause = inr (inl (record { ending = record { status = refl; why = refl }; cause = (chart (state board), refl, let none = new.bads in let more = rose (omega arith) in omega arith) }));
-      board = record { made = made; new = new; prepared = prepared };
-    }
-    at Dead (prepared, off, lives) = record {
-      lines = refl;
-      taken = refl;
-      second = refl;
-      cause = inr (inr (record { ending = record { status = refl; why = refl }; now = chart (state board); board_is = refl; off = off; lives = lives }));
-      board = record { made = made; new = new; prepared = prepared };
-    }
 
 -- a board of which there is no chart isn't there
 pub no-second : {X Y : Type 0} (f : X → Y) (second : Option X) → option_map f second ≡ None → second ≡ None

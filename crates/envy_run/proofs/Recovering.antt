@@ -1,5 +1,5 @@
 -- A board between a failure of power and its return.
-use Rattle.std.proofs.Common.{◌≡◌, ◌⊎◌, inl, inr, ℕ, ◌+◌, ◌<◌, false, List, length, refl, sym, ◌∙◌, ap, subst, arith}
+use Rattle.std.proofs.Common.{◌≡◌, ◌⊎◌, inl, inr, ℕ, ◌+◌, ◌<◌, false, List, length, sym, ◌∙◌, ap, subst, arith}
 use Rattle.envy_base.specs.declared.shape.Shape.{Shape}
 use Rattle.envy_map.specs.Fields.{Chart}
 use Rattle.envy_layout.specs.Same.{Counted, Grows, Kept}
@@ -12,7 +12,7 @@ use Rattle.envy_table.specs.Hits.{Empties}
 use Rattle.envy_run.specs.Licence.{Licence}
 use Rattle.envy_run.specs.Restarts.{IsStillOff, IsBack, Restarts}
 use Rattle.envy_run.specs.Tells.{CountsStay}
-use Rattle.envy_run.proofs.Replying.{Licence-refl, Licence-counted}
+use Rattle.envy_run.proofs.Replying.{Licence-counted}
 
 pub Licence-trans : (a b c d i j k l : ℕ) (p q r : Chart) → Licence a b c d p q → Licence i j k l q r → Licence (a + i) (b + j) (c + k) (d + l) p r
 Licence-trans a b c d i j k l p q r x y = record {
@@ -40,18 +40,7 @@ CountsStay-more a b c stay kept counts size =
     let erases = stay.erases in
     record { size = size ∙ stay.size; counts = counts ∙ stay.counts; begun = omega arith; erases = omega arith }
 
-pub StillOff-refl : (c : Picture) → c.chart.on ≡ false → IsStillOff c c
-StillOff-refl c off = record {
-  off = off;
-  shape = refl;
-  magic = refl;
-  version = refl;
-  sound = λ s. s;
-  durable = refl;
-  licence = Licence-refl c.chart;
-  counts = record { size = refl; counts = refl; begun = refl; erases = refl };
-}
-
+-- power was asked for once more, and failed once more
 pub StillOff-more : (a b c : Picture) → IsStillOff a b → Kept (lit b.chart) c.chart → c.chart.fields.version ≡ b.chart.fields.version → c.chart.on ≡ false → counts_of c.parts ≡ counts_of b.parts → length c.parts.cache.entries ≡ length b.parts.cache.entries → IsStillOff a c
 StillOff-more a b c still kept version off counts size = record {
   off = off;
@@ -73,9 +62,11 @@ lives-none : {E : Type 0} (b c : Picture) → (E × (c ≡ b)) ⊎ (Kept (lit b.
 lives-none b c (inl (never, same)) none = ap (λ (x : Picture). x.chart.lives) same ∙ none
 lives-none b c (inr (kept, off)) none = let e = Counted.lives kept.counted in omega arith
 
+-- and then it is off for good
 pub StillOff-dead : {E : Type 0} (a b c : Picture) → IsStillOff a b → (E × (c ≡ b)) ⊎ (Kept (lit b.chart) c.chart × (c.chart.on ≡ false)) → c.chart.fields.version ≡ b.chart.fields.version → counts_of c.parts ≡ counts_of b.parts → length c.parts.cache.entries ≡ length b.parts.cache.entries → b.chart.lives ≡ 0 → Restarts false a c
 StillOff-dead a b c still asked version counts size none = (StillOff-again a b c still asked version counts size, lives-none b c asked none)
 
+-- or it is back
 pub Back-after : (a b c : Picture) → IsStillOff a b → Kept (lit b.chart) c.chart → Stands c.chart (fresh b.chart.shape.shadows (durable b.chart)) → counts_of c.parts ≡ counts_of b.parts → length c.parts.cache.entries ≡ length b.parts.cache.entries → Empties b.parts.cache c.parts.cache → IsBack a c
 Back-after a b c still kept stands counts size empties = record {
   stands = subst (λ (ws : List ℕ). Stands c.chart (fresh a.chart.shape.shadows ws)) still.durable (subst (λ (n : ℕ). Stands c.chart (fresh n (durable b.chart))) (ap (λ (sh : Shape). sh.shadows) still.shape) stands);

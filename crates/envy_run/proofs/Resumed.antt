@@ -150,6 +150,7 @@ served-earlier found setup returns (Some s) o io faults le served =
       ending = served.ending;
     }
 
+-- the trace behind an image is that of the board in it
 takes-up : (words : Shape → Setup) (setup : Setup) (returns : ℕ) (sh : Shape) (found : State) (o : Outcome) (from mid feed : Feed) (to sink : Drain) (now : Taking) → setup ≡ words sh → checked setup ≡ Ok tt → Loaded sh returns from found Sound now mid → DoesTask (resume_task found setup found.given) o (record { from = mid; feed = feed; to = to; sink = sink }) → Does (resuming words returns) o (record { from = from; feed = feed; to = to; sink = sink })
 takes-up words setup returns sh found o from mid feed to sink now is checks l does =
     let io : Streams = record { from = mid; feed = feed; to = to; sink = sink } in
@@ -197,6 +198,7 @@ unsound (Broken x) s board other judges sound = judges.fails (sound-points s boa
 
 -- the ends of `resume` without a trace
 
+-- bytes that hold no image that could be taken up
 pub resume-declined : {B : Type 0} (state : B → State) (words : Shape → Setup) (sh : Shape) (refusal : Refusal) (returns taken : ℕ) (board : Option B) (e : Finished B) (from feed : Feed) (sink : Drain) (now : Taking) → e ≡ record { ending = ending_for refusal; lines = 0; taken = taken; board = board; second = None } → taken ≡ now.taken → shape_checked sh ≡ Ok tt → checked (words sh) ≡ Ok tt → Unloaded sh returns from (option_map state board) refusal now feed → Does (resuming words returns) (outcome_of state e) (record { from = from; feed = feed; to = sink; sink = sink })
 resume-declined {B} state words sh refusal returns taken board e from feed sink now is same shape rules u =
     subst (λ (x : Finished B). Does (resuming words returns) (outcome_of state x) (record { from = from; feed = feed; to = sink; sink = sink })) (sym is)
@@ -221,6 +223,7 @@ resume-headless {B} state words refusal returns taken e from feed sink now is sa
       licences = tt;
     })
 
+-- an image whose shape breaks a rule with the words
 pub resume-unruly : {B : Type 0} (state : B → State) (words : Shape → Setup) (setup : Setup) (sh : Shape) (returns taken : ℕ) (e : Finished B) (from feed : Feed) (sink : Drain) (now : Taking) → e ≡ record { ending = ImageRefused Unruly; lines = 0; taken = taken; board = None; second = None } → taken ≡ now.taken → setup ≡ words sh → IsErr (checked setup) → shape_checked sh ≡ Ok tt → HasTaken (head_of sh) from now feed → Does (resuming words returns) (outcome_of state e) (record { from = from; feed = feed; to = sink; sink = sink })
 resume-unruly {B} state words setup sh returns taken e from feed sink now is same found fails shape t =
     subst (λ (x : Finished B). Does (resuming words returns) (outcome_of state x) (record { from = from; feed = feed; to = sink; sink = sink })) (sym is)
@@ -236,6 +239,7 @@ resume-unruly {B} state words setup sh returns taken e from feed sink now is sam
       licences = tt;
     })
 
+-- an image whose board isn't sound
 pub resume-unsound : {B : Type 0} (state : B → State) (words : Shape → Setup) (setup : Setup) (sh : Shape) (verdict : Verdict) (returns taken : ℕ) (board : B) (e : Finished B) (from feed : Feed) (sink : Drain) (now : Taking) → e ≡ record { ending = ImageRefused Unsound; lines = 0; taken = taken; board = Some board; second = None } → taken ≡ now.taken → setup ≡ words sh → checked setup ≡ Ok tt → (verdict ≡ Sound → ⊥) → Loaded sh returns from (state board) verdict now feed → Does (resuming words returns) (outcome_of state e) (record { from = from; feed = feed; to = sink; sink = sink })
 resume-unsound {B} state words setup sh verdict returns taken board e from feed sink now is same found checks other l =
     let i = l.installed in

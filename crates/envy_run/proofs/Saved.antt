@@ -5,11 +5,10 @@ use Rattle.std.specs.Option.{option_map}
 use Rattle.envy_base.specs.State.{State}
 use Rattle.envy_io.specs.declared.source.Failed.{Failed}
 use Rattle.envy_io.specs.Streams.{Drain, Rises}
-use Rattle.envy_io.proofs.WritesLemmas.{with_end-nil}
 use Rattle.envy_layout.specs.Stands.{Stands}
 use Rattle.envy_map.specs.Fields.{Chart, chart}
+use Rattle.envy_pair.proofs.Writing.{told-none}
 use Rattle.envy_policy.specs.declared.setup.Setup.{Setup}
-use Rattle.envy_serve.proofs.Hushing.{silent-texts}
 use Rattle.envy_serve.specs.declared.serving.End.{End}
 use Rattle.envy_serve.specs.declared.serving.End.TheVariants.{Done as EndDone, ReadFault, WriteFault, FlushFault, Refused, Dead as EndDead, TooLong}
 use Rattle.envy_serve.specs.Ends.{Serves, Ends, HasServed, HasReadTo, HasTold}
@@ -25,15 +24,16 @@ use Rattle.envy_run.proofs.Accounts.{Did, Died, WasDone, WasServed, account_of, 
 use Rattle.envy_run.specs.Turns.{TraceTurn, trace_grammar}
 use Rattle.envy_run.specs.Writing.{WritesOut}
 
+silent-texts : {Line Reply : Type 0} (g : Grammar Line Reply) (replies : List Reply) → texts (silent g) replies ≡ []
+silent-texts g [] = refl
+silent-texts g (reply ∷ replies) = silent-texts g replies
+
 silent-all : {Line Reply : Type 0} (g : Grammar Line Reply) (turns : List (Turn Line Reply)) → written (silent g) turns ≡ []
 silent-all g [] = refl
 silent-all g (turn ∷ earlier) = ap (λ (w : List ℕ). w ++ texts (silent g) turn.replies) (silent-all g earlier) ∙ silent-texts g turn.replies
 
-written-none : (d : Drain) → Written [] d d
-written-none d = record { whole = sym (with_end-nil d.written); faults = omega arith }
-
 nothing-told : {Line Reply : Type 0} (g : Grammar Line Reply) (turns : List (Turn Line Reply)) (d : Drain) → Written (written (silent g) turns) d d
-nothing-told g turns d = subst (λ (w : List ℕ). Written w d d) (sym (silent-all g turns)) (written-none d)
+nothing-told g turns d = subst (λ (w : List ℕ). Written w d d) (sym (silent-all g turns)) (told-none d)
 
 -- a sink that never failed has no front written
 never-front : (text : List ℕ) (mid sink : Drain) → sink.faults ≡ 0 → FrontWritten text mid sink → ⊥
@@ -46,7 +46,7 @@ quiet-told FlushFault turns tail to sink d none other (mid, before, front) = abs
 quiet-told WriteFault [] tail to sink d none other told = absurd told
 quiet-told WriteFault (turn ∷ earlier) tail to sink d none other (mid, before, front) = absurd (never-front _ mid sink none front)
 quiet-told EndDead [] tail to sink d none other told = absurd told
-quiet-told EndDead (turn ∷ earlier) tail to sink d none other told = (d, nothing-told trace_grammar earlier d, inl (subst (λ (t : List ℕ). Written t d d) (sym (silent-texts trace_grammar turn.replies)) (written-none d)))
+quiet-told EndDead (turn ∷ earlier) tail to sink d none other told = (d, nothing-told trace_grammar earlier d, inl (subst (λ (t : List ℕ). Written t d d) (sym (silent-texts trace_grammar turn.replies)) (told-none d)))
 quiet-told ReadFault turns tail to sink d none other told = nothing-told trace_grammar turns d
 quiet-told (Refused fault) turns tail to sink d none other told = nothing-told trace_grammar turns d
 quiet-told TooLong turns tail to sink d none other told = nothing-told trace_grammar turns d

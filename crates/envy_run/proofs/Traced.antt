@@ -71,6 +71,7 @@ traced-done start old new turns t line replies left d = record {
   telling = telling-more start.memory (record { line = line; replies = replies }) turns old new t.telling (Licence.shape d.licensed) d.notes;
 }
 
+-- a line that was done joins the turns
 pub traced-obeys : (start : Start) (old new : Picture) (turns : List TraceTurn) (line : Line) (obeyed : Obeyed) (sink then_sink : Drain) (t : TracedSince start old turns) → ObeysLine (MayTell old.chart.shape.entries turns) (HasDone.array t.done) line obeyed old new sink then_sink → Obeys obeyed trace_grammar (TracedSince start new) (DiedSince start new) turns line sink then_sink
 traced-obeys start old new turns line Done sink then_sink t (replies, left, done, told) = (replies, traced-done start old new turns t line replies left done, told)
 traced-obeys start old new turns line WriteFault sink then_sink t (replies, left, done, told) = (replies, traced-done start old new turns t line replies left done, told)
@@ -141,6 +142,7 @@ times-few times n cuts now paid low few rise = at (cases_lt now (2 ^ 64 - 1))
     at (inl lt) = let le = rise lt in omega arith
     at (inr top) = omega arith
 
+-- before the first line there is nothing to license
 pub licences-none : (setup : Setup) (returns : ℕ) (now : Chart) → now.shape ≡ setup.shape → now.given ≡ returns → now.pulled ≡ 0 → now.plans ≡ 0 → now.begun ≡ 0 → IsTriedOn setup now → Licences setup returns [] now
 licences-none setup returns now shape given pulled plans begun tried =
     let paid = tried.paid in
@@ -187,6 +189,7 @@ before-few (Cut k g) = omega arith
 before-few (Bad k g) = omega arith
 before-few Stat = omega arith
 
+-- no more replies than two a line
 pub traced-few : (test : Reply → Bool) (start : Start) (p : Picture) (turns : List TraceTurn) → TracedSince start p turns ⊎ DiedSince start p turns → count_replies test turns ≤ 2 * length turns
 traced-few test start p turns (inl t) = run-few test p.chart.shape.entries start.array turns (HasDone.array t.done) (HasDone.run t.done)
 traced-few test start p [] (inr d) = omega arith
@@ -222,6 +225,7 @@ adds-up programs setup returns first now b shape cuts t =
       erases = λ none le ls. let same = Tally.same t.erases ls le in let whole = b.erases (omega arith) in omega arith;
     }
 
+-- what was told adds up where what is counted does
 told-so : (programs : ℕ) (told : Option Counts) (now : Picture) → IfSome told (λ c. c ≡ counts_of now.parts) → AddsUp programs (counts_of now.parts) now.chart → IfSome told (λ c. AddsUp programs c now.chart)
 told-so programs None now same adds = tt
 told-so programs (Some counts) now same adds = subst (λ (c : Counts). AddsUp programs c now.chart) (sym same) adds
@@ -243,6 +247,7 @@ died-told array (Cut k g) replies earlier left is fails P = subst (λ (rs : List
 died-told array (Bad k g) replies earlier left is fails P = subst (λ (rs : List Reply). IfSome (told_in rs) P) (sym is) tt
 died-told array Stat replies earlier left is fails P = subst (λ (rs : List Reply). IfSome (told_in rs) P) (sym is) tt
 
+-- so what the last line of counters told adds up
 since-told : (programs : ℕ) (setup : Setup) (returns : ℕ) (start : Start) (p : Picture) (turns : List TraceTurn) → Began programs setup returns start.memory → TracedSince start p turns ⊎ DiedSince start p turns → IfSome (just_told turns) (λ c. AddsUp programs c p.chart)
 since-told programs setup returns start p turns b (inl t) = told-so programs (just_told turns) p (Telling.last t.telling) (adds-up programs setup returns start.memory p b (Licence.shape t.licensed) (RoseOver.kept (Licence.cuts t.licensed)) (Telling.tallies t.telling))
 since-told programs setup returns start p [] b (inr d) = tt
@@ -256,6 +261,7 @@ spent-either : (start : Start) (p : Picture) (turns : List TraceTurn) → Traced
 spent-either start p turns (inl t) = t.spent
 spent-either start p turns (inr d) = d.spent
 
+-- the flash work that was begun is that of the lines and of the formatting
 thrifty-since : (programs times : ℕ) (setup : Setup) (returns : ℕ) (start : Start) (p : Picture) (turns : List TraceTurn) → Began programs setup returns start.memory → sum start.memory.chart.erases ≤ setup.shape.segments * times → TracedSince start p turns ⊎ DiedSince start p turns → IsThrifty programs times turns p.chart
 thrifty-since programs times setup returns start p turns b before since =
     let l = licensed-either start p turns since in
@@ -268,6 +274,7 @@ thrifty-since programs times setup returns start p turns b before since =
     let erased = Spends.erases s in
     record { programs = omega arith; erases = omega arith }
 
+-- what the board's counts say of the turns behind an image
 pub licences-behind : (programs times : ℕ) (setup : Setup) (returns : ℕ) (start : Start) (p : Picture) (turns : List TraceTurn) → Began programs setup returns start.memory → sum start.memory.chart.erases ≤ setup.shape.segments * times → length turns ≤ most_bytes → TracedSince start p turns ⊎ DiedSince start p turns → LicencesBehind programs times setup returns turns p.chart
 licences-behind programs times setup returns start p turns b before few since =
     let l = licensed-either start p turns since in
@@ -288,6 +295,7 @@ licences-behind programs times setup returns start p turns b before few since =
       thrifty = thrifty-since programs times setup returns start p turns b before since;
     }
 
+-- and of those since it was formatted
 pub licences-since : (setup : Setup) (returns : ℕ) (start : Start) (p : Picture) (turns : List TraceTurn) → Began 0 setup returns start.memory → IsTriedOn setup start.memory.chart → length turns ≤ most_bytes → TracedSince start p turns ⊎ DiedSince start p turns → Licences setup returns turns p.chart
 licences-since setup returns start p turns b tried few since =
     let l = licences-behind 0 tried.times setup returns start p turns b tried.erases few since in
@@ -327,6 +335,7 @@ traced-first setup first array some shape stands begins = record {
   };
 }
 
+-- a memory that was formatted has done no lines
 pub traced-none : (old : Chart) (setup : Setup) (first : Picture) → 0 < setup.shape.entries → first.chart.shape ≡ setup.shape → IsReady old setup first → TracedSince (record { array = zeros first.chart.shape.pages first.chart.shape.shadows; memory = first }) first []
 traced-none old setup first some shape ready = traced-first setup first (zeros first.chart.shape.pages first.chart.shape.shadows) some shape (IsFresh.stands ready.fresh) ready.begins
 
@@ -339,9 +348,11 @@ up-zero : (n : ℕ) → n ≡ 0 → up n ≡ 1
 unfolding up
 up-zero n none = omega arith
 
+-- segments that were each erased once
 once-sum : (old new : List ℕ) (segments : ℕ) → length new ≡ segments → ((e : ℕ) → slice_index old e ≡ 0) → ((s : ℕ) → s < segments → slice_index new s ≡ up (slice_index old s)) → sum new ≡ segments
 once-sum old new segments long none once = ones-sum new (λ s lt. once s (omega arith) ∙ up-zero (slice_index old s) (none s)) ∙ long
 
+-- a memory that was formatted on a board of the maker begins with no counts
 pub began : (setup : Setup) (returns : ℕ) (s : State) (first : Picture) → IsMade setup.shape returns s → length s.erases ≡ setup.shape.segments → IsReady (chart s) setup first → Began 0 setup returns first
 began setup returns s first made long ready = record {
   shape = IsPrepared.shape ready.prepared ∙ made.shape;
@@ -360,6 +371,7 @@ began-of setup returns first begun = began setup returns begun.made first begun.
 traced-left : (entries : ℕ) (start : Start) (p : Picture) (turns : List TraceTurn) → p.chart.shape.entries ≡ entries → TracedSince start p turns → (m : Array) × Run entries start.array turns m × Stands p.chart m
 traced-left entries start p turns same t = let d = t.done in (d.array, subst (λ (n : ℕ). Run n start.array turns d.array) same d.run, d.stands)
 
+-- where power failed for good, what a restart finds
 died-left : (entries : ℕ) (start : Start) (p : Picture) (turns : List TraceTurn) → p.chart.shape.entries ≡ entries → DiedSince start p turns → (m : Array) × Dies entries start.array turns m × HoldsOff m.words p.chart
 died-left entries start p turns same d = let (m, dies, holds) = d.died in (m, subst (λ (n : ℕ). Dies n start.array turns m) same dies, holds)
 
@@ -392,6 +404,7 @@ runs-served whole setup returns old first now end lines taken io some ready b tr
       licences = licences-since setup returns start now turns b tried (let same = Serves.lines_are s in omega arith) either;
     })
 
+-- so it is where formatting failed
 pub licences-prepared : (setup : Setup) (returns : ℕ) (s : State) (now : Chart) → returns < 2 ^ 32 → IsMade setup.shape returns s → IsPrepared (chart s) now → Licences setup returns [] now
 licences-prepared setup returns s now low made p = licences-none setup returns now (p.shape ∙ made.shape) (p.given ∙ made.given) (p.pulled ∙ made.pulled) (p.plans ∙ made.plans) (p.begun ∙ made.begun) (tried-on setup returns s now low made p)
 

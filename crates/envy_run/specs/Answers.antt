@@ -14,7 +14,8 @@ use Rattle.envy_run.specs.declared.answering.Beside.{Beside}
 use Rattle.envy_run.specs.declared.answering.Beside.TheVariants.{Nothing, Power as OfPower, Plan as OfPlan}
 use Rattle.envy_run.specs.declared.answering.Plan.{Plan}
 use Rattle.envy_run.specs.declared.answering.Plan.TheVariants.{Cut as PlanCut, Bad as PlanBad}
-use Rattle.envy_run.specs.Turns.{Replies, losable, is_plan, is_fault, is_lost}
+use Rattle.envy_serve.specs.Answering.{losable}
+use Rattle.envy_run.specs.Turns.{Replies, is_plan, is_fault, is_lost}
 use Rattle.envy_serve.specs.Turns.{one_if}
 
 -- the line that plans this

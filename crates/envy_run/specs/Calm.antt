@@ -5,6 +5,7 @@ use Rattle.envy_base.specs.Array.{Array}
 use Rattle.envy_base.specs.declared.counts.Counts.{Counts}
 use Rattle.envy_io.specs.declared.source.Failed.{Failed}
 use Rattle.envy_io.specs.Streams.{Drain}
+use Rattle.envy_memory.specs.Formats.{no_counts}
 use Rattle.envy_serve.specs.Streams.{Written, FrontWritten}
 use Rattle.envy_serve.specs.Turns.{Leads, texts}
 use Rattle.envy_trace.specs.declared.line.Line.{Line}
@@ -12,12 +13,9 @@ use Rattle.envy_trace.specs.declared.reply.Reply.{Reply}
 use Rattle.envy_trace.specs.declared.reply.Reply.TheVariants.{Fault, Lost}
 use Rattle.envy_run.specs.Turns.{TraceTurn, Does, trace_grammar}
 
--- counters of no work
-abbrev pub no_work : Counts
-no_work = record { hits = 0; misses = 0; flushes = 0; copies = 0; moves = 0; erases = 0; swaps = 0 }
-
+-- no access and no work was counted
 abbrev pub IsNoWork : Counts → Type 0
-IsNoWork counts = counts ≡ no_work
+IsNoWork counts = counts ≡ no_counts
 
 -- the reply doesn't say that a line was lost or failed
 abbrev pub IsCalmReply : Reply → Type 0

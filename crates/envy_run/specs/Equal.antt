@@ -17,7 +17,7 @@ use Rattle.envy_trace.specs.declared.reply.Reply.{Reply}
 use Rattle.envy_trace.specs.declared.reply.Reply.TheVariants.{Restarted, Armed}
 use Rattle.envy_run.specs.Outcome.{Outcome}
 use Rattle.envy_run.specs.Theorem.{Licenses}
-use Rattle.envy_run.specs.Turns.{said}
+use Rattle.envy_serve.specs.Answering.{said}
 
 -- the array's own answer to the command
 abbrev pub Answers : Array → Command → List Reply → Array → Type 0

@@ -1,15 +1,15 @@
 -- What the plain array answers to the lines of a trace.
-use Rattle.std.specs.Prelude.{◌≡◌, ◌⊎◌, ℕ, Bool, true, false, List, [], ◌∷◌, ◌++◌, Option, None, Some}
+use Rattle.std.specs.Prelude.{◌≡◌, ◌⊎◌, ℕ, Bool, true, false, List, [], ◌∷◌, ◌++◌, Some}
 use Rattle.envy_base.specs.Array.{Array, restarted}
 use Rattle.envy_base.specs.declared.counts.Counts.{Counts}
 use Rattle.envy_base.specs.Step.{Command, Answer, Step, Accepts, Lost}
 use Rattle.envy_base.specs.Step.{Load as DoLoad, Look as DoLook, Store as DoStore, Begin as DoBegin, Put as DoPut, Commit as DoCommit, Abort as DoAbort, Tick as DoTick}
-use Rattle.envy_base.specs.Step.{Word as IsWord, Done as IsDone, Started as IsStarted, Range as IsRange, Held as IsHeld, Closed as IsClosed, Full as IsFull, Busy as IsBusy}
 use Rattle.envy_io.specs.Lines.{newline}
+use Rattle.envy_serve.specs.Answering.{said, losable}
 use Rattle.envy_trace.specs.declared.line.Line.{Line}
 use Rattle.envy_trace.specs.declared.line.Line.TheVariants.{Empty, Load, Look, Store, Begin, Put, Commit, Abort, Tick, Power, Cut, Bad, Stat}
 use Rattle.envy_trace.specs.declared.reply.Reply.{Reply}
-use Rattle.envy_trace.specs.declared.reply.Reply.TheVariants.{Word, Done, Started, Range, Held, Closed, Full, Busy, Fault, Lost as IsLost, Restarted, Armed, Stat as StatLine}
+use Rattle.envy_trace.specs.declared.reply.Reply.TheVariants.{Fault, Lost as IsLost, Restarted, Armed, Stat as StatLine}
 use Rattle.envy_serve.specs.Grammar.{Grammar}
 use Rattle.envy_serve.specs.Turns.{Turn}
 use Rattle.envy_trace.specs.Grammar.{line_of}
@@ -26,17 +26,6 @@ trace_grammar = record { reads = line_of; text = line_text }
 -- a line of a trace and the replies to it
 abbrev pub TraceTurn : Type 0
 TraceTurn = Turn Line Reply
-
--- the reply that says the plain array's answer
-abbrev pub said : Answer → Reply
-said (IsWord w) = Word w
-said IsDone = Done
-said (IsStarted t) = Started t
-said IsRange = Range
-said (IsHeld u) = Held u
-said IsClosed = Closed
-said IsFull = Full
-said IsBusy = Busy
 
 -- the array answers the command
 abbrev pub Says : Array → Command → Reply → Array → Type 0
@@ -67,16 +56,6 @@ Replies May m (Cut k g) reply n = (reply ≡ Armed) × (n ≡ m)
 Replies May m (Bad k g) reply n = (reply ≡ Armed) × (n ≡ m)
 Replies May m Stat reply n = TellsCounts May m reply n
 Replies May m line reply n = ⊥
-
--- the command of a line in which power may fail
-abbrev pub losable : Line → Option Command
-losable (Store a w) = Some (DoStore a w)
-losable Begin = Some DoBegin
-losable (Put t a w) = Some (DoPut t a w)
-losable (Commit t) = Some (DoCommit t)
-losable (Abort t) = Some (DoAbort t)
-losable Tick = Some DoTick
-losable line = None
 
 -- power failed in the line and returned: the array is as before the line or as after it, open transactions undone
 pub record Loses (m : Array) (line : Line) (n : Array) : Type 0 where

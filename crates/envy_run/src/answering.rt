@@ -181,11 +181,13 @@ pub fn answer<B: Board>(memory: &mut Memory<B>, line: &Line) -> Result<Reply, Be
         → IfOk result (λ reply. Answered m line.now reply memory.new.chart) }
     ensures tells { line.now ≡ Stat → (result ≡ Ok (Reply.Stat (counts_of memory.old.parts)))
         × (memory.new ≡ memory.old) }
+
     ensures lost { (result ≡ Ok Reply.Lost) ↔ (memory.new.chart.on ≡ false) }
     ensures licence { IfOk result (λ reply. AnswerLicence line.now reply memory.old.chart memory.new.chart) }
     ensures notes { IfOk result (λ reply. Notes line.now (reply ∷ []) memory.old memory.new) }
     ensures works { IfOk result (λ _. WorksOf line.now memory.old.chart memory.new.chart) }
     ensures rules { IfOk result (λ reply. FollowsRules line.now reply memory.old memory.new) }
+
     ensures beside { (other : Beside) → result ≡ Err other → (line.now ≡ line_beside other)
         × (memory.new ≡ memory.old) }
 {

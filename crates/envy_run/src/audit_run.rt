@@ -6,6 +6,7 @@ ghost use Rattle.envy_run.specs.Meaning.{Does};
 ghost use Rattle.envy_run.specs.Outcome.{outcome_of};
 ghost use Rattle.envy_run.specs.Writing.{WritesOut};
 ghost use Rattle.envy_serve.specs.Ends.{most_bytes};
+ghost use Rattle.envy_serve.specs.Streams.{streams_of};
 
 use crate::ending::{Finished, stopped_at, written};
 use crate::loading::{refused, take_head, take_image};
@@ -74,7 +75,7 @@ pub fn run_audit<S: Source, K: Sink, M: Maker>(
     maker: &mut M,
 ) -> Finished<M::Made>
     ensures audits { Does (judging IsVerdict) (outcome_of M.Made.Board.state result)
-        (record { from = S.feed source.old; feed = S.feed source.new; to = K.drain sink.old; sink = K.drain sink.new }) }
+        (streams_of (S.feed source.old) (S.feed source.new) (K.drain sink.old) (K.drain sink.new)) }
     ensures few { result.lines ≤ result.taken }
     ensures read { result.taken ≤ most_bytes }
     ensures second { result.second ≡ None }

@@ -6,6 +6,7 @@ ghost use Rattle.envy_run.specs.Headline.{index_task};
 ghost use Rattle.envy_run.specs.Outcome.{outcome_of};
 ghost use Rattle.envy_run.specs.Task.{DoesTask};
 ghost use Rattle.envy_serve.specs.Ends.{most_bytes};
+ghost use Rattle.envy_serve.specs.Streams.{streams_of};
 
 use crate::ending::{Finished, finished_with};
 use crate::indexing::Indexing;
@@ -32,7 +33,7 @@ pub fn run_index<S: Source, K: Sink, M: Maker>(
     requires room { 32 ≤ setup.shape.shadows }
     requires size { 20 ≤ setup.shape.pages }
     ensures runs { DoesTask (index_task setup lives) (outcome_of M.Made.Board.state result)
-        (record { from = S.feed source.old; feed = S.feed source.new; to = K.drain sink.old; sink = K.drain sink.new }) }
+        (streams_of (S.feed source.old) (S.feed source.new) (K.drain sink.old) (K.drain sink.new)) }
     ensures few { result.lines ≤ result.taken }
     ensures read { result.taken ≤ most_bytes }
     ensures second { result.second ≡ None }

@@ -8,6 +8,7 @@ ghost use Rattle.envy_run.specs.Meaning.{Does};
 ghost use Rattle.envy_run.specs.Outcome.{outcome_of};
 ghost use Rattle.envy_run.specs.Writing.{WritesOut};
 ghost use Rattle.envy_serve.specs.Ends.{most_bytes};
+ghost use Rattle.envy_serve.specs.Streams.{streams_of};
 
 use crate::audit_run::{AUDIT_LIVES, write_verdict};
 use crate::ending::{Finished, stopped_at, written};
@@ -63,7 +64,7 @@ pub fn run_map<S: Source, K: Sink, M: Maker>(
     maker: &mut M,
 ) -> Finished<M::Made>
     ensures maps { Does (judging IsMap) (outcome_of M.Made.Board.state result)
-        (record { from = S.feed source.old; feed = S.feed source.new; to = K.drain sink.old; sink = K.drain sink.new }) }
+        (streams_of (S.feed source.old) (S.feed source.new) (K.drain sink.old) (K.drain sink.new)) }
     ensures few { result.lines ≤ result.taken }
     ensures read { result.taken ≤ most_bytes }
     ensures second { result.second ≡ None }

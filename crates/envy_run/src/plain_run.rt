@@ -8,8 +8,10 @@ ghost use Rattle.envy_run.specs.Calm.{AnswersCalmly, IsNoWork, ObeysCalmly, list
 ghost use Rattle.envy_run.specs.Headline.{plain_task};
 ghost use Rattle.envy_run.specs.Outcome.{outcome_of};
 ghost use Rattle.envy_run.specs.Task.{DoesTask};
-ghost use Rattle.envy_run.specs.Turns.{Replies, said};
+ghost use Rattle.envy_serve.specs.Answering.{said};
+ghost use Rattle.envy_run.specs.Turns.{Replies};
 ghost use Rattle.envy_serve.specs.Ends.{most_bytes};
+ghost use Rattle.envy_serve.specs.Streams.{streams_of};
 
 use crate::ending::{Ending, Finished, finished_with, unserved};
 use crate::restart::{ReplyBuffer, write_reply};
@@ -154,7 +156,7 @@ pub fn run_plain<S: Source, K: Sink, B>(
 ) -> Finished<B>
     requires { checked setup.now ≡ Ok tt }
     ensures runs { (state : B → State) → DoesTask (plain_task setup.now) (outcome_of state result)
-        (record { from = S.feed source.old; feed = S.feed source.new; to = K.drain sink.old; sink = K.drain sink.new }) }
+        (streams_of (S.feed source.old) (S.feed source.new) (K.drain sink.old) (K.drain sink.new)) }
     ensures few { result.lines ≤ result.taken }
     ensures read { result.taken ≤ most_bytes }
     ensures second { result.second ≡ None }

@@ -15,6 +15,7 @@ ghost use Rattle.envy_run.specs.Outcome.{outcome_of};
 ghost use Rattle.envy_run.specs.Resumes.{resume_task, resuming, setup_found};
 ghost use Rattle.envy_run.specs.Task.{DoesTask};
 ghost use Rattle.envy_serve.specs.Ends.{most_bytes};
+ghost use Rattle.envy_serve.specs.Streams.{streams_of};
 
 use crate::attach::{Unattached, attach};
 use crate::ending::{Ending, Finished, ImageFault, finished_with, stopped_at};
@@ -64,7 +65,7 @@ fn serve_image<B: Bench, S: Source, K: Sink>(
     requires setup { checked setup ≡ Ok tt }
     requires taken { (from : Feed) × HasTaken (image_of (B.state board)) from lines (S.feed source.old) }
     ensures does { DoesTask (resume_task (B.state board) setup (B.state board).given) (outcome_of B.Board.state result)
-        (record { from = S.feed source.old; feed = S.feed source.new; to = K.drain sink.old; sink = K.drain sink.new }) }
+        (streams_of (S.feed source.old) (S.feed source.new) (K.drain sink.old) (K.drain sink.new)) }
     ensures few { result.lines ≤ result.taken }
     ensures read { result.taken ≤ most_bytes }
     ensures second { result.second ≡ None }
@@ -99,7 +100,7 @@ pub fn run_resume<S: Source, K: Sink, M: Maker>(
 ) -> Finished<M::Made>
     ensures resumes { Does (resuming (setup_found words.now.policy words.now.limit words.now.mark) words.now.lives)
         (outcome_of M.Made.Board.state result)
-        (record { from = S.feed source.old; feed = S.feed source.new; to = K.drain sink.old; sink = K.drain sink.new }) }
+        (streams_of (S.feed source.old) (S.feed source.new) (K.drain sink.old) (K.drain sink.new)) }
     ensures few { result.lines ≤ result.taken }
     ensures read { result.taken ≤ most_bytes }
     ensures second { result.second ≡ None }

@@ -8,6 +8,7 @@ ghost use Rattle.envy_run.specs.Outcome.{outcome, outcome_of};
 ghost use Rattle.envy_run.specs.Task.{DoesTask};
 ghost use Rattle.envy_run.specs.Theorem.{IsAlone, Leaves, Licenses, Prints};
 ghost use Rattle.envy_serve.specs.Ends.{most_bytes};
+ghost use Rattle.envy_serve.specs.Streams.{streams_of};
 
 use crate::audit_run::run_audit;
 use crate::ended::Ended;
@@ -42,7 +43,7 @@ pub(crate) fn run_trace<S: Source, K: Sink, M: Maker>(
 ) -> Finished<M::Made>
     requires { checked setup ≡ Ok tt }
     ensures runs { DoesTask (run_task setup lives) (outcome_of M.Made.Board.state result)
-        (record { from = S.feed source.old; feed = S.feed source.new; to = K.drain sink.old; sink = K.drain sink.new }) }
+        (streams_of (S.feed source.old) (S.feed source.new) (K.drain sink.old) (K.drain sink.new)) }
     ensures few { result.lines ≤ result.taken }
     ensures read { result.taken ≤ most_bytes }
     ensures second { result.second ≡ None }
@@ -70,9 +71,9 @@ fn perform<S: Source, K: Sink, M: Maker>(
 ) -> Finished<M::Made>
     requires { IsAllowed command }
     ensures headline { Headline (Ok command) (outcome_of M.Made.Board.state result)
-        (record { from = S.feed source.old; feed = S.feed source.new; to = K.drain sink.old; sink = K.drain sink.new }) }
+        (streams_of (S.feed source.old) (S.feed source.new) (K.drain sink.old) (K.drain sink.new)) }
     ensures told { FailsAsPlanned M.Made.Board.state → TellsAll (Ok command) (outcome_of M.Made.Board.state result)
-        (record { from = S.feed source.old; feed = S.feed source.new; to = K.drain sink.old; sink = K.drain sink.new }) }
+        (streams_of (S.feed source.old) (S.feed source.new) (K.drain sink.old) (K.drain sink.new)) }
     ensures few { result.lines ≤ result.taken }
     ensures read { result.taken ≤ most_bytes }
     ensures alone { IsAlone command result.second }
@@ -126,16 +127,16 @@ pub fn run<S: Source, K: Sink, M: Maker>(
     maker: &mut M,
 ) -> Ended<M::Made>
     ensures printed { Prints (command_in words.now) (outcome M.Made.Board.state result)
-        (record { from = S.feed source.old; feed = S.feed source.new; to = K.drain sink.old; sink = K.drain sink.new }) }
+        (streams_of (S.feed source.old) (S.feed source.new) (K.drain sink.old) (K.drain sink.new)) }
     ensures board { Leaves (command_in words.now) (outcome M.Made.Board.state result)
-        (record { from = S.feed source.old; feed = S.feed source.new; to = K.drain sink.old; sink = K.drain sink.new }) }
+        (streams_of (S.feed source.old) (S.feed source.new) (K.drain sink.old) (K.drain sink.new)) }
     ensures licences { Licenses (command_in words.now) (outcome M.Made.Board.state result)
-        (record { from = S.feed source.old; feed = S.feed source.new; to = K.drain sink.old; sink = K.drain sink.new }) }
+        (streams_of (S.feed source.old) (S.feed source.new) (K.drain sink.old) (K.drain sink.new)) }
     ensures completes { Completes (command_in words.now) (outcome M.Made.Board.state result)
-        (record { from = S.feed source.old; feed = S.feed source.new; to = K.drain sink.old; sink = K.drain sink.new }) }
+        (streams_of (S.feed source.old) (S.feed source.new) (K.drain sink.old) (K.drain sink.new)) }
     ensures told { FailsAsPlanned M.Made.Board.state
         → TellsAll (command_in words.now) (outcome M.Made.Board.state result)
-        (record { from = S.feed source.old; feed = S.feed source.new; to = K.drain sink.old; sink = K.drain sink.new }) }
+        (streams_of (S.feed source.old) (S.feed source.new) (K.drain sink.old) (K.drain sink.new)) }
 {
     match read_words(alloc, words) {
         Ok(command) => hand_back(perform(alloc, command, source, sink, maker)),

@@ -8,6 +8,7 @@ ghost use Rattle.envy_run.specs.Outcome.{outcome_of};
 ghost use Rattle.envy_run.specs.Task.{DoesTask};
 ghost use Rattle.envy_run.specs.Writing.{WritesOut};
 ghost use Rattle.envy_serve.specs.Ends.{most_bytes};
+ghost use Rattle.envy_serve.specs.Streams.{streams_of};
 
 use crate::ending::{Ending, Finished, written};
 use crate::running::run_trace;
@@ -43,7 +44,7 @@ pub fn run_save<S: Source, K: Sink, M: Maker>(
 ) -> Finished<M::Made>
     requires { checked setup ≡ Ok tt }
     ensures runs { DoesTask (save_task setup lives) (outcome_of M.Made.Board.state result)
-        (record { from = S.feed source.old; feed = S.feed source.new; to = K.drain sink.old; sink = K.drain sink.new }) }
+        (streams_of (S.feed source.old) (S.feed source.new) (K.drain sink.old) (K.drain sink.new)) }
     ensures few { result.lines ≤ result.taken }
     ensures read { result.taken ≤ most_bytes }
     ensures second { result.second ≡ None }

@@ -1,3 +1,4 @@
+pub mod Answering
 pub mod Concludes
 pub mod Ends
 pub mod GoodTrace

@@ -1,5 +1,6 @@
 ghost use Rattle.std.specs.Prelude.{◌≡◌, ◌≤◌, List, []};
 ghost use Rattle.envy_serve.specs.Ends.{Serves, IsAtStart, most_bytes};
+ghost use Rattle.envy_serve.specs.Streams.{streams_of};
 ghost use Rattle.envy_serve.specs.Turns.{Turn};
 ghost use Rattle.envy_serve.specs.Concludes.{Closes, Concludes};
 
@@ -93,7 +94,7 @@ pub fn serve<V: Service, S: Source, K: Sink>(
         → (turns : List (Turn V.Line V.Reply))
         × Serves result.end result.lines result.taken V.grammar reader.taken (V.Did start service.new)
         (V.Died start service.new) (V.tail service.new) turns
-        (record { from = S.feed source.old; feed = S.feed source.new; to = K.drain sink.old; sink = K.drain sink.new }) }
+        (streams_of (S.feed source.old) (S.feed source.new) (K.drain sink.old) (K.drain sink.new)) }
     ensures few { result.lines ≤ result.taken }
     ensures read { result.taken ≤ most_bytes }
 {

@@ -1,6 +1,6 @@
 use Rattle.std.proofs.Common.{refl}
 use Rattle.envy_plain.specs.Refusals.{answer_of}
-use Rattle.envy_run.specs.Turns.{said}
+use Rattle.envy_serve.specs.Answering.{said}
 use Rattle.envy_run.proofs.Calm.{replies-calmly, said-calm, told-calmly}
 use Rattle.envy_run.proofs.plain_run.obey_plain.Goals as goal
 
