@@ -21,7 +21,7 @@ pub returns-in_default-clause-keeps : goal.returns-in_default-clause-keeps
 returns-in_default-clause-keeps g c =
     inr (unserved-as g.D.Device.seen g.D.Device.has_failed g.D.Device.left_since g.D.Device.moment c.args.options.now c.args.bytes.now c.args.device c.args.device c.unserved-in_default.result.device Memory
     _ (g.S.Source.feed c.args.source.now) (g.K.Sink.drain c.args.sink.now) c.unserved-in_default.ensures.says c.unserved-in_default.ensures.device (inl refl)
-    (c.in-Ok.setup, c.in-Ok.holding, c.in-Ok.ensures.plans, c.in-Ok.ensures.checks)
+    (c.in-Ok.plan.0, c.in-Ok.plan.1, c.in-Ok.ensures.plans, c.in-Ok.ensures.checks)
     (inl (as-it-was g.D.Device.seen g.D.Device.may_leave g.D.Device.left_since g.D.Device.moment c.args.device c.args.bytes.now c.requires.bytes c.requires.durable (g.met.D.Device.only_now c.args.device))))
 
 pub returns-in_default-clause-stopped : goal.returns-in_default-clause-stopped
