@@ -10,7 +10,7 @@ use Rattle.envy_base.proofs.Undoing.{undo_all-closed}
 use Rattle.envy_begun.specs.Beginning.{HasBegun, HasStopped, IsStopped}
 use Rattle.envy_begun.specs.Opens.{OpensAs}
 use Rattle.envy_begun.specs.Plans.{IsOpened}
-use Rattle.envy_begun.specs.Unserved.{Declines, HasNoMemory}
+use Rattle.envy_begun.specs.Unserved.{Declines, HasNoWords}
 use Rattle.envy_begun.specs.declared.unbegun.Unbegun.{Unbegun}
 use Rattle.envy_begun.specs.declared.unbegun.Unbegun.TheVariants.{Failed, Memory, NoJournal}
 use Rattle.envy_begun.proofs.Opening.{IsGood, opens-as}
@@ -137,22 +137,22 @@ module _ {D : Type 0} (seen : D → List ℕ) (has_failed : D → Bool) (old new
   unformatted-stopped fault held (inl (off, why, same)) stopped = stops-as held why same (stopped off)
   unformatted-stopped fault held (inr (on, is)) stopped = is
 
-module _ {D : Type 0} (seen : D → List ℕ) (has_failed : D → Bool) (sh : Shape) (file : List ℕ) where
-  pub stopped-declines : (device : D) (unbegun : Unbegun) → IsStopped seen has_failed unbegun device → Declines seen has_failed sh file unbegun device
+module _ {D : Type 0} (seen : D → List ℕ) (has_failed : D → Bool) (Reason : Type 0) where
+  pub stopped-declines : (device : D) (unbegun : Unbegun) → IsStopped seen has_failed unbegun device → Declines seen has_failed Reason unbegun device
   stopped-declines device (Failed held) stopped = stopped
   stopped-declines device Memory stopped = stopped
   stopped-declines device other stopped = absurd stopped
 
   module _ (old new : D) (unbegun : Unbegun) where
-    declines-as : (why : Unbegun) → unbegun ≡ why → new ≡ old → Declines seen has_failed sh file why old → Declines seen has_failed sh file unbegun new
-    declines-as why is same d = subst (λ (u : Unbegun). Declines seen has_failed sh file u new) (sym is) (subst (λ (x : D). Declines seen has_failed sh file why x) (sym same) d)
+    declines-as : (why : Unbegun) → unbegun ≡ why → new ≡ old → Declines seen has_failed Reason why old → Declines seen has_failed Reason unbegun new
+    declines-as why is same d = subst (λ (u : Unbegun). Declines seen has_failed Reason u new) (sym is) (subst (λ (x : D). Declines seen has_failed Reason why x) (sym same) d)
 
-    pub unopened-declines : (error : OpenError) → SaysError seen has_failed old new unbegun error → (error ≡ Misfit → HasMisfit sh (operations file)) → (error ≡ OpenFailed → IsTrue (has_failed old)) → Declines seen has_failed sh file unbegun new
+    pub unopened-declines : (error : OpenError) → SaysError seen has_failed old new unbegun error → (error ≡ Misfit → Reason) → (error ≡ OpenFailed → IsTrue (has_failed old)) → Declines seen has_failed Reason unbegun new
     unopened-declines error (inl (is, stopped)) misfit failed = stopped-declines new unbegun stopped
     unopened-declines error (inr (inl (is, why, same))) misfit failed = declines-as (Failed 0) why same (omega arith, λ few. failed is)
-    unopened-declines error (inr (inr (is, why, same))) misfit failed = declines-as NoJournal why same (inl (misfit is))
+    unopened-declines error (inr (inr (is, why, same))) misfit failed = declines-as NoJournal why same (misfit is)
 
-    pub code-declines : (code : Code) (held : ℕ) → SaysCode seen has_failed old new unbegun code held → (code ≡ Off → HasStopped seen has_failed held old) → ((code ≡ Off → ⊥) → (code ≡ NoMemory → ⊥) → HasNoMemory sh file) → Declines seen has_failed sh file unbegun new
+    pub code-declines : (code : Code) (held : ℕ) → SaysCode seen has_failed old new unbegun code held → (code ≡ Off → HasStopped seen has_failed held old) → ((code ≡ Off → ⊥) → (code ≡ NoMemory → ⊥) → Reason) → Declines seen has_failed Reason unbegun new
     code-declines code held (inl (off, why, same)) stopped none = declines-as (Failed held) why same (stopped off)
     code-declines code held (inr (inl (memory, is))) stopped none = stopped-declines new unbegun is
     code-declines code held (inr (inr (on, enough, why, same))) stopped none = declines-as NoJournal why same (none on enough)
@@ -170,9 +170,16 @@ opened-state b true plans given pulled lives sh file is head shape content = abs
 opened-state b false plans given pulled lives sh file is head shape content = record { head = head; shape = shape; content = content }
 
 -- the same of an answer
-pub all-declines : {M D : Type 0} (seen : D → List ℕ) (has_failed : D → Bool) (sh : Shape) (file : List ℕ) (result : Result M (Unbegun × D)) → IfErr result (λ e. IsStopped seen has_failed e.0 e.1) → IfErr result (λ e. Declines seen has_failed sh file e.0 e.1)
-all-declines seen has_failed sh file (Ok memory) stopped = tt
-all-declines seen has_failed sh file (Err e) stopped = stopped-declines seen has_failed sh file e.1 e.0 stopped
+pub all-declines : {M D : Type 0} (seen : D → List ℕ) (has_failed : D → Bool) (Reason : Type 0) (result : Result M (Unbegun × D)) → IfErr result (λ e. IsStopped seen has_failed e.0 e.1) → IfErr result (λ e. Declines seen has_failed Reason e.0 e.1)
+all-declines seen has_failed Reason (Ok memory) stopped = tt
+all-declines seen has_failed Reason (Err e) stopped = stopped-declines seen has_failed Reason e.1 e.0 stopped
+
+-- a reason for another
+pub declines-for : {D : Type 0} (seen : D → List ℕ) (has_failed : D → Bool) (P Q : Type 0) (unbegun : Unbegun) (device : D) → (P → Q) → Declines seen has_failed P unbegun device → Declines seen has_failed Q unbegun device
+declines-for seen has_failed P Q (Failed held) device goes d = d
+declines-for seen has_failed P Q Memory device goes d = d
+declines-for seen has_failed P Q NoJournal device goes d = goes d
+declines-for seen has_failed P Q other device goes d = absurd d
 
 -- what holds at Ok
 pub ok_on : {T E : Type 0} {P Q : T → Type 0} (result : Result T E) → IfOk result P → ((x : T) → P x → Q x) → IfOk result Q

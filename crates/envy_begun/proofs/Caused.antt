@@ -1,12 +1,18 @@
 -- Why a file isn't served, by where it was found.
-use Rattle.std.proofs.Common.{◌≡◌, inr, ℕ, Bool, List, refl, sym, ◌∙◌, subst, arith}
-use Rattle.std.specs.Prelude.{IfErr, Result, Ok, Err}
+use Rattle.std.proofs.Common.{◌≡◌, ◌≢◌, inr, ℕ, ◌+◌, ◌^◌, ◌<◌, Bool, List, [], length, refl, sym, ◌∙◌, subst, arith}
+use Rattle.std.specs.List.{Contains}
+use Rattle.std.specs.Prelude.{IsTrue, IfErr, Result, Ok, Err}
 use Rattle.envy_args.specs.declared.keep.KeepOptions.{KeepOptions}
+use Rattle.envy_base.specs.declared.shape.Shape.{Shape}
 use Rattle.envy_begun.specs.Beginning.{HasStopped, IsStopped}
-use Rattle.envy_begun.specs.Plans.{IsFound}
-use Rattle.envy_begun.specs.Unserved.{Causes, Declines, IsOver, Refuses, status_for}
+use Rattle.envy_begun.specs.Plans.{ComesLater, IsFound, IsPlanned}
+use Rattle.envy_begun.specs.Unserved.{Causes, Declines, HasNoMemory, IsOver, Refuses, status_for}
 use Rattle.envy_begun.specs.declared.unbegun.Unbegun.{Unbegun}
 use Rattle.envy_begun.specs.declared.unbegun.Unbegun.TheVariants.{Setup, NoJournal, OtherVersion, OtherSizes, Options, Memory, Failed}
+use Rattle.envy_begun.proofs.Again.{declines-for}
+use Rattle.envy_journal.specs.Content.{HasMisfit}
+use Rattle.envy_journal.specs.Reading.{operations}
+use Rattle.envy_journal.specs.declared.operation.Operation.{Operation}
 use Rattle.envy_policy.specs.declared.setup.Setup.{Setup as OfSetup}
 
 module _ {D : Type 0} (seen : D → List ℕ) (has_failed : D → Bool) (options : KeepOptions) (file : List ℕ) (old new : D) where
@@ -28,7 +34,7 @@ module _ {D : Type 0} (seen : D → List ℕ) (has_failed : D → Bool) (options
   stopped-causes Memory s = inr s
   stopped-causes (Failed held) s = s
 
-  pub declined-causes : (setup : OfSetup) (unbegun : Unbegun) → IsFound options file setup → Declines seen has_failed setup.shape file unbegun new → Causes seen has_failed options file old new unbegun
+  pub declined-causes : (setup : OfSetup) (unbegun : Unbegun) → IsFound options file setup → Declines seen has_failed (HasNoMemory setup.shape file) unbegun new → Causes seen has_failed options file old new unbegun
   declined-causes setup (Setup fault) f d = absurd d
   declined-causes setup NoJournal f d = (IsFound.made f, inr (setup.shape, IsOver.head (IsFound.over f), inr d))
   declined-causes setup OtherVersion f d = absurd d
@@ -48,6 +54,32 @@ module _ {D : Type 0} (seen : D → List ℕ) (has_failed : D → Bool) (options
   stopped-unserved (Failed n) status held is held_is causes six = subst (λ (k : ℕ). HasStopped seen has_failed k new) (sym (held_is n refl)) causes
 
 pub all-declined : {M D : Type 0} (seen : D → List ℕ) (has_failed : D → Bool) (options : KeepOptions) (file : List ℕ) (old : D) (setup : OfSetup) (result : Result M (Unbegun × D)) → IsFound options file setup
-    → IfErr result (λ e. Declines seen has_failed setup.shape file e.0 e.1) → IfErr result (λ e. Causes seen has_failed options file old e.1 e.0)
-all-declined seen has_failed options file old setup (Ok memory) found declined = tt
-all-declined seen has_failed options file old setup (Err e) found declined = declined-causes seen has_failed options file old e.1 setup e.0 found declined
+    → (Reason : Type 0) → (Reason → HasNoMemory setup.shape file)
+    → IfErr result (λ e. Declines seen has_failed Reason e.0 e.1) → IfErr result (λ e. Causes seen has_failed options file old e.1 e.0)
+all-declined seen has_failed options file old setup (Ok memory) found Reason none declined = tt
+all-declined seen has_failed options file old setup (Err e) found Reason none declined =
+    declined-causes seen has_failed options file old e.1 setup e.0 found (declines-for seen has_failed Reason (HasNoMemory setup.shape file) e.0 e.1 none declined)
+
+-- a misfit is one of the operations
+pub some-misfit : (sh : Shape) (file : List ℕ) → HasMisfit sh (operations file) → operations file ≢ []
+some-misfit sh file misfit none = let gone = subst (λ (l : List Operation). Contains l misfit.0) none misfit.1 in omega (arith, gone.1)
+
+-- a reason that comes behind a plan
+pub later : (options : KeepOptions) (file : List ℕ) (unbegun : Unbegun) → IsPlanned options file → ComesLater options file unbegun
+later options file Memory planned = planned
+later options file (Failed held) planned = planned
+later options file (Setup fault) planned = tt
+later options file NoJournal planned = tt
+later options file OtherVersion planned = tt
+later options file OtherSizes planned = tt
+later options file (Options fault) planned = tt
+
+-- and one that comes with it
+pub sooner : (options : KeepOptions) (file : List ℕ) (unbegun : Unbegun) → Refuses options file unbegun → ComesLater options file unbegun
+sooner options file Memory refuses = absurd refuses
+sooner options file (Failed held) refuses = absurd refuses
+sooner options file (Setup fault) refuses = tt
+sooner options file NoJournal refuses = tt
+sooner options file OtherVersion refuses = tt
+sooner options file OtherSizes refuses = tt
+sooner options file (Options fault) refuses = tt

@@ -1,5 +1,5 @@
 -- What a file holds, and with which array a memory in it begins.
-use Rattle.std.specs.Prelude.{◌≡◌, ℕ, List, []}
+use Rattle.std.specs.Prelude.{◌≡◌, ◌≢◌, ⊤, ℕ, List, [], Ok}
 use Rattle.envy_args.specs.declared.keep.KeepOptions.{KeepOptions}
 use Rattle.envy_args.specs.Keep.{new_shape, setup_over}
 use Rattle.envy_base.specs.Array.{Array, zeros}
@@ -10,9 +10,12 @@ use Rattle.envy_journal.specs.Head.{IsUnmade, head_bytes}
 use Rattle.envy_journal.specs.Log.{Begins}
 use Rattle.envy_journal.specs.Reading.{operations}
 use Rattle.envy_memory.specs.Calls.{fresh}
+use Rattle.envy_policy.specs.Setup.{checked}
 use Rattle.envy_policy.specs.declared.setup.Setup.{Setup}
 use Rattle.envy_begun.specs.declared.planning.Holding.{Holding}
 use Rattle.envy_begun.specs.declared.planning.Holding.TheVariants.{Unmade, Blank, Written}
+use Rattle.envy_begun.specs.declared.unbegun.Unbegun.{Unbegun}
+use Rattle.envy_begun.specs.declared.unbegun.Unbegun.TheVariants.{Memory, Failed}
 use Rattle.envy_begun.specs.Opens.{OpensAs}
 use Rattle.envy_begun.specs.Unserved.{IsOver}
 
@@ -32,7 +35,17 @@ pub record IsFound (options : KeepOptions) (file : List ℕ) (setup : Setup) : T
 abbrev pub Plans : Holding → KeepOptions → List ℕ → Setup → Type 0
 Plans Unmade options file setup = IsUnmade file × (setup ≡ setup_over options (new_shape options))
 Plans Blank options file setup = IsFound options file setup × (operations file ≡ [])
-Plans Written options file setup = IsFound options file setup
+Plans Written options file setup = IsFound options file setup × (operations file ≢ [])
+
+-- a memory can be planned: the bytes of the file and the options are no reason to refuse one
+abbrev pub IsPlanned : KeepOptions → List ℕ → Type 0
+IsPlanned options file = (setup : Setup) × (holding : Holding) × Plans holding options file setup × (checked setup ≡ Ok tt)
+
+-- want of memory and a failure of the file are told only where one can be planned
+abbrev pub ComesLater : KeepOptions → List ℕ → Unbegun → Type 0
+ComesLater options file Memory = IsPlanned options file
+ComesLater options file (Failed held) = IsPlanned options file
+ComesLater options file other = ⊤
 
 -- The array with which a memory in a file begins: zeros where the file is no journal yet, or one in which nothing was done;
 -- else the words as which it opens, with no transaction open.

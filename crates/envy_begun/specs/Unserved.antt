@@ -1,5 +1,5 @@
 -- Why a file isn't served.
-use Rattle.std.specs.Prelude.{◌≡◌, ◌≢◌, ◌⊎◌, ℕ, Bool, false, List, Err}
+use Rattle.std.specs.Prelude.{◌≡◌, ◌≢◌, ◌⊎◌, ℕ, Bool, false, List, [], Err}
 use Rattle.envy_args.specs.declared.keep.KeepOptions.{KeepOptions}
 use Rattle.envy_args.specs.Keep.{new_shape, setup_over, shape_named}
 use Rattle.envy_base.specs.declared.shape.Shape.{Shape}
@@ -33,9 +33,13 @@ why_for (Options fault) = 9
 why_for Memory = 0
 why_for (Failed held) = 0
 
--- a journal of these sizes that holds no memory: an operation isn't within them, or it opens as no words
+-- a journal of these sizes with no memory to be found: an operation isn't within them, or it opens as no words
+abbrev pub HasNoWords : Shape → List ℕ → Type 0
+HasNoWords sh file = HasMisfit sh (operations file) ⊎ ((words : List ℕ) → OpensAs sh words file → ⊥)
+
+-- and something was done in it: else a memory begins there
 abbrev pub HasNoMemory : Shape → List ℕ → Type 0
-HasNoMemory sh file = HasMisfit sh (operations file) ⊎ ((words : List ℕ) → OpensAs sh words file → ⊥)
+HasNoMemory sh file = (operations file ≢ []) × HasNoWords sh file
 
 -- no journal, or one of sizes that break a rule, or one that holds no memory
 abbrev pub IsNone : List ℕ → Type 0
@@ -63,9 +67,9 @@ Causes seen has_failed options file old new Memory = (new ≡ old) ⊎ (has_fail
 Causes seen has_failed options file old new NoJournal = Refuses options file NoJournal
 Causes seen has_failed options file old new unbegun = Refuses options file unbegun × (new ≡ old)
 
--- why a journal of these sizes isn't taken up
-abbrev pub Declines : {D : Type 0} → (D → List ℕ) → (D → Bool) → Shape → List ℕ → Unbegun → D → Type 0
-Declines seen has_failed sh file (Failed held) device = HasStopped seen has_failed held device
-Declines seen has_failed sh file Memory device = has_failed device ≡ false
-Declines seen has_failed sh file NoJournal device = HasNoMemory sh file
-Declines seen has_failed sh file other device = ⊥
+-- why a journal isn't taken up: of its own reasons this one alone
+abbrev pub Declines : {D : Type 0} → (D → List ℕ) → (D → Bool) → Type 0 → Unbegun → D → Type 0
+Declines seen has_failed Reason (Failed held) device = HasStopped seen has_failed held device
+Declines seen has_failed Reason Memory device = has_failed device ≡ false
+Declines seen has_failed Reason NoJournal device = Reason
+Declines seen has_failed Reason other device = ⊥

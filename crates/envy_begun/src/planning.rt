@@ -1,5 +1,5 @@
 // What a file holds, as far as its first bytes tell, and which memory the options ask for over it.
-ghost use Rattle.std.specs.Prelude.{◌≡◌, ◌↔◌, ◌⊎◌, ◌≤◌, [], IfOk, IfErr, IsTrue, length, Ok, Err};
+ghost use Rattle.std.specs.Prelude.{◌≡◌, ◌≢◌, ◌↔◌, ◌⊎◌, ◌≤◌, [], IfOk, IfErr, IsTrue, length, Ok, Err};
 ghost use Rattle.envy_args.specs.Keep.{new_shape, setup_over};
 ghost use Rattle.envy_args.specs.declared.keep.KeepOptions.{KeepOptions as Options};
 ghost use Rattle.envy_policy.specs.declared.setup.SetupFault.{SetupFault};
@@ -15,7 +15,7 @@ ghost use Rattle.envy_policy.specs.Setup.{checked};
 use crate::unbegun::Unbegun;
 use envy_args::KeepOptions;
 use envy_base::Shape;
-use envy_journal::{HeadError, has_batch, read_head};
+use envy_journal::{HeadError, has_operations, read_head};
 use envy_policy::Setup;
 
 /// What a file holds.
@@ -29,12 +29,13 @@ pub enum Holding {
     Written,
 }
 
-// What a journal holds: where its first gate leads into no batch, nothing was done.
+// What a journal holds.
 fn holding_of(bytes: &[u8]) -> Holding
     requires { 33 ≤ length bytes.now }
-    ensures { result ≡ Holding.Written ⊎ ((result ≡ Holding.Blank) × (operations bytes.now ≡ [])) }
+    ensures { ((result ≡ Holding.Written) × (operations bytes.now ≢ []))
+        ⊎ ((result ≡ Holding.Blank) × (operations bytes.now ≡ [])) }
 {
-    if has_batch(bytes) {
+    if has_operations(bytes) {
         Holding::Written
     } else {
         Holding::Blank

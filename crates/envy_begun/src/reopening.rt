@@ -2,7 +2,7 @@
 ghost use Rattle.std.specs.Prelude.{◌≡◌, [], List, ℕ, IfOk, IfErr, IsTrue, Ok};
 ghost use Rattle.envy_base.specs.Array.{zeros};
 ghost use Rattle.envy_device.specs.Device.{Only};
-ghost use Rattle.envy_journal.specs.Content.{blank, content_of};
+ghost use Rattle.envy_journal.specs.Content.{HasMisfit, blank, content_of};
 ghost use Rattle.envy_journal.specs.Head.{StandsFor, head_bytes};
 ghost use Rattle.envy_journal.specs.Log.{Begins};
 ghost use Rattle.envy_journal.specs.Reading.{operations};
@@ -11,7 +11,7 @@ ghost use Rattle.envy_begun.specs.Beginning.{HasBegun, IsStopped};
 ghost use Rattle.envy_begun.specs.Plans.{IsOpened};
 ghost use Rattle.envy_begun.specs.Left.{Leaves, OpensAlike, StaysNew, StaysWritten};
 ghost use Rattle.envy_begun.specs.Opens.{OpensAs};
-ghost use Rattle.envy_begun.specs.Unserved.{Declines};
+ghost use Rattle.envy_begun.specs.Unserved.{Declines, HasNoWords};
 ghost use Rattle.envy_synced.specs.Disk.{IsCompact, IsSynced};
 ghost use Rattle.envy_map.specs.Fields.{chart};
 ghost use Rattle.envy_memory.specs.Calls.{fresh};
@@ -48,7 +48,8 @@ fn opened<B: Steady + Drop, D: Device + Drop>(
         × (operations synced.bytes ≡ operations bytes.now)) }
     ensures left { IfErr result (λ e.
         Leaves D.left_since D.moment e.1 (StandsFor (B.state board).shape (operations bytes.now))) }
-    ensures failed { IfErr result (λ e. Declines D.seen D.has_failed (B.state board).shape bytes.now e.0 e.1) }
+    ensures failed { IfErr result (λ e.
+        Declines D.seen D.has_failed (HasMisfit (B.state board).shape (operations bytes.now)) e.0 e.1) }
 {
     match open(alloc, board, device, bytes, ROOM) {
         Ok(journal) => Ok(Kept::new(journal)),
@@ -104,7 +105,8 @@ fn opened_as_asked<B: Steady + Drop, D: Place + Drop>(
         → IfOk result (λ kept. IsCompact (chart (⟦<Kept<B, D> as envy_base::Board>⟧.state kept))) }
     ensures left { IfErr result (λ e.
         Leaves D.left_since D.moment e.1 (OpensAlike (B.state board).shape bytes.now)) }
-    ensures failed { IfErr result (λ e. Declines D.seen D.has_failed (B.state board).shape bytes.now e.0 e.1) }
+    ensures failed { IfErr result (λ e.
+        Declines D.seen D.has_failed (HasMisfit (B.state board).shape (operations bytes.now)) e.0 e.1) }
 {
     match opened(alloc, board, device, bytes) {
         Ok(kept) => compacted(kept, compact),
@@ -126,7 +128,8 @@ pub(crate) fn begin_blank<B: Steady + Drop, D: Place + Drop>(
     requires head { Begins (head_bytes setup.shape) bytes.now }
     requires shape { (B.state board).shape ≡ setup.shape }
     ensures begun { IfOk result (HasBegun setup (zeros setup.shape.pages setup.shape.shadows)) }
-    ensures failed { IfErr result (λ e. Declines D.seen D.has_failed setup.shape bytes.now e.0 e.1) }
+    ensures failed { IfErr result (λ e.
+        Declines D.seen D.has_failed (HasMisfit setup.shape (operations bytes.now)) e.0 e.1) }
     // a crash leaves a journal in which nothing was done, unless the file failed behind its opening
     ensures left { operations bytes.now ≡ []
         → IfErr result (λ e. Leaves D.left_since D.moment e.1 (StaysNew e.0 setup.shape)) }
@@ -161,7 +164,7 @@ pub fn begin_again<B: Steady + Drop, D: Place + Drop>(
     // a crash leaves a journal that opens as the one that was there; where the file failed, one with the same words
     ensures left { IfErr result (λ e.
         Leaves D.left_since D.moment e.1 (StaysWritten e.0 setup.shape bytes.now)) }
-    ensures failed { IfErr result (λ e. Declines D.seen D.has_failed setup.shape bytes.now e.0 e.1) }
+    ensures failed { IfErr result (λ e. Declines D.seen D.has_failed (HasNoWords setup.shape bytes.now) e.0 e.1) }
 {
     let kept = match opened_as_asked(alloc, board, device, bytes, compact) {
         Ok(kept) => kept,

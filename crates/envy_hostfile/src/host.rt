@@ -1,6 +1,6 @@
-ghost use Rattle.std.specs.Prelude.{◌≡◌, false};
+ghost use Rattle.std.specs.Prelude.{◌≡◌, true, false};
 ghost use Rattle.envy_device.specs.Device.{Only};
-ghost use Rattle.envy_record.specs.Calls.{Notes};
+ghost use Rattle.envy_record.specs.Calls.{Notes, have_failed, is_failure};
 ghost use Rattle.envy_record.specs.Noted.{call_of};
 
 use crate::folder::Folder;
@@ -24,8 +24,10 @@ pub struct HostCalls<F, P> {
     file: F,
     folder: P,
     second: Option<Second<F>>,
+    failed: bool,
     /// The calls that were made, with their answers.
     pub record: Record,
+    ghost noted: { failed ≡ have_failed record.calls },
 }
 
 /// An open file of the host. Once a call has failed, no later one is made.
@@ -46,6 +48,7 @@ impl<F: FileExt + OpenFile + Drop, P: Folder<F>> HostCalls<F, P> {
             file,
             folder,
             second: None,
+            failed: false,
             record: Record::new().and(&Made::Found { bytes }),
         };
         Recorded::found(calls, bytes, bytewise)
@@ -58,6 +61,8 @@ impl<F: FileExt + OpenFile + Drop, P: Folder<F>> HostCalls<F, P> {
         done: &Made<'_>,
         failed: &Made<'_>,
     ) -> Result<(), DeviceFailed>
+        requires done { is_failure (call_of done.now) ≡ false }
+        requires failed { is_failure (call_of failed.now) ≡ true }
         ensures { Notes (call_of done.now) (call_of failed.now) result self.old.record.calls self.new.record.calls }
     {
         match answer {
@@ -67,6 +72,7 @@ impl<F: FileExt + OpenFile + Drop, P: Folder<F>> HostCalls<F, P> {
             }
             Err(_) => {
                 self.record = self.record.and(failed);
+                self.failed = true;
                 Err(DeviceFailed)
             }
         }
@@ -108,6 +114,10 @@ impl<F: FileExt + OpenFile + Drop, P: Folder<F>> HostCalls<F, P> {
 
 impl<F: FileExt + OpenFile + Drop, P: Folder<F>> RawFile for HostCalls<F, P> {
     ghost calls = { λ host. host.record.calls };
+
+    fn has_failed(&self) -> bool {
+        self.failed
+    }
 
     // Where the system is interrupted, or writes a part, the write goes on with what is left.
     fn write_at(&mut self, at: usize, bytes: &[u8]) -> Result<(), DeviceFailed> {

@@ -91,16 +91,6 @@ module _ (bytes : List ℕ) where
   pub erase_counts : 5 ≤ length bytes → get_or bytes 0 0 ≡ 3 → are_operations 0 (take 5 bytes) ≡ true
   erase_counts long is = tag_counts 3 4 (omega (arith, long)) is (behind_erase 3 refl) (omega arith)
 
--- a journal whose first gate leads nowhere has no operations
-pub first_gate : (file : List ℕ) → 33 ≤ length file → is_open (get_or file 33 0) (drop 34 file) ≡ false → operations file ≡ []
-first_gate file long not = elim (cases_lt 33 (length file)) [
-  | inl lt ↦ skipped false 33 file ∙ ap (λ (l : List ℕ). reading false 0 l) (drop_more file 33 0 lt) ∙ shut (get_or file 33 0) (drop 34 file) not
-  | inr ge ↦ skipped false 33 file ∙ ap (λ (l : List ℕ). reading false 0 l) (drop_all 33 file ge) ∙ nothing false
-]
-
-pub none_open : (file : List ℕ) → length file ≤ 33 → is_open (get_or file 33 0) (drop 34 file) ≡ false
-none_open file few = ap (λ (gate : ℕ). is_open gate (drop 34 file)) (get_or_past file 33 0 few)
-
 -- Steps of the search for the end of a counted batch.
 mark_test : (n : ℕ) (rest : List ℕ) → 8 ≤ length rest → whole n 0 (7 ∷ rest) ≡ (from_le_bytes w64 (take 8 rest) == n)
 unfolding whole

@@ -1,8 +1,7 @@
 // A batch whose zeros are counted, for a file that is written byte by byte.
-ghost use Rattle.std.specs.Prelude.{◌≡◌, ◌+◌, ◌≤◌, ◌++◌, ◌∷◌, [], false, length, drop, slice_index};
-ghost use Rattle.envy_journal.specs.Reading.{behind_tag, is_open as leads_in, operations, whole, word_bytes, zeros as zeros_of};
+ghost use Rattle.std.specs.Prelude.{◌≡◌, ◌≤◌, ◌++◌, ◌∷◌, [], length};
+ghost use Rattle.envy_journal.specs.Reading.{behind_tag, is_open as leads_in, whole, word_bytes, zeros as zeros_of};
 
-use crate::head::HEAD;
 use crate::operation::{
     CLOSED, COUNTED, ERASE, ERASE_SIZE, OPEN, PROGRAM, PROGRAM_SIZE, PUT, PUT_SIZE, TOTAL,
     copy_behind, word_at,
@@ -77,13 +76,4 @@ pub(crate) fn counted_end(count: u64) -> [u8; 10]
     copy_behind(&mut bytes, 1, &count.to_le_bytes());
     copy_behind(&mut bytes, TOTAL_SIZE, &[CLOSED]);
     bytes
-}
-
-/// Whether the first gate of a journal leads into a batch. Where it doesn't, nothing was done yet.
-pub fn has_batch(bytes: &[u8]) -> bool
-    requires { 33 ≤ length bytes.now }
-    ensures gate { result ≡ leads_in (slice_index bytes.now 33) (drop 34 bytes.now) }
-    ensures blank { result ≡ false → operations bytes.now ≡ [] }
-{
-    bytes.len() > HEAD && is_open(bytes[HEAD], &bytes[HEAD + 1..])
 }

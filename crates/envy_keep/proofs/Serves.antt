@@ -6,7 +6,7 @@ use Rattle.envy_base.specs.Array.{Array}
 use Rattle.envy_base.specs.declared.shape.Shape.{Shape}
 use Rattle.envy_begun.specs.Beginning.{HasBegun, HasStopped}
 use Rattle.envy_begun.specs.Left.{Leaves}
-use Rattle.envy_begun.specs.Plans.{BeginsAs, Plans}
+use Rattle.envy_begun.specs.Plans.{BeginsAs, ComesLater, Plans}
 use Rattle.envy_begun.specs.Unserved.{Causes, status_for, why_for}
 use Rattle.envy_begun.specs.declared.planning.Holding.{Holding}
 use Rattle.envy_begun.specs.declared.unbegun.Unbegun.{Unbegun}
@@ -45,13 +45,14 @@ as-it-was seen may_leave left_since moment device file is durable only = record 
 }
 
 module _ {D : Type 0} (seen : D → List ℕ) (has_failed : D → Bool) (left_since : D → ℕ → List ℕ → Type 0) (moment : D → ℕ) (options : KeepOptions) (file : List ℕ) (old device new : D) (unbegun : Unbegun) where
-  pub unserved-as : (end : Told) (feed : Feed) (drain : Drain) → end ≡ told (status_for unbegun) (why_for unbegun) 0 0 → new ≡ device → Causes seen has_failed options file old device unbegun
+  pub unserved-as : (end : Told) (feed : Feed) (drain : Drain) → end ≡ told (status_for unbegun) (why_for unbegun) 0 0 → new ≡ device → Causes seen has_failed options file old device unbegun → ComesLater options file unbegun
       → LeavesUnserved left_since moment options file unbegun device
       → IsUnserved seen has_failed left_since moment options file old new end (record { from = feed; feed = feed; to = drain; sink = drain })
-  unserved-as end feed drain says same causes left = record {
+  unserved-as end feed drain says same causes later left = record {
     unbegun = unbegun;
     says = says;
     causes = subst (λ (d : D). Causes seen has_failed options file old d unbegun) (sym same) causes;
+    later = later;
     left = subst (λ (d : D). LeavesUnserved left_since moment options file unbegun d) (sym same) left;
     source = refl;
     sink = refl;

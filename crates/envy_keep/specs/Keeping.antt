@@ -5,7 +5,7 @@ use Rattle.envy_base.specs.Array.{Array}
 use Rattle.envy_begun.specs.declared.planning.Holding.{Holding}
 use Rattle.envy_begun.specs.declared.unbegun.Unbegun.{Unbegun}
 use Rattle.envy_begun.specs.Left.{Leaves, Stays}
-use Rattle.envy_begun.specs.Plans.{BeginsAs, Plans}
+use Rattle.envy_begun.specs.Plans.{BeginsAs, ComesLater, Plans}
 use Rattle.envy_begun.specs.Unserved.{Causes, status_for, why_for}
 use Rattle.envy_policy.specs.Setup.{checked}
 use Rattle.envy_policy.specs.declared.setup.Setup.{Setup}
@@ -44,6 +44,7 @@ pub record IsUnserved {D : Type 0} (seen : D → List ℕ) (has_failed : D → B
   pub unbegun : Unbegun
   pub says : end ≡ told (status_for unbegun) (why_for unbegun) 0 0
   pub causes : Causes seen has_failed options file old new unbegun
+  pub later : ComesLater options file unbegun
   pub left : LeavesUnserved left_since moment options file unbegun new
   pub source : io.feed ≡ io.from
   pub sink : io.sink ≡ io.to

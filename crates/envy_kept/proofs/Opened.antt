@@ -2,7 +2,7 @@
 use Rattle.std.proofs.Common.{◌≡◌, ◌∙◌, ℕ, Bool, true, false, List, sym, ap}
 use Rattle.envy_base.specs.State.{State}
 use Rattle.envy_base.specs.declared.shape.Shape.{Shape}
-use Rattle.envy_begun.specs.Plans.{Plans, IsFound}
+use Rattle.envy_begun.specs.Plans.{IsFound, IsPlanned, Plans}
 use Rattle.envy_begun.specs.Unserved.{Causes, Refuses}
 use Rattle.envy_begun.specs.declared.planning.Holding.{Holding}
 use Rattle.envy_begun.specs.declared.planning.Holding.TheVariants.{Unmade, Blank, Written}
@@ -18,7 +18,7 @@ same_found s t file found = found.is ∙ ap (λ (sh : Shape). record s { shape =
 pub same_setup : (holding : Holding) (s t : OfSetup) (file : List ℕ) → Plans holding (options_of s) file t → t ≡ s
 same_setup Unmade s t file plans = plans.1
 same_setup Blank s t file plans = same_found s t file plans.0
-same_setup Written s t file plans = same_found s t file plans
+same_setup Written s t file plans = same_found s t file plans.0
 
 pub refused : (s : OfSetup) (file : List ℕ) (why : Unbegun) → Refuses (options_of s) file why → RefusesFile (options_of s) file why
 refused s file (Setup fault) refuses = refuses
@@ -26,17 +26,17 @@ refused s file NoJournal refuses = refuses
 refused s file OtherVersion refuses = refuses
 refused s file OtherSizes refuses = refuses
 refused s file (Options fault) refuses = refuses
-refused s file Memory refuses = tt
-refused s file (Failed held) refuses = tt
+refused s file Memory refuses = absurd refuses
+refused s file (Failed held) refuses = absurd refuses
 
-pub caused : {D : Type 0} (seen : D → List ℕ) (has_failed : D → Bool) (s : OfSetup) (file : List ℕ) (old new : D) (why : Unbegun) → Causes seen has_failed (options_of s) file old new why → RefusesFile (options_of s) file why
-caused seen has_failed s file old new (Setup fault) causes = causes.0
-caused seen has_failed s file old new NoJournal causes = causes
-caused seen has_failed s file old new OtherVersion causes = causes.0
-caused seen has_failed s file old new OtherSizes causes = causes.0
-caused seen has_failed s file old new (Options fault) causes = causes.0
-caused seen has_failed s file old new Memory causes = tt
-caused seen has_failed s file old new (Failed held) causes = tt
+pub caused : {D : Type 0} (seen : D → List ℕ) (has_failed : D → Bool) (s : OfSetup) (file : List ℕ) (old new : D) (why : Unbegun) → Causes seen has_failed (options_of s) file old new why → IsPlanned (options_of s) file → RefusesFile (options_of s) file why
+caused seen has_failed s file old new (Setup fault) causes planned = causes.0
+caused seen has_failed s file old new NoJournal causes planned = causes
+caused seen has_failed s file old new OtherVersion causes planned = causes.0
+caused seen has_failed s file old new OtherSizes causes planned = causes.0
+caused seen has_failed s file old new (Options fault) causes planned = causes.0
+caused seen has_failed s file old new Memory causes planned = planned
+caused seen has_failed s file old new (Failed held) causes planned = planned
 
 -- a journaled board has the bad operations of its inner one
 pub none_bad : (dead : Bool) (s : State) → s.bads ≡ 0 → (journal_state dead s).bads ≡ 0

@@ -1,11 +1,11 @@
 -- What opening answers over a file that holds these bytes.
-use Rattle.std.specs.Prelude.{◌≡◌, ◌≢◌, ◌⊎◌, ⊤, ℕ, ◌+◌, ◌*◌, false, List, Option, None, Some, Ok}
+use Rattle.std.specs.Prelude.{◌≡◌, ◌≢◌, ◌⊎◌, ℕ, ◌+◌, ◌*◌, false, List, Option, None, Some, Ok}
 use Rattle.envy_args.specs.declared.keep.KeepOptions.{KeepOptions}
 use Rattle.envy_base.specs.Array.{Array}
 use Rattle.envy_base.specs.Map.{words_of}
 use Rattle.envy_base.specs.declared.shape.Shape.{Shape}
 use Rattle.envy_begun.specs.Beginning.{HasBegun}
-use Rattle.envy_begun.specs.Plans.{BeginsAs, Plans}
+use Rattle.envy_begun.specs.Plans.{BeginsAs, IsPlanned, Plans}
 use Rattle.envy_begun.specs.Unserved.{Refuses}
 use Rattle.envy_begun.specs.declared.planning.Holding.{Holding}
 use Rattle.envy_begun.specs.declared.unbegun.Unbegun.{Unbegun}
@@ -51,11 +51,11 @@ pub record Opened (given : EnvySetup) (file : List ℕ) (p : Picture) : Type 0 w
   pub begins : BeginsAs holding file setup array
   pub begun : HasBegun setup array p
 
--- Why none began by a setup that breaks no rule: memory ran out, the file failed or is at the end of its range, or what
--- the file holds
+-- Why none began by a setup that breaks no rule: what the file holds; or, where that is no reason, memory ran out, or the
+-- file failed or is at the end of its range
 abbrev pub RefusesFile : KeepOptions → List ℕ → Unbegun → Type 0
-RefusesFile options file unbegun.Memory = ⊤
-RefusesFile options file (unbegun.Failed held) = ⊤
+RefusesFile options file unbegun.Memory = IsPlanned options file
+RefusesFile options file (unbegun.Failed held) = IsPlanned options file
 RefusesFile options file why = Refuses options file why
 
 -- Why none was opened: there is no setup; or with the setup, no memory began in the file.

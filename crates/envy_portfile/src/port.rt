@@ -1,6 +1,6 @@
-ghost use Rattle.std.specs.Prelude.{◌≡◌, false};
+ghost use Rattle.std.specs.Prelude.{◌≡◌, true, false};
 ghost use Rattle.envy_device.specs.Device.{Only};
-ghost use Rattle.envy_record.specs.Calls.{MayLeave, Notes, seen_after};
+ghost use Rattle.envy_record.specs.Calls.{MayLeave, Notes, have_failed, is_failure, seen_after};
 ghost use Rattle.envy_record.specs.Noted.{call_of};
 
 use crate::order::{Call, Order};
@@ -15,8 +15,10 @@ const DONE: u8 = 0;
 pub struct FilePort {
     /// The number that tells one file from another.
     pub number: i32,
+    failed: bool,
     /// The orders that were given, with their answers.
     pub record: Record,
+    ghost noted: { failed ≡ have_failed record.calls },
 }
 
 /// A file behind a port, as a device.
@@ -28,11 +30,16 @@ impl FilePort {
     pub fn found(number: i32, bytes: &[u8], bytewise: bool) -> PortFile
         ensures bytes { seen_after result.file.record.calls ≡ bytes.now }
         ensures durable { Only (seen_after result.file.record.calls) (MayLeave result.bytewise result.file.record.calls) }
-        ensures works { result.failed ≡ false }
+        ensures works { have_failed result.file.record.calls ≡ false }
         ensures bytewise { result.bytewise ≡ bytewise }
     {
         let record = Record::new().and(&Made::Found { bytes });
-        Recorded::found(FilePort { number, record }, bytes, bytewise)
+        let port = FilePort {
+            number,
+            failed: false,
+            record,
+        };
+        Recorded::found(port, bytes, bytewise)
     }
 
     // Gives an order, with these bytes behind it, and waits for the answer.
@@ -61,6 +68,8 @@ impl FilePort {
         done: &Made<'_>,
         failed: &Made<'_>,
     ) -> Result<(), DeviceFailed>
+        requires done { is_failure (call_of done.now) ≡ false }
+        requires failed { is_failure (call_of failed.now) ≡ true }
         ensures answer { result ≡ answer }
         ensures noted { Notes (call_of done.now) (call_of failed.now) answer self.old.record.calls
             self.new.record.calls }
@@ -69,12 +78,17 @@ impl FilePort {
             Ok(()) => self.record.and(done),
             Err(DeviceFailed) => self.record.and(failed),
         };
+        self.failed = self.failed || answer.is_err();
         answer
     }
 }
 
 impl RawFile for FilePort {
     ghost calls = { λ port. port.record.calls };
+
+    fn has_failed(&self) -> bool {
+        self.failed
+    }
 
     fn write_at(&mut self, at: usize, bytes: &[u8]) -> Result<(), DeviceFailed> {
         let answer = self.order(Call::Write, at, bytes);

@@ -51,24 +51,50 @@ abbrev pub Tears : Bool → ℕ → List ℕ → List ℕ → List ℕ → Type 
 Tears true at bytes d e = Mixed at bytes d e
 Tears false at bytes d e = Torn at (length bytes) d e
 
--- What a crash may leave after a call, where the files held these bytes and a crash before the call might have left d.
--- A sync that succeeded leaves what the file holds. A second file that was put in the file's place was brought to the disk
--- first; where that failed, either may be there.
-abbrev pub Leaves : Bool → Call → List ℕ → List ℕ → List ℕ → List ℕ → Type 0
-Leaves bytewise (Found bytes) second seen d e = e ≡ bytes
-Leaves bytewise (Wrote at bytes) second seen d e = Tears bytewise at bytes d e
-Leaves bytewise (WriteFailed at bytes) second seen d e = Tears bytewise at bytes d e
-Leaves bytewise (CutTo size) second seen d e = CutShort size d e
-Leaves bytewise (CutFailed size) second seen d e = CutShort size d e
-Leaves bytewise Synced second seen d e = (e ≡ seen) × (d ≡ e)
-Leaves bytewise Replaced second seen d e = e ≡ second
-Leaves bytewise ReplaceFailed second seen d e = (d ≡ e) ⊎ (e ≡ second)
-Leaves bytewise other second seen d e = d ≡ e
+-- a call that failed
+abbrev pub is_failure : Call → Bool
+is_failure (WriteFailed at bytes) = true
+is_failure (CutFailed size) = true
+is_failure SyncFailed = true
+is_failure BeginFailed = true
+is_failure (AppendFailed size) = true
+is_failure ReplaceFailed = true
+is_failure other = false
+
+-- one of these calls failed
+abbrev pub have_failed : List Call → Bool
+have_failed [] = false
+have_failed (call ∷ past) = if is_failure call then true else have_failed past
+
+-- A sync that succeeded leaves what the file holds. Behind a call that failed it leaves what there was: the system may have
+-- let go of what it couldn't write, and tells so once.
+abbrev pub SyncLeaves : Bool → List ℕ → List ℕ → List ℕ → Type 0
+SyncLeaves false seen d e = (e ≡ seen) × (d ≡ e)
+SyncLeaves true seen d e = d ≡ e
+
+-- A second file that was put in the file's place was brought to the disk first. Behind a call that failed, or where that
+-- failed, either may be there.
+abbrev pub ReplaceLeaves : Bool → List ℕ → List ℕ → List ℕ → Type 0
+ReplaceLeaves false second d e = e ≡ second
+ReplaceLeaves true second d e = (d ≡ e) ⊎ (e ≡ second)
+
+-- What a crash may leave after a call, where the files held these bytes, a call before it had failed or none, and a crash
+-- before the call might have left d.
+abbrev pub Leaves : Bool → Call → Bool → List ℕ → List ℕ → List ℕ → List ℕ → Type 0
+Leaves bytewise (Found bytes) failed second seen d e = e ≡ bytes
+Leaves bytewise (Wrote at bytes) failed second seen d e = Tears bytewise at bytes d e
+Leaves bytewise (WriteFailed at bytes) failed second seen d e = Tears bytewise at bytes d e
+Leaves bytewise (CutTo size) failed second seen d e = CutShort size d e
+Leaves bytewise (CutFailed size) failed second seen d e = CutShort size d e
+Leaves bytewise Synced failed second seen d e = SyncLeaves failed seen d e
+Leaves bytewise Replaced failed second seen d e = ReplaceLeaves failed second d e
+Leaves bytewise ReplaceFailed failed second seen d e = (d ≡ e) ⊎ (e ≡ second)
+Leaves bytewise other failed second seen d e = d ≡ e
 
 -- what a crash may leave after these calls on a file that is written byte by byte, or isn't
 abbrev pub MayLeave : Bool → List Call → List ℕ → Type 0
 MayLeave bytewise [] c = c ≡ []
-MayLeave bytewise (call ∷ past) c = (d : List ℕ) × MayLeave bytewise past d × Leaves bytewise call (second_after past) (seen_after past) d c
+MayLeave bytewise (call ∷ past) c = (d : List ℕ) × MayLeave bytewise past d × Leaves bytewise call (have_failed past) (second_after past) (seen_after past) d c
 
 -- what a crash after so many of the calls, or later, might have left
 abbrev pub LeftSince : Bool → List Call → ℕ → List ℕ → Type 0

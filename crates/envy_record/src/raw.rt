@@ -1,5 +1,5 @@
-ghost use Rattle.std.specs.Prelude.{List, length};
-ghost use Rattle.envy_record.specs.Calls.{Call, Notes};
+ghost use Rattle.std.specs.Prelude.{◌≡◌, List, length};
+ghost use Rattle.envy_record.specs.Calls.{Call, Notes, have_failed};
 ghost use Rattle.envy_record.specs.Calls.Call.{Wrote, WriteFailed, CutTo, CutFailed, Synced, SyncFailed, Began, BeginFailed, Appended, AppendFailed, Replaced, ReplaceFailed};
 
 use envy_device::DeviceFailed;
@@ -11,6 +11,10 @@ use envy_device::DeviceFailed;
 pub trait RawFile {
     /// The calls that were made, with their answers, the newest first.
     ghost calls: { Self → List Call };
+
+    /// Whether one of them failed.
+    fn has_failed(&self) -> bool
+        ensures { result ≡ have_failed (calls self.now) };
 
     /// Writes all of the bytes at an offset.
     fn write_at(&mut self, at: usize, bytes: &[u8]) -> Result<(), DeviceFailed>

@@ -1,6 +1,6 @@
 ghost use Rattle.std.specs.Prelude.{◌≡◌, ◌∷◌, [], false};
 ghost use Rattle.envy_device.specs.Device.{Only};
-ghost use Rattle.envy_record.specs.Calls.{MayLeave, seen_after, synced_at};
+ghost use Rattle.envy_record.specs.Calls.{MayLeave, have_failed, seen_after, synced_at};
 ghost use Rattle.envy_record.specs.Calls.Call.{Found};
 
 use crate::raw::RawFile;
@@ -12,8 +12,6 @@ use envy_device::{Device, DeviceFailed, Place};
 pub struct Recorded<F> {
     /// What makes the calls.
     pub file: F,
-    /// Whether a call has failed.
-    pub failed: bool,
     /// Whether the file is trusted to be written byte by byte.
     pub bytewise: bool,
 }
@@ -25,14 +23,10 @@ impl<F: RawFile> Recorded<F> {
         requires { F.calls file ≡ Found _bytes.now ∷ [] }
         ensures bytes { seen_after (F.calls result.file) ≡ _bytes.now }
         ensures durable { Only (seen_after (F.calls result.file)) (MayLeave result.bytewise (F.calls result.file)) }
-        ensures works { result.failed ≡ false }
+        ensures works { have_failed (F.calls result.file) ≡ false }
         ensures bytewise { result.bytewise ≡ bytewise }
     {
-        Recorded {
-            file,
-            failed: false,
-            bytewise,
-        }
+        Recorded { file, bytewise }
     }
 }
 
@@ -51,7 +45,7 @@ impl<F: RawFile> Device for Recorded<F> {
 
     ghost synced = { λ f. synced_at (F.calls f.file) };
 
-    ghost has_failed = { λ f. f.failed };
+    ghost has_failed = { λ f. have_failed (F.calls f.file) };
 
     ghost bytewise = { λ f. f.bytewise };
 
@@ -66,30 +60,24 @@ impl<F: RawFile> Device for Recorded<F> {
     }
 
     fn write_at(&mut self, at: usize, bytes: &[u8]) -> Result<(), DeviceFailed> {
-        if self.failed {
+        if self.file.has_failed() {
             return Err(DeviceFailed);
         }
-        let answer = self.file.write_at(at, bytes);
-        self.failed = answer.is_err();
-        answer
+        self.file.write_at(at, bytes)
     }
 
     fn cut(&mut self, len: usize) -> Result<(), DeviceFailed> {
-        if self.failed {
+        if self.file.has_failed() {
             return Err(DeviceFailed);
         }
-        let answer = self.file.cut(len);
-        self.failed = answer.is_err();
-        answer
+        self.file.cut(len)
     }
 
     fn sync(&mut self) -> Result<(), DeviceFailed> {
-        if self.failed {
+        if self.file.has_failed() {
             return Err(DeviceFailed);
         }
-        let answer = self.file.sync();
-        self.failed = answer.is_err();
-        answer
+        self.file.sync()
     }
 }
 
@@ -99,29 +87,23 @@ impl<F: RawFile> Place for Recorded<F> {
     ghost second = { λ f. second_after (F.calls f.file) };
 
     fn begin_second(&mut self) -> Result<(), DeviceFailed> {
-        if self.failed {
+        if self.file.has_failed() {
             return Err(DeviceFailed);
         }
-        let answer = self.file.begin();
-        self.failed = answer.is_err();
-        answer
+        self.file.begin()
     }
 
     fn write_second(&mut self, bytes: &[u8]) -> Result<(), DeviceFailed> {
-        if self.failed {
+        if self.file.has_failed() {
             return Err(DeviceFailed);
         }
-        let answer = self.file.append(bytes);
-        self.failed = answer.is_err();
-        answer
+        self.file.append(bytes)
     }
 
     fn replace(&mut self) -> Result<(), DeviceFailed> {
-        if self.failed {
+        if self.file.has_failed() {
             return Err(DeviceFailed);
         }
-        let answer = self.file.replace();
-        self.failed = answer.is_err();
-        answer
+        self.file.replace()
     }
 }

@@ -1,3 +1,6 @@
+ghost use Rattle.std.specs.Prelude.{◌≡◌, true, false};
+ghost use Rattle.envy_record.specs.Calls.{have_failed};
+
 use crate::{Made, RawFile, Record, Recorded};
 use envy_device::{Device, DeviceFailed, Place};
 use std::test::Fail;
@@ -6,21 +9,26 @@ use std::test::Fail;
 #[derive(Drop)]
 struct Fake {
     record: Record,
+    failed: bool,
     calls: u32,
     fails_at: u32,
+    ghost noted: { failed ≡ have_failed record.calls },
 }
 
 impl Fake {
-    ghost use Rattle.envy_record.specs.Calls.{Notes};
+    ghost use Rattle.envy_record.specs.Calls.{Notes, is_failure};
     ghost use Rattle.envy_record.specs.Noted.{call_of};
 
     fn call(&mut self, done: &Made<'_>, failed: &Made<'_>) -> Result<(), DeviceFailed>
+        requires done { is_failure (call_of done.now) ≡ false }
+        requires failed { is_failure (call_of failed.now) ≡ true }
         ensures { Notes (call_of done.now) (call_of failed.now) result self.old.record.calls self.new.record.calls }
     {
         let call = self.calls;
         self.calls = call.wrapping_add(1);
         if call == self.fails_at {
             self.record = self.record.and(failed);
+            self.failed = true;
             return Err(DeviceFailed);
         }
         self.record = self.record.and(done);
@@ -30,6 +38,10 @@ impl Fake {
 
 impl RawFile for Fake {
     ghost calls = { λ fake. fake.record.calls };
+
+    fn has_failed(&self) -> bool {
+        self.failed
+    }
 
     fn write_at(&mut self, at: usize, bytes: &[u8]) -> Result<(), DeviceFailed> {
         self.call(&Made::Wrote { at, bytes }, &Made::WriteFailed { at, bytes })
@@ -64,6 +76,7 @@ fn behind_a_failure_no_call_is_made(rt: HostRuntime) -> Result<(), Fail> {
         let record = Record::new().and(&Made::Found { bytes: b"abc" });
         let fake = Fake {
             record,
+            failed: false,
             calls: 0,
             fails_at,
         };

@@ -20,6 +20,6 @@ returns-in_err-setup-clause-refused c =
 pub returns-clause-plans : goal.returns-clause-plans
 returns-clause-plans c =
     elim c.holding_of.ensures [
-      | inl written ↦ subst (λ (h : Holding). Plans h c.args.options.now c.args.bytes.now c.in_ok-setup.setup) (sym written) c.in_ok-setup.ensures.found
+      | inl written ↦ subst (λ (h : Holding). Plans h c.args.options.now c.args.bytes.now c.in_ok-setup.setup) (sym written.0) (c.in_ok-setup.ensures.found, written.1)
       | inr blank ↦ subst (λ (h : Holding). Plans h c.args.options.now c.args.bytes.now c.in_ok-setup.setup) (sym blank.0) (c.in_ok-setup.ensures.found, blank.1)
     ]

@@ -1,7 +1,9 @@
-use Rattle.std.proofs.Common.{inr, subst}
+use Rattle.std.proofs.Common.{inl, inr, subst}
 use Rattle.envy_base.specs.declared.shape.Shape.{Shape}
-use Rattle.envy_begun.specs.Unserved.{Declines}
-use Rattle.envy_begun.proofs.Again.{code-declines, not-declined, off-declined, still-compact, taken-up}
+use Rattle.envy_begun.specs.Unserved.{Declines, HasNoWords}
+use Rattle.envy_journal.specs.Content.{HasMisfit}
+use Rattle.envy_journal.specs.Reading.{operations}
+use Rattle.envy_begun.proofs.Again.{code-declines, declines-for, not-declined, off-declined, still-compact, taken-up}
 use Rattle.envy_begun.proofs.Alike.{alike-stays, code-leaves, leaves-as}
 use Rattle.envy_begun.specs.Left.{Leaves, OpensAlike, StaysWritten}
 use Rattle.envy_journal.specs.Journal.{lawful_lem}
@@ -12,7 +14,10 @@ use Rattle.envy_begun.proofs.reopening.begin_again.Goals as goal
 
 pub returns-in-Err-clause-failed : goal.returns-in-Err-clause-failed
 returns-in-Err-clause-failed g c =
-    subst (λ (sh : Shape). Declines g.D.Device.seen g.D.Device.has_failed sh c.args.bytes.now c.in-Err.unbegun.0 c.in-Err.unbegun.1) c.requires.shape c.in-Err.ensures.failed
+    let sh = (g.B.Board.state c.args.board).shape in
+    let file = c.args.bytes.now in
+    subst (λ (x : Shape). Declines g.D.Device.seen g.D.Device.has_failed (HasNoWords x file) c.in-Err.unbegun.0 c.in-Err.unbegun.1) c.requires.shape
+    (declines-for g.D.Device.seen g.D.Device.has_failed (HasMisfit sh (operations file)) (HasNoWords sh file) c.in-Err.unbegun.0 c.in-Err.unbegun.1 (λ misfit. inl misfit) c.in-Err.ensures.failed)
 
 pub returns-in-Ok-attach-clause-begun : goal.returns-in-Ok-attach-clause-begun
 returns-in-Ok-attach-clause-begun g c =
@@ -22,7 +27,7 @@ pub returns-in-Err-attach-clause-failed : goal.returns-in-Err-attach-clause-fail
 returns-in-Err-attach-clause-failed g c =
     let j = c.in-Ok.kept.journal in
     let board = lawful_disk _ _ _ _ _ (lawful_lem j.dead (g.B.Board.state j.board) (g.met.B.Board.lawful j.board)) in
-    code-declines g.D.Device.seen g.D.Device.has_failed c.args.setup.shape c.args.bytes.now c.closed-device.result.0 c.declined.result.1 c.declined.result.0 c.in-Err-attach.code c.closed-device.result.1 c.declined.ensures.says
+    code-declines g.D.Device.seen g.D.Device.has_failed (HasNoWords c.args.setup.shape c.args.bytes.now) c.closed-device.result.0 c.declined.result.1 c.declined.result.0 c.in-Err-attach.code c.closed-device.result.1 c.declined.ensures.says
     (λ off. c.closed-device.ensures.stopped (off-declined c.in-Err-attach.code _ _ c.args.setup off c.in-Err-attach.ensures))
     (λ on enough. inr (λ words opens. not-declined (g.B.Board.state c.args.board).shape c.args.bytes.now _ c.in-Ok.ensures.opened c.args.setup c.requires.shape board c.requires.setup words opens c.in-Err-attach.code _ on enough c.in-Err-attach.ensures))
 

@@ -5,16 +5,18 @@ use Rattle.envy_begun.proofs.Again.{all-declines}
 use Rattle.envy_begun.proofs.Alike.{leaves-as}
 use Rattle.envy_begun.proofs.Fresh.{stands-stays}
 use Rattle.envy_begun.specs.Left.{Leaves, StaysNew}
+use Rattle.envy_journal.specs.Content.{HasMisfit}
 use Rattle.envy_journal.specs.Head.{StandsFor}
+use Rattle.envy_journal.specs.Reading.{operations}
 use Rattle.envy_journal.specs.declared.operation.Operation.{Operation}
 use Rattle.envy_begun.proofs.reopening.begin_blank.Goals as goal
 
 pub returns-in-Err-clause-failed : goal.returns-in-Err-clause-failed
 returns-in-Err-clause-failed g c =
-    subst (λ (sh : Shape). Declines g.D.Device.seen g.D.Device.has_failed sh c.args.bytes.now c.in-Err.unbegun.0 c.in-Err.unbegun.1) c.requires.shape c.in-Err.ensures.failed
+    subst (λ (sh : Shape). Declines g.D.Device.seen g.D.Device.has_failed (HasMisfit sh (operations c.args.bytes.now)) c.in-Err.unbegun.0 c.in-Err.unbegun.1) c.requires.shape c.in-Err.ensures.failed
 
 pub returns-clause-failed : goal.returns-clause-failed
-returns-clause-failed g c = all-declines g.D.Device.seen g.D.Device.has_failed c.args.setup.shape c.args.bytes.now c.make_memory.result c.make_memory.ensures.failed
+returns-clause-failed g c = all-declines g.D.Device.seen g.D.Device.has_failed (HasMisfit c.args.setup.shape (operations c.args.bytes.now)) c.make_memory.result c.make_memory.ensures.failed
 
 pub returns-in-Err-clause-left : goal.returns-in-Err-clause-left
 returns-in-Err-clause-left g c none =

@@ -1,6 +1,7 @@
 use Rattle.std.proofs.Common.{◌∙◌}
 use Rattle.envy_begun.proofs.Again.{opened-state, unopened-declines}
 use Rattle.envy_begun.proofs.Alike.{leaves-on, leaves-only}
+use Rattle.envy_journal.specs.Content.{HasMisfit}
 use Rattle.envy_journal.specs.Head.{StandsFor}
 use Rattle.envy_journal.specs.Reading.{operations}
 use Rattle.envy_begun.proofs.reopening.opened.Goals as goal
@@ -16,7 +17,7 @@ returns-in-Ok-clause-reads g c = (c.new.ensures.reads.0, c.new.ensures.reads.1 �
 
 pub returns-in-Err-clause-failed : goal.returns-in-Err-clause-failed
 returns-in-Err-clause-failed g c =
-    unopened-declines g.D.Device.seen g.D.Device.has_failed (g.B.Board.state c.args.board).shape c.args.bytes.now c.in-Err.device c.unopened.result.1 c.unopened.result.0 c.in-Err.error c.unopened.ensures.says c.in-Err.ensures.misfit c.in-Err.ensures.failed
+    unopened-declines g.D.Device.seen g.D.Device.has_failed (HasMisfit (g.B.Board.state c.args.board).shape (operations c.args.bytes.now)) c.in-Err.device c.unopened.result.1 c.unopened.result.0 c.in-Err.error c.unopened.ensures.says c.in-Err.ensures.misfit c.in-Err.ensures.failed
 
 pub returns-in-Err-clause-left : goal.returns-in-Err-clause-left
 returns-in-Err-clause-left g c =

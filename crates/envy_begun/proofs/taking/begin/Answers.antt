@@ -1,22 +1,27 @@
-use Rattle.std.proofs.Common.{◌⊎◌, subst}
+use Rattle.std.proofs.Common.{◌⊎◌, inl, subst}
 use Rattle.envy_begun.specs.Left.{StaysNew, StaysWritten}
 use Rattle.envy_begun.specs.Plans.{Plans}
 use Rattle.envy_begun.specs.declared.planning.Holding.{Holding}
 use Rattle.envy_begun.specs.declared.planning.Holding.TheVariants.{Unmade, Blank, Written}
 use Rattle.envy_begun.proofs.Alike.{all-stays}
-use Rattle.envy_begun.proofs.Caused.{all-declined}
+use Rattle.envy_begun.proofs.Caused.{all-declined, some-misfit}
+use Rattle.envy_begun.specs.Unserved.{HasNoWords}
+use Rattle.envy_journal.specs.Content.{HasMisfit}
+use Rattle.envy_journal.specs.Reading.{operations}
 use Rattle.envy_journal.specs.Head.{IsUnmade}
 use Rattle.envy_begun.proofs.taking.begin.Goals as goal
 
 pub returns-in-Blank-clause-failed : goal.returns-in-Blank-clause-failed
 returns-in-Blank-clause-failed g c =
     let found = subst (λ (h : Holding). Plans h c.args.options.now c.args.bytes.now c.args.setup) c.in-Blank.is c.requires.plans in
-    all-declined g.D.Device.seen g.D.Device.has_failed c.args.options.now c.args.bytes.now c.args.device c.args.setup c.begin_blank.result found.0 c.begin_blank.ensures.failed
+    all-declined g.D.Device.seen g.D.Device.has_failed c.args.options.now c.args.bytes.now c.args.device c.args.setup c.begin_blank.result found.0
+    (HasMisfit c.args.setup.shape (operations c.args.bytes.now)) (λ misfit. (some-misfit c.args.setup.shape c.args.bytes.now misfit, inl misfit)) c.begin_blank.ensures.failed
 
 pub returns-in-Written-clause-failed : goal.returns-in-Written-clause-failed
 returns-in-Written-clause-failed g c =
     let found = subst (λ (h : Holding). Plans h c.args.options.now c.args.bytes.now c.args.setup) c.in-Written.is c.requires.plans in
-    all-declined g.D.Device.seen g.D.Device.has_failed c.args.options.now c.args.bytes.now c.args.device c.args.setup c.begin_again.result found c.begin_again.ensures.failed
+    all-declined g.D.Device.seen g.D.Device.has_failed c.args.options.now c.args.bytes.now c.args.device c.args.setup c.begin_again.result found.0
+    (HasNoWords c.args.setup.shape c.args.bytes.now) (λ none. (found.1, none)) c.begin_again.ensures.failed
 
 pub returns-in-Unmade-clause-left : goal.returns-in-Unmade-clause-left
 returns-in-Unmade-clause-left g c =

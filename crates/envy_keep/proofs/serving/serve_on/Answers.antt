@@ -1,4 +1,5 @@
 use Rattle.std.proofs.Common.{inl, inr}
+use Rattle.envy_begun.proofs.Caused.{later}
 use Rattle.envy_keep.proofs.Begins.{kept-first}
 use Rattle.envy_keep.proofs.Serves.{served-as, unserved-as, unserved-stopped}
 use Rattle.envy_keep.proofs.serving.serve_on.Goals as goal
@@ -7,6 +8,7 @@ pub returns-in-Err-clause-keeps : goal.returns-in-Err-clause-keeps
 returns-in-Err-clause-keeps g c =
     inr (unserved-as g.D.Device.seen g.D.Device.has_failed g.D.Device.left_since g.D.Device.moment c.args.options.now c.args.bytes.now c.args.device c.in-Err.device c.unserved.result.device c.in-Err.unbegun
     _ (g.S.Source.feed c.args.source.now) (g.K.Sink.drain c.args.sink.now) c.unserved.ensures.says c.unserved.ensures.device c.in-Err.ensures.failed
+    (later c.args.options.now c.args.bytes.now c.in-Err.unbegun (c.args.setup, c.args.holding, c.requires.plans, c.requires.checks))
     (inr (c.args.setup, c.args.holding, c.requires.plans, c.in-Err.ensures.left)))
 
 pub returns-in-Err-clause-stopped : goal.returns-in-Err-clause-stopped
