@@ -1,4 +1,4 @@
-use Rattle.std.proofs.Common.{◌≡◌, ℕ, ◌+◌, ◌*◌, ◌/◌, ◌<◌, ◌∙◌, List, [], length, get_or, take, drop, sym, ap, subst, arith}
+use Rattle.std.proofs.Common.{◌≡◌, ℕ, ◌+◌, ◌*◌, ◌/◌, ◌<◌, ◌∙◌, List, [], length, get_or, take, drop, ap, arith}
 use Rattle.envy_journal.specs.Reading.{zeros}
 use Rattle.envy_journal.proofs.Counting.{zeros_few}
 use Rattle.envy_journal.proofs.Pieces.{zeros_piece, zeros_cut, zeros_cut_few}
