@@ -1,5 +1,5 @@
 // A batch whose zeros are counted, for a file that is written byte by byte.
-ghost use Rattle.std.specs.Prelude.{◌≡◌, ◌≤◌, ◌++◌, ◌∷◌, [], length};
+ghost use Rattle.std.specs.Prelude.{◌≡◌, ◌+◌, ◌<◌, ◌≤◌, ◌++◌, ◌∷◌, [], length, drop, slice_index};
 ghost use Rattle.envy_journal.specs.Reading.{behind_tag, is_open as leads_in, whole, word_bytes, zeros as zeros_of};
 
 use crate::operation::{
@@ -10,16 +10,29 @@ use crate::operation::{
 /// How many bytes the end of a counted batch takes: a mark and a number.
 pub(crate) const TOTAL_SIZE: usize = 9;
 
-/// How many of the bytes are zeros.
-pub(crate) fn zeros(bytes: &[u8]) -> usize
-    ensures value { result ≡ zeros_of bytes.now }
-    ensures few { result ≤ length bytes.now }
+// How many of a few bytes are zeros. Their number is a byte too, so that sixteen of them are counted at a time.
+fn zeros_of_few(bytes: &[u8]) -> u8
+    requires { length bytes.now < 256 }
+    ensures { result ≡ zeros_of bytes.now }
 {
     let mut count = 0;
     for byte in bytes {
         if *byte == 0 {
             count += 1;
         }
+    }
+    count
+}
+
+/// How many of the bytes are zeros.
+pub(crate) fn zeros(bytes: &[u8]) -> usize
+    ensures value { result ≡ zeros_of bytes.now }
+    ensures few { result ≤ length bytes.now }
+{
+    let (pieces, rest) = bytes.as_chunks::<128>();
+    let mut count = usize::from(zeros_of_few(rest));
+    for piece in pieces {
+        count += usize::from(zeros_of_few(piece));
     }
     count
 }

@@ -29,7 +29,7 @@ returns-clause-makes g c =
     let is_page : IsPage page = subst IsPage (sym c.page_in-page.ensures) (board.pages q c.requires.row) in
     let bytes = gathered g.D.Place.second c.args.log.now in
     let leads = subst (λ (l : List ℕ). Leads true 0 l (Program q page ∷ []) true) (sym c.program_bytes.ensures) (program_read q page (search rules) is_page) in
-    let long : length c.program_bytes.result ≡ 261 = ap length c.program_bytes.ensures ∙ program_long q page is_page in
+    let long : length c.program_bytes.result ≡ 261 = ap length c.program_bytes.ensures ∙ program_long q page is_page.long in
     ok_goes c.append_second.result c.append_second.ensures.gathered (λ now.
     subst (λ (l : List ℕ). Makes s.shape (with_rows s (q + 1)) (most + 261 * (q + 1)) l) (sym now)
     (makes_more s.shape (with_rows s q) (most + 261 * q) bytes c.requires.makes (Program q page) c.program_bytes.result (with_rows s (q + 1)) (most + 261 * (q + 1)) leads (row_programmed s board q c.requires.row page c.page_in-page.ensures) (omega (arith, long))))

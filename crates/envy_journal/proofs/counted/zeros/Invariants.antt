@@ -1,6 +1,6 @@
-use Rattle.std.proofs.Common.{◌≡◌, ◌≤◌, take}
+use Rattle.std.proofs.Common.{◌≡◌, ◌+◌, ◌*◌, ◌/◌, length, take, drop}
 use Rattle.envy_journal.specs.Reading.{zeros}
 use Rattle.envy_journal.proofs.counted.zeros.Given as goal
 
-abbrev pub invariant-loop-byte : goal.invariant-loop-byte
-invariant-loop-byte l = (l.count ≡ zeros (take l.byte-index l.bytes)) × (l.count ≤ l.byte-index)
+abbrev pub invariant-loop-piece : goal.invariant-loop-piece
+invariant-loop-piece l = l.count ≡ zeros (drop (length l.bytes / 128 * 128) l.bytes) + zeros (take (l.piece-index * 128) l.bytes)
