@@ -37,9 +37,12 @@ fn more(count: u64) -> u64
 }
 
 impl MemBoard {
-    ghost use Rattle.envy_power.specs.Power.{fresh};
+    ghost use Rattle.std.specs.Prelude.{IsTrue};
+    ghost use Rattle.envy_base.specs.State.{Puts};
+    ghost use Rattle.envy_power.specs.Power.{fresh, put_event};
     ghost use Rattle.envy_bench.specs.Parts.{new_state};
     ghost use Rattle.envy_bench.specs.Board.{board_state, board_power};
+    ghost use Rattle.envy_bench.specs.Events.{PutMeets, after_put};
 
     /// A new board, whose power can return `lives` times. All flash is ones, SRAM is zeros, power is
     /// on, and nothing is planned.
@@ -80,6 +83,35 @@ impl MemBoard {
         ensures { result ≡ slice_index (board_state self.now).sram w }
     {
         self.sram.get(w)
+    }
+
+    /// Writes a word of SRAM where power is off or a cut is planned.
+    #[cold]
+    #[tactic(auto, unfolding(envy_base::specs::Counting::up, envy_power::specs::Power::up))]
+    fn put_planned(&mut self, w: u32, v: u64) -> Result<(), Off>
+        requires { w < length (board_state self.old).sram }
+        ensures state { Puts (board_state self.old) w v result (board_state self.new) }
+        ensures exact { IsTrue (board_state self.old).on
+            → PutMeets (put_event (board_power self.old)) (board_state self.old) w v
+            result (board_state self.new) }
+        ensures power { board_power self.new ≡ after_put (board_power self.old) }
+    {
+        if !self.supply.powered() {
+            return Err(Off);
+        }
+        match self.supply.put_event() {
+            Event::Pass => {
+                self.sram.put(w, v);
+                Ok(())
+            }
+            Event::Cut(g) => {
+                if g % 2 == 1 {
+                    self.sram.put(w, v);
+                }
+                Err(Off)
+            }
+            Event::Bad(_) => unreachable!(),
+        }
     }
 }
 
@@ -185,22 +217,7 @@ impl Board for MemBoard {
             self.sram.put(w, v);
             return Ok(());
         }
-        if !self.supply.powered() {
-            return Err(Off);
-        }
-        match self.supply.put_event() {
-            Event::Pass => {
-                self.sram.put(w, v);
-                Ok(())
-            }
-            Event::Cut(g) => {
-                if g % 2 == 1 {
-                    self.sram.put(w, v);
-                }
-                Err(Off)
-            }
-            Event::Bad(_) => unreachable!(),
-        }
+        self.put_planned(w, v)
     }
 }
 
