@@ -11,6 +11,7 @@ use envy_space::Space;
 
 /// Chooses a position for a page whose home this is, by the rows of a pool: under `Lifetime` by the lives of
 /// the pages' copies, else by the home.
+#[inline(always)]
 pub fn choose_row(space: &Space, chooser: &Chooser, home: u32, page: u32) -> Choice
     requires positions { chooser.now.positions ≡ space.now.shape.segments - 1 }
     requires home { home < space.now.shape.segments - 1 }
@@ -25,6 +26,7 @@ pub fn choose_row(space: &Space, chooser: &Chooser, home: u32, page: u32) -> Cho
 }
 
 /// The choice by the home. Where a row is free in the page's own partition nothing else is asked.
+#[inline(always)]
 fn choose_near(space: &Space, chooser: &Chooser, home: u32) -> Choice
     requires positions { chooser.now.positions ≡ space.now.shape.segments - 1 }
     requires home { home < space.now.shape.segments - 1 }
@@ -39,6 +41,7 @@ fn choose_near(space: &Space, chooser: &Chooser, home: u32) -> Choice
 }
 
 /// The choice within the nearest usable partition.
+#[inline(never)]
 fn free_or_clean(space: &Space, chooser: &Chooser, partition: u32) -> Choice
     requires positions { chooser.now.positions ≡ space.now.shape.segments - 1 }
     requires partition { partition < length chooser.now.heats }

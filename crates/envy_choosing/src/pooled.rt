@@ -34,6 +34,7 @@ impl<'a> Rows for Pooled<'a> {
 }
 
 /// The choice for a page by the lives of the pages' copies.
+#[inline(never)]
 pub fn choose_by_lives(space: &Space, lives: &Lifetime, page: u32) -> Choice
     requires positions { length lives.now.cleaned ≡ space.now.shape.segments - 1 }
     requires page { page < length lives.now.born }

@@ -18,6 +18,7 @@ use envy_base::{Board, Off, Place, Trouble};
 use envy_layout::move_place;
 
 /// Lets a page that stands in a frame stand in a row that holds its words, and gives the frame back.
+#[inline(always)]
 fn move_out<B: Board>(
     board: &mut B,
     parts: &mut Parts,

@@ -18,6 +18,7 @@ use envy_map::job;
 use envy_policy::Choice;
 
 /// A row for a page with this home, where nothing runs.
+#[inline(always)]
 fn idle_row<B: Board>(
     board: &mut B,
     parts: &mut Parts,

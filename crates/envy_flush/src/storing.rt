@@ -41,6 +41,7 @@ pub fn make_room<B: Board>(board: &mut B, parts: &mut Parts) -> Result<(), Troub
 }
 
 /// Stores a word of a page, which is in no frame. The page's owner stays.
+#[inline(never)]
 fn store_elsewhere<B: Board>(
     board: &mut B,
     parts: &mut Parts,
@@ -72,6 +73,7 @@ fn store_elsewhere<B: Board>(
 }
 
 /// Stores a word of a page, which is in a frame, in a row or absent. The page's owner stays.
+#[inline(always)]
 pub fn store_word<B: Board>(
     board: &mut B,
     parts: &mut Parts,

@@ -26,6 +26,7 @@ pub fn write_free_frame<B: Board>(board: &mut B, frame: u32, page: &[u64; 32]) -
 
 /// Writes word `i`, of 32, of the frame that holds a page. Loads read the new word; a restart does
 /// too where no transaction owns the page, and else it takes the change back.
+#[inline(always)]
 pub fn change_frame_word<B: Board>(
     board: &mut B,
     page: u32,

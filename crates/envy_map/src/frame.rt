@@ -54,6 +54,7 @@ fn put_frame_word<B: Board>(
 }
 
 /// Writes word `i`, of 32, of a frame.
+#[inline(always)]
 pub fn set_frame_word<B: Board>(board: &mut B, frame: u32, i: u32, word: u64) -> Result<(), Off>
     requires frame { frame < (B.state board.old).shape.frames }
     requires place { i < 32 }

@@ -53,6 +53,7 @@ impl Cache {
     /// The place of a page, from the page's entry where that holds it, else from the table. The entry holds
     /// the page afterwards. `Off` where power is off, and then no access is counted.
     #[tactic(auto, unfolding(envy_base::specs::Counting::up))]
+    #[inline(always)]
     pub fn translate<B: Board>(&mut self, board: &B, page: u32) -> Result<Place, Off>
         requires page { page < (B.state board.now).shape.pages }
         requires sound { IsTrue (B.state board.now).on → IsSound (chart (B.state board.now)) }

@@ -80,6 +80,7 @@ impl Ledger {
     }
 
     /// A page is owned that wasn't.
+    #[inline(always)]
     pub fn append(&mut self, pair: Pair)
         requires room { self.old.used < self.old.room }
         requires free { owner_of self.old.pairs pair.page ≡ None }
@@ -127,6 +128,7 @@ impl Ledger {
     ///
     /// With room for twice as many entries as there may be pairs this goes over all of them at one call in
     /// as many as there may be pairs, so a call of `append` after it takes a constant time in the mean.
+    #[inline(always)]
     pub fn make_room(&mut self, list: &mut Vec<Pair>)
         requires apart { AllPairs AreApart self.old.pairs }
         requires few { length self.old.pairs < self.old.room }
@@ -141,6 +143,7 @@ impl Ledger {
     }
 
     /// Leaves out the entries that own no more.
+    #[inline(never)]
     fn pack(&mut self, list: &mut Vec<Pair>)
         requires apart { AllPairs AreApart self.old.pairs }
         requires few { length self.old.pairs ≤ self.old.room }

@@ -87,6 +87,7 @@ impl Owned {
 
     /// Gives a page to an open transaction: its undo is written, which names the words that a restart
     /// leaves of the page and goes on to leave. No word changes. Without power nothing changes.
+    #[inline(always)]
     pub fn own<B: Board>(&mut self, board: &mut B, page: u32, undo: Undo) -> Result<(), Off>
         requires ready { IsTrue (B.state board.old).on → MayOwn (chart (B.state board.old)) self.old.pairs page undo }
         requires limit { self.old.limit ≤ (B.state board.old).shape.shadows }
@@ -126,6 +127,7 @@ impl Owned {
     }
 
     /// A page is owned that wasn't.
+    #[inline(always)]
     fn add(&mut self, pair: Pair)
         requires room { length self.old.pairs < self.old.limit }
         requires free { owner_of self.old.pairs pair.page ≡ None }
