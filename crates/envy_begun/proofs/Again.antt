@@ -7,7 +7,7 @@ use Rattle.envy_audit.proofs.Sounding.{sound-points}
 use Rattle.envy_base.specs.State.{IsBoard, State}
 use Rattle.envy_base.specs.declared.shape.Shape.{Shape}
 use Rattle.envy_base.proofs.Undoing.{undo_all-closed}
-use Rattle.envy_begun.specs.Beginning.{HasBegun, HasStopped, IsStopped}
+use Rattle.envy_begun.specs.Beginning.{HasBegun, HasOperationsOf, HasStopped, IsStopped}
 use Rattle.envy_begun.specs.Opens.{OpensAs}
 use Rattle.envy_begun.specs.Plans.{IsOpened}
 use Rattle.envy_begun.specs.Unserved.{Declines, HasNoWords}
@@ -49,6 +49,13 @@ still-compact was now shape given is = record {
   coded = given ∙ is.coded;
   short = subst (λ (x : Shape). length is.bytes ≤ most_of x) (sym shape) is.short;
 }
+
+-- and over one that wasn't
+pub still-same : (file : List ℕ) (was now : Chart) → now.given ≡ was.given → HasOperationsOf file was → HasOperationsOf file now
+still-same file was now given has = record { bytes = has.bytes; coded = given ∙ has.coded; same = has.same }
+
+pub has-operations : (file : List ℕ) (c : Chart) (synced : IsSynced c) → operations synced.bytes ≡ operations file → HasOperationsOf file c
+has-operations file c synced same = record { bytes = synced.bytes; coded = synced.coded; same = same }
 
 one-two : (n : ℕ) → n ≡ 1 → n ≡ 2 → ⊥
 one-two n one two = absurd (omega (arith, one, two))

@@ -4,7 +4,9 @@ use Rattle.envy_base.specs.Array.{Array, undone}
 use Rattle.envy_begun.specs.declared.unbegun.Unbegun.{Unbegun}
 use Rattle.envy_begun.specs.declared.unbegun.Unbegun.TheVariants.{Failed, Memory}
 use Rattle.envy_journal.specs.Held.{most_held}
+use Rattle.envy_journal.specs.Reading.{operations}
 use Rattle.envy_synced.specs.Disk.{IsLast, IsSynced}
+use Rattle.envy_synced.specs.Number.{number}
 use Rattle.envy_layout.specs.Sound.{IsSound}
 use Rattle.envy_layout.specs.Stands.{Stands}
 use Rattle.envy_layout.specs.Words.{durable}
@@ -27,6 +29,12 @@ pub record HasBegun (setup : Setup) (array : Array) (p : Picture) : Type 0 where
   pub stands : Stands p.chart array
   pub begins : IsStarted setup p
   pub shape : p.chart.shape ≡ setup.shape
+
+-- the journal that a board's numbers tell is on the disk has the operations of a file, each as it was
+pub record HasOperationsOf (file : List ℕ) (c : Chart) : Type 0 where
+  pub bytes : List ℕ
+  pub coded : c.given ≡ number bytes
+  pub same : operations bytes ≡ operations file
 
 -- the file failed, or with so many bytes held back from it, and no more than a log holds, is at the end of its range
 abbrev pub HasStopped : {D : Type 0} → (D → List ℕ) → (D → Bool) → ℕ → D → Type 0

@@ -1,5 +1,5 @@
 -- Why a file isn't served.
-use Rattle.std.specs.Prelude.{◌≡◌, ◌≢◌, ◌⊎◌, ℕ, Bool, false, List, [], Err}
+use Rattle.std.specs.Prelude.{◌≡◌, ◌≢◌, ◌⊎◌, ℕ, Bool, false, List, [], Ok, Err}
 use Rattle.envy_args.specs.declared.keep.KeepOptions.{KeepOptions}
 use Rattle.envy_args.specs.Keep.{new_shape, setup_over, shape_named}
 use Rattle.envy_base.specs.declared.shape.Shape.{Shape}
@@ -50,13 +50,13 @@ pub record IsOver (options : KeepOptions) (sh : Shape) (file : List ℕ) : Type 
   pub head : Begins (head_bytes sh) file
   pub named : shape_named options.sizes sh ≡ sh
 
--- what the bytes of a file say of a refusal
+-- what the bytes of a file say of a refusal: the options are no reason where its sizes break a rule
 abbrev pub Refuses : KeepOptions → List ℕ → Unbegun → Type 0
 Refuses options file (Setup fault) = IsUnmade file × (checked (setup_over options (new_shape options)) ≡ Err fault)
 Refuses options file NoJournal = (IsUnmade file → ⊥) × IsNone file
 Refuses options file OtherVersion = (IsUnmade file → ⊥) × IsOtherVersion file
-Refuses options file OtherSizes = (IsUnmade file → ⊥) × (sh : Shape) × Begins (head_bytes sh) file × (shape_named options.sizes sh ≢ sh)
-Refuses options file (Options fault) = (IsUnmade file → ⊥) × (sh : Shape) × IsOver options sh file × (checked (setup_over options sh) ≡ Err fault)
+Refuses options file OtherSizes = (IsUnmade file → ⊥) × (sh : Shape) × Begins (head_bytes sh) file × (shape_checked sh ≡ Ok tt) × (shape_named options.sizes sh ≢ sh)
+Refuses options file (Options fault) = (IsUnmade file → ⊥) × (sh : Shape) × IsOver options sh file × (shape_checked sh ≡ Ok tt) × (checked (setup_over options sh) ≡ Err fault)
 Refuses options file other = ⊥
 
 -- Why a file that held these bytes isn't served, and what became of it. Want of memory is told only where no call was made

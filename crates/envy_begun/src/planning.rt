@@ -4,7 +4,7 @@ ghost use Rattle.envy_args.specs.Keep.{new_shape, setup_over};
 ghost use Rattle.envy_args.specs.declared.keep.KeepOptions.{KeepOptions as Options};
 ghost use Rattle.envy_policy.specs.declared.setup.SetupFault.{SetupFault};
 ghost use Rattle.envy_begun.specs.declared.unbegun.Unbegun.TheVariants.{Setup as OfSetup};
-ghost use Rattle.envy_base.specs.Shape.{IsShape};
+ghost use Rattle.envy_base.specs.Shape.{IsShape, checked as shape_checked};
 ghost use Rattle.envy_journal.specs.Head.{IsUnmade, head_bytes};
 ghost use Rattle.envy_journal.specs.Log.{Begins};
 ghost use Rattle.envy_journal.specs.Reading.{operations};
@@ -47,6 +47,7 @@ fn sizes(bytes: &[u8]) -> Result<Shape, Unbegun>
     requires made { IsUnmade bytes.now → ⊥ }
     ensures head { IfOk result (λ shape. Begins (head_bytes shape) bytes.now) }
     ensures long { IfOk result (λ _. 33 ≤ length bytes.now) }
+    ensures checks { IfOk result (λ shape. shape_checked shape ≡ Ok tt) }
     ensures refused { IfErr result (λ unbegun. (options : Options) → Refuses options bytes.now unbegun) }
 {
     let shape = match read_head(bytes) {

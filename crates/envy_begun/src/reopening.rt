@@ -1,5 +1,5 @@
 // A journal that a file holds is opened, and a memory is attached.
-ghost use Rattle.std.specs.Prelude.{◌≡◌, [], List, ℕ, IfOk, IfErr, IsTrue, Ok};
+ghost use Rattle.std.specs.Prelude.{◌≡◌, [], List, ℕ, false, IfOk, IfErr, IsTrue, Ok};
 ghost use Rattle.envy_base.specs.Array.{zeros};
 ghost use Rattle.envy_device.specs.Device.{Only};
 ghost use Rattle.envy_journal.specs.Content.{HasMisfit, blank, content_of};
@@ -7,7 +7,7 @@ ghost use Rattle.envy_journal.specs.Head.{StandsFor, head_bytes};
 ghost use Rattle.envy_journal.specs.Log.{Begins};
 ghost use Rattle.envy_journal.specs.Reading.{operations};
 ghost use Rattle.envy_base.specs.declared.shape.Shape.{Shape};
-ghost use Rattle.envy_begun.specs.Beginning.{HasBegun, IsStopped};
+ghost use Rattle.envy_begun.specs.Beginning.{HasBegun, HasOperationsOf, IsStopped};
 ghost use Rattle.envy_begun.specs.Plans.{IsOpened};
 ghost use Rattle.envy_begun.specs.Left.{Leaves, OpensAlike, StaysNew, StaysWritten};
 ghost use Rattle.envy_begun.specs.Opens.{OpensAs};
@@ -69,6 +69,7 @@ fn compacted<B: Steady + Drop, D: Place>(
         → IsOpened sh file (⟦<Kept<B, D> as envy_base::Board>⟧.state after)) }
     ensures compacted { IsTrue compact
         → IfOk result (λ after. IsCompact (chart (⟦<Kept<B, D> as envy_base::Board>⟧.state after))) }
+    ensures same { compact ≡ false → IfOk result (λ after. after ≡ kept) }
     ensures left { IfErr result (λ e. (sh : Shape) (file : List ℕ)
         → IsOpened sh file (⟦<Kept<B, D> as envy_base::Board>⟧.state kept)
         → Leaves D.left_since D.moment e.1 (OpensAlike sh file)) }
@@ -103,6 +104,8 @@ fn opened_as_asked<B: Steady + Drop, D: Place + Drop>(
         IsOpened (B.state board).shape bytes.now (⟦<Kept<B, D> as envy_base::Board>⟧.state kept)) }
     ensures compacted { IsTrue compact
         → IfOk result (λ kept. IsCompact (chart (⟦<Kept<B, D> as envy_base::Board>⟧.state kept))) }
+    ensures same { compact ≡ false → IfOk result (λ kept.
+        HasOperationsOf bytes.now (chart (⟦<Kept<B, D> as envy_base::Board>⟧.state kept))) }
     ensures left { IfErr result (λ e.
         Leaves D.left_since D.moment e.1 (OpensAlike (B.state board).shape bytes.now)) }
     ensures failed { IfErr result (λ e.
@@ -159,8 +162,9 @@ pub fn begin_again<B: Steady + Drop, D: Place + Drop>(
     requires setup { checked setup ≡ Ok tt }
     ensures begun { IfOk result (λ memory. (words : List ℕ) × OpensAs setup.shape words bytes.now
         × HasBegun setup (fresh setup.shape.shadows words) memory) }
-    // where that was asked for, the journal is no longer than a snapshot
+    // where that was asked for, the journal is no longer than a snapshot, and else it has the operations that it had
     ensures compacted { IsTrue compact → IfOk result (λ memory. IsCompact memory.chart) }
+    ensures same { compact ≡ false → IfOk result (λ memory. HasOperationsOf bytes.now memory.chart) }
     // a crash leaves a journal that opens as the one that was there; where the file failed, one with the same words
     ensures left { IfErr result (λ e.
         Leaves D.left_since D.moment e.1 (StaysWritten e.0 setup.shape bytes.now)) }

@@ -1,7 +1,7 @@
 // A memory in a file is made or taken up, by what the file holds.
-ghost use Rattle.std.specs.Prelude.{◌≡◌, IfOk, IfErr, IsTrue, Ok};
+ghost use Rattle.std.specs.Prelude.{◌≡◌, false, IfOk, IfErr, IsTrue, Ok};
 ghost use Rattle.envy_base.specs.Array.{Array};
-ghost use Rattle.envy_begun.specs.Beginning.{HasBegun};
+ghost use Rattle.envy_begun.specs.Beginning.{HasBegun, HasOperationsOf};
 ghost use Rattle.envy_begun.specs.Left.{Leaves, Stays};
 ghost use Rattle.envy_begun.specs.Plans.{BeginsAs, Plans};
 ghost use Rattle.envy_begun.specs.Unserved.{Causes};
@@ -41,9 +41,11 @@ pub fn begin<B: Steady + Drop, D: Place + Drop>(
     requires checks { checked setup ≡ Ok tt }
     ensures begun { IfOk result (λ memory. (array : Array) × BeginsAs holding bytes.now setup array
         × HasBegun setup array memory) }
-    // where that was asked for, the journal is no longer than a snapshot
+    // where that was asked for, the journal is no longer than a snapshot, and else it has the operations that it had
     ensures compacted { holding ≡ Holding.Written → IsTrue options.now.compact
         → IfOk result (λ memory. IsCompact memory.chart) }
+    ensures same { holding ≡ Holding.Written → options.now.compact ≡ false
+        → IfOk result (λ memory. HasOperationsOf bytes.now memory.chart) }
     // what a crash leaves of the file, by what it held
     ensures left { IfErr result (λ e.
         Leaves D.left_since D.moment e.1 (Stays holding e.0 setup.shape bytes.now)) }

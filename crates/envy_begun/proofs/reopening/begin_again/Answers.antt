@@ -3,7 +3,7 @@ use Rattle.envy_base.specs.declared.shape.Shape.{Shape}
 use Rattle.envy_begun.specs.Unserved.{Declines, HasNoWords}
 use Rattle.envy_journal.specs.Content.{HasMisfit}
 use Rattle.envy_journal.specs.Reading.{operations}
-use Rattle.envy_begun.proofs.Again.{code-declines, declines-for, not-declined, off-declined, still-compact, taken-up}
+use Rattle.envy_begun.proofs.Again.{code-declines, declines-for, not-declined, off-declined, still-compact, still-same, taken-up}
 use Rattle.envy_begun.proofs.Alike.{alike-stays, code-leaves, leaves-as}
 use Rattle.envy_begun.specs.Left.{Leaves, OpensAlike, StaysWritten}
 use Rattle.envy_journal.specs.Journal.{lawful_lem}
@@ -49,3 +49,8 @@ returns-in-Err-attach-clause-left g c =
     subst (λ (x : Shape). Leaves g.D.Device.left_since g.D.Device.moment c.declined.result.1 (StaysWritten unbegun x c.args.bytes.now)) c.requires.shape
     (code-leaves g.D.Device.left_since g.D.Device.moment (g.B.Board.state c.args.board).shape c.args.bytes.now c.closed-device.result.0 _ _ c.in-Ok.ensures.opened c.in-Ok.ensures.synced c.closed-device.ensures.last c.closed-device.ensures.time
     g.D.Device.seen g.D.Device.has_failed c.args.setup c.declined.result.1 unbegun c.in-Err-attach.code c.closed-device.result.1 c.in-Err-attach.ensures c.declined.ensures.says c.declined.ensures.time c.declined.ensures.left)
+
+pub returns-in-Ok-attach-clause-same : goal.returns-in-Ok-attach-clause-same
+returns-in-Ok-attach-clause-same g c not =
+    let kept : Kept _ c.in-Ok-attach.memory.chart = Attaches.kept c.in-Ok-attach.ensures.1 in
+    still-same c.args.bytes.now _ c.in-Ok-attach.memory.chart kept.counted.given (c.in-Ok.ensures.same not)

@@ -1,4 +1,4 @@
-use Rattle.envy_begun.proofs.Again.{err_on, ok_on}
+use Rattle.envy_begun.proofs.Again.{err_on, has-operations, ok_on}
 use Rattle.envy_begun.proofs.Alike.{leaves-as, stands-alike}
 use Rattle.envy_begun.specs.Left.{OpensAlike}
 use Rattle.envy_journal.specs.Head.{StandsFor}
@@ -16,3 +16,10 @@ returns-in-Err-clause-left g c =
     let sh = (g.B.Board.state c.args.board).shape in
     let file = c.args.bytes.now in
     leaves-as g.D.Device.left_since g.D.Device.moment c.in-Err.unbegun.1 (StandsFor sh (operations file)) (OpensAlike sh file) (stands-alike sh file) c.in-Err.ensures.left
+
+pub returns-in-Ok-clause-same : goal.returns-in-Ok-clause-same
+returns-in-Ok-clause-same g c not =
+    let file = c.args.bytes.now in
+    let (synced, reads) = c.in-Ok.ensures.reads in
+    let here = has-operations file _ synced reads in
+    ok_on c.compacted.result (c.compacted.ensures.same not) (λ after is. rw is here)
