@@ -23,10 +23,6 @@ total-add : (f g h : ℕ → ℕ) (n : ℕ) → ((q : ℕ) → h q ≡ f q + g q
 total-add f g h zero e = refl
 total-add f g h (suc n) e = omega (arith, total-add f g h n e, e n)
 
-total-le : (f g : ℕ → ℕ) (n : ℕ) → ((q : ℕ) → f q ≤ g q) → total f n ≤ total g n
-total-le f g zero e = omega arith
-total-le f g (suc n) e = omega (arith, total-le f g n e, e n)
-
 total-none : (p n : ℕ) → n ≤ p → total (λ q. one (eqb q p)) n ≡ 0
 total-none p zero le = refl
 total-none p (suc n) le = omega (arith, total-none p n (omega arith), one-apart n p (omega arith))

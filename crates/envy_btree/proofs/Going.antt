@@ -6,14 +6,14 @@ use Rattle.std.proofs.lemmas.List.Edits.{length-insert}
 use Rattle.std.proofs.lemmas.List.Sums.{get_or-le-sum_by}
 use Rattle.std.proofs.lemmas.List.Elements.{All-get_or}
 use Rattle.envy_base.specs.declared.board.Trouble.{Trouble}
-use Rattle.envy_heap.specs.Pieces.{IsHeap, handed, spare, at}
+use Rattle.envy_heap.specs.Pieces.{IsHeap, handed, spare}
 use Rattle.envy_btree.specs.Pairs.{with_pair}
 use Rattle.envy_btree.specs.Tree.{Tree, Ordered, Rising, Sized, Holds, uses, piece_of, pairs_of, keys_of, values_of}
 use Rattle.envy_btree.specs.Nodes.{Ranks, IsRead, width}
 use Rattle.envy_btree.specs.Index.{Stands}
 use Rattle.envy_btree.specs.Changes.{Rests, Way, Grows, Saved, InHand, Ready}
 use Rattle.envy_btree.proofs.Trees.{low_of, high_of, Fans-long, Fans-at}
-use Rattle.envy_btree.proofs.Descent.{bare, read-shows, Rests-within, owned-within, uses-root}
+use Rattle.envy_btree.proofs.Descent.{bare, read-shows, Rests-within, uses-root}
 use Rattle.envy_btree.proofs.Setting.{Rising-with_pair, with_pair-long, with_pair-few}
 use Rattle.envy_btree.proofs.Framing.{handed-le}
 use Rattle.envy_btree.proofs.Halving.{slots-long}
@@ -158,6 +158,3 @@ node-grows ws mid new p level key value i ks ss t s (Err e) h b w = tt
 
 pub child-fits : (ws : List ℕ) (p level key value i : ℕ) (ks ss : List ℕ) (t : Rests ws p level) → length ws < 2 ^ 32 → Goes ws p level key value i ks ss t → get_or ss i 0 < 2 ^ 32
 child-fits ws p level key value i ks ss t few s = let w = Rests-within ws (get_or ss i 0) (level - 1) s.child.rests in omega (arith, w.0)
-
-pub Ready-within : (ws : List ℕ) (p : ℕ) → Ready ws p → at p 63 < length ws
-Ready-within ws p r = (owned-within ws r.0 p r.1 (omega (arith, r.2))).0

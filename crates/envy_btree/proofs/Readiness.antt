@@ -1,34 +1,10 @@
 -- The calls leave words that they may be made of again.
-use Rattle.std.proofs.Common.{◌≡◌, ℕ, ◌^◌, ◌≤◌, false, List, [], length, replicate, refl, arith, Option, Result, Ok, Err, IfOk, sym, subst, inl, inr}
+use Rattle.std.proofs.Common.{◌≡◌, ℕ, ◌^◌, ◌≤◌, false, [], length, replicate, refl, arith, Result, Ok, Err, IfOk, sym, subst, inl}
 use Rattle.std.proofs.lemmas.List.{length-replicate}
-use Rattle.envy_base.specs.declared.board.Off.{Off}
 use Rattle.envy_base.specs.Words.{Sheet}
-use Rattle.envy_btree.specs.declared.fault.TreeFault.{TreeFault}
-use Rattle.envy_btree.specs.declared.fault.TreeFault.TheVariants.{Off as FaultOff, Full, Bad}
-use Rattle.envy_btree.specs.Pairs.{with_pair, without}
 use Rattle.envy_btree.specs.Index.{IsIndex}
 use Rattle.envy_btree.specs.Testing.{IsReady}
 use Rattle.envy_heap.proofs.Heaps.{IsHeap-zeros, handed-zeros, zero-at}
-use Rattle.envy_btree.specs.Answers.{Gets, Inserts, Removes}
-
-abbrev pub SomeMap : List ℕ → Type 0
-SomeMap words = (es : List (ℕ × ℕ)) × IsIndex words es
-
-pub gets-map : (key : ℕ) (es : List (ℕ × ℕ)) (old new : Sheet) (r : Result (Option ℕ) Off) → new.words ≡ new.kept → Gets key es old r new → SomeMap new.words
-gets-map key es old new (Ok x) shut g = (es, g.2)
-gets-map key es old new (Err e) shut g = (es, subst (λ w. IsIndex w es) (sym shut) g.1)
-
-pub inserts-map : (key value : ℕ) (es : List (ℕ × ℕ)) (old new : Sheet) (r : Result (Option ℕ) TreeFault) → new.words ≡ new.kept → Inserts key value es old r new → SomeMap new.words
-inserts-map key value es old new (Ok x) shut g = (with_pair key value es, g.3)
-inserts-map key value es old new (Err FaultOff) shut g = elim g.1 [ inl i ↦ (es, subst (λ w. IsIndex w es) (sym shut) i) | inr i ↦ (with_pair key value es, subst (λ w. IsIndex w (with_pair key value es)) (sym shut) i) ]
-inserts-map key value es old new (Err Full) shut g = (es, g.2)
-inserts-map key value es old new (Err Bad) shut g = (es, g.3)
-
-pub removes-map : (key : ℕ) (es : List (ℕ × ℕ)) (old new : Sheet) (r : Result (Option ℕ) TreeFault) → new.words ≡ new.kept → Removes key es old r new → SomeMap new.words
-removes-map key es old new (Ok x) shut g = (without key es, g.2)
-removes-map key es old new (Err FaultOff) shut g = elim g.1 [ inl i ↦ (es, subst (λ w. IsIndex w es) (sym shut) i) | inr i ↦ (without key es, subst (λ w. IsIndex w (without key es)) (sym shut) i) ]
-removes-map key es old new (Err Full) shut g = absurd g
-removes-map key es old new (Err Bad) shut g = (es, g.2)
 
 pub zeros-index : (size : ℕ) → 640 ≤ size → IsIndex (replicate size 0) []
 zeros-index size le = record {

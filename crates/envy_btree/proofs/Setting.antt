@@ -2,12 +2,11 @@
 use Rattle.std.proofs.Common.{◌≡◌, ◌≢◌, ◌⊎◌, ℕ, zero, suc, ◌+◌, ◌-◌, ◌<◌, ◌≤◌, List, [], ◌∷◌, ◌++◌, length, take, drop, get_or, set, refl, ap, sym, subst, ◌∙◌, inl, inr, ltb, arith}
 use Rattle.std.specs.List.{insert, remove}
 use Rattle.std.proofs.lemmas.Bool.{cases_eq, cases_lt}
-use Rattle.envy_heap.specs.Pieces.{Chain, IsHeap, handed, spare, head, at, one, times}
+use Rattle.envy_heap.specs.Pieces.{Chain, IsHeap, handed, spare, head, one, times}
 use Rattle.envy_heap.proofs.Heaps.{Chain-same, one-le}
 use Rattle.envy_btree.specs.Pairs.{with_pair, without, Below}
 use Rattle.envy_btree.specs.Tree.{Rising, keys_of, values_of}
 use Rattle.envy_btree.specs.Nodes.{Ranks, IsSet, IsDropped, OnlyPiece}
-use Rattle.envy_btree.specs.Changes.{Elsewhere}
 use Rattle.envy_btree.proofs.Maps.{with_pair-here, with_pair-new, without-below, without-none, ltb-lt, ltb-ge, eqb-same, eqb-gt}
 use Rattle.envy_btree.proofs.Descent.{Rising-below, Rising-above, Below-rank, pairs-split, take-drop}
 
@@ -94,19 +93,6 @@ heap-kept old new free p h out o =
         | inr ne ↦ o.after (head q) (omega arith)
       ]
     ]
-
-only-elsewhere : (old new free : List ℕ) (p : ℕ) (used : ℕ → ℕ) → 1 ≤ used p → OnlyPiece p old new → Elsewhere old new free used
-only-elsewhere old new free p used some o = record {
-  long = o.long;
-  first = λ a lt n1 n2. o.before a (omega arith);
-  others = λ q i lt out none. elim (cases_lt q p) [
-    | inl l ↦ o.before (at q i) (omega arith)
-    | inr ge ↦ elim (cases_eq q p) [
-      | inl same ↦ absurd (let z : used p ≡ 0 = subst (λ x. used x ≡ 0) same none in omega arith)
-      | inr ne ↦ o.after (at q i) (omega arith)
-    ]
-  ];
-}
 
 pub with_pair-few : (key value : ℕ) (es : List (ℕ × ℕ)) → length (with_pair key value es) ≤ length es + 1
 with_pair-few key value [] = omega arith

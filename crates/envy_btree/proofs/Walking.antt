@@ -1,5 +1,5 @@
 -- Ways down a tree that the words hold.
-use Rattle.std.proofs.Common.{◌≡◌, ℕ, zero, suc, ◌+◌, ◌-◌, ◌<◌, ◌≤◌, Bool, false, List, [], ◌∷◌, length, map, take, drop, get_or, refl, ap, sym, subst, ◌∙◌, arith}
+use Rattle.std.proofs.Common.{◌≡◌, ℕ, zero, suc, ◌+◌, ◌<◌, ◌≤◌, Bool, false, List, [], ◌∷◌, length, map, take, drop, get_or, refl, ap, sym, subst, ◌∙◌, arith}
 use Rattle.std.specs.List.{flat_map}
 use Rattle.std.proofs.lemmas.List.{get_or-map, length-map, set-get_or}
 use Rattle.std.proofs.lemmas.List.Sums.{get_or-le-sum_by}
@@ -93,10 +93,6 @@ Fans-ranks P low high (k ∷ ks) (c ∷ cs) (suc j) key f le a b =
     Ranks-more key k ks j (omega (arith, w.0)) r
 
 -- Keys rise
-
-Rising-low : (l h : ℕ) (es : List (ℕ × ℕ)) → Rising l h es → l ≤ h
-Rising-low l h [] r = r
-Rising-low l h (e ∷ es) r = omega (arith, r.0, r.1)
 
 pub Rising-keys : (low high : ℕ) (es : List (ℕ × ℕ)) (i : ℕ) → Rising low high es → suc i < length es → get_or (keys_of es) i 0 < get_or (keys_of es) (suc i) 0
 Rising-keys low high [] i r lt = absurd (omega arith)

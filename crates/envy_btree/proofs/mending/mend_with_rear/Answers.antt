@@ -1,4 +1,4 @@
-use Rattle.std.proofs.Common.{◌+◌, arith}
+use Rattle.std.proofs.Common.{arith}
 use Rattle.envy_base.proofs.Working.{Works-trans, Works-more}
 use Rattle.envy_btree.proofs.mending.mend_with_rear.Goals as goal
 
