@@ -67,6 +67,13 @@ done-at ws mid new p level key i j d t free next root low high heap few is s c i
     let long : length t.kids ≡ length t.keys + 1 = Fans-long (Ordered d) low high t.keys t.kids s.ordered in
     back-shrinks ws m.mid new p level key rests true m.after m.after_slots r h.0 (mended-few mid m.mid next j t.keys (map (piece_of d) t.kids) inner jk js m.after m.after_slots lt (omega (arith, s.sized.1)) m.mended) (omega (arith, h.1, s.sized.0)) m.back
 
+-- what was said of the child, by its words, its piece and its answer as they were found
+pub child-told : (old now mid : List ℕ) (p q below key : ℕ) (x r : Option Node) (t : Rests old q below) → now ≡ old → p ≡ q → x ≡ r → ((h : Rests now p below) → Shrinks now mid p below key h x) → Shrinks old mid q below key t r
+child-told old now mid p q below key x r t same at is said =
+    let a = subst (λ w. (h : Rests w p below) → Shrinks w mid p below key h x) same said in
+    let b = subst (λ n. (h : Rests old n below) → Shrinks old mid n below key h x) at a in
+    subst (λ o. Shrinks old mid q below key t o) is (b t)
+
 -- what goes on at the child, and comes back from it
 pub record Dives (ws : List ℕ) (p level key i : ℕ) (ks ss : List ℕ) (t : Rests ws p level) : Type 0 where
   pub lower : 1 ≤ level

@@ -1,5 +1,5 @@
 -- Children of one node, two neighbours among them written anew.
-use Rattle.std.proofs.Common.{◌≡◌, ◌≢◌, ℕ, suc, ◌+◌, ◌-◌, ◌<◌, ◌≤◌, Bool, false, List, ◌∷◌, length, map, get_or, set, ap, sym, subst, ◌∙◌, inl, inr, eqb, arith}
+use Rattle.std.proofs.Common.{◌≡◌, ◌≢◌, ℕ, suc, ◌+◌, ◌<◌, ◌≤◌, Bool, false, List, ◌∷◌, length, map, get_or, set, ap, sym, subst, ◌∙◌, inl, inr, eqb, arith}
 use Rattle.std.specs.List.{All, flat_map, sum_by, remove}
 use Rattle.std.proofs.lemmas.List.{length-set, get_or-map}
 use Rattle.std.proofs.lemmas.List.Sums.{get_or-le-sum_by}

@@ -1,4 +1,4 @@
-use Rattle.std.proofs.Common.{◌≡◌, List, ℕ, ◌+◌, ◌-◌, ◌*◌, arith, sym, subst, ◌∙◌, get_or, true, false}
+use Rattle.std.proofs.Common.{◌≡◌, List, ℕ, ◌+◌, ◌-◌, ◌*◌, arith, sym, subst, ◌∙◌, get_or, false}
 use Rattle.envy_base.proofs.Working.{Works-trans, Works-more}
 use Rattle.envy_heap.specs.Pieces.{IsHeap, handed}
 use Rattle.envy_btree.specs.Pairs.{with_pair}

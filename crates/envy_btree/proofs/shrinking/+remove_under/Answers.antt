@@ -1,12 +1,12 @@
-use Rattle.std.proofs.Common.{◌≡◌, IfOk, IfSome, List, ℕ, ◌+◌, ◌-◌, ◌*◌, ◌∙◌, suc, arith, sym, subst, get_or, false}
+use Rattle.std.proofs.Common.{◌≡◌, IfOk, IfSome, List, ℕ, ◌+◌, ◌-◌, ◌*◌, ◌∙◌, suc, arith, sym, subst, false}
 use Rattle.envy_base.specs.Words.{Works}
 use Rattle.envy_base.proofs.Working.{Works-trans, Works-more}
 use Rattle.envy_btree.specs.Pairs.{without}
 use Rattle.envy_btree.specs.Tree.{Rising, keys_of, values_of}
 use Rattle.envy_btree.specs.Changes.{Rests}
-use Rattle.envy_btree.specs.Shrinking.{Back, Shrinks}
+use Rattle.envy_btree.specs.Shrinking.{Back}
 use Rattle.envy_btree.proofs.Descent.{Rests-within, Rests-few}
-use Rattle.envy_btree.proofs.Diving.{Rests-dives, Rests-lands, leaf-shrinks, front-shrinks, rear-shrinks, dive-fits, hand-more}
+use Rattle.envy_btree.proofs.Diving.{Rests-dives, Rests-lands, leaf-shrinks, front-shrinks, rear-shrinks, dive-fits, hand-more, child-told}
 use Rattle.envy_btree.proofs.shrinking.+remove_under.Goals as goal
 
 pub read_node-requires-clause-within : goal.read_node-requires-clause-within
@@ -67,17 +67,9 @@ remove_under-requires g t c κs within =
 
 pub returns-in_default-clause-shrinks : goal.returns-in_default-clause-shrinks
 returns-in_default-clause-shrinks g t c r =
-    let old = (g.W.Words.sheet c.args.words.now).words in
     let mid = (g.W.Words.sheet c.remove_under.new.words).words in
-    let ks = c.in_ok-node.node.keys.items in
-    let ss = c.in_ok-node.node.slots.items in
-    let p = c.args.piece in
-    let i = c.rank-i.result in
-    let below = c.args.level - 1 in
-    let s = Rests-dives old p c.args.level c.args.key i ks _ ss _ r c.in_ok-node.ensures.node c.if-not-node.false c.deref.ensures.0 c.rank-i.ensures in
-    let a = subst (λ w. (h : Rests w c.slot-child.result below) → Shrinks w mid c.slot-child.result below c.args.key h c.in_ok-short.field-0) c.in_ok-node.ensures.same c.in_ok-short.ensures.shrinks in
-    let b = subst (λ q. (h : Rests old q below) → Shrinks old mid q below c.args.key h c.in_ok-short.field-0) c.slot-child.ensures a in
-    let d = subst (λ r. Shrinks old mid (get_or ss i 0) below c.args.key s.child r) c.in_default.is (b s.child) in
+    let s = Rests-dives _ _ _ _ _ _ _ _ _ r c.in_ok-node.ensures.node c.if-not-node.false c.deref.ensures.0 c.rank-i.ensures in
+    let d = child-told _ _ mid _ _ _ c.args.key c.in_ok-short.field-0 _ s.child c.in_ok-node.ensures.same c.slot-child.ensures c.in_default.is c.in_ok-short.ensures.shrinks in
     s.same mid d
 
 pub shrink_with_front-requires-clause-within : goal.shrink_with_front-requires-clause-within
@@ -93,32 +85,18 @@ shrink_with_front-requires-clause-room g t c =
 
 pub shrink_with_front-requires-clause-children : goal.shrink_with_front-requires-clause-children
 shrink_with_front-requires-clause-children g t c =
-    let old = (g.W.Words.sheet c.args.words.now).words in
     let mid = (g.W.Words.sheet c.remove_under.new.words).words in
-    let ks = c.in_ok-node.node.keys.items in
-    let ss = c.in_ok-node.node.slots.items in
-    let p = c.args.piece in
     let i = c.rank-i.result in
-    let below = c.args.level - 1 in
-    let s = Rests-dives old p c.args.level c.args.key i ks _ ss _ c.requires.rests c.in_ok-node.ensures.node c.if-not-node.false c.deref.ensures.0 c.rank-i.ensures in
-    let a = subst (λ w. (h : Rests w c.slot-child.result below) → Shrinks w mid c.slot-child.result below c.args.key h c.in_ok-short.field-0) c.in_ok-node.ensures.same c.in_ok-short.ensures.shrinks in
-    let b = subst (λ q. (h : Rests old q below) → Shrinks old mid q below c.args.key h c.in_ok-short.field-0) c.slot-child.ensures a in
-    let d = subst (λ r. Shrinks old mid (get_or ss i 0) below c.args.key s.child r) c.in-Some.is (b s.child) in
+    let s = Rests-dives _ _ _ _ _ _ _ _ _ c.requires.rests c.in_ok-node.ensures.node c.if-not-node.false c.deref.ensures.0 c.rank-i.ensures in
+    let d = child-told _ _ mid _ _ _ c.args.key c.in_ok-short.field-0 _ s.child c.in_ok-node.ensures.same c.slot-child.ensures c.in-Some.is c.in_ok-short.ensures.shrinks in
     record { place = omega (arith, c.if-i-gt0.true, s.place); many = s.few; long = s.long; pair = ((s.front mid c.in-Some.short (i - 1) (let e : i ≡ suc (i - 1) = omega (arith, c.if-i-gt0.true) in e) d)).0 }
 
 pub shrink_with_front-requires-clause-short : goal.shrink_with_front-requires-clause-short
 shrink_with_front-requires-clause-short g t c =
-    let old = (g.W.Words.sheet c.args.words.now).words in
     let mid = (g.W.Words.sheet c.remove_under.new.words).words in
-    let ks = c.in_ok-node.node.keys.items in
-    let ss = c.in_ok-node.node.slots.items in
-    let p = c.args.piece in
     let i = c.rank-i.result in
-    let below = c.args.level - 1 in
-    let s = Rests-dives old p c.args.level c.args.key i ks _ ss _ c.requires.rests c.in_ok-node.ensures.node c.if-not-node.false c.deref.ensures.0 c.rank-i.ensures in
-    let a = subst (λ w. (h : Rests w c.slot-child.result below) → Shrinks w mid c.slot-child.result below c.args.key h c.in_ok-short.field-0) c.in_ok-node.ensures.same c.in_ok-short.ensures.shrinks in
-    let b = subst (λ q. (h : Rests old q below) → Shrinks old mid q below c.args.key h c.in_ok-short.field-0) c.slot-child.ensures a in
-    let d = subst (λ r. Shrinks old mid (get_or ss i 0) below c.args.key s.child r) c.in-Some.is (b s.child) in
+    let s = Rests-dives _ _ _ _ _ _ _ _ _ c.requires.rests c.in_ok-node.ensures.node c.if-not-node.false c.deref.ensures.0 c.rank-i.ensures in
+    let d = child-told _ _ mid _ _ _ c.args.key c.in_ok-short.field-0 _ s.child c.in_ok-node.ensures.same c.slot-child.ensures c.in-Some.is c.in_ok-short.ensures.shrinks in
     let sizes = s.sizes mid c.in-Some.short d in
     record { beside = ((s.front mid c.in-Some.short (i - 1) (let e : i ≡ suc (i - 1) = omega (arith, c.if-i-gt0.true) in e) d)).1; few = sizes.0; long = sizes.1 }
 
@@ -140,18 +118,11 @@ returns-then-i-gt0-clause-hand g t c =
 
 pub returns-then-i-gt0-clause-shrinks : goal.returns-then-i-gt0-clause-shrinks
 returns-then-i-gt0-clause-shrinks g t c r =
-    let old = (g.W.Words.sheet c.args.words.now).words in
     let mid = (g.W.Words.sheet c.remove_under.new.words).words in
-    let ks = c.in_ok-node.node.keys.items in
-    let ss = c.in_ok-node.node.slots.items in
-    let p = c.args.piece in
     let i = c.rank-i.result in
-    let below = c.args.level - 1 in
-    let s = Rests-dives old p c.args.level c.args.key i ks _ ss _ r c.in_ok-node.ensures.node c.if-not-node.false c.deref.ensures.0 c.rank-i.ensures in
-    let a = subst (λ w. (h : Rests w c.slot-child.result below) → Shrinks w mid c.slot-child.result below c.args.key h c.in_ok-short.field-0) c.in_ok-node.ensures.same c.in_ok-short.ensures.shrinks in
-    let b = subst (λ q. (h : Rests old q below) → Shrinks old mid q below c.args.key h c.in_ok-short.field-0) c.slot-child.ensures a in
-    let d = subst (λ r. Shrinks old mid (get_or ss i 0) below c.args.key s.child r) c.in-Some.is (b s.child) in
-    front-shrinks old mid (g.W.Words.sheet c.shrink_with_front.new.words).words p c.args.level c.args.key i (i - 1) ks ss r c.in-Some.short c.shrink_with_front.result s (let e : i ≡ suc (i - 1) = omega (arith, c.if-i-gt0.true) in e) d c.shrink_with_front.ensures.mended
+    let s = Rests-dives _ _ _ _ _ _ _ _ _ r c.in_ok-node.ensures.node c.if-not-node.false c.deref.ensures.0 c.rank-i.ensures in
+    let d = child-told _ _ mid _ _ _ c.args.key c.in_ok-short.field-0 _ s.child c.in_ok-node.ensures.same c.slot-child.ensures c.in-Some.is c.in_ok-short.ensures.shrinks in
+    front-shrinks _ mid (g.W.Words.sheet c.shrink_with_front.new.words).words _ _ _ i (i - 1) _ _ r c.in-Some.short c.shrink_with_front.result s (let e : i ≡ suc (i - 1) = omega (arith, c.if-i-gt0.true) in e) d c.shrink_with_front.ensures.mended
 
 pub shrink_with_rear-requires-clause-within : goal.shrink_with_rear-requires-clause-within
 shrink_with_rear-requires-clause-within g t c = omega (arith, (Rests-within _ _ _ c.requires.rests).0, c.in_ok-node.ensures.works.long, c.in_ok-short.ensures.works.long)
@@ -166,32 +137,18 @@ shrink_with_rear-requires-clause-room g t c =
 
 pub shrink_with_rear-requires-clause-children : goal.shrink_with_rear-requires-clause-children
 shrink_with_rear-requires-clause-children g t c =
-    let old = (g.W.Words.sheet c.args.words.now).words in
     let mid = (g.W.Words.sheet c.remove_under.new.words).words in
-    let ks = c.in_ok-node.node.keys.items in
-    let ss = c.in_ok-node.node.slots.items in
-    let p = c.args.piece in
     let i = c.rank-i.result in
-    let below = c.args.level - 1 in
-    let s = Rests-dives old p c.args.level c.args.key i ks _ ss _ c.requires.rests c.in_ok-node.ensures.node c.if-not-node.false c.deref.ensures.0 c.rank-i.ensures in
-    let a = subst (λ w. (h : Rests w c.slot-child.result below) → Shrinks w mid c.slot-child.result below c.args.key h c.in_ok-short.field-0) c.in_ok-node.ensures.same c.in_ok-short.ensures.shrinks in
-    let b = subst (λ q. (h : Rests old q below) → Shrinks old mid q below c.args.key h c.in_ok-short.field-0) c.slot-child.ensures a in
-    let d = subst (λ r. Shrinks old mid (get_or ss i 0) below c.args.key s.child r) c.in-Some.is (b s.child) in
+    let s = Rests-dives _ _ _ _ _ _ _ _ _ c.requires.rests c.in_ok-node.ensures.node c.if-not-node.false c.deref.ensures.0 c.rank-i.ensures in
+    let d = child-told _ _ mid _ _ _ c.args.key c.in_ok-short.field-0 _ s.child c.in_ok-node.ensures.same c.slot-child.ensures c.in-Some.is c.in_ok-short.ensures.shrinks in
     record { place = omega (arith, s.some); many = s.few; long = s.long; pair = ((s.rear mid c.in-Some.short 0 (let e : i ≡ 0 = omega (arith, c.if-i-gt0.false) in e) (omega (arith, s.some)) d)).0 }
 
 pub shrink_with_rear-requires-clause-short : goal.shrink_with_rear-requires-clause-short
 shrink_with_rear-requires-clause-short g t c =
-    let old = (g.W.Words.sheet c.args.words.now).words in
     let mid = (g.W.Words.sheet c.remove_under.new.words).words in
-    let ks = c.in_ok-node.node.keys.items in
-    let ss = c.in_ok-node.node.slots.items in
-    let p = c.args.piece in
     let i = c.rank-i.result in
-    let below = c.args.level - 1 in
-    let s = Rests-dives old p c.args.level c.args.key i ks _ ss _ c.requires.rests c.in_ok-node.ensures.node c.if-not-node.false c.deref.ensures.0 c.rank-i.ensures in
-    let a = subst (λ w. (h : Rests w c.slot-child.result below) → Shrinks w mid c.slot-child.result below c.args.key h c.in_ok-short.field-0) c.in_ok-node.ensures.same c.in_ok-short.ensures.shrinks in
-    let b = subst (λ q. (h : Rests old q below) → Shrinks old mid q below c.args.key h c.in_ok-short.field-0) c.slot-child.ensures a in
-    let d = subst (λ r. Shrinks old mid (get_or ss i 0) below c.args.key s.child r) c.in-Some.is (b s.child) in
+    let s = Rests-dives _ _ _ _ _ _ _ _ _ c.requires.rests c.in_ok-node.ensures.node c.if-not-node.false c.deref.ensures.0 c.rank-i.ensures in
+    let d = child-told _ _ mid _ _ _ c.args.key c.in_ok-short.field-0 _ s.child c.in_ok-node.ensures.same c.slot-child.ensures c.in-Some.is c.in_ok-short.ensures.shrinks in
     let sizes = s.sizes mid c.in-Some.short d in
     record { beside = ((s.rear mid c.in-Some.short 0 (let e : i ≡ 0 = omega (arith, c.if-i-gt0.false) in e) (omega (arith, s.some)) d)).1; few = sizes.0; long = sizes.1 }
 
@@ -213,15 +170,8 @@ returns-clause-hand g t c =
 
 pub returns-clause-shrinks : goal.returns-clause-shrinks
 returns-clause-shrinks g t c r =
-    let old = (g.W.Words.sheet c.args.words.now).words in
     let mid = (g.W.Words.sheet c.remove_under.new.words).words in
-    let ks = c.in_ok-node.node.keys.items in
-    let ss = c.in_ok-node.node.slots.items in
-    let p = c.args.piece in
     let i = c.rank-i.result in
-    let below = c.args.level - 1 in
-    let s = Rests-dives old p c.args.level c.args.key i ks _ ss _ r c.in_ok-node.ensures.node c.if-not-node.false c.deref.ensures.0 c.rank-i.ensures in
-    let a = subst (λ w. (h : Rests w c.slot-child.result below) → Shrinks w mid c.slot-child.result below c.args.key h c.in_ok-short.field-0) c.in_ok-node.ensures.same c.in_ok-short.ensures.shrinks in
-    let b = subst (λ q. (h : Rests old q below) → Shrinks old mid q below c.args.key h c.in_ok-short.field-0) c.slot-child.ensures a in
-    let d = subst (λ r. Shrinks old mid (get_or ss i 0) below c.args.key s.child r) c.in-Some.is (b s.child) in
-    rear-shrinks old mid (g.W.Words.sheet c.shrink_with_rear.new.words).words p c.args.level c.args.key i 0 ks ss r c.in-Some.short c.shrink_with_rear.result s (let e : i ≡ 0 = omega (arith, c.if-i-gt0.false) in e) d c.shrink_with_rear.ensures.mended (omega (arith, s.some))
+    let s = Rests-dives _ _ _ _ _ _ _ _ _ r c.in_ok-node.ensures.node c.if-not-node.false c.deref.ensures.0 c.rank-i.ensures in
+    let d = child-told _ _ mid _ _ _ c.args.key c.in_ok-short.field-0 _ s.child c.in_ok-node.ensures.same c.slot-child.ensures c.in-Some.is c.in_ok-short.ensures.shrinks in
+    rear-shrinks _ mid (g.W.Words.sheet c.shrink_with_rear.new.words).words _ _ _ i 0 _ _ r c.in-Some.short c.shrink_with_rear.result s (let e : i ≡ 0 = omega (arith, c.if-i-gt0.false) in e) d c.shrink_with_rear.ensures.mended (omega (arith, s.some))
