@@ -1,5 +1,5 @@
 -- What a pair stands for while one side follows the other.
-use Rattle.std.proofs.Common.{◌≡◌, ◌≢◌, ◌⊎◌, inl, inr, ℕ, ◌*◌, ◌/◌, ◌<◌, ◌≤◌, Bool, true, false, List, length, get_or, set, replicate, Option, None, Some, Result, Ok, Err, sym, ◌∙◌, ap, subst, arith}
+use Rattle.std.proofs.Common.{◌≡◌, ◌≢◌, ◌⊎◌, inl, inr, ℕ, ◌*◌, ◌/◌, ◌<◌, Bool, true, false, List, length, get_or, set, replicate, Option, None, Some, Result, Ok, Err, sym, ◌∙◌, ap, subst, arith}
 use Rattle.std.proofs.lemmas.Bool.{cases_eq}
 use Rattle.std.proofs.lemmas.List.{ext_get_or, get_or-replicate, length-replicate, get_or-set_other, length-set}
 use Rattle.envy_base.specs.Array.{Array, Saved, owner, slot_of, undone}
@@ -13,18 +13,16 @@ use Rattle.envy_layout.proofs.Standing.{length-stands}
 use Rattle.envy_memory.specs.Calls.{fresh}
 use Rattle.envy_mirror.specs.Catching.{Helps, NoneOpen, NoneStale, IsLowestStale, Copies}
 use Rattle.envy_mirror.specs.Mirroring.{AgreesBy, Agrees, Mirrors, Trails, IsFreshAt}
-use Rattle.envy_mirror.specs.Pair.{Side, Pair, is_good, is_good_by, IsClosed, IsPair, IsSide, IsSideBy, Leads}
+use Rattle.envy_mirror.specs.Pair.{Side, Pair, is_good, is_good_by, IsClosed, IsPair, IsSide, IsSideBy}
 use Rattle.envy_mirror.specs.declared.catching.Caught.{Caught}
 use Rattle.envy_mirror.specs.declared.catching.Caught.TheVariants.{Whole, Waiting, Woken, Copied, Joined}
 use Rattle.envy_mirror.specs.declared.catching.CatchFault.{CatchFault}
 use Rattle.envy_mirror.specs.declared.catching.CatchFault.TheVariants.{Off, Dead, Slipped, Bad}
 use Rattle.envy_mirror.specs.declared.standing.Standing.{Standing}
 use Rattle.envy_mirror.specs.declared.standing.Standing.TheVariants.{Good, Behind, Gone}
-use Rattle.envy_mirror.specs.declared.standing.Which.{Which}
-use Rattle.envy_mirror.specs.declared.standing.Which.TheVariants.{First, Second}
 use Rattle.envy_mirror.proofs.Closing.{fresh-is, owner-fresh, undone-fresh}
 use Rattle.envy_mirror.proofs.Answering.{long-mirrors}
-use Rattle.envy_mirror.proofs.Telling.{agrees-good, agrees-gone, stands-good, either-left, either-right, only-first, only-second}
+use Rattle.envy_mirror.proofs.Telling.{agrees-good, agrees-gone, stands-good, either-left, either-right}
 
 -- no slot of the array is open where none of the board is
 pub array-closed : (c : Chart) (m : Array) → Stands c m → NoneOpen c → m ≡ fresh m.shadows m.words
@@ -120,17 +118,6 @@ agrees-helped (Ok Joined) from old new stale left m s shape long side h agrees =
 agrees-helped (Ok Whole) from old new stale left m s shape long side h agrees = absurd h
 agrees-helped (Err Off) from old new stale left m s shape long side h agrees = absurd h
 
-pub length-helped : (result : Result Caught CatchFault) (from old new : Side) (stale left : List Bool) → Helps result from old stale new left → length left ≡ length stale
-length-helped (Err Dead) from old new stale left h = ap length h.3
-length-helped (Ok Woken) from old new stale left h = ap length h.3 ∙ length-replicate (length stale) true
-length-helped (Ok (Waiting t)) from old new stale left h = ap length h.3
-length-helped (Ok (Copied p)) from old new stale left h = ap length h.6 ∙ length-set stale p false
-length-helped (Err Bad) from old new stale left h = ap length h.8
-length-helped (Err Slipped) from old new stale left h = ap length h.2
-length-helped (Ok Joined) from old new stale left h = ap length h.4
-length-helped (Ok Whole) from old new stale left h = absurd h
-length-helped (Err Off) from old new stale left h = absurd h
-
 -- ---- the pair
 
 abbrev pub with_second : Pair → Side → List Bool → Pair
@@ -138,42 +125,6 @@ with_second p s left = record { first = p.first; second = s; stale = left; last 
 
 abbrev pub with_first : Pair → Side → List Bool → Pair
 with_first p s left = record { first = s; second = p.second; stale = left; last = p.last }
-
-leads-first : (first second : Standing) → is_good_by first ≡ true → Leads First first second
-leads-first Good second good = tt
-leads-first Behind second good = cc
-leads-first Gone second good = cc
-
-leads-second : (first second : Standing) → is_good_by second ≡ true → Leads Second first second
-leads-second first Good good = tt
-leads-second first Behind good = cc
-leads-second first Gone good = cc
-
--- helping the second side leaves a pair,
-pub IsPair-second : (old : Pair) (s : Side) (left : List Bool) → IsPair old → is_good old.first ≡ true → is_good old.second ≡ false → IsSide s → s.memory.chart.shape ≡ old.second.memory.chart.shape → length left ≡ length old.stale → IsPair (with_second old s left)
-IsPair-second old s left i good other side shape long =
-    let last = only-first old.last old.first.standing old.second.standing i.last good other in
-    record {
-      first = i.first;
-      second = side;
-      shape = shape ∙ i.shape;
-      marks = long ∙ i.marks;
-      few = i.few;
-      last = subst (λ (w : Which). Leads w old.first.standing s.standing) (sym last) (leads-first old.first.standing s.standing good);
-    }
-
--- and helping the first
-pub IsPair-first : (old : Pair) (s : Side) (left : List Bool) → IsPair old → is_good old.first ≡ false → is_good old.second ≡ true → IsSide s → s.memory.chart.shape ≡ old.first.memory.chart.shape → length left ≡ length old.stale → IsPair (with_first old s left)
-IsPair-first old s left i other good side shape long =
-    let last = only-second old.last old.first.standing old.second.standing i.last other good in
-    record {
-      first = side;
-      second = i.second;
-      shape = i.shape ∙ sym shape;
-      marks = long ∙ i.marks ∙ ap (λ (sh : Shape). sh.pages) (sym shape);
-      few = subst (λ (sh : Shape). sh.pages ≤ 1048576) (sym shape) i.few;
-      last = subst (λ (w : Which). Leads w s.standing old.second.standing) (sym last) (leads-second s.standing old.second.standing good);
-    }
 
 good-agrees : (g : Standing) (c : Chart) (stale left : List Bool) (m : Array) → is_good_by g ≡ true → AgreesBy g c stale m → AgreesBy g c left m
 good-agrees Good c stale left m good agrees = agrees

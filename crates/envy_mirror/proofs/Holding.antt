@@ -45,9 +45,6 @@ shape-spoiled : (b : Bool) (mid : Side) → (spoiled_if b mid).memory.chart.shap
 shape-spoiled true mid = refl
 shape-spoiled false mid = refl
 
-abbrev HasShape : Shape → Side → Type 0
-HasShape sh s = s.memory.chart.shape ≡ sh
-
 -- and its shape
 pub shape-reached : (command : Command) (other own : Option Reply) (old new : Side) → Reaches command other own old new → new.memory.chart.shape ≡ old.memory.chart.shape
 shape-reached command other None old new reach = ap (λ (s : Side). s.memory.chart.shape) (reach-none command other old new reach).1
