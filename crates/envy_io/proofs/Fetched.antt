@@ -1,11 +1,11 @@
 -- What several askings for the bytes of a slice take together.
-use Rattle.std.proofs.Common.{◌≡◌, ◌≢◌, ◌⊎◌, ℕ, ◌+◌, ◌-◌, ◌<◌, ◌≤◌, ◌==◌, Bool, true, false, IsTrue, List, [], ◌++◌, length, take, drop, Ok, refl, ap, sym, ◌∙◌, inl, inr, arith, length-append, length-drop, subst}
+use Rattle.std.proofs.Common.{◌≡◌, ◌≢◌, ◌⊎◌, ℕ, ◌+◌, ◌-◌, ◌<◌, ◌≤◌, ◌==◌, Bool, true, false, IsTrue, List, [], ◌++◌, length, take, drop, Ok, refl, ap, sym, ◌∙◌, inl, inr, arith, length-append, subst}
 use Rattle.std.proofs.lemmas.Bool.{false≢true}
 use Rattle.std.proofs.lemmas.Bool.Decides.{nat_tests}
-use Rattle.std.proofs.lemmas.List.{append_assoc, append-nil, take-append-drop, take_at, length-take, nil_from_length}
+use Rattle.std.proofs.lemmas.List.{append_assoc, append-nil, take-append-drop, take_at, length-take}
 use Rattle.envy_io.specs.Streams.{Feed, Fills, IsDry, with_front}
 use Rattle.envy_io.specs.Taking.{Taking}
-use Rattle.envy_io.specs.Fetching.{Draws, IsIdle, HasFront, MayPull, Pulls}
+use Rattle.envy_io.specs.Fetching.{Draws, IsIdle, MayPull, Pulls}
 use Rattle.envy_io.proofs.TakesLemmas.{askings, fewer, with_front-nil, with_front-with_front}
 
 -- the first bytes of the slice are those that came so far
@@ -16,30 +16,6 @@ pub record Fetched (old : Taking) (from : Feed) (into : List ℕ) (count : ℕ) 
   pub within : count ≤ length into
   -- bytes are held only where none was taken and the slice is full
   pub none : (count < length into) ⊎ (0 < length got) → new.held ≡ []
-
-pub Fetched-first : (old new : Taking) (from : Feed) (into : List ℕ) (count : ℕ) → HasFront old into count new → Fetched old from into count new from
-Fetched-first old new from into count front =
-    let held : new.held ≡ drop count old.held = ap (λ (t : Taking). t.held) front.same in
-    let ended : new.ended ≡ old.ended = ap (λ (t : Taking). t.ended) front.same in record {
-      got = [];
-      draws = record {
-        cap = ap (λ (t : Taking). t.cap) front.same;
-        taken = omega (arith, ap (λ (t : Taking). t.taken) front.same);
-        within = front.within;
-        left = sym (with_front-nil from.left);
-        faults = omega arith;
-        ended = λ was. (ended ∙ was, refl);
-        dry = λ dry is. dry (sym ended ∙ is);
-        below = front.below;
-      };
-      all = append-nil old.held ∙ (sym (take-append-drop count old.held) ∙ rw (front.front, held) refl);
-      within = omega (arith, front.least);
-      none = λ some. nothing some held;
-    }
-  where
-    nothing : (count < length into) ⊎ (0 < length {A = ℕ} []) → new.held ≡ drop count old.held → new.held ≡ []
-    nothing (inl room) held = held ∙ nil_from_length (drop count old.held) (omega (arith, front.least, length-drop count old.held))
-    nothing (inr none) held = absurd (omega arith)
 
 -- the slice after one asking
 pub front-grown : (a m : ℕ) (xs ys rest : List ℕ) → a ≤ length xs → m ≤ length ys → take (a + m) (take a xs ++ (ys ++ rest)) ≡ take a xs ++ take m ys

@@ -114,7 +114,3 @@ NextLine-given old mid new from to line answer g same given =
       answers = answers;
       reads = λ bytes lines so_far. reads old new from to g.got bytes line lines takes so_far answer answers;
     }
-
--- before the first call
-pub HasGiven-none : (t : Taking) → t.held ≡ [] → HasGiven [] [] t
-HasGiven-none t none = record { each = tt; split = inl (sym none) }

@@ -1,9 +1,8 @@
 -- What several askings take together.
-use Rattle.std.proofs.Common.{◌≡◌, ◌⊎◌, ℕ, ◌+◌, ◌-◌, ◌<◌, Bool, true, false, cond, IsTrue, List, [], ◌++◌, length, take, drop, Option, Some, None, Ok, refl, ap, sym, ◌∙◌, inl, inr, arith, length-append, subst}
+use Rattle.std.proofs.Common.{◌≡◌, ◌⊎◌, ℕ, ◌+◌, ◌-◌, ◌<◌, Bool, true, false, cond, IsTrue, List, [], ◌++◌, length, Option, Some, None, refl, ap, sym, ◌∙◌, inl, inr, arith, length-append, subst}
 use Rattle.std.proofs.lemmas.Bool.{false≢true}
-use Rattle.std.proofs.lemmas.List.{append_assoc, take_at, drop_at, length-take}
-use Rattle.std.proofs.lemmas.Option.{none-some, same_Some}
-use Rattle.envy_io.specs.Streams.{Feed, Fills, with_front}
+use Rattle.std.proofs.lemmas.List.{append_assoc}
+use Rattle.envy_io.specs.Streams.{Feed, with_front}
 use Rattle.envy_io.specs.Taking.{Taking, Wants, IsOpen}
 use Rattle.envy_io.specs.Asking.{Asks, Gathers}
 
@@ -50,16 +49,3 @@ pub askings-fewer : (old new : Taking) (from to : Feed) (piece : List ℕ) → W
 unfolding askings
 askings-fewer old new from to piece wants asks =
     fewer old.cap new.cap old.taken new.taken (length piece) old.ended new.ended wants.going wants.below asks.cap asks.taken asks.goes
-
--- what a source gives that tells its bytes
-pub with_front-told : (bytes got : List ℕ) (left : Option (List ℕ)) → Some bytes ≡ with_front got left → (take (length got) bytes ≡ got) × (left ≡ Some (drop (length got) bytes))
-with_front-told bytes got None is = absurd (none-some bytes (sym is))
-with_front-told bytes got (Some rest) is =
-    let split : bytes ≡ got ++ rest = same_Some bytes (got ++ rest) is in
-    (ap (take (length got)) split ∙ take_at got rest (length got) refl, ap Some (sym (ap (drop (length got)) split ∙ drop_at got rest (length got) refl)))
-
--- 0 comes also wherever nothing is left
-pub count-dry : (old new : Feed) (slice : List ℕ) (n : ℕ) → Fills old slice (Ok n) new → old.left ≡ Some [] → n ≡ 0
-count-dry old new slice n (fits, left, dry, faults) is =
-    let front : take (length (take n slice)) [] ≡ take n slice = (with_front-told [] (take n slice) new.left (sym is ∙ left)).0 in
-    omega (arith, length-take n slice, ap length front, length-take {A = ℕ} (length (take n slice)) [])
