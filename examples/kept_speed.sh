@@ -33,7 +33,7 @@ fi
 gcc -O2 -g -std=gnu11 -Wall -Wextra -o "$work/speed" file/kept_speed.c $with
 gcc -O2 -shared -fPIC -o "$work/calls.so" file/file_calls.c
 
-# transfers EVERY: how many are timed
+# transfers EVERY: how many are timed where syncs wait
 transfers() {
     case $1 in
     1) echo 300 ;;
@@ -43,12 +43,12 @@ transfers() {
     esac
 }
 
-# a_round FOLDER: microseconds for each transfer, of each engine with each number of transfers for a sync
+# a_round FOLDER [TRANSFERS]: microseconds for each transfer, of each engine with each number of transfers for a sync
 a_round() {
     for every in 1 10 100 1000; do
         for engine in $engines; do
             rm -f "$1"/file*
-            echo "$engine $every $("$work/speed" "$engine" "$1/file" "$(transfers "$every")" "$every" "$program")"
+            echo "$engine $every $("$work/speed" "$engine" "$1/file" "${2-$(transfers "$every")}" "$every" "$program")"
         done
     done
     rm -f "$1"/file*
@@ -81,8 +81,9 @@ table() {
 for ((round = 0; round < rounds; round++)); do a_round "$work"; done >"$work/disk"
 table "Transfers a second, on the disk: the best of $rounds runs (the middle one)" "$work/disk"
 echo
-for ((round = 0; round < rounds; round++)); do a_round "$memory"; done >"$work/memory"
-table "The same in $memory, where a sync waits for nothing" "$work/memory" | sed "s|$memory|${memory%/*}|"
+# as many transfers in each column, so that each has as many compactions, and as much cleaning
+for ((round = 0; round < rounds; round++)); do a_round "$memory" 50000; done >"$work/memory"
+table "The same in $memory, where a sync waits for nothing, 50,000 transfers each" "$work/memory" | sed "s|$memory|${memory%/*}|"
 echo
 for ((round = 0; round < 3; round++)); do
     FILE_CALLS_WAIT=1000 LD_PRELOAD=$work/calls.so a_round "$memory"
@@ -160,7 +161,7 @@ if command -v valgrind >/dev/null; then
         none=$(counted_instructions "$engine" 0 1)
         row="| \`$engine\` |"
         for every in 1 10 100 1000; do
-            row="$row $((($(counted_instructions "$engine" 2000 "$every") - none) / 2000)) |"
+            row="$row $((($(counted_instructions "$engine" 20000 "$every") - none) / 20000)) |"
         done
         echo "$row"
     done
