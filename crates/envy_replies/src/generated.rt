@@ -2,6 +2,8 @@
 //! a program that was written apart from this one, by the rules alone.
 
 use crate::images::image;
+use crate::rows::put_number;
+use crate::told::{holds, same};
 use std::alloc::{AllocError, Global};
 use std::process::Abort;
 use std::test::Fail;
@@ -19,7 +21,7 @@ struct Counted {
 }
 
 /// What the trace over the usual array counts.
-const OF_USUAL: [Counted; 4] = [
+const OF_USUAL: &[Counted] = &[
     Counted {
         policy: "--policy greedy",
         told: "stat hits 785 misses 12637 flushes 5106 copies 1534 moves 0 erases 408 swaps 0 cost 30\n",
@@ -39,7 +41,7 @@ const OF_USUAL: [Counted; 4] = [
 ];
 
 /// What the trace over the small array counts.
-const OF_SMALL: [Counted; 4] = [
+const OF_SMALL: &[Counted] = &[
     Counted {
         policy: "--policy greedy",
         told: "stat hits 1505 misses 11687 flushes 4855 copies 2298 moves 0 erases 893 swaps 7 cost 47\n",
@@ -67,6 +69,16 @@ pub(crate) fn written(
     image(rt, command, trace, b"")
 }
 
+/// Three words of a command, or more, with blanks between them.
+pub(crate) fn joined(
+    alloc: Global,
+    word: &str,
+    options: &str,
+    others: &str,
+) -> Result<String, AllocError> {
+    format!(in alloc; "{word} {options} {others}")
+}
+
 /// The trace, and a line behind it that asks for the counters.
 pub(crate) fn asking(alloc: Global, trace: &[u8]) -> Result<Vec<u8>, AllocError> {
     let mut lines = trace.to_vec(alloc)?;
@@ -82,16 +94,13 @@ fn check_counters(
     table: &[Counted],
 ) -> Result<(), Fail> {
     let alloc = rt.alloc();
-    let plain = written(rt, format!(in alloc; "plain {options}")?.as_str(), trace)?;
+    let plain = written(rt, &joined(alloc, "plain", options, "")?, trace)?;
     let lines = asking(alloc, trace)?;
     for row in table {
-        let command = format!(in alloc; "run {options} {}", row.policy)?;
-        let memory = written(rt, command.as_str(), &lines)?;
-        assert!(rt;
-            memory.strip_suffix(row.told.as_bytes()) == Some(plain.as_slice()),
-            "{}",
-            row.policy
-        );
+        let command = joined(alloc, "run", options, row.policy)?;
+        let memory = written(rt, &command, &lines)?;
+        let is_same = memory.strip_suffix(row.told.as_bytes()) == Some(plain.as_slice());
+        holds(rt, is_same, row.policy, "replies");
     }
     Ok(())
 }
@@ -99,37 +108,58 @@ fn check_counters(
 #[test]
 fn the_memory_writes_what_the_plain_machine_writes(rt: HostRuntime) -> Result<(), Fail> {
     let trace = written(&rt, "gen --start 7 --lines 20000", b"")?;
-    check_counters(&rt, "", &trace, &OF_USUAL)
+    check_counters(&rt, "", &trace, OF_USUAL)
 }
 
 #[test]
 fn a_small_array_swaps_its_segments(rt: HostRuntime) -> Result<(), Fail> {
     let trace = written(&rt, "gen --start 11 --lines 20000 --pages 26", b"")?;
-    check_counters(&rt, SMALL, &trace, &OF_SMALL)
+    check_counters(&rt, SMALL, &trace, OF_SMALL)
+}
+
+/// The line that plans a failure.
+pub(crate) fn put_plan(
+    alloc: Global,
+    out: &mut Vec<u8>,
+    word: &str,
+    k: u64,
+    g: u64,
+) -> Result<(), AllocError> {
+    out.extend_from_slice(word.as_bytes())?;
+    put_number(alloc, out, k)?;
+    out.push(b' ')?;
+    put_number(alloc, out, g)?;
+    out.push(b'\n')?;
+    Ok(())
+}
+
+/// The failures before the line of this number.
+fn put_failures(alloc: Global, out: &mut Vec<u8>, number: u64) -> Result<(), AllocError> {
+    if number % 50 == 0 {
+        put_plan(alloc, out, "cut ", 1 + number.wrapping_mul(7) % 97, number)?;
+    }
+    if number % 333 == 0 {
+        put_plan(alloc, out, "bad ", 1 + number % 5, number)?;
+    }
+    if number % 1999 == 0 {
+        out.extend_from_slice(b"power\n")?;
+    }
+    Ok(())
 }
 
 /// The trace with failures before its lines: a cut before each fiftieth, a bad operation before each 333rd, and power
 /// that fails before each 1,999th; at its end the counters are asked for.
 fn with_failures(alloc: Global, trace: &[u8]) -> Result<Vec<u8>, AllocError> {
     let mut failing = Vec::new(alloc);
-    for (i, line) in trace.split(|byte| *byte == b'\n').enumerate() {
-        let number = i as u64 % 20000 + 1;
-        if line.is_empty() {
-            continue;
+    let mut number = 1_u64;
+    let mut is_begun = false;
+    for byte in trace {
+        if !is_begun {
+            put_failures(alloc, &mut failing, number)?;
+            number = number.wrapping_add(1);
         }
-        if number % 50 == 0 {
-            let plan = format!(in alloc; "cut {} {number}\n", 1 + 7 * number % 97)?;
-            failing.extend_from_slice(plan.as_bytes())?;
-        }
-        if number % 333 == 0 {
-            let plan = format!(in alloc; "bad {} {number}\n", 1 + number % 5)?;
-            failing.extend_from_slice(plan.as_bytes())?;
-        }
-        if number % 1999 == 0 {
-            failing.extend_from_slice(b"power\n")?;
-        }
-        failing.extend_from_slice(line)?;
-        failing.push(b'\n')?;
+        failing.push(*byte)?;
+        is_begun = *byte != b'\n';
     }
     failing.extend_from_slice(b"stat\n")?;
     Ok(failing)
@@ -137,14 +167,17 @@ fn with_failures(alloc: Global, trace: &[u8]) -> Result<Vec<u8>, AllocError> {
 
 /// How many of the replies are this one.
 fn count_of(replies: &[u8], reply: &[u8]) -> usize {
-    replies
-        .split(|byte| *byte == b'\n')
-        .filter(|line| *line == reply)
-        .count()
+    let mut count = 0_usize;
+    for line in replies.split(|byte| *byte == b'\n') {
+        if line == reply {
+            count = count.saturating_add(1);
+        }
+    }
+    count
 }
 
 /// For each policy: how many replies say `fault`, and the counters.
-const OF_FAILURES: [(&str, usize, &str); 4] = [
+const OF_FAILURES: &[(&str, usize, &str)] = &[
     (
         "greedy",
         60,
@@ -172,15 +205,12 @@ fn failures_leave_the_counters_that_the_rules_give(rt: HostRuntime) -> Result<()
     let alloc = rt.alloc();
     let calm = written(&rt, "gen --start 13 --lines 20000 --pages 26", b"")?;
     let trace = with_failures(alloc, &calm)?;
-    for (policy, faults, told) in OF_FAILURES.as_slice() {
-        let command = format!(in alloc; "run {SMALL} --policy {policy}")?;
-        let memory = written(&rt, command.as_str(), &trace)?;
-        assert!(rt; memory.ends_with(told.as_bytes()), "{policy}");
-        assert_eq!(rt;
-            (count_of(&memory, b"lost"), count_of(&memory, b"fault")),
-            (400, *faults),
-            "{policy}"
-        );
+    for (policy, faults, told) in OF_FAILURES {
+        let policy = joined(alloc, SMALL, "--policy", policy)?;
+        let memory = written(&rt, &joined(alloc, "run", &policy, "")?, &trace)?;
+        holds(&rt, memory.ends_with(told.as_bytes()), &policy, "counters");
+        same(&rt, &count_of(&memory, b"lost"), &400, &policy, "lost");
+        same(&rt, &count_of(&memory, b"fault"), faults, &policy, "fault");
     }
     Ok(())
 }

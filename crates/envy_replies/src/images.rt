@@ -1,8 +1,10 @@
 //! Images whose board or sink fails.
 
+use crate::boards::first_of;
 use crate::planned::Plan;
 use crate::playing::{Given, calm, play, play_planned};
-use crate::rows::{Ends, check_played};
+use crate::rows::{Ends, check_played, check_run};
+use crate::told::same;
 use std::alloc::Global;
 use std::process::Abort;
 use std::test::Fail;
@@ -14,15 +16,10 @@ pub(crate) fn image(
     trace: &[u8],
     behind: &[u8],
 ) -> Result<Vec<u8>, Fail> {
-    let played = play(rt.alloc(), &calm(command, trace))?;
-    assert_eq!(rt;
-        (played.ended.status, played.ended.why),
-        (0, 0),
-        "{command}"
-    );
-    let mut bytes = played.sink.written().to_vec(rt.alloc())?;
-    bytes.extend_from_slice(behind)?;
-    Ok(bytes)
+    let mut told = play(rt.alloc(), &calm(command, trace))?;
+    same(rt, &(told.status, told.why), &(0, 0), command, "status");
+    told.written.extend_from_slice(behind)?;
+    Ok(told.written)
 }
 
 /// A failure that is planned, and what becomes of the image.
@@ -138,45 +135,39 @@ fn a_board_may_fail_under_an_image(rt: HostRuntime) -> Result<(), Fail> {
     let bytes = image(&rt, "save", b"store 5 1\nbegin\nput 0 5 2\n", behind)?;
     for row in PLANNED {
         let given = calm(row.command, &bytes);
-        let played = play_planned(rt.alloc(), &given, [row.plan, Plan::Nothing])?;
+        let told = play_planned(rt.alloc(), &given, [row.plan, Plan::Nothing])?;
         let replies = row.replies.as_bytes();
-        check_played(&rt, row.name, &given, &played, row.ends, replies);
-        let Some(board) = &played.ended.board else {
-            return Err(Fail::new("no board"));
-        };
-        assert_eq!(rt; board.inner.cuts(), row.cuts, "{}: cuts", row.name);
+        check_played(&rt, row.name, &given, &told, row.ends, replies);
+        same(&rt, &first_of(&told).cuts, &row.cuts, row.name, "cuts");
     }
     Ok(())
 }
 
+const NONE: &str = "envy: write fault after 0 lines";
+
+const ONE: &str = "envy: write fault after 1 lines";
+
+const TWO: &str = "envy: write fault after 2 lines";
+
+/// A command, the call of the sink that fails, and how the run ends then: its lines, its text and the replies.
+const FAILING: &[(&str, u64, u64, &str, &str)] = &[
+    ("audit", 1, 0, NONE, ""),
+    ("audit", 2, 0, NONE, "sound\n"),
+    ("resume", 1, 1, ONE, ""),
+    ("resume", 2, 2, TWO, "1\n"),
+    ("resume", 3, 2, TWO, "1\ntx 0\n"),
+];
+
 #[test]
 fn a_sink_may_fail_behind_an_image(rt: HostRuntime) -> Result<(), Fail> {
     let bytes = image(&rt, "save", b"store 5 1\n", b"load 5\nbegin\n")?;
-    let none = "envy: write fault after 0 lines";
-    let two = "envy: write fault after 2 lines";
-    for (command, call, lines, text, replies) in [
-        ("audit", 1, 0, none, ""),
-        ("audit", 2, 0, none, "sound\n"),
-        ("resume", 1, 1, "envy: write fault after 1 lines", ""),
-        ("resume", 2, 2, two, "1\n"),
-        ("resume", 3, 2, two, "1\ntx 0\n"),
-    ]
-    .as_slice()
-    {
+    for (command, call, lines, text, replies) in FAILING {
         let given = Given {
             sink_fails: *call,
             ..calm(command, &bytes)
         };
-        let played = play(rt.alloc(), &given)?;
         let ends = Ends::Stops(4, 0, *lines, text);
-        check_played(
-            &rt,
-            "a failing sink",
-            &given,
-            &played,
-            ends,
-            replies.as_bytes(),
-        );
+        check_run(&rt, "a failing sink", &given, ends, replies.as_bytes())?;
     }
     Ok(())
 }

@@ -1,7 +1,9 @@
 //! Traces of an index.
 
+use crate::generated::put_plan;
 use crate::playing::{calm, play};
-use crate::rows::{Ends, Piece, Row, check_rows};
+use crate::rows::{Ends, Piece, Row, check_rows, put_number};
+use crate::told::{holds, same};
 use Piece::{Each, Says};
 use rand_core::{Rng, SeedableRng};
 use rand_pcg::Lcg64Xsh32;
@@ -103,24 +105,37 @@ fn pairs_go_in_and_out(rt: HostRuntime) -> Result<(), Fail> {
 /// How many operations the index and a map of the library are given.
 const OPERATIONS: u64 = 2000;
 
+/// The lines of one operation, and a look at its key.
+fn put_operation(
+    alloc: Global,
+    out: &mut Vec<u8>,
+    draw: u32,
+    value: u64,
+) -> Result<(), AllocError> {
+    let key = u64::from(draw / 4 % 512);
+    if draw % 4 == 0 {
+        out.extend_from_slice(b"remove ")?;
+        put_number(alloc, out, key)?;
+        out.push(b'\n')?;
+    } else {
+        put_plan(alloc, out, "insert ", key, value)?;
+    }
+    out.extend_from_slice(b"get ")?;
+    put_number(alloc, out, key)?;
+    out.push(b'\n')?;
+    Ok(())
+}
+
 /// The trace of these operations, each followed by a look at its key. A failure of power is planned before
 /// every 50th.
 pub(crate) fn operations(alloc: Global) -> Result<Vec<u8>, AllocError> {
     let mut generator = Lcg64Xsh32::seed_from_u64(3);
     let mut trace = Vec::new(alloc);
     for i in 0..OPERATIONS {
-        let draw = generator.next_u32();
-        let key = draw / 4 % 512;
         if i % 50 == 0 {
-            let line = format!(in alloc; "cut {} {i}\n", 1 + i % 37)?;
-            trace.extend_from_slice(line.as_bytes())?;
+            put_plan(alloc, &mut trace, "cut ", 1 + i % 37, i)?;
         }
-        let line = if draw % 4 == 0 {
-            format!(in alloc; "remove {key}\nget {key}\n")?
-        } else {
-            format!(in alloc; "insert {key} {i}\nget {key}\n")?
-        };
-        trace.extend_from_slice(line.as_bytes())?;
+        put_operation(alloc, &mut trace, generator.next_u32(), i)?;
     }
     Ok(trace)
 }
@@ -133,11 +148,14 @@ fn next_line(replies: &[u8]) -> (&[u8], &[u8]) {
     }
 }
 
-fn spelled(alloc: Global, value: Option<u64>) -> Result<String, AllocError> {
+/// Whether a reply spells the value.
+fn is_spelled(alloc: Global, reply: &[u8], value: Option<u64>) -> Result<bool, AllocError> {
+    let mut spelled = Vec::new(alloc);
     match value {
-        Some(value) => format!(in alloc; "{value}"),
-        None => String::from_str(alloc, "none"),
+        Some(value) => put_number(alloc, &mut spelled, value)?,
+        None => spelled.extend_from_slice(b"none")?,
     }
+    Ok(spelled.as_slice() == reply)
 }
 
 /// The replies to one operation and to the look behind it are those of the map. An operation that is lost is done or
@@ -152,24 +170,24 @@ fn agrees<'a>(
     let key = u64::from(draw / 4 % 512);
     let after = if draw % 4 == 0 { None } else { Some(value) };
     let before = map.get(&key).copied();
-    let old = spelled(rt.alloc(), before)?;
-    let new = spelled(rt.alloc(), after)?;
     let (reply, others) = next_line(replies);
-    if reply == b"lost".as_slice() {
-        let (back, others) = next_line(others);
-        assert!(rt; back == b"restarted".as_slice());
+    if reply != b"lost".as_slice() {
+        let is_old = is_spelled(rt.alloc(), reply, before)?;
+        holds(rt, is_old, "index", "reply");
         let (found, others) = next_line(others);
-        if found == old.as_bytes() {
-            return Ok(others);
-        }
-        assert!(rt; found == new.as_bytes());
+        let is_new = is_spelled(rt.alloc(), found, after)?;
+        holds(rt, is_new, "index", "look");
         change(map, key, after)?;
         return Ok(others);
     }
-    assert!(rt; reply == old.as_bytes());
+    let (back, others) = next_line(others);
+    holds(rt, back == b"restarted".as_slice(), "index", "restarted");
     let (found, others) = next_line(others);
-    assert!(rt; found == new.as_bytes());
-    change(map, key, after)?;
+    if !is_spelled(rt.alloc(), found, before)? {
+        let is_new = is_spelled(rt.alloc(), found, after)?;
+        holds(rt, is_new, "index", "a lost operation");
+        change(map, key, after)?;
+    }
     Ok(others)
 }
 
@@ -188,20 +206,25 @@ fn change(map: &mut BTreeMap<u64, u64>, key: u64, value: Option<u64>) -> Result<
 #[test]
 fn the_index_agrees_with_a_map(rt: HostRuntime) -> Result<(), Fail> {
     let trace = operations(rt.alloc())?;
-    let played = play(rt.alloc(), &calm("index", &trace))?;
-    assert_eq!(rt; (played.ended.status, played.ended.why), (0, 0));
+    let told = play(rt.alloc(), &calm("index", &trace))?;
+    same(&rt, &(told.status, told.why), &(0, 0), "index", "status");
+    check_replies(&rt, &told.written)
+}
+
+/// The replies are those of a map of the library.
+fn check_replies(rt: &(impl Abort + Alloc<A = Global>), replies: &[u8]) -> Result<(), Fail> {
     let mut generator = Lcg64Xsh32::seed_from_u64(3);
     let mut map = BTreeMap::new(rt.alloc());
-    let mut rest = played.sink.written();
+    let mut rest = replies;
     for i in 0..OPERATIONS {
         let draw = generator.next_u32();
         if i % 50 == 0 {
             let (reply, others) = next_line(rest);
-            assert!(rt; reply == b"armed".as_slice());
+            holds(rt, reply == b"armed".as_slice(), "index", "armed");
             rest = others;
         }
-        rest = agrees(&rt, &mut map, draw, i, rest)?;
+        rest = agrees(rt, &mut map, draw, i, rest)?;
     }
-    assert!(rt; rest.is_empty());
+    holds(rt, rest.is_empty(), "index", "replies behind the last");
     Ok(())
 }

@@ -27,6 +27,8 @@ mod streams;
 #[cfg(test)]
 mod texts;
 #[cfg(test)]
+mod told;
+#[cfg(test)]
 mod tpca;
 #[cfg(test)]
 mod transactions;

@@ -1,7 +1,8 @@
 //! Loads and stores, failures of power, and lines that are refused.
 
 use crate::playing::{calm, play};
-use crate::rows::{BOTH, Ends, Piece, RUN, Row, check_played, check_rows, peek};
+use crate::rows::{BOTH, Ends, Piece, RUN, Row, check_played, check_rows};
+use crate::told::same;
 use Piece::Says;
 use std::test::Fail;
 
@@ -136,7 +137,7 @@ fn refused_lines_are_named(rt: HostRuntime) -> Result<(), Fail> {
 }
 
 /// The SRAM word of the first place, on the usual board.
-const TABLE: u32 = 95;
+const TABLE: usize = 95;
 
 /// The SRAM word with which the frames begin.
 const FRAMES: u64 = 303;
@@ -144,17 +145,13 @@ const FRAMES: u64 = 303;
 #[test]
 fn power_that_does_not_return_ends_the_run(rt: HostRuntime) -> Result<(), Fail> {
     let given = calm("run --lives 0", b"store 5 1\npower\n");
-    let played = play(rt.alloc(), &given)?;
+    let told = play(rt.alloc(), &given)?;
     let ends = Ends::Stops(6, 0, 2, "envy: power did not return after 2 lines");
-    check_played(&rt, "no lives", &given, &played, ends, b"ok\n");
-    let Some(board) = &played.ended.board else {
-        return Err(Fail::new("no board"));
-    };
+    check_played(&rt, "no lives", &given, &told, ends, b"ok\n");
     // page 0 stands in a frame, whose sixth word was stored
-    let place = peek(&rt, board, TABLE) % (1 << 32);
-    assert_eq!(rt; place % 4, 2);
+    let place = told.word(TABLE).unwrap_or(0) % (1 << 32);
+    same(&rt, &(place % 4), &2, "no lives", "place");
     let word = FRAMES + 32 * (place / 4) + 5;
-    assert!(&rt; word < 1 << 32);
-    assert_eq!(rt; peek(&rt, board, word as u32), 1);
+    same(&rt, &told.word(word as usize), &Some(1), "no lives", "word");
     Ok(())
 }

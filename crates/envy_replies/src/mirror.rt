@@ -1,8 +1,9 @@
 //! Traces over a mirrored pair of boards.
 
-use crate::planned::{Plan, PlannedBoard};
-use crate::playing::{Played, calm, play_planned};
+use crate::planned::Plan;
+use crate::playing::{Seen, calm, play_planned};
 use crate::rows::{Ends, Piece, Row, check_played, check_rows};
+use crate::told::same;
 use Piece::{Each, Says};
 use std::process::Abort;
 use std::test::Fail;
@@ -289,31 +290,24 @@ const PLANNED: &[Planned] = &[
     },
 ];
 
-fn check_failures(
-    rt: &impl Abort,
-    name: &str,
-    played: &Played<PlannedBoard>,
-    wanted: Failures,
-) -> Result<(), Fail> {
-    let (Some(one), Some(two)) = (&played.ended.board, &played.ended.second) else {
-        return Err(Fail::new("no two boards"));
+fn check_failures(rt: &impl Abort, name: &str, found: Option<Seen>, wanted: (u64, u64)) {
+    let found = match found {
+        Some(seen) => Some((seen.cuts, seen.bads)),
+        None => None,
     };
-    let found = [
-        (one.inner.cuts(), one.inner.bads()),
-        (two.inner.cuts(), two.inner.bads()),
-    ];
-    assert_eq!(rt; found, wanted, "{name}: failures");
-    Ok(())
+    same(rt, &found, &Some(wanted), name, "failures");
 }
 
 #[test]
 fn either_board_may_fail_in_formatting(rt: HostRuntime) -> Result<(), Fail> {
     for row in PLANNED {
         let given = calm(row.command, TRACE);
-        let played = play_planned(rt.alloc(), &given, row.plans)?;
+        let told = play_planned(rt.alloc(), &given, row.plans)?;
         let replies = row.replies.as_bytes();
-        check_played(&rt, row.name, &given, &played, row.ends, replies);
-        check_failures(&rt, row.name, &played, row.failures)?;
+        check_played(&rt, row.name, &given, &told, row.ends, replies);
+        let [first, second] = row.failures;
+        check_failures(&rt, row.name, told.first, first);
+        check_failures(&rt, row.name, told.second, second);
     }
     Ok(())
 }

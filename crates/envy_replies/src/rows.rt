@@ -1,6 +1,7 @@
 //! Tables of traces with what is replied to them.
 
-use crate::playing::{Given, Played, calm, play};
+use crate::playing::{Given, Told, calm, play};
+use crate::told::{holds, same};
 use envy_base::Board;
 use envy_bench::MemBoard;
 use envy_map::words;
@@ -45,20 +46,64 @@ pub(crate) const RUN: &[&str] = &["run"];
 /// A memory, and the plain machine.
 pub(crate) const BOTH: &[&str] = &["run", "plain"];
 
+/// The number in digits.
+pub(crate) fn put_number(alloc: Global, out: &mut Vec<u8>, number: u64) -> Result<(), AllocError> {
+    let digits = format!(in alloc; "{number}")?;
+    out.extend_from_slice(digits.as_bytes())
+}
+
 /// The text with the number for each `#`, and the address of its page for each `@`.
 fn put_filled(alloc: Global, out: &mut Vec<u8>, text: &str, number: u32) -> Result<(), AllocError> {
     for byte in text.as_bytes() {
-        let put = match *byte {
-            b'#' => format!(in alloc; "{number}")?,
-            b'@' => format!(in alloc; "{}", 32 * (number % 64))?,
-            _ => {
-                out.push(*byte)?;
-                continue;
-            }
-        };
-        out.extend_from_slice(put.as_bytes())?;
+        match *byte {
+            b'#' => put_number(alloc, out, u64::from(number))?,
+            b'@' => put_number(alloc, out, u64::from(32 * (number % 64)))?,
+            _ => out.push(*byte)?,
+        }
     }
     Ok(())
+}
+
+/// The text for each of so many numbers from the first on.
+fn put_each(
+    alloc: Global,
+    out: &mut Vec<u8>,
+    first: u32,
+    count: u32,
+    text: &str,
+) -> Result<(), AllocError> {
+    for number in first..first.saturating_add(count) {
+        put_filled(alloc, out, text, number)?;
+    }
+    Ok(())
+}
+
+/// The lines of a piece, or what is replied to them.
+fn put_piece(
+    alloc: Global,
+    out: &mut Vec<u8>,
+    piece: Piece,
+    is_reply: bool,
+) -> Result<(), AllocError> {
+    match piece {
+        Piece::Says(lines, said) => {
+            let text = if is_reply { said } else { lines };
+            out.extend_from_slice(text.as_bytes())
+        }
+        Piece::Each(first, count, lines, said) => {
+            let text = if is_reply { said } else { lines };
+            put_each(alloc, out, first, count, text)
+        }
+    }
+}
+
+/// The lines of a trace, or what is replied to them.
+fn text_of(alloc: Global, script: &[Piece], is_reply: bool) -> Result<Vec<u8>, AllocError> {
+    let mut out = Vec::new(alloc);
+    for piece in script {
+        put_piece(alloc, &mut out, *piece, is_reply)?;
+    }
+    Ok(out)
 }
 
 /// A trace, and what is replied to it.
@@ -66,32 +111,23 @@ pub(crate) fn written_out(
     alloc: Global,
     script: &[Piece],
 ) -> Result<(Vec<u8>, Vec<u8>), AllocError> {
-    let mut trace = Vec::new(alloc);
-    let mut replies = Vec::new(alloc);
-    for piece in script {
-        match *piece {
-            Piece::Says(lines, said) => {
-                trace.extend_from_slice(lines.as_bytes())?;
-                replies.extend_from_slice(said.as_bytes())?;
-            }
-            Piece::Each(first, count, lines, said) => {
-                for number in first..first.saturating_add(count) {
-                    put_filled(alloc, &mut trace, lines, number)?;
-                    put_filled(alloc, &mut replies, said, number)?;
-                }
-            }
-        }
-    }
-    Ok((trace, replies))
+    let trace = text_of(alloc, script, false)?;
+    Ok((trace, text_of(alloc, script, true)?))
 }
 
 /// How many lines there are, the last of which needs no newline.
 pub(crate) fn count_lines(trace: &[u8]) -> u64 {
-    let ended = trace.iter().filter(|byte| **byte == b'\n').count() as u64;
-    match trace.last() {
-        None | Some(b'\n') => ended,
-        Some(_) => ended.saturating_add(1),
+    let mut ended = 0_u64;
+    let mut open = 0;
+    for byte in trace {
+        if *byte == b'\n' {
+            ended = ended.saturating_add(1);
+            open = 0;
+        } else {
+            open = 1;
+        }
     }
+    ended.saturating_add(open)
 }
 
 /// How many boards a command that isn't refused gives back.
@@ -105,55 +141,72 @@ fn count_boards(command: &str) -> u8 {
     }
 }
 
-/// The run ended so.
-pub(crate) fn check_end<B>(
-    rt: &impl Abort,
-    name: &str,
-    given: &Given<'_>,
-    played: &Played<B>,
-    ends: Ends,
-) {
-    let ended = &played.ended;
-    let told = (ended.status, ended.why, ended.lines);
-    let (wanted, text) = match ends {
-        Ends::Done => ((0, 0, count_lines(given.trace)), ""),
-        Ends::Unread => ((0, 0, 0), ""),
-        Ends::Stops(status, why, lines, text) => ((status, why, lines), text),
-    };
-    assert_eq!(rt; told, wanted, "{name}: {}", given.command);
-    assert!(rt; played.text.as_slice() == text.as_bytes(), "{name}: text");
-    if let Ends::Done = ends {
-        assert_eq!(rt; ended.taken, given.trace.len() as u64, "{name}: taken");
+/// The status, its second number and the lines done of a run that ends so, and its text.
+fn wanted_of(trace: &[u8], ends: Ends) -> ([u64; 3], &'static str) {
+    match ends {
+        Ends::Done => ([0, 0, count_lines(trace)], ""),
+        Ends::Unread => ([0, 0, 0], ""),
+        Ends::Stops(status, why, lines, text) => {
+            ([u64::from(status), u64::from(why), lines], text)
+        }
     }
-    let is_unread = matches!(&ends, Ends::Unread) || ended.status == 2;
-    assert!(rt; !is_unread || ended.taken == 0, "{name}: taken");
-    let boards = if ended.status == 2 {
+}
+
+/// Whether as much of the trace was taken as a run takes that ends so.
+fn is_taken(trace: &[u8], status: u8, taken: u64, ends: Ends) -> bool {
+    if let Ends::Done = ends {
+        return taken == trace.len() as u64;
+    }
+    let is_unread = matches!(&ends, Ends::Unread) || status == 2;
+    !is_unread || taken == 0
+}
+
+/// How many boards such a run gives back.
+fn boards_of(command: &str, status: u8) -> u8 {
+    if status == 2 {
         0
     } else {
-        count_boards(given.command)
-    };
-    assert_eq!(rt;
-        (ended.board.is_some(), ended.second.is_some()),
-        (0 < boards, 1 < boards),
-        "{name}: boards"
-    );
+        count_boards(command)
+    }
+}
+
+/// The run ended so.
+fn check_end(rt: &impl Abort, name: &str, given: &Given<'_>, told: &Told, ends: Ends) {
+    let found = [u64::from(told.status), u64::from(told.why), told.lines];
+    let (wanted, text) = wanted_of(given.trace, ends);
+    same(rt, &found, &wanted, name, given.command);
+    holds(rt, told.is_text(text), name, "text");
+    let is_taken = is_taken(given.trace, told.status, told.taken, ends);
+    holds(rt, is_taken, name, "taken");
+    let boards = boards_of(given.command, told.status);
+    holds(rt, told.first.is_some() == (0 < boards), name, "boards");
+    holds(rt, told.second.is_some() == (1 < boards), name, "boards");
 }
 
 /// The run ended so, and wrote this.
-pub(crate) fn check_played<B>(
+pub(crate) fn check_played(
     rt: &impl Abort,
     name: &str,
     given: &Given<'_>,
-    played: &Played<B>,
+    told: &Told,
     ends: Ends,
     replies: &[u8],
 ) {
-    check_end(rt, name, given, played, ends);
-    assert!(rt;
-        played.sink.written() == replies,
-        "{name}: replies to {}",
-        given.command
-    );
+    check_end(rt, name, given, told, ends);
+    holds(rt, told.written.as_slice() == replies, name, given.command);
+}
+
+/// Such a run over boards in memory ends so, and writes this.
+pub(crate) fn check_run(
+    rt: &(impl Abort + Alloc<A = Global>),
+    name: &str,
+    given: &Given<'_>,
+    ends: Ends,
+    replies: &[u8],
+) -> Result<(), AllocError> {
+    let told = play(rt.alloc(), given)?;
+    check_played(rt, name, given, &told, ends, replies);
+    Ok(())
 }
 
 /// Each row is replied to as it says.
@@ -161,9 +214,7 @@ pub(crate) fn check_rows(rt: &(impl Abort + Alloc<A = Global>), rows: &[Row]) ->
     for row in rows {
         let (trace, replies) = written_out(rt.alloc(), row.script)?;
         for command in row.commands {
-            let given = calm(command, &trace);
-            let played = play(rt.alloc(), &given)?;
-            check_played(rt, row.name, &given, &played, row.ends, &replies);
+            check_run(rt, row.name, &calm(command, &trace), row.ends, &replies)?;
         }
     }
     Ok(())

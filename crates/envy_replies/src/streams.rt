@@ -1,9 +1,8 @@
 //! Sources that give few bytes at a time, streams that fail, and traces that stop anywhere.
 
-use crate::playing::{Given, calm, play};
-use crate::rows::{BOTH, Ends, check_played, peek};
-use envy_base::Board;
-use envy_bench::MemBoard;
+use crate::playing::{Given, Told, calm, play};
+use crate::rows::{BOTH, Ends, check_played};
+use crate::told::{holds, same};
 use std::alloc::Global;
 use std::process::Abort;
 use std::test::Fail;
@@ -72,13 +71,16 @@ fn check_held(
 ) -> Result<(), Fail> {
     for command in BOTH {
         let given = Given { command, ..*given };
-        let played = play(rt.alloc(), &given)?;
+        let told = play(rt.alloc(), &given)?;
         let replies = held_replies(lines).as_bytes();
-        check_played(rt, name, &given, &played, ends, replies);
-        assert_eq!(rt; played.ended.taken, taken, "{name}: taken");
+        check_played(rt, name, &given, &told, ends, replies);
+        same(rt, &told.taken, &taken, name, "taken");
     }
     Ok(())
 }
+
+/// The call of the source that fails, and how many lines are whole in the bytes of the fills before.
+const FAILING_FILLS: &[(u64, u64)] = &[(1, 0), (2, 1), (3, 2), (4, 3), (5, 4), (6, 4)];
 
 #[test]
 fn a_stream_that_fails_ends_the_run(rt: HostRuntime) -> Result<(), Fail> {
@@ -98,27 +100,20 @@ fn a_stream_that_fails_ends_the_run(rt: HostRuntime) -> Result<(), Fail> {
         let ends = Ends::Stops(4, 0, lines, write_fault(lines));
         check_held(&rt, "a write that fails", &given, ends, 53, call - 1)?;
     }
-    // how many lines are whole in the bytes of the fills before
-    for (call, lines) in [(1_u64, 0), (2, 1), (3, 2), (4, 3), (5, 4), (6, 4)].as_slice() {
+    for (call, lines) in FAILING_FILLS {
         let given = Given {
             source_fails: *call,
             ..pieces
         };
         let ends = Ends::Stops(3, 0, *lines, read_fault(*lines));
-        check_held(
-            &rt,
-            "a fill that fails",
-            &given,
-            ends,
-            8 * (call - 1),
-            *lines,
-        )?;
+        let taken = call.wrapping_sub(1).wrapping_mul(8);
+        check_held(&rt, "a fill that fails", &given, ends, taken, *lines)?;
     }
     Ok(())
 }
 
 /// For so many bytes, from the first to the last: the status and its second number, and the lines done.
-const CUT_SHORT: [(usize, usize, u8, u8, u64); 17] = [
+const CUT_SHORT: &[(usize, usize, u8, u8, u64)] = &[
     (0, 0, 0, 0, 0),
     (1, 4, 5, 1, 0),
     (5, 6, 0, 0, 1),
@@ -140,34 +135,26 @@ const CUT_SHORT: [(usize, usize, u8, u8, u64); 17] = [
 
 #[test]
 fn a_trace_may_be_cut_short_anywhere(rt: HostRuntime) -> Result<(), Fail> {
-    for (first, last, status, why, lines) in CUT_SHORT.as_slice() {
+    for (first, last, status, why, lines) in CUT_SHORT {
         for count in *first..=*last {
-            let trace = HELD.get(..count).ok_or("too long")?;
+            let trace = HELD.get(..count).unwrap_or(b"");
             let ends = if *status == 0 {
                 Ends::Done
             } else {
                 Ends::Stops(*status, *why, *lines, refused(*why, *lines))
             };
-            check_held(
-                &rt,
-                "cut short",
-                &calm("", trace),
-                ends,
-                count as u64,
-                *lines,
-            )?;
+            let given = calm("", trace);
+            check_held(&rt, "cut short", &given, ends, count as u64, *lines)?;
         }
     }
     Ok(())
 }
 
-/// A frame of the board has these first words.
-fn has_frame(rt: &impl Abort, board: &MemBoard, one: u64, two: u64) -> bool {
-    let frames = board.shape().frames;
-    assert!(rt; frames < 100);
-    for frame in 0..frames {
+/// A frame of the usual board has these first words.
+fn has_frame(told: &Told, one: u64, two: u64) -> bool {
+    for frame in 0..8 {
         let at = 303 + 32 * frame;
-        if peek(rt, board, at) == one && peek(rt, board, at + 1) == two {
+        if told.word(at) == Some(one) && told.word(at + 1) == Some(two) {
             return true;
         }
     }
@@ -190,21 +177,18 @@ fn a_sink_that_fails_leaves_what_was_stored(rt: HostRuntime) -> Result<(), Fail>
         (second_fails, b"ok\n".as_slice()),
         (small, b"ok\no".as_slice()),
     ] {
-        let played = play(rt.alloc(), &given)?;
-        check_played(&rt, "a failing sink", &given, &played, ends, replies);
-        let Some(board) = &played.ended.board else {
-            return Err(Fail::new("no board"));
-        };
-        assert!(&rt; has_frame(&rt, board, 1, 2));
+        let told = play(rt.alloc(), &given)?;
+        check_played(&rt, "a failing sink", &given, &told, ends, replies);
+        holds(&rt, has_frame(&told, 1, 2), "a failing sink", "frame");
     }
     let given = Given {
         piece: 64,
         source_fails: 2,
         ..calm("run", b"load 0\n")
     };
-    let played = play(rt.alloc(), &given)?;
+    let told = play(rt.alloc(), &given)?;
     let ends = Ends::Stops(3, 0, 1, "envy: read fault after 1 lines");
-    check_played(&rt, "a failing source", &given, &played, ends, b"0\n");
-    assert_eq!(rt; played.ended.taken, 7);
+    check_played(&rt, "a failing source", &given, &told, ends, b"0\n");
+    same(&rt, &told.taken, &7, "a failing source", "taken");
     Ok(())
 }

@@ -1,10 +1,14 @@
 //! Loads of transfers, and their reports. Sums and counters were made with an independent program, from the rules of
 //! the load, the policies and the order of device operations.
 
+use crate::boards::{first_of, left_of};
 use crate::planned::Plan;
-use crate::playing::{Given, calm, play, play_planned};
-use crate::rows::{Ends, Piece, Row, check_played, check_rows, peek};
+use crate::playing::{Given, Told, calm, play, play_planned};
+use crate::rows::{Ends, Piece, Row, check_played, check_rows, check_run, put_number};
+use crate::told::{holds, same};
 use Piece::Says;
+use std::alloc::{AllocError, Global};
+use std::process::Abort;
 use std::test::Fail;
 
 /// The first six lines of the report on a thousand transfers.
@@ -12,7 +16,7 @@ pub(crate) const SUMS: &str =
     "transfers 1000\nbranches -37333876\ntellers -37333876\naccounts -37333876\nhistory -37333876\ndeltas -37333876\n";
 
 /// The lines of the report on no transfers.
-const NONE: [&str; 8] = [
+const NONE: &[&str] = &[
     "transfers 0\n",
     "branches 0\n",
     "tellers 0\n",
@@ -26,9 +30,6 @@ const NONE: [&str; 8] = [
 /// The counters of a thousand transfers under `lifetime`, where power fails before each seventh.
 const FORGETFUL: &str =
     "stat hits 9914 misses 1711 flushes 2996 copies 1954 moves 0 erases 149 swaps 0 cost 65\n";
-
-/// The policies' names.
-const POLICIES: [&str; 5] = ["greedy", "fifo", "locality", "hybrid", "lifetime"];
 
 const REPORTS: &[Row] = &[
     Row {
@@ -141,57 +142,85 @@ fn transfers_are_reported(rt: HostRuntime) -> Result<(), Fail> {
     check_rows(&rt, REPORTS)
 }
 
+/// The report on a thousand transfers up to the first words behind the cuts.
+fn report_of(alloc: Global, cuts: u64, behind: &str) -> Result<Vec<u8>, AllocError> {
+    let mut report = SUMS.as_bytes().to_vec(alloc)?;
+    report.extend_from_slice(b"cuts ")?;
+    put_number(alloc, &mut report, cuts)?;
+    report.push(b'\n')?;
+    report.extend_from_slice(behind.as_bytes())?;
+    Ok(report)
+}
+
+/// How often power failed in a run that did all; 0 where it gives no board.
+fn cuts_of_done(rt: &impl Abort, name: &str, told: &Told) -> u64 {
+    same(rt, &told.status, &0, name, "status");
+    match told.first {
+        Some(seen) => seen.cuts,
+        None => 0,
+    }
+}
+
 // What lives are noted is forgotten at each restart. How often power fails is read off the board.
 #[test]
 fn lives_are_forgotten_where_power_fails(rt: HostRuntime) -> Result<(), Fail> {
-    let alloc = rt.alloc();
-    let played = play(alloc, &calm("tpca --policy lifetime --every 7", b""))?;
-    assert_eq!(rt; played.ended.status, 0);
-    let Some(board) = &played.ended.board else {
-        return Err(Fail::new("no board"));
-    };
-    let report = format!(in alloc; "{SUMS}cuts {}\n{FORGETFUL}", board.cuts())?;
-    assert!(rt; played.sink.written() == report.as_bytes());
+    let command = "tpca --policy lifetime --every 7";
+    let told = play(rt.alloc(), &calm(command, b""))?;
+    let cuts = cuts_of_done(&rt, command, &told);
+    holds(&rt, cuts > 0, command, "cuts");
+    let report = report_of(rt.alloc(), cuts, FORGETFUL)?;
+    let is_told = told.written.as_slice() == report.as_slice();
+    holds(&rt, is_told, command, "report");
     Ok(())
 }
 
+/// The loads under each policy whose power fails.
+const FAILING: &[&str] = &[
+    "tpca --every=7 --policy greedy",
+    "tpca --every=7 --policy fifo",
+    "tpca --every=7 --policy locality",
+    "tpca --every=7 --policy hybrid",
+    "tpca --every=7 --policy lifetime",
+];
+
 #[test]
 fn sums_stay_where_power_fails(rt: HostRuntime) -> Result<(), Fail> {
-    let alloc = rt.alloc();
-    for policy in POLICIES.as_slice() {
-        let command = format!(in alloc; "tpca --every=7 --policy {policy}")?;
-        let played = play(alloc, &calm(command.as_str(), b""))?;
-        assert_eq!(rt; played.ended.status, 0, "under {policy}");
-        let Some(board) = &played.ended.board else {
-            return Err(Fail::new("no board"));
-        };
+    for command in FAILING {
+        let told = play(rt.alloc(), &calm(command, b""))?;
+        let cuts = cuts_of_done(&rt, command, &told);
         // on this board power fails nowhere else, and it returned each time
-        assert!(rt; board.cuts() > 0, "under {policy}");
-        let front = format!(in alloc; "{SUMS}cuts {}\nstat hits ", board.cuts())?;
-        assert!(rt;
-            played.sink.written().starts_with(front.as_bytes()),
-            "under {policy}"
-        );
+        holds(&rt, cuts > 0, command, "cuts");
+        let front = report_of(rt.alloc(), cuts, "stat hits ")?;
+        let is_told = told.written.starts_with(&front);
+        holds(&rt, is_told, command, "report");
     }
     Ok(())
+}
+
+/// So many lines of the report on no transfers.
+fn front_of(alloc: Global, lines: u64) -> Result<Vec<u8>, AllocError> {
+    let mut front = Vec::new(alloc);
+    let mut left = lines;
+    for line in NONE {
+        if left > 0 {
+            front.extend_from_slice(line.as_bytes())?;
+            left = left.wrapping_sub(1);
+        }
+    }
+    Ok(front)
 }
 
 // The ninth call is the flush. A line and its newline are one write.
 #[test]
 fn each_write_of_a_report_may_fail(rt: HostRuntime) -> Result<(), Fail> {
-    let alloc = rt.alloc();
     let ends = Ends::Stops(4, 0, 0, "envy: write fault after 0 lines");
     for call in 1..10_u64 {
         let given = Given {
             sink_fails: call,
             ..calm("tpca --transfers 0", b"")
         };
-        let played = play(alloc, &given)?;
-        let mut front = Vec::new(alloc);
-        for line in NONE.iter().take(call as usize - 1) {
-            front.extend_from_slice(line.as_bytes())?;
-        }
-        check_played(&rt, "a failing write", &given, &played, ends, &front);
+        let front = front_of(rt.alloc(), call - 1)?;
+        check_run(&rt, "a failing write", &given, ends, &front)?;
     }
     Ok(())
 }
@@ -199,42 +228,41 @@ fn each_write_of_a_report_may_fail(rt: HostRuntime) -> Result<(), Fail> {
 /// The word that a formatted board begins with.
 const MARK: u64 = 0x654E_5679_464C_5348;
 
+/// The number of a bad operation, and the first word of SRAM then.
+const BAD_AT: &[(&str, u32, u64)] = &[
+    ("a bad operation at 1", 1, 0),
+    ("a bad operation at 100", 100, MARK),
+];
+
 // Formatting makes 16 operations of flash, so that the hundredth comes in the load.
 #[test]
 fn a_bad_operation_is_not_reported(rt: HostRuntime) -> Result<(), Fail> {
     let ends = Ends::Stops(7, 0, 0, "envy: bad flash operation");
-    for (k, mark) in [(1, 0), (100, MARK)].as_slice() {
+    for (name, k, mark) in BAD_AT {
         let given = calm("tpca", b"");
         let plans = [Plan::Bad(*k, 3), Plan::Nothing];
-        let played = play_planned(rt.alloc(), &given, plans)?;
-        check_played(&rt, "a bad operation", &given, &played, ends, b"");
-        let Some(board) = &played.ended.board else {
-            return Err(Fail::new("no board"));
-        };
-        assert_eq!(rt; board.inner.bads(), 1, "at {k}");
-        assert_eq!(rt; peek(&rt, &board.inner, 0), *mark, "at {k}");
+        let told = play_planned(rt.alloc(), &given, plans)?;
+        check_played(&rt, name, &given, &told, ends, b"");
+        same(&rt, &left_of(&told), &(Some(*mark), 1), name, "board");
     }
     Ok(())
 }
 
+/// A load, and the cut that was planned last.
+const CUTS: &[(&str, (u32, u64))] = &[
+    ("tpca --every 7 --transfers 1", (1, 0)),
+    ("tpca --every 7 --transfers 7", (1, 0)),
+    ("tpca --every 7 --transfers 8", (260, 7)),
+    ("tpca --every 7 --transfers 15", (7, 14)),
+];
+
 // Thirty-seven times 7 is 259, and times 14 it is 518, which is 6 modulo 512.
 #[test]
 fn a_cut_is_planned_at_the_number_of_the_transfer(rt: HostRuntime) -> Result<(), Fail> {
-    for (transfers, cut) in [
-        ("1", (1, 0)),
-        ("7", (1, 0)),
-        ("8", (260, 7)),
-        ("15", (7, 14)),
-    ]
-    .as_slice()
-    {
-        let command = format!(in rt.alloc(); "tpca --every 7 --transfers {transfers}")?;
-        let given = calm(command.as_str(), b"");
-        let played = play_planned(rt.alloc(), &given, [Plan::Nothing, Plan::Nothing])?;
-        let Some(board) = &played.ended.board else {
-            return Err(Fail::new("no board"));
-        };
-        assert_eq!(rt; board.last_cut, *cut, "at {transfers}");
+    for (command, cut) in CUTS {
+        let given = calm(command, b"");
+        let told = play_planned(rt.alloc(), &given, [Plan::Nothing, Plan::Nothing])?;
+        same(&rt, &first_of(&told).last_cut, cut, command, "last cut");
     }
     Ok(())
 }

@@ -1,15 +1,14 @@
 //! Options are handed on: each changes the counters, which a program that was written apart from this one made by the
 //! rules alone.
 
-use crate::generated::{asking, written};
+use crate::boards::first_of;
+use crate::generated::{asking, joined, written};
 use crate::images::image;
 use crate::index::operations;
 use crate::playing::{calm, play};
-use crate::rows::peek;
+use crate::told::{holds, same};
 use crate::tpca::SUMS;
-use envy_base::Board;
-use envy_map::words;
-use std::alloc::Global;
+use std::alloc::{AllocError, Global};
 use std::process::Abort;
 use std::test::Fail;
 
@@ -26,7 +25,7 @@ struct Value {
 }
 
 /// What the trace over the usual array counts under a hybrid with parts of this size.
-const HYBRIDS: [Value; 4] = [
+const HYBRIDS: &[Value] = &[
     Value {
         shape: "",
         options: "--policy hybrid --part 1 --mark 3",
@@ -54,7 +53,7 @@ const HYBRIDS: [Value; 4] = [
 ];
 
 /// What a longer trace counts where pages are parted by their lives, and under greedy beside it.
-const LIFETIMES: [Value; 3] = [
+const LIFETIMES: &[Value] = &[
     Value {
         shape: "",
         options: "--policy lifetime",
@@ -88,19 +87,27 @@ fn erases_of_save(
     rt: &(impl Abort + Alloc<A = Global>),
     command: &str,
     trace: &[u8],
-) -> Result<u64, Fail> {
-    let played = play(rt.alloc(), &calm(command, trace))?;
-    assert_eq!(rt; played.ended.status, 0, "{command}");
-    let Some(board) = &played.ended.board else {
-        return Err(Fail::new("no board"));
-    };
-    let segments = board.shape().segments;
-    assert!(rt; segments < 100);
+) -> Result<u64, AllocError> {
+    let told = play(rt.alloc(), &calm(command, trace))?;
+    same(rt, &told.status, &0, command, "status");
+    let segments = first_of(&told).segments.min(100) as usize;
     let mut sum = 0_u64;
     for segment in 0..segments {
-        sum = sum.saturating_add(peek(rt, board, 72 + segment));
+        sum = sum.saturating_add(told.word(72 + segment).unwrap_or(0));
     }
     Ok(sum)
+}
+
+/// What is written for the trace by this command ends with this.
+fn check_told(
+    rt: &(impl Abort + Alloc<A = Global>),
+    command: &str,
+    trace: &[u8],
+    told: &str,
+) -> Result<(), Fail> {
+    let replies = written(rt, command, trace)?;
+    holds(rt, replies.ends_with(told.as_bytes()), command, "counters");
+    Ok(())
 }
 
 /// The words hand the options on to a memory: what the counters say shows it.
@@ -117,29 +124,19 @@ fn check_value(
         told,
         erases,
     } = *value;
-    for word in ["run", "mirror"].as_slice() {
-        let command = format!(in alloc; "{word} {shape} {options}")?;
-        let replies = written(rt, command.as_str(), &lines)?;
-        assert!(rt; replies.ends_with(told.as_bytes()), "{command}");
-    }
-    let command = format!(in alloc; "save {shape} {options}")?;
-    assert_eq!(rt;
-        erases_of_save(rt, command.as_str(), trace)?,
-        erases,
-        "{command}"
-    );
-    let command = format!(in alloc; "save {shape}")?;
-    let bytes = image(rt, command.as_str(), b"", &lines)?;
-    let command = format!(in alloc; "resume {options}")?;
-    let replies = written(rt, command.as_str(), &bytes)?;
-    assert!(rt; replies.ends_with(told.as_bytes()), "{command}");
-    Ok(())
+    check_told(rt, &joined(alloc, "run", shape, options)?, &lines, told)?;
+    check_told(rt, &joined(alloc, "mirror", shape, options)?, &lines, told)?;
+    let command = joined(alloc, "save", shape, options)?;
+    let found = erases_of_save(rt, &command, trace)?;
+    same(rt, &found, &erases, &command, "erases");
+    let bytes = image(rt, &joined(alloc, "save", shape, "")?, b"", &lines)?;
+    check_told(rt, &joined(alloc, "resume", "", options)?, &bytes, told)
 }
 
 #[test]
 fn part_and_mark_are_handed_on_to_a_memory(rt: HostRuntime) -> Result<(), Fail> {
     let trace = written(&rt, "gen --start 7 --lines 6000", b"")?;
-    for value in &HYBRIDS {
+    for value in HYBRIDS {
         check_value(&rt, value, &trace)?;
     }
     Ok(())
@@ -148,7 +145,7 @@ fn part_and_mark_are_handed_on_to_a_memory(rt: HostRuntime) -> Result<(), Fail> 
 #[test]
 fn lives_are_noted_by_a_memory(rt: HostRuntime) -> Result<(), Fail> {
     let trace = written(&rt, "gen --start 7 --lines 20000", b"")?;
-    for value in &LIFETIMES {
+    for value in LIFETIMES {
         check_value(&rt, value, &trace)?;
     }
     Ok(())
@@ -169,13 +166,21 @@ fn counters_of(rt: &(impl Abort + Alloc<A = Global>), command: &str) -> Result<V
     Ok(counters.to_vec(rt.alloc())?)
 }
 
+/// Loads whose counters aren't the usual.
+const LOADS: &[&str] = &["tpca --limit 1", "tpca --mark 1"];
+
 // With a lower mark ticks flush more pages, and with a lower limit they let segments change places.
 #[test]
 fn limit_and_mark_are_handed_on_to_a_load(rt: HostRuntime) -> Result<(), Fail> {
     let usual = counters_of(&rt, "tpca")?;
-    for command in ["tpca --limit 1", "tpca --mark 1"].as_slice() {
+    for command in LOADS {
         let counters = counters_of(&rt, command)?;
-        assert!(rt; counters.as_slice() != usual.as_slice(), "{command}");
+        holds(
+            &rt,
+            counters.as_slice() != usual.as_slice(),
+            command,
+            "counters",
+        );
     }
     Ok(())
 }
@@ -185,18 +190,20 @@ fn map_of(
     rt: &(impl Abort + Alloc<A = Global>),
     command: &str,
     trace: &[u8],
-) -> Result<Vec<u64>, Fail> {
-    let played = play(rt.alloc(), &calm(command, trace))?;
-    assert_eq!(rt; played.ended.status, 0, "{command}");
-    let Some(board) = &played.ended.board else {
-        return Err(Fail::new("no board"));
-    };
-    let mut map = Vec::new(rt.alloc());
-    for w in 72..words(&board.shape()) {
-        map.push(peek(rt, board, w))?;
-    }
-    Ok(map)
+) -> Result<Vec<u64>, AllocError> {
+    let told = play(rt.alloc(), &calm(command, trace))?;
+    same(rt, &told.status, &0, command, "status");
+    told.sram.get(72..).unwrap_or(&[]).to_vec(rt.alloc())
 }
+
+/// Indexes, each of whose maps is another.
+const INDEXES: &[&str] = &[
+    "index --policy fifo",
+    "index --policy locality",
+    "index --policy hybrid --part 3",
+    "index --policy hybrid --part 15",
+    "index --policy lifetime",
+];
 
 // An index doesn't tick, so that limit and mark say nothing there.
 #[test]
@@ -204,18 +211,10 @@ fn policy_and_part_are_handed_on_to_an_index(rt: HostRuntime) -> Result<(), Fail
     let trace = operations(rt.alloc())?;
     let greedy = map_of(&rt, "index", &trace)?;
     let mut last = Vec::new(rt.alloc());
-    for command in [
-        "index --policy fifo",
-        "index --policy locality",
-        "index --policy hybrid --part 3",
-        "index --policy hybrid --part 15",
-        "index --policy lifetime",
-    ]
-    .as_slice()
-    {
+    for command in INDEXES {
         let map = map_of(&rt, command, &trace)?;
-        assert!(rt; map.as_slice() != greedy.as_slice(), "{command}");
-        assert!(rt; map.as_slice() != last.as_slice(), "{command}");
+        holds(&rt, map.as_slice() != greedy.as_slice(), command, "map");
+        holds(&rt, map.as_slice() != last.as_slice(), command, "map");
         last = map;
     }
     Ok(())

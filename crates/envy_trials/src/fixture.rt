@@ -1,5 +1,6 @@
 //! Runs over bytes in memory.
 
+use crate::told::{holds, same};
 use envy_bench::MemMaker;
 use envy_io::{MemSink, MemSource};
 use envy_run::run;
@@ -43,28 +44,52 @@ pub(crate) struct Found {
     pub(crate) text: Vec<u8>,
 }
 
-pub(crate) fn told(alloc: Global, words: &[&str], given: &Given<'_>) -> Result<Found, AllocError> {
+fn owned(alloc: Global, words: &[&str]) -> Result<Vec<String>, AllocError> {
     let mut owned = Vec::new(alloc);
     for word in words {
         owned.push(String::from_str(alloc, word)?)?;
     }
+    Ok(owned)
+}
+
+fn source_of(alloc: Global, given: &Given<'_>) -> Result<MemSource, AllocError> {
+    let fails = [given.source_fails].to_vec(alloc)?;
     let bytes = given.bytes.to_vec(alloc)?;
-    let mut source_fails = Vec::new(alloc);
-    source_fails.push(given.source_fails)?;
-    let mut sink_fails = Vec::new(alloc);
-    sink_fails.push(given.sink_fails)?;
-    let mut source = MemSource::new(bytes, 4096, source_fails);
-    let mut sink = MemSink::new(alloc, 1 << 16, sink_fails)?;
-    let ended = run(alloc, &owned, &mut source, &mut sink, &mut MemMaker::new());
-    let end = End {
+    Ok(MemSource::new(bytes, 4096, fails))
+}
+
+fn sink_of(alloc: Global, given: &Given<'_>) -> Result<MemSink, AllocError> {
+    let fails = [given.sink_fails].to_vec(alloc)?;
+    MemSink::new(alloc, 1 << 16, fails)
+}
+
+/// Does the run. The board goes here: to let go of one costs each function that holds it.
+fn end_of(alloc: Global, words: &[String], source: &mut MemSource, sink: &mut MemSink) -> End {
+    let ended = run(alloc, words, source, sink, &mut MemMaker::new());
+    End {
         status: ended.status,
         why: ended.why,
         lines: ended.lines,
         taken: ended.taken,
         made: ended.board.is_some(),
-    };
+    }
+}
+
+pub(crate) fn told(alloc: Global, words: &[&str], given: &Given<'_>) -> Result<Found, AllocError> {
+    let mut sink = sink_of(alloc, given)?;
+    let mut source = source_of(alloc, given)?;
+    let owned = owned(alloc, words)?;
+    let end = end_of(alloc, &owned, &mut source, &mut sink);
     let text = sink.written().to_vec(alloc)?;
     Ok(Found { end, text })
+}
+
+/// The word that says what is done.
+fn first_of<'a>(words: &[&'a str]) -> &'a str {
+    match words {
+        [first, ..] => first,
+        [] => "no word",
+    }
 }
 
 /// What is written for these bytes by a run that is done to its end.
@@ -74,7 +99,8 @@ pub(crate) fn written(
     bytes: &[u8],
 ) -> Result<Vec<u8>, Fail> {
     let told = told(rt.alloc(), words, &calm(bytes))?;
-    assert!(rt; told.end.status == 0 && told.end.why == 0);
+    let end = (told.end.status, told.end.why);
+    same(rt, &end, &(0, 0), first_of(words));
     Ok(told.text)
 }
 
@@ -86,7 +112,7 @@ pub(crate) fn check_text(
     text: &[u8],
 ) -> Result<(), Fail> {
     let found = written(rt, words, bytes)?;
-    assert!(rt; found.as_slice() == text);
+    holds(rt, found.as_slice() == text, first_of(words), "text");
     Ok(())
 }
 
@@ -99,8 +125,8 @@ pub(crate) fn check_end(
     text: &[u8],
 ) -> Result<(), Fail> {
     let told = told(rt.alloc(), words, given)?;
-    assert!(rt; told.end == end);
-    assert!(rt; told.text.as_slice() == text);
+    same(rt, &told.end, &end, first_of(words));
+    holds(rt, told.text.as_slice() == text, first_of(words), "text");
     Ok(())
 }
 

@@ -3,6 +3,8 @@
 #![tactic(auto)]
 
 #[cfg(test)]
+mod asked;
+#[cfg(test)]
 mod costs;
 #[cfg(test)]
 mod counting;
@@ -10,3 +12,5 @@ mod counting;
 mod fixture;
 #[cfg(test)]
 mod refused;
+#[cfg(test)]
+mod told;

@@ -1,12 +1,13 @@
 //! Images that are taken up, and those that aren't.
 
 use crate::fixture::{End, Given, calm, check_end, check_text, joined, told, with_byte, written};
+use crate::told::{holds, same};
 use std::alloc::Global;
 use std::process::Abort;
 use std::test::Fail;
 
 /// The smallest board: 8 rows of 256 bytes, and 161 words of SRAM.
-const SMALLEST: [&str; 7] = [
+const SMALLEST: &[&str] = &[
     "save",
     "--segments=4",
     "--rows=2",
@@ -19,7 +20,7 @@ const SMALLEST: [&str; 7] = [
 /// How many bytes its image has: 32 and 2,048 and 1,288.
 const SIZE: usize = 3368;
 
-const WORDS: [&str; 2] = ["audit", "resume"];
+const WORDS: &[&str] = &["audit", "resume"];
 
 /// The end of a run that refuses an image so.
 const fn refused(status: u8, why: u8, taken: u64, made: bool) -> End {
@@ -38,7 +39,7 @@ fn check_refused(
     bytes: &[u8],
     end: End,
 ) -> Result<(), Fail> {
-    for word in WORDS.as_slice() {
+    for word in WORDS {
         check_end(rt, &[*word], &calm(bytes), end, b"")?;
     }
     Ok(())
@@ -47,7 +48,7 @@ fn check_refused(
 #[test]
 fn an_image_is_judged(rt: HostRuntime) -> Result<(), Fail> {
     let image = written(&rt, &["save"], b"")?;
-    assert!(&rt; image.len() == 37272);
+    same(&rt, &image.len(), &37272, "length");
     check_text(&rt, &["audit"], &image, b"sound\n")?;
     let broken = with_byte(rt.alloc(), &image, 32864, 3)?;
     check_text(&rt, &["audit"], &broken, b"unsound a\n")?;
@@ -88,8 +89,8 @@ fn a_trace_behind_an_image_is_answered(rt: HostRuntime) -> Result<(), Fail> {
 
 #[test]
 fn an_image_may_stop_at_any_byte(rt: HostRuntime) -> Result<(), Fail> {
-    let image = written(&rt, &SMALLEST, b"store 3 4\nbegin\nput 0 40 5\ntick\n")?;
-    assert!(&rt; image.len() == SIZE);
+    let image = written(&rt, SMALLEST, b"store 3 4\nbegin\nput 0 40 5\ntick\n")?;
+    same(&rt, &image.len(), &SIZE, "length");
     for n in 0..SIZE {
         if let Some(front) = image.get(..n) {
             check_refused(&rt, front, refused(10, 1, n as u64, n >= 32))?;
@@ -99,7 +100,7 @@ fn an_image_may_stop_at_any_byte(rt: HostRuntime) -> Result<(), Fail> {
 }
 
 /// A byte of a number of the shape, and what it becomes.
-const MISSHAPEN: [(usize, u8); 13] = [
+const MISSHAPEN: &[(usize, u8)] = &[
     (8, 3),
     (9, 17),
     (12, 1),
@@ -117,8 +118,8 @@ const MISSHAPEN: [(usize, u8); 13] = [
 
 #[test]
 fn a_shape_is_checked(rt: HostRuntime) -> Result<(), Fail> {
-    let image = written(&rt, &SMALLEST, b"")?;
-    for (at, byte) in MISSHAPEN.as_slice() {
+    let image = written(&rt, SMALLEST, b"")?;
+    for (at, byte) in MISSHAPEN {
         let misshapen = with_byte(rt.alloc(), &image, *at, *byte)?;
         check_refused(&rt, &misshapen, refused(10, 3, 32, false))?;
     }
@@ -130,26 +131,26 @@ fn a_shape_is_checked(rt: HostRuntime) -> Result<(), Fail> {
 }
 
 /// Words that don't fit the smallest board.
-const UNFIT: [[&str; 3]; 5] = [
-    ["resume", "--policy=hybrid", "--part=4"],
-    ["resume", "--policy=hybrid", "--part=0"],
-    ["resume", "--policy=fifo", "--limit=0"],
-    ["resume", "--policy=greedy", "--mark=0"],
-    ["resume", "--policy=greedy", "--mark=3"],
+const UNFIT: &[&[&str]] = &[
+    &["resume", "--policy=hybrid", "--part=4"],
+    &["resume", "--policy=hybrid", "--part=0"],
+    &["resume", "--policy=fifo", "--limit=0"],
+    &["resume", "--policy=greedy", "--mark=0"],
+    &["resume", "--policy=greedy", "--mark=3"],
 ];
 
 /// For so many bytes of an image: why it is refused under such words.
-const FRONTS: [(usize, u8); 4] = [(31, 1), (32, 4), (SIZE - 1, 4), (SIZE, 4)];
+const FRONTS: &[(usize, u8)] = &[(31, 1), (32, 4), (SIZE - 1, 4), (SIZE, 4)];
 
 #[test]
 fn the_rules_of_the_words_come_before_the_rest(rt: HostRuntime) -> Result<(), Fail> {
-    let image = written(&rt, &SMALLEST, b"")?;
-    for words in UNFIT.as_slice() {
-        for (n, why) in FRONTS.as_slice() {
+    let image = written(&rt, SMALLEST, b"")?;
+    for words in UNFIT {
+        for (n, why) in FRONTS {
             if let Some(front) = image.get(..*n) {
                 let taken = (*n).min(32) as u64;
                 let end = refused(10, *why, taken, false);
-                check_end(&rt, words.as_slice(), &calm(front), end, b"")?;
+                check_end(&rt, words, &calm(front), end, b"")?;
             }
         }
     }
@@ -158,17 +159,17 @@ fn the_rules_of_the_words_come_before_the_rest(rt: HostRuntime) -> Result<(), Fa
 
 #[test]
 fn a_source_may_fail_within_an_image(rt: HostRuntime) -> Result<(), Fail> {
-    let image = written(&rt, &SMALLEST, b"store 3 4\n")?;
+    let image = written(&rt, SMALLEST, b"store 3 4\n")?;
     // 8 and 24 bytes of the head, 8 rows, five times 32 words and one word, each of which is asked for by itself
     for call in 1..17 {
         let fails = Given {
             source_fails: call,
             ..calm(&image)
         };
-        for word in WORDS.as_slice() {
+        for word in WORDS {
             let end = told(rt.alloc(), &[*word], &fails)?.end;
-            assert!(&rt; end == refused(3, 0, end.taken, call > 2));
-            assert!(&rt; end.taken < SIZE as u64);
+            same(&rt, &end, &refused(3, 0, end.taken, call > 2), word);
+            holds(&rt, end.taken < SIZE as u64, word, "taken");
         }
     }
     Ok(())
@@ -176,17 +177,19 @@ fn a_source_may_fail_within_an_image(rt: HostRuntime) -> Result<(), Fail> {
 
 #[test]
 fn a_sink_may_fail_within_an_image(rt: HostRuntime) -> Result<(), Fail> {
-    let image = written(&rt, &SMALLEST, b"store 3 4\n")?;
+    let image = written(&rt, SMALLEST, b"store 3 4\n")?;
     // the mark, six numbers, 8 rows, five times 32 words of SRAM and one word, and the flush
     for call in 1..23 {
         let fails = Given {
             sink_fails: call,
             ..calm(b"store 3 4\n")
         };
-        let told = told(rt.alloc(), &SMALLEST, &fails)?;
-        assert!(&rt; told.end.status == 4 && told.end.lines == 1);
-        assert!(&rt; image.starts_with(&told.text));
-        assert!(&rt; (told.text.len() == SIZE) == (call == 22));
+        let told = told(rt.alloc(), SMALLEST, &fails)?;
+        let end = (call, told.end.status, told.end.lines);
+        same(&rt, &end, &(call, 4, 1), "a failing sink");
+        holds(&rt, image.starts_with(&told.text), "a failing sink", "text");
+        let is_whole = (call, told.text.len() == SIZE);
+        same(&rt, &is_whole, &(call, call == 22), "a failing sink");
     }
     Ok(())
 }
