@@ -108,6 +108,16 @@ is_sync Synced = true
 is_sync Replaced = true
 is_sync other = false
 
+-- how often the file was synced, or a sync of it was tried
+abbrev pub is_tried : Call → Bool
+is_tried Synced = true
+is_tried SyncFailed = true
+is_tried other = false
+
+abbrev pub syncs_in : List Call → ℕ
+syncs_in [] = 0
+syncs_in (call ∷ past) = if is_tried call then suc (syncs_in past) else syncs_in past
+
 -- how many calls there were when the last sync had succeeded
 abbrev pub synced_at : List Call → ℕ
 synced_at [] = 0

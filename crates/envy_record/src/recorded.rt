@@ -32,7 +32,7 @@ impl<F: RawFile> Recorded<F> {
 
 impl<F: RawFile> Device for Recorded<F> {
     ghost use Rattle.std.specs.Prelude.{length};
-    ghost use Rattle.envy_record.specs.Calls.{LeftSince};
+    ghost use Rattle.envy_record.specs.Calls.{LeftSince, syncs_in};
     ghost use Rattle.envy_record.specs.Recorded.{before, counts, only};
 
     ghost seen = { λ f. seen_after (F.calls f.file) };
@@ -44,6 +44,8 @@ impl<F: RawFile> Device for Recorded<F> {
     ghost left_since = { λ f. LeftSince f.bytewise (F.calls f.file) };
 
     ghost synced = { λ f. synced_at (F.calls f.file) };
+
+    ghost syncs = { λ f. syncs_in (F.calls f.file) };
 
     ghost has_failed = { λ f. have_failed (F.calls f.file) };
 

@@ -1,5 +1,5 @@
 -- What the calls of a file in memory mean for a crash.
-use Rattle.std.proofs.Common.{◌≡◌, ◌⊎◌, ⊎_elim, inl, inr, ℕ, ◌≤◌, List, [], ◌∷◌, ◌++◌, length, Bool, true, false, Result, Ok, Err, OnOk, OnErr, refl, sym, ◌∙◌, ap, subst, arith, length-append}
+use Rattle.std.proofs.Common.{◌≡◌, ◌⊎◌, ⊎_elim, inl, inr, ℕ, ◌+◌, ◌≤◌, List, [], ◌∷◌, ◌++◌, length, Bool, true, false, Result, Ok, Err, OnOk, OnErr, refl, sym, ◌∙◌, ap, subst, arith, length-append}
 use Rattle.std.proofs.lemmas.Bool.{false≢true}
 use Rattle.std.proofs.lemmas.List.{take_all}
 use Rattle.envy_device.specs.Device.{Torn, Mixed, Cut, Follows, Elapses, Serves}
@@ -7,8 +7,8 @@ use Rattle.envy_device.specs.declared.device.DeviceFailed.{DeviceFailed}
 use Rattle.envy_torn.specs.declared.torn.Call.{Call}
 use Rattle.envy_torn.specs.declared.torn.Call.TheVariants.{Sync, BadWrite}
 use Rattle.envy_torn.specs.declared.torn.TornFile.{TornFile}
-use Rattle.envy_torn.specs.Calls.{seen_by, seen_after, Tears, Leaves, OutcomeOf, LeftBy}
-use Rattle.envy_torn.specs.Torn.{file_bytes, file_outcome, file_left, Kept, Noted, Finished, Unwritten}
+use Rattle.envy_torn.specs.Calls.{seen_by, seen_after, sync_in, syncs_in, Tears, Leaves, OutcomeOf, LeftBy}
+use Rattle.envy_torn.specs.Torn.{file_bytes, file_outcome, file_left, file_syncs, Kept, Noted, Finished, Unwritten}
 use Rattle.envy_torn.proofs.Outcomes.{seen_more, outcome_more, time_same, time_more}
 
 -- a step that does nothing
@@ -218,6 +218,25 @@ pub bytewise_failed : (call : Call) (old mid new : TornFile) → Kept old mid �
 bytewise_failed call old mid new kept (inl noted) = noted.bytewise ∙ kept.bytewise
 bytewise_failed call old mid new kept (inr none) = none.bytewise ∙ kept.bytewise
 
+-- how many syncs there are with a call more
+pub syncs_more : (calls : List Call) (call : Call) → syncs_in (calls ++ call ∷ []) ≡ syncs_in calls + sync_in call
+syncs_more [] call = omega arith
+syncs_more (first ∷ calls) call = let more = syncs_more calls call in omega (arith, more)
+
+pub syncs_kept : (old new : TornFile) → Kept old new → file_syncs new ≡ file_syncs old
+syncs_kept old new kept = ap syncs_in kept.calls
+
+pub syncs_noted : (call : Call) (old new : TornFile) → sync_in call ≡ 0 → Noted call old new → file_syncs new ≡ file_syncs old
+syncs_noted call old new none noted = let more = ap syncs_in noted.calls ∙ syncs_more old.calls.items call in omega (arith, more, none)
+
+pub syncs_finished : (call : Call) (old mid new : TornFile) (result : Result Unit DeviceFailed) → sync_in call ≡ 0 → Kept old mid → Finished call mid result new → file_syncs new ≡ file_syncs old
+syncs_finished call old mid new (Ok done) none kept (noted, same) = syncs_noted call mid new none noted ∙ syncs_kept old mid kept
+syncs_finished call old mid new (Err failed) none kept (is, now) = syncs_kept mid new is ∙ syncs_kept old mid kept
+
+pub syncs_failed : (call : Call) (old mid new : TornFile) → sync_in call ≡ 0 → Kept old mid → Noted call mid new ⊎ Kept mid new → file_syncs new ≡ file_syncs old
+syncs_failed call old mid new none kept (inl noted) = syncs_noted call mid new none noted ∙ syncs_kept old mid kept
+syncs_failed call old mid new none kept (inr is) = syncs_kept mid new is ∙ syncs_kept old mid kept
+
 -- a write that failed is a call that did, or nothing
 module _ (at : ℕ) (bytes : List ℕ) (old mid new : TornFile) (kept : Kept old mid) where
   pub seen_unwritten : Unwritten at bytes mid new → file_bytes new ≡ file_bytes old
@@ -244,3 +263,7 @@ module _ (at : ℕ) (bytes : List ℕ) (old mid new : TornFile) (kept : Kept old
   pub bytewise_unwritten : Unwritten at bytes mid new → new.bytewise ≡ old.bytewise
   bytewise_unwritten (inl (copy, same, noted)) = noted.bytewise ∙ kept.bytewise
   bytewise_unwritten (inr none) = none.bytewise ∙ kept.bytewise
+
+  pub syncs_unwritten : Unwritten at bytes mid new → file_syncs new ≡ file_syncs old
+  syncs_unwritten (inl (copy, same, noted)) = syncs_failed (BadWrite at copy) old mid new refl kept (inl noted)
+  syncs_unwritten (inr none) = syncs_kept mid new none ∙ syncs_kept old mid kept

@@ -23,6 +23,15 @@ abbrev pub seen_after : List Call → List ℕ → List ℕ
 seen_after [] seen = seen
 seen_after (call ∷ calls) seen = seen_after calls (seen_by call seen)
 
+-- how many of the calls are syncs
+abbrev pub sync_in : Call → ℕ
+sync_in Sync = 1
+sync_in other = 0
+
+abbrev pub syncs_in : List Call → ℕ
+syncs_in [] = 0
+syncs_in (call ∷ calls) = sync_in call + syncs_in calls
+
 -- what a crash may leave of a write of these bytes: in a file that is written byte by byte each byte of the range is the old
 -- one or the one that was written, and else it is any
 abbrev pub Tears : Bool → ℕ → List ℕ → List ℕ → List ℕ → Type 0

@@ -7,7 +7,7 @@ use Rattle.envy_device.specs.declared.device.DeviceFailed.{DeviceFailed}
 use Rattle.envy_torn.specs.declared.torn.Call.{Call}
 use Rattle.envy_torn.specs.declared.torn.Call.TheVariants.{BadWrite}
 use Rattle.envy_torn.specs.declared.torn.TornFile.{TornFile}
-use Rattle.envy_torn.specs.Calls.{OutcomeOf, LeftBy}
+use Rattle.envy_torn.specs.Calls.{OutcomeOf, LeftBy, syncs_in}
 
 abbrev pub file_bytes : TornFile → List ℕ
 file_bytes file = file.bytes.items
@@ -20,6 +20,9 @@ file_calls file = file.calls.items
 
 abbrev pub file_synced : TornFile → ℕ
 file_synced file = file.synced
+
+abbrev pub file_syncs : TornFile → ℕ
+file_syncs file = syncs_in file.calls.items
 
 abbrev pub file_failed : TornFile → Bool
 file_failed file = file.failed

@@ -45,7 +45,7 @@ pub struct TornFile {
 }
 
 impl TornFile {
-    ghost use Rattle.std.specs.Prelude.{◌⊎◌, IfSome};
+    ghost use Rattle.std.specs.Prelude.{◌⊎◌, ◌+◌, IfSome};
     ghost use Rattle.envy_device.specs.Device.{Only};
     ghost use Rattle.envy_torn.specs.Calls.{seen_by};
     ghost use Rattle.envy_torn.specs.Torn.{file_bytes, file_second, file_calls, file_bytewise, file_outcome, Kept, Noted, Finished, Unwritten};
@@ -139,6 +139,7 @@ impl TornFile {
         ensures second { file_second self.new ≡ file_second self.old }
         ensures failed { self.new.failed ≡ self.old.failed }
         ensures passes { result ≡ true → self.new.failed ≡ false }
+        ensures planned { result ≡ true → self.old.left ≡ self.new.left + 1 }
     {
         if self.failed || self.left == 0 {
             return false;
@@ -258,7 +259,7 @@ fn overwritten(
 }
 
 impl Device for TornFile {
-    ghost use Rattle.envy_torn.specs.Torn.{file_bytes, file_calls, file_outcome, file_left, file_synced, file_failed, file_bytewise, counts_now_lem, only_now_lem, synced_before_lem};
+    ghost use Rattle.envy_torn.specs.Torn.{file_bytes, file_calls, file_outcome, file_left, file_synced, file_syncs, file_failed, file_bytewise, counts_now_lem, only_now_lem, synced_before_lem};
 
     ghost seen = { file_bytes };
 
@@ -269,6 +270,8 @@ impl Device for TornFile {
     ghost left_since = { file_left };
 
     ghost synced = { file_synced };
+
+    ghost syncs = { file_syncs };
 
     ghost has_failed = { file_failed };
 

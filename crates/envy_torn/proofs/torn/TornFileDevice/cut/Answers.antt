@@ -2,7 +2,7 @@ use Rattle.std.proofs.Common.{◌∙◌, ℕ, List, take, refl, sym, ap, subst}
 use Rattle.envy_device.specs.Device.{Cut}
 use Rattle.envy_torn.specs.declared.torn.Call.TheVariants.{Cut as CutCall, BadCut}
 use Rattle.envy_torn.specs.Torn.{file_bytes}
-use Rattle.envy_torn.proofs.Written.{cut_none, bytes_kept, time_finished, synced_finished, bytewise_finished, crash_finished, time_failed, synced_failed, bytewise_failed, bytes_failed, crash_failed, bytes_finished, same_finished, serves_finished}
+use Rattle.envy_torn.proofs.Written.{syncs_finished, syncs_failed, cut_none, bytes_kept, time_finished, synced_finished, bytewise_finished, crash_finished, time_failed, synced_failed, bytewise_failed, bytes_failed, crash_failed, bytes_finished, same_finished, serves_finished}
 use Rattle.envy_torn.proofs.torn.TornFileDevice.cut.Goals as goal
 
 pub finish-requires : goal.finish-requires
@@ -49,3 +49,9 @@ returns-in-Some-clause-bytewise c = bytewise_finished (CutCall c.args.len) c.arg
 
 pub returns-in-None-clause-bytewise : goal.returns-in-None-clause-bytewise
 returns-in-None-clause-bytewise c = bytewise_failed (BadCut c.args.len) c.args.self.now c.planned_cut.new.self c.fail.new.self c.planned_cut.ensures.kept c.fail.ensures.call
+
+pub returns-in-Some-clause-syncs : goal.returns-in-Some-clause-syncs
+returns-in-Some-clause-syncs c = syncs_finished (CutCall c.args.len) c.args.self.now c.planned_cut.new.self c.finish.new.self c.finish.result refl c.planned_cut.ensures.kept c.finish.ensures
+
+pub returns-in-None-clause-syncs : goal.returns-in-None-clause-syncs
+returns-in-None-clause-syncs c = syncs_failed (BadCut c.args.len) c.args.self.now c.planned_cut.new.self c.fail.new.self refl c.planned_cut.ensures.kept c.fail.ensures.call

@@ -1,9 +1,9 @@
-use Rattle.std.proofs.Common.{◌∙◌, ℕ, List, length, sym, ap, subst}
+use Rattle.std.proofs.Common.{◌∙◌, ℕ, List, length, refl, sym, ap, subst}
 use Rattle.envy_device.specs.Device.{Torn, Mixed}
 use Rattle.envy_torn.specs.declared.torn.Call.TheVariants.{Write}
 use Rattle.envy_torn.specs.Calls.{written}
 use Rattle.envy_torn.specs.Torn.{file_bytes}
-use Rattle.envy_torn.proofs.Written.{torn_none, mixed_none, tears_torn, tears_mixed, bytes_kept, time_finished, synced_finished, bytewise_finished, crash_finished, bytes_finished, same_finished, serves_finished, torn_unwritten, crash_unwritten, time_unwritten, synced_unwritten, bytewise_unwritten}
+use Rattle.envy_torn.proofs.Written.{syncs_finished, syncs_unwritten, torn_none, mixed_none, tears_torn, tears_mixed, bytes_kept, time_finished, synced_finished, bytewise_finished, crash_finished, bytes_finished, same_finished, serves_finished, torn_unwritten, crash_unwritten, time_unwritten, synced_unwritten, bytewise_unwritten}
 use Rattle.envy_torn.proofs.torn.TornFileDevice.write_at.Goals as goal
 
 pub finish-requires : goal.finish-requires
@@ -57,3 +57,9 @@ returns-in-None-clause-time c = time_unwritten c.args.at c.args.bytes.now c.args
 
 pub returns-in-None-clause-synced : goal.returns-in-None-clause-synced
 returns-in-None-clause-synced c = synced_unwritten c.args.at c.args.bytes.now c.args.self.now c.planned_write.new.self c.fail_write.new.self c.planned_write.ensures.kept c.fail_write.ensures.call
+
+pub returns-in-Some-clause-syncs : goal.returns-in-Some-clause-syncs
+returns-in-Some-clause-syncs c = syncs_finished (Write c.args.at c.in-Some.copy) c.args.self.now c.planned_write.new.self c.finish.new.self c.finish.result refl c.planned_write.ensures.kept c.finish.ensures
+
+pub returns-in-None-clause-syncs : goal.returns-in-None-clause-syncs
+returns-in-None-clause-syncs c = syncs_unwritten c.args.at c.args.bytes.now c.args.self.now c.planned_write.new.self c.fail_write.new.self c.planned_write.ensures.kept c.fail_write.ensures.call
