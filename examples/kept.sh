@@ -66,6 +66,15 @@ ends "a small file of another kind" 10 '' 'envy: no journal'
 { head -c 8 "$work/a"; printf '\003'; tail -c +10 "$work/a"; } >"$work/version"
 keeps "$work/version" < <(printf 'load 5\n')
 ends "another version" 10 '' 'envy: a journal of another version'
+# a journal in which nothing was done: its head alone, a closed gate, a batch without operations
+for rest in '' '\000' '\004\005\000'; do
+    { head -c 33 "$work/a"; printf "$rest"; } >"$work/undone"
+    keeps "$work/undone" < <(printf 'load 5\nstore 5 7\n')
+    ends "a journal without operations" 0 '0\nok\n' ''
+done
+{ head -c 33 "$work/a"; printf '\004\001\000\000\000\000\011\000\000\000\000\000\000\000\005\000'; } >"$work/undone"
+keeps "$work/undone" < <(printf 'load 5\n')
+ends "a journal of no memory" 10 '' 'envy: no journal'
 keeps "$work" < <(printf 'load 5\n')
 ends "a folder" 11 '' "envy: the journal can't be read"
 keeps "$work/none/a" < <(printf 'load 5\n')
