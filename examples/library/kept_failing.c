@@ -340,10 +340,18 @@ static void answers(void) {
     first.bytes[37] = was;
     WANT(open_file(&setup), ENVY_DONE);
     envy_kept_close(&m);
-    /* a journal of no memory: the first batch says nothing of a board's map */
+    /* a journal of no memory: its one operation, a word of SRAM, makes no board */
+    static const uint8_t batch[] = {4, 1, 0, 0, 0, 0, 9, 0, 0, 0, 0, 0, 0, 0, 5, 0};
+    first.n = 33 + sizeof batch;
+    memcpy(first.bytes + 33, batch, sizeof batch);
+    refuses(__LINE__, &setup, ENVY_NO_JOURNAL, true);
+    /* one in which nothing was done begins with zeros */
     first.n = 36;
     memcpy(first.bytes + 33, "\4\5", 3);
-    refuses(__LINE__, &setup, ENVY_NO_JOURNAL, true);
+    WANT(open_file(&setup), ENVY_DONE);
+    WANT(envy_kept_load(&m, 5, &word), ENVY_DONE);
+    WANT(word, 0);
+    envy_kept_close(&m);
     set("a text of another kind, which is long enough to be one");
     REFUSES(ENVY_NO_JOURNAL);
 }
