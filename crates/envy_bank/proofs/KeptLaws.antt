@@ -3,7 +3,7 @@ use Rattle.std.proofs.Common.{◌≡◌, ◌≢◌, ◌∙◌, ◌↔◌, inl, i
 use Rattle.std.specs.Prelude.{bit_and}
 use Rattle.std.proofs.Math.Nat.{mod-eq_of_lt}
 use Rattle.std.proofs.lemmas.Bool.{cases_eq, cases_lt, false≢true}
-use Rattle.std.proofs.lemmas.List.{ext_get_or, get_or-set_same, get_or-set_other, get_or-replicate, get_or_read, length-set, length-replicate, take_at}
+use Rattle.std.proofs.lemmas.List.{ext_get_or, get_or-set_same, get_or-set_other, get_or-replicate, get_or_read, length-set, length-replicate, set-append_right, append_assoc, take_at}
 use Rattle.std.proofs.lemmas.Nat.{and_mask, and_comm}
 use Rattle.envy_bank.specs.Kept.{ArePaged, kept_row, kept_rows, MarksRange, ErasesRange}
 use Rattle.envy_bank.specs.Rows.{IsPage, ands, ones}
@@ -58,6 +58,19 @@ kept-reached [] pages k page are = refl
 kept-reached (m ∷ marks) [] zero page are = refl
 kept-reached (m ∷ marks) [] (suc k) page are = ap (λ mark. kept_row mark page ∷ kept_rows marks (replicate k page)) (first-marked m marks are) ∙ ap (λ rows. ones ∷ rows) (kept-reached marks [] k page (paged-none m marks are))
 kept-reached (m ∷ marks) (p ∷ pages) k page are = ap (λ rows. kept_row m p ∷ rows) (kept-reached marks pages k page (paged-rest m marks p pages are))
+
+-- the last of pages
+last : (k : ℕ) (page blank : List ℕ) → replicate k blank ++ page ∷ [] ≡ set (replicate (suc k) blank) k page
+last zero page blank = refl
+last (suc k) page blank = ap (λ rows. blank ∷ rows) (last k page blank)
+
+-- a page behind those that are there is the last that was reached for
+pub behind : (pages : List (List ℕ)) (q : ℕ) (page blank : List ℕ) → length pages ≤ q
+    → pages ++ replicate (q - length pages) blank ++ page ∷ [] ≡ set (pages ++ replicate (q + 1 - length pages) blank) q page
+behind pages q page blank le =
+    let more : q + 1 - length pages ≡ suc (q - length pages) = omega arith in
+    rw more (append_assoc pages (replicate (q - length pages) blank) (page ∷ []) ∙ ap (λ rows. pages ++ rows) (last (q - length pages) page blank)
+    ∙ sym (set-append_right pages (replicate (suc (q - length pages)) blank) (length pages) q page refl le))
 
 pub paged-set : (marks : List Bool) (pages : List (List ℕ)) (q : ℕ) (page : List ℕ) → ArePaged marks pages → ArePaged marks (set pages q page)
 paged-set marks pages q page are = let long = length-set pages q page in record { fits = let fits = are.fits in omega (arith, long); beyond = λ k le lt. are.beyond k (omega (arith, long)) lt }

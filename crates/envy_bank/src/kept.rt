@@ -1,4 +1,4 @@
-ghost use Rattle.std.specs.Prelude.{◌≡◌, ◌+◌, ◌-◌, ◌<◌, ◌≤◌, ◌↔◌, ◌++◌, IsTrue, IfOk, [], length, replicate, slice_index, slice_index_or, slice_set, vec_capacity};
+ghost use Rattle.std.specs.Prelude.{◌≡◌, ◌+◌, ◌-◌, ◌<◌, ◌≤◌, ◌↔◌, ◌++◌, ◌∷◌, IsTrue, IfOk, [], length, replicate, slice_index, slice_index_or, slice_set, vec_capacity};
 ghost use Rattle.envy_bank.specs.Rows.{ands, ones};
 ghost use Rattle.envy_bank.specs.Kept.{MarksRange, ErasesRange};
 
@@ -50,14 +50,60 @@ fn mark_range(marks: &mut [bool], first: usize, end: usize)
     }
 }
 
-// Makes the pages up to a row's, where they aren't there yet.
-fn reach(pages: &mut Vec<[u64; 32]>, row: usize)
-    requires { row < vec_capacity pages.old }
-    ensures pages { pages.new.items ≡ pages.old.items ++ replicate (row + 1 - length pages.old.items) (replicate 32 0) }
+// Makes the pages up to the one before a row's.
+#[cold]
+#[inline(never)]
+fn fill(pages: &mut Vec<[u64; 32]>, row: usize)
+    requires behind { length pages.old.items ≤ row }
+    requires room { row < vec_capacity pages.old }
+    ensures pages { pages.new.items ≡ pages.old.items ++ replicate (row - length pages.old.items) (replicate 32 0) }
     ensures capacity { vec_capacity pages.old ≤ vec_capacity pages.new }
 {
-    if pages.len() <= row && pages.resize(row + 1, [0; 32]).is_err() {
+    if pages.resize(row, [0; 32]).is_err() {
         unreachable!();
+    }
+}
+
+// Makes the pages up to the one before a row's, where they aren't there yet.
+#[inline(always)]
+fn reach(pages: &mut Vec<[u64; 32]>, row: usize)
+    requires behind { length pages.old.items ≤ row }
+    requires room { row < vec_capacity pages.old }
+    ensures pages { pages.new.items ≡ pages.old.items ++ replicate (row - length pages.old.items) (replicate 32 0) }
+    ensures capacity { vec_capacity pages.old ≤ vec_capacity pages.new }
+{
+    if pages.len() < row {
+        fill(pages, row);
+    }
+}
+
+// Adds the page of a row behind all that have one, in memory that is there.
+#[inline(always)]
+fn append(pages: &mut Vec<[u64; 32]>, row: usize, page: &[u64; 32])
+    requires behind { length pages.old.items ≤ row }
+    requires room { row < vec_capacity pages.old }
+    ensures pages { pages.new.items ≡ pages.old.items ++ replicate (row - length pages.old.items) (replicate 32 0) ++ page.now ∷ [] }
+    ensures capacity { vec_capacity pages.old ≤ vec_capacity pages.new }
+{
+    reach(pages, row);
+    // Said before, it leaves no path on which memory is asked for.
+    if pages.capacity() <= pages.len() || pages.push(*page).is_err() {
+        unreachable!();
+    }
+}
+
+// Sets the page of a row, which is made where it isn't there yet.
+#[inline(always)]
+fn set_page(pages: &mut Vec<[u64; 32]>, row: usize, page: &[u64; 32])
+    requires { row < vec_capacity pages.old }
+    ensures pages { pages.new.items
+        ≡ slice_set (pages.old.items ++ replicate (row + 1 - length pages.old.items) (replicate 32 0)) row page.now }
+    ensures capacity { vec_capacity pages.old ≤ vec_capacity pages.new }
+{
+    if row < pages.len() {
+        pages[row] = *page;
+    } else {
+        append(pages, row, page);
     }
 }
 
@@ -91,8 +137,7 @@ impl KeptRows {
         requires { row < length self.old }
         ensures { self.new ≡ slice_set self.old row page.now }
     {
-        reach(&mut self.pages, row);
-        self.pages[row].copy_from_slice(page);
+        set_page(&mut self.pages, row, page);
         self.erased[row] = false;
     }
 

@@ -38,11 +38,11 @@ fn more(count: u64) -> u64
 
 impl MemBoard {
     ghost use Rattle.std.specs.Prelude.{IsTrue};
-    ghost use Rattle.envy_base.specs.State.{Puts};
-    ghost use Rattle.envy_power.specs.Power.{fresh, put_event};
+    ghost use Rattle.envy_base.specs.State.{Puts, Programs};
+    ghost use Rattle.envy_power.specs.Power.{fresh, put_event, flash_event};
     ghost use Rattle.envy_bench.specs.Parts.{new_state};
     ghost use Rattle.envy_bench.specs.Board.{board_state, board_power};
-    ghost use Rattle.envy_bench.specs.Events.{PutMeets, after_put};
+    ghost use Rattle.envy_bench.specs.Events.{PutMeets, ProgramMeets, after_put, after_flash};
 
     /// A new board, whose power can return `lives` times. All flash is ones, SRAM is zeros, power is
     /// on, and nothing is planned.
@@ -113,6 +113,38 @@ impl MemBoard {
             Event::Bad(_) => unreachable!(),
         }
     }
+
+    /// Programs a row where power is off or something is planned.
+    #[cold]
+    #[inline(never)]
+    #[tactic(auto, unfolding(envy_base::specs::Counting::up, envy_power::specs::Power::up))]
+    fn program_planned(&mut self, row: u32, page: &[u64; 32]) -> Result<(), Trouble>
+        requires { row < length (board_state self.old).flash }
+        ensures state { Programs (board_state self.old) row page.now result (board_state self.new) }
+        ensures exact { IsTrue (board_state self.old).on
+            → ProgramMeets (flash_event (board_power self.old)) (board_state self.old) row page.now
+            result (board_state self.new) }
+        ensures power { board_power self.new ≡ after_flash (board_power self.old) }
+    {
+        if !self.supply.powered() {
+            return Err(Trouble::Off);
+        }
+        self.begun = more(self.begun);
+        match self.supply.flash_event() {
+            Event::Pass => {
+                self.flash.program(row, page);
+                Ok(())
+            }
+            Event::Cut(g) => {
+                self.flash.tear_row(row, g);
+                Err(Trouble::Off)
+            }
+            Event::Bad(g) => {
+                self.flash.tear_row(row, g);
+                Err(Trouble::Bad)
+            }
+        }
+    }
 }
 
 impl Board for MemBoard {
@@ -157,24 +189,12 @@ impl Board for MemBoard {
             result (board_state self.new) }
         ensures power { board_power self.new ≡ after_flash (board_power self.old) }
     {
-        if !self.supply.powered() {
-            return Err(Trouble::Off);
+        if self.supply.is_quiet() {
+            self.begun = more(self.begun);
+            self.flash.program(row, page);
+            return Ok(());
         }
-        self.begun = more(self.begun);
-        match self.supply.flash_event() {
-            Event::Pass => {
-                self.flash.program(row, page);
-                Ok(())
-            }
-            Event::Cut(g) => {
-                self.flash.tear_row(row, g);
-                Err(Trouble::Off)
-            }
-            Event::Bad(g) => {
-                self.flash.tear_row(row, g);
-                Err(Trouble::Bad)
-            }
-        }
+        self.program_planned(row, page)
     }
 
     #[tactic(auto, unfolding(envy_base::specs::Counting::up, envy_power::specs::Power::up))]

@@ -183,6 +183,14 @@ impl Supply {
         self.calm
     }
 
+    /// Whether power is known to be on with nothing planned, so that no operation meets anything or counts against anything.
+    #[inline]
+    pub fn is_quiet(&self) -> bool
+        ensures { IsTrue result → IsTrue self.now.on × (self.now.cut_plan ≡ None) × (self.now.bad_plan ≡ None) }
+    {
+        self.calm && self.bad_plan.is_none()
+    }
+
     /// Whether power is on.
     pub fn powered(&self) -> bool
         ensures { result ≡ self.now.on }

@@ -1,6 +1,6 @@
 use Rattle.std.proofs.Common.{sym}
 use Rattle.envy_bench.proofs.Boards.{program_is_cut, program_is_bad}
-use Rattle.envy_bench.proofs.board.MemBoardBoard.program.Goals as goal
+use Rattle.envy_bench.proofs.board.MemBoard.program_planned.Goals as goal
 
 pub returns-in-Cut-clause-state : goal.returns-in-Cut-clause-state
 returns-in-Cut-clause-state c =
