@@ -41,6 +41,7 @@ fn choose_near(space: &Space, chooser: &Chooser, home: u32) -> Choice
 }
 
 /// The choice within the nearest usable partition.
+#[cold]
 #[inline(never)]
 fn free_or_clean(space: &Space, chooser: &Chooser, partition: u32) -> Choice
     requires positions { chooser.now.positions ≡ space.now.shape.segments - 1 }
@@ -99,6 +100,8 @@ fn is_usable(space: &Space, chooser: &Chooser, partition: u32) -> bool
 }
 
 /// The usable partition nearest to a home's.
+#[cold]
+#[inline(never)]
 fn nearest(space: &Space, chooser: &Chooser, home: u32) -> u32
     requires positions { chooser.now.positions ≡ space.now.shape.segments - 1 }
     requires home { home < space.now.shape.segments - 1 }

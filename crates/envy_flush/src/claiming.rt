@@ -11,6 +11,7 @@ use crate::parts::Parts;
 use envy_base::{Board, Off};
 
 /// Claims a row at a position for a page that is flushed.
+#[inline(always)]
 pub fn claim_at<B: Board>(
     board: &mut B,
     parts: &mut Parts,

@@ -89,6 +89,7 @@ fn planned<B: Board>(
 }
 
 /// Begins to clean a position. Of its kept rows some are moved to the partition `aside`.
+#[inline(never)]
 pub fn begin_clean<B: Board>(
     board: &mut B,
     parts: &mut Parts,
@@ -195,6 +196,7 @@ fn run_clean<B: Board>(
 }
 
 /// Cleans a position and claims a row there.
+#[inline(never)]
 pub fn clean<B: Board>(
     board: &mut B,
     parts: &mut Parts,

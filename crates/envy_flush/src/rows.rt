@@ -59,6 +59,8 @@ fn is_busy<B: Board>(board: &B, parts: &Parts) -> Result<bool, Off>
 }
 
 /// A row for a page with this home, while a job runs or a stage of a swap is left.
+#[cold]
+#[inline(never)]
 fn busy_row<B: Board>(
     board: &mut B,
     parts: &mut Parts,

@@ -19,19 +19,24 @@ pub struct Chooser {
     pub(crate) policy: Policy,
     pages: u32,
     positions: u32,
+    /// How many consecutive positions make a partition under the policy.
+    run: u32,
     heats: Heats,
     turns: Vec<u32>,
     pub(crate) lives: Option<Lifetime>,
 }
 
 impl Model for Chooser {
+    ghost use Rattle.std.specs.Prelude.{◌≡◌};
+    ghost use Rattle.envy_policy.specs.Setup.{run_of};
     ghost use Rattle.envy_policy.specs.History.{History, IsHistory};
 
     ghost Value = { History };
 
     ghost view = { λ a. record { policy = a.policy; pages = a.pages; positions = a.positions; heats = a.heats.heats; turns = a.turns.items; flushes = a.heats.flushes; lives = a.lives } };
 
-    ghost invariant = { λ a. IsHistory (record { policy = a.policy; pages = a.pages; positions = a.positions; heats = a.heats.heats; turns = a.turns.items; flushes = a.heats.flushes; lives = a.lives }) };
+    ghost invariant = { λ a. IsHistory (record { policy = a.policy; pages = a.pages; positions = a.positions; heats = a.heats.heats; turns = a.turns.items; flushes = a.heats.flushes; lives = a.lives })
+        × (a.run ≡ run_of a.policy a.positions) };
 }
 
 impl Chooser {
@@ -54,6 +59,7 @@ impl Chooser {
             policy,
             pages: setup.shape.pages,
             positions,
+            run,
             heats,
             turns,
             lives,
@@ -83,6 +89,7 @@ impl Chooser {
 
     /// Warms the position's partition, to which a row was claimed for a flush. Each 1,024th such call
     /// since the start or the last reset halves all heats.
+    #[inline(always)]
     pub fn note_flush(&mut self, position: u32)
         requires { position < self.old.positions }
         ensures { self.new ≡ flushed self.old position }
@@ -93,6 +100,7 @@ impl Chooser {
 
     /// Notes that a row at a position was claimed for a flush of a page: as `note_flush`, and under `Lifetime`
     /// in the page's life too.
+    #[inline(always)]
     pub fn note_claim(&mut self, position: u32, page: u32)
         requires position { position < self.old.positions }
         requires page { page < self.old.pages }
@@ -125,13 +133,13 @@ impl Chooser {
     pub fn reset(&mut self)
         ensures { self.new ≡ started self.old.policy self.old.pages self.old.positions }
     {
-        let run = self.policy.run(self.positions);
         self.heats.reset();
-        start_turns(&mut self.turns, self.positions, run);
+        start_turns(&mut self.turns, self.positions, self.run);
         reset(&mut self.lives);
     }
 
     /// The first position of a partition, and the one after its last.
+    #[inline(always)]
     pub fn bounds(&self, partition: u32) -> (u32, u32)
         requires { partition < length self.now.heats }
         ensures first { result.0 ≡ first_of self.now partition }
@@ -140,18 +148,18 @@ impl Chooser {
         ensures within { result.1 ≤ self.now.positions }
         ensures whole { IsHistory self.now }
     {
-        let run = self.policy.run(self.positions);
-        let first = partition * run;
-        (first, self.positions.min(first + run))
+        let first = partition * self.run;
+        (first, self.positions.min(first + self.run))
     }
 
     /// The partition of a position.
+    #[inline(always)]
     pub fn partition_of(&self, position: u32) -> u32
         requires { position < self.now.positions }
         ensures value { result ≡ partition_of self.now position }
         ensures counted { result < length self.now.heats }
     {
-        position / self.policy.run(self.positions)
+        position / self.run
     }
 
     fn count(&self) -> u32

@@ -43,7 +43,25 @@ fn halved(flushes: u32, count: usize) -> usize
 }
 
 // Halves the heats from `first` on up to the one before `end`, and answers the sum of their halves then.
+#[inline(always)]
 fn halve(kept: &mut [u32], first: usize, end: usize) -> u32
+    requires order { first ≤ end }
+    requires end { end ≤ length kept.old }
+    requires few { sum (heats_of first kept.old) < 2 ^ 32 }
+    ensures count { length kept.new ≡ length kept.old }
+    ensures heats { heats_of end kept.new ≡ heats_of first kept.old }
+    ensures halves { halves_of end kept.new ≡ halves_of first kept.old + result }
+{
+    if first == end {
+        return 0;
+    }
+    halve_some(kept, first, end)
+}
+
+// The same where there are some.
+#[cold]
+#[inline(never)]
+fn halve_some(kept: &mut [u32], first: usize, end: usize) -> u32
     requires order { first ≤ end }
     requires end { end ≤ length kept.old }
     requires few { sum (heats_of first kept.old) < 2 ^ 32 }
@@ -72,7 +90,7 @@ fn warm(kept: &mut [u32], halved: usize, partition: usize) -> u32
     let heat = kept[partition];
     if partition < halved {
         kept[partition] = heat + 1;
-        return (heat + 1) / 2 - heat / 2;
+        return heat % 2;
     }
     kept[partition] = heat + 2;
     0
@@ -119,6 +137,7 @@ impl Heats {
     }
 
     /// Warms a partition. Each 1,024th such call since the start or the last reset halves all heats.
+    #[inline(always)]
     pub(crate) fn note(&mut self, partition: u32)
         requires { partition < length self.old.heats }
         ensures { self.new ≡ noted self.old partition }

@@ -133,6 +133,7 @@ impl Lifetime {
     }
 
     /// Notes that a row at a position was claimed for a flush of a page.
+    #[inline(never)]
     pub fn note_flush(&mut self, position: u32, page: u32)
         requires position { position < length self.old.cleaned }
         requires page { page < length self.old.born }

@@ -22,6 +22,7 @@ pub fn started(alloc: Global, setup: &Setup) -> Result<Option<Lifetime>, NoMemor
 }
 
 /// Notes that a row at a position was claimed for a flush of a page, if lives are noted.
+#[inline(always)]
 pub fn note_claim(lives: &mut Option<Lifetime>, position: u32, page: u32)
     requires { IfSome lives.old (λ n. (position < length n.cleaned) × (page < length n.born)) }
     ensures { lives.new ≡ option_map (noted_flush position page) lives.old }

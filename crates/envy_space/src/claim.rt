@@ -18,6 +18,7 @@ impl Space {
     /// spare that another is being copied to. The row's page is written first, so that power that fails
     /// before the fill is raised leaves the row free, and no fill is ever lowered. The array stays. Without
     /// power nothing changes.
+    #[inline(always)]
     pub fn claim<B: Board>(&mut self, board: &mut B, segment: u32, page: u32) -> Result<u32, Off>
         requires ready { IsTrue (B.state board.old).on → MayClaim (chart (B.state board.old)) self.old segment }
         requires shape { self.old.shape ≡ (B.state board.old).shape }
@@ -44,6 +45,7 @@ impl Space {
     }
 
     // The same from a sound board.
+    #[inline(always)]
     fn claim_row<B: Board>(&mut self, board: &mut B, segment: u32, page: u32) -> Result<u32, Off>
         requires on { IsTrue (B.state board.old).on }
         requires ready { MayClaim (chart (B.state board.old)) self.old segment }

@@ -186,6 +186,8 @@ impl Flags {
     }
 
     /// Turns the flag of a place.
+    #[cold]
+    #[inline(never)]
     fn turn(&mut self, place: u32)
         requires { place < length self.old }
         ensures { self.new ≡ slice_set self.old place (1 - slice_index self.old place) }

@@ -48,6 +48,7 @@ impl Scores {
     }
 
     /// Writes the score of a place.
+    #[inline(always)]
     pub fn set(&mut self, place: u32, score: u32)
         requires { place < length self.old }
         ensures { self.new ≡ slice_set self.old place score }
@@ -55,9 +56,19 @@ impl Scores {
         if self.other.place == place {
             self.other.score = score;
         } else if !self.winners.amend(place, score) {
-            self.winners.set(self.other.place, self.other.score);
-            self.other = Entry { place, score };
+            self.set_other(place, score);
         }
+    }
+
+    // The same, and the score is the one beside the winners then.
+    #[cold]
+    #[inline(never)]
+    fn set_other(&mut self, place: u32, score: u32)
+        requires { place < length self.old }
+        ensures { self.new ≡ slice_set self.old place score }
+    {
+        self.winners.set(self.other.place, self.other.score);
+        self.other = Entry { place, score };
     }
 
     /// The score of a place.

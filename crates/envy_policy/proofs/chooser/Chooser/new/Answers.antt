@@ -8,8 +8,10 @@ use Rattle.envy_policy.proofs.chooser.Chooser.new.Goals as goal
 pub invariant_of-result : goal.invariant_of-result
 invariant_of-result c =
     let positions = c.args.setup.now.shape.segments - 1 in
-    let count = ap (count_in positions) c.run-run.ensures in
-    IsHistory-start c.args.setup.now.policy c.args.setup.now.shape.pages positions _ _ _ c.requires.part c.requires.few_part (omega arith)
-    (c.in_ok-heats.ensures ∙ ap cold count)
-    (written _ _ _ (omega arith) ∙ c.start_turns.ensures ∙ ap₂ (λ (run n : ℕ). map (last_in positions run) (range_with_len 0 n)) c.run-run.ensures (c.deref_mut.ensures.len ∙ c.in_ok-turns.ensures.len ∙ count))
-    c.in_ok-lives.ensures
+    let count = ap (count_in positions) c.run-run.ensures in (
+      IsHistory-start c.args.setup.now.policy c.args.setup.now.shape.pages positions _ _ _ c.requires.part c.requires.few_part (omega arith)
+          (c.in_ok-heats.ensures ∙ ap cold count)
+          (written _ _ _ (omega arith) ∙ c.start_turns.ensures ∙ ap₂ (λ (run n : ℕ). map (last_in positions run) (range_with_len 0 n)) c.run-run.ensures (c.deref_mut.ensures.len ∙ c.in_ok-turns.ensures.len ∙ count))
+          c.in_ok-lives.ensures,
+      c.run-run.ensures,
+    )

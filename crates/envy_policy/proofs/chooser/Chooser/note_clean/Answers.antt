@@ -8,10 +8,12 @@ use Rattle.envy_policy.proofs.chooser.Chooser.note_clean.Goals as goal
 pub note_clean-requires : goal.note_clean-requires
 note_clean-requires c =
     let positions = ap (λ (k : History). k.positions) (c.self.view_is ∙ c.set_turn.ensures) in
-    noted-position c.self.inside.policy c.self.inside.pages c.self.inside.positions c.args.position c.self.inside.lives c.self.invariant.lives (omega (arith, positions, c.requires))
+    noted-position c.self.inside.policy c.self.inside.pages c.self.inside.positions c.args.position c.self.inside.lives c.self.invariant.0.lives (omega (arith, positions, c.requires))
 
 pub invariant_of-self : goal.invariant_of-self
 invariant_of-self c =
-    let h : History = record { policy = c.self.inside.policy; pages = c.self.inside.pages; positions = c.self.inside.positions; heats = c.self.inside.heats.heats; turns = c.self.inside.turns.items; flushes = c.self.inside.heats.flushes; lives = c.self.inside.lives } in
-    IsHistory-lives h h.turns _ c.self.invariant
-    (subst (λ (l : Option Notes). AreLives h.policy h.pages h.positions l) (sym c.note_clean.ensures) (AreLives-clean h.policy h.pages h.positions c.args.position h.lives c.self.invariant.lives))
+    let h : History = record { policy = c.self.inside.policy; pages = c.self.inside.pages; positions = c.self.inside.positions; heats = c.self.inside.heats.heats; turns = c.self.inside.turns.items; flushes = c.self.inside.heats.flushes; lives = c.self.inside.lives } in (
+      IsHistory-lives h h.turns _ c.self.invariant.0
+          (subst (λ (l : Option Notes). AreLives h.policy h.pages h.positions l) (sym c.note_clean.ensures) (AreLives-clean h.policy h.pages h.positions c.args.position h.lives c.self.invariant.0.lives)),
+      c.self.invariant.1,
+    )

@@ -9,7 +9,7 @@ invariant_of-self c =
     let h : History = record { policy = a.policy; pages = a.pages; positions = a.positions; heats = a.heats.heats; turns = a.turns.items; flushes = a.heats.flushes; lives = a.lives } in
     let positions = ap (λ (k : History). k.positions) c.self.view_is in
     let own : c.partition_of-partition.result ≡ partition_of h c.args.position = c.partition_of-partition.ensures.value ∙ ap (λ (k : History). partition_of k c.args.position) (sym c.self.view_is) in
-    subst IsHistory (sym (after-note h c.note.new.self c.args.position _ c.note.ensures own)) (IsHistory-flushed h c.args.position c.self.invariant (omega (arith, positions, c.requires)))
+    (subst IsHistory (sym (after-note h c.note.new.self c.args.position _ c.note.ensures own)) (IsHistory-flushed h c.args.position c.self.invariant.0 (omega (arith, positions, c.requires))), c.self.invariant.1)
 
 pub returns : goal.returns
 returns c =

@@ -1,6 +1,6 @@
 use Rattle.std.proofs.Common.{◌≡◌, ◌+◌, length}
 use Rattle.envy_policy.specs.Heats.{heats_of, halves_of}
-use Rattle.envy_policy.proofs.heats.halve.Given as goal
+use Rattle.envy_policy.proofs.heats.halve_some.Given as goal
 
 abbrev pub invariant-loop-g : goal.invariant-loop-g
 invariant-loop-g l = record {

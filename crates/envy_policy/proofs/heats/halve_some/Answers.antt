@@ -1,7 +1,7 @@
 use Rattle.std.proofs.Common.{◌∙◌, ◌<◌, length, arith}
 use Rattle.std.proofs.lemmas.List.{length-set}
 use Rattle.envy_policy.proofs.Warming.{one-heats, one-halves, halves-so-far}
-use Rattle.envy_policy.proofs.heats.halve.Goals as goal
+use Rattle.envy_policy.proofs.heats.halve_some.Goals as goal
 
 pub overflow_add-halves : goal.overflow_add-halves
 overflow_add-halves c =
