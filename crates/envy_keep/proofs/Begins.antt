@@ -15,6 +15,7 @@ kept-first setup array p some h = record {
   run = refl;
   stands = h.stands;
   telling = TracedSince.telling (traced-first setup p array some h.shape h.stands h.begins);
+  plays = refl;
   shape = refl;
-  saved = record { was = h.was; synced = h.synced; last = h.last; magic = h.magic; version = h.version; sound = h.sound; array = array; run = refl; words = h.words };
+  saved = record { was = h.was; synced = h.synced; last = h.last; magic = h.magic; version = h.version; sound = h.sound; array = array; run = refl; words = h.words; on_disk = h.last };
 }

@@ -91,11 +91,12 @@ saved-on start old new turns shape stays s = record {
   array = s.array;
   run = entries-as old new start.array s.array _ shape s.run;
   words = s.words;
+  on_disk = s.on_disk;
 }
 
 -- a line that isn't answered `synced`
 saved-more : (start : Start) (now : Chart) (turns : List KeepTurn) (line : KeepLine) (reply : Reply) → IsSaved start now turns → IsSaved start now (record { line = line; replies = TraceReply reply ∷ [] } ∷ turns)
-saved-more start now turns line reply s = record { was = s.was; synced = s.synced; last = s.last; magic = s.magic; version = s.version; sound = s.sound; array = s.array; run = s.run; words = s.words }
+saved-more start now turns line reply s = record { was = s.was; synced = s.synced; last = s.last; magic = s.magic; version = s.version; sound = s.sound; array = s.array; run = s.run; words = s.words; on_disk = s.on_disk }
 
 -- a line of the array joins the turns
 
@@ -117,6 +118,7 @@ module _ (start : Start) (old new : Picture) (turns : List KeepTurn) (line : Lin
         run = entries-as old.chart new.chart start.array left (record { line = Trace line; replies = TraceReply reply ∷ [] } ∷ turns) shape (t.array, t.run, inr (reply, refl, says));
         stands = stands;
         telling = telling-more start.memory (record { line = line; replies = reply ∷ [] }) (trace_turns turns) old new t.telling shape a.notes;
+        plays = (old, t.plays, inr (reply, refl, a.works, a.rules));
         shape = shape ∙ t.shape;
         saved = saved-more start new.chart turns (Trace line) reply saved;
       }
@@ -133,6 +135,9 @@ module _ (start : Start) (old new : Picture) (turns : List KeepTurn) (line : Lin
         version = LostOn.version loses.lost;
         sound = LostOn.sound loses.lost;
         off = LostOn.off loses.lost;
+        before = old;
+        plays = t.plays;
+        below = a.works;
         shape = shape ∙ t.shape;
         saved = saved;
       }
@@ -154,6 +159,7 @@ sync-more start old turns t plans given good =
       run = (t.array, t.run, (refl, refl));
       stands = told-stands old.chart plans given old.chart.plans old.chart.given t.array stood;
       telling = record { can = Telling.can t.telling; last = Telling.last t.telling; tallies = record { programs = Tallies.programs tallies; erases = Tallies.erases tallies } };
+      plays = (old, t.plays, (refl, (plans, given, refl)));
       shape = t.shape;
       saved = record {
         was = with_numbers old.chart plans given old.chart.plans old.chart.given;
@@ -165,6 +171,7 @@ sync-more start old turns t plans given good =
         array = t.array;
         run = (t.array, t.run, (refl, refl));
         words = Holds.durable stood.holds;
+        on_disk = (record old { chart = with_numbers old.chart plans given old.chart.plans old.chart.given }, (old, t.plays, (refl, (plans, given, refl))), refl);
       };
     }
 
@@ -181,6 +188,9 @@ sync-lost start old turns t =
       version = Holds.version stood.holds;
       sound = Holds.sound stood.holds;
       off = refl;
+      before = old;
+      plays = t.plays;
+      below = refl;
       shape = t.shape;
       saved = saved-on start old.chart (failed old.chart) turns refl (λ was last. record { shape = last.shape; moment = last.moment; bytes = last.bytes }) t.saved;
     }
@@ -246,8 +256,9 @@ still start p turns t = record {
   run = (t.array, t.run, inl (refl, refl, refl));
   stands = t.stands;
   telling = telling-more start.memory (record { line = Empty; replies = [] }) (trace_turns turns) p p t.telling refl (notes-empty p);
+  plays = (p, t.plays, inl (refl, refl, refl));
   shape = t.shape;
-  saved = record { was = IsSaved.was t.saved; synced = IsSaved.synced t.saved; last = IsSaved.last t.saved; magic = IsSaved.magic t.saved; version = IsSaved.version t.saved; sound = IsSaved.sound t.saved; array = IsSaved.array t.saved; run = IsSaved.run t.saved; words = IsSaved.words t.saved };
+  saved = record { was = IsSaved.was t.saved; synced = IsSaved.synced t.saved; last = IsSaved.last t.saved; magic = IsSaved.magic t.saved; version = IsSaved.version t.saved; sound = IsSaved.sound t.saved; array = IsSaved.array t.saved; run = IsSaved.run t.saved; words = IsSaved.words t.saved; on_disk = IsSaved.on_disk t.saved };
 }
 
 pub obeys-empty : (start : Start) (p : Picture) (turns : List KeepTurn) (line : KeepLine) (sink : Drain) → line ≡ Trace Empty → KeptSince start p turns → Obeys Done keep_grammar (KeptSince start p) (LostSince start p) turns line sink sink

@@ -1,14 +1,15 @@
 -- The ends of the memory in a file.
-use Rattle.std.proofs.Common.{◌≡◌, ℕ, Bool, List, refl, sym, ◌∙◌, ap, subst, arith}
-use Rattle.std.specs.Prelude.{Ok}
+use Rattle.std.proofs.Common.{◌≡◌, ℕ, Bool, false, List, refl, sym, ◌∙◌, ap, subst, arith}
+use Rattle.std.specs.Prelude.{IsTrue, Ok}
 use Rattle.envy_args.specs.declared.keep.KeepOptions.{KeepOptions}
 use Rattle.envy_base.specs.Array.{Array}
 use Rattle.envy_base.specs.declared.shape.Shape.{Shape}
-use Rattle.envy_begun.specs.Beginning.{HasBegun, HasStopped}
+use Rattle.envy_begun.specs.Beginning.{HasBegun, HasOperationsOf, HasStopped}
 use Rattle.envy_begun.specs.Left.{Leaves}
 use Rattle.envy_begun.specs.Plans.{BeginsAs, ComesLater, Plans}
 use Rattle.envy_begun.specs.Unserved.{Causes, status_for, why_for}
 use Rattle.envy_begun.specs.declared.planning.Holding.{Holding}
+use Rattle.envy_begun.specs.declared.planning.Holding.TheVariants.{Written}
 use Rattle.envy_begun.specs.declared.unbegun.Unbegun.{Unbegun}
 use Rattle.envy_begun.specs.declared.unbegun.Unbegun.TheVariants.{Failed}
 use Rattle.envy_begun.proofs.Caused.{stopped-unserved}
@@ -18,21 +19,28 @@ use Rattle.envy_memory.specs.Picture.{Picture}
 use Rattle.envy_policy.specs.Setup.{checked}
 use Rattle.envy_policy.specs.declared.setup.Setup.{Setup}
 use Rattle.envy_serve.specs.Streams.{Streams}
+use Rattle.envy_synced.specs.Disk.{IsCompact}
 use Rattle.envy_keep.specs.Ending.{KeepsServed}
 use Rattle.envy_keep.specs.Keeping.{IsServed, IsUnserved, LeavesUnserved, Told, told}
 
 -- what a trace over the memory in a file left, said of the file
 pub served-as : (options : KeepOptions) (file : List ℕ) (setup : Setup) (holding : Holding) (array : Array) (p : Picture) (status why lines taken : ℕ) (left : ℕ → List ℕ → Type 0) (now : ℕ) (io : Streams)
     → Plans holding options file setup → checked setup ≡ Ok tt → BeginsAs holding file setup array → HasBegun setup array p
-    → KeepsServed array p.chart.shape status why lines taken left now io → IsServed options file (told status why lines taken) left now io
-served-as options file setup holding array p status why lines taken left now io plans checks begins begun served = record {
+    → (holding ≡ Written → IsTrue options.compact → IsCompact p.chart) → (holding ≡ Written → options.compact ≡ false → HasOperationsOf file p.chart)
+    → KeepsServed array p p.chart.shape status why lines taken left now io → IsServed options file (told status why lines taken) left now io
+served-as options file setup holding array p status why lines taken left now io plans checks begins begun compacted same served = record {
   setup = setup;
   holding = holding;
   array = array;
   plans = plans;
   checks = checks;
   begins = begins;
-  served = subst (λ (sh : Shape). KeepsServed array sh status why lines taken left now io) (HasBegun.shape begun) served;
+  memory = p;
+  stands = HasBegun.stands begun;
+  starts = HasBegun.begins begun;
+  compacted = compacted;
+  same = same;
+  served = subst (λ (sh : Shape). KeepsServed array p sh status why lines taken left now io) (HasBegun.shape begun) served;
 }
 
 -- a crash leaves a file on which no call was made as it was

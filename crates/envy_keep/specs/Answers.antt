@@ -14,7 +14,7 @@ use Rattle.envy_keep_trace.specs.declared.keep_line.KeepLine.TheVariants.{Trace,
 use Rattle.envy_keep_trace.specs.declared.keep_reply.KeepReply.{KeepReply}
 use Rattle.envy_keep_trace.specs.declared.keep_reply.KeepReply.TheVariants.{Trace as TraceReply, Synced}
 use Rattle.envy_run.specs.Answers.{AnswerLicence, AnswersTo}
-use Rattle.envy_run.specs.Below.{WorksOf}
+use Rattle.envy_run.specs.Below.{FollowsRules, WorksOf}
 use Rattle.envy_run.specs.Hits.{MayTell}
 use Rattle.envy_run.specs.Tells.{CanTell, Notes}
 use Rattle.envy_run.specs.Turns.{TraceTurn}
@@ -26,6 +26,7 @@ pub record TraceAnswers (line : Line) (reply : Reply) (old new : Picture) : Type
   pub licence : AnswerLicence line reply old.chart new.chart
   pub notes : Notes line (reply ∷ []) old new
   pub works : WorksOf line old.chart new.chart
+  pub rules : FollowsRules line reply old new
 
 -- A sync succeeded: what the board's numbers tell is on the disk is what it holds, and nothing else changed. Or it failed,
 -- and power is off.

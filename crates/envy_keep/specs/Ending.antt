@@ -4,8 +4,10 @@ use Rattle.envy_base.specs.Array.{Array, undone}
 use Rattle.envy_base.specs.declared.shape.Shape.{Shape}
 use Rattle.envy_begun.specs.Opens.{OpensAs}
 use Rattle.envy_disk.specs.Disk.{with_numbers}
-use Rattle.envy_synced.specs.Disk.{IsSynced}
-use Rattle.envy_map.specs.Fields.{failed}
+use Rattle.envy_journal.specs.Head.{StandsFor}
+use Rattle.envy_journal.specs.Reading.{operations}
+use Rattle.envy_synced.specs.Disk.{IsSynced, Reopens}
+use Rattle.envy_map.specs.Fields.{Chart, failed}
 use Rattle.envy_memory.specs.Picture.{Picture}
 use Rattle.envy_trace.specs.declared.reply.Reply.TheVariants.{Lost}
 use Rattle.envy_keep_trace.specs.declared.keep_reply.KeepReply.TheVariants.{Trace as TraceReply}
@@ -14,6 +16,7 @@ use Rattle.envy_serve.specs.declared.serving.End.TheVariants.{Done as EndDone, D
 use Rattle.envy_serve.specs.Ends.{Serves}
 use Rattle.envy_serve.specs.Streams.{Streams}
 use Rattle.envy_run.specs.Outcome.{status_of, why_of}
+use Rattle.envy_keep.specs.Playing.{HasBoard, HasLostBoard, IsOnDisk, Plays}
 use Rattle.envy_keep.specs.Turns.{KeepRun, KeepTurn, LosesKeep, keep_grammar, synced_turns}
 
 -- Each file that a crash has left since some sync opens as these words, or as some later ones.
@@ -26,18 +29,34 @@ pub record Survives (sh : Shape) (left_since : ℕ → List ℕ → Type 0) (now
 abbrev pub NoneLater : List ℕ → Type 0
 NoneLater words = ⊥
 
+-- each file that a crash has left since this moment is such a one, or reopens as some later board
+abbrev pub LeavesSince : (ℕ → List ℕ → Type 0) → ℕ → (List ℕ → Type 0) → (Chart → Type 0) → Type 0
+LeavesSince left_since moment Such Later = (file : List ℕ) → left_since moment file → ∥ Such file ⊎ ((other : Chart) × Later other × Reopens other file) ∥₁
+
+abbrev pub NoBoardLater : Chart → Type 0
+NoBoardLater board = ⊥
+
 -- The turns lead to an array, and the crashes since the last line that was answered `synced` leave the array of that line,
+-- or what is later. They leave the board that the memory had behind that line, by the operations that were on the disk then,
 -- or what is later.
-pub record SurvivesSynced (first : Array) (sh : Shape) (turns : List KeepTurn) (left_since : ℕ → List ℕ → Type 0) (now : ℕ) (Later : List ℕ → Type 0) : Type 0 where
+pub record SurvivesSynced (first : Array) (memory : Picture) (sh : Shape) (turns : List KeepTurn) (left_since : ℕ → List ℕ → Type 0) (now : ℕ) (Later : List ℕ → Type 0) (LaterBoard : Chart → Type 0) : Type 0 where
   pub array : Array
   pub run : KeepRun sh.entries first (synced_turns turns) array
   pub survives : Survives sh left_since now (undone array) Later
+  pub board : Chart
+  pub on_disk : IsOnDisk memory (synced_turns turns) board
+  pub reopens : LeavesSince left_since survives.moment (Reopens board) LaterBoard
+  pub synced : IsSynced board
+  pub reads : LeavesSince left_since survives.moment (StandsFor board.shape (operations synced.bytes)) LaterBoard
 
 -- the same of all turns: behind the last of them a sync succeeded
-pub record SurvivesWhole (first : Array) (sh : Shape) (turns : List KeepTurn) (left_since : ℕ → List ℕ → Type 0) (now : ℕ) : Type 0 where
+pub record SurvivesWhole (first : Array) (memory : Picture) (sh : Shape) (turns : List KeepTurn) (left_since : ℕ → List ℕ → Type 0) (now : ℕ) : Type 0 where
   pub array : Array
   pub run : KeepRun sh.entries first turns array
   pub survives : Survives sh left_since now (undone array) NoneLater
+  pub last : Picture
+  pub plays : Plays memory turns last
+  pub reopens : LeavesSince left_since survives.moment (Reopens last.chart) NoBoardLater
 
 -- the turns lead to an array
 abbrev pub HasKept : Array → Shape → List KeepTurn → Type 0
@@ -59,20 +78,22 @@ IsLostLine first sh (turn ∷ earlier) words = (array left : Array) × KeepRun s
 
 -- What each crash left, by the end and the status. Where all lines were done a sync comes before status 0; where that
 -- fails, the status is 6.
-abbrev pub EndsKept : End → ℕ → Array → Shape → List KeepTurn → (ℕ → List ℕ → Type 0) → ℕ → Type 0
-EndsKept EndDone status first sh turns left_since now =
-    ((status ≡ 0) × SurvivesWhole first sh turns left_since now)
-    ⊎ ((status ≡ 6) × SurvivesSynced first sh turns left_since now (IsWhole first sh turns))
-EndsKept EndDead status first sh turns left_since now = (status ≡ 6) × SurvivesSynced first sh turns left_since now (IsLostLine first sh turns)
-EndsKept end status first sh turns left_since now = (status ≡ status_of end) × SurvivesSynced first sh turns left_since now NoneLater
+abbrev pub EndsKept : End → ℕ → Array → Picture → Shape → List KeepTurn → (ℕ → List ℕ → Type 0) → ℕ → Type 0
+EndsKept EndDone status first memory sh turns left_since now =
+    ((status ≡ 0) × SurvivesWhole first memory sh turns left_since now)
+    ⊎ ((status ≡ 6) × SurvivesSynced first memory sh turns left_since now (IsWhole first sh turns) (HasBoard memory turns))
+EndsKept EndDead status first memory sh turns left_since now =
+    (status ≡ 6) × SurvivesSynced first memory sh turns left_since now (IsLostLine first sh turns) (HasLostBoard memory turns)
+EndsKept end status first memory sh turns left_since now =
+    (status ≡ status_of end) × SurvivesSynced first memory sh turns left_since now NoneLater NoBoardLater
 
--- a trace was served over a kept memory that stood for an array of these sizes
-pub record KeepsServed (first : Array) (sh : Shape) (status why lines taken : ℕ) (left_since : ℕ → List ℕ → Type 0) (now : ℕ) (io : Streams) : Type 0 where
+-- a trace was served over a kept memory, as this picture shows it, that stood for an array of these sizes
+pub record KeepsServed (first : Array) (memory : Picture) (sh : Shape) (status why lines taken : ℕ) (left_since : ℕ → List ℕ → Type 0) (now : ℕ) (io : Streams) : Type 0 where
   pub turns : List KeepTurn
   pub end : End
   pub serves : Serves end lines taken keep_grammar 0 (HasKept first sh) (HasLost first sh) [] turns io
   pub why_is : why ≡ why_of end
-  pub ends : EndsKept end status first sh turns left_since now
+  pub ends : EndsKept end status first memory sh turns left_since now
 
 -- the status at an end, and one sync more where all lines were done
 abbrev pub Concludes : End → ℕ → Picture → Picture → Type 0

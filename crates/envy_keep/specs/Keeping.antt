@@ -1,15 +1,21 @@
 -- What is served of the memory in a file.
-use Rattle.std.specs.Prelude.{◌≡◌, ◌⊎◌, ℕ, Bool, List, Ok}
+use Rattle.std.specs.Prelude.{◌≡◌, ◌⊎◌, ℕ, Bool, false, IsTrue, List, Ok}
 use Rattle.envy_args.specs.declared.keep.KeepOptions.{KeepOptions}
 use Rattle.envy_base.specs.Array.{Array}
 use Rattle.envy_begun.specs.declared.planning.Holding.{Holding}
+use Rattle.envy_begun.specs.declared.planning.Holding.TheVariants.{Written}
 use Rattle.envy_begun.specs.declared.unbegun.Unbegun.{Unbegun}
+use Rattle.envy_begun.specs.Beginning.{HasOperationsOf}
 use Rattle.envy_begun.specs.Left.{Leaves, Stays}
 use Rattle.envy_begun.specs.Plans.{BeginsAs, ComesLater, Plans}
 use Rattle.envy_begun.specs.Unserved.{Causes, status_for, why_for}
+use Rattle.envy_layout.specs.Stands.{Stands}
+use Rattle.envy_memory.specs.Formats.{IsStarted}
+use Rattle.envy_memory.specs.Picture.{Picture}
 use Rattle.envy_policy.specs.Setup.{checked}
 use Rattle.envy_policy.specs.declared.setup.Setup.{Setup}
 use Rattle.envy_serve.specs.Streams.{Streams}
+use Rattle.envy_synced.specs.Disk.{IsCompact}
 use Rattle.envy_keep.specs.Ending.{KeepsServed}
 
 -- what the program says at the end
@@ -22,7 +28,9 @@ pub record Told : Type 0 where
 abbrev pub told : ℕ → ℕ → ℕ → ℕ → Told
 told status why lines taken = record { status = status; why = why; lines = lines; taken = taken }
 
--- a trace was served over the memory in the file
+-- A trace was served over the memory in the file. It was made by the setup of the options: with their policy, limit and
+-- mark. Where they ask for that, the journal with which it began is no longer than a snapshot, and else it has the
+-- operations that it had.
 pub record IsServed (options : KeepOptions) (file : List ℕ) (end : Told) (left_since : ℕ → List ℕ → Type 0) (now : ℕ) (io : Streams) : Type 0 where
   pub setup : Setup
   pub holding : Holding
@@ -30,7 +38,12 @@ pub record IsServed (options : KeepOptions) (file : List ℕ) (end : Told) (left
   pub plans : Plans holding options file setup
   pub checks : checked setup ≡ Ok tt
   pub begins : BeginsAs holding file setup array
-  pub served : KeepsServed array setup.shape end.status end.why end.lines end.taken left_since now io
+  pub memory : Picture
+  pub stands : Stands memory.chart array
+  pub starts : IsStarted setup memory
+  pub compacted : holding ≡ Written → IsTrue options.compact → IsCompact memory.chart
+  pub same : holding ≡ Written → options.compact ≡ false → HasOperationsOf file memory.chart
+  pub served : KeepsServed array memory setup.shape end.status end.why end.lines end.taken left_since now io
 
 -- What a crash leaves of a file that isn't served: it as it was; or, where a memory was to begin in it, what is left by what
 -- it held.

@@ -15,6 +15,7 @@ use Rattle.envy_keep_trace.specs.declared.keep_reply.KeepReply.TheVariants.{Trac
 use Rattle.envy_keep_trace.specs.Keep.{keep_line_of}
 use Rattle.envy_run.specs.Tells.{Telling}
 use Rattle.envy_run.specs.Tracing.{Start as RunStart}
+use Rattle.envy_keep.specs.Playing.{IsOnDisk, LosesBelow, Plays}
 use Rattle.envy_keep.specs.Turns.{KeepTurn, KeepRun, LosesKeep, synced_turns, trace_turns}
 
 -- what a service over a kept memory begins with
@@ -22,7 +23,8 @@ abbrev pub Start : Type 0
 Start = RunStart
 
 -- The board as it was behind the last sync that succeeded, by the numbers of the board now. It stood for the array of the
--- last line that was answered `synced`, or of the first line, and a restart would have found the words of that.
+-- last line that was answered `synced`, or of the first line, and a restart would have found the words of that. It was the
+-- board of the memory behind that line.
 pub record IsSaved (start : Start) (now : Chart) (turns : List KeepTurn) : Type 0 where
   pub was : Chart
   pub synced : IsSynced was
@@ -33,13 +35,15 @@ pub record IsSaved (start : Start) (now : Chart) (turns : List KeepTurn) : Type 
   pub array : Array
   pub run : KeepRun now.shape.entries start.array (synced_turns turns) array
   pub words : durable was ≡ undone array
+  pub on_disk : IsOnDisk start.memory (synced_turns turns) was
 
--- the turns lead from the first array to one for which the board stands
+-- the turns lead from the first array to one for which the board stands, and the memory did below it what its rules say
 pub record KeptSince (start : Start) (p : Picture) (turns : List KeepTurn) : Type 0 where
   pub array : Array
   pub run : KeepRun p.chart.shape.entries start.array turns array
   pub stands : Stands p.chart array
   pub telling : Telling start.memory (trace_turns turns) p
+  pub plays : Plays start.memory turns p
   pub shape : p.chart.shape ≡ start.memory.chart.shape
   pub saved : IsSaved start p.chart turns
 
@@ -54,6 +58,9 @@ pub record LostIn (start : Start) (p : Picture) (turn : KeepTurn) (earlier : Lis
   pub version : p.chart.fields.version ≡ 2
   pub sound : IsSound p.chart
   pub off : p.chart.on ≡ false
+  pub before : Picture
+  pub plays : Plays start.memory earlier before
+  pub below : LosesBelow turn.line before.chart p.chart
   pub shape : p.chart.shape ≡ start.memory.chart.shape
   pub saved : IsSaved start p.chart earlier
 

@@ -73,7 +73,8 @@ pub fn serve_kept<S: Source, K: Sink, B: Steady + Drop, D: Place>(
 ) -> KeepEnded<D>
     requires begun { (start : Start) × KeptSince start memory [] }
     ensures served { (start : Start) → KeptSince start memory []
-        → KeepsServed start.array start.memory.chart.shape result.status result.why result.lines result.taken
+        → KeepsServed start.array start.memory start.memory.chart.shape
+        result.status result.why result.lines result.taken
         (D.left_since result.device) (D.moment result.device)
         (streams_of (S.feed source.old) (S.feed source.new) (K.drain sink.old) (K.drain sink.new)) }
     // power is off only where the file failed, or came to the end of its range

@@ -10,7 +10,7 @@ pub returns-in-Ok-clause-answers : goal.returns-in-Ok-clause-answers
 returns-in-Ok-clause-answers g c =
     let a = c.in-Ok.ensures in
     subst (λ (line : KeepLine). AnswersKeep line (TraceReply c.in-Ok.reply) c.args.memory.now c.answer.new.memory) (sym c.in-Trace.is)
-    (c.in-Ok.reply, refl, record { step = a.step; lost = (λ e. a.lost.0 (ap Ok e), λ off. let e = a.lost.1 off in cc); licence = a.licence; notes = a.notes; works = a.works })
+    (c.in-Ok.reply, refl, record { step = a.step; lost = (λ e. a.lost.0 (ap Ok e), λ off. let e = a.lost.1 off in cc); licence = a.licence; notes = a.notes; works = a.works; rules = a.rules })
 
 pub returns-in-Sync-clause-answers : goal.returns-in-Sync-clause-answers
 returns-in-Sync-clause-answers g c = subst (λ (line : KeepLine). AnswersKeep line c.sync.result c.args.memory.now c.sync.new.memory) (sym c.in-Sync.is) c.sync.ensures
