@@ -7,6 +7,7 @@ ghost use Rattle.envy_layout.specs.Sound.{IsSound};
 ghost use Rattle.envy_bench.specs.Board.{board_state};
 
 use crate::facts::page_of;
+use crate::told::{other, same, same_of};
 use envy_audit::{Audit, Verdict};
 use envy_base::{Board, Job, Off, Place, Shape, Slot, Trouble, Undo};
 use envy_bench::MemBoard;
@@ -14,7 +15,6 @@ use envy_layout::format_board;
 use envy_map::{job, place, set_back, set_fill, set_place, set_slot, set_undo, undo, write_frame};
 use std::alloc::Global;
 use std::process::Abort;
-use std::test::Fail;
 
 pub(crate) const SHAPE: Shape = Shape {
     segments: 4,
@@ -26,7 +26,7 @@ pub(crate) const SHAPE: Shape = Shape {
 };
 
 /// What a test writes on a board.
-#[derive(Clone, Copy, Debug)]
+#[derive(Clone, Copy)]
 enum Write {
     /// A row is claimed for a page, and the page of a number is programmed into it.
     Row(u32, u32, u32),
@@ -100,16 +100,16 @@ fn make<B: Board>(board: &mut B, write: Write) -> Result<bool, Trouble> {
     Ok(true)
 }
 
-/// Makes each of these writes, which are done.
+/// Makes each of these writes, which are done; else the number of the one that isn't is told.
 fn make_all<B: Board>(rt: &impl Abort, board: &mut B, writes: &[Write]) {
-    for one in writes {
-        assert_eq!(rt; make(board, *one), Ok(true), "{one:?}");
+    for i in 0..writes.len() {
+        same_of(rt, &make(board, writes[i]), &Ok(true), "write", &i);
     }
 }
 
 /// Lays rows of each kind on a new board.
 pub(crate) fn lay<B: Board>(rt: &impl Abort, board: &mut B) {
-    assert_eq!(rt; format_board(board), Ok(()));
+    same(rt, &format_board(board), &Ok(()), "format");
     make_all(rt, board, &ROWS_OF_EACH_KIND);
 }
 
@@ -143,13 +143,13 @@ pub(crate) fn undo_all<B: Board>(rt: &impl Abort, board: &mut B) -> Result<(), O
 }
 
 /// Tests that a board is sound.
-pub(crate) fn assert_sound(rt: &impl Abort, alloc: Global, board: &MemBoard) -> Result<(), Fail>
-    ensures { OnOk result (IsSound (chart (board_state board.now))) }
+pub(crate) fn assert_sound(rt: &impl Abort, alloc: Global, board: &MemBoard)
+    ensures { IsSound (chart (board_state board.now)) }
 {
-    let mut audit = Audit::new(alloc, &board.shape())?;
+    let mut audit = Audit::new(alloc, &board.shape()).expect(rt, "no room for an audit");
     match audit.check(board) {
-        Ok(Verdict::Sound) => Ok(()),
-        found => panic!(rt; "the audit finds {found:?}"),
+        Ok(Verdict::Sound) => {}
+        found => other(rt, "audit", &found),
     }
 }
 
@@ -175,7 +175,7 @@ pub(crate) fn assert_at_rest<B: Board>(rt: &impl Abort, board: &B) -> Result<(),
 {
     match job(board)? {
         Job::Idle | Job::Erase => Ok(()),
-        other => panic!(rt; "the job is {other:?}"),
+        found => other(rt, "job", &found),
     }
 }
 

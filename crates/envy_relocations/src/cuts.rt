@@ -5,10 +5,10 @@ use crate::facts::{Fact, holds};
 use crate::rig::Rig;
 use crate::steps::Step::{Finish, PlanCut, Run, Stands};
 use crate::steps::{Step, check_steps};
+use crate::told::same_of;
 use envy_base::{Off, Place};
 use std::alloc::Global;
 use std::process::Abort;
-use std::test::Fail;
 
 // The transaction is undone, so that loads read what a restart leaves.
 const WORDS: Step = Stands(&[
@@ -53,31 +53,32 @@ const LEFT: [(u64, Fact); 14] = [
 /// Tests which operations have been done, of so many that were written.
 fn check_left(rt: &impl Abort, rig: &Rig, written: u64) {
     for (operation, fact) in LEFT.as_slice() {
-        assert_eq!(rt;
-            holds(&rig.board, *fact),
-            Ok(written > *operation),
-            "{fact:?} with {written}"
+        let found = holds(&rig.board, *fact);
+        same_of(
+            rt,
+            &found,
+            &Ok(written > *operation),
+            "cut",
+            &(*fact, written),
         );
     }
 }
 
 /// Tests a relocation whose operation `k` loses power. A write of SRAM that is cut is lost where `g` is 0.
-fn check_cut(rt: &impl Abort, alloc: Global, k: u32, g: u64) -> Result<(), Fail> {
-    let mut rig = Rig::new(rt, alloc)?;
+fn check_cut(rt: &impl Abort, alloc: Global, k: u32, g: u64) {
+    let mut rig = Rig::new(rt, alloc);
     check_steps(rt, &mut rig, "cut", &[PlanCut(k, g), Run(Err(Off))]);
-    let mut rig = rig.restart(rt, alloc)?;
+    let mut rig = rig.restart(rt, alloc);
     check_steps(rt, &mut rig, "restarted", &[WORDS]);
     check_left(rt, &rig, u64::from(k).saturating_add(g));
     check_steps(rt, &mut rig, "finished", &[Finish(Ok(false)), WORDS]);
-    Ok(())
 }
 
 #[test]
-fn words_stay_wherever_a_relocation_is_cut(rt: HostRuntime) -> Result<(), Fail> {
+fn words_stay_wherever_a_relocation_is_cut(rt: HostRuntime) {
     for k in 1..LAST + 1 {
         for g in 0..2 {
-            check_cut(&rt, rt.alloc(), k, g)?;
+            check_cut(&rt, rt.alloc(), k, g);
         }
     }
-    Ok(())
 }

@@ -32,8 +32,8 @@ pub(crate) enum Fact {
 pub(crate) fn page_of(number: u32) -> [u64; 32] {
     let mut page = [0; 32];
     if number > 0 {
-        for (i, word) in page.iter_mut().enumerate() {
-            *word = number as u64 + i as u64;
+        for i in 0..32u32 {
+            page[i as usize] = number as u64 + i as u64;
         }
     }
     page
@@ -56,8 +56,9 @@ fn word_at<B: Board>(board: &B, at: Place, i: u32) -> Result<Option<u64>, Off> {
 
 /// Whether the page at a place is that of this number.
 fn is_page<B: Board>(board: &B, at: Place, number: u32) -> Result<bool, Off> {
-    for (i, wanted) in page_of(number).iter().enumerate() {
-        if word_at(board, at, i as u32)? != Some(*wanted) {
+    let page = page_of(number);
+    for i in 0..32u32 {
+        if word_at(board, at, i)? != Some(page[i as usize]) {
             return Ok(false);
         }
     }

@@ -18,3 +18,5 @@ mod rig;
 mod steps;
 #[cfg(test)]
 mod swaps;
+#[cfg(test)]
+mod told;

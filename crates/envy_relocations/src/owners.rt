@@ -1,25 +1,25 @@
+use crate::told::same_of;
 use envy_txn::Owned;
-use std::test::Fail;
+use std::process::Abort;
 
-#[test]
-fn no_page_may_be_owned_under_the_limit_0(rt: HostRuntime) -> Result<(), Fail> {
-    let mut owned = Owned::new(rt.alloc(), 0)?;
-    assert!(rt; !owned.room());
-    assert_eq!(rt; owned.count(), 0);
-    assert_eq!(rt; owned.owner(3), None);
-    owned.forget();
-    assert_eq!(rt; owned.count(), 0);
-    Ok(())
+/// No page is owned, and so none of these; and there is room for one, or not.
+fn assert_none(rt: &impl Abort, owned: &Owned, room: bool, pages: &[u32]) {
+    for page in pages {
+        let found = (owned.room(), owned.count(), owned.owner(*page));
+        same_of(rt, &found, &(room, 0, None), "owner", page);
+    }
 }
 
 #[test]
-fn a_page_below_the_number_of_pages_or_past_it_has_no_owner_at_first(
-    rt: HostRuntime,
-) -> Result<(), Fail> {
-    let owned = Owned::of_pages(rt.alloc(), 3, 8)?;
-    assert!(rt; owned.room());
-    assert_eq!(rt; owned.count(), 0);
-    assert_eq!(rt; owned.owner(7), None);
-    assert_eq!(rt; owned.owner(8), None);
-    Ok(())
+fn no_page_may_be_owned_under_the_limit_0(rt: HostRuntime) {
+    let mut owned = Owned::new(rt.alloc(), 0).expect(&rt, "no room");
+    assert_none(&rt, &owned, false, &[3]);
+    owned.forget();
+    assert_none(&rt, &owned, false, &[3]);
+}
+
+#[test]
+fn a_page_below_the_number_of_pages_or_past_it_has_no_owner_at_first(rt: HostRuntime) {
+    let owned = Owned::of_pages(rt.alloc(), 3, 8).expect(&rt, "no room");
+    assert_none(&rt, &owned, true, &[7, 8]);
 }

@@ -7,11 +7,11 @@ use crate::steps::Step::{Begin, Counted, PlanBad, PlanCut, Run, Stands, Work};
 use crate::steps::{Step, check_steps};
 use envy_base::{Job, Place, Undo};
 use envy_reloc::Phase;
+use std::alloc::Global;
 use std::process::Abort;
-use std::test::Fail;
 
 /// A relocation of the segment with rows of each kind.
-#[derive(Clone, Copy, Debug)]
+#[derive(Clone, Copy)]
 struct Relocation {
     name: &'static str,
     steps: &'static [Step],
@@ -102,11 +102,14 @@ const RELOCATIONS: [Relocation; 7] = [
     },
 ];
 
+fn check(rt: &impl Abort, alloc: Global, relocation: &Relocation) {
+    let mut rig = Rig::new(rt, alloc);
+    check_steps(rt, &mut rig, relocation.name, relocation.steps);
+}
+
 #[test]
-fn words_stay_through_relocations(rt: HostRuntime) -> Result<(), Fail> {
+fn words_stay_through_relocations(rt: HostRuntime) {
     for relocation in RELOCATIONS.as_slice() {
-        let mut rig = Rig::new(&rt, rt.alloc())?;
-        check_steps(&rt, &mut rig, relocation.name, relocation.steps);
+        check(&rt, rt.alloc(), relocation);
     }
-    Ok(())
 }

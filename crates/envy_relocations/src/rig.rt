@@ -15,9 +15,9 @@ use envy_table::Cache;
 use std::alloc::Global;
 use std::marker::Model;
 use std::process::Abort;
-use std::test::Fail;
 
-/// A board, and the parts beside it that a relocation works on.
+/// A board, and the parts beside it that a relocation works on. Where none of them can be made, the test ends: a way out
+/// by `?` would let go of each part, and cost every function that has it.
 #[derive(Drop)]
 pub(crate) struct Rig {
     pub(crate) board: MemBoard,
@@ -52,44 +52,38 @@ impl Model for Rig {
 fn rows_to_move() -> ArrayVec<u32, 4>
     ensures { All (λ q. q < 6) result.items }
 {
-    let mut moves = ArrayVec::new();
-    moves.push(1);
-    moves.push(0);
-    moves.push(2);
-    moves.push(5);
-    moves
+    ArrayVec::from([1, 0, 2, 5])
 }
 
 impl Rig {
     /// Over a board that nothing is copied or switched on.
-    fn over(rt: &impl Abort, alloc: Global, board: MemBoard) -> Result<Rig, Fail> {
-        assert_sound(rt, alloc, &board)?;
-        assert_parted(rt, &board)?;
-        assert_at_rest(rt, &board)?;
+    fn over(rt: &impl Abort, alloc: Global, board: MemBoard) -> Rig {
+        assert_sound(rt, alloc, &board);
+        assert_parted(rt, &board).expect(rt, "no power");
+        assert_at_rest(rt, &board).expect(rt, "no power");
         let shape = board.shape();
-        let mut space = Space::new(alloc, &shape)?;
-        space.rebuild(&board)?;
-        let cache = Cache::new(alloc, shape.entries)?;
-        Ok(Rig {
+        let mut space = Space::new(alloc, &shape).expect(rt, "no room for a pool");
+        space.rebuild(&board).expect(rt, "no power");
+        let cache = Cache::new(alloc, shape.entries).expect(rt, "no room for a cache");
+        Rig {
             board,
             space,
             cache,
             reloc: Reloc::new(),
-        })
+        }
     }
 
     /// Over the board with rows of each kind.
-    pub(crate) fn new(rt: &impl Abort, alloc: Global) -> Result<Rig, Fail> {
-        SHAPE.check()?;
-        let mut board = MemBoard::new(alloc, &SHAPE, u32::MAX)?;
+    pub(crate) fn new(rt: &impl Abort, alloc: Global) -> Rig {
+        SHAPE.check().expect(rt, "the shape");
+        let mut board = MemBoard::new(alloc, &SHAPE, u32::MAX).expect(rt, "no room for a board");
         lay(rt, &mut board);
         Rig::over(rt, alloc, board)
     }
 
     /// Begins to relocate the segment at position 0. Rows 1, 0, 2 and 5 are to be moved to position 1 or 2.
     pub(crate) fn begin(&mut self, rt: &impl Abort) -> Result<(), Off> {
-        assert!(rt; self.board.shape() == SHAPE);
-        assert_eq!(rt; self.space.segment_at(0), 0);
+        assert!(rt; self.board.shape() == SHAPE && self.space.segment_at(0) == 0);
         let now = job(&self.board)?;
         assert!(rt; now == Job::Idle);
         let moves = rows_to_move();
@@ -116,7 +110,7 @@ impl Rig {
     }
 
     /// After a failure of power: power returns, and the transaction and the job are settled.
-    pub(crate) fn restart(self, rt: &impl Abort, alloc: Global) -> Result<Rig, Fail> {
+    pub(crate) fn restart(self, rt: &impl Abort, alloc: Global) -> Rig {
         let Rig {
             mut board,
             space: _space,
@@ -125,10 +119,10 @@ impl Rig {
         } = self;
         assert!(rt; !board.powered());
         assert!(rt; board.power_on());
-        undo_all(rt, &mut board)?;
-        assert_sound(rt, alloc, &board)?;
-        assert_clear(rt, &board)?;
-        Reloc::settle(&mut board)?;
+        undo_all(rt, &mut board).expect(rt, "no power");
+        assert_sound(rt, alloc, &board);
+        assert_clear(rt, &board).expect(rt, "no power");
+        Reloc::settle(&mut board).expect(rt, "no power");
         Rig::over(rt, alloc, board)
     }
 }

@@ -2,6 +2,7 @@
 
 use crate::facts::{Fact, holds};
 use crate::rig::Rig;
+use crate::told::{same, same_of};
 use envy_base::{Job, Off, Trouble};
 use envy_map::job;
 use envy_reloc::Phase;
@@ -28,7 +29,7 @@ pub(crate) enum Step {
 /// Tests that each of these stands on the board.
 fn check_facts(rt: &impl Abort, rig: &Rig, name: &str, facts: &[Fact]) {
     for fact in facts {
-        assert_eq!(rt; holds(&rig.board, *fact), Ok(true), "{name}: {fact:?}");
+        same_of(rt, &holds(&rig.board, *fact), &Ok(true), name, fact);
     }
 }
 
@@ -82,7 +83,6 @@ fn made(rt: &impl Abort, rig: &mut Rig, name: &str, step: Step) -> Step {
 /// Tests that each step is answered as it says.
 pub(crate) fn check_steps(rt: &impl Abort, rig: &mut Rig, name: &str, steps: &[Step]) {
     for step in steps {
-        let told = made(rt, rig, name, *step);
-        assert_eq!(rt; told, *step, "{name}");
+        same(rt, &made(rt, rig, name, *step), step, name);
     }
 }

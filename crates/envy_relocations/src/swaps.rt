@@ -3,27 +3,56 @@ ghost use Rattle.envy_base.specs.Shape.{IsShape};
 ghost use Rattle.envy_map.specs.Fields.{chart};
 ghost use Rattle.envy_layout.specs.Sound.{IsSound};
 
-use envy_base::{Board, Shape};
+use crate::told::same_of;
+use envy_base::{Board, Off, Shape, Trouble};
 use envy_bench::MemBoard;
 use envy_layout::{format_board, raise_wear};
 use envy_wear::{Stages, Swap, due};
-use std::test::Fail;
+use std::alloc::Global;
+use std::process::Abort;
+
+/// What is done with the stages of a swap, or asked of them, and the answer.
+#[derive(Clone, Copy, Debug, PartialEq, Eq)]
+enum Turn {
+    Start(Swap),
+    Clear,
+    Pending(bool),
+    Next(Option<u32>),
+}
+
+const TURNS: [Turn; 12] = [
+    Turn::Pending(false),
+    Turn::Next(None),
+    Turn::Start(Swap { worn: 4, young: 1 }),
+    Turn::Pending(true),
+    Turn::Next(Some(4)),
+    Turn::Next(Some(1)),
+    Turn::Next(Some(4)),
+    Turn::Pending(false),
+    Turn::Next(None),
+    Turn::Start(Swap { worn: 2, young: 3 }),
+    Turn::Clear,
+    Turn::Next(None),
+];
+
+/// Does this, and tells it with the answer.
+fn done(stages: &mut Stages, turn: Turn) -> Turn {
+    match turn {
+        Turn::Start(swap) => stages.start(swap),
+        Turn::Clear => stages.clear(),
+        Turn::Pending(_) => return Turn::Pending(stages.pending()),
+        Turn::Next(_) => return Turn::Next(stages.next()),
+    }
+    turn
+}
 
 #[test]
 fn a_swap_has_three_stages(rt: HostRuntime) {
     let mut stages = Stages::new();
-    assert!(rt; !stages.pending());
-    assert_eq!(rt; stages.next(), None);
-    stages.start(Swap { worn: 4, young: 1 });
-    assert!(rt; stages.pending());
-    assert_eq!(rt; stages.next(), Some(4));
-    assert_eq!(rt; stages.next(), Some(1));
-    assert_eq!(rt; stages.next(), Some(4));
-    assert!(rt; !stages.pending());
-    assert_eq!(rt; stages.next(), None);
-    stages.start(Swap { worn: 2, young: 3 });
-    stages.clear();
-    assert_eq!(rt; stages.next(), None);
+    for i in 0..TURNS.len() {
+        let turn = TURNS[i];
+        same_of(&rt, &done(&mut stages, turn), &turn, "turn", &i);
+    }
 }
 
 const SHAPE: Shape = Shape {
@@ -36,48 +65,80 @@ const SHAPE: Shape = Shape {
 };
 
 /// Formats a board, and wears the segments at its three positions so often more.
-fn wear_out<B: Board>(board: &mut B, more: [u32; 3]) -> Result<(), Fail>
+fn wear_out<B: Board>(board: &mut B, more: [u32; 3]) -> Result<(), Trouble>
     requires { (B.state board.old).shape ≡ SHAPE }
     ensures sound { OnOk result (IsSound (chart (B.state board.new))) }
 {
-    format_board(board).map_err(|_| "the board can't be formatted")?;
+    format_board(board)?;
     wear_segment(board, 0, more[0])?;
     wear_segment(board, 1, more[1])?;
-    wear_segment(board, 2, more[2])
+    wear_segment(board, 2, more[2])?;
+    Ok(())
 }
 
-fn wear_segment<B: Board>(board: &mut B, segment: u32, times: u32) -> Result<(), Fail>
+fn wear_segment<B: Board>(board: &mut B, segment: u32, times: u32) -> Result<(), Off>
     requires sound { IsSound (chart (B.state board.old)) }
     requires segment { segment < (B.state board.old).shape.segments }
     ensures sound { OnOk result (IsSound (chart (B.state board.new))) }
     ensures shape { (B.state board.new).shape ≡ (B.state board.old).shape }
 {
     for _turn in 0..times {
-        raise_wear(board, segment).map_err(|_| "power failed")?;
+        raise_wear(board, segment)?;
     }
     Ok(())
 }
 
-/// The swap that is due on a new board whose segments were worn so often more.
-fn due_after(
-    rt: &HostRuntime,
+/// How often the segments of a new board were worn more, the limit, the erases since the last swap, and the swap that is
+/// due then.
+#[derive(Clone, Copy, Debug)]
+struct Due {
     more: [u32; 3],
     limit: u64,
     since: u64,
-) -> Result<Option<Swap>, Fail> {
-    SHAPE.check().map_err(|_| "the shape doesn't check")?;
-    let mut board = MemBoard::new(rt.alloc(), &SHAPE, 0)?;
-    wear_out(&mut board, more)?;
-    Ok(due(&board, limit, since).map_err(|_| "power failed")?)
+    swap: Option<Swap>,
 }
 
+/// The swap that is due.
+fn found(rt: &impl Abort, alloc: Global, row: &Due) -> Option<Swap> {
+    SHAPE.check().expect(rt, "the shape");
+    let mut board = MemBoard::new(alloc, &SHAPE, 0).expect(rt, "no room for a board");
+    wear_out(&mut board, row.more).expect(rt, "wearing out");
+    due(&board, row.limit, row.since).expect(rt, "no power")
+}
+
+fn check(rt: &impl Abort, alloc: Global, row: &Due) {
+    same_of(rt, &found(rt, alloc, row), &row.swap, "due", row);
+}
+
+const SWAP: Swap = Swap { worn: 1, young: 0 };
+
+/// One swap is due or not by the limit and the erases since the last.
+const ABOVE: [Due; 3] = [
+    Due {
+        more: [0, 3, 1],
+        limit: 2,
+        since: 2,
+        swap: Some(SWAP),
+    },
+    Due {
+        more: [0, 3, 1],
+        limit: 3,
+        since: 3,
+        swap: None,
+    },
+    Due {
+        more: [0, 3, 1],
+        limit: 2,
+        since: 1,
+        swap: None,
+    },
+];
+
 #[test]
-fn a_swap_is_due_above_the_limit(rt: HostRuntime) -> Result<(), Fail> {
-    let swap = Swap { worn: 1, young: 0 };
-    assert_eq!(rt; due_after(&rt, [0, 3, 1], 2, 2)?, Some(swap));
-    assert_eq!(rt; due_after(&rt, [0, 3, 1], 3, 3)?, None);
-    assert_eq!(rt; due_after(&rt, [0, 3, 1], 2, 1)?, None);
-    Ok(())
+fn a_swap_is_due_above_the_limit(rt: HostRuntime) {
+    for row in ABOVE.as_slice() {
+        check(&rt, rt.alloc(), row);
+    }
 }
 
 /// How often the segments were worn more, and the most and the least worn position then.
@@ -89,9 +150,14 @@ const LOWEST: [([u32; 3], Swap); 4] = [
 ];
 
 #[test]
-fn the_lowest_of_several_positions_is_swapped(rt: HostRuntime) -> Result<(), Fail> {
+fn the_lowest_of_several_positions_is_swapped(rt: HostRuntime) {
     for (more, swap) in LOWEST.as_slice() {
-        assert_eq!(rt; due_after(&rt, *more, 1, 9)?, Some(*swap));
+        let row = Due {
+            more: *more,
+            limit: 1,
+            since: 9,
+            swap: Some(*swap),
+        };
+        check(&rt, rt.alloc(), &row);
     }
-    Ok(())
 }

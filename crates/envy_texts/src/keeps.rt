@@ -1,10 +1,11 @@
 //! What the words behind `keep` are read as.
 
+use crate::told::{same, same_bytes};
+use crate::words::split;
 use envy_args::{KeepOptions, Sizes, WordsFault, read_keep};
 use envy_policy::Policy;
 use std::alloc::Global;
 use std::process::Abort;
-use std::test::Fail;
 
 /// Words, their path, and their options.
 type Row = (&'static str, &'static str, KeepOptions);
@@ -87,14 +88,7 @@ const FORMS: [Row; 12] = [
         },
     ),
     ("--file a --compact 0", "a", USUAL),
-    (
-        "--compact=01 --file a",
-        "a",
-        KeepOptions {
-            compact: true,
-            ..USUAL
-        },
-    ),
+    ("--compact=01 --file a", "a", COMPACT),
     (
         "--limit 18446744073709551615 --file a",
         "a",
@@ -105,12 +99,17 @@ const FORMS: [Row; 12] = [
     ),
 ];
 
+const COMPACT: KeepOptions = KeepOptions {
+    compact: true,
+    ..USUAL
+};
+
 // Whether these words say that the file is written byte by byte.
-const PREMISES: [(&str, bool); 4] = [
-    ("--file a", false),
-    ("--file a --bytewise 0", false),
-    ("--bytewise=1 --file a", true),
-    ("--compact 1 --file a --bytewise 01", true),
+const PREMISES: [(&str, bool, KeepOptions); 4] = [
+    ("--file a", false, USUAL),
+    ("--file a --bytewise 0", false, USUAL),
+    ("--bytewise=1 --file a", true, USUAL),
+    ("--compact 1 --file a --bytewise 01", true, COMPACT),
 ];
 
 // None of these is.
@@ -138,56 +137,51 @@ const OTHERS: [&str; 21] = [
     "--File a",
 ];
 
-fn words(alloc: Global, line: &str) -> Result<Vec<String>, Fail> {
-    let mut words = Vec::new(alloc);
-    for word in line.split(" ") {
-        words.push(String::from_str(alloc, word)?)?;
-    }
-    Ok(words)
+/// What these words say of how the file is written, and the options. Of words that aren't refused the path is this one.
+fn said(
+    rt: &impl Abort,
+    words: &[String],
+    alloc: Global,
+    line: &str,
+    path: &str,
+) -> Result<(bool, KeepOptions), WordsFault> {
+    let said = read_keep(alloc, words)?;
+    same_bytes(rt, said.file.as_bytes(), path.as_bytes(), line);
+    Ok((said.bytewise, said.options))
 }
 
-fn check(rt: &impl Abort, alloc: Global, row: &Row) -> Result<(), Fail> {
-    let (line, file, options) = row;
-    let words = words(alloc, line)?;
-    match read_keep(alloc, &words) {
-        Ok(said) => {
-            assert_eq!(rt; said.file, *file, "at {line:?}");
-            assert_eq!(rt; said.options, *options, "at {line:?}");
-            Ok(())
-        }
-        Err(_) => Err(Fail::new("refused")),
+/// Tests that a line of words says this.
+fn check(
+    rt: &impl Abort,
+    alloc: Global,
+    line: &str,
+    path: &str,
+    wanted: Result<(bool, KeepOptions), WordsFault>,
+) {
+    let words = split(rt, alloc, line);
+    same(rt, &said(rt, &words, alloc, line, path), &wanted, line);
+}
+
+#[test]
+fn words_of_keep_name_a_file_and_its_options(rt: HostRuntime) {
+    for (line, path, options) in FORMS.as_slice() {
+        check(&rt, rt.alloc(), line, path, Ok((false, *options)));
     }
 }
 
 #[test]
-fn words_of_keep_name_a_file_and_its_options(rt: HostRuntime) -> Result<(), Fail> {
-    for row in &FORMS {
-        check(&rt, rt.alloc(), row)?;
+fn words_of_keep_say_how_the_file_is_written(rt: HostRuntime) {
+    for (line, bytewise, options) in PREMISES.as_slice() {
+        check(&rt, rt.alloc(), line, "a", Ok((*bytewise, *options)));
     }
-    Ok(())
 }
 
 #[test]
-fn words_of_keep_say_how_the_file_is_written(rt: HostRuntime) -> Result<(), Fail> {
-    for row in &PREMISES {
-        let (line, bytewise) = row;
-        let words = words(rt.alloc(), line)?;
-        match read_keep(rt.alloc(), &words) {
-            Ok(said) => assert_eq!(rt; said.bytewise, *bytewise, "at {line:?}"),
-            Err(_) => return Err(Fail::new("refused")),
-        }
+fn other_words_of_keep_are_refused(rt: HostRuntime) {
+    for line in OTHERS.as_slice() {
+        check(&rt, rt.alloc(), line, "", Err(WordsFault::Form));
     }
-    Ok(())
-}
-
-#[test]
-fn other_words_of_keep_are_refused(rt: HostRuntime) -> Result<(), Fail> {
-    for line in &OTHERS {
-        let words = words(rt.alloc(), line)?;
-        let fault = read_keep(rt.alloc(), &words).err();
-        assert_eq!(rt; fault, Some(WordsFault::Form), "at {line:?}");
-    }
-    let none = Vec::new(rt.alloc());
-    assert_eq!(rt; read_keep(rt.alloc(), &none).err(), Some(WordsFault::Form));
-    Ok(())
+    let none: [String; 0] = [];
+    let found = said(&rt, &none, rt.alloc(), "no words", "");
+    same(&rt, &found, &Err(WordsFault::Form), "no words");
 }

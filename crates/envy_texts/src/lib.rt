@@ -17,4 +17,6 @@ mod replies;
 #[cfg(test)]
 mod streams;
 #[cfg(test)]
+mod told;
+#[cfg(test)]
 mod words;

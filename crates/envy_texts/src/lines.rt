@@ -3,9 +3,9 @@
 ghost use Rattle.std.specs.Prelude.{IsTrue};
 ghost use Rattle.envy_trace.specs.Spelling.{HasPlace};
 
+use crate::told::{same, same_bytes};
 use arrayvec::ArrayVec;
 use envy_trace::{Line, LineFault, line_text, read_line};
-use std::process::Abort;
 
 /// A line's text, and what it says.
 type Row = (&'static str, Result<Line, LineFault>);
@@ -113,21 +113,32 @@ const NUMBERS: [Row; 8] = [
 fn lines_are_read(rt: HostRuntime) {
     for table in [COMMANDS.as_slice(), &BLANKS, &RETURNS, &FAULTS, &NUMBERS].as_slice() {
         for (text, wanted) in *table {
-            assert_eq!(rt; read_line(text.as_bytes()), *wanted, "{text:?}");
+            same(&rt, &read_line(text.as_bytes()), wanted, text);
         }
     }
 }
 
+/// A name, a byte that stands in a line as often as it can, the last byte, whether the line has 121 bytes and not 120, and
+/// what it says.
+type Length = (&'static str, u8, u8, bool, Result<Line, LineFault>);
+
+// The carriage return counts.
+const LENGTHS: [Length; 5] = [
+    ("120 of a comment", b'#', b'#', false, Ok(Line::Empty)),
+    ("121 of a comment", b'#', b'#', true, Err(LineFault::Long)),
+    ("121 blanks", b' ', b' ', true, Err(LineFault::Long)),
+    ("121 with a return", b' ', b'\r', true, Err(LineFault::Long)),
+    ("120 with a return", b' ', b'\r', false, Ok(Line::Empty)),
+];
+
 #[test]
 fn a_line_has_120_bytes_at_most(rt: HostRuntime) {
-    assert_eq!(rt; read_line(&[b'#'; 120]), Ok(Line::Empty));
-    assert_eq!(rt; read_line(&[b'#'; 121]), Err(LineFault::Long));
-    assert_eq!(rt; read_line(&[b' '; 121]), Err(LineFault::Long));
-    // The carriage return counts.
-    let mut line = [b' '; 121];
-    line[120] = b'\r';
-    assert_eq!(rt; read_line(&line), Err(LineFault::Long));
-    assert_eq!(rt; read_line(&line[1..]), Ok(Line::Empty));
+    for (name, byte, last, is_long, wanted) in LENGTHS.as_slice() {
+        let mut line = [*byte; 121];
+        line[120] = *last;
+        let text = if *is_long { &line[..] } else { &line[1..] };
+        same(&rt, &read_line(text), wanted, name);
+    }
 }
 
 // Each line has one written form.
@@ -180,8 +191,8 @@ fn has_place(line: &Line) -> bool
 fn lines_are_written(rt: HostRuntime) {
     for (line, wanted) in WRITTEN.as_slice() {
         let mut out: ArrayVec<u8, 120> = ArrayVec::new();
-        assert!(rt; has_place(line), "{wanted}");
+        assert!(rt; has_place(line));
         line_text(line, &mut out);
-        assert_eq!(rt; out.as_slice(), wanted.as_bytes(), "{wanted}");
+        same_bytes(&rt, &out, wanted.as_bytes(), wanted);
     }
 }

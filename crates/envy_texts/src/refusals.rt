@@ -1,10 +1,8 @@
 //! Words of a command line that are refused.
 
-use crate::words::read;
+use crate::told::same;
+use crate::words::check;
 use envy_args::{WordsFault, read_words};
-use std::alloc::Global;
-use std::process::Abort;
-use std::test::Fail;
 
 // None of these is in the form.
 const OTHER_FORMS: [&str; 63] = [
@@ -109,31 +107,14 @@ const RULES: [(&str, u8); 32] = [
     ("index --rows 1 --shadows 31", 2),
 ];
 
-/// Tests that each of these lines is refused by its form.
-fn check_forms(rt: &impl Abort, alloc: Global, lines: &[&str]) -> Result<(), Fail> {
-    for line in lines {
-        assert_eq!(rt; read(alloc, line)?, Err(WordsFault::Form), "at {line:?}");
-    }
-    Ok(())
-}
-
-/// Tests that each of these lines is refused by a rule.
-fn check_rules(rt: &impl Abort, alloc: Global, table: &[(&str, u8)]) -> Result<(), Fail> {
-    for (line, rule) in table {
-        assert_eq!(rt;
-            read(alloc, line)?,
-            Err(WordsFault::Setup(*rule)),
-            "at {line:?}"
-        );
-    }
-    Ok(())
-}
-
 #[test]
-fn words_are_refused(rt: HostRuntime) -> Result<(), Fail> {
-    check_forms(&rt, rt.alloc(), &OTHER_FORMS)?;
-    check_rules(&rt, rt.alloc(), &RULES)?;
-    let none: Vec<String> = Vec::new(rt.alloc());
-    assert_eq!(rt; read_words(rt.alloc(), &none), Err(WordsFault::Form));
-    Ok(())
+fn words_are_refused(rt: HostRuntime) {
+    for line in OTHER_FORMS.as_slice() {
+        check(&rt, rt.alloc(), line, Err(WordsFault::Form));
+    }
+    for (line, rule) in RULES.as_slice() {
+        check(&rt, rt.alloc(), line, Err(WordsFault::Setup(*rule)));
+    }
+    let found = read_words(rt.alloc(), &[]);
+    same(&rt, &found, &Err(WordsFault::Form), "no words");
 }

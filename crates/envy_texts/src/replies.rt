@@ -1,9 +1,9 @@
 //! Texts of replies, and numbers of faults.
 
+use crate::told::{same, same_bytes};
 use arrayvec::ArrayVec;
 use envy_base::Counts;
 use envy_trace::{LineFault, Reply, reply_text};
-use std::process::Abort;
 
 const COUNTS: Counts = Counts {
     misses: 10,
@@ -37,20 +37,20 @@ fn replies_have_their_texts(rt: HostRuntime) {
     for (reply, wanted) in TEXTS.as_slice() {
         let mut out: ArrayVec<u8, 512> = ArrayVec::new();
         reply_text(reply, &mut out);
-        assert_eq!(rt; out.as_slice(), wanted.as_bytes(), "{wanted}");
+        same_bytes(&rt, &out, wanted.as_bytes(), wanted);
     }
 }
 
+const NUMBERS: [(&str, LineFault, u8); 4] = [
+    ("Word", LineFault::Word, 1),
+    ("Number", LineFault::Number, 2),
+    ("Count", LineFault::Count, 3),
+    ("Long", LineFault::Long, 4),
+];
+
 #[test]
 fn faults_have_numbers(rt: HostRuntime) {
-    for (fault, number) in [
-        (LineFault::Word, 1),
-        (LineFault::Number, 2),
-        (LineFault::Count, 3),
-        (LineFault::Long, 4),
-    ]
-    .as_slice()
-    {
-        assert_eq!(rt; fault.number(), *number, "{fault:?}");
+    for (name, fault, number) in NUMBERS.as_slice() {
+        same(&rt, &fault.number(), number, name);
     }
 }

@@ -1,10 +1,10 @@
 //! Lines and bytes of a source whatever its pieces, and what a sink takes, with calls that fail on the way.
 
+use crate::told::{same, same_bytes};
 use arrayvec::ArrayVec;
 use envy_io::{Failed, Got, Lines, MemSink, MemSource, Next, Sink, Source, write_all};
-use std::alloc::{AllocError, Global};
+use std::alloc::Global;
 use std::process::Abort;
-use std::test::Fail;
 
 /// What the lines of a source are asked for, and what they answer.
 #[derive(Clone, Copy)]
@@ -29,14 +29,15 @@ struct Reading {
 
 /// A source of these bytes, in pieces of at most `piece` bytes, in which these calls fail.
 fn source_of(
+    rt: &impl Abort,
     alloc: Global,
     bytes: &[u8],
     piece: usize,
     fails: &[u64],
-) -> Result<MemSource, AllocError> {
-    let bytes = bytes.to_vec(alloc)?;
-    let fails = fails.to_vec(alloc)?;
-    Ok(MemSource::new(bytes, piece.max(1), fails))
+) -> MemSource {
+    let bytes = bytes.to_vec(alloc).expect(rt, "no room for bytes");
+    let fails = fails.to_vec(alloc).expect(rt, "no room for a plan");
+    MemSource::new(bytes, piece.max(1), fails)
 }
 
 /// Tests that an ask is answered as it says.
@@ -45,31 +46,30 @@ fn check_ask(rt: &impl Abort, name: &str, lines: &mut Lines, source: &mut MemSou
         Ask::Line(next, text) => {
             let mut line = ArrayVec::new();
             let answer = lines.next_line(source, &mut line);
-            assert!(rt; answer == *next, "{name}: {text}");
-            assert!(rt; line.as_slice() == text.as_bytes(), "{name}: {text}");
+            same(rt, &answer, next, name);
+            same_bytes(rt, &line, text.as_bytes(), name);
         }
         Ask::Bytes(got, text) => {
             let mut bytes = [0; 4];
             let answer = lines.next_bytes(source, &mut bytes);
-            assert!(rt; answer == *got, "{name}");
+            same(rt, &answer, got, name);
             if let Some(text) = text {
-                assert!(rt; bytes.as_slice() == text.as_bytes(), "{name}: {text}");
+                same_bytes(rt, &bytes, text.as_bytes(), name);
             }
         }
-        Ask::Taken(count) => assert_eq!(rt; lines.taken(), *count, "{name}"),
+        Ask::Taken(count) => same(rt, &lines.taken(), count, name),
     }
 }
 
 /// Tests each ask of a source of these bytes.
-fn check(rt: &impl Abort, alloc: Global, bytes: &[u8], reading: &Reading) -> Result<(), Fail> {
+fn check(rt: &impl Abort, alloc: Global, bytes: &[u8], reading: &Reading) {
     for piece in reading.pieces {
-        let mut source = source_of(alloc, bytes, *piece, reading.fails)?;
+        let mut source = source_of(rt, alloc, bytes, *piece, reading.fails);
         let mut lines = Lines::new(reading.cap.max(1));
         for ask in reading.asks {
             check_ask(rt, reading.name, &mut lines, &mut source, ask);
         }
     }
-    Ok(())
 }
 
 const ONE_TO_ELEVEN: [usize; 11] = [1, 2, 3, 4, 5, 6, 7, 8, 9, 10, 11];
@@ -216,11 +216,10 @@ const READINGS: [(&str, Reading); 9] = [
 ];
 
 #[test]
-fn lines_and_bytes_of_a_source(rt: HostRuntime) -> Result<(), Fail> {
+fn lines_and_bytes_of_a_source(rt: HostRuntime) {
     for (text, reading) in READINGS.as_slice() {
-        check(&rt, rt.alloc(), text.as_bytes(), reading)?;
+        check(&rt, rt.alloc(), text.as_bytes(), reading);
     }
-    Ok(())
 }
 
 const LONGEST: &str =
@@ -248,33 +247,43 @@ const ASKED_ONCE: Reading = Reading {
 };
 
 #[test]
-fn long_lines_of_a_source(rt: HostRuntime) -> Result<(), Fail> {
+fn long_lines_of_a_source(rt: HostRuntime) {
     let mut text = [b'x'; 242];
     text[120] = b'\n';
-    check(&rt, rt.alloc(), &text, &LONGEST_AND_LONGER)?;
-    check(&rt, rt.alloc(), &[b'x'; 300], &ASKED_ONCE)
+    check(&rt, rt.alloc(), &text, &LONGEST_AND_LONGER);
+    check(&rt, rt.alloc(), &[b'x'; 300], &ASKED_ONCE);
+}
+
+/// What a source of six bytes in pieces of three, whose second call fails, answers to calls for two bytes and then for
+/// five, and what was read then, where that is said.
+const FEWEST: [(&str, usize, Result<usize, Failed>, Option<&str>); 5] = [
+    ("two that are asked for", 2, Ok(2), None),
+    ("failure", 5, Err(Failed), None),
+    ("three of a piece", 5, Ok(3), Some("cde..")),
+    ("one that is left", 5, Ok(1), None),
+    ("none that is left", 5, Ok(0), None),
+];
+
+/// Asks the source as each row says.
+fn check_fewest(rt: &impl Abort, source: &mut MemSource) {
+    let (mut two, mut five) = ([b'.'; 2], [b'.'; 5]);
+    for (name, count, answer, text) in FEWEST.as_slice() {
+        let found = if *count == 2 {
+            source.fill(&mut two)
+        } else {
+            source.fill(&mut five)
+        };
+        same(rt, &found, answer, name);
+        if let Some(text) = text {
+            same_bytes(rt, &five, text.as_bytes(), name);
+        }
+    }
 }
 
 #[test]
-fn a_source_gives_the_fewest_of_three(rt: HostRuntime) -> Result<(), Fail> {
-    let mut source = source_of(rt.alloc(), b"abcdef", 3, &[2])?;
-    let mut two = [b'.'; 2];
-    let mut five = [b'.'; 5];
-    assert!(rt; source.fill(&mut two) == Ok(2));
-    for (answer, text) in [
-        (Err(Failed), None),
-        (Ok(3), Some("cde..")),
-        (Ok(1), None),
-        (Ok(0), None),
-    ]
-    .as_slice()
-    {
-        assert!(rt; source.fill(&mut five) == *answer);
-        if let Some(text) = text {
-            assert!(rt; five.as_slice() == text.as_bytes(), "{text}");
-        }
-    }
-    Ok(())
+fn a_source_gives_the_fewest_of_three(rt: HostRuntime) {
+    let mut source = source_of(&rt, rt.alloc(), b"abcdef", 3, &[2]);
+    check_fewest(&rt, &mut source);
 }
 
 /// What a sink is asked, and what it answers.
@@ -319,22 +328,28 @@ const WRITINGS: [Writing; 2] = [
     },
 ];
 
-#[test]
-fn writes_of_a_sink(rt: HostRuntime) -> Result<(), Fail> {
-    for writing in WRITINGS.as_slice() {
-        let mut sink = MemSink::new(rt.alloc(), writing.room, writing.fails.to_vec(rt.alloc())?)?;
-        for push in writing.pushes {
-            let (told, wanted) = match push {
-                Push::Write(text, wanted) => (write_all(&mut sink, text.as_bytes()), wanted),
-                Push::Flush(wanted) => (sink.flush(), wanted),
-            };
-            assert!(rt; told == *wanted, "{}", writing.name);
-        }
-        assert!(rt;
-            sink.written() == writing.written.as_bytes(),
-            "{}",
-            writing.name
-        );
+/// Asks the sink all of this.
+fn push_all(rt: &impl Abort, sink: &mut MemSink, writing: &Writing) {
+    for push in writing.pushes {
+        let (found, wanted) = match push {
+            Push::Write(text, wanted) => (write_all(sink, text.as_bytes()), wanted),
+            Push::Flush(wanted) => (sink.flush(), wanted),
+        };
+        same(rt, &found, wanted, writing.name);
     }
-    Ok(())
+}
+
+fn check_writing(rt: &impl Abort, alloc: Global, writing: &Writing) {
+    let fails = writing.fails.to_vec(alloc).expect(rt, "no room for a plan");
+    let mut sink = MemSink::new(alloc, writing.room, fails).expect(rt, "no room for a sink");
+    push_all(rt, &mut sink, writing);
+    let written = writing.written.as_bytes();
+    same_bytes(rt, sink.written(), written, writing.name);
+}
+
+#[test]
+fn writes_of_a_sink(rt: HostRuntime) {
+    for writing in WRITINGS.as_slice() {
+        check_writing(&rt, rt.alloc(), writing);
+    }
 }

@@ -1,31 +1,39 @@
 //! Which command the words of a command line name.
 
+use crate::told::same;
 use envy_args::{Command, WordsFault, read_words};
 use envy_base::{Area, Shape};
 use envy_gen::{Mix, Skew};
 use envy_policy::{Policy, Setup};
 use std::alloc::Global;
 use std::process::Abort;
-use std::test::Fail;
 
 /// A command line, and what its words are read as.
 type Row = (&'static str, Result<Command, WordsFault>);
 
-/// Reads the words that stand between single spaces.
-pub(crate) fn read(alloc: Global, line: &str) -> Result<Result<Command, WordsFault>, Fail> {
+/// The words that stand between single spaces.
+pub(crate) fn split(rt: &impl Abort, alloc: Global, line: &str) -> Vec<String> {
     let mut words = Vec::new(alloc);
     for word in line.split(" ") {
-        words.push(String::from_str(alloc, word)?)?;
+        let word = String::from_str(alloc, word).expect(rt, "no room for a word");
+        words.push(word).expect(rt, "no room for words");
     }
-    Ok(read_words(alloc, &words))
+    words
 }
 
-/// Tests that each line of a table is read as it says.
-fn check_all(rt: &impl Abort, alloc: Global, table: &[Row]) -> Result<(), Fail> {
-    for (line, wanted) in table {
-        assert_eq!(rt; read(alloc, line)?, *wanted, "at {line:?}");
-    }
-    Ok(())
+fn read(rt: &impl Abort, alloc: Global, line: &str) -> Result<Command, WordsFault> {
+    let words = split(rt, alloc, line);
+    read_words(alloc, &words)
+}
+
+/// Tests that a line is read so.
+pub(crate) fn check(
+    rt: &impl Abort,
+    alloc: Global,
+    line: &str,
+    wanted: Result<Command, WordsFault>,
+) {
+    same(rt, &read(rt, alloc, line), &wanted, line);
 }
 
 // Power may return as often as a number of 32 bits tells.
@@ -320,9 +328,10 @@ const NUMBERS: [Row; 7] = [
 ];
 
 #[test]
-fn words_name_their_commands(rt: HostRuntime) -> Result<(), Fail> {
+fn words_name_their_commands(rt: HostRuntime) {
     for table in [DEFAULTS.as_slice(), &OPTIONS, &NUMBERS] {
-        check_all(&rt, rt.alloc(), table)?;
+        for (line, wanted) in table {
+            check(&rt, rt.alloc(), line, *wanted);
+        }
     }
-    Ok(())
 }
