@@ -8,19 +8,17 @@ ghost use Rattle.envy_map.specs.Writes.{Stopped, Writes, with_frame, with_frame_
 use crate::region::frame_start;
 use envy_base::{Board, Off, Shape};
 
-/// The first word of a frame. That its last fits in 32 bits is known to who goes over its words, so that they are read
-/// side by side.
+// No map has so many words. The compiler, which is told no bound, sees by it that a frame's words lie side by side.
+const WORDS_MASK: u32 = 0x7fff_ffff;
+
+/// The first word of a frame. The mask takes nothing from it.
 #[inline(always)]
 fn first_word(shape: &Shape, frame: u32) -> u32
     requires shape { IsShape shape.now }
     requires frame { frame < shape.now.frames }
     ensures { result ≡ frames_at shape.now + 32 * frame }
 {
-    let first = frame_start(shape) + 32 * frame;
-    if first > u32::MAX - 31 {
-        unreachable!();
-    }
-    first
+    (frame_start(shape) + 32 * frame) & WORDS_MASK
 }
 
 /// Word `i`, of 32, of a frame.
