@@ -1,5 +1,5 @@
 -- Rows that are kept as pages and marks: one written or cleared, and a range erased.
-use Rattle.std.proofs.Common.{◌≡◌, ◌≢◌, ◌∙◌, ◌↔◌, inl, inr, IsTrue, ℕ, zero, suc, ◌+◌, ◌-◌, ◌^◌, ◌<◌, ◌≤◌, Bool, true, false, List, [], ◌∷◌, ◌++◌, length, take, drop, get_or, set, replicate, refl, sym, ap, subst, arith, length-append}
+use Rattle.std.proofs.Common.{◌≡◌, ◌≢◌, ◌∙◌, ◌↔◌, inl, inr, IsTrue, ℕ, zero, suc, ◌+◌, ◌-◌, ◌^◌, ◌<◌, ◌≤◌, Bool, true, false, List, [], ◌∷◌, ◌++◌, length, take, drop, get_or, set, replicate, refl, sym, ap, subst, arith, length-append, append-nil}
 use Rattle.std.specs.Prelude.{bit_and}
 use Rattle.std.proofs.Math.Nat.{mod-eq_of_lt}
 use Rattle.std.proofs.lemmas.Bool.{cases_eq, cases_lt, false≢true}
@@ -71,6 +71,13 @@ behind pages q page blank le =
     let more : q + 1 - length pages ≡ suc (q - length pages) = omega arith in
     rw more (append_assoc pages (replicate (q - length pages) blank) (page ∷ []) ∙ ap (λ rows. pages ++ rows) (last (q - length pages) page blank)
     ∙ sym (set-append_right pages (replicate (suc (q - length pages)) blank) (length pages) q page refl le))
+
+-- so is the page next to the last
+pub next : (pages : List (List ℕ)) (q : ℕ) (page blank : List ℕ) → q ≡ length pages → pages ++ page ∷ [] ≡ set (pages ++ replicate (q + 1 - length pages) blank) q page
+next pages q page blank is =
+    let none : q - length pages ≡ 0 = omega arith in
+    let plain : pages ++ replicate (q - length pages) blank ≡ pages = ap (λ n. pages ++ replicate n blank) none ∙ append-nil pages in
+    ap (λ rows. rows ++ page ∷ []) (sym plain) ∙ behind pages q page blank (omega arith)
 
 pub paged-set : (marks : List Bool) (pages : List (List ℕ)) (q : ℕ) (page : List ℕ) → ArePaged marks pages → ArePaged marks (set pages q page)
 paged-set marks pages q page are = let long = length-set pages q page in record { fits = let fits = are.fits in omega (arith, long); beyond = λ k le lt. are.beyond k (omega (arith, long)) lt }

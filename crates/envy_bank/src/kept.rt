@@ -51,8 +51,6 @@ fn mark_range(marks: &mut [bool], first: usize, end: usize)
 }
 
 // Makes the pages up to the one before a row's.
-#[cold]
-#[inline(never)]
 fn fill(pages: &mut Vec<[u64; 32]>, row: usize)
     requires behind { length pages.old.items ≤ row }
     requires room { row < vec_capacity pages.old }
@@ -64,32 +62,30 @@ fn fill(pages: &mut Vec<[u64; 32]>, row: usize)
     }
 }
 
-// Makes the pages up to the one before a row's, where they aren't there yet.
+// Adds a page behind the last one, in memory that is there.
 #[inline(always)]
-fn reach(pages: &mut Vec<[u64; 32]>, row: usize)
-    requires behind { length pages.old.items ≤ row }
-    requires room { row < vec_capacity pages.old }
-    ensures pages { pages.new.items ≡ pages.old.items ++ replicate (row - length pages.old.items) (replicate 32 0) }
+fn append(pages: &mut Vec<[u64; 32]>, page: &[u64; 32])
+    requires room { length pages.old.items < vec_capacity pages.old }
+    ensures pages { pages.new.items ≡ pages.old.items ++ page.now ∷ [] }
     ensures capacity { vec_capacity pages.old ≤ vec_capacity pages.new }
 {
-    if pages.len() < row {
-        fill(pages, row);
+    // Said before, it leaves no path on which memory is asked for.
+    if pages.capacity() <= pages.len() || pages.push(*page).is_err() {
+        unreachable!();
     }
 }
 
-// Adds the page of a row behind all that have one, in memory that is there.
-#[inline(always)]
-fn append(pages: &mut Vec<[u64; 32]>, row: usize, page: &[u64; 32])
+// Adds the page of a row that isn't the next one.
+#[cold]
+#[inline(never)]
+fn append_at(pages: &mut Vec<[u64; 32]>, row: usize, page: &[u64; 32])
     requires behind { length pages.old.items ≤ row }
     requires room { row < vec_capacity pages.old }
     ensures pages { pages.new.items ≡ pages.old.items ++ replicate (row - length pages.old.items) (replicate 32 0) ++ page.now ∷ [] }
     ensures capacity { vec_capacity pages.old ≤ vec_capacity pages.new }
 {
-    reach(pages, row);
-    // Said before, it leaves no path on which memory is asked for.
-    if pages.capacity() <= pages.len() || pages.push(*page).is_err() {
-        unreachable!();
-    }
+    fill(pages, row);
+    append(pages, page);
 }
 
 // Sets the page of a row, which is made where it isn't there yet.
@@ -102,8 +98,10 @@ fn set_page(pages: &mut Vec<[u64; 32]>, row: usize, page: &[u64; 32])
 {
     if row < pages.len() {
         pages[row] = *page;
+    } else if row == pages.len() {
+        append(pages, page);
     } else {
-        append(pages, row, page);
+        append_at(pages, row, page);
     }
 }
 
@@ -137,8 +135,8 @@ impl KeptRows {
         requires { row < length self.old }
         ensures { self.new ≡ slice_set self.old row page.now }
     {
-        set_page(&mut self.pages, row, page);
         self.erased[row] = false;
+        set_page(&mut self.pages, row, page);
     }
 
     /// Makes a row its AND with the page. Answers whether it is the page then.
