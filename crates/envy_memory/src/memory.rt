@@ -8,7 +8,7 @@ ghost use Rattle.envy_layout.specs.Stands.{Stands};
 ghost use Rattle.envy_layout.specs.Words.{durable};
 ghost use Rattle.envy_memory.specs.Calls.{Loads, Looks};
 ghost use Rattle.envy_memory.specs.Below.{LoadsBelow, IsPast};
-ghost use Rattle.envy_memory.specs.Picture.{counts_of};
+ghost use Rattle.envy_memory.specs.Picture.{IsMemory, counts_of};
 
 use crate::faults::LoadFault;
 use crate::looking::kept_place;
@@ -116,8 +116,10 @@ impl<B: Board> Memory<B> {
         &self.board
     }
 
-    /// What holds of each memory: its board is formatted and sound. Where no slot is open, no page has an owner.
-    pub(crate) fn known(&self)
+    /// What holds of each memory between its calls: its board is formatted and sound, and where power is on its parts
+    /// agree with it. Where no slot is open, no page has an owner.
+    pub fn known(&self)
+        ensures memory { IsMemory self.now.chart self.now.parts self.now.owned self.now.limit self.now.mark }
         ensures shape { IsShape self.now.chart.shape }
         ensures magic { self.now.chart.fields.magic ≡ the_magic }
         ensures version { self.now.chart.fields.version ≡ 2 }

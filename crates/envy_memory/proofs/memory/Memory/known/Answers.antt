@@ -1,9 +1,12 @@
 use Rattle.std.proofs.Common.{◌≡◌, [], sym, subst}
 use Rattle.envy_map.specs.Fields.{chart}
 use Rattle.envy_layout.specs.Stands.{Stands}
-use Rattle.envy_memory.specs.Picture.{Picture}
+use Rattle.envy_memory.specs.Picture.{IsMemory, Picture}
 use Rattle.envy_memory.proofs.Ended.{unowned-shut}
 use Rattle.envy_memory.proofs.memory.Memory.known.Goals as goal
+
+pub returns-clause-memory : goal.returns-clause-memory
+returns-clause-memory g c = subst (λ (p : Picture). IsMemory p.chart p.parts p.owned p.limit p.mark) c.self.view_is c.self.invariant.0
 
 pub returns-clause-unowned : goal.returns-clause-unowned
 returns-clause-unowned g c m stood shut =
