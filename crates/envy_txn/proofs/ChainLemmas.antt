@@ -1,12 +1,12 @@
 -- The chain of a slot's entries.
-use Rattle.std.proofs.Common.{◌≡◌, ◌⊎◌, inl, inr, Bool, true, false, ℕ, ◌+◌, ◌-◌, ◌<◌, ◌≤◌, List, [], ◌∷◌, ◌++◌, map, length, get_or, set, take, refl, sym, ◌∙◌, ap, subst, arith}
+use Rattle.std.proofs.Common.{◌≡◌, ◌⊎◌, inl, inr, Bool, true, false, ℕ, ◌+◌, ◌-◌, ◌<◌, ◌≤◌, List, [], ◌∷◌, ◌++◌, map, length, get_or, set, take, reverse, refl, sym, ◌∙◌, ap, subst, arith}
 use Rattle.std.specs.Prelude.{◌==◌, if◌then◌else◌}
 use Rattle.std.proofs.lemmas.Bool.{cases_lt, cases_eq, and_parts, eqb-true}
-use Rattle.std.proofs.lemmas.List.{take_more, take_all, length-set, length-map, get_or-map, get_or-set_same, get_or-set_other, get_or_default, same_lists}
+use Rattle.std.proofs.lemmas.List.{take_more, take_all, length-append, length-reverse, length-set, length-map, get_or-map, get_or-set_same, get_or-set_other, get_or_default, same_lists}
 use Rattle.envy_txn.specs.declared.entry.Entry.{Entry}
 use Rattle.envy_txn.specs.declared.pair.Pair.{Pair}
 use Rattle.envy_txn.specs.Entries.{pairs_in, own_of, is_of, end_of, IsNewest, IsChained}
-use Rattle.envy_txn.proofs.EntryLemmas.{own-push, own-skip}
+use Rattle.envy_txn.proofs.EntryLemmas.{some_entry, own-long, own-push, own-skip}
 
 -- the walk over a slot's chain has come to place `at`
 pub record Walks (t at : ℕ) (xs : List Entry) : Type 0 where
@@ -98,3 +98,16 @@ pub EndedFrom-all : (t at : ℕ) (xs ys : List Entry) → at ≡ 0 → EndedFrom
 EndedFrom-all t at xs ys end r =
     same_lists ys (map (end_of t) xs) (r.long ∙ sym (length-map xs (end_of t)))
     (λ k d lt. let long = r.long in r.back k d (omega arith) (omega arith) ∙ sym (get_or-map (end_of t) xs k d d (omega arith)))
+
+-- before its last turn a walk has listed fewer pairs than there are
+pub listed-few : (t at : ℕ) (xs : List Entry) (newest : List ℕ) (listed : List Pair) → IsChained xs newest → Walks t at xs → 0 < at
+    → own_of t (pairs_in (take at xs)) ++ reverse listed ≡ own_of t (pairs_in xs) → length listed < length (pairs_in xs)
+listed-few t at xs newest listed c w some all =
+    let turn = Turns-at t at xs newest some_entry c w some in
+    let e = get_or xs (at - 1) some_entry in
+    let front = own_of t (pairs_in (take e.older xs)) in
+    let long = sym (ap (λ (ps : List Pair). length ps) all) ∙ length-append (own_of t (pairs_in (take at xs))) (reverse listed) in
+    let one = ap (λ (ps : List Pair). length ps) turn.pairs ∙ length-append front (e.pair ∷ []) in
+    let back = length-reverse listed in
+    let fewer = own-long t (pairs_in xs) in
+    omega arith

@@ -1,6 +1,6 @@
 -- The pairs of entries, and those of one slot.
-use Rattle.std.proofs.Common.{◌≡◌, ◌⊎◌, inl, inr, Bool, true, false, ℕ, zero, suc, ◌+◌, ◌<◌, ◌≤◌, ◌&&◌, List, [], ◌∷◌, ◌++◌, map, length, get_or, take, drop, None, Some, Result, Ok, Err, refl, sym, ◌∙◌, ap, arith}
-use Rattle.std.specs.Prelude.{◌==◌, IsOk, is_ok, not, if◌then◌else◌}
+use Rattle.std.proofs.Common.{◌≡◌, ◌⊎◌, inl, inr, Bool, true, false, ℕ, zero, suc, ◌+◌, ◌<◌, ◌≤◌, ◌&&◌, List, [], ◌∷◌, ◌++◌, map, length, get_or, take, drop, None, Some, refl, sym, ◌∙◌, ap, arith}
+use Rattle.std.specs.Prelude.{◌==◌, not, if◌then◌else◌}
 use Rattle.std.proofs.lemmas.Bool.{cases_lt, eq-eqb, ne_eqb}
 use Rattle.std.proofs.lemmas.List.{append-nil, length-append, take_more, take-append-drop}
 use Rattle.std.proofs.lemmas.List.Elements.{filter-append}
@@ -9,10 +9,6 @@ use Rattle.envy_txn.specs.declared.entry.Entry.{Entry}
 use Rattle.envy_txn.specs.declared.pair.Pair.{Pair}
 use Rattle.envy_txn.specs.Entries.{pairs_in, is_own, own_of, is_of, end_of}
 use Rattle.envy_txn.specs.Owners.{owner_of, others_of, is_of_other}
-
-pub if-ok : {A T E : Type 0} (r : Result T E) (a b : A) → IsOk r → (if is_ok r then a else b) ≡ a
-if-ok (Ok x) a b ok = refl
-if-ok (Err e) a b ok = cc
 
 abbrev pub some_entry : Entry
 some_entry = record { pair = record { page = 0; slot = 0 }; live = false; older = 0 }

@@ -8,7 +8,7 @@ use Rattle.envy_txn.specs.declared.entry.Entry.{Entry}
 use Rattle.envy_txn.specs.declared.pair.Pair.{Pair}
 use Rattle.envy_txn.specs.Entries.{pairs_in, own_of, is_of, end_of, IsNewest, IsChained, ArePlaced, Book, IsLedger}
 use Rattle.envy_txn.specs.Owners.{AreApart, owner_of, others_of}
-use Rattle.envy_txn.proofs.EntryLemmas.{pairs_in-append, pairs_in-ended, own-long, owner_of-free}
+use Rattle.envy_txn.proofs.EntryLemmas.{some_entry, pairs_in-append, pairs_in-ended, own-long, owner_of-free}
 use Rattle.envy_txn.proofs.OwnerLemmas.{owner_of-all}
 
 -- what lies below n is as it was
@@ -235,6 +235,51 @@ book-ended t xs new room old view is =
     ∙ ap (λ (ps : List Pair). record { pairs = ps; used = length (map (end_of t) xs); room = room }) (pairs_in-ended t xs)
     ∙ ap (λ (n : ℕ). record { pairs = others_of t (pairs_in xs); used = n; room = room }) (length-map xs (end_of t))
     ∙ ap (λ (b : Book). record b { pairs = others_of t b.pairs }) view
+
+pub no-pairs : (pairs : List Pair) → length pairs ≡ 0 → pairs ≡ []
+no-pairs [] none = refl
+no-pairs (y ∷ rest) none = absurd (omega arith)
+
+-- where no page is owned no entry owns
+no-owner : (xs : List Entry) → pairs_in xs ≡ [] → (k : ℕ) (d : Entry) → k < length xs → (get_or xs k d).live ≡ true → ⊥
+no-owner xs none k d lt live = owner_of-free xs (get_or xs k d).pair.page (ap (λ (ps : List Pair). owner_of ps (get_or xs k d).pair.page) none) k d lt live refl
+
+chained-cleared : (xs : List Entry) (newest : List ℕ) → pairs_in xs ≡ [] → IsChained xs newest → IsChained [] newest
+chained-cleared xs newest none c = record {
+  slots = c.slots;
+  heads = λ t low. record {
+    low = first t low (cases_lt 0 (get_or newest t 0));
+    here = λ d some. let front = first t low (cases_lt 0 (get_or newest t 0)) in absurd (omega arith);
+    above = λ k d from less. absurd (omega arith);
+  };
+  links = λ i d less live. absurd (omega arith);
+}
+  where
+    first : (t : ℕ) → t < 256 → (0 < get_or newest t 0) ⊎ (get_or newest t 0 ≤ 0) → get_or newest t 0 ≤ 0
+    first t low (inl some) =
+        let n = c.heads t low in
+        let within = n.low in
+        let e = get_or xs (get_or newest t 0 - 1) some_entry in
+        absurd (no-owner xs none (get_or newest t 0 - 1) some_entry (omega arith) (and_parts e.live (e.pair.slot == t) (n.here some_entry some)).0)
+    first t low (inr front) = front
+
+pub IsLedger-cleared : (xs new : List Entry) (newest places : List ℕ) (count room capacity then_capacity : ℕ) → IsLedger xs newest places count room capacity
+    → pairs_in xs ≡ [] → new ≡ [] → capacity ≤ then_capacity → IsLedger new newest places count room then_capacity
+IsLedger-cleared xs new newest places count room capacity then_capacity l none is grown = rw is (record {
+  chained = chained-cleared xs newest none l.chained;
+  placed = λ i d less live low. absurd (omega arith);
+  counted = l.counted ∙ ap (λ (ps : List Pair). length ps) none;
+  used = omega arith;
+  fits = let fits = l.fits in omega arith;
+  few = l.few;
+})
+
+pub book-cleared : (xs new : List Entry) (room : ℕ) (old : Book) → (record { pairs = pairs_in xs; used = length xs; room = room }) ≡ old → pairs_in xs ≡ [] → new ≡ []
+    → (record { pairs = pairs_in new; used = length new; room = room }) ≡ record old { used = 0 }
+book-cleared xs new room old view none is =
+    ap (λ (ys : List Entry). record { pairs = pairs_in ys; used = length ys; room = room }) is
+    ∙ ap (λ (ps : List Pair). record { pairs = ps; used = 0; room = room }) (sym none)
+    ∙ ap (λ (b : Book). record b { used = 0 }) view
 
 -- no earlier pair has the page of a pair
 pub free-before : (pairs before : List Pair) (i : ℕ) (d : Pair) → AllPairs AreApart pairs → before ≡ take i pairs → i < length pairs → owner_of before (get_or pairs i d).page ≡ None

@@ -1,5 +1,5 @@
 -- The pairs of one slot among all pairs.
-use Rattle.std.proofs.Common.{◌≡◌, Bool, true, false, ℕ, ◌<◌, ◌≤◌, ◌||◌, List, [], ◌∷◌, ◌++◌, length, get_or, refl, sym, ◌∙◌, ap, subst, Option, None, Some, arith}
+use Rattle.std.proofs.Common.{◌≡◌, Bool, true, false, ℕ, ◌+◌, ◌<◌, ◌≤◌, ◌||◌, List, [], ◌∷◌, ◌++◌, length, get_or, refl, sym, ◌∙◌, ap, subst, Option, None, Some, arith}
 use Rattle.std.specs.Prelude.{◌==◌, not, if◌then◌else◌}
 use Rattle.std.specs.List.{AllPairs, filter}
 use Rattle.std.proofs.lemmas.Bool.{eqb-true, and_right}
@@ -61,25 +61,35 @@ own-named t slots undos pairs apart owned i d lt =
     All-filter (is_own t) (λ e. slot_named (get_or undos e.page None) ≡ Some e.slot) pairs (λ k x low. pair-named slots undos pairs k x apart owned low) i d lt in
     (slot, named ∙ ap (λ (n : ℕ). Some n) slot)
 
-pub IsOwned-joined : (old new : Book) (limit capacity then_capacity : ℕ) (y : Pair) → IsOwned old limit capacity → length old.pairs < limit → owner_of old.pairs y.page ≡ None
-    → new.pairs ≡ old.pairs ++ y ∷ [] → new.room ≡ old.room → capacity ≤ then_capacity → IsOwned new limit then_capacity
-IsOwned-joined old new limit capacity then_capacity y o less free pairs room grown = record {
-  owners = subst (λ (ps : List Pair). IsOwnership (record { pairs = ps; limit = limit })) (sym pairs) (record {
+pub IsOwned-joined : (old new : Book) (limit capacity : ℕ) (y : Pair) → IsOwned old limit capacity → length old.pairs < limit → owner_of old.pairs y.page ≡ None
+    → new ≡ record old { pairs = old.pairs ++ y ∷ []; used = old.used + 1 } → IsOwned new limit capacity
+IsOwned-joined old new limit capacity y o less free is = rw is (record {
+  owners = record {
     apart = all_pairs_push AreApart old.pairs y (IsOwnership.apart o.owners) (owner_of-none old.pairs y.page free);
     few = let long = length_push old.pairs y in omega arith;
-  });
-  room = let was = o.room in omega arith;
-  fits = let fits = o.fits in omega arith;
-  few = o.few;
-}
-
-pub IsOwned-left : (old new : Book) (limit capacity t : ℕ) → IsOwned old limit capacity → new.pairs ≡ others_of t old.pairs → new.room ≡ old.room → IsOwned new limit capacity
-IsOwned-left old new limit capacity t o pairs room = record {
-  owners = subst (λ (ps : List Pair). IsOwnership (record { pairs = ps; limit = limit })) (sym pairs) (record {
-    apart = AllPairs-filter AreApart (is_of_other t) old.pairs (IsOwnership.apart o.owners);
-    few = let few = IsOwnership.few o.owners in let both = own-long t old.pairs in omega arith;
-  });
-  room = let was = o.room in omega arith;
+  };
+  room = o.room;
+  roomy = let was = o.roomy in let long = length_push old.pairs y in omega arith;
   fits = o.fits;
+  few = o.few;
+})
+
+-- what a slot's leaving leaves
+pub left-apart : (t : ℕ) (old : Book) (limit capacity : ℕ) → IsOwned old limit capacity → AllPairs AreApart (others_of t old.pairs)
+left-apart t old limit capacity o = AllPairs-filter AreApart (is_of_other t) old.pairs (IsOwnership.apart o.owners)
+
+pub left-few : (t : ℕ) (old : Book) (limit capacity : ℕ) → IsOwned old limit capacity → length (others_of t old.pairs) ≤ limit
+left-few t old limit capacity o = let few = IsOwnership.few o.owners in let both = own-long t old.pairs in omega arith
+
+pub IsOwned-left : (old new : Book) (limit capacity then_capacity t : ℕ) → IsOwned old limit capacity → new.pairs ≡ others_of t old.pairs → new.room ≡ old.room
+    → new.used + limit ≤ length new.pairs + new.room → capacity ≤ then_capacity → IsOwned new limit then_capacity
+IsOwned-left old new limit capacity then_capacity t o pairs room roomy grown = record {
+  owners = subst (λ (ps : List Pair). IsOwnership (record { pairs = ps; limit = limit })) (sym pairs) (record {
+    apart = left-apart t old limit capacity o;
+    few = left-few t old limit capacity o;
+  });
+  room = let was = o.room in omega arith;
+  roomy = roomy;
+  fits = let fits = o.fits in omega arith;
   few = o.few;
 }

@@ -1,5 +1,5 @@
 -- How the owners are kept: entries in order of owning, some of which own their page no more.
-use Rattle.std.specs.Prelude.{◌≡◌, ℕ, ◌-◌, ◌^◌, ◌==◌, ◌&&◌, ◌<◌, ◌≤◌, Bool, true, false, List, [], ◌∷◌, length, slice_index, slice_index_or, if◌then◌else◌}
+use Rattle.std.specs.Prelude.{◌≡◌, ℕ, ◌+◌, ◌-◌, ◌^◌, ◌==◌, ◌&&◌, ◌<◌, ◌≤◌, Bool, true, false, List, [], ◌∷◌, length, slice_index, slice_index_or, if◌then◌else◌}
 use Rattle.std.specs.List.{filter}
 use Rattle.envy_txn.specs.declared.entry.Entry.{Entry}
 use Rattle.envy_txn.specs.declared.pair.Pair.{Pair}
@@ -61,5 +61,7 @@ pub record IsLedger (xs : List Entry) (newest places : List ℕ) (count room cap
 pub record IsOwned (book : Book) (limit capacity : ℕ) : Type 0 where
   pub owners : IsOwnership (record { pairs = book.pairs; limit = limit })
   pub room : limit ≤ book.room
+  -- entries fit in until as many pages are owned as may be
+  pub roomy : book.used + limit ≤ length book.pairs + book.room
   pub fits : limit ≤ capacity
   pub few : limit < 2 ^ 32

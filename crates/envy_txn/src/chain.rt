@@ -26,7 +26,7 @@ pub fn list_chain(entries: &[Entry], newest: &[u32; SLOT_NUMBERS], t: u8, list: 
     let mut at = newest[t as usize] as usize;
     while at != 0 {
         let entry = entries[at - 1];
-        let _room = list.push(entry.pair);
+        list.push_reserved(entry.pair);
         at = entry.older as usize;
     }
     list.reverse();

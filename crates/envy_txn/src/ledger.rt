@@ -14,8 +14,8 @@ use std::marker::Model;
 /// Entries in order of owning, of which each slot's are chained from the newest to the oldest, and where
 /// the entry of each page stands.
 ///
-/// An entry that owns no more stays until the ledger is packed: so a page gets its owner, and a slot lets
-/// go of its pages, with no other entry touched.
+/// An entry that owns no more stays until the ledger is packed or no page is owned: so a page gets its owner,
+/// and a slot lets go of its pages, with no other entry touched.
 #[derive(Drop)]
 pub struct Ledger {
     entries: Vec<Entry>,
@@ -62,11 +62,11 @@ impl Ledger {
         self.count
     }
 
-    /// Whether no entry more fits in before the ledger is packed.
-    pub fn is_full(&self) -> bool
-        ensures { IsTrue result ↔ (self.now.room ≤ self.now.used) }
+    /// Whether entries fit in until so many pages are owned.
+    fn has_room(&self, limit: u32) -> bool
+        ensures { IsTrue result ↔ (self.now.used + limit ≤ length self.now.pairs + self.now.room) }
     {
-        self.entries.len() >= self.room as usize
+        self.entries.len() + limit as usize <= self.count as usize + self.room as usize
     }
 
     /// The slot that owns a page, or `None` where none does.
@@ -88,7 +88,7 @@ impl Ledger {
     {
         let place = self.entries.len() as u32;
         let older = self.newest[pair.slot as usize];
-        let _room = self.entries.push(Entry {
+        self.entries.push_reserved(Entry {
             pair,
             live: true,
             older,
@@ -99,6 +99,7 @@ impl Ledger {
     }
 
     /// Lists the pairs of a slot in order of owning.
+    #[inline(always)]
     pub fn list(&self, t: u8, list: &mut Vec<Pair>)
         requires fits { length self.now.pairs ≤ vec_capacity list.old }
         ensures pairs { list.new.items ≡ own_of t self.now.pairs }
@@ -115,6 +116,24 @@ impl Ledger {
         self.count -= ended;
     }
 
+    /// Has entries stand from the front again, where no page is owned.
+    #[inline(always)]
+    pub fn rewind(&mut self)
+        ensures { self.new ≡ record self.old { used = self.new.used } }
+    {
+        if self.count == 0 {
+            self.clear_ended();
+        }
+    }
+
+    /// Leaves out all entries, of which none owns.
+    fn clear_ended(&mut self)
+        requires none { self.old.pairs ≡ [] }
+        ensures { self.new ≡ record self.old { used = 0 } }
+    {
+        self.entries.clear();
+    }
+
     /// No page is owned any more.
     pub fn clear(&mut self)
         ensures { self.new ≡ record self.old { pairs = []; used = 0 } }
@@ -124,20 +143,21 @@ impl Ledger {
         self.count = 0;
     }
 
-    /// Makes room for an entry more, where all pairs take less than there is. The list is lent for it.
+    /// Makes room for entries until so many pages are owned. The list is lent for it.
     ///
-    /// With room for twice as many entries as there may be pairs this goes over all of them at one call in
-    /// as many as there may be pairs, so a call of `append` after it takes a constant time in the mean.
+    /// With room for twice as many entries as there may be pairs this goes over all of them only once more
+    /// of them have ended than there may be pairs, so an entry costs it a constant time in the mean.
     #[inline(always)]
-    pub fn make_room(&mut self, list: &mut Vec<Pair>)
+    pub fn make_room(&mut self, limit: u32, list: &mut Vec<Pair>)
         requires apart { AllPairs AreApart self.old.pairs }
-        requires few { length self.old.pairs < self.old.room }
+        requires few { length self.old.pairs ≤ limit }
+        requires limit { limit ≤ self.old.room }
         requires fits { length self.old.pairs ≤ vec_capacity list.old }
-        ensures room { self.new.used < self.new.room }
+        ensures room { self.new.used + limit ≤ length self.new.pairs + self.new.room }
         ensures pairs { self.new ≡ record self.old { used = self.new.used } }
         ensures capacity { vec_capacity list.old ≤ vec_capacity list.new }
     {
-        if self.is_full() {
+        if !self.has_room(limit) {
             self.pack(list);
         }
     }

@@ -49,8 +49,8 @@ impl Owned {
     pub fn of_pages(alloc: Global, limit: u32, pages: u32) -> Result<Owned, NoMemory>
         ensures { IfOk result (λ owned. owned ≡ record { pairs = []; limit = limit }) }
     {
-        // Twice the limit, so that as many pages as may be owned come to be owned between two packings. No board has
-        // so many shadows that twice their number doesn't fit.
+        // Twice the limit, so that more entries end between two packings than pages may be owned. No board has so many
+        // shadows that twice their number doesn't fit.
         let ledger = Ledger::new(alloc, limit.saturating_mul(2), pages)?;
         let list = Vec::with_capacity(alloc, limit as usize)?;
         Ok(Owned {
@@ -133,7 +133,6 @@ impl Owned {
         requires free { owner_of self.old.pairs pair.page ≡ None }
         ensures { self.new ≡ record self.old { pairs = self.old.pairs ++ pair ∷ [] } }
     {
-        self.ledger.make_room(&mut self.list);
         self.ledger.append(pair);
     }
 
@@ -142,5 +141,7 @@ impl Owned {
         ensures { self.new ≡ record self.old { pairs = others_of t self.old.pairs } }
     {
         self.ledger.leave(t);
+        self.ledger.rewind();
+        self.ledger.make_room(self.limit, &mut self.list);
     }
 }

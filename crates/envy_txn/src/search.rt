@@ -42,7 +42,7 @@ pub fn list_live(entries: &[Entry], list: &mut Vec<Pair>)
     list.clear();
     for entry in entries {
         if entry.live {
-            let _room = list.push(entry.pair);
+            list.push_reserved(entry.pair);
         }
     }
 }

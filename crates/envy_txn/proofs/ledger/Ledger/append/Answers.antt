@@ -2,7 +2,7 @@ use Rattle.std.proofs.Common.{◌≡◌, ◌+◌, ℕ, List, None, length, set, 
 use Rattle.std.proofs.lemmas.List.{with_items_is, length-set}
 use Rattle.envy_txn.specs.Entries.{Book, pairs_in}
 use Rattle.envy_txn.specs.Owners.{owner_of}
-use Rattle.envy_txn.proofs.EntryLemmas.{if-ok, pairs_in-long}
+use Rattle.envy_txn.proofs.EntryLemmas.{pairs_in-long}
 use Rattle.envy_txn.proofs.LedgerLemmas.{IsLedger-joined, book-joined, joined}
 use Rattle.envy_txn.proofs.ledger.Ledger.append.Goals as goal
 
@@ -29,18 +29,14 @@ invariant_of-self c =
     let inv_fits = c.self.invariant.fits in
     let noted : c.note.new.places ≡ set c.self.inside.places.items y.page (length xs) = search rules in
     let long : length c.note.new.places ≡ c.self.inside.places.len = ap (λ (ps : List ℕ). length ps) noted ∙ length-set c.self.inside.places.items y.page (length xs) ∙ search rules in
-    IsLedger-joined xs c.push-room.new.self.items c.self.inside.newest _ c.self.inside.places.items _ c.self.inside.count c.self.inside.room _ _ y c.self.invariant
-    (omega arith) (search rules) free c.push-room.ensures.capacity
-    (c.push-room.ensures.items ∙ if-ok c.push-room.result _ _ (c.push-room.ensures.succeeds (omega arith)))
+    IsLedger-joined xs c.push_reserved.new.self.items c.self.inside.newest _ c.self.inside.places.items _ c.self.inside.count c.self.inside.room _ _ y c.self.invariant
+    (omega arith) (search rules) free (let same = c.push_reserved.ensures.capacity in omega arith)
+    c.push_reserved.ensures.items
     (ap (λ (n : ℕ). set c.self.inside.newest y.slot (n + 1)) (search rules))
     (with_items_is c.self.inside.places c.note.new.places long ∙ noted)
 
 pub returns : goal.returns
 returns c =
     let xs = c.self.inside.entries.items in
-    let used : length xs ≡ c.args.self.now.used = ap (λ (b : Book). b.used) c.self.view_is in
-    let room : c.self.inside.room ≡ c.args.self.now.room = ap (λ (b : Book). b.room) c.self.view_is in
-    let more = c.requires.room in
-    let inv_fits = c.self.invariant.fits in
-    book-joined xs c.push-room.new.self.items (joined c.self.inside.newest c.args.pair) c.self.inside.room c.args.self.now c.self.view_is refl
-    (c.push-room.ensures.items ∙ if-ok c.push-room.result _ _ (c.push-room.ensures.succeeds (omega arith)))
+    book-joined xs c.push_reserved.new.self.items (joined c.self.inside.newest c.args.pair) c.self.inside.room c.args.self.now c.self.view_is refl
+    c.push_reserved.ensures.items
