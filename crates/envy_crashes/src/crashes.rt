@@ -5,7 +5,6 @@ use envy_region::RegionBoard;
 use envy_torn::{Dice, TornFile};
 use std::alloc::Global;
 use std::process::Abort;
-use std::test::Fail;
 
 const SHAPE: Shape = Shape {
     segments: 4,
@@ -29,6 +28,11 @@ const CRASHES: usize = 8;
 
 // How many bytes are held back between writes.
 const ROOM: usize = 800;
+
+// Why a test ends where memory, or a shape that checks, is wanted.
+const NO_ROOM: &str = "no room";
+
+const SIZES: &str = "the shape";
 
 type Opened<'a> = Result<Journaled<RegionBoard<'a>, TornFile>, (OpenError, TornFile)>;
 
@@ -60,75 +64,67 @@ fn act<B: Board>(rt: &impl Abort, board: &mut B, i: usize) -> bool {
     }
 }
 
-// All words of a board.
-fn words<B: Board>(alloc: Global, board: &B) -> Result<Vec<u64>, Fail> {
+// All words of a board. What ends a test ends it where it is found: a way out by `?` would let go of all that a function
+// holds, part by part, and cost each that holds a journal or a file.
+fn words<B: Board>(rt: &impl Abort, alloc: Global, board: &B) -> Vec<u64> {
     let shape = board.shape();
     let mut all = Vec::new(alloc);
     for row in 0..shape.segments * shape.rows {
         for i in 0..32 {
-            all.push(board.read(row, i).unwrap_or(7))?;
+            let word = board.read(row, i).unwrap_or(7);
+            all.push(word).expect(rt, NO_ROOM);
         }
     }
     for w in 0..envy_map::words(&shape) {
-        all.push(board.get(w).unwrap_or(7))?;
+        let word = board.get(w).unwrap_or(7);
+        all.push(word).expect(rt, NO_ROOM);
     }
-    Ok(all)
+    all
 }
 
 // The words of a board after the first `n` operations of a session.
-fn wanted(rt: &impl Abort, alloc: Global, n: usize) -> Result<Vec<u64>, Fail> {
-    SHAPE.check()?;
-    let mut cells = Cells::blank(alloc, &SHAPE)?;
+fn wanted(rt: &impl Abort, alloc: Global, n: usize) -> Vec<u64> {
+    SHAPE.check().expect(rt, SIZES);
+    let mut cells = Cells::blank(alloc, &SHAPE).expect(rt, NO_ROOM);
     let mut board = cells.board();
     for i in 0..n {
         act(rt, &mut board, i);
     }
-    words(alloc, &board)
+    words(rt, alloc, &board)
 }
 
-fn found(alloc: Global, opened: Opened<'_>) -> Result<Found, Fail> {
+fn found(rt: &impl Abort, alloc: Global, opened: Opened<'_>) -> Found {
     match opened {
         Ok(journal) => {
-            let held = words(alloc, &journal)?;
-            Ok((Some(held), journal.close()))
+            let held = words(rt, alloc, &journal);
+            (Some(held), journal.close())
         }
-        Err((_, file)) => Ok((None, file)),
+        Err((_, file)) => (None, file),
     }
 }
 
 // Makes a journal in an empty file, whose calls fail from one on.
-fn made(
-    rt: &impl Abort,
-    alloc: Global,
-    bytes: Vec<u8>,
-    left: usize,
-    bytewise: bool,
-) -> Result<Found, Fail> {
+fn made(rt: &impl Abort, alloc: Global, bytes: Vec<u8>, left: usize, bytewise: bool) -> Found {
     assert!(rt; bytes.is_empty());
-    SHAPE.check()?;
-    let mut cells = Cells::blank(alloc, &SHAPE)?;
-    let file = TornFile::new(alloc, bytes, left, bytewise)?;
-    found(alloc, create(alloc, cells.board(), file, ROOM))
+    SHAPE.check().expect(rt, SIZES);
+    let mut cells = Cells::blank(alloc, &SHAPE).expect(rt, NO_ROOM);
+    let file = TornFile::new(alloc, bytes, left, bytewise).expect(rt, NO_ROOM);
+    found(rt, alloc, create(alloc, cells.board(), file, ROOM))
 }
 
 // Takes up a file whose calls fail from one on.
-fn taken_up(
-    rt: &impl Abort,
-    alloc: Global,
-    bytes: Vec<u8>,
-    left: usize,
-    bytewise: bool,
-) -> Result<Found, Fail> {
+fn taken_up(rt: &impl Abort, alloc: Global, bytes: Vec<u8>, left: usize, bytewise: bool) -> Found {
     match read_head(&bytes) {
         Ok(shape) => {
-            assert_eq!(rt; shape, SHAPE);
-            shape.check()?;
-            let mut cells = Cells::blank(alloc, &shape)?;
-            let file = TornFile::new(alloc, bytes.to_vec(alloc)?, left, bytewise)?;
-            found(alloc, open(alloc, cells.board(), file, &bytes, ROOM))
+            assert!(rt; shape == SHAPE);
+            shape.check().expect(rt, SIZES);
+            let mut cells = Cells::blank(alloc, &shape).expect(rt, NO_ROOM);
+            let copy = bytes.to_vec(alloc).expect(rt, NO_ROOM);
+            let file = TornFile::new(alloc, copy, left, bytewise).expect(rt, NO_ROOM);
+            found(rt, alloc, open(alloc, cells.board(), file, &bytes, ROOM))
         }
         Err(HeadError::NoJournal) => made(rt, alloc, bytes, left, bytewise),
-        Err(HeadError::OtherVersion) => Err(Fail::new("another version")),
+        Err(HeadError::OtherVersion) => panic!(rt; "another version"),
     }
 }
 
@@ -139,17 +135,14 @@ fn reopened(
     bytes: Vec<u8>,
     bytewise: bool,
     dice: &mut Dice,
-) -> Result<Vec<u64>, Fail> {
+) -> Vec<u64> {
     let mut bytes = bytes;
     for _ in 0..dice.below(3) {
-        let (_, file) = taken_up(rt, alloc, bytes, dice.below(8), bytewise)?;
-        bytes = file.crash(alloc, dice)?;
+        let (_, file) = taken_up(rt, alloc, bytes, dice.below(8), bytewise);
+        bytes = file.crash(alloc, dice).expect(rt, NO_ROOM);
     }
-    let (held, _file) = taken_up(rt, alloc, bytes, MOST_CALLS, bytewise)?;
-    match held {
-        Some(words) => Ok(words),
-        None => Err(Fail::new("the file doesn't open")),
-    }
+    let (held, _file) = taken_up(rt, alloc, bytes, MOST_CALLS, bytewise);
+    held.expect(rt, "the file doesn't open")
 }
 
 // A session: its file, how many operations were done when the last sync was answered by Ok, how many when the last one
@@ -162,19 +155,19 @@ struct Session {
 }
 
 // Runs a session over a file whose calls fail from one on.
-fn run(rt: &impl Abort, alloc: Global, left: usize, bytewise: bool) -> Result<Session, Fail> {
-    SHAPE.check()?;
-    let mut cells = Cells::blank(alloc, &SHAPE)?;
-    let file = TornFile::new(alloc, Vec::new(alloc), left, bytewise)?;
+fn run(rt: &impl Abort, alloc: Global, left: usize, bytewise: bool) -> Session {
+    SHAPE.check().expect(rt, SIZES);
+    let mut cells = Cells::blank(alloc, &SHAPE).expect(rt, NO_ROOM);
+    let file = TornFile::new(alloc, Vec::new(alloc), left, bytewise).expect(rt, NO_ROOM);
     let mut journal = match create(alloc, cells.board(), file, ROOM) {
         Ok(journal) => journal,
         Err((_, file)) => {
-            return Ok(Session {
+            return Session {
                 file,
                 synced: 0,
                 begun: 0,
                 ended: false,
-            });
+            };
         }
     };
     let mut synced = 0;
@@ -200,51 +193,96 @@ fn run(rt: &impl Abort, alloc: Global, left: usize, bytewise: bool) -> Result<Se
             synced = begun;
         }
     }
-    Ok(Session {
+    Session {
         file: journal.close(),
         synced,
         begun,
         ended,
-    })
-}
-
-// Sessions over files of one kind, each of which fails at another call, and what is found behind crashes then and while the
-// file is opened.
-fn each_crash_leaves_a_sync(rt: &impl Abort, alloc: Global, bytewise: bool) -> Result<(), Fail> {
-    let mut dice = Dice::new(5);
-    let mut some_ended = false;
-    let mut some_before = false;
-    let mut some_after = false;
-    for left in 0..MOST_CALLS {
-        let Session {
-            file,
-            synced,
-            begun,
-            ended,
-        } = run(rt, alloc, left, bytewise)?;
-        let before = wanted(rt, alloc, synced)?;
-        let after = wanted(rt, alloc, begun)?;
-        for _ in 0..CRASHES {
-            let bytes = file.crash(alloc, &mut dice)?;
-            let found = reopened(rt, alloc, bytes, bytewise, &mut dice)?;
-            let is_before = found.as_slice() == before.as_slice();
-            let is_after = found.as_slice() == after.as_slice();
-            assert!(rt; is_before || is_after, "after {left} calls");
-            some_before |= is_before && synced != begun;
-            some_after |= is_after && synced != begun;
-        }
-        some_ended |= ended;
     }
-    assert!(rt; some_ended && some_before && some_after);
-    Ok(())
+}
+
+// What a crash of a session may leave: the words of its last sync and those of the one that was begun then.
+#[derive(Drop)]
+struct Syncs {
+    before: Vec<u64>,
+    after: Vec<u64>,
+}
+
+// Whether the words that a crash leaves are those before, and whether they are those after.
+fn crashed(
+    rt: &impl Abort,
+    alloc: Global,
+    file: &TornFile,
+    syncs: &Syncs,
+    bytewise: bool,
+    dice: &mut Dice,
+    left: usize,
+) -> (bool, bool) {
+    let bytes = file.crash(alloc, dice).expect(rt, NO_ROOM);
+    let found = reopened(rt, alloc, bytes, bytewise, dice);
+    let is_before = found.as_slice() == syncs.before.as_slice();
+    let is_after = found.as_slice() == syncs.after.as_slice();
+    assert!(rt; is_before || is_after, "after {left} calls");
+    (is_before, is_after)
+}
+
+// What was seen of the sessions: one that ended, and crashes within a sync that left what was before, and what is after.
+#[derive(Clone, Copy)]
+struct Seen {
+    ended: bool,
+    before: bool,
+    after: bool,
+}
+
+// A session over a file that fails at a call, and what is found behind crashes then and while the file is opened.
+fn crash_all(
+    rt: &impl Abort,
+    alloc: Global,
+    left: usize,
+    bytewise: bool,
+    dice: &mut Dice,
+    seen: Seen,
+) -> Seen {
+    let Session {
+        file,
+        synced,
+        begun,
+        ended,
+    } = run(rt, alloc, left, bytewise);
+    let syncs = Syncs {
+        before: wanted(rt, alloc, synced),
+        after: wanted(rt, alloc, begun),
+    };
+    let mut seen = seen;
+    for _ in 0..CRASHES {
+        let (is_before, is_after) = crashed(rt, alloc, &file, &syncs, bytewise, dice, left);
+        seen.before |= is_before && synced != begun;
+        seen.after |= is_after && synced != begun;
+    }
+    seen.ended |= ended;
+    seen
+}
+
+// Sessions over files of one kind, each of which fails at another call.
+fn each_crash_leaves_a_sync(rt: &impl Abort, alloc: Global, bytewise: bool) {
+    let mut dice = Dice::new(5);
+    let mut all = Seen {
+        ended: false,
+        before: false,
+        after: false,
+    };
+    for left in 0..MOST_CALLS {
+        all = crash_all(rt, alloc, left, bytewise, &mut dice, all);
+    }
+    assert!(rt; all.ended && all.before && all.after);
 }
 
 #[test]
-fn each_crash_leaves_the_operations_before_some_sync(rt: HostRuntime) -> Result<(), Fail> {
-    each_crash_leaves_a_sync(&rt, rt.alloc(), false)
+fn each_crash_leaves_the_operations_before_some_sync(rt: HostRuntime) {
+    each_crash_leaves_a_sync(&rt, rt.alloc(), false);
 }
 
 #[test]
-fn so_does_each_of_a_file_that_is_written_byte_by_byte(rt: HostRuntime) -> Result<(), Fail> {
-    each_crash_leaves_a_sync(&rt, rt.alloc(), true)
+fn so_does_each_of_a_file_that_is_written_byte_by_byte(rt: HostRuntime) {
+    each_crash_leaves_a_sync(&rt, rt.alloc(), true);
 }

@@ -1,17 +1,18 @@
+use crate::told::{same, same_at, same_list};
 use envy_frames::Frames;
 use std::alloc::Global;
 use std::test::Fail;
 
 #[test]
-fn all_frames_are_taken_and_no_more(rt: HostRuntime) -> Result<(), Fail> {
-    let mut frames = Frames::new(rt.alloc(), 2)?;
-    assert_eq!(rt; frames.used(), 0);
-    assert_eq!(rt; frames.oldest(), None);
-    assert!(rt; frames.take(5, 0).is_some());
-    assert!(rt; frames.take(6, 0).is_some());
-    assert_eq!(rt; frames.take(7, 0), None);
-    assert_eq!(rt; frames.used(), 2);
-    Ok(())
+fn all_frames_are_taken_and_no_more(rt: HostRuntime) {
+    let mut frames = Frames::new(rt.alloc(), 2).expect(&rt, "no room for frames");
+    let found = (frames.used(), frames.oldest());
+    same(&rt, &found, &(0, None), "none is taken");
+    for (page, is_taken) in [(5, true), (6, true), (7, false)].as_slice() {
+        let found = frames.take(*page, 0).is_some();
+        same_at(&rt, &found, is_taken, "page", *page as u64);
+    }
+    same(&rt, &frames.used(), &2, "frames that are taken");
 }
 
 /// The pages that are held, the oldest first. They are given back.
@@ -54,17 +55,17 @@ fn after_giving_back(alloc: Global, given: u32) -> Result<Vec<u32>, Fail> {
 }
 
 /// The page that is given back, and those that are held then, the oldest first.
-const LEFT: [(u32, [u32; 3]); 3] = [(10, [11, 12, 13]), (11, [10, 12, 13]), (12, [10, 11, 13])];
+const LEFT: [(&str, u32, [u32; 3]); 3] = [
+    ("page 10 given back", 10, [11, 12, 13]),
+    ("page 11 given back", 11, [10, 12, 13]),
+    ("page 12 given back", 12, [10, 11, 13]),
+];
 
 #[test]
 fn the_others_keep_their_order(rt: HostRuntime) -> Result<(), Fail> {
-    for (given, left) in LEFT.as_slice() {
+    for (name, given, left) in LEFT.as_slice() {
         let pages = after_giving_back(rt.alloc(), *given)?;
-        assert_eq!(rt;
-            pages.as_slice(),
-            left.as_slice(),
-            "page {given} given back"
-        );
+        same_list(&rt, &pages, left, name);
     }
     Ok(())
 }
@@ -87,6 +88,6 @@ fn after_many_rounds(alloc: Global) -> Result<Vec<u32>, Fail> {
 #[test]
 fn frames_given_back_from_the_middle_make_room(rt: HostRuntime) -> Result<(), Fail> {
     let pages = after_many_rounds(rt.alloc())?;
-    assert_eq!(rt; pages.as_slice(), [1, 30, 31].as_slice());
+    same_list(&rt, &pages, &[1, 30, 31], "pages that are left");
     Ok(())
 }

@@ -1,17 +1,18 @@
 //! Images and verdicts on boards that were changed by hand.
 
-ghost use Rattle.std.specs.Prelude.{◌≡◌, IfOk};
+ghost use Rattle.std.specs.Prelude.{◌≡◌};
+ghost use Rattle.envy_base.specs.Shape.{IsShape};
 ghost use Rattle.envy_bench.specs.Board.{board_state};
 ghost use Rattle.envy_bench.specs.Parts.{new_state};
 
+use crate::told::same;
 use envy_base::{Board, Shape};
 use envy_bench::MemBoard;
 use envy_image::{Audit, HeadFault, InFault, Rule, Verdict, install, read_head, write_image};
 use envy_io::{Lines, MemSink, MemSource};
 use envy_layout::format_board;
-use std::alloc::{AllocError, Global};
+use std::alloc::Global;
 use std::process::Abort;
-use std::test::Fail;
 
 const SHAPE: Shape = Shape {
     segments: 8,
@@ -28,22 +29,28 @@ const SIZE: usize = 37_272;
 /// Where the words of SRAM begin in it.
 const WORDS: usize = 32_800;
 
-fn new_board(alloc: Global) -> Result<MemBoard, Fail>
-    ensures { IfOk result (λ board. board_state board ≡ new_state SHAPE 0) }
+/// A new board of a shape that checks.
+fn new_board(rt: &impl Abort, alloc: Global, shape: &Shape) -> MemBoard
+    requires { IsShape shape.now }
+    ensures { board_state result ≡ new_state shape.now 0 }
 {
-    SHAPE.check()?;
-    Ok(MemBoard::new(alloc, &SHAPE, 0)?)
+    MemBoard::new(alloc, shape, 0).expect(rt, "no room for a board")
+}
+
+/// Writes the image of a formatted board. What ends the test ends it here: a way out by `?` would let go of the board.
+fn write(rt: &impl Abort, alloc: Global, sink: &mut MemSink) {
+    let mut board = new_board(rt, alloc, &SHAPE);
+    same(rt, &format_board(&mut board), &Ok(()), "format");
+    same(rt, &write_image(&board, sink), &Ok(()), "image");
 }
 
 /// The image of a formatted board.
-fn image(rt: &(impl Abort + Alloc<A = Global>)) -> Result<Vec<u8>, Fail> {
-    let alloc = rt.alloc();
-    let mut board = new_board(alloc)?;
-    assert_eq!(rt; format_board(&mut board), Ok(()));
-    let mut sink = MemSink::new(alloc, SIZE, Vec::new(alloc))?;
-    assert_eq!(rt; write_image(&board, &mut sink), Ok(()));
-    let bytes = sink.written().to_vec(alloc)?;
-    Ok(bytes)
+fn image(rt: &impl Abort, alloc: Global) -> Vec<u8> {
+    let mut sink = MemSink::new(alloc, SIZE, Vec::new(alloc)).expect(rt, "no room for a sink");
+    write(rt, alloc, &mut sink);
+    sink.written()
+        .to_vec(alloc)
+        .expect(rt, "no room for an image")
 }
 
 /// Writes a word of SRAM into an image.
@@ -61,64 +68,74 @@ enum Found {
     NotInstalled(InFault),
 }
 
-fn judge(rt: &(impl Abort + Alloc<A = Global>), bytes: Vec<u8>) -> Result<Found, Fail> {
-    let alloc = rt.alloc();
+/// What an audit finds of a board.
+fn verdict(rt: &impl Abort, alloc: Global, board: &MemBoard) -> Found {
+    let mut audit = Audit::new(alloc, &board.shape()).expect(rt, "no room for an audit");
+    Found::Judged(audit.check(board).expect(rt, "no power"))
+}
+
+fn judge(rt: &impl Abort, alloc: Global, bytes: Vec<u8>) -> Found {
     let mut source = MemSource::new(bytes, 4096, Vec::new(alloc));
     let mut lines = Lines::new(1_000_000);
-    let shape = match read_head(&mut lines, &mut source) {
-        Ok(shape) => shape,
-        Err(fault) => return Ok(Found::NoHead(fault)),
-    };
-    shape.check()?;
-    let mut board = MemBoard::new(alloc, &shape, 0)?;
-    if let Err(fault) = install(&mut board, &mut lines, &mut source) {
-        return Ok(Found::NotInstalled(fault));
-    }
-    let mut audit = Audit::new(alloc, &shape)?;
-    match audit.check(&board) {
-        Ok(verdict) => Ok(Found::Judged(verdict)),
-        Err(_) => panic!(rt; "no power"),
+    match read_head(&mut lines, &mut source) {
+        Ok(shape) => {
+            shape.check().expect(rt, "the shape");
+            let mut board = new_board(rt, alloc, &shape);
+            match install(&mut board, &mut lines, &mut source) {
+                Ok(()) => verdict(rt, alloc, &board),
+                Err(fault) => Found::NotInstalled(fault),
+            }
+        }
+        Err(fault) => Found::NoHead(fault),
     }
 }
 
+/// The text at these places of an image.
+fn check_text(rt: &impl Abort, bytes: &[u8], from: usize, text: &[u8]) {
+    let found = bytes.get(from..from.saturating_add(text.len()));
+    same(rt, &found, &Some(text), "bytes");
+}
+
 #[test]
-fn a_formatted_board_comes_back(rt: HostRuntime) -> Result<(), Fail> {
-    let bytes = image(&rt)?;
-    assert_eq!(&rt; bytes.len(), SIZE);
-    assert!(&rt; bytes.starts_with(b"eNVyIMG1\x08\0\0\0\x10\0\0\0"));
+fn a_formatted_board_comes_back(rt: HostRuntime) {
+    let bytes = image(&rt, rt.alloc());
+    same(&rt, &bytes.len(), &SIZE, "size");
+    check_text(&rt, &bytes, 0, b"eNVyIMG1\x08\0\0\0\x10\0\0\0");
     // the first word of SRAM, its lowest byte first
-    assert!(&rt; bytes.get(WORDS..WORDS + 8) == Some(b"HSLFyVNe".as_slice()));
-    assert_eq!(&rt; judge(&rt, bytes)?, Found::Judged(Verdict::Sound));
-    Ok(())
+    check_text(&rt, &bytes, WORDS, b"HSLFyVNe");
+    let found = judge(&rt, rt.alloc(), bytes);
+    same(&rt, &found, &Found::Judged(Verdict::Sound), "verdict");
 }
 
 /// Words of SRAM that break a point first, on a board that was just formatted. In its map the fills begin at word
 /// 80, the positions at 88, the places at 95, two to a word, and the undos at 127; segment 7 is the spare.
-const BROKEN: [(Rule, &[(usize, u64)]); 11] = [
+const BROKEN: [(Rule, &str, &[(usize, u64)]); 11] = [
     // slot 0 holds no state
-    (Rule::A, &[(8, 3)]),
+    (Rule::A, "point A", &[(8, 3)]),
     // two positions name segment 0
-    (Rule::B, &[(89, 0)]),
+    (Rule::B, "point B", &[(89, 0)]),
     // pages 0 and 1 stand in frame 0
-    (Rule::C, &[(95, 0x2_0000_0002)]),
+    (Rule::C, "point C", &[(95, 0x2_0000_0002)]),
     // pages 0 and 1 stand in row 0
-    (Rule::D, &[(95, 0x1_0000_0001), (80, 1)]),
+    (Rule::D, "point D", &[(95, 0x1_0000_0001), (80, 1)]),
     // page 0 stands in row 0, which wasn't claimed
-    (Rule::E, &[(95, 1)]),
+    (Rule::E, "point E", &[(95, 1)]),
     // the spare has a row though no job runs
-    (Rule::G, &[(87, 1)]),
+    (Rule::G, "point G", &[(87, 1)]),
     // page 0 stands in a row of the spare while the spare is to be erased
-    (Rule::H, &[(5, 3), (87, 1), (95, 449)]),
+    (Rule::H, "point H", &[(5, 3), (87, 1), (95, 449)]),
     // the spare is copied
-    (Rule::I, &[(5, 29)]),
+    (Rule::I, "point I", &[(5, 29)]),
     // while segment 0 is switched page 0 stands in its row 0, and its shadow is the copy of that row
     (
         Rule::J,
+        "point J",
         &[(5, 2), (8, 1), (80, 1), (87, 1), (95, 1), (127, 28_674)],
     ),
     // 17 pages are owned by slot 0, which is active
     (
         Rule::K,
+        "point K",
         &[
             (8, 1),
             (127, 0x1_0000_0001),
@@ -133,31 +150,56 @@ const BROKEN: [(Rule, &[(usize, u64)]); 11] = [
         ],
     ),
     // page 0 is owned by slot 0, which is vacant
-    (Rule::L, &[(127, 1)]),
+    (Rule::L, "point L", &[(127, 1)]),
+];
+
+/// Changes an image, judges it, and tells the name where that is found otherwise.
+fn check(
+    rt: &impl Abort,
+    alloc: Global,
+    whole: &[u8],
+    words: &[(usize, u64)],
+    wanted: Verdict,
+    name: &str,
+) {
+    let mut bytes = whole.to_vec(alloc).expect(rt, "no room for an image");
+    for (w, word) in words {
+        set_word(rt, &mut bytes, *w, *word);
+    }
+    same(rt, &judge(rt, alloc, bytes), &Found::Judged(wanted), name);
+}
+
+/// Words of SRAM with which a board isn't formatted.
+const OTHERS: [(&str, usize, u64); 2] = [
+    ("first word is not the magic word", 0, 0),
+    ("neither of the two versions", 1, 3),
 ];
 
 #[test]
-fn each_point_is_found_broken(rt: HostRuntime) -> Result<(), Fail> {
-    let whole = image(&rt)?;
-    for (rule, words) in BROKEN.as_slice() {
-        let mut bytes = whole.to_vec(rt.alloc())?;
-        for (w, word) in *words {
-            set_word(&rt, &mut bytes, *w, *word);
-        }
-        assert_eq!(&rt; judge(&rt, bytes)?, Found::Judged(Verdict::Broken(*rule)));
+fn each_point_is_found_broken(rt: HostRuntime) {
+    let whole = image(&rt, rt.alloc());
+    for (rule, name, words) in BROKEN.as_slice() {
+        check(&rt, rt.alloc(), &whole, words, Verdict::Broken(*rule), name);
+    }
+    for (name, w, word) in OTHERS.as_slice() {
+        check(
+            &rt,
+            rt.alloc(),
+            &whole,
+            &[(*w, *word)],
+            Verdict::Unformatted,
+            name,
+        );
     }
     // a row that wasn't claimed isn't all ones
-    let mut bytes = whole.to_vec(rt.alloc())?;
+    let mut bytes = whole;
     assert!(&rt; bytes.len() > 32);
     bytes[32] = 0;
-    assert_eq!(&rt; judge(&rt, bytes)?, Found::Judged(Verdict::Broken(Rule::F)));
-    // the first word isn't the magic word
-    let mut bytes = whole.to_vec(rt.alloc())?;
-    set_word(&rt, &mut bytes, 0, 0);
-    assert_eq!(&rt; judge(&rt, bytes)?, Found::Judged(Verdict::Unformatted));
-    // neither of the two versions
-    let mut bytes = whole.to_vec(rt.alloc())?;
-    set_word(&rt, &mut bytes, 1, 3);
-    assert_eq!(&rt; judge(&rt, bytes)?, Found::Judged(Verdict::Unformatted));
-    Ok(())
+    let found = judge(&rt, rt.alloc(), bytes);
+    same(
+        &rt,
+        &found,
+        &Found::Judged(Verdict::Broken(Rule::F)),
+        "row that is not claimed is not all ones",
+    );
 }

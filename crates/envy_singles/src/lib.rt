@@ -14,3 +14,5 @@ mod frames;
 mod images;
 #[cfg(test)]
 mod plain;
+#[cfg(test)]
+mod told;
