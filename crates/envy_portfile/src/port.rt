@@ -1,9 +1,9 @@
-ghost use Rattle.std.specs.Prelude.{◌≡◌, true, false};
+ghost use Rattle.std.specs.Prelude.{◌≡◌, false};
 ghost use Rattle.envy_device.specs.Device.{Only};
-ghost use Rattle.envy_record.specs.Calls.{MayLeave, Notes, have_failed, is_failure, seen_after};
-ghost use Rattle.envy_record.specs.Noted.{call_of};
+ghost use Rattle.envy_record.specs.Calls.{MayLeave, Notes, have_failed, seen_after};
+ghost use Rattle.envy_portfile.specs.Orders.{done_of, failed_of};
 
-use crate::order::{Call, Order};
+use crate::order::{Order, done, failed};
 use envy_device::DeviceFailed;
 use envy_record::{Made, RawFile, Record, Recorded};
 
@@ -42,44 +42,24 @@ impl FilePort {
         Recorded::found(port, bytes, bytewise)
     }
 
-    // Gives an order, with these bytes behind it, and waits for the answer.
-    fn order(&self, call: Call, at: usize, bytes: &[u8]) -> Result<(), DeviceFailed> {
-        let order = Order {
-            call,
-            at,
-            size: bytes.len(),
-        };
-        let mut answer = [!DONE];
-        if io::write_all(self.number, &order.bytes())
-            && io::write_all(self.number, bytes)
-            && io::read_full(self.number, &mut answer) == 1
-            && answer[0] == DONE
-        {
-            Ok(())
-        } else {
-            Err(DeviceFailed)
-        }
-    }
-
-    // Notes a call by its answer.
-    fn note(
-        &mut self,
-        answer: Result<(), DeviceFailed>,
-        done: &Made<'_>,
-        failed: &Made<'_>,
-    ) -> Result<(), DeviceFailed>
-        requires done { is_failure (call_of done.now) ≡ false }
-        requires failed { is_failure (call_of failed.now) ≡ true }
-        ensures answer { result ≡ answer }
-        ensures noted { Notes (call_of done.now) (call_of failed.now) answer self.old.record.calls
+    // Gives an order, waits for the answer, and notes the call by it. Nothing else here calls the port.
+    fn order(&mut self, order: &Order<'_>) -> Result<(), DeviceFailed>
+        ensures { Notes (done_of order.now) (failed_of order.now) result self.old.record.calls
             self.new.record.calls }
     {
-        self.record = match answer {
-            Ok(()) => self.record.and(done),
-            Err(DeviceFailed) => self.record.and(failed),
-        };
-        self.failed = self.failed || answer.is_err();
-        answer
+        let mut answer = [!DONE];
+        let is_done = io::write_all(self.number, &order.header())
+            && io::write_all(self.number, order.behind())
+            && io::read_full(self.number, &mut answer) == 1
+            && answer[0] == DONE;
+        if is_done {
+            self.record = self.record.and(&done(order));
+            Ok(())
+        } else {
+            self.record = self.record.and(&failed(order));
+            self.failed = true;
+            Err(DeviceFailed)
+        }
     }
 }
 
@@ -91,41 +71,26 @@ impl RawFile for FilePort {
     }
 
     fn write_at(&mut self, at: usize, bytes: &[u8]) -> Result<(), DeviceFailed> {
-        let answer = self.order(Call::Write, at, bytes);
-        self.note(
-            answer,
-            &Made::Wrote { at, bytes },
-            &Made::WriteFailed { at, bytes },
-        )
+        self.order(&Order::Write { at, bytes })
     }
 
     fn cut(&mut self, size: usize) -> Result<(), DeviceFailed> {
-        let answer = self.order(Call::Cut, size, &[]);
-        self.note(answer, &Made::CutTo { size }, &Made::CutFailed { size })
+        self.order(&Order::Cut { size })
     }
 
     fn sync(&mut self) -> Result<(), DeviceFailed> {
-        let answer = self.order(Call::Sync, 0, &[]);
-        self.note(answer, &Made::Synced, &Made::SyncFailed)
+        self.order(&Order::Sync)
     }
 
     fn begin(&mut self) -> Result<(), DeviceFailed> {
-        let answer = self.order(Call::Begin, 0, &[]);
-        self.note(answer, &Made::Began, &Made::BeginFailed)
+        self.order(&Order::Begin)
     }
 
     fn append(&mut self, bytes: &[u8]) -> Result<(), DeviceFailed> {
-        let size = bytes.len();
-        let answer = self.order(Call::Append, 0, bytes);
-        self.note(
-            answer,
-            &Made::Appended { bytes },
-            &Made::AppendFailed { size },
-        )
+        self.order(&Order::Append { bytes })
     }
 
     fn replace(&mut self) -> Result<(), DeviceFailed> {
-        let answer = self.order(Call::Replace, 0, &[]);
-        self.note(answer, &Made::Replaced, &Made::ReplaceFailed)
+        self.order(&Order::Replace)
     }
 }
