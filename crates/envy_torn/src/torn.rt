@@ -48,7 +48,7 @@ impl TornFile {
     ghost use Rattle.std.specs.Prelude.{◌⊎◌, ◌+◌, IfSome};
     ghost use Rattle.envy_device.specs.Device.{Only};
     ghost use Rattle.envy_torn.specs.Calls.{seen_by};
-    ghost use Rattle.envy_torn.specs.Torn.{file_bytes, file_second, file_calls, file_bytewise, file_outcome, Kept, Noted, Finished, Unwritten};
+    ghost use Rattle.envy_torn.specs.Torn.{file_bytes, file_second, file_calls, file_bytewise, file_failed, file_outcome, Kept, Noted, Finished, Unwritten};
 
     /// A file with these bytes, all of them on the disk. So many calls succeed, and every later one fails. It may be one
     /// that is trusted to be written byte by byte.
@@ -61,6 +61,7 @@ impl TornFile {
         ensures bytes { IfOk result (λ file. file_bytes file ≡ bytes.items) }
         ensures bytewise { IfOk result (λ file. file_bytewise file ≡ bytewise) }
         ensures durable { IfOk result (λ file. Only (file_bytes file) (file_outcome file)) }
+        ensures works { IfOk result (λ file. file_failed file ≡ false) }
     {
         let first = bytes.to_vec(alloc)?;
         Ok(TornFile {
@@ -140,6 +141,7 @@ impl TornFile {
         ensures failed { self.new.failed ≡ self.old.failed }
         ensures passes { result ≡ true → self.new.failed ≡ false }
         ensures planned { result ≡ true → self.old.left ≡ self.new.left + 1 }
+        ensures refuses { result ≡ false → (self.old.failed ≡ true) ⊎ (self.old.left ≡ 0) }
     {
         if self.failed || self.left == 0 {
             return false;
