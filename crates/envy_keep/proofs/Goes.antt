@@ -15,7 +15,7 @@ use Rattle.envy_io.proofs.WritesLemmas.{with_end-nil}
 use Rattle.envy_synced.specs.Disk.{IsLast, IsSynced}
 use Rattle.envy_layout.specs.Stands.{Holds, Stands, IsLost as LostOn}
 use Rattle.envy_map.specs.Fields.{Chart, failed}
-use Rattle.envy_memory.specs.Picture.{Picture}
+use Rattle.envy_memory.specs.Picture.{IsMemory, Picture}
 use Rattle.envy_trace.specs.declared.line.Line.{Line}
 use Rattle.envy_trace.specs.declared.line.Line.TheVariants.{Empty, Load, Look, Store, Begin, Put, Commit, Abort, Tick, Power, Cut, Bad, Stat}
 use Rattle.envy_trace.specs.declared.reply.Reply.{Reply}
@@ -42,6 +42,7 @@ use Rattle.envy_run.specs.declared.answering.Beside.{Beside}
 use Rattle.envy_run.specs.declared.answering.Beside.TheVariants.{Nothing, Power as OfPower, Plan as OfPlan}
 use Rattle.envy_run.specs.declared.answering.Plan.TheVariants.{Cut as PlanCut, Bad as PlanBad}
 use Rattle.envy_keep.specs.Answers.{AnswersKeep, SyncsTo, TraceAnswers}
+use Rattle.envy_keep.specs.Playing.{ShowsMemory}
 use Rattle.envy_keep.specs.Since.{IsSaved, KeptSince, LostSince, Start}
 use Rattle.envy_keep.specs.Turns.{KeepRun, KeepTurn, keep_grammar, trace_turns}
 
@@ -110,15 +111,15 @@ module _ (start : Start) (old new : Picture) (turns : List KeepTurn) (line : Lin
   saved : IsSaved start new.chart turns
   saved = saved-on start old.chart new.chart turns shape (λ was last. last-works line was old.chart new.chart call a.works last) t.saved
 
-  trace-more : IsTrue new.chart.on → KeptSince start new (record { line = Trace line; replies = TraceReply reply ∷ [] } ∷ turns)
-  trace-more on =
-      let (left, says, stands) = answered (MayTell old.chart.shape.entries (trace_turns turns)) t.array line reply new.chart on answers in
+  trace-more : ShowsMemory new → KeptSince start new (record { line = Trace line; replies = TraceReply reply ∷ [] } ∷ turns)
+  trace-more shows =
+      let (left, says, stands) = answered (MayTell old.chart.shape.entries (trace_turns turns)) t.array line reply new.chart shows.0 answers in
       record {
         array = left;
         run = entries-as old.chart new.chart start.array left (record { line = Trace line; replies = TraceReply reply ∷ [] } ∷ turns) shape (t.array, t.run, inr (reply, refl, says));
         stands = stands;
         telling = telling-more start.memory (record { line = line; replies = reply ∷ [] }) (trace_turns turns) old new t.telling shape a.notes;
-        plays = (old, t.plays, inr (reply, refl, a.works, a.rules));
+        plays = (old, t.plays, inr (reply, refl, a.works, a.rules, shows));
         shape = shape ∙ t.shape;
         saved = saved-more start new.chart turns (Trace line) reply saved;
       }
@@ -150,8 +151,8 @@ module _ (start : Start) (old new : Picture) (turns : List KeepTurn) (line : Lin
 -- a sync joins the turns
 
 -- a sync that is done saves all turns so far
-sync-more : (start : Start) (old : Picture) (turns : List KeepTurn) (t : KeptSince start old turns) (plans given : ℕ) → IsSynced (with_numbers old.chart plans given old.chart.plans old.chart.given) → KeptSince start (record old { chart = with_numbers old.chart plans given old.chart.plans old.chart.given }) (record { line = Sync; replies = Synced ∷ [] } ∷ turns)
-sync-more start old turns t plans given good =
+sync-more : (start : Start) (old : Picture) (turns : List KeepTurn) (t : KeptSince start old turns) (plans given : ℕ) → IsSynced (with_numbers old.chart plans given old.chart.plans old.chart.given) → ShowsMemory (record old { chart = with_numbers old.chart plans given old.chart.plans old.chart.given }) → KeptSince start (record old { chart = with_numbers old.chart plans given old.chart.plans old.chart.given }) (record { line = Sync; replies = Synced ∷ [] } ∷ turns)
+sync-more start old turns t plans given good shows =
     let stood = t.stands in
     let tallies = Telling.tallies t.telling in
     record {
@@ -159,7 +160,7 @@ sync-more start old turns t plans given good =
       run = (t.array, t.run, (refl, refl));
       stands = told-stands old.chart plans given old.chart.plans old.chart.given t.array stood;
       telling = record { can = Telling.can t.telling; last = Telling.last t.telling; tallies = record { programs = Tallies.programs tallies; erases = Tallies.erases tallies } };
-      plays = (old, t.plays, (refl, (plans, given, refl)));
+      plays = (old, t.plays, (refl, (plans, given, refl), shows));
       shape = t.shape;
       saved = record {
         was = with_numbers old.chart plans given old.chart.plans old.chart.given;
@@ -171,7 +172,7 @@ sync-more start old turns t plans given good =
         array = t.array;
         run = (t.array, t.run, (refl, refl));
         words = Holds.durable stood.holds;
-        on_disk = (record old { chart = with_numbers old.chart plans given old.chart.plans old.chart.given }, (old, t.plays, (refl, (plans, given, refl))), refl);
+        on_disk = (record old { chart = with_numbers old.chart plans given old.chart.plans old.chart.given }, (old, t.plays, (refl, (plans, given, refl), shows)), refl);
       };
     }
 
@@ -198,13 +199,13 @@ sync-lost start old turns t =
 -- a line with its reply, power staying on or not
 
 -- a line that was answered while power stays on
-pub more : (start : Start) (old new : Picture) (turns : List KeepTurn) (line : KeepLine) (reply : KeepReply) → KeptSince start old turns → IsKeepLine line → AnswersKeep line reply old new → IsTrue new.chart.on → KeptSince start new (record { line = line; replies = reply ∷ [] } ∷ turns)
-more start old new turns (Trace line) reply t call (said, is, a) on =
-    subst (λ (r : KeepReply). KeptSince start new (record { line = Trace line; replies = r ∷ [] } ∷ turns)) (sym is) (trace-more start old new turns line said t call a on)
-more start old new turns Sync reply t call (inl (is, good, plans, given, same)) on =
+pub more : (start : Start) (old new : Picture) (turns : List KeepTurn) (line : KeepLine) (reply : KeepReply) → KeptSince start old turns → IsKeepLine line → AnswersKeep line reply old new → ShowsMemory new → KeptSince start new (record { line = line; replies = reply ∷ [] } ∷ turns)
+more start old new turns (Trace line) reply t call (said, is, a) shows =
+    subst (λ (r : KeepReply). KeptSince start new (record { line = Trace line; replies = r ∷ [] } ∷ turns)) (sym is) (trace-more start old new turns line said t call a shows)
+more start old new turns Sync reply t call (inl (is, good, plans, given, same)) shows =
     subst (λ (r : KeepReply). KeptSince start new (record { line = Sync; replies = r ∷ [] } ∷ turns)) (sym is)
-    (subst (λ (p : Picture). KeptSince start p (record { line = Sync; replies = Synced ∷ [] } ∷ turns)) (sym same) (sync-more start old turns t plans given (subst (λ (p : Picture). IsSynced p.chart) same good)))
-more start old new turns Sync reply t call (inr (is, same)) on = absurd (false≢true (sym (ap (λ (p : Picture). p.chart.on) same) ∙ on))
+    (subst (λ (p : Picture). KeptSince start p (record { line = Sync; replies = Synced ∷ [] } ∷ turns)) (sym same) (sync-more start old turns t plans given (subst (λ (p : Picture). IsSynced p.chart) same good) (subst (λ (p : Picture). ShowsMemory p) same shows)))
+more start old new turns Sync reply t call (inr (is, same)) shows = absurd (false≢true (sym (ap (λ (p : Picture). p.chart.on) same) ∙ shows.0))
 
 -- a line in which power failed
 pub lost : (start : Start) (old new : Picture) (turns : List KeepTurn) (line : KeepLine) (reply : KeepReply) → KeptSince start old turns → IsKeepLine line → AnswersKeep line reply old new → new.chart.on ≡ false → LostSince start new (record { line = line; replies = reply ∷ [] } ∷ turns)
@@ -236,12 +237,12 @@ written-either reply (Err failed) sink then_sink w = inr (front-one reply failed
 -- doing a line
 
 -- a line was done and its reply was written
-pub obeys-done : (start : Start) (old new : Picture) (turns : List KeepTurn) (line : KeepLine) (reply : KeepReply) (sink then_sink : Drain) → KeptSince start old turns → IsKeepLine line → AnswersKeep line reply old new → IsTrue new.chart.on → WritesAll sink (keep_bytes reply ++ newline ∷ []) (Ok tt) then_sink → Obeys Done keep_grammar (KeptSince start new) (LostSince start new) turns line sink then_sink
-obeys-done start old new turns line reply sink then_sink t call a on w = (reply ∷ [], more start old new turns line reply t call a on, written-one reply sink then_sink w)
+pub obeys-done : (start : Start) (old new : Picture) (turns : List KeepTurn) (line : KeepLine) (reply : KeepReply) (sink then_sink : Drain) → KeptSince start old turns → IsKeepLine line → AnswersKeep line reply old new → IsTrue new.chart.on → IsMemory new.chart new.parts new.owned new.limit new.mark → WritesAll sink (keep_bytes reply ++ newline ∷ []) (Ok tt) then_sink → Obeys Done keep_grammar (KeptSince start new) (LostSince start new) turns line sink then_sink
+obeys-done start old new turns line reply sink then_sink t call a on agrees w = (reply ∷ [], more start old new turns line reply t call a (on, agrees), written-one reply sink then_sink w)
 
 -- a line was done and its reply was not
-pub obeys-failed : (start : Start) (old new : Picture) (turns : List KeepTurn) (line : KeepLine) (reply : KeepReply) (sink then_sink : Drain) (failed : Failed) → KeptSince start old turns → IsKeepLine line → AnswersKeep line reply old new → IsTrue new.chart.on → WritesAll sink (keep_bytes reply ++ newline ∷ []) (Err failed) then_sink → Obeys WriteFault keep_grammar (KeptSince start new) (LostSince start new) turns line sink then_sink
-obeys-failed start old new turns line reply sink then_sink failed t call a on w = (reply ∷ [], more start old new turns line reply t call a on, front-one reply failed sink then_sink w)
+pub obeys-failed : (start : Start) (old new : Picture) (turns : List KeepTurn) (line : KeepLine) (reply : KeepReply) (sink then_sink : Drain) (failed : Failed) → KeptSince start old turns → IsKeepLine line → AnswersKeep line reply old new → IsTrue new.chart.on → IsMemory new.chart new.parts new.owned new.limit new.mark → WritesAll sink (keep_bytes reply ++ newline ∷ []) (Err failed) then_sink → Obeys WriteFault keep_grammar (KeptSince start new) (LostSince start new) turns line sink then_sink
+obeys-failed start old new turns line reply sink then_sink failed t call a on agrees w = (reply ∷ [], more start old new turns line reply t call a (on, agrees), front-one reply failed sink then_sink w)
 
 -- power failed in a line
 pub obeys-dead : (start : Start) (old new : Picture) (turns : List KeepTurn) (line : KeepLine) (reply : KeepReply) (wrote : Result Unit Failed) (sink then_sink : Drain) → KeptSince start old turns → IsKeepLine line → AnswersKeep line reply old new → new.chart.on ≡ false → WritesAll sink (keep_bytes reply ++ newline ∷ []) wrote then_sink → Obeys Dead keep_grammar (KeptSince start new) (LostSince start new) turns line sink then_sink

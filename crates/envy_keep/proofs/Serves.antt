@@ -15,7 +15,8 @@ use Rattle.envy_begun.specs.declared.unbegun.Unbegun.TheVariants.{Failed}
 use Rattle.envy_begun.proofs.Caused.{stopped-unserved}
 use Rattle.envy_device.specs.Device.{Only}
 use Rattle.envy_io.specs.Streams.{Drain, Feed}
-use Rattle.envy_memory.specs.Picture.{Picture}
+use Rattle.envy_layout.specs.Stands.{Stands}
+use Rattle.envy_memory.specs.Picture.{IsMemory, Picture}
 use Rattle.envy_policy.specs.Setup.{checked}
 use Rattle.envy_policy.specs.declared.setup.Setup.{Setup}
 use Rattle.envy_serve.specs.Streams.{Streams}
@@ -25,10 +26,10 @@ use Rattle.envy_keep.specs.Keeping.{IsServed, IsUnserved, LeavesUnserved, Told, 
 
 -- what a trace over the memory in a file left, said of the file
 pub served-as : (options : KeepOptions) (file : List ℕ) (setup : Setup) (holding : Holding) (array : Array) (p : Picture) (status why lines taken : ℕ) (left : ℕ → List ℕ → Type 0) (now : ℕ) (io : Streams)
-    → Plans holding options file setup → checked setup ≡ Ok tt → BeginsAs holding file setup array → HasBegun setup array p
+    → Plans holding options file setup → checked setup ≡ Ok tt → BeginsAs holding file setup array → HasBegun setup array p → IsMemory p.chart p.parts p.owned p.limit p.mark
     → (holding ≡ Written → IsTrue options.compact → IsCompact p.chart) → (holding ≡ Written → options.compact ≡ false → HasOperationsOf file p.chart)
     → KeepsServed array p p.chart.shape status why lines taken left now io → IsServed options file (told status why lines taken) left now io
-served-as options file setup holding array p status why lines taken left now io plans checks begins begun compacted same served = record {
+served-as options file setup holding array p status why lines taken left now io plans checks begins begun agrees compacted same served = record {
   setup = setup;
   holding = holding;
   array = array;
@@ -38,6 +39,7 @@ served-as options file setup holding array p status why lines taken left now io 
   memory = p;
   stands = HasBegun.stands begun;
   starts = HasBegun.begins begun;
+  shows = (Stands.on (HasBegun.stands begun), agrees);
   compacted = compacted;
   same = same;
   served = subst (λ (sh : Shape). KeepsServed array p sh status why lines taken left now io) (HasBegun.shape begun) served;

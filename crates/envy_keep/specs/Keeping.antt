@@ -17,6 +17,7 @@ use Rattle.envy_policy.specs.declared.setup.Setup.{Setup}
 use Rattle.envy_serve.specs.Streams.{Streams}
 use Rattle.envy_synced.specs.Disk.{IsCompact}
 use Rattle.envy_keep.specs.Ending.{KeepsServed}
+use Rattle.envy_keep.specs.Playing.{ShowsMemory}
 
 -- what the program says at the end
 pub record Told : Type 0 where
@@ -29,8 +30,8 @@ abbrev pub told : ℕ → ℕ → ℕ → ℕ → Told
 told status why lines taken = record { status = status; why = why; lines = lines; taken = taken }
 
 -- A trace was served over the memory in the file. It was made by the setup of the options: with their policy, limit and
--- mark. Where they ask for that, the journal with which it began is no longer than a snapshot, and else it has the
--- operations that it had.
+-- mark, and its parts agree with its board. Where the options ask for that, the journal with which it began is no longer
+-- than a snapshot, and else it has the operations that it had.
 pub record IsServed (options : KeepOptions) (file : List ℕ) (end : Told) (left_since : ℕ → List ℕ → Type 0) (now : ℕ) (io : Streams) : Type 0 where
   pub setup : Setup
   pub holding : Holding
@@ -41,6 +42,7 @@ pub record IsServed (options : KeepOptions) (file : List ℕ) (end : Told) (left
   pub memory : Picture
   pub stands : Stands memory.chart array
   pub starts : IsStarted setup memory
+  pub shows : ShowsMemory memory
   pub compacted : holding ≡ Written → IsTrue options.compact → IsCompact memory.chart
   pub same : holding ≡ Written → options.compact ≡ false → HasOperationsOf file memory.chart
   pub served : KeepsServed array memory setup.shape end.status end.why end.lines end.taken left_since now io

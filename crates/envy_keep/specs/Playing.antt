@@ -1,8 +1,8 @@
 -- What a kept memory does below the array, from line to line.
-use Rattle.std.specs.Prelude.{◌≡◌, ◌⊎◌, ℕ, List, [], ◌∷◌}
+use Rattle.std.specs.Prelude.{◌≡◌, ◌⊎◌, ℕ, IsTrue, List, [], ◌∷◌}
 use Rattle.envy_disk.specs.Disk.{with_numbers}
 use Rattle.envy_map.specs.Fields.{Chart, failed}
-use Rattle.envy_memory.specs.Picture.{Picture}
+use Rattle.envy_memory.specs.Picture.{IsMemory, Picture}
 use Rattle.envy_trace.specs.declared.line.Line.TheVariants.{Empty}
 use Rattle.envy_trace.specs.declared.reply.Reply.{Reply}
 use Rattle.envy_keep_trace.specs.declared.keep_line.KeepLine.{KeepLine}
@@ -14,18 +14,23 @@ use Rattle.envy_synced.specs.Disk.{IsLast}
 use Rattle.envy_run.specs.Below.{FollowsRules, WorksOf}
 use Rattle.envy_keep.specs.Turns.{KeepTurn}
 
+-- the picture is one of a memory with power on: its board is sound, and the pool and the other parts agree with it
+abbrev pub ShowsMemory : Picture → Type 0
+ShowsMemory p = IsTrue p.chart.on × IsMemory p.chart p.parts p.owned p.limit p.mark
+
 -- the board tells of one sync more, and nothing else changed
 abbrev pub IsTold : Picture → Picture → Type 0
 IsTold old new = (plans given : ℕ) × (new ≡ record old { chart = with_numbers old.chart plans given old.chart.plans old.chart.given })
 
 -- One line with its replies, from one picture of the memory to the next. A line of the array does what that call of the
 -- memory says: a flush is by the policy's choice, a background step by the first rule that applies, by limit and mark. An
--- empty line changes nothing, and a sync nothing but what the board tells of the disk.
+-- empty line changes nothing, and a sync nothing but what the board tells of the disk. Behind each the picture is one of a
+-- memory, so the pool by which the policy chooses is that of its board.
 abbrev pub PlaysLine : Picture → KeepLine → List KeepReply → Picture → Type 0
 PlaysLine old (Trace line) replies new =
     ((line ≡ Empty) × (replies ≡ []) × (new ≡ old))
-    ⊎ ((reply : Reply) × (replies ≡ TraceReply reply ∷ []) × WorksOf line old.chart new.chart × FollowsRules line reply old new)
-PlaysLine old Sync replies new = (replies ≡ Synced ∷ []) × IsTold old new
+    ⊎ ((reply : Reply) × (replies ≡ TraceReply reply ∷ []) × WorksOf line old.chart new.chart × FollowsRules line reply old new × ShowsMemory new)
+PlaysLine old Sync replies new = (replies ≡ Synced ∷ []) × IsTold old new × ShowsMemory new
 
 -- lines with their replies, the newest first, lead from one picture of the memory to another
 abbrev pub Plays : Picture → List KeepTurn → Picture → Type 0

@@ -33,6 +33,7 @@ fn tell<K: Sink, B: Steady, D: Place>(
     if !memory.powered() {
         return Obeyed::Dead;
     }
+    memory.known();
     match wrote {
         Ok(()) => Obeyed::Done,
         Err(Failed) => Obeyed::WriteFault,

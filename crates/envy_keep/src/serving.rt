@@ -69,7 +69,10 @@ fn serve_on<S: Source, K: Sink, B: Steady + Drop, D: Place + Drop>(
     ensures read { result.taken ≤ most_bytes }
 {
     match begin(alloc, board, device, options, bytes, setup, holding) {
-        Ok(memory) => serve_kept(memory, source, sink),
+        Ok(memory) => {
+            memory.known();
+            serve_kept(memory, source, sink)
+        }
         Err((unbegun, device)) => unserved(unbegun, device),
     }
 }

@@ -8,8 +8,8 @@ returns-then-not-powered g c start turns line before t ranges a =
 
 pub returns-in-Ok : goal.returns-in-Ok
 returns-in-Ok g c start turns line before t ranges a =
-    obeys-done start before c.args.memory.now turns line c.args.reply.now (g.K.Sink.drain c.args.sink.now) (g.K.Sink.drain c.write_keep_reply-wrote.new.sink) t ranges a (search rules) c.in-Ok.ensures
+    obeys-done start before c.args.memory.now turns line c.args.reply.now (g.K.Sink.drain c.args.sink.now) (g.K.Sink.drain c.write_keep_reply-wrote.new.sink) t ranges a (search rules) c.known.ensures.memory c.in-Ok.ensures
 
 pub returns-in-Err : goal.returns-in-Err
 returns-in-Err g c start turns line before t ranges a =
-    obeys-failed start before c.args.memory.now turns line c.args.reply.now (g.K.Sink.drain c.args.sink.now) (g.K.Sink.drain c.write_keep_reply-wrote.new.sink) _ t ranges a (search rules) c.in-Err.ensures
+    obeys-failed start before c.args.memory.now turns line c.args.reply.now (g.K.Sink.drain c.args.sink.now) (g.K.Sink.drain c.write_keep_reply-wrote.new.sink) _ t ranges a (search rules) c.known.ensures.memory c.in-Err.ensures
