@@ -1,10 +1,12 @@
 -- The board before and after a program and an erase, by the event and by its parts.
-use Rattle.std.proofs.Common.{◌≡◌, ◌≢◌, ◌∙◌, inr, ℕ, ◌/◌, ◌<◌, IsTrue, List, [], length, get_or, set, refl, ap, subst, get_or-set_same, length-set, Result, Ok, Err}
+use Rattle.std.proofs.Common.{◌≡◌, ◌≢◌, ◌∙◌, inl, inr, lit<, replicate, ℕ, ◌/◌, ◌<◌, IsTrue, List, [], length, get_or, set, refl, ap, subst, get_or-set_same, length-set, Result, Ok, Err}
+use Rattle.std.proofs.lemmas.Bool.{cases_lt}
+use Rattle.std.proofs.lemmas.List.{get_or-replicate, get_or_past, length-replicate}
 use Rattle.envy_base.specs.declared.shape.Shape.{Shape}
 use Rattle.envy_base.specs.declared.board.Trouble.{Trouble}
 use Rattle.envy_base.specs.declared.board.Trouble.TheVariants.{Off as TroubleOff, Bad as TroubleBad}
 use Rattle.envy_base.specs.Counting.{up}
-use Rattle.envy_base.specs.State.{State, IsPage, IsOnes, Only, Programs, Erases, cut, with_row, with_segment}
+use Rattle.envy_base.specs.State.{State, AreWords, IsPage, IsOnes, Only, Programs, Erases, cut, with_row, with_segment}
 use Rattle.envy_bank.specs.Rows.{BankState, IsBank, ErasesBlock}
 use Rattle.envy_bank.specs.Rows.{with_row as bank_with_row, up as bank_up}
 use Rattle.envy_power.specs.declared.supply.Event.{Event}
@@ -24,7 +26,7 @@ unfolding bank_up up
 bank_up-up n = refl
 
 -- the rows of whole flash are pages
-IsPage-whole : (flash : BankState) (q : ℕ) → IsBank flash → q < length flash.flash → IsPage (get_or flash.flash q [])
+pub IsPage-whole : (flash : BankState) (q : ℕ) → IsBank flash → q < length flash.flash → IsPage (get_or flash.flash q [])
 IsPage-whole flash q whole lt = let page = whole.pages q lt in record { long = page.long; words = page.words }
 
 module _ (sh : Shape) (flash new : BankState) (sram : List ℕ) (p now : Power) (begun pulled plans given : ℕ) where
@@ -126,3 +128,10 @@ module _ (sh : Shape) (flash new : BankState) (sram : List ℕ) (p now : Power) 
   -- one that fails
   pub program_is_bad : now ≡ struck (Bad g) (flash_counted p) → Programs (state_of sh flash sram p begun pulled plans given) q x (Err TroubleBad) (state_of sh new sram now count pulled plans given)
   program_is_bad is = (powered, torn_row g 0, torn_page, was_bad sh flash new sram p now count pulled plans given is ∙ ap (λ (t : State). record t { bads = up p.bads }) torn_state)
+
+-- new SRAM holds words
+pub AreWords-zeros : (n : ℕ) (xs : List ℕ) → xs ≡ replicate n 0 → AreWords xs
+AreWords-zeros n xs is = rw is (λ i. elim (cases_lt i n) [
+  | inl lt ↦ rw (get_or-replicate {A = ℕ} n i 0 0 lt) (lit< tt)
+  | inr ge ↦ rw (get_or_past {X = ℕ} (replicate {A = ℕ} n 0) i 0 (rw (length-replicate {A = ℕ} n 0) ge)) (lit< tt)
+])

@@ -1,6 +1,5 @@
-ghost use Rattle.std.specs.Prelude.{◌≡◌, ◌+◌, ◌*◌, ◌/◌, ◌%◌, ◌<◌, ◌≤◌, IfOk, length, slice_index};
+ghost use Rattle.std.specs.Prelude.{◌≡◌, ◌*◌, ◌<◌, ◌≤◌, IfOk, length, slice_index};
 ghost use Rattle.envy_bank.specs.Rows.{IsBank, ErasesBlock, ands, erased_bank, row_of, with_row};
-ghost use Rattle.envy_bench.specs.Wiring.{row_in_bank};
 ghost use Rattle.envy_bench.specs.TornRows.{torn_row, TearsRows};
 
 use crate::torn::next_row;
@@ -9,34 +8,22 @@ use envy_power::Torn;
 use std::alloc::Global;
 use std::marker::Model;
 
-/// The flash of a board: four banks as one, whose blocks are the segments. Segment `s` is block
-/// `s / 4` of bank `s % 4`.
+/// The flash of a board: a bank whose blocks are the segments.
 #[derive(Drop)]
 pub struct Flash {
-    banks: [Bank; 4],
-    segments: u32,
+    bank: Bank,
     rows: u32,
 }
 
 impl Model for Flash {
-    ghost use Rattle.envy_bank.specs.Rows.{BankState};
-    ghost use Rattle.envy_bench.specs.Wiring.{joined, AreWired};
+    ghost use Rattle.std.specs.Prelude.{◌≡◌};
+    ghost use Rattle.envy_bank.specs.Rows.{BankState, IsBank};
 
     ghost Value = { BankState };
 
-    ghost view = { λ a. joined a.segments a.rows a.banks };
+    ghost view = { λ a. a.bank };
 
-    ghost invariant = { λ a. AreWired a.segments a.rows a.banks };
-}
-
-// Where a row of the board stands: the number of its bank, and the row there.
-fn place(row: u32, rows: u32) -> (usize, u32)
-    requires { 1 ≤ rows }
-    ensures bank { result.0 ≡ row / rows % 4 }
-    ensures row { result.1 ≡ row_in_bank rows row }
-{
-    let segment = row / rows;
-    ((segment % 4) as usize, segment / 4 * rows + row % rows)
+    ghost invariant = { λ a. IsBank a.bank × (a.bank.rows ≡ a.rows) };
 }
 
 // Fills the rows of a block in order with the words drawn from `g`.
@@ -65,18 +52,8 @@ impl Flash {
         ensures erased { IfOk result (λ flash. flash ≡ erased_bank segments rows) }
         ensures whole { IfOk result IsBank }
     {
-        let blocks = segments.div_ceil(4);
-        let banks = [
-            Bank::new(alloc, blocks, rows)?,
-            Bank::new(alloc, blocks, rows)?,
-            Bank::new(alloc, blocks, rows)?,
-            Bank::new(alloc, blocks, rows)?,
-        ];
-        Ok(Flash {
-            banks,
-            segments,
-            rows,
-        })
+        let bank = Bank::new(alloc, segments, rows)?;
+        Ok(Flash { bank, rows })
     }
 
     /// Word `i` of a row.
@@ -85,8 +62,7 @@ impl Flash {
         requires i { i < 32 }
         ensures { result ≡ slice_index (row_of self.now row) i }
     {
-        let (bank, at) = place(row, self.rows);
-        self.banks[bank].read_word(at, i)
+        self.bank.read_word(row, i)
     }
 
     /// Programs a row, which becomes its AND with the page.
@@ -95,8 +71,7 @@ impl Flash {
         ensures row { self.new ≡ with_row self.old row (ands (row_of self.old row) page.now) }
         ensures whole { IsBank self.new }
     {
-        let (bank, at) = place(row, self.rows);
-        self.banks[bank].program_row(at, page);
+        self.bank.program_row(row, page);
     }
 
     /// Erases a segment: all its bits become ones.
@@ -105,7 +80,7 @@ impl Flash {
         ensures erased { ErasesBlock segment self.old self.new }
         ensures whole { IsBank self.new }
     {
-        self.banks[(segment % 4) as usize].erase_block(segment / 4);
+        self.bank.erase_block(segment);
     }
 
     /// Fills a row with the first words drawn from `g`, as a disturbed program does.
@@ -114,9 +89,8 @@ impl Flash {
         ensures row { self.new ≡ with_row self.old row (torn_row g 0) }
         ensures whole { IsBank self.new }
     {
-        let (bank, at) = place(row, self.rows);
         let words = next_row(&mut Torn::new(g));
-        self.banks[bank].upset_row(at, &words);
+        self.bank.upset_row(row, &words);
     }
 
     /// Fills the rows of a segment in order with the words drawn from `g`, as a disturbed erase does.
@@ -127,11 +101,6 @@ impl Flash {
         ensures whole { IsBank self.new }
     {
         let rows = self.rows;
-        tear_block(
-            &mut self.banks[(segment % 4) as usize],
-            segment / 4,
-            rows,
-            g,
-        );
+        tear_block(&mut self.bank, segment, rows, g);
     }
 }

@@ -24,14 +24,14 @@ pub struct Cache {
 }
 
 impl Model for Cache {
-    ghost use Rattle.std.specs.Prelude.{◌<◌, vec_len};
+    ghost use Rattle.std.specs.Prelude.{◌<◌, ◌^◌, vec_len};
     ghost use Rattle.envy_table.specs.Entries.{Translations};
 
     ghost Value = { Translations };
 
     ghost view = { λ a. record { entries = a.entries.items; hits = a.hits; misses = a.misses } };
 
-    ghost invariant = { λ a. 0 < vec_len a.entries };
+    ghost invariant = { λ a. (0 < vec_len a.entries) × (vec_len a.entries < 2 ^ 32) };
 }
 
 impl Cache {
@@ -125,7 +125,7 @@ impl Cache {
         ensures miss { IfNone result (is_hit self.now.entries page ≡ false) }
         ensures some { 0 < length self.now.entries }
     {
-        match self.entries[page as usize % self.entries.len()] {
+        match self.entries[self.entry_of(page)] {
             Some((held, place)) if held == page => Some(place),
             _ => None,
         }
@@ -135,7 +135,16 @@ impl Cache {
     fn fill(&mut self, page: u32, place: Place)
         ensures { self.new ≡ record self.old { entries = filled self.old.entries page place } }
     {
-        let entry = page as usize % self.entries.len();
+        let entry = self.entry_of(page);
         self.entries[entry] = Some((page, place));
+    }
+
+    // The number of the page's entry. A division of 32 bits is a third of one of 64.
+    #[inline(always)]
+    fn entry_of(&self, page: u32) -> usize
+        ensures entry { result ≡ entry_of self.now.entries page }
+        ensures within { result < length self.now.entries }
+    {
+        (page % self.entries.len() as u32) as usize
     }
 }
