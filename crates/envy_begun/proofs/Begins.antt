@@ -32,12 +32,12 @@ module _ (c : Chart) (plans given pulled lives : ℕ) where
   told-empty : IsEmpty 2 c → IsEmpty 2 told
   told-empty e = record { magic = e.magic; version_is = e.version_is; sound = e.sound; live_zeros = e.live_zeros; durable_zeros = e.durable_zeros; job = e.job; slots = e.slots; places = e.places; undos = e.undos; wears = e.wears; fills = e.fills; positions = e.positions }
 
-  told-fresh : IsFresh c → IsFresh told
+  pub told-fresh : IsFresh c → IsFresh told
   told-fresh f = record { stands = told-stands (zeros c.shape.pages c.shape.shadows) f.stands; empty = told-empty f.empty }
 
 -- a sync leaves a fresh board fresh
 pub still-fresh : (old new : Chart) → SyncsChart old (Ok tt) new → IsFresh old → IsFresh new
-still-fresh old new (on, plans, given, is) f = subst IsFresh (sym is) (told-fresh old plans given old.plans old.given f)
+still-fresh old new (on, plans, given, is) f = subst (λ (c : Chart). IsFresh c) (sym is) (told-fresh old plans given old.plans old.given f)
 
 -- a board that is on the disk as it is
 pub begins-as-it-is : (holding : Holding) (file : List ℕ) (board : Chart) → IsSynced board → ComesFrom holding file board board → BeginsOn holding file board
