@@ -9,8 +9,9 @@ use Rattle.envy_base.specs.declared.shape.Shape.{Shape}
 use Rattle.envy_base.proofs.Undoing.{undo_all-closed}
 use Rattle.envy_begun.specs.Beginning.{HasBegun, HasOperationsOf, HasStopped, IsStopped}
 use Rattle.envy_begun.specs.Opens.{OpensAs}
-use Rattle.envy_begun.specs.Plans.{IsOpened}
+use Rattle.envy_begun.specs.Plans.{BeginsOn, IsOpened}
 use Rattle.envy_begun.specs.Unserved.{Declines, HasNoWords}
+use Rattle.envy_begun.specs.declared.planning.Holding.TheVariants.{Written}
 use Rattle.envy_begun.specs.declared.unbegun.Unbegun.{Unbegun}
 use Rattle.envy_begun.specs.declared.unbegun.Unbegun.TheVariants.{Failed, Memory, NoJournal}
 use Rattle.envy_begun.proofs.Opening.{IsGood, opens-as}
@@ -70,6 +71,17 @@ module _ (sh : Shape) (file : List ℕ) (s : State) (o : IsOpened sh file s) whe
     fields = ap (λ (y : Content). map_fields s.shape y.sram) (sym here);
     flash = ap (λ (y : Content). y.flash) (sym here);
   }
+
+  -- a memory was attached to the board that the operations of the file make
+  pub taken-on : (setup : Setup) (p : Picture) → IsSynced (chart s) → Attaches (chart s) setup p → BeginsOn Written file p.chart
+  taken-on setup p synced a =
+      let kept : Kept (chart s) p.chart = Attaches.kept a in
+      record {
+        was = chart s;
+        synced = synced;
+        last = record { shape = sym kept.shape; moment = kept.counted.plans; bytes = kept.counted.given };
+        comes = (reopens, Attaches.taken a);
+      }
 
   module _ (setup : Setup) (is : sh ≡ setup.shape) where
     over : s.shape ≡ setup.shape

@@ -1,16 +1,19 @@
 -- A memory that was just made, once it is on the disk.
-use Rattle.std.proofs.Common.{◌≡◌, inl, inr, ℕ, false, refl, sym, ◌∙◌, ap, subst}
+use Rattle.std.proofs.Common.{◌≡◌, inl, inr, ℕ, false, refl, sym, ◌∙◌, List, ap, subst}
 use Rattle.std.specs.Prelude.{Ok, Err}
-use Rattle.envy_base.specs.Array.{Array}
+use Rattle.envy_base.specs.Array.{Array, zeros}
 use Rattle.envy_base.specs.declared.board.Off.{Off}
 use Rattle.envy_begun.specs.Beginning.{HasBegun}
+use Rattle.envy_begun.specs.Plans.{BeginsOn, ComesFrom}
+use Rattle.envy_begun.specs.declared.planning.Holding.{Holding}
 use Rattle.envy_begun.proofs.Opening.{IsGood}
 use Rattle.envy_disk.specs.Disk.{SyncsChart, with_numbers}
 use Rattle.envy_synced.specs.Disk.{IsSynced}
+use Rattle.envy_layout.specs.Formatting.{IsEmpty}
 use Rattle.envy_layout.specs.Stands.{Holds, Stands}
 use Rattle.envy_layout.specs.Words.{durable}
 use Rattle.envy_map.specs.Fields.{Chart}
-use Rattle.envy_memory.specs.Formats.{IsStarted}
+use Rattle.envy_memory.specs.Formats.{IsFresh, IsStarted}
 use Rattle.envy_memory.specs.Picture.{Picture}
 use Rattle.envy_policy.specs.declared.setup.Setup.{Setup}
 
@@ -25,6 +28,20 @@ module _ (c : Chart) (plans given pulled lives : ℕ) where
 
   pub told-stands : (m : Array) → Stands c m → Stands told m
   told-stands m s = record { on = s.on; holds = told-holds m s.holds }
+
+  told-empty : IsEmpty 2 c → IsEmpty 2 told
+  told-empty e = record { magic = e.magic; version_is = e.version_is; sound = e.sound; live_zeros = e.live_zeros; durable_zeros = e.durable_zeros; job = e.job; slots = e.slots; places = e.places; undos = e.undos; wears = e.wears; fills = e.fills; positions = e.positions }
+
+  pub told-fresh : IsFresh c → IsFresh told
+  told-fresh f = record { stands = told-stands (zeros c.shape.pages c.shape.shadows) f.stands; empty = told-empty f.empty }
+
+-- a sync leaves a fresh board fresh
+pub still-fresh : (old new : Chart) → SyncsChart old (Ok tt) new → IsFresh old → IsFresh new
+still-fresh old new (on, plans, given, is) f = subst (λ (c : Chart). IsFresh c) (sym is) (told-fresh old plans given old.plans old.given f)
+
+-- a board that is on the disk as it is
+pub begins-as-it-is : (holding : Holding) (file : List ℕ) (board : Chart) → IsSynced board → ComesFrom holding file board board → BeginsOn holding file board
+begins-as-it-is holding file board synced comes = record { was = board; synced = synced; last = record { shape = refl; moment = refl; bytes = refl }; comes = comes }
 
 pub err-off : (old new : Chart) (off : Off) → SyncsChart old (Err off) new → new.on ≡ false
 err-off old new off (inl (dark, is)) = ap (λ (c : Chart). c.on) is ∙ dark

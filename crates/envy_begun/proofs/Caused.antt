@@ -1,12 +1,12 @@
 -- Why a file isn't served, by where it was found.
-use Rattle.std.proofs.Common.{◌≡◌, ◌≢◌, inr, ℕ, ◌+◌, ◌^◌, ◌<◌, Bool, List, [], length, refl, sym, ◌∙◌, subst, arith}
+use Rattle.std.proofs.Common.{◌≡◌, ◌≢◌, inr, ℕ, ◌+◌, ◌^◌, ◌<◌, Bool, List, [], length, sym, ◌∙◌, subst, arith}
 use Rattle.std.specs.List.{Contains}
 use Rattle.std.specs.Prelude.{IsTrue, IfErr, Result, Ok, Err}
 use Rattle.envy_args.specs.declared.keep.KeepOptions.{KeepOptions}
 use Rattle.envy_base.specs.declared.shape.Shape.{Shape}
 use Rattle.envy_begun.specs.Beginning.{HasStopped, IsStopped}
 use Rattle.envy_begun.specs.Plans.{ComesLater, IsFound, IsPlanned}
-use Rattle.envy_begun.specs.Unserved.{Causes, Declines, HasNoMemory, IsOver, Refuses, status_for}
+use Rattle.envy_begun.specs.Unserved.{Causes, Declines, HasNoMemory, IsOver, Refuses, held_for, status_for}
 use Rattle.envy_begun.specs.declared.unbegun.Unbegun.{Unbegun}
 use Rattle.envy_begun.specs.declared.unbegun.Unbegun.TheVariants.{Setup, NoJournal, OtherVersion, OtherSizes, Options, Memory, Failed}
 use Rattle.envy_begun.proofs.Again.{declines-for}
@@ -44,14 +44,14 @@ module _ {D : Type 0} (seen : D → List ℕ) (has_failed : D → Bool) (options
   declined-causes setup (Failed held) f d = d
 
   -- at status 6 the file has failed, or with what was held back from it is at the end of its range
-  pub stopped-unserved : (unbegun : Unbegun) (status held : ℕ) → status ≡ status_for unbegun → ((n : ℕ) → unbegun ≡ Failed n → held ≡ n) → Causes seen has_failed options file old new unbegun → status ≡ 6 → HasStopped seen has_failed held new
+  pub stopped-unserved : (unbegun : Unbegun) (status held : ℕ) → status ≡ status_for unbegun → held ≡ held_for unbegun → Causes seen has_failed options file old new unbegun → status ≡ 6 → HasStopped seen has_failed held new
   stopped-unserved (Setup fault) status held is held_is causes six = let never : 2 ≡ 6 = sym is ∙ six in absurd (omega arith)
   stopped-unserved NoJournal status held is held_is causes six = let never : 10 ≡ 6 = sym is ∙ six in absurd (omega arith)
   stopped-unserved OtherVersion status held is held_is causes six = let never : 10 ≡ 6 = sym is ∙ six in absurd (omega arith)
   stopped-unserved OtherSizes status held is held_is causes six = let never : 10 ≡ 6 = sym is ∙ six in absurd (omega arith)
   stopped-unserved (Options fault) status held is held_is causes six = let never : 10 ≡ 6 = sym is ∙ six in absurd (omega arith)
   stopped-unserved Memory status held is held_is causes six = let never : 8 ≡ 6 = sym is ∙ six in absurd (omega arith)
-  stopped-unserved (Failed n) status held is held_is causes six = subst (λ (k : ℕ). HasStopped seen has_failed k new) (sym (held_is n refl)) causes
+  stopped-unserved (Failed n) status held is held_is causes six = subst (λ (k : ℕ). HasStopped seen has_failed k new) (sym held_is) causes
 
 pub all-declined : {M D : Type 0} (seen : D → List ℕ) (has_failed : D → Bool) (options : KeepOptions) (file : List ℕ) (old : D) (setup : OfSetup) (result : Result M (Unbegun × D)) → IsFound options file setup
     → (Reason : Type 0) → (Reason → HasNoMemory setup.shape file)

@@ -9,7 +9,10 @@ use Rattle.envy_journal.specs.Content.{content_of, holds}
 use Rattle.envy_journal.specs.Head.{IsUnmade, head_bytes}
 use Rattle.envy_journal.specs.Log.{Begins}
 use Rattle.envy_journal.specs.Reading.{operations}
+use Rattle.envy_map.specs.Fields.{Chart}
+use Rattle.envy_memory.specs.Attaching.{IsTakenUp}
 use Rattle.envy_memory.specs.Calls.{fresh}
+use Rattle.envy_memory.specs.Formats.{IsFresh}
 use Rattle.envy_policy.specs.Setup.{checked}
 use Rattle.envy_policy.specs.declared.setup.Setup.{Setup}
 use Rattle.envy_begun.specs.declared.planning.Holding.{Holding}
@@ -18,6 +21,7 @@ use Rattle.envy_begun.specs.declared.unbegun.Unbegun.{Unbegun}
 use Rattle.envy_begun.specs.declared.unbegun.Unbegun.TheVariants.{Memory, Failed}
 use Rattle.envy_begun.specs.Opens.{OpensAs}
 use Rattle.envy_begun.specs.Unserved.{IsOver}
+use Rattle.envy_synced.specs.Disk.{IsLast, IsSynced, Reopens}
 
 -- a board on which the operations of a file were done
 pub record IsOpened (sh : Shape) (file : List ℕ) (s : State) : Type 0 where
@@ -52,3 +56,17 @@ ComesLater options file other = ⊤
 abbrev pub BeginsAs : Holding → List ℕ → Setup → Array → Type 0
 BeginsAs Written file setup array = (words : List ℕ) × OpensAs setup.shape words file × (array ≡ fresh setup.shape.shadows words)
 BeginsAs other file setup array = array ≡ zeros setup.shape.pages setup.shape.shadows
+
+-- how such a board comes about from the one that was on the disk then
+abbrev pub ComesFrom : Holding → List ℕ → Chart → Chart → Type 0
+ComesFrom Written file was board = Reopens was file × IsTakenUp was board
+ComesFrom other file was board = (was ≡ board) × IsFresh board
+
+-- The board with which a memory in a file begins. What its numbers tell is on the disk is the board that the operations of
+-- the file make: its sizes, its map and its flash. That board was taken up: the transactions that were open were undone, then
+-- the job was settled, and flash is as it was. Where nothing was done in the file the board is a fresh one, and on the disk.
+pub record BeginsOn (holding : Holding) (file : List ℕ) (board : Chart) : Type 0 where
+  pub was : Chart
+  pub synced : IsSynced was
+  pub last : IsLast was board
+  pub comes : ComesFrom holding file was board

@@ -33,6 +33,11 @@ why_for (Options fault) = 9
 why_for Memory = 0
 why_for (Failed held) = 0
 
+-- how many bytes of operations were held back from the file
+abbrev pub held_for : Unbegun → ℕ
+held_for (Failed held) = held
+held_for other = 0
+
 -- a journal of these sizes with no memory to be found: an operation isn't within them, or it opens as no words
 abbrev pub HasNoWords : Shape → List ℕ → Type 0
 HasNoWords sh file = HasMisfit sh (operations file) ⊎ ((words : List ℕ) → OpensAs sh words file → ⊥)

@@ -9,7 +9,7 @@ ghost use Rattle.envy_begun.specs.Left.{Leaves, StaysNew};
 ghost use Rattle.envy_layout.specs.Stands.{Stands};
 ghost use Rattle.envy_map.specs.Fields.{Chart, chart};
 ghost use Rattle.envy_synced.specs.Disk.{IsLast, IsSynced, Reopens};
-ghost use Rattle.envy_memory.specs.Formats.{IsStarted};
+ghost use Rattle.envy_memory.specs.Formats.{IsFresh, IsStarted};
 
 use crate::stopping::{unformatted, unopened};
 use crate::unbegun::Unbegun;
@@ -55,8 +55,10 @@ fn sync_first<B: Steady + Drop, D: Place>(
 ) -> Result<Memory<Kept<B, D>>, (Unbegun, D)>
     requires stands { Stands memory.chart (zeros _setup.shape.pages _setup.shape.shadows) }
     requires begins { IsStarted _setup memory }
+    requires fresh { IsFresh memory.chart }
     requires shape { memory.chart.shape ≡ _setup.shape }
     ensures begun { IfOk result (HasBegun _setup (zeros _setup.shape.pages _setup.shape.shadows)) }
+    ensures fresh { IfOk result (λ memory. IsSynced memory.chart × IsFresh memory.chart) }
     ensures failed { IfErr result (λ e. IsStopped D.seen D.has_failed e.0 e.1) }
     // where nothing was done in the journal before
     ensures left { (was : Chart) (synced : IsSynced was) → IsLast was memory.chart → operations synced.bytes ≡ []
@@ -79,6 +81,7 @@ pub(crate) fn make_memory<B: Steady + Drop, D: Place>(
 ) -> Result<Memory<Kept<B, D>>, (Unbegun, D)>
     requires shape { (⟦<Kept<B, D> as envy_base::Board>⟧.state kept).shape ≡ setup.shape }
     ensures begun { IfOk result (HasBegun setup (zeros setup.shape.pages setup.shape.shadows)) }
+    ensures fresh { IfOk result (λ memory. IsSynced memory.chart × IsFresh memory.chart) }
     ensures failed { IfErr result (λ e. IsStopped D.seen D.has_failed e.0 e.1) }
     // where nothing was done in the journal before
     ensures left { (synced : IsSynced (chart (⟦<Kept<B, D> as envy_base::Board>⟧.state kept)))
@@ -106,6 +109,7 @@ pub fn begin_new<B: Steady + Drop, D: Place + Drop>(
     requires unmade { IsUnmade (D.seen device) }
     requires shape { (B.state board).shape ≡ setup.shape }
     ensures begun { IfOk result (HasBegun setup (zeros setup.shape.pages setup.shape.shadows)) }
+    ensures fresh { IfOk result (λ memory. IsSynced memory.chart × IsFresh memory.chart) }
     ensures failed { IfErr result (λ e. IsStopped D.seen D.has_failed e.0 e.1) }
     // a crash leaves the empty file, or a journal in which nothing was done, unless the file failed behind that
     ensures left { IfErr result (λ e.

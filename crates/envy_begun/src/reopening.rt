@@ -8,13 +8,15 @@ ghost use Rattle.envy_journal.specs.Log.{Begins};
 ghost use Rattle.envy_journal.specs.Reading.{operations};
 ghost use Rattle.envy_base.specs.declared.shape.Shape.{Shape};
 ghost use Rattle.envy_begun.specs.Beginning.{HasBegun, HasOperationsOf, IsStopped};
-ghost use Rattle.envy_begun.specs.Plans.{IsOpened};
+ghost use Rattle.envy_begun.specs.Plans.{BeginsOn, IsOpened};
+ghost use Rattle.envy_begun.specs.declared.planning.Holding.TheVariants.{Written};
 ghost use Rattle.envy_begun.specs.Left.{Leaves, OpensAlike, StaysNew, StaysWritten};
 ghost use Rattle.envy_begun.specs.Opens.{OpensAs};
 ghost use Rattle.envy_begun.specs.Unserved.{Declines, HasNoWords};
 ghost use Rattle.envy_synced.specs.Disk.{IsCompact, IsSynced};
 ghost use Rattle.envy_map.specs.Fields.{chart};
 ghost use Rattle.envy_memory.specs.Calls.{fresh};
+ghost use Rattle.envy_memory.specs.Formats.{IsFresh};
 ghost use Rattle.envy_policy.specs.Setup.{checked};
 
 use crate::beginning::{ROOM, closed, make_memory};
@@ -131,6 +133,7 @@ pub(crate) fn begin_blank<B: Steady + Drop, D: Place + Drop>(
     requires head { Begins (head_bytes setup.shape) bytes.now }
     requires shape { (B.state board).shape ≡ setup.shape }
     ensures begun { IfOk result (HasBegun setup (zeros setup.shape.pages setup.shape.shadows)) }
+    ensures fresh { IfOk result (λ memory. IsSynced memory.chart × IsFresh memory.chart) }
     ensures failed { IfErr result (λ e.
         Declines D.seen D.has_failed (HasMisfit setup.shape (operations bytes.now)) e.0 e.1) }
     // a crash leaves a journal in which nothing was done, unless the file failed behind its opening
@@ -162,6 +165,8 @@ pub fn begin_again<B: Steady + Drop, D: Place + Drop>(
     requires setup { checked setup ≡ Ok tt }
     ensures begun { IfOk result (λ memory. (words : List ℕ) × OpensAs setup.shape words bytes.now
         × HasBegun setup (fresh setup.shape.shadows words) memory) }
+    // on the board that the operations of the file make, taken up
+    ensures board { IfOk result (λ memory. BeginsOn Written bytes.now memory.chart) }
     // where that was asked for, the journal is no longer than a snapshot, and else it has the operations that it had
     ensures compacted { IsTrue compact → IfOk result (λ memory. IsCompact memory.chart) }
     ensures same { compact ≡ false → IfOk result (λ memory. HasOperationsOf bytes.now memory.chart) }

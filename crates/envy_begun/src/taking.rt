@@ -3,7 +3,7 @@ ghost use Rattle.std.specs.Prelude.{◌≡◌, false, IfOk, IfErr, IsTrue, Ok};
 ghost use Rattle.envy_base.specs.Array.{Array};
 ghost use Rattle.envy_begun.specs.Beginning.{HasBegun, HasOperationsOf};
 ghost use Rattle.envy_begun.specs.Left.{Leaves, Stays};
-ghost use Rattle.envy_begun.specs.Plans.{BeginsAs, Plans};
+ghost use Rattle.envy_begun.specs.Plans.{BeginsAs, BeginsOn, Plans};
 ghost use Rattle.envy_begun.specs.Unserved.{Causes};
 ghost use Rattle.envy_device.specs.Device.{Only};
 ghost use Rattle.envy_journal.specs.Content.{blank, content_of};
@@ -41,6 +41,8 @@ pub fn begin<B: Steady + Drop, D: Place + Drop>(
     requires checks { checked setup ≡ Ok tt }
     ensures begun { IfOk result (λ memory. (array : Array) × BeginsAs holding bytes.now setup array
         × HasBegun setup array memory) }
+    // on the board that the operations of the file make, taken up, or on a fresh one
+    ensures board { IfOk result (λ memory. BeginsOn holding bytes.now memory.chart) }
     // where that was asked for, the journal is no longer than a snapshot, and else it has the operations that it had
     ensures compacted { holding ≡ Holding.Written → IsTrue options.now.compact
         → IfOk result (λ memory. IsCompact memory.chart) }

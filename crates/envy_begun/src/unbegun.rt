@@ -1,6 +1,5 @@
-ghost use Rattle.std.specs.Prelude.{◌≡◌, ℕ};
-ghost use Rattle.envy_begun.specs.declared.unbegun.Unbegun.TheVariants.{Failed};
-ghost use Rattle.envy_begun.specs.Unserved.{status_for, why_for};
+ghost use Rattle.std.specs.Prelude.{◌≡◌};
+ghost use Rattle.envy_begun.specs.Unserved.{held_for, status_for, why_for};
 
 use envy_policy::SetupFault;
 
@@ -42,7 +41,7 @@ impl Unbegun {
 
     /// How many bytes of operations were held back from the file.
     pub fn held(self) -> usize
-        ensures { (n : ℕ) → self ≡ Failed n → result ≡ n }
+        ensures { result ≡ held_for self }
     {
         match self {
             Unbegun::Failed(held) => held,

@@ -6,12 +6,11 @@ use Rattle.envy_base.specs.Array.{Array}
 use Rattle.envy_base.specs.declared.shape.Shape.{Shape}
 use Rattle.envy_begun.specs.Beginning.{HasBegun, HasOperationsOf, HasStopped}
 use Rattle.envy_begun.specs.Left.{Leaves}
-use Rattle.envy_begun.specs.Plans.{BeginsAs, ComesLater, Plans}
-use Rattle.envy_begun.specs.Unserved.{Causes, status_for, why_for}
+use Rattle.envy_begun.specs.Plans.{BeginsAs, BeginsOn, ComesLater, Plans}
+use Rattle.envy_begun.specs.Unserved.{Causes, held_for, status_for, why_for}
 use Rattle.envy_begun.specs.declared.planning.Holding.{Holding}
 use Rattle.envy_begun.specs.declared.planning.Holding.TheVariants.{Written}
 use Rattle.envy_begun.specs.declared.unbegun.Unbegun.{Unbegun}
-use Rattle.envy_begun.specs.declared.unbegun.Unbegun.TheVariants.{Failed}
 use Rattle.envy_begun.proofs.Caused.{stopped-unserved}
 use Rattle.envy_device.specs.Device.{Only}
 use Rattle.envy_io.specs.Streams.{Drain, Feed}
@@ -26,10 +25,10 @@ use Rattle.envy_keep.specs.Keeping.{IsServed, IsUnserved, LeavesUnserved, Told, 
 
 -- what a trace over the memory in a file left, said of the file
 pub served-as : (options : KeepOptions) (file : List ℕ) (setup : Setup) (holding : Holding) (array : Array) (p : Picture) (status why lines taken : ℕ) (left : ℕ → List ℕ → Type 0) (now : ℕ) (io : Streams)
-    → Plans holding options file setup → checked setup ≡ Ok tt → BeginsAs holding file setup array → HasBegun setup array p → IsMemory p.chart p.parts p.owned p.limit p.mark
+    → Plans holding options file setup → checked setup ≡ Ok tt → BeginsAs holding file setup array → HasBegun setup array p → BeginsOn holding file p.chart → IsMemory p.chart p.parts p.owned p.limit p.mark
     → (holding ≡ Written → IsTrue options.compact → IsCompact p.chart) → (holding ≡ Written → options.compact ≡ false → HasOperationsOf file p.chart)
     → KeepsServed array p p.chart.shape status why lines taken left now io → IsServed options file (told status why lines taken) left now io
-served-as options file setup holding array p status why lines taken left now io plans checks begins begun agrees compacted same served = record {
+served-as options file setup holding array p status why lines taken left now io plans checks begins begun board agrees compacted same served = record {
   setup = setup;
   holding = holding;
   array = array;
@@ -37,6 +36,7 @@ served-as options file setup holding array p status why lines taken left now io 
   checks = checks;
   begins = begins;
   memory = p;
+  board = board;
   stands = HasBegun.stands begun;
   starts = HasBegun.begins begun;
   shows = (Stands.on (HasBegun.stands begun), agrees);
@@ -70,7 +70,7 @@ module _ {D : Type 0} (seen : D → List ℕ) (has_failed : D → Bool) (left_si
 
 -- status 6 of a file that was not served comes of its device
 pub unserved-stopped : {D : Type 0} (seen : D → List ℕ) (has_failed : D → Bool) (options : KeepOptions) (file : List ℕ) (old device new : D) (unbegun : Unbegun) (status why lines taken held : ℕ)
-    → told status why lines taken ≡ told (status_for unbegun) (why_for unbegun) 0 0 → new ≡ device → ((n : ℕ) → unbegun ≡ Failed n → held ≡ n) → Causes seen has_failed options file old device unbegun
+    → told status why lines taken ≡ told (status_for unbegun) (why_for unbegun) 0 0 → new ≡ device → held ≡ held_for unbegun → Causes seen has_failed options file old device unbegun
     → status ≡ 6 → HasStopped seen has_failed held new
 unserved-stopped {D} seen has_failed options file old device new unbegun status why lines taken held says same held_is causes six =
     stopped-unserved seen has_failed options file old new unbegun status held (ap (λ (t : Told). t.status) says) held_is (subst (λ (d : D). Causes seen has_failed options file old d unbegun) (sym same) causes) six

@@ -7,7 +7,7 @@ use Rattle.envy_begun.specs.declared.planning.Holding.TheVariants.{Written}
 use Rattle.envy_begun.specs.declared.unbegun.Unbegun.{Unbegun}
 use Rattle.envy_begun.specs.Beginning.{HasOperationsOf}
 use Rattle.envy_begun.specs.Left.{Leaves, Stays}
-use Rattle.envy_begun.specs.Plans.{BeginsAs, ComesLater, Plans}
+use Rattle.envy_begun.specs.Plans.{BeginsAs, BeginsOn, ComesLater, Plans}
 use Rattle.envy_begun.specs.Unserved.{Causes, status_for, why_for}
 use Rattle.envy_layout.specs.Stands.{Stands}
 use Rattle.envy_memory.specs.Formats.{IsStarted}
@@ -29,9 +29,10 @@ pub record Told : Type 0 where
 abbrev pub told : ℕ → ℕ → ℕ → ℕ → Told
 told status why lines taken = record { status = status; why = why; lines = lines; taken = taken }
 
--- A trace was served over the memory in the file. It was made by the setup of the options: with their policy, limit and
--- mark, and its parts agree with its board. Where the options ask for that, the journal with which it began is no longer
--- than a snapshot, and else it has the operations that it had.
+-- A trace was served over the memory in the file. It began on the board that the operations of the file make, taken up, or
+-- on a fresh one. It was made by the setup of the options: with their policy, limit and mark, and its parts agree with its
+-- board. Where the options ask for that, the journal with which it began is no longer than a snapshot, and else it has the
+-- operations that it had.
 pub record IsServed (options : KeepOptions) (file : List ℕ) (end : Told) (left_since : ℕ → List ℕ → Type 0) (now : ℕ) (io : Streams) : Type 0 where
   pub setup : Setup
   pub holding : Holding
@@ -40,6 +41,7 @@ pub record IsServed (options : KeepOptions) (file : List ℕ) (end : Told) (left
   pub checks : checked setup ≡ Ok tt
   pub begins : BeginsAs holding file setup array
   pub memory : Picture
+  pub board : BeginsOn holding file memory.chart
   pub stands : Stands memory.chart array
   pub starts : IsStarted setup memory
   pub shows : ShowsMemory memory

@@ -1,8 +1,7 @@
 // A trace over the memory in a file.
-ghost use Rattle.std.specs.Prelude.{◌≡◌, ◌⊎◌, ◌<◌, ◌≤◌, ℕ, Ok};
+ghost use Rattle.std.specs.Prelude.{◌≡◌, ◌⊎◌, ◌<◌, ◌≤◌, Ok};
 ghost use Rattle.envy_begun.specs.Beginning.{HasStopped};
-ghost use Rattle.envy_begun.specs.Unserved.{status_for, why_for};
-ghost use Rattle.envy_begun.specs.declared.unbegun.Unbegun.TheVariants.{Failed};
+ghost use Rattle.envy_begun.specs.Unserved.{held_for, status_for, why_for};
 ghost use Rattle.envy_begun.specs.Plans.{Plans};
 ghost use Rattle.envy_device.specs.Device.{Only};
 ghost use Rattle.envy_journal.specs.Content.{blank, content_of};
@@ -28,7 +27,7 @@ fn unserved<D>(unbegun: Unbegun, device: D) -> KeepEnded<D>
     ensures lines { result.lines ≡ 0 }
     ensures taken { result.taken ≡ 0 }
     ensures device { result.device ≡ device }
-    ensures held { (n : ℕ) → unbegun ≡ Failed n → result.held ≡ n }
+    ensures held { result.held ≡ held_for unbegun }
 {
     let (status, why) = unbegun.numbers();
     KeepEnded {

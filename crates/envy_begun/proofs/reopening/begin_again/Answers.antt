@@ -3,7 +3,7 @@ use Rattle.envy_base.specs.declared.shape.Shape.{Shape}
 use Rattle.envy_begun.specs.Unserved.{Declines, HasNoWords}
 use Rattle.envy_journal.specs.Content.{HasMisfit}
 use Rattle.envy_journal.specs.Reading.{operations}
-use Rattle.envy_begun.proofs.Again.{code-declines, declines-for, not-declined, off-declined, still-compact, still-same, taken-up}
+use Rattle.envy_begun.proofs.Again.{code-declines, declines-for, not-declined, off-declined, still-compact, still-same, taken-on, taken-up}
 use Rattle.envy_begun.proofs.Alike.{alike-stays, code-leaves, leaves-as}
 use Rattle.envy_begun.specs.Left.{Leaves, OpensAlike, StaysWritten}
 use Rattle.envy_journal.specs.Journal.{lawful_lem}
@@ -22,6 +22,10 @@ returns-in-Err-clause-failed g c =
 pub returns-in-Ok-attach-clause-begun : goal.returns-in-Ok-attach-clause-begun
 returns-in-Ok-attach-clause-begun g c =
     taken-up (g.B.Board.state c.args.board).shape c.args.bytes.now _ c.in-Ok.ensures.opened c.args.setup c.requires.shape c.in-Ok-attach.memory c.in-Ok.ensures.synced c.in-Ok-attach.ensures.0 c.in-Ok-attach.ensures.1
+
+pub returns-in-Ok-attach-clause-board : goal.returns-in-Ok-attach-clause-board
+returns-in-Ok-attach-clause-board g c =
+    taken-on (g.B.Board.state c.args.board).shape c.args.bytes.now _ c.in-Ok.ensures.opened c.args.setup c.in-Ok-attach.memory c.in-Ok.ensures.synced c.in-Ok-attach.ensures.1
 
 pub returns-in-Err-attach-clause-failed : goal.returns-in-Err-attach-clause-failed
 returns-in-Err-attach-clause-failed g c =

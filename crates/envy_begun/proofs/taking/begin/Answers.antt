@@ -1,15 +1,29 @@
-use Rattle.std.proofs.Common.{◌⊎◌, inl, subst}
+use Rattle.std.proofs.Common.{◌⊎◌, inl, refl, subst, sym}
 use Rattle.envy_begun.specs.Left.{StaysNew, StaysWritten}
-use Rattle.envy_begun.specs.Plans.{Plans}
+use Rattle.envy_begun.specs.Plans.{BeginsOn, Plans}
 use Rattle.envy_begun.specs.declared.planning.Holding.{Holding}
 use Rattle.envy_begun.specs.declared.planning.Holding.TheVariants.{Unmade, Blank, Written}
+use Rattle.envy_begun.proofs.Again.{ok_on}
 use Rattle.envy_begun.proofs.Alike.{all-stays}
+use Rattle.envy_begun.proofs.Begins.{begins-as-it-is}
 use Rattle.envy_begun.proofs.Caused.{all-declined, some-misfit}
 use Rattle.envy_begun.specs.Unserved.{HasNoWords}
 use Rattle.envy_journal.specs.Content.{HasMisfit}
 use Rattle.envy_journal.specs.Reading.{operations}
 use Rattle.envy_journal.specs.Head.{IsUnmade}
 use Rattle.envy_begun.proofs.taking.begin.Goals as goal
+
+pub returns-in-Unmade-clause-board : goal.returns-in-Unmade-clause-board
+returns-in-Unmade-clause-board g c =
+    ok_on c.begin_new.result c.begin_new.ensures.fresh (λ memory fresh. subst (λ (h : Holding). BeginsOn h c.args.bytes.now memory.chart) (sym c.in-Unmade.is) (begins-as-it-is Unmade c.args.bytes.now memory.chart fresh.0 (refl, fresh.1)))
+
+pub returns-in-Blank-clause-board : goal.returns-in-Blank-clause-board
+returns-in-Blank-clause-board g c =
+    ok_on c.begin_blank.result c.begin_blank.ensures.fresh (λ memory fresh. subst (λ (h : Holding). BeginsOn h c.args.bytes.now memory.chart) (sym c.in-Blank.is) (begins-as-it-is Blank c.args.bytes.now memory.chart fresh.0 (refl, fresh.1)))
+
+pub returns-in-Written-clause-board : goal.returns-in-Written-clause-board
+returns-in-Written-clause-board g c =
+    ok_on c.begin_again.result c.begin_again.ensures.board (λ memory on. subst (λ (h : Holding). BeginsOn h c.args.bytes.now memory.chart) (sym c.in-Written.is) on)
 
 pub returns-in-Blank-clause-failed : goal.returns-in-Blank-clause-failed
 returns-in-Blank-clause-failed g c =

@@ -20,4 +20,5 @@ returns-in-Ok-begin-clause-begun c =
       subst (λ (s : Setup). Plans holding (options_of c.args.setup.now) file s) same plans,
       subst (λ (s : Setup). BeginsAs holding file s array) same begun.1,
       subst (λ (s : Setup). HasBegun s array c.in-Ok-begin.memory) same begun.2,
+      c.in-Ok-begin.ensures.board,
     )
