@@ -4,10 +4,11 @@ use Rattle.envy_args.specs.declared.keep.KeepOptions.{KeepOptions}
 use Rattle.envy_base.specs.Array.{Array}
 use Rattle.envy_base.specs.Map.{words_of}
 use Rattle.envy_base.specs.declared.shape.Shape.{Shape}
-use Rattle.envy_begun.specs.Beginning.{HasBegun}
+use Rattle.envy_begun.specs.Beginning.{HasBegun, HasOperationsOf}
 use Rattle.envy_begun.specs.Plans.{BeginsAs, BeginsOn, IsPlanned, Plans}
 use Rattle.envy_begun.specs.Unserved.{Refuses}
 use Rattle.envy_begun.specs.declared.planning.Holding.{Holding}
+use Rattle.envy_begun.specs.declared.planning.Holding.TheVariants.{Written}
 use Rattle.envy_begun.specs.declared.unbegun.Unbegun.{Unbegun}
 use Rattle.envy_begun.specs.declared.unbegun.Unbegun.TheVariants as unbegun
 use Rattle.envy_calls.specs.Making.{ForSetup, IsNoSetup}
@@ -40,8 +41,9 @@ options_of setup = record {
 }
 
 -- A memory began in a file. By what the file holds (no journal yet; one in which nothing was done; one that was written)
--- it stands for zeros, or for the words as which the file opens. All of it is on the disk. Its board is the one that the
--- operations of the file make, taken up, or a fresh one.
+-- it stands for zeros, or for the words as which the file opens. All of it is on the disk; a journal that was written has
+-- the operations there that it had, and isn't compacted. Its board is the one that the operations of the file make, taken
+-- up, or a fresh one.
 pub record Opened (given : EnvySetup) (file : List ℕ) (p : Picture) : Type 0 where
   pub setup : OfSetup
   pub is : setup_of given ≡ Some setup
@@ -52,6 +54,7 @@ pub record Opened (given : EnvySetup) (file : List ℕ) (p : Picture) : Type 0 w
   pub begins : BeginsAs holding file setup array
   pub begun : HasBegun setup array p
   pub board : BeginsOn holding file p.chart
+  pub same : holding ≡ Written → HasOperationsOf file p.chart
 
 -- Why none began by a setup that breaks no rule: what the file holds; or, where that is no reason, memory ran out, or the
 -- file failed or is at the end of its range

@@ -1,8 +1,9 @@
 ghost use Rattle.std.specs.Prelude.{◌≡◌, Ok, IfOk, IfErr, MatchResult};
 ghost use Rattle.envy_base.specs.Array.{Array};
-ghost use Rattle.envy_begun.specs.Beginning.{HasBegun};
+ghost use Rattle.envy_begun.specs.Beginning.{HasBegun, HasOperationsOf};
 ghost use Rattle.envy_begun.specs.Plans.{BeginsAs, BeginsOn, Plans};
 ghost use Rattle.envy_begun.specs.declared.planning.Holding.{Holding as OfHolding};
+ghost use Rattle.envy_begun.specs.declared.planning.Holding.TheVariants.{Written};
 ghost use Rattle.envy_kept.specs.Opening.{Opened, Opens, RefusesFile, RefusesOpen, options_of};
 ghost use Rattle.envy_policy.specs.Setup.{checked};
 
@@ -50,7 +51,8 @@ fn begun(
     requires { checked setup.now ≡ Ok tt }
     ensures begun { IfOk result (λ memory. (holding : OfHolding) × (array : Array)
         × Plans holding (options_of setup.now) file.now setup.now × BeginsAs holding file.now setup.now array
-        × HasBegun setup.now array memory × BeginsOn holding file.now memory.chart) }
+        × HasBegun setup.now array memory × BeginsOn holding file.now memory.chart
+        × (holding ≡ Written → HasOperationsOf file.now memory.chart)) }
     ensures refused { IfErr result (RefusesFile (options_of setup.now) file.now) }
 {
     let options = options(setup);

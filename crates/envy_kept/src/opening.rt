@@ -42,6 +42,7 @@ pub extern "C" fn envy_kept_open(
     ensures live { InBlock m.new.at }
     ensures flawless { AreFlawless m.old.slot.now m.new.slot.now }
     ensures opens { DoesOpen setup.now file.now m.old.slot.now m.new.slot.now result }
+    ensures place { m.new.slot.ref_ptr ≡ m.old.slot.ref_ptr }
 {
     let slot = lend(m);
     let code = open_place(alloc, slot, setup, file, port, false);
@@ -62,6 +63,7 @@ pub extern "C" fn envy_kept_open_bytewise(
     ensures live { InBlock m.new.at }
     ensures flawless { AreFlawless m.old.slot.now m.new.slot.now }
     ensures opens { DoesOpen setup.now file.now m.old.slot.now m.new.slot.now result }
+    ensures place { m.new.slot.ref_ptr ≡ m.old.slot.ref_ptr }
 {
     let slot = lend(m);
     let code = open_place(alloc, slot, setup, file, port, true);

@@ -1,4 +1,4 @@
-use Rattle.std.proofs.Common.{subst}
+use Rattle.std.proofs.Common.{ap, subst}
 use Rattle.envy_args.specs.declared.keep.KeepOptions.{KeepOptions}
 use Rattle.envy_begun.specs.Beginning.{HasBegun}
 use Rattle.envy_begun.specs.Plans.{BeginsAs, Plans}
@@ -21,4 +21,5 @@ returns-in-Ok-begin-clause-begun c =
       subst (λ (s : Setup). BeginsAs holding file s array) same begun.1,
       subst (λ (s : Setup). HasBegun s array c.in-Ok-begin.memory) same begun.2,
       c.in-Ok-begin.ensures.board,
+      λ written. c.in-Ok-begin.ensures.same written (ap (λ (o : KeepOptions). o.compact) c.options-options.ensures),
     )
