@@ -42,3 +42,7 @@ returns-in-Ok-make-clause-any_moment g c =
     let sh = (g.B.Board.state c.args.board).shape in
     let only = subst (λ (s : Shape). LeavesOnly moment left old c.make.new.device (IsNewOrUnmade s)) c.shape.ensures c.make.ensures.any_moment in
     subst (λ (d : g.row.D.Denot). LeavesOnly moment left old d (IsNewOrUnmade sh)) (sym c.begun.ensures.device) only
+
+pub returns-in-Ok-make-clause-file : goal.returns-in-Ok-make-clause-file
+returns-in-Ok-make-clause-file g c =
+    ap g.D.Device.seen c.begun.ensures.device ∙ c.in-Ok-make.ensures.file ∙ ap (λ (s : Shape). head_bytes s ++ 0 ∷ []) c.shape.ensures
