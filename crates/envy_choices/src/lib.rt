@@ -11,3 +11,5 @@ mod policies;
 mod pooled;
 #[cfg(test)]
 mod pools;
+#[cfg(test)]
+mod told;

@@ -1,10 +1,10 @@
-ghost use Rattle.std.specs.Prelude.{◌≡◌, ◌<◌, ◌≤◌, ℕ, length, slice_index, IfOk};
+ghost use Rattle.std.specs.Prelude.{◌≡◌, ◌<◌, ◌≤◌, ℕ, length, slice_index};
 
+use crate::told::same;
 use envy_base::Shape;
 use envy_policy::{Choice, Class, Lifetime, Rows};
 use std::alloc::Global;
 use std::process::Abort;
-use std::test::Fail;
 
 /// Rows at three positions, by lists of their numbers.
 #[derive(Clone, Copy)]
@@ -40,8 +40,8 @@ impl Rows for Listed {
 }
 
 /// Nothing noted, over three positions and 16 pages.
-fn unnoted(alloc: Global) -> Result<Lifetime, Fail>
-    ensures { IfOk result (λ lifetime. (length lifetime.cleaned ≡ 3) × (length lifetime.born ≡ 16)) }
+fn unnoted(rt: &impl Abort, alloc: Global) -> Lifetime
+    ensures { (length result.cleaned ≡ 3) × (length result.born ≡ 16) }
 {
     let shape = Shape {
         segments: 4,
@@ -51,8 +51,8 @@ fn unnoted(alloc: Global) -> Result<Lifetime, Fail>
         frames: 8,
         entries: 4,
     };
-    shape.check().map_err(|_| "the shape doesn't check")?;
-    Ok(Lifetime::new(alloc, &shape)?)
+    shape.check().expect(rt, "the shape");
+    Lifetime::new(alloc, &shape).expect(rt, "no room for lives")
 }
 
 /// As many flushes of page 1 to position 0.
@@ -158,16 +158,11 @@ fn told(lifetime: &mut Lifetime, step: Step) -> Step
 }
 
 /// Nothing is noted before the steps.
-fn check_steps(
-    rt: &(impl Abort + Alloc<A = Global>),
-    name: &str,
-    steps: &[Step],
-) -> Result<(), Fail> {
-    let mut lifetime = unnoted(rt.alloc())?;
+fn check_steps(rt: &impl Abort, alloc: Global, name: &str, steps: &[Step]) {
+    let mut lifetime = unnoted(rt, alloc);
     for step in steps {
-        assert_eq!(rt; told(&mut lifetime, *step), *step, "{name}");
+        same(rt, &told(&mut lifetime, *step), step, name);
     }
-    Ok(())
 }
 
 /// For so many flushes since a page's own: its class.
@@ -182,7 +177,7 @@ const CLASSES: [(u32, Class); 7] = [
 ];
 
 #[test]
-fn classes_part_at_a_quarter_a_half_and_the_whole(rt: HostRuntime) -> Result<(), Fail> {
+fn classes_part_at_a_quarter_a_half_and_the_whole(rt: HostRuntime) {
     for (flushes, class) in CLASSES.as_slice() {
         let steps = [
             Step::Flushes(1, 0),
@@ -190,9 +185,8 @@ fn classes_part_at_a_quarter_a_half_and_the_whole(rt: HostRuntime) -> Result<(),
             Step::IsOf(0, *class),
             Step::IsOf(2, Class::Lasting),
         ];
-        check_steps(&rt, "classes", &steps)?;
+        check_steps(&rt, rt.alloc(), "classes", &steps);
     }
-    Ok(())
 }
 
 const FREE_1: Choice = Choice::Free { position: 1 };
@@ -270,9 +264,8 @@ const SESSIONS: [(&str, &[Step]); 6] = [
 ];
 
 #[test]
-fn positions_are_chosen_by_lives(rt: HostRuntime) -> Result<(), Fail> {
+fn positions_are_chosen_by_lives(rt: HostRuntime) {
     for (name, steps) in SESSIONS.as_slice() {
-        check_steps(&rt, name, steps)?;
+        check_steps(&rt, rt.alloc(), name, steps);
     }
-    Ok(())
 }

@@ -1,9 +1,10 @@
-ghost use Rattle.std.specs.Prelude.{◌≡◌, IfOk};
+ghost use Rattle.std.specs.Prelude.{◌≡◌};
 
+use crate::told::same;
 use envy_base::Shape;
 use envy_policy::{Choice, Chooser, Policy, Setup};
 use std::alloc::Global;
-use std::test::Fail;
+use std::process::Abort;
 
 /// A setup of 8 segments of 16 rows.
 fn setup(policy: Policy) -> Setup {
@@ -24,7 +25,7 @@ fn setup(policy: Policy) -> Setup {
 }
 
 /// What a chooser is told behind its flushes.
-#[derive(Clone, Copy, Debug)]
+#[derive(Clone, Copy)]
 enum Then {
     Nothing,
     /// A cleaning of this position.
@@ -33,7 +34,7 @@ enum Then {
 }
 
 /// A choice among three positions.
-#[derive(Clone, Copy, Debug)]
+#[derive(Clone, Copy)]
 struct Case {
     name: &'static str,
     policy: Policy,
@@ -152,20 +153,20 @@ const CASES: [Case; 8] = [
 ];
 
 /// A chooser over three positions, after so many flushes to each.
-fn after_flushes(alloc: Global, policy: Policy, flushes: [u8; 3]) -> Result<Chooser, Fail>
-    ensures { IfOk result (λ chooser. chooser.positions ≡ 3) }
+fn after_flushes(rt: &impl Abort, alloc: Global, policy: Policy, flushes: [u8; 3]) -> Chooser
+    ensures { result.positions ≡ 3 }
 {
     let mut setup = setup(policy);
     setup.shape.segments = 4;
     setup.shape.pages = 16;
-    setup.check().map_err(|_| "the setup doesn't check")?;
-    let mut chooser = Chooser::new(alloc, &setup)?;
+    setup.check().expect(rt, "the setup");
+    let mut chooser = Chooser::new(alloc, &setup).expect(rt, "no room for a chooser");
     for position in 0..3 {
         for _flush in 0..flushes[position] {
             chooser.note_flush(position as u32);
         }
     }
-    Ok(chooser)
+    chooser
 }
 
 fn tell(chooser: &mut Chooser, then: Then)
@@ -193,22 +194,75 @@ fn chosen(chooser: &Chooser, case: &Case) -> Option<Choice>
 }
 
 #[test]
-fn choices_are_made(rt: HostRuntime) -> Result<(), Fail> {
+fn choices_are_made(rt: HostRuntime) {
     for case in CASES.as_slice() {
-        let mut chooser = after_flushes(rt.alloc(), case.policy, case.flushes)?;
+        let mut chooser = after_flushes(&rt, rt.alloc(), case.policy, case.flushes);
         tell(&mut chooser, case.then);
-        assert_eq!(rt; chosen(&chooser, case), Some(case.choice), "{}", case.name);
+        let found = chosen(&chooser, case);
+        same(&rt, &found, &Some(case.choice), case.name);
     }
-    Ok(())
 }
 
 #[test]
-fn the_usual_setup_makes_a_chooser(rt: HostRuntime) -> Result<(), Fail> {
+fn the_usual_setup_makes_a_chooser(rt: HostRuntime) {
     let setup = setup(Policy::Greedy);
-    setup.check().map_err(|_| "the setup doesn't check")?;
-    assert!(rt; Chooser::new(rt.alloc(), &setup).is_ok());
-    Ok(())
+    setup.check().expect(&rt, "the setup");
+    let made = Chooser::new(rt.alloc(), &setup);
+    let _chooser = made.expect(&rt, "no room for a chooser");
 }
+
+/// A further fault of a setup.
+#[derive(Clone, Copy)]
+enum Fault {
+    Nothing,
+    Mark,
+    Limit,
+    Policy,
+    Segments,
+    Shadows,
+    Entries,
+    Frames,
+    Pages,
+    Rows,
+    FewSegments,
+}
+
+/// The setup with a further fault.
+fn faulty(setup: Setup, fault: Fault) -> Setup {
+    let mut setup = setup;
+    match fault {
+        Fault::Nothing => {}
+        Fault::Mark => setup.mark = 9,
+        Fault::Limit => setup.limit = 0,
+        Fault::Policy => setup.policy = Policy::Hybrid(8),
+        Fault::Segments => {
+            setup.shape.segments = 17;
+            setup.shape.rows = 65536;
+        }
+        Fault::Shadows => setup.shape.shadows = 4294967295,
+        Fault::Entries => setup.shape.entries = 0,
+        Fault::Frames => setup.shape.frames = 1,
+        Fault::Pages => setup.shape.pages = 0,
+        Fault::Rows => setup.shape.rows = 1,
+        Fault::FewSegments => setup.shape.segments = 3,
+    }
+    setup
+}
+
+/// Faults, each beside those before it, and the number of the first rule that fails.
+const FAULTS: [(&str, Fault, Option<u8>); 11] = [
+    ("no fault", Fault::Nothing, None),
+    ("mark", Fault::Mark, Some(10)),
+    ("limit", Fault::Limit, Some(9)),
+    ("policy", Fault::Policy, Some(8)),
+    ("rows in all", Fault::Segments, Some(7)),
+    ("shadows", Fault::Shadows, Some(6)),
+    ("entries", Fault::Entries, Some(5)),
+    ("frames", Fault::Frames, Some(4)),
+    ("pages", Fault::Pages, Some(3)),
+    ("rows", Fault::Rows, Some(2)),
+    ("segments", Fault::FewSegments, Some(1)),
+];
 
 /// The number of the first rule that fails.
 fn first_fault(setup: Setup) -> Option<u8> {
@@ -218,26 +272,8 @@ fn first_fault(setup: Setup) -> Option<u8> {
 #[test]
 fn rules_are_asked_in_order(rt: HostRuntime) {
     let mut setup = setup(Policy::Greedy);
-    assert_eq!(rt; first_fault(setup), None);
-    setup.mark = 9;
-    assert_eq!(rt; first_fault(setup), Some(10));
-    setup.limit = 0;
-    assert_eq!(rt; first_fault(setup), Some(9));
-    setup.policy = Policy::Hybrid(8);
-    assert_eq!(rt; first_fault(setup), Some(8));
-    setup.shape.segments = 17;
-    setup.shape.rows = 65536;
-    assert_eq!(rt; first_fault(setup), Some(7));
-    setup.shape.shadows = 4294967295;
-    assert_eq!(rt; first_fault(setup), Some(6));
-    setup.shape.entries = 0;
-    assert_eq!(rt; first_fault(setup), Some(5));
-    setup.shape.frames = 1;
-    assert_eq!(rt; first_fault(setup), Some(4));
-    setup.shape.pages = 0;
-    assert_eq!(rt; first_fault(setup), Some(3));
-    setup.shape.rows = 1;
-    assert_eq!(rt; first_fault(setup), Some(2));
-    setup.shape.segments = 3;
-    assert_eq!(rt; first_fault(setup), Some(1));
+    for (name, fault, rule) in FAULTS.as_slice() {
+        setup = faulty(setup, *fault);
+        same(&rt, &first_fault(setup), rule, name);
+    }
 }

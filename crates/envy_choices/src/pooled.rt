@@ -1,12 +1,13 @@
-ghost use Rattle.std.specs.Prelude.{◌≡◌, ◌+◌, ◌-◌, ◌<◌, ◌≤◌, ℕ, IfOk};
+ghost use Rattle.std.specs.Prelude.{◌≡◌, ◌+◌, ◌-◌, ◌<◌, ◌≤◌, ℕ};
 ghost use Rattle.envy_space.specs.Pool.{free_at, dead_at};
 
+use crate::told::holds_at;
 use envy_base::Shape;
 use envy_choosing::choose_row;
 use envy_policy::{Choice, Chooser, Policy, Setup};
 use envy_space::Space;
 use std::alloc::{AllocError, Global};
-use std::test::Fail;
+use std::process::Abort;
 
 /// A linear congruential generator.
 #[derive(Drop)]
@@ -56,15 +57,15 @@ fn policy(draws: &mut Draws, positions: u32) -> Policy
 }
 
 /// An empty pool, and a chooser over its positions.
-fn made(alloc: Global, setup: &Setup) -> Result<(Space, Chooser), Fail>
-    ensures { IfOk result (λ made. (made.0.shape ≡ setup.now.shape) × (made.1.positions ≡ setup.now.shape.segments - 1)
-        × (made.1.pages ≡ setup.now.shape.pages)) }
+fn made(rt: &impl Abort, alloc: Global, setup: &Setup) -> (Space, Chooser)
+    ensures { (result.0.shape ≡ setup.now.shape) × (result.1.positions ≡ setup.now.shape.segments - 1)
+        × (result.1.pages ≡ setup.now.shape.pages) }
 {
-    setup.check().map_err(|_| "the setup doesn't check")?;
-    Ok((
-        Space::new(alloc, &setup.shape)?,
-        Chooser::new(alloc, setup)?,
-    ))
+    setup.check().expect(rt, "the setup");
+    (
+        Space::new(alloc, &setup.shape).expect(rt, "no room for a pool"),
+        Chooser::new(alloc, setup).expect(rt, "no room for a chooser"),
+    )
 }
 
 /// A drawn fill of a segment, of which some rows are kept, at a drawn position.
@@ -101,8 +102,8 @@ fn warm(chooser: &mut Chooser, draws: &mut Draws, positions: u32)
 }
 
 /// A drawn pool, and a chooser over its positions.
-fn drawn(alloc: Global, draws: &mut Draws) -> Result<(Space, Chooser), Fail>
-    ensures { IfOk result (λ drawn. (drawn.1.positions ≡ drawn.0.shape.segments - 1) × (drawn.1.pages ≡ 4)) }
+fn drawn(rt: &impl Abort, alloc: Global, draws: &mut Draws) -> (Space, Chooser)
+    ensures { (result.1.positions ≡ result.0.shape.segments - 1) × (result.1.pages ≡ 4) }
 {
     let shape = shape(draws);
     let policy = policy(draws, shape.segments - 1);
@@ -112,12 +113,12 @@ fn drawn(alloc: Global, draws: &mut Draws) -> Result<(Space, Chooser), Fail>
         limit: 1,
         mark: 1,
     };
-    let (mut space, mut chooser) = made(alloc, &setup)?;
+    let (mut space, mut chooser) = made(rt, alloc, &setup);
     for segment in 0..shape.segments {
         change(&mut space, draws, segment);
     }
     warm(&mut chooser, draws, shape.segments - 1);
-    Ok((space, chooser))
+    (space, chooser)
 }
 
 /// The choice by lists of all rows.
@@ -142,29 +143,29 @@ fn choose_by_lists(
 }
 
 /// Whether pool and lists make the same choice for each home, where there is one.
-fn agree(alloc: Global, space: &Space, chooser: &Chooser) -> Result<bool, AllocError>
+fn agree(rt: &impl Abort, alloc: Global, space: &Space, chooser: &Chooser) -> bool
     requires positions { chooser.now.positions ≡ space.now.shape.segments - 1 }
     requires pages { chooser.now.pages ≡ 4 }
 {
     let positions = space.positions();
     let Some(_usable) = space.lowest_usable(0, positions) else {
-        return Ok(true);
+        return true;
     };
     for home in 0..positions {
-        let listed = choose_by_lists(alloc, space, chooser, home)?;
+        let listed = choose_by_lists(alloc, space, chooser, home).expect(rt, "no room");
         if choose_row(space, chooser, home, 0) != listed {
-            return Ok(false);
+            return false;
         }
     }
-    Ok(true)
+    true
 }
 
 #[test]
-fn a_pool_answers_as_its_lists_do(rt: HostRuntime) -> Result<(), Fail> {
+fn a_pool_answers_as_its_lists_do(rt: HostRuntime) {
     let mut draws = Draws(1);
     for pool in 0..500 {
-        let (space, chooser) = drawn(rt.alloc(), &mut draws)?;
-        assert!(rt; agree(rt.alloc(), &space, &chooser)?, "pool {pool}");
+        let (space, chooser) = drawn(&rt, rt.alloc(), &mut draws);
+        let is = agree(&rt, rt.alloc(), &space, &chooser);
+        holds_at(&rt, is, "pool", pool);
     }
-    Ok(())
 }

@@ -1,9 +1,10 @@
-ghost use Rattle.std.specs.Prelude.{◌≡◌, ◌<◌, ◌≤◌, IfOk};
+ghost use Rattle.std.specs.Prelude.{◌≡◌, ◌<◌, ◌≤◌};
 
+use crate::told::{same, same_of};
 use envy_base::Shape;
 use envy_space::Space;
 use std::alloc::Global;
-use std::test::Fail;
+use std::process::Abort;
 
 /// A shape of 10 segments, of which 9 stand at positions, of 4 rows each.
 const SHAPE: Shape = Shape {
@@ -15,11 +16,11 @@ const SHAPE: Shape = Shape {
     entries: 4,
 };
 
-fn made(alloc: Global) -> Result<Space, Fail>
-    ensures { IfOk result (λ space. space.shape ≡ SHAPE) }
+fn made(rt: &impl Abort, alloc: Global) -> Space
+    ensures { result.shape ≡ SHAPE }
 {
-    SHAPE.check().map_err(|_| "the shape doesn't check")?;
-    Ok(Space::new(alloc, &SHAPE)?)
+    SHAPE.check().expect(rt, "the shape");
+    Space::new(alloc, &SHAPE).expect(rt, "no room for a pool")
 }
 
 /// A linear congruential generator.
@@ -75,35 +76,45 @@ fn scanned(space: &Space, first: u32, last: u32) -> Option<u32>
     found
 }
 
-#[test]
-fn a_new_pool_is_empty(rt: HostRuntime) -> Result<(), Fail> {
-    let space = made(rt.alloc())?;
-    assert_eq!(rt; space.fill(9), 0);
-    assert_eq!(rt; space.kept(9), 0);
-    assert_eq!(rt; space.free(9), 4);
-    assert_eq!(rt; space.dead(9), 0);
-    assert_eq!(rt; space.free_in(0, 8), 36);
-    assert_eq!(rt; space.segment_at(8), 8);
-    assert_eq!(rt; space.spare(), 9);
-    assert_eq!(rt; space.most_dead(0, 8), None);
-    Ok(())
+/// What a pool answers of segment 9, of the positions 0 to 8, of position 8 and of the spare.
+type Answers = ((u32, u32, u32, u32), (u32, u32, u32), Option<u32>);
+
+fn asked(space: &Space) -> Answers
+    requires { space.now.shape ≡ SHAPE }
+{
+    (
+        (space.fill(9), space.kept(9), space.free(9), space.dead(9)),
+        (space.free_in(0, 8), space.segment_at(8), space.spare()),
+        space.most_dead(0, 8),
+    )
 }
 
 #[test]
-fn most_dead_is_that_of_a_scan(rt: HostRuntime) -> Result<(), Fail> {
-    let mut space = made(rt.alloc())?;
+fn a_new_pool_is_empty(rt: HostRuntime) {
+    let space = made(&rt, rt.alloc());
+    let wanted = ((0, 0, 4, 0), (36, 8, 9), None);
+    same(&rt, &asked(&space), &wanted, "new pool");
+}
+
+/// Tests what `most_dead` answers for each range of positions, in a turn.
+fn check_ranges(rt: &impl Abort, space: &Space, turn: u32)
+    requires { space.now.shape ≡ SHAPE }
+{
+    for first in 0..9 {
+        for last in first..9 {
+            let found = space.most_dead(first, last);
+            let wanted = scanned(space, first, last);
+            same_of(rt, &found, &wanted, "most dead", &(first, last, turn));
+        }
+    }
+}
+
+#[test]
+fn most_dead_is_that_of_a_scan(rt: HostRuntime) {
+    let mut space = made(&rt, rt.alloc());
     let mut draws = Draws(1);
     for turn in 0..500 {
         change(&mut space, &mut draws);
-        for first in 0..9 {
-            for last in first..9 {
-                assert_eq!(rt;
-                    space.most_dead(first, last),
-                    scanned(&space, first, last),
-                    "from {first} to {last} in turn {turn}"
-                );
-            }
-        }
+        check_ranges(&rt, &space, turn);
     }
-    Ok(())
 }

@@ -5,6 +5,8 @@
 #[cfg(test)]
 mod maps;
 #[cfg(test)]
+mod told;
+#[cfg(test)]
 mod vectors;
 #[cfg(test)]
 mod watched;

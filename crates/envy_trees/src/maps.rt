@@ -2,6 +2,7 @@ ghost use Rattle.std.specs.Prelude.{◌≡◌, ◌≤◌, ◌<◌, ◌^◌, IfOk
 ghost use Rattle.envy_heap.specs.Vectors.{vec_sheet};
 ghost use Rattle.envy_btree.specs.Testing.{IsReady};
 
+use crate::told::{same, same_at, same_text};
 use arrayvec::ArrayVec;
 use envy_base::{NoMemory, Off, Words};
 use envy_btree::{
@@ -15,7 +16,9 @@ use rand_pcg::Lcg64Xsh32;
 use std::alloc::Global;
 use std::collections::BTreeMap;
 use std::process::Abort;
-use std::test::Fail;
+
+// Why a test ends where memory is wanted.
+const NO_ROOM: &str = "no room";
 
 fn empty_index(alloc: Global, size: u32) -> Result<VecWords, NoMemory>
     requires least { 640 ≤ size }
@@ -83,47 +86,128 @@ fn nearest_in(map: &BTreeMap<u64, u64>, key: u64) -> Nearest {
     Ok(found)
 }
 
-#[test]
-fn pairs_go_in_and_out(rt: HostRuntime) -> Result<(), Fail> {
-    let mut words = empty_index(rt.alloc(), 640)?;
-    assert_eq!(rt; set(&mut words, 5, 50), Ok(None));
-    assert_eq!(rt; value_of(&mut words, 5), Ok(Some(50)));
-    assert_eq!(rt; set(&mut words, 5, 51), Ok(Some(50)));
-    assert_eq!(rt; take_out(&mut words, 5), Ok(Some(51)));
-    assert_eq!(rt; value_of(&mut words, 5), Ok(None));
-    assert_eq!(rt; take_out(&mut words, 5), Ok(None));
-    Ok(())
+/// A call of a map, and its answer.
+#[derive(Clone, Copy, Debug, PartialEq)]
+enum Step {
+    Get(u64, Result<Option<u64>, Off>),
+    Set(u64, u64, Result<Option<u64>, TreeFault>),
+    TakeOut(u64, Result<Option<u64>, TreeFault>),
+    Near(u64, Nearest),
 }
 
-#[test]
-fn the_ends_of_a_map_have_one_neighbour(rt: HostRuntime) -> Result<(), Fail> {
-    let (low, high) = (Some((0, 7)), Some((u64::MAX, 8)));
-    let mut words = empty_index(rt.alloc(), 640)?;
-    assert_eq!(rt; nearest(&mut words, 9), Ok([None, None, None]));
-    assert_eq!(rt; set(&mut words, 0, 7), Ok(None));
-    assert_eq!(rt; nearest(&mut words, 0), Ok([low, None, low]));
-    assert_eq!(rt; set(&mut words, u64::MAX, 8), Ok(None));
-    assert_eq!(rt; nearest(&mut words, 0), Ok([low, high, low]));
-    assert_eq!(rt; nearest(&mut words, 9), Ok([high, high, low]));
-    assert_eq!(rt; nearest(&mut words, u64::MAX), Ok([high, None, high]));
-    Ok(())
-}
-
-#[test]
-fn a_full_map_takes_no_new_key(rt: HostRuntime) -> Result<(), Fail> {
-    // 9 pieces: 14 pairs
-    let mut words = empty_index(rt.alloc(), 640)?;
-    for i in 0..14 {
-        assert_eq!(rt; set(&mut words, i, i), Ok(None));
+// Makes a call, and tells it with the answer that it got.
+fn made(words: &mut VecWords, step: Step) -> Step
+    requires { IsReady (vec_sheet words.old) }
+    ensures { IsReady (vec_sheet words.new) }
+{
+    match step {
+        Step::Get(key, _) => Step::Get(key, value_of(words, key)),
+        Step::Set(key, value, _) => Step::Set(key, value, set(words, key, value)),
+        Step::TakeOut(key, _) => Step::TakeOut(key, take_out(words, key)),
+        Step::Near(key, _) => Step::Near(key, nearest(words, key)),
     }
-    assert_eq!(rt; set(&mut words, 14, 1), Err(TreeFault::Full));
-    assert_eq!(rt; set(&mut words, 0, 9), Ok(Some(0)));
-    assert_eq!(rt; take_out(&mut words, 0), Ok(Some(9)));
-    assert_eq!(rt; set(&mut words, 14, 1), Ok(None));
-    Ok(())
+}
+
+// Tests that each call is answered as it says.
+fn check_steps(rt: &impl Abort, words: &mut VecWords, name: &str, steps: &[Step])
+    requires { IsReady (vec_sheet words.old) }
+    ensures { IsReady (vec_sheet words.new) }
+{
+    for step in steps {
+        same(rt, &made(words, *step), step, name);
+    }
+}
+
+// Calls of an empty map of 640 words.
+fn check_empty(rt: &impl Abort, alloc: Global, name: &str, steps: &[Step]) {
+    let mut words = empty_index(alloc, 640).expect(rt, NO_ROOM);
+    check_steps(rt, &mut words, name, steps);
+}
+
+const IN_AND_OUT: [Step; 6] = [
+    Step::Set(5, 50, Ok(None)),
+    Step::Get(5, Ok(Some(50))),
+    Step::Set(5, 51, Ok(Some(50))),
+    Step::TakeOut(5, Ok(Some(51))),
+    Step::Get(5, Ok(None)),
+    Step::TakeOut(5, Ok(None)),
+];
+
+#[test]
+fn pairs_go_in_and_out(rt: HostRuntime) {
+    check_empty(&rt, rt.alloc(), "pairs go in and out", &IN_AND_OUT);
+}
+
+const LOW: Option<(u64, u64)> = Some((0, 7));
+
+const HIGH: Option<(u64, u64)> = Some((u64::MAX, 8));
+
+const ENDS: [Step; 7] = [
+    Step::Near(9, Ok([None, None, None])),
+    Step::Set(0, 7, Ok(None)),
+    Step::Near(0, Ok([LOW, None, LOW])),
+    Step::Set(u64::MAX, 8, Ok(None)),
+    Step::Near(0, Ok([LOW, HIGH, LOW])),
+    Step::Near(9, Ok([HIGH, HIGH, LOW])),
+    Step::Near(u64::MAX, Ok([HIGH, None, HIGH])),
+];
+
+#[test]
+fn the_ends_of_a_map_have_one_neighbour(rt: HostRuntime) {
+    check_empty(&rt, rt.alloc(), "the ends of a map", &ENDS);
+}
+
+// As many pairs of a key and itself.
+fn fill(rt: &impl Abort, words: &mut VecWords, pairs: u64)
+    requires { IsReady (vec_sheet words.old) }
+    ensures { IsReady (vec_sheet words.new) }
+{
+    for key in 0..pairs {
+        same_at(rt, &set(words, key, key), &Ok(None), "set", key);
+    }
+}
+
+const FULL: [Step; 4] = [
+    Step::Set(14, 1, Err(TreeFault::Full)),
+    Step::Set(0, 9, Ok(Some(0))),
+    Step::TakeOut(0, Ok(Some(9))),
+    Step::Set(14, 1, Ok(None)),
+];
+
+#[test]
+fn a_full_map_takes_no_new_key(rt: HostRuntime) {
+    // 9 pieces: 14 pairs
+    let mut words = empty_index(rt.alloc(), 640).expect(&rt, NO_ROOM);
+    fill(&rt, &mut words, 14);
+    check_steps(&rt, &mut words, "a full map", &FULL);
 }
 
 const MOST_PAIRS: usize = 322;
+
+// A change of the tree and of a map of the library: the answers are the same.
+fn change(
+    rt: &impl Abort,
+    words: &mut VecWords,
+    map: &mut BTreeMap<u64, u64>,
+    takes: bool,
+    key: u64,
+    value: u64,
+)
+    requires { IsReady (vec_sheet words.old) }
+    ensures { IsReady (vec_sheet words.new) }
+{
+    if takes {
+        let was = map.remove(&key);
+        same_at(rt, &take_out(words, key), &Ok(was), "take out", key);
+    } else if map.len() == MOST_PAIRS && map.get(&key).is_none() {
+        let full = Err(TreeFault::Full);
+        same_at(rt, &set(words, key, value), &full, "set", key);
+    } else {
+        let was: Result<_, _> = map.insert(key, value);
+        let was = was.expect(rt, NO_ROOM);
+        same_at(rt, &set(words, key, value), &Ok(was), "set", key);
+    }
+}
 
 // One operation on the tree and on a map of the library: the answers are the same.
 fn agrees(
@@ -132,42 +216,60 @@ fn agrees(
     map: &mut BTreeMap<u64, u64>,
     draw: u32,
     value: u64,
-) -> Result<(), Fail>
+)
     requires { IsReady (vec_sheet words.old) }
     ensures { IsReady (vec_sheet words.new) }
 {
     let key = u64::from(draw / 4 % 512);
-    assert_eq!(rt; value_of(words, key), Ok(map.get(&key).copied()));
-    assert_eq!(rt; nearest(words, key), nearest_in(map, key));
-    assert_eq!(rt; pairs(words), Ok(map.len() as u64));
-    if draw % 4 == 0 {
-        assert_eq!(rt; take_out(words, key), Ok(map.remove(&key)));
-        return Ok(());
+    let held = map.get(&key).copied();
+    same_at(rt, &value_of(words, key), &Ok(held), "get", key);
+    let near = nearest_in(map, key);
+    same_at(rt, &nearest(words, key), &near, "nearest", key);
+    let count = map.len() as u64;
+    same_at(rt, &pairs(words), &Ok(count), "pairs at", key);
+    change(rt, words, map, draw % 4 == 0, key, value);
+}
+
+// A walk over the tree finds the pairs of the map, and no more.
+fn check_walk(rt: &impl Abort, words: &mut VecWords, map: &BTreeMap<u64, u64>)
+    requires { IsReady (vec_sheet words.old) }
+{
+    let mut seen = first_of(nearest(words, 0));
+    for (key, value) in map {
+        let (key, value) = (*key, *value);
+        let held = value_of(words, key);
+        same_at(rt, &held, &Ok(Some(value)), "get", key);
+        same_at(rt, &seen, &Some((key, value)), "next", key);
+        seen = second_of(nearest(words, key));
     }
-    if map.len() == MOST_PAIRS && map.get(&key).is_none() {
-        assert_eq!(rt; set(words, key, value), Err(TreeFault::Full));
-        return Ok(());
+    same(rt, &seen, &None, "behind the last");
+}
+
+// The pair from a key on, of what is nearest.
+fn first_of(near: Nearest) -> Option<(u64, u64)> {
+    match near {
+        Ok(found) => found[0],
+        Err(_) => None,
     }
-    assert_eq!(rt; set(words, key, value), Ok(map.insert(key, value)?));
-    Ok(())
+}
+
+// The pair above a key.
+fn second_of(near: Nearest) -> Option<(u64, u64)> {
+    match near {
+        Ok(found) => found[1],
+        Err(_) => None,
+    }
 }
 
 #[test]
-fn the_tree_agrees_with_a_map(rt: HostRuntime) -> Result<(), Fail> {
-    let mut words = empty_index(rt.alloc(), 2048)?;
+fn the_tree_agrees_with_a_map(rt: HostRuntime) {
+    let mut words = empty_index(rt.alloc(), 2048).expect(&rt, NO_ROOM);
     let mut map = BTreeMap::new(rt.alloc());
     let mut generator = Lcg64Xsh32::seed_from_u64(3);
     for i in 0..2000 {
-        agrees(&rt, &mut words, &mut map, generator.next_u32(), i)?;
+        agrees(&rt, &mut words, &mut map, generator.next_u32(), i);
     }
-    let mut seen = nearest(&mut words, 0)?[0];
-    for (key, value) in &map {
-        assert_eq!(rt; value_of(&mut words, *key), Ok(Some(*value)));
-        assert_eq!(rt; seen, Some((*key, *value)));
-        seen = nearest(&mut words, *key)?[1];
-    }
-    assert_eq!(rt; seen, None);
-    Ok(())
+    check_walk(&rt, &mut words, &map);
 }
 
 #[derive(Clone, Copy)]
@@ -205,34 +307,43 @@ fn free_pieces(rt: &impl Abort, words: &mut VecWords) -> u64
 }
 
 // Fills the map with this many pairs, all that it may have, and takes them out in another order.
-fn fills_and_empties(
-    rt: &impl Abort,
-    alloc: Global,
-    size: u32,
-    pairs: u64,
-    order: Order,
-) -> Result<(), Fail>
+fn fills_and_empties(rt: &impl Abort, alloc: Global, size: u32, pairs: u64, order: Order)
     requires least { 640 ≤ size }
     requires most { size ≤ 2 ^ 25 }
     requires few { pairs < 9000 }
     requires some { 0 < pairs }
 {
-    let mut words = empty_index(alloc, size)?;
+    let mut words = empty_index(alloc, size).expect(rt, NO_ROOM);
     for i in 0..pairs {
-        assert_eq!(rt; set(&mut words, key_at(order, i), i), Ok(None));
+        same_at(
+            rt,
+            &set(&mut words, key_at(order, i), i),
+            &Ok(None),
+            "pair",
+            i,
+        );
     }
-    assert_eq!(rt;
-        set(&mut words, key_at(order, pairs), 0),
-        Err(TreeFault::Full)
-    );
+    let answer = set(&mut words, key_at(order, pairs), 0);
+    same_at(rt, &answer, &Err(TreeFault::Full), "pair", pairs);
     for i in 0..pairs {
         let place = i * 5 % pairs;
         let key = key_at(order, place);
-        assert_eq!(rt; take_out(&mut words, key), Ok(Some(place)));
-        assert_eq!(rt; value_of(&mut words, key), Ok(None));
+        same_at(
+            rt,
+            &take_out(&mut words, key),
+            &Ok(Some(place)),
+            "take out",
+            i,
+        );
+        same_at(
+            rt,
+            &value_of(&mut words, key),
+            &Ok(None),
+            "get behind it",
+            i,
+        );
     }
     is_empty(rt, &mut words);
-    Ok(())
 }
 
 // No root, no pair, and no piece that isn't free.
@@ -240,68 +351,75 @@ fn is_empty(rt: &impl Abort, words: &mut VecWords)
     requires { 640 ≤ length (vec_sheet words.old).words }
 {
     let handed = words.load(2).unwrap_or(0);
-    assert_eq!(rt; words.load(0), Ok(0));
-    assert_eq!(rt; words.load(3), Ok(0));
-    assert_eq!(rt; free_pieces(rt, words), handed);
+    let empty = (words.load(0), words.load(3));
+    same(rt, &empty, &(Ok(0), Ok(0)), "root and pairs");
+    same(rt, &free_pieces(rt, words), &handed, "free pieces");
 }
 
 #[test]
-fn a_map_filled_by_rising_keys_is_emptied(rt: HostRuntime) -> Result<(), Fail> {
-    fills_and_empties(&rt, rt.alloc(), 2048, 322, Order::Rising)
+fn a_map_filled_by_rising_keys_is_emptied(rt: HostRuntime) {
+    fills_and_empties(&rt, rt.alloc(), 2048, 322, Order::Rising);
 }
 
 #[test]
-fn a_map_filled_by_falling_keys_is_emptied(rt: HostRuntime) -> Result<(), Fail> {
-    fills_and_empties(&rt, rt.alloc(), 2048, 322, Order::Falling)
+fn a_map_filled_by_falling_keys_is_emptied(rt: HostRuntime) {
+    fills_and_empties(&rt, rt.alloc(), 2048, 322, Order::Falling);
 }
 
 #[test]
-fn a_map_of_three_levels_is_emptied(rt: HostRuntime) -> Result<(), Fail> {
-    fills_and_empties(&rt, rt.alloc(), 16384, 3458, Order::Scattered)
+fn a_map_of_three_levels_is_emptied(rt: HostRuntime) {
+    fills_and_empties(&rt, rt.alloc(), 16384, 3458, Order::Scattered);
 }
 
-fn reads(rt: &impl Abort, bytes: &[u8], want: Result<IndexLine, LineFault>) {
-    assert_eq!(rt; read_index_line(bytes), want);
-}
+const LINES: [(&str, Result<IndexLine, LineFault>); 12] = [
+    ("", Ok(IndexLine::Empty)),
+    ("# a comment", Ok(IndexLine::Empty)),
+    ("get 5", Ok(IndexLine::Get { key: 5 })),
+    (
+        "\tinsert  5 050\r",
+        Ok(IndexLine::Insert { key: 5, value: 50 }),
+    ),
+    (
+        "remove 18446744073709551615",
+        Ok(IndexLine::Remove { key: u64::MAX }),
+    ),
+    ("power", Ok(IndexLine::Power)),
+    ("cut 1 0", Ok(IndexLine::Cut { k: 1, g: 0 })),
+    ("bad 2 7", Ok(IndexLine::Bad { k: 2, g: 7 })),
+    ("load 5", Err(LineFault::Word)),
+    ("insert 5", Err(LineFault::Count)),
+    ("get 18446744073709551616", Err(LineFault::Number)),
+    ("cut 0 0", Err(LineFault::Number)),
+];
 
 #[test]
 fn lines_are_read(rt: HostRuntime) {
-    reads(&rt, b"", Ok(IndexLine::Empty));
-    reads(&rt, b"# a comment", Ok(IndexLine::Empty));
-    reads(&rt, b"get 5", Ok(IndexLine::Get { key: 5 }));
-    reads(
-        &rt,
-        b"\tinsert  5 050\r",
-        Ok(IndexLine::Insert { key: 5, value: 50 }),
-    );
-    reads(
-        &rt,
-        b"remove 18446744073709551615",
-        Ok(IndexLine::Remove { key: u64::MAX }),
-    );
-    reads(&rt, b"power", Ok(IndexLine::Power));
-    reads(&rt, b"cut 1 0", Ok(IndexLine::Cut { k: 1, g: 0 }));
-    reads(&rt, b"bad 2 7", Ok(IndexLine::Bad { k: 2, g: 7 }));
-    reads(&rt, b"load 5", Err(LineFault::Word));
-    reads(&rt, b"insert 5", Err(LineFault::Count));
-    reads(&rt, b"get 18446744073709551616", Err(LineFault::Number));
-    reads(&rt, b"cut 0 0", Err(LineFault::Number));
-    reads(&rt, &[b' '; 121], Err(LineFault::Long));
+    for (text, line) in LINES.as_slice() {
+        same(&rt, &read_index_line(text.as_bytes()), line, text);
+    }
+    let found = read_index_line(&[b' '; 121]);
+    same(&rt, &found, &Err(LineFault::Long), "121 blanks");
 }
 
-fn writes(rt: &impl Abort, reply: IndexReply, want: &[u8]) {
+const REPLIES: [(IndexReply, &str); 7] = [
+    (IndexReply::Value(51), "51"),
+    (IndexReply::Missing, "none"),
+    (IndexReply::Full, "full"),
+    (IndexReply::Fault, "fault"),
+    (IndexReply::Lost, "lost"),
+    (IndexReply::Restarted, "restarted"),
+    (IndexReply::Armed, "armed"),
+];
+
+fn check_reply(rt: &impl Abort, reply: &IndexReply, text: &str) {
     let mut out = ArrayVec::new();
-    index_text(&reply, &mut out);
-    assert_eq!(rt; out.as_slice(), want);
+    index_text(reply, &mut out);
+    same_text(rt, &out, text);
 }
 
 #[test]
 fn replies_are_written(rt: HostRuntime) {
-    writes(&rt, IndexReply::Value(51), b"51");
-    writes(&rt, IndexReply::Missing, b"none");
-    writes(&rt, IndexReply::Full, b"full");
-    writes(&rt, IndexReply::Fault, b"fault");
-    writes(&rt, IndexReply::Lost, b"lost");
-    writes(&rt, IndexReply::Restarted, b"restarted");
-    writes(&rt, IndexReply::Armed, b"armed");
+    for (reply, text) in REPLIES.as_slice() {
+        check_reply(&rt, reply, text);
+    }
 }

@@ -3,16 +3,16 @@ ghost use Rattle.std.specs.Prelude.{◌≡◌, ◌≤◌, ◌<◌, ◌^◌, IfOk
 ghost use Rattle.envy_heap.specs.Vectors.{vec_sheet};
 ghost use Rattle.envy_btree.specs.Testing.{IsReady};
 
+use crate::told::same_at;
 use envy_base::{NoMemory, Off, Trouble, Words};
 use envy_btree::{TreeFault, get, insert, remove};
 use envy_heap::VecWords;
 use std::alloc::Global;
 use std::process::Abort;
-use std::test::Fail;
 
 // What was seen of the calls: how often a load went to another piece than the load before it, and the
 // calls that open and close transactions.
-#[derive(Clone, Copy, Debug, PartialEq, Eq)]
+#[derive(Clone, Copy, Debug, PartialEq)]
 struct Seen {
     moves: u32,
     starts: u32,
@@ -30,6 +30,8 @@ const NOTHING: Seen = Seen {
 
 // one transaction that is kept, whatever it loads
 const ONE_CHANGE: (u32, u32, u32) = (1, 1, 0);
+
+const NO_CHANGE: (u32, u32, u32) = (0, 0, 0);
 
 impl Seen {
     fn transactions(self) -> (u32, u32, u32) {
@@ -139,12 +141,12 @@ fn looks(rt: &impl Abort, words: &mut Watched, key: u64, want: Option<u64>, leve
     requires { IsReady (vec_sheet words.old.words) }
     ensures { IsReady (vec_sheet words.new.words) }
 {
-    assert_eq!(rt; value_of(words, key), Ok(want));
+    same_at(rt, &value_of(words, key), &Ok(want), "get", key);
     let seen = Seen {
         moves: levels,
         ..NOTHING
     };
-    assert_eq!(rt; words.seen, seen, "get {key}");
+    same_at(rt, &words.seen, &seen, "seen of get", key);
 }
 
 // An insert of a key, new or present, is one transaction.
@@ -152,8 +154,9 @@ fn sets(rt: &impl Abort, words: &mut Watched, key: u64, value: u64, was: Option<
     requires { IsReady (vec_sheet words.old.words) }
     ensures { IsReady (vec_sheet words.new.words) }
 {
-    assert_eq!(rt; set(words, key, value), Ok(was));
-    assert_eq!(rt; words.seen.transactions(), ONE_CHANGE, "insert {key}");
+    same_at(rt, &set(words, key, value), &Ok(was), "insert", key);
+    let seen = words.seen.transactions();
+    same_at(rt, &seen, &ONE_CHANGE, "seen of insert", key);
 }
 
 // An insert that is full opens none: that the map has no room is known before.
@@ -161,8 +164,10 @@ fn is_full_for(rt: &impl Abort, words: &mut Watched, key: u64)
     requires { IsReady (vec_sheet words.old.words) }
     ensures { IsReady (vec_sheet words.new.words) }
 {
-    assert_eq!(rt; set(words, key, 0), Err(TreeFault::Full));
-    assert_eq!(rt; words.seen.transactions(), (0, 0, 0), "insert {key}");
+    let full = Err(TreeFault::Full);
+    same_at(rt, &set(words, key, 0), &full, "insert", key);
+    let seen = words.seen.transactions();
+    same_at(rt, &seen, &NO_CHANGE, "seen of insert", key);
 }
 
 // The removal of a key is one transaction.
@@ -170,8 +175,9 @@ fn takes_out(rt: &impl Abort, words: &mut Watched, key: u64, was: u64)
     requires { IsReady (vec_sheet words.old.words) }
     ensures { IsReady (vec_sheet words.new.words) }
 {
-    assert_eq!(rt; take_out(words, key), Ok(Some(was)));
-    assert_eq!(rt; words.seen.transactions(), ONE_CHANGE, "remove {key}");
+    same_at(rt, &take_out(words, key), &Ok(Some(was)), "remove", key);
+    let seen = words.seen.transactions();
+    same_at(rt, &seen, &ONE_CHANGE, "seen of remove", key);
 }
 
 // The removal of a key that the map doesn't have opens none.
@@ -179,23 +185,18 @@ fn misses(rt: &impl Abort, words: &mut Watched, key: u64)
     requires { IsReady (vec_sheet words.old.words) }
     ensures { IsReady (vec_sheet words.new.words) }
 {
-    assert_eq!(rt; take_out(words, key), Ok(None));
-    assert_eq!(rt; words.seen.transactions(), (0, 0, 0), "remove {key}");
+    same_at(rt, &take_out(words, key), &Ok(None), "remove", key);
+    let seen = words.seen.transactions();
+    same_at(rt, &seen, &NO_CHANGE, "seen of remove", key);
 }
 
 // Fills a map with all the pairs that it may have, which make so many levels, and empties it.
-fn fills_and_empties(
-    rt: &impl Abort,
-    alloc: Global,
-    size: u32,
-    pairs: u64,
-    levels: u32,
-) -> Result<(), Fail>
+fn fills_and_empties(rt: &impl Abort, alloc: Global, size: u32, pairs: u64, levels: u32)
     requires least { 640 ≤ size }
     requires most { size ≤ 2 ^ 25 }
     requires few { pairs < 10000 }
 {
-    let mut words = watched_index(alloc, size)?;
+    let mut words = watched_index(alloc, size).expect(rt, "no room");
     looks(rt, &mut words, 1, None, 0);
     misses(rt, &mut words, 1);
     for i in 0..pairs {
@@ -212,7 +213,6 @@ fn fills_and_empties(
         takes_out(rt, &mut words, 2 * i, i + 7);
     }
     looks(rt, &mut words, 0, None, 0);
-    Ok(())
 }
 
 // However a map was filled, its leaves have 15 to 31 pairs and its inner nodes 16 to 32 children, but
@@ -227,11 +227,9 @@ fn fills_and_empties(
 // in `64 + 64 * q` words may have `14 * (q - 8)` pairs: 14 with 9 pieces, 42 with 11, 476 with 42 and
 // 994 with 79.
 #[test]
-fn a_get_reads_one_node_a_level_and_a_change_is_one_transaction(
-    rt: HostRuntime,
-) -> Result<(), Fail> {
-    fills_and_empties(&rt, rt.alloc(), 640, 14, 1)?;
-    fills_and_empties(&rt, rt.alloc(), 768, 42, 2)?;
-    fills_and_empties(&rt, rt.alloc(), 2752, 476, 2)?;
-    fills_and_empties(&rt, rt.alloc(), 5120, 994, 3)
+fn a_get_reads_one_node_a_level_and_a_change_is_one_transaction(rt: HostRuntime) {
+    fills_and_empties(&rt, rt.alloc(), 640, 14, 1);
+    fills_and_empties(&rt, rt.alloc(), 768, 42, 2);
+    fills_and_empties(&rt, rt.alloc(), 2752, 476, 2);
+    fills_and_empties(&rt, rt.alloc(), 5120, 994, 3);
 }

@@ -2,4 +2,4 @@ use Rattle.std.proofs.Common.{◌≡◌}
 use Rattle.envy_choices.proofs.pooled.drawn.Given as goal
 
 abbrev pub invariant-loop-segment : goal.invariant-loop-segment
-invariant-loop-segment l = l.space.shape ≡ l.shape
+invariant-loop-segment g l = l.space.shape ≡ l.shape

@@ -4,6 +4,3 @@ use Rattle.envy_trees.proofs.maps.the_tree_agrees_with_a_map.Given as goal
 
 abbrev pub invariant-loop-i : goal.invariant-loop-i
 invariant-loop-i g l = IsReady (vec_sheet l.words)
-
-abbrev pub invariant-loop-key : goal.invariant-loop-key
-invariant-loop-key g l = IsReady (vec_sheet l.words)
