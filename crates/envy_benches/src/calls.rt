@@ -5,12 +5,19 @@ use crate::steps::Step::{
     PowerOn, Program, ProgramMarked, Put, Read,
 };
 use crate::steps::{Page, Step, check_steps};
+use crate::told::same;
 use envy_base::{Maker, Off, Shape, Trouble};
 use envy_bench::{MemBoard, MemMaker};
-use std::test::Fail;
+use std::alloc::Global;
+use std::process::Abort;
+
+// Why a test ends where a board, or a shape that checks, is wanted.
+const NO_ROOM: &str = "no room for a board";
+
+const SIZES: &str = "the shape";
 
 /// Calls of a new board, whose power can return so often.
-#[derive(Clone, Copy, Debug)]
+#[derive(Clone, Copy)]
 struct Calls {
     name: &'static str,
     shape: Shape,
@@ -132,14 +139,17 @@ const CALLS: [Calls; 7] = [
     },
 ];
 
+fn check_calls(rt: &impl Abort, alloc: Global, calls: &Calls) {
+    calls.shape.check().expect(rt, SIZES);
+    let mut board = MemBoard::new(alloc, &calls.shape, calls.lives).expect(rt, NO_ROOM);
+    check_steps(rt, &mut board, calls.name, calls.steps);
+}
+
 #[test]
-fn calls_of_a_board_are_answered(rt: HostRuntime) -> Result<(), Fail> {
+fn calls_of_a_board_are_answered(rt: HostRuntime) {
     for calls in CALLS.as_slice() {
-        calls.shape.check()?;
-        let mut board = MemBoard::new(rt.alloc(), &calls.shape, calls.lives)?;
-        check_steps(&rt, &mut board, calls.name, calls.steps);
+        check_calls(&rt, rt.alloc(), calls);
     }
-    Ok(())
 }
 
 const OF_A_MAKER: [Step; 11] = [
@@ -157,17 +167,16 @@ const OF_A_MAKER: [Step; 11] = [
 ];
 
 #[test]
-fn maker_makes_a_board_of_ones_and_zeros(rt: HostRuntime) -> Result<(), Fail> {
-    SHAPE.check()?;
-    let mut board = MemMaker::new().make(rt.alloc(), &SHAPE, 1)?;
+fn maker_makes_a_board_of_ones_and_zeros(rt: HostRuntime) {
+    SHAPE.check().expect(&rt, SIZES);
+    let made = MemMaker::new().make(rt.alloc(), &SHAPE, 1);
+    let mut board = made.expect(&rt, NO_ROOM);
     check_steps(&rt, &mut board, "maker", &OF_A_MAKER);
-    Ok(())
 }
 
 #[test]
-fn the_last_word_of_sram_is_zero(rt: HostRuntime) -> Result<(), Fail> {
-    SHAPE.check()?;
-    let board = MemBoard::new(rt.alloc(), &SHAPE, 0)?;
-    assert_eq!(rt; board.peek(558), 0);
-    Ok(())
+fn the_last_word_of_sram_is_zero(rt: HostRuntime) {
+    SHAPE.check().expect(&rt, SIZES);
+    let board = MemBoard::new(rt.alloc(), &SHAPE, 0).expect(&rt, NO_ROOM);
+    same(&rt, &board.peek(558), &0, "last word");
 }

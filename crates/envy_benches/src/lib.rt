@@ -10,3 +10,5 @@ mod speed;
 mod steps;
 #[cfg(test)]
 mod supplies;
+#[cfg(test)]
+mod told;

@@ -1,5 +1,6 @@
 //! What a test asks of a board in memory, step by step, and what it is answered.
 
+use crate::told::same;
 use envy_base::{Bench, Board, Off, Shape, Trouble};
 use envy_bench::MemBoard;
 use envy_power::Torn;
@@ -202,6 +203,6 @@ fn made(board: &mut MemBoard, step: Step) -> Step {
 /// Tests that each step is answered as it says.
 pub(crate) fn check_steps(rt: &impl Abort, board: &mut MemBoard, name: &str, steps: &[Step]) {
     for step in steps {
-        assert_eq!(rt; made(board, *step), *step, "{name}");
+        same(rt, &made(board, *step), step, name);
     }
 }

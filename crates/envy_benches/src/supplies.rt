@@ -1,126 +1,209 @@
 //! The supply of power: its plans and its lives, the words of a torn page, and SRAM that it keeps.
 
+use crate::told::{same, same_at};
 use envy_power::{Event, Sram, Supply, Torn};
 use std::process::Abort;
-use std::test::Fail;
 
-// The words were made with an independent program.
+/// The first three words of the page that is torn by a number, made with an independent program.
+const TORN: [(u64, [u64; 3]); 4] = [
+    (
+        0,
+        [
+            18195738587432868099,
+            4538132255688111059,
+            6944247732487142299,
+        ],
+    ),
+    (
+        1,
+        [
+            9060384754756946918,
+            1273517867490297681,
+            2963138657977888315,
+        ],
+    ),
+    (
+        7,
+        [
+            1778390507669511913,
+            15139196238614234269,
+            5876829922724166588,
+        ],
+    ),
+    (
+        9,
+        [
+            2891028797734506294,
+            8569461736179982127,
+            13785801004673610654,
+        ],
+    ),
+];
+
 #[test]
 fn torn_words_are_those_of_the_original(rt: HostRuntime) {
-    let table = [
-        (
-            0,
-            [
-                18195738587432868099,
-                4538132255688111059,
-                6944247732487142299,
-            ],
-        ),
-        (
-            1,
-            [
-                9060384754756946918,
-                1273517867490297681,
-                2963138657977888315,
-            ],
-        ),
-        (
-            7,
-            [
-                1778390507669511913,
-                15139196238614234269,
-                5876829922724166588,
-            ],
-        ),
-        (
-            9,
-            [
-                2891028797734506294,
-                8569461736179982127,
-                13785801004673610654,
-            ],
-        ),
-    ];
-    for (g, words) in table.as_slice() {
+    for (g, words) in TORN.as_slice() {
         let mut torn = Torn::new(*g);
-        for word in words.as_slice() {
-            assert_eq!(rt; torn.next(), *word, "of {g}");
-        }
+        let found = [torn.next(), torn.next(), torn.next()];
+        same_at(&rt, &found, words, "words of", *g);
     }
 }
 
 #[test]
-fn new_sram_is_zeros_and_keeps_what_is_put(rt: HostRuntime) -> Result<(), Fail> {
-    let mut one = Sram::new(rt.alloc(), 1)?;
-    assert_eq!(rt; one.get(0), 0);
+fn new_sram_is_zeros_and_keeps_what_is_put(rt: HostRuntime) {
+    let mut one = Sram::new(rt.alloc(), 1).expect(&rt, "no room for a word");
+    same(&rt, &one.get(0), &0, "new word");
     one.put(0, u64::MAX);
-    assert_eq!(rt; one.get(0), u64::MAX);
-    Ok(())
+    same(&rt, &one.get(0), &u64::MAX, "word that was put");
 }
 
-fn put(rt: &impl Abort, supply: &mut Supply) -> Event {
-    assert!(rt; supply.powered());
-    supply.put_event()
+/// A call of a supply, and its answer.
+#[derive(Clone, Copy, Debug, PartialEq)]
+enum Step {
+    Put(Event),
+    Flash(Event),
+    /// So many puts, each with a flash operation behind it, which all pass.
+    Pass(u8),
+    /// Power is to fail at an operation from now, 1 for the next, or a flash operation is to be bad.
+    PlanCut(u32, u64),
+    PlanBad(u32, u64),
+    CutNow,
+    /// Power returns, or not.
+    PowerOn(bool),
+    IsOn(bool),
+    /// How often power can return.
+    Lives(u32),
+    /// Failures of power and bad operations.
+    Failed(u64, u64),
+    /// The call may not be made now.
+    Unknown,
 }
 
-fn flash(rt: &impl Abort, supply: &mut Supply) -> Event {
-    assert!(rt; supply.powered());
-    supply.flash_event()
+fn put(supply: &mut Supply) -> Option<Event> {
+    if supply.powered() {
+        Some(supply.put_event())
+    } else {
+        None
+    }
 }
 
-fn power_on(rt: &impl Abort, supply: &mut Supply) -> bool {
-    assert!(rt; !supply.powered());
-    supply.power_on()
+fn flash(supply: &mut Supply) -> Option<Event> {
+    if supply.powered() {
+        Some(supply.flash_event())
+    } else {
+        None
+    }
 }
+
+/// Whether so many puts and flash operations pass.
+fn pass(supply: &mut Supply, count: u8) -> bool {
+    for _turn in 0..count {
+        if put(supply) != Some(Event::Pass) || flash(supply) != Some(Event::Pass) {
+            return false;
+        }
+    }
+    true
+}
+
+/// A step, where it went as it says.
+fn told(is: bool, step: Step) -> Step {
+    if is { step } else { Step::Unknown }
+}
+
+/// Makes a call, and tells it with the answer that it got.
+fn made(supply: &mut Supply, step: Step) -> Step {
+    match step {
+        Step::Put(_) => match put(supply) {
+            Some(event) => Step::Put(event),
+            None => Step::Unknown,
+        },
+        Step::Flash(_) => match flash(supply) {
+            Some(event) => Step::Flash(event),
+            None => Step::Unknown,
+        },
+        Step::Pass(count) => told(pass(supply, count), step),
+        Step::PlanCut(k, g) if k >= 1 => {
+            supply.arm_cut(k, g);
+            step
+        }
+        Step::PlanBad(k, g) if k >= 1 => {
+            supply.arm_bad(k, g);
+            step
+        }
+        Step::CutNow if supply.powered() => {
+            supply.cut_now();
+            step
+        }
+        Step::PowerOn(_) if !supply.powered() => Step::PowerOn(supply.power_on()),
+        Step::IsOn(_) => Step::IsOn(supply.powered()),
+        Step::Lives(_) => Step::Lives(supply.lives()),
+        Step::Failed(_, _) => Step::Failed(supply.cuts(), supply.bads()),
+        _ => Step::Unknown,
+    }
+}
+
+/// Tests the calls of a supply that can return so often.
+fn check(rt: &impl Abort, name: &str, lives: u32, steps: &[Step]) {
+    let mut supply = Supply::new(lives);
+    for step in steps {
+        same(rt, &made(&mut supply, *step), step, name);
+    }
+}
+
+const BOTH_SPENT: [Step; 11] = [
+    Step::PlanBad(2, 5),
+    Step::PlanCut(3, 6),
+    Step::Flash(Event::Pass),
+    Step::Put(Event::Pass),
+    Step::Flash(Event::Cut(6)),
+    Step::Failed(1, 0),
+    Step::PowerOn(true),
+    Step::Flash(Event::Pass),
+    Step::Flash(Event::Pass),
+    Step::Flash(Event::Pass),
+    Step::Flash(Event::Pass),
+];
+
+const OVER_A_CUT: [Step; 13] = [
+    Step::PlanBad(2, 8),
+    Step::PlanCut(1, 3),
+    Step::Put(Event::Cut(3)),
+    Step::PowerOn(true),
+    Step::Flash(Event::Pass),
+    Step::PlanCut(2, 4),
+    Step::CutNow,
+    Step::PowerOn(true),
+    Step::Flash(Event::Bad(8)),
+    Step::Put(Event::Cut(4)),
+    Step::Failed(3, 1),
+    Step::PowerOn(false),
+    Step::IsOn(false),
+];
+
+const TWO_PLANS: [Step; 10] = [
+    Step::PlanCut(9, 1),
+    Step::PlanCut(4, 2),
+    Step::PlanBad(1, 3),
+    Step::Flash(Event::Bad(3)),
+    Step::Flash(Event::Pass),
+    Step::Flash(Event::Pass),
+    Step::Flash(Event::Cut(2)),
+    Step::PowerOn(true),
+    Step::Lives(4294967294),
+    Step::Pass(12),
+];
 
 #[test]
 fn cut_goes_before_bad_and_both_are_spent(rt: HostRuntime) {
-    let mut supply = Supply::new(1);
-    supply.arm_bad(2, 5);
-    supply.arm_cut(3, 6);
-    assert_eq!(rt; flash(&rt, &mut supply), Event::Pass);
-    assert_eq!(rt; put(&rt, &mut supply), Event::Pass);
-    assert_eq!(rt; flash(&rt, &mut supply), Event::Cut(6));
-    assert_eq!(rt; (supply.cuts(), supply.bads()), (1, 0));
-    assert!(rt; power_on(&rt, &mut supply));
-    for _turn in 0..4u8 {
-        assert_eq!(rt; flash(&rt, &mut supply), Event::Pass);
-    }
+    check(&rt, "cut goes before bad, both are spent", 1, &BOTH_SPENT);
 }
 
 #[test]
 fn plan_stands_over_a_cut_and_the_return_of_power(rt: HostRuntime) {
-    let mut supply = Supply::new(2);
-    supply.arm_bad(2, 8);
-    supply.arm_cut(1, 3);
-    assert_eq!(rt; put(&rt, &mut supply), Event::Cut(3));
-    assert!(rt; power_on(&rt, &mut supply));
-    assert_eq!(rt; flash(&rt, &mut supply), Event::Pass);
-    supply.arm_cut(2, 4);
-    assert!(rt; supply.powered());
-    supply.cut_now();
-    assert!(rt; power_on(&rt, &mut supply));
-    assert_eq!(rt; flash(&rt, &mut supply), Event::Bad(8));
-    assert_eq!(rt; put(&rt, &mut supply), Event::Cut(4));
-    assert_eq!(rt; (supply.cuts(), supply.bads()), (3, 1));
-    assert!(rt; !power_on(&rt, &mut supply));
-    assert!(rt; !supply.powered());
+    check(&rt, "plan stands over a cut", 2, &OVER_A_CUT);
 }
 
 #[test]
 fn each_of_two_plans_comes_once(rt: HostRuntime) {
-    let mut supply = Supply::new(4294967295);
-    supply.arm_cut(9, 1);
-    supply.arm_cut(4, 2);
-    supply.arm_bad(1, 3);
-    let wanted = [Event::Bad(3), Event::Pass, Event::Pass, Event::Cut(2)];
-    for event in wanted.as_slice() {
-        assert_eq!(rt; flash(&rt, &mut supply), *event);
-    }
-    assert!(rt; power_on(&rt, &mut supply));
-    assert_eq!(rt; supply.lives(), 4294967294);
-    for _turn in 0..12u8 {
-        assert_eq!(rt; put(&rt, &mut supply), Event::Pass);
-        assert_eq!(rt; flash(&rt, &mut supply), Event::Pass);
-    }
+    check(&rt, "each of two plans comes once", 4294967295, &TWO_PLANS);
 }
