@@ -1,0 +1,3 @@
+mod Drawers
+mod Numbered
+pub mod Alike
