@@ -21,6 +21,11 @@ pub enum OpenFault {
 }
 
 impl From<io::Error> for OpenFault {
+    ghost use Rattle.std.specs.IoError.{error_kind};
+    ghost use Rattle.envy_hostfile.specs.Faults.{fault_of};
+
+    ghost from_gives = { λ error fault. fault ≡ fault_of (error_kind error) };
+
     fn from(error: io::Error) -> Self {
         match error.kind() {
             ErrorKind::OutOfMemory => OpenFault::Memory,
@@ -30,6 +35,10 @@ impl From<io::Error> for OpenFault {
 }
 
 impl From<AllocError> for OpenFault {
+    ghost use Rattle.envy_hostfile.specs.declared.opening.OpenFault.TheVariants.{Memory};
+
+    ghost from_gives = { λ _ fault. fault ≡ Memory };
+
     fn from(_: AllocError) -> Self {
         OpenFault::Memory
     }
