@@ -17,5 +17,4 @@ pub mod RowLemmas
 pub mod ShadeLemmas
 pub mod StepLemmas
 pub mod StoreLemmas
-mod TickLemmas
 pub mod WearLemmas
