@@ -17,4 +17,5 @@ pub mod RowLemmas
 pub mod ShadeLemmas
 pub mod StepLemmas
 pub mod StoreLemmas
+mod TickLemmas
 pub mod WearLemmas

@@ -1,5 +1,6 @@
 use Rattle.std.proofs.Common.{◌≡◌, ◌*◌, ◌+◌, ◌/◌, ◌<◌, ◌≤◌, ◌∷◌, ◌++◌, [], ℕ, List, get_or, length, ap, ◌∙◌, sym, subst, arith}
 use Rattle.std.proofs.lemmas.Bool.{eqb-true, eqb-false}
+use Rattle.std.proofs.lemmas.Nat.{mul-add-lt}
 use Rattle.envy_base.specs.State.{IsBoard}
 use Rattle.envy_base.specs.declared.shape.Shape.{Shape}
 use Rattle.envy_map.specs.Fields.{chart}
@@ -75,3 +76,27 @@ returns-clause-lowest g c =
     let some = IsBoard.shape (g.met.B.Board.lawful c.args.board.now) in
     subst (λ (v : ℕ). AreLowestKept old.shape old.fields v c.loop-i.rows.items) own
     (Found-whole old s (s * c.shape.result.rows + c.loop-i.i) c.loop-i.rows.items c.requires.ready.sound (omega arith) end c.loop-i.invariant.few c.loop-i.invariant.found)
+
+pub returns-then-is_full-clause-rows : goal.returns-then-is_full-clause-rows
+returns-then-is_full-clause-rows g c = λ k d lt. c.loop-i.invariant.rows k d lt ∙ c.segment_at-segment.ensures.segment
+
+pub returns-clause-rows : goal.returns-clause-rows
+returns-clause-rows g c = λ k d lt. c.loop-i.invariant.rows k d lt ∙ c.segment_at-segment.ensures.segment
+
+pub keeper-requires-clause-row : goal.keeper-requires-clause-row
+keeper-requires-clause-row g c =
+    let n = (g.B.Board.state c.args.board.now).shape.rows in
+    let m = (g.B.Board.state c.args.board.now).shape.segments in
+    let s = c.segment_at-segment.result in
+    let shape : c.shape.result.rows ≡ n = ap (λ (sh : Shape). sh.rows) c.shape.ensures in
+    let pool : get_or c.args.parts.now.space.fills s 0 ≤ c.args.parts.now.space.shape.rows = c.fill-i-end.ensures.pool.fills_fit s in
+    let rows : c.args.parts.now.space.shape.rows ≡ n = ap (λ (sh : Shape). sh.rows) (Fits.pool c.requires.ready.fits) in
+    let segments : c.args.parts.now.space.shape.segments ≡ m = ap (λ (sh : Shape). sh.segments) (Fits.pool c.requires.ready.fits) in
+    let test = c.loop-i-test.true in
+    let fill = c.fill-i-end.ensures.fill in
+    let small : c.loop-i.i < n = omega (arith, pool, rows, test, fill) in
+    let own = c.segment_at-segment.ensures.segment in
+    let place = c.requires.position in
+    let at = c.segment_at-segment.ensures.pool.positions_fit c.args.position (omega (arith, segments, place)) in
+    let low : s < m = omega (arith, at, own, segments) in
+    rw shape (omega (arith, mul-add-lt s n c.loop-i.i m low small))

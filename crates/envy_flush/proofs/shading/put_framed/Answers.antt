@@ -9,7 +9,7 @@ use Rattle.envy_map.specs.Fields.{Fields, Chart, place, undo, slot}
 use Rattle.envy_map.specs.Writes.{with_undo}
 use Rattle.envy_base.specs.declared.fields.Undo.TheVariants.{Shadow}
 use Rattle.std.proofs.lemmas.List.{get_or-set_same}
-use Rattle.envy_layout.specs.Sound.{Sound, Slots}
+use Rattle.envy_layout.specs.Sound.{Sound, Slots, Places}
 use Rattle.envy_txn.specs.Owners.{AreOwned}
 use Rattle.envy_layout.specs.Same.{Same, SameWords, Stays, Framed, Counted}
 use Rattle.envy_table.proofs.HitLemmas.{Rests-refl}
@@ -157,3 +157,15 @@ returns-clause-owners g c =
     let done = c.in_ok-change_frame_word.ensures.writes.1 in
     let o = c.shadow.ensures.owners in
     record { limit = o.limit; agree = λ on. subst (λ (w : Chart). AreOwned w.fields.slots w.fields.undos c.shadow.new.owned.pairs) (sym done) (o.agree c.in_ok-shadow.ensures.shadows.2) }
+
+pub shadow-requires-clause-ready : goal.shadow-requires-clause-ready
+shadow-requires-clause-ready g c =
+    let steady = c.get_row.ensures.leaves.steady in
+    record { on = c.in_ok-row.ensures.power; sound = Stays.sound (Same.stays c.get_row.ensures.same); fits = steady.fits; agrees = steady.agrees c.in_ok-row.ensures.power }
+
+pub shadow-requires-clause-fresh : goal.shadow-requires-clause-fresh
+shadow-requires-clause-fresh g c = c.in_ok-row.ensures.gets.fresh
+
+pub shadow-requires-clause-frame : goal.shadow-requires-clause-frame
+shadow-requires-clause-frame g c =
+    Places.frames (Sound.places (Stays.sound (Same.stays c.get_row.ensures.same))) c.args.page c.args.frame ((c.get_row.ensures.keeps.here c.in_ok-row.ensures.power c.args.page c.args.frame).1 c.requires.here)
