@@ -1,89 +1,125 @@
 use crate::folder::is_named;
-use crate::{Folder, HostCalls, OpenFault, open};
+use crate::{Folder, HostCalls, HostFile, Names, OpenFault, open};
 use envy_device::{Device, Place};
 use std::cell::Cell;
+use std::fmt::Debug;
 use std::fs::{self, File, Metadata, OpenFile, Permissions};
 use std::io;
 use std::os::unix::fs::{FileExt, PermissionsExt};
-use std::test::Fail;
+use std::process::Abort;
 
 const PATH: &str = "envy_hostfile_test";
 
-#[test]
-fn a_file_is_locked_written_synced_and_read_again(rt: HostRuntime) -> Result<(), Fail> {
-    let _ = fs::remove_file(&rt, PATH);
-    let (mut file, bytes) = open(&rt, PATH, false)?;
-    assert!(rt; bytes.is_empty());
-    assert!(rt; matches!(open(&rt, PATH, false), Err(OpenFault::InUse)));
-    file.write_at(0, b"abcdef")?;
-    file.write_at(0, b"xy")?;
-    file.sync()?;
-    drop(file);
-    let (mut again, bytes) = open(&rt, PATH, false)?;
-    assert_eq!(rt; bytes.as_slice(), b"xycdef".as_slice());
-    again.cut(0)?;
-    again.sync()?;
-    drop(again);
-    assert_eq!(rt; fs::metadata(&rt, PATH)?.len(), 0);
-    fs::remove_file(&rt, PATH)?;
-    Ok(())
+// What a test asks of what it found. A text that is put together in an assertion costs a second of proof, so it stands
+// here, where it is proved once; and what ends a test by `expect` lets go of nothing.
+fn holds(rt: &impl Abort, is: bool, what: &str) {
+    assert!(rt; is, "{what}");
+}
+
+fn same<T: PartialEq + Debug>(rt: &impl Abort, found: &T, wanted: &T, what: &str) {
+    assert!(rt; found == wanted, "{what}: {found:?}, and not {wanted:?}");
+}
+
+fn same_bytes(rt: &impl Abort, found: &[u8], wanted: &[u8], what: &str) {
+    assert!(rt; found == wanted, "{what}: {found:?}, and not {wanted:?}");
+}
+
+// A file of the host, and its bytes.
+fn opened<'a>(
+    abort: &impl Abort,
+    rt: &'a HostRuntime,
+    path: &str,
+) -> (HostFile<File, Names<'a>>, Vec<u8>) {
+    open(rt, path, false).expect(abort, "not opened")
+}
+
+fn is_in_use(rt: &HostRuntime, path: &str) -> bool {
+    matches!(open(rt, path, false), Err(OpenFault::InUse))
+}
+
+// Writes bytes at the begin of a file, and syncs it.
+fn write_synced(rt: &impl Abort, file: &mut HostFile<File, Names<'_>>, bytes: &[u8]) {
+    file.write_at(0, bytes).expect(rt, "not written");
+    file.sync().expect(rt, "not synced");
+}
+
+// How many bytes a file has.
+fn length_of(abort: &impl Abort, rt: &HostRuntime, path: &str) -> u64 {
+    fs::metadata(rt, path).expect(abort, "no file").len()
+}
+
+fn access_of(abort: &impl Abort, rt: &HostRuntime, path: &str) -> u32 {
+    fs::metadata(rt, path).expect(abort, "no file").permissions().mode() & 0o777
+}
+
+fn remove(abort: &impl Abort, rt: &HostRuntime, path: &str) {
+    fs::remove_file(rt, path).expect(abort, "not removed");
 }
 
 #[test]
-fn a_second_file_takes_the_place(rt: HostRuntime) -> Result<(), Fail> {
-    let path = "envy_hostfile_second";
-    let _ = fs::remove_file(&rt, path);
-    fs::write(
-        &rt,
-        "envy_hostfile_second.envy-new",
-        b"left behind by a crash",
-    )?;
-    let (mut file, _) = open(&rt, path, false)?;
-    fs::set_permissions(&rt, path, Permissions::from_mode(0o640))?;
-    file.write_at(0, b"first")?;
-    file.sync()?;
-    let opened_before = File::open(&rt, path)?;
-    file.begin_second()?;
-    file.write_second(b"se")?;
-    file.write_second(b"cond")?;
-    file.replace()?;
-    assert!(rt; matches!(open(&rt, path, false), Err(OpenFault::InUse)));
-    assert!(rt; opened_before.try_lock().is_ok());
-    assert!(rt; !is_named(&rt, path, &opened_before)?);
-    file.write_at(6, b" file")?;
-    file.sync()?;
+fn a_file_is_locked_written_synced_and_read_again(rt: HostRuntime) {
+    let _ = fs::remove_file(&rt, PATH);
+    let (mut file, bytes) = opened(&rt, &rt, PATH);
+    holds(&rt, bytes.is_empty(), "a new file has no bytes");
+    holds(&rt, is_in_use(&rt, PATH), "it is in use");
+    file.write_at(0, b"abcdef").expect(&rt, "not written");
+    write_synced(&rt, &mut file, b"xy");
     drop(file);
-    let (again, bytes) = open(&rt, path, false)?;
-    assert_eq!(rt; bytes.as_slice(), b"second file".as_slice());
-    assert!(rt; fs::metadata(&rt, "envy_hostfile_second.envy-new").is_err());
-    assert_eq!(rt;
-        fs::metadata(&rt, path)?.permissions().mode() & 0o777,
-        0o640
-    );
+    let (mut again, bytes) = opened(&rt, &rt, PATH);
+    same_bytes(&rt, bytes.as_slice(), b"xycdef", "what is read again");
+    again.cut(0).expect(&rt, "not cut");
+    again.sync().expect(&rt, "not synced");
     drop(again);
-    fs::remove_file(&rt, path)?;
-    Ok(())
+    same(&rt, &length_of(&rt, &rt, PATH), &0, "bytes behind a cut");
+    remove(&rt, &rt, PATH);
+}
+
+#[test]
+fn a_second_file_takes_the_place(rt: HostRuntime) {
+    let path = "envy_hostfile_second";
+    let other = "envy_hostfile_second.envy-new";
+    let _ = fs::remove_file(&rt, path);
+    fs::write(&rt, other, b"left behind by a crash").expect(&rt, "not written");
+    let (mut file, _) = opened(&rt, &rt, path);
+    fs::set_permissions(&rt, path, Permissions::from_mode(0o640)).expect(&rt, "access not set");
+    write_synced(&rt, &mut file, b"first");
+    let opened_before = File::open(&rt, path).expect(&rt, "not opened");
+    file.begin_second().expect(&rt, "not made");
+    file.write_second(b"se").expect(&rt, "not written");
+    file.write_second(b"cond").expect(&rt, "not written");
+    file.replace().expect(&rt, "not replaced");
+    holds(&rt, is_in_use(&rt, path), "the second file is in use");
+    holds(&rt, opened_before.try_lock().is_ok(), "the first is let go");
+    let is_named = is_named(&rt, path, &opened_before).expect(&rt, "no names");
+    holds(&rt, !is_named, "the first has no name");
+    file.write_at(6, b" file").expect(&rt, "not written");
+    file.sync().expect(&rt, "not synced");
+    drop(file);
+    let (again, bytes) = opened(&rt, &rt, path);
+    same_bytes(&rt, bytes.as_slice(), b"second file", "what is read again");
+    holds(&rt, fs::metadata(&rt, other).is_err(), "no second file is left");
+    same(&rt, &access_of(&rt, &rt, path), &0o640, "access");
+    drop(again);
+    remove(&rt, &rt, path);
 }
 
 // A second file that another process has in use stays as it is.
 #[test]
-fn a_second_file_in_use_is_left(rt: HostRuntime) -> Result<(), Fail> {
+fn a_second_file_in_use_is_left(rt: HostRuntime) {
     let path = "envy_hostfile_used";
     let other = "envy_hostfile_used.envy-new";
     let _ = fs::remove_file(&rt, path);
     let _ = fs::remove_file(&rt, other);
-    let (mut in_use, _) = open(&rt, other, false)?;
-    in_use.write_at(0, b"kept")?;
-    in_use.sync()?;
-    let (mut file, _) = open(&rt, path, false)?;
-    assert!(rt; file.begin_second().is_err());
-    assert!(rt; file.sync().is_err());
-    assert_eq!(rt; fs::metadata(&rt, other)?.len(), 4);
+    let (mut in_use, _) = opened(&rt, &rt, other);
+    write_synced(&rt, &mut in_use, b"kept");
+    let (mut file, _) = opened(&rt, &rt, path);
+    holds(&rt, file.begin_second().is_err(), "no second file is begun");
+    holds(&rt, file.sync().is_err(), "the file has failed");
+    same(&rt, &length_of(&rt, &rt, other), &4, "bytes of the file in use");
     drop(file);
     drop(in_use);
-    fs::remove_file(&rt, path)?;
-    fs::remove_file(&rt, other)?;
-    Ok(())
+    remove(&rt, &rt, path);
+    remove(&rt, &rt, other);
 }
 
 // What is noted of the calls that end a batch or a second file, one digit for each.
@@ -190,6 +226,11 @@ fn failing_at(fails_at: u32) -> Slow {
     }
 }
 
+// What a file that fails at a call leaves is what it should.
+fn check<T: PartialEq + Debug>(rt: &impl Abort, at: u32, found: &T, wanted: &T, what: &str) {
+    assert!(rt; found == wanted, "at {at}: {what}: {found:?}, and not {wanted:?}");
+}
+
 // Whether a write, a sync, a cut and a further sync of a slow file are done.
 fn done_on(slow: &Slow) -> (bool, bool, bool, bool) {
     let mut file = HostCalls::found(slow, slow, &[], false);
@@ -201,7 +242,7 @@ fn done_on(slow: &Slow) -> (bool, bool, bool, bool) {
 
 // 7 bytes are 4 pieces, between which the file is interrupted once, and behind them a sync, a cut and a sync.
 #[test]
-fn a_write_goes_on_and_a_failure_ends_the_file(rt: HostRuntime) -> Result<(), Fail> {
+fn a_write_goes_on_and_a_failure_ends_the_file(rt: HostRuntime) {
     let table = [
         (0, 0, 0),
         (1, 2, 0),
@@ -214,15 +255,14 @@ fn a_write_goes_on_and_a_failure_ends_the_file(rt: HostRuntime) -> Result<(), Fa
         (8, 7, 212),
     ];
     for (fails_at, next, order) in table.as_slice() {
-        let fails_at = *fails_at;
-        let slow = failing_at(fails_at);
-        let wanted = (fails_at > 4, fails_at > 5, fails_at > 6, fails_at > 7);
-        assert_eq!(rt; done_on(&slow), wanted, "at {fails_at}");
-        assert!(rt; slow.is_straight.get());
-        assert_eq!(rt; slow.next.get(), *next, "at {fails_at}");
-        assert_eq!(rt; slow.order.get(), *order, "at {fails_at}");
+        let at = *fails_at;
+        let slow = failing_at(at);
+        let wanted = (at > 4, at > 5, at > 6, at > 7);
+        check(&rt, at, &done_on(&slow), &wanted, "what is done");
+        check(&rt, at, &slow.is_straight.get(), &true, "each write goes on");
+        check(&rt, at, &slow.next.get(), next, "bytes");
+        check(&rt, at, &slow.order.get(), order, "calls");
     }
-    Ok(())
 }
 
 // Whether the steps to a second file of a slow one are done, and a sync behind them.
@@ -238,7 +278,7 @@ fn replaced_on(slow: &Slow) -> ((bool, bool, bool, bool), bool) {
 // The second file is made, 3 bytes are 2 pieces with an interruption between, 2 bytes are one, and then the file is synced
 // and renamed, and the folder is synced.
 #[test]
-fn a_failure_at_any_call_on_the_second_file_ends_the_file(rt: HostRuntime) -> Result<(), Fail> {
+fn a_failure_at_any_call_on_the_second_file_ends_the_file(rt: HostRuntime) {
     let table = [
         (0, 0, 0),
         (1, 1, 0),
@@ -251,12 +291,11 @@ fn a_failure_at_any_call_on_the_second_file_ends_the_file(rt: HostRuntime) -> Re
         (9, 4, 3452),
     ];
     for (fails_at, passed, order) in table.as_slice() {
-        let passed = *passed;
-        let slow = failing_at(*fails_at);
+        let (at, passed) = (*fails_at, *passed);
+        let slow = failing_at(at);
         let wanted = (passed > 0, passed > 1, passed > 2, passed > 3);
-        assert_eq!(rt; replaced_on(&slow), (wanted, passed > 3), "at {fails_at}");
-        assert_eq!(rt; slow.order.get(), *order, "at {fails_at}");
-        assert!(rt; slow.is_straight.get());
+        check(&rt, at, &replaced_on(&slow), &(wanted, passed > 3), "what is done");
+        check(&rt, at, &slow.order.get(), order, "calls");
+        check(&rt, at, &slow.is_straight.get(), &true, "each write goes on");
     }
-    Ok(())
 }
