@@ -49,7 +49,11 @@ fn length_of(abort: &impl Abort, rt: &HostRuntime, path: &str) -> u64 {
 }
 
 fn access_of(abort: &impl Abort, rt: &HostRuntime, path: &str) -> u32 {
-    fs::metadata(rt, path).expect(abort, "no file").permissions().mode() & 0o777
+    fs::metadata(rt, path)
+        .expect(abort, "no file")
+        .permissions()
+        .mode()
+        & 0o777
 }
 
 fn remove(abort: &impl Abort, rt: &HostRuntime, path: &str) {
@@ -97,7 +101,11 @@ fn a_second_file_takes_the_place(rt: HostRuntime) {
     drop(file);
     let (again, bytes) = opened(&rt, &rt, path);
     same_bytes(&rt, bytes.as_slice(), b"second file", "what is read again");
-    holds(&rt, fs::metadata(&rt, other).is_err(), "no second file is left");
+    holds(
+        &rt,
+        fs::metadata(&rt, other).is_err(),
+        "no second file is left",
+    );
     same(&rt, &access_of(&rt, &rt, path), &0o640, "access");
     drop(again);
     remove(&rt, &rt, path);
@@ -115,7 +123,12 @@ fn a_second_file_in_use_is_left(rt: HostRuntime) {
     let (mut file, _) = opened(&rt, &rt, path);
     holds(&rt, file.begin_second().is_err(), "no second file is begun");
     holds(&rt, file.sync().is_err(), "the file has failed");
-    same(&rt, &length_of(&rt, &rt, other), &4, "bytes of the file in use");
+    same(
+        &rt,
+        &length_of(&rt, &rt, other),
+        &4,
+        "bytes of the file in use",
+    );
     drop(file);
     drop(in_use);
     remove(&rt, &rt, path);
@@ -228,7 +241,10 @@ fn failing_at(fails_at: u32) -> Slow {
 
 // What a file that fails at a call leaves is what it should.
 fn check<T: PartialEq + Debug>(rt: &impl Abort, at: u32, found: &T, wanted: &T, what: &str) {
-    assert!(rt; found == wanted, "at {at}: {what}: {found:?}, and not {wanted:?}");
+    assert!(rt;
+        found == wanted,
+        "at {at}: {what}: {found:?}, and not {wanted:?}"
+    );
 }
 
 // Whether a write, a sync, a cut and a further sync of a slow file are done.
@@ -259,7 +275,13 @@ fn a_write_goes_on_and_a_failure_ends_the_file(rt: HostRuntime) {
         let slow = failing_at(at);
         let wanted = (at > 4, at > 5, at > 6, at > 7);
         check(&rt, at, &done_on(&slow), &wanted, "what is done");
-        check(&rt, at, &slow.is_straight.get(), &true, "each write goes on");
+        check(
+            &rt,
+            at,
+            &slow.is_straight.get(),
+            &true,
+            "each write goes on",
+        );
         check(&rt, at, &slow.next.get(), next, "bytes");
         check(&rt, at, &slow.order.get(), order, "calls");
     }
@@ -294,8 +316,20 @@ fn a_failure_at_any_call_on_the_second_file_ends_the_file(rt: HostRuntime) {
         let (at, passed) = (*fails_at, *passed);
         let slow = failing_at(at);
         let wanted = (passed > 0, passed > 1, passed > 2, passed > 3);
-        check(&rt, at, &replaced_on(&slow), &(wanted, passed > 3), "what is done");
+        check(
+            &rt,
+            at,
+            &replaced_on(&slow),
+            &(wanted, passed > 3),
+            "what is done",
+        );
         check(&rt, at, &slow.order.get(), order, "calls");
-        check(&rt, at, &slow.is_straight.get(), &true, "each write goes on");
+        check(
+            &rt,
+            at,
+            &slow.is_straight.get(),
+            &true,
+            "each write goes on",
+        );
     }
 }
