@@ -1,10 +1,10 @@
 -- A bank before and after each call, by its chips.
-use Rattle.std.proofs.Common.{◌≡◌, ◌∙◌, ◌↔◌, IsTrue, Bool, ℕ, ◌+◌, ◌*◌, ◌<◌, ◌≤◌, List, ◌++◌, length, take, drop, get_or, set, replicate, refl, sym, ap, subst, arith}
+use Rattle.std.proofs.Common.{◌≡◌, ◌∙◌, ◌↔◌, IsTrue, Bool, ℕ, ◌+◌, ◌*◌, ◌<◌, ◌≤◌, List, [], ◌++◌, length, take, drop, get_or, set, replicate, refl, sym, ap, subst, arith}
 use Rattle.std.specs.List.{All}
 use Rattle.std.proofs.lemmas.List.{take_at, get_or_read, length-set, length-replicate}
 use Rattle.std.proofs.lemmas.Nat.{row_fits}
-use Rattle.envy_chip.specs.Commands.{ChipState, erased_chip, upset_at}
-use Rattle.envy_bank.specs.Lanes.{lane_of, row_from, lanes_at, rows_from, AreChips, anded, blanked, EachLane, LanesHold}
+use Rattle.envy_chip.specs.Commands.{ChipState, erased_chip, read_of, upset_at}
+use Rattle.envy_bank.specs.Lanes.{lane_of, row_from, lanes_at, rows_from, IsReady, AreChips, anded, blanked, EachLane, LanesHold}
 use Rattle.envy_bank.specs.Rows.{BankState, IsPage, IsBank, ErasesBlock, ands, row_of, with_row, erased_bank, up}
 use Rattle.envy_bank.proofs.BankLaws.{length-rows_from, get_or-rows_from, AreChips-made, IsBank-made, row_from_held}
 use Rattle.envy_bank.proofs.ProgramLaw.{AreLanes-programmed, AreLanes-upset, rows_from-programmed, rows_from-upset}
@@ -36,6 +36,25 @@ pub read_of_word : (chips slice : List ChipState) (rows : ℕ) (erases : List �
 read_of_word chips slice rows erases s q i r is same lt read =
     let low = in_range chips rows erases s q is lt in
     read ∙ ap (λ cs. get_or (row_from (lanes_at cs q)) i 0) same ∙ ap (λ row. get_or row i 0) (sym (get_or-rows_from chips (length erases * rows) q low)) ∙ ap (λ (t : BankState). get_or (row_of t q) i 0) is
+
+-- the chip of a lane has the address of a row
+pub lane_addr : (chips : List ChipState) (chip : ChipState) (rows : ℕ) (erases : List ℕ) (s : BankState) (q j : ℕ) → state chips rows erases ≡ s → AreChips (length erases) rows chips → q < length s.flash → j < 256
+    → chip ≡ get_or chips j chip → q < length chip.bytes
+lane_addr chips chip rows erases s q j is are lt low here =
+    let within : j < length chips = (let count = are.wired.count in omega arith) in
+    subst (λ (c : ChipState). q < length c.bytes) (sym here) (has_addr chips chips rows erases q refl are (in_range chips rows erases s q is lt) j chip within)
+
+-- what it gives there is its lane of the row
+pub lane_read : (chips : List ChipState) (chip : ChipState) (rows : ℕ) (erases : List ℕ) (s : BankState) (q j r : ℕ) → state chips rows erases ≡ s → AreChips (length erases) rows chips → q < length s.flash → j < 256
+    → chip ≡ get_or chips j chip → r ≡ read_of chip q → r ≡ lane_of (row_of s q) j
+lane_read chips chip rows erases s q j r is are lt low here read =
+    let at : q < length erases * rows = in_range chips rows erases s q is lt in
+    let within : j < length chips = (let count = are.wired.count in omega arith) in
+    let ready : IsReady chip = subst IsReady (sym here) (are.wired.ready j chip within) in
+    let held : get_or chip.bytes q 0 ≡ lane_of (get_or (rows_from chips (length erases * rows)) q []) j =
+    subst (λ (c : ChipState). get_or c.bytes q 0 ≡ lane_of (get_or (rows_from chips (length erases * rows)) q []) j) (sym here) (are.lanes q at j chip within) in
+    let given : read_of chip q ≡ get_or chip.bytes q 0 = rw ready.mode refl in
+    read ∙ given ∙ held ∙ ap (λ (t : BankState). lane_of (row_of t q) j) is
 
 pub IsBank-seen : (chips : List ChipState) (rows : ℕ) (erases : List ℕ) (s : BankState) → state chips rows erases ≡ s → AreChips (length erases) rows chips → IsBank s
 IsBank-seen chips rows erases s is are = subst IsBank is (IsBank-made chips rows erases are)

@@ -1,4 +1,5 @@
 ghost use Rattle.std.specs.Prelude.{◌≡◌, ◌*◌, ◌<◌, ◌≤◌, ◌↔◌, IsTrue, IfOk, length, slice_index};
+ghost use Rattle.envy_bank.specs.Lanes.{lane_of};
 ghost use Rattle.envy_bank.specs.Rows.{IsBank, ErasesBlock, ands, erased_bank, row_of, with_row};
 
 use crate::bank::NoMemory;
@@ -8,11 +9,8 @@ use envy_chip::Chip;
 use std::alloc::Global;
 use std::marker::Model;
 
-#[cfg(test)]
-mod tests;
-
 /// A bank of 256 chips, each driven by the bytes that are written to it. Its calls have the contracts of
-/// `Bank`.
+/// `Bank`, but for `lane`, which tells what one chip gives.
 #[derive(Drop)]
 pub struct ChipBank {
     chips: Vec<Chip>,
@@ -77,6 +75,16 @@ impl ChipBank {
         ensures whole { IsBank self.now }
     {
         read_lanes(&self.chips, row, i as usize)
+    }
+
+    /// The byte of a row that the chip `lane` gives: byte `lane % 8` of word `lane / 8`, the least significant byte first.
+    pub fn lane(&self, row: u32, lane: u32) -> u8
+        requires row { row < length self.now.flash }
+        requires lane { lane < 256 }
+        ensures byte { result ≡ lane_of (row_of self.now row) lane }
+        ensures whole { IsBank self.now }
+    {
+        self.chips[lane as usize].read(row)
     }
 
     /// How often a block was erased.

@@ -11,8 +11,6 @@ mod counting;
 mod kept;
 mod lanes;
 mod laws;
-#[cfg(test)]
-mod tests;
 
 pub use bank::{Bank, NoMemory};
 pub use chip_bank::ChipBank;

@@ -26,28 +26,3 @@ impl Area {
             && history + 4 * area.transfers as u128 <= 32 * pages as u128
     }
 }
-
-#[cfg(test)]
-mod tests {
-    use super::*;
-
-    // 8,012 words of balances and 4 for each transfer, in 12,288 words
-    #[test]
-    fn the_records_fit_to_the_last_word(rt: HostRuntime) {
-        for (branches, accounts, transfers, wanted) in [
-            (1, 8000, 1000, true),
-            (1, 8000, 1069, true),
-            (1, 8000, 1070, false),
-            (0, 8000, 0, false),
-            (1, 0, 0, false),
-            (u32::MAX, u32::MAX, u32::MAX, false),
-        ] {
-            let area = Area {
-                branches,
-                accounts,
-                transfers,
-            };
-            assert_eq!(rt; area.fits(384), wanted, "at {area:?}");
-        }
-    }
-}

@@ -4,9 +4,6 @@ ghost use Rattle.envy_chip.specs.Commands.{erased_chip, commanded, programmed, c
 use std::alloc::{AllocError, Global};
 use std::marker::Model;
 
-#[cfg(test)]
-mod tests;
-
 /// Want of memory.
 pub type NoMemory = AllocError;
 

@@ -6,9 +6,6 @@ use crate::text::{push_number, push_text};
 use arrayvec::ArrayVec;
 use envy_base::Counts;
 
-#[cfg(test)]
-mod tests;
-
 /// The cost of cleaning in hundredths: how many pages the cleaner wrote for 100 pages flushed, rounded
 /// down, and 0 where none was flushed. The cleaning cost of the paper, times 100.
 pub fn cost(counts: &Counts) -> u128

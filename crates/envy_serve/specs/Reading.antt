@@ -5,8 +5,8 @@ use Rattle.envy_io.specs.Lines.{NoNewline, lines_of, spelled}
 use Rattle.envy_io.specs.Streams.{Feed, Rises, IsDry, with_front}
 use Rattle.envy_io.specs.Taking.{Taking, HasGiven}
 use Rattle.envy_trace.specs.declared.fault.LineFault.{LineFault}
-use Rattle.envy_serve.specs.declared.fetch.Stop.{Stop}
-use Rattle.envy_serve.specs.declared.fetch.Stop.TheVariants.{Finished, Refused, Failed, Spent}
+use Rattle.envy_serve.specs.declared.fetching.Stop.{Stop}
+use Rattle.envy_serve.specs.declared.fetching.Stop.TheVariants.{Finished, Refused, Failed, Spent}
 
 -- the bytes taken from the source, behind those skipped, gave these pieces, each of which said its line
 pub record HasRead {Line : Type 0} (reads : List ℕ → Result Line LineFault) (skipped : ℕ) (from feed : Feed) (reader : Taking) (lines : List Line) : Type 0 where

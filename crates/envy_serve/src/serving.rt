@@ -4,14 +4,11 @@ ghost use Rattle.envy_serve.specs.Streams.{streams_of};
 ghost use Rattle.envy_serve.specs.Turns.{Turn};
 ghost use Rattle.envy_serve.specs.Concludes.{Closes, Concludes};
 
-use crate::fetch::{Stop, fetch};
+use crate::fetching::{Stop, fetch};
 use crate::{Obeyed, Service};
 use arrayvec::ArrayVec;
 use envy_io::{Failed, Lines, Sink, Source};
 use envy_trace::LineFault;
-
-#[cfg(test)]
-mod tests;
 
 /// The bytes taken at most.
 pub const MOST_BYTES: u64 = 1_099_511_627_776;
@@ -54,8 +51,9 @@ fn close<V: Service, K: Sink>(service: &V, sink: &mut K) -> Result<(), Failed>
     sink.flush()
 }
 
-/// How serving ends where no further line comes.
-fn conclude<V: Service, K: Sink>(service: &V, stop: Stop, sink: &mut K) -> End
+/// How serving ends where no further line comes. Behind the last line of a source that was read to its end stands what the
+/// service writes behind all replies, and the sink is flushed.
+pub fn conclude<V: Service, K: Sink>(service: &V, stop: Stop, sink: &mut K) -> End
     ensures { Concludes stop result (V.tail service.now) (K.drain sink.old) (K.drain sink.new) }
 {
     match stop {

@@ -12,9 +12,6 @@ use envy_map::place;
 use std::alloc::Global;
 use std::marker::Model;
 
-#[cfg(test)]
-mod tests;
-
 /// A cache of places of pages, which counts its hits and misses.
 #[derive(Drop)]
 pub struct Cache {

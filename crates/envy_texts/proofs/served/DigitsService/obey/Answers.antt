@@ -3,7 +3,7 @@ use Rattle.std.specs.Prelude.{Result, Ok, Err}
 use Rattle.envy_io.specs.declared.source.Failed.{Failed}
 use Rattle.envy_io.specs.Streams.{Drain, WritesAll}
 use Rattle.envy_serve.specs.Streams.{Written, FrontWritten}
-use Rattle.envy_serve.proofs.serving.tests.DigitsService.obey.Goals as goal
+use Rattle.envy_texts.proofs.served.DigitsService.obey.Goals as goal
 
 wrote : (old new : Drain) (piece : List ℕ) (done : Unit) → WritesAll old piece (Ok done) new → Written piece old new
 wrote old new piece done (whole, faults, after) = record { whole = whole; faults = faults }

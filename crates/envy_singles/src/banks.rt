@@ -1,9 +1,11 @@
+//! A bank of rows and a bank of chips, to which the same is done.
+
 ghost use Rattle.std.specs.Prelude.{◌≡◌, ◌<◌, length};
 
-use super::*;
+use crate::told::{same_at, same_within};
+use envy_bank::{Bank, ChipBank};
 use std::alloc::Global;
 use std::process::Abort;
-use std::test::Fail;
 
 /// A bank of rows and a bank of chips, each of 3 blocks of 4 rows, to which the same is done.
 #[derive(Drop)]
@@ -17,11 +19,11 @@ struct Both {
 }
 
 impl Both {
-    fn new(alloc: Global) -> Result<Both, NoMemory> {
-        Ok(Both {
-            rows: Bank::new(alloc, 3, 4)?,
-            chips: ChipBank::new(alloc, 3, 4)?,
-        })
+    fn new(rt: &impl Abort, alloc: Global) -> Both {
+        Both {
+            rows: Bank::new(alloc, 3, 4).expect(rt, "no room for rows"),
+            chips: ChipBank::new(alloc, 3, 4).expect(rt, "no room for chips"),
+        }
     }
 
     fn program(&mut self, row: u32, page: &[u64; 32]) -> (bool, bool)
@@ -94,47 +96,75 @@ fn assert_same(rt: &impl Abort, both: &Both) {
     for row in 0..12 {
         for i in 0..32 {
             let (word, by_chips) = both.read(row, i);
-            assert_eq!(rt; word, by_chips, "word {i} of row {row}");
+            same_within(rt, &word, &by_chips, ("word", i), ("row", row));
         }
     }
     for block in 0..3 {
         let (count, by_chips) = both.erases(block);
-        assert_eq!(rt; count, by_chips, "erases of block {block}");
+        same_at(rt, &count, &by_chips, "erases of block", block as u64);
+    }
+}
+
+/// Does what is drawn to both, in the turn of this number.
+fn disturb(rt: &impl Abort, both: &mut Both, numbers: &mut Numbers, turn: u64) {
+    match numbers.below(8) {
+        0 => both.erase(numbers.below(3)),
+        1 => {
+            let page = numbers.page();
+            both.upset(numbers.below(12), &page);
+        }
+        _ => {
+            let page = numbers.page();
+            let (held, by_chips) = both.program(numbers.below(12), &page);
+            same_at(rt, &held, &by_chips, "held in turn", turn);
+        }
     }
 }
 
 #[test]
-fn rows_and_chips_answer_the_same(rt: HostRuntime) -> Result<(), Fail> {
-    let mut both = Both::new(rt.alloc())?;
+fn rows_and_chips_answer_the_same(rt: HostRuntime) {
+    let mut both = Both::new(&rt, rt.alloc());
     let mut numbers = Numbers(2463534242);
     for turn in 0..500 {
-        match numbers.below(8) {
-            0 => both.erase(numbers.below(3)),
-            1 => {
-                let page = numbers.page();
-                both.upset(numbers.below(12), &page);
-            }
-            _ => {
-                let page = numbers.page();
-                let (held, by_chips) = both.program(numbers.below(12), &page);
-                assert_eq!(rt; held, by_chips, "in turn {turn}");
-            }
-        }
+        disturb(&rt, &mut both, &mut numbers, turn);
         assert_same(&rt, &both);
     }
-    Ok(())
 }
 
 #[test]
-fn a_new_bank_is_erased(rt: HostRuntime) -> Result<(), Fail> {
-    let both = Both::new(rt.alloc())?;
+fn a_new_bank_is_erased(rt: HostRuntime) {
+    let both = Both::new(&rt, rt.alloc());
     for block in 0..3 {
-        assert_eq!(rt; both.erases(block), (0, 0));
+        let found = both.erases(block);
+        same_at(&rt, &found, &(0, 0), "erases of block", block as u64);
     }
     for row in 0..12 {
         for i in 0..32 {
-            assert_eq!(rt; both.read(row, i), (u64::MAX, u64::MAX));
+            let found = both.read(row, i);
+            same_within(
+                &rt,
+                &found,
+                &(u64::MAX, u64::MAX),
+                ("word", i),
+                ("row", row),
+            );
         }
     }
-    Ok(())
+}
+
+/// The bytes of this word, the lowest first.
+const WORD: u64 = 72623859790382856;
+
+const LANES: [u8; 8] = [8, 7, 6, 5, 4, 3, 2, 1];
+
+#[test]
+fn the_lowest_byte_of_a_word_is_in_its_first_lane(rt: HostRuntime) {
+    let mut bank = ChipBank::new(rt.alloc(), 1, 2).expect(&rt, "no room for chips");
+    let mut page = [0; 32];
+    page[0] = WORD;
+    bank.program_row(0, &page);
+    for lane in 0..8 {
+        let found = bank.lane(0, lane);
+        same_at(&rt, &found, &LANES[lane as usize], "lane", lane as u64);
+    }
 }
