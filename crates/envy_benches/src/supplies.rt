@@ -1,6 +1,6 @@
 //! The supply of power: its plans and its lives, the words of a torn page, and SRAM that it keeps.
 
-use crate::told::{same, same_at};
+use crate::told::{holds_at, same, same_at};
 use envy_power::{Event, Sram, Supply, Torn};
 use std::process::Abort;
 
@@ -58,7 +58,7 @@ fn new_sram_is_zeros_and_keeps_what_is_put(rt: HostRuntime) {
 }
 
 /// A call of a supply, and its answer.
-#[derive(Clone, Copy, Debug, PartialEq)]
+#[derive(Clone, Copy)]
 enum Step {
     Put(Event),
     Flash(Event),
@@ -75,8 +75,6 @@ enum Step {
     Lives(u32),
     /// Failures of power and bad operations.
     Failed(u64, u64),
-    /// The call may not be made now.
-    Unknown,
 }
 
 fn put(supply: &mut Supply) -> Option<Event> {
@@ -105,48 +103,31 @@ fn pass(supply: &mut Supply, count: u8) -> bool {
     true
 }
 
-/// A step, where it went as it says.
-fn told(is: bool, step: Step) -> Step {
-    if is { step } else { Step::Unknown }
-}
-
-/// Makes a call, and tells it with the answer that it got.
-fn made(supply: &mut Supply, step: Step) -> Step {
+/// Makes a call, and tests that it is answered as it says.
+fn check_step(rt: &impl Abort, supply: &mut Supply, name: &str, at: u64, step: Step) {
     match step {
-        Step::Put(_) => match put(supply) {
-            Some(event) => Step::Put(event),
-            None => Step::Unknown,
-        },
-        Step::Flash(_) => match flash(supply) {
-            Some(event) => Step::Flash(event),
-            None => Step::Unknown,
-        },
-        Step::Pass(count) => told(pass(supply, count), step),
-        Step::PlanCut(k, g) if k >= 1 => {
-            supply.arm_cut(k, g);
-            step
+        Step::Put(event) => same_at(rt, &put(supply), &Some(event), name, at),
+        Step::Flash(event) => same_at(rt, &flash(supply), &Some(event), name, at),
+        Step::Pass(count) => holds_at(rt, pass(supply, count), name, at),
+        Step::PlanCut(k, g) if k >= 1 => supply.arm_cut(k, g),
+        Step::PlanBad(k, g) if k >= 1 => supply.arm_bad(k, g),
+        Step::CutNow if supply.powered() => supply.cut_now(),
+        Step::PowerOn(is) if !supply.powered() => same_at(rt, &supply.power_on(), &is, name, at),
+        Step::IsOn(is) => same_at(rt, &supply.powered(), &is, name, at),
+        Step::Lives(lives) => same_at(rt, &supply.lives(), &lives, name, at),
+        Step::Failed(cuts, bads) => {
+            same_at(rt, &(supply.cuts(), supply.bads()), &(cuts, bads), name, at);
         }
-        Step::PlanBad(k, g) if k >= 1 => {
-            supply.arm_bad(k, g);
-            step
-        }
-        Step::CutNow if supply.powered() => {
-            supply.cut_now();
-            step
-        }
-        Step::PowerOn(_) if !supply.powered() => Step::PowerOn(supply.power_on()),
-        Step::IsOn(_) => Step::IsOn(supply.powered()),
-        Step::Lives(_) => Step::Lives(supply.lives()),
-        Step::Failed(_, _) => Step::Failed(supply.cuts(), supply.bads()),
-        _ => Step::Unknown,
+        // the call may not be made now
+        _ => holds_at(rt, false, name, at),
     }
 }
 
-/// Tests the calls of a supply that can return so often.
+/// Tests the calls of a supply that can return so often; where one is answered otherwise, its number is told.
 fn check(rt: &impl Abort, name: &str, lives: u32, steps: &[Step]) {
     let mut supply = Supply::new(lives);
-    for step in steps {
-        same(rt, &made(&mut supply, *step), step, name);
+    for i in 0..steps.len() {
+        check_step(rt, &mut supply, name, i as u64, steps[i]);
     }
 }
 

@@ -7,7 +7,7 @@ ghost use Rattle.envy_layout.specs.Sound.{IsSound};
 ghost use Rattle.envy_bench.specs.Board.{board_state};
 
 use crate::facts::page_of;
-use crate::told::{other, same, same_of};
+use crate::told::{other, same_at};
 use envy_audit::{Audit, Verdict};
 use envy_base::{Board, Job, Off, Place, Shape, Slot, Trouble, Undo};
 use envy_bench::MemBoard;
@@ -69,47 +69,71 @@ const ROWS_OF_EACH_KIND: [Write; 19] = [
     Write::InFrame(4, 1),
 ];
 
-/// Makes a write, and tells whether the board has what it names.
-fn make<B: Board>(board: &mut B, write: Write) -> Result<bool, Trouble> {
+/// Claims a row for a page, and programs the page of a number into it, if the board has both.
+fn write_row<B: Board>(
+    board: &mut B,
+    row: u32,
+    page: u32,
+    number: u32,
+) -> Option<Result<(), Trouble>> {
     let shape = board.shape();
-    match write {
-        Write::Row(row, page, number) if row < shape.segments * shape.rows && page < shape.pages =>
-            {
-                set_back(board, row, page)?;
-                board.program(row, &page_of(number))?;
-            }
-        Write::Fill(segment, rows) if segment < shape.segments && rows <= shape.rows => {
-            set_fill(board, segment, rows)?;
-        }
-        Write::Frame(frame, number) if frame < shape.frames => {
-            write_frame(board, frame, &page_of(number))?;
-        }
-        Write::InRow(page, row) if page < shape.pages && row < 24 => {
-            set_place(board, page, Place::Row(row))?;
-        }
-        Write::InFrame(page, frame) if page < shape.pages && frame < 2 => {
-            set_place(board, page, Place::Frame(frame))?;
-        }
-        Write::Shadow(page, row) if page < shape.pages && row < 24 => {
-            set_undo(board, page, Undo::Shadow { slot: 0, row })?;
-        }
-        Write::Clear(page) if page < shape.pages => set_undo(board, page, Undo::Clear)?,
-        Write::Slot(state) => set_slot(board, 0, state)?,
-        _ => return Ok(false),
+    if row >= shape.segments * shape.rows || page >= shape.pages {
+        return None;
     }
-    Ok(true)
+    if let Err(Off) = set_back(board, row, page) {
+        return Some(Err(Trouble::Off));
+    }
+    Some(board.program(row, &page_of(number)))
 }
 
-/// Makes each of these writes, which are done; else the number of the one that isn't is told.
+/// Makes a write of SRAM; none where the board hasn't what it names.
+fn make_in_sram<B: Board>(board: &mut B, write: Write) -> Option<Result<(), Off>> {
+    let shape = board.shape();
+    match write {
+        Write::Fill(segment, rows) if segment < shape.segments && rows <= shape.rows => {
+            Some(set_fill(board, segment, rows))
+        }
+        Write::Frame(frame, number) if frame < shape.frames => {
+            Some(write_frame(board, frame, &page_of(number)))
+        }
+        Write::InRow(page, row) if page < shape.pages && row < 24 => {
+            Some(set_place(board, page, Place::Row(row)))
+        }
+        Write::InFrame(page, frame) if page < shape.pages && frame < 2 => {
+            Some(set_place(board, page, Place::Frame(frame)))
+        }
+        Write::Shadow(page, row) if page < shape.pages && row < 24 => {
+            Some(set_undo(board, page, Undo::Shadow { slot: 0, row }))
+        }
+        Write::Clear(page) if page < shape.pages => Some(set_undo(board, page, Undo::Clear)),
+        Write::Slot(state) => Some(set_slot(board, 0, state)),
+        _ => None,
+    }
+}
+
+/// Makes a write, which is done; else its number is told.
+fn make<B: Board>(rt: &impl Abort, board: &mut B, at: u64, write: Write) {
+    if let Write::Row(row, page, number) = write {
+        let found = write_row(board, row, page, number);
+        same_at(rt, &found, &Some(Ok(())), "write", at);
+    } else {
+        let found = make_in_sram(board, write);
+        same_at(rt, &found, &Some(Ok(())), "write", at);
+    }
+}
+
+/// Makes each of these writes.
 fn make_all<B: Board>(rt: &impl Abort, board: &mut B, writes: &[Write]) {
     for i in 0..writes.len() {
-        same_of(rt, &make(board, writes[i]), &Ok(true), "write", &i);
+        make(rt, board, i as u64, writes[i]);
     }
 }
 
 /// Lays rows of each kind on a new board.
 pub(crate) fn lay<B: Board>(rt: &impl Abort, board: &mut B) {
-    same(rt, &format_board(board), &Ok(()), "format");
+    if let Err(fault) = format_board(board) {
+        other(rt, "format", &fault);
+    }
     make_all(rt, board, &ROWS_OF_EACH_KIND);
 }
 

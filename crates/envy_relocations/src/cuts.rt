@@ -1,30 +1,20 @@
 //! A relocation that loses power at each of its operations: what is found then, and how it ends.
 
-use crate::facts::Fact::{At, Back, Fill, FillAtLeast, Keeps, Origin, Reads, Segment, Wear};
+use crate::facts::Fact::{At, Back, Fill, FillAtLeast, Origin, Segment, Wear};
 use crate::facts::{Fact, holds};
 use crate::rig::Rig;
-use crate::steps::Step::{Finish, PlanCut, Run, Stands};
+use crate::steps::Step::{Finish, PlanCut, Run, Words};
 use crate::steps::{Step, check_steps};
-use crate::told::same_of;
+use crate::told::same_at;
 use envy_base::{Off, Place};
 use std::alloc::Global;
 use std::process::Abort;
 
 // The transaction is undone, so that loads read what a restart leaves.
-const WORDS: Step = Stands(&[
-    Reads(0, 1000),
-    Reads(1, 0),
-    Reads(2, 1200),
-    Reads(3, 1300),
-    Reads(4, 1400),
-    Reads(5, 1500),
-    Keeps(0, 1000),
-    Keeps(1, 0),
-    Keeps(2, 1200),
-    Keeps(3, 1300),
-    Keeps(4, 1400),
-    Keeps(5, 1500),
-]);
+const WORDS: Step = Words(
+    [1000, 0, 1200, 1300, 1400, 1500],
+    [1000, 0, 1200, 1300, 1400, 1500],
+);
 
 // The last operation of a relocation.
 const LAST: u32 = 26;
@@ -53,14 +43,9 @@ const LEFT: [(u64, Fact); 14] = [
 /// Tests which operations have been done, of so many that were written.
 fn check_left(rt: &impl Abort, rig: &Rig, written: u64) {
     for (operation, fact) in LEFT.as_slice() {
-        let found = holds(&rig.board, *fact);
-        same_of(
-            rt,
-            &found,
-            &Ok(written > *operation),
-            "cut",
-            &(*fact, written),
-        );
+        let found = (*operation, holds(&rig.board, *fact));
+        let wanted = (*operation, Ok(written > *operation));
+        same_at(rt, &found, &wanted, "written", written);
     }
 }
 

@@ -7,12 +7,8 @@ use envy_base::{Board, Job, Off, Place, Undo};
 use envy_map::{back, fill, frame_word, job, origin, place, segment_at, undo, wear};
 
 /// What may stand on a board.
-#[derive(Clone, Copy, Debug, PartialEq, Eq)]
+#[derive(Clone, Copy)]
 pub(crate) enum Fact {
-    /// Loads read this page as the page of this number.
-    Reads(u32, u32),
-    /// A restart leaves this page as the page of this number.
-    Keeps(u32, u32),
     /// A page is at this place, and has this undo.
     At(u32, Place),
     Undone(u32, Undo),
@@ -74,20 +70,41 @@ fn kept_place(now: Place, undo: Undo) -> Place {
     }
 }
 
-/// Whether a fact of a page holds.
-fn holds_of_page<B: Board>(board: &B, page: u32, fact: Fact) -> Result<bool, Off>
+/// Whether loads read this page as the page of this number.
+pub(crate) fn reads<B: Board>(board: &B, page: u32, number: u32) -> Result<bool, Off>
+    requires { IsSound (chart (B.state board.now)) }
+{
+    if page >= board.shape().pages {
+        return Ok(false);
+    }
+    let now = place(board, page)?;
+    is_page(board, now, number)
+}
+
+/// Whether a restart leaves this page as the page of this number.
+pub(crate) fn keeps<B: Board>(board: &B, page: u32, number: u32) -> Result<bool, Off>
     requires { IsSound (chart (B.state board.now)) }
 {
     if page >= board.shape().pages {
         return Ok(false);
     }
     let (now, undo) = (place(board, page)?, undo(board, page)?);
-    match fact {
-        Fact::Reads(_, number) => is_page(board, now, number),
-        Fact::Keeps(_, number) => is_page(board, kept_place(now, undo), number),
-        Fact::At(_, at) => Ok(now == at),
-        Fact::Undone(_, is) => Ok(undo == is),
-        _ => Ok(false),
+    is_page(board, kept_place(now, undo), number)
+}
+
+/// Whether this was found.
+fn is<T: PartialEq + Copy>(found: Result<T, Off>, wanted: &T) -> Result<bool, Off> {
+    match found {
+        Ok(found) => Ok(found == *wanted),
+        Err(Off) => Err(Off),
+    }
+}
+
+/// Whether so many were found, or more.
+fn is_at_least(found: Result<u32, Off>, least: u32) -> Result<bool, Off> {
+    match found {
+        Ok(found) => Ok(found >= least),
+        Err(Off) => Err(Off),
     }
 }
 
@@ -97,22 +114,19 @@ pub(crate) fn holds<B: Board>(board: &B, fact: Fact) -> Result<bool, Off>
 {
     let shape = board.shape();
     match fact {
-        Fact::Reads(page, _) | Fact::Keeps(page, _) | Fact::At(page, _) | Fact::Undone(page, _) => {
-            holds_of_page(board, page, fact)
-        }
-        Fact::Back(row, page) if row < shape.segments * shape.rows => Ok(back(board, row)? == page),
-        Fact::Origin(i, row) if i < shape.rows => Ok(origin(board, i)? == row),
-        Fact::Fill(segment, rows) if segment < shape.segments => Ok(fill(board, segment)? == rows),
+        Fact::At(page, at) if page < shape.pages => is(place(board, page), &at),
+        Fact::Undone(page, how) if page < shape.pages => is(undo(board, page), &how),
+        Fact::Back(row, page) if row < shape.segments * shape.rows => is(back(board, row), &page),
+        Fact::Origin(i, row) if i < shape.rows => is(origin(board, i), &row),
+        Fact::Fill(segment, rows) if segment < shape.segments => is(fill(board, segment), &rows),
         Fact::FillAtLeast(segment, rows) if segment < shape.segments => {
-            Ok(fill(board, segment)? >= rows)
+            is_at_least(fill(board, segment), rows)
         }
-        Fact::Wear(segment, count) if segment < shape.segments => Ok(
-            wear(board, segment)? == count,
-        ),
+        Fact::Wear(segment, count) if segment < shape.segments => is(wear(board, segment), &count),
         Fact::Segment(position, segment) if position < shape.segments - 1 => {
-            Ok(segment_at(board, position)? == segment)
+            is(segment_at(board, position), &segment)
         }
-        Fact::Works(now) => Ok(job(board)? == now),
+        Fact::Works(now) => is(job(board), &now),
         _ => Ok(false),
     }
 }

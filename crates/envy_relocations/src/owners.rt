@@ -1,4 +1,4 @@
-use crate::told::same_of;
+use crate::told::same_at;
 use envy_txn::Owned;
 use std::process::Abort;
 
@@ -6,7 +6,7 @@ use std::process::Abort;
 fn assert_none(rt: &impl Abort, owned: &Owned, room: bool, pages: &[u32]) {
     for page in pages {
         let found = (owned.room(), owned.count(), owned.owner(*page));
-        same_of(rt, &found, &(room, 0, None), "owner", page);
+        same_at(rt, &found, &(room, 0, None), "owner", *page as u64);
     }
 }
 

@@ -1,15 +1,15 @@
 //! What a test asks of a relocation, step by step, and what it is answered.
 
-use crate::facts::{Fact, holds};
+use crate::facts::{Fact, holds, keeps, reads};
 use crate::rig::Rig;
-use crate::told::{same, same_of};
+use crate::told::same_at;
 use envy_base::{Job, Off, Trouble};
 use envy_map::job;
 use envy_reloc::Phase;
 use std::process::Abort;
 
 /// A call, or what a test does to the board, and its answer.
-#[derive(Clone, Copy, Debug, PartialEq, Eq)]
+#[derive(Clone, Copy)]
 pub(crate) enum Step {
     /// Power is to fail at an operation from now, 1 for the next, or a flash operation is to be bad.
     PlanCut(u32, u64),
@@ -22,15 +22,27 @@ pub(crate) enum Step {
     Run(Result<bool, Off>),
     /// The moves, copies and erases that were begun.
     Counted(u64, u64, u64),
-    /// All of these stand.
-    Stands(&'static [Fact]),
+    /// The numbers of the pages that loads read, and of those that a restart leaves.
+    Words([u32; 6], [u32; 6]),
+    /// This stands on the board.
+    Stands(Fact),
 }
 
-/// Tests that each of these stands on the board.
-fn check_facts(rt: &impl Abort, rig: &Rig, name: &str, facts: &[Fact]) {
-    for fact in facts {
-        same_of(rt, &holds(&rig.board, *fact), &Ok(true), name, fact);
+/// Tests that loads read the pages of these numbers, and that a restart leaves those; else the page is told.
+fn check_words(rt: &impl Abort, rig: &Rig, name: &str, read: [u32; 6], kept: [u32; 6]) {
+    for page in 0..6 {
+        let number = read[page];
+        let found = (number, reads(&rig.board, page as u32, number));
+        same_at(rt, &found, &(number, Ok(true)), name, page as u64);
+        let number = kept[page];
+        let found = (number, keeps(&rig.board, page as u32, number));
+        same_at(rt, &found, &(number, Ok(true)), name, page as u64);
     }
+}
+
+/// Tests that this stands on the board.
+fn check_fact(rt: &impl Abort, rig: &Rig, name: &str, at: u64, fact: Fact) {
+    same_at(rt, &holds(&rig.board, fact), &Ok(true), name, at);
 }
 
 /// Does a step, and answers whether it was bad.
@@ -62,27 +74,28 @@ fn run(rt: &impl Abort, rig: &mut Rig) -> Result<bool, Off> {
     finish(rt, rig)
 }
 
-/// Makes a step, and tells it with the answer that it got.
-fn made(rt: &impl Abort, rig: &mut Rig, name: &str, step: Step) -> Step {
+/// Makes a step, and tests that it is answered as it says.
+fn check_step(rt: &impl Abort, rig: &mut Rig, name: &str, at: u64, step: Step) {
     match step {
         Step::PlanCut(k, g) => rig.plan_cut(rt, k, g),
         Step::PlanBad(k, g) => rig.plan_bad(rt, k, g),
-        Step::Begin(_) => return Step::Begin(rig.begin(rt)),
-        Step::Work(_) => return Step::Work(rig.work(rt)),
-        Step::Finish(_) => return Step::Finish(finish(rt, rig)),
-        Step::Run(_) => return Step::Run(run(rt, rig)),
-        Step::Counted(_, _, _) => {
+        Step::Begin(answer) => same_at(rt, &rig.begin(rt), &answer, name, at),
+        Step::Work(answer) => same_at(rt, &rig.work(rt), &answer, name, at),
+        Step::Finish(answer) => same_at(rt, &finish(rt, rig), &answer, name, at),
+        Step::Run(answer) => same_at(rt, &run(rt, rig), &answer, name, at),
+        Step::Counted(moved, copied, erased) => {
             let reloc = &rig.reloc;
-            return Step::Counted(reloc.moved(), reloc.copied(), reloc.erased());
+            let found = (reloc.moved(), reloc.copied(), reloc.erased());
+            same_at(rt, &found, &(moved, copied, erased), name, at);
         }
-        Step::Stands(facts) => check_facts(rt, rig, name, facts),
+        Step::Words(read, kept) => check_words(rt, rig, name, read, kept),
+        Step::Stands(fact) => check_fact(rt, rig, name, at, fact),
     }
-    step
 }
 
-/// Tests that each step is answered as it says.
+/// Tests that each step is answered as it says; else the step's number is told.
 pub(crate) fn check_steps(rt: &impl Abort, rig: &mut Rig, name: &str, steps: &[Step]) {
-    for step in steps {
-        same(rt, &made(rt, rig, name, *step), step, name);
+    for i in 0..steps.len() {
+        check_step(rt, rig, name, i as u64, steps[i]);
     }
 }

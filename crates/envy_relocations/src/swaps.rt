@@ -3,7 +3,7 @@ ghost use Rattle.envy_base.specs.Shape.{IsShape};
 ghost use Rattle.envy_map.specs.Fields.{chart};
 ghost use Rattle.envy_layout.specs.Sound.{IsSound};
 
-use crate::told::same_of;
+use crate::told::same_at;
 use envy_base::{Board, Off, Shape, Trouble};
 use envy_bench::MemBoard;
 use envy_layout::{format_board, raise_wear};
@@ -12,7 +12,7 @@ use std::alloc::Global;
 use std::process::Abort;
 
 /// What is done with the stages of a swap, or asked of them, and the answer.
-#[derive(Clone, Copy, Debug, PartialEq, Eq)]
+#[derive(Clone, Copy)]
 enum Turn {
     Start(Swap),
     Clear,
@@ -35,23 +35,21 @@ const TURNS: [Turn; 12] = [
     Turn::Next(None),
 ];
 
-/// Does this, and tells it with the answer.
-fn done(stages: &mut Stages, turn: Turn) -> Turn {
+/// Does this, and tests the answer; else the number of the turn is told.
+fn check_turn(rt: &impl Abort, stages: &mut Stages, at: u64, turn: Turn) {
     match turn {
         Turn::Start(swap) => stages.start(swap),
         Turn::Clear => stages.clear(),
-        Turn::Pending(_) => return Turn::Pending(stages.pending()),
-        Turn::Next(_) => return Turn::Next(stages.next()),
+        Turn::Pending(is) => same_at(rt, &stages.pending(), &is, "turn", at),
+        Turn::Next(position) => same_at(rt, &stages.next(), &position, "turn", at),
     }
-    turn
 }
 
 #[test]
 fn a_swap_has_three_stages(rt: HostRuntime) {
     let mut stages = Stages::new();
     for i in 0..TURNS.len() {
-        let turn = TURNS[i];
-        same_of(&rt, &done(&mut stages, turn), &turn, "turn", &i);
+        check_turn(&rt, &mut stages, i as u64, TURNS[i]);
     }
 }
 
@@ -90,7 +88,7 @@ fn wear_segment<B: Board>(board: &mut B, segment: u32, times: u32) -> Result<(),
 
 /// How often the segments of a new board were worn more, the limit, the erases since the last swap, and the swap that is
 /// due then.
-#[derive(Clone, Copy, Debug)]
+#[derive(Clone, Copy)]
 struct Due {
     more: [u32; 3],
     limit: u64,
@@ -106,8 +104,9 @@ fn found(rt: &impl Abort, alloc: Global, row: &Due) -> Option<Swap> {
     due(&board, row.limit, row.since).expect(rt, "no power")
 }
 
-fn check(rt: &impl Abort, alloc: Global, row: &Due) {
-    same_of(rt, &found(rt, alloc, row), &row.swap, "due", row);
+/// Tests the swap that is due, by the number of the row.
+fn check(rt: &impl Abort, alloc: Global, at: u64, row: &Due) {
+    same_at(rt, &found(rt, alloc, row), &row.swap, "due", at);
 }
 
 const SWAP: Swap = Swap { worn: 1, young: 0 };
@@ -136,8 +135,8 @@ const ABOVE: [Due; 3] = [
 
 #[test]
 fn a_swap_is_due_above_the_limit(rt: HostRuntime) {
-    for row in ABOVE.as_slice() {
-        check(&rt, rt.alloc(), row);
+    for i in 0..ABOVE.len() {
+        check(&rt, rt.alloc(), i as u64, &ABOVE[i]);
     }
 }
 
@@ -151,13 +150,14 @@ const LOWEST: [([u32; 3], Swap); 4] = [
 
 #[test]
 fn the_lowest_of_several_positions_is_swapped(rt: HostRuntime) {
-    for (more, swap) in LOWEST.as_slice() {
+    for i in 0..LOWEST.len() {
+        let (more, swap) = LOWEST[i];
         let row = Due {
-            more: *more,
+            more,
             limit: 1,
             since: 9,
-            swap: Some(*swap),
+            swap: Some(swap),
         };
-        check(&rt, rt.alloc(), &row);
+        check(&rt, rt.alloc(), i as u64, &row);
     }
 }

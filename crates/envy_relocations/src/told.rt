@@ -4,22 +4,17 @@
 use std::fmt::Debug;
 use std::process::Abort;
 
-/// Both are the same; else they are told, with the name.
-pub(crate) fn same<T: PartialEq + Debug>(rt: &impl Abort, found: &T, wanted: &T, name: &str) {
-    assert!(rt; found == wanted, "{name}: {found:?}, and not {wanted:?}");
-}
-
-/// Both are the same; else they are told, with the name and with what was asked.
-pub(crate) fn same_of<T: PartialEq + Debug, W: Debug>(
+/// Both are the same; else they are told, with the name and the number of what was asked.
+pub(crate) fn same_at<T: PartialEq + Debug>(
     rt: &impl Abort,
     found: &T,
     wanted: &T,
     name: &str,
-    what: &W,
+    at: u64,
 ) {
     assert!(rt;
         found == wanted,
-        "{name}: {what:?}: {found:?}, and not {wanted:?}"
+        "{name} {at}: {found:?}, and not {wanted:?}"
     );
 }
 

@@ -2,13 +2,13 @@
 
 use crate::session::{check_order, new_memory};
 use crate::steps::{Tested, revive};
+use crate::told::{holds_at, same_at};
 use envy_base::{Shape, Trouble};
 use envy_memory::{BeginFault, EndFault, PutFault, StoreFault};
 use envy_plain::{Plain, Refusal};
 use envy_policy::{Policy, Setup};
 use std::alloc::Global;
 use std::process::Abort;
-use std::test::Fail;
 
 const SMALL: Shape = Shape {
     segments: 6,
@@ -65,12 +65,31 @@ fn is_kept(memory: &Tested, plain: &Plain) -> bool {
 fn assert_same(rt: &impl Abort, memory: &mut Tested, plain: &Plain, name: &str) {
     assert!(rt; is_kept(memory, plain), "{name}");
     for a in 0..WORDS {
-        assert_eq!(rt;
-            memory.load(a).ok(),
-            plain.load(a).ok(),
-            "{name}: load of {a}"
+        same_at(
+            rt,
+            &memory.load(a).ok(),
+            &plain.load(a).ok(),
+            name,
+            a as u64,
         );
     }
+}
+
+/// The plain machine answers a call so. The number is the address, or the slot.
+fn stores(rt: &impl Abort, plain: &mut Plain, a: u32, w: u64, answer: Result<(), Refusal>) {
+    same_at(rt, &plain.store(a, w), &answer, "store", a as u64);
+}
+
+fn puts(rt: &impl Abort, plain: &mut Plain, t: u8, a: u32, w: u64, answer: Result<(), Refusal>) {
+    same_at(rt, &plain.put(t, a, w), &answer, "put", a as u64);
+}
+
+fn commits(rt: &impl Abort, plain: &mut Plain, t: u8, answer: Result<(), Refusal>) {
+    same_at(rt, &plain.commit(t), &answer, "commit", t as u64);
+}
+
+fn aborts(rt: &impl Abort, plain: &mut Plain, t: u8, answer: Result<(), Refusal>) {
+    same_at(rt, &plain.abort(t), &answer, "abort", t as u64);
 }
 
 /// Lets power return, and lets the plain machine make the call where a restart finds it done.
@@ -78,11 +97,11 @@ fn lose(rt: &impl Abort, memory: &mut Tested, plain: &mut Plain, call: Call) {
     for _ in 0..4 {
         revive(memory);
     }
-    assert!(rt; memory.powered());
+    holds_at(rt, memory.powered(), "restarts", 4);
     if !is_kept(memory, plain) {
         match call {
-            Call::Store(a, w) => assert_eq!(rt; plain.store(a, w), Ok(())),
-            Call::Commit(t) => assert_eq!(rt; plain.commit(t), Ok(())),
+            Call::Store(a, w) => stores(rt, plain, a, w, Ok(())),
+            Call::Commit(t) => commits(rt, plain, t, Ok(())),
             _ => panic!(rt; "a call is half done"),
         }
     }
@@ -91,9 +110,9 @@ fn lose(rt: &impl Abort, memory: &mut Tested, plain: &mut Plain, call: Call) {
 
 fn store(rt: &impl Abort, memory: &mut Tested, plain: &mut Plain, a: u32, w: u64) {
     match memory.store(a, w) {
-        Ok(()) => assert_eq!(rt; plain.store(a, w), Ok(())),
-        Err(StoreFault::Range) => assert_eq!(rt; plain.store(a, w), Err(Refusal::Range)),
-        Err(StoreFault::Held(u)) => assert_eq!(rt; plain.store(a, w), Err(Refusal::Held(u))),
+        Ok(()) => stores(rt, plain, a, w, Ok(())),
+        Err(StoreFault::Range) => stores(rt, plain, a, w, Err(Refusal::Range)),
+        Err(StoreFault::Held(u)) => stores(rt, plain, a, w, Err(Refusal::Held(u))),
         Err(StoreFault::Bad) => {}
         Err(StoreFault::Off) => lose(rt, memory, plain, Call::Store(a, w)),
     }
@@ -101,36 +120,40 @@ fn store(rt: &impl Abort, memory: &mut Tested, plain: &mut Plain, a: u32, w: u64
 
 fn put(rt: &impl Abort, memory: &mut Tested, plain: &mut Plain, t: u8, a: u32, w: u64) {
     match memory.put(t, a, w) {
-        Ok(()) => assert_eq!(rt; plain.put(t, a, w), Ok(())),
-        Err(PutFault::Range) => assert_eq!(rt; plain.put(t, a, w), Err(Refusal::Range)),
-        Err(PutFault::Closed) => assert_eq!(rt; plain.put(t, a, w), Err(Refusal::Closed)),
-        Err(PutFault::Held(u)) => assert_eq!(rt; plain.put(t, a, w), Err(Refusal::Held(u))),
-        Err(PutFault::Full) => assert_eq!(rt; plain.put(t, a, w), Err(Refusal::Full)),
+        Ok(()) => puts(rt, plain, t, a, w, Ok(())),
+        Err(PutFault::Range) => puts(rt, plain, t, a, w, Err(Refusal::Range)),
+        Err(PutFault::Closed) => puts(rt, plain, t, a, w, Err(Refusal::Closed)),
+        Err(PutFault::Held(u)) => puts(rt, plain, t, a, w, Err(Refusal::Held(u))),
+        Err(PutFault::Full) => puts(rt, plain, t, a, w, Err(Refusal::Full)),
         Err(PutFault::Bad) => {}
         Err(PutFault::Off) => lose(rt, memory, plain, Call::Put(t, a, w)),
     }
 }
 
 fn begin(rt: &impl Abort, memory: &mut Tested, plain: &mut Plain) {
-    match memory.begin() {
-        Ok(t) => assert_eq!(rt; plain.begin(), Ok(t)),
-        Err(BeginFault::Busy) => assert_eq!(rt; plain.begin(), Err(Refusal::Busy)),
-        Err(BeginFault::Off) => lose(rt, memory, plain, Call::Begin),
-    }
+    let wanted = match memory.begin() {
+        Ok(t) => Ok(t),
+        Err(BeginFault::Busy) => Err(Refusal::Busy),
+        Err(BeginFault::Off) => {
+            lose(rt, memory, plain, Call::Begin);
+            return;
+        }
+    };
+    same_at(rt, &plain.begin(), &wanted, "begin", 0);
 }
 
 fn commit(rt: &impl Abort, memory: &mut Tested, plain: &mut Plain, t: u8) {
     match memory.commit(t) {
-        Ok(()) => assert_eq!(rt; plain.commit(t), Ok(())),
-        Err(EndFault::Closed) => assert_eq!(rt; plain.commit(t), Err(Refusal::Closed)),
+        Ok(()) => commits(rt, plain, t, Ok(())),
+        Err(EndFault::Closed) => commits(rt, plain, t, Err(Refusal::Closed)),
         Err(EndFault::Off) => lose(rt, memory, plain, Call::Commit(t)),
     }
 }
 
 fn abort(rt: &impl Abort, memory: &mut Tested, plain: &mut Plain, t: u8) {
     match memory.abort(t) {
-        Ok(()) => assert_eq!(rt; plain.abort(t), Ok(())),
-        Err(EndFault::Closed) => assert_eq!(rt; plain.abort(t), Err(Refusal::Closed)),
+        Ok(()) => aborts(rt, plain, t, Ok(())),
+        Err(EndFault::Closed) => aborts(rt, plain, t, Err(Refusal::Closed)),
         Err(EndFault::Off) => lose(rt, memory, plain, Call::Abort(t)),
     }
 }
@@ -149,31 +172,40 @@ fn make(rt: &impl Abort, memory: &mut Tested, plain: &mut Plain, call: Call) {
     }
 }
 
-/// Calls under a policy, with cuts of power and bad operations between them; after each call every word is compared.
-fn run(rt: &impl Abort, alloc: Global, name: &str, policy: Policy, calls: u32) -> Result<(), Fail> {
-    SMALL.check()?;
+/// A drawn plan of a cut or of a bad operation, or none.
+fn plan(memory: &mut Tested, seed: &mut u64) {
+    match draw(seed) % 24 {
+        0 => memory.arm_cut(1 + draw(seed) % 60, 3),
+        1 => memory.arm_bad(1 + draw(seed) % 6, 5),
+        _ => {}
+    }
+}
+
+/// A drawn call of both, behind which every word is compared.
+fn check_call(rt: &impl Abort, memory: &mut Tested, plain: &mut Plain, name: &str, seed: &mut u64) {
+    plan(memory, seed);
+    let call = drawn_call(seed);
+    make(rt, memory, plain, call);
+    assert_same(rt, memory, plain, name);
+    check_order(rt, memory, name);
+}
+
+/// Calls under a policy, with cuts of power and bad operations between them.
+fn run(rt: &impl Abort, alloc: Global, name: &str, policy: Policy, calls: u32) {
     let setup = Setup {
         shape: SMALL,
         policy,
         limit: 2,
         mark: 2,
     };
-    let mut plain = Plain::new(alloc, &SMALL)?;
-    let mut memory = new_memory(rt, alloc, setup, u32::MAX)?;
+    SMALL.check().expect(rt, "the shape");
+    let mut plain = Plain::new(alloc, &SMALL).expect(rt, "no room for words");
+    let mut memory = new_memory(rt, alloc, setup, u32::MAX);
     let mut seed = 7;
     for _ in 0..calls {
-        match draw(&mut seed) % 24 {
-            0 => memory.arm_cut(1 + draw(&mut seed) % 60, 3),
-            1 => memory.arm_bad(1 + draw(&mut seed) % 6, 5),
-            _ => {}
-        }
-        let call = drawn_call(&mut seed);
-        make(rt, &mut memory, &mut plain, call);
-        assert_same(rt, &mut memory, &plain, name);
-        check_order(rt, &memory, name);
+        check_call(rt, &mut memory, &mut plain, name, &mut seed);
     }
     let _board = memory.into_board();
-    Ok(())
 }
 
 const POLICIES: [(&str, Policy); 5] = [
@@ -185,9 +217,8 @@ const POLICIES: [(&str, Policy); 5] = [
 ];
 
 #[test]
-fn memory_is_the_plain_machine(rt: HostRuntime) -> Result<(), Fail> {
+fn memory_is_the_plain_machine(rt: HostRuntime) {
     for (name, policy) in POLICIES.as_slice() {
-        run(&rt, rt.alloc(), name, *policy, 1500)?;
+        run(&rt, rt.alloc(), name, *policy, 1500);
     }
-    Ok(())
 }

@@ -1,5 +1,5 @@
 //! Formatting a board, attaching to it, and raising its version, with failures on the way.
-ghost use Rattle.std.specs.Prelude.{◌≡◌, ◌<◌, Err, OnOk, IfOk};
+ghost use Rattle.std.specs.Prelude.{◌≡◌, ◌<◌, ◌≤◌, Err, OnOk};
 ghost use Rattle.envy_map.specs.Fields.{chart};
 ghost use Rattle.envy_layout.specs.Sound.{IsSound};
 ghost use Rattle.envy_bench.specs.Board.{board_state};
@@ -11,6 +11,7 @@ use crate::session::{Session, check_all, check_from, check_part, formatted, new_
 use crate::setups::{COMMON, THREE_GREEDY};
 use crate::steps::Step::{Attach, Begin, Load, Put, Store};
 use crate::steps::{Step, Tested};
+use crate::told::same_at;
 use envy_base::{Bench, Board, Shape, Slot, Trouble, Undo};
 use envy_layout::{format_board_1, move_to_frame, own_page, set_unused_slot, write_free_frame};
 use envy_map::{is_formatted, words};
@@ -18,22 +19,24 @@ use envy_memory::{AttachFault, FormatFault, Memory, StoreFault};
 use envy_policy::Setup;
 use std::alloc::Global;
 use std::process::Abort;
-use std::test::Fail;
 
 const ANEW: [Session; 1] = [Session {
     name: "attaching puts back what an open transaction stored",
     setup: COMMON,
     lives: 0,
     parts: &[
-        &[Store(5, 1, Ok(())), Begin(Ok(0)), Put(0, 6, 2, Ok(()))],
-        &[Attach],
-        &[Load(5, Ok(1)), Load(6, Ok(0))],
+        (
+            1,
+            &[Store(5, 1, Ok(())), Begin(Ok(0)), Put(0, 6, 2, Ok(()))],
+        ),
+        (1, &[Attach]),
+        (1, &[Load(5, Ok(1)), Load(6, Ok(0))]),
     ],
 }];
 
 #[test]
-fn a_memory_is_attached_anew(rt: HostRuntime) -> Result<(), Fail> {
-    check_all(&rt, rt.alloc(), &ANEW)
+fn a_memory_is_attached_anew(rt: HostRuntime) {
+    check_all(&rt, rt.alloc(), &ANEW);
 }
 
 const FRAMES_ARE_FULL: [Step; 8] = [
@@ -53,24 +56,26 @@ const FIRST_FLUSH: Session = Session {
     setup: COMMON,
     lives: 0,
     parts: &[
-        &FRAMES_ARE_FULL,
-        &[
-            Store(256, 5, Err(StoreFault::Bad)),
-            Load(256, Ok(0)),
-            Store(256, 5, Ok(())),
-            Load(256, Ok(5)),
-        ],
+        (1, &FRAMES_ARE_FULL),
+        (
+            1,
+            &[
+                Store(256, 5, Err(StoreFault::Bad)),
+                Load(256, Ok(0)),
+                Store(256, 5, Ok(())),
+                Load(256, Ok(5)),
+            ],
+        ),
     ],
 };
 
 // Eight erases come first, so that the ninth flash operation is the program of the first flush.
 #[test]
-fn flush_that_fails_is_made_again(rt: HostRuntime) -> Result<(), Fail> {
-    let mut board = new_board(rt.alloc(), &COMMON, 0)?;
+fn flush_that_fails_is_made_again(rt: HostRuntime) {
+    let mut board = new_board(&rt, rt.alloc(), &COMMON, 0);
     board.arm_bad(9, 7);
     let memory = formatted(&rt, rt.alloc(), board, COMMON);
     check_from(&rt, rt.alloc(), memory, &FIRST_FLUSH);
-    Ok(())
 }
 
 /// The board that wasn't formatted, and why.
@@ -106,7 +111,7 @@ fn declined(
 }
 
 #[test]
-fn new_board_and_one_of_another_shape_are_declined(rt: HostRuntime) -> Result<(), Fail> {
+fn new_board_and_one_of_another_shape_are_declined(rt: HostRuntime) {
     let nine = Setup {
         shape: Shape {
             frames: 9,
@@ -114,18 +119,18 @@ fn new_board_and_one_of_another_shape_are_declined(rt: HostRuntime) -> Result<()
         },
         ..COMMON
     };
-    let board = new_board(rt.alloc(), &COMMON, 0)?;
+    let board = new_board(&rt, rt.alloc(), &COMMON, 0);
     let Ok(false) = is_formatted(&board) else {
         panic!(rt; "formatted");
     };
     let (board, fault) = declined(&rt, Memory::attach(rt.alloc(), board, COMMON));
-    assert_eq!(rt; fault, AttachFault::NotFormatted);
+    same_at(&rt, &fault, &AttachFault::NotFormatted, "attach", 1);
     let board = formatted(&rt, rt.alloc(), board, COMMON).into_board();
     let (board, fault) = declined(&rt, Memory::attach(rt.alloc(), board, nine));
-    assert_eq!(rt; fault, AttachFault::OtherShape { kept: COMMON.shape });
+    let other = AttachFault::OtherShape { kept: COMMON.shape };
+    same_at(&rt, &fault, &other, "attach", 2);
     let (_, fault) = refused(&rt, Memory::format(rt.alloc(), board, nine));
-    assert_eq!(rt; fault, FormatFault::OtherShape);
-    Ok(())
+    same_at(&rt, &fault, &FormatFault::OtherShape, "format", 3);
 }
 
 fn power_on(rt: &impl Abort, board: &mut OrderedBoard) -> bool {
@@ -134,25 +139,25 @@ fn power_on(rt: &impl Abort, board: &mut OrderedBoard) -> bool {
 }
 
 #[test]
-fn formatting_that_fails_leaves_a_board_that_is_not_formatted(rt: HostRuntime) -> Result<(), Fail> {
-    let mut board = new_board(rt.alloc(), &COMMON, 1)?;
+fn formatting_that_fails_leaves_a_board_that_is_not_formatted(rt: HostRuntime) {
+    let mut board = new_board(&rt, rt.alloc(), &COMMON, 1);
     board.arm_bad(1, 3);
     let (mut board, fault) = refused(&rt, Memory::format(rt.alloc(), board, COMMON));
-    assert_eq!(rt; fault, FormatFault::Bad);
-    assert_eq!(rt; board.get(0), Ok(0));
+    same_at(&rt, &fault, &FormatFault::Bad, "format", 1);
+    same_at(&rt, &board.get(0), &Ok(0), "word", 0);
     board.arm_cut(5, 2);
     let (mut board, fault) = refused(&rt, Memory::format(rt.alloc(), board, COMMON));
-    assert_eq!(rt; fault, FormatFault::Off);
+    same_at(&rt, &fault, &FormatFault::Off, "format", 2);
     assert!(rt; power_on(&rt, &mut board));
     let mut memory = formatted(&rt, rt.alloc(), board, COMMON);
     check_part(
         &rt,
         &mut memory,
         "formatting that was cut",
+        0,
         &[Load(0, Ok(0))],
     );
     let _board = memory.into_board();
-    Ok(())
 }
 
 /// Formats a board as version 1, and lets slot 0 put 2 into word 5, whose page was absent.
@@ -172,7 +177,7 @@ fn put_on_version_1<B: Board>(board: &mut B) -> Result<(), Trouble>
 
 fn put<B: Board>(rt: &impl Abort, board: &mut B, w: u32, v: u64) {
     assert!(rt; w < words(&board.shape()));
-    assert_eq!(rt; board.put(w, v), Ok(()));
+    same_at(rt, &board.put(w, v), &Ok(()), "put of word", w as u64);
 }
 
 fn get<B: Board>(rt: &impl Abort, board: &B, w: u32) -> u64 {
@@ -184,16 +189,16 @@ fn get<B: Board>(rt: &impl Abort, board: &B, w: u32) -> u64 {
 }
 
 /// A board of version 1 whose words of the slots that only version 2 has hold 9. Slot 0 has put 2 into word 5.
-fn board_of_version_1(rt: &impl Abort, alloc: Global) -> Result<OrderedBoard, Fail>
-    ensures { IfOk result (λ board. IsSound (chart (board_state board.inner))) }
+fn board_of_version_1(rt: &impl Abort, alloc: Global) -> OrderedBoard
+    ensures { IsSound (chart (board_state result.inner)) }
 {
-    let mut board = new_board(alloc, &COMMON, 1)?;
+    let mut board = new_board(rt, alloc, &COMMON, 1);
     for w in 24..72 {
         put(rt, &mut board, w, 9);
     }
     assert!(rt; board.shape().shadows > 0);
-    put_on_version_1(&mut board)?;
-    Ok(board)
+    put_on_version_1(&mut board).expect(rt, "version 1");
+    board
 }
 
 /// The memory that was attached to a board.
@@ -211,44 +216,46 @@ fn attached_again(rt: &impl Abort, alloc: Global, board: OrderedBoard) -> Tested
     requires { IsSound (chart (board_state board.inner)) }
 {
     let (mut board, fault) = declined(rt, Memory::attach(alloc, board, COMMON));
-    assert_eq!(rt; fault, AttachFault::Off);
+    same_at(rt, &fault, &AttachFault::Off, "attach", 1);
     assert!(rt; !board.powered());
     assert!(rt; board.power_on());
     attached(rt, alloc, board)
 }
 
+/// Tests an upgrade that is cut at this operation, if it has so many.
+fn check_upgrade(rt: &impl Abort, alloc: Global, k: u32)
+    requires { 1 ≤ k }
+{
+    let mut board = board_of_version_1(rt, alloc);
+    board.arm_cut(k, 1);
+    let mut memory = if k < 53 {
+        attached_again(rt, alloc, board)
+    } else {
+        attached(rt, alloc, board)
+    };
+    same_at(rt, &memory.load(5), &Ok(0), "load with", k as u64);
+    let board = memory.into_board();
+    let found = (get(rt, &board, 24), get(rt, &board, 1));
+    same_at(rt, &found, &(0, 2), "words with", k as u64);
+}
+
 #[test]
-fn upgrade_that_was_cut_is_made_again(rt: HostRuntime) -> Result<(), Fail> {
+fn upgrade_that_was_cut_is_made_again(rt: HostRuntime) {
     for k in 1..54 {
-        let mut board = board_of_version_1(&rt, rt.alloc())?;
-        board.arm_cut(k, 1);
-        let mut memory = if k < 53 {
-            attached_again(&rt, rt.alloc(), board)
-        } else {
-            attached(&rt, rt.alloc(), board)
-        };
-        assert_eq!(rt; memory.load(5), Ok(0), "with {k}");
-        let board = memory.into_board();
-        assert_eq!(rt;
-            (get(&rt, &board, 24), get(&rt, &board, 1)),
-            (0, 2),
-            "with {k}"
-        );
+        check_upgrade(&rt, rt.alloc(), k);
     }
-    Ok(())
 }
 
 // Behind 8 words of the header, 64 slots, 4 wears, 4 fills and 3 positions stand the places of three pages in two words,
 // and their undos in two: the high half of the second word of each belongs to no page.
 #[test]
-fn halves_that_no_page_uses_are_zero_once_formatted(rt: HostRuntime) -> Result<(), Fail> {
-    let mut board = new_board(rt.alloc(), &THREE_GREEDY, 0)?;
+fn halves_that_no_page_uses_are_zero_once_formatted(rt: HostRuntime) {
+    let mut board = new_board(&rt, rt.alloc(), &THREE_GREEDY, 0);
     for w in 0..words(&board.shape()) {
         put(&rt, &mut board, w, u64::MAX);
     }
     let board = formatted(&rt, rt.alloc(), board, THREE_GREEDY).into_board();
     for w in 83..87 {
-        assert_eq!(rt; get(&rt, &board, w), 0, "word {w}");
+        same_at(&rt, &get(&rt, &board, w), &0, "word", w as u64);
     }
-    Ok(())
 }

@@ -9,6 +9,8 @@ mod cuts;
 #[cfg(test)]
 mod drawn;
 #[cfg(test)]
+mod failures;
+#[cfg(test)]
 mod formats;
 #[cfg(test)]
 mod ordered;
@@ -22,3 +24,5 @@ mod session;
 mod setups;
 #[cfg(test)]
 mod steps;
+#[cfg(test)]
+mod told;

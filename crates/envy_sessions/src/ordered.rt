@@ -7,11 +7,11 @@ ghost use Rattle.envy_bench.specs.Parts.{new_state};
 
 use crate::session::new_board;
 use crate::setups::COMMON;
+use crate::told::{holds_at, same_at};
 use envy_base::{Bench, Board, NoMemory, Off, Shape, Trouble};
 use envy_bench::MemBoard;
 use std::alloc::Global;
 use std::process::Abort;
-use std::test::Fail;
 
 /// A program that broke a rule.
 #[derive(Clone, Copy, Debug, PartialEq, Eq)]
@@ -151,25 +151,49 @@ impl Bench for OrderedBoard {
     }
 }
 
-#[test]
-fn programs_that_break_a_rule_are_seen(rt: HostRuntime) -> Result<(), Fail> {
-    let page = [u64::MAX - 1; 32];
-    for (rows, breach) in [
-        (&[0, 1, 3], None),
-        (&[0, 2, 2], Some(Breach::OutOfOrder(2))),
-        (&[0, 2, 1], Some(Breach::OutOfOrder(1))),
-    ]
-    .as_slice()
-    {
-        let mut board = new_board(rt.alloc(), &COMMON, 0)?;
-        for row in rows.as_slice() {
-            let shape = board.shape();
-            assert!(&rt; *row < shape.segments * shape.rows);
-            assert_eq!(rt; board.program(*row, &page), Ok(()));
-        }
-        assert_eq!(rt; board.breach(), *breach);
-        assert_eq!(rt; board.erase(0), Ok(()));
-        assert_eq!(rt; board.breach(), *breach);
+/// Rows that are programmed in turn, and the first program among them that breaks a rule.
+const PROGRAMS: [([u32; 3], Option<Breach>); 3] = [
+    ([0, 1, 3], None),
+    ([0, 2, 2], Some(Breach::OutOfOrder(2))),
+    ([0, 2, 1], Some(Breach::OutOfOrder(1))),
+];
+
+/// Programs a row, if the board has it.
+fn programmed(board: &mut OrderedBoard, row: u32) -> Option<Result<(), Trouble>> {
+    let shape = board.shape();
+    if row >= shape.segments * shape.rows {
+        return None;
     }
-    Ok(())
+    Some(board.program(row, &[u64::MAX - 1; 32]))
+}
+
+/// Programs rows of a new board, and erases them: the breach is told from then on.
+fn check_programs(rt: &impl Abort, alloc: Global, rows: [u32; 3], breach: Option<Breach>) {
+    let mut board = new_board(rt, alloc, &COMMON, 0);
+    for row in rows {
+        let is = programmed(&mut board, row) == Some(Ok(()));
+        holds_at(rt, is, "program of row", row as u64);
+    }
+    same_at(
+        rt,
+        &board.breach(),
+        &breach,
+        "breach of row",
+        rows[2] as u64,
+    );
+    holds_at(rt, board.erase(0) == Ok(()), "erase of segment", 0);
+    same_at(
+        rt,
+        &board.breach(),
+        &breach,
+        "breach behind the erase of row",
+        rows[2] as u64,
+    );
+}
+
+#[test]
+fn programs_that_break_a_rule_are_seen(rt: HostRuntime) {
+    for (rows, breach) in PROGRAMS.as_slice() {
+        check_programs(&rt, rt.alloc(), *rows, *breach);
+    }
 }

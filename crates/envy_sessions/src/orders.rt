@@ -8,51 +8,63 @@ use crate::session::{check_part, new_memory};
 use crate::setups::SIX_LOCALITY;
 use crate::steps::Step;
 use crate::steps::Step::{Abort, Begin, Commit, PlanCut, Put, Store};
+use crate::told::same_at;
 use envy_base::{Bench, Board, Off, Place, Slot, Undo};
 use envy_map::{back, fill, place, slot, undo};
 use envy_memory::{EndFault, StoreFault};
 use std::alloc::Global;
 use std::process;
-use std::test::Fail;
 
-/// What stands on a board.
-#[derive(Clone, Copy, Debug, PartialEq, Eq)]
-enum Fact {
-    /// A row was claimed for this page.
-    Back(u32, u32),
-    /// So many rows of a segment were claimed.
-    Fill(u32, u32),
-    /// A page is at this place, or isn't.
-    At(u32, Place, bool),
-    /// A page's undo is clear, or isn't.
-    IsClear(u32, bool),
-    /// The state of the first slot.
-    FirstSlotIs(Slot),
-}
-
-/// A call that loses power, and what stands on the board by the operation at which it does.
-#[derive(Clone, Copy, Debug)]
+/// Steps, and a call behind them that loses power.
+#[derive(Clone, Copy)]
 struct Order {
     name: &'static str,
     before: &'static [Step],
     call: Step,
-    cuts: &'static [(u32, &'static [Fact])],
 }
 
-/// Whether a fact holds.
-fn holds(board: &OrderedBoard, fact: Fact) -> Result<bool, Off>
+/// What a flush of page 3 into row 4 leaves: the page that the row was claimed for, the fill of its segment, whether
+/// page 3 is there, and whether page 2 is absent.
+type Flushed = (u32, u32, bool, bool);
+
+/// What the end of a transaction leaves: the state of the first slot; and of page 1, and then of page 0, whether it is
+/// absent, and whether its undo is clear.
+type Ended = (Slot, (bool, bool), (bool, bool));
+
+/// Where a page is, if the board has it.
+fn place_of(board: &OrderedBoard, page: u32) -> Option<Result<Place, Off>>
+    requires { IsSound (chart (board_state board.now.inner)) }
+{
+    if page >= board.shape().pages {
+        return None;
+    }
+    Some(place(board, page))
+}
+
+/// Whether a page is absent, and whether its undo is clear, if the board has it.
+fn state_of(board: &OrderedBoard, page: u32) -> Option<(bool, bool)>
+    requires { IsSound (chart (board_state board.now.inner)) }
+{
+    if page >= board.shape().pages {
+        return None;
+    }
+    match (place(board, page), undo(board, page)) {
+        (Ok(now), Ok(undo)) => Some((now == Place::Absent, undo == Undo::Clear)),
+        _ => None,
+    }
+}
+
+/// The page that row 4 was claimed for, and the fill of segment 1, if the board has them.
+fn claim(board: &OrderedBoard) -> Option<(u32, u32)>
     requires { IsSound (chart (board_state board.now.inner)) }
 {
     let shape = board.shape();
-    match fact {
-        Fact::Back(row, page) if row < shape.segments * shape.rows => Ok(back(board, row)? == page),
-        Fact::Fill(segment, rows) if segment < shape.segments => Ok(fill(board, segment)? == rows),
-        Fact::At(page, at, is) if page < shape.pages => Ok((place(board, page)? == at) == is),
-        Fact::IsClear(page, is) if page < shape.pages => {
-            Ok((undo(board, page)? == Undo::Clear) == is)
-        }
-        Fact::FirstSlotIs(state) => Ok(slot(board, 0)? == state),
-        _ => Ok(false),
+    if 4 >= shape.segments * shape.rows || 1 >= shape.segments {
+        return None;
+    }
+    match (back(board, 4), fill(board, 1)) {
+        (Ok(page), Ok(rows)) => Some((page, rows)),
+        _ => None,
     }
 }
 
@@ -66,208 +78,105 @@ fn lit(rt: &impl process::Abort, mut board: OrderedBoard) -> OrderedBoard
     board
 }
 
-/// Tests what stands on the board of a call that is cut at this operation.
-fn check_cut(
-    rt: &impl process::Abort,
-    alloc: Global,
-    order: &Order,
-    k: u32,
-    facts: &[Fact],
-) -> Result<(), Fail> {
-    let mut memory = new_memory(rt, alloc, SIX_LOCALITY, 1)?;
-    check_part(rt, &mut memory, order.name, order.before);
-    check_part(rt, &mut memory, order.name, &[PlanCut(k, 0), order.call]);
-    let board = lit(rt, memory.into_board());
-    for fact in facts {
-        assert!(rt; holds(&board, *fact)?, "{} with {k}: {fact:?}", order.name);
-    }
-    Ok(())
+/// The board of a call that is cut at this operation.
+fn cut(rt: &impl process::Abort, alloc: Global, order: &Order, k: u32) -> OrderedBoard
+    ensures { IsSound (chart (board_state result.inner)) }
+{
+    let mut memory = new_memory(rt, alloc, SIX_LOCALITY, 1);
+    check_part(rt, &mut memory, order.name, 0, order.before);
+    check_part(rt, &mut memory, order.name, 0, &[PlanCut(k, 0), order.call]);
+    lit(rt, memory.into_board())
 }
 
-fn check_orders(rt: &impl process::Abort, alloc: Global, table: &[Order]) -> Result<(), Fail> {
-    for order in table {
-        for (k, facts) in order.cuts {
-            check_cut(rt, alloc, order, *k, facts)?;
-        }
-    }
-    Ok(())
+/// Tests what stands on the board of a flush that is cut at this operation.
+fn check_flush(rt: &impl process::Abort, alloc: Global, k: u32, left: Flushed) {
+    let board = cut(rt, alloc, &FLUSH, k);
+    let (page, rows, moved, absent) = left;
+    same_at(
+        rt,
+        &claim(&board),
+        &Some((page, rows)),
+        FLUSH.name,
+        k as u64,
+    );
+    let is = place_of(&board, 3) == Some(Ok(Place::Row(4)));
+    same_at(rt, &is, &moved, FLUSH.name, k as u64);
+    let is = place_of(&board, 2) == Some(Ok(Place::Absent));
+    same_at(rt, &is, &absent, FLUSH.name, k as u64);
 }
+
+/// Tests what stands on the board of the end of a transaction that is cut at this operation.
+fn check_end(rt: &impl process::Abort, alloc: Global, order: &Order, k: u32, left: Ended) {
+    let board = cut(rt, alloc, order, k);
+    let (state, first, second) = left;
+    same_at(rt, &slot(&board, 0), &Ok(state), order.name, k as u64);
+    let found = (state_of(&board, 1), state_of(&board, 0));
+    same_at(
+        rt,
+        &found,
+        &(Some(first), Some(second)),
+        order.name,
+        k as u64,
+    );
+}
+
+const FLUSH: Order = Order {
+    name: "store flushes before it fills the frame",
+    before: &[Store(96, 5, Ok(())), Store(32, 6, Ok(()))],
+    call: Store(64, 7, Err(StoreFault::Off)),
+};
+
+// The page and the fill of the row's claim, the program, the place of page 3, and then the frame of page 2 and its place.
+const FLUSHES: [(u32, Flushed); 6] = [
+    (1, (0, 0, false, true)),
+    (2, (3, 0, false, true)),
+    (3, (3, 1, false, true)),
+    (4, (3, 1, false, true)),
+    (5, (3, 1, true, true)),
+    (37, (3, 1, true, true)),
+];
 
 // Slot 0 owns page 1, and then page 0, which were absent.
 const TWO_ARE_OWNED: [Step; 3] = [Begin(Ok(0)), Put(0, 32, 1, Ok(())), Put(0, 0, 2, Ok(()))];
 
-const ORDERS: [Order; 3] = [
-    // The page and the fill of the row's claim, the program, the place of page 3, and then the frame of page 2 and its place.
-    Order {
-        name: "store flushes before it fills the frame",
-        before: &[Store(96, 5, Ok(())), Store(32, 6, Ok(()))],
-        call: Store(64, 7, Err(StoreFault::Off)),
-        cuts: &[
-            (
-                1,
-                &[
-                    Fact::Back(4, 0),
-                    Fact::Fill(1, 0),
-                    Fact::At(3, Place::Row(4), false),
-                    Fact::At(2, Place::Absent, true),
-                ],
-            ),
-            (
-                2,
-                &[
-                    Fact::Back(4, 3),
-                    Fact::Fill(1, 0),
-                    Fact::At(3, Place::Row(4), false),
-                    Fact::At(2, Place::Absent, true),
-                ],
-            ),
-            (
-                3,
-                &[
-                    Fact::Back(4, 3),
-                    Fact::Fill(1, 1),
-                    Fact::At(3, Place::Row(4), false),
-                    Fact::At(2, Place::Absent, true),
-                ],
-            ),
-            (
-                4,
-                &[
-                    Fact::Back(4, 3),
-                    Fact::Fill(1, 1),
-                    Fact::At(3, Place::Row(4), false),
-                    Fact::At(2, Place::Absent, true),
-                ],
-            ),
-            (
-                5,
-                &[
-                    Fact::Back(4, 3),
-                    Fact::Fill(1, 1),
-                    Fact::At(3, Place::Row(4), true),
-                    Fact::At(2, Place::Absent, true),
-                ],
-            ),
-            (
-                37,
-                &[
-                    Fact::Back(4, 3),
-                    Fact::Fill(1, 1),
-                    Fact::At(3, Place::Row(4), true),
-                    Fact::At(2, Place::Absent, true),
-                ],
-            ),
-        ],
-    },
-    // The slot, the undo of page 1, that of page 0, and the slot again.
-    Order {
-        name: "commit clears undos in order of owning",
-        before: &TWO_ARE_OWNED,
-        call: Commit(0, Err(EndFault::Off)),
-        cuts: &[
-            (
-                1,
-                &[
-                    Fact::FirstSlotIs(Slot::Active),
-                    Fact::At(1, Place::Absent, false),
-                    Fact::IsClear(1, false),
-                    Fact::At(0, Place::Absent, false),
-                    Fact::IsClear(0, false),
-                ],
-            ),
-            (
-                2,
-                &[
-                    Fact::FirstSlotIs(Slot::Committed),
-                    Fact::At(1, Place::Absent, false),
-                    Fact::IsClear(1, false),
-                    Fact::At(0, Place::Absent, false),
-                    Fact::IsClear(0, false),
-                ],
-            ),
-            (
-                3,
-                &[
-                    Fact::FirstSlotIs(Slot::Committed),
-                    Fact::At(1, Place::Absent, false),
-                    Fact::IsClear(1, true),
-                    Fact::At(0, Place::Absent, false),
-                    Fact::IsClear(0, false),
-                ],
-            ),
-            (
-                4,
-                &[
-                    Fact::FirstSlotIs(Slot::Committed),
-                    Fact::At(1, Place::Absent, false),
-                    Fact::IsClear(1, true),
-                    Fact::At(0, Place::Absent, false),
-                    Fact::IsClear(0, true),
-                ],
-            ),
-        ],
-    },
-    // The place of page 1 and its undo, those of page 0, and the slot.
-    Order {
-        name: "abort puts pages back in order of owning",
-        before: &TWO_ARE_OWNED,
-        call: Abort(0, Err(EndFault::Off)),
-        cuts: &[
-            (
-                1,
-                &[
-                    Fact::FirstSlotIs(Slot::Active),
-                    Fact::At(1, Place::Absent, false),
-                    Fact::IsClear(1, false),
-                    Fact::At(0, Place::Absent, false),
-                    Fact::IsClear(0, false),
-                ],
-            ),
-            (
-                2,
-                &[
-                    Fact::FirstSlotIs(Slot::Active),
-                    Fact::At(1, Place::Absent, true),
-                    Fact::IsClear(1, false),
-                    Fact::At(0, Place::Absent, false),
-                    Fact::IsClear(0, false),
-                ],
-            ),
-            (
-                3,
-                &[
-                    Fact::FirstSlotIs(Slot::Active),
-                    Fact::At(1, Place::Absent, true),
-                    Fact::IsClear(1, true),
-                    Fact::At(0, Place::Absent, false),
-                    Fact::IsClear(0, false),
-                ],
-            ),
-            (
-                4,
-                &[
-                    Fact::FirstSlotIs(Slot::Active),
-                    Fact::At(1, Place::Absent, true),
-                    Fact::IsClear(1, true),
-                    Fact::At(0, Place::Absent, true),
-                    Fact::IsClear(0, false),
-                ],
-            ),
-            (
-                5,
-                &[
-                    Fact::FirstSlotIs(Slot::Active),
-                    Fact::At(1, Place::Absent, true),
-                    Fact::IsClear(1, true),
-                    Fact::At(0, Place::Absent, true),
-                    Fact::IsClear(0, true),
-                ],
-            ),
-        ],
-    },
+const COMMIT: Order = Order {
+    name: "commit clears undos in order of owning",
+    before: &TWO_ARE_OWNED,
+    call: Commit(0, Err(EndFault::Off)),
+};
+
+// The slot, the undo of page 1, that of page 0, and the slot again.
+const COMMITS: [(u32, Ended); 4] = [
+    (1, (Slot::Active, (false, false), (false, false))),
+    (2, (Slot::Committed, (false, false), (false, false))),
+    (3, (Slot::Committed, (false, true), (false, false))),
+    (4, (Slot::Committed, (false, true), (false, true))),
+];
+
+const ABORT: Order = Order {
+    name: "abort puts pages back in order of owning",
+    before: &TWO_ARE_OWNED,
+    call: Abort(0, Err(EndFault::Off)),
+};
+
+// The place of page 1 and its undo, those of page 0, and the slot.
+const ABORTS: [(u32, Ended); 5] = [
+    (1, (Slot::Active, (false, false), (false, false))),
+    (2, (Slot::Active, (true, false), (false, false))),
+    (3, (Slot::Active, (true, true), (false, false))),
+    (4, (Slot::Active, (true, true), (true, false))),
+    (5, (Slot::Active, (true, true), (true, true))),
 ];
 
 #[test]
-fn operations_come_in_their_order(rt: HostRuntime) -> Result<(), Fail> {
-    check_orders(&rt, rt.alloc(), &ORDERS)
+fn operations_come_in_their_order(rt: HostRuntime) {
+    for (k, left) in FLUSHES.as_slice() {
+        check_flush(&rt, rt.alloc(), *k, *left);
+    }
+    for (k, left) in COMMITS.as_slice() {
+        check_end(&rt, rt.alloc(), &COMMIT, *k, *left);
+    }
+    for (k, left) in ABORTS.as_slice() {
+        check_end(&rt, rt.alloc(), &ABORT, *k, *left);
+    }
 }

@@ -1,14 +1,18 @@
 //! What a session asks of a memory, step by step, and what it is answered.
 
 use crate::ordered::OrderedBoard;
-use envy_base::{Board, Counts, Job, Place, Trouble};
+use crate::told::{holds_at, same_at};
+use envy_base::{Board, Counts, Job, Off, Place, Trouble};
 use envy_map::{job, place};
 use envy_memory::{
     BeginFault, Did, EndFault, LoadFault, Memory, PutFault, ReviveFault, StoreFault,
 };
+use std::fmt::Debug;
+use std::process;
 
-/// A call, or what a test does to the board, and its answer.
-#[derive(Clone, Copy, Debug, PartialEq, Eq)]
+/// A call, or what a test does to the board, and its answer. Only answers are compared and told, by their own types:
+/// what a derive gives for an enum of so many variants costs more proof than all that is made of it.
+#[derive(Clone, Copy)]
 pub(crate) enum Step {
     Load(u32, Result<u64, LoadFault>),
     Look(u32, Result<u64, LoadFault>),
@@ -35,43 +39,30 @@ pub(crate) enum Step {
     Flushes(u64),
     Copies(u64),
     Swaps(u64),
-    /// The answer can't be had.
-    Unknown,
 }
 
 /// A memory of the sessions.
 pub(crate) type Tested = Memory<OrderedBoard>;
 
-/// Where a page is.
-fn place_of(memory: &Tested, page: u32) -> Step {
+/// Where a page is, if the board has it.
+fn place_of(memory: &Tested, page: u32) -> Option<Result<Place, Off>> {
     let board = memory.board();
     if page >= board.shape().pages {
-        return Step::Unknown;
+        return None;
     }
-    match place(board, page) {
-        Ok(place) => Step::IsAt(page, place),
-        Err(_) => Step::Unknown,
-    }
+    Some(place(board, page))
 }
 
-/// What the cleaner is at.
-fn job_of(memory: &Tested) -> Step {
-    match job(memory.board()) {
-        Ok(job) => Step::Works(job),
-        Err(_) => Step::Unknown,
-    }
-}
-
-/// Lets the memory work.
-fn work(memory: &mut Tested, count: u32) -> Step {
+/// Lets the memory work, and tells whether no tick failed otherwise than by power.
+fn work(memory: &mut Tested, count: u32) -> bool {
     for _turn in 0..count {
         match memory.tick() {
             Ok(_) => {}
             Err(Trouble::Off) => revive(memory),
-            Err(Trouble::Bad) => return Step::Unknown,
+            Err(Trouble::Bad) => return false,
         }
     }
-    Step::Ticks(count)
+    true
 }
 
 /// Lets power return, if it is off.
@@ -81,58 +72,118 @@ pub(crate) fn revive(memory: &mut Tested) {
     }
 }
 
-/// Makes a step that changes the board or its power.
-fn made_of_power(memory: &mut Tested, step: Step) -> Step {
+/// Makes a step that changes the board or its power, and tests that it is answered as it says.
+fn check_power(rt: &impl process::Abort, memory: &mut Tested, name: &str, at: u64, step: Step) {
     match step {
-        Step::Cut if memory.powered() => {
-            memory.cut_now();
-            Step::Cut
+        Step::Cut if memory.powered() => memory.cut_now(),
+        Step::Revive(answer) if !memory.powered() => {
+            same_at(rt, &memory.revive(), &answer, name, at);
         }
-        Step::Revive(_) if !memory.powered() => Step::Revive(memory.revive()),
-        Step::PlanCut(k, g) if k >= 1 => {
-            memory.arm_cut(k, g);
-            step
-        }
-        Step::PlanBad(k, g) if k >= 1 => {
-            memory.arm_bad(k, g);
-            step
-        }
-        Step::IsOn(_) => Step::IsOn(memory.powered()),
-        _ => Step::Unknown,
+        Step::PlanCut(k, g) if k >= 1 => memory.arm_cut(k, g),
+        Step::PlanBad(k, g) if k >= 1 => memory.arm_bad(k, g),
+        // the answer can't be had
+        _ => holds_at(rt, false, name, at),
     }
 }
 
-/// Makes a step, and tells it with the answer that it got.
-pub(crate) fn made(memory: &mut Tested, step: Step) -> Step {
+/// Tests what a memory tells of itself and of its board, or makes a step that changes the board or its power.
+fn check_state(rt: &impl process::Abort, memory: &mut Tested, name: &str, at: u64, step: Step) {
     match step {
-        Step::Load(a, _) => Step::Load(a, memory.load(a)),
-        Step::Look(a, _) => Step::Look(a, memory.look(a)),
-        Step::Store(a, word, _) => Step::Store(a, word, memory.store(a, word)),
-        Step::Begin(_) => Step::Begin(memory.begin()),
-        Step::Put(t, a, word, _) => Step::Put(t, a, word, memory.put(t, a, word)),
-        Step::Commit(t, _) => Step::Commit(t, memory.commit(t)),
-        Step::Abort(t, _) => Step::Abort(t, memory.abort(t)),
-        Step::Tick(_) => Step::Tick(memory.tick()),
-        Step::Ticks(count) => work(memory, count),
-        Step::IsAt(page, _) => place_of(memory, page),
-        Step::Works(_) => job_of(memory),
-        Step::Counted(_) => Step::Counted(memory.counts()),
-        Step::Flushes(_) => Step::Flushes(memory.counts().flushes),
-        Step::Copies(_) => Step::Copies(memory.counts().copies),
-        Step::Swaps(_) => Step::Swaps(memory.counts().swaps),
-        _ => made_of_power(memory, step),
+        Step::IsAt(page, is) => same_at(rt, &place_of(memory, page), &Some(Ok(is)), name, at),
+        Step::Works(is) => same_at(rt, &job(memory.board()), &Ok(is), name, at),
+        Step::Counted(counts) => same_at(rt, &memory.counts(), &counts, name, at),
+        Step::Flushes(count) => same_at(rt, &memory.counts().flushes, &count, name, at),
+        Step::Copies(count) => same_at(rt, &memory.counts().copies, &count, name, at),
+        Step::Swaps(count) => same_at(rt, &memory.counts().swaps, &count, name, at),
+        Step::IsOn(is) => same_at(rt, &memory.powered(), &is, name, at),
+        _ => check_power(rt, memory, name, at, step),
     }
 }
 
-/// Whether a call lost power.
-pub(crate) fn is_lost(step: Step) -> bool {
-    matches!(
-        step,
-        Step::Store(_, _, Err(StoreFault::Off))
-            | Step::Begin(Err(BeginFault::Off))
-            | Step::Put(_, _, _, Err(PutFault::Off))
-            | Step::Commit(_, Err(EndFault::Off))
-            | Step::Abort(_, Err(EndFault::Off))
-            | Step::Tick(Err(Trouble::Off))
-    )
+/// Whether a call was done: it was answered as it should, or, where that may be, it lost power.
+fn is_answered<T: PartialEq + Debug + Copy>(
+    rt: &impl process::Abort,
+    asked: (&str, u64, bool),
+    found: T,
+    wanted: T,
+    lost: T,
+) -> bool {
+    let (name, at, may_lose) = asked;
+    if may_lose && found == lost {
+        return false;
+    }
+    same_at(rt, &found, &wanted, name, at);
+    true
+}
+
+/// Makes a step, and tests that it is answered as it says. Tells whether it was done: where a call may lose power, it
+/// may be cut instead.
+pub(crate) fn is_done(
+    rt: &impl process::Abort,
+    memory: &mut Tested,
+    asked: (&str, u64, bool),
+    step: Step,
+) -> bool {
+    match step {
+        Step::Store(a, word, answer) => {
+            let found = memory.store(a, word);
+            is_answered(rt, asked, found, answer, Err(StoreFault::Off))
+        }
+        Step::Begin(answer) => {
+            let found = memory.begin();
+            is_answered(rt, asked, found, answer, Err(BeginFault::Off))
+        }
+        Step::Put(t, a, word, answer) => {
+            let found = memory.put(t, a, word);
+            is_answered(rt, asked, found, answer, Err(PutFault::Off))
+        }
+        Step::Commit(t, answer) => {
+            let found = memory.commit(t);
+            is_answered(rt, asked, found, answer, Err(EndFault::Off))
+        }
+        Step::Abort(t, answer) => {
+            let found = memory.abort(t);
+            is_answered(rt, asked, found, answer, Err(EndFault::Off))
+        }
+        Step::Tick(answer) => {
+            let found = memory.tick();
+            is_answered(rt, asked, found, answer, Err(Trouble::Off))
+        }
+        Step::Ticks(count) => {
+            let (name, at, _may_lose) = asked;
+            holds_at(rt, work(memory, count), name, at);
+            true
+        }
+        _ => {
+            let (name, at, _may_lose) = asked;
+            check_state(rt, memory, name, at, step);
+            true
+        }
+    }
+}
+
+/// Whether a load, or a look, is answered as it says.
+pub(crate) fn is_met(memory: &mut Tested, step: Step) -> bool {
+    match step {
+        Step::Load(a, answer) => memory.load(a) == answer,
+        Step::Look(a, answer) => memory.look(a) == answer,
+        _ => false,
+    }
+}
+
+/// Makes a step, and tests that it is answered as it says.
+pub(crate) fn check_step(
+    rt: &impl process::Abort,
+    memory: &mut Tested,
+    name: &str,
+    at: u64,
+    step: Step,
+) {
+    match step {
+        Step::Load(a, answer) => same_at(rt, &memory.load(a), &answer, name, at),
+        Step::Look(a, answer) => same_at(rt, &memory.look(a), &answer, name, at),
+        _ => {
+            let _done = is_done(rt, memory, (name, at, false), step);
+        }
+    }
 }

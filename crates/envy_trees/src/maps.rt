@@ -2,9 +2,12 @@ ghost use Rattle.std.specs.Prelude.{◌≡◌, ◌≤◌, ◌<◌, ◌^◌, IfOk
 ghost use Rattle.envy_heap.specs.Vectors.{vec_sheet};
 ghost use Rattle.envy_btree.specs.Testing.{IsReady};
 
+use crate::calls::{
+    Pair, check_get, check_near, check_pairs, check_set, check_take_out, empty_index, nearest,
+};
 use crate::told::{same, same_at};
-use envy_base::{NoMemory, Off, Words};
-use envy_btree::{TreeFault, count, get, insert, last, next, next_above, remove};
+use envy_base::{Off, Words};
+use envy_btree::TreeFault;
 use envy_heap::VecWords;
 use rand_core::{Rng, SeedableRng};
 use rand_pcg::Lcg64Xsh32;
@@ -15,101 +18,61 @@ use std::process::Abort;
 // Why a test ends where memory is wanted.
 const NO_ROOM: &str = "no room";
 
-fn empty_index(alloc: Global, size: u32) -> Result<VecWords, NoMemory>
-    requires least { 640 ≤ size }
-    requires most { size ≤ 2 ^ 25 }
-    ensures { IfOk result (λ words. IsReady (vec_sheet words)) }
-{
-    VecWords::new(alloc, size, 32)
+// Takes note of a pair that is nearer to a key than those before it, which have lower keys.
+fn note(found: &mut [Pair; 3], key: u64, pair: (u64, u64)) {
+    let (k, _value) = pair;
+    if k >= key && found[0].is_none() {
+        found[0] = Some(pair);
+    }
+    if k > key && found[1].is_none() {
+        found[1] = Some(pair);
+    }
+    if k <= key {
+        found[2] = Some(pair);
+    }
 }
 
-fn value_of(words: &mut VecWords, key: u64) -> Result<Option<u64>, Off>
-    requires { IsReady (vec_sheet words.old) }
-    ensures { IsReady (vec_sheet words.new) }
-{
-    get(words, key)
-}
-
-fn set(words: &mut VecWords, key: u64, value: u64) -> Result<Option<u64>, TreeFault>
-    requires { IsReady (vec_sheet words.old) }
-    ensures { IsReady (vec_sheet words.new) }
-{
-    insert(words, key, value)
-}
-
-fn take_out(words: &mut VecWords, key: u64) -> Result<Option<u64>, TreeFault>
-    requires { IsReady (vec_sheet words.old) }
-    ensures { IsReady (vec_sheet words.new) }
-{
-    remove(words, key)
-}
-
-fn pairs(words: &mut VecWords) -> Result<u64, Off>
-    requires { IsReady (vec_sheet words.old) }
-    ensures { IsReady (vec_sheet words.new) }
-{
-    count(words)
-}
-
-// The pairs that are nearest to a key: from it on, above it, and up to it.
-type Nearest = Result<[Option<(u64, u64)>; 3], Off>;
-
-fn nearest(words: &mut VecWords, key: u64) -> Nearest
-    requires { IsReady (vec_sheet words.old) }
-    ensures { IsReady (vec_sheet words.new) }
-{
-    let from = next(words, key)?;
-    let above = next_above(words, key)?;
-    let to = last(words, key)?;
-    Ok([from, above, to])
-}
-
-fn nearest_in(map: &BTreeMap<u64, u64>, key: u64) -> Nearest {
+fn nearest_in(map: &BTreeMap<u64, u64>, key: u64) -> [Pair; 3] {
     let mut found = [None; 3];
     for (k, value) in map {
-        let pair = Some((*k, *value));
-        if *k >= key && found[0].is_none() {
-            found[0] = pair;
-        }
-        if *k > key && found[1].is_none() {
-            found[1] = pair;
-        }
-        if *k <= key {
-            found[2] = pair;
-        }
+        note(&mut found, key, (*k, *value));
     }
-    Ok(found)
+    found
+}
+
+fn value_in(map: &BTreeMap<u64, u64>, key: u64) -> Option<u64> {
+    map.get(&key).copied()
 }
 
 /// A call of a map, and its answer.
-#[derive(Clone, Copy, Debug, PartialEq)]
+#[derive(Clone, Copy)]
 enum Step {
-    Get(u64, Result<Option<u64>, Off>),
+    Get(u64, Option<u64>),
     Set(u64, u64, Result<Option<u64>, TreeFault>),
-    TakeOut(u64, Result<Option<u64>, TreeFault>),
-    Near(u64, Nearest),
+    TakeOut(u64, Option<u64>),
+    Near(u64, [Pair; 3]),
 }
 
-// Makes a call, and tells it with the answer that it got.
-fn made(words: &mut VecWords, step: Step) -> Step
+// Makes a call, and tests that it is answered as it says.
+fn check_step(rt: &impl Abort, words: &mut VecWords, name: &str, at: u64, step: Step)
     requires { IsReady (vec_sheet words.old) }
     ensures { IsReady (vec_sheet words.new) }
 {
     match step {
-        Step::Get(key, _) => Step::Get(key, value_of(words, key)),
-        Step::Set(key, value, _) => Step::Set(key, value, set(words, key, value)),
-        Step::TakeOut(key, _) => Step::TakeOut(key, take_out(words, key)),
-        Step::Near(key, _) => Step::Near(key, nearest(words, key)),
+        Step::Get(key, is) => check_get(rt, words, name, at, key, is),
+        Step::Set(key, value, answer) => check_set(rt, words, name, at, (key, value), answer),
+        Step::TakeOut(key, was) => check_take_out(rt, words, name, at, key, was),
+        Step::Near(key, is) => check_near(rt, words, name, at, key, is),
     }
 }
 
-// Tests that each call is answered as it says.
+// Tests that each call is answered as it says; else the call's number is told.
 fn check_steps(rt: &impl Abort, words: &mut VecWords, name: &str, steps: &[Step])
     requires { IsReady (vec_sheet words.old) }
     ensures { IsReady (vec_sheet words.new) }
 {
-    for step in steps {
-        same(rt, &made(words, *step), step, name);
+    for i in 0..steps.len() {
+        check_step(rt, words, name, i as u64, steps[i]);
     }
 }
 
@@ -121,11 +84,11 @@ fn check_empty(rt: &impl Abort, alloc: Global, name: &str, steps: &[Step]) {
 
 const IN_AND_OUT: [Step; 6] = [
     Step::Set(5, 50, Ok(None)),
-    Step::Get(5, Ok(Some(50))),
+    Step::Get(5, Some(50)),
     Step::Set(5, 51, Ok(Some(50))),
-    Step::TakeOut(5, Ok(Some(51))),
-    Step::Get(5, Ok(None)),
-    Step::TakeOut(5, Ok(None)),
+    Step::TakeOut(5, Some(51)),
+    Step::Get(5, None),
+    Step::TakeOut(5, None),
 ];
 
 #[test]
@@ -133,18 +96,18 @@ fn pairs_go_in_and_out(rt: HostRuntime) {
     check_empty(&rt, rt.alloc(), "pairs go in and out", &IN_AND_OUT);
 }
 
-const LOW: Option<(u64, u64)> = Some((0, 7));
+const LOW: Pair = Some((0, 7));
 
-const HIGH: Option<(u64, u64)> = Some((u64::MAX, 8));
+const HIGH: Pair = Some((u64::MAX, 8));
 
 const ENDS: [Step; 7] = [
-    Step::Near(9, Ok([None, None, None])),
+    Step::Near(9, [None, None, None]),
     Step::Set(0, 7, Ok(None)),
-    Step::Near(0, Ok([LOW, None, LOW])),
+    Step::Near(0, [LOW, None, LOW]),
     Step::Set(u64::MAX, 8, Ok(None)),
-    Step::Near(0, Ok([LOW, HIGH, LOW])),
-    Step::Near(9, Ok([HIGH, HIGH, LOW])),
-    Step::Near(u64::MAX, Ok([HIGH, None, HIGH])),
+    Step::Near(0, [LOW, HIGH, LOW]),
+    Step::Near(9, [HIGH, HIGH, LOW]),
+    Step::Near(u64::MAX, [HIGH, None, HIGH]),
 ];
 
 #[test]
@@ -158,14 +121,14 @@ fn fill(rt: &impl Abort, words: &mut VecWords, pairs: u64)
     ensures { IsReady (vec_sheet words.new) }
 {
     for key in 0..pairs {
-        same_at(rt, &set(words, key, key), &Ok(None), "set", key);
+        check_set(rt, words, "set", key, (key, key), Ok(None));
     }
 }
 
 const FULL: [Step; 4] = [
     Step::Set(14, 1, Err(TreeFault::Full)),
     Step::Set(0, 9, Ok(Some(0))),
-    Step::TakeOut(0, Ok(Some(9))),
+    Step::TakeOut(0, Some(9)),
     Step::Set(14, 1, Ok(None)),
 ];
 
@@ -193,14 +156,13 @@ fn change(
 {
     if takes {
         let was = map.remove(&key);
-        same_at(rt, &take_out(words, key), &Ok(was), "take out", key);
-    } else if map.len() == MOST_PAIRS && map.get(&key).is_none() {
-        let full = Err(TreeFault::Full);
-        same_at(rt, &set(words, key, value), &full, "set", key);
+        check_take_out(rt, words, "take out", key, key, was);
+    } else if map.len() == MOST_PAIRS && value_in(map, key).is_none() {
+        check_set(rt, words, "set", key, (key, value), Err(TreeFault::Full));
     } else {
         let was: Result<_, _> = map.insert(key, value);
         let was = was.expect(rt, NO_ROOM);
-        same_at(rt, &set(words, key, value), &Ok(was), "set", key);
+        check_set(rt, words, "set", key, (key, value), Ok(was));
     }
 }
 
@@ -216,44 +178,38 @@ fn agrees(
     ensures { IsReady (vec_sheet words.new) }
 {
     let key = u64::from(draw / 4 % 512);
-    let held = map.get(&key).copied();
-    same_at(rt, &value_of(words, key), &Ok(held), "get", key);
-    let near = nearest_in(map, key);
-    same_at(rt, &nearest(words, key), &near, "nearest", key);
-    let count = map.len() as u64;
-    same_at(rt, &pairs(words), &Ok(count), "pairs at", key);
+    check_get(rt, words, "get", key, key, value_in(map, key));
+    check_near(rt, words, "nearest", key, key, nearest_in(map, key));
+    check_pairs(rt, words, "pairs at", key, map.len() as u64);
     change(rt, words, map, draw % 4 == 0, key, value);
+}
+
+// A pair of the map is in the tree, and was seen on the walk. Gives what is seen behind it.
+fn check_pair(
+    rt: &impl Abort,
+    words: &mut VecWords,
+    seen: Result<Pair, Off>,
+    key: u64,
+    value: u64,
+) -> Result<Pair, Off>
+    requires { IsReady (vec_sheet words.old) }
+    ensures { IsReady (vec_sheet words.new) }
+{
+    check_get(rt, words, "get", key, key, Some(value));
+    same_at(rt, &seen, &Ok(Some((key, value))), "next", key);
+    let [_from, above, _to] = nearest(words, key);
+    above
 }
 
 // A walk over the tree finds the pairs of the map, and no more.
 fn check_walk(rt: &impl Abort, words: &mut VecWords, map: &BTreeMap<u64, u64>)
     requires { IsReady (vec_sheet words.old) }
 {
-    let mut seen = first_of(nearest(words, 0));
+    let [mut seen, _above, _to] = nearest(words, 0);
     for (key, value) in map {
-        let (key, value) = (*key, *value);
-        let held = value_of(words, key);
-        same_at(rt, &held, &Ok(Some(value)), "get", key);
-        same_at(rt, &seen, &Some((key, value)), "next", key);
-        seen = second_of(nearest(words, key));
+        seen = check_pair(rt, words, seen, *key, *value);
     }
-    same(rt, &seen, &None, "behind the last");
-}
-
-// The pair from a key on, of what is nearest.
-fn first_of(near: Nearest) -> Option<(u64, u64)> {
-    match near {
-        Ok(found) => found[0],
-        Err(_) => None,
-    }
-}
-
-// The pair above a key.
-fn second_of(near: Nearest) -> Option<(u64, u64)> {
-    match near {
-        Ok(found) => found[1],
-        Err(_) => None,
-    }
+    same_at(rt, &seen, &Ok(None), "behind the last of", map.len() as u64);
 }
 
 #[test]
@@ -309,36 +265,37 @@ fn fills_and_empties(rt: &impl Abort, alloc: Global, size: u32, pairs: u64, orde
     requires some { 0 < pairs }
 {
     let mut words = empty_index(alloc, size).expect(rt, NO_ROOM);
+    fill_by(rt, &mut words, pairs, order);
+    empty_by(rt, &mut words, pairs, order);
+    is_empty(rt, &mut words);
+}
+
+// As many pairs of a key and its number, and none more.
+fn fill_by(rt: &impl Abort, words: &mut VecWords, pairs: u64, order: Order)
+    requires ready { IsReady (vec_sheet words.old) }
+    requires few { pairs < 9000 }
+    ensures { IsReady (vec_sheet words.new) }
+{
     for i in 0..pairs {
-        same_at(
-            rt,
-            &set(&mut words, key_at(order, i), i),
-            &Ok(None),
-            "pair",
-            i,
-        );
+        check_set(rt, words, "pair", i, (key_at(order, i), i), Ok(None));
     }
-    let answer = set(&mut words, key_at(order, pairs), 0);
-    same_at(rt, &answer, &Err(TreeFault::Full), "pair", pairs);
+    let more = (key_at(order, pairs), 0);
+    check_set(rt, words, "pair", pairs, more, Err(TreeFault::Full));
+}
+
+// Takes the pairs out in another order.
+fn empty_by(rt: &impl Abort, words: &mut VecWords, pairs: u64, order: Order)
+    requires ready { IsReady (vec_sheet words.old) }
+    requires few { pairs < 9000 }
+    requires some { 0 < pairs }
+    ensures { IsReady (vec_sheet words.new) }
+{
     for i in 0..pairs {
         let place = i * 5 % pairs;
         let key = key_at(order, place);
-        same_at(
-            rt,
-            &take_out(&mut words, key),
-            &Ok(Some(place)),
-            "take out",
-            i,
-        );
-        same_at(
-            rt,
-            &value_of(&mut words, key),
-            &Ok(None),
-            "get behind it",
-            i,
-        );
+        check_take_out(rt, words, "take out", i, key, Some(place));
+        check_get(rt, words, "get behind it", i, key, None);
     }
-    is_empty(rt, &mut words);
 }
 
 // No root, no pair, and no piece that isn't free.

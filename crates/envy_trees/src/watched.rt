@@ -12,7 +12,7 @@ use std::process::Abort;
 
 // What was seen of the calls: how often a load went to another piece than the load before it, and the
 // calls that open and close transactions.
-#[derive(Clone, Copy, Debug, PartialEq)]
+#[derive(Clone, Copy)]
 struct Seen {
     moves: u32,
     starts: u32,
@@ -142,11 +142,9 @@ fn looks(rt: &impl Abort, words: &mut Watched, key: u64, want: Option<u64>, leve
     ensures { IsReady (vec_sheet words.new.words) }
 {
     same_at(rt, &value_of(words, key), &Ok(want), "get", key);
-    let seen = Seen {
-        moves: levels,
-        ..NOTHING
-    };
-    same_at(rt, &words.seen, &seen, "seen of get", key);
+    let seen = words.seen;
+    let (moves, made) = (seen.moves, seen.transactions());
+    same_at(rt, &(moves, made), &(levels, NO_CHANGE), "seen of get", key);
 }
 
 // An insert of a key, new or present, is one transaction.

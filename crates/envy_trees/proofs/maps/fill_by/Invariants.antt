@@ -1,9 +1,6 @@
 use Rattle.envy_heap.specs.Vectors.{vec_sheet}
 use Rattle.envy_btree.specs.Testing.{IsReady}
-use Rattle.envy_trees.proofs.maps.fills_and_empties.Given as goal
+use Rattle.envy_trees.proofs.maps.fill_by.Given as goal
 
 abbrev pub invariant-loop-i : goal.invariant-loop-i
 invariant-loop-i g l = IsReady (vec_sheet l.words)
-
-abbrev pub invariant-loop-i-2 : goal.invariant-loop-i-2
-invariant-loop-i-2 g l = IsReady (vec_sheet l.words)
