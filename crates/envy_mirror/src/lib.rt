@@ -16,8 +16,6 @@ mod mirror;
 mod reading;
 mod reviving;
 mod standing;
-#[cfg(test)]
-mod tests;
 
 pub use catching::{CatchFault, Caught};
 pub use mirror::Mirror;

@@ -1,7 +1,13 @@
-ghost use Rattle.std.specs.Prelude.{◌≡◌, ◌/◌};
+ghost use Rattle.std.specs.Prelude.{◌≡◌, ◌↔◌, ◌<◌, ◌/◌, false, OnOk, slice_index};
+ghost use Rattle.envy_base.specs.Array.{Array};
 ghost use Rattle.envy_base.specs.Step.{Load, Look};
-ghost use Rattle.envy_mirror.specs.Pair.{is_good};
+ghost use Rattle.envy_layout.specs.Stands.{Stands};
+ghost use Rattle.envy_layout.specs.Words.{durable};
+ghost use Rattle.envy_memory.specs.Below.{IsPast};
+ghost use Rattle.envy_memory.specs.Calls.{Looks};
+ghost use Rattle.envy_mirror.specs.Pair.{is_good, side_at};
 ghost use Rattle.envy_mirror.specs.Reading.{AsksLowest, Finds, SeesLowest};
+ghost use Rattle.envy_mirror.specs.Reviving.{which};
 
 use crate::mirror::Mirror;
 use envy_base::Bench;
@@ -45,5 +51,26 @@ impl<A: Bench, B: Bench> Mirror<A, B> {
             return self.second.memory.look(a);
         }
         Err(LoadFault::Off)
+    }
+    /// The committed word at an address of one side, which a restart of it would leave, also where it isn't Good: one that is
+    /// Behind may have an older word. It is no access to the page.
+    ///
+    /// # Errors
+    ///
+    /// `Off` where the side has no power, then `Range`.
+    pub fn look_at(&self, side: u8, a: u32) -> Result<u64, LoadFault>
+        requires { side < 2 }
+        ensures word { OnOk result
+            (result ≡ Ok (slice_index (durable (side_at (which side) self.now).memory.chart) a)) }
+        ensures step { (m : Array) → Stands (side_at (which side) self.now).memory.chart m
+            → Looks m a result (side_at (which side) self.now).memory.chart }
+        ensures off { (result ≡ Err LoadFault.Off)
+            ↔ ((side_at (which side) self.now).memory.chart.on ≡ false) }
+        ensures range { (result ≡ Err LoadFault.Range) ↔ IsPast a (side_at (which side) self.now).memory }
+    {
+        match side {
+            0 => self.first.memory.look(a),
+            _ => self.second.memory.look(a),
+        }
     }
 }

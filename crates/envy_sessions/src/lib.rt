@@ -1,4 +1,5 @@
-//! Sessions with a memory: tables of calls, failures of power among them, and the answer that each must have.
+//! Sessions with a memory: tables of calls, failures of power among them, and the answer that each must have. And such with
+//! a pair of memories.
 //!
 //! One function makes the steps of all sessions. The board under them also sees whether a row is programmed twice
 //! between erases, or out of order within its segment.
@@ -12,6 +13,8 @@ mod drawn;
 mod failures;
 #[cfg(test)]
 mod formats;
+#[cfg(test)]
+mod mirrors;
 #[cfg(test)]
 mod ordered;
 #[cfg(test)]

@@ -1,13 +1,15 @@
 //! Catching up, both sides cut, and waiting for a slot, as a client would do it.
 
-use crate::tests::calls::{Call, Pair, Reply, made, paired};
-use crate::{CatchFault, Caught};
+use crate::mirrors::calls::{Call, Pair, Reply, made, paired};
+use crate::mirrors::told::same;
 use envy_memory::{LoadFault, ReviveFault};
+use envy_mirror::{CatchFault, Caught};
 use envy_policy::Policy;
-use std::test::Fail;
+use std::alloc::Global;
+use std::process::Abort;
 
 /// What a client asks of a pair, and its answer.
-#[derive(Clone, Copy, Debug, PartialEq, Eq)]
+#[derive(Clone, Copy, Debug, PartialEq)]
 enum Step {
     Makes(Call, Reply),
     Loads(u32, Result<u64, LoadFault>),
@@ -39,7 +41,7 @@ fn step_made(pair: &mut Pair, step: Step) -> Step {
 }
 
 /// Steps of a client, as it would make them.
-#[derive(Clone, Copy, Debug)]
+#[derive(Clone, Copy)]
 struct Client {
     name: &'static str,
     steps: &'static [Step],
@@ -95,15 +97,19 @@ const CLIENTS: [Client; 2] = [
     },
 ];
 
-#[test]
-fn clients_are_answered(rt: HostRuntime) -> Result<(), Fail> {
-    for client in CLIENTS.as_slice() {
-        let mut mirror = paired(&rt, rt.alloc(), Policy::Greedy)?;
-        for step in client.steps {
-            let told = step_made(&mut mirror, *step);
-            assert_eq!(rt; told, *step, "{}", client.name);
-        }
-        let (_a, _b) = mirror.into_boards();
+/// Makes each step of a client, over a pair of its own.
+fn play(rt: &impl Abort, alloc: Global, client: &Client) {
+    let mut mirror = paired(rt, alloc, Policy::Greedy);
+    for step in client.steps {
+        let told = step_made(&mut mirror, *step);
+        same(rt, &told, step, client.name);
     }
-    Ok(())
+    let (_a, _b) = mirror.into_boards();
+}
+
+#[test]
+fn clients_are_answered(rt: HostRuntime) {
+    for client in CLIENTS.as_slice() {
+        play(&rt, rt.alloc(), client);
+    }
 }

@@ -1,18 +1,17 @@
 //! A pair over two boards in memory beside the plain machine, while power and flash operations fail.
 
-use crate::Caught;
-use crate::half::Half;
-use crate::tests::calls::{Call, Pair, Reply, SMALL, made, made_plainly, paired};
-use envy_base::Bench;
+use crate::mirrors::calls::{Call, Pair, Reply, SMALL, made, made_plainly, paired};
+use crate::mirrors::told::{same, same_of, same_word};
 use envy_memory::LoadFault;
+use envy_mirror::Caught;
 use envy_plain::Plain;
 use envy_policy::Policy;
 use std::alloc::Global;
 use std::process::Abort;
-use std::test::Fail;
 
 mod calls;
 mod clients;
+mod told;
 
 const WORDS: u32 = 320;
 
@@ -38,28 +37,32 @@ fn drawn_call(seed: &mut u64) -> Call {
     }
 }
 
-/// Whether a restart of this side would find the words that the plain machine has committed.
-fn is_kept<B: Bench>(side: &Half<B>, plain: &Plain) -> bool {
-    for a in 0..WORDS {
-        if side.memory.look(a).ok() != plain.look(a).ok() {
-            return false;
+/// Where a side is Good, a restart of it would find the words that the plain machine has committed.
+fn assert_kept(rt: &impl Abort, mirror: &Pair, side: u8, name: &str, plain: &Plain) {
+    assert!(rt; side < 2);
+    if mirror.good(side) {
+        for a in 0..WORDS {
+            let (found, wanted) = (mirror.look_at(side, a).ok(), plain.look(a).ok());
+            same_word(rt, found, wanted, name, a);
         }
     }
-    true
 }
 
 /// Each Good side has the committed words, and the pair the words that loads read.
 fn assert_same(rt: &impl Abort, mirror: &mut Pair, plain: &Plain) {
-    if mirror.first.is_good() {
-        assert!(rt; is_kept(&mirror.first, plain));
-    }
-    if mirror.second.is_good() {
-        assert!(rt; is_kept(&mirror.second, plain));
-    }
+    assert_kept(rt, mirror, 0, "word of side 0 at", plain);
+    assert_kept(rt, mirror, 1, "word of side 1 at", plain);
     for a in 0..WORDS {
-        assert_eq!(rt; mirror.load(a).ok(), plain.load(a).ok(), "load of {a}");
+        let (found, wanted) = (mirror.load(a).ok(), plain.load(a).ok());
+        same_word(rt, found, wanted, "load of", a);
     }
-    assert_eq!(rt; mirror.load(WORDS), Err(LoadFault::Range));
+    let past = mirror.load(WORDS);
+    same(
+        rt,
+        &past,
+        &Err(LoadFault::Range),
+        "load behind the last word",
+    );
 }
 
 /// Lets power return to the side that was Good last.
@@ -89,7 +92,7 @@ fn lose(rt: &impl Abort, mirror: &mut Pair, plain: &mut Plain, call: Call) {
             matches!(call, Call::Store(_, _) | Call::Commit(_)),
             "a call is half done"
         );
-        assert_eq!(rt; made_plainly(plain, call), Reply::Done);
+        same_of(rt, &made_plainly(plain, call), &Reply::Done, &call);
     }
     plain.power();
 }
@@ -99,7 +102,7 @@ fn make(rt: &impl Abort, mirror: &mut Pair, plain: &mut Plain, call: Call) {
     match made(mirror, call) {
         Reply::Bad => {}
         Reply::Off => lose(rt, mirror, plain, call),
-        told => assert_eq!(rt; made_plainly(plain, call), told, "{call:?}"),
+        told => same_of(rt, &made_plainly(plain, call), &told, &call),
     }
 }
 
@@ -128,41 +131,45 @@ fn disturb(rt: &impl Abort, mirror: &mut Pair, plain: &mut Plain, seed: &mut u64
     false
 }
 
-/// Lines under a policy; after each, every word of each Good side is compared. A side must have caught up at times.
-fn run(rt: &impl Abort, alloc: Global, policy: Policy, lines: u32) -> Result<(), Fail> {
-    let mut plain = Plain::new(alloc, &SMALL)?;
-    let mut mirror = paired(rt, alloc, policy)?;
+/// Makes so many drawn calls; after each, every word of each Good side is compared. A side must have caught up at times.
+fn drive(rt: &impl Abort, alloc: Global, mirror: &mut Pair, lines: u32) {
+    let mut plain = Plain::new(alloc, &SMALL).expect(rt, "no room for a machine");
     let mut seed = 11;
     let mut joined = false;
     for _ in 0..lines {
-        if disturb(rt, &mut mirror, &mut plain, &mut seed) {
+        if disturb(rt, mirror, &mut plain, &mut seed) {
             joined = true;
         }
         let call = drawn_call(&mut seed);
-        make(rt, &mut mirror, &mut plain, call);
-        assert_same(rt, &mut mirror, &plain);
+        make(rt, mirror, &mut plain, call);
+        assert_same(rt, mirror, &plain);
     }
     assert!(rt; joined);
+}
+
+/// Drawn calls under a policy.
+fn run(rt: &impl Abort, alloc: Global, policy: Policy) {
+    let mut mirror = paired(rt, alloc, policy);
+    drive(rt, alloc, &mut mirror, 800);
     let (_a, _b) = mirror.into_boards();
-    Ok(())
 }
 
 #[test]
-fn pair_is_the_plain_machine_under_greedy(rt: HostRuntime) -> Result<(), Fail> {
-    run(&rt, rt.alloc(), Policy::Greedy, 800)
+fn pair_is_the_plain_machine_under_greedy(rt: HostRuntime) {
+    run(&rt, rt.alloc(), Policy::Greedy);
 }
 
 #[test]
-fn pair_is_the_plain_machine_under_fifo(rt: HostRuntime) -> Result<(), Fail> {
-    run(&rt, rt.alloc(), Policy::Fifo, 800)
+fn pair_is_the_plain_machine_under_fifo(rt: HostRuntime) {
+    run(&rt, rt.alloc(), Policy::Fifo);
 }
 
 #[test]
-fn pair_is_the_plain_machine_under_locality(rt: HostRuntime) -> Result<(), Fail> {
-    run(&rt, rt.alloc(), Policy::Locality, 800)
+fn pair_is_the_plain_machine_under_locality(rt: HostRuntime) {
+    run(&rt, rt.alloc(), Policy::Locality);
 }
 
 #[test]
-fn pair_is_the_plain_machine_under_hybrid(rt: HostRuntime) -> Result<(), Fail> {
-    run(&rt, rt.alloc(), Policy::Hybrid(2), 800)
+fn pair_is_the_plain_machine_under_hybrid(rt: HostRuntime) {
+    run(&rt, rt.alloc(), Policy::Hybrid(2));
 }

@@ -4,15 +4,14 @@ ghost use Rattle.std.specs.Prelude.{◌≡◌};
 ghost use Rattle.envy_base.specs.Array.{zeros};
 ghost use Rattle.envy_layout.specs.Stands.{Stands};
 
-use crate::Mirror;
 use envy_base::{Shape, Trouble};
 use envy_bench::MemBoard;
 use envy_memory::{BeginFault, EndFault, Memory, PutFault, StoreFault};
+use envy_mirror::Mirror;
 use envy_plain::{Plain, Refusal};
 use envy_policy::{Policy, Setup};
 use std::alloc::Global;
 use std::process::Abort;
-use std::test::Fail;
 
 pub(crate) const SMALL: Shape = Shape {
     segments: 6,
@@ -26,7 +25,7 @@ pub(crate) const SMALL: Shape = Shape {
 pub(crate) type Pair = Mirror<MemBoard, MemBoard>;
 
 /// A call that a pair and the plain machine have.
-#[derive(Clone, Copy, Debug, PartialEq, Eq)]
+#[derive(Clone, Copy, Debug, PartialEq)]
 pub(crate) enum Call {
     Store(u32, u64),
     Begin,
@@ -37,7 +36,7 @@ pub(crate) enum Call {
 }
 
 /// What a call answers.
-#[derive(Clone, Copy, Debug, PartialEq, Eq)]
+#[derive(Clone, Copy, Debug, PartialEq)]
 pub(crate) enum Reply {
     Done,
     Started(u8),
@@ -130,10 +129,13 @@ pub(crate) fn made_plainly(plain: &mut Plain, call: Call) -> Reply {
     }
 }
 
-fn formatted(rt: &impl Abort, alloc: Global, board: MemBoard, policy: Policy) -> Memory<MemBoard>
+/// A memory over a board that was just formatted.
+fn formatted(rt: &impl Abort, alloc: Global, policy: Policy) -> Memory<MemBoard>
     ensures shape { result.chart.shape ≡ SMALL }
     ensures zeros { Stands result.chart (zeros result.chart.shape.pages result.chart.shape.shadows) }
 {
+    SMALL.check().expect(rt, "the shape");
+    let board = MemBoard::new(alloc, &SMALL, u32::MAX).expect(rt, "no room for a board");
     let setup = Setup {
         shape: SMALL,
         policy,
@@ -146,14 +148,12 @@ fn formatted(rt: &impl Abort, alloc: Global, board: MemBoard, policy: Policy) ->
     }
 }
 
-pub(crate) fn paired(rt: &impl Abort, alloc: Global, policy: Policy) -> Result<Pair, Fail> {
-    SMALL.check()?;
-    let a = MemBoard::new(alloc, &SMALL, u32::MAX)?;
-    let b = MemBoard::new(alloc, &SMALL, u32::MAX)?;
-    let a = formatted(rt, alloc, a, policy);
-    let b = formatted(rt, alloc, b, policy);
+/// A pair of two formatted boards.
+pub(crate) fn paired(rt: &impl Abort, alloc: Global, policy: Policy) -> Pair {
+    let a = formatted(rt, alloc, policy);
+    let b = formatted(rt, alloc, policy);
     match Mirror::new(alloc, a, b) {
-        Ok(mirror) => Ok(mirror),
+        Ok(mirror) => mirror,
         Err((a, b, _)) => {
             let (_a, _b) = (a.into_board(), b.into_board());
             panic!(rt; "no memory")
