@@ -1,6 +1,6 @@
 ghost use Rattle.std.specs.Prelude.{◌≡◌, ◌<◌, ◌≤◌, ℕ, length, slice_index};
 
-use crate::told::same;
+use crate::told::{holds_at, same_of};
 use envy_base::Shape;
 use envy_policy::{Choice, Class, Lifetime, Rows};
 use std::alloc::Global;
@@ -68,7 +68,7 @@ fn flush_others(lifetime: &mut Lifetime, flushes: u32)
 }
 
 /// What is noted, or asked with its answer.
-#[derive(Clone, Copy, Debug, PartialEq, Eq)]
+#[derive(Clone, Copy)]
 enum Step {
     /// A flush to a position, of a page.
     Flushes(u32, u32),
@@ -81,7 +81,6 @@ enum Step {
     Chooses([[u8; 3]; 3], u32, Choice),
     /// By free rows, beside a job that may be emptying a position, for a page.
     Beside([u8; 3], Option<u32>, u32, Option<u32>),
-    Unknown,
 }
 
 fn widened(numbers: [u8; 3]) -> [u32; 3]
@@ -120,8 +119,8 @@ fn chosen_beside(lifetime: &Lifetime, free: [u8; 3], emptied: Option<u32>, page:
     lifetime.beside(&rows, emptied, page)
 }
 
-/// Makes a step, and tells it with the answer that it got.
-fn told(lifetime: &mut Lifetime, step: Step) -> Step
+/// Makes a step, and tests that it is answered as it says.
+fn check_step(rt: &impl Abort, lifetime: &mut Lifetime, name: &str, at: u64, step: Step)
     requires positions { length lifetime.old.cleaned ≡ 3 }
     requires pages { length lifetime.old.born ≡ 16 }
     ensures positions { length lifetime.new.cleaned ≡ 3 }
@@ -130,38 +129,30 @@ fn told(lifetime: &mut Lifetime, step: Step) -> Step
     match step {
         Step::Flushes(position, page) if position < 3 && page < 16 => {
             lifetime.note_flush(position, page);
-            step
         }
-        Step::Others(flushes) => {
-            flush_others(lifetime, flushes);
-            step
+        Step::Others(flushes) => flush_others(lifetime, flushes),
+        Step::Cleans(position) if position < 3 => lifetime.note_clean(position),
+        Step::Resets => lifetime.reset(),
+        Step::IsOf(page, class) if page < 16 => {
+            same_of(rt, &lifetime.class_of(page), &class, name, &at);
         }
-        Step::Cleans(position) if position < 3 => {
-            lifetime.note_clean(position);
-            step
+        Step::Chooses(rows, page, choice) if page < 16 => {
+            same_of(rt, &chosen(lifetime, rows, page), &Some(choice), name, &at);
         }
-        Step::Resets => {
-            lifetime.reset();
-            step
+        Step::Beside(free, emptied, page, position) if page < 16 => {
+            let found = chosen_beside(lifetime, free, emptied, page);
+            same_of(rt, &found, &position, name, &at);
         }
-        Step::IsOf(page, _) if page < 16 => Step::IsOf(page, lifetime.class_of(page)),
-        Step::Chooses(rows, page, _) if page < 16 => match chosen(lifetime, rows, page) {
-            Some(choice) => Step::Chooses(rows, page, choice),
-            None => Step::Unknown,
-        },
-        Step::Beside(free, emptied, page, _) if page < 16 => {
-            let position = chosen_beside(lifetime, free, emptied, page);
-            Step::Beside(free, emptied, page, position)
-        }
-        _ => Step::Unknown,
+        // there is no such position or page
+        _ => holds_at(rt, false, name, at),
     }
 }
 
-/// Nothing is noted before the steps.
+/// Nothing is noted before the steps. Where one is answered otherwise, its number is told.
 fn check_steps(rt: &impl Abort, alloc: Global, name: &str, steps: &[Step]) {
     let mut lifetime = unnoted(rt, alloc);
-    for step in steps {
-        same(rt, &told(&mut lifetime, *step), step, name);
+    for i in 0..steps.len() {
+        check_step(rt, &mut lifetime, name, i as u64, steps[i]);
     }
 }
 
