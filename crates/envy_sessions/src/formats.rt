@@ -110,22 +110,27 @@ fn declined(
     }
 }
 
-#[test]
-fn new_board_and_one_of_another_shape_are_declined(rt: HostRuntime) {
-    let nine = Setup {
-        shape: Shape {
-            frames: 9,
-            ..COMMON.shape
-        },
-        ..COMMON
-    };
-    let board = new_board(&rt, rt.alloc(), &COMMON, 0);
+/// A new board is declined, and is formatted then.
+fn formatted_anew(rt: &impl Abort, alloc: Global) -> OrderedBoard
+    ensures { IsSound (chart (board_state result.inner)) }
+{
+    let board = new_board(rt, alloc, &COMMON, 0);
     let Ok(false) = is_formatted(&board) else {
         panic!(rt; "formatted");
     };
-    let (board, fault) = declined(&rt, Memory::attach(rt.alloc(), board, COMMON));
-    same_at(&rt, &fault, &AttachFault::NotFormatted, "attach", 1);
-    let board = formatted(&rt, rt.alloc(), board, COMMON).into_board();
+    let (board, fault) = declined(rt, Memory::attach(alloc, board, COMMON));
+    same_at(rt, &fault, &AttachFault::NotFormatted, "attach", 1);
+    formatted(rt, alloc, board, COMMON).into_board()
+}
+
+#[test]
+fn new_board_and_one_of_another_shape_are_declined(rt: HostRuntime) {
+    let shape = Shape {
+        frames: 9,
+        ..COMMON.shape
+    };
+    let nine = Setup { shape, ..COMMON };
+    let board = formatted_anew(&rt, rt.alloc());
     let (board, fault) = declined(&rt, Memory::attach(rt.alloc(), board, nine));
     let other = AttachFault::OtherShape { kept: COMMON.shape };
     same_at(&rt, &fault, &other, "attach", 2);

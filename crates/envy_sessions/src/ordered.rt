@@ -7,7 +7,7 @@ ghost use Rattle.envy_bench.specs.Parts.{new_state};
 
 use crate::session::new_board;
 use crate::setups::COMMON;
-use crate::told::{holds_at, same_at};
+use crate::told::same_at;
 use envy_base::{Bench, Board, NoMemory, Off, Shape, Trouble};
 use envy_bench::MemBoard;
 use std::alloc::Global;
@@ -167,27 +167,33 @@ fn programmed(board: &mut OrderedBoard, row: u32) -> Option<Result<(), Trouble>>
     Some(board.program(row, &[u64::MAX - 1; 32]))
 }
 
-/// Programs rows of a new board, and erases them: the breach is told from then on.
+/// Programs rows, which the board does.
+fn program_all(rt: &impl Abort, board: &mut OrderedBoard, rows: [u32; 3]) {
+    for i in 0..3 {
+        let row = rows[i];
+        same_at(
+            rt,
+            &programmed(board, row),
+            &Some(Ok(())),
+            "program of row",
+            row as u64,
+        );
+    }
+}
+
+/// Programs rows of a new board, and erases them: the breach is told from then on. The last row tells them apart.
 fn check_programs(rt: &impl Abort, alloc: Global, rows: [u32; 3], breach: Option<Breach>) {
     let mut board = new_board(rt, alloc, &COMMON, 0);
-    for row in rows {
-        let is = programmed(&mut board, row) == Some(Ok(()));
-        holds_at(rt, is, "program of row", row as u64);
-    }
-    same_at(
-        rt,
-        &board.breach(),
-        &breach,
-        "breach of row",
-        rows[2] as u64,
-    );
-    holds_at(rt, board.erase(0) == Ok(()), "erase of segment", 0);
+    program_all(rt, &mut board, rows);
+    let last = rows[2] as u64;
+    same_at(rt, &board.breach(), &breach, "breach of row", last);
+    same_at(rt, &board.erase(0), &Ok(()), "erase behind row", last);
     same_at(
         rt,
         &board.breach(),
         &breach,
         "breach behind the erase of row",
-        rows[2] as u64,
+        last,
     );
 }
 

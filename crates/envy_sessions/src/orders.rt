@@ -31,14 +31,11 @@ type Flushed = (u32, u32, bool, bool);
 /// absent, and whether its undo is clear.
 type Ended = (Slot, (bool, bool), (bool, bool));
 
-/// Where a page is, if the board has it.
-fn place_of(board: &OrderedBoard, page: u32) -> Option<Result<Place, Off>>
+/// Whether a page is at this place.
+fn is_at(board: &OrderedBoard, page: u32, at: Place) -> bool
     requires { IsSound (chart (board_state board.now.inner)) }
 {
-    if page >= board.shape().pages {
-        return None;
-    }
-    Some(place(board, page))
+    page < board.shape().pages && place(board, page) == Ok(at)
 }
 
 /// Whether a page is absent, and whether its undo is clear, if the board has it.
@@ -68,6 +65,16 @@ fn claim(board: &OrderedBoard) -> Option<(u32, u32)>
     }
 }
 
+/// What a flush has left; none where the board hasn't the rows and pages.
+fn flushed(board: &OrderedBoard) -> Option<Flushed>
+    requires { IsSound (chart (board_state board.now.inner)) }
+{
+    let (page, rows) = claim(board)?;
+    let moved = is_at(board, 3, Place::Row(4));
+    let absent = is_at(board, 2, Place::Absent);
+    Some((page, rows, moved, absent))
+}
+
 /// Lets power return to a board that has none, and nothing else.
 fn lit(rt: &impl process::Abort, mut board: OrderedBoard) -> OrderedBoard
     requires { IsSound (chart (board_state board.inner)) }
@@ -91,18 +98,7 @@ fn cut(rt: &impl process::Abort, alloc: Global, order: &Order, k: u32) -> Ordere
 /// Tests what stands on the board of a flush that is cut at this operation.
 fn check_flush(rt: &impl process::Abort, alloc: Global, k: u32, left: Flushed) {
     let board = cut(rt, alloc, &FLUSH, k);
-    let (page, rows, moved, absent) = left;
-    same_at(
-        rt,
-        &claim(&board),
-        &Some((page, rows)),
-        FLUSH.name,
-        k as u64,
-    );
-    let is = place_of(&board, 3) == Some(Ok(Place::Row(4)));
-    same_at(rt, &is, &moved, FLUSH.name, k as u64);
-    let is = place_of(&board, 2) == Some(Ok(Place::Absent));
-    same_at(rt, &is, &absent, FLUSH.name, k as u64);
+    same_at(rt, &flushed(&board), &Some(left), FLUSH.name, k as u64);
 }
 
 /// Tests what stands on the board of the end of a transaction that is cut at this operation.
