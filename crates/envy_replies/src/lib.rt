@@ -1,5 +1,5 @@
-//! Tests of what each word of the program does: tables of words and traces with their replies, over boards in memory and
-//! over boards on which failures are planned.
+//! Tests of what each word of the program does: tables of words and traces with their replies, over boards in memory on
+//! which failures may be planned.
 #![tactic(auto)]
 
 #[cfg(test)]

@@ -1,139 +1,99 @@
 //! Loads and stores, failures of power, and lines that are refused.
 
 use crate::playing::{calm, play};
-use crate::rows::{BOTH, Ends, Piece, RUN, Row, check_played, check_rows};
-use crate::told::same;
-use Piece::Says;
-use std::test::Fail;
+use crate::rows::{check_played, check_table, stops};
+use crate::told::{holds, same};
 
-const LOADS: &[Row] = &[
-    Row {
-        name: "an empty trace",
-        commands: BOTH,
-        script: &[Says("", "")],
-        ends: Ends::Done,
-    },
-    Row {
-        name: "a first load",
-        commands: BOTH,
-        script: &[Says("load 0\n", "0\n")],
-        ends: Ends::Done,
-    },
-    Row {
-        name: "the last word",
-        commands: BOTH,
-        script: &[Says(
-            "store 2047 18446744073709551615\nload 2047\n",
-            "ok\n18446744073709551615\n",
-        )],
-        ends: Ends::Done,
-    },
-    Row {
-        name: "out of range",
-        commands: BOTH,
-        script: &[Says("store 2048 1\nload 4294967295\n", "range\nrange\n")],
-        ends: Ends::Done,
-    },
-    Row {
-        name: "blanks and comments",
-        commands: BOTH,
-        script: &[Says("# day one\n\tstore  007 1\r\n\nload 7", "ok\n1\n")],
-        ends: Ends::Done,
-    },
-    Row {
-        name: "a look",
-        commands: BOTH,
-        script: &[Says("store 5 1\nlook 5\nlook 2048\n", "ok\n1\nrange\n")],
-        ends: Ends::Done,
-    },
-    Row {
-        name: "power between stores",
-        commands: BOTH,
-        script: &[Says(
-            "store 5 1\npower\nload 5\npower\n",
-            "ok\nrestarted\n1\nrestarted\n",
-        )],
-        ends: Ends::Done,
-    },
-    Row {
-        name: "a cut store that isn't done",
-        commands: RUN,
-        script: &[Says(
-            "store 5 1\ncut 1 0\nstore 5 2\nload 5\n",
-            "ok\narmed\nlost\nrestarted\n1\n",
-        )],
-        ends: Ends::Done,
-    },
-    Row {
-        name: "a cut store that is done",
-        commands: RUN,
-        script: &[Says(
-            "store 5 1\ncut 1 1\nstore 5 2\nload 5\n",
-            "ok\narmed\nlost\nrestarted\n2\n",
-        )],
-        ends: Ends::Done,
-    },
-    Row {
-        name: "nothing fails on the plain machine",
-        commands: &["plain"],
-        script: &[Says(
-            "tick\ncut 1 0\nbad 1 0\nstore 5 1\nstat\n",
-            "ok\narmed\narmed\nok\nstat hits 0 misses 0 flushes 0 copies 0 moves 0 erases 0 swaps 0 cost 0\n",
-        )],
-        ends: Ends::Done,
-    },
-];
+const LOADS: &str = "\
+~ an empty trace
+$ run
+$ plain
+~ a first load
+$ run
+$ plain
+> load 0;
+< 0;
+~ the last word
+$ run
+$ plain
+> store 2047 18446744073709551615;load 2047;
+< ok;18446744073709551615;
+~ out of range
+$ run
+$ plain
+> store 2048 1;load 4294967295;
+< range;range;
+~ blanks and comments
+$ run
+$ plain
+> # day one;\tstore  007 1\r;;load 7
+< ok;1;
+~ a look
+$ run
+$ plain
+> store 5 1;look 5;look 2048;
+< ok;1;range;
+~ power between stores
+$ run
+$ plain
+> store 5 1;power;load 5;power;
+< ok;restarted;1;restarted;
+~ a cut store that isn't done
+$ run
+> store 5 1;cut 1 0;store 5 2;load 5;
+< ok;armed;lost;restarted;1;
+~ a cut store that is done
+$ run
+> store 5 1;cut 1 1;store 5 2;load 5;
+< ok;armed;lost;restarted;2;
+~ nothing fails on the plain machine
+$ plain
+> tick;cut 1 0;bad 1 0;store 5 1;stat;
+< ok;armed;armed;ok;stat hits 0 misses 0 flushes 0 copies 0 moves 0 erases 0 swaps 0 cost 0;
+";
 
 #[test]
-fn loads_and_stores_are_answered(rt: HostRuntime) -> Result<(), Fail> {
-    check_rows(&rt, LOADS)
+fn loads_and_stores_are_answered(rt: HostRuntime) {
+    check_table(&rt, LOADS);
 }
 
-const REFUSED: &[Row] = &[
-    Row {
-        name: "a field too many",
-        commands: BOTH,
-        script: &[Says("load 5 6\n", "")],
-        ends: Ends::Stops(5, 3, 0, "envy: line 1: wrong count of fields"),
-    },
-    Row {
-        name: "no word of a line",
-        commands: BOTH,
-        script: &[Says("jump 1\n", "")],
-        ends: Ends::Stops(5, 1, 0, "envy: line 1: unknown word"),
-    },
-    Row {
-        name: "a number past 32 bits",
-        commands: BOTH,
-        script: &[Says("load 4294967296\n", "")],
-        ends: Ends::Stops(5, 2, 0, "envy: line 1: bad number"),
-    },
-    Row {
-        name: "a cut of no operation",
-        commands: BOTH,
-        script: &[Says("cut 0 1\n", "")],
-        ends: Ends::Stops(5, 2, 0, "envy: line 1: bad number"),
-    },
-    Row {
-        name: "a comment of 121 bytes",
-        commands: BOTH,
-        script: &[Says(
-            "#########################################################################################################################",
-            "",
-        )],
-        ends: Ends::Stops(5, 4, 0, "envy: line 1: longer than 120 bytes"),
-    },
-    Row {
-        name: "a field too few in the third line",
-        commands: BOTH,
-        script: &[Says("store 5 1\nload 5\nstore 5\n", "ok\n1\n")],
-        ends: Ends::Stops(5, 3, 2, "envy: line 3: wrong count of fields"),
-    },
-];
+const REFUSED: &str = "\
+~ a field too many
+$ run
+$ plain
+> load 5 6;
+ends 5 3 0 envy: line 1: wrong count of fields
+~ no word of a line
+$ run
+$ plain
+> jump 1;
+ends 5 1 0 envy: line 1: unknown word
+~ a number past 32 bits
+$ run
+$ plain
+> load 4294967296;
+ends 5 2 0 envy: line 1: bad number
+~ a cut of no operation
+$ run
+$ plain
+> cut 0 1;
+ends 5 2 0 envy: line 1: bad number
+~ a comment of 121 bytes
+$ run
+$ plain
+> #########################################################################################################################
+ends 5 4 0 envy: line 1: longer than 120 bytes
+~ a field too few in the third line
+$ run
+$ plain
+> store 5 1;load 5;store 5;
+< ok;1;
+ends 5 3 2 envy: line 3: wrong count of fields
+";
 
 #[test]
-fn refused_lines_are_named(rt: HostRuntime) -> Result<(), Fail> {
-    check_rows(&rt, REFUSED)
+fn refused_lines_are_named(rt: HostRuntime) {
+    check_table(&rt, REFUSED);
 }
 
 /// The SRAM word of the first place, on the usual board.
@@ -143,15 +103,14 @@ const TABLE: usize = 95;
 const FRAMES: u64 = 303;
 
 #[test]
-fn power_that_does_not_return_ends_the_run(rt: HostRuntime) -> Result<(), Fail> {
+fn power_that_does_not_return_ends_the_run(rt: HostRuntime) {
     let given = calm("run --lives 0", b"store 5 1\npower\n");
-    let told = play(rt.alloc(), &given)?;
-    let ends = Ends::Stops(6, 0, 2, "envy: power did not return after 2 lines");
+    let told = play(&rt, &given);
+    let ends = stops(6, 0, 2, "envy: power did not return after 2 lines");
     check_played(&rt, "no lives", &given, &told, ends, b"ok\n");
     // page 0 stands in a frame, whose sixth word was stored
     let place = told.word(TABLE).unwrap_or(0) % (1 << 32);
-    same(&rt, &(place % 4), &2, "no lives", "place");
+    same(&rt, place % 4, 2, "no lives", "place");
     let word = FRAMES + 32 * (place / 4) + 5;
-    same(&rt, &told.word(word as usize), &Some(1), "no lives", "word");
-    Ok(())
+    holds(&rt, told.word(word as usize) == Some(1), "no lives", "word");
 }

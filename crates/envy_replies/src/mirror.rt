@@ -1,313 +1,187 @@
 //! Traces over a mirrored pair of boards.
 
-use crate::planned::Plan;
-use crate::playing::{Seen, calm, play_planned};
-use crate::rows::{Ends, Piece, Row, check_played, check_rows};
-use crate::told::same;
-use Piece::{Each, Says};
-use std::process::Abort;
-use std::test::Fail;
+use crate::rows::check_table;
 
-/// The words alone.
-const MIRROR: &[&str] = &["mirror"];
-
-/// No lives.
-const LIFELESS: &[&str] = &["mirror --lives 0"];
-
-const LIVING: &[Row] = &[
-    Row {
-        name: "catching up",
-        commands: MIRROR,
-        script: &[
-            Says("store 5 1\npower\nstore 5 2\nload 5\n", "ok\ngone\nok\n2\n"),
-            Says("catch\n", "woken\n"),
-            Each(0, 64, "catch\n", "copied #\n"),
-            Says("catch\ncatch\n", "joined\nwhole\n"),
-            Says("side 1\npower\nload 5\n", "ok\ngone\n2\n"),
-        ],
-        ends: Ends::Done,
-    },
-    Row {
-        name: "both sides cut",
-        commands: MIRROR,
-        script: &[Says(
-            "store 5 1\npower\nside 1\npower\nload 5\n",
-            "ok\ngone\nok\nrestarted\n1\n",
-        )],
-        ends: Ends::Done,
-    },
-    Row {
-        name: "waiting for a slot",
-        commands: MIRROR,
-        script: &[Says(
-            "begin\nput 0 5 7\npower\ncatch\ncatch\ncommit 0\ncatch\n",
-            "tx 0\nok\ngone\nwoken\nwaiting 0\nok\ncopied 0\n",
-        )],
-        ends: Ends::Done,
-    },
-    Row {
-        name: "waiting for the lowest slot",
-        commands: MIRROR,
-        script: &[Says(
-            "begin\nbegin\nbegin\ncommit 0\npower\ncatch\ncatch\nabort 1\ncatch\nabort 2\ncatch\n",
-            "tx 0\ntx 1\ntx 2\nok\ngone\nwoken\nwaiting 1\nok\nwaiting 2\nok\ncopied 0\n",
-        )],
-        ends: Ends::Done,
-    },
-    Row {
-        name: "a store makes a copied page stale again",
-        commands: &["mirror --pages 4"],
-        script: &[
-            Says("store 5 1\npower\nstore 5 2\nload 5\n", "ok\ngone\nok\n2\n"),
-            Says(
-                "catch\nbegin\nput 0 40 7\ncatch\ncommit 0\n",
-                "woken\ntx 0\nok\nwaiting 0\nok\n",
-            ),
-            Each(0, 3, "catch\n", "copied #\n"),
-            Says(
-                "store 6 3\ncatch\ncatch\ncatch\ncatch\n",
-                "ok\ncopied 0\ncopied 3\njoined\nwhole\n",
-            ),
-            Says(
-                "side 1\npower\nload 5\nload 6\nload 40\n",
-                "ok\ngone\n2\n3\n7\n",
-            ),
-            Says(
-                "side 0\npower\nload 40\ncatch\ncatch\n",
-                "ok\nrestarted\n7\nwoken\ncopied 0\n",
-            ),
-        ],
-        ends: Ends::Done,
-    },
-    Row {
-        name: "a pair that is whole, and lines as of one board",
-        commands: MIRROR,
-        script: &[Says(
-            "# one\n\ncatch\nload 2047\nstore 2048 1\nlook 5\ncommit 9\ntick\ncatch\n",
-            "whole\n0\nrange\n0\nclosed\nok\nwhole\n",
-        )],
-        ends: Ends::Done,
-    },
-];
+const LIVING: &str = "\
+~ catching up
+$ mirror
+> store 5 1;power;store 5 2;load 5;
+< ok;gone;ok;2;
+> catch;
+< woken;
+* 0 64 catch;|copied %;
+> catch;catch;
+< joined;whole;
+> side 1;power;load 5;
+< ok;gone;2;
+~ both sides cut
+$ mirror
+> store 5 1;power;side 1;power;load 5;
+< ok;gone;ok;restarted;1;
+~ waiting for a slot
+$ mirror
+> begin;put 0 5 7;power;catch;catch;commit 0;catch;
+< tx 0;ok;gone;woken;waiting 0;ok;copied 0;
+~ waiting for the lowest slot
+$ mirror
+> begin;begin;begin;commit 0;power;catch;catch;abort 1;catch;abort 2;catch;
+< tx 0;tx 1;tx 2;ok;gone;woken;waiting 1;ok;waiting 2;ok;copied 0;
+~ a store makes a copied page stale again
+$ mirror --pages 4
+> store 5 1;power;store 5 2;load 5;
+< ok;gone;ok;2;
+> catch;begin;put 0 40 7;catch;commit 0;
+< woken;tx 0;ok;waiting 0;ok;
+* 0 3 catch;|copied %;
+> store 6 3;catch;catch;catch;catch;
+< ok;copied 0;copied 3;joined;whole;
+> side 1;power;load 5;load 6;load 40;
+< ok;gone;2;3;7;
+> side 0;power;load 40;catch;catch;
+< ok;restarted;7;woken;copied 0;
+~ a pair that is whole, and lines as of one board
+$ mirror
+> # one;;catch;load 2047;store 2048 1;look 5;commit 9;tick;catch;
+< whole;0;range;0;closed;ok;whole;
+";
 
 #[test]
-fn a_side_catches_up(rt: HostRuntime) -> Result<(), Fail> {
-    check_rows(&rt, LIVING)
+fn a_side_catches_up(rt: HostRuntime) {
+    check_table(&rt, LIVING);
 }
 
-const FAILING: &[Row] = &[
-    Row {
-        name: "loads ask the first side alone",
-        commands: MIRROR,
-        script: &[Says(
-            "load 0\nload 1\nload 128\nload 0\nstat\nside 1\nstat\n",
-            "0\n0\n0\n0\nstat hits 1 misses 3 flushes 0 copies 0 moves 0 erases 0 swaps 0 cost 0\nok\nstat hits 0 misses 0 flushes 0 copies 0 moves 0 erases 0 swaps 0 cost 0\n",
-        )],
-        ends: Ends::Done,
-    },
-    Row {
-        name: "a copy that is cut",
-        commands: MIRROR,
-        script: &[Says(
-            "store 5 1\npower\ncatch\ncut 1 0\ncatch\ncatch\ncatch\n",
-            "ok\ngone\nwoken\narmed\nslipped\nwoken\ncopied 0\n",
-        )],
-        ends: Ends::Done,
-    },
-    Row {
-        name: "a copy whose flush is bad",
-        commands: MIRROR,
-        script: &[
-            Says(
-                "store 5 1\npower\ncatch\nbad 1 3\n",
-                "ok\ngone\nwoken\narmed\n",
-            ),
-            Each(0, 8, "catch\n", "copied #\n"),
-            Says("catch\ncatch\n", "fault\ncopied 8\n"),
-        ],
-        ends: Ends::Done,
-    },
-    Row {
-        name: "a store that is bad on one side leaves the other",
-        commands: MIRROR,
-        script: &[
-            Says("bad 1 7\n", "armed\n"),
-            Each(0, 8, "store @ 1\n", "ok\n"),
-            Says(
-                "store 256 5\nload 256\nside 1\ncatch\npower\nload 256\n",
-                "ok\n5\nok\nwoken\nrestarted\n5\n",
-            ),
-        ],
-        ends: Ends::Done,
-    },
-    Row {
-        name: "a store that is bad on both sides",
-        commands: MIRROR,
-        script: &[
-            Says("bad 1 7\nside 1\nbad 1 7\n", "armed\nok\narmed\n"),
-            Each(0, 8, "store @ 1\n", "ok\n"),
-            Says(
-                "store 256 5\nload 256\ncatch\nstore 256 5\nload 256\n",
-                "fault\n0\nwhole\nok\n5\n",
-            ),
-        ],
-        ends: Ends::Done,
-    },
-    Row {
-        name: "a store that is cut on both sides and not done",
-        commands: MIRROR,
-        script: &[Says(
-            "store 5 1\ncut 1 0\nside 1\ncut 1 0\nstore 5 2\nload 5\ncatch\n",
-            "ok\narmed\nok\narmed\nlost\nrestarted\n1\nwoken\n",
-        )],
-        ends: Ends::Done,
-    },
-    Row {
-        name: "a store that is cut on both sides and done on the second",
-        commands: MIRROR,
-        script: &[Says(
-            "store 5 1\ncut 1 0\nside 1\ncut 1 1\nstore 5 2\nload 5\ncatch\n",
-            "ok\narmed\nok\narmed\nlost\nrestarted\n2\nwoken\n",
-        )],
-        ends: Ends::Done,
-    },
-    Row {
-        name: "a store that is cut on the first side",
-        commands: MIRROR,
-        script: &[Says(
-            "store 5 1\ncut 1 0\nstore 5 2\nload 5\ncatch\n",
-            "ok\narmed\nok\n2\nwoken\n",
-        )],
-        ends: Ends::Done,
-    },
-    Row {
-        name: "a side that doesn't come back",
-        commands: LIFELESS,
-        script: &[Says(
-            "store 5 1\npower\ncatch\nload 5\ncatch\n",
-            "ok\ngone\ndead\n1\ndead\n",
-        )],
-        ends: Ends::Done,
-    },
-    Row {
-        name: "both sides without lives",
-        commands: LIFELESS,
-        script: &[Says("store 5 1\npower\nside 1\npower\n", "ok\ngone\nok\n")],
-        ends: Ends::Stops(6, 0, 4, "envy: power did not return after 4 lines"),
-    },
-    Row {
-        name: "a store that is cut on both sides without lives",
-        commands: LIFELESS,
-        script: &[Says(
-            "cut 1 0\nside 1\ncut 1 0\nstore 5 2\nload 5\n",
-            "armed\nok\narmed\nlost\n",
-        )],
-        ends: Ends::Stops(6, 0, 4, "envy: power did not return after 4 lines"),
-    },
-    Row {
-        name: "no side 2",
-        commands: MIRROR,
-        script: &[Says("side 2\n", "")],
-        ends: Ends::Stops(5, 2, 0, "envy: line 1: bad number"),
-    },
-    Row {
-        name: "a field after a catch",
-        commands: MIRROR,
-        script: &[Says("catch\ncatch 1\n", "whole\n")],
-        ends: Ends::Stops(5, 3, 1, "envy: line 2: wrong count of fields"),
-    },
-];
+const FAILING: &str = "\
+~ loads ask the first side alone
+$ mirror
+> load 0;load 1;load 128;load 0;stat;side 1;stat;
+< 0;0;0;0;stat hits 1 misses 3 flushes 0 copies 0 moves 0 erases 0 swaps 0 cost 0;ok;
+< stat hits 0 misses 0 flushes 0 copies 0 moves 0 erases 0 swaps 0 cost 0;
+~ a copy that is cut
+$ mirror
+> store 5 1;power;catch;cut 1 0;catch;catch;catch;
+< ok;gone;woken;armed;slipped;woken;copied 0;
+~ a copy whose flush is bad
+$ mirror
+> store 5 1;power;catch;bad 1 3;
+< ok;gone;woken;armed;
+* 0 8 catch;|copied %;
+> catch;catch;
+< fault;copied 8;
+~ a store that is bad on one side leaves the other
+$ mirror
+> bad 1 7;
+< armed;
+* 0 8 store @ 1;|ok;
+> store 256 5;load 256;side 1;catch;power;load 256;
+< ok;5;ok;woken;restarted;5;
+~ a store that is bad on both sides
+$ mirror
+> bad 1 7;side 1;bad 1 7;
+< armed;ok;armed;
+* 0 8 store @ 1;|ok;
+> store 256 5;load 256;catch;store 256 5;load 256;
+< fault;0;whole;ok;5;
+~ a store that is cut on both sides and not done
+$ mirror
+> store 5 1;cut 1 0;side 1;cut 1 0;store 5 2;load 5;catch;
+< ok;armed;ok;armed;lost;restarted;1;woken;
+~ a store that is cut on both sides and done on the second
+$ mirror
+> store 5 1;cut 1 0;side 1;cut 1 1;store 5 2;load 5;catch;
+< ok;armed;ok;armed;lost;restarted;2;woken;
+~ a store that is cut on the first side
+$ mirror
+> store 5 1;cut 1 0;store 5 2;load 5;catch;
+< ok;armed;ok;2;woken;
+~ a side that doesn't come back
+$ mirror --lives 0
+> store 5 1;power;catch;load 5;catch;
+< ok;gone;dead;1;dead;
+~ both sides without lives
+$ mirror --lives 0
+> store 5 1;power;side 1;power;
+< ok;gone;ok;
+ends 6 0 4 envy: power did not return after 4 lines
+~ a store that is cut on both sides without lives
+$ mirror --lives 0
+> cut 1 0;side 1;cut 1 0;store 5 2;load 5;
+< armed;ok;armed;lost;
+ends 6 0 4 envy: power did not return after 4 lines
+~ no side 2
+$ mirror
+> side 2;
+ends 5 2 0 envy: line 1: bad number
+~ a field after a catch
+$ mirror
+> catch;catch 1;
+< whole;
+ends 5 3 1 envy: line 2: wrong count of fields
+";
 
 #[test]
-fn a_side_fails(rt: HostRuntime) -> Result<(), Fail> {
-    check_rows(&rt, FAILING)
+fn a_side_fails(rt: HostRuntime) {
+    check_table(&rt, FAILING);
 }
-
-/// How often power was cut, and how many operations were bad, on the first board and on the second.
-type Failures = [(u64, u64); 2];
 
 /// A failure that is planned for either board, and what becomes of the run.
-#[derive(Clone, Copy)]
-struct Planned {
-    name: &'static str,
-    command: &'static str,
-    plans: [Plan; 2],
-    ends: Ends,
-    replies: &'static str,
-    failures: Failures,
-}
-
-const TRACE: &[u8] = b"store 5 1\nload 5\n";
-
-const PLANNED: &[Planned] = &[
-    Planned {
-        name: "a bad operation on the first",
-        command: "mirror",
-        plans: [Plan::Bad(1, 3), Plan::Nothing],
-        ends: Ends::Stops(7, 0, 0, "envy: bad flash operation"),
-        replies: "",
-        failures: [(0, 1), (0, 0)],
-    },
-    Planned {
-        name: "a bad operation on the second",
-        command: "mirror",
-        plans: [Plan::Nothing, Plan::Bad(1, 3)],
-        ends: Ends::Stops(7, 0, 0, "envy: bad flash operation"),
-        replies: "",
-        failures: [(0, 0), (0, 1)],
-    },
-    Planned {
-        name: "a cut of the first, which has no lives",
-        command: "mirror --lives 0",
-        plans: [Plan::Cut(5, 2), Plan::Nothing],
-        ends: Ends::Stops(6, 0, 0, "envy: power did not return after 0 lines"),
-        replies: "",
-        failures: [(1, 0), (0, 0)],
-    },
-    Planned {
-        name: "a cut of the second, which has no lives",
-        command: "mirror --lives 0",
-        plans: [Plan::Nothing, Plan::Cut(5, 2)],
-        ends: Ends::Stops(6, 0, 0, "envy: power did not return after 0 lines"),
-        replies: "",
-        failures: [(0, 0), (1, 0)],
-    },
-    Planned {
-        name: "a cut of the first",
-        command: "mirror",
-        plans: [Plan::Cut(5, 2), Plan::Nothing],
-        ends: Ends::Done,
-        replies: "ok\n1\n",
-        failures: [(1, 0), (0, 0)],
-    },
-    Planned {
-        name: "a cut of the second, whose one life serves",
-        command: "mirror --lives 1",
-        plans: [Plan::Nothing, Plan::Cut(5, 2)],
-        ends: Ends::Done,
-        replies: "ok\n1\n",
-        failures: [(0, 0), (1, 0)],
-    },
-];
-
-fn check_failures(rt: &impl Abort, name: &str, found: Option<Seen>, wanted: (u64, u64)) {
-    let found = match found {
-        Some(seen) => Some((seen.cuts, seen.bads)),
-        None => None,
-    };
-    same(rt, &found, &Some(wanted), name, "failures");
-}
+const PLANNED: &str = "\
+~ a bad operation on the first
+$ mirror
+> store 5 1;load 5;
+ends 7 0 0 envy: bad flash operation
+first bad 1 3
+cuts 0
+bads 1
+cuts-2 0
+bads-2 0
+~ a bad operation on the second
+$ mirror
+> store 5 1;load 5;
+ends 7 0 0 envy: bad flash operation
+second bad 1 3
+cuts 0
+bads 0
+cuts-2 0
+bads-2 1
+~ a cut of the first, which has no lives
+$ mirror --lives 0
+> store 5 1;load 5;
+ends 6 0 0 envy: power did not return after 0 lines
+first cut 5 2
+cuts 1
+bads 0
+cuts-2 0
+bads-2 0
+~ a cut of the second, which has no lives
+$ mirror --lives 0
+> store 5 1;load 5;
+ends 6 0 0 envy: power did not return after 0 lines
+second cut 5 2
+cuts 0
+bads 0
+cuts-2 1
+bads-2 0
+~ a cut of the first
+$ mirror
+> store 5 1;load 5;
+< ok;1;
+first cut 5 2
+cuts 1
+bads 0
+cuts-2 0
+bads-2 0
+~ a cut of the second, whose one life serves
+$ mirror --lives 1
+> store 5 1;load 5;
+< ok;1;
+second cut 5 2
+cuts 0
+bads 0
+cuts-2 1
+bads-2 0
+";
 
 #[test]
-fn either_board_may_fail_in_formatting(rt: HostRuntime) -> Result<(), Fail> {
-    for row in PLANNED {
-        let given = calm(row.command, TRACE);
-        let told = play_planned(rt.alloc(), &given, row.plans)?;
-        let replies = row.replies.as_bytes();
-        check_played(&rt, row.name, &given, &told, row.ends, replies);
-        let [first, second] = row.failures;
-        check_failures(&rt, row.name, told.first, first);
-        check_failures(&rt, row.name, told.second, second);
-    }
-    Ok(())
+fn either_board_may_fail_in_formatting(rt: HostRuntime) {
+    check_table(&rt, PLANNED);
 }

@@ -1,7 +1,6 @@
 //! What a test asks of what it found. A text that is put together in an assertion costs a second of proof, so it stands
 //! here, where it is proved once.
 
-use std::fmt::Debug;
 use std::process::Abort;
 
 /// It is so; else the name and what was asked are told.
@@ -9,16 +8,10 @@ pub(crate) fn holds(rt: &impl Abort, is: bool, name: &str, what: &str) {
     assert!(rt; is, "{name}: {what}");
 }
 
-/// Both are the same; else they are told, with the name and what was asked.
-pub(crate) fn same<T: PartialEq + Debug>(
-    rt: &impl Abort,
-    found: &T,
-    wanted: &T,
-    name: &str,
-    what: &str,
-) {
+/// Both numbers are the same; else they are told, with the name and what was asked.
+pub(crate) fn same(rt: &impl Abort, found: u64, wanted: u64, name: &str, what: &str) {
     assert!(rt;
         found == wanted,
-        "{name}: {what}: {found:?}, and not {wanted:?}"
+        "{name}: {what}: {found}, and not {wanted}"
     );
 }

@@ -1,107 +1,63 @@
 //! Transactions: what is held, what a commit keeps, and what a failure of power takes back.
 
-use crate::rows::{BOTH, Ends, Piece, RUN, Row, check_rows};
-use Piece::{Each, Says};
-use std::test::Fail;
+use crate::rows::check_table;
 
-const ROWS: &[Row] = &[
-    Row {
-        name: "an abort of an absent page",
-        commands: BOTH,
-        script: &[Says(
-            "begin\nput 0 5 7\nload 5\nabort 0\nload 5\n",
-            "tx 0\nok\n7\nok\n0\n",
-        )],
-        ends: Ends::Done,
-    },
-    Row {
-        name: "an abort of a stored page",
-        commands: BOTH,
-        script: &[Says(
-            "store 5 1\nbegin\nput 0 5 2\nput 0 5 3\nabort 0\nload 5\n",
-            "ok\ntx 0\nok\nok\nok\n1\n",
-        )],
-        ends: Ends::Done,
-    },
-    Row {
-        name: "a held page",
-        commands: BOTH,
-        script: &[Says(
-            "begin\nbegin\nput 0 5 1\nstore 6 9\nput 1 7 9\nstore 32 9\n",
-            "tx 0\ntx 1\nok\nheld 0\nheld 0\nok\n",
-        )],
-        ends: Ends::Done,
-    },
-    Row {
-        name: "a committed word",
-        commands: BOTH,
-        script: &[Says(
-            "store 5 1\nbegin\nput 0 5 2\nlook 5\nload 5\nput 0 6 9\nlook 6\ncommit 0\nlook 5\nlook 2048\n",
-            "ok\ntx 0\nok\n1\n2\nok\n0\nok\n2\nrange\n",
-        )],
-        ends: Ends::Done,
-    },
-    Row {
-        name: "full and closed",
-        commands: BOTH,
-        script: &[
-            Says("begin\n", "tx 0\n"),
-            Each(0, 16, "put 0 @ 1\n", "ok\n"),
-            Says(
-                "put 0 512 1\nput 0 0 2\nstore 640 1\ncommit 0\nput 0 512 1\n",
-                "full\nok\nok\nok\nclosed\n",
-            ),
-        ],
-        ends: Ends::Done,
-    },
-    Row {
-        name: "busy and the lowest slot",
-        commands: BOTH,
-        script: &[
-            Each(0, 64, "begin\n", "tx #\n"),
-            Says("begin\ncommit 3\nbegin\n", "busy\nok\ntx 3\n"),
-        ],
-        ends: Ends::Done,
-    },
-    Row {
-        name: "closed slots",
-        commands: BOTH,
-        script: &[Says(
-            "commit 9\nbegin\ncommit 0\ncommit 0\nput 16 0 1\nabort 255\n",
-            "closed\ntx 0\nok\nclosed\nclosed\nclosed\n",
-        )],
-        ends: Ends::Done,
-    },
-    Row {
-        name: "a restart puts back",
-        commands: BOTH,
-        script: &[Says(
-            "store 5 1\nbegin\nput 0 5 2\npower\nload 5\nput 0 5 3\n",
-            "ok\ntx 0\nok\nrestarted\n1\nclosed\n",
-        )],
-        ends: Ends::Done,
-    },
-    Row {
-        name: "a cut commit that isn't done",
-        commands: RUN,
-        script: &[Says(
-            "store 5 1\nstore 40 1\nbegin\nput 0 5 2\nput 0 40 2\ncut 1 0\ncommit 0\nload 5\nload 40\n",
-            "ok\nok\ntx 0\nok\nok\narmed\nlost\nrestarted\n1\n1\n",
-        )],
-        ends: Ends::Done,
-    },
-    Row {
-        name: "a cut commit that is done",
-        commands: RUN,
-        script: &[Says(
-            "store 5 1\nstore 40 1\nbegin\nput 0 5 2\nput 0 40 2\ncut 1 1\ncommit 0\nload 5\nload 40\n",
-            "ok\nok\ntx 0\nok\nok\narmed\nlost\nrestarted\n2\n2\n",
-        )],
-        ends: Ends::Done,
-    },
-];
+const ROWS: &str = "\
+~ an abort of an absent page
+$ run
+$ plain
+> begin;put 0 5 7;load 5;abort 0;load 5;
+< tx 0;ok;7;ok;0;
+~ an abort of a stored page
+$ run
+$ plain
+> store 5 1;begin;put 0 5 2;put 0 5 3;abort 0;load 5;
+< ok;tx 0;ok;ok;ok;1;
+~ a held page
+$ run
+$ plain
+> begin;begin;put 0 5 1;store 6 9;put 1 7 9;store 32 9;
+< tx 0;tx 1;ok;held 0;held 0;ok;
+~ a committed word
+$ run
+$ plain
+> store 5 1;begin;put 0 5 2;look 5;load 5;put 0 6 9;look 6;commit 0;look 5;look 2048;
+< ok;tx 0;ok;1;2;ok;0;ok;2;range;
+~ full and closed
+$ run
+$ plain
+> begin;
+< tx 0;
+* 0 16 put 0 @ 1;|ok;
+> put 0 512 1;put 0 0 2;store 640 1;commit 0;put 0 512 1;
+< full;ok;ok;ok;closed;
+~ busy and the lowest slot
+$ run
+$ plain
+* 0 64 begin;|tx %;
+> begin;commit 3;begin;
+< busy;ok;tx 3;
+~ closed slots
+$ run
+$ plain
+> commit 9;begin;commit 0;commit 0;put 16 0 1;abort 255;
+< closed;tx 0;ok;closed;closed;closed;
+~ a restart puts back
+$ run
+$ plain
+> store 5 1;begin;put 0 5 2;power;load 5;put 0 5 3;
+< ok;tx 0;ok;restarted;1;closed;
+~ a cut commit that isn't done
+$ run
+> store 5 1;store 40 1;begin;put 0 5 2;put 0 40 2;cut 1 0;commit 0;load 5;load 40;
+< ok;ok;tx 0;ok;ok;armed;lost;restarted;1;1;
+~ a cut commit that is done
+$ run
+> store 5 1;store 40 1;begin;put 0 5 2;put 0 40 2;cut 1 1;commit 0;load 5;load 40;
+< ok;ok;tx 0;ok;ok;armed;lost;restarted;2;2;
+";
 
 #[test]
-fn transactions_are_answered(rt: HostRuntime) -> Result<(), Fail> {
-    check_rows(&rt, ROWS)
+fn transactions_are_answered(rt: HostRuntime) {
+    check_table(&rt, ROWS);
 }

@@ -1,24 +1,29 @@
 //! Calls to a memory over a board that counts its reads, and how often they read it.
 
 use crate::counting::CountingBoard;
+use crate::told::{NO_ROOM, number_of, parted};
 use envy_base::Shape;
 use envy_memory::{Did, Memory};
 use envy_policy::{Policy, Setup};
-use std::alloc::{AllocError, Global};
+use std::alloc::Global;
 use std::process::Abort;
-use std::test::Fail;
 
-/// A memory by this setup.
+/// A memory over this board, by this setup.
 fn memory_by(
     rt: &(impl Abort + Alloc<A = Global>),
+    board: CountingBoard,
     setup: Setup,
-) -> Result<Memory<CountingBoard>, Fail> {
-    setup.shape.check()?;
-    let board = CountingBoard::new(rt.alloc(), &setup.shape)?;
-    match Memory::format(rt.alloc(), board, setup) {
-        Ok(memory) => Ok(memory),
-        Err(_) => Err(Fail::new("not formatted")),
-    }
+) -> Memory<CountingBoard> {
+    let Ok(memory) = Memory::format(rt.alloc(), board, setup) else {
+        panic!(rt; "not formatted")
+    };
+    memory
+}
+
+/// A new board of this shape.
+fn board_of(rt: &(impl Abort + Alloc<A = Global>), shape: &Shape) -> CountingBoard {
+    shape.check().expect(rt, "the sizes of the board");
+    CountingBoard::new(rt.alloc(), shape).expect(rt, NO_ROOM)
 }
 
 /// What is done with a memory before and while its reads are counted.
@@ -40,7 +45,7 @@ fn task_reads(
     rt: &(impl Abort + Alloc<A = Global>),
     memory: &mut Memory<CountingBoard>,
     task: Task,
-) -> Result<Vec<u64>, AllocError> {
+) -> Vec<u64> {
     match task {
         Task::Cleaning(segments, rows) => cleaning_reads(rt, memory, segments, rows),
         Task::Listed(last) => reads_by_call(rt, memory, CALLS, last),
@@ -56,11 +61,11 @@ pub(crate) fn reads_in(
     rt: &(impl Abort + Alloc<A = Global>),
     setup: Setup,
     task: Task,
-) -> Result<Vec<u64>, Fail> {
-    let mut memory = memory_by(rt, setup)?;
+) -> Vec<u64> {
+    let mut memory = memory_by(rt, board_of(rt, &setup.shape), setup);
     let reads = task_reads(rt, &mut memory, task);
     let _board = memory.into_board();
-    Ok(reads?)
+    reads
 }
 
 /// A setup of so many segments, one of which is the spare, whose positions are cleaned in turn.
@@ -80,54 +85,90 @@ pub(crate) const fn setup_of(segments: u32, rows: u32, pages: u32, mark: u32) ->
     }
 }
 
-/// What is asked of a memory.
-#[derive(Clone, Copy, Debug)]
-enum Call {
-    Load(u32),
-    Look(u32),
-    Store(u32),
-    /// Begins a transaction in a slot, puts a word into it, commits and aborts it.
-    Begin(u8),
-    Put(u8, u32),
-    Commit(u8),
-    Abort(u8),
-    Tick(Did),
-}
-
-/// Stands in a list of calls for the first word of the last page.
-const LAST: u32 = 0x10_0000;
-
-/// An address of a list, in a memory whose last page begins at this one.
-fn address(a: u32, last: u32) -> u32 {
-    if a < LAST {
-        a
+/// The address that a text spells, in a memory whose last page begins at this one.
+fn address(rt: &impl Abort, text: &str, last: u32) -> u32 {
+    if text == "last" {
+        last
+    } else if text == "last+1" {
+        last.wrapping_add(1)
     } else {
-        (a - LAST).wrapping_add(last)
+        number_of(rt, text).min(u64::from(u32::MAX)) as u32
     }
 }
 
-/// Whether a call to a memory whose last page begins at this address isn't refused, and does what it names.
-fn is_done(memory: &mut Memory<CountingBoard>, call: Call, last: u32) -> bool {
-    match call {
-        Call::Load(a) => memory.load(address(a, last)).is_ok(),
-        Call::Look(a) => memory.look(address(a, last)).is_ok(),
-        Call::Store(a) => memory.store(address(a, last), 1).is_ok(),
-        Call::Begin(t) => memory.begin() == Ok(t),
-        Call::Put(t, a) => memory.put(t, address(a, last), 2).is_ok(),
-        Call::Commit(t) => memory.commit(t).is_ok(),
-        Call::Abort(t) => memory.abort(t).is_ok(),
-        Call::Tick(did) => memory.tick() == Ok(did),
+/// Whether a call to a memory isn't refused. A transaction begins in this slot.
+fn is_done(memory: &mut Memory<CountingBoard>, word: &str, slot: u8, a: u32) -> bool {
+    if word == "load" {
+        memory.load(a).is_ok()
+    } else if word == "look" {
+        memory.look(a).is_ok()
+    } else if word == "store" {
+        memory.store(a, 1).is_ok()
+    } else if word == "begin" {
+        memory.begin() == Ok(slot)
+    } else if word == "put" {
+        memory.put(slot, a, 2).is_ok()
+    } else if word == "commit" {
+        memory.commit(slot).is_ok()
+    } else {
+        word == "abort" && memory.abort(slot).is_ok()
     }
 }
 
-/// Makes a call, which is done, to a memory whose last page begins at this address.
-fn make_at(rt: &impl Abort, memory: &mut Memory<CountingBoard>, call: Call, last: u32) {
-    assert!(rt; is_done(memory, call, last), "{call:?}");
+/// Makes a call, which is done.
+fn make(rt: &impl Abort, memory: &mut Memory<CountingBoard>, word: &str, slot: u8, a: u32) {
+    assert!(rt;
+        is_done(memory, word, slot, a),
+        "{word}: slot {slot}, address {a}"
+    );
 }
 
-/// Makes a call that names its address, which is done.
-fn make(rt: &impl Abort, memory: &mut Memory<CountingBoard>, call: Call) {
-    make_at(rt, memory, call, 0);
+/// The word for what a tick did.
+fn word_of(did: Did) -> &'static str {
+    match did {
+        Did::Idle => "idle",
+        Did::Flushed => "flushed",
+        Did::Began => "began",
+        Did::Moved => "moved",
+        Did::Copied => "copied",
+        Did::Switched => "switched",
+        Did::Placed => "placed",
+        Did::Erased => "erased",
+    }
+}
+
+/// The word for what a tick does.
+fn ticked(memory: &mut Memory<CountingBoard>) -> &'static str {
+    match memory.tick() {
+        Ok(did) => word_of(did),
+        Err(_) => "failed",
+    }
+}
+
+/// Makes a tick, which does this.
+fn tick(rt: &impl Abort, memory: &mut Memory<CountingBoard>, wanted: &str) {
+    let found = ticked(memory);
+    assert!(rt; found == wanted, "tick: {found}, and not {wanted}");
+}
+
+/// Stores into the word at this address.
+fn store(rt: &impl Abort, memory: &mut Memory<CountingBoard>, a: u32) {
+    make(rt, memory, "store", 0, a);
+}
+
+/// Makes the call of a line, which is done, to a memory whose last page begins at this address.
+fn make_line(rt: &impl Abort, memory: &mut Memory<CountingBoard>, line: &str, last: u32) {
+    let (word, rest) = parted(line, ' ');
+    let (first, second) = parted(rest, ' ');
+    if word == "tick" {
+        tick(rt, memory, rest);
+    } else if second.is_empty() {
+        let a = address(rt, first, last);
+        make(rt, memory, word, a.min(255) as u8, a);
+    } else {
+        let slot = number_of(rt, first).min(255) as u8;
+        make(rt, memory, word, slot, address(rt, second, last));
+    }
 }
 
 /// How often the board was read since it was last asked.
@@ -142,8 +183,8 @@ fn erases_of(memory: &Memory<CountingBoard>) -> u64 {
 
 /// A page is stored, and goes to the next free row.
 fn flush(rt: &impl Abort, memory: &mut Memory<CountingBoard>, page: u16) {
-    make(rt, memory, Call::Store(32 * page as u32));
-    make(rt, memory, Call::Tick(Did::Flushed));
+    store(rt, memory, 32 * page as u32);
+    tick(rt, memory, "flushed");
 }
 
 /// Flushes a page into so many rows.
@@ -162,18 +203,15 @@ fn begin_cleaning(rt: &impl Abort, memory: &mut Memory<CountingBoard>, segments:
     }
     let others = u32::from(segments.saturating_sub(2));
     fill(rt, memory, 63, others.wrapping_mul(u32::from(rows)));
-    make(rt, memory, Call::Store(32 * 63));
-    make(rt, memory, Call::Tick(Did::Began));
+    store(rt, memory, 32 * 63);
+    tick(rt, memory, "began");
 }
-
-/// The steps of a cleaning behind its copies.
-const LAST_STEPS: &[Did] = &[Did::Switched, Did::Placed, Did::Erased];
 
 /// Makes the steps of a cleaning behind its copies.
 fn end_cleaning(rt: &impl Abort, memory: &mut Memory<CountingBoard>) {
-    for did in LAST_STEPS {
-        make(rt, memory, Call::Tick(*did));
-    }
+    tick(rt, memory, "switched");
+    tick(rt, memory, "placed");
+    tick(rt, memory, "erased");
 }
 
 /// How often all steps of the cleaning of a segment read the board, where so many rows but one are kept.
@@ -182,66 +220,65 @@ fn cleaning_reads(
     memory: &mut Memory<CountingBoard>,
     segments: u16,
     rows: u16,
-) -> Result<Vec<u64>, AllocError> {
+) -> Vec<u64> {
     begin_cleaning(rt, memory, segments, rows);
     let _before = reads_since(memory);
     for _row in 1..rows {
-        make(rt, memory, Call::Tick(Did::Copied));
+        tick(rt, memory, "copied");
     }
     end_cleaning(rt, memory);
-    [reads_since(memory)].to_vec(rt.alloc())
+    [reads_since(memory)].to_vec(rt.alloc()).expect(rt, NO_ROOM)
 }
 
-/// Calls to a memory. No call cleans.
-const CALLS: &[Call] = &[
-    Call::Tick(Did::Idle),
-    // an absent page comes to a frame, and is hit there
-    Call::Load(LAST),
-    Call::Look(LAST),
-    Call::Store(LAST),
-    Call::Store(LAST + 1),
-    Call::Load(LAST),
-    // the frames are full, so the first page is flushed, and then the next one is
-    Call::Store(0),
-    Call::Store(32),
-    Call::Store(64),
-    Call::Store(96),
-    Call::Load(LAST),
-    Call::Look(LAST),
-    Call::Tick(Did::Flushed),
-    // pages in a frame, in a row and absent get an owner; page 1 is flushed for the last of them
-    Call::Begin(0),
-    Call::Put(0, 64),
-    Call::Put(0, 65),
-    Call::Put(0, LAST),
-    Call::Put(0, 128),
-    Call::Look(64),
-    Call::Look(LAST),
-    Call::Look(128),
-    Call::Commit(0),
-    // pages in a frame and absent are put back
-    Call::Begin(0),
-    Call::Put(0, 64),
-    Call::Put(0, LAST),
-    Call::Put(0, 160),
-    Call::Abort(0),
-    Call::Tick(Did::Idle),
-];
+/// Calls to a memory, each with its slot or its address or both. No call cleans.
+///
+/// An absent page comes to a frame, and is hit there. Then the frames are full, so the first page is flushed, and then the
+/// next one is. Pages in a frame, in a row and absent get an owner; page 1 is flushed for the last of them. At last pages
+/// in a frame and absent are put back.
+const CALLS: &str = "\
+tick idle
+load last
+look last
+store last
+store last+1
+load last
+store 0
+store 32
+store 64
+store 96
+load last
+look last
+tick flushed
+begin 0
+put 0 64
+put 0 65
+put 0 last
+put 0 128
+look 64
+look last
+look 128
+commit 0
+begin 0
+put 0 64
+put 0 last
+put 0 160
+abort 0
+tick idle";
 
 /// How often each of these calls reads the board of a memory whose last page begins at this address.
 fn reads_by_call(
     rt: &(impl Abort + Alloc<A = Global>),
     memory: &mut Memory<CountingBoard>,
-    calls: &[Call],
+    calls: &str,
     last: u32,
-) -> Result<Vec<u64>, AllocError> {
+) -> Vec<u64> {
     let mut reads = Vec::new(rt.alloc());
     let _before = reads_since(memory);
-    for call in calls {
-        make_at(rt, memory, *call, last);
-        reads.push(reads_since(memory))?;
+    for line in calls.split('\n') {
+        make_line(rt, memory, line, last);
+        reads.push(reads_since(memory)).expect(rt, NO_ROOM);
     }
-    Ok(reads)
+    reads
 }
 
 /// The last page of the smaller memory below.
@@ -250,33 +287,32 @@ pub(crate) const BUSY: u16 = 19;
 /// Calls to a memory that has no free row, no page in a frame, and at each of the first 13 positions a row of the page of
 /// the position's number and a dead one. Each page that comes to a frame makes the oldest leave once 4 are there, and for
 /// that a position is cleaned: for 9 pages, and once in ticks.
-const FULL: &[Call] = &[
-    Call::Store(32 * 13),
-    Call::Store(32 * 14),
-    Call::Store(32 * 15),
-    Call::Store(32 * 16),
-    Call::Store(32 * 17),
-    Call::Store(32 * 18),
-    Call::Store(32 * 12),
-    Call::Load(32 * 13),
-    Call::Begin(0),
-    Call::Put(0, 32 * 13),
-    Call::Put(0, 32 * 14),
-    Call::Put(0, 32 * 10),
-    Call::Put(0, 32 * 10 + 1),
-    Call::Commit(0),
-    Call::Begin(0),
-    Call::Put(0, 32 * 15),
-    Call::Put(0, 32 * 11),
-    Call::Put(0, 32 * 12),
-    Call::Abort(0),
-    Call::Tick(Did::Began),
-    Call::Tick(Did::Copied),
-    Call::Tick(Did::Switched),
-    Call::Tick(Did::Placed),
-    Call::Tick(Did::Erased),
-    Call::Tick(Did::Flushed),
-];
+const FULL: &str = "\
+store 416
+store 448
+store 480
+store 512
+store 544
+store 576
+store 384
+load 416
+begin 0
+put 0 416
+put 0 448
+put 0 320
+put 0 321
+commit 0
+begin 0
+put 0 480
+put 0 352
+put 0 384
+abort 0
+tick began
+tick copied
+tick switched
+tick placed
+tick erased
+tick flushed";
 
 /// Leaves no row of so many segments free.
 fn fill_all(rt: &impl Abort, memory: &mut Memory<CountingBoard>, segments: u16) {
@@ -294,20 +330,21 @@ fn full_reads(
     rt: &(impl Abort + Alloc<A = Global>),
     memory: &mut Memory<CountingBoard>,
     segments: u16,
-) -> Result<Vec<u64>, AllocError> {
+) -> Vec<u64> {
     fill_all(rt, memory, segments);
     let before = erases_of(memory);
-    let mut reads = reads_by_call(rt, memory, FULL, 0)?;
-    reads.push(erases_of(memory).wrapping_sub(before))?;
-    Ok(reads)
+    let mut reads = reads_by_call(rt, memory, FULL, 0);
+    let erases = erases_of(memory).wrapping_sub(before);
+    reads.push(erases).expect(rt, NO_ROOM);
+    reads
 }
 
 /// Opens a slot, which then owns 25 pages.
 fn open(rt: &impl Abort, memory: &mut Memory<CountingBoard>, slot: u8) {
-    make(rt, memory, Call::Begin(slot));
+    make(rt, memory, "begin", slot, 0);
     let first = 4 + 25 * slot as u32;
     for page in first..first + 25 {
-        make(rt, memory, Call::Put(slot, page.wrapping_mul(32)));
+        make(rt, memory, "put", slot, page.wrapping_mul(32));
     }
 }
 
@@ -317,19 +354,20 @@ fn store_reads(
     rt: &(impl Abort + Alloc<A = Global>),
     memory: &mut Memory<CountingBoard>,
     slots: u8,
-) -> Result<Vec<u64>, AllocError> {
+) -> Vec<u64> {
     for slot in 0..slots {
         open(rt, memory, slot);
     }
-    make(rt, memory, Call::Store(0));
+    store(rt, memory, 0);
     let _before = reads_since(memory);
-    make(rt, memory, Call::Store(1));
+    store(rt, memory, 1);
     let held = reads_since(memory);
     // page 4 uses the same entry
-    make(rt, memory, Call::Load(128));
+    make(rt, memory, "load", 0, 128);
     let _before = reads_since(memory);
-    make(rt, memory, Call::Store(2));
-    [held, reads_since(memory)].to_vec(rt.alloc())
+    store(rt, memory, 2);
+    let reads = [held, reads_since(memory)];
+    reads.to_vec(rt.alloc()).expect(rt, NO_ROOM)
 }
 
 /// How often two ticks read the board that find nothing to do, one after the other, where one erase has begun and that
@@ -337,17 +375,18 @@ fn store_reads(
 fn idle_reads(
     rt: &(impl Abort + Alloc<A = Global>),
     memory: &mut Memory<CountingBoard>,
-) -> Result<Vec<u64>, AllocError> {
+) -> Vec<u64> {
     // both rows of the page's home are left, so the home is cleaned for the page
     flush(rt, memory, 0);
     flush(rt, memory, 0);
-    make(rt, memory, Call::Store(0));
-    make(rt, memory, Call::Tick(Did::Began));
+    store(rt, memory, 0);
+    tick(rt, memory, "began");
     end_cleaning(rt, memory);
-    make(rt, memory, Call::Tick(Did::Flushed));
+    tick(rt, memory, "flushed");
     let _before = reads_since(memory);
-    make(rt, memory, Call::Tick(Did::Idle));
+    tick(rt, memory, "idle");
     let first = reads_since(memory);
-    make(rt, memory, Call::Tick(Did::Idle));
-    [first, reads_since(memory)].to_vec(rt.alloc())
+    tick(rt, memory, "idle");
+    let reads = [first, reads_since(memory)];
+    reads.to_vec(rt.alloc()).expect(rt, NO_ROOM)
 }

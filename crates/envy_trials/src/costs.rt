@@ -6,18 +6,12 @@ use envy_base::Shape;
 use envy_policy::{Policy, Setup};
 use std::alloc::Global;
 use std::process::Abort;
-use std::test::Fail;
 
 /// The same of a memory of so many segments, rows and pages.
-fn cleaning_of(
-    rt: &(impl Abort + Alloc<A = Global>),
-    segments: u16,
-    rows: u16,
-    pages: u32,
-) -> Result<u64, Fail> {
+fn cleaning_of(rt: &(impl Abort + Alloc<A = Global>), segments: u16, rows: u16, pages: u32) -> u64 {
     let setup = setup_of(u32::from(segments), u32::from(rows), pages, 1);
-    let reads = reads_in(rt, setup, Task::Cleaning(segments, rows))?;
-    Ok(reads.first().copied().unwrap_or(u64::MAX))
+    let reads = reads_in(rt, setup, Task::Cleaning(segments, rows));
+    reads.first().copied().unwrap_or(u64::MAX)
 }
 
 /// Twice as many reads, and those of a row.
@@ -26,7 +20,7 @@ fn twice(reads: u64) -> u64 {
 }
 
 fn at_most(rt: &impl Abort, found: u64, most: u64, name: &str) {
-    same(rt, &found, &found.min(most), name);
+    same(rt, found, found.min(most), name);
 }
 
 // A row that is kept makes one step, which looks at the job three times (3), asks who keeps the row (4 at most: the
@@ -38,14 +32,13 @@ fn at_most(rt: &impl Abort, found: u64, most: u64, name: &str) {
 // which isn't kept, make k (n - 1) + c, and 2 n rows make k - c more than twice as many, so at most 45 more. Steps
 // that began at the first row again would read 2 words of each row that was copied before: about n n in all.
 #[test]
-fn a_cleaning_looks_at_each_row_a_few_times(rt: HostRuntime) -> Result<(), Fail> {
-    let few = cleaning_of(&rt, 34, 16, 64)?;
+fn a_cleaning_looks_at_each_row_a_few_times(rt: HostRuntime) {
+    let few = cleaning_of(&rt, 34, 16, 64);
     at_most(&rt, few, 45 * 16 + 10, "of 16 rows");
-    let more = cleaning_of(&rt, 34, 32, 64)?;
+    let more = cleaning_of(&rt, 34, 32, 64);
     at_most(&rt, more, twice(few), "of 32 rows");
-    let most = cleaning_of(&rt, 34, 64, 64)?;
+    let most = cleaning_of(&rt, 34, 64, 64);
     at_most(&rt, most, twice(more), "of 64 rows");
-    Ok(())
 }
 
 /// How often each call of the list reads the board, by this policy, of so many segments and with this last page.
@@ -54,7 +47,7 @@ fn listed_reads(
     policy: Policy,
     segments: u32,
     last: u16,
-) -> Result<Vec<u64>, Fail> {
+) -> Vec<u64> {
     let setup = setup_of(segments, 32, u32::from(last) + 1, 4);
     let task = Task::Listed(32 * u32::from(last));
     reads_in(rt, Setup { policy, ..setup }, task)
@@ -67,37 +60,43 @@ fn same_reads(rt: &impl Abort, found: &[u64], wanted: &[u64], name: &str) {
 // Nothing but the number of pages differs, and only format, attach and revive may look at all pages. Each call reads
 // the same fields of its own page, of slots and of rows.
 #[test]
-fn calls_read_as_much_of_many_pages(rt: HostRuntime) -> Result<(), Fail> {
-    let few = listed_reads(&rt, Policy::Fifo, 34, 63)?;
-    let many = listed_reads(&rt, Policy::Fifo, 34, 511)?;
+fn calls_read_as_much_of_many_pages(rt: HostRuntime) {
+    let few = listed_reads(&rt, Policy::Fifo, 34, 63);
+    let many = listed_reads(&rt, Policy::Fifo, 34, 511);
     same_reads(&rt, &many, &few, "of 512 pages");
-    let few = cleaning_of(&rt, 34, 32, 64)?;
-    let many = cleaning_of(&rt, 34, 32, 512)?;
-    same(&rt, &many, &few, "a cleaning of 512 pages");
-    Ok(())
+    let few = cleaning_of(&rt, 34, 32, 64);
+    let many = cleaning_of(&rt, 34, 32, 512);
+    same(&rt, many, few, "a cleaning of 512 pages");
 }
 
 /// The policies, under each of which no call looks at all segments.
-const POLICIES: &[(&str, Policy)] = &[
-    ("greedy", Policy::Greedy),
-    ("fifo", Policy::Fifo),
-    ("locality", Policy::Locality),
-    ("hybrid of 2", Policy::Hybrid(2)),
-    ("lifetime", Policy::Lifetime),
-];
+const POLICIES: &str = "greedy fifo locality hybrid-of-2 lifetime";
+
+fn policy_of(name: &str) -> Policy {
+    if name == "greedy" {
+        Policy::Greedy
+    } else if name == "fifo" {
+        Policy::Fifo
+    } else if name == "locality" {
+        Policy::Locality
+    } else if name == "lifetime" {
+        Policy::Lifetime
+    } else {
+        Policy::Hybrid(2)
+    }
+}
 
 // Nothing but the number of segments differs.
 #[test]
-fn calls_read_as_much_of_many_segments(rt: HostRuntime) -> Result<(), Fail> {
-    for (name, policy) in POLICIES {
-        let few = listed_reads(&rt, *policy, 16, 63)?;
-        let many = listed_reads(&rt, *policy, 4096, 63)?;
+fn calls_read_as_much_of_many_segments(rt: HostRuntime) {
+    for name in POLICIES.split(' ') {
+        let few = listed_reads(&rt, policy_of(name), 16, 63);
+        let many = listed_reads(&rt, policy_of(name), 4096, 63);
         same_reads(&rt, &many, &few, name);
     }
-    let few = cleaning_of(&rt, 16, 32, 64)?;
-    let many = cleaning_of(&rt, 4096, 32, 64)?;
-    same(&rt, &many, &few, "a cleaning of 4096 segments");
-    Ok(())
+    let few = cleaning_of(&rt, 16, 32, 64);
+    let many = cleaning_of(&rt, 4096, 32, 64);
+    same(&rt, many, few, "a cleaning of 4096 segments");
 }
 
 /// A setup of so many segments of 2 rows.
@@ -112,28 +111,26 @@ const fn full_setup(segments: u16) -> Setup {
 
 // Nothing but the number of segments differs, and the positions that are cleaned have the same rows.
 #[test]
-fn calls_that_clean_read_as_much_of_many_segments(rt: HostRuntime) -> Result<(), Fail> {
-    let few = reads_in(&rt, full_setup(16), Task::Full(16))?;
-    let many = reads_in(&rt, full_setup(4096), Task::Full(4096))?;
+fn calls_that_clean_read_as_much_of_many_segments(rt: HostRuntime) {
+    let few = reads_in(&rt, full_setup(16), Task::Full(16));
+    let many = reads_in(&rt, full_setup(4096), Task::Full(4096));
     same_reads(&rt, &many, &few, "of 4096 segments");
-    same(&rt, &few.last().copied(), &Some(10), "cleaned");
-    Ok(())
+    same(&rt, few.last().copied().unwrap_or(u64::MAX), 10, "cleaned");
 }
 
 // A store of one word into a frame needs to know but the page's place, which is one word, and whether the page has an
 // owner, which the memory knows without the board.
 #[test]
-fn a_store_into_a_frame_reads_as_much_beside_owned_pages(rt: HostRuntime) -> Result<(), Fail> {
+fn a_store_into_a_frame_reads_as_much_beside_owned_pages(rt: HostRuntime) {
     let setup = setup_of(34, 32, 512, 4);
-    let reads = reads_in(&rt, setup, Task::Stores(0))?;
+    let reads = reads_in(&rt, setup, Task::Stores(0));
     for count in &reads {
         at_most(&rt, *count, 1, "held and sought");
     }
-    let beside = reads_in(&rt, setup, Task::Stores(1))?;
+    let beside = reads_in(&rt, setup, Task::Stores(1));
     same_reads(&rt, &beside, &reads, "beside 25 owned pages");
-    let beside = reads_in(&rt, setup, Task::Stores(8))?;
+    let beside = reads_in(&rt, setup, Task::Stores(8));
     same_reads(&rt, &beside, &reads, "beside 200 owned pages");
-    Ok(())
 }
 
 /// A setup of so many segments of 2 rows, in which one erase is the limit.
@@ -158,10 +155,9 @@ const fn idle_setup(segments: u32) -> Setup {
 // then at the wear of each segment. One segment is worn once more than the others, which is no more than the limit, so
 // no swap can be due until another erase has begun: the next tick doesn't look at any segment.
 #[test]
-fn an_idle_tick_looks_at_wear_once(rt: HostRuntime) -> Result<(), Fail> {
-    let reads = reads_in(&rt, idle_setup(16), Task::Idle)?;
+fn an_idle_tick_looks_at_wear_once(rt: HostRuntime) {
+    let reads = reads_in(&rt, idle_setup(16), Task::Idle);
     same_reads(&rt, &reads, &[1 + 2 * 15 + 16, 1], "of 16 segments");
-    let reads = reads_in(&rt, idle_setup(4096), Task::Idle)?;
+    let reads = reads_in(&rt, idle_setup(4096), Task::Idle);
     same_reads(&rt, &reads, &[1 + 2 * 4095 + 4096, 1], "of 4096 segments");
-    Ok(())
 }

@@ -1,15 +1,14 @@
 //! Runs over bytes in memory.
 
-use crate::told::{holds, same};
+use crate::told::{NO_ROOM, holds, same};
 use envy_bench::MemMaker;
 use envy_io::{MemSink, MemSource};
 use envy_run::run;
-use std::alloc::{AllocError, Global};
+use std::alloc::Global;
 use std::process::Abort;
-use std::test::Fail;
 
 /// What a run is given besides its words.
-#[derive(Drop)]
+#[derive(Clone, Copy)]
 pub(crate) struct Given<'a> {
     pub(crate) bytes: &'a [u8],
     /// The call of the source, or of the sink, that fails; 0 where none does.
@@ -27,7 +26,7 @@ pub(crate) const fn calm(bytes: &[u8]) -> Given<'_> {
 }
 
 /// How a run ends.
-#[derive(Clone, Copy, Debug, PartialEq, Eq)]
+#[derive(Clone, Copy)]
 pub(crate) struct End {
     pub(crate) status: u8,
     pub(crate) why: u8,
@@ -44,23 +43,25 @@ pub(crate) struct Found {
     pub(crate) text: Vec<u8>,
 }
 
-fn owned(alloc: Global, words: &[&str]) -> Result<Vec<String>, AllocError> {
-    let mut owned = Vec::new(alloc);
-    for word in words {
-        owned.push(String::from_str(alloc, word)?)?;
+/// A command is its words, with blanks between them.
+fn words_of(rt: &(impl Abort + Alloc<A = Global>), command: &str) -> Vec<String> {
+    let mut words = Vec::new(rt.alloc());
+    for word in command.split(' ') {
+        let word = String::from_str(rt.alloc(), word).expect(rt, NO_ROOM);
+        words.push(word).expect(rt, NO_ROOM);
     }
-    Ok(owned)
+    words
 }
 
-fn source_of(alloc: Global, given: &Given<'_>) -> Result<MemSource, AllocError> {
-    let fails = [given.source_fails].to_vec(alloc)?;
-    let bytes = given.bytes.to_vec(alloc)?;
-    Ok(MemSource::new(bytes, 4096, fails))
+fn source_of(rt: &(impl Abort + Alloc<A = Global>), given: &Given<'_>) -> MemSource {
+    let fails = [given.source_fails].to_vec(rt.alloc()).expect(rt, NO_ROOM);
+    let bytes = given.bytes.to_vec(rt.alloc()).expect(rt, NO_ROOM);
+    MemSource::new(bytes, 4096, fails)
 }
 
-fn sink_of(alloc: Global, given: &Given<'_>) -> Result<MemSink, AllocError> {
-    let fails = [given.sink_fails].to_vec(alloc)?;
-    MemSink::new(alloc, 1 << 16, fails)
+fn sink_of(rt: &(impl Abort + Alloc<A = Global>), given: &Given<'_>) -> MemSink {
+    let fails = [given.sink_fails].to_vec(rt.alloc()).expect(rt, NO_ROOM);
+    MemSink::new(rt.alloc(), 1 << 16, fails).expect(rt, NO_ROOM)
 }
 
 /// Does the run. The board goes here: to let go of one costs each function that holds it.
@@ -75,78 +76,96 @@ fn end_of(alloc: Global, words: &[String], source: &mut MemSource, sink: &mut Me
     }
 }
 
-pub(crate) fn told(alloc: Global, words: &[&str], given: &Given<'_>) -> Result<Found, AllocError> {
-    let mut sink = sink_of(alloc, given)?;
-    let mut source = source_of(alloc, given)?;
-    let owned = owned(alloc, words)?;
-    let end = end_of(alloc, &owned, &mut source, &mut sink);
-    let text = sink.written().to_vec(alloc)?;
-    Ok(Found { end, text })
-}
-
-/// The word that says what is done.
-fn first_of<'a>(words: &[&'a str]) -> &'a str {
-    match words {
-        [first, ..] => first,
-        [] => "no word",
-    }
+pub(crate) fn told(
+    rt: &(impl Abort + Alloc<A = Global>),
+    command: &str,
+    given: &Given<'_>,
+) -> Found {
+    let mut sink = sink_of(rt, given);
+    let mut source = source_of(rt, given);
+    let words = words_of(rt, command);
+    let end = end_of(rt.alloc(), &words, &mut source, &mut sink);
+    let text = sink.written().to_vec(rt.alloc()).expect(rt, NO_ROOM);
+    Found { end, text }
 }
 
 /// What is written for these bytes by a run that is done to its end.
 pub(crate) fn written(
     rt: &(impl Abort + Alloc<A = Global>),
-    words: &[&str],
+    command: &str,
     bytes: &[u8],
-) -> Result<Vec<u8>, Fail> {
-    let told = told(rt.alloc(), words, &calm(bytes))?;
-    let end = (told.end.status, told.end.why);
-    same(rt, &end, &(0, 0), first_of(words));
-    Ok(told.text)
+) -> Vec<u8> {
+    let told = told(rt, command, &calm(bytes));
+    same(rt, u64::from(told.end.status), 0, command);
+    same(rt, u64::from(told.end.why), 0, command);
+    told.text
 }
 
 /// Such a run writes this.
 pub(crate) fn check_text(
     rt: &(impl Abort + Alloc<A = Global>),
-    words: &[&str],
+    command: &str,
     bytes: &[u8],
     text: &[u8],
-) -> Result<(), Fail> {
-    let found = written(rt, words, bytes)?;
-    holds(rt, found.as_slice() == text, first_of(words), "text");
-    Ok(())
+) {
+    let found = written(rt, command, bytes);
+    holds(rt, found.as_slice() == text, command, "text");
+}
+
+/// The number of an end is this.
+fn same_part(rt: &impl Abort, found: u64, wanted: u64, command: &str, part: &str) {
+    assert!(rt;
+        found == wanted,
+        "{command}: {part}: {found}, and not {wanted}"
+    );
+}
+
+/// Both ends are the same.
+pub(crate) fn same_end(rt: &impl Abort, found: &End, wanted: &End, command: &str) {
+    let status = u64::from(wanted.status);
+    same_part(rt, u64::from(found.status), status, command, "status");
+    same_part(
+        rt,
+        u64::from(found.why),
+        u64::from(wanted.why),
+        command,
+        "why",
+    );
+    same_part(rt, found.lines, wanted.lines, command, "lines");
+    same_part(rt, found.taken, wanted.taken, command, "taken");
+    holds(rt, found.made == wanted.made, command, "a board is made");
 }
 
 /// A run ends so, and writes this.
 pub(crate) fn check_end(
     rt: &(impl Abort + Alloc<A = Global>),
-    words: &[&str],
+    command: &str,
     given: &Given<'_>,
     end: End,
     text: &[u8],
-) -> Result<(), Fail> {
-    let told = told(rt.alloc(), words, given)?;
-    same(rt, &told.end, &end, first_of(words));
-    holds(rt, told.text.as_slice() == text, first_of(words), "text");
-    Ok(())
+) {
+    let told = told(rt, command, given);
+    same_end(rt, &told.end, &end, command);
+    holds(rt, told.text.as_slice() == text, command, "text");
 }
 
 /// Bytes in front of others.
-pub(crate) fn joined(alloc: Global, front: &[u8], back: &[u8]) -> Result<Vec<u8>, AllocError> {
-    let mut bytes = front.to_vec(alloc)?;
-    bytes.extend_from_slice(back)?;
-    Ok(bytes)
+pub(crate) fn joined(rt: &(impl Abort + Alloc<A = Global>), front: &[u8], back: &[u8]) -> Vec<u8> {
+    let mut bytes = front.to_vec(rt.alloc()).expect(rt, NO_ROOM);
+    bytes.extend_from_slice(back).expect(rt, NO_ROOM);
+    bytes
 }
 
 /// The bytes with one of them changed.
 pub(crate) fn with_byte(
-    alloc: Global,
+    rt: &(impl Abort + Alloc<A = Global>),
     bytes: &[u8],
     at: usize,
     byte: u8,
-) -> Result<Vec<u8>, AllocError> {
-    let mut changed = bytes.to_vec(alloc)?;
-    if at < changed.len() {
-        changed[at] = byte;
+) -> Vec<u8> {
+    let mut changed = bytes.to_vec(rt.alloc()).expect(rt, NO_ROOM);
+    if let Some(slot) = changed.get_mut(at) {
+        *slot = byte;
     }
-    Ok(changed)
+    changed
 }
