@@ -60,14 +60,25 @@ fn is_counted(memory: &[u8], plain: &[u8], told: &str) -> bool {
     lines.strip_suffix(told.as_bytes()) == Some(plain)
 }
 
+/// The trace is answered under the row's policy as by the plain machine, and then its counters are told.
+fn check_policy(
+    rt: &(impl Abort + Alloc<A = Global>),
+    options: &str,
+    lines: &[u8],
+    plain: &[u8],
+    row: &str,
+) {
+    let (policy, told) = parted(row, '|');
+    let memory = written(rt, &joined(rt, "run", options, policy), lines);
+    holds(rt, is_counted(&memory, plain, told), policy, "replies");
+}
+
 /// The trace is answered under each policy as by the plain machine, and then these counters are told.
 fn check_counters(rt: &(impl Abort + Alloc<A = Global>), options: &str, trace: &[u8], table: &str) {
     let plain = written(rt, &joined(rt, "plain", options, ""), trace);
     let lines = asking(rt, trace);
     for row in table.split('\n') {
-        let (policy, told) = parted(row, '|');
-        let memory = written(rt, &joined(rt, "run", options, policy), &lines);
-        holds(rt, is_counted(&memory, &plain, told), policy, "replies");
+        check_policy(rt, options, &lines, &plain, row);
     }
 }
 
@@ -151,20 +162,24 @@ fifo|60|stat hits 1357 misses 11760 flushes 4241 copies 4926 moves 0 erases 1214
 locality|59|stat hits 1348 misses 11771 flushes 4218 copies 5618 moves 654 erases 1411 swaps 0 cost 148
 hybrid|60|stat hits 1349 misses 11780 flushes 4267 copies 4912 moves 556 erases 1292 swaps 0 cost 128";
 
+/// The trace, in which things fail, is answered under the row's policy as the row says.
+fn check_failures(rt: &(impl Abort + Alloc<A = Global>), trace: &[u8], row: &str) {
+    let (policy, rest) = parted(row, '|');
+    let (faults, told) = parted(rest, '|');
+    let options = joined(rt, SMALL, "--policy", policy);
+    let memory = written(rt, &joined(rt, "run", &options, ""), trace);
+    holds(rt, ends_with_line(&memory, told), policy, "counters");
+    same(rt, count_of(&memory, b"lost"), 400, policy, "lost");
+    let faults = number_of(rt, faults);
+    same(rt, count_of(&memory, b"fault"), faults, policy, "fault");
+}
+
 #[test]
 fn failures_leave_the_counters_that_the_rules_give(rt: HostRuntime) {
     let calm = written(&rt, "gen --start 13 --lines 20000 --pages 26", b"");
     let trace = with_failures(&rt, &calm);
     for row in OF_FAILURES.split('\n') {
-        let (policy, rest) = parted(row, '|');
-        let (faults, told) = parted(rest, '|');
-        let options = joined(&rt, SMALL, "--policy", policy);
-        let memory = written(&rt, &joined(&rt, "run", &options, ""), &trace);
-        let is_told = ends_with_line(&memory, told);
-        holds(&rt, is_told, policy, "counters");
-        same(&rt, count_of(&memory, b"lost"), 400, policy, "lost");
-        let faults = number_of(&rt, faults);
-        same(&rt, count_of(&memory, b"fault"), faults, policy, "fault");
+        check_failures(&rt, &trace, row);
     }
 }
 

@@ -136,6 +136,23 @@ fn is_known(word: &str) -> bool {
     false
 }
 
+/// A line of a row, if it is of the trace or of what is replied to it.
+fn put_line(
+    rt: &(impl Abort + Alloc<A = Global>),
+    line: &str,
+    trace: &mut Vec<u8>,
+    replies: &mut Vec<u8>,
+) {
+    let (word, text) = parted(line, ' ');
+    if word == ">" {
+        put_filled(rt, trace, text, 0);
+    } else if word == "<" {
+        put_filled(rt, replies, text, 0);
+    } else if word == "*" {
+        put_each(rt, text, trace, replies);
+    }
+}
+
 /// The row's trace, and what is replied to it.
 fn put_pieces(
     rt: &(impl Abort + Alloc<A = Global>),
@@ -144,16 +161,18 @@ fn put_pieces(
     replies: &mut Vec<u8>,
 ) {
     for line in row.split('\n') {
-        let (word, text) = parted(line, ' ');
-        holds(rt, is_known(word), name_of(row), word);
-        if word == ">" {
-            put_filled(rt, trace, text, 0);
-        } else if word == "<" {
-            put_filled(rt, replies, text, 0);
-        } else if word == "*" {
-            put_each(rt, text, trace, replies);
-        }
+        put_line(rt, line, trace, replies);
     }
+}
+
+/// Each line of the row begins with a word that is known, and one names words that are run.
+fn check_words(rt: &impl Abort, row: &str) {
+    let name = name_of(row);
+    for line in row.split('\n') {
+        let word = parted(line, ' ').0;
+        holds(rt, is_known(word), name, word);
+    }
+    holds(rt, said(row, "$").is_some(), name, "no words");
 }
 
 /// How many lines there are, the last of which needs no newline.
@@ -320,32 +339,43 @@ fn check_seen(rt: &impl Abort, row: &str, told: &Told) {
 fn check_command(
     rt: &(impl Abort + Alloc<A = Global>),
     row: &str,
-    given: &Given<'_>,
+    command: &str,
+    trace: &[u8],
     replies: &[u8],
 ) -> u64 {
-    let told = play(rt, given);
-    let ends = ends_in(rt, row, given.trace);
-    check_played(rt, name_of(row), given, &told, ends, replies);
+    let given = given_in(rt, row, command, trace);
+    let told = play(rt, &given);
+    let ends = ends_in(rt, row, trace);
+    check_played(rt, name_of(row), &given, &told, ends, replies);
     check_seen(rt, row, &told);
     told.first.reads
+}
+
+/// Each run of the row over this trace is as it says. Gives how often the first board of the last one was read.
+fn check_commands(
+    rt: &(impl Abort + Alloc<A = Global>),
+    row: &str,
+    trace: &[u8],
+    replies: &[u8],
+) -> u64 {
+    let mut reads = 0;
+    for line in row.split('\n') {
+        let (word, command) = parted(line, ' ');
+        if word == "$" {
+            reads = check_command(rt, row, command, trace, replies);
+        }
+    }
+    reads
 }
 
 /// Each run of the row, with these bytes in front of its trace, is as it says. Gives how often the first board of the
 /// last one was read.
 pub(crate) fn check_row(rt: &(impl Abort + Alloc<A = Global>), row: &str, front: &[u8]) -> u64 {
+    check_words(rt, row);
     let mut trace = front.to_vec(rt.alloc()).expect(rt, NO_ROOM);
     let mut replies = Vec::new(rt.alloc());
     put_pieces(rt, row, &mut trace, &mut replies);
-    holds(rt, said(row, "$").is_some(), name_of(row), "no words");
-    let mut reads = 0;
-    for line in row.split('\n') {
-        let (word, command) = parted(line, ' ');
-        if word == "$" {
-            let given = given_in(rt, row, command, &trace);
-            reads = check_command(rt, row, &given, &replies);
-        }
-    }
-    reads
+    check_commands(rt, row, &trace, &replies)
 }
 
 /// Each row of the table, with these bytes in front of its trace, is as it says.

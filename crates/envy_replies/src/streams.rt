@@ -1,7 +1,7 @@
 //! Sources that give few bytes at a time, streams that fail, and traces that stop anywhere.
 
 use crate::playing::{Given, NO_ROOM, Told, calm, play};
-use crate::rows::{Ends, check_played, done, first_lines, number_of, parted, stops};
+use crate::rows::{Ends, check_played, check_table, done, first_lines, number_of, parted, stops};
 use crate::told::{holds, same};
 use std::alloc::Global;
 use std::process::Abort;
@@ -11,11 +11,6 @@ const HELD: &[u8] = b"begin\nbegin\nput 0 5 1\nstore 6 9\nput 1 7 9\nstore 32 9\
 
 /// The replies to its lines.
 const HELD_REPLIES: &[u8] = b"tx 0\ntx 1\nok\nheld 0\nheld 0\nok\n";
-
-/// What a run over a stream says that fails after so many lines.
-fn fault_text(rt: &(impl Abort + Alloc<A = Global>), what: &str, lines: u64) -> String {
-    format!(in rt.alloc(); "envy: {what} fault after {lines} lines").expect(rt, NO_ROOM)
-}
 
 /// What a run says that refuses the line behind so many.
 fn refused_text(rt: &(impl Abort + Alloc<A = Global>), why: u64, lines: u64) -> String {
@@ -52,56 +47,135 @@ fn check_held(
     }
 }
 
-/// The call of the source that fails, and how many lines are whole in the bytes of the fills before.
-const FAILING_FILLS: &str = "\
-1 0
-2 1
-3 2
-4 3
-5 4
-6 4";
-
-/// A call of the sink fails. The seventh is the flush.
-fn check_write(rt: &(impl Abort + Alloc<A = Global>), call: u64) {
-    let given = Given {
-        sink_fails: call,
-        piece: 64,
-        ..calm("", HELD)
-    };
-    let lines = call.min(6);
-    let text = fault_text(rt, "write", lines);
-    let ends = stops(4, 0, lines, &text);
-    let replies = call.saturating_sub(1);
-    check_held(rt, "a write that fails", &given, ends, 53, replies);
-}
-
-/// A call of the source fails.
-fn check_fill(rt: &(impl Abort + Alloc<A = Global>), call: u64, lines: u64) {
-    let given = Given {
-        source_fails: call,
-        piece: 8,
-        ..calm("", HELD)
-    };
-    let text = fault_text(rt, "read", lines);
-    let ends = stops(3, 0, lines, &text);
-    let taken = call.saturating_sub(1).saturating_mul(8);
-    check_held(rt, "a fill that fails", &given, ends, taken, lines);
-}
+/// A stream that fails. The seventh call of the sink is the flush, and each call of the source fills 8 bytes.
+const FAILING: &str = "\
+~ pieces of 8 bytes
+$ run
+$ plain
+> begin;begin;put 0 5 1;store 6 9;put 1 7 9;store 32 9;
+< tx 0;tx 1;ok;held 0;held 0;ok;
+piece 8
+taken 53
+~ write 1 fails
+$ run
+$ plain
+> begin;begin;put 0 5 1;store 6 9;put 1 7 9;store 32 9;
+sink 1
+piece 64
+ends 4 0 1 envy: write fault after 1 lines
+taken 53
+~ write 2 fails
+$ run
+$ plain
+> begin;begin;put 0 5 1;store 6 9;put 1 7 9;store 32 9;
+< tx 0;
+sink 2
+piece 64
+ends 4 0 2 envy: write fault after 2 lines
+taken 53
+~ write 3 fails
+$ run
+$ plain
+> begin;begin;put 0 5 1;store 6 9;put 1 7 9;store 32 9;
+< tx 0;tx 1;
+sink 3
+piece 64
+ends 4 0 3 envy: write fault after 3 lines
+taken 53
+~ write 4 fails
+$ run
+$ plain
+> begin;begin;put 0 5 1;store 6 9;put 1 7 9;store 32 9;
+< tx 0;tx 1;ok;
+sink 4
+piece 64
+ends 4 0 4 envy: write fault after 4 lines
+taken 53
+~ write 5 fails
+$ run
+$ plain
+> begin;begin;put 0 5 1;store 6 9;put 1 7 9;store 32 9;
+< tx 0;tx 1;ok;held 0;
+sink 5
+piece 64
+ends 4 0 5 envy: write fault after 5 lines
+taken 53
+~ write 6 fails
+$ run
+$ plain
+> begin;begin;put 0 5 1;store 6 9;put 1 7 9;store 32 9;
+< tx 0;tx 1;ok;held 0;held 0;
+sink 6
+piece 64
+ends 4 0 6 envy: write fault after 6 lines
+taken 53
+~ write 7 fails
+$ run
+$ plain
+> begin;begin;put 0 5 1;store 6 9;put 1 7 9;store 32 9;
+< tx 0;tx 1;ok;held 0;held 0;ok;
+sink 7
+piece 64
+ends 4 0 6 envy: write fault after 6 lines
+taken 53
+~ fill 1 fails
+$ run
+$ plain
+> begin;begin;put 0 5 1;store 6 9;put 1 7 9;store 32 9;
+source 1
+piece 8
+ends 3 0 0 envy: read fault after 0 lines
+taken 0
+~ fill 2 fails
+$ run
+$ plain
+> begin;begin;put 0 5 1;store 6 9;put 1 7 9;store 32 9;
+< tx 0;
+source 2
+piece 8
+ends 3 0 1 envy: read fault after 1 lines
+taken 8
+~ fill 3 fails
+$ run
+$ plain
+> begin;begin;put 0 5 1;store 6 9;put 1 7 9;store 32 9;
+< tx 0;tx 1;
+source 3
+piece 8
+ends 3 0 2 envy: read fault after 2 lines
+taken 16
+~ fill 4 fails
+$ run
+$ plain
+> begin;begin;put 0 5 1;store 6 9;put 1 7 9;store 32 9;
+< tx 0;tx 1;ok;
+source 4
+piece 8
+ends 3 0 3 envy: read fault after 3 lines
+taken 24
+~ fill 5 fails
+$ run
+$ plain
+> begin;begin;put 0 5 1;store 6 9;put 1 7 9;store 32 9;
+< tx 0;tx 1;ok;held 0;
+source 5
+piece 8
+ends 3 0 4 envy: read fault after 4 lines
+taken 32
+~ fill 6 fails
+$ run
+$ plain
+> begin;begin;put 0 5 1;store 6 9;put 1 7 9;store 32 9;
+< tx 0;tx 1;ok;held 0;
+source 6
+piece 8
+ends 3 0 4 envy: read fault after 4 lines
+taken 40
+";
 
 #[test]
 fn a_stream_that_fails_ends_the_run(rt: HostRuntime) {
-    let pieces = Given {
-        piece: 8,
-        ..calm("", HELD)
-    };
-    check_held(&rt, "pieces of 8 bytes", &pieces, done(HELD), 53, 6);
-    for call in 1..8_u64 {
-        check_write(&rt, call);
-    }
-    for row in FAILING_FILLS.split('\n') {
-        let (call, lines) = parted(row, ' ');
-        check_fill(&rt, number_of(&rt, call), number_of(&rt, lines));
-    }
+    check_table(&rt, FAILING);
 }
 
 /// For so many bytes, from the first to the last: the status and its second number, and the lines done.
@@ -180,6 +254,18 @@ fn check_stored(rt: &(impl Abort + Alloc<A = Global>), given: &Given<'_>, replie
     holds(rt, has_frame(&told, 1, 2), "a failing sink", "frame");
 }
 
+/// A source that fails at its second call.
+const SOURCE: &str = "\
+~ a failing source
+$ run
+> load 0;
+< 0;
+ends 3 0 1 envy: read fault after 1 lines
+piece 64
+source 2
+taken 7
+";
+
 #[test]
 fn a_sink_that_fails_leaves_what_was_stored(rt: HostRuntime) {
     let usual = calm("run", b"store 0 1\nstore 1 2\nload 0\n");
@@ -190,13 +276,5 @@ fn a_sink_that_fails_leaves_what_was_stored(rt: HostRuntime) {
     check_stored(&rt, &second_fails, b"ok\n");
     let small = Given { room: 4, ..usual };
     check_stored(&rt, &small, b"ok\no");
-    let given = Given {
-        piece: 64,
-        source_fails: 2,
-        ..calm("run", b"load 0\n")
-    };
-    let told = play(&rt, &given);
-    let ends = stops(3, 0, 1, "envy: read fault after 1 lines");
-    check_played(&rt, "a failing source", &given, &told, ends, b"0\n");
-    same(&rt, told.taken, 7, "a failing source", "taken");
+    check_table(&rt, SOURCE);
 }

@@ -50,14 +50,27 @@ fn check_told(rt: &(impl Abort + Alloc<A = Global>), command: &str, trace: &[u8]
     holds(rt, ends_with_line(&replies, told), command, "counters");
 }
 
+/// The lines are answered so by this word with these options.
+fn check_lines(
+    rt: &(impl Abort + Alloc<A = Global>),
+    word: &str,
+    row: &str,
+    lines: &[u8],
+    told: &str,
+) {
+    let (shape, rest) = parted(row, '|');
+    let options = parted(rest, '|').0;
+    check_told(rt, &joined(rt, word, shape, options), lines, told);
+}
+
 /// The words hand the options on to a memory: what the counters say shows it.
 fn check_value(rt: &(impl Abort + Alloc<A = Global>), row: &str, trace: &[u8]) {
     let lines = asking(rt, trace);
     let (shape, rest) = parted(row, '|');
     let (options, rest) = parted(rest, '|');
     let (erases, told) = parted(rest, '|');
-    check_told(rt, &joined(rt, "run", shape, options), &lines, told);
-    check_told(rt, &joined(rt, "mirror", shape, options), &lines, told);
+    check_lines(rt, "run", row, &lines, told);
+    check_lines(rt, "mirror", row, &lines, told);
     let command = joined(rt, "save", shape, options);
     let found = erases_of_save(rt, &command, trace);
     same(rt, found, number_of(rt, erases), &command, "erases");
