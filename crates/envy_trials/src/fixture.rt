@@ -112,28 +112,32 @@ pub(crate) fn check_text(
     holds(rt, found.as_slice() == text, command, "text");
 }
 
-/// The number of an end is this.
-fn same_part(rt: &impl Abort, found: u64, wanted: u64, command: &str, part: &str) {
+/// A number of the run is this; else they are told, and at which byte or call that was.
+pub(crate) fn same_part(
+    rt: &impl Abort,
+    found: u64,
+    wanted: u64,
+    command: &str,
+    part: &str,
+    at: u64,
+) {
     assert!(rt;
         found == wanted,
-        "{command}: {part}: {found}, and not {wanted}"
+        "{command}: {part} at {at}: {found}, and not {wanted}"
     );
 }
 
 /// Both ends are the same.
 pub(crate) fn same_end(rt: &impl Abort, found: &End, wanted: &End, command: &str) {
+    let at = found.taken;
     let status = u64::from(wanted.status);
-    same_part(rt, u64::from(found.status), status, command, "status");
-    same_part(
-        rt,
-        u64::from(found.why),
-        u64::from(wanted.why),
-        command,
-        "why",
-    );
-    same_part(rt, found.lines, wanted.lines, command, "lines");
-    same_part(rt, found.taken, wanted.taken, command, "taken");
-    holds(rt, found.made == wanted.made, command, "a board is made");
+    let why = u64::from(wanted.why);
+    let made = u64::from(wanted.made);
+    same_part(rt, u64::from(found.status), status, command, "status", at);
+    same_part(rt, u64::from(found.why), why, command, "why", at);
+    same_part(rt, found.lines, wanted.lines, command, "lines", at);
+    same_part(rt, found.taken, wanted.taken, command, "taken", at);
+    same_part(rt, u64::from(found.made), made, command, "boards", at);
 }
 
 /// A run ends so, and writes this.

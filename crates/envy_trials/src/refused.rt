@@ -1,7 +1,7 @@
 //! Images that are taken up, and those that aren't.
 
 use crate::fixture::{
-    End, Given, calm, check_end, check_text, joined, same_end, told, with_byte, written,
+    End, Given, calm, check_end, check_text, joined, same_end, same_part, told, with_byte, written,
 };
 use crate::told::{holds, number_of, parted, same};
 use std::alloc::Global;
@@ -173,11 +173,13 @@ fn check_sink(rt: &(impl Abort + Alloc<A = Global>), image: &[u8], call: u64) {
         ..calm(b"store 3 4\n")
     };
     let told = told(rt, SMALLEST, &fails);
-    same(rt, u64::from(told.end.status), 4, "a failing sink");
-    same(rt, told.end.lines, 1, "a failing sink");
-    holds(rt, image.starts_with(&told.text), "a failing sink", "text");
-    let is_whole = told.text.len() == SIZE;
-    holds(rt, is_whole == (call == 22), "a failing sink", "size");
+    let name = "a failing sink";
+    same_part(rt, u64::from(told.end.status), 4, name, "status", call);
+    same_part(rt, told.end.lines, 1, name, "lines", call);
+    let is_front = u64::from(image.starts_with(&told.text));
+    same_part(rt, is_front, 1, name, "text", call);
+    let is_whole = u64::from(told.text.len() == SIZE);
+    same_part(rt, is_whole, u64::from(call == 22), name, "size", call);
 }
 
 #[test]
