@@ -290,10 +290,10 @@ fn plan_of(rt: &impl Abort, text: Option<&str>) -> Plan {
     let k = number_of(rt, k).min(u64::from(u32::MAX)) as u32;
     let g = number_of(rt, g);
     if what == "cut" {
-        Plan::Cut(k, g)
-    } else {
-        Plan::Bad(k, g)
+        return Plan::Cut(k, g);
     }
+    holds(rt, what == "bad", text, "a plan");
+    Plan::Bad(k, g)
 }
 
 /// What the row gives to a run.

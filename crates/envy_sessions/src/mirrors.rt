@@ -1,7 +1,7 @@
 //! A pair over two boards in memory beside the plain machine, while power and flash operations fail.
 
 use crate::mirrors::calls::{Call, Pair, Reply, SMALL, made, made_plainly, paired};
-use crate::mirrors::told::{same, same_of, same_word};
+use crate::told::{same, same_at, same_of};
 use envy_memory::LoadFault;
 use envy_mirror::Caught;
 use envy_plain::Plain;
@@ -11,7 +11,6 @@ use std::process::Abort;
 
 mod calls;
 mod clients;
-mod told;
 
 const WORDS: u32 = 320;
 
@@ -43,7 +42,7 @@ fn assert_kept(rt: &impl Abort, mirror: &Pair, side: u8, name: &str, plain: &Pla
     if mirror.good(side) {
         for a in 0..WORDS {
             let (found, wanted) = (mirror.look_at(side, a).ok(), plain.look(a).ok());
-            same_word(rt, found, wanted, name, a);
+            same_at(rt, &found, &wanted, name, a as u64);
         }
     }
 }
@@ -54,7 +53,7 @@ fn assert_same(rt: &impl Abort, mirror: &mut Pair, plain: &Plain) {
     assert_kept(rt, mirror, 1, "word of side 1 at", plain);
     for a in 0..WORDS {
         let (found, wanted) = (mirror.load(a).ok(), plain.load(a).ok());
-        same_word(rt, found, wanted, "load of", a);
+        same_at(rt, &found, &wanted, "load of", a as u64);
     }
     let past = mirror.load(WORDS);
     same(

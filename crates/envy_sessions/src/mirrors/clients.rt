@@ -1,7 +1,7 @@
 //! Catching up, both sides cut, and waiting for a slot, as a client would do it.
 
 use crate::mirrors::calls::{Call, Pair, Reply, made, paired};
-use crate::mirrors::told::same;
+use crate::told::same;
 use envy_memory::{LoadFault, ReviveFault};
 use envy_mirror::{CatchFault, Caught};
 use envy_policy::Policy;
