@@ -1,9 +1,10 @@
 //! Generated traces, under each policy: the memory writes what the plain machine writes, and its counters are those of
 //! a program that was written apart from this one, by the rules alone.
 
+use crate::filled::{put_number, put_text};
 use crate::images::image;
 use crate::playing::NO_ROOM;
-use crate::rows::{number_of, parted, put_number, put_text};
+use crate::rows::{number_of, parted};
 use crate::told::{holds, same};
 use std::alloc::Global;
 use std::process::Abort;

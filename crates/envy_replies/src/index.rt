@@ -1,8 +1,9 @@
 //! Traces of an index.
 
+use crate::filled::{put_number, put_text};
 use crate::generated::put_plan;
 use crate::playing::{calm, play};
-use crate::rows::{check_table, put_number, put_text};
+use crate::rows::check_table;
 use crate::told::{holds, same};
 use rand_core::{Rng, SeedableRng};
 use rand_pcg::Lcg64Xsh32;

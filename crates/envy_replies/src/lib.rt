@@ -5,6 +5,8 @@
 #[cfg(test)]
 mod boards;
 #[cfg(test)]
+mod filled;
+#[cfg(test)]
 mod formatting;
 #[cfg(test)]
 mod generated;
@@ -21,6 +23,8 @@ mod planned;
 #[cfg(test)]
 mod playing;
 #[cfg(test)]
+mod refused;
+#[cfg(test)]
 mod rows;
 #[cfg(test)]
 mod streams;
@@ -32,6 +36,8 @@ mod told;
 mod tpca;
 #[cfg(test)]
 mod transactions;
+#[cfg(test)]
+mod transfers;
 #[cfg(test)]
 mod values;
 #[cfg(test)]

@@ -6,7 +6,10 @@
 //! - `>`: lines of the trace, and `<`: what is replied to them
 //! - `*`: the first of some numbers, how many there are, and, parted by `|`, the lines and replies for each of them
 //! - `ends`: the status with its second number, how many lines are done, and the text; without it each line is done
-//! - `taken`: how many bytes of the trace are taken
+//! - `taken`: how many bytes of the trace are taken, or `all` of them
+//! - `left`: how many bytes of the trace are left, each number from the first to the last
+//! - `byte`: which byte of the trace is changed, and what it becomes; more such lines change each by itself
+//! - `boards`: which boards are given back, where it isn't what `boards_of` says
 //! - `piece`, `source`, `sink` and `room`: what `Given` says of the streams, where they aren't calm
 //! - `first` and `second`: a failure that is planned for that board, as `cut 5 2` or `bad 1 3`
 //! - `cuts`, `bads`, `word`, `last`, `drawn`, `cuts-2` and `bads-2`: what `check_seen` asks of the boards
@@ -14,6 +17,7 @@
 //! In lines and replies `;` stands for a newline, `%` for the number, and `@` for the first address of the page of that
 //! number, modulo 64.
 
+use crate::filled::{changed, put_pieces};
 use crate::planned::Plan;
 use crate::playing::{Given, NO_ROOM, Told, calm, play};
 use crate::told::{holds, same};
@@ -22,7 +26,7 @@ use std::process::Abort;
 
 /// The words with which lines of a row may begin, the first of which stands before its name.
 const WORDS: &str =
-    " $ > < * ends taken piece source sink room first second cuts bads word last drawn cuts-2 bads-2";
+    " $ > < * ends taken left byte boards piece source sink room first second cuts bads word last drawn cuts-2 bads-2";
 
 /// How a run ends.
 #[derive(Clone, Copy)]
@@ -32,6 +36,8 @@ pub(crate) struct Ends<'a> {
     text: &'a str,
     /// How many bytes of the trace are taken, where that is asked.
     taken: Option<u64>,
+    /// Which boards are given back, where it isn't what `boards_of` says.
+    boards: Option<u64>,
 }
 
 /// Each line of the trace is done.
@@ -40,6 +46,7 @@ pub(crate) fn done(trace: &[u8]) -> Ends<'_> {
         numbers: [0, 0, count_lines(trace)],
         text: "",
         taken: Some(trace.len() as u64),
+        boards: None,
     }
 }
 
@@ -49,6 +56,7 @@ pub(crate) fn stops(status: u64, why: u64, lines: u64, text: &str) -> Ends<'_> {
         numbers: [status, why, lines],
         text,
         taken: if status == 2 { Some(0) } else { None },
+        boards: None,
     }
 }
 
@@ -88,45 +96,6 @@ fn name_of(row: &str) -> &str {
     said(row, "").unwrap_or("")
 }
 
-/// The number in digits.
-pub(crate) fn put_number(rt: &(impl Abort + Alloc<A = Global>), out: &mut Vec<u8>, number: u64) {
-    let digits = format!(in rt.alloc(); "{number}").expect(rt, NO_ROOM);
-    put_text(rt, out, digits.as_bytes());
-}
-
-pub(crate) fn put_text(rt: &impl Abort, out: &mut Vec<u8>, text: &[u8]) {
-    out.extend_from_slice(text).expect(rt, NO_ROOM);
-}
-
-/// The text with a newline for each `;`, the number for each `%`, and the address of its page for each `@`.
-fn put_filled(rt: &(impl Abort + Alloc<A = Global>), out: &mut Vec<u8>, text: &str, number: u64) {
-    for byte in text.as_bytes() {
-        match *byte {
-            b'%' => put_number(rt, out, number),
-            b'@' => put_number(rt, out, 32 * (number % 64)),
-            b';' => put_text(rt, out, b"\n"),
-            other => put_text(rt, out, &[other]),
-        }
-    }
-}
-
-/// Such lines and replies for each of so many numbers.
-fn put_each(
-    rt: &(impl Abort + Alloc<A = Global>),
-    text: &str,
-    trace: &mut Vec<u8>,
-    replies: &mut Vec<u8>,
-) {
-    let (first, rest) = parted(text, ' ');
-    let (count, rest) = parted(rest, ' ');
-    let (lines, said) = parted(rest, '|');
-    let first = number_of(rt, first);
-    for number in first..first.saturating_add(number_of(rt, count)) {
-        put_filled(rt, trace, lines, number);
-        put_filled(rt, replies, said, number);
-    }
-}
-
 fn is_known(word: &str) -> bool {
     for known in WORDS.split(' ') {
         if known == word {
@@ -134,35 +103,6 @@ fn is_known(word: &str) -> bool {
         }
     }
     false
-}
-
-/// A line of a row, if it is of the trace or of what is replied to it.
-fn put_line(
-    rt: &(impl Abort + Alloc<A = Global>),
-    line: &str,
-    trace: &mut Vec<u8>,
-    replies: &mut Vec<u8>,
-) {
-    let (word, text) = parted(line, ' ');
-    if word == ">" {
-        put_filled(rt, trace, text, 0);
-    } else if word == "<" {
-        put_filled(rt, replies, text, 0);
-    } else if word == "*" {
-        put_each(rt, text, trace, replies);
-    }
-}
-
-/// The row's trace, and what is replied to it.
-fn put_pieces(
-    rt: &(impl Abort + Alloc<A = Global>),
-    row: &str,
-    trace: &mut Vec<u8>,
-    replies: &mut Vec<u8>,
-) {
-    for line in row.split('\n') {
-        put_line(rt, line, trace, replies);
-    }
 }
 
 /// Each line of the row begins with a word that is known, and one names words that are run.
@@ -236,8 +176,14 @@ fn check_end(rt: &impl Abort, name: &str, given: &Given<'_>, told: &Told, ends: 
     if let Some(taken) = ends.taken {
         same(rt, told.taken, taken, name, "taken");
     }
-    let boards = boards_of(given.command, told.status);
-    same(rt, told.boards, boards, name, "boards");
+    let usual = boards_of(given.command, told.status);
+    same(
+        rt,
+        told.boards,
+        ends.boards.unwrap_or(usual),
+        name,
+        "boards",
+    );
 }
 
 /// The run ended so, and wrote this.
@@ -264,6 +210,15 @@ pub(crate) fn check_run(
     check_played(rt, name, given, &play(rt, given), ends, replies);
 }
 
+/// How many bytes of the trace a text says are taken.
+fn taken_of(rt: &impl Abort, text: &str, trace: &[u8]) -> u64 {
+    if text == "all" {
+        trace.len() as u64
+    } else {
+        number_of(rt, text)
+    }
+}
+
 /// How the row says that a run of this trace ends.
 fn ends_in<'a>(rt: &impl Abort, row: &'a str, trace: &'a [u8]) -> Ends<'a> {
     let mut ends = done(trace);
@@ -275,7 +230,10 @@ fn ends_in<'a>(rt: &impl Abort, row: &'a str, trace: &'a [u8]) -> Ends<'a> {
         ends = stops(number_of(rt, status), number_of(rt, why), lines, text);
     }
     if let Some(taken) = said(row, "taken") {
-        ends.taken = Some(number_of(rt, taken));
+        ends.taken = Some(taken_of(rt, taken, trace));
+    }
+    if let Some(boards) = said(row, "boards") {
+        ends.boards = Some(number_of(rt, boards));
     }
     ends
 }
@@ -368,6 +326,45 @@ fn check_commands(
     reads
 }
 
+/// Each run of the row is as it says over this trace, or over as many of its bytes as the row says are left.
+fn check_left(
+    rt: &(impl Abort + Alloc<A = Global>),
+    row: &str,
+    trace: &[u8],
+    replies: &[u8],
+) -> u64 {
+    let Some(text) = said(row, "left") else {
+        return check_commands(rt, row, trace, replies);
+    };
+    let (first, last) = parted(text, ' ');
+    let mut reads = 0;
+    for count in number_of(rt, first)..=number_of(rt, last) {
+        let left = trace.get(..count as usize).unwrap_or(trace);
+        reads = check_commands(rt, row, left, replies);
+    }
+    reads
+}
+
+/// The same over the trace, or over the trace with each byte changed that the row says, by itself.
+fn check_changed(
+    rt: &(impl Abort + Alloc<A = Global>),
+    row: &str,
+    trace: &[u8],
+    replies: &[u8],
+) -> u64 {
+    if said(row, "byte").is_none() {
+        return check_left(rt, row, trace, replies);
+    }
+    let mut reads = 0;
+    for line in row.split('\n') {
+        let (word, text) = parted(line, ' ');
+        if word == "byte" {
+            reads = check_left(rt, row, &changed(rt, trace, text), replies);
+        }
+    }
+    reads
+}
+
 /// Each run of the row, with these bytes in front of its trace, is as it says. Gives how often the first board of the
 /// last one was read.
 pub(crate) fn check_row(rt: &(impl Abort + Alloc<A = Global>), row: &str, front: &[u8]) -> u64 {
@@ -375,7 +372,7 @@ pub(crate) fn check_row(rt: &(impl Abort + Alloc<A = Global>), row: &str, front:
     let mut trace = front.to_vec(rt.alloc()).expect(rt, NO_ROOM);
     let mut replies = Vec::new(rt.alloc());
     put_pieces(rt, row, &mut trace, &mut replies);
-    check_commands(rt, row, &trace, &replies)
+    check_changed(rt, row, &trace, &replies)
 }
 
 /// Each row of the table, with these bytes in front of its trace, is as it says.

@@ -1,51 +1,10 @@
 //! Sources that give few bytes at a time, streams that fail, and traces that stop anywhere.
 
-use crate::playing::{Given, NO_ROOM, Told, calm, play};
-use crate::rows::{Ends, check_played, check_table, done, first_lines, number_of, parted, stops};
-use crate::told::{holds, same};
+use crate::playing::{Given, Told, calm, play};
+use crate::rows::{check_played, check_table, stops};
+use crate::told::holds;
 use std::alloc::Global;
 use std::process::Abort;
-
-/// Two slots, a page that the first owns, and a page that nobody owns.
-const HELD: &[u8] = b"begin\nbegin\nput 0 5 1\nstore 6 9\nput 1 7 9\nstore 32 9\n";
-
-/// The replies to its lines.
-const HELD_REPLIES: &[u8] = b"tx 0\ntx 1\nok\nheld 0\nheld 0\nok\n";
-
-/// What a run says that refuses the line behind so many.
-fn refused_text(rt: &(impl Abort + Alloc<A = Global>), why: u64, lines: u64) -> String {
-    let line = lines.saturating_add(1);
-    let fault = if why == 1 {
-        "unknown word"
-    } else {
-        "wrong count of fields"
-    };
-    format!(in rt.alloc(); "envy: line {line}: {fault}").expect(rt, NO_ROOM)
-}
-
-/// The trace is taken this far by a memory and by the plain machine, with the replies to so many lines.
-fn check_held(
-    rt: &(impl Abort + Alloc<A = Global>),
-    name: &str,
-    given: &Given<'_>,
-    ends: Ends<'_>,
-    taken: u64,
-    lines: u64,
-) {
-    for command in "run plain".split(' ') {
-        let given = Given { command, ..*given };
-        let told = play(rt, &given);
-        check_played(
-            rt,
-            name,
-            &given,
-            &told,
-            ends,
-            first_lines(HELD_REPLIES, lines),
-        );
-        same(rt, told.taken, taken, name, "taken");
-    }
-}
 
 /// A stream that fails. The seventh call of the sink is the flush, and each call of the source fills 8 bytes.
 const FAILING: &str = "\
@@ -178,61 +137,140 @@ fn a_stream_that_fails_ends_the_run(rt: HostRuntime) {
     check_table(&rt, FAILING);
 }
 
-/// For so many bytes, from the first to the last: the status and its second number, and the lines done.
+/// A trace of which the first bytes are left.
 const CUT_SHORT: &str = "\
-0 0 0 0 0
-1 4 5 1 0
-5 6 0 0 1
-7 10 5 1 1
-11 12 0 0 2
-13 14 5 1 2
-15 20 5 3 2
-21 22 0 0 3
-23 26 5 1 3
-27 30 5 3 3
-31 32 0 0 4
-33 34 5 1 4
-35 40 5 3 4
-41 42 0 0 5
-43 46 5 1 5
-47 51 5 3 5
-52 53 0 0 6";
-
-/// Of the trace no more than so many bytes are left.
-fn check_short(
-    rt: &(impl Abort + Alloc<A = Global>),
-    count: u64,
-    status: u64,
-    why: u64,
-    lines: u64,
-) {
-    let trace = HELD.get(..count as usize).unwrap_or(b"");
-    let given = calm("", trace);
-    if status == 0 {
-        let ends = done(trace);
-        check_held(rt, "cut short", &given, ends, count, lines);
-    } else {
-        let text = refused_text(rt, why, lines);
-        let ends = stops(status, why, lines, &text);
-        check_held(rt, "cut short", &given, ends, count, lines);
-    }
-}
+~ cut short behind 0 bytes
+$ run
+$ plain
+> begin;begin;put 0 5 1;store 6 9;put 1 7 9;store 32 9;
+left 0 0
+taken all
+~ cut short behind 1 to 4 bytes
+$ run
+$ plain
+> begin;begin;put 0 5 1;store 6 9;put 1 7 9;store 32 9;
+left 1 4
+ends 5 1 0 envy: line 1: unknown word
+taken all
+~ cut short behind 5 to 6 bytes
+$ run
+$ plain
+> begin;begin;put 0 5 1;store 6 9;put 1 7 9;store 32 9;
+left 5 6
+< tx 0;
+taken all
+~ cut short behind 7 to 10 bytes
+$ run
+$ plain
+> begin;begin;put 0 5 1;store 6 9;put 1 7 9;store 32 9;
+left 7 10
+< tx 0;
+ends 5 1 1 envy: line 2: unknown word
+taken all
+~ cut short behind 11 to 12 bytes
+$ run
+$ plain
+> begin;begin;put 0 5 1;store 6 9;put 1 7 9;store 32 9;
+left 11 12
+< tx 0;tx 1;
+taken all
+~ cut short behind 13 to 14 bytes
+$ run
+$ plain
+> begin;begin;put 0 5 1;store 6 9;put 1 7 9;store 32 9;
+left 13 14
+< tx 0;tx 1;
+ends 5 1 2 envy: line 3: unknown word
+taken all
+~ cut short behind 15 to 20 bytes
+$ run
+$ plain
+> begin;begin;put 0 5 1;store 6 9;put 1 7 9;store 32 9;
+left 15 20
+< tx 0;tx 1;
+ends 5 3 2 envy: line 3: wrong count of fields
+taken all
+~ cut short behind 21 to 22 bytes
+$ run
+$ plain
+> begin;begin;put 0 5 1;store 6 9;put 1 7 9;store 32 9;
+left 21 22
+< tx 0;tx 1;ok;
+taken all
+~ cut short behind 23 to 26 bytes
+$ run
+$ plain
+> begin;begin;put 0 5 1;store 6 9;put 1 7 9;store 32 9;
+left 23 26
+< tx 0;tx 1;ok;
+ends 5 1 3 envy: line 4: unknown word
+taken all
+~ cut short behind 27 to 30 bytes
+$ run
+$ plain
+> begin;begin;put 0 5 1;store 6 9;put 1 7 9;store 32 9;
+left 27 30
+< tx 0;tx 1;ok;
+ends 5 3 3 envy: line 4: wrong count of fields
+taken all
+~ cut short behind 31 to 32 bytes
+$ run
+$ plain
+> begin;begin;put 0 5 1;store 6 9;put 1 7 9;store 32 9;
+left 31 32
+< tx 0;tx 1;ok;held 0;
+taken all
+~ cut short behind 33 to 34 bytes
+$ run
+$ plain
+> begin;begin;put 0 5 1;store 6 9;put 1 7 9;store 32 9;
+left 33 34
+< tx 0;tx 1;ok;held 0;
+ends 5 1 4 envy: line 5: unknown word
+taken all
+~ cut short behind 35 to 40 bytes
+$ run
+$ plain
+> begin;begin;put 0 5 1;store 6 9;put 1 7 9;store 32 9;
+left 35 40
+< tx 0;tx 1;ok;held 0;
+ends 5 3 4 envy: line 5: wrong count of fields
+taken all
+~ cut short behind 41 to 42 bytes
+$ run
+$ plain
+> begin;begin;put 0 5 1;store 6 9;put 1 7 9;store 32 9;
+left 41 42
+< tx 0;tx 1;ok;held 0;held 0;
+taken all
+~ cut short behind 43 to 46 bytes
+$ run
+$ plain
+> begin;begin;put 0 5 1;store 6 9;put 1 7 9;store 32 9;
+left 43 46
+< tx 0;tx 1;ok;held 0;held 0;
+ends 5 1 5 envy: line 6: unknown word
+taken all
+~ cut short behind 47 to 51 bytes
+$ run
+$ plain
+> begin;begin;put 0 5 1;store 6 9;put 1 7 9;store 32 9;
+left 47 51
+< tx 0;tx 1;ok;held 0;held 0;
+ends 5 3 5 envy: line 6: wrong count of fields
+taken all
+~ cut short behind 52 to 53 bytes
+$ run
+$ plain
+> begin;begin;put 0 5 1;store 6 9;put 1 7 9;store 32 9;
+left 52 53
+< tx 0;tx 1;ok;held 0;held 0;ok;
+taken all
+";
 
 #[test]
 fn a_trace_may_be_cut_short_anywhere(rt: HostRuntime) {
-    for row in CUT_SHORT.split('\n') {
-        let (first, rest) = parted(row, ' ');
-        let (last, rest) = parted(rest, ' ');
-        let (status, rest) = parted(rest, ' ');
-        let (why, lines) = parted(rest, ' ');
-        let last = number_of(&rt, last);
-        let status = number_of(&rt, status);
-        let why = number_of(&rt, why);
-        let lines = number_of(&rt, lines);
-        for count in number_of(&rt, first)..=last {
-            check_short(&rt, count, status, why, lines);
-        }
-    }
+    check_table(&rt, CUT_SHORT);
 }
 
 /// A frame of the usual board has these first words.

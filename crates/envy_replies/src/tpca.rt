@@ -1,10 +1,9 @@
 //! Loads of transfers, and their reports. Sums and counters were made with an independent program, from the rules of
 //! the load, the policies and the order of device operations.
 
+use crate::filled::{put_number, put_text};
 use crate::playing::{Given, NO_ROOM, Told, calm, play};
-use crate::rows::{
-    check_run, check_table, first_lines, number_of, parted, put_number, put_text, stops,
-};
+use crate::rows::{check_run, check_table, first_lines, number_of, parted, stops};
 use crate::told::{holds, same};
 use std::alloc::Global;
 use std::process::Abort;

@@ -1,10 +1,16 @@
-//! Sessions with a memory: tables of calls, failures of power among them, and the answer that each must have. And such with
-//! a pair of memories.
+//! Sessions with a memory: tables of calls, failures of power among them, and the answer that each must have. Such with a
+//! pair of memories. And what calls cost: how often they read the board.
 //!
 //! One function makes the steps of all sessions. The board under them also sees whether a row is programmed twice
-//! between erases, or out of order within its segment.
+//! between erases, or out of order within its segment, and counts its reads.
 #![tactic(auto)]
 
+#[cfg(test)]
+mod asked;
+#[cfg(test)]
+mod calls;
+#[cfg(test)]
+mod costs;
 #[cfg(test)]
 mod cuts;
 #[cfg(test)]

@@ -1,7 +1,8 @@
 //! A pair over two boards in memory beside the plain machine, while power and flash operations fail.
 
-use crate::mirrors::calls::{Call, Pair, Reply, SMALL, made, made_plainly, paired};
-use crate::told::{same, same_at, same_of};
+use crate::calls::{Call, Made, SMALL, WORDS, check_found, check_plainly, draw};
+use crate::mirrors::pairs::{Pair, made, paired};
+use crate::told::same_at;
 use envy_memory::LoadFault;
 use envy_mirror::Caught;
 use envy_plain::Plain;
@@ -9,18 +10,8 @@ use envy_policy::Policy;
 use std::alloc::Global;
 use std::process::Abort;
 
-mod calls;
 mod clients;
-
-const WORDS: u32 = 320;
-
-/// The next of a sequence of numbers below 65,536.
-fn draw(seed: &mut u64) -> u32 {
-    *seed = seed
-        .wrapping_mul(6364136223846793005)
-        .wrapping_add(1442695040888963407);
-    ((*seed >> 40) % 65536) as u32
-}
+mod pairs;
 
 fn drawn_call(seed: &mut u64) -> Call {
     let a = draw(seed) % (WORDS + 4);
@@ -55,12 +46,12 @@ fn assert_same(rt: &impl Abort, mirror: &mut Pair, plain: &Plain) {
         let (found, wanted) = (mirror.load(a).ok(), plain.load(a).ok());
         same_at(rt, &found, &wanted, "load of", a as u64);
     }
-    let past = mirror.load(WORDS);
-    same(
+    same_at(
         rt,
-        &past,
+        &mirror.load(WORDS),
         &Err(LoadFault::Range),
-        "load behind the last word",
+        "load of",
+        WORDS as u64,
     );
 }
 
@@ -87,11 +78,7 @@ fn is_found(mirror: &Pair, plain: &Plain) -> bool {
 fn lose(rt: &impl Abort, mirror: &mut Pair, plain: &mut Plain, call: Call) {
     revive(rt, mirror);
     if !is_found(mirror, plain) {
-        assert!(rt;
-            matches!(call, Call::Store(_, _) | Call::Commit(_)),
-            "a call is half done"
-        );
-        same_of(rt, &made_plainly(plain, call), &Reply::Done, &call);
+        check_found(rt, plain, call);
     }
     plain.power();
 }
@@ -99,9 +86,9 @@ fn lose(rt: &impl Abort, mirror: &mut Pair, plain: &mut Plain, call: Call) {
 /// Makes a call of both machines, which answer alike but for failures.
 fn make(rt: &impl Abort, mirror: &mut Pair, plain: &mut Plain, call: Call) {
     match made(mirror, call) {
-        Reply::Bad => {}
-        Reply::Off => lose(rt, mirror, plain, call),
-        told => same_of(rt, &made_plainly(plain, call), &told, &call),
+        Made::Answered(answer) => check_plainly(rt, plain, call, answer),
+        Made::Bad => {}
+        Made::Off => lose(rt, mirror, plain, call),
     }
 }
 

@@ -1,4 +1,4 @@
-//! A board that sees whether its rows are programmed as flash with error-correcting words asks for.
+//! A board that sees whether its rows are programmed as flash with error-correcting words asks for, and counts its reads.
 
 ghost use Rattle.std.specs.Prelude.{◌≡◌, ◌<◌, IfOk, length};
 ghost use Rattle.envy_base.specs.Shape.{IsShape};
@@ -11,6 +11,7 @@ use crate::told::same_at;
 use envy_base::{Bench, Board, NoMemory, Off, Shape, Trouble};
 use envy_bench::MemBoard;
 use std::alloc::Global;
+use std::cell::Cell;
 use std::process::Abort;
 
 /// A program that broke a rule.
@@ -23,13 +24,15 @@ pub(crate) enum Breach {
 }
 
 /// A board in memory whose rows are to be programmed once between erases, in rising order within a segment, and only
-/// where they are all ones. It makes each operation as it is asked to, and keeps the first program that broke this.
+/// where they are all ones. It makes each operation as it is asked to, and keeps the first program that broke this. It
+/// counts how often a memory reads a word of its flash or of its SRAM.
 #[derive(Drop)]
 pub(crate) struct OrderedBoard {
     inner: MemBoard,
     /// Of each segment, the rows up to the last one that was programmed since its erase.
     used: Vec<u32>,
     breach: Option<Breach>,
+    reads: Cell<u64>,
 }
 
 impl OrderedBoard {
@@ -44,12 +47,22 @@ impl OrderedBoard {
             inner: MemBoard::new(alloc, shape, lives)?,
             used,
             breach: None,
+            reads: Cell::new(0),
         })
     }
 
     /// The first program that broke a rule.
     pub(crate) fn breach(&self) -> Option<Breach> {
         self.breach
+    }
+
+    /// How often it was read since the last such question.
+    pub(crate) fn take_reads(&self) -> u64 {
+        self.reads.replace(0)
+    }
+
+    fn count_read(&self) {
+        self.reads.set(self.reads.get().saturating_add(1));
     }
 
     /// Whether a row is all ones.
@@ -100,10 +113,12 @@ impl Board for OrderedBoard {
     }
 
     fn read(&self, row: u32, i: u32) -> Result<u64, Off> {
+        self.count_read();
         self.inner.read(row, i)
     }
 
     fn get(&self, w: u32) -> Result<u64, Off> {
+        self.count_read();
         self.inner.get(w)
     }
 

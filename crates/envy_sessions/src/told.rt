@@ -22,18 +22,3 @@ pub(crate) fn same_at<T: PartialEq + Debug>(
         "{name} {at}: {found:?}, and not {wanted:?}"
     );
 }
-
-/// Both are the same; else they are told, with the name.
-pub(crate) fn same<T: PartialEq + Debug>(rt: &impl Abort, found: &T, wanted: &T, name: &str) {
-    assert!(rt; found == wanted, "{name}: {found:?}, and not {wanted:?}");
-}
-
-/// Both are the same; else they are told, with what was asked.
-pub(crate) fn same_of<T: PartialEq + Debug, A: Debug>(
-    rt: &impl Abort,
-    found: &T,
-    wanted: &T,
-    asked: &A,
-) {
-    assert!(rt; found == wanted, "{asked:?}: {found:?}, and not {wanted:?}");
-}

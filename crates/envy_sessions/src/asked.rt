@@ -1,29 +1,27 @@
 //! Calls to a memory over a board that counts its reads, and how often they read it.
 
-use crate::counting::CountingBoard;
-use crate::told::{NO_ROOM, number_of, parted};
+use crate::session::new_memory;
+use crate::steps::Tested;
 use envy_base::Shape;
-use envy_memory::{Did, Memory};
+use envy_memory::Did;
 use envy_policy::{Policy, Setup};
 use std::alloc::Global;
 use std::process::Abort;
 
-/// A memory over this board, by this setup.
-fn memory_by(
-    rt: &(impl Abort + Alloc<A = Global>),
-    board: CountingBoard,
-    setup: Setup,
-) -> Memory<CountingBoard> {
-    let Ok(memory) = Memory::format(rt.alloc(), board, setup) else {
-        panic!(rt; "not formatted")
-    };
-    memory
+/// What is said where memory for a test runs out.
+const NO_ROOM: &str = "no room for a test";
+
+/// The text in front of the first of these, and that behind it.
+fn parted(text: &str, at: char) -> (&str, &str) {
+    match text.split_once(at) {
+        Some(parts) => parts,
+        None => (text, ""),
+    }
 }
 
-/// A new board of this shape.
-fn board_of(rt: &(impl Abort + Alloc<A = Global>), shape: &Shape) -> CountingBoard {
-    shape.check().expect(rt, "the sizes of the board");
-    CountingBoard::new(rt.alloc(), shape).expect(rt, NO_ROOM)
+/// The number that a text spells.
+fn number_of(rt: &impl Abort, text: &str) -> u64 {
+    text.parse::<u64>().expect(rt, "a number of a table")
 }
 
 /// What is done with a memory before and while its reads are counted.
@@ -41,11 +39,7 @@ pub(crate) enum Task {
     Idle,
 }
 
-fn task_reads(
-    rt: &(impl Abort + Alloc<A = Global>),
-    memory: &mut Memory<CountingBoard>,
-    task: Task,
-) -> Vec<u64> {
+fn task_reads(rt: &(impl Abort + Alloc<A = Global>), memory: &mut Tested, task: Task) -> Vec<u64> {
     match task {
         Task::Cleaning(segments, rows) => cleaning_reads(rt, memory, segments, rows),
         Task::Listed(last) => reads_by_call(rt, memory, CALLS, last),
@@ -62,7 +56,7 @@ pub(crate) fn reads_in(
     setup: Setup,
     task: Task,
 ) -> Vec<u64> {
-    let mut memory = memory_by(rt, board_of(rt, &setup.shape), setup);
+    let mut memory = new_memory(rt, rt.alloc(), setup, 0);
     let reads = task_reads(rt, &mut memory, task);
     let _board = memory.into_board();
     reads
@@ -97,7 +91,7 @@ fn address(rt: &impl Abort, text: &str, last: u32) -> u32 {
 }
 
 /// Whether a call to a memory isn't refused. A transaction begins in this slot.
-fn is_done(memory: &mut Memory<CountingBoard>, word: &str, slot: u8, a: u32) -> bool {
+fn is_done(memory: &mut Tested, word: &str, slot: u8, a: u32) -> bool {
     if word == "load" {
         memory.load(a).is_ok()
     } else if word == "look" {
@@ -116,7 +110,7 @@ fn is_done(memory: &mut Memory<CountingBoard>, word: &str, slot: u8, a: u32) -> 
 }
 
 /// Makes a call, which is done.
-fn make(rt: &impl Abort, memory: &mut Memory<CountingBoard>, word: &str, slot: u8, a: u32) {
+fn make(rt: &impl Abort, memory: &mut Tested, word: &str, slot: u8, a: u32) {
     assert!(rt;
         is_done(memory, word, slot, a),
         "{word}: slot {slot}, address {a}"
@@ -138,7 +132,7 @@ fn word_of(did: Did) -> &'static str {
 }
 
 /// The word for what a tick does.
-fn ticked(memory: &mut Memory<CountingBoard>) -> &'static str {
+fn ticked(memory: &mut Tested) -> &'static str {
     match memory.tick() {
         Ok(did) => word_of(did),
         Err(_) => "failed",
@@ -146,18 +140,18 @@ fn ticked(memory: &mut Memory<CountingBoard>) -> &'static str {
 }
 
 /// Makes a tick, which does this.
-fn tick(rt: &impl Abort, memory: &mut Memory<CountingBoard>, wanted: &str) {
+fn tick(rt: &impl Abort, memory: &mut Tested, wanted: &str) {
     let found = ticked(memory);
     assert!(rt; found == wanted, "tick: {found}, and not {wanted}");
 }
 
 /// Stores into the word at this address.
-fn store(rt: &impl Abort, memory: &mut Memory<CountingBoard>, a: u32) {
+fn store(rt: &impl Abort, memory: &mut Tested, a: u32) {
     make(rt, memory, "store", 0, a);
 }
 
 /// Makes the call of a line, which is done, to a memory whose last page begins at this address.
-fn make_line(rt: &impl Abort, memory: &mut Memory<CountingBoard>, line: &str, last: u32) {
+fn make_line(rt: &impl Abort, memory: &mut Tested, line: &str, last: u32) {
     let (word, rest) = parted(line, ' ');
     let (first, second) = parted(rest, ' ');
     if word == "tick" {
@@ -172,30 +166,30 @@ fn make_line(rt: &impl Abort, memory: &mut Memory<CountingBoard>, line: &str, la
 }
 
 /// How often the board was read since it was last asked.
-fn reads_since(memory: &Memory<CountingBoard>) -> u64 {
+fn reads_since(memory: &Tested) -> u64 {
     memory.board().take_reads()
 }
 
 /// How many segments were erased.
-fn erases_of(memory: &Memory<CountingBoard>) -> u64 {
+fn erases_of(memory: &Tested) -> u64 {
     memory.counts().erases
 }
 
 /// A page is stored, and goes to the next free row.
-fn flush(rt: &impl Abort, memory: &mut Memory<CountingBoard>, page: u16) {
+fn flush(rt: &impl Abort, memory: &mut Tested, page: u16) {
     store(rt, memory, 32 * page as u32);
     tick(rt, memory, "flushed");
 }
 
 /// Flushes a page into so many rows.
-fn fill(rt: &impl Abort, memory: &mut Memory<CountingBoard>, page: u16, rows: u32) {
+fn fill(rt: &impl Abort, memory: &mut Tested, page: u16, rows: u32) {
     for _row in 0..rows {
         flush(rt, memory, page);
     }
 }
 
 /// Lets the cleaning of position 0 begin, all of whose rows but the first are kept. No row is free at the others.
-fn begin_cleaning(rt: &impl Abort, memory: &mut Memory<CountingBoard>, segments: u16, rows: u16) {
+fn begin_cleaning(rt: &impl Abort, memory: &mut Tested, segments: u16, rows: u16) {
     // page 0 leaves row 0
     flush(rt, memory, 0);
     for page in 1..rows {
@@ -208,7 +202,7 @@ fn begin_cleaning(rt: &impl Abort, memory: &mut Memory<CountingBoard>, segments:
 }
 
 /// Makes the steps of a cleaning behind its copies.
-fn end_cleaning(rt: &impl Abort, memory: &mut Memory<CountingBoard>) {
+fn end_cleaning(rt: &impl Abort, memory: &mut Tested) {
     tick(rt, memory, "switched");
     tick(rt, memory, "placed");
     tick(rt, memory, "erased");
@@ -217,7 +211,7 @@ fn end_cleaning(rt: &impl Abort, memory: &mut Memory<CountingBoard>) {
 /// How often all steps of the cleaning of a segment read the board, where so many rows but one are kept.
 fn cleaning_reads(
     rt: &(impl Abort + Alloc<A = Global>),
-    memory: &mut Memory<CountingBoard>,
+    memory: &mut Tested,
     segments: u16,
     rows: u16,
 ) -> Vec<u64> {
@@ -268,7 +262,7 @@ tick idle";
 /// How often each of these calls reads the board of a memory whose last page begins at this address.
 fn reads_by_call(
     rt: &(impl Abort + Alloc<A = Global>),
-    memory: &mut Memory<CountingBoard>,
+    memory: &mut Tested,
     calls: &str,
     last: u32,
 ) -> Vec<u64> {
@@ -315,7 +309,7 @@ tick erased
 tick flushed";
 
 /// Leaves no row of so many segments free.
-fn fill_all(rt: &impl Abort, memory: &mut Memory<CountingBoard>, segments: u16) {
+fn fill_all(rt: &impl Abort, memory: &mut Tested, segments: u16) {
     for page in 0..13 {
         flush(rt, memory, page);
         flush(rt, memory, BUSY);
@@ -328,7 +322,7 @@ fn fill_all(rt: &impl Abort, memory: &mut Memory<CountingBoard>, segments: u16) 
 /// cleaned in all.
 fn full_reads(
     rt: &(impl Abort + Alloc<A = Global>),
-    memory: &mut Memory<CountingBoard>,
+    memory: &mut Tested,
     segments: u16,
 ) -> Vec<u64> {
     fill_all(rt, memory, segments);
@@ -340,7 +334,7 @@ fn full_reads(
 }
 
 /// Opens a slot, which then owns 25 pages.
-fn open(rt: &impl Abort, memory: &mut Memory<CountingBoard>, slot: u8) {
+fn open(rt: &impl Abort, memory: &mut Tested, slot: u8) {
     make(rt, memory, "begin", slot, 0);
     let first = 4 + 25 * slot as u32;
     for page in first..first + 25 {
@@ -350,11 +344,7 @@ fn open(rt: &impl Abort, memory: &mut Memory<CountingBoard>, slot: u8) {
 
 /// How often a store into a page in a frame reads the board: where the cache holds the page, and where it doesn't. So
 /// many slots are open, each of which owns 25 pages.
-fn store_reads(
-    rt: &(impl Abort + Alloc<A = Global>),
-    memory: &mut Memory<CountingBoard>,
-    slots: u8,
-) -> Vec<u64> {
+fn store_reads(rt: &(impl Abort + Alloc<A = Global>), memory: &mut Tested, slots: u8) -> Vec<u64> {
     for slot in 0..slots {
         open(rt, memory, slot);
     }
@@ -372,10 +362,7 @@ fn store_reads(
 
 /// How often two ticks read the board that find nothing to do, one after the other, where one erase has begun and that
 /// is the limit.
-fn idle_reads(
-    rt: &(impl Abort + Alloc<A = Global>),
-    memory: &mut Memory<CountingBoard>,
-) -> Vec<u64> {
+fn idle_reads(rt: &(impl Abort + Alloc<A = Global>), memory: &mut Tested) -> Vec<u64> {
     // both rows of the page's home are left, so the home is cleaned for the page
     flush(rt, memory, 0);
     flush(rt, memory, 0);

@@ -1,7 +1,7 @@
 //! How often calls read the board, of which no clause says anything.
 
 use crate::asked::{BUSY, Task, reads_in, setup_of};
-use crate::told::same;
+use crate::told::same_at;
 use envy_base::Shape;
 use envy_policy::{Policy, Setup};
 use std::alloc::Global;
@@ -20,7 +20,7 @@ fn twice(reads: u64) -> u64 {
 }
 
 fn at_most(rt: &impl Abort, found: u64, most: u64, name: &str) {
-    same(rt, found, found.min(most), name);
+    same_at(rt, &found, &found.min(most), name, most);
 }
 
 // A row that is kept makes one step, which looks at the job three times (3), asks who keeps the row (4 at most: the
@@ -66,7 +66,7 @@ fn calls_read_as_much_of_many_pages(rt: HostRuntime) {
     same_reads(&rt, &many, &few, "of 512 pages");
     let few = cleaning_of(&rt, 34, 32, 64);
     let many = cleaning_of(&rt, 34, 32, 512);
-    same(&rt, many, few, "a cleaning of 512 pages");
+    same_at(&rt, &many, &few, "a cleaning of pages", 512);
 }
 
 /// The policies, under each of which no call looks at all segments.
@@ -96,7 +96,7 @@ fn calls_read_as_much_of_many_segments(rt: HostRuntime) {
     }
     let few = cleaning_of(&rt, 16, 32, 64);
     let many = cleaning_of(&rt, 4096, 32, 64);
-    same(&rt, many, few, "a cleaning of 4096 segments");
+    same_at(&rt, &many, &few, "a cleaning of segments", 4096);
 }
 
 /// A setup of so many segments of 2 rows.
@@ -115,7 +115,7 @@ fn calls_that_clean_read_as_much_of_many_segments(rt: HostRuntime) {
     let few = reads_in(&rt, full_setup(16), Task::Full(16));
     let many = reads_in(&rt, full_setup(4096), Task::Full(4096));
     same_reads(&rt, &many, &few, "of 4096 segments");
-    same(&rt, few.last().copied().unwrap_or(u64::MAX), 10, "cleaned");
+    same_at(&rt, &few.last().copied(), &Some(10), "cleaned of", 16);
 }
 
 // A store of one word into a frame needs to know but the page's place, which is one word, and whether the page has an
