@@ -9,6 +9,7 @@ use Rattle.std.proofs.lemmas.Option.{get_or_from_slice_get, slice_get-get_or}
 use Rattle.std.proofs.lemmas.List.FromFn.{get_or-range_with_len, length-range_with_len, sum_by-map-range_with_len_more}
 use Rattle.envy_base.specs.declared.shape.Shape.{Shape}
 use Rattle.envy_base.specs.Shape.{IsShape}
+use Rattle.envy_layout.specs.Sound.{IsPlaced, IsSpare}
 use Rattle.envy_space.specs.Order.{IsOrder}
 use Rattle.envy_space.specs.Pool.{Pool, IsPool, IsSpace, StandsAt, empty_pool, free_at, dead_at}
 use Rattle.envy_space.specs.Winners.{flag}
@@ -235,3 +236,29 @@ IsSpace-kept sh fills kept order dead has_free has_dead then_dead then_has s n m
     below : (t : ℕ) → (t ≡ s) ⊎ (t ≡ s → ⊥) → get_or (set kept s n) t 0 ≤ get_or fills t 0
     below t (inl same) = let long = was.kept_long in let at = ap (λ (i : ℕ). get_or (set kept s n) i 0) same in let is = get_or-set_same kept s n 0 (omega arith) in let f_at = ap (λ (i : ℕ). get_or fills i 0) same in omega arith
     below t (inr other) = let is = get_or-set_other kept s t n 0 other in let le = was.kept_fit t in omega arith
+
+-- what a look at an order says of the pool: where a segment stands, the segment at a position, and the spare
+pub placed-within : (sh : Shape) (fills kept order dead has_free has_dead : List ℕ) (s : ℕ) → IsSpace sh fills kept order dead has_free has_dead → IsPlaced sh (take (sh.segments - 1) order) s → s < length order
+placed-within sh fills kept order dead has_free has_dead s are (k, lt, is) =
+    let long = are.order_long in
+    let at = get_or-take (sh.segments - 1) order k 0 lt in
+    let fit = are.ordered.fit k (omega arith) in
+    omega arith
+
+pub placed-low : (sh : Shape) (fills kept order dead has_free has_dead : List ℕ) (s q : ℕ) → IsSpace sh fills kept order dead has_free has_dead → IsPlaced sh (take (sh.segments - 1) order) s → q < length order → get_or order q 0 ≡ s → q < sh.segments - 1
+placed-low sh fills kept order dead has_free has_dead s q are (k, lt, is) within stands =
+    let long = are.order_long in
+    let same : q ≡ k = are.ordered.apart q k within (omega arith) (stands ∙ sym is ∙ get_or-take (sh.segments - 1) order k 0 lt) in
+    rw same lt
+
+pub spare-last : (sh : Shape) (fills kept order dead has_free has_dead : List ℕ) (e : ℕ) → IsSpace sh fills kept order dead has_free has_dead → e ≡ get_or order (sh.segments - 1) 0 → IsSpare sh (take (sh.segments - 1) order) e
+spare-last sh fills kept order dead has_free has_dead e are is =
+    let long = are.order_long in
+    let some = are.shape.segments in
+    let fit = are.ordered.fit (sh.segments - 1) (omega arith) in
+    record {
+      segment = omega arith;
+      nowhere = λ k lt stands.
+          let same : k ≡ sh.segments - 1 = are.ordered.apart k (sh.segments - 1) (omega arith) (omega arith) (sym (get_or-take (sh.segments - 1) order k 0 lt) ∙ stands ∙ is) in
+          absurd (omega arith);
+    }
