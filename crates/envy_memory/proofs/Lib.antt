@@ -9,6 +9,7 @@ pub mod Facts
 pub mod FormatLemmas
 pub mod HitsLemmas
 pub mod Owning
+pub mod PutAnswers
 pub mod PutLemmas
 pub mod Standing
 pub mod Stepped

@@ -1,8 +1,11 @@
-use Rattle.std.proofs.Common.{◌≡◌, IsTrue, Ok, Err, ◌∙◌, ◌<◌, ◌*◌, ◌+◌, ◌/◌, ◌%◌, length, Some, refl, sym, subst, ap, arith}
+use Rattle.std.proofs.Common.{ℕ, ◌≡◌, ◌≢◌, ◌≤◌, false, IsTrue, Ok, Err, ◌∙◌, ◌<◌, ◌*◌, ◌+◌, ◌/◌, ◌%◌, length, Some, refl, sym, subst, ap, arith}
+use Rattle.std.proofs.lemmas.Bool.{false≢true}
 use Rattle.std.proofs.lemmas.Result.{err_from_is_err_and}
 use Rattle.envy_base.specs.declared.shape.Shape.{Shape}
 use Rattle.envy_base.specs.Array.{Array}
-use Rattle.envy_map.specs.Fields.{chart}
+use Rattle.envy_map.specs.Fields.{chart, slot}
+use Rattle.std.specs.Prelude.{IsErrOf}
+use Rattle.envy_layout.specs.Sound.{slots_of}
 use Rattle.envy_layout.specs.Stands.{Stands}
 use Rattle.envy_layout.proofs.Composition.{cause}
 use Rattle.envy_txn.specs.Owners.{owner_of}
@@ -13,11 +16,14 @@ use Rattle.envy_layout.specs.Same.{Framed}
 use Rattle.envy_flush.proofs.Leaving.{powers_both}
 use Rattle.envy_wear.specs.Swaps.{IsQuiet}
 use Rattle.envy_memory.specs.Below.{PutsBelow}
-use Rattle.envy_memory.specs.Calls.{Works, IsCut, Undisturbed}
+use Rattle.envy_memory.specs.Calls.{Works, IsCut, HasFailed, Undisturbed}
 use Rattle.envy_memory.specs.Faults.{put_fault}
 use Rattle.envy_memory.specs.Picture.{Picture, IsMemory}
+use Rattle.envy_memory.specs.declared.faults.PutFault.TheVariants.{Off, Range, Closed, Held, Full, Bad}
+use Rattle.envy_base.specs.declared.fields.Slot.TheVariants.{Active}
 use Rattle.envy_memory.proofs.Below.{Worked, below-put_again, below-put_first, below-put_ended}
 use Rattle.envy_memory.proofs.Owning.{IsMemory-left, Works-left, owner-pairs}
+use Rattle.envy_memory.proofs.PutAnswers.{Refuses, beyond-slots, past-of, inside-of, lit-cut, below-refused, refuses-off, refuses-past, refuses-shut, refuses-kept, refuses-full, taken-own, taken-first, no-refusal, lit-off, lit-bad, lit-complete, off-both, off-bad, off-complete, done-off, done-cut, done-bad, done-complete, ended-off, ended-bad}
 use Rattle.envy_memory.proofs.PutLemmas.{full-of, Meets, MeetsFree, is-open, counted-pairs, Puts-done, Puts-ended, Puts-again, Puts-again_ended, Counted-first, Works-first, IsMemory-first, owned-free}
 use Rattle.envy_memory.proofs.Standing.{beyond, inside}
 use Rattle.envy_memory.proofs.TickLemmas.{never-ended}
@@ -25,6 +31,9 @@ use Rattle.envy_flush.proofs.WearLemmas.{IsQuiet-counted}
 use Rattle.envy_memory.proofs.memory.Memory.put.Given.{Over}
 use Rattle.envy_memory.proofs.memory.Memory.put.Goals.{After-owner, After-store_word, After-put_first}
 use Rattle.envy_memory.proofs.memory.Memory.put.Goals as goal
+
+same-le : (n : ℕ) → n ≤ n
+same-le n = omega arith
 
 -- slot t is open, and the page within the board
 meets : (g : Over) (c : After-owner g) (m : Array) → Stands (chart (g.B.Board.state c.self.inside.board)) m → Meets c.args.t c.args.a (chart (g.B.Board.state c.self.inside.board)) m c.self.inside.owned
@@ -219,3 +228,386 @@ returns-clause-below g c =
     let new : Picture = record { chart = chart (g.B.Board.state c.put_first.new.board); parts = c.put_first.new.parts; owned = c.put_first.new.owned; limit = c.self.inside.limit; mark = c.self.inside.mark } in
     subst (λ (p : Picture). PutsBelow c.args.t c.args.a (Ok tt) p new) c.self.view_is
     (below-put_first c.args.t c.args.a _ new.chart new.parts new.owned (worked-first g (goal.at.returns-clause-below g c).After-put_first) c.self.invariant.0.fits (sym c.in_default.ensures.value) c.in_ok-put_first.ensures.puts c.in_ok-put_first.ensures.gives)
+
+off-answers : (g : Over) (c : goal.Then-not-powered g) → Refuses c.args.t c.args.a (Err Off) c.args.self.now
+off-answers g c =
+    let old : Picture = record { chart = chart (g.B.Board.state c.self.inside.board); parts = c.self.inside.parts; owned = c.self.inside.owned; limit = c.self.inside.limit; mark = c.self.inside.mark } in
+    subst (λ (p : Picture). Refuses c.args.t c.args.a (Err Off) p) c.self.view_is (refuses-off c.args.t c.args.a old (sym c.if-not-powered.ensures))
+
+past-answers : (g : Over) (c : goal.Then-page-shape g) → Refuses c.args.t c.args.a (Err Range) c.args.self.now
+past-answers g c =
+    let old : Picture = record { chart = chart (g.B.Board.state c.self.inside.board); parts = c.self.inside.parts; owned = c.self.inside.owned; limit = c.self.inside.limit; mark = c.self.inside.mark } in
+    let pages = ap (λ (sh : Shape). sh.pages) c.shape.ensures in
+    subst (λ (p : Picture). Refuses c.args.t c.args.a (Err Range) p) c.self.view_is (refuses-past c.args.t c.args.a old (sym c.if-not-powered.ensures, past-of c.args.a c.shape.result.pages old.chart.shape.pages pages c.if-page-shape.true))
+
+high-answers : (g : Over) (c : goal.Then-t-ge64 g) → Refuses c.args.t c.args.a (Err Closed) c.args.self.now
+high-answers g c =
+    let old : Picture = record { chart = chart (g.B.Board.state c.self.inside.board); parts = c.self.inside.parts; owned = c.self.inside.owned; limit = c.self.inside.limit; mark = c.self.inside.mark } in
+    let pages = ap (λ (sh : Shape). sh.pages) c.shape.ensures in
+    let shut : slot old.chart.fields c.args.t ≢ Some Active = beyond-slots old.chart c.args.t c.self.invariant.0.sound c.if-t-ge64.true in
+    subst (λ (p : Picture). Refuses c.args.t c.args.a (Err Closed) p) c.self.view_is (refuses-shut c.args.t c.args.a old (sym c.if-not-powered.ensures, inside-of c.args.a c.shape.result.pages old.chart.shape.pages pages c.if-page-shape.false, shut))
+
+shut-answers : (g : Over) (c : goal.Then-not-branch g) → Refuses c.args.t c.args.a (Err Closed) c.args.self.now
+shut-answers g c =
+    let old : Picture = record { chart = chart (g.B.Board.state c.self.inside.board); parts = c.self.inside.parts; owned = c.self.inside.owned; limit = c.self.inside.limit; mark = c.self.inside.mark } in
+    let pages = ap (λ (sh : Shape). sh.pages) c.shape.ensures in
+    subst (λ (p : Picture). Refuses c.args.t c.args.a (Err Closed) p) c.self.view_is (refuses-shut c.args.t c.args.a old (sym c.if-not-powered.ensures, inside-of c.args.a c.shape.result.pages old.chart.shape.pages pages c.if-page-shape.false, c.in_ok-is_open.ensures.never c.if-not-branch.true))
+
+kept-answers : (g : Over) (c : goal.Then-slot-t g) → Refuses c.args.t c.args.a (Err (Held c.in-Some.slot)) c.args.self.now
+kept-answers g c =
+    let old : Picture = record { chart = chart (g.B.Board.state c.self.inside.board); parts = c.self.inside.parts; owned = c.self.inside.owned; limit = c.self.inside.limit; mark = c.self.inside.mark } in
+    let pages = ap (λ (sh : Shape). sh.pages) c.shape.ensures in
+    subst (λ (p : Picture). Refuses c.args.t c.args.a (Err (Held c.in-Some.slot)) p) c.self.view_is (refuses-kept c.args.t c.args.a c.in-Some.slot old (sym c.if-not-powered.ensures, inside-of c.args.a c.shape.result.pages old.chart.shape.pages pages c.if-page-shape.false, c.in_ok-is_open.ensures.yes c.if-not-branch.false, sym c.in-Some.ensures.value, c.if-slot-t.true))
+
+full-answers : (g : Over) (c : goal.Then-not-room g) → Refuses c.args.t c.args.a (Err Full) c.args.self.now
+full-answers g c =
+    let old : Picture = record { chart = chart (g.B.Board.state c.self.inside.board); parts = c.self.inside.parts; owned = c.self.inside.owned; limit = c.self.inside.limit; mark = c.self.inside.mark } in
+    let pages = ap (λ (sh : Shape). sh.pages) c.shape.ensures in
+    let full : length old.owned.pairs ≡ old.owned.limit = full-of (length old.owned.pairs) old.owned.limit c.room.result c.room.ensures.value c.if-not-room.true c.owner.ensures.whole.few in
+    subst (λ (p : Picture). Refuses c.args.t c.args.a (Err Full) p) c.self.view_is (refuses-full c.args.t c.args.a old (sym c.if-not-powered.ensures, inside-of c.args.a c.shape.result.pages old.chart.shape.pages pages c.if-page-shape.false, c.in_ok-is_open.ensures.yes c.if-not-branch.false, sym c.in_default.ensures.value, full ∙ c.self.invariant.0.shadows))
+
+own-ended : (g : Over) (c : goal.After-from_residual-in_err-store_word g) → Refuses c.args.t c.args.a c.from_residual-in_err-store_word.result c.args.self.now
+own-ended g c =
+    let old : Picture = record { chart = chart (g.B.Board.state c.self.inside.board); parts = c.self.inside.parts; owned = c.self.inside.owned; limit = c.self.inside.limit; mark = c.self.inside.mark } in
+    let pages = ap (λ (sh : Shape). sh.pages) c.shape.ensures in
+    subst (λ (p : Picture). Refuses c.args.t c.args.a c.from_residual-in_err-store_word.result p) c.self.view_is (taken-own c.args.t c.args.a c.from_residual-in_err-store_word.result old (let p = err_from_is_err_and c.from_residual-in_err-store_word.result c.from_residual-in_err-store_word.ensures.1 in rw (p.1, p.2) (no-refusal c.in_err-store_word.field-0.0)) (inside-of c.args.a c.shape.result.pages old.chart.shape.pages pages c.if-page-shape.false) (c.in_ok-is_open.ensures.yes c.if-not-branch.false) (sym c.in-Some.ensures.value ∙ ap (λ (x : _). Some x) c.if-slot-t.false))
+
+own-done : (g : Over) (c : goal.In_ok-store_word g) → Refuses c.args.t c.args.a (Ok tt) c.args.self.now
+own-done g c =
+    let old : Picture = record { chart = chart (g.B.Board.state c.self.inside.board); parts = c.self.inside.parts; owned = c.self.inside.owned; limit = c.self.inside.limit; mark = c.self.inside.mark } in
+    let pages = ap (λ (sh : Shape). sh.pages) c.shape.ensures in
+    subst (λ (p : Picture). Refuses c.args.t c.args.a (Ok tt) p) c.self.view_is (taken-own c.args.t c.args.a (Ok tt) old tt (inside-of c.args.a c.shape.result.pages old.chart.shape.pages pages c.if-page-shape.false) (c.in_ok-is_open.ensures.yes c.if-not-branch.false) (sym c.in-Some.ensures.value ∙ ap (λ (x : _). Some x) c.if-slot-t.false))
+
+first-ended : (g : Over) (c : goal.After-from_residual-in_err-put_first g) → Refuses c.args.t c.args.a c.from_residual-in_err-put_first.result c.args.self.now
+first-ended g c =
+    let old : Picture = record { chart = chart (g.B.Board.state c.self.inside.board); parts = c.self.inside.parts; owned = c.self.inside.owned; limit = c.self.inside.limit; mark = c.self.inside.mark } in
+    let pages = ap (λ (sh : Shape). sh.pages) c.shape.ensures in
+    let room : length old.owned.pairs < old.chart.shape.shadows = subst (λ (n : _). length old.owned.pairs < n) c.self.invariant.0.shadows (c.room.ensures.value.0 c.if-not-room.false) in
+    subst (λ (p : Picture). Refuses c.args.t c.args.a c.from_residual-in_err-put_first.result p) c.self.view_is (taken-first c.args.t c.args.a c.from_residual-in_err-put_first.result old (let p = err_from_is_err_and c.from_residual-in_err-put_first.result c.from_residual-in_err-put_first.ensures.1 in rw (p.1, p.2) (no-refusal c.in_err-put_first.field-0.0)) (inside-of c.args.a c.shape.result.pages old.chart.shape.pages pages c.if-page-shape.false) (c.in_ok-is_open.ensures.yes c.if-not-branch.false) (sym c.in_default.ensures.value) room)
+
+first-done : (g : Over) (c : goal.In_ok-put_first g) → Refuses c.args.t c.args.a (Ok tt) c.args.self.now
+first-done g c =
+    let old : Picture = record { chart = chart (g.B.Board.state c.self.inside.board); parts = c.self.inside.parts; owned = c.self.inside.owned; limit = c.self.inside.limit; mark = c.self.inside.mark } in
+    let pages = ap (λ (sh : Shape). sh.pages) c.shape.ensures in
+    let room : length old.owned.pairs < old.chart.shape.shadows = subst (λ (n : _). length old.owned.pairs < n) c.self.invariant.0.shadows (c.room.ensures.value.0 c.if-not-room.false) in
+    subst (λ (p : Picture). Refuses c.args.t c.args.a (Ok tt) p) c.self.view_is (taken-first c.args.t c.args.a (Ok tt) old tt (inside-of c.args.a c.shape.result.pages old.chart.shape.pages pages c.if-page-shape.false) (c.in_ok-is_open.ensures.yes c.if-not-branch.false) (sym c.in_default.ensures.value) room)
+
+pub returns-then-not-powered-clause-range : goal.returns-then-not-powered-clause-range
+returns-then-not-powered-clause-range g c = Refuses.range (off-answers g c)
+
+pub returns-then-not-powered-clause-closed : goal.returns-then-not-powered-clause-closed
+returns-then-not-powered-clause-closed g c = Refuses.closed (off-answers g c)
+
+pub returns-then-not-powered-clause-held : goal.returns-then-not-powered-clause-held
+returns-then-not-powered-clause-held g c = Refuses.held (off-answers g c)
+
+pub returns-then-not-powered-clause-full : goal.returns-then-not-powered-clause-full
+returns-then-not-powered-clause-full g c = Refuses.full (off-answers g c)
+
+pub returns-then-page-shape-clause-range : goal.returns-then-page-shape-clause-range
+returns-then-page-shape-clause-range g c = Refuses.range (past-answers g c)
+
+pub returns-then-page-shape-clause-closed : goal.returns-then-page-shape-clause-closed
+returns-then-page-shape-clause-closed g c = Refuses.closed (past-answers g c)
+
+pub returns-then-page-shape-clause-held : goal.returns-then-page-shape-clause-held
+returns-then-page-shape-clause-held g c = Refuses.held (past-answers g c)
+
+pub returns-then-page-shape-clause-full : goal.returns-then-page-shape-clause-full
+returns-then-page-shape-clause-full g c = Refuses.full (past-answers g c)
+
+pub returns-then-t-ge64-clause-range : goal.returns-then-t-ge64-clause-range
+returns-then-t-ge64-clause-range g c = Refuses.range (high-answers g c)
+
+pub returns-then-t-ge64-clause-closed : goal.returns-then-t-ge64-clause-closed
+returns-then-t-ge64-clause-closed g c = Refuses.closed (high-answers g c)
+
+pub returns-then-t-ge64-clause-held : goal.returns-then-t-ge64-clause-held
+returns-then-t-ge64-clause-held g c = Refuses.held (high-answers g c)
+
+pub returns-then-t-ge64-clause-full : goal.returns-then-t-ge64-clause-full
+returns-then-t-ge64-clause-full g c = Refuses.full (high-answers g c)
+
+pub returns-then-not-branch-clause-range : goal.returns-then-not-branch-clause-range
+returns-then-not-branch-clause-range g c = Refuses.range (shut-answers g c)
+
+pub returns-then-not-branch-clause-closed : goal.returns-then-not-branch-clause-closed
+returns-then-not-branch-clause-closed g c = Refuses.closed (shut-answers g c)
+
+pub returns-then-not-branch-clause-held : goal.returns-then-not-branch-clause-held
+returns-then-not-branch-clause-held g c = Refuses.held (shut-answers g c)
+
+pub returns-then-not-branch-clause-full : goal.returns-then-not-branch-clause-full
+returns-then-not-branch-clause-full g c = Refuses.full (shut-answers g c)
+
+pub returns-then-slot-t-clause-range : goal.returns-then-slot-t-clause-range
+returns-then-slot-t-clause-range g c = Refuses.range (kept-answers g c)
+
+pub returns-then-slot-t-clause-closed : goal.returns-then-slot-t-clause-closed
+returns-then-slot-t-clause-closed g c = Refuses.closed (kept-answers g c)
+
+pub returns-then-slot-t-clause-held : goal.returns-then-slot-t-clause-held
+returns-then-slot-t-clause-held g c = Refuses.held (kept-answers g c)
+
+pub returns-then-slot-t-clause-full : goal.returns-then-slot-t-clause-full
+returns-then-slot-t-clause-full g c = Refuses.full (kept-answers g c)
+
+pub returns-then-not-room-clause-range : goal.returns-then-not-room-clause-range
+returns-then-not-room-clause-range g c = Refuses.range (full-answers g c)
+
+pub returns-then-not-room-clause-closed : goal.returns-then-not-room-clause-closed
+returns-then-not-room-clause-closed g c = Refuses.closed (full-answers g c)
+
+pub returns-then-not-room-clause-held : goal.returns-then-not-room-clause-held
+returns-then-not-room-clause-held g c = Refuses.held (full-answers g c)
+
+pub returns-then-not-room-clause-full : goal.returns-then-not-room-clause-full
+returns-then-not-room-clause-full g c = Refuses.full (full-answers g c)
+
+pub returns-in_err-store_word-clause-range : goal.returns-in_err-store_word-clause-range
+returns-in_err-store_word-clause-range g c = Refuses.range (own-ended g c)
+
+pub returns-in_err-store_word-clause-closed : goal.returns-in_err-store_word-clause-closed
+returns-in_err-store_word-clause-closed g c = Refuses.closed (own-ended g c)
+
+pub returns-in_err-store_word-clause-held : goal.returns-in_err-store_word-clause-held
+returns-in_err-store_word-clause-held g c = Refuses.held (own-ended g c)
+
+pub returns-in_err-store_word-clause-full : goal.returns-in_err-store_word-clause-full
+returns-in_err-store_word-clause-full g c = Refuses.full (own-ended g c)
+
+pub returns-in-Some-clause-range : goal.returns-in-Some-clause-range
+returns-in-Some-clause-range g c = Refuses.range (own-done g c)
+
+pub returns-in-Some-clause-closed : goal.returns-in-Some-clause-closed
+returns-in-Some-clause-closed g c = Refuses.closed (own-done g c)
+
+pub returns-in-Some-clause-held : goal.returns-in-Some-clause-held
+returns-in-Some-clause-held g c = Refuses.held (own-done g c)
+
+pub returns-in-Some-clause-full : goal.returns-in-Some-clause-full
+returns-in-Some-clause-full g c = Refuses.full (own-done g c)
+
+pub returns-in_err-put_first-clause-range : goal.returns-in_err-put_first-clause-range
+returns-in_err-put_first-clause-range g c = Refuses.range (first-ended g c)
+
+pub returns-in_err-put_first-clause-closed : goal.returns-in_err-put_first-clause-closed
+returns-in_err-put_first-clause-closed g c = Refuses.closed (first-ended g c)
+
+pub returns-in_err-put_first-clause-held : goal.returns-in_err-put_first-clause-held
+returns-in_err-put_first-clause-held g c = Refuses.held (first-ended g c)
+
+pub returns-in_err-put_first-clause-full : goal.returns-in_err-put_first-clause-full
+returns-in_err-put_first-clause-full g c = Refuses.full (first-ended g c)
+
+pub returns-clause-range : goal.returns-clause-range
+returns-clause-range g c = Refuses.range (first-done g c)
+
+pub returns-clause-closed : goal.returns-clause-closed
+returns-clause-closed g c = Refuses.closed (first-done g c)
+
+pub returns-clause-held : goal.returns-clause-held
+returns-clause-held g c = Refuses.held (first-done g c)
+
+pub returns-clause-full : goal.returns-clause-full
+returns-clause-full g c = Refuses.full (first-done g c)
+
+pub returns-then-not-powered-clause-cut : goal.returns-then-not-powered-clause-cut
+returns-then-not-powered-clause-cut g c = lit-cut c.args.self.now
+
+pub returns-then-page-shape-clause-cut : goal.returns-then-page-shape-clause-cut
+returns-then-page-shape-clause-cut g c = lit-cut c.args.self.now
+
+pub returns-then-page-shape-clause-below : goal.returns-then-page-shape-clause-below
+returns-then-page-shape-clause-below g c = below-refused c.args.t c.args.a Range c.args.self.now refl (λ x. x)
+
+pub returns-then-t-ge64-clause-cut : goal.returns-then-t-ge64-clause-cut
+returns-then-t-ge64-clause-cut g c = lit-cut c.args.self.now
+
+pub returns-then-t-ge64-clause-below : goal.returns-then-t-ge64-clause-below
+returns-then-t-ge64-clause-below g c = below-refused c.args.t c.args.a Closed c.args.self.now refl (λ x. x)
+
+pub returns-then-not-branch-clause-cut : goal.returns-then-not-branch-clause-cut
+returns-then-not-branch-clause-cut g c = lit-cut c.args.self.now
+
+pub returns-then-not-branch-clause-below : goal.returns-then-not-branch-clause-below
+returns-then-not-branch-clause-below g c = below-refused c.args.t c.args.a Closed c.args.self.now refl (λ x. x)
+
+pub returns-then-slot-t-clause-cut : goal.returns-then-slot-t-clause-cut
+returns-then-slot-t-clause-cut g c = lit-cut c.args.self.now
+
+pub returns-then-slot-t-clause-below : goal.returns-then-slot-t-clause-below
+returns-then-slot-t-clause-below g c = below-refused c.args.t c.args.a (Held c.in-Some.slot) c.args.self.now refl (λ x. x)
+
+pub returns-then-not-room-clause-cut : goal.returns-then-not-room-clause-cut
+returns-then-not-room-clause-cut g c = lit-cut c.args.self.now
+
+pub returns-then-not-room-clause-below : goal.returns-then-not-room-clause-below
+returns-then-not-room-clause-below g c = below-refused c.args.t c.args.a Full c.args.self.now refl (λ x. x)
+
+pub returns-in_err-is_open-clause-step : goal.returns-in_err-is_open-clause-step
+returns-in_err-is_open-clause-step g c = absurd (false≢true (sym c.in_err-is_open.ensures.off ∙ sym c.if-not-powered.ensures))
+
+pub returns-in_err-is_open-clause-off : goal.returns-in_err-is_open-clause-off
+returns-in_err-is_open-clause-off g c = absurd (false≢true (sym c.in_err-is_open.ensures.off ∙ sym c.if-not-powered.ensures))
+
+pub returns-in_err-is_open-clause-cut : goal.returns-in_err-is_open-clause-cut
+returns-in_err-is_open-clause-cut g c = absurd (false≢true (sym c.in_err-is_open.ensures.off ∙ sym c.if-not-powered.ensures))
+
+pub returns-in_err-is_open-clause-range : goal.returns-in_err-is_open-clause-range
+returns-in_err-is_open-clause-range g c = absurd (false≢true (sym c.in_err-is_open.ensures.off ∙ sym c.if-not-powered.ensures))
+
+pub returns-in_err-is_open-clause-closed : goal.returns-in_err-is_open-clause-closed
+returns-in_err-is_open-clause-closed g c = absurd (false≢true (sym c.in_err-is_open.ensures.off ∙ sym c.if-not-powered.ensures))
+
+pub returns-in_err-is_open-clause-held : goal.returns-in_err-is_open-clause-held
+returns-in_err-is_open-clause-held g c = absurd (false≢true (sym c.in_err-is_open.ensures.off ∙ sym c.if-not-powered.ensures))
+
+pub returns-in_err-is_open-clause-full : goal.returns-in_err-is_open-clause-full
+returns-in_err-is_open-clause-full g c = absurd (false≢true (sym c.in_err-is_open.ensures.off ∙ sym c.if-not-powered.ensures))
+
+pub returns-in_err-is_open-clause-bad : goal.returns-in_err-is_open-clause-bad
+returns-in_err-is_open-clause-bad g c = absurd (false≢true (sym c.in_err-is_open.ensures.off ∙ sym c.if-not-powered.ensures))
+
+pub returns-in_err-is_open-clause-complete : goal.returns-in_err-is_open-clause-complete
+returns-in_err-is_open-clause-complete g c = absurd (false≢true (sym c.in_err-is_open.ensures.off ∙ sym c.if-not-powered.ensures))
+
+pub returns-in_err-is_open-clause-below : goal.returns-in_err-is_open-clause-below
+returns-in_err-is_open-clause-below g c = absurd (false≢true (sym c.in_err-is_open.ensures.off ∙ sym c.if-not-powered.ensures))
+
+pub returns-then-not-powered-clause-bad : goal.returns-then-not-powered-clause-bad
+returns-then-not-powered-clause-bad g c = off-bad c.args.self.now
+
+pub returns-then-not-powered-clause-off : goal.returns-then-not-powered-clause-off
+returns-then-not-powered-clause-off g c = off-both c.args.self.now (subst (λ (p : Picture). p.chart.on ≡ false) c.self.view_is (sym c.if-not-powered.ensures))
+
+pub returns-then-not-powered-clause-complete : goal.returns-then-not-powered-clause-complete
+returns-then-not-powered-clause-complete g c = off-complete c.args.self.now (subst (λ (p : Picture). p.chart.on ≡ false) c.self.view_is (sym c.if-not-powered.ensures))
+
+pub returns-then-page-shape-clause-bad : goal.returns-then-page-shape-clause-bad
+returns-then-page-shape-clause-bad g c = lit-bad Range c.args.self.now (λ x. x)
+
+pub returns-then-page-shape-clause-off : goal.returns-then-page-shape-clause-off
+returns-then-page-shape-clause-off g c = lit-off Range c.args.self.now (λ x. x) (subst (λ (p : Picture). IsTrue p.chart.on) c.self.view_is (sym c.if-not-powered.ensures))
+
+pub returns-then-page-shape-clause-complete : goal.returns-then-page-shape-clause-complete
+returns-then-page-shape-clause-complete g c = lit-complete Range c.args.self.now (λ x. x)
+
+pub returns-then-t-ge64-clause-bad : goal.returns-then-t-ge64-clause-bad
+returns-then-t-ge64-clause-bad g c = lit-bad Closed c.args.self.now (λ x. x)
+
+pub returns-then-t-ge64-clause-off : goal.returns-then-t-ge64-clause-off
+returns-then-t-ge64-clause-off g c = lit-off Closed c.args.self.now (λ x. x) (subst (λ (p : Picture). IsTrue p.chart.on) c.self.view_is (sym c.if-not-powered.ensures))
+
+pub returns-then-t-ge64-clause-complete : goal.returns-then-t-ge64-clause-complete
+returns-then-t-ge64-clause-complete g c = lit-complete Closed c.args.self.now (λ x. x)
+
+pub returns-then-not-branch-clause-bad : goal.returns-then-not-branch-clause-bad
+returns-then-not-branch-clause-bad g c = lit-bad Closed c.args.self.now (λ x. x)
+
+pub returns-then-not-branch-clause-off : goal.returns-then-not-branch-clause-off
+returns-then-not-branch-clause-off g c = lit-off Closed c.args.self.now (λ x. x) (subst (λ (p : Picture). IsTrue p.chart.on) c.self.view_is (sym c.if-not-powered.ensures))
+
+pub returns-then-not-branch-clause-complete : goal.returns-then-not-branch-clause-complete
+returns-then-not-branch-clause-complete g c = lit-complete Closed c.args.self.now (λ x. x)
+
+pub returns-then-slot-t-clause-bad : goal.returns-then-slot-t-clause-bad
+returns-then-slot-t-clause-bad g c = lit-bad (Held c.in-Some.slot) c.args.self.now (λ x. x)
+
+pub returns-then-slot-t-clause-off : goal.returns-then-slot-t-clause-off
+returns-then-slot-t-clause-off g c = lit-off (Held c.in-Some.slot) c.args.self.now (λ x. x) (subst (λ (p : Picture). IsTrue p.chart.on) c.self.view_is (sym c.if-not-powered.ensures))
+
+pub returns-then-slot-t-clause-complete : goal.returns-then-slot-t-clause-complete
+returns-then-slot-t-clause-complete g c = lit-complete (Held c.in-Some.slot) c.args.self.now (λ x. x)
+
+pub returns-then-not-room-clause-bad : goal.returns-then-not-room-clause-bad
+returns-then-not-room-clause-bad g c = lit-bad Full c.args.self.now (λ x. x)
+
+pub returns-then-not-room-clause-off : goal.returns-then-not-room-clause-off
+returns-then-not-room-clause-off g c = lit-off Full c.args.self.now (λ x. x) (subst (λ (p : Picture). IsTrue p.chart.on) c.self.view_is (sym c.if-not-powered.ensures))
+
+pub returns-then-not-room-clause-complete : goal.returns-then-not-room-clause-complete
+returns-then-not-room-clause-complete g c = lit-complete Full c.args.self.now (λ x. x)
+
+pub returns-in-Some-clause-off : goal.returns-in-Some-clause-off
+returns-in-Some-clause-off g c = done-off (g.B.Board.state c.store_word.new.board).on c.in_ok-store_word.ensures.power
+
+pub returns-in-Some-clause-cut : goal.returns-in-Some-clause-cut
+returns-in-Some-clause-cut g c = done-cut c.args.self.now.chart (chart (g.B.Board.state c.store_word.new.board)) c.in_ok-store_word.ensures.power
+
+pub returns-in-Some-clause-complete : goal.returns-in-Some-clause-complete
+returns-in-Some-clause-complete g c calm = done-complete
+
+pub returns-in-Some-clause-bad : goal.returns-in-Some-clause-bad
+returns-in-Some-clause-bad g c = done-bad c.args.self.now.chart (chart (g.B.Board.state c.store_word.new.board))
+
+pub returns-clause-off : goal.returns-clause-off
+returns-clause-off g c = done-off (g.B.Board.state c.put_first.new.board).on c.in_ok-put_first.ensures.power
+
+pub returns-clause-cut : goal.returns-clause-cut
+returns-clause-cut g c = done-cut c.args.self.now.chart (chart (g.B.Board.state c.put_first.new.board)) c.in_ok-put_first.ensures.power
+
+pub returns-clause-complete : goal.returns-clause-complete
+returns-clause-complete g c calm = done-complete
+
+pub returns-clause-bad : goal.returns-clause-bad
+returns-clause-bad g c = done-bad c.args.self.now.chart (chart (g.B.Board.state c.put_first.new.board))
+
+pub returns-in_err-store_word-clause-off : goal.returns-in_err-store_word-clause-off
+returns-in_err-store_word-clause-off g c =
+    let p = err_from_is_err_and c.from_residual-in_err-store_word.result c.from_residual-in_err-store_word.ensures.1 in
+    rw (p.1, p.2) (ended-off c.in_err-store_word.field-0.0 (g.B.Board.state c.store_word.new.board).on c.in_err-store_word.ensures.power)
+
+pub returns-in_err-store_word-clause-bad : goal.returns-in_err-store_word-clause-bad
+returns-in_err-store_word-clause-bad g c is =
+    let p = err_from_is_err_and c.from_residual-in_err-store_word.result c.from_residual-in_err-store_word.ensures.1 in
+    let bad = subst (λ (r : _). IsErrOf r Bad) (p.1 ∙ ap (λ (f : _). Err f) p.2) is in
+    subst (λ (p : Picture). HasFailed p.chart (chart (g.B.Board.state c.store_word.new.board))) c.self.view_is
+    (c.in_err-store_word.ensures.stops (ended-bad c.in_err-store_word.field-0.0 bad)).1
+
+pub returns-in_err-put_first-clause-off : goal.returns-in_err-put_first-clause-off
+returns-in_err-put_first-clause-off g c =
+    let p = err_from_is_err_and c.from_residual-in_err-put_first.result c.from_residual-in_err-put_first.ensures.1 in
+    rw (p.1, p.2) (ended-off c.in_err-put_first.field-0.0 (g.B.Board.state c.put_first.new.board).on c.in_err-put_first.ensures.power)
+
+pub returns-in_err-put_first-clause-bad : goal.returns-in_err-put_first-clause-bad
+returns-in_err-put_first-clause-bad g c is =
+    let p = err_from_is_err_and c.from_residual-in_err-put_first.result c.from_residual-in_err-put_first.ensures.1 in
+    let bad = subst (λ (r : _). IsErrOf r Bad) (p.1 ∙ ap (λ (f : _). Err f) p.2) is in
+    subst (λ (p : Picture). HasFailed p.chart (chart (g.B.Board.state c.put_first.new.board))) c.self.view_is
+    (c.in_err-put_first.ensures.stops (ended-bad c.in_err-put_first.field-0.0 bad)).1
+
+pub store_word-requires-clause-ready : goal.store_word-requires-clause-ready
+store_word-requires-clause-ready g c = record { on = sym c.if-not-powered.ensures; sound = c.self.invariant.0.sound; fits = c.self.invariant.0.fits; agrees = c.self.invariant.0.agrees (sym c.if-not-powered.ensures) }
+
+pub put_first-requires-clause-ready : goal.put_first-requires-clause-ready
+put_first-requires-clause-ready g c = record { on = sym c.if-not-powered.ensures; sound = c.self.invariant.0.sound; fits = c.self.invariant.0.fits; agrees = c.self.invariant.0.agrees (sym c.if-not-powered.ensures) }
+
+pub store_word-requires-clause-page : goal.store_word-requires-clause-page
+store_word-requires-clause-page g c =
+    let pages = ap (λ (sh : Shape). sh.pages) c.shape.ensures in
+    subst (λ (n : ℕ). c.args.a / 32 < n) pages c.if-page-shape.false
+
+pub is_open-requires-clause-sound : goal.is_open-requires-clause-sound
+is_open-requires-clause-sound g c = c.self.invariant.0.sound
+
+pub is_open-requires-clause-version : goal.is_open-requires-clause-version
+is_open-requires-clause-version g c = c.self.invariant.0.version
+
+pub is_open-requires-clause-slot : goal.is_open-requires-clause-slot
+is_open-requires-clause-slot g c = c.if-t-ge64.false
+
+pub put_first-requires-clause-may : goal.put_first-requires-clause-may
+put_first-requires-clause-may g c =
+    let on : IsTrue (g.B.Board.state c.self.inside.board).on = sym c.if-not-powered.ensures in
+    let old = chart (g.B.Board.state c.self.inside.board) in
+    let pages = ap (λ (sh : Shape). sh.pages) c.shape.ensures in
+    record {
+      page = subst (λ (n : ℕ). c.args.a / 32 < n) pages c.if-page-shape.false;
+      low = c.if-t-ge64.false;
+      opened = (subst (λ (v : ℕ). c.args.t < slots_of v) (sym c.self.invariant.0.version) c.if-t-ge64.false, c.in_ok-is_open.ensures.yes c.if-not-branch.false);
+      owned = c.self.invariant.0.owned on;
+      limit = subst (λ (n : ℕ). c.self.inside.owned.limit ≤ n) c.self.invariant.0.shadows (same-le c.self.inside.owned.limit);
+      room = c.room.ensures.value.0 c.if-not-room.false;
+      free = sym c.in_default.ensures.value;
+    }
