@@ -3,6 +3,7 @@ pub mod AttachVersion
 pub mod Below
 pub mod Counted
 pub mod Effects
+pub mod EndAnswers
 pub mod EndLemmas
 pub mod Ended
 pub mod Facts
