@@ -1,4 +1,4 @@
--- When a commit or an abort gives which answer, and what it leaves.
+-- When a commit, an abort or a begin gives which answer, and what it leaves.
 use Rattle.std.proofs.Common.{Bool, ◌≡◌, ◌≢◌, ◌⊎◌, inl, inr, false, true, ℕ, ◌<◌, List, get_or, set, length, Option, Some, None, Ok, Err, refl, sym, ◌∙◌, ap, subst, arith}
 use Rattle.std.specs.Prelude.{IsTrue, Result, ◌↔◌}
 use Rattle.std.proofs.lemmas.Bool.{cases_eq}
@@ -7,7 +7,7 @@ use Rattle.envy_base.specs.declared.fields.Slot.{Slot}
 use Rattle.envy_base.specs.declared.fields.Slot.TheVariants.{Active, Committed, Vacant}
 use Rattle.envy_base.specs.declared.shape.Shape.{Shape}
 use Rattle.envy_map.specs.Fields.{Chart, slot}
-use Rattle.envy_layout.specs.Same.{SameDurable, Commits, Counted, Wears}
+use Rattle.envy_layout.specs.Same.{SameDurable, SameWords, Commits, Counted, Wears}
 use Rattle.envy_layout.specs.Sound.{IsSound, Sound, Slots}
 use Rattle.envy_layout.specs.Transactions.{Closes}
 use Rattle.envy_layout.proofs.Composition.{Counted-refl, Wears-refl}
@@ -79,14 +79,17 @@ headed-same c new s = record { shape = s.shape; magic = s.magic; version = s.ver
 pub headed-done : (t : ℕ) (c new : Chart) → Commits 0 0 t c new → Headed c new
 headed-done t c new s = record { shape = s.shape; magic = s.magic; version = s.version; sound = s.sound; counted = s.counted; worn = s.worn }
 
+pub headed-words : (c new : Chart) → SameWords 0 0 c new → Headed c new
+headed-words c new s = record { shape = s.shape; magic = s.magic; version = s.version; sound = s.sound; counted = s.counted; worn = s.worn }
+
 pub headed-commit : (t : ℕ) (c new : Chart) → SameDurable 0 0 c new ⊎ Commits 0 0 t c new → Headed c new
 headed-commit t c new (inl same) = headed-same c new same
 headed-commit t c new (inr done) = headed-done t c new done
 
-works-headed : (c new : Chart) → IsTrue c.on → Headed c new → Works 0 0 c new
+pub works-headed : (c new : Chart) → IsTrue c.on → Headed c new → Works 0 0 c new
 works-headed c new on h = record { shape = h.shape; counted = h.counted; worn = h.worn; idle = λ off. absurd (unlit c.on off on) }
 
-works-still : (c : Chart) → Works 0 0 c c
+pub works-still : (c : Chart) → Works 0 0 c c
 works-still c = record { shape = refl; counted = Counted-refl c; worn = Wears-refl c; idle = λ off. refl }
 
 pub IsMemory-headed : (limit mark : ℕ) (c new : Chart) (x y : Parts) (o now : Ownership) → IsMemory c x o limit mark → Headed c new → Steady new y → KeepsOwners new o now
@@ -105,18 +108,20 @@ IsMemory-headed limit mark c new x y o now m h steady owners settled = record {
 }
 
 -- no slot waits for the end of a commit, where one was closed
-pub settled-closed : (t u : ℕ) (c new : Chart) → IsSound c → t < 64 → Closes t c new → slot c.fields u ≢ Some Committed → slot new.fields u ≢ Some Committed
-settled-closed t u c new sound low closes before after = at (cases_eq u t)
+pub settled-set : (t u : ℕ) (v : Slot) (c new : Chart) → IsSound c → t < 64 → Some v ≢ Some Committed → new.fields.slots ≡ set c.fields.slots t (Some v) → slot c.fields u ≢ Some Committed → slot new.fields u ≢ Some Committed
+settled-set t u v c new sound low other slots before after = at (cases_eq u t)
   where
-    waits : get_or (set c.fields.slots t (Some Vacant)) u None ≡ Some Committed
-    waits = ap (λ (xs : List (Option Slot)). get_or xs u None) (sym closes.slots) ∙ after
+    waits : get_or (set c.fields.slots t (Some v)) u None ≡ Some Committed
+    waits = ap (λ (xs : List (Option Slot)). get_or xs u None) (sym slots) ∙ after
 
     at : (u ≡ t) ⊎ (u ≡ t → ⊥) → ⊥
     at (inl same) =
-        let here = get_or-set_same c.fields.slots t (Some Vacant) None (rw (Slots.long (Sound.slots sound)) low) in
-        let no : Some Vacant ≡ Some Committed = sym here ∙ ap (λ (i : ℕ). get_or (set c.fields.slots t (Some Vacant)) i None) (sym same) ∙ waits in
-        cc
-    at (inr other) = before (sym (get_or-set_other c.fields.slots t u (Some Vacant) None other) ∙ waits)
+        let here = get_or-set_same c.fields.slots t (Some v) None (rw (Slots.long (Sound.slots sound)) low) in
+        other (sym here ∙ ap (λ (i : ℕ). get_or (set c.fields.slots t (Some v)) i None) (sym same) ∙ waits)
+    at (inr apart) = before (sym (get_or-set_other c.fields.slots t u (Some v) None apart) ∙ waits)
+
+pub settled-closed : (t u : ℕ) (c new : Chart) → IsSound c → t < 64 → Closes t c new → slot c.fields u ≢ Some Committed → slot new.fields u ≢ Some Committed
+settled-closed t u c new sound low closes = settled-set t u Vacant c new sound low (λ e. let no : Some Vacant ≡ Some Committed = e in cc) closes.slots
 
 pub aborts-refused : (t : ℕ) (f : EndFault) (p : Picture) → AbortsBelow t (Err f) p p
 aborts-refused t f p = record {

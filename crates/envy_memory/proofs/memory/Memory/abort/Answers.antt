@@ -18,6 +18,7 @@ use Rattle.envy_memory.specs.declared.faults.EndFault.TheVariants.{Off, Closed}
 use Rattle.envy_memory.proofs.PutAnswers.{beyond-slots}
 use Rattle.envy_memory.proofs.EndAnswers.{Answer, unlit, off-open, shut-lit, done-open, done-lit, dark-off, lit-off, dark-closed, shut-closed, open-closed, still-cut, dark-complete, headed-same, IsMemory-headed, settled-closed, aborts-refused, aborts-ended, aborts-done}
 use Rattle.envy_memory.proofs.EndLemmas.{undisturbed-on}
+use Rattle.envy_wear.specs.Swaps.{IsQuiet}
 use Rattle.envy_flush.proofs.WearLemmas.{IsQuiet-still}
 use Rattle.envy_memory.proofs.memory.Memory.abort.Goals as goal
 
@@ -192,7 +193,7 @@ invariant_of-self g c =
     let new = chart (g.B.Board.state c.abort_pages.new.board) in
     let o = c.in_err-abort_pages.ensures in (
       IsMemory-headed c.self.inside.limit c.self.inside.mark old.chart new old.parts c.abort_pages.new.parts old.owned c.abort_pages.new.owned c.self.invariant.0 (headed-same old.chart new o.durable) o.steady o.owners (λ on. absurd (unlit new.on o.power on)),
-      λ on. absurd (unlit new.on o.power on),
+      λ on. absurd {A = IsQuiet new.shape new.fields c.self.inside.limit c.abort_pages.new.parts.reloc.since c.self.inside.quiet} (unlit new.on o.power on),
     )
 
 pub invariant_of-self-2 : goal.invariant_of-self-2

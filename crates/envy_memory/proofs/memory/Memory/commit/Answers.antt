@@ -18,6 +18,7 @@ use Rattle.envy_memory.specs.declared.faults.EndFault.TheVariants.{Off, Closed}
 use Rattle.envy_memory.proofs.PutAnswers.{beyond-slots}
 use Rattle.envy_memory.proofs.EndAnswers.{Answer, unlit, off-open, shut-lit, done-open, done-lit, dark-off, lit-off, dark-closed, shut-closed, open-closed, still-cut, dark-complete, headed-commit, headed-done, IsMemory-headed, settled-closed, commits-refused, commits-ended, commits-done}
 use Rattle.envy_memory.proofs.EndLemmas.{Counted-commit, undisturbed-on}
+use Rattle.envy_wear.specs.Swaps.{IsQuiet}
 use Rattle.envy_flush.proofs.WearLemmas.{IsQuiet-still}
 use Rattle.envy_memory.proofs.memory.Memory.commit.Goals as goal
 
@@ -192,7 +193,7 @@ invariant_of-self g c =
     let new = chart (g.B.Board.state c.commit_pages.new.board) in
     let o = c.in_err-commit_pages.ensures in (
       IsMemory-headed c.self.inside.limit c.self.inside.mark old.chart new old.parts c.commit_pages.new.parts old.owned c.commit_pages.new.owned c.self.invariant.0 (headed-commit c.args.t old.chart new o.commits) o.steady o.owners (λ on. absurd (unlit new.on o.power on)),
-      λ on. absurd (unlit new.on o.power on),
+      λ on. absurd {A = IsQuiet new.shape new.fields c.self.inside.limit c.commit_pages.new.parts.reloc.since c.self.inside.quiet} (unlit new.on o.power on),
     )
 
 pub invariant_of-self-2 : goal.invariant_of-self-2
