@@ -1,5 +1,5 @@
 -- When a put gives which answer.
-use Rattle.std.proofs.Common.{Bool, ◌≡◌, ◌≢◌, inl, inr, ◌⊎◌, false, true, ℕ, ◌*◌, ◌/◌, ◌<◌, ◌≤◌, length, Some, None, Ok, Err, refl, sym, ◌∙◌, ap, subst, arith, rules}
+use Rattle.std.proofs.Common.{Bool, ◌≡◌, ◌≢◌, false, true, ℕ, ◌*◌, ◌/◌, ◌<◌, ◌≤◌, length, Some, None, Ok, Err, refl, sym, ◌∙◌, ap, subst, arith, rules}
 use Rattle.std.specs.Prelude.{IsTrue, IsErrOf, Result, ◌↔◌}
 use Rattle.envy_base.specs.declared.board.Trouble.{Trouble}
 use Rattle.envy_base.specs.declared.board.Trouble.TheVariants.{Off as TroubleOff, Bad as TroubleBad}
