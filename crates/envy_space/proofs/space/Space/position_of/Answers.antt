@@ -1,4 +1,4 @@
-use Rattle.std.proofs.Common.{◌<◌, ◌-◌, sym, subst, ap, List, get_or, ◌≡◌, ◌∙◌, take}
+use Rattle.std.proofs.Common.{◌<◌, ◌-◌, sym, subst, get_or, ◌≡◌, ◌∙◌}
 use Rattle.std.proofs.lemmas.List.{get_or-take}
 use Rattle.envy_layout.specs.Sound.{IsPlaced}
 use Rattle.envy_space.specs.Pool.{Pool, IsPool}
