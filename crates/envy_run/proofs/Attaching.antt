@@ -1,14 +1,20 @@
 -- A board to which a memory is attached until it is.
-use Rattle.std.proofs.Common.{◌≡◌, inl, inr, ℕ, zero, suc, ◌<◌, false, refl, sym, ◌∙◌, subst, arith}
+use Rattle.std.proofs.Common.{◌≡◌, inl, inr, ℕ, zero, suc, ◌<◌, false, refl, sym, ap, ◌∙◌, subst, arith}
 use Rattle.std.specs.Prelude.{IsTrue}
+use Rattle.envy_base.specs.Array.{Array}
 use Rattle.envy_base.specs.State.{State, lit}
+use Rattle.envy_base.specs.declared.shape.Shape.{Shape}
 use Rattle.envy_layout.specs.Same.{Counted, Grows, Kept}
-use Rattle.envy_layout.specs.Sound.{Head, Sound}
+use Rattle.envy_layout.specs.Sound.{Head, IsSound, Sound}
+use Rattle.envy_layout.specs.Stands.{Stands}
+use Rattle.envy_layout.specs.Words.{durable}
 use Rattle.envy_map.specs.Fields.{Chart, chart, IsFormatted}
-use Rattle.envy_memory.specs.Attaching.{Declines}
+use Rattle.envy_memory.specs.Attaching.{Attaches, Declines}
+use Rattle.envy_memory.specs.Calls.{fresh}
+use Rattle.envy_memory.specs.Picture.{Picture}
 use Rattle.envy_memory.specs.declared.faults.AttachFault.TheVariants.{Off}
 use Rattle.envy_policy.specs.declared.setup.Setup.{Setup}
-use Rattle.envy_run.specs.Attached.{HoldsStill, IsUntouched, KeepsImage}
+use Rattle.envy_run.specs.Attached.{HoldsStill, IsAttached, IsUntouched, KeepsImage}
 
 untouched-kept : (old s t : Chart) → IsUntouched old s → Kept s t → IsUntouched old t
 untouched-kept old s t u k =
@@ -52,6 +58,32 @@ keeps-kept old s t k kept cut = record {
   bads = λ none. absurd (cut none);
 }
 
+-- the image itself
+pub keeps-first : (c : Chart) → IsFormatted c.fields → IsSound c → KeepsImage c c
+keeps-first c formatted sound = record {
+  still = record { formatted = formatted; sound = sound; durable = refl };
+  untouched = record {
+    shape = refl;
+    pulled = refl;
+    plans = refl;
+    given = refl;
+    cuts = omega arith;
+    bads = omega arith;
+    begun = refl;
+    erases = refl;
+    lives = omega arith;
+  };
+  bads = λ none. refl;
+}
+
+-- attaching to what was kept
+pub attached-kept : (old s : Chart) (setup : Setup) (p : Picture) → KeepsImage old s → Attaches s setup p → IsAttached old setup p
+attached-kept old s setup p k a = record {
+  stands = subst (λ (v : Array). Stands p.chart v) (ap (λ (sh : Shape). fresh sh.shadows (durable s)) (IsUntouched.shape k.untouched) ∙ ap (fresh old.shape.shadows) (HoldsStill.durable k.still)) a.stands;
+  begins = a.begins;
+  untouched = untouched-kept old s p.chart k.untouched a.kept;
+}
+
 -- attaching was cut
 pub keeps-off : (old : Chart) (s t : State) (setup : Setup) → KeepsImage old (chart s) → Declines s setup Off t → KeepsImage old (chart t)
 keeps-off old s t setup k (off, inl (was, same)) = subst (λ (x : State). KeepsImage old (chart x)) (sym same) k
@@ -64,6 +96,11 @@ keeps-off old s t setup k (off, inr (may, kept, rose)) = keeps-kept old (chart s
 pub no-lives : (n : ℕ) → (0 < n → IsTrue false) → n ≡ 0
 no-lives zero never = refl
 no-lives (suc n) never = absurd (let clash = never (omega arith) in cc)
+
+-- a cut of power left the lives as they were, and its return takes one
+pub lives-fall : (s t u : State) (setup : Setup) → Declines s setup Off t → 0 < t.lives → u ≡ lit t → u.lives < s.lives
+lives-fall s t u setup (off, inl (was, same)) some is = let left = ap (λ (x : State). x.lives) is in let before = ap (λ (x : State). x.lives) same in omega arith
+lives-fall s t u setup (off, inr (may, kept, rose)) some is = let left = ap (λ (x : State). x.lives) is in let before = Counted.lives (Kept.counted kept) in omega arith
 
 -- power came back
 pub keeps-lit : (old : Chart) (t u : State) → KeepsImage old (chart t) → u ≡ lit t → KeepsImage old (chart u)
