@@ -1,16 +1,18 @@
 -- What a line does to all that a memory counts, from what its call does.
-use Rattle.std.proofs.Common.{◌≡◌, ◌⊎◌, inl, inr, ◌≤◌, false, List, [], refl, sym, ap, subst, arith}
-use Rattle.std.specs.Prelude.{Option, None, IfSome, sum}
+use Rattle.std.proofs.Common.{◌≡◌, ◌⊎◌, inl, inr, ℕ, ◌≤◌, false, List, [], refl, sym, ap, subst, arith}
+use Rattle.std.specs.Prelude.{Option, None, Some, IfSome, sum}
 use Rattle.envy_base.proofs.Counting.{up-least}
 use Rattle.envy_base.specs.Counting.{up, Tally}
 use Rattle.envy_base.specs.declared.counts.Counts.{Counts}
-use Rattle.envy_flush.specs.Counts.{Tallies}
+use Rattle.envy_flush.specs.Counts.{Counting, Tallies}
+use Rattle.envy_flush.specs.declared.parts.Parts.{Parts}
 use Rattle.envy_flush.specs.Ticks.{CountsTick}
-use Rattle.envy_memory.proofs.Counted.{Tallies-stay}
+use Rattle.envy_layout.specs.Same.{Counted}
+use Rattle.envy_memory.proofs.Counted.{Tallies-stay, begun-stay}
 use Rattle.envy_memory.specs.Picture.{Picture, counts_of}
 use Rattle.envy_table.proofs.HitLemmas.{Rests-refl}
 use Rattle.envy_table.specs.Entries.{Translations}
-use Rattle.envy_table.specs.Hits.{Rests}
+use Rattle.envy_table.specs.Hits.{Accesses, Rests}
 use Rattle.envy_trace.specs.declared.line.Line.{Line}
 use Rattle.envy_trace.specs.declared.line.Line.TheVariants.{Empty}
 use Rattle.envy_trace.specs.declared.reply.Reply.{Reply}
@@ -46,6 +48,28 @@ notes-rest line replies old new is (alive, silent, full) rests tallies swaps = r
   cache = Translates-rest line replies old.parts.cache new.parts.cache is alive rests;
   tallies = tallies;
   swaps = swaps;
+  tells = silent-so replies _ silent;
+  empty = λ e. absurd (let never = full in cc);
+}
+
+-- nor any work, and the parts stay
+pub notes-still : (line : Line) (replies : List Reply) (old new : Picture) → accessed line replies ≡ None → IsQuiet line replies → new.parts ≡ old.parts → Counted 0 0 old.chart new.chart → Notes line replies old new
+notes-still line replies old new is quiet same c =
+    let counts = ap counts_of same in
+    let (begun, erases) = begun-stay old new c in
+    notes-rest line replies old new is quiet (subst (λ (x : Parts). Rests old.parts.cache x.cache) (sym same) (Rests-refl old.parts.cache)) (Tallies-stay old new counts begun erases) (swaps-stay old new counts)
+
+-- one access
+pub notes-visit : (line : Line) (replies : List Reply) (page : ℕ) (old new : Picture) → accessed line replies ≡ Some page → IsQuiet line replies → Accesses page old.parts.cache new.parts.cache → Counting old.chart old.parts new.chart new.parts → Notes line replies old new
+notes-visit line replies page old new is (alive, silent, full) a counting = record {
+  cache = record {
+    size = a.size;
+    pages = λ i. rw (alive, is) (a.pages i);
+    hits = rw is a.hits;
+    misses = rw is a.misses;
+  };
+  tallies = counting.tallies;
+  swaps = let same = counting.swaps in omega arith;
   tells = silent-so replies _ silent;
   empty = λ e. absurd (let never = full in cc);
 }

@@ -1,5 +1,6 @@
 -- The reply of a line, from what the call of the memory answered.
-use Rattle.std.proofs.Common.{◌≡◌, ◌⊎◌, inl, ℕ, ◌+◌, ◌-◌, ◌^◌, ◌<◌, ◌≤◌, refl, sym, subst, arith}
+use Rattle.std.proofs.Common.{◌≡◌, ◌⊎◌, inl, ℕ, ◌+◌, ◌-◌, ◌^◌, ◌<◌, ◌≤◌, false, refl, sym, subst, arith}
+use Rattle.std.specs.Prelude.{IsTrue}
 use Rattle.envy_base.specs.Array.{Array}
 use Rattle.envy_base.specs.Step.{Command, Answer}
 use Rattle.envy_map.specs.Fields.{Chart}
@@ -7,7 +8,7 @@ use Rattle.envy_layout.specs.Same.{Counted}
 use Rattle.envy_layout.specs.Stands.{Stands, Steps}
 use Rattle.envy_base.specs.declared.counts.Counts.{Counts}
 use Rattle.envy_memory.proofs.Counted.{up-low}
-use Rattle.envy_memory.specs.Calls.{planned}
+use Rattle.envy_memory.specs.Calls.{HasFailed, IsCut, Works, planned}
 use Rattle.envy_trace.specs.declared.line.Line.{Line}
 use Rattle.envy_trace.specs.declared.line.Line.TheVariants.{Empty, Load, Look, Store, Begin, Put, Commit, Abort, Tick, Power, Cut, Bad, Stat}
 use Rattle.envy_trace.specs.declared.reply.Reply.{Reply}
@@ -44,6 +45,27 @@ Licence-counted k j losts faults c d shape counted cuts bads = record {
   cuts = record { kept = counted.cuts; rise = λ lt. let le = cuts lt in omega arith };
   bads = record { kept = counted.bads; rise = bads };
 }
+
+-- a call in which nothing failed
+pub Licence-calm : (k j : ℕ) (c d : Chart) → Works k j c d → Licence 0 0 0 0 c d
+Licence-calm k j c d w =
+    let cuts = Counted.cuts w.counted in
+    let bads = Counted.bads w.counted in
+    Licence-counted k j 0 0 c d w.shape w.counted (λ lt. omega arith) (λ lt. omega arith)
+
+-- one in which power failed
+pub Licence-lost : (k j : ℕ) (c d : Chart) → Works k j c d → IsTrue c.on → d.on ≡ false → IsCut c d → Licence 0 0 1 0 c d
+Licence-lost k j c d w on off cut =
+    let cuts = Counted.cuts w.counted in
+    let bads = Counted.bads w.counted in
+    Licence-counted k j 1 0 c d w.shape w.counted (λ lt. let more = cut on off (omega arith) in omega arith) (λ lt. omega arith)
+
+-- one in which a flash operation failed
+pub Licence-failed : (k j : ℕ) (c d : Chart) → Works k j c d → HasFailed c d → Licence 0 0 0 1 c d
+Licence-failed k j c d w failed =
+    let cuts = Counted.cuts w.counted in
+    let bads = Counted.bads w.counted in
+    Licence-counted k j 0 1 c d w.shape w.counted (λ lt. omega arith) (λ lt. let more = failed (omega arith) in omega arith)
 
 pub Licence-planned : (c d : Chart) → d ≡ planned c → Licence 0 1 0 0 c d
 Licence-planned c d e = subst (λ (x : Chart). Licence 0 1 0 0 c x) (sym e) (record {
