@@ -52,6 +52,10 @@ notes-rest line replies old new is (alive, silent, full) rests tallies swaps = r
   empty = λ e. absurd (let never = full in cc);
 }
 
+pub notes-counted : (line : Line) (replies : List Reply) (old new : Picture) → accessed line replies ≡ None → IsQuiet line replies → Rests old.parts.cache new.parts.cache → Counting old.chart old.parts new.chart new.parts → Notes line replies old new
+notes-counted line replies old new is quiet rests counting =
+    notes-rest line replies old new is quiet rests counting.tallies (let same = counting.swaps in omega arith)
+
 -- nor any work, and the parts stay
 pub notes-still : (line : Line) (replies : List Reply) (old new : Picture) → accessed line replies ≡ None → IsQuiet line replies → new.parts ≡ old.parts → Counted 0 0 old.chart new.chart → Notes line replies old new
 notes-still line replies old new is quiet same c =

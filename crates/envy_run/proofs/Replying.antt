@@ -1,14 +1,15 @@
 -- The reply of a line, from what the call of the memory answered.
-use Rattle.std.proofs.Common.{◌≡◌, ◌⊎◌, inl, ℕ, ◌+◌, ◌-◌, ◌^◌, ◌<◌, ◌≤◌, false, refl, sym, subst, arith}
+use Rattle.std.proofs.Common.{◌≡◌, ◌⊎◌, inl, inr, ℕ, ◌+◌, ◌-◌, ◌^◌, ◌<◌, ◌≤◌, false, refl, sym, subst, arith}
 use Rattle.std.specs.Prelude.{IsTrue}
 use Rattle.envy_base.specs.Array.{Array}
 use Rattle.envy_base.specs.Step.{Command, Answer}
 use Rattle.envy_map.specs.Fields.{Chart}
 use Rattle.envy_layout.specs.Same.{Counted}
-use Rattle.envy_layout.specs.Stands.{Stands, Steps}
+use Rattle.envy_layout.specs.Stands.{Fails, Stands, Steps}
 use Rattle.envy_base.specs.declared.counts.Counts.{Counts}
 use Rattle.envy_memory.proofs.Counted.{up-low}
 use Rattle.envy_memory.specs.Calls.{HasFailed, IsCut, Works, planned}
+use Rattle.envy_memory.specs.Effects.{TicksOnce}
 use Rattle.envy_trace.specs.declared.line.Line.{Line}
 use Rattle.envy_trace.specs.declared.line.Line.TheVariants.{Empty, Load, Look, Store, Begin, Put, Commit, Abort, Tick, Power, Cut, Bad, Stat}
 use Rattle.envy_trace.specs.declared.reply.Reply.{Reply}
@@ -24,6 +25,9 @@ says-steps m command answer c (n, step, stands) = (n, (answer, step, refl), stan
 -- an answer of the array is one of the two replies that a line may have
 pub says-or : (m : Array) (command : Command) (answer : Answer) (c : Chart) → Steps m command answer c → (n : Array) × (Says m command (said answer) n ⊎ Faults m command (said answer) n) × Stands c n
 says-or m command answer c (n, step, stands) = (n, inl (answer, step, refl), stands)
+
+pub fails-or : (m : Array) (command : Command) (c : Chart) → Fails m command c → (n : Array) × (Says m command Fault n ⊎ Faults m command Fault n) × Stands c n
+fails-or m command c (k, accepts, stands) = (m, inr (k, accepts, refl, refl), stands)
 
 pub Licence-refl : (c : Chart) → Licence 0 0 0 0 c c
 Licence-refl c = record {
@@ -66,6 +70,19 @@ Licence-failed k j c d w failed =
     let cuts = Counted.cuts w.counted in
     let bads = Counted.bads w.counted in
     Licence-counted k j 0 1 c d w.shape w.counted (λ lt. omega arith) (λ lt. let more = failed (omega arith) in omega arith)
+
+-- the same of a background step
+pub tick-calm : (c d : Chart) → TicksOnce c d → Licence 0 0 0 0 c d
+tick-calm c d (inl w) = Licence-calm 1 0 c d w
+tick-calm c d (inr w) = Licence-calm 0 1 c d w
+
+pub tick-lost : (c d : Chart) → TicksOnce c d → IsTrue c.on → d.on ≡ false → IsCut c d → Licence 0 0 1 0 c d
+tick-lost c d (inl w) on off cut = Licence-lost 1 0 c d w on off cut
+tick-lost c d (inr w) on off cut = Licence-lost 0 1 c d w on off cut
+
+pub tick-failed : (c d : Chart) → TicksOnce c d → HasFailed c d → Licence 0 0 0 1 c d
+tick-failed c d (inl w) failed = Licence-failed 1 0 c d w failed
+tick-failed c d (inr w) failed = Licence-failed 0 1 c d w failed
 
 pub Licence-planned : (c d : Chart) → d ≡ planned c → Licence 0 1 0 0 c d
 Licence-planned c d e = subst (λ (x : Chart). Licence 0 1 0 0 c x) (sym e) (record {
