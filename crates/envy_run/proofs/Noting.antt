@@ -1,6 +1,6 @@
 -- What a line does to all that a memory counts, from what its call does.
 use Rattle.std.proofs.Common.{◌≡◌, ◌⊎◌, inl, inr, ℕ, ◌≤◌, false, List, [], refl, sym, ap, subst, arith}
-use Rattle.std.specs.Prelude.{Option, None, Some, IfSome, sum}
+use Rattle.std.specs.Prelude.{IsTrue, Option, None, Some, IfSome, sum}
 use Rattle.envy_base.proofs.Counting.{up-least}
 use Rattle.envy_base.specs.Counting.{up, Tally}
 use Rattle.envy_base.specs.declared.counts.Counts.{Counts}
@@ -9,6 +9,7 @@ use Rattle.envy_flush.specs.declared.parts.Parts.{Parts}
 use Rattle.envy_flush.specs.Ticks.{CountsTick}
 use Rattle.envy_layout.specs.Same.{Counted}
 use Rattle.envy_memory.proofs.Counted.{Tallies-stay, begun-stay}
+use Rattle.envy_memory.specs.Effects.{Visits}
 use Rattle.envy_memory.specs.Picture.{Picture, counts_of}
 use Rattle.envy_table.proofs.HitLemmas.{Rests-refl}
 use Rattle.envy_table.specs.Entries.{Translations}
@@ -62,6 +63,16 @@ notes-still line replies old new is quiet same c =
     let counts = ap counts_of same in
     let (begun, erases) = begun-stay old new c in
     notes-rest line replies old new is quiet (subst (λ (x : Parts). Rests old.parts.cache x.cache) (sym same) (Rests-refl old.parts.cache)) (Tallies-stay old new counts begun erases) (swaps-stay old new counts)
+
+-- a refused line
+pub notes-refused : (line : Line) (replies : List Reply) (old new : Picture) → accessed line replies ≡ None → IsQuiet line replies → new ≡ old → Notes line replies old new
+notes-refused line replies old new is quiet same =
+    subst (λ (p : Picture). Notes line replies old p) (sym same) (notes-rest line replies old old is quiet (Rests-refl old.parts.cache) (Tallies-stay old old refl refl refl) (omega arith))
+
+-- power was on at entry
+pub visits-on : (page : ℕ) (old new : Picture) → IsTrue old.chart.on → (IsTrue old.chart.on × Visits page old new) ⊎ ((old.chart.on ≡ false) × (new ≡ old)) → Visits page old new
+visits-on page old new on (inl (lit, visits)) = visits
+visits-on page old new on (inr (off, same)) = absurd (cc)
 
 -- one access
 pub notes-visit : (line : Line) (replies : List Reply) (page : ℕ) (old new : Picture) → accessed line replies ≡ Some page → IsQuiet line replies → Accesses page old.parts.cache new.parts.cache → Counting old.chart old.parts new.chart new.parts → Notes line replies old new
