@@ -4,7 +4,7 @@ use Rattle.std.specs.Prelude.{IsTrue, Option, None, Some, slice_index}
 use Rattle.std.specs.Option.{option_map}
 use Rattle.std.proofs.lemmas.Bool.{cases_lt}
 use Rattle.envy_base.specs.Counting.{up}
-use Rattle.envy_base.specs.State.{State, lit}
+use Rattle.envy_base.specs.State.{IsMade, State, lit}
 use Rattle.envy_base.specs.declared.shape.Shape.{Shape}
 use Rattle.envy_layout.specs.Same.{Counted, Grows}
 use Rattle.envy_map.specs.Fields.{Chart, chart}
@@ -13,7 +13,12 @@ use Rattle.envy_memory.specs.Picture.{Picture}
 use Rattle.envy_memory.specs.Rises.{RoseOver}
 use Rattle.envy_memory.specs.declared.faults.FormatFault.TheVariants.{Off}
 use Rattle.envy_policy.specs.declared.setup.Setup.{Setup}
-use Rattle.envy_run.specs.Prepares.{HasTried, IsPrepared, IsReady, IsUnspent}
+use Rattle.envy_run.specs.Outcome.{outcome_of}
+use Rattle.envy_run.specs.Prepares.{HasTried, IsPrepared, IsReady, IsUnspent, NoneBegun, Unprepared, ending_of_unready}
+use Rattle.envy_run.specs.declared.ending.Ending.TheVariants.{OutOfMemory}
+use Rattle.envy_run.specs.declared.ending.Finished.{Finished}
+use Rattle.envy_run.specs.declared.prepare.Unready.{Unready}
+use Rattle.envy_run.specs.declared.prepare.Unready.TheVariants.{Memory, Bad, Dead}
 
 begun-same : (s t : Chart) → CountsFormat s t → t.begun ≡ s.begun
 begun-same s t f = let c = CountsFormat.counted f in let low = Counted.begun c in let few = Counted.few c in omega arith
@@ -161,3 +166,39 @@ prepared-first old = record {
 pub no-second : {X Y : Type 0} (f : X → Y) (second : Option X) → option_map f second ≡ None → second ≡ None
 no-second f None none = refl
 no-second f (Some board) none = absurd (let never = none in cc)
+
+-- ---- no memory begins
+
+-- no board was made
+pub none-made : {B : Type 0} (state : B → State) (setup : Setup) (returns : ℕ) (e : Finished B) → e ≡ record { ending = OutOfMemory; lines = 0; taken = 0; board = None; second = None } → NoneBegun setup returns (outcome_of state e)
+none-made {B} state setup returns e is = subst (λ (x : Finished B). NoneBegun setup returns (outcome_of state x)) (sym is) (record {
+  lines = refl;
+  taken = refl;
+  second = refl;
+  cause = inl (record { ending = record { status = refl; why = refl }; board = tt });
+  board = tt;
+})
+
+-- the board that was made isn't formatted
+pub none-begun : {B : Type 0} (state : B → State) (setup : Setup) (returns : ℕ) (unready : Unready) (made : State) (board : B) (e : Finished B) → IsMade setup.shape returns made → Unprepared unready (chart made) (chart (state board)) → e ≡ record { ending = ending_of_unready unready; lines = 0; taken = 0; board = Some board; second = None } → NoneBegun setup returns (outcome_of state e)
+none-begun {B} state setup returns Memory made board e new (prepared, unspent, on) is = subst (λ (x : Finished B). NoneBegun setup returns (outcome_of state x)) (sym is) (record {
+  lines = refl;
+  taken = refl;
+  second = refl;
+  cause = inl (record { ending = record { status = refl; why = refl }; board = record { on = on; bads = λ none. IsUnspent.bads unspent none ∙ new.bads } });
+  board = record { made = made; new = new; prepared = prepared };
+})
+none-begun {B} state setup returns Bad made board e new (prepared, rose) is = subst (λ (x : Finished B). NoneBegun setup returns (outcome_of state x)) (sym is) (record {
+  lines = refl;
+  taken = refl;
+  second = refl;
+  cause = inr (inl (record { ending = record { status = refl; why = refl }; cause = (chart (state board), refl, let none = new.bads in let more = rose (omega arith) in omega arith) }));
+  board = record { made = made; new = new; prepared = prepared };
+})
+none-begun {B} state setup returns Dead made board e new (prepared, off, lives) is = subst (λ (x : Finished B). NoneBegun setup returns (outcome_of state x)) (sym is) (record {
+  lines = refl;
+  taken = refl;
+  second = refl;
+  cause = inr (inr (record { ending = record { status = refl; why = refl }; now = chart (state board); board_is = refl; off = off; lives = lives }));
+  board = record { made = made; new = new; prepared = prepared };
+})
