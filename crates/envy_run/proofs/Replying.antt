@@ -1,6 +1,6 @@
 -- The reply of a line, from what the call of the memory answered.
-use Rattle.std.proofs.Common.{◌≡◌, ◌⊎◌, inl, inr, ℕ, ◌+◌, ◌-◌, ◌^◌, ◌<◌, ◌≤◌, false, refl, sym, subst, arith}
-use Rattle.std.specs.Prelude.{IsTrue}
+use Rattle.std.proofs.Common.{◌≡◌, ◌⊎◌, inl, inr, ℕ, ◌+◌, ◌-◌, ◌^◌, ◌<◌, ◌≤◌, false, refl, sym, ap, subst, arith}
+use Rattle.std.specs.Prelude.{◌↔◌, IsTrue, Result, Ok}
 use Rattle.envy_base.specs.Array.{Array}
 use Rattle.envy_base.specs.Step.{Command, Answer}
 use Rattle.envy_map.specs.Fields.{Chart}
@@ -16,6 +16,7 @@ use Rattle.envy_trace.specs.declared.reply.Reply.{Reply}
 use Rattle.envy_trace.specs.declared.reply.Reply.TheVariants.{Word, Done, Started, Range, Held, Closed, Full, Busy, Fault, Lost, Restarted, Armed, Stat as StatLine}
 use Rattle.envy_run.specs.Answers.{Answered, AnswersTo}
 use Rattle.envy_run.specs.Licence.{Licence}
+use Rattle.envy_run.specs.declared.answering.Beside.{Beside}
 use Rattle.envy_serve.specs.Answering.{said}
 use Rattle.envy_run.specs.Turns.{Replies, Says, Faults, TellsCounts}
 
@@ -124,3 +125,10 @@ answers-may May m line Lost c loses = loses
 answers-may May m line Restarted c (n, r, stands) = (n, replies-may May m line Restarted n r, stands)
 answers-may May m line Armed c (n, r, stands) = (n, replies-may May m line Armed n r, stands)
 answers-may May m line (StatLine counts) c (n, r, stands) = (n, replies-may May m line (StatLine counts) n r, stands)
+
+abbrev answered : Reply → Result Reply Beside
+answered reply = Ok reply
+
+-- the answer says `lost` where the reply does
+pub lost-ok : (reply : Reply) (c : Chart) → (reply ≡ Lost) ↔ (c.on ≡ false) → (answered reply ≡ answered Lost) ↔ (c.on ≡ false)
+lost-ok reply c (to, from) = (λ e. to (cc), λ off. ap answered (from off))
