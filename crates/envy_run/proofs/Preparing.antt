@@ -13,8 +13,10 @@ use Rattle.envy_memory.specs.Picture.{Picture}
 use Rattle.envy_memory.specs.Rises.{RoseOver}
 use Rattle.envy_memory.specs.declared.faults.FormatFault.TheVariants.{Off}
 use Rattle.envy_policy.specs.declared.setup.Setup.{Setup}
+use Rattle.envy_serve.specs.Ends.{most_bytes}
 use Rattle.envy_run.specs.Outcome.{outcome_of}
 use Rattle.envy_run.specs.Prepares.{HasTried, IsPrepared, IsReady, IsUnspent, NoneBegun, Unprepared, ending_of_unready}
+use Rattle.envy_run.specs.declared.ending.Ending.{Ending}
 use Rattle.envy_run.specs.declared.ending.Ending.TheVariants.{OutOfMemory}
 use Rattle.envy_run.specs.declared.ending.Finished.{Finished}
 use Rattle.envy_run.specs.declared.prepare.Unready.{Unready}
@@ -202,3 +204,10 @@ none-begun {B} state setup returns Dead made board e new (prepared, off, lives) 
   cause = inr (inr (record { ending = record { status = refl; why = refl }; now = chart (state board); board_is = refl; off = off; lives = lives }));
   board = record { made = made; new = new; prepared = prepared };
 })
+
+-- no line was read
+pub few-none : {B : Type 0} (ending : Ending) (board second : Option B) (e : Finished B) → e ≡ record { ending = ending; lines = 0; taken = 0; board = board; second = second } → e.lines ≤ e.taken
+few-none {B} ending board second e is = subst (λ (x : Finished B). x.lines ≤ x.taken) (sym is) (omega arith)
+
+pub read-none : {B : Type 0} (ending : Ending) (board second : Option B) (e : Finished B) → e ≡ record { ending = ending; lines = 0; taken = 0; board = board; second = second } → e.taken ≤ most_bytes
+read-none {B} ending board second e is = subst (λ (x : Finished B). x.taken ≤ most_bytes) (sym is) (omega arith)

@@ -5,8 +5,11 @@ use Rattle.envy_io.specs.Taking.{Taking}
 use Rattle.envy_map.specs.Fields.{chart}
 use Rattle.envy_mirror.specs.Pair.{Pair}
 use Rattle.envy_run.proofs.Checked.{shape-of-checked}
+use Rattle.envy_run.specs.Prepares.{ending_of_unready}
+use Rattle.envy_run.specs.declared.ending.Ending.TheVariants.{OutOfMemory}
 use Rattle.envy_run.specs.declared.prepare.Unready.TheVariants.{Memory}
 use Rattle.envy_run.proofs.Mirrored.{as-made, blank-made, blank-prepared, blank-board, Stopped, stopped-by, lit-board, not-stopped, mirror-unmade, mirror-unready, are-ready, start_of, begins-as, ended-so, mirror-ended}
+use Rattle.envy_run.proofs.Preparing.{few-none, read-none}
 use Rattle.envy_run.proofs.mirror_run.run_mirror.Goals as goal
 
 pub make-requires : goal.make-requires
@@ -69,3 +72,33 @@ returns-clause-runs g c =
     (let few = c.serve-served.ensures.few in let read = c.serve-served.ensures.read in omega arith)
     (are-ready (g.M.Made.Board.state c.in-Ok.one) (g.M.Made.Board.state c.in-Ok-make.two) c.args.setup c.args.lives a b c.in-Ok.ensures c.in-Ok-make.ensures c.in-Ok-prepare.ensures c.in-Ok-prepare-2.ensures)
     first c.serve-served.ensures.serves
+
+pub returns-in_default-clause-few : goal.returns-in_default-clause-few
+returns-in_default-clause-few g c = few-none OutOfMemory None None c.unserved.result c.unserved.ensures
+
+pub returns-in_default-clause-read : goal.returns-in_default-clause-read
+returns-in_default-clause-read g c = read-none OutOfMemory None None c.unserved.result c.unserved.ensures
+
+pub returns-in_default-make-clause-few : goal.returns-in_default-make-clause-few
+returns-in_default-make-clause-few g c = few-none OutOfMemory (Some c.in-Ok.one) None c.unserved-in_default-make.result c.unserved-in_default-make.ensures
+
+pub returns-in_default-make-clause-read : goal.returns-in_default-make-clause-read
+returns-in_default-make-clause-read g c = read-none OutOfMemory (Some c.in-Ok.one) None c.unserved-in_default-make.result c.unserved-in_default-make.ensures
+
+pub returns-in-Err-clause-few : goal.returns-in-Err-clause-few
+returns-in-Err-clause-few g c = few-none (ending_of_unready c.in-Err.unready) (Some c.in-Err.one) (Some c.in-Ok-make.two) c.unmirrored.result c.unmirrored.ensures
+
+pub returns-in-Err-clause-read : goal.returns-in-Err-clause-read
+returns-in-Err-clause-read g c = read-none (ending_of_unready c.in-Err.unready) (Some c.in-Err.one) (Some c.in-Ok-make.two) c.unmirrored.result c.unmirrored.ensures
+
+pub returns-in-Err-prepare-clause-few : goal.returns-in-Err-prepare-clause-few
+returns-in-Err-prepare-clause-few g c = few-none (ending_of_unready c.in-Err-prepare.unready) (Some c.into_board.result) (Some c.in-Err-prepare.two) c.unmirrored-in-Err-prepare.result c.unmirrored-in-Err-prepare.ensures
+
+pub returns-in-Err-prepare-clause-read : goal.returns-in-Err-prepare-clause-read
+returns-in-Err-prepare-clause-read g c = read-none (ending_of_unready c.in-Err-prepare.unready) (Some c.into_board.result) (Some c.in-Err-prepare.two) c.unmirrored-in-Err-prepare.result c.unmirrored-in-Err-prepare.ensures
+
+pub returns-in-Err-new-clause-few : goal.returns-in-Err-new-clause-few
+returns-in-Err-new-clause-few g c = few-none OutOfMemory (Some c.into_board-in-Err-new.result) (Some c.into_board-in-Err-new-2.result) c.unmirrored-in-Err-new.result c.unmirrored-in-Err-new.ensures
+
+pub returns-in-Err-new-clause-read : goal.returns-in-Err-new-clause-read
+returns-in-Err-new-clause-read g c = read-none OutOfMemory (Some c.into_board-in-Err-new.result) (Some c.into_board-in-Err-new-2.result) c.unmirrored-in-Err-new.result c.unmirrored-in-Err-new.ensures
