@@ -1,13 +1,13 @@
 use Rattle.std.proofs.Common.{sym, ◌∙◌, ap}
-use Rattle.std.specs.Prelude.{Some}
+use Rattle.std.specs.Prelude.{None, Some}
 use Rattle.envy_map.specs.Fields.{chart}
 use Rattle.envy_policy.specs.Setup.{checked}
 use Rattle.envy_policy.specs.declared.setup.Setup.{Setup}
-use Rattle.envy_run.specs.Loading.{Loaded}
+use Rattle.envy_run.specs.Loading.{Loaded, ending_for}
 use Rattle.envy_run.specs.Outcome.{outcome_of}
 use Rattle.envy_run.specs.Resumes.{setup_found}
 use Rattle.envy_run.specs.declared.ending.Ending.TheVariants.{ImageRefused}
-use Rattle.envy_run.specs.declared.ending.ImageFault.TheVariants.{Unsound}
+use Rattle.envy_run.specs.declared.ending.ImageFault.TheVariants.{Unruly, Unsound}
 use Rattle.envy_run.proofs.Resumed.{checks-err, checks-ok, installed-given, judged-sound, resume-declined, resume-headless, resume-sound, resume-unruly, resume-unsound, stopped-ends}
 use Rattle.envy_run.proofs.resume_run.run_resume.Goals as goal
 
@@ -55,3 +55,63 @@ returns-in-Err-take_image-clause-resumes g c =
 pub returns-in-Err-clause-resumes : goal.returns-in-Err-clause-resumes
 returns-in-Err-clause-resumes g c =
     resume-headless g.M.Made.Board.state (setup_found c.args.words.now.policy c.args.words.now.limit c.args.words.now.mark) c.in-Err.refusal c.args.words.now.lives c.taken.result c.refused.result (g.S.Source.feed c.args.source.now) (g.S.Source.feed c.take_head.new.source) (g.K.Sink.drain c.args.sink.now) c.take_head.new.lines c.refused.ensures c.taken.ensures c.in-Err.ensures
+
+pub returns-in-Err-clause-few : goal.returns-in-Err-clause-few
+returns-in-Err-clause-few g c =
+    let from = g.S.Source.feed c.args.source.now in
+    let (bytes, t, cause, other) = c.in-Err.ensures in
+    (stopped-ends (ending_for c.in-Err.refusal) c.taken.result None c.refused.result c.take_head.new.lines bytes from (g.S.Source.feed c.take_head.new.source) c.refused.ensures c.taken.ensures t).0
+
+pub returns-in-Err-clause-read : goal.returns-in-Err-clause-read
+returns-in-Err-clause-read g c =
+    let from = g.S.Source.feed c.args.source.now in
+    let (bytes, t, cause, other) = c.in-Err.ensures in
+    (stopped-ends (ending_for c.in-Err.refusal) c.taken.result None c.refused.result c.take_head.new.lines bytes from (g.S.Source.feed c.take_head.new.source) c.refused.ensures c.taken.ensures t).1
+
+pub returns-in-Err-clause-second : goal.returns-in-Err-clause-second
+returns-in-Err-clause-second g c =
+    let from = g.S.Source.feed c.args.source.now in
+    let (bytes, t, cause, other) = c.in-Err.ensures in
+    (stopped-ends (ending_for c.in-Err.refusal) c.taken.result None c.refused.result c.take_head.new.lines bytes from (g.S.Source.feed c.take_head.new.source) c.refused.ensures c.taken.ensures t).2
+
+pub returns-then-is_err-clause-few : goal.returns-then-is_err-clause-few
+returns-then-is_err-clause-few g c =
+    let from = g.S.Source.feed c.args.source.now in
+    (stopped-ends (ImageRefused Unruly) c.taken-then-is_err.result None c.stopped_at.result c.take_head.new.lines _ from (g.S.Source.feed c.take_head.new.source) c.stopped_at.ensures c.taken-then-is_err.ensures c.in-Ok.ensures.0).0
+
+pub returns-then-is_err-clause-read : goal.returns-then-is_err-clause-read
+returns-then-is_err-clause-read g c =
+    let from = g.S.Source.feed c.args.source.now in
+    (stopped-ends (ImageRefused Unruly) c.taken-then-is_err.result None c.stopped_at.result c.take_head.new.lines _ from (g.S.Source.feed c.take_head.new.source) c.stopped_at.ensures c.taken-then-is_err.ensures c.in-Ok.ensures.0).1
+
+pub returns-then-is_err-clause-second : goal.returns-then-is_err-clause-second
+returns-then-is_err-clause-second g c =
+    let from = g.S.Source.feed c.args.source.now in
+    (stopped-ends (ImageRefused Unruly) c.taken-then-is_err.result None c.stopped_at.result c.take_head.new.lines _ from (g.S.Source.feed c.take_head.new.source) c.stopped_at.ensures c.taken-then-is_err.ensures c.in-Ok.ensures.0).2
+
+pub returns-in-Err-take_image-clause-few : goal.returns-in-Err-take_image-clause-few
+returns-in-Err-take_image-clause-few g c =
+    let from = g.S.Source.feed c.args.source.now in
+    let unloaded = c.in-Err-take_image.ensures from c.in-Ok.ensures.0 in
+    (stopped-ends (ending_for c.in-Err-take_image.refusal) c.taken-in-Err-take_image.result c.in-Err-take_image.board c.refused-in-Err-take_image.result c.take_image.new.lines _ from (g.S.Source.feed c.take_image.new.source) c.refused-in-Err-take_image.ensures c.taken-in-Err-take_image.ensures unloaded.taken).0
+
+pub returns-in-Err-take_image-clause-read : goal.returns-in-Err-take_image-clause-read
+returns-in-Err-take_image-clause-read g c =
+    let from = g.S.Source.feed c.args.source.now in
+    let unloaded = c.in-Err-take_image.ensures from c.in-Ok.ensures.0 in
+    (stopped-ends (ending_for c.in-Err-take_image.refusal) c.taken-in-Err-take_image.result c.in-Err-take_image.board c.refused-in-Err-take_image.result c.take_image.new.lines _ from (g.S.Source.feed c.take_image.new.source) c.refused-in-Err-take_image.ensures c.taken-in-Err-take_image.ensures unloaded.taken).1
+
+pub returns-in-Err-take_image-clause-second : goal.returns-in-Err-take_image-clause-second
+returns-in-Err-take_image-clause-second g c =
+    let from = g.S.Source.feed c.args.source.now in
+    let unloaded = c.in-Err-take_image.ensures from c.in-Ok.ensures.0 in
+    (stopped-ends (ending_for c.in-Err-take_image.refusal) c.taken-in-Err-take_image.result c.in-Err-take_image.board c.refused-in-Err-take_image.result c.take_image.new.lines _ from (g.S.Source.feed c.take_image.new.source) c.refused-in-Err-take_image.ensures c.taken-in-Err-take_image.ensures unloaded.taken).2
+
+pub returns-in-Sound-clause-few : goal.returns-in-Sound-clause-few
+returns-in-Sound-clause-few g c = c.serve_image.ensures.few
+
+pub returns-in-Sound-clause-read : goal.returns-in-Sound-clause-read
+returns-in-Sound-clause-read g c = c.serve_image.ensures.read
+
+pub returns-in-Sound-clause-second : goal.returns-in-Sound-clause-second
+returns-in-Sound-clause-second g c = c.serve_image.ensures.second
