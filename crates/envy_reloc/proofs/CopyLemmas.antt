@@ -11,7 +11,11 @@ use Rattle.std.proofs.lemmas.Map.Steps.{length-le_from_distinct_below}
 use Rattle.std.proofs.lemmas.Nat.{div-mul-add, mul-add-lt}
 use Rattle.envy_base.specs.declared.shape.Shape.{Shape}
 use Rattle.envy_base.specs.declared.fields.Job.TheVariants.{Copy}
-use Rattle.envy_map.specs.Fields.{Fields, Chart}
+use Rattle.envy_base.specs.Counting.{up}
+use Rattle.envy_map.specs.Fields.{Fields, Chart, with_fields}
+use Rattle.envy_map.specs.Writes.{with_back, with_fill, with_origin}
+use Rattle.envy_space.specs.Pool.{Claims}
+use Rattle.envy_reloc.specs.Keeping.{ClaimsCopy}
 use Rattle.envy_layout.specs.Jobs.{IsCopiedWhole}
 use Rattle.envy_layout.specs.Sound.{Sound, Numbers, Rows, Jobs, IsSound, Names, IsPlaced, IsSpare}
 use Rattle.envy_layout.specs.Sound as Layout
@@ -251,3 +255,23 @@ CopiedWhole-made sh f flash v e sound copying spare copies all d other = at d ot
       backs_same = λ p i lt names. IsCopy.back (AreCopies.each copies i lt);
       once = λ p r i lt copy origin. apart-spare sh f.positions e (subst (λ (s : ℕ). IsPlaced sh f.positions s) (copy-segment sh f flash e i sound lt) (AreHome-copying sh f flash v sound copying p (e * sh.rows + i) copy)) spare;
     })
+
+-- the row of the spare that was claimed for the copy of row r
+pub claims-row : (old mid claimed : Chart) (e n q p r : ℕ) → mid ≡ with_fields old (with_origin n r old.fields) → Claims mid e p q claimed → q ≡ e * old.shape.rows + get_or old.fields.fills e 0
+claims-row old mid claimed e n q p r noted claims = claims.row ∙ ap (λ (x : Chart). e * x.shape.rows + get_or x.fields.fills e 0) noted
+
+-- its origin was noted, then it was claimed, and a program left all others
+pub ClaimsCopy-made : (old mid claimed new : Chart) (e n q p r k m : ℕ) → mid ≡ with_fields old (with_origin n r old.fields) → n ≡ get_or old.fields.fills e 0 → Claims mid e p q claimed → get_or old.fields.backs r 0 ≡ p → new.fields ≡ claimed.fields → ((x : ℕ) → x ≢ q → get_or new.flash x [] ≡ get_or claimed.flash x []) → m ≡ up k → ClaimsCopy old e r k new m
+ClaimsCopy-made old mid claimed new e n q p r k m noted fill claims page fields others counted =
+    let f = old.fields in
+    let i = get_or f.fills e 0 in
+    let row = claims-row old mid claimed e n q p r noted claims in
+    record {
+      fields = fields ∙ ap (λ (x : Chart). x.fields) claims.fields
+          ∙ ap (λ (x : Chart). with_fill e (get_or x.fields.fills e 0 + 1) (with_back q p x.fields)) noted
+          ∙ ap (λ (y : ℕ). with_fill e (i + 1) (with_back y p (with_origin n r f))) row
+          ∙ ap (λ (y : ℕ). with_fill e (i + 1) (with_back (e * old.shape.rows + i) y (with_origin n r f))) (sym page)
+          ∙ ap (λ (y : ℕ). with_fill e (i + 1) (with_back (e * old.shape.rows + i) (get_or f.backs r 0) (with_origin y r f))) fill;
+      others = λ x other. others x (λ is. other (is ∙ row)) ∙ ap (λ (y : Chart). get_or y.flash x []) claims.fields ∙ ap (λ (y : Chart). get_or y.flash x []) noted;
+      counted = counted;
+    }

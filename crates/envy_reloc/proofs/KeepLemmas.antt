@@ -1,5 +1,5 @@
 -- What follows the map, over the steps of a copy.
-use Rattle.std.proofs.Common.{◌≡◌, ◌≢◌, ◌⊎◌, inl, inr, ◌∙◌, ℕ, ◌/◌, List, Option, None, Some, refl, sym, ap, subst}
+use Rattle.std.proofs.Common.{◌≡◌, ◌≢◌, ◌⊎◌, inl, inr, ◌∙◌, ℕ, ◌/◌, List, [], Option, None, Some, refl, sym, ap, subst}
 use Rattle.std.specs.Prelude.{Bool, false, true, IsTrue, Result, Err}
 use Rattle.std.proofs.lemmas.Bool.{cases_eq}
 use Rattle.envy_base.specs.Counting.{up}
@@ -62,3 +62,28 @@ bad-of {A = A} r TroubleOff on power lit is = absurd (let no : true ≡ false = 
 -- the plan after an erase was counted in both of its counts
 pub counted-erase : (w v : Plan) (a b : ℕ) → w ≡ v → a ≡ up w.erased → b ≡ up w.since → record w { erased = a; since = b } ≡ record v { erased = up v.erased; since = up v.since }
 counted-erase w v a b is x y = rw (x, y) (ap (λ (p : Plan). record p { erased = up p.erased; since = up p.since }) is)
+
+-- the plan after a copy was counted, and after one whose program was bad
+pub counted-copy : (w v : Plan) (m n : ℕ) → w ≡ v → n ≡ up w.copied → record w { mark = m; copied = n } ≡ record v { mark = m; copied = up v.copied }
+counted-copy w v m n is x = rw x (ap (λ (p : Plan). record p { mark = m; copied = up p.copied }) is)
+
+pub wasted-copy : (w v : Plan) (n : ℕ) → w ≡ v → n ≡ up w.copied → record w { moves = []; copied = n } ≡ record v { moves = []; copied = up v.copied }
+wasted-copy w v n is x = rw x (ap (λ (p : Plan). record p { moves = []; copied = up p.copied }) is)
+
+-- and after a move
+pub counted-move : (w v : Plan) (n : ℕ) → w ≡ v → n ≡ up w.moved → record w { moved = n } ≡ record v { moved = up v.moved }
+counted-move w v n is x = rw x (ap (λ (p : Plan). record p { moved = up p.moved }) is)
+
+pub wasted-move : (w v : Plan) (n : ℕ) → w ≡ v → n ≡ up w.moved → record w { moves = []; moved = n } ≡ record v { moves = []; moved = up v.moved }
+wasted-move w v n is x = rw x (ap (λ (p : Plan). record p { moves = []; moved = up p.moved }) is)
+
+-- only the moves of a plan have changed
+pub becomes-moves : (w v q : Plan) → w ≡ v → q.aside ≡ w.aside → q.mark ≡ w.mark → q.copied ≡ w.copied → q.moved ≡ w.moved → q.erased ≡ w.erased → q.since ≡ w.since → q ≡ record v { moves = q.moves }
+becomes-moves w v q is aside mark copied moved erased since =
+    ap (λ (x : Option (ℕ × ℕ)). record q { aside = x }) aside
+    ∙ ap (λ (x : ℕ). record q { aside = w.aside; mark = x }) mark
+    ∙ ap (λ (x : ℕ). record q { aside = w.aside; mark = w.mark; copied = x }) copied
+    ∙ ap (λ (x : ℕ). record q { aside = w.aside; mark = w.mark; copied = w.copied; moved = x }) moved
+    ∙ ap (λ (x : ℕ). record q { aside = w.aside; mark = w.mark; copied = w.copied; moved = w.moved; erased = x }) erased
+    ∙ ap (λ (x : ℕ). record w { moves = q.moves; since = x }) since
+    ∙ ap (λ (p : Plan). record p { moves = q.moves }) is

@@ -315,3 +315,11 @@ IsCopied-kept old now v e n i sound switch placed spare shape rows lt =
   where
     positions : now.fields.positions ≡ old.fields.positions
     positions = ap (λ (x : Fields). x.positions) rows.fields
+
+-- none has been switched yet
+pub SwitchesRows-none : (sh : Shape) (e : ℕ) (f : Fields) → SwitchesRows sh e 0 f f
+SwitchesRows-none sh e f = record {
+  fields = refl;
+  by_place = λ p. inl (refl, λ i lt. absurd (omega arith));
+  by_undo = λ p. inl (refl, λ i t lt. absurd (omega arith));
+}
