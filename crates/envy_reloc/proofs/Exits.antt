@@ -1,5 +1,5 @@
 -- What stands at an exit where power is off, and where nothing was erased any more.
-use Rattle.std.proofs.Common.{◌≡◌, ◌∙◌, ℕ, Bool, true, false, IsTrue, Result, Ok, Err, IfOk, OnOk, IsErrAnd, sym, ap, subst, arith}
+use Rattle.std.proofs.Common.{◌≡◌, ◌∙◌, ℕ, Bool, true, false, IsTrue, Result, Ok, Err, IfOk, IsErrAnd, sym, ap, subst, arith}
 use Rattle.std.specs.Prelude.{sum}
 use Rattle.envy_base.specs.declared.board.Trouble.{Trouble}
 use Rattle.envy_base.specs.declared.board.Trouble.TheVariants.{Off as TroubleOff, Bad}

@@ -1,10 +1,12 @@
 -- Plans that agree with the map after each phase.
-use Rattle.std.proofs.Common.{◌≡◌, ◌≢◌, ◌⊎◌, inl, inr, ℕ, ◌-◌, ◌/◌, List, Some, sym, ◌∙◌, ap, subst}
+use Rattle.std.proofs.Common.{◌≡◌, ◌≢◌, ◌⊎◌, inl, inr, ℕ, ◌-◌, ◌/◌, ◌<◌, ◌≤◌, List, Option, Some, get_or, sym, ◌∙◌, ap, subst, arith}
 use Rattle.std.specs.Prelude.{All}
 use Rattle.envy_base.specs.declared.shape.Shape.{Shape}
+use Rattle.envy_base.specs.declared.fields.Job.{Job}
 use Rattle.envy_base.specs.declared.fields.Job.TheVariants.{Idle, Copy, Switch, Erase}
 use Rattle.envy_map.specs.Fields.{Fields}
-use Rattle.envy_layout.specs.Sound.{Sound, Jobs, IsPlaced}
+use Rattle.envy_map.specs.Writes.{with_job}
+use Rattle.envy_layout.specs.Sound.{Sound, Blanks, Jobs, IsPlaced, IsSpare}
 use Rattle.envy_reloc.specs.Switching.{SwitchesAll}
 use Rattle.envy_reloc.specs.Plan.{Plan, IsMarked, IsPlanOf}
 
@@ -75,3 +77,30 @@ Plan-switched sh f g flash v e plan sound copying switches = record {
 
     no_copy : (w : ℕ) → g.job ≡ Some (Copy w) → ⊥
     no_copy w is = let clash : Some (Switch v) ≡ Some (Copy w) = sym job ∙ is in cc
+
+-- a copy has begun
+pub Plan-begun : (sh : Shape) (f : Fields) (flash : List (List ℕ)) (v : ℕ) (plan : Plan) → Sound sh f flash → f.job ≡ Some Idle → All (λ (q : ℕ). q / sh.rows ≡ v) plan.moves → ((first last : ℕ) → plan.aside ≡ Some (first, last) → (first ≤ last) × (last < sh.segments - 1)) → plan.mark ≡ 0 → IsPlanOf sh (with_job (Some (Copy v)) f) flash plan
+Plan-begun sh f flash v plan sound idle moves aside mark = record {
+  prepared = record {
+    moves = λ w is. subst (λ (x : ℕ). All (λ (q : ℕ). q / sh.rows ≡ x) plan.moves) (same w is) moves;
+    aside = λ w first last is at. aside first last at;
+    copies = λ w e is spare. record { each = λ i lt. absurd (none e spare i lt); apart = λ i j lt less one. absurd (none e spare i lt) };
+  };
+  marked = record {
+    kept = λ w e p q is spare names here lt. absurd (omega arith);
+    copied = λ w e i is spare lt. absurd (none e spare i lt);
+  };
+  switched = record {
+    placed = λ w is. absurd (no_switch w is);
+    clear = λ w p q is. absurd (no_switch w is);
+  };
+}
+  where
+    none : (e : ℕ) → IsSpare sh f.positions e → (i : ℕ) → i < get_or f.fills e 0 → ⊥
+    none e spare i lt = let empty = Blanks.idle sound.blanks e idle spare in omega arith
+
+    same : (w : ℕ) → ◌≡◌ {A = Option Job} (Some (Copy v)) (Some (Copy w)) → v ≡ w
+    same w is = cc
+
+    no_switch : (w : ℕ) → ◌≡◌ {A = Option Job} (Some (Copy v)) (Some (Switch w)) → ⊥
+    no_switch w is = cc

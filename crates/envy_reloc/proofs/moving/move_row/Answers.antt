@@ -1,9 +1,11 @@
 use Rattle.std.specs.Prelude.{IsTrue}
-use Rattle.std.proofs.Common.{◌≡◌, ◌∙◌, ℕ, ◌+◌, ◌*◌, ◌<◌, List, [], get_or, refl, sym, ap, subst, arith}
+use Rattle.std.proofs.Common.{◌≡◌, ◌∙◌, ℕ, ◌+◌, ◌*◌, ◌<◌, List, [], Err, get_or, refl, sym, ap, subst, arith}
+use Rattle.envy_base.specs.declared.board.Trouble.{Trouble}
 use Rattle.envy_base.specs.declared.shape.Shape.{Shape}
 use Rattle.envy_map.specs.Fields.{Fields, Chart, chart}
 use Rattle.envy_map.specs.Writes.{with_back, with_fill}
 use Rattle.envy_layout.specs.May.{MayName}
+use Rattle.envy_layout.specs.Power.{power_after}
 use Rattle.envy_table.specs.Agreement.{AreCurrent}
 use Rattle.envy_table.proofs.HitLemmas.{Rests-refl}
 use Rattle.envy_layout.proofs.KeptLemmas.{Names-range}
@@ -11,12 +13,13 @@ use Rattle.envy_layout.proofs.NamingLemmas.{Names-named}
 use Rattle.envy_layout.specs.Same.{Same, Stays, Framed}
 use Rattle.envy_layout.specs.Sound.{Names}
 use Rattle.envy_space.specs.Pool.{IsPool, IsPoolOf}
-use Rattle.envy_reloc.specs.Keeping.{ClaimsTarget, CopiesTo}
+use Rattle.envy_reloc.specs.Keeping.{ClaimsTarget, CopiesTo, WastesRow}
 use Rattle.envy_reloc.specs.Phases.{MovesRow}
-use Rattle.envy_layout.specs.Naming.{with_named, AreParted}
+use Rattle.envy_layout.specs.Naming.{IsNamed, with_named, AreParted}
 use Rattle.envy_reloc.specs.Rows.{HasRoom}
 use Rattle.envy_layout.proofs.Claimed.{MayName-claimed, unnamed-claimed, unswitched-copying}
 use Rattle.envy_layout.proofs.Sames.{then_same, tally_end}
+use Rattle.envy_reloc.proofs.Exits.{off-after, off-if, off-bad, err-after, err-if, err-bad}
 use Rattle.envy_reloc.proofs.moving.move_row.Goals as goal
 
 pub program_move-requires-clause-target : goal.program_move-requires-clause-target
@@ -173,3 +176,58 @@ returns-in_err-target-clause-counted g c =
 pub returns-clause-counted : goal.returns-clause-counted
 returns-clause-counted g c =
     λ on. ClaimsTarget.counted (c.program_move.ensures.claims c.in_ok-target.ensures.power)
+
+pub returns-in_err-target-clause-moves : goal.returns-in_err-target-clause-moves
+returns-in_err-target-clause-moves g c = err-if c.from_residual.result _ c.in_err-target.field-0.0 c.from_residual.ensures.1
+
+pub returns-in_err-target-clause-power : goal.returns-in_err-target-clause-power
+returns-in_err-target-clause-power g c = err-after ℕ c.from_residual.result (g.B.Board.state c.program_move.new.board).on c.in_err-target.field-0.0 c.in_err-target.ensures.power c.from_residual.ensures.1
+
+pub returns-in_err-target-clause-fails : goal.returns-in_err-target-clause-fails
+returns-in_err-target-clause-fails g c bad =
+    let old = chart (g.B.Board.state c.args.board.now) in
+    let mid = chart (g.B.Board.state c.program_move.new.board) in
+    let is = err-bad c.from_residual.result c.in_err-target.field-0.0 c.from_residual.ensures.1 bad in
+    let claims = c.program_move.ensures.claims (c.in_err-target.ensures.power ∙ ap (λ (e : Trouble). power_after {A = ℕ} (Err e)) is) in
+    subst (λ (s : ℕ). WastesRow old s c.args.next.kept.page mid) c.segment_at-segment.ensures.segment
+    (record { fields = claims.fields; others = claims.others; bad = c.in_err-target.ensures.bad (ap (λ (e : Trouble). Err e) is) })
+
+pub rename-requires-clause-sound : goal.rename-requires-clause-sound
+rename-requires-clause-sound g c = Stays.sound (Same.stays c.program_move.ensures.same)
+
+pub rename-requires-clause-page : goal.rename-requires-clause-page
+rename-requires-clause-page g c = subst (λ (sh : Shape). c.args.next.kept.page < sh.pages) (sym (Framed.shape (Stays.framed (Same.stays c.program_move.ensures.same)))) c.requires.next.page
+
+pub rename-requires-clause-named : goal.rename-requires-clause-named
+rename-requires-clause-named g c =
+    let claims = c.program_move.ensures.claims c.in_ok-target.ensures.power in
+    subst (λ (f : Fields). IsNamed f c.args.next.kept.page c.args.next.row c.args.next.kept.undo) (sym (ClaimsTarget.fields claims)) c.requires.next.named
+
+pub rename-requires-clause-copy : goal.rename-requires-clause-copy
+rename-requires-clause-copy g c =
+    let old = chart (g.B.Board.state c.args.board.now) in
+    let mid = chart (g.B.Board.state c.program_move.new.board) in
+    let s = c.segment_at-segment.result in
+    let n = get_or old.fields.fills s 0 in
+    let pool = c.args.space.now in
+    let here = c.segment_at-segment.ensures.segment in
+    let rows : pool.shape.rows ≡ old.shape.rows = ap (λ (sh : Shape). sh.rows) (IsPoolOf.shape c.requires.agree.pool) in
+    let room = HasRoom.room c.requires.next.room in
+    let fill : get_or pool.fills (get_or pool.positions c.args.next.position 0) 0 ≡ n = ap (λ (x : ℕ). get_or pool.fills x 0) (sym here) ∙ ap (λ (xs : List ℕ). get_or xs s 0) (IsPoolOf.fills c.requires.agree.pool) in
+    let names = Names-named old.fields c.args.next.kept.page c.args.next.row c.args.next.kept.undo c.requires.next.named in
+    let claims = c.program_move.ensures.claims c.in_ok-target.ensures.power in
+    let copy = c.in_ok-target.ensures.copy in
+    let apart = ClaimsTarget.others claims c.args.next.row (λ same. unnamed-claimed old.shape old.fields old.flash s n c.args.next.kept.page c.requires.sound refl (omega arith) (subst (λ (q : ℕ). Names old.fields c.args.next.kept.page q) same names)) in
+    ap (λ (q : ℕ). get_or mid.flash q []) (CopiesTo.is copy) ∙ CopiesTo.copy copy ∙ sym apart
+
+pub returns-in_err-rename-clause-moves : goal.returns-in_err-rename-clause-moves
+returns-in_err-rename-clause-moves g c = off-if c.from_residual-in_err-rename.result _ c.from_residual-in_err-rename.ensures.1
+
+pub returns-in_err-rename-clause-power : goal.returns-in_err-rename-clause-power
+returns-in_err-rename-clause-power g c = off-after c.from_residual-in_err-rename.result (g.B.Board.state c.rename.new.board).on c.in_err-rename.ensures.power c.from_residual-in_err-rename.ensures.1
+
+pub returns-in_err-rename-clause-fails : goal.returns-in_err-rename-clause-fails
+returns-in_err-rename-clause-fails g c bad = off-bad c.from_residual-in_err-rename.result c.from_residual-in_err-rename.ensures.1 bad
+
+pub returns-clause-fails : goal.returns-clause-fails
+returns-clause-fails g c bad = absurd (cc)

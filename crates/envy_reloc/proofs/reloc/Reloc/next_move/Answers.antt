@@ -1,4 +1,4 @@
-use Rattle.std.proofs.Common.{◌≡◌, inl, ◌∙◌, ℕ, ◌/◌, ◌+◌, ◌-◌, ◌*◌, ◌%◌, ◌<◌, List, [], ◌∷◌, ◌++◌, length, get_or, Option, Some, None, inr, refl, sym, ap, subst, arith}
+use Rattle.std.proofs.Common.{◌≡◌, inl, ◌∙◌, ℕ, ◌/◌, ◌-◌, ◌*◌, ◌%◌, ◌<◌, List, [], ◌∷◌, ◌++◌, length, get_or, Option, Some, None, inr, refl, sym, ap, subst, arith}
 use Rattle.std.specs.Prelude.{All}
 use Rattle.std.proofs.lemmas.List.Elements.{All-rest}
 use Rattle.envy_map.specs.Fields.{chart}
