@@ -57,3 +57,7 @@ none-if (Err e) Q P h = tt
 pub none-power : {T : Type 0} (r : Result T Off) (Q : Off → Type 0) (b : Bool) → b ≡ false → IsErrAnd r Q → b ≡ power_of r
 none-power (Ok x) Q b off h = absurd h
 none-power (Err e) Q b off h = off
+
+-- a call that gave a value wasn't bad
+pub ok-bad : {P T : Type 0} (x : T) → ◌≡◌ {A = Result T Trouble} (Ok x) (Err Bad) → P
+ok-bad x is = absurd (cc)

@@ -1,4 +1,4 @@
-use Rattle.std.proofs.Common.{◌≡◌, ◌∙◌, inl, inr, ℕ, List, Option, sym, ap, subst, arith}
+use Rattle.std.proofs.Common.{◌≡◌, ◌∙◌, inl, inr, ℕ, List, get_or, Option, sym, ap, subst, arith}
 use Rattle.envy_base.specs.Counting.{Tally}
 use Rattle.envy_base.specs.Shape.{IsShape}
 use Rattle.envy_base.specs.State.{IsBoard}
@@ -16,6 +16,8 @@ use Rattle.envy_reloc.proofs.Counts.{counts_by_copy, counts_by_move, counts_by_n
 use Rattle.envy_reloc.proofs.KeepLemmas.{AllFollow-still, FramesStay-switched}
 use Rattle.envy_reloc.proofs.CopyLemmas.{AllCopied-next, CopiedWhole-made}
 use Rattle.envy_reloc.proofs.StepLemmas.{Found, spare-is, within-move, within-copy, err-of, SpoilsCopy-found, CopiesOne-found, SwitchesSegment-made}
+use Rattle.envy_layout.proofs.Sames.{same_within}
+use Rattle.envy_reloc.proofs.Exits.{unpowered, off-after, off-if, off-bad, err-after, err-if, ok-bad}
 use Rattle.envy_reloc.proofs.PlanLemmas.{Plan-switched}
 use Rattle.envy_reloc.proofs.reloc.Reloc.go_on.Goals as goal
 
@@ -286,3 +288,171 @@ returns-in_ok-switch_segment-in-None-clause-apart g c =
     let mid = c.next_move.new.self in
     let was = c.next_move.ensures.becomes in
     apart_by_none old c.args.self.now mid (ap (λ (p : Plan). p.copied) was) (ap (λ (p : Plan). p.moved) was)
+
+pub returns-in_err-next-clause-same : goal.returns-in_err-next-clause-same
+returns-in_err-next-clause-same g c = unpowered (g.B.Board.state c.args.board.now).on c.in_err-next.ensures.off c.requires.ready.on
+
+pub returns-in_err-next-clause-follow : goal.returns-in_err-next-clause-follow
+returns-in_err-next-clause-follow g c = unpowered (g.B.Board.state c.args.board.now).on c.in_err-next.ensures.off c.requires.ready.on
+
+pub returns-in_err-next-clause-power : goal.returns-in_err-next-clause-power
+returns-in_err-next-clause-power g c = unpowered (g.B.Board.state c.args.board.now).on c.in_err-next.ensures.off c.requires.ready.on
+
+pub returns-in_err-next-clause-does : goal.returns-in_err-next-clause-does
+returns-in_err-next-clause-does g c = unpowered (g.B.Board.state c.args.board.now).on c.in_err-next.ensures.off c.requires.ready.on
+
+pub returns-in_err-next-clause-works : goal.returns-in_err-next-clause-works
+returns-in_err-next-clause-works g c = unpowered (g.B.Board.state c.args.board.now).on c.in_err-next.ensures.off c.requires.ready.on
+
+pub returns-in_err-next-clause-fails : goal.returns-in_err-next-clause-fails
+returns-in_err-next-clause-fails g c bad = unpowered (g.B.Board.state c.args.board.now).on c.in_err-next.ensures.off c.requires.ready.on
+
+pub returns-in_err-next-clause-within : goal.returns-in_err-next-clause-within
+returns-in_err-next-clause-within g c n e s leaves = unpowered (g.B.Board.state c.args.board.now).on c.in_err-next.ensures.off c.requires.ready.on
+
+pub returns-in_err-next-clause-counts : goal.returns-in_err-next-clause-counts
+returns-in_err-next-clause-counts g c = unpowered (g.B.Board.state c.args.board.now).on c.in_err-next.ensures.off c.requires.ready.on
+
+pub returns-in_err-next-clause-apart : goal.returns-in_err-next-clause-apart
+returns-in_err-next-clause-apart g c = unpowered (g.B.Board.state c.args.board.now).on c.in_err-next.ensures.off c.requires.ready.on
+
+pub returns-in_err-left-clause-same : goal.returns-in_err-left-clause-same
+returns-in_err-left-clause-same g c = unpowered (g.B.Board.state c.args.board.now).on c.in_err-left.ensures.off c.requires.ready.on
+
+pub returns-in_err-left-clause-follow : goal.returns-in_err-left-clause-follow
+returns-in_err-left-clause-follow g c = unpowered (g.B.Board.state c.args.board.now).on c.in_err-left.ensures.off c.requires.ready.on
+
+pub returns-in_err-left-clause-power : goal.returns-in_err-left-clause-power
+returns-in_err-left-clause-power g c = unpowered (g.B.Board.state c.args.board.now).on c.in_err-left.ensures.off c.requires.ready.on
+
+pub returns-in_err-left-clause-does : goal.returns-in_err-left-clause-does
+returns-in_err-left-clause-does g c = unpowered (g.B.Board.state c.args.board.now).on c.in_err-left.ensures.off c.requires.ready.on
+
+pub returns-in_err-left-clause-works : goal.returns-in_err-left-clause-works
+returns-in_err-left-clause-works g c = unpowered (g.B.Board.state c.args.board.now).on c.in_err-left.ensures.off c.requires.ready.on
+
+pub returns-in_err-left-clause-fails : goal.returns-in_err-left-clause-fails
+returns-in_err-left-clause-fails g c bad = unpowered (g.B.Board.state c.args.board.now).on c.in_err-left.ensures.off c.requires.ready.on
+
+pub returns-in_err-left-clause-within : goal.returns-in_err-left-clause-within
+returns-in_err-left-clause-within g c n e s leaves = unpowered (g.B.Board.state c.args.board.now).on c.in_err-left.ensures.off c.requires.ready.on
+
+pub returns-in_err-left-clause-counts : goal.returns-in_err-left-clause-counts
+returns-in_err-left-clause-counts g c = unpowered (g.B.Board.state c.args.board.now).on c.in_err-left.ensures.off c.requires.ready.on
+
+pub returns-in_err-left-clause-apart : goal.returns-in_err-left-clause-apart
+returns-in_err-left-clause-apart g c = unpowered (g.B.Board.state c.args.board.now).on c.in_err-left.ensures.off c.requires.ready.on
+
+pub returns-in_err-move_next-clause-does : goal.returns-in_err-move_next-clause-does
+returns-in_err-move_next-clause-does g c = err-if c.from_residual-in_err-move_next.result _ c.in_err-move_next.field-0.0 c.from_residual-in_err-move_next.ensures.1
+
+pub returns-in_err-move_next-clause-works : goal.returns-in_err-move_next-clause-works
+returns-in_err-move_next-clause-works g c = err-if c.from_residual-in_err-move_next.result _ c.in_err-move_next.field-0.0 c.from_residual-in_err-move_next.ensures.1
+
+pub returns-in_err-move_next-clause-power : goal.returns-in_err-move_next-clause-power
+returns-in_err-move_next-clause-power g c = err-after (Unit {0}) c.from_residual-in_err-move_next.result (g.B.Board.state c.move_next.new.board).on c.in_err-move_next.field-0.0 c.in_err-move_next.ensures.power c.from_residual-in_err-move_next.ensures.1
+
+pub returns-in_err-copy_left-in-Some-2-clause-does : goal.returns-in_err-copy_left-in-Some-2-clause-does
+returns-in_err-copy_left-in-Some-2-clause-does g c = err-if c.from_residual-in_err-copy_left-in-Some-2.result _ c.in_err-copy_left-in-Some-2.field-0.0 c.from_residual-in_err-copy_left-in-Some-2.ensures.1
+
+pub returns-in_err-copy_left-in-Some-2-clause-works : goal.returns-in_err-copy_left-in-Some-2-clause-works
+returns-in_err-copy_left-in-Some-2-clause-works g c = err-if c.from_residual-in_err-copy_left-in-Some-2.result _ c.in_err-copy_left-in-Some-2.field-0.0 c.from_residual-in_err-copy_left-in-Some-2.ensures.1
+
+pub returns-in_err-copy_left-in-Some-2-clause-power : goal.returns-in_err-copy_left-in-Some-2-clause-power
+returns-in_err-copy_left-in-Some-2-clause-power g c = err-after (Unit {0}) c.from_residual-in_err-copy_left-in-Some-2.result (g.B.Board.state c.copy_left.new.board).on c.in_err-copy_left-in-Some-2.field-0.0 c.in_err-copy_left-in-Some-2.ensures.power c.from_residual-in_err-copy_left-in-Some-2.ensures.1
+
+pub returns-in_err-switch_segment-in-None-clause-does : goal.returns-in_err-switch_segment-in-None-clause-does
+returns-in_err-switch_segment-in-None-clause-does g c = off-if c.from_residual-in_err-switch_segment-in-None.result _ c.from_residual-in_err-switch_segment-in-None.ensures.1
+
+pub returns-in_err-switch_segment-in-None-clause-works : goal.returns-in_err-switch_segment-in-None-clause-works
+returns-in_err-switch_segment-in-None-clause-works g c = off-if c.from_residual-in_err-switch_segment-in-None.result _ c.from_residual-in_err-switch_segment-in-None.ensures.1
+
+pub returns-in_err-switch_segment-in-None-clause-power : goal.returns-in_err-switch_segment-in-None-clause-power
+returns-in_err-switch_segment-in-None-clause-power g c = off-after c.from_residual-in_err-switch_segment-in-None.result (g.B.Board.state c.switch_segment.new.board).on c.in_err-switch_segment-in-None.ensures.power c.from_residual-in_err-switch_segment-in-None.ensures.1
+
+pub returns-in_err-switch_segment-in-None-clause-fails : goal.returns-in_err-switch_segment-in-None-clause-fails
+returns-in_err-switch_segment-in-None-clause-fails g c bad = off-bad c.from_residual-in_err-switch_segment-in-None.result c.from_residual-in_err-switch_segment-in-None.ensures.1 bad
+
+pub returns-in_err-switch_segment-in-None-clause-follow : goal.returns-in_err-switch_segment-in-None-clause-follow
+returns-in_err-switch_segment-in-None-clause-follow g c =
+    let off = c.in_err-switch_segment-in-None.ensures.power in
+    let lit = (g.B.Board.state c.switch_segment.new.board).on in
+    let follow = c.switch_segment.ensures.follow in
+    record {
+      pool = follow.pool;
+      plan = λ on. unpowered lit off on;
+      parted = follow.parted;
+      cache = follow.cache;
+      frames = λ on. unpowered lit off on;
+      shape = follow.shape;
+      rests = follow.rests;
+    }
+
+pub returns-in_err-switch_segment-in-None-clause-within : goal.returns-in_err-switch_segment-in-None-clause-within
+returns-in_err-switch_segment-in-None-clause-within g c n e s leaves = same_within n e (chart (g.B.Board.state c.args.board.now)) (chart (g.B.Board.state c.switch_segment.new.board)) c.switch_segment.ensures.same
+
+pub returns-in_err-switch_segment-in-None-clause-same : goal.returns-in_err-switch_segment-in-None-clause-same
+returns-in_err-switch_segment-in-None-clause-same g c = same_within 1 0 (chart (g.B.Board.state c.args.board.now)) (chart (g.B.Board.state c.switch_segment.new.board)) c.switch_segment.ensures.same
+
+pub returns-in_ok-switch_segment-in-None-clause-within : goal.returns-in_ok-switch_segment-in-None-clause-within
+returns-in_ok-switch_segment-in-None-clause-within g c n e s leaves = same_within n e (chart (g.B.Board.state c.args.board.now)) (chart (g.B.Board.state c.switch_segment.new.board)) c.switch_segment.ensures.same
+
+pub returns-in_ok-switch_segment-in-None-clause-same : goal.returns-in_ok-switch_segment-in-None-clause-same
+returns-in_ok-switch_segment-in-None-clause-same g c = same_within 1 0 (chart (g.B.Board.state c.args.board.now)) (chart (g.B.Board.state c.switch_segment.new.board)) c.switch_segment.ensures.same
+
+pub returns-in_err-move_next-clause-same : goal.returns-in_err-move_next-clause-same
+returns-in_err-move_next-clause-same g c = c.move_next.ensures.same
+
+pub returns-in-Some-clause-same : goal.returns-in-Some-clause-same
+returns-in-Some-clause-same g c = c.move_next.ensures.same
+
+pub returns-in-Some-clause-works : goal.returns-in-Some-clause-works
+returns-in-Some-clause-works g c = c.move_next.ensures.same
+
+pub returns-in_err-move_next-clause-follow : goal.returns-in_err-move_next-clause-follow
+returns-in_err-move_next-clause-follow g c = c.move_next.ensures.follow
+
+pub returns-in-Some-clause-follow : goal.returns-in-Some-clause-follow
+returns-in-Some-clause-follow g c = c.move_next.ensures.follow
+
+pub returns-in_err-copy_left-in-Some-2-clause-same : goal.returns-in_err-copy_left-in-Some-2-clause-same
+returns-in_err-copy_left-in-Some-2-clause-same g c = c.copy_left.ensures.same
+
+pub returns-in_ok-copy_left-in-Some-2-clause-same : goal.returns-in_ok-copy_left-in-Some-2-clause-same
+returns-in_ok-copy_left-in-Some-2-clause-same g c = c.copy_left.ensures.same
+
+pub returns-in_ok-copy_left-in-Some-2-clause-works : goal.returns-in_ok-copy_left-in-Some-2-clause-works
+returns-in_ok-copy_left-in-Some-2-clause-works g c = c.copy_left.ensures.same
+
+pub returns-in_ok-switch_segment-in-None-clause-works : goal.returns-in_ok-switch_segment-in-None-clause-works
+returns-in_ok-switch_segment-in-None-clause-works g c = c.switch_segment.ensures.same
+
+pub returns-in-Some-clause-fails : goal.returns-in-Some-clause-fails
+returns-in-Some-clause-fails g c bad = ok-bad _ bad
+
+pub returns-in_ok-copy_left-in-Some-2-clause-fails : goal.returns-in_ok-copy_left-in-Some-2-clause-fails
+returns-in_ok-copy_left-in-Some-2-clause-fails g c bad = ok-bad _ bad
+
+pub returns-in_ok-switch_segment-in-None-clause-fails : goal.returns-in_ok-switch_segment-in-None-clause-fails
+returns-in_ok-switch_segment-in-None-clause-fails g c bad = ok-bad _ bad
+
+pub next_kept-requires-clause-claimed : goal.next_kept-requires-clause-claimed
+next_kept-requires-clause-claimed g c = ap (λ (xs : List ℕ). get_or xs c.args.segment 0) (sym c.requires.ready.pool.fills) ∙ sym c.fill.ensures.fill
+
+pub copy_left-requires-clause-spare : goal.copy_left-requires-clause-spare
+copy_left-requires-clause-spare g c = spare-is (chart (g.B.Board.state c.args.board.now)).shape (chart (g.B.Board.state c.args.board.now)).fields c.args.space.now c.spare-spare.result c.requires.ready.pool c.spare-spare.ensures.spare
+
+pub switch_segment-requires-clause-spare : goal.switch_segment-requires-clause-spare
+switch_segment-requires-clause-spare g c = spare-is (chart (g.B.Board.state c.args.board.now)).shape (chart (g.B.Board.state c.args.board.now)).fields c.args.space.now c.spare-spare.result c.requires.ready.pool c.spare-spare.ensures.spare
+
+pub copy_left-requires-clause-done : goal.copy_left-requires-clause-done
+copy_left-requires-clause-done g c =
+    let old = chart (g.B.Board.state c.args.board.now) in
+    (subst (λ (m : Option Move). NextMove old.shape old.fields c.args.segment c.args.self.now m c.next_move.new.self) c.in_default.is c.in_ok-next.ensures.next).1
+
+pub copy_left-requires-clause-left : goal.copy_left-requires-clause-left
+copy_left-requires-clause-left g c =
+    let old = chart (g.B.Board.state c.args.board.now) in
+    let mid = c.next_move.new.self in
+    let next = subst (λ (l : Option Left). NextKept old.shape old.fields c.args.segment mid.mark l) c.in-Some-2.is (subst (λ (m : ℕ). NextKept old.shape old.fields c.args.segment m c.in_ok-left.field-0) (ap (λ (p : Plan). p.mark) c.self.view_is) c.in_ok-left.ensures.next) in
+    (c.args.segment, c.requires.copying, next)
