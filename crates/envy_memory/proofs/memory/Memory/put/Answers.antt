@@ -38,8 +38,7 @@ same-le n = omega arith
 -- slot t is open, and the page within the board
 meets : (g : Over) (c : After-owner g) (m : Array) → Stands (chart (g.B.Board.state c.self.inside.board)) m → Meets c.args.t c.args.a (chart (g.B.Board.state c.self.inside.board)) m c.self.inside.owned
 meets g c m stands =
-    let pages = ap (λ (sh : Shape). sh.pages) c.shape.ensures in
-    let ge = c.if-t-ge64.false in
+    let pages = ap (λ (sh : Shape). sh.pages) c.shape.ensures in let ge = c.if-t-ge64.false in
     record { stands = stands; owned = c.self.invariant.0.owned (sym c.if-not-powered.ensures); low = omega arith; active = c.in_ok-is_open.ensures.yes c.if-not-branch.false; page = omega arith }
 
 -- a page that the slot owns: whose it is, what the word's write left, and why it failed
@@ -94,38 +93,6 @@ kept-first g c =
       λ on. IsQuiet-counted old new c.self.inside.parts c.put_first.new.parts c.self.inside.limit c.self.inside.quiet (Works.shape works) (Works.worn works) e.counting on (c.self.invariant.1 (sym c.if-not-powered.ensures)),
     )
 
-pub returns-then-page-shape-clause-step : goal.returns-then-page-shape-clause-step
-returns-then-page-shape-clause-step g c m stood =
-    let old = chart (g.B.Board.state c.self.inside.board) in
-    let stands : Stands old m = subst (λ (p : Picture). Stands p.chart m) (sym c.self.view_is) stood in
-    let pages = ap (λ (sh : Shape). sh.pages) c.shape.ensures in
-    (m, (beyond old m c.args.a stands (omega arith), refl), stood)
-
-pub returns-then-t-ge64-clause-step : goal.returns-then-t-ge64-clause-step
-returns-then-t-ge64-clause-step g c m stood =
-    let old = chart (g.B.Board.state c.self.inside.board) in
-    let stands : Stands old m = subst (λ (p : Picture). Stands p.chart m) (sym c.self.view_is) stood in
-    let pages = ap (λ (sh : Shape). sh.pages) c.shape.ensures in
-    let lt : c.args.a / 32 < old.shape.pages = omega arith in
-    let owned = c.self.invariant.0.owned (sym c.if-not-powered.ensures) in
-    (m, (inside old m c.args.a stands lt, closed-past old m c.args.t (Stands.holds stands) c.if-t-ge64.true, refl), stood)
-
-pub returns-then-not-branch-clause-step : goal.returns-then-not-branch-clause-step
-returns-then-not-branch-clause-step g c m stood =
-    let old = chart (g.B.Board.state c.self.inside.board) in
-    let stands : Stands old m = subst (λ (p : Picture). Stands p.chart m) (sym c.self.view_is) stood in
-    let pages = ap (λ (sh : Shape). sh.pages) c.shape.ensures in
-    let lt : c.args.a / 32 < old.shape.pages = omega arith in
-    let owned = c.self.invariant.0.owned (sym c.if-not-powered.ensures) in
-    let ge = c.if-t-ge64.false in
-    (m, (inside old m c.args.a stands lt, closed-inactive old m c.args.t (Stands.holds stands) (omega arith) (c.in_ok-is_open.ensures.never c.if-not-branch.true), refl), stood)
-
-pub returns-then-slot-t-clause-step : goal.returns-then-slot-t-clause-step
-returns-then-slot-t-clause-step g c m stood =
-    let old = chart (g.B.Board.state c.self.inside.board) in
-    let x = meets g (goal.at.returns-then-slot-t-clause-step g c).After-owner m (subst (λ (p : Picture). Stands p.chart m) (sym c.self.view_is) stood) in
-    (m, (inside old m c.args.a x.stands x.page, is-open c.args.t c.args.a old m c.self.inside.owned x, owner-pairs old m c.self.inside.owned (c.args.a / 32) x.stands x.owned x.page ∙ sym c.in-Some.ensures.value, c.if-slot-t.true, refl), stood)
-
 pub invariant_of-self : goal.invariant_of-self
 invariant_of-self g c = kept g (goal.at.invariant_of-self g c).After-store_word
 
@@ -133,8 +100,7 @@ pub returns-in_err-store_word-clause-step : goal.returns-in_err-store_word-claus
 returns-in_err-store_word-clause-step g c m stood =
     let at = goal.at.returns-in_err-store_word-clause-step g c in
     let x = meets g at.After-owner m (subst (λ (p : Picture). Stands p.chart m) (sym c.self.view_is) stood) in
-    let p = err_from_is_err_and c.from_residual-in_err-store_word.result c.from_residual-in_err-store_word.ensures.1 in
-    rw (p.1, p.2) (Puts-again_ended _ 6 c.args.t _ (chart (g.B.Board.state c.store_word.new.board)) m c.self.inside.owned c.args.a c.args.value c.in_err-store_word.field-0.0 x (own g at.After-store_word) (c.in_err-store_word.ensures.owned (owned-free (chart (g.B.Board.state c.self.inside.board)) m c.self.inside.owned (c.args.a / 32) c.args.t x.owned (own g at.After-store_word))))
+    let p = err_from_is_err_and c.from_residual-in_err-store_word.result c.from_residual-in_err-store_word.ensures.1 in rw (p.1, p.2) (Puts-again_ended _ 6 c.args.t _ (chart (g.B.Board.state c.store_word.new.board)) m c.self.inside.owned c.args.a c.args.value c.in_err-store_word.field-0.0 x (own g at.After-store_word) (c.in_err-store_word.ensures.owned (owned-free (chart (g.B.Board.state c.self.inside.board)) m c.self.inside.owned (c.args.a / 32) c.args.t x.owned (own g at.After-store_word))))
 
 pub returns-in_err-store_word-clause-cut : goal.returns-in_err-store_word-clause-cut
 returns-in_err-store_word-clause-cut g c =
@@ -157,18 +123,6 @@ returns-in-Some-clause-step g c m stood =
     let x = meets g at.After-owner m (subst (λ (p : Picture). Stands p.chart m) (sym c.self.view_is) stood) in
     Puts-again _ 6 c.args.t _ (chart (g.B.Board.state c.store_word.new.board)) m c.self.inside.owned c.args.a c.args.value x (own g at.After-store_word) (c.in_ok-store_word.ensures.owned (owned-free (chart (g.B.Board.state c.self.inside.board)) m c.self.inside.owned (c.args.a / 32) c.args.t x.owned (own g at.After-store_word)))
 
-pub returns-then-not-room-clause-step : goal.returns-then-not-room-clause-step
-returns-then-not-room-clause-step g c m stood =
-    let old = chart (g.B.Board.state c.self.inside.board) in
-    let x = meets g (goal.at.returns-then-not-room-clause-step g c).After-owner m (subst (λ (p : Picture). Stands p.chart m) (sym c.self.view_is) stood) in
-    let n = counted-pairs old m c.self.inside.owned x.stands c.owner.ensures.whole x.owned in
-    let all = Stands.holds x.stands in
-    let shadows = all.shadows in
-    let limit = c.self.invariant.0.shadows in
-    let few = c.owner.ensures.whole.few in
-    let full : length c.self.inside.owned.pairs ≡ c.self.inside.owned.limit = full-of (length c.self.inside.owned.pairs) c.self.inside.owned.limit c.room.result c.room.ensures.value c.if-not-room.true few in
-    (m, (inside old m c.args.a x.stands x.page, is-open c.args.t c.args.a old m c.self.inside.owned x, owner-pairs old m c.self.inside.owned (c.args.a / 32) x.stands x.owned x.page ∙ sym c.in_default.ensures.value, omega arith, refl), stood)
-
 pub invariant_of-self-in_err-put_first : goal.invariant_of-self-in_err-put_first
 invariant_of-self-in_err-put_first g c = kept-first g (goal.at.invariant_of-self-in_err-put_first g c).After-put_first
 
@@ -176,8 +130,7 @@ pub returns-in_err-put_first-clause-step : goal.returns-in_err-put_first-clause-
 returns-in_err-put_first-clause-step g c m stood =
     let at = goal.at.returns-in_err-put_first-clause-step g c in
     let x = meets-free g at.After-put_first m (meets g at.After-owner m (subst (λ (p : Picture). Stands p.chart m) (sym c.self.view_is) stood)) in
-    let p = err_from_is_err_and c.from_residual-in_err-put_first.result c.from_residual-in_err-put_first.ensures.1 in
-    rw (p.1, p.2) (Puts-ended _ 6 c.args.t _ (chart (g.B.Board.state c.put_first.new.board)) m c.self.inside.owned c.args.a c.args.value c.in_err-put_first.field-0.0 x c.in_err-put_first.ensures.put)
+    let p = err_from_is_err_and c.from_residual-in_err-put_first.result c.from_residual-in_err-put_first.ensures.1 in rw (p.1, p.2) (Puts-ended _ 6 c.args.t _ (chart (g.B.Board.state c.put_first.new.board)) m c.self.inside.owned c.args.a c.args.value c.in_err-put_first.field-0.0 x c.in_err-put_first.ensures.put)
 
 pub returns-in_err-put_first-clause-cut : goal.returns-in_err-put_first-clause-cut
 returns-in_err-put_first-clause-cut g c =
@@ -203,8 +156,7 @@ invariant_of-self-2 g c = kept-first g (goal.at.invariant_of-self-2 g c).After-p
 pub returns-in_err-store_word-clause-below : goal.returns-in_err-store_word-clause-below
 returns-in_err-store_word-clause-below g c =
     let new : Picture = record { chart = chart (g.B.Board.state c.store_word.new.board); parts = c.store_word.new.parts; owned = c.self.inside.owned; limit = c.self.inside.limit; mark = c.self.inside.mark } in
-    let p = err_from_is_err_and c.from_residual-in_err-store_word.result c.from_residual-in_err-store_word.ensures.1 in
-    let fault = c.in_err-store_word.field-0.0 in
+    let p = err_from_is_err_and c.from_residual-in_err-store_word.result c.from_residual-in_err-store_word.ensures.1 in let fault = c.in_err-store_word.field-0.0 in
     rw (p.1, p.2) (subst (λ (p : Picture). PutsBelow c.args.t c.args.a (Err (put_fault fault)) p new) c.self.view_is
     (below-put_ended c.args.t c.args.a _ new.chart new.parts c.self.inside.owned fault (worked g (goal.at.returns-in_err-store_word-clause-below g c).After-store_word) (λ is. (c.in_err-store_word.ensures.stops is).0) (λ is. refl)))
 
@@ -218,8 +170,7 @@ returns-in-Some-clause-below g c =
 pub returns-in_err-put_first-clause-below : goal.returns-in_err-put_first-clause-below
 returns-in_err-put_first-clause-below g c =
     let new : Picture = record { chart = chart (g.B.Board.state c.put_first.new.board); parts = c.put_first.new.parts; owned = c.put_first.new.owned; limit = c.self.inside.limit; mark = c.self.inside.mark } in
-    let p = err_from_is_err_and c.from_residual-in_err-put_first.result c.from_residual-in_err-put_first.ensures.1 in
-    let fault = c.in_err-put_first.field-0.0 in
+    let p = err_from_is_err_and c.from_residual-in_err-put_first.result c.from_residual-in_err-put_first.ensures.1 in let fault = c.in_err-put_first.field-0.0 in
     rw (p.1, p.2) (subst (λ (p : Picture). PutsBelow c.args.t c.args.a (Err (put_fault fault)) p new) c.self.view_is
     (below-put_ended c.args.t c.args.a _ new.chart new.parts new.owned fault (worked-first g (goal.at.returns-in_err-put_first-clause-below g c).After-put_first) (λ is. (c.in_err-put_first.ensures.stops is).0) (λ is. (c.in_err-put_first.ensures.stops is).2)))
 
@@ -237,59 +188,50 @@ off-answers g c =
 past-answers : (g : Over) (c : goal.Then-page-shape g) → Refuses c.args.t c.args.a (Err Range) c.args.self.now
 past-answers g c =
     let old : Picture = record { chart = chart (g.B.Board.state c.self.inside.board); parts = c.self.inside.parts; owned = c.self.inside.owned; limit = c.self.inside.limit; mark = c.self.inside.mark } in
-    let pages = ap (λ (sh : Shape). sh.pages) c.shape.ensures in
-    subst (λ (p : Picture). Refuses c.args.t c.args.a (Err Range) p) c.self.view_is (refuses-past c.args.t c.args.a old (sym c.if-not-powered.ensures, past-of c.args.a c.shape.result.pages old.chart.shape.pages pages c.if-page-shape.true))
+    let pages = ap (λ (sh : Shape). sh.pages) c.shape.ensures in subst (λ (p : Picture). Refuses c.args.t c.args.a (Err Range) p) c.self.view_is (refuses-past c.args.t c.args.a old (sym c.if-not-powered.ensures, past-of c.args.a c.shape.result.pages old.chart.shape.pages pages c.if-page-shape.true))
 
 high-answers : (g : Over) (c : goal.Then-t-ge64 g) → Refuses c.args.t c.args.a (Err Closed) c.args.self.now
 high-answers g c =
     let old : Picture = record { chart = chart (g.B.Board.state c.self.inside.board); parts = c.self.inside.parts; owned = c.self.inside.owned; limit = c.self.inside.limit; mark = c.self.inside.mark } in
-    let pages = ap (λ (sh : Shape). sh.pages) c.shape.ensures in
-    let shut : slot old.chart.fields c.args.t ≢ Some Active = beyond-slots old.chart c.args.t c.self.invariant.0.sound c.if-t-ge64.true in
+    let pages = ap (λ (sh : Shape). sh.pages) c.shape.ensures in let shut : slot old.chart.fields c.args.t ≢ Some Active = beyond-slots old.chart c.args.t c.self.invariant.0.sound c.if-t-ge64.true in
     subst (λ (p : Picture). Refuses c.args.t c.args.a (Err Closed) p) c.self.view_is (refuses-shut c.args.t c.args.a old (sym c.if-not-powered.ensures, inside-of c.args.a c.shape.result.pages old.chart.shape.pages pages c.if-page-shape.false, shut))
 
 shut-answers : (g : Over) (c : goal.Then-not-branch g) → Refuses c.args.t c.args.a (Err Closed) c.args.self.now
 shut-answers g c =
     let old : Picture = record { chart = chart (g.B.Board.state c.self.inside.board); parts = c.self.inside.parts; owned = c.self.inside.owned; limit = c.self.inside.limit; mark = c.self.inside.mark } in
-    let pages = ap (λ (sh : Shape). sh.pages) c.shape.ensures in
-    subst (λ (p : Picture). Refuses c.args.t c.args.a (Err Closed) p) c.self.view_is (refuses-shut c.args.t c.args.a old (sym c.if-not-powered.ensures, inside-of c.args.a c.shape.result.pages old.chart.shape.pages pages c.if-page-shape.false, c.in_ok-is_open.ensures.never c.if-not-branch.true))
+    let pages = ap (λ (sh : Shape). sh.pages) c.shape.ensures in subst (λ (p : Picture). Refuses c.args.t c.args.a (Err Closed) p) c.self.view_is (refuses-shut c.args.t c.args.a old (sym c.if-not-powered.ensures, inside-of c.args.a c.shape.result.pages old.chart.shape.pages pages c.if-page-shape.false, c.in_ok-is_open.ensures.never c.if-not-branch.true))
 
 kept-answers : (g : Over) (c : goal.Then-slot-t g) → Refuses c.args.t c.args.a (Err (Held c.in-Some.slot)) c.args.self.now
 kept-answers g c =
     let old : Picture = record { chart = chart (g.B.Board.state c.self.inside.board); parts = c.self.inside.parts; owned = c.self.inside.owned; limit = c.self.inside.limit; mark = c.self.inside.mark } in
-    let pages = ap (λ (sh : Shape). sh.pages) c.shape.ensures in
-    subst (λ (p : Picture). Refuses c.args.t c.args.a (Err (Held c.in-Some.slot)) p) c.self.view_is (refuses-kept c.args.t c.args.a c.in-Some.slot old (sym c.if-not-powered.ensures, inside-of c.args.a c.shape.result.pages old.chart.shape.pages pages c.if-page-shape.false, c.in_ok-is_open.ensures.yes c.if-not-branch.false, sym c.in-Some.ensures.value, c.if-slot-t.true))
+    let pages = ap (λ (sh : Shape). sh.pages) c.shape.ensures in subst (λ (p : Picture). Refuses c.args.t c.args.a (Err (Held c.in-Some.slot)) p) c.self.view_is (refuses-kept c.args.t c.args.a c.in-Some.slot old (sym c.if-not-powered.ensures, inside-of c.args.a c.shape.result.pages old.chart.shape.pages pages c.if-page-shape.false, c.in_ok-is_open.ensures.yes c.if-not-branch.false, sym c.in-Some.ensures.value, c.if-slot-t.true))
 
 full-answers : (g : Over) (c : goal.Then-not-room g) → Refuses c.args.t c.args.a (Err Full) c.args.self.now
 full-answers g c =
     let old : Picture = record { chart = chart (g.B.Board.state c.self.inside.board); parts = c.self.inside.parts; owned = c.self.inside.owned; limit = c.self.inside.limit; mark = c.self.inside.mark } in
-    let pages = ap (λ (sh : Shape). sh.pages) c.shape.ensures in
-    let full : length old.owned.pairs ≡ old.owned.limit = full-of (length old.owned.pairs) old.owned.limit c.room.result c.room.ensures.value c.if-not-room.true c.owner.ensures.whole.few in
+    let pages = ap (λ (sh : Shape). sh.pages) c.shape.ensures in let full : length old.owned.pairs ≡ old.owned.limit = full-of (length old.owned.pairs) old.owned.limit c.room.result c.room.ensures.value c.if-not-room.true c.owner.ensures.whole.few in
     subst (λ (p : Picture). Refuses c.args.t c.args.a (Err Full) p) c.self.view_is (refuses-full c.args.t c.args.a old (sym c.if-not-powered.ensures, inside-of c.args.a c.shape.result.pages old.chart.shape.pages pages c.if-page-shape.false, c.in_ok-is_open.ensures.yes c.if-not-branch.false, sym c.in_default.ensures.value, full ∙ c.self.invariant.0.shadows))
 
 own-ended : (g : Over) (c : goal.After-from_residual-in_err-store_word g) → Refuses c.args.t c.args.a c.from_residual-in_err-store_word.result c.args.self.now
 own-ended g c =
     let old : Picture = record { chart = chart (g.B.Board.state c.self.inside.board); parts = c.self.inside.parts; owned = c.self.inside.owned; limit = c.self.inside.limit; mark = c.self.inside.mark } in
-    let pages = ap (λ (sh : Shape). sh.pages) c.shape.ensures in
-    subst (λ (p : Picture). Refuses c.args.t c.args.a c.from_residual-in_err-store_word.result p) c.self.view_is (taken-own c.args.t c.args.a c.from_residual-in_err-store_word.result old (let p = err_from_is_err_and c.from_residual-in_err-store_word.result c.from_residual-in_err-store_word.ensures.1 in rw (p.1, p.2) (no-refusal c.in_err-store_word.field-0.0)) (inside-of c.args.a c.shape.result.pages old.chart.shape.pages pages c.if-page-shape.false) (c.in_ok-is_open.ensures.yes c.if-not-branch.false) (sym c.in-Some.ensures.value ∙ ap (λ (x : _). Some x) c.if-slot-t.false))
+    let pages = ap (λ (sh : Shape). sh.pages) c.shape.ensures in subst (λ (p : Picture). Refuses c.args.t c.args.a c.from_residual-in_err-store_word.result p) c.self.view_is (taken-own c.args.t c.args.a c.from_residual-in_err-store_word.result old (let p = err_from_is_err_and c.from_residual-in_err-store_word.result c.from_residual-in_err-store_word.ensures.1 in rw (p.1, p.2) (no-refusal c.in_err-store_word.field-0.0)) (inside-of c.args.a c.shape.result.pages old.chart.shape.pages pages c.if-page-shape.false) (c.in_ok-is_open.ensures.yes c.if-not-branch.false) (sym c.in-Some.ensures.value ∙ ap (λ (x : _). Some x) c.if-slot-t.false))
 
 own-done : (g : Over) (c : goal.In_ok-store_word g) → Refuses c.args.t c.args.a (Ok tt) c.args.self.now
 own-done g c =
     let old : Picture = record { chart = chart (g.B.Board.state c.self.inside.board); parts = c.self.inside.parts; owned = c.self.inside.owned; limit = c.self.inside.limit; mark = c.self.inside.mark } in
-    let pages = ap (λ (sh : Shape). sh.pages) c.shape.ensures in
-    subst (λ (p : Picture). Refuses c.args.t c.args.a (Ok tt) p) c.self.view_is (taken-own c.args.t c.args.a (Ok tt) old tt (inside-of c.args.a c.shape.result.pages old.chart.shape.pages pages c.if-page-shape.false) (c.in_ok-is_open.ensures.yes c.if-not-branch.false) (sym c.in-Some.ensures.value ∙ ap (λ (x : _). Some x) c.if-slot-t.false))
+    let pages = ap (λ (sh : Shape). sh.pages) c.shape.ensures in subst (λ (p : Picture). Refuses c.args.t c.args.a (Ok tt) p) c.self.view_is (taken-own c.args.t c.args.a (Ok tt) old tt (inside-of c.args.a c.shape.result.pages old.chart.shape.pages pages c.if-page-shape.false) (c.in_ok-is_open.ensures.yes c.if-not-branch.false) (sym c.in-Some.ensures.value ∙ ap (λ (x : _). Some x) c.if-slot-t.false))
 
 first-ended : (g : Over) (c : goal.After-from_residual-in_err-put_first g) → Refuses c.args.t c.args.a c.from_residual-in_err-put_first.result c.args.self.now
 first-ended g c =
     let old : Picture = record { chart = chart (g.B.Board.state c.self.inside.board); parts = c.self.inside.parts; owned = c.self.inside.owned; limit = c.self.inside.limit; mark = c.self.inside.mark } in
-    let pages = ap (λ (sh : Shape). sh.pages) c.shape.ensures in
-    let room : length old.owned.pairs < old.chart.shape.shadows = subst (λ (n : _). length old.owned.pairs < n) c.self.invariant.0.shadows (c.room.ensures.value.0 c.if-not-room.false) in
+    let pages = ap (λ (sh : Shape). sh.pages) c.shape.ensures in let room : length old.owned.pairs < old.chart.shape.shadows = subst (λ (n : _). length old.owned.pairs < n) c.self.invariant.0.shadows (c.room.ensures.value.0 c.if-not-room.false) in
     subst (λ (p : Picture). Refuses c.args.t c.args.a c.from_residual-in_err-put_first.result p) c.self.view_is (taken-first c.args.t c.args.a c.from_residual-in_err-put_first.result old (let p = err_from_is_err_and c.from_residual-in_err-put_first.result c.from_residual-in_err-put_first.ensures.1 in rw (p.1, p.2) (no-refusal c.in_err-put_first.field-0.0)) (inside-of c.args.a c.shape.result.pages old.chart.shape.pages pages c.if-page-shape.false) (c.in_ok-is_open.ensures.yes c.if-not-branch.false) (sym c.in_default.ensures.value) room)
 
 first-done : (g : Over) (c : goal.In_ok-put_first g) → Refuses c.args.t c.args.a (Ok tt) c.args.self.now
 first-done g c =
     let old : Picture = record { chart = chart (g.B.Board.state c.self.inside.board); parts = c.self.inside.parts; owned = c.self.inside.owned; limit = c.self.inside.limit; mark = c.self.inside.mark } in
-    let pages = ap (λ (sh : Shape). sh.pages) c.shape.ensures in
-    let room : length old.owned.pairs < old.chart.shape.shadows = subst (λ (n : _). length old.owned.pairs < n) c.self.invariant.0.shadows (c.room.ensures.value.0 c.if-not-room.false) in
+    let pages = ap (λ (sh : Shape). sh.pages) c.shape.ensures in let room : length old.owned.pairs < old.chart.shape.shadows = subst (λ (n : _). length old.owned.pairs < n) c.self.invariant.0.shadows (c.room.ensures.value.0 c.if-not-room.false) in
     subst (λ (p : Picture). Refuses c.args.t c.args.a (Ok tt) p) c.self.view_is (taken-first c.args.t c.args.a (Ok tt) old tt (inside-of c.args.a c.shape.result.pages old.chart.shape.pages pages c.if-page-shape.false) (c.in_ok-is_open.ensures.yes c.if-not-branch.false) (sym c.in_default.ensures.value) room)
 
 pub returns-then-not-powered-clause-range : goal.returns-then-not-powered-clause-range
@@ -303,66 +245,6 @@ returns-then-not-powered-clause-held g c = Refuses.held (off-answers g c)
 
 pub returns-then-not-powered-clause-full : goal.returns-then-not-powered-clause-full
 returns-then-not-powered-clause-full g c = Refuses.full (off-answers g c)
-
-pub returns-then-page-shape-clause-range : goal.returns-then-page-shape-clause-range
-returns-then-page-shape-clause-range g c = Refuses.range (past-answers g c)
-
-pub returns-then-page-shape-clause-closed : goal.returns-then-page-shape-clause-closed
-returns-then-page-shape-clause-closed g c = Refuses.closed (past-answers g c)
-
-pub returns-then-page-shape-clause-held : goal.returns-then-page-shape-clause-held
-returns-then-page-shape-clause-held g c = Refuses.held (past-answers g c)
-
-pub returns-then-page-shape-clause-full : goal.returns-then-page-shape-clause-full
-returns-then-page-shape-clause-full g c = Refuses.full (past-answers g c)
-
-pub returns-then-t-ge64-clause-range : goal.returns-then-t-ge64-clause-range
-returns-then-t-ge64-clause-range g c = Refuses.range (high-answers g c)
-
-pub returns-then-t-ge64-clause-closed : goal.returns-then-t-ge64-clause-closed
-returns-then-t-ge64-clause-closed g c = Refuses.closed (high-answers g c)
-
-pub returns-then-t-ge64-clause-held : goal.returns-then-t-ge64-clause-held
-returns-then-t-ge64-clause-held g c = Refuses.held (high-answers g c)
-
-pub returns-then-t-ge64-clause-full : goal.returns-then-t-ge64-clause-full
-returns-then-t-ge64-clause-full g c = Refuses.full (high-answers g c)
-
-pub returns-then-not-branch-clause-range : goal.returns-then-not-branch-clause-range
-returns-then-not-branch-clause-range g c = Refuses.range (shut-answers g c)
-
-pub returns-then-not-branch-clause-closed : goal.returns-then-not-branch-clause-closed
-returns-then-not-branch-clause-closed g c = Refuses.closed (shut-answers g c)
-
-pub returns-then-not-branch-clause-held : goal.returns-then-not-branch-clause-held
-returns-then-not-branch-clause-held g c = Refuses.held (shut-answers g c)
-
-pub returns-then-not-branch-clause-full : goal.returns-then-not-branch-clause-full
-returns-then-not-branch-clause-full g c = Refuses.full (shut-answers g c)
-
-pub returns-then-slot-t-clause-range : goal.returns-then-slot-t-clause-range
-returns-then-slot-t-clause-range g c = Refuses.range (kept-answers g c)
-
-pub returns-then-slot-t-clause-closed : goal.returns-then-slot-t-clause-closed
-returns-then-slot-t-clause-closed g c = Refuses.closed (kept-answers g c)
-
-pub returns-then-slot-t-clause-held : goal.returns-then-slot-t-clause-held
-returns-then-slot-t-clause-held g c = Refuses.held (kept-answers g c)
-
-pub returns-then-slot-t-clause-full : goal.returns-then-slot-t-clause-full
-returns-then-slot-t-clause-full g c = Refuses.full (kept-answers g c)
-
-pub returns-then-not-room-clause-range : goal.returns-then-not-room-clause-range
-returns-then-not-room-clause-range g c = Refuses.range (full-answers g c)
-
-pub returns-then-not-room-clause-closed : goal.returns-then-not-room-clause-closed
-returns-then-not-room-clause-closed g c = Refuses.closed (full-answers g c)
-
-pub returns-then-not-room-clause-held : goal.returns-then-not-room-clause-held
-returns-then-not-room-clause-held g c = Refuses.held (full-answers g c)
-
-pub returns-then-not-room-clause-full : goal.returns-then-not-room-clause-full
-returns-then-not-room-clause-full g c = Refuses.full (full-answers g c)
 
 pub returns-in_err-store_word-clause-range : goal.returns-in_err-store_word-clause-range
 returns-in_err-store_word-clause-range g c = Refuses.range (own-ended g c)
@@ -415,65 +297,8 @@ returns-clause-full g c = Refuses.full (first-done g c)
 pub returns-then-not-powered-clause-cut : goal.returns-then-not-powered-clause-cut
 returns-then-not-powered-clause-cut g c = lit-cut c.args.self.now
 
-pub returns-then-page-shape-clause-cut : goal.returns-then-page-shape-clause-cut
-returns-then-page-shape-clause-cut g c = lit-cut c.args.self.now
-
-pub returns-then-page-shape-clause-below : goal.returns-then-page-shape-clause-below
-returns-then-page-shape-clause-below g c = below-refused c.args.t c.args.a Range c.args.self.now refl (λ x. x)
-
-pub returns-then-t-ge64-clause-cut : goal.returns-then-t-ge64-clause-cut
-returns-then-t-ge64-clause-cut g c = lit-cut c.args.self.now
-
-pub returns-then-t-ge64-clause-below : goal.returns-then-t-ge64-clause-below
-returns-then-t-ge64-clause-below g c = below-refused c.args.t c.args.a Closed c.args.self.now refl (λ x. x)
-
-pub returns-then-not-branch-clause-cut : goal.returns-then-not-branch-clause-cut
-returns-then-not-branch-clause-cut g c = lit-cut c.args.self.now
-
-pub returns-then-not-branch-clause-below : goal.returns-then-not-branch-clause-below
-returns-then-not-branch-clause-below g c = below-refused c.args.t c.args.a Closed c.args.self.now refl (λ x. x)
-
-pub returns-then-slot-t-clause-cut : goal.returns-then-slot-t-clause-cut
-returns-then-slot-t-clause-cut g c = lit-cut c.args.self.now
-
-pub returns-then-slot-t-clause-below : goal.returns-then-slot-t-clause-below
-returns-then-slot-t-clause-below g c = below-refused c.args.t c.args.a (Held c.in-Some.slot) c.args.self.now refl (λ x. x)
-
-pub returns-then-not-room-clause-cut : goal.returns-then-not-room-clause-cut
-returns-then-not-room-clause-cut g c = lit-cut c.args.self.now
-
-pub returns-then-not-room-clause-below : goal.returns-then-not-room-clause-below
-returns-then-not-room-clause-below g c = below-refused c.args.t c.args.a Full c.args.self.now refl (λ x. x)
-
-pub returns-in_err-is_open-clause-step : goal.returns-in_err-is_open-clause-step
-returns-in_err-is_open-clause-step g c = absurd (false≢true (sym c.in_err-is_open.ensures.off ∙ sym c.if-not-powered.ensures))
-
-pub returns-in_err-is_open-clause-off : goal.returns-in_err-is_open-clause-off
-returns-in_err-is_open-clause-off g c = absurd (false≢true (sym c.in_err-is_open.ensures.off ∙ sym c.if-not-powered.ensures))
-
-pub returns-in_err-is_open-clause-cut : goal.returns-in_err-is_open-clause-cut
-returns-in_err-is_open-clause-cut g c = absurd (false≢true (sym c.in_err-is_open.ensures.off ∙ sym c.if-not-powered.ensures))
-
-pub returns-in_err-is_open-clause-range : goal.returns-in_err-is_open-clause-range
-returns-in_err-is_open-clause-range g c = absurd (false≢true (sym c.in_err-is_open.ensures.off ∙ sym c.if-not-powered.ensures))
-
-pub returns-in_err-is_open-clause-closed : goal.returns-in_err-is_open-clause-closed
-returns-in_err-is_open-clause-closed g c = absurd (false≢true (sym c.in_err-is_open.ensures.off ∙ sym c.if-not-powered.ensures))
-
-pub returns-in_err-is_open-clause-held : goal.returns-in_err-is_open-clause-held
-returns-in_err-is_open-clause-held g c = absurd (false≢true (sym c.in_err-is_open.ensures.off ∙ sym c.if-not-powered.ensures))
-
-pub returns-in_err-is_open-clause-full : goal.returns-in_err-is_open-clause-full
-returns-in_err-is_open-clause-full g c = absurd (false≢true (sym c.in_err-is_open.ensures.off ∙ sym c.if-not-powered.ensures))
-
-pub returns-in_err-is_open-clause-bad : goal.returns-in_err-is_open-clause-bad
-returns-in_err-is_open-clause-bad g c = absurd (false≢true (sym c.in_err-is_open.ensures.off ∙ sym c.if-not-powered.ensures))
-
-pub returns-in_err-is_open-clause-complete : goal.returns-in_err-is_open-clause-complete
-returns-in_err-is_open-clause-complete g c = absurd (false≢true (sym c.in_err-is_open.ensures.off ∙ sym c.if-not-powered.ensures))
-
-pub returns-in_err-is_open-clause-below : goal.returns-in_err-is_open-clause-below
-returns-in_err-is_open-clause-below g c = absurd (false≢true (sym c.in_err-is_open.ensures.off ∙ sym c.if-not-powered.ensures))
+pub returns-in_err-is_open : goal.returns-in_err-is_open
+returns-in_err-is_open g c = absurd (false≢true (sym c.in_err-is_open.ensures.off ∙ sym c.if-not-powered.ensures))
 
 pub returns-then-not-powered-clause-bad : goal.returns-then-not-powered-clause-bad
 returns-then-not-powered-clause-bad g c = off-bad c.args.self.now
@@ -483,51 +308,6 @@ returns-then-not-powered-clause-off g c = off-both c.args.self.now (subst (λ (p
 
 pub returns-then-not-powered-clause-complete : goal.returns-then-not-powered-clause-complete
 returns-then-not-powered-clause-complete g c = off-complete c.args.self.now (subst (λ (p : Picture). p.chart.on ≡ false) c.self.view_is (sym c.if-not-powered.ensures))
-
-pub returns-then-page-shape-clause-bad : goal.returns-then-page-shape-clause-bad
-returns-then-page-shape-clause-bad g c = lit-bad Range c.args.self.now (λ x. x)
-
-pub returns-then-page-shape-clause-off : goal.returns-then-page-shape-clause-off
-returns-then-page-shape-clause-off g c = lit-off Range c.args.self.now (λ x. x) (subst (λ (p : Picture). IsTrue p.chart.on) c.self.view_is (sym c.if-not-powered.ensures))
-
-pub returns-then-page-shape-clause-complete : goal.returns-then-page-shape-clause-complete
-returns-then-page-shape-clause-complete g c = lit-complete Range c.args.self.now (λ x. x)
-
-pub returns-then-t-ge64-clause-bad : goal.returns-then-t-ge64-clause-bad
-returns-then-t-ge64-clause-bad g c = lit-bad Closed c.args.self.now (λ x. x)
-
-pub returns-then-t-ge64-clause-off : goal.returns-then-t-ge64-clause-off
-returns-then-t-ge64-clause-off g c = lit-off Closed c.args.self.now (λ x. x) (subst (λ (p : Picture). IsTrue p.chart.on) c.self.view_is (sym c.if-not-powered.ensures))
-
-pub returns-then-t-ge64-clause-complete : goal.returns-then-t-ge64-clause-complete
-returns-then-t-ge64-clause-complete g c = lit-complete Closed c.args.self.now (λ x. x)
-
-pub returns-then-not-branch-clause-bad : goal.returns-then-not-branch-clause-bad
-returns-then-not-branch-clause-bad g c = lit-bad Closed c.args.self.now (λ x. x)
-
-pub returns-then-not-branch-clause-off : goal.returns-then-not-branch-clause-off
-returns-then-not-branch-clause-off g c = lit-off Closed c.args.self.now (λ x. x) (subst (λ (p : Picture). IsTrue p.chart.on) c.self.view_is (sym c.if-not-powered.ensures))
-
-pub returns-then-not-branch-clause-complete : goal.returns-then-not-branch-clause-complete
-returns-then-not-branch-clause-complete g c = lit-complete Closed c.args.self.now (λ x. x)
-
-pub returns-then-slot-t-clause-bad : goal.returns-then-slot-t-clause-bad
-returns-then-slot-t-clause-bad g c = lit-bad (Held c.in-Some.slot) c.args.self.now (λ x. x)
-
-pub returns-then-slot-t-clause-off : goal.returns-then-slot-t-clause-off
-returns-then-slot-t-clause-off g c = lit-off (Held c.in-Some.slot) c.args.self.now (λ x. x) (subst (λ (p : Picture). IsTrue p.chart.on) c.self.view_is (sym c.if-not-powered.ensures))
-
-pub returns-then-slot-t-clause-complete : goal.returns-then-slot-t-clause-complete
-returns-then-slot-t-clause-complete g c = lit-complete (Held c.in-Some.slot) c.args.self.now (λ x. x)
-
-pub returns-then-not-room-clause-bad : goal.returns-then-not-room-clause-bad
-returns-then-not-room-clause-bad g c = lit-bad Full c.args.self.now (λ x. x)
-
-pub returns-then-not-room-clause-off : goal.returns-then-not-room-clause-off
-returns-then-not-room-clause-off g c = lit-off Full c.args.self.now (λ x. x) (subst (λ (p : Picture). IsTrue p.chart.on) c.self.view_is (sym c.if-not-powered.ensures))
-
-pub returns-then-not-room-clause-complete : goal.returns-then-not-room-clause-complete
-returns-then-not-room-clause-complete g c = lit-complete Full c.args.self.now (λ x. x)
 
 pub returns-in-Some-clause-off : goal.returns-in-Some-clause-off
 returns-in-Some-clause-off g c = done-off (g.B.Board.state c.store_word.new.board).on c.in_ok-store_word.ensures.power
@@ -555,25 +335,21 @@ returns-clause-bad g c = done-bad c.args.self.now.chart (chart (g.B.Board.state 
 
 pub returns-in_err-store_word-clause-off : goal.returns-in_err-store_word-clause-off
 returns-in_err-store_word-clause-off g c =
-    let p = err_from_is_err_and c.from_residual-in_err-store_word.result c.from_residual-in_err-store_word.ensures.1 in
-    rw (p.1, p.2) (ended-off c.in_err-store_word.field-0.0 (g.B.Board.state c.store_word.new.board).on c.in_err-store_word.ensures.power)
+    let p = err_from_is_err_and c.from_residual-in_err-store_word.result c.from_residual-in_err-store_word.ensures.1 in rw (p.1, p.2) (ended-off c.in_err-store_word.field-0.0 (g.B.Board.state c.store_word.new.board).on c.in_err-store_word.ensures.power)
 
 pub returns-in_err-store_word-clause-bad : goal.returns-in_err-store_word-clause-bad
 returns-in_err-store_word-clause-bad g c is =
-    let p = err_from_is_err_and c.from_residual-in_err-store_word.result c.from_residual-in_err-store_word.ensures.1 in
-    let bad = subst (λ (r : _). IsErrOf r Bad) (p.1 ∙ ap (λ (f : _). Err f) p.2) is in
+    let p = err_from_is_err_and c.from_residual-in_err-store_word.result c.from_residual-in_err-store_word.ensures.1 in let bad = subst (λ (r : _). IsErrOf r Bad) (p.1 ∙ ap (λ (f : _). Err f) p.2) is in
     subst (λ (p : Picture). HasFailed p.chart (chart (g.B.Board.state c.store_word.new.board))) c.self.view_is
     (c.in_err-store_word.ensures.stops (ended-bad c.in_err-store_word.field-0.0 bad)).1
 
 pub returns-in_err-put_first-clause-off : goal.returns-in_err-put_first-clause-off
 returns-in_err-put_first-clause-off g c =
-    let p = err_from_is_err_and c.from_residual-in_err-put_first.result c.from_residual-in_err-put_first.ensures.1 in
-    rw (p.1, p.2) (ended-off c.in_err-put_first.field-0.0 (g.B.Board.state c.put_first.new.board).on c.in_err-put_first.ensures.power)
+    let p = err_from_is_err_and c.from_residual-in_err-put_first.result c.from_residual-in_err-put_first.ensures.1 in rw (p.1, p.2) (ended-off c.in_err-put_first.field-0.0 (g.B.Board.state c.put_first.new.board).on c.in_err-put_first.ensures.power)
 
 pub returns-in_err-put_first-clause-bad : goal.returns-in_err-put_first-clause-bad
 returns-in_err-put_first-clause-bad g c is =
-    let p = err_from_is_err_and c.from_residual-in_err-put_first.result c.from_residual-in_err-put_first.ensures.1 in
-    let bad = subst (λ (r : _). IsErrOf r Bad) (p.1 ∙ ap (λ (f : _). Err f) p.2) is in
+    let p = err_from_is_err_and c.from_residual-in_err-put_first.result c.from_residual-in_err-put_first.ensures.1 in let bad = subst (λ (r : _). IsErrOf r Bad) (p.1 ∙ ap (λ (f : _). Err f) p.2) is in
     subst (λ (p : Picture). HasFailed p.chart (chart (g.B.Board.state c.put_first.new.board))) c.self.view_is
     (c.in_err-put_first.ensures.stops (ended-bad c.in_err-put_first.field-0.0 bad)).1
 
@@ -585,8 +361,7 @@ put_first-requires-clause-ready g c = record { on = sym c.if-not-powered.ensures
 
 pub store_word-requires-clause-page : goal.store_word-requires-clause-page
 store_word-requires-clause-page g c =
-    let pages = ap (λ (sh : Shape). sh.pages) c.shape.ensures in
-    subst (λ (n : ℕ). c.args.a / 32 < n) pages c.if-page-shape.false
+    let pages = ap (λ (sh : Shape). sh.pages) c.shape.ensures in subst (λ (n : ℕ). c.args.a / 32 < n) pages c.if-page-shape.false
 
 pub is_open-requires-clause-sound : goal.is_open-requires-clause-sound
 is_open-requires-clause-sound g c = c.self.invariant.0.sound
@@ -601,8 +376,7 @@ pub put_first-requires-clause-may : goal.put_first-requires-clause-may
 put_first-requires-clause-may g c =
     let on : IsTrue (g.B.Board.state c.self.inside.board).on = sym c.if-not-powered.ensures in
     let old = chart (g.B.Board.state c.self.inside.board) in
-    let pages = ap (λ (sh : Shape). sh.pages) c.shape.ensures in
-    record {
+    let pages = ap (λ (sh : Shape). sh.pages) c.shape.ensures in record {
       page = subst (λ (n : ℕ). c.args.a / 32 < n) pages c.if-page-shape.false;
       low = c.if-t-ge64.false;
       opened = (subst (λ (v : ℕ). c.args.t < slots_of v) (sym c.self.invariant.0.version) c.if-t-ge64.false, c.in_ok-is_open.ensures.yes c.if-not-branch.false);
@@ -610,4 +384,100 @@ put_first-requires-clause-may g c =
       limit = subst (λ (n : ℕ). c.self.inside.owned.limit ≤ n) c.self.invariant.0.shadows (same-le c.self.inside.owned.limit);
       room = c.room.ensures.value.0 c.if-not-room.false;
       free = sym c.in_default.ensures.value;
+    }
+
+pub returns-then-page-shape : goal.returns-then-page-shape
+returns-then-page-shape g c =
+    record {
+      step = λ m stood. let old = chart (g.B.Board.state c.self.inside.board) in
+          let stands : Stands old m = subst (λ (p : Picture). Stands p.chart m) (sym c.self.view_is) stood in
+          let pages = ap (λ (sh : Shape). sh.pages) c.shape.ensures in (m, (beyond old m c.args.a stands (omega arith), refl), stood);
+      off = lit-off Range c.args.self.now (λ x. x) (subst (λ (p : Picture). IsTrue p.chart.on) c.self.view_is (sym c.if-not-powered.ensures));
+      cut = lit-cut c.args.self.now;
+      range = Refuses.range (past-answers g c);
+      closed = Refuses.closed (past-answers g c);
+      held = Refuses.held (past-answers g c);
+      full = Refuses.full (past-answers g c);
+      bad = lit-bad Range c.args.self.now (λ x. x);
+      complete = lit-complete Range c.args.self.now (λ x. x);
+      below = below-refused c.args.t c.args.a Range c.args.self.now refl (λ x. x);
+    }
+
+pub returns-then-t-ge64 : goal.returns-then-t-ge64
+returns-then-t-ge64 g c =
+    record {
+      step = λ m stood. let old = chart (g.B.Board.state c.self.inside.board) in
+          let stands : Stands old m = subst (λ (p : Picture). Stands p.chart m) (sym c.self.view_is) stood in
+          let pages = ap (λ (sh : Shape). sh.pages) c.shape.ensures in let lt : c.args.a / 32 < old.shape.pages = omega arith in
+          let owned = c.self.invariant.0.owned (sym c.if-not-powered.ensures) in
+          (m, (inside old m c.args.a stands lt, closed-past old m c.args.t (Stands.holds stands) c.if-t-ge64.true, refl), stood);
+      off = lit-off Closed c.args.self.now (λ x. x) (subst (λ (p : Picture). IsTrue p.chart.on) c.self.view_is (sym c.if-not-powered.ensures));
+      cut = lit-cut c.args.self.now;
+      range = Refuses.range (high-answers g c);
+      closed = Refuses.closed (high-answers g c);
+      held = Refuses.held (high-answers g c);
+      full = Refuses.full (high-answers g c);
+      bad = lit-bad Closed c.args.self.now (λ x. x);
+      complete = lit-complete Closed c.args.self.now (λ x. x);
+      below = below-refused c.args.t c.args.a Closed c.args.self.now refl (λ x. x);
+    }
+
+pub returns-then-not-branch : goal.returns-then-not-branch
+returns-then-not-branch g c =
+    record {
+      step = λ m stood. let old = chart (g.B.Board.state c.self.inside.board) in
+          let stands : Stands old m = subst (λ (p : Picture). Stands p.chart m) (sym c.self.view_is) stood in
+          let pages = ap (λ (sh : Shape). sh.pages) c.shape.ensures in let lt : c.args.a / 32 < old.shape.pages = omega arith in
+          let owned = c.self.invariant.0.owned (sym c.if-not-powered.ensures) in
+          let ge = c.if-t-ge64.false in
+          (m, (inside old m c.args.a stands lt, closed-inactive old m c.args.t (Stands.holds stands) (omega arith) (c.in_ok-is_open.ensures.never c.if-not-branch.true), refl), stood);
+      off = lit-off Closed c.args.self.now (λ x. x) (subst (λ (p : Picture). IsTrue p.chart.on) c.self.view_is (sym c.if-not-powered.ensures));
+      cut = lit-cut c.args.self.now;
+      range = Refuses.range (shut-answers g c);
+      closed = Refuses.closed (shut-answers g c);
+      held = Refuses.held (shut-answers g c);
+      full = Refuses.full (shut-answers g c);
+      bad = lit-bad Closed c.args.self.now (λ x. x);
+      complete = lit-complete Closed c.args.self.now (λ x. x);
+      below = below-refused c.args.t c.args.a Closed c.args.self.now refl (λ x. x);
+    }
+
+pub returns-then-slot-t : goal.returns-then-slot-t
+returns-then-slot-t g c =
+    record {
+      step = λ m stood. let old = chart (g.B.Board.state c.self.inside.board) in
+          let x = meets g (goal.at.returns-then-slot-t g c).After-owner m (subst (λ (p : Picture). Stands p.chart m) (sym c.self.view_is) stood) in
+          (m, (inside old m c.args.a x.stands x.page, is-open c.args.t c.args.a old m c.self.inside.owned x, owner-pairs old m c.self.inside.owned (c.args.a / 32) x.stands x.owned x.page ∙ sym c.in-Some.ensures.value, c.if-slot-t.true, refl), stood);
+      off = lit-off (Held c.in-Some.slot) c.args.self.now (λ x. x) (subst (λ (p : Picture). IsTrue p.chart.on) c.self.view_is (sym c.if-not-powered.ensures));
+      cut = lit-cut c.args.self.now;
+      range = Refuses.range (kept-answers g c);
+      closed = Refuses.closed (kept-answers g c);
+      held = Refuses.held (kept-answers g c);
+      full = Refuses.full (kept-answers g c);
+      bad = lit-bad (Held c.in-Some.slot) c.args.self.now (λ x. x);
+      complete = lit-complete (Held c.in-Some.slot) c.args.self.now (λ x. x);
+      below = below-refused c.args.t c.args.a (Held c.in-Some.slot) c.args.self.now refl (λ x. x);
+    }
+
+pub returns-then-not-room : goal.returns-then-not-room
+returns-then-not-room g c =
+    record {
+      step = λ m stood. let old = chart (g.B.Board.state c.self.inside.board) in
+          let x = meets g (goal.at.returns-then-not-room g c).After-owner m (subst (λ (p : Picture). Stands p.chart m) (sym c.self.view_is) stood) in
+          let n = counted-pairs old m c.self.inside.owned x.stands c.owner.ensures.whole x.owned in
+          let all = Stands.holds x.stands in
+          let shadows = all.shadows in
+          let limit = c.self.invariant.0.shadows in
+          let few = c.owner.ensures.whole.few in
+          let full : length c.self.inside.owned.pairs ≡ c.self.inside.owned.limit = full-of (length c.self.inside.owned.pairs) c.self.inside.owned.limit c.room.result c.room.ensures.value c.if-not-room.true few in
+          (m, (inside old m c.args.a x.stands x.page, is-open c.args.t c.args.a old m c.self.inside.owned x, owner-pairs old m c.self.inside.owned (c.args.a / 32) x.stands x.owned x.page ∙ sym c.in_default.ensures.value, omega arith, refl), stood);
+      off = lit-off Full c.args.self.now (λ x. x) (subst (λ (p : Picture). IsTrue p.chart.on) c.self.view_is (sym c.if-not-powered.ensures));
+      cut = lit-cut c.args.self.now;
+      range = Refuses.range (full-answers g c);
+      closed = Refuses.closed (full-answers g c);
+      held = Refuses.held (full-answers g c);
+      full = Refuses.full (full-answers g c);
+      bad = lit-bad Full c.args.self.now (λ x. x);
+      complete = lit-complete Full c.args.self.now (λ x. x);
+      below = below-refused c.args.t c.args.a Full c.args.self.now refl (λ x. x);
     }
