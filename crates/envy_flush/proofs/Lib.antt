@@ -1,10 +1,12 @@
 pub mod AgreeLemmas
 pub mod AvailLemmas
+pub mod BringAnswers
 pub mod BudgetLemmas
 pub mod CleanLemmas
 pub mod CountLemmas
 pub mod ElsewhereLemmas
 pub mod EndLemmas
+pub mod FlushAnswers
 pub mod FlushLemmas
 pub mod JobLemmas
 pub mod KeptLemmas

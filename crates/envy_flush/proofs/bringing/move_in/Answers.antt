@@ -1,5 +1,4 @@
-use Rattle.std.proofs.Common.{refl}
-use Rattle.std.proofs.Common.{Some}
+use Rattle.std.proofs.Common.{refl, Some}
 use Rattle.envy_base.specs.declared.fields.Place.TheVariants.{Frame}
 use Rattle.envy_map.specs.Fields.{chart}
 use Rattle.envy_map.specs.Writes.{with_place}
@@ -28,3 +27,21 @@ returns-in_err-move_to_frame-clause-counted g c = Counted-put _ _ (with_place c.
 
 pub returns-clause-counted : goal.returns-clause-counted
 returns-clause-counted g c = Counted-put _ _ (with_place c.args.page (Some (Frame c.args.frame))) _ c.move_to_frame.ensures.writes
+
+pub move_to_frame-requires-clause-sound : goal.move_to_frame-requires-clause-sound
+move_to_frame-requires-clause-sound g c = Near.sound c.requires.near
+
+pub move_to_frame-requires-clause-page : goal.move_to_frame-requires-clause-page
+move_to_frame-requires-clause-page g c = Near.page c.requires.near
+
+pub move_to_frame-requires-clause-frame : goal.move_to_frame-requires-clause-frame
+move_to_frame-requires-clause-frame g c = Near.frame c.requires.near
+
+pub move_to_frame-requires-clause-place : goal.move_to_frame-requires-clause-place
+move_to_frame-requires-clause-place g c = c.requires.word
+
+pub move_to_frame-requires-clause-unnamed : goal.move_to_frame-requires-clause-unnamed
+move_to_frame-requires-clause-unnamed g c on = Near.unnamed c.requires.near
+
+pub move_to_frame-requires-clause-copy : goal.move_to_frame-requires-clause-copy
+move_to_frame-requires-clause-copy g c on = c.requires.copy

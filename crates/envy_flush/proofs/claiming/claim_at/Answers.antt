@@ -1,4 +1,4 @@
-use Rattle.std.proofs.Common.{◌≡◌, ◌<◌, ◌+◌, inl, refl, sym, ap, subst, ◌∙◌, List, ℕ, get_or, set}
+use Rattle.std.proofs.Common.{◌≡◌, ◌<◌, ◌+◌, inl, refl, sym, ap, subst, ◌∙◌, List, ℕ, get_or, set, ◌-◌}
 use Rattle.envy_map.specs.Fields.{Chart, chart}
 use Rattle.envy_layout.specs.Same.{Same, Stays, Framed}
 use Rattle.envy_layout.specs.Sound.{IsPlaced}
@@ -8,6 +8,7 @@ use Rattle.envy_table.proofs.HitLemmas.{Rests-refl}
 use Rattle.envy_flush.proofs.Leaving.{leaves_off}
 use Rattle.envy_flush.proofs.CountLemmas.{Counting-still}
 use Rattle.envy_flush.proofs.AgreeLemmas.{Agrees-claimed, Granted-claimed, IsLastAt-claimed, Fits-moved, claimed-sizes, sizes_of}
+use Rattle.envy_base.specs.declared.shape.Shape.{Shape}
 use Rattle.envy_flush.proofs.claiming.claim_at.Goals as goal
 
 pub returns-clause-leaves : goal.returns-clause-leaves
@@ -70,3 +71,9 @@ claim-requires-clause-ready g c on =
     let r = c.requires.ready in
     let placed : IsPlaced old.shape old.fields.positions c.segment_at.result = (c.args.position, c.requires.position, ap (λ (xs : List ℕ). get_or xs c.args.position 0) (sym r.agrees.pool.positions) ∙ sym c.segment_at.ensures.segment) in
     record { sound = r.sound; agrees = r.agrees.pool; usable = inl placed }
+
+pub segment_at-requires : goal.segment_at-requires
+segment_at-requires g c = subst (λ (sh : Shape). c.args.position < sh.segments - 1) (sym c.requires.ready.fits.pool) c.requires.position
+
+pub claim-requires-clause-shape : goal.claim-requires-clause-shape
+claim-requires-clause-shape g c = c.requires.ready.fits.pool

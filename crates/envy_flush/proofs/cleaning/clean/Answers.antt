@@ -1,4 +1,4 @@
-use Rattle.std.proofs.Common.{◌≡◌, ◌∙◌, ◌+◌, inr, sym, ap, subst, arith}
+use Rattle.std.proofs.Common.{◌≡◌, ◌∙◌, ◌+◌, inr, sym, ap, subst, arith, Err}
 use Rattle.envy_base.specs.declared.shape.Shape.{Shape}
 use Rattle.envy_map.specs.Fields.{Chart, chart}
 use Rattle.envy_layout.specs.Same.{Same, Stays, Framed}
@@ -8,8 +8,10 @@ use Rattle.envy_reloc.specs.Cleaning.{Cleans}
 use Rattle.envy_flush.specs.declared.parts.Parts.{Parts}
 use Rattle.envy_reloc.proofs.CleanLemmas.{cleans-ended, room-cleaned}
 use Rattle.envy_flush.proofs.Leaving.{leaves_then}
-use Rattle.envy_flush.proofs.cleaning.clean.Goals as goal
+use Rattle.envy_base.specs.declared.board.Trouble.{Trouble}
+use Rattle.envy_flush.proofs.FlushAnswers.{off-after, off-if, off-bad, err-after, err-if, err-bad, ok-bad, page-left, position-left, keeps-off, free-idle}
 use Rattle.envy_layout.proofs.Sames.{same_two as Same-two}
+use Rattle.envy_flush.proofs.cleaning.clean.Goals as goal
 
 pub claim_at-requires-clause-ready : goal.claim_at-requires-clause-ready
 claim_at-requires-clause-ready g c =
@@ -73,3 +75,68 @@ returns-clause-gets g c =
       );
       ends = (inr (ap (λ (z : Chart). z.fields.job) f.changes.fields ∙ idle), inr (ap (λ (z : Parts). z.stages) parts ∙ w.whole.finishes.stages));
     }
+
+pub run_clean-requires-clause-ready : goal.run_clean-requires-clause-ready
+run_clean-requires-clause-ready g c = c.requires.ready
+
+pub run_clean-requires-clause-rest : goal.run_clean-requires-clause-rest
+run_clean-requires-clause-rest g c = c.requires.rest
+
+pub run_clean-requires-clause-position : goal.run_clean-requires-clause-position
+run_clean-requires-clause-position g c = c.requires.position
+
+pub run_clean-requires-clause-aside : goal.run_clean-requires-clause-aside
+run_clean-requires-clause-aside g c = c.requires.aside
+
+pub run_clean-requires-clause-dead : goal.run_clean-requires-clause-dead
+run_clean-requires-clause-dead g c = c.requires.dead
+
+pub returns-in_err-run_clean-clause-same : goal.returns-in_err-run_clean-clause-same
+returns-in_err-run_clean-clause-same g c = c.run_clean.ensures.same
+
+pub returns-in_err-run_clean-clause-leaves : goal.returns-in_err-run_clean-clause-leaves
+returns-in_err-run_clean-clause-leaves g c = c.run_clean.ensures.leaves
+
+pub returns-in_err-run_clean-clause-keeps : goal.returns-in_err-run_clean-clause-keeps
+returns-in_err-run_clean-clause-keeps g c =
+    let e = c.run_clean.ensures in
+    record { frames = ap (λ (z : Parts). z.frames) e.parts; here = e.here; flushes = ap (λ (z : Parts). z.flushes) e.parts }
+
+pub returns-in_err-run_clean-clause-gets : goal.returns-in_err-run_clean-clause-gets
+returns-in_err-run_clean-clause-gets g c = err-if c.from_residual.result _ c.in_err-run_clean.field-0.0 c.from_residual.ensures.1
+
+pub returns-in_err-run_clean-clause-stops : goal.returns-in_err-run_clean-clause-stops
+returns-in_err-run_clean-clause-stops g c is = c.in_err-run_clean.ensures.stops (ap (λ (e : Trouble). Err e) (err-bad c.from_residual.result c.in_err-run_clean.field-0.0 c.from_residual.ensures.1 is))
+
+pub returns-in_err-run_clean-clause-power : goal.returns-in_err-run_clean-clause-power
+returns-in_err-run_clean-clause-power g c = err-after (Unit {0}) c.from_residual.result (g.B.Board.state c.run_clean.new.board).on c.in_err-run_clean.field-0.0 c.in_err-run_clean.ensures.power c.from_residual.ensures.1
+
+pub claim_at-requires-clause-position : goal.claim_at-requires-clause-position
+claim_at-requires-clause-position g c = position-left _ 2 c.args.position (chart (g.B.Board.state c.args.board.now)) (chart (g.B.Board.state c.run_clean.new.board)) c.run_clean.ensures.same c.requires.position
+
+pub claim_at-requires-clause-page : goal.claim_at-requires-clause-page
+claim_at-requires-clause-page g c = page-left _ 2 c.args.page (chart (g.B.Board.state c.args.board.now)) (chart (g.B.Board.state c.run_clean.new.board)) c.run_clean.ensures.same c.requires.page
+
+pub claim_at-requires-clause-free : goal.claim_at-requires-clause-free
+claim_at-requires-clause-free g c = free-idle _ _ c.in_ok-run_clean.ensures.cleans.whole.finishes.job
+
+pub returns-in_err-claim_at-clause-keeps : goal.returns-in_err-claim_at-clause-keeps
+returns-in_err-claim_at-clause-keeps g c =
+    let e = c.run_clean.ensures in
+    let f = c.claim_at.ensures in
+    keeps-off (chart (g.B.Board.state c.args.board.now)) (chart (g.B.Board.state c.claim_at.new.board)) c.args.parts.now c.claim_at.new.parts c.in_err-claim_at.ensures.power (ap (λ (z : Parts). z.frames) f.parts ∙ ap (λ (z : Parts). z.frames) e.parts) (ap (λ (z : Parts). z.flushes) f.parts ∙ ap (λ (z : Parts). z.flushes) e.parts)
+
+pub returns-in_err-claim_at-clause-gets : goal.returns-in_err-claim_at-clause-gets
+returns-in_err-claim_at-clause-gets g c = off-if c.from_residual-in_err-claim_at.result _ c.from_residual-in_err-claim_at.ensures.1
+
+pub returns-in_err-claim_at-clause-stops : goal.returns-in_err-claim_at-clause-stops
+returns-in_err-claim_at-clause-stops g c is = off-bad c.from_residual-in_err-claim_at.result c.from_residual-in_err-claim_at.ensures.1 is
+
+pub returns-in_err-claim_at-clause-power : goal.returns-in_err-claim_at-clause-power
+returns-in_err-claim_at-clause-power g c = off-after c.from_residual-in_err-claim_at.result (g.B.Board.state c.claim_at.new.board).on c.in_err-claim_at.ensures.power c.from_residual-in_err-claim_at.ensures.1
+
+pub returns-clause-stops : goal.returns-clause-stops
+returns-clause-stops g c is = ok-bad c.in_ok-claim_at.field-0 is
+
+pub returns-clause-power : goal.returns-clause-power
+returns-clause-power g c = c.in_ok-claim_at.ensures.power

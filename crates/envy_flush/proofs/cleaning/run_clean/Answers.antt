@@ -1,4 +1,4 @@
-use Rattle.std.proofs.Common.{◌≡◌, ◌∙◌, ◌+◌, ℕ, sym, ap, subst, arith}
+use Rattle.std.proofs.Common.{◌≡◌, ◌∙◌, ◌+◌, ℕ, sym, ap, subst, arith, ◌≤◌}
 use Rattle.envy_base.specs.State.{IsBoard}
 use Rattle.envy_base.specs.declared.shape.Shape.{Shape}
 use Rattle.envy_map.specs.Fields.{Chart, chart}
@@ -8,9 +8,12 @@ use Rattle.envy_flush.specs.declared.parts.Parts.{Parts}
 use Rattle.envy_flush.proofs.BudgetLemmas.{Budget-begun}
 use Rattle.envy_flush.proofs.FlushLemmas.{on-ok}
 use Rattle.envy_flush.proofs.Leaving.{leaves_then, counts_bad_then}
-use Rattle.envy_flush.proofs.cleaning.run_clean.Goals as goal
+use Rattle.envy_base.specs.Shape.{IsShape}
+use Rattle.envy_layout.proofs.Sames.{same_within, same_two as Same-two}
+use Rattle.envy_flush.proofs.FlushAnswers.{unpowered, off-after, off-if, off-bad, ready-left}
+use Rattle.envy_flush.proofs.CleanLemmas.{parts-begun, parts-cleaned}
 use Rattle.envy_reloc.proofs.CleanLemmas.{cleans-begun}
-use Rattle.envy_layout.proofs.Sames.{same_two as Same-two}
+use Rattle.envy_flush.proofs.cleaning.run_clean.Goals as goal
 
 pub finish_clean-requires-clause-budget : goal.finish_clean-requires-clause-budget
 finish_clean-requires-clause-budget g c =
@@ -67,3 +70,51 @@ returns-clause-stops g c is =
       stops = record { begun = chart (g.B.Board.state c.begin_clean.new.board); plan = c.begin_clean.new.parts; begins = e.cleans; stops = f.stops is };
       bads = counts_bad_then (Counted.bads (Stays.counted (Same.stays e.same))) (Counted.bads (Stays.counted (Same.stays f.same))) (f.bad is);
     }
+
+pub begin_clean-requires-clause-ready : goal.begin_clean-requires-clause-ready
+begin_clean-requires-clause-ready g c = c.requires.ready
+
+pub begin_clean-requires-clause-idle : goal.begin_clean-requires-clause-idle
+begin_clean-requires-clause-idle g c = c.requires.rest.0
+
+pub begin_clean-requires-clause-position : goal.begin_clean-requires-clause-position
+begin_clean-requires-clause-position g c = c.requires.position
+
+pub begin_clean-requires-clause-aside : goal.begin_clean-requires-clause-aside
+begin_clean-requires-clause-aside g c = c.requires.aside
+
+pub returns-in_err-begin_clean-clause-same : goal.returns-in_err-begin_clean-clause-same
+returns-in_err-begin_clean-clause-same g c = let p = (g.B.Board.state c.args.board.now).shape.rows in same_within (p + 5) 2 (chart (g.B.Board.state c.args.board.now)) (chart (g.B.Board.state c.begin_clean.new.board)) c.begin_clean.ensures.same
+
+pub returns-in_err-begin_clean-clause-leaves : goal.returns-in_err-begin_clean-clause-leaves
+returns-in_err-begin_clean-clause-leaves g c = c.begin_clean.ensures.leaves
+
+pub returns-in_err-begin_clean-clause-here : goal.returns-in_err-begin_clean-clause-here
+returns-in_err-begin_clean-clause-here g c on = unpowered (g.B.Board.state c.begin_clean.new.board).on c.in_err-begin_clean.ensures.power on
+
+pub returns-in_err-begin_clean-clause-parts : goal.returns-in_err-begin_clean-clause-parts
+returns-in_err-begin_clean-clause-parts g c = parts-begun c.args.parts.now c.begin_clean.new.parts c.begin_clean.ensures.parts
+
+pub returns-in_err-begin_clean-clause-cleans : goal.returns-in_err-begin_clean-clause-cleans
+returns-in_err-begin_clean-clause-cleans g c = off-if c.from_residual.result _ c.from_residual.ensures.1
+
+pub returns-in_err-begin_clean-clause-stops : goal.returns-in_err-begin_clean-clause-stops
+returns-in_err-begin_clean-clause-stops g c is = off-bad c.from_residual.result c.from_residual.ensures.1 is
+
+pub returns-in_err-begin_clean-clause-power : goal.returns-in_err-begin_clean-clause-power
+returns-in_err-begin_clean-clause-power g c = off-after c.from_residual.result (g.B.Board.state c.begin_clean.new.board).on c.in_err-begin_clean.ensures.power c.from_residual.ensures.1
+
+pub finish_clean-requires-clause-ready : goal.finish_clean-requires-clause-ready
+finish_clean-requires-clause-ready g c = ready-left 0 0 (chart (g.B.Board.state c.args.board.now)) (chart (g.B.Board.state c.begin_clean.new.board)) c.args.parts.now c.begin_clean.new.parts c.in_ok-begin_clean.ensures.power c.begin_clean.ensures.same c.begin_clean.ensures.leaves
+
+pub finish_clean-requires-clause-none : goal.finish_clean-requires-clause-none
+finish_clean-requires-clause-none g c = ap (λ (z : Parts). z.stages) c.begin_clean.ensures.parts ∙ c.requires.rest.1
+
+pub finish_clean-requires-clause-few : goal.finish_clean-requires-clause-few
+finish_clean-requires-clause-few g c = subst (λ (n : ℕ). n ≤ 65536) (sym (ap (λ (sh : Shape). sh.rows) c.shape-rows.ensures)) (IsShape.few_rows (IsBoard.shape (g.met.B.Board.lawful c.args.board.now)))
+
+pub returns-clause-parts : goal.returns-clause-parts
+returns-clause-parts g c = parts-cleaned c.args.parts.now c.begin_clean.new.parts c.finish_clean.new.parts c.begin_clean.ensures.parts c.finish_clean.ensures.parts
+
+pub returns-clause-power : goal.returns-clause-power
+returns-clause-power g c = c.finish_clean.ensures.power

@@ -1,4 +1,4 @@
-use Rattle.std.proofs.Common.{◌<◌, ◌-◌, inl, inr, get_or, refl, ap, subst}
+use Rattle.std.proofs.Common.{◌<◌, ◌-◌, inl, inr, get_or, refl, ap, subst, ◌+◌, ◌∙◌, sym, ℕ}
 use Rattle.envy_base.specs.declared.shape.Shape.{Shape}
 use Rattle.envy_base.specs.State.{IsBoard}
 use Rattle.envy_map.specs.Fields.{Chart, chart}
@@ -8,6 +8,8 @@ use Rattle.envy_choosing.specs.Choosing.{ChoiceFor}
 use Rattle.envy_flush.proofs.FlushLemmas.{if-done, never-idle}
 use Rattle.envy_flush.proofs.RowLemmas.{some-rows, free-room, clean-room, dead-cleaned, aside-in}
 use Rattle.envy_flush.specs.declared.parts.Parts.{Parts}
+use Rattle.envy_layout.proofs.Sames.{same_within}
+use Rattle.envy_flush.proofs.FlushAnswers.{off-after, off-if, off-bad, ok-bad, keeps-off, keeps-places, free-idle}
 use Rattle.envy_flush.proofs.rows.idle_row.Goals as goal
 
 pub choose_row-requires-clause-some : goal.choose_row-requires-clause-some
@@ -92,3 +94,75 @@ returns-in_ok-claim_at-in-Free-clause-gets g c =
         ends = (inl (ap (λ (w : Chart). w.fields.job) e.changes.fields), inl (ap (λ (z : Parts). z.stages) c.claim_at.ensures.parts));
       };
     }
+
+pub choose_row-requires-clause-positions : goal.choose_row-requires-clause-positions
+choose_row-requires-clause-positions g c = c.requires.ready.fits.positions ∙ ap (λ (sh : Shape). sh.segments - 1) (sym c.requires.ready.fits.pool)
+
+pub choose_row-requires-clause-home : goal.choose_row-requires-clause-home
+choose_row-requires-clause-home g c = subst (λ (sh : Shape). c.args.home < sh.segments - 1) (sym c.requires.ready.fits.pool) c.requires.home
+
+pub choose_row-requires-clause-page : goal.choose_row-requires-clause-page
+choose_row-requires-clause-page g c = subst (λ (n : ℕ). c.args.page < n) (sym c.requires.ready.fits.pages) c.requires.page
+
+pub claim_at-requires-clause-ready : goal.claim_at-requires-clause-ready
+claim_at-requires-clause-ready g c = c.requires.ready
+
+pub claim_at-requires-clause-page : goal.claim_at-requires-clause-page
+claim_at-requires-clause-page g c = c.requires.page
+
+pub claim_at-requires-clause-free : goal.claim_at-requires-clause-free
+claim_at-requires-clause-free g c = free-idle _ _ c.requires.rest.0
+
+pub returns-in_err-claim_at-in-Free-clause-same : goal.returns-in_err-claim_at-in-Free-clause-same
+returns-in_err-claim_at-in-Free-clause-same g c = let p = (g.B.Board.state c.args.board.now).shape.rows in same_within (p + 5) 2 (chart (g.B.Board.state c.args.board.now)) (chart (g.B.Board.state c.claim_at.new.board)) c.claim_at.ensures.same
+
+pub returns-in_err-claim_at-in-Free-clause-leaves : goal.returns-in_err-claim_at-in-Free-clause-leaves
+returns-in_err-claim_at-in-Free-clause-leaves g c = c.claim_at.ensures.leaves
+
+pub returns-in_err-claim_at-in-Free-clause-keeps : goal.returns-in_err-claim_at-in-Free-clause-keeps
+returns-in_err-claim_at-in-Free-clause-keeps g c = keeps-off (chart (g.B.Board.state c.args.board.now)) (chart (g.B.Board.state c.claim_at.new.board)) c.args.parts.now c.claim_at.new.parts c.in_err-claim_at-in-Free.ensures.power (ap (λ (z : Parts). z.frames) c.claim_at.ensures.parts) (ap (λ (z : Parts). z.flushes) c.claim_at.ensures.parts)
+
+pub returns-in_err-claim_at-in-Free-clause-gets : goal.returns-in_err-claim_at-in-Free-clause-gets
+returns-in_err-claim_at-in-Free-clause-gets g c = off-if c.from_residual.result _ c.from_residual.ensures.1
+
+pub returns-in_err-claim_at-in-Free-clause-stops : goal.returns-in_err-claim_at-in-Free-clause-stops
+returns-in_err-claim_at-in-Free-clause-stops g c is = off-bad c.from_residual.result c.from_residual.ensures.1 is
+
+pub returns-in_err-claim_at-in-Free-clause-power : goal.returns-in_err-claim_at-in-Free-clause-power
+returns-in_err-claim_at-in-Free-clause-power g c = off-after c.from_residual.result (g.B.Board.state c.claim_at.new.board).on c.in_err-claim_at-in-Free.ensures.power c.from_residual.ensures.1
+
+pub returns-in_ok-claim_at-in-Free-clause-same : goal.returns-in_ok-claim_at-in-Free-clause-same
+returns-in_ok-claim_at-in-Free-clause-same g c = let p = (g.B.Board.state c.args.board.now).shape.rows in same_within (p + 5) 2 (chart (g.B.Board.state c.args.board.now)) (chart (g.B.Board.state c.claim_at.new.board)) c.claim_at.ensures.same
+
+pub returns-in_ok-claim_at-in-Free-clause-leaves : goal.returns-in_ok-claim_at-in-Free-clause-leaves
+returns-in_ok-claim_at-in-Free-clause-leaves g c = c.claim_at.ensures.leaves
+
+pub returns-in_ok-claim_at-in-Free-clause-keeps : goal.returns-in_ok-claim_at-in-Free-clause-keeps
+returns-in_ok-claim_at-in-Free-clause-keeps g c = keeps-places (chart (g.B.Board.state c.args.board.now)) (chart (g.B.Board.state c.claim_at.new.board)) c.args.parts.now c.claim_at.new.parts (ap (λ (w : Chart). w.fields.places) c.in_ok-claim_at-in-Free.ensures.takes.changes.fields) (ap (λ (z : Parts). z.frames) c.claim_at.ensures.parts) (ap (λ (z : Parts). z.flushes) c.claim_at.ensures.parts)
+
+pub returns-in_ok-claim_at-in-Free-clause-stops : goal.returns-in_ok-claim_at-in-Free-clause-stops
+returns-in_ok-claim_at-in-Free-clause-stops g c is = ok-bad c.in_ok-claim_at-in-Free.field-0 is
+
+pub returns-in_ok-claim_at-in-Free-clause-power : goal.returns-in_ok-claim_at-in-Free-clause-power
+returns-in_ok-claim_at-in-Free-clause-power g c = c.in_ok-claim_at-in-Free.ensures.power
+
+pub clean-requires-clause-ready : goal.clean-requires-clause-ready
+clean-requires-clause-ready g c = c.requires.ready
+
+pub clean-requires-clause-rest : goal.clean-requires-clause-rest
+clean-requires-clause-rest g c = c.requires.rest
+
+pub clean-requires-clause-page : goal.clean-requires-clause-page
+clean-requires-clause-page g c = c.requires.page
+
+pub returns-in-Clean-clause-same : goal.returns-in-Clean-clause-same
+returns-in-Clean-clause-same g c = c.clean.ensures.same
+
+pub returns-in-Clean-clause-leaves : goal.returns-in-Clean-clause-leaves
+returns-in-Clean-clause-leaves g c = c.clean.ensures.leaves
+
+pub returns-in-Clean-clause-keeps : goal.returns-in-Clean-clause-keeps
+returns-in-Clean-clause-keeps g c = c.clean.ensures.keeps
+
+pub returns-in-Clean-clause-power : goal.returns-in-Clean-clause-power
+returns-in-Clean-clause-power g c = c.clean.ensures.power
