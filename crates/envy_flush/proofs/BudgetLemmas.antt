@@ -49,6 +49,12 @@ Going-stops c d f x n e s t g stop =
     let a = Going.work g in let a1 = a.few in let a2 = a.few_erases in
     Same-more (a.programs + 1) (a.erases + 1) (n + 1) (e + 1) c f (omega arith) (omega arith) (Same-trans a.programs a.erases 1 1 c d f a.same stop)
 
+-- the work of the steps that were made
+pub Going-same : (c d : Chart) (x : Parts) (n e s t : ℕ) → Going c d x n e s t → Same n e c d
+Going-same c d x n e s t g =
+    let a = Going.work g in let a1 = a.few in let a2 = a.few_erases in
+    Same-more a.programs a.erases n e c d (omega arith) (omega arith) a.same
+
 pub Going-last : (c d f : Chart) (x y : Parts) (n e s t : ℕ) → (g : Going c d x n e s t) → Spends d f y (Spends.left_n (Going.work g)) (Spends.left_e (Going.work g)) (Spends.left_s (Going.work g)) → Same n e c f
 Going-last c d f x y n e s t g w =
     let a = Going.work g in let a1 = a.few in let a2 = a.few_erases in

@@ -9,6 +9,7 @@ use Rattle.envy_flush.proofs.Leaving.{leaves_off}
 use Rattle.envy_flush.proofs.CountLemmas.{Counting-still}
 use Rattle.envy_flush.proofs.AgreeLemmas.{Agrees-claimed, Granted-claimed, IsLastAt-claimed, Fits-moved, claimed-sizes, sizes_of}
 use Rattle.envy_base.specs.declared.shape.Shape.{Shape}
+use Rattle.envy_flush.proofs.FlushAnswers.{none-if, none-power}
 use Rattle.envy_flush.proofs.claiming.claim_at.Goals as goal
 
 pub returns-clause-leaves : goal.returns-clause-leaves
@@ -77,3 +78,41 @@ segment_at-requires g c = subst (λ (sh : Shape). c.args.position < sh.segments 
 
 pub claim-requires-clause-shape : goal.claim-requires-clause-shape
 claim-requires-clause-shape g c = c.requires.ready.fits.pool
+
+pub claim-requires-clause-segment : goal.claim-requires-clause-segment
+claim-requires-clause-segment g c = subst (λ (n : ℕ). n < c.args.parts.now.space.shape.segments) (sym c.segment_at.ensures.segment) (c.segment_at.ensures.pool.positions_fit c.args.position (subst (λ (sh : Shape). c.args.position < sh.segments - 1) (sym c.requires.ready.fits.pool) c.requires.position))
+
+pub claim-requires-clause-page : goal.claim-requires-clause-page
+claim-requires-clause-page g c = subst (λ (sh : Shape). c.args.page < sh.pages) (sym c.requires.ready.fits.pool) c.requires.page
+
+pub claim-requires-clause-room : goal.claim-requires-clause-room
+claim-requires-clause-room g c =
+    let pool = c.args.parts.now.space in
+    subst (λ (n : ℕ). get_or pool.fills n 0 < pool.shape.rows) (sym c.segment_at.ensures.segment) (subst (λ (sh : Shape). get_or pool.fills (get_or pool.positions c.args.position 0) 0 < sh.rows) (sym c.requires.ready.fits.pool) c.requires.room)
+
+pub returns-in_err-row-clause-same : goal.returns-in_err-row-clause-same
+returns-in_err-row-clause-same g c = c.claim.ensures.same c.requires.ready.sound
+
+pub returns-in_err-row-clause-takes : goal.returns-in_err-row-clause-takes
+returns-in_err-row-clause-takes g c = none-if c.from_residual.result _ _ c.from_residual.ensures.1
+
+pub returns-in_err-row-clause-parts : goal.returns-in_err-row-clause-parts
+returns-in_err-row-clause-parts g c = refl
+
+pub returns-in_err-row-clause-power : goal.returns-in_err-row-clause-power
+returns-in_err-row-clause-power g c = none-power c.from_residual.result _ (g.B.Board.state c.claim.new.board).on c.in_err-row.ensures.power c.from_residual.ensures.1
+
+pub note_claim-requires-clause-position : goal.note_claim-requires-clause-position
+note_claim-requires-clause-position g c = subst (λ (n : ℕ). c.args.position < n) (sym c.requires.ready.fits.positions) c.requires.position
+
+pub note_claim-requires-clause-page : goal.note_claim-requires-clause-page
+note_claim-requires-clause-page g c = subst (λ (n : ℕ). c.args.page < n) (sym c.requires.ready.fits.pages) c.requires.page
+
+pub returns-clause-same : goal.returns-clause-same
+returns-clause-same g c = c.claim.ensures.same c.requires.ready.sound
+
+pub returns-clause-parts : goal.returns-clause-parts
+returns-clause-parts g c = refl
+
+pub returns-clause-power : goal.returns-clause-power
+returns-clause-power g c = c.in_ok-row.ensures.power

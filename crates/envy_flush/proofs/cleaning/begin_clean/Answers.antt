@@ -1,4 +1,4 @@
-use Rattle.std.proofs.Common.{◌≡◌, ◌∙◌, ℕ, true, false, List, get_or, Some, refl, sym, ap, subst}
+use Rattle.std.proofs.Common.{◌≡◌, ◌∙◌, ℕ, true, false, List, get_or, Some, refl, sym, ap, subst, ◌<◌, ◌-◌, ◌/◌}
 use Rattle.envy_base.specs.declared.fields.Job.TheVariants.{Copy}
 use Rattle.envy_map.specs.Fields.{Chart, chart, with_fields}
 use Rattle.envy_map.specs.Writes.{with_job}
@@ -7,9 +7,11 @@ use Rattle.envy_space.specs.Pool.{IsPoolOf}
 use Rattle.envy_table.proofs.HitLemmas.{Rests-refl}
 use Rattle.envy_reloc.specs.Plan.{Plan}
 use Rattle.envy_flush.specs.Cleaning.{AreMoves}
-use Rattle.envy_flush.proofs.Leaving.{leaves_none}
 use Rattle.envy_flush.proofs.CountLemmas.{Counting-quiet}
 use Rattle.envy_flush.proofs.AgreeLemmas.{Agrees-begun, Fits-moved, sizes_of}
+use Rattle.std.specs.Prelude.{All}
+use Rattle.envy_base.specs.declared.shape.Shape.{Shape}
+use Rattle.envy_flush.proofs.FlushAnswers.{unpowered, none-if, none-power}
 use Rattle.envy_flush.proofs.cleaning.begin_clean.Goals as goal
 
 pub returns-clause-cleans : goal.returns-clause-cleans
@@ -26,9 +28,6 @@ returns-clause-cleans g c =
       chooser = c.note_clean.ensures;
       parts = refl;
     }
-
-pub returns-in_err-plan-clause-leaves : goal.returns-in_err-plan-clause-leaves
-returns-in_err-plan-clause-leaves g c = leaves_none _ _ c.requires.ready
 
 pub returns-in_err-begin-clause-leaves : goal.returns-in_err-begin-clause-leaves
 returns-in_err-begin-clause-leaves g c =
@@ -62,3 +61,81 @@ returns-clause-leaves g c =
       counting = Counting-quiet old new c.args.parts.now _ (Stays.counted s) refl refl (record { copied = ap (λ (p : Plan). p.copied) plan; moved = ap (λ (p : Plan). p.moved) plan; erased = ap (λ (p : Plan). p.erased) plan }) (ap (λ (p : Plan). p.since) plan) (λ on. ap (λ (z : Chart). z.fields.wears) fields);
       rests = Rests-refl c.args.parts.now.cache;
     }
+
+pub planned-requires-clause-ready : goal.planned-requires-clause-ready
+planned-requires-clause-ready g c = c.requires.ready
+
+pub planned-requires-clause-position : goal.planned-requires-clause-position
+planned-requires-clause-position g c = c.requires.position
+
+pub planned-requires-clause-aside : goal.planned-requires-clause-aside
+planned-requires-clause-aside g c = c.requires.aside
+
+pub returns-in_err-plan : goal.returns-in_err-plan
+returns-in_err-plan g c = unpowered (g.B.Board.state c.args.board.now).on c.in_err-plan.ensures.off c.requires.ready.on
+
+pub begin-requires-clause-ready : goal.begin-requires-clause-ready
+begin-requires-clause-ready g c on = record { sound = c.requires.ready.sound; agrees = c.requires.ready.agrees.pool; idle = c.requires.idle }
+
+pub begin-requires-clause-shape : goal.begin-requires-clause-shape
+begin-requires-clause-shape g c = c.requires.ready.fits.pool
+
+pub begin-requires-clause-position : goal.begin-requires-clause-position
+begin-requires-clause-position g c = subst (λ (sh : Shape). c.args.position < sh.segments - 1) (sym c.requires.ready.fits.pool) c.requires.position
+
+pub begin-requires-clause-moves : goal.begin-requires-clause-moves
+begin-requires-clause-moves g c = subst (λ (sh : Shape). All (λ q. q / sh.rows ≡ get_or c.args.parts.now.space.positions c.args.position 0) c.in_ok-plan.plan.moves.items) (sym c.requires.ready.fits.pool) c.in_ok-plan.ensures.rows
+
+pub begin-requires-clause-aside : goal.begin-requires-clause-aside
+begin-requires-clause-aside g c first last is =
+    let within = c.in_ok-plan.ensures.neighbour first last is in
+    (within.0, subst (λ (sh : Shape). last < sh.segments - 1) (sym c.requires.ready.fits.pool) within.1)
+
+pub returns-in_err-begin-clause-same : goal.returns-in_err-begin-clause-same
+returns-in_err-begin-clause-same g c = c.begin.ensures.same c.requires.ready.sound
+
+pub returns-in_err-begin-clause-begins : goal.returns-in_err-begin-clause-begins
+returns-in_err-begin-clause-begins g c = none-if c.from_residual-in_err-begin.result _ _ c.from_residual-in_err-begin.ensures.1
+
+pub returns-in_err-begin-clause-cleans : goal.returns-in_err-begin-clause-cleans
+returns-in_err-begin-clause-cleans g c = none-if c.from_residual-in_err-begin.result _ _ c.from_residual-in_err-begin.ensures.1
+
+pub returns-in_err-begin-clause-none : goal.returns-in_err-begin-clause-none
+returns-in_err-begin-clause-none g c =
+    let plan = c.begin.ensures.plan c.requires.ready.on in
+    record { copied = ap (λ (p : Plan). p.copied) plan; moved = ap (λ (p : Plan). p.moved) plan; erased = ap (λ (p : Plan). p.erased) plan }
+
+pub returns-in_err-begin-clause-since : goal.returns-in_err-begin-clause-since
+returns-in_err-begin-clause-since g c = ap (λ (p : Plan). p.since) (c.begin.ensures.plan c.requires.ready.on)
+
+pub returns-in_err-begin-clause-parts : goal.returns-in_err-begin-clause-parts
+returns-in_err-begin-clause-parts g c = refl
+
+pub returns-in_err-begin-clause-power : goal.returns-in_err-begin-clause-power
+returns-in_err-begin-clause-power g c = none-power c.from_residual-in_err-begin.result _ (g.B.Board.state c.begin.new.board).on c.in_err-begin.ensures.power c.from_residual-in_err-begin.ensures.1
+
+pub note_clean-requires : goal.note_clean-requires
+note_clean-requires g c = subst (λ (n : ℕ). c.args.position < n) (sym c.requires.ready.fits.positions) c.requires.position
+
+pub returns-clause-same : goal.returns-clause-same
+returns-clause-same g c = c.begin.ensures.same c.requires.ready.sound
+
+pub returns-clause-begins : goal.returns-clause-begins
+returns-clause-begins g c =
+    let new = (chart (g.B.Board.state c.begin.new.board)) in
+    let order : get_or c.args.parts.now.space.positions c.args.position 0 ≡ get_or (chart (g.B.Board.state c.args.board.now)).fields.positions c.args.position 0 = ap (λ (xs : List ℕ). get_or xs c.args.position 0) (IsPoolOf.positions c.requires.ready.agrees.pool) in
+    subst (λ (s : ℕ). new.fields.job ≡ Some (Copy s)) order (ap (λ (z : Chart). z.fields.job) c.in_ok-begin.ensures.begins.fields)
+
+pub returns-clause-none : goal.returns-clause-none
+returns-clause-none g c =
+    let plan = c.begin.ensures.plan c.requires.ready.on in
+    record { copied = ap (λ (p : Plan). p.copied) plan; moved = ap (λ (p : Plan). p.moved) plan; erased = ap (λ (p : Plan). p.erased) plan }
+
+pub returns-clause-since : goal.returns-clause-since
+returns-clause-since g c = ap (λ (p : Plan). p.since) (c.begin.ensures.plan c.requires.ready.on)
+
+pub returns-clause-parts : goal.returns-clause-parts
+returns-clause-parts g c = refl
+
+pub returns-clause-power : goal.returns-clause-power
+returns-clause-power g c = c.in_ok-begin.ensures.power

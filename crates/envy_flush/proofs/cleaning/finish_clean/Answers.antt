@@ -7,13 +7,15 @@ use Rattle.envy_flush.specs.Agreement.{Ready, Steady}
 use Rattle.envy_flush.specs.Budgets.{Going, Spends}
 use Rattle.envy_reloc.specs.Cleaning.{Cleans}
 use Rattle.envy_flush.specs.declared.parts.Parts.{Parts}
-use Rattle.envy_flush.proofs.BudgetLemmas.{Going-start, Going-more, Going-stops, Turns-job, step-both}
+use Rattle.envy_flush.proofs.BudgetLemmas.{Going-start, Going-more, Going-stops, Turns-job, step-both, Going-same}
 use Rattle.envy_flush.proofs.Leaving.{leaves_none, leaves_then, counts_bad_then}
 use Rattle.envy_flush.proofs.FlushLemmas.{err-at}
 use Rattle.envy_flush.proofs.StepLemmas.{StepsBy-more}
 use Rattle.envy_layout.proofs.FrameStay.{FramesStay-trans}
 use Rattle.envy_flush.proofs.StoreLemmas.{shape-step}
 use Rattle.envy_layout.proofs.Composition.{Same-more}
+use Rattle.envy_flush.specs.declared.did.Did.{Did}
+use Rattle.envy_flush.proofs.FlushAnswers.{unpowered, err-if, err-after, ok-bad}
 use Rattle.envy_flush.proofs.cleaning.finish_clean.Goals as goal
 
 pub loop-turn-init : goal.loop-turn-init
@@ -99,3 +101,45 @@ returns-then-not-branch-clause-finishes g c = record {
   };
   cleans = c.loop-turn.invariant.cleans;
 }
+
+pub runs-requires : goal.runs-requires
+runs-requires g c = record { sound = Ready.sound c.loop-turn.invariant.ready }
+
+pub returns-in_err-runs : goal.returns-in_err-runs
+returns-in_err-runs g c = unpowered (g.B.Board.state c.loop-turn.board).on c.in_err-runs.ensures.off c.loop-turn.invariant.ready.on
+
+pub returns-then-not-branch-clause-same : goal.returns-then-not-branch-clause-same
+returns-then-not-branch-clause-same g c = Same-more (c.args.rows + 4) 1 (c.args.rows + 5) 2 _ _ (omega arith) (omega arith) (Going-same _ (chart (g.B.Board.state c.loop-turn.board)) _ _ _ _ _ c.loop-turn.invariant.going)
+
+pub returns-then-not-branch-clause-leaves : goal.returns-then-not-branch-clause-leaves
+returns-then-not-branch-clause-leaves g c = c.loop-turn.invariant.leaves
+
+pub returns-then-not-branch-clause-here : goal.returns-then-not-branch-clause-here
+returns-then-not-branch-clause-here g c on = c.loop-turn.invariant.here
+
+pub returns-then-not-branch-clause-parts : goal.returns-then-not-branch-clause-parts
+returns-then-not-branch-clause-parts g c = c.loop-turn.invariant.parts
+
+pub returns-then-not-branch-clause-stops : goal.returns-then-not-branch-clause-stops
+returns-then-not-branch-clause-stops g c is = ok-bad tt is
+
+pub returns-then-not-branch-clause-power : goal.returns-then-not-branch-clause-power
+returns-then-not-branch-clause-power g c = c.loop-turn.invariant.ready.on
+
+pub returns-then-not-branch-clause-bad : goal.returns-then-not-branch-clause-bad
+returns-then-not-branch-clause-bad g c is = ok-bad tt is
+
+pub tick_job-requires-clause-ready : goal.tick_job-requires-clause-ready
+tick_job-requires-clause-ready g c = c.loop-turn.invariant.ready
+
+pub tick_job-requires-clause-running : goal.tick_job-requires-clause-running
+tick_job-requires-clause-running g c = c.in_ok-runs.ensures.busy c.if-not-branch.false
+
+pub returns-in_err-tick_job-clause-parts : goal.returns-in_err-tick_job-clause-parts
+returns-in_err-tick_job-clause-parts g c = c.tick_job.ensures.parts ∙ ap (λ (z : Parts). record z { space = c.tick_job.new.parts.space; cache = c.tick_job.new.parts.cache; reloc = c.tick_job.new.parts.reloc; stages = c.tick_job.new.parts.stages }) c.loop-turn.invariant.parts
+
+pub returns-in_err-tick_job-clause-finishes : goal.returns-in_err-tick_job-clause-finishes
+returns-in_err-tick_job-clause-finishes g c = err-if c.from_residual-in_err-tick_job.result _ c.in_err-tick_job.field-0.0 c.from_residual-in_err-tick_job.ensures.1
+
+pub returns-in_err-tick_job-clause-power : goal.returns-in_err-tick_job-clause-power
+returns-in_err-tick_job-clause-power g c = err-after Did c.from_residual-in_err-tick_job.result (g.B.Board.state c.tick_job.new.board).on c.in_err-tick_job.field-0.0 c.in_err-tick_job.ensures.power c.from_residual-in_err-tick_job.ensures.1

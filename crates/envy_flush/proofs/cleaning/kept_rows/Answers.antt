@@ -9,8 +9,9 @@ use Rattle.envy_flush.specs.Cleaning.{AreLowestKept}
 use Rattle.envy_layout.proofs.References.{row-of}
 use Rattle.envy_flush.proofs.CleanLemmas.{All-push}
 use Rattle.envy_flush.proofs.KeptLemmas.{Found, Found-start, Found-kept, Found-dead, Found-four, Found-whole, kept-found, dead-found}
-use Rattle.envy_flush.proofs.cleaning.kept_rows.Goals as goal
+use Rattle.envy_flush.proofs.FlushAnswers.{unpowered}
 use Rattle.envy_flush.proofs.cleaning.kept_rows.Goals.{then-is_some, else-is_some}
+use Rattle.envy_flush.proofs.cleaning.kept_rows.Goals as goal
 
 pub loop-i-init : goal.loop-i-init
 loop-i-init g c =
@@ -100,3 +101,15 @@ keeper-requires-clause-row g c =
     let at = c.segment_at-segment.ensures.pool.positions_fit c.args.position (omega (arith, segments, place)) in
     let low : s < m = omega (arith, at, own, segments) in
     rw shape (omega (arith, mul-add-lt s n c.loop-i.i m low small))
+
+pub keeper-requires-clause-sound : goal.keeper-requires-clause-sound
+keeper-requires-clause-sound g c = c.requires.ready.sound
+
+pub returns-in_err-keeper : goal.returns-in_err-keeper
+returns-in_err-keeper g c = unpowered (g.B.Board.state c.args.board.now).on c.in_err-keeper.ensures.power c.requires.ready.on
+
+pub returns-then-is_full-clause-off : goal.returns-then-is_full-clause-off
+returns-then-is_full-clause-off g c = tt
+
+pub returns-clause-off : goal.returns-clause-off
+returns-clause-off g c = tt
