@@ -1,5 +1,5 @@
 -- What a page that comes into a frame keeps, at each exit.
-use Rattle.std.proofs.Common.{◌≡◌, ◌∙◌, ℕ, [], Result, Ok, Err, sym, ap, arith, refl}
+use Rattle.std.proofs.Common.{◌≡◌, ◌∙◌, ℕ, Result, Ok, Err, sym, ap, arith, refl, ◌<◌}
 use Rattle.std.specs.Prelude.{IsErrAnd, MatchResult}
 use Rattle.envy_base.specs.declared.board.Off.{Off}
 use Rattle.envy_map.specs.Fields.{Chart, Fields}
@@ -33,3 +33,7 @@ parts-brought x y z filled moved = moved ∙ ap (λ (w : Parts). record w { fram
 -- a put of a field leaves the shape
 pub shape-put : (c new : Chart) (change : Fields → Fields) (r : Result Unit Off) → Writes change c r new → new.shape ≡ c.shape
 shape-put c new change r writes = at-each r (new.shape ≡ c.shape) (exits c new change r (λ (z : Chart). z.shape ≡ c.shape) (λ (z : Chart). z.shape ≡ c.shape) (λ on. refl) (λ off. refl) (λ on. refl) (λ on. refl) writes)
+
+-- where there is room not every frame is held
+pub never-full : (held count : ℕ) → held < count → held ≡ count → ⊥
+never-full held count room full = omega arith

@@ -1,4 +1,4 @@
-use Rattle.std.proofs.Common.{◌∙◌, ◌<◌, List, Option, None, get_or, set, ap, sym, subst, arith, refl}
+use Rattle.std.proofs.Common.{◌∙◌, ◌<◌, List, Option, None, get_or, set, ap, sym, subst, refl, ℕ}
 use Rattle.std.proofs.lemmas.List.{length-set}
 use Rattle.envy_base.specs.declared.fields.Place.{Place}
 use Rattle.envy_base.specs.declared.fields.Place.TheVariants.{Frame}
@@ -11,6 +11,7 @@ use Rattle.envy_flush.proofs.RowLemmas.{page-changed}
 use Rattle.std.specs.Prelude.{is_some}
 use Rattle.envy_flush.proofs.FlushAnswers.{unpowered, none-if, none-power, in-range, none-some}
 use Rattle.std.specs.Option.{is_some}
+use Rattle.envy_flush.proofs.BringAnswers.{never-full}
 use Rattle.envy_flush.proofs.bringing.fill_frame.Goals as goal
 
 pub returns-clause-fills : goal.returns-clause-fills
@@ -21,8 +22,7 @@ returns-clause-fills g c =
     let ws = c.read_words.new.words in
     let w = c.in_ok-read_words.ensures in
     let unnamed : IsUnnamed old.fields c.in-Some.frame = λ p is. unnamed-unheld old.shape old.fields.places c.args.parts.now.frames.held c.in-Some.frame p r.agrees.held c.in-Some.ensures.unheld is in
-    let low : c.in-Some.frame < old.shape.frames = let count = r.fits.frames in let within = c.in-Some.ensures.within in omega arith in
-    let i = c.requires.word in
+    let low : c.in-Some.frame < old.shape.frames = subst (λ (n : ℕ). c.in-Some.frame < n) r.fits.frames c.in-Some.ensures.within in
     let long = c.read_words.ensures.long in
     record {
       words = set ws c.args.i c.args.w;
@@ -32,7 +32,7 @@ returns-clause-fills g c =
       unnamed = λ p is. unnamed p (ap (λ (ps : List (Option Place)). get_or ps p None) (sym e.places) ∙ is);
       copy = subst (λ (z : Chart). HasChanged z.fields z.flash c.args.page (Frame c.in-Some.frame) c.args.i c.args.w) (sym e.fields)
           (HasChanged-filled old c.args.page c.in-Some.frame c.args.i c.args.w (set ws c.args.i c.args.w) r.sound low unnamed (length-set ws c.args.i c.args.w ∙ long)
-          (page-changed old.fields old.flash c.args.page c.args.i c.args.w c.args.from ws c.requires.here (omega arith) w.words));
+          (page-changed old.fields old.flash c.args.page c.args.i c.args.w c.args.from ws c.requires.here (subst (λ (n : ℕ). c.args.i < n) (sym long) c.requires.word) w.words));
       home = c.in_ok-home.home;
       within = c.in_ok-home.ensures.within;
       homed = c.in_ok-home.ensures.home;
@@ -64,16 +64,13 @@ pub bounds-words-i : goal.bounds-words-i
 bounds-words-i g c = c.requires.word
 
 pub unreachable-requires : goal.unreachable-requires
-unreachable-requires g c =
-    let full = c.take.ensures.all.0 (ap is_some (none-some c.take.result c.in_default.not-Some)) in
-    let room = c.requires.room in
-    omega arith
+unreachable-requires g c = never-full _ _ c.requires.room (c.take.ensures.all.0 (ap is_some (none-some c.take.result c.in_default.not-Some)))
 
 pub write_free_frame-requires-clause-sound : goal.write_free_frame-requires-clause-sound
 write_free_frame-requires-clause-sound g c = c.requires.ready.sound
 
 pub write_free_frame-requires-clause-frame : goal.write_free_frame-requires-clause-frame
-write_free_frame-requires-clause-frame g c = let count = c.requires.ready.fits.frames in let within = c.in-Some.ensures.within in omega arith
+write_free_frame-requires-clause-frame g c = subst (λ (n : ℕ). c.in-Some.frame < n) c.requires.ready.fits.frames c.in-Some.ensures.within
 
 pub write_free_frame-requires-clause-unnamed : goal.write_free_frame-requires-clause-unnamed
 write_free_frame-requires-clause-unnamed g c on p is = let old = (chart (g.B.Board.state c.args.board.now)) in unnamed-unheld old.shape old.fields.places c.args.parts.now.frames.held c.in-Some.frame p c.requires.ready.agrees.held c.in-Some.ensures.unheld is
