@@ -1,9 +1,11 @@
 pub mod AgreeLemmas
 pub mod AvailLemmas
 pub mod BudgetLemmas
+mod CallExits
 pub mod CleanLemmas
 pub mod CountLemmas
 pub mod ElsewhereLemmas
+mod EndAnswers
 pub mod EndLemmas
 pub mod FlushLemmas
 pub mod JobLemmas
@@ -14,8 +16,12 @@ pub mod NearLemmas
 pub mod PutLemmas
 pub mod RestartLemmas
 pub mod RowLemmas
+mod ShadeAnswers
 pub mod ShadeLemmas
 pub mod StepLemmas
 pub mod StoreLemmas
+mod SwapAnswers
+mod TickAnswers
 mod TickLemmas
 pub mod WearLemmas
+mod WordAnswers

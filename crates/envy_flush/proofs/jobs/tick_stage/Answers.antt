@@ -7,6 +7,8 @@ use Rattle.envy_table.proofs.HitLemmas.{Rests-refl}
 use Rattle.envy_flush.specs.Agreement.{Fits, AreStages}
 use Rattle.envy_flush.proofs.CountLemmas.{Counting-quiet}
 use Rattle.envy_flush.proofs.AgreeLemmas.{Agrees-begun, Fits-next}
+use Rattle.envy_flush.proofs.CallExits.{off-if, off-after, off-bad, ok-bad}
+use Rattle.envy_flush.proofs.SwapAnswers.{TicksStage-began, StageBegins-began}
 use Rattle.envy_flush.proofs.jobs.tick_stage.Goals as goal
 
 pub begin-requires-clause-position : goal.begin-requires-clause-position
@@ -47,3 +49,54 @@ returns-clause-leaves g c =
       counting = Counting-quiet old new c.args.parts.now _ (Stays.counted s) refl refl (record { copied = ap (λ (p : Plan). p.copied) plan; moved = ap (λ (p : Plan). p.moved) plan; erased = ap (λ (p : Plan). p.erased) plan }) (ap (λ (p : Plan). p.since) plan) (λ on. ap (λ (z : Chart). z.fields.wears) c.in_ok-begin.ensures.begins.fields);
       rests = Rests-refl c.args.parts.now.cache;
     }
+
+pub begin-requires-clause-ready : goal.begin-requires-clause-ready
+begin-requires-clause-ready g c on = record { sound = c.requires.ready.sound; agrees = c.requires.ready.agrees.pool; idle = c.requires.idle }
+
+pub begin-requires-clause-shape : goal.begin-requires-clause-shape
+begin-requires-clause-shape g c = c.requires.ready.fits.pool
+
+pub returns-in_err-begin-clause-same : goal.returns-in_err-begin-clause-same
+returns-in_err-begin-clause-same g c = c.begin.ensures.same c.requires.ready.sound
+
+pub returns-in_err-begin-clause-does : goal.returns-in_err-begin-clause-does
+returns-in_err-begin-clause-does g c = off-if c.from_residual.result _ c.from_residual.ensures.1
+
+pub returns-in_err-begin-clause-begins : goal.returns-in_err-begin-clause-begins
+returns-in_err-begin-clause-begins g c = off-if c.from_residual.result _ c.from_residual.ensures.1
+
+pub returns-in_err-begin-clause-rest : goal.returns-in_err-begin-clause-rest
+returns-in_err-begin-clause-rest g c = c.next.ensures.rest
+
+pub returns-in_err-begin-clause-parts : goal.returns-in_err-begin-clause-parts
+returns-in_err-begin-clause-parts g c = refl
+
+pub returns-in_err-begin-clause-never : goal.returns-in_err-begin-clause-never
+returns-in_err-begin-clause-never g c is = off-bad c.from_residual.result c.from_residual.ensures.1 is
+
+pub returns-in_err-begin-clause-power : goal.returns-in_err-begin-clause-power
+returns-in_err-begin-clause-power g c = off-after c.from_residual.result (g.B.Board.state c.begin.new.board).on c.in_err-begin.ensures.power c.from_residual.ensures.1
+
+pub returns-clause-same : goal.returns-clause-same
+returns-clause-same g c = c.begin.ensures.same c.requires.ready.sound
+
+pub returns-clause-does : goal.returns-clause-does
+returns-clause-does g c =
+    let r = c.requires.ready in
+    TicksStage-began (chart (g.B.Board.state c.args.board.now)) (chart (g.B.Board.state c.begin.new.board)) c.args.parts.now c.in-Some.position _ _ c.begin.new.self r.agrees.pool.positions (sym c.in-Some.ensures.first) c.in_ok-begin.ensures.begins.fields c.next.ensures.rest (c.begin.ensures.plan r.on) c.new.ensures
+
+pub returns-clause-begins : goal.returns-clause-begins
+returns-clause-begins g c =
+    StageBegins-began (chart (g.B.Board.state c.args.board.now)) (chart (g.B.Board.state c.begin.new.board)) c.args.parts.now.reloc c.begin.new.self _ _ c.in_ok-begin.ensures.begins.fields (c.begin.ensures.plan c.requires.ready.on) c.new.ensures
+
+pub returns-clause-rest : goal.returns-clause-rest
+returns-clause-rest g c = c.next.ensures.rest
+
+pub returns-clause-parts : goal.returns-clause-parts
+returns-clause-parts g c = refl
+
+pub returns-clause-never : goal.returns-clause-never
+returns-clause-never g c is = ok-bad _ is
+
+pub returns-clause-power : goal.returns-clause-power
+returns-clause-power g c = c.in_ok-begin.ensures.power
