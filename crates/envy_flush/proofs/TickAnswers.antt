@@ -2,6 +2,8 @@
 use Rattle.std.proofs.Common.{◌≡◌, ◌∙◌, ◌⊎◌, inl, inr, Bool, false, true, ℕ, ◌<◌, ◌≤◌, List, [], length, Option, Some, Result, Ok, Err, IsErrAnd, sym, ap, subst, arith}
 use Rattle.std.specs.Prelude.{IsTrue}
 use Rattle.envy_base.specs.declared.board.Trouble.{Trouble}
+use Rattle.envy_base.specs.declared.board.Trouble.TheVariants.{Off as TroubleOff, Bad}
+use Rattle.envy_layout.specs.Power.{power_after}
 use Rattle.envy_map.specs.Fields.{Chart}
 use Rattle.envy_layout.specs.Same.{Same, Stays, Framed, Wears}
 use Rattle.envy_layout.specs.Sound.{IsSound}
@@ -18,7 +20,7 @@ use Rattle.envy_base.specs.declared.fields.Place.{Place}
 use Rattle.envy_layout.specs.Frames.{FramesStay}
 use Rattle.envy_layout.proofs.FrameStay.{FramesStay-refl}
 use Rattle.envy_flush.specs.Budgets.{Turns}
-use Rattle.envy_flush.specs.Steps.{TicksStage}
+use Rattle.envy_flush.specs.Steps.{Idles, TicksStage}
 use Rattle.envy_flush.specs.declared.did.Did.{Did}
 use Rattle.envy_flush.specs.Counts.{Counting}
 use Rattle.envy_flush.specs.declared.parts.Parts.{Parts}
@@ -89,3 +91,17 @@ stays-staged did c new x y t = subst (λ (ps : List (Option Place)). FramesStay 
 pub free-idle : (job : Option Job) (s : ℕ) → job ≡ Some Idle → IsFreeOf job s
 free-idle job s idle =
     (λ copy. let no : Some Idle ≡ Some (Copy s) = sym idle ∙ copy in cc, λ switch. let no : Some Idle ≡ Some (Switch s) = sym idle ∙ switch in cc)
+
+-- ---- a step of the job
+
+-- a tick hands the fault of its step on
+pub power-handed : (A B : Type 0) (r : Result A Trouble) (on : Bool) (f : Trouble) → on ≡ power_after r → r ≡ Err f → on ≡ power_after {A = B} (Err f)
+power-handed A B r on Bad power is = power ∙ ap (λ (x : Result A Trouble). power_after x) is
+power-handed A B r on TroubleOff power is = power ∙ ap (λ (x : Result A Trouble). power_after x) is
+
+-- the stages stay, or others are left
+pub parts-stepped : (x y : Parts) (left : List ℕ) → y ≡ record x { space = y.space; cache = y.cache; reloc = y.reloc } → record y { stages = left } ≡ record x { space = y.space; cache = y.cache; reloc = y.reloc; stages = left }
+parts-stepped x y left is = ap (λ (z : Parts). record z { stages = left }) is
+
+pub idles-stepped : (x y : Parts) → y ≡ record x { space = y.space; cache = y.cache; reloc = y.reloc } → Idles x y
+idles-stepped x y is = record { flushes = ap (λ (z : Parts). z.flushes) is; swaps = ap (λ (z : Parts). z.swaps) is; chooser = ap (λ (z : Parts). z.chooser) is; frames = ap (λ (z : Parts). z.frames) is }

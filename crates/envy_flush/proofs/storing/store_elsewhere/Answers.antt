@@ -1,7 +1,7 @@
-use Rattle.std.proofs.Common.{◌≡◌, ◌∙◌, ◌*◌, ◌+◌, true, false, Err, ap}
+use Rattle.std.proofs.Common.{◌≡◌, ◌∙◌, ◌*◌, ◌+◌, ◌<◌, true, false, Err, sym, ap, subst}
 use Rattle.std.proofs.lemmas.Result.{err_from_is_err_and}
 use Rattle.envy_map.specs.Fields.{chart, undo}
-use Rattle.envy_layout.specs.Same.{Same, Stays}
+use Rattle.envy_layout.specs.Same.{Same, Stays, Framed}
 use Rattle.envy_layout.specs.Sound.{owned_by}
 use Rattle.envy_flush.proofs.Leaving.{leaves_then}
 use Rattle.envy_layout.proofs.Owners.{owned_by-framed}
@@ -10,6 +10,7 @@ use Rattle.envy_layout.proofs.WordPuts.{Dropped-after, Dropped-more}
 use Rattle.envy_base.specs.declared.board.Trouble.{Trouble}
 use Rattle.envy_flush.proofs.CallExits.{err-if, err-after, err-bad, off-if, off-after, off-bad, ok-bad, le-same, plus-none}
 use Rattle.envy_flush.proofs.ShadeAnswers.{Wrote-ended, Shaded-ended}
+use Rattle.envy_base.specs.declared.shape.Shape.{Shape}
 use Rattle.envy_flush.proofs.storing.store_elsewhere.Goals as goal
 
 pub returns-in_err-bring-clause-free : goal.returns-in_err-bring-clause-free
@@ -108,3 +109,15 @@ returns-clause-stops g c is = ok-bad tt is
 
 pub returns-clause-power : goal.returns-clause-power
 returns-clause-power g c = c.in_ok-bring.ensures.power
+
+pub bring-requires-clause-page : goal.bring-requires-clause-page
+bring-requires-clause-page g c = subst (λ (sh : Shape). c.args.page < sh.pages) (sym (Framed.shape (Stays.framed (Same.stays c.make_room.ensures.same)))) c.requires.page
+
+pub bring-requires-clause-word : goal.bring-requires-clause-word
+bring-requires-clause-word g c = c.requires.word
+
+pub bring-requires-clause-room : goal.bring-requires-clause-room
+bring-requires-clause-room g c = c.in_ok-make_room.ensures.room
+
+pub bring-requires-clause-elsewhere : goal.bring-requires-clause-elsewhere
+bring-requires-clause-elsewhere g c = c.in_ok-make_room.ensures.elsewhere c.args.page c.requires.elsewhere
