@@ -1,5 +1,5 @@
 -- What the end of a transaction leaves where power fails.
-use Rattle.std.proofs.Common.{◌≡◌, ◌⊎◌, inl, inr, ℕ, false, Result, Ok, Err, IsErrAnd, length, ap}
+use Rattle.std.proofs.Common.{◌≡◌, ◌⊎◌, inl, inr, ℕ, ◌<◌, ◌≤◌, false, None, Some, Result, Ok, Err, IsErrAnd, length, ap, arith}
 use Rattle.std.specs.Prelude.{MatchResult}
 use Rattle.envy_base.specs.declared.board.Off.{Off}
 use Rattle.envy_map.specs.Fields.{Chart}
@@ -35,3 +35,10 @@ commits-then t old mid new (Err off) commits same = inr (Commits-after 0 0 0 0 t
 pub commits-shape : (t : ℕ) (old new : Chart) → Same 0 0 old new ⊎ Commits 0 0 t old new → new.shape ≡ old.shape
 commits-shape t old new (inl same) = Framed.shape (Stays.framed (Same.stays same))
 commits-shape t old new (inr done) = Commits.shape done
+
+-- a slot that was found, and the end of the look at all
+pub none-some : {P : Type 0} (t : ℕ) → None ≡ Some t → P
+none-some t is = absurd (let no : None ≡ Some t = is in cc)
+
+pub within-end : (u t : ℕ) → u < 64 → 64 ≤ t → u < t
+within-end u t low end = omega arith

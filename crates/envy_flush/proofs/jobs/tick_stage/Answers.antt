@@ -1,4 +1,4 @@
-use Rattle.std.proofs.Common.{◌≡◌, ◌∙◌, ◌<◌, ◌-◌, false, true, refl, sym, ap, subst}
+use Rattle.std.proofs.Common.{◌≡◌, ◌<◌, ◌-◌, refl, sym, ap, subst}
 use Rattle.envy_base.specs.declared.shape.Shape.{Shape}
 use Rattle.envy_map.specs.Fields.{Chart, chart}
 use Rattle.envy_layout.specs.Same.{Same, Stays, Framed}
@@ -7,7 +7,7 @@ use Rattle.envy_table.proofs.HitLemmas.{Rests-refl}
 use Rattle.envy_flush.specs.Agreement.{Fits, AreStages}
 use Rattle.envy_flush.proofs.CountLemmas.{Counting-quiet}
 use Rattle.envy_flush.proofs.AgreeLemmas.{Agrees-begun, Fits-next}
-use Rattle.envy_flush.proofs.CallExits.{off-if, off-after, off-bad, ok-bad}
+use Rattle.envy_flush.proofs.CallExits.{unlit, off-if, off-after, off-bad, ok-bad}
 use Rattle.envy_flush.proofs.SwapAnswers.{TicksStage-began, StageBegins-began}
 use Rattle.envy_flush.proofs.jobs.tick_stage.Goals as goal
 
@@ -27,9 +27,9 @@ returns-in_err-begin-clause-leaves g c =
     record {
       steady = record {
         fits = Fits-next old.shape new.shape c.args.parts.now _ shape r.fits c.next.ensures.rest (c.next.ensures.below _ (AreStages.within (Fits.stages r.fits))).1 refl refl refl refl;
-        agrees = λ on. absurd (let no : false ≡ true = sym c.in_err-begin.ensures.power ∙ on in cc);
+        agrees = λ on. unlit new.on c.in_err-begin.ensures.power on;
       };
-      counting = Counting-quiet old new c.args.parts.now _ (Stays.counted s) refl refl (record { copied = ap (λ (p : Plan). p.copied) plan; moved = ap (λ (p : Plan). p.moved) plan; erased = ap (λ (p : Plan). p.erased) plan }) (ap (λ (p : Plan). p.since) plan) (λ on. absurd (let no : false ≡ true = sym c.in_err-begin.ensures.power ∙ on in cc));
+      counting = Counting-quiet old new c.args.parts.now _ (Stays.counted s) refl refl (record { copied = ap (λ (p : Plan). p.copied) plan; moved = ap (λ (p : Plan). p.moved) plan; erased = ap (λ (p : Plan). p.erased) plan }) (ap (λ (p : Plan). p.since) plan) (λ on. unlit new.on c.in_err-begin.ensures.power on);
       rests = Rests-refl c.args.parts.now.cache;
     }
 
