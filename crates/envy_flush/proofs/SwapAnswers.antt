@@ -89,3 +89,7 @@ TicksStage-began old new x k left moves plan order next is rest task none =
 
 pub StageBegins-began : (old new : Chart) (x t : Plan) (v : ℕ) (moves : List ℕ) → new ≡ with_fields old (with_job (Some (Copy v)) old.fields) → t ≡ record x { moves = moves; aside = None; mark = 0 } → moves ≡ [] → StageBegins old new t
 StageBegins-began old new x t v moves is task none = (v, is, ap (λ (p : Plan). p.moves) task ∙ none)
+
+-- nothing goes aside
+pub none-pair : {P : Type 0} (x : ℕ × ℕ) → None ≡ Some x → P
+none-pair x is = absurd (let no : None ≡ Some x = is in cc)

@@ -8,7 +8,8 @@ use Rattle.envy_flush.specs.Agreement.{Fits, AreStages}
 use Rattle.envy_flush.proofs.CountLemmas.{Counting-quiet}
 use Rattle.envy_flush.proofs.AgreeLemmas.{Agrees-begun, Fits-next}
 use Rattle.envy_flush.proofs.CallExits.{unlit, off-if, off-after, off-bad, ok-bad}
-use Rattle.envy_flush.proofs.SwapAnswers.{TicksStage-began, StageBegins-began}
+use Rattle.std.proofs.lemmas.List.Elements.{All-nil}
+use Rattle.envy_flush.proofs.SwapAnswers.{TicksStage-began, StageBegins-began, none-pair}
 use Rattle.envy_flush.proofs.jobs.tick_stage.Goals as goal
 
 pub begin-requires-clause-position : goal.begin-requires-clause-position
@@ -100,3 +101,9 @@ returns-clause-never g c is = ok-bad _ is
 
 pub returns-clause-power : goal.returns-clause-power
 returns-clause-power g c = c.in_ok-begin.ensures.power
+
+pub begin-requires-clause-moves : goal.begin-requires-clause-moves
+begin-requires-clause-moves g c = rw c.new.ensures (All-nil _)
+
+pub begin-requires-clause-aside : goal.begin-requires-clause-aside
+begin-requires-clause-aside g c first last is = none-pair (first, last) is
