@@ -66,3 +66,12 @@ row-less n = omega arith
 
 pub plus-none : (n : ℕ) → n + 0 ≤ n
 plus-none n = omega arith
+
+pub turn-next : (n : ℕ) → n + 4 + 1 ≤ n + 5
+turn-next n = omega arith
+
+pub turn-less : (n : ℕ) → n + 4 ≤ n + 5
+turn-less n = omega arith
+
+pub three-four : 3 ≤ 4
+three-four = omega arith

@@ -12,6 +12,7 @@ use Rattle.envy_flush.specs.declared.parts.Parts.{Parts}
 use Rattle.envy_flush.proofs.AgreeLemmas.{Fits-moved, sizes_of}
 use Rattle.envy_flush.proofs.CallExits.{unlit}
 
+-- owners and parts are of no board that has power
 pub KeepsOwners-lost : (new : Chart) (was now : Ownership) → new.on ≡ false → now ≡ was → KeepsOwners new was now
 KeepsOwners-lost new was now off is = record { limit = ap (λ (o : Ownership). o.limit) is; agree = λ on. unlit new.on off on }
 

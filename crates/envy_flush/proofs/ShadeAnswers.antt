@@ -1,6 +1,6 @@
 -- What a first put says at the exits of its calls.
-use Rattle.std.proofs.Common.{◌≡◌, ◌∙◌, ℕ, ◌+◌, ◌*◌, ◌-◌, ◌<◌, ◌≤◌, false, Result, Ok, Err, IsErrAnd, List, length, get_or, Some, None, Option, refl, sym, ap, subst, arith}
-use Rattle.std.specs.Prelude.{Any, IsTrue}
+use Rattle.std.proofs.Common.{◌≡◌, ◌∙◌, ℕ, ◌+◌, ◌*◌, ◌-◌, ◌<◌, ◌≤◌, false, Result, Ok, Err, IsErrAnd, List, get_or, Some, None, Option, refl, sym, ap, subst, arith}
+use Rattle.std.specs.Prelude.{Any}
 use Rattle.envy_base.specs.declared.board.Trouble.{Trouble}
 use Rattle.envy_base.specs.declared.board.Trouble.TheVariants.{Off as TroubleOff, Bad}
 use Rattle.envy_base.specs.declared.fields.Place.{Place}

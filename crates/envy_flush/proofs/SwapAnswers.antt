@@ -1,23 +1,20 @@
 -- A swap that begins, and its next stage.
-use Rattle.std.proofs.Common.{◌≡◌, ◌∙◌, inr, ℕ, ◌<◌, ◌≤◌, false, List, [], ◌∷◌, length, drop, get_or, Option, None, Some, refl, sym, ap, subst, arith}
-use Rattle.std.specs.Prelude.{IsTrue, IfSome, MatchOption, slice_get}
+use Rattle.std.proofs.Common.{◌≡◌, ◌∙◌, inr, ℕ, ◌≤◌, false, List, [], ◌∷◌, length, drop, get_or, Option, None, Some, refl, ap, subst, arith}
+use Rattle.std.specs.Prelude.{IfSome, MatchOption, slice_get}
 use Rattle.envy_base.specs.Counting.{up}
 use Rattle.envy_base.specs.declared.fields.Job.TheVariants.{Copy}
-use Rattle.envy_base.specs.declared.shape.Shape.{Shape}
 use Rattle.envy_map.specs.Fields.{Chart, with_fields}
 use Rattle.envy_map.specs.Writes.{with_job}
-use Rattle.envy_layout.specs.Same.{Same, Stays, Framed, Counted}
+use Rattle.envy_layout.specs.Same.{Same, Stays, Counted}
 use Rattle.envy_reloc.specs.Plan.{Plan}
 use Rattle.envy_wear.specs.Swaps.{IsDue, stages_of}
 use Rattle.envy_wear.specs.declared.swap.Swap.{Swap}
-use Rattle.envy_flush.specs.Agreement.{Fits, Steady}
-use Rattle.envy_flush.specs.Counts.{Counting}
 use Rattle.envy_flush.specs.Budgets.{StageBegins}
+use Rattle.envy_flush.specs.Counts.{Counting}
 use Rattle.envy_flush.specs.Steps.{TicksStage}
 use Rattle.envy_flush.specs.Ticks.{IsNoneDue, TicksSwap, CountsTick}
 use Rattle.envy_flush.specs.declared.did.Did.TheVariants.{Began}
 use Rattle.envy_flush.specs.declared.parts.Parts.{Parts}
-use Rattle.envy_flush.proofs.AgreeLemmas.{Fits-moved}
 use Rattle.envy_flush.proofs.CallExits.{unlit}
 use Rattle.envy_flush.proofs.CountLemmas.{Counting-quiet, Tallies-quiet}
 
@@ -51,12 +48,6 @@ CountsTick-began old new x left swaps plan counted more task = record {
 }
 
 -- power failed in it
-pub Steady-lost : (old new : Chart) (x : Parts) (plan : Plan) → Same 0 0 old new → new.on ≡ false → Fits old.shape x → Steady new (record x { reloc = plan })
-Steady-lost old new x plan same off fits = record {
-  fits = Fits-moved old.shape new.shape x (record x { reloc = plan }) (Framed.shape (Stays.framed (Same.stays same))) fits refl refl refl refl refl;
-  agrees = λ on. unlit new.on off on;
-}
-
 pub Counting-lost : (old new : Chart) (x : Parts) (moves : List ℕ) (plan : Plan) → Same 0 0 old new → new.on ≡ false → plan ≡ record x.reloc { moves = moves; aside = None; mark = 0 } → Counting old x new (record x { reloc = plan })
 Counting-lost old new x moves plan same off task =
     Counting-quiet old new x (record x { reloc = plan }) (Stays.counted (Same.stays same)) refl refl (record { copied = ap (λ (t : Plan). t.copied) task; moved = ap (λ (t : Plan). t.moved) task; erased = ap (λ (t : Plan). t.erased) task }) (ap (λ (t : Plan). t.since) task) (λ on. unlit new.on off on)

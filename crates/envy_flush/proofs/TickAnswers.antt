@@ -1,11 +1,11 @@
 -- What a tick says, whichever rule it went by.
-use Rattle.std.proofs.Common.{◌≡◌, ◌∙◌, ◌⊎◌, inl, inr, Bool, false, true, ℕ, ◌<◌, ◌≤◌, List, [], length, Option, Some, Result, Ok, Err, IsErrAnd, sym, ap, subst, arith}
+use Rattle.std.proofs.Common.{◌≡◌, ◌∙◌, inl, inr, Bool, false, true, ℕ, ◌<◌, ◌≤◌, List, [], length, Option, Some, Result, Ok, Err, IsErrAnd, sym, ap, subst, arith}
 use Rattle.std.specs.Prelude.{IsTrue}
 use Rattle.envy_base.specs.declared.board.Trouble.{Trouble}
 use Rattle.envy_base.specs.declared.board.Trouble.TheVariants.{Off as TroubleOff, Bad}
 use Rattle.envy_layout.specs.Power.{power_after}
 use Rattle.envy_map.specs.Fields.{Chart}
-use Rattle.envy_layout.specs.Same.{Same, Stays, Framed, Wears}
+use Rattle.envy_layout.specs.Same.{Same, Wears}
 use Rattle.envy_layout.specs.Sound.{IsSound}
 use Rattle.envy_layout.proofs.Composition.{Same-refl, Same-more}
 use Rattle.envy_layout.proofs.Sames.{same_within}
@@ -77,6 +77,7 @@ parts-staged x y is =
     ∙ ap (λ (s : Pool). record x { space = s; reloc = y.reloc; stages = y.stages }) (sym (ap (λ (z : Parts). z.space) is))
     ∙ ap (λ (t : Translations). record x { space = y.space; cache = t; reloc = y.reloc; stages = y.stages }) (sym (ap (λ (z : Parts). z.cache) is))
 
+-- what an answer that more is left, or that nothing is, isn't
 pub no-more : {P : Type 0} → ◌≡◌ {A = Bool} true false → P
 no-more is = absurd (let no : true ≡ false = is in cc)
 
@@ -103,5 +104,6 @@ power-handed A B r on TroubleOff power is = power ∙ ap (λ (x : Result A Troub
 pub parts-stepped : (x y : Parts) (left : List ℕ) → y ≡ record x { space = y.space; cache = y.cache; reloc = y.reloc } → record y { stages = left } ≡ record x { space = y.space; cache = y.cache; reloc = y.reloc; stages = left }
 parts-stepped x y left is = ap (λ (z : Parts). record z { stages = left }) is
 
+-- and the other parts
 pub idles-stepped : (x y : Parts) → y ≡ record x { space = y.space; cache = y.cache; reloc = y.reloc } → Idles x y
 idles-stepped x y is = record { flushes = ap (λ (z : Parts). z.flushes) is; swaps = ap (λ (z : Parts). z.swaps) is; chooser = ap (λ (z : Parts). z.chooser) is; frames = ap (λ (z : Parts). z.frames) is }

@@ -1,5 +1,5 @@
 -- What a store says of a page that stands in a frame.
-use Rattle.std.proofs.Common.{◌≡◌, ℕ, ◌+◌, ◌≤◌, false, Result, Ok, Err, IsErrAnd, length, Some, refl, ap, arith}
+use Rattle.std.proofs.Common.{◌≡◌, ℕ, Result, Ok, Err, IsErrAnd, length, Some, refl, ap, arith}
 use Rattle.std.specs.Prelude.{IsTrue}
 use Rattle.envy_base.specs.declared.board.Off.{Off}
 use Rattle.envy_base.specs.declared.board.Trouble.{Trouble}
@@ -7,7 +7,7 @@ use Rattle.envy_base.specs.declared.board.Trouble.TheVariants.{Off as TroubleOff
 use Rattle.envy_base.specs.declared.fields.Place.TheVariants.{Frame}
 use Rattle.envy_map.specs.Fields.{Chart, with_fields, place}
 use Rattle.envy_map.specs.Writes.{Writes, with_frame_word}
-use Rattle.envy_layout.specs.Same.{Counted, Stored, Interrupted, Shadowed, Dropped}
+use Rattle.envy_layout.specs.Same.{Stored, Interrupted, Shadowed, Dropped}
 use Rattle.envy_layout.proofs.Composition.{Counted-put}
 use Rattle.envy_layout.proofs.WordPuts.{Dropped-more}
 use Rattle.envy_table.specs.Agreement.{AreCurrent}

@@ -1,4 +1,4 @@
-use Rattle.std.proofs.Common.{Bool, Err, ◌∙◌, ◌*◌, ◌+◌, arith, refl, ap}
+use Rattle.std.proofs.Common.{Bool, Err, ◌∙◌, ◌*◌, ◌+◌, refl, ap}
 use Rattle.envy_base.specs.declared.board.Trouble.{Trouble}
 use Rattle.std.proofs.lemmas.Result.{err_from_is_err_and}
 use Rattle.envy_map.specs.Fields.{chart}
@@ -8,7 +8,7 @@ use Rattle.envy_flush.specs.Budgets.{Going, Spends}
 use Rattle.envy_flush.specs.declared.parts.Parts.{Parts}
 use Rattle.envy_flush.proofs.BudgetLemmas.{Going-start, Going-more, Going-stops, Going-last}
 use Rattle.envy_flush.proofs.Leaving.{leaves_none, leaves_then, counts_bad_then}
-use Rattle.envy_flush.proofs.CallExits.{err-if, err-after, err-bad, ok-bad}
+use Rattle.envy_flush.proofs.CallExits.{err-if, err-after, err-bad, ok-bad, le-same, turn-next, turn-less, three-four}
 use Rattle.envy_flush.proofs.FlushLemmas.{err-at}
 use Rattle.envy_flush.proofs.StepLemmas.{StepsBy-more, StepsBy-still}
 use Rattle.envy_layout.proofs.FrameStay.{FramesStay-trans}
@@ -31,13 +31,13 @@ loop-turn-init g c =
 pub returns-in_err-turn-clause-same : goal.returns-in_err-turn-clause-same
 returns-in_err-turn-clause-same g c =
     let k = c.loop-turn.invariant.going in
-    Same-more (3 * c.args.rows + 4 + 1) 4 (3 * c.args.rows + 5) 4 _ _ (omega arith) (omega arith) (Going-stops _ _ _ _ _ _ _ _ k c.in_err-turn.ensures.turns)
+    Same-more (3 * c.args.rows + 4 + 1) 4 (3 * c.args.rows + 5) 4 _ _ (turn-next (3 * c.args.rows)) (le-same 4) (Going-stops _ _ _ _ _ _ _ _ k c.in_err-turn.ensures.turns)
 
 pub returns-then-not-branch-clause-same : goal.returns-then-not-branch-clause-same
 returns-then-not-branch-clause-same g c =
     let k = c.loop-turn.invariant.going in
     let w = Going.work k in
-    Same-more (3 * c.args.rows + 4) 3 (3 * c.args.rows + 5) 4 _ _ (omega arith) (omega arith) (Going-last _ _ _ _ _ _ _ _ _ k (c.in_ok-turn.ensures.turns w.left_n w.left_e w.left_s w.left).0)
+    Same-more (3 * c.args.rows + 4) 3 (3 * c.args.rows + 5) 4 _ _ (turn-less (3 * c.args.rows)) three-four (Going-last _ _ _ _ _ _ _ _ _ k (c.in_ok-turn.ensures.turns w.left_n w.left_e w.left_s w.left).0)
 
 pub loop-turn-preserved : goal.loop-turn-preserved
 loop-turn-preserved g c =

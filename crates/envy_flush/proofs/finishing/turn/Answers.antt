@@ -1,7 +1,7 @@
 use Rattle.std.proofs.Common.{◌∙◌, inl, inr, refl, sym, ap, Err}
 use Rattle.envy_base.specs.State.{IsBoard}
 use Rattle.envy_base.specs.declared.board.Trouble.{Trouble}
-use Rattle.envy_map.specs.Fields.{Chart, chart}
+use Rattle.envy_map.specs.Fields.{chart}
 use Rattle.envy_layout.proofs.FrameStay.{FramesStay-refl}
 use Rattle.envy_flush.proofs.BudgetLemmas.{Turns-job, Turns-stage}
 use Rattle.envy_flush.proofs.StoreLemmas.{shape-step}

@@ -1,4 +1,4 @@
-use Rattle.std.proofs.Common.{◌∙◌, ◌<◌, ◌-◌, Err, get_or, refl, sym, ap, subst}
+use Rattle.std.proofs.Common.{◌<◌, ◌-◌, Err, get_or, refl, sym, ap, subst}
 use Rattle.envy_base.specs.declared.shape.Shape.{Shape}
 use Rattle.envy_base.specs.State.{IsBoard}
 use Rattle.envy_frames.specs.Agreement.{IsHeld}

@@ -1,4 +1,4 @@
-use Rattle.std.proofs.Common.{◌≡◌, inl, inr, refl, sym}
+use Rattle.std.proofs.Common.{◌≡◌, inl, inr, refl}
 use Rattle.envy_map.specs.Fields.{chart}
 use Rattle.envy_layout.specs.Same.{Same, Stays, Framed}
 use Rattle.envy_layout.proofs.Composition.{Same-refl}
@@ -6,9 +6,10 @@ use Rattle.envy_table.proofs.HitLemmas.{Rests-refl}
 use Rattle.envy_wear.specs.Swaps.{IsDue, IsMostWorn, IsLeastWorn}
 use Rattle.envy_flush.proofs.AgreeLemmas.{Agrees-begun, Fits-staged}
 use Rattle.envy_flush.proofs.CallExits.{unlit, off-if, off-after, off-bad, ok-bad}
+use Rattle.envy_flush.proofs.EndAnswers.{Steady-lost}
 use Rattle.envy_flush.proofs.JobLemmas.{IsPlanOf-anew}
 use Rattle.envy_flush.proofs.Leaving.{leaves_none, match_known, counts_tick}
-use Rattle.envy_flush.proofs.SwapAnswers.{plan-anew, stages-left, two-left, TicksSwap-began, CountsTick-began, Steady-lost, Counting-lost, due-some, due-none, anew-some}
+use Rattle.envy_flush.proofs.SwapAnswers.{plan-anew, stages-left, two-left, TicksSwap-began, CountsTick-began, Counting-lost, due-some, due-none, anew-some}
 use Rattle.envy_flush.proofs.WearLemmas.{IsQuiet-none}
 use Rattle.envy_flush.proofs.WordAnswers.{Steady-ready}
 use Rattle.envy_flush.proofs.ticking.tick_swap.Goals as goal
@@ -59,7 +60,7 @@ returns-in_err-begin g c =
     let w = Counting-lost old new x _ c.begin.new.self same off (c.begin.ensures.plan r.on) in
     record {
       same = same;
-      steady = Steady-lost old new x c.begin.new.self same off r.fits;
+      steady = Steady-lost old new x _ (Framed.shape (Stays.framed (Same.stays same))) off r.fits refl refl refl refl refl;
       does = off-if c.from_residual-in_err-begin.result _ is;
       counts = match_known c.from_residual-in_err-begin.result _ _ (counts_tick _ _ _ _ w) w;
       idle = λ none. absurd (none c.in-Some.swap due);
