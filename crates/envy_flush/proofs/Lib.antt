@@ -2,9 +2,11 @@ pub mod AgreeLemmas
 pub mod AvailLemmas
 pub mod BringAnswers
 pub mod BudgetLemmas
+mod CallExits
 pub mod CleanLemmas
 pub mod CountLemmas
 pub mod ElsewhereLemmas
+mod EndAnswers
 pub mod EndLemmas
 pub mod FlushAnswers
 pub mod FlushLemmas
@@ -16,8 +18,12 @@ pub mod NearLemmas
 pub mod PutLemmas
 pub mod RestartLemmas
 pub mod RowLemmas
+mod ShadeAnswers
 pub mod ShadeLemmas
 pub mod StepLemmas
 pub mod StoreLemmas
+mod SwapAnswers
+mod TickAnswers
 mod TickLemmas
 pub mod WearLemmas
+mod WordAnswers

@@ -11,6 +11,8 @@ use Rattle.envy_flush.proofs.AgreeLemmas.{Fits-moved}
 use Rattle.envy_flush.proofs.EndLemmas.{PartsAgree-restored, Closes-restored, Rows-restored, AreOwned-slot}
 use Rattle.envy_flush.proofs.FlushLemmas.{on-ok}
 use Rattle.envy_flush.proofs.Leaving.{if_powered}
+use Rattle.envy_flush.proofs.CallExits.{none-if, none-power}
+use Rattle.envy_flush.proofs.EndAnswers.{KeepsOwners-lost, Steady-lost}
 use Rattle.envy_flush.proofs.ending.abort_pages.Goals as goal
 
 pub returns-in_err-restore_all-clause-durable : goal.returns-in_err-restore_all-clause-durable
@@ -72,3 +74,56 @@ returns-clause-steady g c =
 
 pub returns-clause-power : goal.returns-clause-power
 returns-clause-power g c = c.set_unused_slot.ensures.power
+
+pub restore_all-requires-clause-slot : goal.restore_all-requires-clause-slot
+restore_all-requires-clause-slot g c = c.requires.slot
+
+pub restore_all-requires-clause-owned : goal.restore_all-requires-clause-owned
+restore_all-requires-clause-owned g c = c.requires.owners
+
+pub restore_all-requires-clause-shape : goal.restore_all-requires-clause-shape
+restore_all-requires-clause-shape g c = c.requires.ready.fits.pool
+
+pub returns-in_err-restore_all-clause-aborts : goal.returns-in_err-restore_all-clause-aborts
+returns-in_err-restore_all-clause-aborts g c = none-if c.from_residual.result _ _ c.from_residual.ensures.1
+
+pub returns-in_err-restore_all-clause-owners : goal.returns-in_err-restore_all-clause-owners
+returns-in_err-restore_all-clause-owners g c = KeepsOwners-lost (chart (g.B.Board.state c.restore_all.new.board)) c.args.owned.now c.restore_all.new.self c.in_err-restore_all.ensures.power c.in_err-restore_all.ensures.unchanged
+
+pub returns-in_err-restore_all-clause-rests : goal.returns-in_err-restore_all-clause-rests
+returns-in_err-restore_all-clause-rests g c = c.restore_all.ensures.rests
+
+pub returns-in_err-restore_all-clause-steady : goal.returns-in_err-restore_all-clause-steady
+returns-in_err-restore_all-clause-steady g c =
+    let old = chart (g.B.Board.state c.args.board.now) in
+    let new = chart (g.B.Board.state c.restore_all.new.board) in
+    let r = c.requires.ready in
+    let e = c.restore_all.ensures in
+    Steady-lost old new c.args.parts.now _ (SameDurable.shape (e.durable r.sound)) c.in_err-restore_all.ensures.power r.fits e.sizes.0 e.sizes.1 (Rests.size e.rests) refl refl
+
+pub returns-in_err-restore_all-clause-parts : goal.returns-in_err-restore_all-clause-parts
+returns-in_err-restore_all-clause-parts g c = refl
+
+pub returns-in_err-restore_all-clause-power : goal.returns-in_err-restore_all-clause-power
+returns-in_err-restore_all-clause-power g c = none-power c.from_residual.result _ (g.B.Board.state c.restore_all.new.board).on c.in_err-restore_all.ensures.power c.from_residual.ensures.1
+
+pub set_unused_slot-requires-clause-sound : goal.set_unused_slot-requires-clause-sound
+set_unused_slot-requires-clause-sound g c = SameDurable.sound (c.restore_all.ensures.durable c.requires.ready.sound)
+
+pub set_unused_slot-requires-clause-slot : goal.set_unused_slot-requires-clause-slot
+set_unused_slot-requires-clause-slot g c = c.requires.slot
+
+pub set_unused_slot-requires-clause-unused : goal.set_unused_slot-requires-clause-unused
+set_unused_slot-requires-clause-unused g c on = c.in_ok-restore_all.ensures.restores.unused
+
+pub returns-clause-rests : goal.returns-clause-rests
+returns-clause-rests g c = c.restore_all.ensures.rests
+
+pub returns-clause-parts : goal.returns-clause-parts
+returns-clause-parts g c = refl
+
+pub restore_all-requires-clause-restoring : goal.restore_all-requires-clause-restoring
+restore_all-requires-clause-restoring g c on =
+    let r = c.requires.ready in
+    let a = r.agrees in
+    record { on = on; sound = r.sound; active = c.requires.active; agrees = a.pool; are_held = a.held; current = a.current; parted = a.two }

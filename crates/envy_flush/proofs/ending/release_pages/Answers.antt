@@ -9,6 +9,8 @@ use Rattle.envy_flush.proofs.AgreeLemmas.{Fits-moved}
 use Rattle.envy_flush.proofs.EndLemmas.{PartsAgree-released, Closes-released, Rows-released, AreOwned-slot}
 use Rattle.envy_flush.proofs.FlushLemmas.{on-ok}
 use Rattle.envy_flush.proofs.Leaving.{if_powered}
+use Rattle.envy_flush.proofs.CallExits.{none-if, none-power}
+use Rattle.envy_flush.proofs.EndAnswers.{KeepsOwners-lost, Steady-lost}
 use Rattle.envy_flush.proofs.ending.release_pages.Goals as goal
 
 pub returns-clause-same : goal.returns-clause-same
@@ -58,3 +60,50 @@ returns-in_err-release_all-clause-same g c = c.release_all.ensures.same c.requir
 
 pub returns-clause-power : goal.returns-clause-power
 returns-clause-power g c = c.set_unused_slot.ensures.power
+
+pub release_all-requires-clause-slot : goal.release_all-requires-clause-slot
+release_all-requires-clause-slot g c = c.requires.releasing.low
+
+pub release_all-requires-clause-owned : goal.release_all-requires-clause-owned
+release_all-requires-clause-owned g c on = c.requires.releasing.owned
+
+pub release_all-requires-clause-shape : goal.release_all-requires-clause-shape
+release_all-requires-clause-shape g c = c.requires.releasing.fits.pool
+
+pub returns-in_err-release_all-clause-ends : goal.returns-in_err-release_all-clause-ends
+returns-in_err-release_all-clause-ends g c = none-if c.from_residual.result _ _ c.from_residual.ensures.1
+
+pub returns-in_err-release_all-clause-owners : goal.returns-in_err-release_all-clause-owners
+returns-in_err-release_all-clause-owners g c = KeepsOwners-lost (chart (g.B.Board.state c.release_all.new.board)) c.args.owned.now c.release_all.new.self c.in_err-release_all.ensures.power c.in_err-release_all.ensures.unchanged
+
+pub returns-in_err-release_all-clause-steady : goal.returns-in_err-release_all-clause-steady
+returns-in_err-release_all-clause-steady g c =
+    let old = chart (g.B.Board.state c.args.board.now) in
+    let new = chart (g.B.Board.state c.release_all.new.board) in
+    let r = c.requires.releasing in
+    let e = c.release_all.ensures in
+    Steady-lost old new c.args.parts.now _ (SameWords.shape (e.same r.sound)) c.in_err-release_all.ensures.power r.fits e.shape refl refl refl refl
+
+pub returns-in_err-release_all-clause-parts : goal.returns-in_err-release_all-clause-parts
+returns-in_err-release_all-clause-parts g c = refl
+
+pub returns-in_err-release_all-clause-power : goal.returns-in_err-release_all-clause-power
+returns-in_err-release_all-clause-power g c = none-power c.from_residual.result _ (g.B.Board.state c.release_all.new.board).on c.in_err-release_all.ensures.power c.from_residual.ensures.1
+
+pub set_unused_slot-requires-clause-sound : goal.set_unused_slot-requires-clause-sound
+set_unused_slot-requires-clause-sound g c = SameWords.sound (c.release_all.ensures.same c.requires.releasing.sound)
+
+pub set_unused_slot-requires-clause-slot : goal.set_unused_slot-requires-clause-slot
+set_unused_slot-requires-clause-slot g c = c.requires.releasing.low
+
+pub set_unused_slot-requires-clause-unused : goal.set_unused_slot-requires-clause-unused
+set_unused_slot-requires-clause-unused g c on = c.in_ok-release_all.ensures.releases.unused
+
+pub returns-clause-parts : goal.returns-clause-parts
+returns-clause-parts g c = refl
+
+pub release_all-requires-clause-releasing : goal.release_all-requires-clause-releasing
+release_all-requires-clause-releasing g c on =
+    let r = c.requires.releasing in
+    let a = r.agrees in
+    record { on = on; sound = r.sound; low = r.low; committed = r.committed; agrees = a.pool; parted = a.two }

@@ -1,12 +1,14 @@
-use Rattle.std.proofs.Common.{◌∙◌, ◌*◌, ◌+◌, arith, refl, ap}
+use Rattle.std.proofs.Common.{Bool, Err, ◌∙◌, ◌*◌, ◌+◌, refl, ap}
+use Rattle.envy_base.specs.declared.board.Trouble.{Trouble}
 use Rattle.std.proofs.lemmas.Result.{err_from_is_err_and}
 use Rattle.envy_map.specs.Fields.{chart}
-use Rattle.envy_layout.specs.Same.{Same, Stays}
+use Rattle.envy_layout.specs.Same.{Same, Stays, Counted}
 use Rattle.envy_flush.specs.Agreement.{Ready, Steady}
 use Rattle.envy_flush.specs.Budgets.{Going, Spends}
 use Rattle.envy_flush.specs.declared.parts.Parts.{Parts}
 use Rattle.envy_flush.proofs.BudgetLemmas.{Going-start, Going-more, Going-stops, Going-last}
-use Rattle.envy_flush.proofs.Leaving.{leaves_none, leaves_then}
+use Rattle.envy_flush.proofs.Leaving.{leaves_none, leaves_then, counts_bad_then}
+use Rattle.envy_flush.proofs.CallExits.{err-if, err-after, err-bad, ok-bad, le-same, turn-next, turn-less, three-four}
 use Rattle.envy_flush.proofs.FlushLemmas.{err-at}
 use Rattle.envy_flush.proofs.StepLemmas.{StepsBy-more, StepsBy-still}
 use Rattle.envy_layout.proofs.FrameStay.{FramesStay-trans}
@@ -29,13 +31,13 @@ loop-turn-init g c =
 pub returns-in_err-turn-clause-same : goal.returns-in_err-turn-clause-same
 returns-in_err-turn-clause-same g c =
     let k = c.loop-turn.invariant.going in
-    Same-more (3 * c.args.rows + 4 + 1) 4 (3 * c.args.rows + 5) 4 _ _ (omega arith) (omega arith) (Going-stops _ _ _ _ _ _ _ _ k c.in_err-turn.ensures.turns)
+    Same-more (3 * c.args.rows + 4 + 1) 4 (3 * c.args.rows + 5) 4 _ _ (turn-next (3 * c.args.rows)) (le-same 4) (Going-stops _ _ _ _ _ _ _ _ k c.in_err-turn.ensures.turns)
 
 pub returns-then-not-branch-clause-same : goal.returns-then-not-branch-clause-same
 returns-then-not-branch-clause-same g c =
     let k = c.loop-turn.invariant.going in
     let w = Going.work k in
-    Same-more (3 * c.args.rows + 4) 3 (3 * c.args.rows + 5) 4 _ _ (omega arith) (omega arith) (Going-last _ _ _ _ _ _ _ _ _ k (c.in_ok-turn.ensures.turns w.left_n w.left_e w.left_s w.left).0)
+    Same-more (3 * c.args.rows + 4) 3 (3 * c.args.rows + 5) 4 _ _ (turn-less (3 * c.args.rows)) three-four (Going-last _ _ _ _ _ _ _ _ _ k (c.in_ok-turn.ensures.turns w.left_n w.left_e w.left_s w.left).0)
 
 pub loop-turn-preserved : goal.loop-turn-preserved
 loop-turn-preserved g c =
@@ -95,3 +97,36 @@ returns-in_err-turn-clause-leaves g c = leaves_then _ (chart (g.B.Board.state c.
 
 pub returns-then-not-branch-clause-leaves : goal.returns-then-not-branch-clause-leaves
 returns-then-not-branch-clause-leaves g c = leaves_then _ (chart (g.B.Board.state c.loop-turn.board)) _ _ c.loop-turn.parts _ c.loop-turn.invariant.leaves c.turn.ensures.leaves
+
+pub turn-requires : goal.turn-requires
+turn-requires g c = record { ready = c.loop-turn.invariant.ready }
+
+pub returns-in_err-turn-clause-parts : goal.returns-in_err-turn-clause-parts
+returns-in_err-turn-clause-parts g c =
+    let y = c.turn.new.parts in
+    c.turn.ensures.parts ∙ ap (λ (z : Parts). record z { space = y.space; cache = y.cache; reloc = y.reloc; stages = y.stages }) c.loop-turn.invariant.parts
+
+pub returns-in_err-turn-clause-finishes : goal.returns-in_err-turn-clause-finishes
+returns-in_err-turn-clause-finishes g c = err-if c.from_residual.result _ c.in_err-turn.field-0.0 c.from_residual.ensures.1
+
+pub returns-in_err-turn-clause-power : goal.returns-in_err-turn-clause-power
+returns-in_err-turn-clause-power g c = err-after Bool c.from_residual.result (g.B.Board.state c.turn.new.board).on c.in_err-turn.field-0.0 c.in_err-turn.ensures.power c.from_residual.ensures.1
+
+pub returns-in_err-turn-clause-bad : goal.returns-in_err-turn-clause-bad
+returns-in_err-turn-clause-bad g c is =
+    counts_bad_then (Counted.bads (Stays.counted (Same.stays (Spends.same (Going.work c.loop-turn.invariant.going))))) (Counted.bads (Stays.counted (Same.stays c.in_err-turn.ensures.turns)))
+    (c.in_err-turn.ensures.bad (ap (λ (e : Trouble). Err e) (err-bad c.from_residual.result c.in_err-turn.field-0.0 c.from_residual.ensures.1 is)))
+
+pub returns-then-not-branch-clause-parts : goal.returns-then-not-branch-clause-parts
+returns-then-not-branch-clause-parts g c =
+    let y = c.turn.new.parts in
+    c.turn.ensures.parts ∙ ap (λ (z : Parts). record z { space = y.space; cache = y.cache; reloc = y.reloc; stages = y.stages }) c.loop-turn.invariant.parts
+
+pub returns-then-not-branch-clause-stops : goal.returns-then-not-branch-clause-stops
+returns-then-not-branch-clause-stops g c is = ok-bad tt is
+
+pub returns-then-not-branch-clause-power : goal.returns-then-not-branch-clause-power
+returns-then-not-branch-clause-power g c = c.in_ok-turn.ensures.power
+
+pub returns-then-not-branch-clause-bad : goal.returns-then-not-branch-clause-bad
+returns-then-not-branch-clause-bad g c is = ok-bad tt is

@@ -9,6 +9,8 @@ use Rattle.envy_flush.proofs.AgreeLemmas.{Fits-staged, no-stages}
 use Rattle.envy_base.proofs.Counting.{up-rises}
 use Rattle.envy_base.specs.declared.board.Trouble.{Trouble}
 use Rattle.envy_base.specs.declared.board.Trouble.TheVariants.{Bad}
+use Rattle.envy_flush.proofs.CallExits.{unlit, ok-bad}
+use Rattle.envy_flush.proofs.TickAnswers.{power-handed, parts-stepped, idles-stepped}
 use Rattle.envy_flush.proofs.jobs.tick_job.Goals as goal
 
 pub returns-then-not-erasing-clause-leaves : goal.returns-then-not-erasing-clause-leaves
@@ -53,3 +55,71 @@ returns-then-not-erasing-clause-stops g c is =
       dropped = λ other. (c.clear.ensures, (e.spoils got).dropped other);
       spoils = (e.spoils got).spoils;
     }
+
+pub returns-in_err-job : goal.returns-in_err-job
+returns-in_err-job g c = unlit (g.B.Board.state c.args.board.now).on c.in_err-job.ensures.value c.requires.ready.on
+
+pub step_job-requires-clause-ready : goal.step_job-requires-clause-ready
+step_job-requires-clause-ready g c = c.requires.ready
+
+pub step_job-requires-clause-running : goal.step_job-requires-clause-running
+step_job-requires-clause-running g c = c.requires.running
+
+pub returns-in-Ok-clause-step : goal.returns-in-Ok-clause-step
+returns-in-Ok-clause-step g c = c.step_job.ensures.step
+
+pub returns-in-Ok-clause-leaves : goal.returns-in-Ok-clause-leaves
+returns-in-Ok-clause-leaves g c = c.step_job.ensures.leaves
+
+pub returns-in-Ok-clause-here : goal.returns-in-Ok-clause-here
+returns-in-Ok-clause-here g c = c.step_job.ensures.here
+
+pub returns-in-Ok-clause-parts : goal.returns-in-Ok-clause-parts
+returns-in-Ok-clause-parts g c = parts-stepped c.args.parts.now c.step_job.new.parts c.step_job.new.parts.stages c.step_job.ensures.parts
+
+pub returns-in-Ok-clause-does : goal.returns-in-Ok-clause-does
+returns-in-Ok-clause-does g c =
+    let e = c.step_job.ensures in
+    record { phase = c.in-Ok.phase; named = c.named.ensures; does = c.in-Ok.ensures.does; idles = idles-stepped c.args.parts.now c.step_job.new.parts e.parts; stages = ap (λ (z : Parts). z.stages) e.parts }
+
+pub returns-in-Ok-clause-cleans : goal.returns-in-Ok-clause-cleans
+returns-in-Ok-clause-cleans g c = c.in-Ok.ensures.cleans
+
+pub returns-in-Ok-clause-left : goal.returns-in-Ok-clause-left
+returns-in-Ok-clause-left g c = c.in-Ok.ensures.left
+
+pub returns-in-Ok-clause-stops : goal.returns-in-Ok-clause-stops
+returns-in-Ok-clause-stops g c is = ok-bad _ is
+
+pub returns-in-Ok-clause-power : goal.returns-in-Ok-clause-power
+returns-in-Ok-clause-power g c = c.in-Ok.ensures.power
+
+pub returns-in-Ok-clause-bad : goal.returns-in-Ok-clause-bad
+returns-in-Ok-clause-bad g c is = ok-bad _ is
+
+pub returns-then-not-erasing-clause-step : goal.returns-then-not-erasing-clause-step
+returns-then-not-erasing-clause-step g c = c.step_job.ensures.step
+
+pub returns-then-not-erasing-clause-here : goal.returns-then-not-erasing-clause-here
+returns-then-not-erasing-clause-here g c = c.step_job.ensures.here
+
+pub returns-then-not-erasing-clause-parts : goal.returns-then-not-erasing-clause-parts
+returns-then-not-erasing-clause-parts g c = parts-stepped c.args.parts.now c.step_job.new.parts _ c.step_job.ensures.parts
+
+pub returns-then-not-erasing-clause-power : goal.returns-then-not-erasing-clause-power
+returns-then-not-erasing-clause-power g c = power-handed Phase Did c.step_job.result (g.B.Board.state c.step_job.new.board).on c.in-Err.fault c.step_job.ensures.power c.in-Err.is
+
+pub returns-else-eq-clause-step : goal.returns-else-eq-clause-step
+returns-else-eq-clause-step g c = c.step_job.ensures.step
+
+pub returns-else-eq-clause-leaves : goal.returns-else-eq-clause-leaves
+returns-else-eq-clause-leaves g c = c.step_job.ensures.leaves
+
+pub returns-else-eq-clause-here : goal.returns-else-eq-clause-here
+returns-else-eq-clause-here g c = c.step_job.ensures.here
+
+pub returns-else-eq-clause-parts : goal.returns-else-eq-clause-parts
+returns-else-eq-clause-parts g c = parts-stepped c.args.parts.now c.step_job.new.parts c.step_job.new.parts.stages c.step_job.ensures.parts
+
+pub returns-else-eq-clause-power : goal.returns-else-eq-clause-power
+returns-else-eq-clause-power g c = power-handed Phase Did c.step_job.result (g.B.Board.state c.step_job.new.board).on c.in-Err.fault c.step_job.ensures.power c.in-Err.is

@@ -5,6 +5,8 @@ use Rattle.envy_flush.specs.declared.parts.Parts.{Parts}
 use Rattle.envy_flush.proofs.FlushLemmas.{on-ok}
 use Rattle.envy_flush.proofs.LookLemmas.{Stops-framed, Stops-elsewhere, Puts-fetched, Counting-looked, elsewhere-of}
 use Rattle.envy_table.proofs.HitLemmas.{Accesses-then as Accesses-rests}
+use Rattle.envy_flush.proofs.CallExits.{unlit}
+use Rattle.envy_flush.proofs.WordAnswers.{Ready-looked}
 use Rattle.envy_flush.proofs.putting.put_first.Goals as goal
 
 pub returns-in_default : goal.returns-in_default
@@ -50,4 +52,34 @@ returns-in-Frame g c =
       owners = e.owners;
       stops = λ is. let s = (e.stops is).0 in (Stops-framed c.args.page k old was looked new now refl here e.frames (s.home, s.homed, s.stops), s.bads, (e.stops is).1);
       power = e.power;
+    }
+
+pub translate-requires-clause-page : goal.translate-requires-clause-page
+translate-requires-clause-page g c = c.requires.may.page
+
+pub translate-requires-clause-sound : goal.translate-requires-clause-sound
+translate-requires-clause-sound g c on = c.requires.ready.sound
+
+pub translate-requires-clause-agrees : goal.translate-requires-clause-agrees
+translate-requires-clause-agrees g c on = c.requires.ready.agrees.current
+
+pub returns-in_err-frame : goal.returns-in_err-frame
+returns-in_err-frame g c = unlit (g.B.Board.state c.args.board.now).on c.in_err-frame.ensures.place c.requires.ready.on
+
+pub put_framed-requires : goal.put_framed-requires
+put_framed-requires g c = record {
+  ready = Ready-looked (chart (g.B.Board.state c.args.board.now)) c.args.parts.now c.translate.new.self c.requires.ready c.translate.ensures.size c.translate.ensures.agrees;
+  may = c.requires.may;
+  word = c.requires.word;
+  here = c.in_ok-frame.ensures.place.1 ∙ ap (λ (x : Place). Some x) c.in-Frame.is;
+}
+
+pub put_elsewhere-requires : goal.put_elsewhere-requires
+put_elsewhere-requires g c =
+    let old = chart (g.B.Board.state c.args.board.now) in
+    record {
+      ready = Ready-looked old c.args.parts.now c.translate.new.self c.requires.ready c.translate.ensures.size c.translate.ensures.agrees;
+      may = c.requires.may;
+      word = c.requires.word;
+      elsewhere = elsewhere-of (place old.fields c.args.page) c.in_ok-frame.field-0 c.in_ok-frame.ensures.place.1 c.in_default.not-Frame;
     }

@@ -9,6 +9,7 @@ use Rattle.envy_flush.proofs.Leaving.{leaves_off}
 use Rattle.envy_flush.proofs.CountLemmas.{Counting-still}
 use Rattle.envy_flush.proofs.AgreeLemmas.{Fits-moved}
 use Rattle.envy_flush.proofs.ElsewhereLemmas.{Agrees-shaded}
+use Rattle.envy_flush.proofs.CallExits.{none-if, none-err, none-power}
 use Rattle.envy_flush.proofs.putting.shade_in.Goals as goal
 
 pub returns-clause-leaves : goal.returns-clause-leaves
@@ -32,3 +33,47 @@ returns-in_err-shade_places-clause-leaves g c =
     let e = c.in_err-shade_places.ensures in
     let x = c.args.parts.now in
     leaves_off _ _ x x (rw (SameDurable.shape e.durable) (Near.fits c.requires.near)) (SameDurable.counted e.durable) e.power refl refl refl (Rests-refl x.cache)
+
+pub shade_places-requires : goal.shade_places-requires
+shade_places-requires g c =
+    let n = c.requires.near in
+    record { sound = n.sound; on = n.on; may = c.requires.may; lands = record { frame = n.frame; here = n.here; elsewhere = n.elsewhere; unnamed = n.unnamed }; word = c.requires.word; copy = c.requires.copy }
+
+pub returns-in_err-shade_places-clause-done : goal.returns-in_err-shade_places-clause-done
+returns-in_err-shade_places-clause-done g c = none-if c.from_residual.result _ _ c.from_residual.ensures.1
+
+pub returns-in_err-shade_places-clause-durable : goal.returns-in_err-shade_places-clause-durable
+returns-in_err-shade_places-clause-durable g c = none-err c.from_residual.result _ _ c.in_err-shade_places.ensures.durable c.from_residual.ensures.1
+
+pub returns-in_err-shade_places-clause-fields : goal.returns-in_err-shade_places-clause-fields
+returns-in_err-shade_places-clause-fields g c = none-if c.from_residual.result _ _ c.from_residual.ensures.1
+
+pub returns-in_err-shade_places-clause-gives : goal.returns-in_err-shade_places-clause-gives
+returns-in_err-shade_places-clause-gives g c = none-if c.from_residual.result _ _ c.from_residual.ensures.1
+
+pub returns-in_err-shade_places-clause-owners : goal.returns-in_err-shade_places-clause-owners
+returns-in_err-shade_places-clause-owners g c = c.shade_places.ensures.owners
+
+pub returns-in_err-shade_places-clause-parts : goal.returns-in_err-shade_places-clause-parts
+returns-in_err-shade_places-clause-parts g c = refl
+
+pub returns-in_err-shade_places-clause-power : goal.returns-in_err-shade_places-clause-power
+returns-in_err-shade_places-clause-power g c = none-power c.from_residual.result _ (g.B.Board.state c.shade_places.new.board).on c.in_err-shade_places.ensures.power c.from_residual.ensures.1
+
+pub returns-clause-done : goal.returns-clause-done
+returns-clause-done g c = c.in_ok-shade_places.ensures.done
+
+pub returns-clause-fields : goal.returns-clause-fields
+returns-clause-fields g c = c.in_ok-shade_places.ensures.fields
+
+pub returns-clause-gives : goal.returns-clause-gives
+returns-clause-gives g c = c.in_ok-shade_places.ensures.gives
+
+pub returns-clause-owners : goal.returns-clause-owners
+returns-clause-owners g c = c.shade_places.ensures.owners
+
+pub returns-clause-parts : goal.returns-clause-parts
+returns-clause-parts g c = refl
+
+pub returns-clause-power : goal.returns-clause-power
+returns-clause-power g c = c.in_ok-shade_places.ensures.power

@@ -16,6 +16,9 @@ use Rattle.envy_flush.specs.Putting.{MayGive, undo_for}
 use Rattle.envy_flush.proofs.ElsewhereLemmas.{MayUndo-left, IsUndo-left, slot-left, Owns-left}
 use Rattle.envy_flush.proofs.FlushLemmas.{ok-any, ok-of, err-of, ok-written, on-ok}
 use Rattle.envy_flush.proofs.Leaving.{if_powered}
+use Rattle.envy_base.specs.declared.shape.Shape.{Shape}
+use Rattle.envy_layout.specs.Same.{SameWords}
+use Rattle.envy_flush.proofs.CallExits.{none-if, none-power}
 use Rattle.envy_flush.proofs.putting.shade_places.Goals as goal
 
 pub own-requires-clause-undo : goal.own-requires-clause-undo
@@ -87,3 +90,42 @@ returns-in_err-own-clause-owners g c = record { limit = ap (λ (o : Ownership). 
 
 pub returns-clause-power : goal.returns-clause-power
 returns-clause-power g c = c.move_to_frame.ensures.power
+
+pub undo_of_place-requires : goal.undo_of_place-requires
+undo_of_place-requires g c = c.requires.lands.elsewhere
+
+pub own-requires-clause-limit : goal.own-requires-clause-limit
+own-requires-clause-limit g c = c.requires.may.limit
+
+pub own-requires-clause-page : goal.own-requires-clause-page
+own-requires-clause-page g c = c.requires.may.page
+
+pub own-requires-clause-room : goal.own-requires-clause-room
+own-requires-clause-room g c = c.requires.may.room
+
+pub own-requires-clause-free : goal.own-requires-clause-free
+own-requires-clause-free g c = c.requires.may.free
+
+pub returns-in_err-own-clause-done : goal.returns-in_err-own-clause-done
+returns-in_err-own-clause-done g c = none-if c.from_residual.result _ _ c.from_residual.ensures.1
+
+pub returns-in_err-own-clause-fields : goal.returns-in_err-own-clause-fields
+returns-in_err-own-clause-fields g c = none-if c.from_residual.result _ _ c.from_residual.ensures.1
+
+pub returns-in_err-own-clause-gives : goal.returns-in_err-own-clause-gives
+returns-in_err-own-clause-gives g c = none-if c.from_residual.result _ _ c.from_residual.ensures.1
+
+pub returns-in_err-own-clause-power : goal.returns-in_err-own-clause-power
+returns-in_err-own-clause-power g c = none-power c.from_residual.result _ (g.B.Board.state c.own.new.board).on c.in_err-own.ensures.power c.from_residual.ensures.1
+
+pub move_to_frame-requires-clause-sound : goal.move_to_frame-requires-clause-sound
+move_to_frame-requires-clause-sound g c = SameWords.sound (c.own.ensures.same c.requires.sound)
+
+pub move_to_frame-requires-clause-page : goal.move_to_frame-requires-clause-page
+move_to_frame-requires-clause-page g c = subst (λ (sh : Shape). c.args.page < sh.pages) (sym (SameWords.shape (c.own.ensures.same c.requires.sound))) c.requires.may.page
+
+pub move_to_frame-requires-clause-frame : goal.move_to_frame-requires-clause-frame
+move_to_frame-requires-clause-frame g c = subst (λ (sh : Shape). c.args.frame < sh.frames) (sym (SameWords.shape (c.own.ensures.same c.requires.sound))) c.requires.lands.frame
+
+pub move_to_frame-requires-clause-place : goal.move_to_frame-requires-clause-place
+move_to_frame-requires-clause-place g c = c.requires.word

@@ -1,7 +1,8 @@
-use Rattle.std.proofs.Common.{ap}
+use Rattle.std.proofs.Common.{refl, ap}
 use Rattle.envy_map.specs.Fields.{chart}
 use Rattle.envy_flush.proofs.AgreeLemmas.{Fits-staged, no-stages, sizes_of}
 use Rattle.envy_flush.proofs.RestartLemmas.{IsPlanOf-settled, AreParted-settled}
+use Rattle.envy_flush.proofs.CallExits.{none-if, none-err}
 use Rattle.envy_flush.proofs.restarting.rebuild.Goals as goal
 
 pub returns-clause-ready : goal.returns-clause-ready
@@ -21,3 +22,38 @@ returns-clause-ready g c =
         two = AreParted-settled now c.requires.sound settled;
       };
     }
+
+pub returns-in_err-rebuild-clause-ready : goal.returns-in_err-rebuild-clause-ready
+returns-in_err-rebuild-clause-ready g c = none-if c.from_residual.result _ _ c.from_residual.ensures.1
+
+pub returns-in_err-rebuild-clause-rebuilt : goal.returns-in_err-rebuild-clause-rebuilt
+returns-in_err-rebuild-clause-rebuilt g c = none-if c.from_residual.result _ _ c.from_residual.ensures.1
+
+pub returns-in_err-rebuild-clause-kept : goal.returns-in_err-rebuild-clause-kept
+returns-in_err-rebuild-clause-kept g c = refl
+
+pub returns-in_err-rebuild-clause-halted : goal.returns-in_err-rebuild-clause-halted
+returns-in_err-rebuild-clause-halted g c = none-err c.from_residual.result _ _ refl c.from_residual.ensures.1
+
+pub returns-in_err-rebuild-2-clause-ready : goal.returns-in_err-rebuild-2-clause-ready
+returns-in_err-rebuild-2-clause-ready g c = none-if c.from_residual-in_err-rebuild-2.result _ _ c.from_residual-in_err-rebuild-2.ensures.1
+
+pub returns-in_err-rebuild-2-clause-rebuilt : goal.returns-in_err-rebuild-2-clause-rebuilt
+returns-in_err-rebuild-2-clause-rebuilt g c = none-if c.from_residual-in_err-rebuild-2.result _ _ c.from_residual-in_err-rebuild-2.ensures.1
+
+pub returns-in_err-rebuild-2-clause-kept : goal.returns-in_err-rebuild-2-clause-kept
+returns-in_err-rebuild-2-clause-kept g c = refl
+
+pub returns-in_err-rebuild-2-clause-halted : goal.returns-in_err-rebuild-2-clause-halted
+returns-in_err-rebuild-2-clause-halted g c = none-err c.from_residual-in_err-rebuild-2.result _ _ refl c.from_residual-in_err-rebuild-2.ensures.1
+
+pub returns-in_err-rebuild-2-clause-off : goal.returns-in_err-rebuild-2-clause-off
+returns-in_err-rebuild-2-clause-off g c = none-err c.from_residual-in_err-rebuild-2.result _ _ c.in_err-rebuild-2.ensures.power c.from_residual-in_err-rebuild-2.ensures.1
+
+pub returns-clause-fits : goal.returns-clause-fits
+returns-clause-fits g c =
+    let now = chart (g.B.Board.state c.args.board.now) in
+    Fits-staged now.shape c.args.parts.now _ c.requires.fits (no-stages now.shape _ c.clear.ensures) c.rebuild-2.ensures.shape c.rebuild.ensures.count c.empty.ensures.size (ap sizes_of c.reset.ensures)
+
+pub returns-clause-kept : goal.returns-clause-kept
+returns-clause-kept g c = refl

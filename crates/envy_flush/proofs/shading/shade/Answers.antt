@@ -1,4 +1,4 @@
-use Rattle.std.proofs.Common.{◌≡◌, ◌<◌, ◌/◌, refl, ap, sym, subst, get_or}
+use Rattle.std.proofs.Common.{◌≡◌, ◌*◌, ◌<◌, ◌/◌, refl, ap, sym, subst, get_or}
 use Rattle.envy_base.specs.declared.shape.Shape.{Shape}
 use Rattle.envy_map.specs.Fields.{Chart, chart}
 use Rattle.envy_layout.specs.Sound.{Sound}
@@ -10,6 +10,9 @@ use Rattle.envy_flush.proofs.CountLemmas.{Counting-still}
 use Rattle.envy_flush.proofs.AgreeLemmas.{Fits-moved}
 use Rattle.envy_flush.proofs.ShadeLemmas.{Shades, Shades-given, room-shade, Agrees-shade, MayUndo-shade, Owns-shade}
 use Rattle.envy_txn.specs.Owners.{Ownership}
+use Rattle.envy_flush.proofs.CallExits.{none-if, none-power}
+use Rattle.envy_base.specs.State.{IsBoard}
+use Rattle.envy_flush.proofs.ShadeAnswers.{row-code}
 use Rattle.envy_flush.proofs.shading.shade.Goals as goal
 
 pub note_kept-requires-clause-room : goal.note_kept-requires-clause-room
@@ -68,3 +71,44 @@ returns-clause-owners g c = record { limit = ap (λ (o : Ownership). o.limit) (c
 
 pub returns-in_err-own-clause-owners : goal.returns-in_err-own-clause-owners
 returns-in_err-own-clause-owners g c = record { limit = ap (λ (o : Ownership). o.limit) c.in_err-own.ensures.unchanged; agree = c.own.ensures.agrees }
+
+pub own-requires-clause-limit : goal.own-requires-clause-limit
+own-requires-clause-limit g c = c.requires.may.limit
+
+pub own-requires-clause-page : goal.own-requires-clause-page
+own-requires-clause-page g c = c.requires.may.page
+
+pub own-requires-clause-room : goal.own-requires-clause-room
+own-requires-clause-room g c = c.requires.may.room
+
+pub own-requires-clause-free : goal.own-requires-clause-free
+own-requires-clause-free g c = c.requires.may.free
+
+pub returns-in_err-own-clause-same : goal.returns-in_err-own-clause-same
+returns-in_err-own-clause-same g c = c.own.ensures.same c.requires.ready.sound
+
+pub returns-in_err-own-clause-shades : goal.returns-in_err-own-clause-shades
+returns-in_err-own-clause-shades g c = none-if c.from_residual.result _ _ c.from_residual.ensures.1
+
+pub returns-in_err-own-clause-parts : goal.returns-in_err-own-clause-parts
+returns-in_err-own-clause-parts g c = refl
+
+pub returns-in_err-own-clause-power : goal.returns-in_err-own-clause-power
+returns-in_err-own-clause-power g c = none-power c.from_residual.result _ (g.B.Board.state c.own.new.board).on c.in_err-own.ensures.power c.from_residual.ensures.1
+
+pub returns-clause-same : goal.returns-clause-same
+returns-clause-same g c = c.own.ensures.same c.requires.ready.sound
+
+pub returns-clause-parts : goal.returns-clause-parts
+returns-clause-parts g c = refl
+
+pub returns-clause-power : goal.returns-clause-power
+returns-clause-power g c = c.in_ok-own.ensures.power
+
+pub own-requires-clause-undo : goal.own-requires-clause-undo
+own-requires-clause-undo g c =
+    let old = chart (g.B.Board.state c.args.board.now) in
+    (c.requires.may.low, row-code old.shape c.args.row (IsBoard.shape (g.met.B.Board.lawful c.args.board.now)) c.requires.granted.range)
+
+pub note_kept-requires-clause-row : goal.note_kept-requires-clause-row
+note_kept-requires-clause-row g c = subst (λ (sh : Shape). c.args.row < sh.segments * sh.rows) (sym c.requires.ready.fits.pool) c.requires.granted.range

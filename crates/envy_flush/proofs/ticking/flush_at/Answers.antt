@@ -1,4 +1,4 @@
-use Rattle.std.proofs.Common.{◌≡◌, ◌∙◌, ◌<◌, length, inl, None, Some, refl, sym, ap, subst, arith}
+use Rattle.std.proofs.Common.{◌≡◌, ◌∙◌, ◌<◌, length, inl, None, Some, refl, sym, ap, subst}
 use Rattle.std.specs.List.{filter}
 use Rattle.envy_base.specs.declared.fields.Place.TheVariants.{Frame}
 use Rattle.envy_frames.specs.Agreement.{AreHeld, IsHeld}
@@ -18,7 +18,9 @@ use Rattle.envy_flush.specs.declared.parts.Parts.{Parts}
 use Rattle.envy_flush.proofs.Leaving.{leaves_then}
 use Rattle.envy_flush.proofs.FlushLemmas.{bad-rises, never-idle, on-ok, GetsRow-after}
 use Rattle.envy_flush.proofs.ticking.flush_at.Goals as goal
-use Rattle.envy_layout.proofs.Sames.{same_two as Same-two}
+use Rattle.envy_layout.proofs.Sames.{same_within, same_two as Same-two}
+use Rattle.envy_flush.proofs.CallExits.{off-if, off-after, off-bad, le-same}
+use Rattle.envy_flush.proofs.TickAnswers.{free-idle}
 
 pub flush_into-requires-clause-here : goal.flush_into-requires-clause-here
 flush_into-requires-clause-here g c =
@@ -41,7 +43,7 @@ flush_into-requires-clause-page g c =
     rw before (IsHeld.page own)
 
 pub returns-clause-same : goal.returns-clause-same
-returns-clause-same g c = Same-two 0 0 1 0 1 0 _ _ _ (omega arith) (omega arith) c.claim_at.ensures.same c.flush_into.ensures.same
+returns-clause-same g c = Same-two 0 0 1 0 1 0 _ _ _ (le-same 1) (le-same 0) c.claim_at.ensures.same c.flush_into.ensures.same
 
 pub returns-clause-does : goal.returns-clause-does
 returns-clause-does g c =
@@ -118,3 +120,47 @@ returns-clause-stops g c is =
       },
       λ low. rw s.bads (bad-rises _ _ rise low),
     )
+
+pub claim_at-requires-clause-ready : goal.claim_at-requires-clause-ready
+claim_at-requires-clause-ready g c = c.requires.ready
+
+pub claim_at-requires-clause-position : goal.claim_at-requires-clause-position
+claim_at-requires-clause-position g c = c.requires.position
+
+pub claim_at-requires-clause-page : goal.claim_at-requires-clause-page
+claim_at-requires-clause-page g c =
+    let old = chart (g.B.Board.state c.args.board.now) in
+    IsHeld.page (oldest-held old.shape old.fields.places c.args.parts.now.frames.held c.args.held c.requires.ready.agrees.held c.requires.oldest).0
+
+pub claim_at-requires-clause-room : goal.claim_at-requires-clause-room
+claim_at-requires-clause-room g c = c.requires.room
+
+pub claim_at-requires-clause-free : goal.claim_at-requires-clause-free
+claim_at-requires-clause-free g c = free-idle (chart (g.B.Board.state c.args.board.now)).fields.job _ c.requires.rest.0
+
+pub flush_into-requires-clause-fresh : goal.flush_into-requires-clause-fresh
+flush_into-requires-clause-fresh g c = c.in_ok-row.ensures.takes.fresh
+
+pub returns-in_err-row-clause-same : goal.returns-in_err-row-clause-same
+returns-in_err-row-clause-same g c = same_within 1 0 (chart (g.B.Board.state c.args.board.now)) (chart (g.B.Board.state c.claim_at.new.board)) c.claim_at.ensures.same
+
+pub returns-in_err-row-clause-leaves : goal.returns-in_err-row-clause-leaves
+returns-in_err-row-clause-leaves g c = c.claim_at.ensures.leaves
+
+pub returns-in_err-row-clause-does : goal.returns-in_err-row-clause-does
+returns-in_err-row-clause-does g c = off-if c.from_residual.result _ c.from_residual.ensures.1
+
+pub returns-in_err-row-clause-stops : goal.returns-in_err-row-clause-stops
+returns-in_err-row-clause-stops g c is = off-bad c.from_residual.result c.from_residual.ensures.1 is
+
+pub returns-in_err-row-clause-stages : goal.returns-in_err-row-clause-stages
+returns-in_err-row-clause-stages g c = ap (λ (z : Parts). z.stages) c.claim_at.ensures.parts
+
+pub returns-in_err-row-clause-power : goal.returns-in_err-row-clause-power
+returns-in_err-row-clause-power g c = off-after c.from_residual.result (g.B.Board.state c.claim_at.new.board).on c.in_err-row.ensures.power c.from_residual.ensures.1
+
+pub returns-clause-stages : goal.returns-clause-stages
+returns-clause-stages g c = ap (λ (z : Parts). z.stages) c.flush_into.ensures.parts ∙ ap (λ (z : Parts). z.stages) c.claim_at.ensures.parts
+
+pub returns-clause-power : goal.returns-clause-power
+returns-clause-power g c = c.flush_into.ensures.power
