@@ -10,16 +10,16 @@ use Rattle.envy_flush.specs.Agreement.{Fits, Steady}
 use Rattle.envy_flush.specs.Putting.{KeepsOwners}
 use Rattle.envy_flush.specs.declared.parts.Parts.{Parts}
 use Rattle.envy_flush.proofs.AgreeLemmas.{Fits-moved, sizes_of}
-use Rattle.envy_flush.proofs.CallExits.{unlit}
+use Rattle.envy_reloc.proofs.Exits.{unpowered}
 
 -- owners and parts are of no board that has power
 pub KeepsOwners-lost : (new : Chart) (was now : Ownership) → new.on ≡ false → now ≡ was → KeepsOwners new was now
-KeepsOwners-lost new was now off is = record { limit = ap (λ (o : Ownership). o.limit) is; agree = λ on. unlit new.on off on }
+KeepsOwners-lost new was now off is = record { limit = ap (λ (o : Ownership). o.limit) is; agree = λ on. unpowered new.on off on }
 
 pub Steady-lost : (old new : Chart) (x y : Parts) → new.shape ≡ old.shape → new.on ≡ false → Fits old.shape x → y.space.shape ≡ x.space.shape → y.frames.count ≡ x.frames.count → length y.cache.entries ≡ length x.cache.entries → y.chooser ≡ x.chooser → y.stages ≡ x.stages → Steady new y
 Steady-lost old new x y shape off fits space frames cache chooser stages = record {
   fits = Fits-moved old.shape new.shape x y shape fits space frames cache (ap sizes_of chooser) stages;
-  agrees = λ on. unlit new.on off on;
+  agrees = λ on. unpowered new.on off on;
 }
 
 -- a commit that power cut: it is done or not

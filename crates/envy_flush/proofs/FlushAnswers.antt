@@ -21,6 +21,7 @@ use Rattle.envy_layout.proofs.Composition.{Same-refl}
 use Rattle.envy_layout.proofs.References.{apart-spare}
 use Rattle.envy_layout.proofs.Sames.{same_within}
 use Rattle.envy_reloc.specs.Plan.{IsFreeOf}
+use Rattle.envy_reloc.proofs.Exits.{unpowered}
 use Rattle.envy_flush.specs.Agreement.{Ready}
 use Rattle.envy_flush.specs.Flushing.{Granted}
 use Rattle.envy_flush.specs.Leaving.{LeavesParts, KeepsFrames}
@@ -30,50 +31,6 @@ use Rattle.envy_base.specs.declared.board.Off.{Off}
 use Rattle.envy_base.specs.declared.board.Trouble.{Trouble}
 use Rattle.envy_base.specs.declared.board.Trouble.TheVariants.{Off as TroubleOff, Bad}
 use Rattle.envy_layout.specs.Power.{power_of, power_after}
-
--- what holds where power is on, where it is off
-pub unpowered : {P : Type 0} (b : Bool) → b ≡ false → IsTrue b → P
-unpowered b off on = absurd (let e : true ≡ false = sym on ∙ off in cc)
-
--- where a `?` hands on that power is off
-pub off-after : {T : Type 0} (r : Result T Trouble) (b : Bool) → b ≡ false → IsErrAnd r (λ e. e ≡ TroubleOff) → b ≡ power_after r
-off-after (Ok x) b off h = absurd h
-off-after {T = T} (Err e) b off h = off ∙ sym (ap (λ (x : Trouble). power_after {A = T} (Err x)) h)
-
-pub off-if : {T : Type 0} (r : Result T Trouble) (P : T → Type 0) → IsErrAnd r (λ e. e ≡ TroubleOff) → IfOk r P
-off-if (Ok x) P h = absurd h
-off-if (Err e) P h = tt
-
-pub off-bad : {P T : Type 0} (r : Result T Trouble) → IsErrAnd r (λ e. e ≡ TroubleOff) → r ≡ Err Bad → P
-off-bad (Ok x) h is = absurd h
-off-bad (Err e) h is = absurd (let no : TroubleOff ≡ Bad = cc in cc)
-
--- where it hands on any error
-pub err-after : {T : Type 0} (A : Type 0) (r : Result T Trouble) (b : Bool) (e : Trouble) → b ≡ power_after {A = A} (Err e) → IsErrAnd r (λ x. x ≡ e) → b ≡ power_after r
-err-after A (Ok x) b e power h = absurd h
-err-after {T = T} A (Err x) b Bad power h = power ∙ sym (ap (λ (y : Trouble). power_after {A = T} (Err y)) h)
-err-after {T = T} A (Err x) b TroubleOff power h = power ∙ sym (ap (λ (y : Trouble). power_after {A = T} (Err y)) h)
-
-pub err-if : {T : Type 0} (r : Result T Trouble) (P : T → Type 0) (e : Trouble) → IsErrAnd r (λ x. x ≡ e) → IfOk r P
-err-if (Ok x) P e h = absurd h
-err-if (Err x) P e h = tt
-
-pub err-bad : {T : Type 0} (r : Result T Trouble) (e : Trouble) → IsErrAnd r (λ x. x ≡ e) → r ≡ Err Bad → e ≡ Bad
-err-bad (Ok x) e h is = absurd h
-err-bad (Err x) e h is = cc
-
--- the same of a call that can end with `Off` alone
-pub none-if : {T : Type 0} (r : Result T Off) (Q : Off → Type 0) (P : T → Type 0) → IsErrAnd r Q → IfOk r P
-none-if (Ok x) Q P h = absurd h
-none-if (Err e) Q P h = tt
-
-pub none-power : {T : Type 0} (r : Result T Off) (Q : Off → Type 0) (b : Bool) → b ≡ false → IsErrAnd r Q → b ≡ power_of r
-none-power (Ok x) Q b off h = absurd h
-none-power (Err e) Q b off h = off
-
--- a call that gave a value wasn't bad
-pub ok-bad : {P T : Type 0} (x : T) → ◌≡◌ {A = Result T Trouble} (Ok x) (Err Bad) → P
-ok-bad x is = absurd (cc)
 
 -- after a worker that left power on
 pub ready-left : (k j : ℕ) (c d : Chart) (x y : Parts) → IsTrue d.on → Same k j c d → LeavesParts c x d y → Ready d y

@@ -1,8 +1,8 @@
 pub mod AgreeLemmas
 pub mod AvailLemmas
+mod Bounds
 pub mod BringAnswers
 pub mod BudgetLemmas
-mod CallExits
 pub mod CleanLemmas
 pub mod CountLemmas
 pub mod ElsewhereLemmas

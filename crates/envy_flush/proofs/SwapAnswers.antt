@@ -15,7 +15,7 @@ use Rattle.envy_flush.specs.Steps.{TicksStage}
 use Rattle.envy_flush.specs.Ticks.{IsNoneDue, TicksSwap, CountsTick}
 use Rattle.envy_flush.specs.declared.did.Did.TheVariants.{Began}
 use Rattle.envy_flush.specs.declared.parts.Parts.{Parts}
-use Rattle.envy_flush.proofs.CallExits.{unlit}
+use Rattle.envy_reloc.proofs.Exits.{unpowered}
 use Rattle.envy_flush.proofs.CountLemmas.{Counting-quiet, Tallies-quiet}
 
 -- the job, and what is counted anew
@@ -50,7 +50,7 @@ CountsTick-began old new x left swaps plan counted more task = record {
 -- power failed in it
 pub Counting-lost : (old new : Chart) (x : Parts) (moves : List ℕ) (plan : Plan) → Same 0 0 old new → new.on ≡ false → plan ≡ record x.reloc { moves = moves; aside = None; mark = 0 } → Counting old x new (record x { reloc = plan })
 Counting-lost old new x moves plan same off task =
-    Counting-quiet old new x (record x { reloc = plan }) (Stays.counted (Same.stays same)) refl refl (record { copied = ap (λ (t : Plan). t.copied) task; moved = ap (λ (t : Plan). t.moved) task; erased = ap (λ (t : Plan). t.erased) task }) (ap (λ (t : Plan). t.since) task) (λ on. unlit new.on off on)
+    Counting-quiet old new x (record x { reloc = plan }) (Stays.counted (Same.stays same)) refl refl (record { copied = ap (λ (t : Plan). t.copied) task; moved = ap (λ (t : Plan). t.moved) task; erased = ap (λ (t : Plan). t.erased) task }) (ap (λ (t : Plan). t.since) task) (λ on. unpowered new.on off on)
 
 -- what is due
 pub due-some : (limit : ℕ) (c : Chart) (since : ℕ) (found : Option Swap) (s : Swap) → found ≡ Some s → MatchOption found (IsNoneDue limit c since) (IsDue c.shape c.fields limit since) → IsDue c.shape c.fields limit since s

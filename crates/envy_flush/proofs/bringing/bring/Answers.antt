@@ -10,7 +10,7 @@ use Rattle.envy_flush.proofs.AgreeLemmas.{Fits-moved, sizes_of}
 use Rattle.envy_flush.proofs.NearLemmas.{Near-filled, Brings-moved}
 use Rattle.envy_layout.specs.Sound.{Sound, Places, owned_by}
 use Rattle.envy_flush.proofs.FlushLemmas.{on-ok}
-use Rattle.envy_flush.proofs.FlushAnswers.{unpowered, none-if, none-power}
+use Rattle.envy_reloc.proofs.Exits.{unpowered, none-if, none-power}
 use Rattle.envy_flush.proofs.StoreLemmas.{Interrupted-same, Dropped-same}
 use Rattle.envy_flush.proofs.BringAnswers.{stored-filled, shadowed-filled, match-failed, parts-filled, parts-brought}
 use Rattle.envy_layout.proofs.Composition.{Counted-trans}

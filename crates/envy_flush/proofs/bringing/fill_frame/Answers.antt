@@ -9,7 +9,8 @@ use Rattle.envy_frames.specs.Order.{Order}
 use Rattle.envy_frames.proofs.Agreeing.{unnamed-unheld}
 use Rattle.envy_flush.proofs.RowLemmas.{page-changed}
 use Rattle.std.specs.Prelude.{is_some}
-use Rattle.envy_flush.proofs.FlushAnswers.{unpowered, none-if, none-power, in-range, none-some}
+use Rattle.envy_reloc.proofs.Exits.{unpowered, none-if, none-power}
+use Rattle.envy_flush.proofs.FlushAnswers.{in-range, none-some}
 use Rattle.std.specs.Option.{is_some}
 use Rattle.envy_flush.proofs.BringAnswers.{never-full}
 use Rattle.envy_flush.proofs.bringing.fill_frame.Goals as goal

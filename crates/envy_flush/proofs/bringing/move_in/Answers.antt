@@ -9,7 +9,7 @@ use Rattle.envy_base.specs.declared.shape.Shape.{Shape}
 use Rattle.envy_table.proofs.HitLemmas.{Rests-refl}
 use Rattle.envy_flush.specs.Agreement.{Fits}
 use Rattle.envy_flush.proofs.BringAnswers.{match-failed, shape-put}
-use Rattle.envy_flush.proofs.FlushAnswers.{unpowered, none-if, none-power}
+use Rattle.envy_reloc.proofs.Exits.{unpowered, none-if, none-power}
 use Rattle.envy_flush.proofs.bringing.move_in.Goals as goal
 
 pub note_left-requires : goal.note_left-requires

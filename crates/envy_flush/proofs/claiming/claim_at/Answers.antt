@@ -9,7 +9,7 @@ use Rattle.envy_flush.proofs.Leaving.{leaves_off}
 use Rattle.envy_flush.proofs.CountLemmas.{Counting-still}
 use Rattle.envy_flush.proofs.AgreeLemmas.{Agrees-claimed, Granted-claimed, IsLastAt-claimed, Fits-moved, claimed-sizes, sizes_of}
 use Rattle.envy_base.specs.declared.shape.Shape.{Shape}
-use Rattle.envy_flush.proofs.FlushAnswers.{none-if, none-power}
+use Rattle.envy_reloc.proofs.Exits.{none-if, none-power}
 use Rattle.envy_flush.proofs.claiming.claim_at.Goals as goal
 
 pub returns-clause-leaves : goal.returns-clause-leaves

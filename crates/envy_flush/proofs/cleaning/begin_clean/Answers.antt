@@ -11,7 +11,7 @@ use Rattle.envy_flush.proofs.CountLemmas.{Counting-quiet}
 use Rattle.envy_flush.proofs.AgreeLemmas.{Agrees-begun, Fits-moved, sizes_of}
 use Rattle.std.specs.Prelude.{All}
 use Rattle.envy_base.specs.declared.shape.Shape.{Shape}
-use Rattle.envy_flush.proofs.FlushAnswers.{unpowered, none-if, none-power}
+use Rattle.envy_reloc.proofs.Exits.{unpowered, none-if, none-power}
 use Rattle.envy_flush.proofs.cleaning.begin_clean.Goals as goal
 
 pub returns-clause-cleans : goal.returns-clause-cleans

@@ -9,7 +9,8 @@ use Rattle.envy_flush.specs.declared.parts.Parts.{Parts}
 use Rattle.envy_reloc.proofs.CleanLemmas.{cleans-ended, room-cleaned}
 use Rattle.envy_flush.proofs.Leaving.{leaves_then}
 use Rattle.envy_base.specs.declared.board.Trouble.{Trouble}
-use Rattle.envy_flush.proofs.FlushAnswers.{off-after, off-if, off-bad, err-after, err-if, err-bad, ok-bad, page-left, position-left, keeps-off, free-idle}
+use Rattle.envy_reloc.proofs.Exits.{off-after, off-if, off-bad, err-after, err-if, err-bad, ok-bad}
+use Rattle.envy_flush.proofs.FlushAnswers.{page-left, position-left, keeps-off, free-idle}
 use Rattle.envy_layout.proofs.Sames.{same_two as Same-two}
 use Rattle.envy_flush.proofs.cleaning.clean.Goals as goal
 

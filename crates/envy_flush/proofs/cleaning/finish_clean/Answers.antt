@@ -15,7 +15,7 @@ use Rattle.envy_layout.proofs.FrameStay.{FramesStay-trans}
 use Rattle.envy_flush.proofs.StoreLemmas.{shape-step}
 use Rattle.envy_layout.proofs.Composition.{Same-more}
 use Rattle.envy_flush.specs.declared.did.Did.{Did}
-use Rattle.envy_flush.proofs.FlushAnswers.{unpowered, err-if, err-after, ok-bad}
+use Rattle.envy_reloc.proofs.Exits.{unpowered, err-if, err-after, ok-bad}
 use Rattle.envy_flush.proofs.cleaning.finish_clean.Goals as goal
 
 pub loop-turn-init : goal.loop-turn-init

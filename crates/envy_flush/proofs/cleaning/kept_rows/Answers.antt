@@ -9,7 +9,7 @@ use Rattle.envy_flush.specs.Cleaning.{AreLowestKept}
 use Rattle.envy_layout.proofs.References.{row-of}
 use Rattle.envy_flush.proofs.CleanLemmas.{All-push}
 use Rattle.envy_flush.proofs.KeptLemmas.{Found, Found-start, Found-kept, Found-dead, Found-four, Found-whole, kept-found, dead-found}
-use Rattle.envy_flush.proofs.FlushAnswers.{unpowered}
+use Rattle.envy_reloc.proofs.Exits.{unpowered}
 use Rattle.envy_flush.proofs.cleaning.kept_rows.Goals.{then-is_some, else-is_some}
 use Rattle.envy_flush.proofs.cleaning.kept_rows.Goals as goal
 

@@ -1,7 +1,7 @@
 use Rattle.std.proofs.Common.{ℕ, Option, sym, subst}
 use Rattle.envy_map.specs.Fields.{chart}
 use Rattle.envy_flush.specs.Cleaning.{AreMoves}
-use Rattle.envy_flush.proofs.FlushAnswers.{unpowered}
+use Rattle.envy_reloc.proofs.Exits.{unpowered}
 use Rattle.envy_flush.proofs.cleaning.planned.Goals as goal
 
 pub kept_rows-requires-clause-ready : goal.kept_rows-requires-clause-ready

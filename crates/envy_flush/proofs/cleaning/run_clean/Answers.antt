@@ -10,7 +10,8 @@ use Rattle.envy_flush.proofs.FlushLemmas.{on-ok}
 use Rattle.envy_flush.proofs.Leaving.{leaves_then, counts_bad_then}
 use Rattle.envy_base.specs.Shape.{IsShape}
 use Rattle.envy_layout.proofs.Sames.{same_within, same_two as Same-two}
-use Rattle.envy_flush.proofs.FlushAnswers.{unpowered, off-after, off-if, off-bad, ready-left}
+use Rattle.envy_reloc.proofs.Exits.{unpowered, off-after, off-if, off-bad}
+use Rattle.envy_flush.proofs.FlushAnswers.{ready-left}
 use Rattle.envy_flush.proofs.CleanLemmas.{parts-begun, parts-cleaned}
 use Rattle.envy_reloc.proofs.CleanLemmas.{cleans-begun}
 use Rattle.envy_flush.proofs.cleaning.run_clean.Goals as goal

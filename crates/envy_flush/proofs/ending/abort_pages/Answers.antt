@@ -11,7 +11,7 @@ use Rattle.envy_flush.proofs.AgreeLemmas.{Fits-moved}
 use Rattle.envy_flush.proofs.EndLemmas.{PartsAgree-restored, Closes-restored, Rows-restored, AreOwned-slot}
 use Rattle.envy_flush.proofs.FlushLemmas.{on-ok}
 use Rattle.envy_flush.proofs.Leaving.{if_powered}
-use Rattle.envy_flush.proofs.CallExits.{none-if, none-power}
+use Rattle.envy_reloc.proofs.Exits.{none-if, none-power}
 use Rattle.envy_flush.proofs.EndAnswers.{KeepsOwners-lost, Steady-lost}
 use Rattle.envy_flush.proofs.ending.abort_pages.Goals as goal
 

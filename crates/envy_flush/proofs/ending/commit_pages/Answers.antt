@@ -3,7 +3,7 @@ use Rattle.envy_map.specs.Fields.{Chart, chart}
 use Rattle.envy_layout.specs.Same.{Commits}
 use Rattle.envy_flush.proofs.EndLemmas.{IsReleasing-start, Closes-committed}
 use Rattle.envy_flush.proofs.FlushLemmas.{on-ok}
-use Rattle.envy_flush.proofs.CallExits.{none-if, none-power}
+use Rattle.envy_reloc.proofs.Exits.{none-if, none-power}
 use Rattle.envy_flush.proofs.EndAnswers.{KeepsOwners-lost, Steady-lost, commits-cut, commits-shape, commits-then}
 use Rattle.envy_flush.proofs.ending.commit_pages.Goals as goal
 

@@ -1,4 +1,4 @@
-use Rattle.envy_flush.proofs.CallExits.{none-if, none-err}
+use Rattle.envy_reloc.proofs.Exits.{none-if, none-err}
 use Rattle.envy_flush.proofs.EndAnswers.{none-some, within-end}
 use Rattle.envy_flush.proofs.ending.first_vacant.Goals as goal
 

@@ -8,7 +8,8 @@ use Rattle.envy_flush.specs.Budgets.{Going, Spends}
 use Rattle.envy_flush.specs.declared.parts.Parts.{Parts}
 use Rattle.envy_flush.proofs.BudgetLemmas.{Going-start, Going-more, Going-stops, Going-last}
 use Rattle.envy_flush.proofs.Leaving.{leaves_none, leaves_then, counts_bad_then}
-use Rattle.envy_flush.proofs.CallExits.{err-if, err-after, err-bad, ok-bad, le-same, turn-next, turn-less, three-four}
+use Rattle.envy_reloc.proofs.Exits.{err-if, err-after, err-bad, ok-bad}
+use Rattle.envy_flush.proofs.Bounds.{le-same, turn-next, turn-less, three-four}
 use Rattle.envy_flush.proofs.FlushLemmas.{err-at}
 use Rattle.envy_flush.proofs.StepLemmas.{StepsBy-more, StepsBy-still}
 use Rattle.envy_layout.proofs.FrameStay.{FramesStay-trans}

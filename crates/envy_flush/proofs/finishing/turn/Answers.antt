@@ -6,7 +6,7 @@ use Rattle.envy_layout.proofs.FrameStay.{FramesStay-refl}
 use Rattle.envy_flush.proofs.BudgetLemmas.{Turns-job, Turns-stage}
 use Rattle.envy_flush.proofs.StoreLemmas.{shape-step}
 use Rattle.envy_flush.specs.declared.did.Did.{Did}
-use Rattle.envy_flush.proofs.CallExits.{unlit, err-if, err-after, err-bad, ok-bad}
+use Rattle.envy_reloc.proofs.Exits.{unpowered, err-if, err-after, err-bad, ok-bad}
 use Rattle.envy_flush.proofs.Leaving.{leaves_none}
 use Rattle.envy_flush.proofs.TickLemmas.{none_left}
 use Rattle.envy_flush.proofs.TickAnswers.{once-none, Turns-ended, Turns-none, parts-staged, no-more, no-turn, stays-staged}
@@ -51,7 +51,7 @@ pub tick_stage-requires-clause-pending : goal.tick_stage-requires-clause-pending
 tick_stage-requires-clause-pending g c = c.pending.ensures.0 c.if-pending.true
 
 pub returns-in_err-runs : goal.returns-in_err-runs
-returns-in_err-runs g c = unlit (g.B.Board.state c.args.board.now).on c.in_err-runs.ensures.off c.requires.ready.on
+returns-in_err-runs g c = unpowered (g.B.Board.state c.args.board.now).on c.in_err-runs.ensures.off c.requires.ready.on
 
 pub returns-in_err-tick_job-clause-turns : goal.returns-in_err-tick_job-clause-turns
 returns-in_err-tick_job-clause-turns g c = Turns-ended _ _ _ _ c.from_residual-in_err-tick_job.result c.in_err-tick_job.field-0.0 c.tick_job.ensures.step c.from_residual-in_err-tick_job.ensures.1

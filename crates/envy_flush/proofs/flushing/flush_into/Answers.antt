@@ -10,7 +10,8 @@ use Rattle.envy_flush.proofs.FlushLemmas.{err-at}
 use Rattle.envy_flush.proofs.Leaving.{leaves_then}
 use Rattle.envy_layout.specs.Same.{Same, Stays, Framed}
 use Rattle.envy_layout.specs.Sound.{Sound, Places}
-use Rattle.envy_flush.proofs.FlushAnswers.{off-after, off-if, off-bad, err-after, err-if, ok-bad, ready-left, page-left, granted-left, parts-copied, parts-moved}
+use Rattle.envy_reloc.proofs.Exits.{off-after, off-if, off-bad, err-after, err-if, ok-bad}
+use Rattle.envy_flush.proofs.FlushAnswers.{ready-left, page-left, granted-left, parts-copied, parts-moved}
 use Rattle.envy_layout.proofs.Sames.{same_two as Same-two}
 use Rattle.envy_flush.proofs.flushing.flush_into.Goals as goal
 

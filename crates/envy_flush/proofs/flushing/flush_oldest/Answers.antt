@@ -15,7 +15,8 @@ use Rattle.envy_flush.specs.declared.parts.Parts.{Parts}
 use Rattle.envy_flush.proofs.Leaving.{leaves_then}
 use Rattle.envy_flush.proofs.FlushLemmas.{err-at, on-ok, GetsRow-after, StopsFor-gets, bad-rises}
 use Rattle.envy_layout.proofs.Composition.{Same-more}
-use Rattle.envy_flush.proofs.FlushAnswers.{err-after, err-if, ready-left, page-left}
+use Rattle.envy_reloc.proofs.Exits.{err-after, err-if}
+use Rattle.envy_flush.proofs.FlushAnswers.{ready-left, page-left}
 use Rattle.envy_layout.proofs.Sames.{same_two as Same-two}
 use Rattle.envy_flush.proofs.flushing.flush_oldest.Goals as goal
 

@@ -12,7 +12,8 @@ use Rattle.envy_flush.proofs.AgreeLemmas.{Agrees-rowed, Rowed-granted, Fits-move
 use Rattle.envy_table.proofs.HitLemmas.{Rests-retargeted}
 use Rattle.envy_space.proofs.PlaceLemmas.{room-rowed}
 use Rattle.envy_base.specs.State.{IsBoard}
-use Rattle.envy_flush.proofs.FlushAnswers.{none-if, may-take, has-page, row-few, held-frame, none-power}
+use Rattle.envy_reloc.proofs.Exits.{none-if, none-power}
+use Rattle.envy_flush.proofs.FlushAnswers.{may-take, has-page, row-few, held-frame}
 use Rattle.envy_flush.proofs.flushing.move_out.Goals as goal
 
 pub note_kept-requires-clause-room : goal.note_kept-requires-clause-room

@@ -13,7 +13,7 @@ use Rattle.envy_base.specs.State.{IsBoard}
 use Rattle.envy_frames.specs.Agreement.{default_home}
 use Rattle.envy_flush.specs.Storing.{IsHome}
 use Rattle.envy_flush.proofs.AvailLemmas.{relocated-placed}
-use Rattle.envy_flush.proofs.FlushAnswers.{unpowered}
+use Rattle.envy_reloc.proofs.Exits.{unpowered}
 use Rattle.envy_flush.proofs.homes.home_of.Goals as goal
 
 pub position_of-requires : goal.position_of-requires

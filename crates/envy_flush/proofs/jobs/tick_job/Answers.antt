@@ -9,7 +9,7 @@ use Rattle.envy_flush.proofs.AgreeLemmas.{Fits-staged, no-stages}
 use Rattle.envy_base.proofs.Counting.{up-rises}
 use Rattle.envy_base.specs.declared.board.Trouble.{Trouble}
 use Rattle.envy_base.specs.declared.board.Trouble.TheVariants.{Bad}
-use Rattle.envy_flush.proofs.CallExits.{unlit, ok-bad}
+use Rattle.envy_reloc.proofs.Exits.{unpowered, ok-bad}
 use Rattle.envy_flush.proofs.TickAnswers.{power-handed, parts-stepped, idles-stepped}
 use Rattle.envy_flush.proofs.jobs.tick_job.Goals as goal
 
@@ -57,7 +57,7 @@ returns-then-not-erasing-clause-stops g c is =
     }
 
 pub returns-in_err-job : goal.returns-in_err-job
-returns-in_err-job g c = unlit (g.B.Board.state c.args.board.now).on c.in_err-job.ensures.value c.requires.ready.on
+returns-in_err-job g c = unpowered (g.B.Board.state c.args.board.now).on c.in_err-job.ensures.value c.requires.ready.on
 
 pub step_job-requires-clause-ready : goal.step_job-requires-clause-ready
 step_job-requires-clause-ready g c = c.requires.ready

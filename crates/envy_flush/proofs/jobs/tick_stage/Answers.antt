@@ -7,7 +7,7 @@ use Rattle.envy_table.proofs.HitLemmas.{Rests-refl}
 use Rattle.envy_flush.specs.Agreement.{Fits, AreStages}
 use Rattle.envy_flush.proofs.CountLemmas.{Counting-quiet}
 use Rattle.envy_flush.proofs.AgreeLemmas.{Agrees-begun, Fits-next}
-use Rattle.envy_flush.proofs.CallExits.{unlit, off-if, off-after, off-bad, ok-bad}
+use Rattle.envy_reloc.proofs.Exits.{unpowered, off-if, off-after, off-bad, ok-bad}
 use Rattle.std.proofs.lemmas.List.Elements.{All-nil}
 use Rattle.envy_flush.proofs.SwapAnswers.{TicksStage-began, StageBegins-began, none-pair}
 use Rattle.envy_flush.proofs.jobs.tick_stage.Goals as goal
@@ -28,9 +28,9 @@ returns-in_err-begin-clause-leaves g c =
     record {
       steady = record {
         fits = Fits-next old.shape new.shape c.args.parts.now _ shape r.fits c.next.ensures.rest (c.next.ensures.below _ (AreStages.within (Fits.stages r.fits))).1 refl refl refl refl;
-        agrees = λ on. unlit new.on c.in_err-begin.ensures.power on;
+        agrees = λ on. unpowered new.on c.in_err-begin.ensures.power on;
       };
-      counting = Counting-quiet old new c.args.parts.now _ (Stays.counted s) refl refl (record { copied = ap (λ (p : Plan). p.copied) plan; moved = ap (λ (p : Plan). p.moved) plan; erased = ap (λ (p : Plan). p.erased) plan }) (ap (λ (p : Plan). p.since) plan) (λ on. unlit new.on c.in_err-begin.ensures.power on);
+      counting = Counting-quiet old new c.args.parts.now _ (Stays.counted s) refl refl (record { copied = ap (λ (p : Plan). p.copied) plan; moved = ap (λ (p : Plan). p.moved) plan; erased = ap (λ (p : Plan). p.erased) plan }) (ap (λ (p : Plan). p.since) plan) (λ on. unpowered new.on c.in_err-begin.ensures.power on);
       rests = Rests-refl c.args.parts.now.cache;
     }
 

@@ -4,7 +4,8 @@ use Rattle.envy_layout.specs.Same.{Same, Stays, Framed, Counted}
 use Rattle.envy_table.proofs.HitLemmas.{Rests-refl}
 use Rattle.envy_flush.proofs.AgreeLemmas.{Agrees-programmed, Fits-moved}
 use Rattle.envy_flush.proofs.CountLemmas.{Counting-flushed, Grows-none}
-use Rattle.envy_flush.proofs.FlushAnswers.{unpowered, may-program}
+use Rattle.envy_reloc.proofs.Exits.{unpowered}
+use Rattle.envy_flush.proofs.FlushAnswers.{may-program}
 use Rattle.envy_flush.proofs.FlushLemmas.{on-ok}
 use Rattle.envy_flush.proofs.programming.copy_row.Goals as goal
 

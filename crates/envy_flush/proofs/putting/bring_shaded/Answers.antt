@@ -13,7 +13,8 @@ use Rattle.envy_flush.proofs.NearLemmas.{Near-filled, Brings-shaded}
 use Rattle.std.proofs.lemmas.Result.{on_err_weaker}
 use Rattle.envy_layout.proofs.Composition.{SameDurable-same, SameDurable-trans}
 use Rattle.envy_flush.proofs.PutLemmas.{MayGive-framed, PutDone-after}
-use Rattle.envy_flush.proofs.CallExits.{unlit, none-if, none-err, none-power, le-same}
+use Rattle.envy_reloc.proofs.Exits.{unpowered, none-if, none-err, none-power}
+use Rattle.envy_flush.proofs.Bounds.{le-same}
 use Rattle.envy_flush.proofs.ShadeAnswers.{KeepsOwners-same, parts-filled}
 use Rattle.envy_flush.proofs.putting.bring_shaded.Goals as goal
 
@@ -44,7 +45,7 @@ pub shade_in-requires-clause-copy : goal.shade_in-requires-clause-copy
 shade_in-requires-clause-copy g c = c.in_ok-frame.ensures.fills.copy
 
 pub returns-in_err-from : goal.returns-in_err-from
-returns-in_err-from g c = unlit (g.B.Board.state c.args.board.now).on c.in_err-from.ensures.value c.requires.ready.on
+returns-in_err-from g c = unpowered (g.B.Board.state c.args.board.now).on c.in_err-from.ensures.value c.requires.ready.on
 
 pub returns-in_err-frame-clause-leaves : goal.returns-in_err-frame-clause-leaves
 returns-in_err-frame-clause-leaves g c =

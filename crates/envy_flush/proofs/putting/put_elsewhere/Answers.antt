@@ -6,7 +6,8 @@ use Rattle.envy_flush.proofs.Leaving.{leaves_then}
 use Rattle.envy_flush.proofs.PutLemmas.{PutDone-after}
 use Rattle.envy_layout.specs.Same.{Same, Stays}
 use Rattle.envy_flush.proofs.PutLemmas.{MayGive-framed}
-use Rattle.envy_flush.proofs.CallExits.{err-if, err-after, off-if, off-after, off-bad, ok-bad, le-same}
+use Rattle.envy_reloc.proofs.Exits.{err-if, err-after, off-if, off-after, off-bad, ok-bad}
+use Rattle.envy_flush.proofs.Bounds.{le-same}
 use Rattle.envy_flush.proofs.ShadeAnswers.{PutFirst-ended, PutFirst-lost, KeepsOwners-same}
 use Rattle.envy_flush.proofs.putting.put_elsewhere.Goals as goal
 

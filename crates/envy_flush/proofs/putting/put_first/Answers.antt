@@ -5,7 +5,7 @@ use Rattle.envy_flush.specs.declared.parts.Parts.{Parts}
 use Rattle.envy_flush.proofs.FlushLemmas.{on-ok}
 use Rattle.envy_flush.proofs.LookLemmas.{Stops-framed, Stops-elsewhere, Puts-fetched, Counting-looked, elsewhere-of}
 use Rattle.envy_table.proofs.HitLemmas.{Accesses-then as Accesses-rests}
-use Rattle.envy_flush.proofs.CallExits.{unlit}
+use Rattle.envy_reloc.proofs.Exits.{unpowered}
 use Rattle.envy_flush.proofs.WordAnswers.{Ready-looked}
 use Rattle.envy_flush.proofs.putting.put_first.Goals as goal
 
@@ -64,7 +64,7 @@ pub translate-requires-clause-agrees : goal.translate-requires-clause-agrees
 translate-requires-clause-agrees g c on = c.requires.ready.agrees.current
 
 pub returns-in_err-frame : goal.returns-in_err-frame
-returns-in_err-frame g c = unlit (g.B.Board.state c.args.board.now).on c.in_err-frame.ensures.place c.requires.ready.on
+returns-in_err-frame g c = unpowered (g.B.Board.state c.args.board.now).on c.in_err-frame.ensures.place c.requires.ready.on
 
 pub put_framed-requires : goal.put_framed-requires
 put_framed-requires g c = record {

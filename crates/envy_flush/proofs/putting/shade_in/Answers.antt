@@ -9,7 +9,7 @@ use Rattle.envy_flush.proofs.Leaving.{leaves_off}
 use Rattle.envy_flush.proofs.CountLemmas.{Counting-still}
 use Rattle.envy_flush.proofs.AgreeLemmas.{Fits-moved}
 use Rattle.envy_flush.proofs.ElsewhereLemmas.{Agrees-shaded}
-use Rattle.envy_flush.proofs.CallExits.{none-if, none-err, none-power}
+use Rattle.envy_reloc.proofs.Exits.{none-if, none-err, none-power}
 use Rattle.envy_flush.proofs.putting.shade_in.Goals as goal
 
 pub returns-clause-leaves : goal.returns-clause-leaves

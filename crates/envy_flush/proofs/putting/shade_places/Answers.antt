@@ -18,7 +18,7 @@ use Rattle.envy_flush.proofs.FlushLemmas.{ok-any, ok-of, err-of, ok-written, on-
 use Rattle.envy_flush.proofs.Leaving.{if_powered}
 use Rattle.envy_base.specs.declared.shape.Shape.{Shape}
 use Rattle.envy_layout.specs.Same.{SameWords}
-use Rattle.envy_flush.proofs.CallExits.{none-if, none-power}
+use Rattle.envy_reloc.proofs.Exits.{none-if, none-power}
 use Rattle.envy_flush.proofs.putting.shade_places.Goals as goal
 
 pub own-requires-clause-undo : goal.own-requires-clause-undo

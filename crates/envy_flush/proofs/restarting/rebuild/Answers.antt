@@ -2,7 +2,7 @@ use Rattle.std.proofs.Common.{refl, ap}
 use Rattle.envy_map.specs.Fields.{chart}
 use Rattle.envy_flush.proofs.AgreeLemmas.{Fits-staged, no-stages, sizes_of}
 use Rattle.envy_flush.proofs.RestartLemmas.{IsPlanOf-settled, AreParted-settled}
-use Rattle.envy_flush.proofs.CallExits.{none-if, none-err}
+use Rattle.envy_reloc.proofs.Exits.{none-if, none-err}
 use Rattle.envy_flush.proofs.restarting.rebuild.Goals as goal
 
 pub returns-clause-ready : goal.returns-clause-ready

@@ -6,7 +6,7 @@ use Rattle.envy_flush.proofs.FlushLemmas.{ok-any}
 use Rattle.envy_flush.proofs.RestartLemmas.{live-settled}
 use Rattle.envy_base.specs.declared.shape.Shape.{Shape}
 use Rattle.envy_flush.specs.Agreement.{Fits}
-use Rattle.envy_flush.proofs.CallExits.{none-if, none-err, none-power}
+use Rattle.envy_reloc.proofs.Exits.{none-if, none-err, none-power}
 use Rattle.envy_flush.proofs.restarting.restart.Goals as goal
 
 pub returns-clause-restarts : goal.returns-clause-restarts

@@ -1,4 +1,4 @@
-use Rattle.envy_flush.proofs.CallExits.{none-if, none-power}
+use Rattle.envy_reloc.proofs.Exits.{none-if, none-power}
 use Rattle.envy_flush.proofs.restarting.settle_all.Goals as goal
 
 pub returns-in_err-settle-clause-durable : goal.returns-in_err-settle-clause-durable

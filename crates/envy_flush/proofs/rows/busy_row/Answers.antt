@@ -12,7 +12,8 @@ use Rattle.envy_flush.proofs.FlushLemmas.{err-at, if-done, never-idle, none-of, 
 use Rattle.envy_reloc.specs.Plan.{IsFreeOf}
 use Rattle.envy_layout.proofs.Composition.{Same-more}
 use Rattle.envy_layout.proofs.Sames.{same_within, same_two as Same-two}
-use Rattle.envy_flush.proofs.FlushAnswers.{unpowered, off-after, off-if, off-bad, err-after, err-if, ok-bad, ready-left, page-left, position-left, keeps-off, keeps-places}
+use Rattle.envy_reloc.proofs.Exits.{unpowered, off-after, off-if, off-bad, err-after, err-if, ok-bad}
+use Rattle.envy_flush.proofs.FlushAnswers.{ready-left, page-left, position-left, keeps-off, keeps-places}
 use Rattle.envy_flush.proofs.rows.busy_row.Goals as goal
 
 pub returns-clause-same : goal.returns-clause-same

@@ -1,7 +1,7 @@
 use Rattle.std.proofs.Common.{◌+◌, ◌*◌, arith}
 use Rattle.envy_map.specs.Fields.{chart}
 use Rattle.envy_layout.proofs.Composition.{Same-more}
-use Rattle.envy_flush.proofs.FlushAnswers.{unpowered}
+use Rattle.envy_reloc.proofs.Exits.{unpowered}
 use Rattle.envy_flush.proofs.rows.get_row.Goals as goal
 
 pub is_busy-requires : goal.is_busy-requires

@@ -9,7 +9,8 @@ use Rattle.envy_flush.proofs.FlushLemmas.{if-done, never-idle}
 use Rattle.envy_flush.proofs.RowLemmas.{some-rows, free-room, clean-room, dead-cleaned, aside-in}
 use Rattle.envy_flush.specs.declared.parts.Parts.{Parts}
 use Rattle.envy_layout.proofs.Sames.{same_within}
-use Rattle.envy_flush.proofs.FlushAnswers.{off-after, off-if, off-bad, ok-bad, keeps-off, keeps-places, free-idle}
+use Rattle.envy_reloc.proofs.Exits.{off-after, off-if, off-bad, ok-bad}
+use Rattle.envy_flush.proofs.FlushAnswers.{keeps-off, keeps-places, free-idle}
 use Rattle.envy_flush.proofs.rows.idle_row.Goals as goal
 
 pub choose_row-requires-clause-some : goal.choose_row-requires-clause-some

@@ -1,7 +1,7 @@
 use Rattle.std.proofs.Common.{sym}
 use Rattle.std.proofs.lemmas.Bool.{false≢true}
 use Rattle.envy_layout.specs.Sound.{Sound, Jobs}
-use Rattle.envy_flush.proofs.FlushAnswers.{unpowered}
+use Rattle.envy_reloc.proofs.Exits.{unpowered}
 use Rattle.envy_flush.proofs.rows.is_busy.Goals as goal
 
 pub job-requires : goal.job-requires

@@ -21,7 +21,8 @@ use Rattle.envy_layout.proofs.Owners.{owned_by-owns}
 use Rattle.envy_layout.proofs.Putting.{PutDone-more, PutDone-shadowed}
 use Rattle.envy_layout.proofs.Composition.{Counted-put}
 use Rattle.envy_flush.proofs.PutLemmas.{MayGive-framed, Shadows-shape, PutFirst-shadow, PutFirst-dropped, Steady-word}
-use Rattle.envy_flush.proofs.CallExits.{unlit, err-if, err-after, off-if, off-after, off-bad, ok-bad, le-same, row-next, row-less}
+use Rattle.envy_reloc.proofs.Exits.{unpowered, err-if, err-after, off-if, off-after, off-bad, ok-bad}
+use Rattle.envy_flush.proofs.Bounds.{le-same, row-next, row-less}
 use Rattle.envy_flush.proofs.ShadeAnswers.{held-frame, held-home, PutFirst-ended, KeepsOwners-same}
 use Rattle.envy_flush.proofs.shading.put_framed.Goals as goal
 
@@ -252,7 +253,7 @@ returns-in_err-change_frame_word-clause-gives g c = off-if c.from_residual-in_er
 
 pub returns-in_err-change_frame_word-clause-owners : goal.returns-in_err-change_frame_word-clause-owners
 returns-in_err-change_frame_word-clause-owners g c =
-    record { limit = c.shadow.ensures.owners.limit; agree = λ on. unlit (g.B.Board.state c.change_frame_word.new.board).on c.in_err-change_frame_word.ensures.power on }
+    record { limit = c.shadow.ensures.owners.limit; agree = λ on. unpowered (g.B.Board.state c.change_frame_word.new.board).on c.in_err-change_frame_word.ensures.power on }
 
 pub returns-in_err-change_frame_word-clause-stops : goal.returns-in_err-change_frame_word-clause-stops
 returns-in_err-change_frame_word-clause-stops g c is = off-bad c.from_residual-in_err-change_frame_word.result c.from_residual-in_err-change_frame_word.ensures.1 is

@@ -10,7 +10,7 @@ use Rattle.envy_flush.proofs.CountLemmas.{Counting-still}
 use Rattle.envy_flush.proofs.AgreeLemmas.{Fits-moved}
 use Rattle.envy_flush.proofs.ShadeLemmas.{Shades, Shades-given, room-shade, Agrees-shade, MayUndo-shade, Owns-shade}
 use Rattle.envy_txn.specs.Owners.{Ownership}
-use Rattle.envy_flush.proofs.CallExits.{none-if, none-power}
+use Rattle.envy_reloc.proofs.Exits.{none-if, none-power}
 use Rattle.envy_base.specs.State.{IsBoard}
 use Rattle.envy_flush.proofs.ShadeAnswers.{row-code}
 use Rattle.envy_flush.proofs.shading.shade.Goals as goal

@@ -11,7 +11,7 @@ use Rattle.envy_flush.proofs.Leaving.{leaves_then}
 use Rattle.envy_layout.proofs.Putting.{Owns-after}
 use Rattle.envy_flush.proofs.PutLemmas.{MayGive-framed}
 use Rattle.envy_flush.specs.Flushing.{Granted, IsFresh}
-use Rattle.envy_flush.proofs.CallExits.{err-if, err-after, off-if, off-after, off-bad, ok-bad}
+use Rattle.envy_reloc.proofs.Exits.{err-if, err-after, off-if, off-after, off-bad, ok-bad}
 use Rattle.envy_flush.proofs.ShadeAnswers.{Shadows-ended, Shadows-lost, KeepsOwners-same, parts-shaded}
 use Rattle.envy_flush.proofs.shading.shadow.Goals as goal
 

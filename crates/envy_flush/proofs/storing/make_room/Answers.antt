@@ -7,7 +7,7 @@ use Rattle.envy_base.specs.declared.shape.Shape.{Shape}
 use Rattle.envy_layout.proofs.Composition.{Same-refl}
 use Rattle.envy_layout.proofs.Sames.{same_within}
 use Rattle.envy_flush.proofs.Leaving.{leaves_none}
-use Rattle.envy_flush.proofs.CallExits.{err-if, err-after, err-bad, ok-bad}
+use Rattle.envy_reloc.proofs.Exits.{err-if, err-after, err-bad, ok-bad}
 use Rattle.envy_flush.proofs.storing.make_room.Goals as goal
 
 pub returns-in_ok-flush_oldest-clause-elsewhere : goal.returns-in_ok-flush_oldest-clause-elsewhere

@@ -8,7 +8,8 @@ use Rattle.envy_layout.proofs.Owners.{owned_by-framed}
 use Rattle.envy_flush.proofs.StoreLemmas.{Stored-after, Stored-more, Interrupted-after, Interrupted-more, Shadowed-after, Shadowed-more}
 use Rattle.envy_layout.proofs.WordPuts.{Dropped-after, Dropped-more}
 use Rattle.envy_base.specs.declared.board.Trouble.{Trouble}
-use Rattle.envy_flush.proofs.CallExits.{err-if, err-after, err-bad, off-if, off-after, off-bad, ok-bad, le-same, plus-none}
+use Rattle.envy_reloc.proofs.Exits.{err-if, err-after, err-bad, off-if, off-after, off-bad, ok-bad}
+use Rattle.envy_flush.proofs.Bounds.{le-same, plus-none}
 use Rattle.envy_flush.proofs.ShadeAnswers.{Wrote-ended, Shaded-ended}
 use Rattle.envy_base.specs.declared.shape.Shape.{Shape}
 use Rattle.envy_flush.proofs.storing.store_elsewhere.Goals as goal

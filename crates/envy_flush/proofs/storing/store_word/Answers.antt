@@ -5,7 +5,7 @@ use Rattle.envy_map.specs.Fields.{chart, place}
 use Rattle.envy_flush.specs.declared.parts.Parts.{Parts}
 use Rattle.envy_flush.proofs.LookLemmas.{Stops-elsewhere, Stores-fetched, Counting-looked, elsewhere-of}
 use Rattle.envy_table.proofs.HitLemmas.{Accesses-then as Accesses-rests}
-use Rattle.envy_flush.proofs.CallExits.{unlit, off-if, off-after, off-bad, ok-bad}
+use Rattle.envy_reloc.proofs.Exits.{unpowered, off-if, off-after, off-bad, ok-bad}
 use Rattle.envy_flush.proofs.WordAnswers.{Ready-looked, Steady-written, Counting-written, StaysFramed-written, Wrote-word, Shaded-word, Wrote-lost, Shaded-lost}
 use Rattle.envy_flush.proofs.storing.store_word.Goals as goal
 
@@ -41,7 +41,7 @@ pub translate-requires-clause-agrees : goal.translate-requires-clause-agrees
 translate-requires-clause-agrees g c on = c.requires.ready.agrees.current
 
 pub returns-in_err-frame : goal.returns-in_err-frame
-returns-in_err-frame g c = unlit (g.B.Board.state c.args.board.now).on c.in_err-frame.ensures.place c.requires.ready.on
+returns-in_err-frame g c = unpowered (g.B.Board.state c.args.board.now).on c.in_err-frame.ensures.place c.requires.ready.on
 
 pub store_elsewhere-requires : goal.store_elsewhere-requires
 store_elsewhere-requires g c =

@@ -19,7 +19,8 @@ use Rattle.envy_flush.proofs.Leaving.{leaves_then}
 use Rattle.envy_flush.proofs.FlushLemmas.{bad-rises, never-idle, on-ok, GetsRow-after}
 use Rattle.envy_flush.proofs.ticking.flush_at.Goals as goal
 use Rattle.envy_layout.proofs.Sames.{same_within, same_two as Same-two}
-use Rattle.envy_flush.proofs.CallExits.{off-if, off-after, off-bad, le-same}
+use Rattle.envy_reloc.proofs.Exits.{off-if, off-after, off-bad}
+use Rattle.envy_flush.proofs.Bounds.{le-same}
 use Rattle.envy_flush.proofs.TickAnswers.{free-idle}
 
 pub flush_into-requires-clause-here : goal.flush_into-requires-clause-here

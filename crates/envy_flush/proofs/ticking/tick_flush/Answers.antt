@@ -10,7 +10,7 @@ use Rattle.envy_base.specs.declared.board.Trouble.{Trouble}
 use Rattle.envy_policy.specs.declared.choice.Choice.TheVariants.{Free, Clean}
 use Rattle.envy_layout.proofs.Sames.{same_within}
 use Rattle.envy_flush.specs.declared.parts.Parts.{Parts}
-use Rattle.envy_flush.proofs.CallExits.{err-if, err-after, err-bad, off-if, off-after, off-bad, ok-bad}
+use Rattle.envy_reloc.proofs.Exits.{err-if, err-after, err-bad, off-if, off-after, off-bad, ok-bad}
 use Rattle.envy_flush.proofs.RowLemmas.{some-rows, free-room, clean-room, aside-in}
 use Rattle.envy_flush.proofs.ticking.tick_flush.Goals as goal
 

@@ -2,7 +2,7 @@ use Rattle.std.proofs.Common.{inl, inr, length, refl}
 use Rattle.envy_map.specs.Fields.{chart}
 use Rattle.envy_flush.proofs.Leaving.{match_known, counts_tick}
 use Rattle.envy_flush.proofs.TickLemmas.{none_left, by_job, by_stage, by_flush, by_swap}
-use Rattle.envy_flush.proofs.CallExits.{unlit}
+use Rattle.envy_reloc.proofs.Exits.{unpowered}
 use Rattle.envy_flush.proofs.TickAnswers.{once-none, quiet-step, not-few, some-none, some-held, so-many, so-few}
 use Rattle.envy_flush.proofs.ticking.tick_ruled.Goals as goal
 
@@ -50,7 +50,7 @@ pub returns-clause-stops : goal.returns-clause-stops
 returns-clause-stops g c is = absurd (c.tick_swap.ensures.never is)
 
 pub returns-in_err-runs : goal.returns-in_err-runs
-returns-in_err-runs g c = unlit (g.B.Board.state c.args.board.now).on c.in_err-runs.ensures.off c.requires.ready.on
+returns-in_err-runs g c = unpowered (g.B.Board.state c.args.board.now).on c.in_err-runs.ensures.off c.requires.ready.on
 
 pub tick_job-requires-clause-ready : goal.tick_job-requires-clause-ready
 tick_job-requires-clause-ready g c = c.requires.ready

@@ -5,7 +5,7 @@ use Rattle.envy_layout.proofs.Composition.{Same-refl}
 use Rattle.envy_table.proofs.HitLemmas.{Rests-refl}
 use Rattle.envy_wear.specs.Swaps.{IsDue, IsMostWorn, IsLeastWorn}
 use Rattle.envy_flush.proofs.AgreeLemmas.{Agrees-begun, Fits-staged}
-use Rattle.envy_flush.proofs.CallExits.{unlit, off-if, off-after, off-bad, ok-bad}
+use Rattle.envy_reloc.proofs.Exits.{unpowered, off-if, off-after, off-bad, ok-bad}
 use Rattle.envy_flush.proofs.EndAnswers.{Steady-lost}
 use Rattle.envy_flush.proofs.JobLemmas.{IsPlanOf-anew}
 use Rattle.envy_flush.proofs.Leaving.{leaves_none, match_known, counts_tick}
@@ -21,7 +21,7 @@ pub due_after-requires-clause-quiet : goal.due_after-requires-clause-quiet
 due_after-requires-clause-quiet g c on = rw c.since.ensures c.requires.quiet
 
 pub returns-in_err-swap : goal.returns-in_err-swap
-returns-in_err-swap g c = unlit (g.B.Board.state c.args.board.now).on c.in_err-swap.ensures.power c.requires.ready.on
+returns-in_err-swap g c = unpowered (g.B.Board.state c.args.board.now).on c.in_err-swap.ensures.power c.requires.ready.on
 
 pub returns-in_default : goal.returns-in_default
 returns-in_default g c =
@@ -65,7 +65,7 @@ returns-in_err-begin g c =
       counts = match_known c.from_residual-in_err-begin.result _ _ (counts_tick _ _ _ _ w) w;
       idle = λ none. absurd (none c.in-Some.swap due);
       never = λ bad. off-bad c.from_residual-in_err-begin.result is bad;
-      quiet = λ on. unlit new.on off on;
+      quiet = λ on. unpowered new.on off on;
       rests = Rests-refl x.cache;
       power = off-after c.from_residual-in_err-begin.result new.on off is;
     }
