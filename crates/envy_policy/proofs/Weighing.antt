@@ -1,5 +1,6 @@
 -- What cleanings are worth, and the best of the positions below a bound.
-use Rattle.std.proofs.Common.{◌≡◌, inl, inr, ℕ, ◌+◌, ◌-◌, ◌*◌, ◌^◌, ◌<◌, ◌≤◌, Option, None, Some, slice_index, sym, subst, arith}
+use Rattle.std.proofs.Common.{Fits, ◌≡◌, refl, inl, inr, ℕ, ◌+◌, ◌-◌, ◌*◌, ◌^◌, ◌<◌, ◌≤◌, Option, None, Some, slice_index, sym, subst, arith}
+use Rattle.std.specs.Int.{w128}
 use Rattle.std.proofs.Math.Nat.{le_of_mul-le-mul_left}
 use Rattle.std.proofs.lemmas.Nat.{mul-le}
 use Rattle.std.proofs.lemmas.Bool.{cases_lt}
@@ -43,6 +44,29 @@ worth-small n rows positions Brief x whole counted = let dead = counted.few_dead
 worth-small n rows positions Short x whole counted = aged-small n rows positions x whole counted
 worth-small n rows positions Long x whole counted = aged-small n rows positions x whole counted
 worth-small n rows positions Lasting x whole counted = aged-small n rows positions x whole counted
+
+-- what is read of a position for its age
+pub record IsRead (n : Notes) (rows : RowCounts) (x dead clock since : ℕ) : Type 0 where
+  pub is_dead : dead ≡ slice_index rows.dead x
+  pub is_clock : clock ≡ n.clock
+  pub is_since : since ≡ slice_index n.cleaned x
+
+-- the worth of a position by what is read of it, for pages that aren't soon stored again
+pub worth-read : (n : Notes) (rows : RowCounts) (class : Class) (x dead clock since kept : ℕ) → (class ≡ Brief → ⊥) → IsRead n rows x dead clock since → kept ≡ slice_index rows.kept x
+    → record {over = dead * (clock - since + 1); under = 2 * kept + 1} ≡ worth n rows class x
+worth-read n rows Brief x dead clock since kept not r k = absurd (not refl)
+worth-read n rows Short x dead clock since kept not r k = rw (r.is_dead, r.is_clock, r.is_since, k) refl
+worth-read n rows Long x dead clock since kept not r k = rw (r.is_dead, r.is_clock, r.is_since, k) refl
+worth-read n rows Lasting x dead clock since kept not r k = rw (r.is_dead, r.is_clock, r.is_since, k) refl
+
+pub age-fits : (clock since : ℕ) → clock < 2 ^ 64 → Fits w128 (clock - since + 1)
+age-fits clock since few = omega (arith, few)
+
+pub over-fits : (over : ℕ) → over ≤ 2 ^ 84 → Fits w128 over
+over-fits over few = omega (arith, few)
+
+pub over-read : (n : Notes) (rows : RowCounts) (positions x dead clock since : ℕ) → IsNotes n → IsCounted positions rows → IsRead n rows x dead clock since → dead * (clock - since + 1) ≤ 2 ^ 84
+over-read n rows positions x dead clock since whole counted r = rw (r.is_dead, r.is_clock, r.is_since) (aged-small n rows positions x whole counted).over
 
 -- a position that isn't full changes nothing
 pub best-passed : (end : ℕ) (n : Notes) (rows : RowCounts) (class : Class) (best : Option Weighed) → (IsFull rows end → ⊥) → IsBestBelow end n rows class best → IsBestBelow (end + 1) n rows class best
