@@ -12,3 +12,4 @@ pub mod StepsLemma
 pub mod SwitchLemmas
 pub mod WriteLemmas
 mod Exits
+pub mod StepWays
