@@ -1,2 +1,3 @@
 pub mod Heaps
 pub mod Broken
+pub mod Loading

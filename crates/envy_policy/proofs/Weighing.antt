@@ -1,5 +1,6 @@
 -- What cleanings are worth, and the best of the positions below a bound.
-use Rattle.std.proofs.Common.{◌≡◌, inl, inr, ℕ, ◌+◌, ◌-◌, ◌*◌, ◌^◌, ◌<◌, ◌≤◌, Option, None, Some, slice_index, sym, subst, arith}
+use Rattle.std.proofs.Common.{zero, suc, Fits, ◌≡◌, refl, inl, inr, ℕ, ◌+◌, ◌-◌, ◌*◌, ◌^◌, ◌<◌, ◌≤◌, Option, None, Some, slice_index, sym, subst, arith}
+use Rattle.std.specs.Int.{w128}
 use Rattle.std.proofs.Math.Nat.{le_of_mul-le-mul_left}
 use Rattle.std.proofs.lemmas.Nat.{mul-le}
 use Rattle.std.proofs.lemmas.Bool.{cases_lt}
@@ -7,7 +8,7 @@ use Rattle.envy_policy.specs.declared.class.Class.{Class}
 use Rattle.envy_policy.specs.declared.class.Class.TheVariants.{Brief, Short, Long, Lasting}
 use Rattle.envy_policy.specs.declared.fraction.Fraction.{Fraction}
 use Rattle.envy_policy.specs.declared.fraction.Weighed.{Weighed}
-use Rattle.envy_policy.specs.Lifetime.{RowCounts, IsCounted, IsAtMost, IsFull, IsGreatest, IsBestBelow, aged, worth}
+use Rattle.envy_policy.specs.Lifetime.{RowCounts, IsCounted, IsLowest, IsAtMost, IsFull, IsGreatest, IsBestBelow, aged, worth}
 use Rattle.envy_policy.specs.Notes.{Notes, IsNotes}
 
 at_most-trans : (a b c : Fraction) → 1 ≤ b.under → IsAtMost a b → IsAtMost b c → IsAtMost a c
@@ -43,6 +44,29 @@ worth-small n rows positions Brief x whole counted = let dead = counted.few_dead
 worth-small n rows positions Short x whole counted = aged-small n rows positions x whole counted
 worth-small n rows positions Long x whole counted = aged-small n rows positions x whole counted
 worth-small n rows positions Lasting x whole counted = aged-small n rows positions x whole counted
+
+-- what is read of a position for its age
+pub record IsRead (n : Notes) (rows : RowCounts) (x dead clock since : ℕ) : Type 0 where
+  pub is_dead : dead ≡ slice_index rows.dead x
+  pub is_clock : clock ≡ n.clock
+  pub is_since : since ≡ slice_index n.cleaned x
+
+-- the worth of a position by what is read of it, for pages that aren't soon stored again
+pub worth-read : (n : Notes) (rows : RowCounts) (class : Class) (x dead clock since kept : ℕ) → (class ≡ Brief → ⊥) → IsRead n rows x dead clock since → kept ≡ slice_index rows.kept x
+    → record {over = dead * (clock - since + 1); under = 2 * kept + 1} ≡ worth n rows class x
+worth-read n rows Brief x dead clock since kept not r k = absurd (not refl)
+worth-read n rows Short x dead clock since kept not r k = rw (r.is_dead, r.is_clock, r.is_since, k) refl
+worth-read n rows Long x dead clock since kept not r k = rw (r.is_dead, r.is_clock, r.is_since, k) refl
+worth-read n rows Lasting x dead clock since kept not r k = rw (r.is_dead, r.is_clock, r.is_since, k) refl
+
+pub age-fits : (clock since : ℕ) → clock < 2 ^ 64 → Fits w128 (clock - since + 1)
+age-fits clock since few = omega (arith, few)
+
+pub over-fits : (over : ℕ) → over ≤ 2 ^ 84 → Fits w128 over
+over-fits over few = omega (arith, few)
+
+pub over-read : (n : Notes) (rows : RowCounts) (positions x dead clock since : ℕ) → IsNotes n → IsCounted positions rows → IsRead n rows x dead clock since → dead * (clock - since + 1) ≤ 2 ^ 84
+over-read n rows positions x dead clock since whole counted r = rw (r.is_dead, r.is_clock, r.is_since) (aged-small n rows positions x whole counted).over
 
 -- a position that isn't full changes nothing
 pub best-passed : (end : ℕ) (n : Notes) (rows : RowCounts) (class : Class) (best : Option Weighed) → (IsFull rows end → ⊥) → IsBestBelow end n rows class best → IsBestBelow (end + 1) n rows class best
@@ -126,3 +150,27 @@ best-found end n rows class old best is full more at was = (
 
   above : (value old.position).over * (value best.position).under < (value best.position).over * (value old.position).under
   above = subst (λ (a : Fraction). a.over * (value best.position).under < (value best.position).over * a.under) was.0 (subst (λ (a : Fraction). old.worth.over * a.under < a.over * old.worth.under) is more)
+
+-- where no position has a free row and none is full, none has a row that is dead
+pub nothing-full : (rows : RowCounts) (k : ℕ) → 0 < slice_index rows.free k + slice_index rows.dead k → slice_index rows.free k ≡ 0 → ((x : ℕ) → IsFull rows x → ⊥) → ⊥
+nothing-full rows k some free none = none k (omega (arith, some, free), free)
+
+pub lowest-from-first : (P : ℕ → Type 0) (x : ℕ) → IsLowest (λ k. (0 ≤ k) × P k) x → IsLowest P x
+lowest-from-first P x is = record { holds = is.holds.1; least = λ y has. is.least y (omega arith, has); lowest = λ y has same. is.lowest y (omega arith, has) same }
+
+-- no position is below the first
+pub best-none : (n : Notes) (rows : RowCounts) (class : Class) → IsBestBelow 0 n rows class None
+best-none n rows class = λ x low. absurd (omega (arith, low))
+
+-- whether a position is full, by what is read of it
+pub full-read : (rows : RowCounts) (x dead free : ℕ) → dead ≡ slice_index rows.dead x → (dead ≡ 0 → ⊥) → free ≡ slice_index rows.free x → free ≤ 0 → IsFull rows x
+full-read rows x dead free d some f none = (subst (λ k. 0 < k) d (positive dead some), subst (λ k. k ≡ 0) f (omega (arith, none))) where
+  positive : (k : ℕ) → (k ≡ 0 → ⊥) → 0 < k
+  positive zero some = absurd (some refl)
+  positive (suc k) some = omega arith
+
+pub no-dead : (rows : RowCounts) (x dead : ℕ) → dead ≡ slice_index rows.dead x → dead ≡ 0 → IsFull rows x → ⊥
+no-dead rows x dead d none full = omega (arith, d, none, full.0)
+
+pub one-free : (rows : RowCounts) (x free : ℕ) → free ≡ slice_index rows.free x → 0 < free → IsFull rows x → ⊥
+one-free rows x free f some full = omega (arith, f, some, full.1)

@@ -1,6 +1,6 @@
 -- What stands at an exit where power is off, and where nothing was erased any more.
 use Rattle.std.proofs.Common.{◌≡◌, ◌∙◌, ℕ, Bool, true, false, IsTrue, Result, Ok, Err, IfOk, IsErrAnd, sym, ap, subst, arith}
-use Rattle.std.specs.Prelude.{sum}
+use Rattle.std.specs.Prelude.{OnErr, OnOk, sum}
 use Rattle.envy_base.specs.declared.board.Trouble.{Trouble}
 use Rattle.envy_base.specs.declared.board.Trouble.TheVariants.{Off as TroubleOff, Bad}
 use Rattle.envy_base.specs.Counting.{Tally}
@@ -53,6 +53,14 @@ err-bad (Err x) e h is = cc
 pub none-if : {T : Type 0} (r : Result T Off) (Q : Off → Type 0) (P : T → Type 0) → IsErrAnd r Q → IfOk r P
 none-if (Ok x) Q P h = absurd h
 none-if (Err e) Q P h = tt
+
+pub none-off : {T : Type 0} (r : Result T Off) (Q : Off → Type 0) (P : Type 0) → IsErrAnd r Q → OnOk r P
+none-off (Ok x) Q P h = absurd h
+none-off (Err e) Q P h = tt
+
+pub none-err : {T : Type 0} (r : Result T Off) (Q : Off → Type 0) (A : Type 0) → A → IsErrAnd r Q → OnErr r A
+none-err (Ok x) Q A a h = absurd h
+none-err (Err e) Q A a h = a
 
 pub none-power : {T : Type 0} (r : Result T Off) (Q : Off → Type 0) (b : Bool) → b ≡ false → IsErrAnd r Q → b ≡ power_of r
 none-power (Ok x) Q b off h = absurd h

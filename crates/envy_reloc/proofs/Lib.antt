@@ -3,12 +3,13 @@ pub mod CopyLemmas
 pub mod Counts
 pub mod EffortLemmas
 pub mod EndLemmas
+pub mod Exits
 pub mod KeepLemmas
 pub mod MoveLemmas
 pub mod PlanLemmas
 pub mod SettleLemmas
 pub mod StepLemmas
+pub mod StepWays
 pub mod StepsLemma
 pub mod SwitchLemmas
 pub mod WriteLemmas
-mod Exits
