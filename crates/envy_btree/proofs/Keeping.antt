@@ -10,7 +10,7 @@ on_or_off false = inr refl
 rose-low : (a b c : ℕ) → Rose a b → b ≤ c → Rose a c
 rose-low a b c r le lt = let h = r lt in omega arith
 
-rose-high : (a b c : ℕ) → a ≤ b → b ≤ c → Rose b c → Rose a c
+pub rose-high : (a b c : ℕ) → a ≤ b → b ≤ c → Rose b c → Rose a c
 rose-high a b c ab bc r lt = elim (cases_lt b (2 ^ 64 - 1)) [ inl l ↦ (let h : b < c = r l in omega arith) | inr g ↦ omega arith ]
 
 -- work keeps what calls keep

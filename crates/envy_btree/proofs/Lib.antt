@@ -2,6 +2,7 @@ pub mod Maps
 pub mod Trees
 pub mod Descent
 pub mod Writing
+pub mod Exits
 pub mod Nearest
 pub mod Beside
 pub mod Seeing
