@@ -1,5 +1,5 @@
 -- What stands where a `?` hands on a failure, and what work leaves for the work after it.
-use Rattle.std.proofs.Common.{◌≡◌, ◌⊎◌, ℕ, suc, ◌+◌, ◌*◌, ◌/◌, ◌%◌, ◌^◌, ◌<◌, ◌≤◌, IsTrue, length, Result, Ok, Err, IfOk, IsErrAnd, sym, subst, ◌∙◌, inr, arith}
+use Rattle.std.proofs.Common.{◌≡◌, ◌⊎◌, ℕ, suc, ◌+◌, ◌*◌, ◌/◌, ◌%◌, ◌^◌, ◌<◌, ◌≤◌, false, IsTrue, length, Result, Ok, Err, IfOk, IsErrAnd, sym, subst, ◌∙◌, inr, arith}
 use Rattle.envy_base.specs.declared.board.Trouble.{Trouble}
 use Rattle.envy_base.specs.declared.board.Trouble.TheVariants.{Off, Bad}
 use Rattle.envy_base.specs.Words.{Sheet, Works, OnPage, Fails, Puts, has}
@@ -64,3 +64,14 @@ keys-page p n few = omega arith
 
 pub slots-page : (p n : ℕ) → n ≤ 32 → at p 32 % 32 + n ≤ 32
 slots-page p n few = omega arith
+
+-- the failure of a read
+pub off-fails : {T : Type 0} (a b : Sheet) (r : Result T Trouble) → IsErrAnd r (λ e. e ≡ Off) → b.on ≡ false → Fails a r b
+off-fails a b (Ok x) h off = absurd h
+off-fails {T = T} a b (Err x) h off = subst (λ z. Fails {T = T} a (Err z) b) (sym h) off
+
+pub same-few : (n : ℕ) → n ≤ n
+same-few n = omega arith
+
+pub room-less : (j k n r : ℕ) → n + (j + k) ≤ r → n + j ≤ r
+room-less j k n r room = omega arith

@@ -19,6 +19,7 @@ pub mod Calling
 pub mod Going
 pub mod Planting
 pub mod Merging
+pub mod Neighbours
 pub mod Families
 pub mod Lessening
 pub mod Diving
