@@ -1,5 +1,5 @@
 -- What stands where a `?` hands on a failure, and what work leaves for the work after it.
-use Rattle.std.proofs.Common.{◌≡◌, ◌⊎◌, ℕ, suc, ◌+◌, ◌*◌, ◌/◌, ◌%◌, ◌^◌, ◌<◌, ◌≤◌, false, IsTrue, length, Result, Ok, Err, IfOk, IsErrAnd, sym, subst, ◌∙◌, inr, arith}
+use Rattle.std.proofs.Common.{◌≡◌, ◌⊎◌, ℕ, suc, ◌+◌, ◌*◌, ◌/◌, ◌%◌, ◌^◌, ◌<◌, ◌≤◌, Bool, false, IsTrue, length, Result, Ok, Err, IfOk, IsErrAnd, MatchResult, sym, subst, ◌∙◌, inr, arith}
 use Rattle.envy_base.specs.declared.board.Trouble.{Trouble}
 use Rattle.envy_base.specs.declared.board.Trouble.TheVariants.{Off, Bad}
 use Rattle.envy_base.specs.Words.{Sheet, Works, OnPage, Fails, Puts, has}
@@ -34,8 +34,8 @@ fails-after j k a b c (Err Bad) v w f = (f.0, rose-high a.bads b.bads c.bads v.b
 pub room-left : (j k : ℕ) (a b : Sheet) → Works j a b → IsTrue b.on → length a.pages + (j + k) ≤ a.room → length b.pages + k ≤ b.room
 room-left j k a b w on room = omega (arith, w.few on, w.room)
 
-pub page-works : (p : ℕ) (a b : Sheet) → OnPage p a b → Works 2 a b
-page-works p a b o = Works-more 1 2 a b (omega arith) o.works
+pub page-works : (k p : ℕ) (a b : Sheet) → OnPage p a b → Works (suc k) a b
+page-works k p a b o = Works-more 1 (suc k) a b (omega arith) o.works
 
 -- a node is written on two pages, its count and its keys on the first, its slots on the second
 pub first-page : (p : ℕ) (a b c : Sheet) → OnPage (head p / 32) a b → OnPage (at p 1 / 32) b c → OnPage (head p / 32) a c
@@ -75,3 +75,14 @@ same-few n = omega arith
 
 pub room-less : (j k n r : ℕ) → n + (j + k) ≤ r → n + j ≤ r
 room-less j k n r room = omega arith
+
+pub more-works : (j k : ℕ) (a b : Sheet) → Works j a b → Works (j + k) a b
+more-works j k a b w = Works-more j (j + k) a b (omega arith) w
+
+-- power, where a `?` hands on that it is off
+pub err-power : {T E : Type 0} (r : Result T E) (Q : E → Type 0) (b : Bool) → b ≡ false → IsErrAnd r Q → MatchResult r (λ _. IsTrue b) (λ _. b ≡ false)
+err-power (Ok x) Q b off h = absurd h
+err-power (Err e) Q b off h = off
+
+pub third-in : (n : ℕ) → 640 ≤ n → 3 < n
+third-in n size = omega arith

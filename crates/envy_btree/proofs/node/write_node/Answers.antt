@@ -38,7 +38,7 @@ pub put-requires-clause-room : goal.put-requires-clause-room
 put-requires-clause-room g c = put-room (head c.args.piece / 32) 1 (g.W.Words.sheet c.args.words.now) c.requires.room
 
 pub returns-in_err-put-clause-works : goal.returns-in_err-put-clause-works
-returns-in_err-put-clause-works g c = page-works (head c.args.piece / 32) (g.W.Words.sheet c.args.words.now) (g.W.Words.sheet c.put.new.self) c.put.ensures.works
+returns-in_err-put-clause-works g c = page-works 1 (head c.args.piece / 32) (g.W.Words.sheet c.args.words.now) (g.W.Words.sheet c.put.new.self) c.put.ensures.works
 
 pub returns-in_err-put-clause-fails : goal.returns-in_err-put-clause-fails
 returns-in_err-put-clause-fails g c = put-fails (head c.args.piece) (2 * length c.args.keys.now + c.kind_of-kind.result) (g.W.Words.sheet c.args.words.now) (g.W.Words.sheet c.put.new.self) c.from_residual.result _ c.in_err-put.ensures.answer c.from_residual.ensures.1
