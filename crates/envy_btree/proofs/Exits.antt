@@ -1,5 +1,5 @@
 -- What stands where a `?` hands on a failure, and what work leaves for the work after it.
-use Rattle.std.proofs.Common.{◌≡◌, ◌⊎◌, ℕ, suc, ◌+◌, ◌*◌, ◌/◌, ◌%◌, ◌^◌, ◌<◌, ◌≤◌, Bool, false, IsTrue, length, Result, Ok, Err, IfOk, IsErrAnd, MatchResult, sym, subst, ◌∙◌, inr, arith}
+use Rattle.std.proofs.Common.{◌≡◌, ◌⊎◌, ℕ, suc, ◌+◌, ◌-◌, ◌*◌, ◌/◌, ◌%◌, ◌^◌, ◌<◌, ◌≤◌, Bool, false, IsTrue, length, Result, Ok, Err, IfOk, IsErrAnd, MatchResult, sym, subst, ◌∙◌, inr, arith}
 use Rattle.envy_base.specs.declared.board.Trouble.{Trouble}
 use Rattle.envy_base.specs.declared.board.Trouble.TheVariants.{Off, Bad}
 use Rattle.envy_base.specs.Words.{Sheet, Works, OnPage, Fails, Puts, has}
@@ -86,3 +86,16 @@ err-power (Err e) Q b off h = off
 
 pub third-in : (n : ℕ) → 640 ≤ n → 3 < n
 third-in n size = omega arith
+
+-- work on the levels below, and at the node after it
+pub no-works : (k : ℕ) (a b : Sheet) → Works 0 a b → Works k a b
+no-works k a b w = Works-more 0 k a b (omega arith) w
+
+pub leaf-works : (k l : ℕ) (a b c : Sheet) → Works 0 a b → Works k b c → Works (4 * l + k) a c
+leaf-works k l a b c v w = Works-more (0 + k) (4 * l + k) a c (omega arith) (Works-trans 0 k a b c v w)
+
+pub deep-works : (k l : ℕ) (a b c : Sheet) → Works 0 a b → Works (4 * (l - 1) + k) b c → Works (4 * l + k) a c
+deep-works k l a b c v w = Works-more (0 + (4 * (l - 1) + k)) (4 * l + k) a c (omega arith) (Works-trans 0 (4 * (l - 1) + k) a b c v w)
+
+pub room-deep : (k l : ℕ) (a b : Sheet) → Works 0 a b → IsTrue b.on → length a.pages + (4 * l + k) ≤ a.room → length b.pages + k ≤ b.room
+room-deep k l a b w on room = omega (arith, w.few on, w.room)
