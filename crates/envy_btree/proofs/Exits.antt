@@ -99,3 +99,12 @@ deep-works k l a b c v w = Works-more (0 + (4 * (l - 1) + k)) (4 * l + k) a c (o
 
 pub room-deep : (k l : ℕ) (a b : Sheet) → Works 0 a b → IsTrue b.on → length a.pages + (4 * l + k) ≤ a.room → length b.pages + k ≤ b.room
 room-deep k l a b w on room = omega (arith, w.few on, w.room)
+
+-- how a last put ends
+pub put-ends : (i w : ℕ) (a b : Sheet) (r : Result Unit Trouble) → Puts a i w r b → Fails a r b
+put-ends i w a b (Ok x) f = f.0
+put-ends i w a b (Err Off) f = f
+put-ends i w a b (Err Bad) f = (f.0, f.3)
+
+pub zero-in : (n : ℕ) → 640 ≤ n → 0 < n
+zero-in n size = omega arith
