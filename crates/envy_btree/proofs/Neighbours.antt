@@ -101,3 +101,10 @@ mended-two old new free j p q key keys slots inner joined joined_slots after aft
   front = front;
   back = back;
 })
+
+-- the node above is written back
+pub above-few : (n k : ℕ) → k ≤ n → n ≤ 31 → k ≤ 31
+above-few n k less few = omega arith
+
+pub above-slots : (n k m : ℕ) → k ≤ n → n ≤ 31 → m ≡ k + 1 → m ≤ 32
+above-slots n k m less few long = omega arith
