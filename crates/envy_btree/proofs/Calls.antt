@@ -147,3 +147,8 @@ count-fits ws es n x is size = omega (arith, x.few, x.count)
 -- more pairs than there may be
 pub is-full : (ws : List ℕ) (key size most n : ℕ) (es : List (ℕ × ℕ)) (was : Option ℕ) → IsIndex ws es → was ≡ assoc key es → size ≡ length ws → most ≡ 14 * ((size - 64) / 64 - 8) → most < n → MatchOption was (n ≡ length es + 1) (λ _. n ≡ length es) → IsFull ws key es
 is-full ws key size most n es was x is long count many m = full-of key n (most_pairs ws) es was is x.few (omega arith) m
+
+-- no transaction could begin
+pub settles-off : (es after : List (ℕ × ℕ)) (old new : Sheet) (r : Result Unit TreeFault) → IsErrAnd r (λ e. e ≡ FaultOff) → new.on ≡ false → IsIndex new.kept es → Settles es after old r new
+settles-off es after old new (Ok x) h off i = absurd h
+settles-off es after old new (Err e) h off i = subst (λ z. Settles es after old (Err z) new) (sym h) (off, inl i)

@@ -1,6 +1,6 @@
-use Rattle.std.proofs.Common.{◌≡◌, ◌+◌, ◌++◌, ◌∙◌, ap, sym, subst, arith, length, get_or, refl, ℕ, List, IsTrue}
+use Rattle.std.proofs.Common.{◌+◌, ◌++◌, ◌∙◌, ap, sym, subst, arith, length, get_or, refl}
 use Rattle.envy_base.proofs.Working.{Works-trans, Works-more}
-use Rattle.envy_btree.specs.Changes.{Beside, HasPair}
+use Rattle.envy_btree.specs.Changes.{HasPair}
 use Rattle.envy_btree.proofs.Exits.{none-if, off-fails, fails-after, room-left, same-few}
 use Rattle.envy_btree.proofs.Neighbours.{second-slot, second-within, piece-fits, beside-few, beside-read, both-few, joined-few, slots-one, mended-read, joined-is}
 use Rattle.envy_btree.proofs.mending.mend_with_rear.Goals as goal

@@ -1,5 +1,5 @@
 use Rattle.std.proofs.Common.{◌+◌, ◌/◌, ◌%◌, ◌==◌, ◌∙◌, ap, ap₂, length}
-use Rattle.envy_heap.specs.Pieces.{head, at}
+use Rattle.envy_heap.specs.Pieces.{at}
 use Rattle.envy_btree.specs.Tree.{window}
 use Rattle.envy_base.proofs.Working.{Works-trans}
 use Rattle.envy_btree.proofs.Exits.{none-if, err-power, head-within}

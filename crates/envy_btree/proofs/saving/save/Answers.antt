@@ -1,4 +1,4 @@
-use Rattle.std.proofs.Common.{ℕ, ◌+◌, ◌<◌, ◌≤◌, ◌∙◌, sym, subst, arith, length, Ok, Option}
+use Rattle.std.proofs.Common.{ℕ, ◌<◌, ◌≤◌, ◌∙◌, sym, subst, arith, length, Ok, Option}
 use Rattle.envy_heap.specs.Pieces.{TakesAs, at, one}
 use Rattle.envy_heap.proofs.Heaps.{exhausted-spare}
 use Rattle.envy_base.proofs.Working.{Works-trans}
