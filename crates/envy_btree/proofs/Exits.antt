@@ -1,5 +1,5 @@
 -- What stands where a `?` hands on a failure, and what work leaves for the work after it.
-use Rattle.std.proofs.Common.{◌≡◌, ◌⊎◌, ℕ, suc, ◌+◌, ◌-◌, ◌*◌, ◌/◌, ◌%◌, ◌<◌, ◌≤◌, Bool, false, IsTrue, length, Result, Ok, Err, IfOk, IsErrAnd, MatchResult, sym, subst, inr, arith}
+use Rattle.std.proofs.Common.{◌≡◌, ◌⊎◌, ℕ, suc, ◌+◌, ◌-◌, ◌*◌, ◌/◌, ◌%◌, ◌^◌, ◌<◌, ◌≤◌, Bool, false, IsTrue, length, Result, Ok, Err, IfOk, IsErrAnd, MatchResult, sym, subst, inr, arith, Fits, w32}
 use Rattle.envy_base.specs.declared.board.Trouble.{Trouble}
 use Rattle.envy_base.specs.declared.board.Trouble.TheVariants.{Off, Bad}
 use Rattle.envy_base.specs.Words.{Sheet, Works, OnPage, Fails, Puts, has}
@@ -108,3 +108,29 @@ put-ends i w a b (Err Bad) f = (f.0, f.3)
 
 pub zero-in : (n : ℕ) → 640 ≤ n → 0 < n
 zero-in n size = omega arith
+
+-- the addresses of a node's words fit in 32 bits
+pub mul-fits : (p n : ℕ) → at p 63 < n → n < 2 ^ 32 → Fits w32 (64 * p)
+mul-fits p n within few = omega arith
+
+pub head-fits : (p n : ℕ) → at p 63 < n → n < 2 ^ 32 → Fits w32 (head p)
+head-fits p n within few = omega arith
+
+pub keys-fit : (p n : ℕ) → at p 63 < n → n < 2 ^ 32 → Fits w32 (at p 1)
+keys-fit p n within few = omega arith
+
+pub slots-fit : (p n : ℕ) → at p 63 < n → n < 2 ^ 32 → Fits w32 (at p 32)
+slots-fit p n within few = omega arith
+
+-- the lists of a node that is read
+pub keys-read : (p n m : ℕ) (a b : Sheet) → Works 0 a b → at p 63 < length a.words → n ≡ m → m < 64 → at p 1 + n / 2 ≤ length b.words
+keys-read p n m a b w within is few = omega (arith, w.long)
+
+pub slots-read : (p n m : ℕ) (a b : Sheet) → Works 0 a b → at p 63 < length a.words → n ≡ m → m < 64 → at p 32 + (n / 2 + n % 2) ≤ length b.words
+slots-read p n m a b w within is few = omega (arith, w.long)
+
+pub keys-read-few : (n m : ℕ) → n ≡ m → m < 64 → n / 2 ≤ 64
+keys-read-few n m is few = omega arith
+
+pub slots-read-few : (n m : ℕ) → n ≡ m → m < 64 → n / 2 + n % 2 ≤ 64
+slots-read-few n m is few = omega arith

@@ -6,6 +6,7 @@ use Rattle.envy_btree.specs.Tree.{Shows}
 use Rattle.envy_btree.specs.Nodes.{pasted, OnlyPiece}
 use Rattle.envy_btree.proofs.Writing.{written}
 use Rattle.envy_btree.proofs.Exits.{none-if, err-fails, put-fails, fails-after, room-left, page-works, first-page, two-pages, put-room, head-within, keys-within, slots-within, keys-page, slots-page}
+use Rattle.envy_btree.proofs.Exits.{mul-fits, head-fits, keys-fit, slots-fit}
 use Rattle.envy_btree.proofs.node.write_node.Goals as goal
 
 pub returns-clause-node : goal.returns-clause-node
@@ -137,3 +138,27 @@ returns-clause-works g c =
 
 pub returns-clause-fails : goal.returns-clause-fails
 returns-clause-fails g c = c.in_ok-write_list-2.ensures.fails
+
+pub overflow_mul-piece : goal.overflow_mul-piece
+overflow_mul-piece g c = mul-fits c.args.piece (length (g.W.Words.sheet c.args.words.now).words) c.requires.within (g.met.W.Words.lawful c.args.words.now).few
+
+pub overflow_add-piece : goal.overflow_add-piece
+overflow_add-piece g c = head-fits c.args.piece (length (g.W.Words.sheet c.args.words.now).words) c.requires.within (g.met.W.Words.lawful c.args.words.now).few
+
+pub overflow_mul-piece-2 : goal.overflow_mul-piece-2
+overflow_mul-piece-2 g c = mul-fits c.args.piece (length (g.W.Words.sheet c.args.words.now).words) c.requires.within (g.met.W.Words.lawful c.args.words.now).few
+
+pub overflow_add-piece-2 : goal.overflow_add-piece-2
+overflow_add-piece-2 g c = head-fits c.args.piece (length (g.W.Words.sheet c.args.words.now).words) c.requires.within (g.met.W.Words.lawful c.args.words.now).few
+
+pub overflow_add-piece-3 : goal.overflow_add-piece-3
+overflow_add-piece-3 g c = keys-fit c.args.piece (length (g.W.Words.sheet c.args.words.now).words) c.requires.within (g.met.W.Words.lawful c.args.words.now).few
+
+pub overflow_mul-piece-3 : goal.overflow_mul-piece-3
+overflow_mul-piece-3 g c = mul-fits c.args.piece (length (g.W.Words.sheet c.args.words.now).words) c.requires.within (g.met.W.Words.lawful c.args.words.now).few
+
+pub overflow_add-piece-4 : goal.overflow_add-piece-4
+overflow_add-piece-4 g c = head-fits c.args.piece (length (g.W.Words.sheet c.args.words.now).words) c.requires.within (g.met.W.Words.lawful c.args.words.now).few
+
+pub overflow_add-piece-5 : goal.overflow_add-piece-5
+overflow_add-piece-5 g c = slots-fit c.args.piece (length (g.W.Words.sheet c.args.words.now).words) c.requires.within (g.met.W.Words.lawful c.args.words.now).few
