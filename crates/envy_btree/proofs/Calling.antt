@@ -1,8 +1,8 @@
 -- The calls that find the nearest pair, as one relation by cases.
-use Rattle.std.proofs.Common.{◌≡◌, ◌≢◌, ℕ, ◌-◌, ◌^◌, ◌<◌, ◌≤◌, false, IsTrue, List, length, get_or, Option, None, Result, Ok, Err, IfOk, OnOk, MatchResult, ap, sym, subst, ◌∙◌}
+use Rattle.std.proofs.Common.{◌≡◌, ◌≢◌, ℕ, ◌-◌, ◌^◌, ◌<◌, ◌≤◌, false, IsTrue, List, length, get_or, Option, None, Result, Ok, Err, IfOk, OnOk, IsErrAnd, MatchResult, ap, sym, subst, ◌∙◌}
 use Rattle.std.proofs.lemmas.List.Elements.{All-nil, All-weaker}
 use Rattle.envy_base.specs.declared.board.Off.{Off}
-use Rattle.envy_base.specs.Words.{Sheet, Loads}
+use Rattle.envy_base.specs.Words.{Sheet, IsSheet, Works, Loads}
 use Rattle.envy_btree.specs.Answers.{Counts, Finds}
 use Rattle.envy_btree.specs.Changes.{Rests}
 use Rattle.envy_btree.specs.Index.{IsIndex}
@@ -46,3 +46,13 @@ root-says old mid es root r f x size is some same says =
 pub counts-of : (es : List (ℕ × ℕ)) (old new : Sheet) (r : Result ℕ Off) → old.words ≡ old.kept → new.kept ≡ old.kept → IsIndex old.words es → Loads old 3 r new → Counts es r new
 counts-of es old new (Ok n) shut kept i l = (l.0, l.1 ∙ i.count, subst (λ w. IsIndex w es) (sym l.2) i)
 counts-of es old new (Err e) shut kept i l = (l, subst (λ w. IsIndex w es) (shut ∙ sym kept) i)
+
+-- a look-up that failed leaves the map
+pub finds-off : (P : Option (ℕ × ℕ) → Type 0) (es : List (ℕ × ℕ)) (old new : Sheet) (r : Result (Option (ℕ × ℕ)) Off) (Q : Off → Type 0) → IsErrAnd r Q → old.words ≡ old.kept → new.kept ≡ old.kept → new.on ≡ false → IsIndex old.words es → Finds P es r new
+finds-off P es old new (Ok x) Q h shut kept off i = absurd h
+finds-off P es old new (Err e) Q h shut kept off i = (off, subst (λ w. IsIndex w es) (shut ∙ sym kept) i)
+
+-- no transaction is open after one
+pub power-shut : {T : Type 0} (old new : Sheet) (r : Result T Off) → IsSheet new → Works 0 old new → MatchResult r (λ _. IsTrue new.on) (λ _. new.on ≡ false) → old.started ≡ false → new.started ≡ false
+power-shut old new (Ok x) law w on shut = w.still on ∙ shut
+power-shut old new (Err e) law w off shut = law.off off

@@ -1,5 +1,5 @@
 -- The calls at the root, as one relation by cases.
-use Rattle.std.proofs.Common.{◌≡◌, ℕ, zero, suc, ◌+◌, ◌-◌, ◌^◌, ◌<◌, ◌≤◌, false, IsTrue, List, [], ◌∷◌, length, get_or, set, Option, None, Some, Result, Ok, Err, IfOk, OnOk, MatchResult, MatchOption, ap, sym, subst, ◌∙◌, inl, inr, arith}
+use Rattle.std.proofs.Common.{◌≡◌, ℕ, zero, suc, ◌+◌, ◌-◌, ◌*◌, ◌/◌, ◌^◌, ◌<◌, ◌≤◌, false, IsTrue, List, [], ◌∷◌, length, get_or, set, Option, None, Some, Result, Ok, Err, IfOk, OnOk, IsErrAnd, MatchResult, MatchOption, ap, sym, subst, ◌∙◌, inl, inr, arith}
 use Rattle.std.specs.List.{flat_map}
 use Rattle.std.proofs.lemmas.Bool.{cases_lt, cases_eq}
 use Rattle.std.proofs.lemmas.List.{append-nil, get_or-set_same}
@@ -124,3 +124,31 @@ pub removes-err : (key : ℕ) (es : List (ℕ × ℕ)) (old mid new : Sheet) (f 
 removes-err key es old mid new FaultOff le more s = s
 removes-err key es old mid new Full le more s = absurd s
 removes-err key es old mid new Bad le more s = (s.0, rose-over old.bads mid.bads new.bads new.bads le s.1 more (omega arith), s.2)
+
+-- a look-up that failed leaves the map
+pub inserts-off : (key value : ℕ) (es : List (ℕ × ℕ)) (old new : Sheet) (r : Result (Option ℕ) TreeFault) → IsErrAnd r (λ e. e ≡ FaultOff) → new.on ≡ false → IsIndex new.kept es → Inserts key value es old r new
+inserts-off key value es old new (Ok x) h off i = absurd h
+inserts-off key value es old new (Err e) h off i = subst (λ z. Inserts key value es old (Err z) new) (sym h) (off, inl i)
+
+pub removes-off : (key : ℕ) (es : List (ℕ × ℕ)) (old new : Sheet) (r : Result (Option ℕ) TreeFault) → IsErrAnd r (λ e. e ≡ FaultOff) → new.on ≡ false → IsIndex new.kept es → Removes key es old r new
+removes-off key es old new (Ok x) h off i = absurd h
+removes-off key es old new (Err e) h off i = subst (λ z. Removes key es old (Err z) new) (sym h) (off, inl i)
+
+pub kept-index : (es : List (ℕ × ℕ)) (old new : Sheet) → old.words ≡ old.kept → new.kept ≡ old.kept → IsIndex old.words es → IsIndex new.kept es
+kept-index es old new shut kept x = subst (λ w. IsIndex w es) (shut ∙ sym kept) x
+
+-- the number of pairs has a word, and fits in 32 bits
+pub third-within : (ws : List ℕ) (es : List (ℕ × ℕ)) → IsIndex ws es → 3 < length ws
+third-within ws es x = omega (arith, x.planted.heap.size)
+
+pub count-fits : (ws : List ℕ) (es : List (ℕ × ℕ)) (n : ℕ) → IsIndex ws es → n ≡ get_or ws 3 0 → length ws ≤ 2 ^ 25 → n < 2 ^ 32
+count-fits ws es n x is size = omega (arith, x.few, x.count)
+
+-- more pairs than there may be
+pub is-full : (ws : List ℕ) (key size most n : ℕ) (es : List (ℕ × ℕ)) (was : Option ℕ) → IsIndex ws es → was ≡ assoc key es → size ≡ length ws → most ≡ 14 * ((size - 64) / 64 - 8) → most < n → MatchOption was (n ≡ length es + 1) (λ _. n ≡ length es) → IsFull ws key es
+is-full ws key size most n es was x is long count many m = full-of key n (most_pairs ws) es was is x.few (omega arith) m
+
+-- no transaction could begin
+pub settles-off : (es after : List (ℕ × ℕ)) (old new : Sheet) (r : Result Unit TreeFault) → IsErrAnd r (λ e. e ≡ FaultOff) → new.on ≡ false → IsIndex new.kept es → Settles es after old r new
+settles-off es after old new (Ok x) h off i = absurd h
+settles-off es after old new (Err e) h off i = subst (λ z. Settles es after old (Err z) new) (sym h) (off, inl i)

@@ -257,3 +257,6 @@ pub hand-more : (k m n : ℕ) (a b c : Sheet) (r : Result (Option Node) Trouble)
 hand-more k m n a b c (Ok None) w le h = tt
 hand-more k m n a b c (Ok (Some x)) w le h = Works-more (k + m) n a c le (Works-trans k m a b c w h)
 hand-more k m n a b c (Err e) w le h = tt
+
+pub hand-as : (k : ℕ) (a b c : Sheet) (r : Result (Option Node) Trouble) → Works k a b → IfOk r (λ x. IfSome x (λ _. Works 0 b c)) → IfOk r (λ x. IfSome x (λ _. Works k a c))
+hand-as k a b c r w h = hand-more k 0 k a b c r w (omega arith) h

@@ -200,3 +200,6 @@ removed-inside-ok old mid new es key n (Ok done) x is many f =
     let a = f es (subst (λ w. IsPlanted w es) (sym is) (planted-aside old es n x)) in
     (a.0, a.1 ∙ ap (λ w. get_or w 3 0) is ∙ get_or-set_same old 3 n 0 (omega arith))
 removed-inside-ok old mid new es key n (Err e) x is many f = tt
+
+pub some-pair : (n key value : ℕ) (es : List (ℕ × ℕ)) → n ≡ length es → assoc key es ≡ Some value → 1 ≤ n
+some-pair n key value es is some = omega (arith, without-present key value es some)

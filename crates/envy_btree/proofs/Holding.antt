@@ -1,6 +1,7 @@
 -- A tree in hand, written whole or as two.
-use Rattle.std.proofs.Common.{◌≡◌, ◌≢◌, ℕ, ◌+◌, ◌-◌, ◌/◌, ◌<◌, ◌≤◌, Bool, false, List, length, take, drop, get_or, Option, Some, None, Ok, refl, ap, sym, subst, ◌∙◌, eqb, arith}
+use Rattle.std.proofs.Common.{◌≡◌, ◌≢◌, ℕ, ◌+◌, ◌-◌, ◌/◌, ◌<◌, ◌≤◌, Bool, false, List, length, take, drop, get_or, Option, Some, None, Result, Ok, Err, IsErrAnd, refl, ap, sym, subst, ◌∙◌, eqb, arith}
 use Rattle.std.proofs.lemmas.List.{length-drop}
+use Rattle.envy_base.specs.declared.board.Trouble.{Trouble}
 use Rattle.envy_heap.specs.Pieces.{IsHeap, Takes, handed, at, one}
 use Rattle.envy_heap.proofs.Heaps.{one-same}
 use Rattle.envy_btree.specs.Tree.{Tree, Rising, Ordered, uses, piece_of, Shows, keys_of, values_of, fewest}
@@ -148,3 +149,8 @@ saved-outcome old mid new free es root low high d p t inner keys slots None h is
     settled old mid new free es root low high d t inner keys slots h enough s.0 (subst (λ x. Shows new x (one inner) keys slots) is s.1) (subst (λ x. OnlyPiece x mid new) is s.2)
 saved-outcome old mid new free es root low high d p t inner keys slots (Some s) h is enough few w =
     parted old mid w.0 new free w.1 es low high d s.1 s.0 t inner keys slots h w.3 (subst (λ x. Halves w.0 new x s.1 (one inner) s.0 keys slots) is w.4) w.2 few
+
+-- nothing is said of a node whose writing failed
+pub saved-failed : (old free new : List ℕ) (p : ℕ) (inner : Bool) (keys slots : List ℕ) (r : Result (Option (ℕ × ℕ)) Trouble) (Q : Trouble → Type 0) → IsErrAnd r Q → Saved old free p inner keys slots r new
+saved-failed old free new p inner keys slots (Ok x) Q h = absurd h
+saved-failed old free new p inner keys slots (Err e) Q h = tt

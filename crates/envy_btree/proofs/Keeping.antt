@@ -1,7 +1,10 @@
 -- What a change keeps, after look-ups.
-use Rattle.std.proofs.Common.{◌≡◌, ◌⊎◌, ℕ, ◌-◌, ◌^◌, ◌<◌, ◌≤◌, Bool, true, false, IsTrue, refl, ◌∙◌, inl, inr, arith}
+use Rattle.std.proofs.Common.{◌≡◌, ◌⊎◌, ℕ, ◌+◌, ◌-◌, ◌^◌, ◌<◌, ◌≤◌, Bool, true, false, IsTrue, [], length, Result, Ok, Err, refl, ap, ◌∙◌, inl, inr, arith}
 use Rattle.std.proofs.lemmas.Bool.{cases_lt}
-use Rattle.envy_base.specs.Words.{Sheet, Works, Keeps, Rose}
+use Rattle.envy_base.specs.declared.board.Trouble.{Trouble}
+use Rattle.envy_base.specs.declared.board.Trouble.TheVariants.{Off, Bad}
+use Rattle.envy_base.specs.Words.{Sheet, Works, Keeps, Fails, Rose}
+use Rattle.envy_btree.specs.Answers.{Tried}
 
 on_or_off : (b : Bool) → IsTrue b ⊎ (b ≡ false)
 on_or_off true = inl refl
@@ -10,7 +13,7 @@ on_or_off false = inr refl
 rose-low : (a b c : ℕ) → Rose a b → b ≤ c → Rose a c
 rose-low a b c r le lt = let h = r lt in omega arith
 
-rose-high : (a b c : ℕ) → a ≤ b → b ≤ c → Rose b c → Rose a c
+pub rose-high : (a b c : ℕ) → a ≤ b → b ≤ c → Rose b c → Rose a c
 rose-high a b c ab bc r lt = elim (cases_lt b (2 ^ 64 - 1)) [ inl l ↦ (let h : b < c = r l in omega arith) | inr g ↦ omega arith ]
 
 -- work keeps what calls keep
@@ -28,3 +31,25 @@ works-keep k a b c v w = record {
   dark = λ e. w.dark (v.dark e);
   cut = λ on off. elim (on_or_off b.on) [ inl y ↦ rose-high a.cuts b.cuts c.cuts v.cuts w.cuts (w.cut y off) | inr n ↦ rose-low a.cuts b.cuts c.cuts (v.cut on n) w.cuts ];
 }
+
+-- a call, work in the transaction that it began, and the call that ends it
+pub keeps-through : (k : ℕ) (a b c d : Sheet) → Keeps a b → Works k b c → Keeps c d → Keeps a d
+keeps-through k a b c d u v w =
+    let z = works-keep k b c d v w in
+    record {
+      long = z.long ∙ u.long;
+      room = z.room ∙ u.room;
+      fixed = z.fixed ∙ u.fixed;
+      cuts = omega (arith, u.cuts, z.cuts);
+      bads = omega (arith, u.bads, z.bads);
+      dark = λ e. z.dark (u.dark e);
+      cut = λ on off. elim (on_or_off b.on) [ inl y ↦ rose-high a.cuts b.cuts d.cuts u.cuts z.cuts (z.cut y off) | inr n ↦ rose-low a.cuts b.cuts d.cuts (u.cut on n) z.cuts ];
+    }
+
+pub tried-of : (k : ℕ) (a b : Sheet) (r : Result Unit Trouble) → IsTrue a.started → Works k a b → Fails a r b → Tried r b
+tried-of k a b (Ok u) begun w f = w.still f ∙ begun
+tried-of k a b (Err Off) begun w f = f
+tried-of k a b (Err Bad) begun w f = w.still f.0 ∙ begun
+
+pub begun-room : (n : ℕ) (a b : Sheet) → b.pages ≡ [] → b.room ≡ a.room → n ≤ a.room → length b.pages + n ≤ b.room
+begun-room n a b none same enough = omega (arith, ap length none, same)

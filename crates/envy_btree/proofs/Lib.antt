@@ -2,6 +2,7 @@ pub mod Maps
 pub mod Trees
 pub mod Descent
 pub mod Writing
+pub mod Exits
 pub mod Nearest
 pub mod Beside
 pub mod Seeing
@@ -18,6 +19,7 @@ pub mod Calling
 pub mod Going
 pub mod Planting
 pub mod Merging
+pub mod Neighbours
 pub mod Families
 pub mod Lessening
 pub mod Diving

@@ -220,3 +220,7 @@ crowned-ok ws mid new es p key value s (Err e) n b made = tt
 
 pub way-fits : (ws : List ℕ) (p level key : ℕ) → length ws < 2 ^ 32 → Way ws p level key → p < 2 ^ 32
 way-fits ws p level key few w = omega (arith, (Rests-within ws p level w.rests).0)
+
+-- a piece that was taken lies within the words
+pub taken-within : (old new : List ℕ) (p : ℕ) (free rest : List ℕ) → IsHeap old free → Takes p old new free rest → at p 63 < length new
+taken-within old new p free rest heap t = omega (arith, t.below, t.touches.long, heap.size)

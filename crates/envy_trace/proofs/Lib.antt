@@ -2,6 +2,7 @@ pub mod Counts
 pub mod Digits
 pub mod Faults
 pub mod Lines
+pub mod Made
 pub mod Mirrored
 pub mod Numerals
 pub mod Pieces

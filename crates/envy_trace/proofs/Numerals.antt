@@ -36,6 +36,9 @@ number_ok b f n e =
       record { low = grind (arith, nat_tests); high = grind (arith, nat_tests) },
     )
 
+pub number-most : (b : Bounds) (f : List ℕ) (n : ℕ) → number_in b f ≡ Ok n → n ≤ b.greatest
+number-most b f n e = Fits.high (number_ok b f n e).1
+
 within : (b : Bounds) (n : ℕ) → Fits b n → lies_in b n ≡ true
 within b n fits = let low = fits.low in let high = fits.high in grind (arith, nat_tests)
 

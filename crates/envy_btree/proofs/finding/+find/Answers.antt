@@ -3,6 +3,9 @@ use Rattle.envy_btree.specs.Pairs.{assoc}
 use Rattle.envy_btree.specs.Tree.{pairs_of}
 use Rattle.envy_btree.specs.Changes.{Rests}
 use Rattle.envy_btree.proofs.Descent.{Rests-within, Rests-few, Step-made, Ends-made, slot-fits}
+use Rattle.std.proofs.lemmas.Result.{on_ok_weaker}
+use Rattle.envy_base.proofs.Working.{Works-trans}
+use Rattle.envy_btree.proofs.Exits.{none-if, err-power}
 use Rattle.envy_btree.proofs.finding.+find.Goals as goal
 
 pub read_node-requires-clause-within : goal.read_node-requires-clause-within
@@ -49,3 +52,51 @@ pub returns-else-key-clause-answer : goal.returns-else-key-clause-answer
 returns-else-key-clause-answer g t c r =
     let n = Ends-made _ _ _ _ _ _ _ _ _ r c.in_ok-node.ensures.node c.if-node.false c.deref.ensures.0 c.rank-i.ensures in
     sym (n.missing (λ e. c.if-key.false (c.key.ensures ∙ e)))
+
+pub returns-in_err-node-clause-works : goal.returns-in_err-node-clause-works
+returns-in_err-node-clause-works g t c = c.read_node.ensures.works
+
+pub returns-in_err-node-clause-answer : goal.returns-in_err-node-clause-answer
+returns-in_err-node-clause-answer g t c r = none-if c.from_residual.result _ _ c.from_residual.ensures.1
+
+pub returns-in_err-node-clause-same : goal.returns-in_err-node-clause-same
+returns-in_err-node-clause-same g t c = none-if c.from_residual.result _ _ c.from_residual.ensures.1
+
+pub returns-in_err-node-clause-power : goal.returns-in_err-node-clause-power
+returns-in_err-node-clause-power g t c = err-power c.from_residual.result _ (g.W.Words.sheet c.read_node.new.words).on c.in_err-node.ensures.power c.from_residual.ensures.1
+
+pub returns-then-node-clause-works : goal.returns-then-node-clause-works
+returns-then-node-clause-works g t c = Works-trans 0 0 (g.W.Words.sheet c.args.words.now) (g.W.Words.sheet c.read_node.new.words) (g.W.Words.sheet c.find.new.words) c.read_node.ensures.works c.find.ensures.works
+
+pub returns-then-node-clause-same : goal.returns-then-node-clause-same
+returns-then-node-clause-same g t c = on_ok_weaker c.find.result (λ e. e ∙ c.in_ok-node.ensures.same) c.find.ensures.same
+
+pub returns-then-node-clause-power : goal.returns-then-node-clause-power
+returns-then-node-clause-power g t c = c.find.ensures.power
+
+pub returns-then-i-eq0-clause-works : goal.returns-then-i-eq0-clause-works
+returns-then-i-eq0-clause-works g t c = c.read_node.ensures.works
+
+pub returns-then-i-eq0-clause-same : goal.returns-then-i-eq0-clause-same
+returns-then-i-eq0-clause-same g t c = c.in_ok-node.ensures.same
+
+pub returns-then-i-eq0-clause-power : goal.returns-then-i-eq0-clause-power
+returns-then-i-eq0-clause-power g t c = c.in_ok-node.ensures.power
+
+pub returns-then-key-clause-works : goal.returns-then-key-clause-works
+returns-then-key-clause-works g t c = c.read_node.ensures.works
+
+pub returns-then-key-clause-same : goal.returns-then-key-clause-same
+returns-then-key-clause-same g t c = c.in_ok-node.ensures.same
+
+pub returns-then-key-clause-power : goal.returns-then-key-clause-power
+returns-then-key-clause-power g t c = c.in_ok-node.ensures.power
+
+pub returns-else-key-clause-works : goal.returns-else-key-clause-works
+returns-else-key-clause-works g t c = c.read_node.ensures.works
+
+pub returns-else-key-clause-same : goal.returns-else-key-clause-same
+returns-else-key-clause-same g t c = c.in_ok-node.ensures.same
+
+pub returns-else-key-clause-power : goal.returns-else-key-clause-power
+returns-else-key-clause-power g t c = c.in_ok-node.ensures.power

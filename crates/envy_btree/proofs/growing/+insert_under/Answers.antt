@@ -1,4 +1,4 @@
-use Rattle.std.proofs.Common.{◌≡◌, List, ℕ, ◌+◌, ◌-◌, ◌*◌, arith, sym, subst, ◌∙◌, get_or, false}
+use Rattle.std.proofs.Common.{◌≡◌, List, ℕ, Option, ◌+◌, ◌-◌, ◌*◌, arith, sym, subst, ◌∙◌, get_or, false}
 use Rattle.envy_base.proofs.Working.{Works-trans, Works-more}
 use Rattle.envy_heap.specs.Pieces.{IsHeap, handed}
 use Rattle.envy_btree.specs.Pairs.{with_pair}
@@ -6,6 +6,8 @@ use Rattle.envy_btree.specs.Tree.{Rising, keys_of, values_of}
 use Rattle.envy_btree.specs.Changes.{Way, Grows, Saved, Ready}
 use Rattle.envy_btree.proofs.Descent.{Rests-within, Rests-few}
 use Rattle.envy_btree.proofs.Going.{Way-goes, Way-halts, leaf-grows, node-grows, child-fits}
+use Rattle.envy_btree.specs.Nodes.{Ranks}
+use Rattle.envy_btree.proofs.Exits.{none-if, err-fails, off-fails, fails-after, no-works, leaf-works, deep-works, room-deep}
 use Rattle.envy_btree.proofs.growing.+insert_under.Goals as goal
 
 pub read_node-requires-clause-within : goal.read_node-requires-clause-within
@@ -130,3 +132,63 @@ returns-clause-grows g t c way =
     let b = subst (λ q. (h : Way old q below c.args.key) → Grows old mid q below c.args.key c.args.value h.rests c.in_ok-middle.field-0) c.slot-child.ensures a in
     let d = subst (λ r. Grows old mid (get_or ss c.rank-i.result 0) below c.args.key c.args.value s.child.rests r) c.in-Some.is (b s.child) in
     node-grows old mid (g.W.Words.sheet c.grow_node.new.words).words p c.args.level c.args.key c.args.value c.rank-i.result ks ss way.rests (c.in-Some.middle, c.in-Some.second) c.grow_node.result s d c.grow_node.ensures.saved
+
+pub returns-in_err-node-clause-works : goal.returns-in_err-node-clause-works
+returns-in_err-node-clause-works g t c = no-works (4 * c.args.level + 4) (g.W.Words.sheet c.args.words.now) (g.W.Words.sheet c.read_node.new.words) c.read_node.ensures.works
+
+pub returns-in_err-node-clause-fails : goal.returns-in_err-node-clause-fails
+returns-in_err-node-clause-fails g t c = off-fails (g.W.Words.sheet c.args.words.now) (g.W.Words.sheet c.read_node.new.words) c.from_residual.result c.from_residual.ensures.1 c.in_err-node.ensures.power
+
+pub returns-in_err-node-clause-grows : goal.returns-in_err-node-clause-grows
+returns-in_err-node-clause-grows g t c way = none-if c.from_residual.result _ _ c.from_residual.ensures.1
+
+pub grow_leaf-requires-clause-begun : goal.grow_leaf-requires-clause-begun
+grow_leaf-requires-clause-begun g t c = c.read_node.ensures.works.still c.in_ok-node.ensures.power ∙ c.requires.begun
+
+pub grow_leaf-requires-clause-head : goal.grow_leaf-requires-clause-head
+grow_leaf-requires-clause-head g t c = c.read_node.ensures.works.seen c.in_ok-node.ensures.power 0 c.requires.head
+
+pub grow_leaf-requires-clause-room : goal.grow_leaf-requires-clause-room
+grow_leaf-requires-clause-room g t c = room-deep 4 c.args.level (g.W.Words.sheet c.args.words.now) (g.W.Words.sheet c.read_node.new.words) c.read_node.ensures.works c.in_ok-node.ensures.power c.requires.room
+
+pub grow_leaf-requires-clause-leaf : goal.grow_leaf-requires-clause-leaf
+grow_leaf-requires-clause-leaf g t c = c.if-not-node.true
+
+pub grow_leaf-requires-clause-place : goal.grow_leaf-requires-clause-place
+grow_leaf-requires-clause-place g t c = subst (λ x. Ranks c.args.key x c.rank-i.result) c.deref.ensures.0 c.rank-i.ensures
+
+pub returns-then-not-node-clause-works : goal.returns-then-not-node-clause-works
+returns-then-not-node-clause-works g t c = leaf-works 4 c.args.level (g.W.Words.sheet c.args.words.now) (g.W.Words.sheet c.read_node.new.words) (g.W.Words.sheet c.grow_leaf.new.words) c.read_node.ensures.works c.grow_leaf.ensures.works
+
+pub returns-then-not-node-clause-fails : goal.returns-then-not-node-clause-fails
+returns-then-not-node-clause-fails g t c = fails-after 0 4 (g.W.Words.sheet c.args.words.now) (g.W.Words.sheet c.read_node.new.words) (g.W.Words.sheet c.grow_leaf.new.words) c.grow_leaf.result c.read_node.ensures.works c.grow_leaf.ensures.works c.grow_leaf.ensures.fails
+
+pub returns-in_err-middle-clause-works : goal.returns-in_err-middle-clause-works
+returns-in_err-middle-clause-works g t c = deep-works 4 c.args.level (g.W.Words.sheet c.args.words.now) (g.W.Words.sheet c.read_node.new.words) (g.W.Words.sheet c.insert_under.new.words) c.read_node.ensures.works c.insert_under.ensures.works
+
+pub returns-in_err-middle-clause-fails : goal.returns-in_err-middle-clause-fails
+returns-in_err-middle-clause-fails g t c = fails-after 0 (4 * (c.args.level - 1) + 4) (g.W.Words.sheet c.args.words.now) (g.W.Words.sheet c.read_node.new.words) (g.W.Words.sheet c.insert_under.new.words) c.from_residual-in_err-middle.result c.read_node.ensures.works c.insert_under.ensures.works (err-fails (Option (ℕ × ℕ)) (g.W.Words.sheet c.read_node.new.words) (g.W.Words.sheet c.insert_under.new.words) c.from_residual-in_err-middle.result _ c.in_err-middle.ensures.fails c.from_residual-in_err-middle.ensures.1)
+
+pub returns-in_err-middle-clause-grows : goal.returns-in_err-middle-clause-grows
+returns-in_err-middle-clause-grows g t c way = none-if c.from_residual-in_err-middle.result _ _ c.from_residual-in_err-middle.ensures.1
+
+pub returns-in_default-clause-works : goal.returns-in_default-clause-works
+returns-in_default-clause-works g t c = deep-works 4 c.args.level (g.W.Words.sheet c.args.words.now) (g.W.Words.sheet c.read_node.new.words) (g.W.Words.sheet c.insert_under.new.words) c.read_node.ensures.works c.insert_under.ensures.works
+
+pub returns-in_default-clause-fails : goal.returns-in_default-clause-fails
+returns-in_default-clause-fails g t c = c.in_ok-middle.ensures.fails
+
+pub grow_node-requires-clause-begun : goal.grow_node-requires-clause-begun
+grow_node-requires-clause-begun g t c = c.in_ok-middle.ensures.works.still c.in_ok-middle.ensures.fails ∙ (c.read_node.ensures.works.still c.in_ok-node.ensures.power ∙ c.requires.begun)
+
+pub grow_node-requires-clause-head : goal.grow_node-requires-clause-head
+grow_node-requires-clause-head g t c = c.in_ok-middle.ensures.works.seen c.in_ok-middle.ensures.fails 0 (c.read_node.ensures.works.seen c.in_ok-node.ensures.power 0 c.requires.head)
+
+pub grow_node-requires-clause-inner : goal.grow_node-requires-clause-inner
+grow_node-requires-clause-inner g t c = c.if-not-node.false
+
+pub grow_node-requires-clause-place : goal.grow_node-requires-clause-place
+grow_node-requires-clause-place g t c = (subst (λ x. Ranks c.args.key x c.rank-i.result) c.deref.ensures.0 c.rank-i.ensures).within
+
+pub returns-clause-fails : goal.returns-clause-fails
+returns-clause-fails g t c = fails-after (0 + (4 * (c.args.level - 1) + 4)) 4 (g.W.Words.sheet c.args.words.now) (g.W.Words.sheet c.insert_under.new.words) (g.W.Words.sheet c.grow_node.new.words) c.grow_node.result (Works-trans 0 (4 * (c.args.level - 1) + 4) (g.W.Words.sheet c.args.words.now) (g.W.Words.sheet c.read_node.new.words) (g.W.Words.sheet c.insert_under.new.words) c.read_node.ensures.works c.insert_under.ensures.works) c.grow_node.ensures.works c.grow_node.ensures.fails

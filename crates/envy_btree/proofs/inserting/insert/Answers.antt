@@ -1,7 +1,7 @@
-use Rattle.std.proofs.Common.{◌≡◌, ◌+◌, ◌≤◌, ◌∙◌, sym, subst, arith, length, MatchOption}
+use Rattle.std.proofs.Common.{◌≡◌, ◌+◌, ◌^◌, ◌≤◌, ◌∙◌, sym, subst, arith, length, MatchOption}
 use Rattle.envy_btree.specs.Index.{IsIndex, most_pairs}
 use Rattle.envy_btree.proofs.Keeping.{keeps-works, works-keep}
-use Rattle.envy_btree.proofs.Calls.{count-of, has-room, inserts-err, not-full}
+use Rattle.envy_btree.proofs.Calls.{count-of, has-room, inserts-err, not-full, inserts-off, kept-index, third-within, count-fits, is-full}
 use Rattle.envy_btree.proofs.inserting.insert.Goals as goal
 
 pub returns-in-Ok-clause-inserts : goal.returns-in-Ok-clause-inserts
@@ -63,3 +63,77 @@ returns-in-Err-clause-keeps g c =
     let two = g.W.Words.sheet c.load.new.self in
     let new = g.W.Words.sheet c.insert_alone.new.words in
     works-keep 0 old one new c.get.ensures.works (works-keep 0 one two new c.load.ensures.works c.insert_alone.ensures.keeps)
+
+pub get-requires-clause-shut : goal.get-requires-clause-shut
+get-requires-clause-shut g c = c.requires.shut
+
+pub get-requires-clause-size : goal.get-requires-clause-size
+get-requires-clause-size g c = c.requires.size
+
+pub get-requires-clause-map : goal.get-requires-clause-map
+get-requires-clause-map g c = c.requires.map
+
+pub returns-in_err-was-clause-shut : goal.returns-in_err-was-clause-shut
+returns-in_err-was-clause-shut g c = c.get.ensures.shut
+
+pub returns-in_err-was-clause-inserts : goal.returns-in_err-was-clause-inserts
+returns-in_err-was-clause-inserts g c es x =
+    let got = c.in_err-was.ensures.gets es x in
+    inserts-off c.args.key c.args.value es (g.W.Words.sheet c.args.words.now) (g.W.Words.sheet c.get.new.words) c.from_residual.result c.from_residual.ensures.1 got.0 got.1
+
+pub load-requires : goal.load-requires
+load-requires g c = third-within (g.W.Words.sheet c.get.new.words).words c.requires.map.0 (c.in_ok-was.ensures.gets c.requires.map.0 c.requires.map.1).2
+
+pub returns-in_err-before-clause-shut : goal.returns-in_err-before-clause-shut
+returns-in_err-before-clause-shut g c = (g.met.W.Words.lawful c.load.new.self).off c.in_err-before.ensures.answer
+
+pub returns-in_err-before-clause-inserts : goal.returns-in_err-before-clause-inserts
+returns-in_err-before-clause-inserts g c es x =
+    let old = g.W.Words.sheet c.args.words.now in
+    let two = g.W.Words.sheet c.load.new.self in
+    inserts-off c.args.key c.args.value es old two c.from_residual-in_err-before.result c.from_residual-in_err-before.ensures.1 c.in_err-before.ensures.answer
+    (kept-index es old two ((g.met.W.Words.lawful c.args.words.now).shut c.requires.shut) (c.load.ensures.works.kept ∙ c.get.ensures.works.kept) x)
+
+pub count_with-pairs-requires : goal.count_with-pairs-requires
+count_with-pairs-requires g c =
+    let one = g.W.Words.sheet c.get.new.words in
+    count-fits one.words c.requires.map.0 c.in_ok-before.before (c.in_ok-was.ensures.gets c.requires.map.0 c.requires.map.1).2 c.in_ok-before.ensures.answer.1 (subst (λ n. n ≤ 2 ^ 25) (sym c.get.ensures.works.long) c.requires.size)
+
+pub most_pairs-requires : goal.most_pairs-requires
+most_pairs-requires g c =
+    let now : 640 ≤ length (g.W.Words.sheet c.args.words.now).words = c.requires.map.1.planted.heap.size in
+    subst (λ n. 640 ≤ n) (sym (c.size.ensures ∙ (c.load.ensures.works.long ∙ c.get.ensures.works.long))) now
+
+pub returns-then-pairs-most_pairs-clause-shut : goal.returns-then-pairs-most_pairs-clause-shut
+returns-then-pairs-most_pairs-clause-shut g c = c.load.ensures.works.still c.in_ok-before.ensures.answer.0 ∙ c.get.ensures.shut
+
+pub returns-then-pairs-most_pairs-clause-inserts : goal.returns-then-pairs-most_pairs-clause-inserts
+returns-then-pairs-most_pairs-clause-inserts g c es x =
+    let old = (g.W.Words.sheet c.args.words.now).words in
+    let n = c.count_with-pairs.result in
+    let got = c.in_ok-was.ensures.gets es x in
+    let answer = c.in_ok-before.ensures.answer in
+    let before : c.in_ok-before.before ≡ length es = answer.1 ∙ got.2.count in
+    let counted = subst (λ b. MatchOption c.in_ok-was.was' (n ≡ b + 1) (λ _. n ≡ b)) before c.count_with-pairs.ensures in
+    let long = c.size.ensures ∙ (c.load.ensures.works.long ∙ c.get.ensures.works.long) in
+    (answer.0, is-full old c.args.key c.size.result c.most_pairs.result n es c.in_ok-was.was' x got.1 long c.most_pairs.ensures c.if-pairs-most_pairs.true counted, subst (λ w. IsIndex w es) (sym answer.2) got.2)
+
+pub insert_alone-requires-clause-shut : goal.insert_alone-requires-clause-shut
+insert_alone-requires-clause-shut g c = c.load.ensures.works.still c.in_ok-before.ensures.answer.0 ∙ c.get.ensures.shut
+
+pub insert_alone-requires-clause-room : goal.insert_alone-requires-clause-room
+insert_alone-requires-clause-room g c = subst (λ n. 27 ≤ n) (sym (c.load.ensures.works.room ∙ c.get.ensures.works.room)) c.requires.room
+
+pub insert_alone-requires-clause-size : goal.insert_alone-requires-clause-size
+insert_alone-requires-clause-size g c = subst (λ n. n ≤ 2 ^ 25) (sym (c.load.ensures.works.long ∙ c.get.ensures.works.long)) c.requires.size
+
+pub insert_alone-requires-clause-map : goal.insert_alone-requires-clause-map
+insert_alone-requires-clause-map g c =
+    let es = c.requires.map.0 in
+    (es, subst (λ w. IsIndex w es) (sym c.in_ok-before.ensures.answer.2) (c.in_ok-was.ensures.gets es c.requires.map.1).2)
+
+pub returns-in-Ok-clause-shut : goal.returns-in-Ok-clause-shut
+returns-in-Ok-clause-shut g c = c.insert_alone.ensures.shut
+
+pub returns-in-Err-clause-shut : goal.returns-in-Err-clause-shut
+returns-in-Err-clause-shut g c = c.insert_alone.ensures.shut

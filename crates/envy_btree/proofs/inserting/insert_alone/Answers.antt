@@ -1,7 +1,8 @@
-use Rattle.std.proofs.Common.{◌≡◌, ◌≤◌, ◌∙◌, subst, length, get_or, List, ℕ, OnOk}
+use Rattle.std.proofs.Common.{◌≡◌, ◌^◌, sym, ◌≤◌, ◌∙◌, subst, length, get_or, List, ℕ, OnOk}
 use Rattle.envy_btree.specs.Pairs.{with_pair}
 use Rattle.envy_btree.specs.Index.{IsPlanted, most_pairs}
-use Rattle.envy_btree.proofs.Calls.{settles-of, index-of}
+use Rattle.envy_btree.proofs.Calls.{settles-of, index-of, settles-off, kept-index}
+use Rattle.envy_btree.proofs.Keeping.{keeps-through, tried-of, begun-room}
 use Rattle.envy_btree.proofs.inserting.insert_alone.Goals as goal
 
 pub returns-clause-settles : goal.returns-clause-settles
@@ -18,3 +19,39 @@ returns-clause-settles g c es x count few =
     let made = index-of old.words mid.words after c.args.pairs done (inside.works.long ∙ c.in_ok-start.ensures.keeps.long) count few (f es x.planted x.few) in
     settles-of es after old begun mid new done c.close.result (g.met.W.Words.lawful c.close.new.words) ((g.met.W.Words.lawful c.args.words.now).shut c.requires.shut) x start.3 inside.works.kept
     c.in_ok-start.ensures.keeps.bads inside.works.bads c.close.ensures.keeps.bads inside.fails made c.close.ensures.shut c.close.ensures.ends
+
+pub start-requires : goal.start-requires
+start-requires g c = c.requires.shut
+
+pub returns-in_err-start-clause-keeps : goal.returns-in_err-start-clause-keeps
+returns-in_err-start-clause-keeps g c = c.start.ensures.keeps
+
+pub returns-in_err-start-clause-shut : goal.returns-in_err-start-clause-shut
+returns-in_err-start-clause-shut g c = (g.met.W.Words.lawful c.start.new.self).off c.in_err-start.ensures.answer.0
+
+pub returns-in_err-start-clause-settles : goal.returns-in_err-start-clause-settles
+returns-in_err-start-clause-settles g c es x count few = settles-off es (with_pair c.args.key c.args.value es) (g.W.Words.sheet c.args.words.now) (g.W.Words.sheet c.start.new.self) c.from_residual.result c.from_residual.ensures.1 c.in_err-start.ensures.answer.0 (kept-index es (g.W.Words.sheet c.args.words.now) (g.W.Words.sheet c.start.new.self) ((g.met.W.Words.lawful c.args.words.now).shut c.requires.shut) c.in_err-start.ensures.answer.1 x)
+
+pub insert_inside-done-requires-clause-begun : goal.insert_inside-done-requires-clause-begun
+insert_inside-done-requires-clause-begun g c = c.in_ok-start.ensures.answer.1
+
+pub insert_inside-done-requires-clause-room : goal.insert_inside-done-requires-clause-room
+insert_inside-done-requires-clause-room g c = begun-room 27 (g.W.Words.sheet c.args.words.now) (g.W.Words.sheet c.start.new.self) c.in_ok-start.ensures.answer.4 c.start.ensures.keeps.room c.requires.room
+
+pub insert_inside-done-requires-clause-size : goal.insert_inside-done-requires-clause-size
+insert_inside-done-requires-clause-size g c = subst (λ n. n ≤ 2 ^ 25) (sym c.start.ensures.keeps.long) c.requires.size
+
+pub insert_inside-done-requires-clause-map : goal.insert_inside-done-requires-clause-map
+insert_inside-done-requires-clause-map g c =
+    let m = c.requires.map in
+    let same = sym c.in_ok-start.ensures.answer.2 in
+    (m.0, subst (λ w. IsPlanted w m.0) same m.1.planted, subst (λ w. length m.0 ≤ most_pairs w) same m.1.few)
+
+pub close-requires : goal.close-requires
+close-requires g c = record { tried = tried-of 27 (g.W.Words.sheet c.start.new.self) (g.W.Words.sheet c.insert_inside-done.new.words) c.insert_inside-done.result c.in_ok-start.ensures.answer.1 c.insert_inside-done.ensures.works c.insert_inside-done.ensures.fails }
+
+pub returns-clause-keeps : goal.returns-clause-keeps
+returns-clause-keeps g c = keeps-through 27 (g.W.Words.sheet c.args.words.now) (g.W.Words.sheet c.start.new.self) (g.W.Words.sheet c.insert_inside-done.new.words) (g.W.Words.sheet c.close.new.words) c.start.ensures.keeps c.insert_inside-done.ensures.works c.close.ensures.keeps
+
+pub returns-clause-shut : goal.returns-clause-shut
+returns-clause-shut g c = c.close.ensures.shut

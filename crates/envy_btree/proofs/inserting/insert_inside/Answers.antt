@@ -1,7 +1,9 @@
-use Rattle.std.proofs.Common.{sym, subst, arith}
+use Rattle.std.proofs.Common.{◌^◌, ◌≤◌, ◌∙◌, length, sym, subst, arith}
 use Rattle.envy_btree.specs.Index.{IsPlanted}
 use Rattle.envy_btree.proofs.Planting.{planted-aside}
 use Rattle.envy_btree.proofs.Calls.{inside-ok}
+use Rattle.envy_base.proofs.Working.{Works-trans}
+use Rattle.envy_btree.proofs.Exits.{none-if, put-fails, fails-after, room-left, page-works, put-room, third-in}
 use Rattle.envy_btree.proofs.inserting.insert_inside.Goals as goal
 
 pub insert_at_root-requires-clause-map : goal.insert_at_root-requires-clause-map
@@ -16,3 +18,39 @@ returns-clause-planted g c es x few =
     let mid = (g.W.Words.sheet c.put.new.self).words in
     let new = (g.W.Words.sheet c.insert_at_root.new.words).words in
     inside-ok old mid new es c.args.key c.args.value c.args.pairs c.insert_at_root.result x few c.in_ok-put.ensures.answer.1 c.in_ok-put.ensures.works.works.long x.heap.size c.insert_at_root.ensures.planted
+
+pub put-requires-clause-address : goal.put-requires-clause-address
+put-requires-clause-address g c = third-in (length (g.W.Words.sheet c.args.words.now).words) c.requires.map.1.heap.size
+
+pub put-requires-clause-begun : goal.put-requires-clause-begun
+put-requires-clause-begun g c = c.requires.begun
+
+pub put-requires-clause-room : goal.put-requires-clause-room
+put-requires-clause-room g c = put-room 0 26 (g.W.Words.sheet c.args.words.now) c.requires.room
+
+pub returns-in_err-put-clause-works : goal.returns-in_err-put-clause-works
+returns-in_err-put-clause-works g c = page-works 26 0 (g.W.Words.sheet c.args.words.now) (g.W.Words.sheet c.put.new.self) c.put.ensures.works
+
+pub returns-in_err-put-clause-fails : goal.returns-in_err-put-clause-fails
+returns-in_err-put-clause-fails g c = put-fails 3 c.args.pairs (g.W.Words.sheet c.args.words.now) (g.W.Words.sheet c.put.new.self) c.from_residual.result _ c.in_err-put.ensures.answer c.from_residual.ensures.1
+
+pub returns-in_err-put-clause-planted : goal.returns-in_err-put-clause-planted
+returns-in_err-put-clause-planted g c es x few = none-if c.from_residual.result _ _ c.from_residual.ensures.1
+
+pub insert_at_root-requires-clause-begun : goal.insert_at_root-requires-clause-begun
+insert_at_root-requires-clause-begun g c = c.put.ensures.works.works.still c.in_ok-put.ensures.answer.0 ∙ c.requires.begun
+
+pub insert_at_root-requires-clause-head : goal.insert_at_root-requires-clause-head
+insert_at_root-requires-clause-head g c = c.in_ok-put.ensures.answer.2
+
+pub insert_at_root-requires-clause-room : goal.insert_at_root-requires-clause-room
+insert_at_root-requires-clause-room g c = room-left 1 26 (g.W.Words.sheet c.args.words.now) (g.W.Words.sheet c.put.new.self) c.put.ensures.works.works c.in_ok-put.ensures.answer.0 c.requires.room
+
+pub insert_at_root-requires-clause-size : goal.insert_at_root-requires-clause-size
+insert_at_root-requires-clause-size g c = subst (λ n. n ≤ 2 ^ 25) (sym c.put.ensures.works.works.long) c.requires.size
+
+pub returns-clause-works : goal.returns-clause-works
+returns-clause-works g c = Works-trans 1 26 (g.W.Words.sheet c.args.words.now) (g.W.Words.sheet c.put.new.self) (g.W.Words.sheet c.insert_at_root.new.words) c.put.ensures.works.works c.insert_at_root.ensures.works
+
+pub returns-clause-fails : goal.returns-clause-fails
+returns-clause-fails g c = fails-after 1 26 (g.W.Words.sheet c.args.words.now) (g.W.Words.sheet c.put.new.self) (g.W.Words.sheet c.insert_at_root.new.words) c.insert_at_root.result c.put.ensures.works.works c.insert_at_root.ensures.works c.insert_at_root.ensures.fails

@@ -1,9 +1,9 @@
-use Rattle.std.proofs.Common.{◌≡◌, ◌-◌, ◌≤◌, ◌∙◌, sym, subst, arith, length, None}
+use Rattle.std.proofs.Common.{◌≡◌, ◌-◌, ◌^◌, ◌≤◌, ◌∙◌, sym, subst, arith, length, None}
 use Rattle.envy_btree.specs.Pairs.{assoc, without}
 use Rattle.envy_btree.specs.Index.{IsIndex, most_pairs}
 use Rattle.envy_btree.proofs.Keeping.{keeps-works, works-keep}
-use Rattle.envy_btree.proofs.Calls.{removes-err}
-use Rattle.envy_btree.proofs.Felling.{without-missing, without-present}
+use Rattle.envy_btree.proofs.Calls.{removes-err, removes-off, kept-index, third-within}
+use Rattle.envy_btree.proofs.Felling.{without-missing, without-present, some-pair}
 use Rattle.envy_btree.proofs.removing.remove.Goals as goal
 
 pub returns-in_default-clause-removes : goal.returns-in_default-clause-removes
@@ -66,3 +66,63 @@ returns-in-Err-clause-keeps g c =
     let two = g.W.Words.sheet c.load.new.self in
     let new = g.W.Words.sheet c.remove_alone.new.words in
     works-keep 0 old one new c.get.ensures.works (works-keep 0 one two new c.load.ensures.works c.remove_alone.ensures.keeps)
+
+pub get-requires-clause-shut : goal.get-requires-clause-shut
+get-requires-clause-shut g c = c.requires.shut
+
+pub get-requires-clause-size : goal.get-requires-clause-size
+get-requires-clause-size g c = c.requires.size
+
+pub get-requires-clause-map : goal.get-requires-clause-map
+get-requires-clause-map g c = c.requires.map
+
+pub returns-in_err-was-clause-shut : goal.returns-in_err-was-clause-shut
+returns-in_err-was-clause-shut g c = c.get.ensures.shut
+
+pub returns-in_err-was-clause-removes : goal.returns-in_err-was-clause-removes
+returns-in_err-was-clause-removes g c es x =
+    let got = c.in_err-was.ensures.gets es x in
+    removes-off c.args.key es (g.W.Words.sheet c.args.words.now) (g.W.Words.sheet c.get.new.words) c.from_residual.result c.from_residual.ensures.1 got.0 got.1
+
+pub returns-in_default-clause-shut : goal.returns-in_default-clause-shut
+returns-in_default-clause-shut g c = c.get.ensures.shut
+
+pub load-requires : goal.load-requires
+load-requires g c = third-within (g.W.Words.sheet c.get.new.words).words c.requires.map.0 (c.in_ok-was.ensures.gets c.requires.map.0 c.requires.map.1).2
+
+pub returns-in_err-pairs-clause-shut : goal.returns-in_err-pairs-clause-shut
+returns-in_err-pairs-clause-shut g c = (g.met.W.Words.lawful c.load.new.self).off c.in_err-pairs.ensures.answer
+
+pub returns-in_err-pairs-clause-removes : goal.returns-in_err-pairs-clause-removes
+returns-in_err-pairs-clause-removes g c es x =
+    let old = g.W.Words.sheet c.args.words.now in
+    let two = g.W.Words.sheet c.load.new.self in
+    removes-off c.args.key es old two c.from_residual-in_err-pairs.result c.from_residual-in_err-pairs.ensures.1 c.in_err-pairs.ensures.answer
+    (kept-index es old two ((g.met.W.Words.lawful c.args.words.now).shut c.requires.shut) (c.load.ensures.works.kept ∙ c.get.ensures.works.kept) x)
+
+pub overflow_sub-pairs : goal.overflow_sub-pairs
+overflow_sub-pairs g c =
+    let es = c.requires.map.0 in
+    let got = c.in_ok-was.ensures.gets es c.requires.map.1 in
+    let count : c.in_ok-pairs.pairs ≡ length es = c.in_ok-pairs.ensures.answer.1 ∙ got.2.count in
+    some-pair c.in_ok-pairs.pairs c.args.key c.in-Some.value es count (sym got.1 ∙ c.in-Some.is)
+
+pub remove_alone-requires-clause-shut : goal.remove_alone-requires-clause-shut
+remove_alone-requires-clause-shut g c = c.load.ensures.works.still c.in_ok-pairs.ensures.answer.0 ∙ c.get.ensures.shut
+
+pub remove_alone-requires-clause-room : goal.remove_alone-requires-clause-room
+remove_alone-requires-clause-room g c = subst (λ n. 24 ≤ n) (sym (c.load.ensures.works.room ∙ c.get.ensures.works.room)) c.requires.room
+
+pub remove_alone-requires-clause-size : goal.remove_alone-requires-clause-size
+remove_alone-requires-clause-size g c = subst (λ n. n ≤ 2 ^ 25) (sym (c.load.ensures.works.long ∙ c.get.ensures.works.long)) c.requires.size
+
+pub remove_alone-requires-clause-map : goal.remove_alone-requires-clause-map
+remove_alone-requires-clause-map g c =
+    let es = c.requires.map.0 in
+    (es, subst (λ w. IsIndex w es) (sym c.in_ok-pairs.ensures.answer.2) (c.in_ok-was.ensures.gets es c.requires.map.1).2)
+
+pub returns-in-Ok-clause-shut : goal.returns-in-Ok-clause-shut
+returns-in-Ok-clause-shut g c = c.remove_alone.ensures.shut
+
+pub returns-in-Err-clause-shut : goal.returns-in-Err-clause-shut
+returns-in-Err-clause-shut g c = c.remove_alone.ensures.shut

@@ -1,7 +1,9 @@
-use Rattle.std.proofs.Common.{sym, subst}
+use Rattle.std.proofs.Common.{◌^◌, ◌≤◌, ◌∙◌, length, sym, subst}
 use Rattle.envy_btree.specs.Index.{IsPlanted}
 use Rattle.envy_btree.proofs.Planting.{planted-aside}
 use Rattle.envy_btree.proofs.Felling.{removed-inside-ok}
+use Rattle.envy_base.proofs.Working.{Works-trans}
+use Rattle.envy_btree.proofs.Exits.{none-if, put-fails, fails-after, room-left, page-works, put-room, third-in}
 use Rattle.envy_btree.proofs.removing.remove_inside.Goals as goal
 
 pub remove_at_root-requires-clause-map : goal.remove_at_root-requires-clause-map
@@ -16,3 +18,36 @@ returns-clause-planted g c es x =
     let mid = (g.W.Words.sheet c.put.new.self).words in
     let new = (g.W.Words.sheet c.remove_at_root.new.words).words in
     removed-inside-ok old mid new es c.args.key c.args.pairs c.remove_at_root.result x c.in_ok-put.ensures.answer.1 x.heap.size c.remove_at_root.ensures.planted
+
+pub put-requires-clause-address : goal.put-requires-clause-address
+put-requires-clause-address g c = third-in (length (g.W.Words.sheet c.args.words.now).words) c.requires.map.1.heap.size
+
+pub put-requires-clause-begun : goal.put-requires-clause-begun
+put-requires-clause-begun g c = c.requires.begun
+
+pub put-requires-clause-room : goal.put-requires-clause-room
+put-requires-clause-room g c = put-room 0 23 (g.W.Words.sheet c.args.words.now) c.requires.room
+
+pub returns-in_err-put-clause-works : goal.returns-in_err-put-clause-works
+returns-in_err-put-clause-works g c = page-works 23 0 (g.W.Words.sheet c.args.words.now) (g.W.Words.sheet c.put.new.self) c.put.ensures.works
+
+pub returns-in_err-put-clause-fails : goal.returns-in_err-put-clause-fails
+returns-in_err-put-clause-fails g c = put-fails 3 c.args.pairs (g.W.Words.sheet c.args.words.now) (g.W.Words.sheet c.put.new.self) c.from_residual.result _ c.in_err-put.ensures.answer c.from_residual.ensures.1
+
+pub returns-in_err-put-clause-planted : goal.returns-in_err-put-clause-planted
+returns-in_err-put-clause-planted g c es x = none-if c.from_residual.result _ _ c.from_residual.ensures.1
+
+pub remove_at_root-requires-clause-begun : goal.remove_at_root-requires-clause-begun
+remove_at_root-requires-clause-begun g c = c.put.ensures.works.works.still c.in_ok-put.ensures.answer.0 ∙ c.requires.begun
+
+pub remove_at_root-requires-clause-room : goal.remove_at_root-requires-clause-room
+remove_at_root-requires-clause-room g c = room-left 1 23 (g.W.Words.sheet c.args.words.now) (g.W.Words.sheet c.put.new.self) c.put.ensures.works.works c.in_ok-put.ensures.answer.0 c.requires.room
+
+pub remove_at_root-requires-clause-size : goal.remove_at_root-requires-clause-size
+remove_at_root-requires-clause-size g c = subst (λ n. n ≤ 2 ^ 25) (sym c.put.ensures.works.works.long) c.requires.size
+
+pub returns-clause-works : goal.returns-clause-works
+returns-clause-works g c = Works-trans 1 23 (g.W.Words.sheet c.args.words.now) (g.W.Words.sheet c.put.new.self) (g.W.Words.sheet c.remove_at_root.new.words) c.put.ensures.works.works c.remove_at_root.ensures.works
+
+pub returns-clause-fails : goal.returns-clause-fails
+returns-clause-fails g c = fails-after 1 23 (g.W.Words.sheet c.args.words.now) (g.W.Words.sheet c.put.new.self) (g.W.Words.sheet c.remove_at_root.new.words) c.remove_at_root.result c.put.ensures.works.works c.remove_at_root.ensures.works c.remove_at_root.ensures.fails

@@ -1,9 +1,12 @@
-use Rattle.std.proofs.Common.{◌≡◌, ◌≢◌, ◌-◌, ◌∙◌, OnOk, ap, sym, subst, arith, get_or}
+use Rattle.std.proofs.Common.{◌≡◌, ◌≢◌, ◌-◌, ◌∙◌, OnOk, length, ap, sym, subst, arith, get_or}
 use Rattle.envy_btree.specs.Changes.{Rests}
 use Rattle.envy_btree.specs.Index.{IsIndex}
 use Rattle.envy_btree.specs.Nearest.{IsLeastFrom, first_from}
 use Rattle.envy_btree.proofs.Calling.{finds-of, least-of, none-from, root-says}
 use Rattle.envy_btree.proofs.Rooting.{Root-rests, root-fits}
+use Rattle.envy_base.proofs.Working.{Works-trans}
+use Rattle.envy_btree.proofs.Calling.{finds-off, power-shut}
+use Rattle.envy_btree.proofs.Exits.{zero-in}
 use Rattle.envy_btree.proofs.scanning.next.Goals as goal
 
 pub overflow_cast-piece : goal.overflow_cast-piece
@@ -35,3 +38,27 @@ returns-clause-finds g c es x =
     let says = root-says old.words _ es c.in_ok-root.root c.find_from.result (first_from c.args.key) x c.requires.size root.1 some root.2 c.find_from.ensures.answer in
     let same = subst (λ w. OnOk c.find_from.result (new.words ≡ w)) root.2 c.find_from.ensures.same in
     finds-of (IsLeastFrom c.args.key es) (first_from c.args.key es) es old new c.find_from.result (least-of old.words es c.args.key x) ((g.met.W.Words.lawful c.args.words.now).shut c.requires.shut) (c.find_from.ensures.works.kept ∙ c.in_ok-root.ensures.works.kept) x says same c.find_from.ensures.power
+
+pub load-requires : goal.load-requires
+load-requires g c = zero-in (length (g.W.Words.sheet c.args.words.now).words) c.requires.map.1.planted.heap.size
+
+pub returns-in_err-root-clause-works : goal.returns-in_err-root-clause-works
+returns-in_err-root-clause-works g c = c.load.ensures.works
+
+pub returns-in_err-root-clause-shut : goal.returns-in_err-root-clause-shut
+returns-in_err-root-clause-shut g c = (g.met.W.Words.lawful c.load.new.self).off c.in_err-root.ensures.answer
+
+pub returns-in_err-root-clause-finds : goal.returns-in_err-root-clause-finds
+returns-in_err-root-clause-finds g c es x = finds-off (IsLeastFrom c.args.key es) es (g.W.Words.sheet c.args.words.now) (g.W.Words.sheet c.load.new.self) c.from_residual.result _ c.from_residual.ensures.1 ((g.met.W.Words.lawful c.args.words.now).shut c.requires.shut) c.load.ensures.works.kept c.in_err-root.ensures.answer x
+
+pub returns-then-root-eq0-clause-works : goal.returns-then-root-eq0-clause-works
+returns-then-root-eq0-clause-works g c = c.load.ensures.works
+
+pub returns-then-root-eq0-clause-shut : goal.returns-then-root-eq0-clause-shut
+returns-then-root-eq0-clause-shut g c = c.load.ensures.works.still c.in_ok-root.ensures.answer.0 ∙ c.requires.shut
+
+pub returns-clause-works : goal.returns-clause-works
+returns-clause-works g c = Works-trans 0 0 (g.W.Words.sheet c.args.words.now) (g.W.Words.sheet c.load.new.self) (g.W.Words.sheet c.find_from.new.words) c.load.ensures.works c.find_from.ensures.works
+
+pub returns-clause-shut : goal.returns-clause-shut
+returns-clause-shut g c = power-shut (g.W.Words.sheet c.load.new.self) (g.W.Words.sheet c.find_from.new.words) c.find_from.result (g.met.W.Words.lawful c.find_from.new.words) c.find_from.ensures.works c.find_from.ensures.power (c.load.ensures.works.still c.in_ok-root.ensures.answer.0 ∙ c.requires.shut)

@@ -1,4 +1,4 @@
-use Rattle.std.proofs.Common.{◌≡◌, IfOk, IfSome, List, ℕ, ◌+◌, ◌-◌, ◌*◌, ◌∙◌, suc, arith, sym, subst, false}
+use Rattle.std.proofs.Common.{◌≡◌, IfOk, IfSome, Option, List, ℕ, ◌+◌, ◌-◌, ◌*◌, ◌∙◌, suc, arith, sym, subst, false}
 use Rattle.envy_base.specs.Words.{Works}
 use Rattle.envy_base.proofs.Working.{Works-trans, Works-more}
 use Rattle.envy_btree.specs.Pairs.{without}
@@ -7,6 +7,9 @@ use Rattle.envy_btree.specs.Changes.{Rests}
 use Rattle.envy_btree.specs.Shrinking.{Back}
 use Rattle.envy_btree.proofs.Descent.{Rests-within, Rests-few}
 use Rattle.envy_btree.proofs.Diving.{Rests-dives, Rests-lands, leaf-shrinks, front-shrinks, rear-shrinks, dive-fits, hand-more, child-told}
+use Rattle.envy_btree.specs.Nodes.{Ranks}
+use Rattle.envy_btree.specs.declared.node.Node.{Node}
+use Rattle.envy_btree.proofs.Exits.{none-if, err-fails, off-fails, fails-after, no-works, leaf-works, deep-works, room-deep}
 use Rattle.envy_btree.proofs.shrinking.+remove_under.Goals as goal
 
 pub read_node-requires-clause-within : goal.read_node-requires-clause-within
@@ -175,3 +178,69 @@ returns-clause-shrinks g t c r =
     let s = Rests-dives _ _ _ _ _ _ _ _ _ r c.in_ok-node.ensures.node c.if-not-node.false c.deref.ensures.0 c.rank-i.ensures in
     let d = child-told _ _ mid _ _ _ c.args.key c.in_ok-short.field-0 _ s.child c.in_ok-node.ensures.same c.slot-child.ensures c.in-Some.is c.in_ok-short.ensures.shrinks in
     rear-shrinks _ mid (g.W.Words.sheet c.shrink_with_rear.new.words).words _ _ _ i 0 _ _ r c.in-Some.short c.shrink_with_rear.result s (let e : i ≡ 0 = omega (arith, c.if-i-gt0.false) in e) d c.shrink_with_rear.ensures.mended (omega (arith, s.some))
+
+pub returns-in_err-node-clause-works : goal.returns-in_err-node-clause-works
+returns-in_err-node-clause-works g t c = no-works (4 * c.args.level + 2) (g.W.Words.sheet c.args.words.now) (g.W.Words.sheet c.read_node.new.words) c.read_node.ensures.works
+
+pub returns-in_err-node-clause-fails : goal.returns-in_err-node-clause-fails
+returns-in_err-node-clause-fails g t c = off-fails (g.W.Words.sheet c.args.words.now) (g.W.Words.sheet c.read_node.new.words) c.from_residual.result c.from_residual.ensures.1 c.in_err-node.ensures.power
+
+pub returns-in_err-node-clause-hand : goal.returns-in_err-node-clause-hand
+returns-in_err-node-clause-hand g t c = none-if c.from_residual.result _ _ c.from_residual.ensures.1
+
+pub returns-in_err-node-clause-shrinks : goal.returns-in_err-node-clause-shrinks
+returns-in_err-node-clause-shrinks g t c r = none-if c.from_residual.result _ _ c.from_residual.ensures.1
+
+pub shrink_leaf-requires-clause-begun : goal.shrink_leaf-requires-clause-begun
+shrink_leaf-requires-clause-begun g t c = c.read_node.ensures.works.still c.in_ok-node.ensures.power ∙ c.requires.begun
+
+pub shrink_leaf-requires-clause-room : goal.shrink_leaf-requires-clause-room
+shrink_leaf-requires-clause-room g t c = room-deep 2 c.args.level (g.W.Words.sheet c.args.words.now) (g.W.Words.sheet c.read_node.new.words) c.read_node.ensures.works c.in_ok-node.ensures.power c.requires.room
+
+pub shrink_leaf-requires-clause-leaf : goal.shrink_leaf-requires-clause-leaf
+shrink_leaf-requires-clause-leaf g t c = c.if-not-node.true
+
+pub shrink_leaf-requires-clause-place : goal.shrink_leaf-requires-clause-place
+shrink_leaf-requires-clause-place g t c = subst (λ x. Ranks c.args.key x c.rank-i.result) c.deref.ensures.0 c.rank-i.ensures
+
+pub returns-then-not-node-clause-works : goal.returns-then-not-node-clause-works
+returns-then-not-node-clause-works g t c = leaf-works 2 c.args.level (g.W.Words.sheet c.args.words.now) (g.W.Words.sheet c.read_node.new.words) (g.W.Words.sheet c.shrink_leaf.new.words) c.read_node.ensures.works c.shrink_leaf.ensures.works
+
+pub returns-then-not-node-clause-fails : goal.returns-then-not-node-clause-fails
+returns-then-not-node-clause-fails g t c = fails-after 0 2 (g.W.Words.sheet c.args.words.now) (g.W.Words.sheet c.read_node.new.words) (g.W.Words.sheet c.shrink_leaf.new.words) c.shrink_leaf.result c.read_node.ensures.works c.shrink_leaf.ensures.works c.shrink_leaf.ensures.fails
+
+pub returns-in_err-short-clause-works : goal.returns-in_err-short-clause-works
+returns-in_err-short-clause-works g t c = deep-works 2 c.args.level (g.W.Words.sheet c.args.words.now) (g.W.Words.sheet c.read_node.new.words) (g.W.Words.sheet c.remove_under.new.words) c.read_node.ensures.works c.remove_under.ensures.works
+
+pub returns-in_err-short-clause-fails : goal.returns-in_err-short-clause-fails
+returns-in_err-short-clause-fails g t c = fails-after 0 (4 * (c.args.level - 1) + 2) (g.W.Words.sheet c.args.words.now) (g.W.Words.sheet c.read_node.new.words) (g.W.Words.sheet c.remove_under.new.words) c.from_residual-in_err-short.result c.read_node.ensures.works c.remove_under.ensures.works (err-fails (Option Node) (g.W.Words.sheet c.read_node.new.words) (g.W.Words.sheet c.remove_under.new.words) c.from_residual-in_err-short.result _ c.in_err-short.ensures.fails c.from_residual-in_err-short.ensures.1)
+
+pub returns-in_err-short-clause-hand : goal.returns-in_err-short-clause-hand
+returns-in_err-short-clause-hand g t c = none-if c.from_residual-in_err-short.result _ _ c.from_residual-in_err-short.ensures.1
+
+pub returns-in_err-short-clause-shrinks : goal.returns-in_err-short-clause-shrinks
+returns-in_err-short-clause-shrinks g t c r = none-if c.from_residual-in_err-short.result _ _ c.from_residual-in_err-short.ensures.1
+
+pub returns-in_default-clause-works : goal.returns-in_default-clause-works
+returns-in_default-clause-works g t c = deep-works 2 c.args.level (g.W.Words.sheet c.args.words.now) (g.W.Words.sheet c.read_node.new.words) (g.W.Words.sheet c.remove_under.new.words) c.read_node.ensures.works c.remove_under.ensures.works
+
+pub returns-in_default-clause-fails : goal.returns-in_default-clause-fails
+returns-in_default-clause-fails g t c = c.in_ok-short.ensures.fails
+
+pub shrink_with_front-requires-clause-begun : goal.shrink_with_front-requires-clause-begun
+shrink_with_front-requires-clause-begun g t c = c.in_ok-short.ensures.works.still c.in_ok-short.ensures.fails ∙ (c.read_node.ensures.works.still c.in_ok-node.ensures.power ∙ c.requires.begun)
+
+pub shrink_with_front-requires-clause-inner : goal.shrink_with_front-requires-clause-inner
+shrink_with_front-requires-clause-inner g t c = c.if-not-node.false
+
+pub returns-then-i-gt0-clause-fails : goal.returns-then-i-gt0-clause-fails
+returns-then-i-gt0-clause-fails g t c = fails-after (0 + (4 * (c.args.level - 1) + 2)) 6 (g.W.Words.sheet c.args.words.now) (g.W.Words.sheet c.remove_under.new.words) (g.W.Words.sheet c.shrink_with_front.new.words) c.shrink_with_front.result (Works-trans 0 (4 * (c.args.level - 1) + 2) (g.W.Words.sheet c.args.words.now) (g.W.Words.sheet c.read_node.new.words) (g.W.Words.sheet c.remove_under.new.words) c.read_node.ensures.works c.remove_under.ensures.works) c.shrink_with_front.ensures.works c.shrink_with_front.ensures.fails
+
+pub shrink_with_rear-requires-clause-begun : goal.shrink_with_rear-requires-clause-begun
+shrink_with_rear-requires-clause-begun g t c = c.in_ok-short.ensures.works.still c.in_ok-short.ensures.fails ∙ (c.read_node.ensures.works.still c.in_ok-node.ensures.power ∙ c.requires.begun)
+
+pub shrink_with_rear-requires-clause-inner : goal.shrink_with_rear-requires-clause-inner
+shrink_with_rear-requires-clause-inner g t c = c.if-not-node.false
+
+pub returns-clause-fails : goal.returns-clause-fails
+returns-clause-fails g t c = fails-after (0 + (4 * (c.args.level - 1) + 2)) 6 (g.W.Words.sheet c.args.words.now) (g.W.Words.sheet c.remove_under.new.words) (g.W.Words.sheet c.shrink_with_rear.new.words) c.shrink_with_rear.result (Works-trans 0 (4 * (c.args.level - 1) + 2) (g.W.Words.sheet c.args.words.now) (g.W.Words.sheet c.read_node.new.words) (g.W.Words.sheet c.remove_under.new.words) c.read_node.ensures.works c.remove_under.ensures.works) c.shrink_with_rear.ensures.works c.shrink_with_rear.ensures.fails

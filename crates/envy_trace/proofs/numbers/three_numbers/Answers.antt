@@ -1,7 +1,8 @@
 use Rattle.std.proofs.Common.{◌≡◌, ◌∙◌, sym, Ok, Err}
 use Rattle.std.proofs.lemmas.Result.{err_from_is_err_and}
 use Rattle.envy_trace.specs.Grammar.{number_in}
-use Rattle.envy_trace.proofs.Counts.{three-more, three-exact}
+use Rattle.envy_trace.proofs.Counts.{three-more, three-exact, handed-on, no-value, three-none, three-one, three-two}
+use Rattle.envy_trace.proofs.Numerals.{number-most}
 use Rattle.envy_trace.proofs.numbers.three_numbers.Goals as goal
 
 pub returns-in_err-no_number-clause-value : goal.returns-in_err-no_number-clause-value
@@ -37,3 +38,40 @@ returns-clause-value c =
     let y : number_in c.args.second c.in_ok-y.field-0-0.now ≡ Ok c.in_ok-y-2.field-0 = sym c.in_ok-y.ensures.1 ∙ c.in_ok-y-2.was in
     let z : number_in c.args.third c.in_ok-z.field-0-0.now ≡ Ok c.in_ok-z-2.field-0 = sym c.in_ok-z.ensures.1 ∙ c.in_ok-z-2.was in
     rw (three-exact _ _ _ _ _ _ _ c.in_ok-x.ensures.0 c.in_ok-y.ensures.0 c.in_ok-z.ensures.0 c.in_ok-no_number.ensures, x, y, z)
+
+pub returns-in_err-x-clause-value : goal.returns-in_err-x-clause-value
+returns-in_err-x-clause-value c = handed-on c.from_residual.result _ _ c.from_residual.ensures.1 (three-none c.args.first c.args.second c.args.third _ _ _ c.in_err-x.ensures.0 c.in_err-x.ensures.1)
+
+pub returns-in_err-x-clause-within : goal.returns-in_err-x-clause-within
+returns-in_err-x-clause-within c = no-value c.from_residual.result _ _ c.from_residual.ensures.1
+
+pub returns-in_err-y-clause-value : goal.returns-in_err-y-clause-value
+returns-in_err-y-clause-value c = handed-on c.from_residual-in_err-y.result _ _ c.from_residual-in_err-y.ensures.1 (three-one c.args.first c.args.second c.args.third _ _ _ _ _ c.in_ok-x.ensures.0 c.in_err-y.ensures.0 c.in_err-y.ensures.1)
+
+pub returns-in_err-y-clause-within : goal.returns-in_err-y-clause-within
+returns-in_err-y-clause-within c = no-value c.from_residual-in_err-y.result _ _ c.from_residual-in_err-y.ensures.1
+
+pub returns-in_err-z-clause-value : goal.returns-in_err-z-clause-value
+returns-in_err-z-clause-value c = handed-on c.from_residual-in_err-z.result _ _ c.from_residual-in_err-z.ensures.1 (three-two c.args.first c.args.second c.args.third _ _ _ _ _ _ _ c.in_ok-x.ensures.0 c.in_ok-y.ensures.0 c.in_err-z.ensures.0 c.in_err-z.ensures.1)
+
+pub returns-in_err-z-clause-within : goal.returns-in_err-z-clause-within
+returns-in_err-z-clause-within c = no-value c.from_residual-in_err-z.result _ _ c.from_residual-in_err-z.ensures.1
+
+pub returns-in_err-no_number-clause-within : goal.returns-in_err-no_number-clause-within
+returns-in_err-no_number-clause-within c = no-value c.from_residual-in_err-no_number.result _ _ c.from_residual-in_err-no_number.ensures.1
+
+pub returns-in_err-x-2-clause-within : goal.returns-in_err-x-2-clause-within
+returns-in_err-x-2-clause-within c = no-value c.from_residual-in_err-x-2.result _ _ c.from_residual-in_err-x-2.ensures.1
+
+pub returns-in_err-y-2-clause-within : goal.returns-in_err-y-2-clause-within
+returns-in_err-y-2-clause-within c = no-value c.from_residual-in_err-y-2.result _ _ c.from_residual-in_err-y-2.ensures.1
+
+pub returns-in_err-z-2-clause-within : goal.returns-in_err-z-2-clause-within
+returns-in_err-z-2-clause-within c = no-value c.from_residual-in_err-z-2.result _ _ c.from_residual-in_err-z-2.ensures.1
+
+pub returns-clause-within : goal.returns-clause-within
+returns-clause-within c =
+    let x : number_in c.args.first c.in_ok-x.field-0-0.now ≡ Ok c.in_ok-x-2.field-0 = sym c.in_ok-x.ensures.1 ∙ c.in_ok-x-2.was in
+    let y : number_in c.args.second c.in_ok-y.field-0-0.now ≡ Ok c.in_ok-y-2.field-0 = sym c.in_ok-y.ensures.1 ∙ c.in_ok-y-2.was in
+    let z : number_in c.args.third c.in_ok-z.field-0-0.now ≡ Ok c.in_ok-z-2.field-0 = sym c.in_ok-z.ensures.1 ∙ c.in_ok-z-2.was in
+    (number-most c.args.first c.in_ok-x.field-0-0.now c.in_ok-x-2.field-0 x, number-most c.args.second c.in_ok-y.field-0-0.now c.in_ok-y-2.field-0 y, number-most c.args.third c.in_ok-z.field-0-0.now c.in_ok-z-2.field-0 z)
