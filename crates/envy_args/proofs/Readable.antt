@@ -2,11 +2,14 @@
 use Rattle.std.proofs.Common.{◌≡◌, ◌∙◌, true, false, List, [], ◌∷◌, ◌++◌, codes, refl}
 use Rattle.std.proofs.lemmas.Bool.{and_from, and_left, and_right}
 use Rattle.std.proofs.lemmas.List.Folds.{list_all-append}
-use Rattle.envy_args.specs.Words.{Options, Text, plain_options, run_options, tpca_options}
+use Rattle.envy_args.specs.Words.{Options, Text, plain_options, resume_options, run_options, tpca_options}
 use Rattle.envy_args.specs.Reading.{are_readable, area_options, is_readable, policy_options, shape_options}
 
 abbrev after_policy : List Text
 after_policy = codes "limit" ∷ codes "mark" ∷ []
+
+abbrev in_image : List Text
+in_image = codes "limit" ∷ codes "mark" ∷ codes "lives" ∷ []
 
 abbrev after_lives : List Text
 after_lives = codes "start" ∷ area_options ++ codes "every" ∷ []
@@ -26,6 +29,9 @@ module _ (o : Options) where
   after_shape : are_readable (policy_options ++ after_policy) o ≡ false → are_readable plain_options o ≡ false
   after_shape = second shape_options (policy_options ++ after_policy)
 
+  pub plain-shape : are_readable shape_options o ≡ false → are_readable plain_options o ≡ false
+  plain-shape = first shape_options (policy_options ++ after_policy)
+
   pub plain-policy : are_readable policy_options o ≡ false → are_readable plain_options o ≡ false
   plain-policy e = after_shape (first policy_options after_policy e)
 
@@ -34,6 +40,26 @@ module _ (o : Options) where
 
   pub plain-mark : is_readable o (codes "mark") ≡ false → are_readable plain_options o ≡ false
   plain-mark e = after_shape (second policy_options after_policy (and_right (is_readable o (codes "limit")) _ (and_left _ _ e)))
+
+  pub plain-all : are_readable shape_options o ≡ true → are_readable policy_options o ≡ true → is_readable o (codes "limit") ≡ true → is_readable o (codes "mark") ≡ true → are_readable plain_options o ≡ true
+  plain-all shape policy limit mark = both shape_options (policy_options ++ after_policy) shape (both policy_options after_policy policy (and_from _ _ limit (and_from _ _ mark refl)))
+
+  -- ---- what goes on with an image
+
+  pub resume-policy : are_readable policy_options o ≡ false → are_readable resume_options o ≡ false
+  resume-policy = first policy_options in_image
+
+  pub resume-limit : is_readable o (codes "limit") ≡ false → are_readable resume_options o ≡ false
+  resume-limit e = second policy_options in_image (and_left _ _ e)
+
+  pub resume-mark : is_readable o (codes "mark") ≡ false → are_readable resume_options o ≡ false
+  resume-mark e = second policy_options in_image (and_right (is_readable o (codes "limit")) _ (and_left _ _ e))
+
+  pub resume-lives : is_readable o (codes "lives") ≡ false → are_readable resume_options o ≡ false
+  resume-lives e = second policy_options in_image (and_right (is_readable o (codes "limit")) _ (and_right (is_readable o (codes "mark")) _ (and_left _ _ e)))
+
+  pub resume-all : are_readable policy_options o ≡ true → is_readable o (codes "limit") ≡ true → is_readable o (codes "mark") ≡ true → is_readable o (codes "lives") ≡ true → are_readable resume_options o ≡ true
+  resume-all policy limit mark lives = both policy_options in_image policy (and_from _ _ limit (and_from _ _ mark (and_from _ _ lives refl)))
 
   -- ---- a run
 
