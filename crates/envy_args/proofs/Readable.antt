@@ -1,9 +1,11 @@
 -- Options that can be read, list by list.
-use Rattle.std.proofs.Common.{◌≡◌, ◌∙◌, true, false, List, [], ◌∷◌, ◌++◌, codes, refl}
+use Rattle.std.proofs.Common.{◌≡◌, ◌∙◌, true, false, List, [], ◌∷◌, ◌++◌, codes, refl, ℕ, Option, Result}
 use Rattle.std.proofs.lemmas.Bool.{and_from, and_left, and_right}
 use Rattle.std.proofs.lemmas.List.Folds.{list_all-append}
-use Rattle.envy_args.specs.Words.{Options, Text, plain_options, resume_options, run_options, tpca_options}
-use Rattle.envy_args.specs.Reading.{are_readable, area_options, is_readable, policy_options, shape_options}
+use Rattle.envy_gen.specs.declared.mix.Mix.{Mix}
+use Rattle.envy_args.specs.declared.command.WordsFault.{WordsFault}
+use Rattle.envy_args.specs.Words.{Options, Text, gen_of, gen_options, generating, given_number, mix_of, number_of, plain_options, resume_options, run_options, start_of, tpca_options}
+use Rattle.envy_args.specs.Reading.{are_readable, area_options, is_readable, made, policy_options, shape_options}
 
 abbrev after_policy : List Text
 after_policy = codes "limit" ∷ codes "mark" ∷ []
@@ -88,3 +90,37 @@ module _ (o : Options) where
 
   pub tpca-all : are_readable run_options o ≡ true → is_readable o (codes "start") ≡ true → are_readable area_options o ≡ true → is_readable o (codes "every") ≡ true → are_readable tpca_options o ≡ true
   tpca-all e start area every = both run_options after_lives e (and_from _ _ start (both area_options (codes "every" ∷ []) area (and_from _ _ every refl)))
+
+  -- ---- a trace that is drawn
+
+  -- one of them can't be read
+  one : (before after : List Text) (name : Text) → is_readable o name ≡ false → are_readable (before ++ name ∷ after) o ≡ false
+  one before after name e = second before (name ∷ after) (and_left _ _ e)
+
+  pub gen-start : is_readable o (codes "start") ≡ false → are_readable gen_options o ≡ false
+  gen-start = one [] (codes "lines" ∷ codes "pages" ∷ codes "hot" ∷ codes "share" ∷ codes "stores" ∷ []) (codes "start")
+
+  pub gen-lines : is_readable o (codes "lines") ≡ false → are_readable gen_options o ≡ false
+  gen-lines = one (codes "start" ∷ []) (codes "pages" ∷ codes "hot" ∷ codes "share" ∷ codes "stores" ∷ []) (codes "lines")
+
+  pub gen-pages : is_readable o (codes "pages") ≡ false → are_readable gen_options o ≡ false
+  gen-pages = one (codes "start" ∷ codes "lines" ∷ []) (codes "hot" ∷ codes "share" ∷ codes "stores" ∷ []) (codes "pages")
+
+  pub gen-hot : is_readable o (codes "hot") ≡ false → are_readable gen_options o ≡ false
+  gen-hot = one (codes "start" ∷ codes "lines" ∷ codes "pages" ∷ []) (codes "share" ∷ codes "stores" ∷ []) (codes "hot")
+
+  pub gen-share : is_readable o (codes "share") ≡ false → are_readable gen_options o ≡ false
+  gen-share = one (codes "start" ∷ codes "lines" ∷ codes "pages" ∷ codes "hot" ∷ []) (codes "stores" ∷ []) (codes "share")
+
+  pub gen-stores : is_readable o (codes "stores") ≡ false → are_readable gen_options o ≡ false
+  gen-stores = one (codes "start" ∷ codes "lines" ∷ codes "pages" ∷ codes "hot" ∷ codes "share" ∷ []) [] (codes "stores")
+
+  pub gen-all : is_readable o (codes "start") ≡ true → is_readable o (codes "lines") ≡ true → is_readable o (codes "pages") ≡ true
+      → is_readable o (codes "hot") ≡ true → is_readable o (codes "share") ≡ true → is_readable o (codes "stores") ≡ true → are_readable gen_options o ≡ true
+  gen-all start lines pages hot share stores = and_from _ _ start (and_from _ _ lines (and_from _ _ pages (and_from _ _ hot (and_from _ _ share (and_from _ _ stores refl)))))
+
+  -- the command is made of what was read
+  pub gen-made : are_readable gen_options o ≡ true → (start lines pages : ℕ) (hot share stores : Option ℕ) → start ≡ start_of o → lines ≡ number_of o (codes "lines") 1000
+      → pages ≡ number_of o (codes "pages") 64 → hot ≡ given_number o (codes "hot") → share ≡ given_number o (codes "share") → stores ≡ given_number o (codes "stores")
+      → (mix : Result Mix WordsFault) → mix ≡ mix_of pages hot share stores → generating start lines mix ≡ made gen_options gen_of o
+  gen-made all start lines pages hot share stores s l p h sh st mix m = rw (m, s, l, p, h, sh, st, all) refl
