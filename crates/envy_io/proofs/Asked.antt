@@ -1,5 +1,5 @@
 -- What one asking of the source leaves.
-use Rattle.std.proofs.Common.{◌≡◌, ◌⊎◌, ℕ, ◌+◌, ◌-◌, ◌<◌, ◌≤◌, ◌==◌, min, IsTrue, List, ◌++◌, length, take, Option, Ok, zero, suc, refl, ap, ap₂, sym, ◌∙◌, inl, inr, arith, subst, eqb-true, length-append, length-take-le}
+use Rattle.std.proofs.Common.{◌≡◌, ◌⊎◌, ℕ, ◌+◌, ◌-◌, ◌<◌, ◌≤◌, ◌==◌, min, IsTrue, List, ◌++◌, length, take, Ok, zero, suc, refl, ap, ap₂, sym, ◌∙◌, inl, inr, arith, subst, eqb-true, length-append, length-take-le}
 use Rattle.std.proofs.lemmas.List.{take-append-le, length-take}
 use Rattle.envy_io.specs.Streams.{Feed, Fills, IsDry, with_front}
 use Rattle.envy_io.specs.Taking.{Taking, Wants}

@@ -1,6 +1,7 @@
 pub mod Asked
 pub mod Counts
 pub mod Fetched
+pub mod Fetches
 pub mod FillsLemmas
 pub mod FrontLemmas
 pub mod Gives

@@ -44,7 +44,7 @@ returns-in_err-mix c =
     let o = c.args.options.now in
     let p = err_from_is_err_and c.from_residual-in_err-mix.result c.from_residual-in_err-mix.ensures.1 in
     let all = gen-all o c.in_ok-start.ensures.0 c.in_ok-lines.ensures.0 c.in_ok-pages.ensures.0 c.in_ok-hot.ensures.0 c.in_ok-share.ensures.0 c.in_ok-stores.ensures.0 in
-    rw (p.1, p.2) (gen-made o all _ _ _ _ _ _ c.in_ok-start.ensures.1 c.in_ok-lines.ensures.1 c.in_ok-pages.ensures.1 c.in_ok-hot.ensures.1 c.in_ok-share.ensures.1 c.in_ok-stores.ensures.1 (Err c.in_err-mix.field-0) c.in_err-mix.ensures)
+    rw (p.1, p.2) (gen-made o all _ _ _ _ _ _ c.in_ok-start.ensures.1 c.in_ok-lines.ensures.1 c.in_ok-pages.ensures.1 c.in_ok-hot.ensures.1 c.in_ok-share.ensures.1 c.in_ok-stores.ensures.1 (Err c.in_err-mix.field-0.0) c.in_err-mix.ensures)
 
 pub returns : goal.returns
 returns c =
