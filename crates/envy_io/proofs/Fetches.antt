@@ -5,7 +5,7 @@ use Rattle.envy_io.specs.declared.source.Failed.{Failed as NoBytes}
 use Rattle.envy_io.specs.declared.lines.fetching.Got.TheVariants.{Whole, Short, Failed, Spent}
 use Rattle.envy_io.specs.Streams.{Feed, IsDry, with_front}
 use Rattle.envy_io.specs.Taking.{Taking}
-use Rattle.envy_io.specs.Fetching.{Draws, FallsShort, HasFront, NextBytes, Pulls}
+use Rattle.envy_io.specs.Fetching.{HasFront, NextBytes, Pulls}
 use Rattle.envy_io.proofs.Counts.{Rises-after}
 use Rattle.envy_io.proofs.TakesLemmas.{with_front-nil}
 use Rattle.envy_io.proofs.Fetched.{Fetched}
