@@ -3,6 +3,7 @@ use Rattle.std.proofs.Common.{◌≡◌, ℕ, ◌+◌, ◌<◌, ◌≤◌, List,
 use Rattle.std.proofs.lemmas.List.{drop-drop, length-take}
 use Rattle.envy_io.specs.declared.lines.Front.TheVariants.{Line}
 use Rattle.envy_io.specs.Lines.{NoNewline, newline}
+use Rattle.envy_io.specs.Taking.{IsOpen}
 use Rattle.envy_io.specs.Asking.{BeginsWith}
 
 pub line-fits : (line held : List ℕ) (n : ℕ) → line ≡ [] → n ≤ 120 → (128 < 9223372036854775808) × (length line + length (take n held) ≤ 120)
@@ -24,3 +25,6 @@ line-first items line shown held buffer given n put empty same is begins =
       omega (arith, ap length first, length-take n held, begins.0),
       begins.2 ∙ (ap (λ (l : List ℕ). l ++ newline ∷ drop (n + 1) held) (sym first) ∙ ap (λ (l : List ℕ). items ++ newline ∷ l) behind),
     )
+
+pub open-fits : (line shown held : List ℕ) → line ≡ [] → shown ≡ held → IsOpen held → (128 < 9223372036854775808) × (length line + length shown ≤ 120)
+open-fits line shown held empty same is = (omega arith, omega (arith, ap length empty, ap length same, is.short))

@@ -1,7 +1,7 @@
-use Rattle.std.proofs.Common.{ap, drop, ◌+◌, inl, subst}
+use Rattle.std.proofs.Common.{ap, drop, ◌+◌, inl, refl, subst}
 use Rattle.envy_io.specs.Asking.{BeginsWith}
 use Rattle.envy_io.specs.Taking.{Taking}
-use Rattle.envy_io.proofs.Gives.{line-fits, line-first, line-inside, line-small}
+use Rattle.envy_io.proofs.Gives.{line-fits, line-first, line-inside, line-small, open-fits}
 use Rattle.envy_io.proofs.lines.Lines.give.Goals as goal
 
 pub append-requires : goal.append-requires
@@ -30,3 +30,13 @@ returns-in-Line-clause-answers c =
 
 pub returns-in-Open-3-clause-same : goal.returns-in-Open-3-clause-same
 returns-in-Open-3-clause-same c = ap (λ (t : Taking). record t { held = drop c.len-self-inside.result c.self.inside.buffer.items }) c.self.view_is
+
+pub returns-in-Long-clause-answers : goal.returns-in-Long-clause-answers
+returns-in-Long-clause-answers c =
+    let begins = subst (BeginsWith c.args.self.now.held) c.in-Long.is c.requires.begins in
+    λ _ _. (record { none = c.requires.empty; held = refl }, begins.0, begins.1)
+
+pub append-requires-in-Open-3 : goal.append-requires-in-Open-3
+append-requires-in-Open-3 c =
+    let is = subst (BeginsWith c.args.self.now.held) c.in-Open.is c.requires.begins in
+    open-fits _ _ _ c.requires.empty c.held-in-Open-3.ensures is
