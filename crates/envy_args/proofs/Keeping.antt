@@ -1,7 +1,7 @@
 -- The words behind `keep`, and what they name.
 use Rattle.std.proofs.Common.{◌≡◌, ◌∙◌, Bool, true, false, ◌&&◌, ap, sym, refl, List, [], ◌∷◌, Option, Some, None, Ok, Err, codes, option_and_then, if◌then◌else◌, true≢false}
 use Rattle.std.specs.Option.{option_map_or}
-use Rattle.std.proofs.lemmas.Bool.{and_from, and_right, false_from_ne_true}
+use Rattle.std.proofs.lemmas.Bool.{and_from, and_left, and_right, false_from_ne_true}
 use Rattle.envy_args.specs.declared.command.WordsFault.TheVariants.{Form}
 use Rattle.envy_args.specs.declared.keep.KeepOptions.{KeepOptions}
 use Rattle.envy_args.specs.Words.{Options, Text, accepted, are_known, have_values, is_path, is_value, options_in, plain_options, value_of}
@@ -12,6 +12,12 @@ use Rattle.envy_args.proofs.Valued.{all-readable, have-values}
 -- an option of `plain` that can't be read
 pub beside : (o : Options) → are_readable plain_options o ≡ false → are_readable beside_file o ≡ false
 beside o e = and_right (is_readable o (codes "compact")) _ e
+
+pub beside-compact : (o : Options) → is_readable o (codes "compact") ≡ false → are_readable beside_file o ≡ false
+beside-compact o e = and_left _ _ e
+
+pub beside-all : (o : Options) → is_readable o (codes "compact") ≡ true → are_readable plain_options o ≡ true → are_readable beside_file o ≡ true
+beside-all o compact plain = and_from (is_readable o (codes "compact")) _ compact plain
 
 pub unread : (words : List Text) → accepted keep_names words ≡ None → keep_of words ≡ Err Form
 unfolding keep_of

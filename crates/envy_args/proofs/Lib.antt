@@ -1,6 +1,7 @@
 mod Accepting
 mod Finds
 mod Forms
+mod Indexes
 mod Keeping
 mod Known
 mod Loads

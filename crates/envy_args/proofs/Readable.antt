@@ -1,12 +1,17 @@
 -- Options that can be read, list by list.
-use Rattle.std.proofs.Common.{◌≡◌, ◌∙◌, true, false, List, [], ◌∷◌, ◌++◌, codes, refl}
+use Rattle.std.proofs.Common.{◌≡◌, ◌∙◌, true, false, List, [], ◌∷◌, ◌++◌, codes, refl, ℕ, Option, Result}
 use Rattle.std.proofs.lemmas.Bool.{and_from, and_left, and_right}
 use Rattle.std.proofs.lemmas.List.Folds.{list_all-append}
-use Rattle.envy_args.specs.Words.{Options, Text, plain_options, run_options, tpca_options}
-use Rattle.envy_args.specs.Reading.{are_readable, area_options, is_readable, policy_options, shape_options}
+use Rattle.envy_gen.specs.declared.mix.Mix.{Mix}
+use Rattle.envy_args.specs.declared.command.WordsFault.{WordsFault}
+use Rattle.envy_args.specs.Words.{Options, Text, gen_of, gen_options, generating, given_number, mix_of, number_of, plain_options, resume_options, run_options, start_of, tpca_options}
+use Rattle.envy_args.specs.Reading.{are_readable, area_options, is_readable, made, policy_options, shape_options}
 
 abbrev after_policy : List Text
 after_policy = codes "limit" ∷ codes "mark" ∷ []
+
+abbrev in_image : List Text
+in_image = codes "limit" ∷ codes "mark" ∷ codes "lives" ∷ []
 
 abbrev after_lives : List Text
 after_lives = codes "start" ∷ area_options ++ codes "every" ∷ []
@@ -26,6 +31,9 @@ module _ (o : Options) where
   after_shape : are_readable (policy_options ++ after_policy) o ≡ false → are_readable plain_options o ≡ false
   after_shape = second shape_options (policy_options ++ after_policy)
 
+  pub plain-shape : are_readable shape_options o ≡ false → are_readable plain_options o ≡ false
+  plain-shape = first shape_options (policy_options ++ after_policy)
+
   pub plain-policy : are_readable policy_options o ≡ false → are_readable plain_options o ≡ false
   plain-policy e = after_shape (first policy_options after_policy e)
 
@@ -34,6 +42,26 @@ module _ (o : Options) where
 
   pub plain-mark : is_readable o (codes "mark") ≡ false → are_readable plain_options o ≡ false
   plain-mark e = after_shape (second policy_options after_policy (and_right (is_readable o (codes "limit")) _ (and_left _ _ e)))
+
+  pub plain-all : are_readable shape_options o ≡ true → are_readable policy_options o ≡ true → is_readable o (codes "limit") ≡ true → is_readable o (codes "mark") ≡ true → are_readable plain_options o ≡ true
+  plain-all shape policy limit mark = both shape_options (policy_options ++ after_policy) shape (both policy_options after_policy policy (and_from _ _ limit (and_from _ _ mark refl)))
+
+  -- ---- what goes on with an image
+
+  pub resume-policy : are_readable policy_options o ≡ false → are_readable resume_options o ≡ false
+  resume-policy = first policy_options in_image
+
+  pub resume-limit : is_readable o (codes "limit") ≡ false → are_readable resume_options o ≡ false
+  resume-limit e = second policy_options in_image (and_left _ _ e)
+
+  pub resume-mark : is_readable o (codes "mark") ≡ false → are_readable resume_options o ≡ false
+  resume-mark e = second policy_options in_image (and_right (is_readable o (codes "limit")) _ (and_left _ _ e))
+
+  pub resume-lives : is_readable o (codes "lives") ≡ false → are_readable resume_options o ≡ false
+  resume-lives e = second policy_options in_image (and_right (is_readable o (codes "limit")) _ (and_right (is_readable o (codes "mark")) _ (and_left _ _ e)))
+
+  pub resume-all : are_readable policy_options o ≡ true → is_readable o (codes "limit") ≡ true → is_readable o (codes "mark") ≡ true → is_readable o (codes "lives") ≡ true → are_readable resume_options o ≡ true
+  resume-all policy limit mark lives = both policy_options in_image policy (and_from _ _ limit (and_from _ _ mark (and_from _ _ lives refl)))
 
   -- ---- a run
 
@@ -62,3 +90,37 @@ module _ (o : Options) where
 
   pub tpca-all : are_readable run_options o ≡ true → is_readable o (codes "start") ≡ true → are_readable area_options o ≡ true → is_readable o (codes "every") ≡ true → are_readable tpca_options o ≡ true
   tpca-all e start area every = both run_options after_lives e (and_from _ _ start (both area_options (codes "every" ∷ []) area (and_from _ _ every refl)))
+
+  -- ---- a trace that is drawn
+
+  -- one of them can't be read
+  one : (before after : List Text) (name : Text) → is_readable o name ≡ false → are_readable (before ++ name ∷ after) o ≡ false
+  one before after name e = second before (name ∷ after) (and_left _ _ e)
+
+  pub gen-start : is_readable o (codes "start") ≡ false → are_readable gen_options o ≡ false
+  gen-start = one [] (codes "lines" ∷ codes "pages" ∷ codes "hot" ∷ codes "share" ∷ codes "stores" ∷ []) (codes "start")
+
+  pub gen-lines : is_readable o (codes "lines") ≡ false → are_readable gen_options o ≡ false
+  gen-lines = one (codes "start" ∷ []) (codes "pages" ∷ codes "hot" ∷ codes "share" ∷ codes "stores" ∷ []) (codes "lines")
+
+  pub gen-pages : is_readable o (codes "pages") ≡ false → are_readable gen_options o ≡ false
+  gen-pages = one (codes "start" ∷ codes "lines" ∷ []) (codes "hot" ∷ codes "share" ∷ codes "stores" ∷ []) (codes "pages")
+
+  pub gen-hot : is_readable o (codes "hot") ≡ false → are_readable gen_options o ≡ false
+  gen-hot = one (codes "start" ∷ codes "lines" ∷ codes "pages" ∷ []) (codes "share" ∷ codes "stores" ∷ []) (codes "hot")
+
+  pub gen-share : is_readable o (codes "share") ≡ false → are_readable gen_options o ≡ false
+  gen-share = one (codes "start" ∷ codes "lines" ∷ codes "pages" ∷ codes "hot" ∷ []) (codes "stores" ∷ []) (codes "share")
+
+  pub gen-stores : is_readable o (codes "stores") ≡ false → are_readable gen_options o ≡ false
+  gen-stores = one (codes "start" ∷ codes "lines" ∷ codes "pages" ∷ codes "hot" ∷ codes "share" ∷ []) [] (codes "stores")
+
+  pub gen-all : is_readable o (codes "start") ≡ true → is_readable o (codes "lines") ≡ true → is_readable o (codes "pages") ≡ true
+      → is_readable o (codes "hot") ≡ true → is_readable o (codes "share") ≡ true → is_readable o (codes "stores") ≡ true → are_readable gen_options o ≡ true
+  gen-all start lines pages hot share stores = and_from _ _ start (and_from _ _ lines (and_from _ _ pages (and_from _ _ hot (and_from _ _ share (and_from _ _ stores refl)))))
+
+  -- the command is made of what was read
+  pub gen-made : are_readable gen_options o ≡ true → (start lines pages : ℕ) (hot share stores : Option ℕ) → start ≡ start_of o → lines ≡ number_of o (codes "lines") 1000
+      → pages ≡ number_of o (codes "pages") 64 → hot ≡ given_number o (codes "hot") → share ≡ given_number o (codes "share") → stores ≡ given_number o (codes "stores")
+      → (mix : Result Mix WordsFault) → mix ≡ mix_of pages hot share stores → generating start lines mix ≡ made gen_options gen_of o
+  gen-made all start lines pages hot share stores s l p h sh st mix m = rw (m, s, l, p, h, sh, st, all) refl

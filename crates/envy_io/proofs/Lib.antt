@@ -1,7 +1,10 @@
+pub mod Asked
 pub mod Counts
 pub mod Fetched
+pub mod Fetches
 pub mod FillsLemmas
 pub mod FrontLemmas
+pub mod Gives
 pub mod LinesLemmas
 pub mod Pieces
 pub mod ReadsLemmas

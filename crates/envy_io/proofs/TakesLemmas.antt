@@ -1,8 +1,8 @@
 -- What several askings take together.
-use Rattle.std.proofs.Common.{◌≡◌, ◌⊎◌, ℕ, ◌+◌, ◌-◌, ◌<◌, Bool, true, false, cond, IsTrue, List, [], ◌++◌, length, Option, Some, None, refl, ap, sym, ◌∙◌, inl, inr, arith, length-append, subst}
+use Rattle.std.proofs.Common.{◌≡◌, ◌⊎◌, ℕ, ◌+◌, ◌-◌, ◌<◌, ◌≤◌, Bool, true, false, cond, IsTrue, List, [], ◌++◌, length, Option, Some, None, refl, ap, sym, ◌∙◌, inl, inr, arith, length-append, subst}
 use Rattle.std.proofs.lemmas.Bool.{false≢true}
-use Rattle.std.proofs.lemmas.List.{append_assoc}
-use Rattle.envy_io.specs.Streams.{Feed, with_front}
+use Rattle.std.proofs.lemmas.List.{append_assoc, append-nil}
+use Rattle.envy_io.specs.Streams.{Feed, IsDry, Rises, with_front}
 use Rattle.envy_io.specs.Taking.{Taking, Wants, IsOpen}
 use Rattle.envy_io.specs.Asking.{Asks, Gathers}
 
@@ -37,6 +37,45 @@ Gathers-more old mid new from feed to piece g wants asks =
       };
       held = asks.held ∙ (ap (λ (bytes : List ℕ). bytes ++ piece) g.held ∙ append_assoc old.held g.got piece);
     }
+
+nothing-gathered : (t : Taking) (feed : Feed) → t.taken ≤ t.cap → (IsTrue t.ended → t.taken < t.cap) → Gathers t feed t feed
+nothing-gathered t feed within below = record {
+  got = [];
+  takes = record {
+    cap = refl;
+    taken = omega arith;
+    within = within;
+    left = sym (with_front-nil feed.left);
+    faults = omega arith;
+    ended = λ ended. (ended, refl);
+    dry = λ dry. dry;
+    below = below;
+    needed = inl refl;
+  };
+  held = sym (append-nil t.held);
+}
+
+-- before the source is asked. The state is seen twice, by its parts and as it was told
+pub Gathers-none : (seen old : Taking) (feed : Feed) → seen ≡ old → seen.taken ≤ seen.cap → (IsTrue seen.ended → seen.taken < seen.cap) → Gathers old feed old feed
+Gathers-none seen old feed is within below = subst (λ (t : Taking). Gathers t feed t feed) is (nothing-gathered seen feed within below)
+
+-- a source that fails gives nothing
+pub Gathers-failed : (old mid new : Taking) (from feed to : Feed) → Gathers old from mid feed → new ≡ mid → to.left ≡ feed.left → Rises feed.faults to.faults → Gathers old from new to
+Gathers-failed old mid new from feed to g same left rises = subst (λ (t : Taking). Gathers old from t to) (sym same) (record {
+  got = g.got;
+  takes = record {
+    cap = g.takes.cap;
+    taken = g.takes.taken;
+    within = g.takes.within;
+    left = g.takes.left ∙ ap (with_front g.got) (sym left);
+    faults = omega (arith, g.takes.faults, rises.kept);
+    ended = g.takes.ended;
+    dry = λ dry is. subst IsDry (sym left) (g.takes.dry dry is);
+    below = g.takes.below;
+    needed = g.takes.needed;
+  };
+  held = g.held;
+})
 
 -- what can still be asked for gets less
 pub fewer : (cap new_cap taken new_taken n : ℕ) (ended new_ended : Bool) → ended ≡ false → taken < cap → new_cap ≡ cap → new_taken ≡ taken + n → IsTrue new_ended ⊎ (0 < n) → new_cap - new_taken + cond new_ended 0 1 < cap - taken + cond ended 0 1

@@ -3,7 +3,7 @@ use Rattle.std.proofs.lemmas.Result.{err_from_is_err_and}
 use Rattle.envy_base.specs.Area.{Fits}
 use Rattle.envy_base.specs.declared.area.Area.{Area}
 use Rattle.envy_policy.specs.declared.setup.Setup.{Setup}
-use Rattle.envy_args.proofs.Loads.{load-made, load-refused, load-unfit}
+use Rattle.envy_args.proofs.Loads.{load-made, load-refused, load-shadows, load-unfit}
 use Rattle.envy_args.proofs.Readable.{tpca-all, tpca-area, tpca-every, tpca-run, tpca-start}
 use Rattle.envy_args.proofs.read.tpca.Goals as goal
 
@@ -44,6 +44,13 @@ returns-then-not-fits c =
     let all = tpca-all o c.in_ok-setup.ensures.0 c.in_ok-start.ensures.0 c.in_ok-area.ensures.0 c.in_ok-every.ensures.0 in
     let decides = subst (λ (area : Area). IsTrue c.fits.result ↔ Fits area c.in_ok-setup.setup.shape.pages) c.in_ok-area.ensures.1 c.fits.ensures in
     sym (load-unfit o all _ (ap (λ (p : Setup × ℕ). p.0) c.in_ok-setup.ensures.1) c.in_ok-check.ensures.table _ decides c.if-not-fits.true)
+
+pub returns-then-setup-lt-LOAD_SHADOWS : goal.returns-then-setup-lt-LOAD_SHADOWS
+returns-then-setup-lt-LOAD_SHADOWS c =
+    let o = c.args.options.now in
+    let all = tpca-all o c.in_ok-setup.ensures.0 c.in_ok-start.ensures.0 c.in_ok-area.ensures.0 c.in_ok-every.ensures.0 in
+    let decides = subst (λ (area : Area). IsTrue c.fits.result ↔ Fits area c.in_ok-setup.setup.shape.pages) c.in_ok-area.ensures.1 c.fits.ensures in
+    sym (load-shadows o all _ (ap (λ (p : Setup × ℕ). p.0) c.in_ok-setup.ensures.1) c.in_ok-check.ensures.table _ decides c.if-not-fits.false c.if-setup-lt-LOAD_SHADOWS.true)
 
 pub returns : goal.returns
 returns c =
