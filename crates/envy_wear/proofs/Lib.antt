@@ -1,1 +1,3 @@
+pub mod Exits
+pub mod Extremes
 pub mod StagesLemmas
