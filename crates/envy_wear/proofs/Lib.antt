@@ -1,3 +1,4 @@
 pub mod Exits
 pub mod Extremes
+pub mod Quieting
 pub mod StagesLemmas
