@@ -35,3 +35,4 @@ pub mod UndoLaw
 pub mod UpgradeLaw
 pub mod WordLists
 pub mod WordPuts
+pub mod Written
