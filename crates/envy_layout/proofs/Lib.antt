@@ -5,6 +5,7 @@ pub mod Composition
 pub mod Empty
 pub mod Ending
 pub mod EraseLaw
+pub mod Erased
 pub mod Filling
 pub mod Formed
 pub mod FrameLaw
