@@ -1,4 +1,4 @@
-use Rattle.std.proofs.Common.{◌∙◌, ◌-◌, ◌<◌, ◌≤◌, ℕ, Option, Some, MatchOption, sym, ap, subst}
+use Rattle.std.proofs.Common.{◌∙◌, ◌<◌, ◌≤◌, ℕ, Option, Some, MatchOption, sym, ap, subst}
 use Rattle.envy_policy.specs.Choice.{IsLeast}
 use Rattle.envy_policy.specs.History.{end_of, first_of, partition_of}
 use Rattle.envy_choosing.specs.Choosing.{IsFreeBeside}

@@ -1,4 +1,4 @@
-use Rattle.std.proofs.Common.{◌-◌, ◌*◌, ◌<◌, refl, arith}
+use Rattle.std.proofs.Common.{◌-◌, refl, arith}
 use Rattle.std.proofs.lemmas.Nat.{mul-lt}
 use Rattle.envy_frames.proofs.Defaults.{default_home-fits}
 use Rattle.envy_frames.proofs.home.default_home.Goals as goal
