@@ -3,7 +3,7 @@ use Rattle.std.proofs.Common.{◌≡◌, ◌≢◌, ◌⊎◌, inl, inr, true, f
 use Rattle.std.specs.Prelude.{◌==◌, map, is_some, not}
 use Rattle.std.specs.List.{range_with_len}
 use Rattle.std.specs.Option.{option_eq}
-use Rattle.std.proofs.lemmas.Bool.{cases_lt, cases_eq, ne_eqb}
+use Rattle.std.proofs.lemmas.Bool.{cases_lt, cases_eq, eq-eqb, ne_eqb}
 use Rattle.std.proofs.lemmas.Nat.{le-div, div_below}
 use Rattle.std.proofs.lemmas.List.FromFn.{get_or-map-range_with_len, length-map-range_with_len}
 use Rattle.envy_policy.specs.declared.choice.Choice.TheVariants.{Free, Clean}
@@ -302,6 +302,21 @@ beside-none h pool g first end avoided whole same low high lowest k is =
     let some = is.free in
     omega arith
 
+-- another segment stands at the lowest position with a free row than the avoided one
+pub beside-first : (h : History) (pool : Pool) (g first end k : ℕ) (avoided : Option ℕ) → IsHistory h → h.positions ≡ pool.shape.segments - 1 → first ≡ first_of h g → end ≡ end_of h g → IsLowest (free_at pool) first end k → avoided ≢ Some (slice_index pool.positions k) → IsLeast (IsFreeBeside h pool g avoided) (λ x. x) k
+beside-first h pool g first end k avoided whole same low high lowest other =
+    let below = lowest.below in
+    let above = lowest.above in
+    record {
+      holds = record { position = omega arith; near = within-is h g k whole (omega arith) (omega arith); free = lowest.some; other = other };
+      least = λ y is. least y is (cases_lt y k);
+      lowest = λ y is e. least y is (cases_lt y k);
+    }
+  where
+    least : (y : ℕ) → IsFreeBeside h pool g avoided y → (y < k) ⊎ (k ≤ y) → k ≤ y
+    least y is (inl less) = let low_y = within-first h g y whole is.near in let no = lowest.none y (omega arith) less in let some = is.free in absurd (omega arith)
+    least y is (inr at_least) = at_least
+
 -- it is the avoided one's, so that it is another's at each position above
 pub beside-next : (h : History) (pool : Pool) (g first end k : ℕ) (avoided found : Option ℕ) → IsHistory h → IsPool pool → h.positions ≡ pool.shape.segments - 1 → first ≡ first_of h g → end ≡ end_of h g → IsLowest (free_at pool) first end k → avoided ≡ Some (slice_index pool.positions k) → Lowest (free_at pool) (k + 1) end found → MatchOption found ((y : ℕ) → IsFreeBeside h pool g avoided y → ⊥) (IsLeast (IsFreeBeside h pool g avoided) (λ x. x))
 beside-next h pool g first end k avoided None whole are same low high lowest it none = λ y is. past y is (cases_lt y k) (cases_eq y k)
@@ -370,3 +385,19 @@ avoided-is (Some x) s same = elim (cases_eq x s) [
   | inl is ↦ ap (λ (n : ℕ). Some n) is
   | inr other ↦ absurd (let no : false ≡ true = same ∙ ap not (ne_eqb x s other) in cc)
 ]
+
+pub avoided-other : (avoided : Option ℕ) (s : ℕ) → true ≡ not (option_eq (λ (x y : ℕ). x == y) avoided (Some s)) → avoided ≢ Some s
+avoided-other avoided s same is =
+    let here : true ≡ not (s == s) = subst (λ (o : Option ℕ). true ≡ not (option_eq (λ (x y : ℕ). x == y) o (Some s))) is same in
+    let no : true ≡ false = here ∙ ap not (eq-eqb s s refl) in
+    cc
+
+-- bounds that a call of the pool asks for
+pub in-order : (first end : ℕ) → first < end → first ≤ end
+in-order first end less = omega arith
+
+pub next-order : (k end : ℕ) → k < end → k + 1 ≤ end
+next-order k end less = omega arith
+
+pub inside : (k end n m : ℕ) → k < end → end ≤ n → n ≡ m → k < m
+inside k end n m below within same = omega arith

@@ -1,10 +1,11 @@
 -- What a restart makes of the places: the frames that they name, in rising order of page.
-use Rattle.std.proofs.Common.{◌≡◌, ◌≢◌, ◌⊎◌, inl, inr, ℕ, zero, suc, add-one, zero-add, ◌+◌, ◌-◌, ◌<◌, ◌≤◌, List, [], ◌∷◌, ◌++◌, map, length, get_or, Option, None, Some, refl, sym, ◌∙◌, ap, subst, arith}
+use Rattle.std.proofs.Common.{◌≡◌, ◌≢◌, ◌⊎◌, inl, inr, ℕ, zero, suc, add-one, zero-add, ◌+◌, ◌-◌, ◌*◌, ◌<◌, ◌≤◌, List, [], ◌∷◌, ◌++◌, map, length, get_or, Option, None, Some, refl, sym, ◌∙◌, ap, subst, arith}
 use Rattle.std.specs.List.{All, AllPairs, Any, filter_map, range_with_len, cons_option}
 use Rattle.std.proofs.lemmas.List.{append-nil, length_push, length-map, get_or-map}
 use Rattle.std.proofs.lemmas.List.Elements.{All-map, All-push, All-weaker, filter_map-append}
 use Rattle.std.proofs.lemmas.List.Quantifiers.{all_pairs_push, Any-push}
 use Rattle.std.proofs.lemmas.Bool.{cases_eq}
+use Rattle.std.proofs.lemmas.Nat.{div_below, mul-add-lt}
 use Rattle.envy_base.specs.declared.shape.Shape.{Shape}
 use Rattle.envy_base.specs.declared.fields.Place.{Place}
 use Rattle.envy_base.specs.declared.fields.Place.TheVariants.{Absent, Row, Frame}
@@ -46,7 +47,12 @@ length-le_apart-frames held n below apart =
 
 -- the home that a page has by default is a position
 pub default_home-fits : (sh : Shape) (p : ℕ) → IsShape sh → p < sh.pages → default_home sh p < sh.segments - 1
-default_home-fits sh p shape lt = let some = shape.segments in let pages = shape.pages in grind arith
+default_home-fits sh p shape lt =
+    let n = sh.segments - 1 in
+    let some = shape.segments in
+    let pages = shape.pages in
+    let below : p * n + 0 < n * sh.pages = mul-add-lt p n 0 sh.pages lt (omega arith) in
+    div_below (p * n) sh.pages n (omega arith) (omega arith)
 
 -- of the first n pages, those in frames are held, each once, in rising order
 pub record AreBefore (sh : Shape) (places : List (Option Place)) (n : ℕ) (held : List Held) : Type 0 where

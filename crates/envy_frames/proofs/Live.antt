@@ -1,6 +1,6 @@
 -- The live entries of the ring, when a page joins them, a frame's go stale, or stale ones leave.
-use Rattle.std.proofs.Common.{◌≡◌, ◌≢◌, ◌⊎◌, inl, inr, ℕ, ◌+◌, ◌<◌, ◌≤◌, Bool, true, false, cond, not, ◌&&◌, List, [], ◌∷◌, ◌++◌, map, length, get_or, set, take, drop, Option, None, Some, refl, sym, ◌∙◌, ap, subst, arith}
-use Rattle.std.specs.Prelude.{◌==◌, IfSome, slice_get}
+use Rattle.std.proofs.Common.{◌≡◌, ◌≢◌, ◌⊎◌, inl, inr, ℕ, ◌+◌, ◌<◌, ◌≤◌, Bool, true, false, cond, not, ◌&&◌, List, [], ◌∷◌, ◌++◌, map, length, get_or, set, take, drop, Option, None, Some, refl, sym, ◌∙◌, ap, subst, length-drop, arith}
+use Rattle.std.specs.Prelude.{◌==◌, IfSome, IsTrue, slice_get}
 use Rattle.std.specs.List.{filter, All}
 use Rattle.std.proofs.lemmas.Bool.{cases_eq, eq-eqb, ne_eqb, not-true, both_ways}
 use Rattle.std.proofs.lemmas.List.{get_or-map, get_or-set_same, get_or-set_other, length-map, length-set, length_push, map-append}
@@ -192,3 +192,21 @@ homes-joined homes held h are apart lt =
     All-push (λ x. get_or (set homes h.frame h.home) x.frame 0 ≡ x.home) held h
     (λ k d less. get_or-set_other homes h.frame (get_or held k d).frame h.home 0 (apart k d less) ∙ are k d less)
     (get_or-set_same homes h.frame h.home 0 lt)
+
+-- a stale entry leaves the front
+pub held-dropped : (stamps : List ℕ) (xs : List Entry) (e : Entry) → slice_get xs 0 ≡ Some e → (get_or stamps e.held.frame 0 ≡ e.stamp → ⊥) → held_in stamps (drop 1 xs) ≡ held_in stamps xs
+held-dropped stamps [] e front stale = refl
+held-dropped stamps (x ∷ xs) e front stale =
+    let same : x ≡ e = cc in
+    let gone : is_live stamps x ≡ false = ne_eqb (get_or stamps x.held.frame 0) x.stamp (λ is. stale (subst (λ (y : Entry). get_or stamps y.held.frame 0 ≡ y.stamp) same is)) in
+    rw gone refl
+
+pub AreStamped-dropped : (entries : Buffer Entry) (stamps : List ℕ) → AreStamped entries stamps → AreStamped (buffer (drop 1 entries.items) entries.capacity) stamps
+AreStamped-dropped entries stamps s = record {
+  below = All-drop (λ e. e.held.frame < length stamps) 1 entries.items s.below;
+  past = All-drop (λ e. e.stamp ≤ get_or stamps e.held.frame 0) 1 entries.items s.past;
+  fits = let fits = s.fits in omega (arith, length-drop 1 entries.items);
+}
+
+pub live-first : (stamps : List ℕ) (xs : List Entry) (e : Entry) → slice_get xs 0 ≡ Some e → get_or stamps e.held.frame 0 ≡ e.stamp → IsLiveFirst stamps xs
+live-first stamps xs e front same = first-is (λ x. IsTrue (is_live stamps x)) xs e front (eq-eqb (get_or stamps e.held.frame 0) e.stamp same)

@@ -75,3 +75,7 @@ module _ (stamps : List ℕ) (hs : List Held) (zero : (k : ℕ) → k < length s
       first : (xs : List Held) → ((h : Held) → h.frame < length stamps → get_or stamps h.frame 0 ≡ 0) → All (λ h. h.frame < length stamps) xs → IsLiveFirst stamps (map unstamped xs)
       first [] none all = tt
       first (h ∷ rest) none all = eq-eqb (get_or stamps h.frame 0) 0 (none h (all 0 h (omega arith)))
+
+-- the ring has room for all frames
+pub ring-room : (cleared room n frames : ℕ) → cleared ≡ room → room ≡ 2 * n → n ≡ frames → frames ≤ cleared
+ring-room cleared room n frames same twice count = omega arith

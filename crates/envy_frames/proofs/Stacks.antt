@@ -1,6 +1,6 @@
 -- The stack of the frames that no held item has, and what `take` and `give_back` make of it.
-use Rattle.std.proofs.Common.{◌≡◌, ◌≢◌, ◌⊎◌, inl, inr, ℕ, suc, ◌+◌, ◌^◌, ◌<◌, ◌≤◌, Bool, true, false, cond, not, ◌&&◌, ◌||◌, List, [], ◌∷◌, ◌++◌, length, get_or, zero-add, refl, sym, ◌∙◌, ap, subst, arith}
-use Rattle.std.specs.Prelude.{◌==◌}
+use Rattle.std.proofs.Common.{◌≡◌, ◌≢◌, ◌⊎◌, inl, inr, ℕ, suc, ◌+◌, ◌*◌, ◌^◌, ◌<◌, ◌≤◌, Bool, true, false, cond, not, ◌&&◌, ◌||◌, List, [], ◌∷◌, ◌++◌, length, get_or, zero-add, Some, refl, sym, ◌∙◌, ap, subst, arith}
+use Rattle.std.specs.Prelude.{◌==◌, ◌↔◌, IsNone}
 use Rattle.std.specs.List.{filter, All, AllPairs, Any, range_with_len}
 use Rattle.std.proofs.lemmas.List.{length_push, get_or_default}
 use Rattle.std.proofs.lemmas.List.Elements.{All-filter, All-push, filter_passes, filter_agree, filter-append}
@@ -126,3 +126,13 @@ pub length-others-le : (held : List Held) (n : ℕ) → length (others_of held n
 length-others-le held n =
     let test : ℕ → Bool = λ f. not (has_frame held f) in
     omega (arith, length-filter test (range_with_len 0 n), count_by-le-length test (range_with_len 0 n), length-range_with_len 0 n)
+
+-- where a frame is free, not all are held, and the ring has room for the page that is put there
+pub free-some : (o : Order) (free left : List ℕ) (room f : ℕ) (marks : List Bool) → free ≡ left ++ f ∷ [] → IsFrames o free room marks → length o.held < o.count
+free-some o free left room f marks is frames = let more : length free ≡ length left + 1 = ap length is ∙ length_push left f in let whole = frames.whole in omega arith
+
+pub room-taken : (held count n : ℕ) → held < count → n ≡ 2 * count → held < n
+room-taken held count n few twice = omega arith
+
+pub not-all : (o : Order) (f : ℕ) → length o.held < o.count → IsNone (Some f) ↔ (length o.held ≡ o.count)
+not-all o f few = (λ none. absurd (cc), λ full. absurd (omega arith))

@@ -5,6 +5,7 @@ pub mod Composition
 pub mod Empty
 pub mod Ending
 pub mod EraseLaw
+pub mod Erased
 pub mod Filling
 pub mod Formed
 pub mod FrameLaw
@@ -35,3 +36,4 @@ pub mod UndoLaw
 pub mod UpgradeLaw
 pub mod WordLists
 pub mod WordPuts
+pub mod Written

@@ -1,1 +1,4 @@
+pub mod Exits
+pub mod Extremes
+pub mod Quieting
 pub mod StagesLemmas

@@ -1,4 +1,4 @@
-use Rattle.std.proofs.Common.{◌≡◌, ◌<◌, ℕ, List, map, length, sym, ◌∙◌, ap, subst, arith}
+use Rattle.std.proofs.Common.{◌≡◌, ◌<◌, ℕ, true, false, List, map, length, refl, sym, ◌∙◌, ap, subst, arith}
 use Rattle.std.specs.List.{All}
 use Rattle.std.proofs.lemmas.List.Elements.{All-map}
 use Rattle.circular_buffer.specs.Buffer.{Buffer}
@@ -11,7 +11,7 @@ use Rattle.envy_frames.specs.Entries.{held_in, unstamped}
 use Rattle.envy_frames.specs.Order.{IsOrder, Order, others_of}
 use Rattle.envy_frames.proofs.Defaults.{AreHeld-default, order-default}
 use Rattle.envy_frames.proofs.Live.{held_of}
-use Rattle.envy_frames.proofs.Rings.{IsRing-rebuilt, held-of-unstamped, held-rebuilt, zeros}
+use Rattle.envy_frames.proofs.Rings.{IsRing-rebuilt, held-of-unstamped, held-rebuilt, ring-room, zeros}
 use Rattle.envy_frames.proofs.Stacks.{IsFrames-made}
 use Rattle.envy_frames.proofs.frames.Frames.rebuild.Goals as goal
 
@@ -78,3 +78,32 @@ returns-clause-agrees g c =
     let s = g.B.Board.state c.args.board.now in
     let agrees = AreHeld-default s.shape (chart s).fields.places (g.met.B.Board.lawful c.args.board.now).shape (Sound.places (c.requires.sound (grind arith))) in
     subst (AreHeld s.shape (chart s).fields.places) (sym (returns-clause-held g c)) agrees
+
+pub returns-then-not-powered : goal.returns-then-not-powered
+returns-then-not-powered g c = record { held = tt; agrees = tt; count = refl; off = (λ e. sym c.if-not-powered.ensures, λ x. refl); kept = refl }
+
+pub hold_named-requires : goal.hold_named-requires
+hold_named-requires g c =
+    let count = ap (λ (o : Order). o.count) c.self.view_is in
+    record {
+      on = sym c.if-not-powered.ensures;
+      sound = c.requires.sound (sym c.if-not-powered.ensures);
+      room = ring-room c.clear.new.self.capacity c.self.inside.entries.capacity (length c.self.inside.stamps.items) (g.B.Board.state c.args.board.now).shape.frames (ap (λ (b : Buffer Entry). b.capacity) c.clear.ensures) c.self.invariant.1.twice (count ∙ c.requires.count);
+      homes = c.self.invariant.1.long ∙ count ∙ c.requires.count;
+      empty = ap (λ (b : Buffer Entry). b.items) c.clear.ensures;
+    }
+
+pub invariant_of-self : goal.invariant_of-self
+invariant_of-self g c = absurd (let no : false ≡ true = c.in_err-hold_named.ensures.done in cc)
+
+pub returns-in_err-hold_named : goal.returns-in_err-hold_named
+returns-in_err-hold_named g c = absurd (let no : false ≡ true = c.in_err-hold_named.ensures.done in cc)
+
+pub free_others-requires-clause-few : goal.free_others-requires-clause-few
+free_others-requires-clause-few g c = rw c.self.invariant.0.marked c.self.invariant.0.few
+
+pub free_others-requires-clause-room : goal.free_others-requires-clause-room
+free_others-requires-clause-room g c = rw c.self.invariant.0.marked c.self.invariant.0.fits
+
+pub returns-clause-off : goal.returns-clause-off
+returns-clause-off g c = (λ e. absurd (let no : false ≡ true = e in cc), λ off. absurd (let no : true ≡ false = c.if-not-powered.ensures ∙ off in cc))
