@@ -53,7 +53,7 @@ pub record IsRead (n : Notes) (rows : RowCounts) (x dead clock since : ℕ) : Ty
 
 -- the worth of a position by what is read of it, for pages that aren't soon stored again
 pub worth-read : (n : Notes) (rows : RowCounts) (class : Class) (x dead clock since kept : ℕ) → (class ≡ Brief → ⊥) → IsRead n rows x dead clock since → kept ≡ slice_index rows.kept x
-    → record {over = dead * (clock - since + 1); under = 2 * kept + 1} ≡ worth n rows class x
+    → record { over = dead * (clock - since + 1); under = 2 * kept + 1 } ≡ worth n rows class x
 worth-read n rows Brief x dead clock since kept not r k = absurd (not refl)
 worth-read n rows Short x dead clock since kept not r k = rw (r.is_dead, r.is_clock, r.is_since, k) refl
 worth-read n rows Long x dead clock since kept not r k = rw (r.is_dead, r.is_clock, r.is_since, k) refl
