@@ -1,5 +1,5 @@
 -- What a load leaves: work on any page, an open transaction, the words of the first pages.
-use Rattle.std.proofs.Common.{◌≡◌, ◌+◌, ◌<◌, ◌≤◌, ◌∙◌, ℕ, IsTrue, List, Result, length, arith, subst, sym}
+use Rattle.std.proofs.Common.{◌≡◌, ◌+◌, ◌<◌, ◌≤◌, ℕ, IsTrue, Result, length, arith, subst, sym}
 use Rattle.envy_base.specs.declared.board.Off.{Off}
 use Rattle.envy_base.specs.Words.{Sheet, Works, OnPage, Loads}
 use Rattle.envy_base.proofs.Working.{load_then_put, OnPage-refl}

@@ -4,14 +4,12 @@ use Rattle.envy_base.specs.declared.fields.Job.{Job}
 use Rattle.envy_base.specs.declared.fields.Job.TheVariants.{Idle, Erase}
 use Rattle.envy_base.specs.declared.shape.Shape.{Shape}
 use Rattle.envy_map.specs.Fields.{Fields, Chart}
-use Rattle.envy_layout.specs.Frames.{FramesStay}
 use Rattle.envy_layout.specs.Naming.{AreParted}
 use Rattle.envy_layout.specs.Same.{Same}
 use Rattle.envy_layout.proofs.FrameStay.{FramesStay-refl}
 use Rattle.envy_space.specs.Pool.{Pool, PoolAgrees}
 use Rattle.envy_table.specs.Agreement.{AreCurrent}
 use Rattle.envy_table.specs.Entries.{Translations}
-use Rattle.envy_table.specs.Hits.{Rests}
 use Rattle.envy_table.proofs.HitLemmas.{Rests-refl}
 use Rattle.envy_reloc.specs.Effort.{Leaves, LeftOf}
 use Rattle.envy_reloc.specs.Keeping.{AllFollow}

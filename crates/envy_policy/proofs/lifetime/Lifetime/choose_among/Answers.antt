@@ -1,4 +1,4 @@
-use Rattle.std.proofs.Common.{◌<◌, ◌≤◌, ℕ, inl, inr, refl, arith, slice_index}
+use Rattle.std.proofs.Common.{◌<◌, ℕ, inl, inr, refl, arith, slice_index}
 use Rattle.envy_policy.specs.Lifetime.{IsGreatest}
 use Rattle.envy_policy.proofs.Choosing.{rows-below}
 use Rattle.envy_policy.proofs.Weighing.{nothing-full, lowest-from-first}

@@ -2,7 +2,7 @@ use Rattle.std.proofs.Common.{refl, arith, subst, sym, ◌∙◌, Option, Some}
 use Rattle.std.proofs.lemmas.Bool.{ltb-true, ltb-false}
 use Rattle.envy_policy.specs.declared.fraction.Fraction.{Fraction}
 use Rattle.envy_policy.specs.declared.fraction.Weighed.{Weighed}
-use Rattle.envy_policy.specs.Lifetime.{IsBestBelow, IsFull, IsAtMost, worth}
+use Rattle.envy_policy.specs.Lifetime.{IsBestBelow, IsFull, IsAtMost}
 use Rattle.envy_policy.specs.Notes.{Notes, IsNotes}
 use Rattle.envy_policy.proofs.Weighing.{best-small, best-found, best-passed, best-first, best-stays, full-read, no-dead, one-free, IsSmall}
 use Rattle.envy_policy.proofs.lifetime.Lifetime.weigh.Goals as goal
