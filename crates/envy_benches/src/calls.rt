@@ -5,7 +5,7 @@ use crate::steps::Step::{
     PowerOn, Program, ProgramMarked, Put, Read,
 };
 use crate::steps::{Page, Step, check_steps};
-use crate::told::same;
+use crate::told::same_at;
 use envy_base::{Maker, Off, Shape, Trouble};
 use envy_bench::{MemBoard, MemMaker};
 use std::alloc::Global;
@@ -178,5 +178,5 @@ fn maker_makes_a_board_of_ones_and_zeros(rt: HostRuntime) {
 fn the_last_word_of_sram_is_zero(rt: HostRuntime) {
     SHAPE.check().expect(&rt, SIZES);
     let board = MemBoard::new(rt.alloc(), &SHAPE, 0).expect(&rt, NO_ROOM);
-    same(&rt, &board.peek(558), &0, "last word");
+    same_at(&rt, board.peek(558), 0, "word", 558);
 }

@@ -1,6 +1,6 @@
 //! What a test asks of a board in memory, step by step, and what it is answered.
 
-use crate::told::{holds_at, same_at};
+use crate::told::same_at;
 use envy_base::{Bench, Board, Off, Shape, Trouble};
 use envy_bench::MemBoard;
 use envy_power::Torn;
@@ -145,44 +145,58 @@ fn hold_marked<B: Board>(board: &B, first: u32, behind: u32) -> bool {
     true
 }
 
+/// Programs a row, and tests the answer.
+fn check_program<B: Board>(
+    rt: &impl Abort,
+    board: &mut B,
+    row: u32,
+    page: Page,
+    answer: Result<(), Trouble>,
+    name: &str,
+    at: u64,
+) {
+    let found = program(board, row, &words_of(page));
+    same_at(rt, found, Some(answer), name, at);
+}
+
+/// Tests that a row holds this page.
+fn check_holds<B: Board>(rt: &impl Abort, board: &B, row: u32, page: Page, name: &str, at: u64) {
+    same_at(rt, holds(board, row, &words_of(page)), true, name, at);
+}
+
 /// Makes a step that is a call of any board, and tests that it is answered as it says.
 fn check_of_board<B: Board>(rt: &impl Abort, board: &mut B, name: &str, at: u64, step: Step) {
     match step {
-        Step::Is(shape) => same_at(rt, &board.shape(), &shape, name, at),
-        Step::Put(w, v, answer) if w < 71 => same_at(rt, &board.put(w, v), &answer, name, at),
-        Step::Get(w, answer) if w < 71 => same_at(rt, &board.get(w), &answer, name, at),
-        Step::Program(row, page, answer) => {
-            let found = program(board, row, &words_of(page));
-            same_at(rt, &found, &Some(answer), name, at);
-        }
-        Step::Erase(segment, answer) => {
-            same_at(rt, &erase(board, segment), &Some(answer), name, at);
-        }
-        Step::Read(row, i, answer) => same_at(rt, &read(board, row, i), &Some(answer), name, at),
-        Step::Holds(row, page) => holds_at(rt, holds(board, row, &words_of(page)), name, at),
+        Step::Is(shape) => same_at(rt, board.shape(), shape, name, at),
+        Step::Put(w, v, answer) if w < 71 => same_at(rt, board.put(w, v), answer, name, at),
+        Step::Get(w, answer) if w < 71 => same_at(rt, board.get(w), answer, name, at),
+        Step::Program(row, page, answer) => check_program(rt, board, row, page, answer, name, at),
+        Step::Erase(segment, answer) => same_at(rt, erase(board, segment), Some(answer), name, at),
+        Step::Read(row, i, answer) => same_at(rt, read(board, row, i), Some(answer), name, at),
+        Step::Holds(row, page) => check_holds(rt, board, row, page, name, at),
         Step::ProgramMarked(first, behind) => {
-            holds_at(rt, program_marked(board, first, behind), name, at);
+            same_at(rt, program_marked(board, first, behind), true, name, at);
         }
         Step::HoldMarked(first, behind) => {
-            holds_at(rt, hold_marked(board, first, behind), name, at);
+            same_at(rt, hold_marked(board, first, behind), true, name, at);
         }
-        Step::IsOn(is) => same_at(rt, &board.powered(), &is, name, at),
+        Step::IsOn(is) => same_at(rt, board.powered(), is, name, at),
         // the board has no such word, or the call may not be made now
-        _ => holds_at(rt, false, name, at),
+        _ => same_at(rt, false, true, name, at),
     }
 }
 
 /// Makes a step, and tests that it is answered as it says.
 fn check_step(rt: &impl Abort, board: &mut MemBoard, name: &str, at: u64, step: Step) {
     match step {
-        Step::Peek(w, word) if w < 71 => same_at(rt, &board.peek(w), &word, name, at),
+        Step::Peek(w, word) if w < 71 => same_at(rt, board.peek(w), word, name, at),
         Step::PlanCut(k, g) if k >= 1 => board.arm_cut(k, g),
         Step::PlanBad(k, g) if k >= 1 => board.arm_bad(k, g),
         Step::CutNow if board.powered() => board.cut_now(),
-        Step::PowerOn(is) if !board.powered() => same_at(rt, &board.power_on(), &is, name, at),
-        Step::Lives(lives) => same_at(rt, &board.lives(), &lives, name, at),
+        Step::PowerOn(is) if !board.powered() => same_at(rt, board.power_on(), is, name, at),
+        Step::Lives(lives) => same_at(rt, board.lives(), lives, name, at),
         Step::Failed(cuts, bads) => {
-            same_at(rt, &(board.cuts(), board.bads()), &(cuts, bads), name, at);
+            same_at(rt, (board.cuts(), board.bads()), (cuts, bads), name, at);
         }
         _ => check_of_board(rt, board, name, at, step),
     }

@@ -1,6 +1,6 @@
 //! The supply of power: its plans and its lives, the words of a torn page, and SRAM that it keeps.
 
-use crate::told::{holds_at, same, same_at};
+use crate::told::same_at;
 use envy_power::{Event, Sram, Supply, Torn};
 use std::process::Abort;
 
@@ -45,16 +45,16 @@ fn torn_words_are_those_of_the_original(rt: HostRuntime) {
     for (g, words) in TORN.as_slice() {
         let mut torn = Torn::new(*g);
         let found = [torn.next(), torn.next(), torn.next()];
-        same_at(&rt, &found, words, "words of", *g);
+        same_at(&rt, found, *words, "words of", *g);
     }
 }
 
 #[test]
 fn new_sram_is_zeros_and_keeps_what_is_put(rt: HostRuntime) {
     let mut one = Sram::new(rt.alloc(), 1).expect(&rt, "no room for a word");
-    same(&rt, &one.get(0), &0, "new word");
+    same_at(&rt, one.get(0), 0, "new word", 0);
     one.put(0, u64::MAX);
-    same(&rt, &one.get(0), &u64::MAX, "word that was put");
+    same_at(&rt, one.get(0), u64::MAX, "word that was put", 0);
 }
 
 /// A call of a supply, and its answer.
@@ -106,20 +106,20 @@ fn pass(supply: &mut Supply, count: u8) -> bool {
 /// Makes a call, and tests that it is answered as it says.
 fn check_step(rt: &impl Abort, supply: &mut Supply, name: &str, at: u64, step: Step) {
     match step {
-        Step::Put(event) => same_at(rt, &put(supply), &Some(event), name, at),
-        Step::Flash(event) => same_at(rt, &flash(supply), &Some(event), name, at),
-        Step::Pass(count) => holds_at(rt, pass(supply, count), name, at),
+        Step::Put(event) => same_at(rt, put(supply), Some(event), name, at),
+        Step::Flash(event) => same_at(rt, flash(supply), Some(event), name, at),
+        Step::Pass(count) => same_at(rt, pass(supply, count), true, name, at),
         Step::PlanCut(k, g) if k >= 1 => supply.arm_cut(k, g),
         Step::PlanBad(k, g) if k >= 1 => supply.arm_bad(k, g),
         Step::CutNow if supply.powered() => supply.cut_now(),
-        Step::PowerOn(is) if !supply.powered() => same_at(rt, &supply.power_on(), &is, name, at),
-        Step::IsOn(is) => same_at(rt, &supply.powered(), &is, name, at),
-        Step::Lives(lives) => same_at(rt, &supply.lives(), &lives, name, at),
+        Step::PowerOn(is) if !supply.powered() => same_at(rt, supply.power_on(), is, name, at),
+        Step::IsOn(is) => same_at(rt, supply.powered(), is, name, at),
+        Step::Lives(lives) => same_at(rt, supply.lives(), lives, name, at),
         Step::Failed(cuts, bads) => {
-            same_at(rt, &(supply.cuts(), supply.bads()), &(cuts, bads), name, at);
+            same_at(rt, (supply.cuts(), supply.bads()), (cuts, bads), name, at);
         }
         // the call may not be made now
-        _ => holds_at(rt, false, name, at),
+        _ => same_at(rt, false, true, name, at),
     }
 }
 

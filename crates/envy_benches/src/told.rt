@@ -1,24 +1,15 @@
 //! What a test asks of what it found. A text that is put together in an assertion costs a second of proof, so it stands
-//! here, where it is proved once.
+//! here, where it is proved once. What is compared is taken as it is: a reference to it would be a loan in whatever calls this,
+//! and cost it proof.
 
 use std::fmt::Debug;
 use std::process::Abort;
 
-/// It is so; else the name is told, with the number of what was asked.
-pub(crate) fn holds_at(rt: &impl Abort, is: bool, name: &str, at: u64) {
-    assert!(rt; is, "{name} {at}");
-}
-
-/// Both are the same; else they are told, with the name.
-pub(crate) fn same<T: PartialEq + Debug>(rt: &impl Abort, found: &T, wanted: &T, name: &str) {
-    assert!(rt; found == wanted, "{name}: {found:?}, and not {wanted:?}");
-}
-
 /// Both are the same; else they are told, with the name and the number of what was asked.
-pub(crate) fn same_at<T: PartialEq + Debug>(
+pub(crate) fn same_at<T: Copy + PartialEq + Debug>(
     rt: &impl Abort,
-    found: &T,
-    wanted: &T,
+    found: T,
+    wanted: T,
     name: &str,
     at: u64,
 ) {

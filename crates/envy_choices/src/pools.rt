@@ -1,6 +1,6 @@
 ghost use Rattle.std.specs.Prelude.{◌≡◌, ◌<◌, ◌≤◌};
 
-use crate::told::{same, same_of};
+use crate::told::same_of;
 use envy_base::Shape;
 use envy_space::Space;
 use std::alloc::Global;
@@ -89,11 +89,19 @@ fn asked(space: &Space) -> Answers
     )
 }
 
+const NEW: Answers = ((0, 0, 4, 0), (36, 8, 9), None);
+
+/// Tests the answers of a new pool.
+fn check_new(rt: &impl Abort, space: &Space)
+    requires { space.now.shape ≡ SHAPE }
+{
+    same_of(rt, asked(space), NEW, "new pool of", SHAPE.segments);
+}
+
 #[test]
 fn a_new_pool_is_empty(rt: HostRuntime) {
     let space = made(&rt, rt.alloc());
-    let wanted = ((0, 0, 4, 0), (36, 8, 9), None);
-    same(&rt, &asked(&space), &wanted, "new pool");
+    check_new(&rt, &space);
 }
 
 /// Tests what `most_dead` answers for each range of positions, in a turn.
@@ -104,7 +112,7 @@ fn check_ranges(rt: &impl Abort, space: &Space, turn: u32)
         for last in first..9 {
             let found = space.most_dead(first, last);
             let wanted = scanned(space, first, last);
-            same_of(rt, &found, &wanted, "most dead", &(first, last, turn));
+            same_of(rt, found, wanted, "most dead", (first, last, turn));
         }
     }
 }

@@ -1,6 +1,6 @@
 //! A source and a sink that hold bytes back.
 
-use crate::told::{holds, same, same_bytes};
+use crate::told::{same, same_bytes};
 use envy_io::{Failed, MemSink, MemSource, Sink, Source, write_all};
 use envy_streams::{BufferedSink, BufferedSource};
 use std::alloc::Global;
@@ -51,12 +51,12 @@ fn drained(rt: &impl Abort, source: &mut BufferedSource<MemSource>) -> (usize, u
             Ok(0) => break,
             Ok(count) => {
                 let is = count <= 128 && is_next(&piece[..count.min(128)], taken);
-                holds(rt, is, "bytes in their order");
+                same(rt, is, true, "bytes in their order");
                 taken = taken.saturating_add(count);
             }
             Err(Failed) => {
                 failures = failures.saturating_add(1);
-                same(rt, &(taken, failures), &(50_000, 1), "failure");
+                same(rt, (taken, failures), (50_000, 1), "failure");
             }
         }
     }
@@ -67,7 +67,7 @@ fn drained(rt: &impl Abort, source: &mut BufferedSource<MemSource>) -> (usize, u
 fn bytes_come_in_order_and_a_failure_between_them_is_told(rt: HostRuntime) {
     let mut source = source_of(&rt, rt.alloc(), 120_000, &[2]);
     let found = drained(&rt, &mut source);
-    same(&rt, &found, &(120_000, 1), "bytes and failures");
+    same(&rt, found, (120_000, 1), "bytes and failures");
 }
 
 /// How the source is asked for eight bytes, and what it answers.
@@ -92,7 +92,7 @@ fn pull_all(rt: &impl Abort, source: &mut BufferedSource<MemSource>, piece: &mut
             Pull::Fill(wanted) => (source.fill(piece), wanted),
             Pull::FillOnly(wanted) => (source.fill_only(piece), wanted),
         };
-        same(rt, &found, wanted, name);
+        same(rt, found, *wanted, name);
     }
 }
 
@@ -164,7 +164,7 @@ fn ask(rt: &impl Abort, sink: &mut BufferedSink<MemSink>, push: Push, name: &str
         Push::Flush(wanted) => (sink.flush(), wanted),
         Push::HandOn(wanted) => (sink.hand_on(), wanted),
     };
-    same(rt, &found, &wanted, name);
+    same(rt, found, wanted, name);
 }
 
 fn push_all(rt: &impl Abort, sink: &mut BufferedSink<MemSink>, pushes: &Pushes) {

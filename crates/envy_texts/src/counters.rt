@@ -57,15 +57,21 @@ const COSTS: [(&str, [u64; 3], u128); 4] = [
     ("5 and 6 to 0", [5, 6, 0], 0),
 ];
 
+/// Tests the cost of so many copies, moves and flushes.
+fn check_cost(rt: &impl Abort, row: &(&str, [u64; 3], u128)) {
+    let (name, [copies, moves, flushes], wanted) = *row;
+    let counts = Counts {
+        copies,
+        moves,
+        flushes,
+        ..Counts::ZERO
+    };
+    same(rt, cost(&counts), wanted, name);
+}
+
 #[test]
 fn cost_is_rounded_down(rt: HostRuntime) {
-    for (name, pages, wanted) in COSTS.as_slice() {
-        let counts = Counts {
-            copies: pages[0],
-            moves: pages[1],
-            flushes: pages[2],
-            ..Counts::ZERO
-        };
-        same(&rt, &cost(&counts), wanted, name);
+    for row in COSTS.as_slice() {
+        check_cost(&rt, row);
     }
 }

@@ -19,7 +19,7 @@ const WORDS: [u64; 3] = [
 fn words_are_those_of_the_original(rt: HostRuntime) {
     let mut words = Lcg128Xsl64::seed_from_u64(1);
     for word in WORDS.as_slice() {
-        same(&rt, &words.next_u64(), word, "word");
+        same(&rt, words.next_u64(), *word, "word");
     }
 }
 
@@ -90,11 +90,8 @@ const HOT_PAGES: Drawn = Drawn {
 };
 
 fn draw(sink: &mut MemSink, drawn: &Drawn) -> Result<(), Failed> {
-    if drawn.is_skewed {
-        generate(sink, 7, drawn.lines, &SKEWED)
-    } else {
-        generate(sink, 7, drawn.lines, &PLAIN)
-    }
+    let mix = if drawn.is_skewed { SKEWED } else { PLAIN };
+    generate(sink, 7, drawn.lines, &mix)
 }
 
 fn sink_for(rt: &impl Abort, alloc: Global, drawn: &Drawn) -> MemSink {
@@ -104,7 +101,7 @@ fn sink_for(rt: &impl Abort, alloc: Global, drawn: &Drawn) -> MemSink {
 
 fn check(rt: &impl Abort, alloc: Global, drawn: &Drawn) {
     let mut sink = sink_for(rt, alloc, drawn);
-    same(rt, &draw(&mut sink, drawn), &drawn.answer, drawn.name);
+    same(rt, draw(&mut sink, drawn), drawn.answer, drawn.name);
     same_bytes(rt, sink.written(), drawn.text, drawn.name);
 }
 

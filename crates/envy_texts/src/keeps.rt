@@ -159,21 +159,40 @@ fn check(
     wanted: Result<(bool, KeepOptions), WordsFault>,
 ) {
     let words = split(rt, alloc, line);
-    same(rt, &said(rt, &words, alloc, line, path), &wanted, line);
+    same(rt, said(rt, &words, alloc, line, path), wanted, line);
+}
+
+/// Tests the path and the options of a row.
+fn check_form(rt: &impl Abort, alloc: Global, row: &Row) {
+    let (line, path, options) = *row;
+    check(rt, alloc, line, path, Ok((false, options)));
 }
 
 #[test]
 fn words_of_keep_name_a_file_and_its_options(rt: HostRuntime) {
-    for (line, path, options) in FORMS.as_slice() {
-        check(&rt, rt.alloc(), line, path, Ok((false, *options)));
+    for row in FORMS.as_slice() {
+        check_form(&rt, rt.alloc(), row);
     }
+}
+
+/// Tests how the file of a row is written.
+fn check_premise(rt: &impl Abort, alloc: Global, row: &(&str, bool, KeepOptions)) {
+    let (line, bytewise, options) = *row;
+    check(rt, alloc, line, "a", Ok((bytewise, options)));
 }
 
 #[test]
 fn words_of_keep_say_how_the_file_is_written(rt: HostRuntime) {
-    for (line, bytewise, options) in PREMISES.as_slice() {
-        check(&rt, rt.alloc(), line, "a", Ok((*bytewise, *options)));
+    for row in PREMISES.as_slice() {
+        check_premise(&rt, rt.alloc(), row);
     }
+}
+
+/// Tests that no words at all are refused.
+fn check_none(rt: &impl Abort, alloc: Global) {
+    let none: [String; 0] = [];
+    let found = said(rt, &none, alloc, "no words", "");
+    same(rt, found, Err(WordsFault::Form), "no words");
 }
 
 #[test]
@@ -181,7 +200,5 @@ fn other_words_of_keep_are_refused(rt: HostRuntime) {
     for line in OTHERS.as_slice() {
         check(&rt, rt.alloc(), line, "", Err(WordsFault::Form));
     }
-    let none: [String; 0] = [];
-    let found = said(&rt, &none, rt.alloc(), "no words", "");
-    same(&rt, &found, &Err(WordsFault::Form), "no words");
+    check_none(&rt, rt.alloc());
 }

@@ -6,6 +6,7 @@ ghost use Rattle.envy_trace.specs.Spelling.{HasPlace};
 use crate::told::{same, same_bytes};
 use arrayvec::ArrayVec;
 use envy_trace::{Line, LineFault, line_text, read_line};
+use std::process::Abort;
 
 /// A line's text, and what it says.
 type Row = (&'static str, Result<Line, LineFault>);
@@ -109,13 +110,26 @@ const NUMBERS: [Row; 8] = [
     ),
 ];
 
+/// Tests what this line says.
+fn check_read(rt: &impl Abort, row: &Row) {
+    let (text, wanted) = *row;
+    same(rt, read_line(text.as_bytes()), wanted, text);
+}
+
+/// The same of each line of a table.
+fn check_each(rt: &impl Abort, rows: &[Row]) {
+    for row in rows {
+        check_read(rt, row);
+    }
+}
+
 #[test]
 fn lines_are_read(rt: HostRuntime) {
-    for table in [COMMANDS.as_slice(), &BLANKS, &RETURNS, &FAULTS, &NUMBERS].as_slice() {
-        for (text, wanted) in *table {
-            same(&rt, &read_line(text.as_bytes()), wanted, text);
-        }
-    }
+    check_each(&rt, &COMMANDS);
+    check_each(&rt, &BLANKS);
+    check_each(&rt, &RETURNS);
+    check_each(&rt, &FAULTS);
+    check_each(&rt, &NUMBERS);
 }
 
 /// A name, a byte that stands in a line as often as it can, the last byte, whether the line has 121 bytes and not 120, and
@@ -131,13 +145,19 @@ const LENGTHS: [Length; 5] = [
     ("120 with a return", b' ', b'\r', false, Ok(Line::Empty)),
 ];
 
+/// Tests what a line of this length says.
+fn check_length(rt: &impl Abort, row: &Length) {
+    let (name, byte, last, is_long, wanted) = *row;
+    let mut line = [byte; 121];
+    line[120] = last;
+    let text = if is_long { &line[..] } else { &line[1..] };
+    same(rt, read_line(text), wanted, name);
+}
+
 #[test]
 fn a_line_has_120_bytes_at_most(rt: HostRuntime) {
-    for (name, byte, last, is_long, wanted) in LENGTHS.as_slice() {
-        let mut line = [*byte; 121];
-        line[120] = *last;
-        let text = if *is_long { &line[..] } else { &line[1..] };
-        same(&rt, &read_line(text), wanted, name);
+    for row in LENGTHS.as_slice() {
+        check_length(&rt, row);
     }
 }
 
@@ -187,12 +207,18 @@ fn has_place(line: &Line) -> bool
     }
 }
 
+/// Tests how this line is written.
+fn check_written(rt: &impl Abort, row: &(Line, &str)) {
+    let (line, wanted) = *row;
+    assert!(rt; has_place(&line));
+    let mut out: ArrayVec<u8, 120> = ArrayVec::new();
+    line_text(&line, &mut out);
+    same_bytes(rt, &out, wanted.as_bytes(), wanted);
+}
+
 #[test]
 fn lines_are_written(rt: HostRuntime) {
-    for (line, wanted) in WRITTEN.as_slice() {
-        let mut out: ArrayVec<u8, 120> = ArrayVec::new();
-        assert!(rt; has_place(line));
-        line_text(line, &mut out);
-        same_bytes(&rt, &out, wanted.as_bytes(), wanted);
+    for row in WRITTEN.as_slice() {
+        check_written(&rt, row);
     }
 }

@@ -3,6 +3,8 @@
 use crate::told::same;
 use crate::words::check;
 use envy_args::{WordsFault, read_words};
+use std::alloc::Global;
+use std::process::Abort;
 
 // None of these is in the form.
 const OTHER_FORMS: [&str; 63] = [
@@ -107,14 +109,29 @@ const RULES: [(&str, u8); 32] = [
     ("index --rows 1 --shadows 31", 2),
 ];
 
+/// Tests that each line is in another form, and that no words at all are.
+fn check_forms(rt: &impl Abort, alloc: Global) {
+    for line in OTHER_FORMS.as_slice() {
+        check(rt, alloc, line, Err(WordsFault::Form));
+    }
+    same(
+        rt,
+        read_words(alloc, &[]),
+        Err(WordsFault::Form),
+        "no words",
+    );
+}
+
+/// Tests the first rule that fails in each line.
+fn check_rules(rt: &impl Abort, alloc: Global) {
+    for row in RULES.as_slice() {
+        let (line, rule) = *row;
+        check(rt, alloc, line, Err(WordsFault::Setup(rule)));
+    }
+}
+
 #[test]
 fn words_are_refused(rt: HostRuntime) {
-    for line in OTHER_FORMS.as_slice() {
-        check(&rt, rt.alloc(), line, Err(WordsFault::Form));
-    }
-    for (line, rule) in RULES.as_slice() {
-        check(&rt, rt.alloc(), line, Err(WordsFault::Setup(*rule)));
-    }
-    let found = read_words(rt.alloc(), &[]);
-    same(&rt, &found, &Err(WordsFault::Form), "no words");
+    check_forms(&rt, rt.alloc());
+    check_rules(&rt, rt.alloc());
 }

@@ -4,6 +4,7 @@ use crate::told::{same, same_bytes};
 use arrayvec::ArrayVec;
 use envy_base::Counts;
 use envy_trace::{LineFault, Reply, reply_text};
+use std::process::Abort;
 
 const COUNTS: Counts = Counts {
     misses: 10,
@@ -32,12 +33,17 @@ const TEXTS: [(Reply, &str); 14] = [
     ),
 ];
 
+/// Tests the text of this reply.
+fn check_text(rt: &impl Abort, reply: &Reply, wanted: &str) {
+    let mut out: ArrayVec<u8, 512> = ArrayVec::new();
+    reply_text(reply, &mut out);
+    same_bytes(rt, &out, wanted.as_bytes(), wanted);
+}
+
 #[test]
 fn replies_have_their_texts(rt: HostRuntime) {
     for (reply, wanted) in TEXTS.as_slice() {
-        let mut out: ArrayVec<u8, 512> = ArrayVec::new();
-        reply_text(reply, &mut out);
-        same_bytes(&rt, &out, wanted.as_bytes(), wanted);
+        check_text(&rt, reply, wanted);
     }
 }
 
@@ -51,6 +57,6 @@ const NUMBERS: [(&str, LineFault, u8); 4] = [
 #[test]
 fn faults_have_numbers(rt: HostRuntime) {
     for (name, fault, number) in NUMBERS.as_slice() {
-        same(&rt, &fault.number(), number, name);
+        same(&rt, fault.number(), *number, name);
     }
 }
