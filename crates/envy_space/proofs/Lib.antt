@@ -11,4 +11,5 @@ pub mod PoolLemmas
 pub mod RisingLemmas
 pub mod RunLemmas
 pub mod SpaceLemmas
+pub mod TreeLemmas
 pub mod WordLemmas
