@@ -8,6 +8,7 @@ pub mod NotingLemmas
 pub mod OrderLemmas
 pub mod PlaceLemmas
 pub mod PoolLemmas
+pub mod ReadLemmas
 pub mod RisingLemmas
 pub mod RunLemmas
 pub mod SpaceLemmas
