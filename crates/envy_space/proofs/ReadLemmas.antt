@@ -1,9 +1,10 @@
 -- What a loop that reads numbers of the map has come to.
-use Rattle.std.proofs.Common.{◌≡◌, ◌⊎◌, inl, inr, ℕ, ◌+◌, ◌-◌, ◌<◌, ◌≤◌, List, length, get_or, set, replicate, sym, ◌∙◌, ap, arith}
+use Rattle.std.proofs.Common.{◌≡◌, ◌⊎◌, inl, inr, ℕ, ◌+◌, ◌-◌, ◌<◌, ◌≤◌, List, length, get_or, set, replicate, sym, ◌∙◌, ap, subst, arith}
 use Rattle.std.proofs.lemmas.Bool.{cases_eq}
 use Rattle.std.proofs.lemmas.List.{ext_get_or, get_or-set_other, get_or-set_same}
 use Rattle.envy_base.specs.declared.shape.Shape.{Shape}
-use Rattle.envy_space.specs.Pool.{Pool, StandsAt}
+use Rattle.envy_map.specs.Fields.{Fields}
+use Rattle.envy_space.specs.Pool.{Pool, HasCounted, StandsAt}
 use Rattle.envy_space.proofs.SpaceLemmas.{zeros_at}
 
 pub none-read : (xs ys : List ℕ) (k : ℕ) → k < 0 → get_or xs k 0 ≡ get_or ys k 0
@@ -39,3 +40,12 @@ more-stand sh pool new xs k s shape low apart is stands before j lt = at (cases_
 -- no row is kept
 pub none-kept : (xs : List ℕ) (n k m : ℕ) → xs ≡ replicate n 0 → get_or xs k 0 ≤ m
 none-kept xs n k m is = let none = zeros_at n k in let here = ap (λ (ys : List ℕ). get_or ys k 0) is in omega arith
+
+-- before the first page, and past the last
+pub HasCounted-none : (sh : Shape) (f : Fields) (pool : Pool) (n : ℕ) → length pool.kept ≡ sh.segments → pool.kept ≡ replicate n 0 → HasCounted sh f 0 pool
+HasCounted-none sh f pool n long is = record { long = long; counted = λ s lt. ap (λ (xs : List ℕ). get_or xs s 0) is ∙ zeros_at n s }
+
+pub HasCounted-all : (sh own : Shape) (f : Fields) (pool : Pool) (k : ℕ) → own ≡ sh → k ≤ own.pages → own.pages ≤ k → HasCounted sh f k pool → HasCounted sh f sh.pages pool
+HasCounted-all sh own f pool k same low high counted =
+    let is : k ≡ own.pages = omega arith in
+    subst (λ (n : ℕ). HasCounted sh f n pool) (is ∙ ap (λ (x : Shape). x.pages) same) counted
