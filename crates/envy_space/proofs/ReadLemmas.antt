@@ -49,3 +49,13 @@ pub HasCounted-all : (sh own : Shape) (f : Fields) (pool : Pool) (k : ℕ) → o
 HasCounted-all sh own f pool k same low high counted =
     let is : k ≡ own.pages = omega arith in
     subst (λ (n : ℕ). HasCounted sh f n pool) (is ∙ ap (λ (x : Shape). x.pages) same) counted
+
+-- a number that was read is within what the map's are within
+pub fill-fits : (xs : List ℕ) (k v : ℕ) (sh own : Shape) → own ≡ sh → v ≡ get_or xs k 0 → get_or xs k 0 ≤ sh.rows → v ≤ own.rows
+fill-fits xs k v sh own same is fits = let rows = ap (λ (x : Shape). x.rows) same in omega arith
+
+pub segment-fits : (xs : List ℕ) (k v : ℕ) (sh own : Shape) → own ≡ sh → v ≡ get_or xs k 0 → get_or xs k 0 < sh.segments → v < own.segments
+segment-fits xs k v sh own same is fits = let segments = ap (λ (x : Shape). x.segments) same in omega arith
+
+pub within-long : (xs : List ℕ) (k n : ℕ) → length xs ≡ n → k < n → k < length xs
+within-long xs k n long lt = omega arith

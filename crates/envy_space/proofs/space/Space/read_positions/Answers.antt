@@ -1,8 +1,10 @@
-use Rattle.std.proofs.Common.{◌∙◌, ℕ, ◌-◌, ◌<◌, ◌≤◌, refl, sym, ap, subst}
+use Rattle.std.proofs.Common.{◌∙◌, ◌-◌, ◌<◌, ◌≤◌, refl, sym, ap, subst}
+use Rattle.std.proofs.lemmas.Result.{IfOk-from_err}
 use Rattle.envy_base.specs.declared.shape.Shape.{Shape}
 use Rattle.envy_map.specs.Fields.{chart}
+use Rattle.envy_map.proofs.Going.{OnErr-any}
 use Rattle.envy_space.specs.Pool.{Pool, IsPool}
-use Rattle.envy_space.proofs.ReadLemmas.{all-read, more-stand, none-read}
+use Rattle.envy_space.proofs.ReadLemmas.{all-read, more-stand, none-read, segment-fits}
 use Rattle.envy_space.proofs.SpaceLemmas.{IsPool-space}
 use Rattle.envy_space.proofs.space.Space.read_positions.Goals as goal
 
@@ -16,16 +18,21 @@ loop-position-init g c =
       refl,
     )
 
+pub returns-in_err-segment_at-clause-positions : goal.returns-in_err-segment_at-clause-positions
+returns-in_err-segment_at-clause-positions g c = IfOk-from_err c.from_residual.result _ c.from_residual.ensures.0
+
+pub returns-in_err-segment_at-clause-off : goal.returns-in_err-segment_at-clause-off
+returns-in_err-segment_at-clause-off g c = OnErr-any c.from_residual.result c.in_err-segment_at.ensures
+
 pub stand-requires-clause-position : goal.stand-requires-clause-position
 stand-requires-clause-position g c =
     subst (λ (x : Shape). c.loop-position.position < x.segments - 1) (ap (λ (p : Pool). p.shape) c.self.view_is ∙ sym c.loop-position.invariant.2) c.loop-position-test.true
 
 pub stand-requires-clause-segment : goal.stand-requires-clause-segment
 stand-requires-clause-segment g c =
-    let sh = (g.B.Board.state c.args.board.now).shape in
+    let now = chart (g.B.Board.state c.args.board.now) in
     let low = subst (λ (x : Shape). c.loop-position.position < x.segments - 1) (ap (λ (p : Pool). p.shape) c.self.view_is ∙ c.requires.shape) c.loop-position-test.true in
-    subst (λ (x : Shape). c.in_ok-segment_at.field-0 < x.segments) (sym (c.loop-position.invariant.2 ∙ c.requires.shape))
-    (subst (λ (n : ℕ). n < sh.segments) (sym c.in_ok-segment_at.ensures.1) (c.requires.sound.numbers.positions_fit c.loop-position.position low))
+    segment-fits now.fields.positions c.loop-position.position c.in_ok-segment_at.field-0 now.shape c.loop-position.self.shape (c.loop-position.invariant.2 ∙ c.requires.shape) c.in_ok-segment_at.ensures.1 (c.requires.sound.numbers.positions_fit c.loop-position.position low)
 
 pub loop-position-preserved : goal.loop-position-preserved
 loop-position-preserved g c =
