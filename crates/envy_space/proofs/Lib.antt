@@ -8,7 +8,9 @@ pub mod NotingLemmas
 pub mod OrderLemmas
 pub mod PlaceLemmas
 pub mod PoolLemmas
+pub mod ReadLemmas
 pub mod RisingLemmas
 pub mod RunLemmas
 pub mod SpaceLemmas
+pub mod TreeLemmas
 pub mod WordLemmas

@@ -22,7 +22,7 @@ sum_by-range_more g a n j e =
     ∙ sum_by-map-range_with_len_more g (λ (x : ℕ). x) a n j e
     ∙ ap (λ (xs : List ℕ). sum_by g xs + g j) (map-id (range_with_len a n))
 
-zeros_at : (n s : ℕ) → get_or (replicate {A = ℕ} n 0) s 0 ≡ 0
+pub zeros_at : (n s : ℕ) → get_or (replicate {A = ℕ} n 0) s 0 ≡ 0
 zeros_at n s = at (cases_lt s n)
   where
     at : (s < n) ⊎ (n ≤ s) → get_or (replicate {A = ℕ} n 0) s 0 ≡ 0
