@@ -7,7 +7,9 @@ pub mod HeldLemmas
 pub mod LedgerLemmas
 pub mod OwnLemmas
 pub mod OwnerLemmas
+pub mod PageAnswers
 pub mod ReleaseLemmas
 pub mod ReleaseLoop
 pub mod SettleLemmas
 pub mod TurnLemmas
+pub mod WayLemmas

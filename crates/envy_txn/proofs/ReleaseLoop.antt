@@ -1,5 +1,5 @@
 -- The pages of a slot that has committed, one pair after another.
-use Rattle.std.proofs.Common.{◌≡◌, ◌≢◌, ◌⊎◌, inl, inr, true, false, ℕ, ◌<◌, List, [], ◌∷◌, ◌++◌, length, get_or, set, Option, None, Some, sym, ◌∙◌, ap, subst}
+use Rattle.std.proofs.Common.{◌≡◌, ◌≢◌, ◌⊎◌, inl, inr, true, false, ℕ, ◌<◌, List, [], ◌∷◌, ◌++◌, length, get_or, set, Option, None, Some, refl, sym, ◌∙◌, ap, subst}
 use Rattle.std.specs.Prelude.{IsTrue}
 use Rattle.std.specs.List.{AllPairs}
 use Rattle.std.proofs.lemmas.Bool.{cases_eq}
@@ -92,3 +92,6 @@ PoolAgrees-unused c pool t unused a = record {
 pub AreParted-unused : (c : Chart) (t : ℕ) → IsUnused c.fields t → AreParted (set c.fields.slots t (Some Active)) c.fields.undos c.fields.places → AreParted c.fields.slots c.fields.undos c.fields.places
 AreParted-unused c t unused parted p s q shadow active at =
     parted p s q shadow (get_or-set_other c.fields.slots t s (Some Active) None (λ same. unused p (ap slot_named shadow ∙ ap (λ (n : ℕ). Some n) same)) ∙ active) at
+
+pub ReleasedIn-none : (t : ℕ) (c : Chart) → ReleasedIn [] t c c
+ReleasedIn-none t c = record { own = λ p is. absurd (let no : false ≡ true = is in cc); others = λ p is. refl; rest = refl }

@@ -1,12 +1,13 @@
-use Rattle.std.proofs.Common.{◌≡◌, ℕ, ◌<◌, List, get_or, take, Some, sym, ◌∙◌, ap, subst}
-use Rattle.std.proofs.lemmas.List.{take_more}
+use Rattle.std.proofs.Common.{◌≡◌, refl, ℕ, ◌<◌, List, get_or, take, Some, sym, ◌∙◌, ap, subst}
+use Rattle.std.proofs.lemmas.List.{take_more, take_all}
 use Rattle.envy_map.specs.Fields.{chart, undo}
 use Rattle.envy_layout.specs.Sound.{Sound, Slots, slot_named}
-use Rattle.envy_layout.proofs.Composition.{SameWords-trans}
+use Rattle.envy_layout.proofs.Composition.{SameWords-refl, SameWords-trans}
 use Rattle.envy_txn.specs.declared.pair.Pair.{Pair}
 use Rattle.envy_txn.specs.Turns.{Releasing, ReleasedIn}
-use Rattle.envy_txn.proofs.ReleaseLoop.{ReleasedIn-more}
+use Rattle.envy_txn.proofs.ReleaseLoop.{ReleasedIn-none, ReleasedIn-more}
 use Rattle.envy_txn.proofs.TurnLemmas.{among-before, named-low}
+use Rattle.envy_txn.proofs.WayLemmas.{none-done, off-of}
 use Rattle.envy_txn.proofs.release.release_pairs.Goals as goal
 
 pub release_page-requires-clause-page : goal.release_page-requires-clause-page
@@ -47,4 +48,47 @@ loop-pair-preserved g c =
       same = SameWords-trans 0 0 0 0 first now new inv.same turn.same;
       released = subst (λ (ps : List Pair). ReleasedIn ps c.args.t first new) (sym (take_more c.args.pairs.now i (record { page = 0; slot = 0 }) lt)) more;
       shape = turn.shape ∙ inv.shape;
+    }
+
+pub loop-pair-init : goal.loop-pair-init
+loop-pair-init g c =
+    let first = chart (g.B.Board.state c.args.board.now) in
+    record {
+      releasing = c.requires.releasing;
+      same = SameWords-refl first (Releasing.sound c.requires.releasing);
+      released = ReleasedIn-none c.args.t first;
+      shape = refl;
+    }
+
+pub release_page-requires-clause-releasing : goal.release_page-requires-clause-releasing
+release_page-requires-clause-releasing g c = c.loop-pair.invariant.releasing
+
+pub returns-in_err-release_page : goal.returns-in_err-release_page
+returns-in_err-release_page g c =
+    let first = chart (g.B.Board.state c.args.board.now) in
+    let now = chart (g.B.Board.state c.loop-pair.board) in
+    let new = chart (g.B.Board.state c.release_page.new.board) in
+    let inv = c.loop-pair.invariant in
+    let e = c.in_err-release_page.ensures in
+    let result = c.from_residual.result in
+    let left = c.from_residual.ensures.1 in
+    record {
+      same = SameWords-trans 0 0 0 0 first now new inv.same e.same;
+      releasing = none-done result _ _ left;
+      released = none-done result _ _ left;
+      shape = e.shape ∙ inv.shape;
+      power = off-of result _ new.on e.power left;
+    }
+
+pub returns : goal.returns
+returns g c =
+    let first = chart (g.B.Board.state c.args.board.now) in
+    let now = chart (g.B.Board.state c.loop-pair.board) in
+    let inv = c.loop-pair.invariant in
+    record {
+      same = inv.same;
+      releasing = inv.releasing;
+      released = subst (λ (ps : List Pair). ReleasedIn ps c.args.t first now) (take_all c.loop-pair.pair-index c.args.pairs.now c.loop-pair-test.false) inv.released;
+      shape = inv.shape;
+      power = inv.releasing.on;
     }

@@ -1,6 +1,6 @@
 use Rattle.std.proofs.Common.{◌≡◌, ℕ, ◌<◌, List, get_or, take, Some, refl, sym, ◌∙◌, ap, subst}
 use Rattle.std.specs.List.{filter}
-use Rattle.std.proofs.lemmas.List.{take_more}
+use Rattle.std.proofs.lemmas.List.{take_more, take_all}
 use Rattle.envy_map.specs.Fields.{chart, undo}
 use Rattle.envy_layout.specs.Sound.{Sound, Slots, Places, slot_named}
 use Rattle.envy_layout.proofs.Composition.{SameDurable-refl, SameDurable-trans}
@@ -10,6 +10,7 @@ use Rattle.envy_txn.specs.Turns.{Restoring, RestoredIn}
 use Rattle.envy_txn.proofs.BackLoop.{Returns, RestoredIn-none, RestoredIn-more}
 use Rattle.envy_txn.proofs.HeldLemmas.{held-more, held-none, held-one, is_kept_by}
 use Rattle.envy_txn.proofs.TurnLemmas.{among-before, named-low}
+use Rattle.envy_txn.proofs.WayLemmas.{none-done, off-of}
 use Rattle.envy_txn.proofs.restore.restore_pairs.Goals as goal
 
 pub restore_page-requires-clause-page : goal.restore_page-requires-clause-page
@@ -74,3 +75,54 @@ loop-pair-init g c =
       rests = Rests-refl c.args.cache.now;
       shape = refl;
     }
+
+pub restore_page-requires-clause-restoring : goal.restore_page-requires-clause-restoring
+restore_page-requires-clause-restoring g c = c.loop-pair.invariant.restoring
+
+pub returns-in_err-restore_page : goal.returns-in_err-restore_page
+returns-in_err-restore_page g c =
+    let first = chart (g.B.Board.state c.args.board.now) in
+    let now = chart (g.B.Board.state c.loop-pair.board) in
+    let new = chart (g.B.Board.state c.restore_page.new.board) in
+    let inv = c.loop-pair.invariant in
+    let e = c.in_err-restore_page.ensures in
+    let result = c.from_residual.result in
+    let left = c.from_residual.ensures.1 in
+    record {
+      durable = SameDurable-trans 0 0 0 0 first now new inv.durable e.durable;
+      restoring = none-done result _ _ left;
+      restored = none-done result _ _ left;
+      left = none-done result _ _ left;
+      count = e.count ∙ inv.count;
+      rests = Rests-trans c.args.cache.now c.loop-pair.cache c.restore_page.new.cache inv.rests e.rests;
+      shape = e.shape ∙ inv.shape;
+      power = off-of result _ new.on e.power left;
+    }
+
+pub returns-clause-durable : goal.returns-clause-durable
+returns-clause-durable g c = c.loop-pair.invariant.durable
+
+pub returns-clause-restoring : goal.returns-clause-restoring
+returns-clause-restoring g c = c.loop-pair.invariant.restoring
+
+pub returns-clause-count : goal.returns-clause-count
+returns-clause-count g c = c.loop-pair.invariant.count
+
+pub returns-clause-rests : goal.returns-clause-rests
+returns-clause-rests g c = c.loop-pair.invariant.rests
+
+pub returns-clause-shape : goal.returns-clause-shape
+returns-clause-shape g c = c.loop-pair.invariant.shape
+
+pub returns-clause-power : goal.returns-clause-power
+returns-clause-power g c = c.loop-pair.invariant.restoring.on
+
+pub returns-clause-restored : goal.returns-clause-restored
+returns-clause-restored g c =
+    let first = chart (g.B.Board.state c.args.board.now) in
+    let now = chart (g.B.Board.state c.loop-pair.board) in
+    subst (λ (ps : List Pair). RestoredIn ps c.args.t first now) (take_all c.loop-pair.pair-index c.args.pairs.now c.loop-pair-test.false) c.loop-pair.invariant.restored
+
+pub returns-clause-left : goal.returns-clause-left
+returns-clause-left g c =
+    subst (λ (ps : List Pair). c.loop-pair.frames.held ≡ filter (is_kept_by ps c.args.t) c.args.frames.now.held) (take_all c.loop-pair.pair-index c.args.pairs.now c.loop-pair-test.false) c.loop-pair.invariant.left
