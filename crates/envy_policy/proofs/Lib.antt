@@ -4,6 +4,7 @@ pub mod HeatCounts
 pub mod HistoryLemmas
 pub mod LifetimeRules
 pub mod LivesLemmas
+pub mod Neighbours
 pub mod Noting
 pub mod OneChoice
 pub mod OnePartition
