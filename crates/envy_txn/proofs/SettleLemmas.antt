@@ -113,18 +113,3 @@ kept-active f p t u back owns named active names = ap (λ (z : Option Undo). kep
 -- all undos are clear once all pages are settled
 pub settled-clear : (c d : Chart) → SettledTo c.shape.pages c d → (p : ℕ) → p < d.shape.pages → undo d.fields p ≡ Some Clear
 settled-clear c d s p lt = (s.below p (subst (λ (n : ℕ). p < n) (ap (λ (z : Chart). z.shape.pages) s.rest) lt)).1
-
--- a page whose undo names nothing is settled
-pub SettlesOne-clear : (n : ℕ) (d : Chart) (u : Undo) → undo d.fields n ≡ Some u → u ≡ Clear → SettlesOne n d d
-SettlesOne-clear n d u owns clear =
-    let is : undo d.fields n ≡ Some Clear = owns ∙ ap (λ (x : Undo). Some x) clear in
-    record {
-      here = (sym (ap (λ (x : Option Undo). kept_by d.fields.slots x (place d.fields n)) is), is);
-      others = λ p other. (refl, refl);
-      rest = refl;
-    }
-
-pub unplaced : (u : Undo) → named_by u ≡ None → u ≡ Clear
-unplaced Clear none = refl
-unplaced (Blank t) none = absurd (let no : Some Absent ≡ None = none in cc)
-unplaced (Shadow t q) none = absurd (let no : Some (Row q) ≡ None = none in cc)
