@@ -41,7 +41,7 @@ right-mended n i nodes e are some low is others j one lt above = at (cases_eq j 
     at (inr apart) = IsRight-other nodes i j e apart above (others j one lt apart)
 
 -- each node from the written one on, where those behind it are right
-pub right-on : (n i : ℕ) (nodes : List Entry) (e : Entry) → AreNodes n nodes → 1 ≤ i → i < n → e ≡ better (node nodes (2 * i)) (node nodes (2 * i + 1)) → ((j : ℕ) → i + 1 ≤ j → j < n → IsRight nodes j)
+right-on : (n i : ℕ) (nodes : List Entry) (e : Entry) → AreNodes n nodes → 1 ≤ i → i < n → e ≡ better (node nodes (2 * i)) (node nodes (2 * i + 1)) → ((j : ℕ) → i + 1 ≤ j → j < n → IsRight nodes j)
     → (j : ℕ) → i ≤ j → j < n → IsRight (set nodes i e) j
 right-on n i nodes e are some low is behind j one lt = at (cases_eq j i)
   where
@@ -105,7 +105,7 @@ node-beside nodes q k b right half level apart lower = at (cases_cond (nat_lt (n
     at (inr is) (inr odd) = absurd (off (2 * q) is (omega arith))
 
 -- a node that has risen, and is lower than the one above it still, leaves that one right
-pub right-beside : (nodes : List Entry) (k : ℕ) → HasRisen nodes k → (node nodes k).score < (node nodes (k / 2)).score → IsRight nodes (k / 2)
+right-beside : (nodes : List Entry) (k : ℕ) → HasRisen nodes k → (node nodes k).score < (node nodes (k / 2)).score → IsRight nodes (k / 2)
 right-beside nodes k risen lower = at (cases_eq k (2 * (k / 2)))
   where
     at : (k ≡ 2 * (k / 2)) ⊎ (k ≢ 2 * (k / 2)) → IsRight nodes (k / 2)
@@ -122,7 +122,7 @@ right-beside nodes k risen lower = at (cases_eq k (2 * (k / 2)))
         is ∙ cond_above (node nodes (2 * (k / 2))).score (node nodes (2 * (k / 2) + 1)).score (node nodes (2 * (k / 2) + 1)) (node nodes (2 * (k / 2))) (node nodes (2 * (k / 2))) (omega arith) refl
 
 -- the node that is written has risen then
-pub HasRisen-set : (n k : ℕ) (nodes : List Entry) (e : Entry) → AreNodes n nodes → 2 ≤ k → k < n → (node nodes k).score ≤ e.score → IsRight nodes (k / 2) → HasRisen (set nodes k e) k
+HasRisen-set : (n k : ℕ) (nodes : List Entry) (e : Entry) → AreNodes n nodes → 2 ≤ k → k < n → (node nodes k).score ≤ e.score → IsRight nodes (k / 2) → HasRisen (set nodes k e) k
 HasRisen-set n k nodes e are two low risen right = record {
   least = λ b level apart.
       let other = ap (λ (x : Entry). x.score) (get_or-set_other nodes k b e nobody apart) in
@@ -155,9 +155,6 @@ half-below k n lt = omega arith
 
 pub half-twice : (k n : ℕ) → 2 ≤ k → k < 2 * n → k / 2 < 2 * n
 half-twice k n two lt = omega arith
-
-pub half-less : (k : ℕ) → 2 ≤ k → k / 2 < k
-half-less k two = omega arith
 
 pub risen-above : (n k : ℕ) (nodes : List Entry) (e : Entry) → AreNodes n nodes → k < 2 * n → ((j : ℕ) → 1 ≤ j → j < n → j ≢ k / 2 → IsRight nodes j) → (node nodes (k / 2)).score ≤ e.score → 2 ≤ k / 2 → HasRisen (set nodes (k / 2) e) (k / 2)
 risen-above n k nodes e are lt others risen two = HasRisen-set n (k / 2) nodes e are two (omega arith) risen (others (k / 2 / 2) (omega arith) (omega arith) (λ same. absurd (omega arith)))
