@@ -67,3 +67,14 @@ fresh-passed n rows emptied start position none first taken k below fresh = elim
       let same : position ≡ k = omega arith in
       fresh.1 (subst (λ (x : ℕ). IsTaken n emptied x) same taken)
 ]
+
+-- none is fresh below the first that is looked at
+pub none-before : (P : ℕ → Type 0) (k : ℕ) → k < 0 → P k → ⊥
+none-before P k below is = absurd (omega arith)
+
+-- where no free row is left to look at, none is fresh
+pub none-fresh : (n : Notes) (rows : RowCounts) (emptied : Option ℕ) (start : ℕ) → ((k : ℕ) → k < start → IsFresh n rows emptied k → ⊥) → ((k : ℕ) → start ≤ k → slice_index rows.free k ≡ 0) → (k : ℕ) → IsFresh n rows emptied k → ⊥
+none-fresh n rows emptied start none zero k fresh = elim (cases_lt k start) [
+  | inl before ↦ none k before fresh
+  | inr beyond ↦ omega (arith, zero k beyond, fresh.0)
+]

@@ -1,8 +1,8 @@
 -- Which rows a partition has, by its bounds; the nearest partition; the next in turn.
-use Rattle.std.proofs.Common.{◌≡◌, inl, inr, ℕ, ◌+◌, ◌-◌, ◌*◌, ◌<◌, ◌≤◌, List, length, slice_index, Option, None, Some, MatchOption, subst, refl, arith}
+use Rattle.std.proofs.Common.{◌≡◌, ◌∙◌, ◌↔◌, inl, inr, Bool, false, IsTrue, ℕ, ◌+◌, ◌-◌, ◌*◌, ◌<◌, ◌≤◌, List, length, slice_index, Option, None, Some, MatchOption, subst, sym, refl, arith}
 use Rattle.std.proofs.lemmas.List.{get_or_past}
 use Rattle.std.specs.Option.{option_or}
-use Rattle.std.proofs.lemmas.Bool.{cases_lt, lt-ltb, le-ltb}
+use Rattle.std.proofs.lemmas.Bool.{cases_lt, false≢true, lt-ltb, le-ltb}
 use Rattle.envy_policy.specs.Choice.{IsLeast, IsMost, IsNearest, HasRows, IsUsable, distance, steps}
 use Rattle.envy_policy.specs.History.{History, IsHistory, run, partition_of, first_of, end_of}
 use Rattle.envy_policy.proofs.Partitions.{run-holds, run-is, counted}
@@ -109,6 +109,20 @@ none-left h free dead own away whole long_free long_dead counted_own all_seen fa
     let counted_k = usable-counted h free dead (partition_of h k) whole long_free long_dead usable in
     let at_least = far (partition_of h k) usable in
     absurd (omega arith)
+
+-- what is answered not to hold doesn't,
+pub answered-no : (r : Bool) (P : Type 0) → IsTrue r ↔ P → r ≡ false → P → ⊥
+answered-no r P tells is_false holds = false≢true (sym is_false ∙ tells.1 holds)
+
+-- none lies below the first partition,
+pub none-lower : (own away : ℕ) → own < away → away ≤ own → ⊥
+none-lower own away far near = omega (arith, far, near)
+
+-- nor beyond the last
+pub none-higher : (h : History) (free dead : List ℕ) (own away count : ℕ) → IsHistory h → length free ≡ h.positions → length dead ≡ h.positions → count ≡ length h.heats → count ≤ own + away → IsUsable h free dead (own + away) → ⊥
+none-higher h free dead own away count whole long_free long_dead is far usable =
+    let in_count = usable-counted h free dead (own + away) whole long_free long_dead usable in
+    absurd (omega (arith, is, far, in_count))
 
 -- of two numbers of steps, the first is the fewer, or as few at a lower position
 abbrev Before : History → ℕ → ℕ → ℕ → Type 0

@@ -1,8 +1,8 @@
 -- Heats that are kept with a halving that isn't done of all of them.
-use Rattle.std.proofs.Common.{◌≡◌, ◌≢◌, inl, inr, ℕ, ◌+◌, ◌*◌, ◌/◌, ◌^◌, ◌<◌, ◌≤◌, List, length, map, replicate, sum, slice_index, get_or, set, refl, sym, ap, ◌∙◌, arith}
+use Rattle.std.proofs.Common.{◌≡◌, ◌≢◌, inl, inr, ℕ, ◌+◌, ◌*◌, ◌/◌, ◌^◌, ◌<◌, ◌≤◌, List, length, map, replicate, sum, slice_index, get_or, set, Fits, w32, refl, sym, ap, ◌∙◌, arith}
 use Rattle.std.specs.List.{range_with_len}
 use Rattle.std.specs.Prelude.{nat_lt, if◌then◌else◌}
-use Rattle.std.proofs.lemmas.Bool.{cases_eq, cases_lt, eq-eqb, lt-ltb, le-ltb}
+use Rattle.std.proofs.lemmas.Bool.{cases_eq, cases_lt, eq-eqb, ne_eqb, lt-ltb, le-ltb}
 use Rattle.std.proofs.lemmas.List.{ext_get_or, get_or-set_same, get_or-set_other, get_or-map, get_or-replicate, length-map, length-replicate, length-set}
 use Rattle.std.proofs.lemmas.List.FromFn.{fill_by_all, get_or-map-range_with_len, length-map-range_with_len}
 use Rattle.std.proofs.lemmas.List.Sums.{sum-map, sum_by-set, sum_by-le-sum_by, get_or-le-sum_by}
@@ -302,6 +302,48 @@ noted-anew w kept new shown since end warmth halves more raise g are step last v
 
     anew : record { heats = heats_of (halved_by 0 (length new)) new; flushes = 0 } ≡ noted (record { heats = heats_of (halved_by since (length kept)) kept; flushes = since }) g
     anew = rw (eq-eqb (since + 1) 1024 last) (ap (λ (xs : List ℕ). record { heats = xs; flushes = 0 }) half)
+
+-- before the last flush of a round some more are halved,
+left-halved : (kept new : List ℕ) (since end more raise g : ℕ) → Stepped kept new since end more raise g → end ≡ halved_by (since + 1) (length new)
+left-halved kept new since end more raise g step = step.end_is ∙ ap (halved_by (since + 1)) (sym step.long)
+
+pub kept-on : (kept new shown : List ℕ) (since end warmth halves more raise g : ℕ) → AreKept kept since warmth halves → Stepped kept new since end more raise g → since + 1 ≢ 1024 → shown ≡ new → AreKept shown (since + 1) (warmth + 1) (halves + more + raise)
+kept-on kept new shown since end warmth halves more raise g are step before is = rw is (record {
+  few = omega (arith, step.long, are.few);
+  since_few = omega (arith, are.since_few, before);
+  sum_is = sym (stepped-sum kept new since end warmth halves more raise g are step) ∙ ap (λ n. sum (heats_of n new)) left;
+  cool = omega (arith, are.cool);
+  halves_are = let same = ap (λ n. halves_of n new) left in omega (arith, same, step.halves, are.halves_are);
+}) where
+  left : end ≡ halved_by (since + 1) (length new)
+  left = left-halved kept new since end more raise g step
+
+-- and the heats are those noted
+pub noted-on : (w : Warmth) (kept new shown : List ℕ) (since end more raise g : ℕ) → Stepped kept new since end more raise g → since + 1 ≢ 1024
+    → record { heats = heats_of (halved_by since (length kept)) kept; flushes = since } ≡ w → shown ≡ new → record { heats = heats_of (halved_by (since + 1) (length shown)) shown; flushes = since + 1 } ≡ noted w g
+noted-on w kept new shown since end more raise g step before view is = ap (λ (xs : List ℕ). record { heats = heats_of (halved_by (since + 1) (length xs)) xs; flushes = since + 1 }) is ∙ on ∙ ap (λ (v : Warmth). noted v g) view
+  where
+    on : record { heats = heats_of (halved_by (since + 1) (length new)) new; flushes = since + 1 } ≡ noted (record { heats = heats_of (halved_by since (length kept)) kept; flushes = since }) g
+    on = rw (ne_eqb (since + 1) 1024 before) (ap (λ (xs : List ℕ). record { heats = xs; flushes = since + 1 }) (ap (λ n. heats_of n new) (sym (left-halved kept new since end more raise g step)) ∙ step.heats))
+
+-- a flush more: from the halved to those to be halved, all within the heats
+pub halved-more : (since count other first end : ℕ) → first ≡ halved_by since count → end ≡ halved_by (since + 1) other → count ≡ other → first ≤ end
+halved-more since count other first end is_first is_end same = omega (arith, is_first, is_end, same)
+
+pub halved-within : (since count long end : ℕ) → end ≡ halved_by since count → count ≡ long → end ≤ long
+halved-within since count long end is same = omega (arith, is, same)
+
+-- what is counted fits
+pub heats-fit : (kept old : List ℕ) (since count first warmth halves : ℕ) → AreKept kept since warmth halves → count ≡ length kept → first ≡ halved_by since count → old ≡ kept → sum (heats_of first old) < 4294967296
+heats-fit kept old since count first warmth halves are is_count is_first is_old =
+    let same = ap sum (ap (λ n. heats_of n old) (is_first ∙ ap (halved_by since) is_count) ∙ ap (heats_of (halved_by since (length kept))) is_old) in
+    omega (arith, same, are.sum_is, are.cool, are.since_few)
+
+pub since-fits : (kept : List ℕ) (since warmth halves : ℕ) → AreKept kept since warmth halves → Fits w32 (since + 1)
+since-fits kept since warmth halves are = omega (arith, are.since_few)
+
+pub warmth-fits : (kept : List ℕ) (since warmth halves : ℕ) → AreKept kept since warmth halves → Fits w32 (warmth + 1)
+warmth-fits kept since warmth halves are = omega (arith, are.cool, are.since_few)
 
 -- a halving in its course: the sum of the halves so far fits
 pub halves-so-far : (kept old : List ℕ) (g first halves : ℕ) → g < length kept → heats_of g kept ≡ heats_of first old → halves_of g kept ≡ halves_of first old + halves → sum (heats_of first old) < 2 ^ 32 → halves + get_or kept g 0 / 2 / 2 < 2 ^ 32

@@ -1,6 +1,7 @@
 -- What cleanings are worth, and the best of the positions below a bound.
-use Rattle.std.proofs.Common.{zero, suc, Fits, ◌≡◌, refl, inl, inr, ℕ, ◌+◌, ◌-◌, ◌*◌, ◌^◌, ◌<◌, ◌≤◌, Option, None, Some, slice_index, sym, subst, arith}
+use Rattle.std.proofs.Common.{zero, suc, Fits, ◌≡◌, ◌∙◌, refl, ap, inl, inr, ℕ, ◌+◌, ◌-◌, ◌*◌, ◌^◌, ◌<◌, ◌≤◌, Option, None, Some, MatchOption, length, slice_index, sym, subst, arith}
 use Rattle.std.specs.Int.{w128}
+use Rattle.std.specs.Option.{IsSomeAnd}
 use Rattle.std.proofs.Math.Nat.{le_of_mul-le-mul_left}
 use Rattle.std.proofs.lemmas.Nat.{mul-le}
 use Rattle.std.proofs.lemmas.Bool.{cases_lt}
@@ -8,8 +9,9 @@ use Rattle.envy_policy.specs.declared.class.Class.{Class}
 use Rattle.envy_policy.specs.declared.class.Class.TheVariants.{Brief, Short, Long, Lasting}
 use Rattle.envy_policy.specs.declared.fraction.Fraction.{Fraction}
 use Rattle.envy_policy.specs.declared.fraction.Weighed.{Weighed}
-use Rattle.envy_policy.specs.Lifetime.{RowCounts, IsCounted, IsLowest, IsAtMost, IsFull, IsGreatest, IsBestBelow, aged, worth}
-use Rattle.envy_policy.specs.Notes.{Notes, IsNotes}
+use Rattle.envy_policy.specs.Lifetime.{RowCounts, IsCounted, IsLowest, IsAtMost, IsFull, IsGreatest, IsBestBelow, IsVictim, aged, worth}
+use Rattle.envy_policy.specs.Notes.{Notes, IsNotes, class_of}
+use Rattle.envy_policy.proofs.Choosing.{rows-below}
 
 at_most-trans : (a b c : Fraction) → 1 ≤ b.under → IsAtMost a b → IsAtMost b c → IsAtMost a c
 at_most-trans a b c some low high =
@@ -174,3 +176,16 @@ no-dead rows x dead d none full = omega (arith, d, none, full.0)
 
 pub one-free : (rows : RowCounts) (x free : ℕ) → free ≡ slice_index rows.free x → 0 < free → IsFull rows x → ⊥
 one-free rows x free f some full = omega (arith, f, some, full.1)
+
+-- the best of all positions is the victim
+pub best-of-all : (n : Notes) (rows : RowCounts) (page end : ℕ) (class : Class) (best : Option Weighed) (found : Option ℕ) (Q : Weighed → ℕ → Type 0) → ((w : Weighed) (k : ℕ) → Q w k → k ≡ w.position) → IsCounted (length n.cleaned) rows → length n.cleaned ≤ end → class ≡ class_of n page → IsBestBelow end n rows class best
+    → MatchOption best (found ≡ None) (λ w. IsSomeAnd found (Q w)) → MatchOption found ((k : ℕ) → IsFull rows k → ⊥) (IsVictim n rows page)
+best-of-all n rows page end class None found Q reads counted all is_class best none = rw none (λ k full. best k (omega (arith, all, rows-below rows.dead (length n.cleaned) k counted.dead full.0)) full)
+best-of-all n rows page end class (Some w) None Q reads counted all is_class best named = absurd named
+best-of-all n rows page end class (Some w) (Some k) Q reads counted all is_class best named = rw (reads w k named) (subst (λ (of : Class). IsGreatest (IsFull rows) (worth n rows of) w.position) is_class (record {
+  holds = best.1.holds.1;
+  most = λ y full. best.1.most y (below y full, full);
+  lowest = λ y full. best.1.lowest y (below y full, full);
+})) where
+  below : (y : ℕ) → IsFull rows y → y < end
+  below y full = omega (arith, all, rows-below rows.dead (length n.cleaned) y counted.dead full.0)
