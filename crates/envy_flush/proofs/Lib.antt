@@ -17,12 +17,15 @@ pub mod LookLemmas
 pub mod NearLemmas
 pub mod PutLemmas
 pub mod RestartLemmas
+mod RoomAnswers
 pub mod RowLemmas
+mod SettleAnswers
 mod ShadeAnswers
 pub mod ShadeLemmas
 pub mod StepLemmas
 pub mod StoreLemmas
 mod SwapAnswers
+mod TakenAnswers
 mod TickAnswers
 mod TickLemmas
 pub mod WearLemmas

@@ -1,4 +1,6 @@
-use Rattle.std.proofs.Common.{◌≡◌, ◌∙◌, ◌<◌, ◌-◌, ◌^◌, ℕ, refl, rules, ap}
+use Rattle.std.proofs.Common.{◌≡◌, ◌∙◌, ◌<◌, ◌-◌, ◌^◌, ℕ, Bool, true, false, Option, Some, refl, sym, ap}
+use Rattle.envy_base.specs.declared.fields.Job.{Job}
+use Rattle.envy_base.specs.declared.fields.Job.TheVariants.{Erase}
 use Rattle.std.specs.Prelude.{Result, Ok, Err, IsErrOf}
 use Rattle.envy_base.specs.Counting.{up}
 use Rattle.envy_reloc.specs.declared.step.Phase.{Phase}
@@ -37,6 +39,18 @@ raised : (b d : ℕ) (f : Trouble) (r : Result Phase Trouble) → (r ≡ Err f) 
 unfolding fault_of
 raised b d f r is bad same lt = rw (bad (is ∙ ap (λ (x : Trouble). Err x) (ap (λ (s : Result Did Trouble). fault_of s) same))) (up-rises b lt)
 
+-- which fault it was
+handed : (f : Trouble) (r : Result Phase Trouble) → r ≡ Err f → IsErrOf {T = Did} {E = Trouble} (Err f) Bad → r ≡ Err Bad
+unfolding fault_of
+handed f r is same = is ∙ ap (λ (x : Trouble). Err x) (ap (λ (s : Result Did Trouble). fault_of s) same)
+
+-- an erase, where it was found that it was none
+not-erasing : {P : Type 0} (b : Bool) → b ≡ false → b ≡ true → P
+not-erasing b off on = absurd (let clash : true ≡ false = sym on ∙ off in cc)
+
+same-job : (job : Option Job) (j : Job) → job ≡ Some j → job ≡ Some Erase → j ≡ Erase
+same-job job j is erase = let same : Some j ≡ Some Erase = sym is ∙ erase in cc
+
 pub returns-then-not-erasing-clause-bad : goal.returns-then-not-erasing-clause-bad
 returns-then-not-erasing-clause-bad g c = raised (g.B.Board.state c.args.board.now).bads (g.B.Board.state c.step_job.new.board).bads c.in-Err.fault c.step_job.result c.in-Err.is (λ is. (c.step_job.ensures.spoils is).bad)
 
@@ -44,16 +58,16 @@ pub returns-else-eq-clause-bad : goal.returns-else-eq-clause-bad
 returns-else-eq-clause-bad g c = raised (g.B.Board.state c.args.board.now).bads (g.B.Board.state c.step_job.new.board).bads c.in-Err.fault c.step_job.result c.in-Err.is (λ is. (c.step_job.ensures.spoils is).bad)
 
 pub returns-then-not-erasing-clause-stops : goal.returns-then-not-erasing-clause-stops
-unfolding fault_of
 returns-then-not-erasing-clause-stops g c is =
     let e = c.step_job.ensures in
-    let got : c.step_job.result ≡ Err Bad = c.in-Err.is ∙ ap (λ (x : Trouble). Err x) (ap (λ (s : Result Did Trouble). fault_of s) is) in
+    let fails = e.spoils (handed c.in-Err.fault c.step_job.result c.in-Err.is is) in
+    let idles = idles-stepped c.args.parts.now c.step_job.new.parts e.parts in
     record {
-      job = (e.spoils got).job;
-      idles = record { flushes = ap (λ (z : Parts). z.flushes) e.parts; swaps = ap (λ (z : Parts). z.swaps) e.parts; chooser = ap (λ (z : Parts). z.chooser) e.parts; frames = ap (λ (z : Parts). z.frames) e.parts };
-      kept = search rules;
-      dropped = λ other. (c.clear.ensures, (e.spoils got).dropped other);
-      spoils = (e.spoils got).spoils;
+      job = fails.job;
+      idles = record { flushes = idles.flushes; swaps = idles.swaps; chooser = idles.chooser; frames = idles.frames };
+      kept = λ erase. not-erasing c.eq-erasing.result c.if-not-erasing.true (rw (same-job _ c.in_ok-job.field-0 c.in_ok-job.ensures.value.1 erase) at c.eq-erasing.ensures);
+      dropped = λ other. (c.clear.ensures, fails.dropped other);
+      spoils = fails.spoils;
     }
 
 pub returns-in_err-job : goal.returns-in_err-job

@@ -1,4 +1,4 @@
-use Rattle.std.proofs.Common.{◌∙◌, ◌+◌, ◌*◌, inr, Err, sym, ap}
+use Rattle.std.proofs.Common.{◌∙◌, ◌+◌, ◌*◌, inl, inr, Err, refl, sym, ap}
 use Rattle.envy_map.specs.Fields.{chart}
 use Rattle.envy_flush.specs.Agreement.{Agrees, Steady}
 use Rattle.envy_frames.proofs.Agreeing.{elsewhere-dropped}
@@ -8,6 +8,12 @@ use Rattle.envy_layout.proofs.Composition.{Same-refl}
 use Rattle.envy_layout.proofs.Sames.{same_within}
 use Rattle.envy_flush.proofs.Leaving.{leaves_none}
 use Rattle.envy_reloc.proofs.Exits.{err-if, err-after, err-bad, ok-bad}
+use Rattle.envy_base.specs.Shape.{IsShape}
+use Rattle.envy_base.specs.State.{IsBoard}
+use Rattle.envy_frames.specs.Order.{IsOrder}
+use Rattle.envy_layout.specs.Same.{Same, Stays, Framed}
+use Rattle.envy_flush.specs.Agreement.{Fits}
+use Rattle.envy_flush.proofs.RoomAnswers.{held-some, room-made, room-left}
 use Rattle.envy_flush.proofs.storing.make_room.Goals as goal
 
 pub returns-in_ok-flush_oldest-clause-elsewhere : goal.returns-in_ok-flush_oldest-clause-elsewhere
@@ -75,3 +81,24 @@ returns-else-used-shape-clause-stops g c is = ok-bad tt is
 
 pub returns-else-used-shape-clause-power : goal.returns-else-used-shape-clause-power
 returns-else-used-shape-clause-power g c = c.requires.ready.on
+
+pub flush_oldest-requires-clause-some : goal.flush_oldest-requires-clause-some
+flush_oldest-requires-clause-some g c =
+    let full = sym c.used.ensures.value ∙ c.if-used-shape.true ∙ ap (λ (sh : Shape). sh.frames) c.shape.ensures in
+    held-some c.args.parts.now.frames.held _ full (IsShape.frames (IsBoard.shape (g.met.B.Board.lawful c.args.board.now)))
+
+pub returns-in_ok-flush_oldest-clause-room : goal.returns-in_ok-flush_oldest-clause-room
+returns-in_ok-flush_oldest-clause-room g c =
+    let full = sym c.used.ensures.value ∙ c.if-used-shape.true ∙ ap (λ (sh : Shape). sh.frames) c.shape.ensures in
+    let e = c.in_ok-flush_oldest.ensures in
+    room-made _ _ c.args.parts.now.frames.held c.flush_oldest.new.parts.frames.held full (IsShape.frames (IsBoard.shape (g.met.B.Board.lawful c.args.board.now))) e.flushes.held (Fits.frames (Steady.fits e.leaves.steady) ∙ ap (λ (sh : Shape). sh.frames) (Framed.shape (Stays.framed (Same.stays e.same))))
+
+pub returns-else-used-shape-clause-room : goal.returns-else-used-shape-clause-room
+returns-else-used-shape-clause-room g c =
+    let frames = ap (λ (sh : Shape). sh.frames) c.shape.ensures in
+    room-left _ _ _ (IsOrder.few c.used.ensures.whole) c.requires.ready.fits.frames (λ full. c.if-used-shape.false (c.used.ensures.value ∙ full ∙ sym frames))
+
+pub returns-else-used-shape-clause-makes : goal.returns-else-used-shape-clause-makes
+returns-else-used-shape-clause-makes g c =
+    let frames = ap (λ (sh : Shape). sh.frames) c.shape.ensures in
+    inl (room-left _ _ _ (IsOrder.few c.used.ensures.whole) c.requires.ready.fits.frames (λ full. c.if-used-shape.false (c.used.ensures.value ∙ full ∙ sym frames)), refl, refl)
