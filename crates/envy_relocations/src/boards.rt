@@ -115,10 +115,10 @@ fn make_in_sram<B: Board>(board: &mut B, write: Write) -> Option<Result<(), Off>
 fn make<B: Board>(rt: &impl Abort, board: &mut B, at: u64, write: Write) {
     if let Write::Row(row, page, number) = write {
         let found = write_row(board, row, page, number);
-        same_at(rt, found, Some(Ok(())), "write", at);
+        same_at(rt, &found, &Some(Ok(())), "write", at);
     } else {
         let found = make_in_sram(board, write);
-        same_at(rt, found, Some(Ok(())), "write", at);
+        same_at(rt, &found, &Some(Ok(())), "write", at);
     }
 }
 

@@ -45,7 +45,7 @@ fn check_left(rt: &impl Abort, rig: &Rig, written: u64) {
     for (operation, fact) in LEFT.as_slice() {
         let found = (*operation, holds(&rig.board, *fact));
         let wanted = (*operation, Ok(written > *operation));
-        same_at(rt, found, wanted, "written", written);
+        same_at(rt, &found, &wanted, "written", written);
     }
 }
 

@@ -6,7 +6,7 @@ use std::process::Abort;
 fn assert_none(rt: &impl Abort, owned: &Owned, room: bool, pages: &[u32]) {
     for page in pages {
         let found = (owned.room(), owned.count(), owned.owner(*page));
-        same_at(rt, found, (room, 0, None), "owner", *page as u64);
+        same_at(rt, &found, &(room, 0, None), "owner", *page as u64);
     }
 }
 

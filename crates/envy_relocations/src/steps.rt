@@ -33,16 +33,16 @@ fn check_words(rt: &impl Abort, rig: &Rig, name: &str, read: [u32; 6], kept: [u3
     for page in 0..6 {
         let number = read[page];
         let found = (number, reads(&rig.board, page as u32, number));
-        same_at(rt, found, (number, Ok(true)), name, page as u64);
+        same_at(rt, &found, &(number, Ok(true)), name, page as u64);
         let number = kept[page];
         let found = (number, keeps(&rig.board, page as u32, number));
-        same_at(rt, found, (number, Ok(true)), name, page as u64);
+        same_at(rt, &found, &(number, Ok(true)), name, page as u64);
     }
 }
 
 /// Tests that this stands on the board.
 fn check_fact(rt: &impl Abort, rig: &Rig, name: &str, at: u64, fact: Fact) {
-    same_at(rt, holds(&rig.board, fact), Ok(true), name, at);
+    same_at(rt, &holds(&rig.board, fact), &Ok(true), name, at);
 }
 
 /// Does a step, and answers whether it was bad.
@@ -79,14 +79,14 @@ fn check_step(rt: &impl Abort, rig: &mut Rig, name: &str, at: u64, step: Step) {
     match step {
         Step::PlanCut(k, g) => rig.plan_cut(rt, k, g),
         Step::PlanBad(k, g) => rig.plan_bad(rt, k, g),
-        Step::Begin(answer) => same_at(rt, rig.begin(rt), answer, name, at),
-        Step::Work(answer) => same_at(rt, rig.work(rt), answer, name, at),
-        Step::Finish(answer) => same_at(rt, finish(rt, rig), answer, name, at),
-        Step::Run(answer) => same_at(rt, run(rt, rig), answer, name, at),
+        Step::Begin(answer) => same_at(rt, &rig.begin(rt), &answer, name, at),
+        Step::Work(answer) => same_at(rt, &rig.work(rt), &answer, name, at),
+        Step::Finish(answer) => same_at(rt, &finish(rt, rig), &answer, name, at),
+        Step::Run(answer) => same_at(rt, &run(rt, rig), &answer, name, at),
         Step::Counted(moved, copied, erased) => {
             let reloc = &rig.reloc;
             let found = (reloc.moved(), reloc.copied(), reloc.erased());
-            same_at(rt, found, (moved, copied, erased), name, at);
+            same_at(rt, &found, &(moved, copied, erased), name, at);
         }
         Step::Words(read, kept) => check_words(rt, rig, name, read, kept),
         Step::Stands(fact) => check_fact(rt, rig, name, at, fact),

@@ -40,8 +40,8 @@ fn check_turn(rt: &impl Abort, stages: &mut Stages, at: u64, turn: Turn) {
     match turn {
         Turn::Start(swap) => stages.start(swap),
         Turn::Clear => stages.clear(),
-        Turn::Pending(is) => same_at(rt, stages.pending(), is, "turn", at),
-        Turn::Next(position) => same_at(rt, stages.next(), position, "turn", at),
+        Turn::Pending(is) => same_at(rt, &stages.pending(), &is, "turn", at),
+        Turn::Next(position) => same_at(rt, &stages.next(), &position, "turn", at),
     }
 }
 
@@ -106,7 +106,7 @@ fn found(rt: &impl Abort, alloc: Global, row: &Due) -> Option<Swap> {
 
 /// Tests the swap that is due, by the number of the row.
 fn check(rt: &impl Abort, alloc: Global, at: u64, row: &Due) {
-    same_at(rt, found(rt, alloc, row), row.swap, "due", at);
+    same_at(rt, &found(rt, alloc, row), &row.swap, "due", at);
 }
 
 const SWAP: Swap = Swap { worn: 1, young: 0 };

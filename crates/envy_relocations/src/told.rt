@@ -1,15 +1,14 @@
 //! What a test asks of what it found. A text that is put together in an assertion costs a second of proof, so it stands
-//! here, where it is proved once. What is compared is taken as it is: a reference to it would be a loan in whatever calls this,
-//! and cost it proof.
+//! here, where it is proved once.
 
 use std::fmt::Debug;
 use std::process::Abort;
 
 /// Both are the same; else they are told, with the name and the number of what was asked.
-pub(crate) fn same_at<T: Copy + PartialEq + Debug>(
+pub(crate) fn same_at<T: PartialEq + Debug>(
     rt: &impl Abort,
-    found: T,
-    wanted: T,
+    found: &T,
+    wanted: &T,
     name: &str,
     at: u64,
 ) {
