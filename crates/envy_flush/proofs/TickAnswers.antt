@@ -1,6 +1,6 @@
 -- What a tick says, whichever rule it went by.
-use Rattle.std.proofs.Common.{◌≡◌, ◌∙◌, inl, inr, Bool, false, true, ℕ, ◌<◌, ◌≤◌, List, [], length, Option, Some, Result, Ok, Err, IsErrAnd, sym, ap, subst, arith}
-use Rattle.std.specs.Prelude.{IsTrue}
+use Rattle.std.proofs.Common.{◌≡◌, ◌∙◌, inl, inr, Bool, false, true, ℕ, ◌<◌, ◌≤◌, List, [], length, Option, Some, Result, Ok, Err, IsErrAnd, refl, sym, ap, subst, arith}
+use Rattle.std.specs.Prelude.{IsTrue, IsErrOf}
 use Rattle.envy_base.specs.declared.board.Trouble.{Trouble}
 use Rattle.envy_base.specs.declared.board.Trouble.TheVariants.{Off as TroubleOff, Bad}
 use Rattle.envy_layout.specs.Power.{power_after}
@@ -14,6 +14,7 @@ use Rattle.envy_table.specs.Entries.{Translations}
 use Rattle.envy_reloc.specs.Phases.{SameOnce}
 use Rattle.envy_reloc.specs.Plan.{IsFreeOf}
 use Rattle.envy_wear.specs.Swaps.{IsQuiet}
+use Rattle.envy_reloc.proofs.Exits.{unpowered}
 use Rattle.envy_base.specs.declared.fields.Job.{Job}
 use Rattle.envy_base.specs.declared.fields.Job.TheVariants.{Idle, Copy, Switch}
 use Rattle.envy_base.specs.declared.fields.Place.{Place}
@@ -83,6 +84,11 @@ no-more is = absurd (let no : true ≡ false = is in cc)
 
 pub no-turn : {P : Type 0} → ◌≡◌ {A = Bool} false true → P
 no-turn is = absurd (let no : false ≡ true = is in cc)
+
+-- where it can't fail otherwise, power did
+pub off-never : {P T : Type 0} (e : Trouble) (on : Bool) → on ≡ power_after {A = T} (Err e) → (IsErrOf {T = T} {E = Trouble} (Err e) Bad → ⊥) → IsTrue on → P
+off-never Bad on power never lit = absurd (never refl)
+off-never TroubleOff on power never lit = unpowered on power lit
 
 -- a stage that began leaves pages where they stood
 pub stays-staged : (did : Did) (c new : Chart) (x y : Parts) → TicksStage did c x new y → FramesStay c.fields.places new.fields.places
