@@ -30,44 +30,56 @@ is-hot h g heat count warmth is at all within several high = let same = ap₂ (�
 
 -- the first has one neighbour
 pub aside-first : (h : History) (g : ℕ) → g ≡ 0 → IsHot h g → IsAside h g (Some 1)
-aside-first h g first hot = (hot, record {
-  holds = (hot.0, inr (omega arith));
-  least = λ y near. let same = ap (slice_index h.heats) (one y near) in omega (arith, same);
-  lowest = λ y near e. omega (arith, one y near);
-}) where
+aside-first h g first hot = (
+  hot,
+  record {
+    holds = (hot.0, inr (omega arith));
+    least = λ y near. let same = ap (slice_index h.heats) (one y near) in omega (arith, same);
+    lowest = λ y near e. omega (arith, one y near);
+  },
+) where
   one : (y : ℕ) → IsNeighbour h g y → y ≡ 1
   one y (below, inl e) = absurd (omega (arith, e, first))
   one y (below, inr e) = omega (arith, e, first)
 
 -- so has the last
 pub aside-last : (h : History) (g : ℕ) → g ≢ 0 → g < length h.heats → g + 1 ≡ length h.heats → IsHot h g → IsAside h g (Some (g - 1))
-aside-last h g some within last hot = (hot, record {
-  holds = (omega arith, inl (omega arith));
-  least = λ y near. let same = ap (slice_index h.heats) (one y near) in omega (arith, same);
-  lowest = λ y near e. omega (arith, one y near);
-}) where
+aside-last h g some within last hot = (
+  hot,
+  record {
+    holds = (omega arith, inl (omega arith));
+    least = λ y near. let same = ap (slice_index h.heats) (one y near) in omega (arith, same);
+    lowest = λ y near e. omega (arith, one y near);
+  },
+) where
   one : (y : ℕ) → IsNeighbour h g y → y ≡ g - 1
   one y (below, inl e) = omega (arith, e)
   one y (below, inr e) = absurd (omega (arith, e, below, last))
 
 -- of two the lower, where it is as cool,
 pub aside-below : (h : History) (g low high : ℕ) → g ≢ 0 → g < length h.heats → low ≡ slice_index h.heats (g - 1) → high ≡ slice_index h.heats (g + 1) → low ≤ high → IsHot h g → IsAside h g (Some (g - 1))
-aside-below h g low high some within at_low at_high cool hot = (hot, record {
-  holds = (omega arith, inl (omega arith));
-  least = λ y near. (step y near).0;
-  lowest = λ y near e. (step y near).1;
-}) where
+aside-below h g low high some within at_low at_high cool hot = (
+  hot,
+  record {
+    holds = (omega arith, inl (omega arith));
+    least = λ y near. (step y near).0;
+    lowest = λ y near e. (step y near).1;
+  },
+) where
   step : (y : ℕ) → IsNeighbour h g y → (slice_index h.heats (g - 1) ≤ slice_index h.heats y) × (g - 1 ≤ y)
   step y (below, inl e) = let is : y ≡ g - 1 = omega (arith, e) in let same = ap (slice_index h.heats) is in (omega (arith, same), omega (arith, is))
   step y (below, inr e) = let same = ap (slice_index h.heats) e in (omega (arith, same, at_low, at_high, cool), omega (arith, e))
 
 -- and else the higher
 pub aside-above : (h : History) (g low high : ℕ) → g ≢ 0 → g < length h.heats → g + 1 ≢ length h.heats → low ≡ slice_index h.heats (g - 1) → high ≡ slice_index h.heats (g + 1) → high < low → IsHot h g → IsAside h g (Some (g + 1))
-aside-above h g low high some within inner at_low at_high cool hot = (hot, record {
-  holds = (omega arith, inr (omega arith));
-  least = λ y near. (step y near).0;
-  lowest = λ y near e. (step y near).1 e;
-}) where
+aside-above h g low high some within inner at_low at_high cool hot = (
+  hot,
+  record {
+    holds = (omega arith, inr (omega arith));
+    least = λ y near. (step y near).0;
+    lowest = λ y near e. (step y near).1 e;
+  },
+) where
   step : (y : ℕ) → IsNeighbour h g y → (slice_index h.heats (g + 1) ≤ slice_index h.heats y) × (slice_index h.heats y ≡ slice_index h.heats (g + 1) → g + 1 ≤ y)
   step y (below, inl e) =
       let is : y ≡ g - 1 = omega (arith, e) in
