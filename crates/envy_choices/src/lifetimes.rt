@@ -239,8 +239,9 @@ const RESET: [Step; 4] = [
     Step::Chooses([[0, 2, 1], [0, 0, 0], [0, 0, 0]], 1, FREE_1),
 ];
 
-/// Each of these begins with nothing noted. A table of them would be one of nested slices, which cost more proof.
-fn check_sessions(rt: &impl Abort, alloc: Global) {
+/// Sessions of the four rules of a choice, each of which begins with nothing noted. A table of them would be one of nested
+/// slices, which cost more proof.
+fn check_rules(rt: &impl Abort, alloc: Global) {
     check_steps(
         rt,
         alloc,
@@ -265,6 +266,10 @@ fn check_sessions(rt: &impl Abort, alloc: Global) {
         "kept rows count twice and one",
         &KEPT_COUNT_TWICE,
     );
+}
+
+/// The same of a job beside the choice, and of a reset.
+fn check_others(rt: &impl Abort, alloc: Global) {
     check_steps(
         rt,
         alloc,
@@ -276,5 +281,6 @@ fn check_sessions(rt: &impl Abort, alloc: Global) {
 
 #[test]
 fn positions_are_chosen_by_lives(rt: HostRuntime) {
-    check_sessions(&rt, rt.alloc());
+    check_rules(&rt, rt.alloc());
+    check_others(&rt, rt.alloc());
 }

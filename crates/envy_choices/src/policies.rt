@@ -193,22 +193,17 @@ fn chosen(chooser: &Chooser, case: &Case) -> Option<Choice>
     None
 }
 
-/// Tests the choice of a case.
-fn check_case(rt: &impl Abort, alloc: Global, case: &Case) {
-    let mut chooser = after_flushes(rt, alloc, case.policy, case.flushes);
-    tell(&mut chooser, case.then);
-    let found = chosen(&chooser, case);
-    same_of(rt, found, Some(case.choice), case.name, case.home);
-}
-
 #[test]
 fn choices_are_made(rt: HostRuntime) {
     for case in CASES.as_slice() {
-        check_case(&rt, rt.alloc(), case);
+        let mut chooser = after_flushes(&rt, rt.alloc(), case.policy, case.flushes);
+        tell(&mut chooser, case.then);
+        let found = chosen(&chooser, case);
+        same_of(&rt, found, Some(case.choice), case.name, case.home);
     }
 }
 
-/// A chooser of a setup.
+/// Makes a chooser of a setup, which is dropped.
 fn make(rt: &impl Abort, alloc: Global, setup: &Setup) {
     setup.check().expect(rt, "the setup");
     let _chooser = Chooser::new(alloc, setup).expect(rt, "no room for a chooser");
@@ -277,18 +272,17 @@ fn first_fault(setup: Setup) -> Option<u8> {
     setup.check().err().map(|fault| fault.rule())
 }
 
-/// Tests the first rule that fails with a further fault, and gives the setup that has it.
-fn check_fault(rt: &impl Abort, setup: Setup, row: &(&str, Fault, Option<u8>)) -> Setup {
-    let (name, fault, rule) = *row;
-    let setup = faulty(setup, fault);
-    same_of(rt, first_fault(setup), rule, name, rule);
-    setup
-}
-
 #[test]
 fn rules_are_asked_in_order(rt: HostRuntime) {
     let mut setup = setup(Policy::Greedy);
-    for row in FAULTS.as_slice() {
-        setup = check_fault(&rt, setup, row);
+    for (name, fault, rule) in FAULTS.as_slice() {
+        setup = faulty(setup, *fault);
+        same_of(
+            &rt,
+            first_fault(setup),
+            *rule,
+            name,
+            "first rule that fails",
+        );
     }
 }

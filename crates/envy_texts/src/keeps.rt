@@ -162,37 +162,18 @@ fn check(
     same(rt, said(rt, &words, alloc, line, path), wanted, line);
 }
 
-/// Tests the path and the options of a row.
-fn check_form(rt: &impl Abort, alloc: Global, row: &Row) {
-    let (line, path, options) = *row;
-    check(rt, alloc, line, path, Ok((false, options)));
-}
-
 #[test]
 fn words_of_keep_name_a_file_and_its_options(rt: HostRuntime) {
-    for row in FORMS.as_slice() {
-        check_form(&rt, rt.alloc(), row);
+    for (line, path, options) in FORMS.as_slice() {
+        check(&rt, rt.alloc(), line, path, Ok((false, *options)));
     }
-}
-
-/// Tests how the file of a row is written.
-fn check_premise(rt: &impl Abort, alloc: Global, row: &(&str, bool, KeepOptions)) {
-    let (line, bytewise, options) = *row;
-    check(rt, alloc, line, "a", Ok((bytewise, options)));
 }
 
 #[test]
 fn words_of_keep_say_how_the_file_is_written(rt: HostRuntime) {
-    for row in PREMISES.as_slice() {
-        check_premise(&rt, rt.alloc(), row);
+    for (line, bytewise, options) in PREMISES.as_slice() {
+        check(&rt, rt.alloc(), line, "a", Ok((*bytewise, *options)));
     }
-}
-
-/// Tests that no words at all are refused.
-fn check_none(rt: &impl Abort, alloc: Global) {
-    let none: [String; 0] = [];
-    let found = said(rt, &none, alloc, "no words", "");
-    same(rt, found, Err(WordsFault::Form), "no words");
 }
 
 #[test]
@@ -200,5 +181,7 @@ fn other_words_of_keep_are_refused(rt: HostRuntime) {
     for line in OTHERS.as_slice() {
         check(&rt, rt.alloc(), line, "", Err(WordsFault::Form));
     }
-    check_none(&rt, rt.alloc());
+    let none: [String; 0] = [];
+    let found = said(&rt, &none, rt.alloc(), "no words", "");
+    same(&rt, found, Err(WordsFault::Form), "no words");
 }

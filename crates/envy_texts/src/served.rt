@@ -94,20 +94,15 @@ const CAPS: [Row; 6] = [
     ("29 to 30 bytes", 29, 30, End::Done, "1\n2\n3\n4\n"),
 ];
 
-/// Serves the trace in pieces of this size, where at most `cap` bytes of it may be taken.
-fn check_in(rt: &impl Abort, alloc: Global, piece: usize, cap: u64, row: &Row) {
-    let (name, _, _, end, replies) = *row;
-    let mut source = source_in(rt, alloc, piece);
-    let mut sink = MemSink::new(alloc, 100, Vec::new(alloc)).expect(rt, "no room for a sink");
-    let found = serve_within(cap, &mut source, &mut sink);
-    same(rt, found, Some(end), name);
-    same_bytes(rt, sink.written(), replies.as_bytes(), name);
-}
-
-/// The same in pieces of several sizes.
+/// Serves the trace in pieces of several sizes, where at most `cap` bytes of it may be taken.
 fn check(rt: &impl Abort, alloc: Global, cap: u64, row: &Row) {
+    let (name, _, _, end, replies) = *row;
     for piece in [1, 5, 128].as_slice() {
-        check_in(rt, alloc, *piece, cap, row);
+        let mut source = source_in(rt, alloc, *piece);
+        let mut sink = MemSink::new(alloc, 100, Vec::new(alloc)).expect(rt, "no room for a sink");
+        let found = serve_within(cap, &mut source, &mut sink);
+        same(rt, found, Some(end), name);
+        same_bytes(rt, sink.written(), replies.as_bytes(), name);
     }
 }
 

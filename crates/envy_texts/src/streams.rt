@@ -256,14 +256,7 @@ fn long_lines_of_a_source(rt: HostRuntime) {
 
 /// What a source of six bytes in pieces of three, whose second call fails, answers to calls for two bytes and then for
 /// five, and what was read then, where that is said.
-type Few = (
-    &'static str,
-    usize,
-    Result<usize, Failed>,
-    Option<&'static str>,
-);
-
-const FEWEST: [Few; 5] = [
+const FEWEST: [(&str, usize, Result<usize, Failed>, Option<&str>); 5] = [
     ("two that are asked for", 2, Ok(2), None),
     ("failure", 5, Err(Failed), None),
     ("three of a piece", 5, Ok(3), Some("cde..")),
@@ -271,29 +264,19 @@ const FEWEST: [Few; 5] = [
     ("none that is left", 5, Ok(0), None),
 ];
 
-/// Asks the source for two bytes, or for these five.
-fn filled(source: &mut MemSource, count: usize, five: &mut [u8; 5]) -> Result<usize, Failed> {
-    if count == 2 {
-        source.fill(&mut [b'.'; 2])
-    } else {
-        source.fill(five)
-    }
-}
-
-/// Asks the source as a row says.
-fn check_few(rt: &impl Abort, source: &mut MemSource, five: &mut [u8; 5], row: &Few) {
-    let (name, count, answer, text) = *row;
-    same(rt, filled(source, count, five), answer, name);
-    if let Some(text) = text {
-        same_bytes(rt, five, text.as_bytes(), name);
-    }
-}
-
 /// Asks the source as each row says.
 fn check_fewest(rt: &impl Abort, source: &mut MemSource) {
-    let mut five = [b'.'; 5];
-    for row in FEWEST.as_slice() {
-        check_few(rt, source, &mut five, row);
+    let (mut two, mut five) = ([b'.'; 2], [b'.'; 5]);
+    for (name, count, answer, text) in FEWEST.as_slice() {
+        let found = if *count == 2 {
+            source.fill(&mut two)
+        } else {
+            source.fill(&mut five)
+        };
+        same(rt, found, *answer, name);
+        if let Some(text) = text {
+            same_bytes(rt, &five, text.as_bytes(), name);
+        }
     }
 }
 
