@@ -45,7 +45,7 @@ enum envy_code {
     ENVY_SETUP_LIMIT = 29,    /* a limit of at least 1 */
     ENVY_SETUP_MARK = 30,     /* a mark of 1 to the number of frames */
 
-    /* what was found is damaged: the first point of soundness that fails. The audit behind these looks at the map, at
+    /* what was found is damaged: the first point of soundness that fails. The audit for these looks at the map, at
        the rows that are free and at copies of the cleaner's. A byte of a page's data that was changed it can't see: the
        memory keeps no sums over data. */
     ENVY_BROKEN_FIELDS = 31,     /* a field of the map doesn't decode, or is out of its range */
@@ -90,13 +90,16 @@ enum envy_code {
 
     /* files that are kept by envy_kept.h */
     ENVY_NO_JOURNAL = 72,     /* the file holds something else, or a journal of no memory */
-    ENVY_OTHER_JOURNAL = 73   /* the file is a journal of a version that isn't known here */
+    ENVY_OTHER_JOURNAL = 73,  /* the file is a journal of a version that isn't known here */
+    ENVY_DAMAGED = 74,        /* the file is a journal that no crash leaves so: something else changed it */
+    ENVY_APPENDED = 75        /* all is on the disk, as after a sync, but the second file of a compaction failed */
 };
 
 /* What calls that open files answer beside an envy_code. */
 enum envy_file_code {
     ENVY_SYSTEM = 1000, /* the system refused a call, and errno says why */
-    ENVY_LOCKED = 1001  /* the file is open already, here or in another process */
+    ENVY_LOCKED = 1001, /* the file is open already, here or in another process */
+    ENVY_TOO_MANY = 1002 /* ENVY_DISKS files of envy_kept_file.h are open already */
 };
 
 /* How the cleaner chooses what to clean. */
@@ -123,12 +126,12 @@ typedef struct envy_setup {
     uint32_t frames;   /* of SRAM: 2 to 65,536 */
     uint32_t entries;  /* of the translation cache: 1 to 65,536 */
     uint32_t policy;   /* an envy_policy */
-    uint32_t part;     /* positions of a partition, where the policy is ENVY_HYBRID */
+    uint32_t part;     /* positions of a partition, if the policy is ENVY_HYBRID */
     uint64_t limit;    /* how far wear may differ before two segments are swapped: at least 1 */
     uint32_t mark;     /* held frames from which on a background step writes pages back */
 } envy_setup;
 
-/* A region of so many words. */
+/* A region of words. */
 typedef struct envy_words {
     uint64_t *at;
     size_t len;

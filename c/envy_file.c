@@ -1,5 +1,6 @@
 #define _DEFAULT_SOURCE
 #include "envy_file.h"
+#include "envy_open.h"
 #include <errno.h>
 #include <fcntl.h>
 #include <stdio.h>
@@ -11,6 +12,9 @@
 #include <unistd.h>
 
 enum { WORD = 8, ROW_WORDS = 32 };
+
+/* How many names a file may have while it is made, and the room for what makes them differ. */
+enum { NAMES = 100, NUMBERS = 40 };
 
 typedef uint32_t open_regions(envy_mapped *, const envy_setup *, envy_rows, envy_words, envy_words);
 
@@ -58,7 +62,8 @@ static uint32_t taken(envy_file *f, const envy_setup *setup, const envy_sizes *s
     return code == ENVY_DONE ? mapped(f, setup, sizes, call) : code;
 }
 
-/* Gives the file up, and its lock with it. What the system refused before stays in errno. */
+/* Gives the file up, and its lock, which a process that was forked off would keep. If this is such a process, the lock
+   is the other one's. What the system refused before stays in errno. */
 static void let_go(envy_file *f) {
     int why = errno;
     if (f->at) {
@@ -66,18 +71,30 @@ static void let_go(envy_file *f) {
         munmap(f->at, f->bytes);
         f->at = NULL;
     }
+    if (f->descriptor >= 0 && f->process == getpid()) flock(f->descriptor, LOCK_UN);
     if (f->descriptor >= 0) close(f->descriptor);
     f->descriptor = -1;
     errno = why;
 }
 
+/* Makes a file under a name that nothing has, which begins with this path, and which has the access rights that a new
+   file has. Writes the name, for which there is room. */
+static int made_beside(const char *path, char *beside, size_t room) {
+    int descriptor = -1;
+    for (unsigned number = 0; number < NAMES; number++) {
+        snprintf(beside, room, "%s.%ld.%u", path, (long)getpid(), number);
+        descriptor = open(beside, O_RDWR | O_CREAT | O_EXCL | O_CLOEXEC, 0666);
+        if (descriptor >= 0 || errno != EEXIST) break;
+    }
+    return above_standard_streams(descriptor);
+}
+
 /* Makes the file beside its path, formats it, and puts it there: whole, and only where there is none. */
 static uint32_t made(envy_file *f, const char *path, const envy_setup *setup, const envy_sizes *sizes) {
-    size_t long_enough = strlen(path) + sizeof ".XXXXXX";
+    size_t long_enough = strlen(path) + NUMBERS;
     char *beside = malloc(long_enough);
     if (!beside) return ENVY_NO_MEMORY;
-    snprintf(beside, long_enough, "%s.XXXXXX", path);
-    f->descriptor = mkstemp(beside);
+    f->descriptor = made_beside(path, beside, long_enough);
     uint32_t code = ENVY_SYSTEM;
     if (f->descriptor >= 0) {
         off_t bytes = (off_t)((sizes->rows * ROW_WORDS + sizes->words + sizes->erases) * WORD);
@@ -100,13 +117,15 @@ uint32_t envy_file_open(envy_file *f, const char *path, const envy_setup *setup)
     uint32_t code = envy_mapped_sizes(setup, &sizes);
     if (code != ENVY_DONE) return code;
     if (!f->memory.at && (code = envy_mapped_new(&f->memory)) != ENVY_DONE) return code;
-    f->descriptor = open(path, O_RDWR | O_CLOEXEC);
+    hold_standard_streams();
+    f->process = getpid();
+    f->descriptor = above_standard_streams(open(path, O_RDWR | O_CLOEXEC));
     if (f->descriptor < 0 && errno == ENOENT) {
         code = made(f, path, setup, &sizes);
         /* another process made it meanwhile */
         if (code == ENVY_SYSTEM && errno == EEXIST) {
             let_go(f);
-            f->descriptor = open(path, O_RDWR | O_CLOEXEC);
+            f->descriptor = above_standard_streams(open(path, O_RDWR | O_CLOEXEC));
             code = f->descriptor < 0 ? ENVY_SYSTEM : taken(f, setup, &sizes, envy_mapped_attach);
         }
     } else {

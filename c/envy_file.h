@@ -15,21 +15,24 @@ typedef struct envy_file {
     void *at;
     size_t bytes;
     int descriptor;
+    int process; /* the one that opened the file */
 } envy_file;
-#define ENVY_FILE_INIT {ENVY_MAPPED_INIT, NULL, 0, -1}
-/* the name of before, for programs that have it */
+#define ENVY_FILE_INIT {ENVY_MAPPED_INIT, NULL, 0, -1, 0}
+/* an earlier name, for programs that have it */
 #define ENVY_NO_FILE ENVY_FILE_INIT
 
-/* Opens the file at a path, or makes one of zeros where there is none: it comes to be there formatted, or not at all.
+/* Opens the file at a path, or makes one of zeros if there is none: it is there formatted, or not at all.
    How much of each region it has is read off its length, so a file that was cut short or grew is refused by the code of
-   the region that is too short, or of the counts of erases that are too long.
+   the region that is too short, or of the counts of erases that are too long. A new file has the access rights that the
+   process's umask leaves. No descriptor of the file is one of a standard stream, and a standard stream that is closed is
+   opened on /dev/null, if its use fails as before.
    ENVY_DONE, ENVY_SYSTEM, ENVY_LOCKED, or what envy_mapped_new, envy_mapped_format or envy_mapped_attach answer.
    Refused, the file is as before, and the place holds none. */
 uint32_t envy_file_open(envy_file *f, const char *path, const envy_setup *setup);
 
 /* Writes the setup that the file at a path was formatted with, as envy_mapped_shape does: the file must be as long as
    that setup asks. It is for a program that doesn't know the shape of a file, and neither locks nor audits it.
-   ENVY_DONE, ENVY_SYSTEM, ENVY_OLDER, or ENVY_UNFORMATTED, also where a file was cut short or grew. Refused, the setup
+   ENVY_DONE, ENVY_SYSTEM, ENVY_OLDER, or ENVY_UNFORMATTED, also if a file was cut short or grew. Refused, the setup
    is as before. */
 uint32_t envy_file_shape(const char *path, envy_setup *setup);
 
@@ -37,7 +40,7 @@ uint32_t envy_file_shape(const char *path, envy_setup *setup);
 uint32_t envy_file_sync(envy_file *f);
 
 /* Ends the memory, writes it through to the disk, and gives up the file and its lock. The place may be opened again.
-   ENVY_DONE, or ENVY_SYSTEM where it wasn't all written through. On a place without a file it does nothing. */
+   ENVY_DONE, or ENVY_SYSTEM if it wasn't all written through. On a place without a file it does nothing. */
 uint32_t envy_file_close(envy_file *f);
 
 #ifdef __cplusplus

@@ -8,17 +8,17 @@
        for (code = envy_index_next(&m, 0, &pair); code == ENVY_DONE; code = envy_index_above(&m, pair.key, &pair))
            printf("%llu %llu\n", (unsigned long long)pair.key, (unsigned long long)pair.value);
 
-   The map is the whole array's, which its words don't tell: nothing marks an array that holds a map, and no call can
+   The map is the whole array's, which its words don't show: nothing marks an array that holds a map, and no call can
    see that one doesn't. An array of zeros is the map without pairs, so a memory that envy_mapped_format made holds one.
 
    What the program promises beside what envy_mapped.h says, and nothing checks: of the array that it gives to any call
    but envy_index_create,
    - it is one of zeros, or envy_index_create answered ENVY_DONE for it once, and
-   - since then no call but those of this file wrote words that were kept: by a store or a commit. To take the memory up
+   - since then no call but those of this file wrote words that lasted: by a store or a commit. To open the memory
      again after a close or a kill changes no word. A transaction that was aborted wrote none.
    An array that holds no map may lead a call anywhere.
 
-   A map of p pages has at most 14 * (q - 8) pairs, where q is (32 * p - 64) / 64, rounded down: at worst nodes are half
+   A map of p pages has at most 14 * (q - 8) pairs, with q = (32 * p - 64) / 64, rounded down: at worst nodes are half
    full. Its setup has at least 20 pages and 32 shadows.
 
    No call takes memory from the heap, so a loop as the one above takes none. Calls that only read change no word of the
@@ -27,8 +27,8 @@
 
    Every call may answer, before all that is named beside it: ENVY_EMPTY, the place holds no memory; ENVY_MAP_SETUP, the
    setup has fewer than 20 pages or 32 shadows; ENVY_SLOT_OPEN, a transaction is open, which is to be committed or aborted
-   first. Nothing changes then. Where a call answers anything but ENVY_DONE, what its last pointer points to is as before,
-   and the map has the pairs of before. */
+   first. Nothing changes then. If a call answers anything but ENVY_DONE, what its last pointer points to is as before,
+   and the map has its old pairs. */
 #ifndef ENVY_INDEX_H
 #define ENVY_INDEX_H
 

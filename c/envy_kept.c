@@ -17,8 +17,11 @@ typedef struct port {
     uint64_t order; /* the one whose bytes are still to come, else NONE */
     uint64_t at;
     uint64_t size;
-    uint8_t answer; /* of the last order: 0 where it was done */
+    uint8_t answer; /* of the last order */
 } port;
+
+/* The answers to an order. */
+enum { CARRIED_OUT = 0, FAILED = 1, NOT_REPLACED = 2 };
 
 static port ports[ENVY_DISKS];
 
@@ -31,7 +34,7 @@ int32_t envy_disk_open(const envy_disk *disk) {
         const envy_disk *none = NULL;
         if (!atomic_compare_exchange_strong(&ports[i].disk, &none, disk)) continue;
         ports[i].order = NONE;
-        ports[i].answer = 1;
+        ports[i].answer = FAILED;
         return i;
     }
     return -1;
@@ -48,8 +51,8 @@ static uint64_t number_at(const uint8_t *bytes) {
     return n;
 }
 
-/* Carries out an order that has these bytes. */
-static int carried(port *p, uint64_t order, const void *bytes, size_t n) {
+/* Has the program carry out an order that has these bytes. */
+static int asked(port *p, uint64_t order, const void *bytes, size_t n) {
     const envy_disk *disk = atomic_load(&p->disk);
     switch (order) {
     case WRITE: return disk->write(disk->context, p->at, bytes, n);
@@ -58,11 +61,18 @@ static int carried(port *p, uint64_t order, const void *bytes, size_t n) {
     case BEGIN: return disk->begin(disk->context);
     case APPEND: return disk->append(disk->context, bytes, n);
     case REPLACE: return disk->replace(disk->context);
-    default: return 1;
+    default: return FAILED;
     }
 }
 
-/* An order, and behind it the bytes of a write, where they lie. */
+/* The answer to an order. That nothing was replaced is told of one that replaces alone. */
+static uint8_t answered(port *p, uint64_t order, const void *bytes, size_t n) {
+    int answer = asked(p, order, bytes, n);
+    if (!answer) return CARRIED_OUT;
+    return order == REPLACE && answer == ENVY_NOT_REPLACED ? NOT_REPLACED : FAILED;
+}
+
+/* An order, and after it the bytes of a write, where they lie. */
 intptr_t envy_disk_order(int number, const void *bytes, size_t count) {
     port *p = port_of(number);
     if (!p) return -1;
@@ -72,14 +82,14 @@ intptr_t envy_disk_order(int number, const void *bytes, size_t count) {
         order = number_at(bytes);
         p->at = number_at((const uint8_t *)bytes + 8);
         p->size = number_at((const uint8_t *)bytes + 16);
-        p->answer = 1;
+        p->answer = FAILED;
         if (p->size) p->order = order;
-        else p->answer = carried(p, order, "", 0) != 0;
+        else p->answer = answered(p, order, "", 0);
         return ORDER_BYTES;
     }
     p->order = NONE;
     if (count != p->size) return -1;
-    p->answer = carried(p, order, bytes, count) != 0;
+    p->answer = answered(p, order, bytes, count);
     return (intptr_t)count;
 }
 
@@ -88,6 +98,6 @@ intptr_t envy_disk_answer(int number, void *at, size_t count) {
     port *p = port_of(number);
     if (!p || count != 1) return -1;
     *(uint8_t *)at = p->answer;
-    p->answer = 1;
+    p->answer = FAILED;
     return 1;
 }

@@ -4,27 +4,29 @@
    The memory lies in the heap, and each operation of its board is logged to the file. From a call of envy_kept_sync that
    answered ENVY_DONE on, whatever a stop of the process or of the machine leaves at any moment, inside calls too, opens
    as the array of that sync or of a later one; transactions that were open then are undone. What was done since the last
-   sync may be lost, all of it, also where the process alone dies: so a program syncs when it has promised something to
+   sync may be lost, all of it, also if the process alone dies: so a program syncs when it has promised something to
    somebody. Several commits may share one sync.
 
    Isolation is that of envy_mapped.h. envy_kept_file.h opens a file by its path and serves it, which is what most
    programs want; what follows here is for those that serve files themselves.
 
-   Where the file fails, or comes to the end of its range of 2^60 bytes, the call answers ENVY_OFF, and so does every
-   later one, and changes nothing: close the memory and open the file again. A file that failed once isn't asked again.
+   If the file fails, or comes to the end of its range of 2^60 bytes, the call answers ENVY_OFF, and so does every
+   later one, and changes nothing: close the memory and open the file again, after the system has dropped what it holds
+   of the file (envy_kept_file.h does so). A file that failed once isn't asked again. A second file that fails leaves the
+   first as it was, and the memory goes on with that one.
 
    What the program promises, and nothing checks:
-   - It makes a handle with ENVY_KEPT_INIT, calls envy_kept_new on it once, and gives every other call a handle of which
-     envy_kept_new answered ENVY_DONE. It neither copies nor changes a handle.
+   - It makes a handle with ENVY_KEPT_INIT and calls envy_kept_new on it at most once. Until that answered ENVY_DONE every
+     other call that is given the handle answers ENVY_EMPTY. It neither copies nor changes a handle.
    - One call at a time uses a handle. It may use it from any thread if it orders the calls itself.
    - Every pointer is to memory that is there, aligned, of the size that is said, and in no two arguments at once. None
-     is NULL, also not that of no words, nor `holder` and `done` where the program doesn't ask for them.
+     is NULL, also not that of no words, nor `holder` and `done`, even if the program doesn't ask for them.
    - rattle_alloc, rattle_realloc and rattle_dealloc are those of heap.c, or do the same.
    - Of the file what is said below at envy_disk.
 
-   Where a call answers anything but ENVY_DONE, what its pointers point to is as before, but for ENVY_HELD and *done of
-   envy_kept_write. Where several answers would be right, it is the first of them in the order in which the call names
-   them, but that ENVY_OFF goes before all but ENVY_EMPTY. */
+   If a call answers anything but ENVY_DONE, what its pointers point to is as before, except for ENVY_HELD and *done of
+   envy_kept_write. If several answers would be right, it is the first of them in the order in which the call names
+   them, except that ENVY_OFF goes before all but ENVY_EMPTY. */
 #ifndef ENVY_KEPT_H
 #define ENVY_KEPT_H
 
@@ -34,18 +36,20 @@
 extern "C" {
 #endif
 
-/* What serves the file of one memory, by calls that answer 0 where they did what they say, and anything else where they
-   may have done any part of it. After such an answer none of them is called again.
+/* What serves the file of one memory, by calls that answer 0 if they did what they say, and anything else if they may
+   have done any part of it. After such an answer of write, cut or sync none of them is called again. After one of begin or
+   append, or ENVY_NOT_REPLACED of replace, the next call on the second file, if there is one, is begin.
 
    What is promised of them:
    1. Until a sync, a stop of the machine may leave of each range that was written or cut any bytes, in any order; what
-      was in the file when a sync answered 0 stays, but for what was written since.
+      was in the file when a sync answered 0 stays, except what was written since.
    2. `replace` brings the second file to the disk first, then puts it under the file's name, and answers 0 once that
       name is on the disk. A stop of the machine in it leaves the old file or the second one, whole. From then on the
-      other calls are about the file that has the name.
+      other calls are about the file that has the name. It answers ENVY_NOT_REPLACED only if the second file isn't under
+      that name, and won't be after a stop of the machine; after any other answer none of the calls is made again.
    3. Nobody else writes the file while it is open.
 
-   A call that is interrupted or writes less than it was given goes on by itself. */
+   A call that is interrupted or writes less than it was given continues by itself. */
 typedef struct envy_disk {
     void *context; /* handed to each call */
     /* Writes all n bytes at an offset that lies in the file or at its end. */
@@ -56,16 +60,19 @@ typedef struct envy_disk {
     int (*sync)(void *context);
     /* Makes a second file beside the first, or cuts it to no bytes. */
     int (*begin)(void *context);
-    /* Writes all n bytes behind those of the second file. */
+    /* Writes all n bytes after those of the second file. */
     int (*append)(void *context, const void *bytes, size_t n);
     /* Puts the second file in the first one's place. */
     int (*replace)(void *context);
 } envy_disk;
 
+/* The answer of `replace` if the second file wasn't put in the first one's place, which is as it was. */
+enum { ENVY_NOT_REPLACED = 2 };
+
 /* How many files may be served at a time. */
 enum { ENVY_DISKS = 256 };
 
-/* The number of a port to a file, or -1 where ENVY_DISKS are open. The disk must stay where it is. Any thread may call. */
+/* The number of a port to a file, or -1 if ENVY_DISKS are open. The disk must stay where it is. Any thread may call. */
 int32_t envy_disk_open(const envy_disk *disk);
 
 /* Ends a port to a file that no memory uses any more. */
@@ -86,32 +93,39 @@ uint32_t envy_kept_size(const envy_setup *setup, uint64_t *bytes);
    process ends, and serves for any number of memories, one after another. */
 uint32_t envy_kept_new(envy_kept *m);
 
-/* Makes a memory of zeros in a file that holds no journal yet, or takes up the one that the file holds. The program has
-   opened the file, kept others out of it, brought it to the disk, and then read it whole: `file` are its n bytes, which
-   don't change while the call lasts (so no mapping that shows what is written to the file meanwhile), and `port` is what
-   envy_disk_open gave for it. An empty file holds no journal yet. All that the memory holds is on the disk when it is
-   done.
+/* Makes a memory of zeros in a file that holds no journal yet, or opens the one that the file holds. The program has
+   opened the file, kept others out of it, brought it to the disk, had the system drop what it held of it (as by
+   posix_fadvise with POSIX_FADV_DONTNEED), and then read it whole: `file` are its n bytes, which don't change while the
+   call lasts (so no mapping that shows what is written to the file meanwhile), and `port` is what envy_disk_open gave for
+   it. What the system holds is dropped because it reports a failed write once and then takes what it holds for written:
+   without that a later call would open words that the disk doesn't have, and no sync would write them. An empty file holds
+   no journal yet. All that the memory holds is on the disk when it is done.
    What the file holds isn't trusted: it is read as operations of a board of the setup's sizes, and that board is audited
-   as envy_mapped_attach does. Policy, part, limit and mark may differ from those of before. Transactions that were open
+   as envy_mapped_attach does. Policy, part, limit and mark may differ from the earlier ones. Transactions that were open
    at the last sync are undone.
-   ENVY_DONE; ENVY_OPEN; ENVY_POLICY, ENVY_SETUP_*; ENVY_NO_JOURNAL; ENVY_OTHER_JOURNAL; ENVY_OTHER_SHAPE;
-   ENVY_NO_MEMORY; ENVY_OFF where the file failed.
-   Where it is refused the place is as before, and the file opens as before: for ENVY_POLICY, ENVY_SETUP_*,
-   ENVY_OTHER_JOURNAL and ENVY_OTHER_SHAPE no call of the disk is made. */
+   ENVY_DONE; ENVY_OPEN; ENVY_POLICY, ENVY_SETUP_*; ENVY_NO_JOURNAL; ENVY_OTHER_JOURNAL;
+   ENVY_DAMAGED; ENVY_OTHER_SHAPE; ENVY_NO_MEMORY; ENVY_OFF if the file failed.
+   If it is refused the place is as before, and the file opens as before: no call of the disk is made unless it answers
+   ENVY_DONE, ENVY_NO_MEMORY or ENVY_OFF. */
 uint32_t envy_kept_open(envy_kept *m, const envy_setup *setup, const uint8_t *file, size_t n, int32_t port);
 
 /* The same, of a file of which the program states that it is written byte by byte: in place of point 1 at envy_disk, a stop
    of the machine leaves at each place of a range that was being written the byte that was written or the one that was
-   there; behind the old end that is a 0. Nothing checks it. Then envy_kept_sync makes one sync of the file, and not two.
+   there; past the old end that is a 0. Nothing checks it. Then envy_kept_sync makes one sync of the file, and not two.
    How a file was opened stays for as long as the memory is open; the next call may open the same file either way. */
 uint32_t envy_kept_open_bytewise(envy_kept *m, const envy_setup *setup, const uint8_t *file, size_t n, int32_t port);
+
+/* How many of the n bytes of a file opening it cuts off, if they hold what reads as a whole batch with an open gate: a stop
+   of the machine may leave such bytes, and so does damage to an earlier gate, with which syncs are lost. So copy the file
+   before it is opened, as envy_kept_open_file does. Else 0. */
+uint64_t envy_kept_cut(const uint8_t *file, size_t n);
 
 /* Ends the memory and frees what it took from the heap. It makes no call of the disk: what was done since the last sync
    is lost, unless the program syncs before. The file may be opened again. On an empty place it does nothing. */
 void envy_kept_close(envy_kept *m);
 
 /* Brings all that the memory holds to the disk, with what open transactions put, by two writes and two syncs of the
-   file, or by three writes and one sync where it was opened as written byte by byte; where the file would be longer then
+   file, or by three writes and one sync if it was opened as written byte by byte; if the file would be longer then
    than 1 MiB and than twice what the whole board takes (36 bytes, 13 for each word of SRAM and 261 for each row), by
    envy_kept_compact.
    ENVY_DONE: it is on the disk. ENVY_EMPTY. ENVY_OFF: it may be there or not; close the memory and open the file again,
@@ -119,20 +133,22 @@ void envy_kept_close(envy_kept *m);
 uint32_t envy_kept_sync(envy_kept *m);
 
 /* A sync that leaves in the file no more than what the board holds takes: it writes that to a second file and puts it in
-   the first one's place. Its time grows with the memory. ENVY_DONE, ENVY_EMPTY, ENVY_OFF, as of envy_kept_sync. */
+   the first one's place. Its time grows with the memory. ENVY_DONE, ENVY_EMPTY, ENVY_OFF, as of envy_kept_sync;
+   ENVY_APPENDED if the second file failed before it was put there, and errno says why: then it was done as a sync, and the
+   memory goes on. */
 uint32_t envy_kept_compact(envy_kept *m);
 
 /* Whether the memory has power, that is, whether its file serves: ENVY_DONE, ENVY_EMPTY, or ENVY_OFF once it failed. */
 uint32_t envy_kept_powered(envy_kept *m);
 
-/* Writes the word at an address, also where an open transaction put it. ENVY_DONE, ENVY_EMPTY, ENVY_RANGE, ENVY_OFF. */
+/* Writes the word at an address, also if an open transaction put it. ENVY_DONE, ENVY_EMPTY, ENVY_RANGE, ENVY_OFF. */
 uint32_t envy_kept_load(envy_kept *m, uint32_t address, uint64_t *word);
 
 /* Writes the committed word at an address. ENVY_DONE, ENVY_EMPTY, ENVY_RANGE, ENVY_OFF. */
 uint32_t envy_kept_look(envy_kept *m, uint32_t address, uint64_t *word);
 
-/* Writes the n words from an address on, also where open transactions put them: as n loads. ENVY_DONE, ENVY_EMPTY,
-   ENVY_OFF, or ENVY_RANGE where one of the addresses lies past the last page, and then none is written. */
+/* Writes the n words from an address on, also if open transactions put them: as n loads. ENVY_DONE, ENVY_EMPTY,
+   ENVY_OFF, or ENVY_RANGE if one of the addresses lies past the last page, and then none is written. */
 uint32_t envy_kept_read(envy_kept *m, uint32_t address, uint64_t *words, size_t n);
 
 /* Makes the word at an address this. ENVY_DONE, ENVY_EMPTY, ENVY_OFF, ENVY_RANGE, or ENVY_HELD with the slot that owns
@@ -149,12 +165,12 @@ uint32_t envy_kept_begin(envy_kept *m, uint32_t *slot);
 uint32_t envy_kept_put(envy_kept *m, uint32_t slot, uint32_t address, uint64_t word, uint32_t *holder);
 
 /* Makes the n words from an address on these within the transaction of a slot: puts word after word. The first put that
-   is refused ends it and is answered, and the words of before it stay put: *done says how many, n where all are.
+   is refused ends it and is answered, and the earlier words stay put: *done says how many, n if all are.
    ENVY_DONE, ENVY_EMPTY (*done is 0), or what envy_kept_put answers. Of no words it is done at once. */
 uint32_t envy_kept_write(envy_kept *m, uint32_t slot, uint32_t address, const uint64_t *words, size_t n, size_t *done,
                          uint32_t *holder);
 
-/* Writes the word at an address as the transaction of a slot sees it: where the slot owns the page as envy_kept_load
+/* Writes the word at an address as the transaction of a slot sees it: if the slot owns the page as envy_kept_load
    does, else as envy_kept_look does. A slot that isn't open owns nothing. ENVY_DONE, ENVY_EMPTY, ENVY_OFF, ENVY_RANGE. */
 uint32_t envy_kept_view(envy_kept *m, uint32_t slot, uint32_t address, uint64_t *word);
 

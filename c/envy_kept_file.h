@@ -1,4 +1,4 @@
-/* A memory of envy_kept.h in a file of the host: opened by its path, or made where there is none, locked while it is
+/* A memory of envy_kept.h in a file of the host: opened by its path, or made if there is none, locked while it is
    open, read whole, and served. */
 #ifndef ENVY_KEPT_FILE_H
 #define ENVY_KEPT_FILE_H
@@ -15,18 +15,25 @@ typedef struct envy_kept_file {
     envy_kept memory;
     envy_disk disk;
     int32_t port;
-    int descriptor;     /* -1 where no file is open */
+    int descriptor;     /* -1 if no file is open */
     int second;         /* of a second file that is written, else -1 */
     uint64_t second_at; /* the bytes of it */
     char *path;
     char *beside; /* the path of the second file */
+    int process;  /* the one that opened the file */
+    int why;      /* errno of the call on the file that failed, else 0 */
 } envy_kept_file;
-#define ENVY_KEPT_FILE_INIT {ENVY_KEPT_INIT, {0, 0, 0, 0, 0, 0, 0}, -1, -1, -1, 0, 0, 0}
+#define ENVY_KEPT_FILE_INIT {ENVY_KEPT_INIT, {0, 0, 0, 0, 0, 0, 0}, -1, -1, -1, 0, 0, 0, 0, 0}
 
-/* Opens the file at a path, or makes an empty one, locks it, brings it and its folder to the disk, reads it whole, and
-   has envy_kept_open make or take up the memory in it. Beside it a second file may come to be, at the path and ".envy-new".
-   ENVY_DONE, ENVY_SYSTEM, ENVY_LOCKED, or what envy_kept_new and envy_kept_open answer. Refused, the place holds none; an
-   empty file that was made stays. */
+/* Opens the file at a path, or makes an empty one, locks it, brings it and its folder to the disk, has the system drop
+   what it holds of the file, reads it whole, and has envy_kept_open make or open the memory in it. Beside it a second file
+   may come to be, at the path and ".envy-new", or with a number of 1 to 7 after that if something else has the name. One is
+   made and removed at once, so that a folder in which none can be made, or a name that is too long, is ENVY_SYSTEM here;
+   those that a crash left are removed. No descriptor of the file is one of a standard stream, and a standard stream that is
+   closed is opened on /dev/null, and its use fails there as before.
+   ENVY_DONE, ENVY_SYSTEM, ENVY_LOCKED, ENVY_TOO_MANY, or what envy_kept_new and envy_kept_open answer. Refused, the place
+   holds none; an empty file that was made stays, unless no second file can be made. At ENVY_SYSTEM and ENVY_OFF errno says
+   why. */
 uint32_t envy_kept_open_file(envy_kept_file *f, const char *path, const envy_setup *setup);
 
 /* The same by envy_kept_open_bytewise: the program states that the file system and the disk under it write the file byte by
@@ -34,8 +41,15 @@ uint32_t envy_kept_open_file(envy_kept_file *f, const char *path, const envy_set
 uint32_t envy_kept_open_file_bytewise(envy_kept_file *f, const char *path, const envy_setup *setup);
 
 /* Syncs, ends the memory, and gives up the file and its lock. The place may be opened again. ENVY_DONE, also on a place
-   without a file; ENVY_OFF where the last sync failed: then the file opens as of that sync or of the one before. */
+   without a file; ENVY_OFF, with errno, if the last sync failed: then the file opens as of that sync or of the previous one.
+   A process that was forked off while the file was open has no file: there each call that would write to it, and this one,
+   is ENVY_OFF with EPERM, and nothing is done to the file or to the lock of the process that opened it. */
 uint32_t envy_kept_close_file(envy_kept_file *f);
+
+/* The errno of the call on the file after which calls answer ENVY_OFF: EFBIG also if the process may not make the file
+   so long, EPERM in a process that was forked off. 0 if none failed since the file was opened. It stays after
+   envy_kept_close_file, until the place is opened again. */
+int envy_kept_file_error(const envy_kept_file *f);
 
 #ifdef __cplusplus
 }

@@ -3,7 +3,7 @@
    that answered ENVY_DONE on, whatever a stop of the process or of the machine leaves opens as the map of that sync or
    of a later one, with no call half done. Several calls may share one sync.
 
-   Each call may answer ENVY_OFF as well, where the file failed: close the memory and open the file again. It may have been
+   Each call may answer ENVY_OFF as well, if the file failed: close the memory and open the file again. It may have been
    done then, or not. */
 #ifndef ENVY_KEPT_INDEX_H
 #define ENVY_KEPT_INDEX_H

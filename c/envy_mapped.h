@@ -6,7 +6,7 @@
    of another transaction, to any word of that page is answered ENVY_HELD with the owner's slot, also to a word that the
    owner never put, and changes nothing. Transactions aren't hidden from one another: load and read see what any open
    transaction put; look sees what is committed, the words that a restart would leave; view sees what the transaction of
-   one slot put, and else what is committed. Nothing waits: who is refused tries again, or aborts.
+   one slot put, and else what is committed. Nothing waits: whoever is refused tries again, or aborts.
 
    A process that is killed at any moment is a failure of power: the next one attaches to the regions, and finds every
    word that was stored and every transaction that was committed, and of others nothing. Of the call in which the
@@ -17,14 +17,14 @@
      which envy_mapped_new answered ENVY_DONE. It neither copies nor changes a handle.
    - One call at a time uses a handle. It may use it from any thread if it orders the calls itself.
    - Every pointer is to memory that is there, aligned, of the size that is said, and in no two arguments at once. None
-     is NULL, also not that of no words, nor `holder` and `done` where the program doesn't ask for them.
+     is NULL, also not that of no words, nor `holder` and `done`, even if the program doesn't ask for them.
    - From the call that gives regions until envy_mapped_close, or until a call that gave them is refused, it neither
      reads nor writes the regions, and no other process does; nor does it unmap them or shorten their file.
    - rattle_alloc, rattle_realloc and rattle_dealloc are those of heap.c, or do the same.
 
-   Where a call answers anything but ENVY_DONE, what its pointers point to is as before, but for ENVY_HELD and *done of
-   envy_mapped_write. Where several answers would be right, it is the first of them in the order in which the call
-   names them, but that ENVY_NO_MEMORY may come in place of an ENVY_BROKEN_*. */
+   If a call answers anything but ENVY_DONE, what its pointers point to is as before, except for ENVY_HELD and *done of
+   envy_mapped_write. If several answers would be right, it is the first of them in the order in which the call
+   names them, except that ENVY_NO_MEMORY may come in place of an ENVY_BROKEN_*. */
 #ifndef ENVY_MAPPED_H
 #define ENVY_MAPPED_H
 
@@ -39,10 +39,10 @@ typedef struct envy_mapped {
     void *at;
 } envy_mapped;
 #define ENVY_MAPPED_INIT {0}
-/* the name of before, for programs that have it */
+/* an earlier name, for programs that have it */
 #define ENVY_NO_MAPPED ENVY_MAPPED_INIT
 
-/* A region of so many rows of 32 words. */
+/* A region of rows of 32 words. */
 typedef struct envy_rows {
     uint64_t (*at)[32];
     size_t len;
@@ -59,9 +59,9 @@ typedef struct envy_sizes {
 uint32_t envy_mapped_sizes(const envy_setup *setup, envy_sizes *sizes);
 
 /* Writes the shape of the memory whose SRAM begins with these n words, before a handle is made. It reads 5 of them.
-   Policy, part, limit and mark aren't kept there: they become ENVY_GREEDY, 2, 100 and the number of frames. Whether the
+   Policy, part, limit and mark aren't stored there: they become ENVY_GREEDY, 2, 100 and the number of frames. Whether the
    regions hold a sound memory is for envy_mapped_attach to say.
-   ENVY_DONE; ENVY_UNFORMATTED, also where n is less than 5; ENVY_OLDER; or an ENVY_SETUP_*, where the shape that is told
+   ENVY_DONE; ENVY_UNFORMATTED, also if n is less than 5; ENVY_OLDER; or an ENVY_SETUP_*, if the shape found
    breaks a rule. Refused, the setup is as before. */
 uint32_t envy_mapped_shape(const uint64_t *sram, size_t n, envy_setup *setup);
 
@@ -72,17 +72,17 @@ uint32_t envy_mapped_new(envy_mapped *m);
 /* Makes a memory of zeros over the regions, whatever they hold, and erases each segment once. If it is killed, the
    regions hold what they held, or nothing that is formatted, or a memory of zeros.
    ENVY_DONE; ENVY_OPEN; ENVY_POLICY, ENVY_SETUP_*; ENVY_FLASH_SIZE, ENVY_SRAM_SIZE, ENVY_ERASES_SIZE; ENVY_NO_MEMORY.
-   Where it is refused the place and the regions are as before. */
+   If it is refused the place and the regions are as before. */
 uint32_t envy_mapped_format(envy_mapped *m, const envy_setup *setup, envy_rows flash, envy_words sram,
                             envy_words erases);
 
-/* Takes up the memory that the regions hold. Sizes, version and shape are compared, and the map is audited first, with
+/* Opens the memory that the regions hold. Sizes, version and shape are compared, and the map is audited first, with
    the rows that must be free and a cleaner's copies, in a time that grows with the regions. A byte of a page's data
    that was changed it can't see: the memory keeps no sums over data. Transactions that were open are undone then, and
-   no flash operation is begun. Policy, part, limit and mark may differ from those of before.
+   no flash operation is begun. Policy, part, limit and mark may differ from the earlier ones.
    ENVY_DONE; ENVY_OPEN; ENVY_POLICY, ENVY_SETUP_*; ENVY_FLASH_SIZE, ENVY_SRAM_SIZE, ENVY_ERASES_SIZE;
    ENVY_UNFORMATTED; ENVY_OLDER; ENVY_OTHER_SHAPE; ENVY_BROKEN_*; ENVY_NO_MEMORY.
-   Where it is refused the place and the regions are as before. */
+   If it is refused the place and the regions are as before. */
 uint32_t envy_mapped_attach(envy_mapped *m, const envy_setup *setup, envy_rows flash, envy_words sram,
                             envy_words erases);
 
@@ -90,14 +90,14 @@ uint32_t envy_mapped_attach(envy_mapped *m, const envy_setup *setup, envy_rows f
    still; what open transactions put is undone by the next attach. On an empty place it does nothing. */
 void envy_mapped_close(envy_mapped *m);
 
-/* Writes the word at an address, also where an open transaction put it. ENVY_DONE, ENVY_EMPTY, ENVY_RANGE. */
+/* Writes the word at an address, also if an open transaction put it. ENVY_DONE, ENVY_EMPTY, ENVY_RANGE. */
 uint32_t envy_mapped_load(envy_mapped *m, uint32_t address, uint64_t *word);
 
 /* Writes the committed word at an address: what a restart would leave. ENVY_DONE, ENVY_EMPTY, ENVY_RANGE. */
 uint32_t envy_mapped_look(envy_mapped *m, uint32_t address, uint64_t *word);
 
-/* Writes the n words from an address on, also where open transactions put them: as n loads. ENVY_DONE, ENVY_EMPTY, or
-   ENVY_RANGE where one of the addresses lies past the last page, and then none is written. */
+/* Writes the n words from an address on, also if open transactions put them: as n loads. ENVY_DONE, ENVY_EMPTY, or
+   ENVY_RANGE if one of the addresses lies past the last page, and then none is written. */
 uint32_t envy_mapped_read(envy_mapped *m, uint32_t address, uint64_t *words, size_t n);
 
 /* Makes the word at an address this. From then on it outlives the process. ENVY_DONE, ENVY_EMPTY, ENVY_RANGE, or
@@ -114,12 +114,12 @@ uint32_t envy_mapped_begin(envy_mapped *m, uint32_t *slot);
 uint32_t envy_mapped_put(envy_mapped *m, uint32_t slot, uint32_t address, uint64_t word, uint32_t *holder);
 
 /* Makes the n words from an address on these within the transaction of a slot: puts word after word. The first put that
-   is refused ends it and is answered, and the words of before it stay put: *done says how many, n where all are.
+   is refused ends it and is answered, and the earlier words stay put: *done says how many, n if all are.
    ENVY_DONE, ENVY_EMPTY (*done is 0), or what envy_mapped_put answers. Of no words it is done at once. */
 uint32_t envy_mapped_write(envy_mapped *m, uint32_t slot, uint32_t address, const uint64_t *words, size_t n,
                            size_t *done, uint32_t *holder);
 
-/* Writes the word at an address as the transaction of a slot sees it: where the slot owns the page as envy_mapped_load
+/* Writes the word at an address as the transaction of a slot sees it: if the slot owns the page as envy_mapped_load
    does, else as envy_mapped_look does. A slot that isn't open owns nothing. ENVY_DONE, ENVY_EMPTY, ENVY_RANGE. */
 uint32_t envy_mapped_view(envy_mapped *m, uint32_t slot, uint32_t address, uint64_t *word);
 

@@ -14,10 +14,10 @@ typedef struct envy_pair {
     uint64_t value;
 } envy_pair;
 
-/* The value that a key had, where it had one. */
+/* The value that a key had, if it had one. */
 typedef struct envy_old {
     uint64_t value; /* or 0 */
-    uint32_t had;   /* 1, or 0 where the key had no value */
+    uint32_t had;   /* 1, or 0 if the key had no value */
 } envy_old;
 
 #ifdef __cplusplus

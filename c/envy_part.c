@@ -7,6 +7,18 @@
 #include "envy_part.h"
 #include <string.h>
 
+/* Between two stores to SRAM: the first is there when the second is. A program whose SRAM needs more defines it itself.
+   On x86-64 stores to memory that isn't write-combining stay in their order, so the compiler alone is held. */
+#ifndef ENVY_PART_BARRIER
+#if defined(__aarch64__)
+#define ENVY_PART_BARRIER() __asm__ volatile("dmb oshst" ::: "memory")
+#elif defined(__x86_64__)
+#define ENVY_PART_BARRIER() __asm__ volatile("" ::: "memory")
+#else
+#define ENVY_PART_BARRIER() __sync_synchronize()
+#endif
+#endif
+
 /* An order that was given and isn't carried out yet. */
 typedef struct port {
     const envy_part *part;
@@ -35,8 +47,13 @@ void envy_part_close(int32_t number) {
     if (p) p->part = NULL;
 }
 
-/* The order: the 256 bytes that a row is to become, or one byte for an erase. */
+/* The order: the 256 bytes that a row is to become, one byte of ones for an erase, or one of zeros for the barrier after a
+   store to SRAM, which is carried out here. */
 intptr_t envy_part_order(int number, const void *bytes, size_t count) {
+    if (count == 1 && *(const uint8_t *)bytes == 0) {
+        ENVY_PART_BARRIER();
+        return 1;
+    }
     port *p = port_of(number);
     if (!p || (count != ENVY_ROW_BYTES && count != 1)) return -1;
     p->given = count;

@@ -9,22 +9,25 @@
    1. The map reads as the part's array whenever a call of the library begins, and when a callback returns.
    2. A callback changes no memory that the library was given but the row or the segment that it is handed. Every other
       row reads as before.
-   3. What a row reads as when the callback returns, it reads as later, also after power came back: a row that was torn
-      or a segment whose erase was cut may hold anything, but the same at each read. On real cells a bit that was cut
-      half-way may waver; a driver that finds one (two compares that differ) must leave the row different from what was
-      asked, so that it counts as bad.
+   3. What a row reads as when the callback returns, it reads as later. A callback to which the part reports a failure, or
+      that finds a row which wavers (two compares that differ), must leave the row different from what was asked, so that
+      it counts as bad. (A row that power tore and a segment whose erase it cut may waver: nothing depends on what they
+      read as before the segment is erased, docs/PORTING.md.)
    4. Between two calls nothing else writes the part or the SRAM, and no code runs from the part.
-   5. A store to the SRAM is there when a later one is, and before a later order begins: the memory is uncached or
-      written through, or the callbacks begin with what makes it so.
+   5. A store to the SRAM is there when a later one is, and before a later order begins. Of the first the library does
+      its part: after each store to SRAM, and before the next one, it runs ENVY_PART_BARRIER of envy_part.c (proved, of
+      any port), which orders stores as the processor makes them. What is left to the program: the memory is uncached or
+      written through, nothing between the processor and the SRAM changes the order, and the callbacks begin with what
+      waits until all stores are done.
 
    When power fails inside a callback, the row or the segment that it is handed may hold anything, and nothing else.
 
    What the memory does over a part, as flash with error-correcting words and NAND ask for: between two erases of a
    segment each of its rows is ordered once at most, a later one lies higher than an earlier one, and a row is ordered
-   only where it reads as all ones, so that the AND is the page. (Once and rising is proved of the pool of rows, also
+   only if it reads as all ones, so that the AND is the page. (Once and rising is proved of the pool of rows, also
    over failures of power; all of it is tested over failures of power and of flash.) Each order is made once: one call of
    `program` for the program of a row, one of `erase` for the erase of a segment, and a read of the part or a store to
-   SRAM makes none (proved). */
+   SRAM makes neither (proved). */
 #ifndef ENVY_PART_H
 #define ENVY_PART_H
 #include <stddef.h>
@@ -49,7 +52,7 @@ typedef struct envy_part {
     void (*erase)(void *context, volatile uint8_t *at, size_t bytes);
 } envy_part;
 
-/* The number of a port to the part, or -1 where ENVY_PARTS are open. The part must stay where it is. */
+/* The number of a port to the part, or -1 if ENVY_PARTS are open. The part must stay where it is. */
 int32_t envy_part_open(const envy_part *part);
 /* Ends a port to a part that no memory uses any more. */
 void envy_part_close(int32_t port);

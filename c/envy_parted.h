@@ -22,7 +22,7 @@
    - `port` is one that envy_part_open gave and envy_part_close didn't end, and no two memories use it. (Over another
      number nothing is carried out, and every order is bad.)
    - From the call that gives map and SRAM until envy_parted_close, or until a call that gave them is refused, it neither
-     reads nor writes them but in its callbacks.
+     reads nor writes them except in its callbacks.
    - A store of 64 bits to SRAM is done whole or not at all when power fails (docs/PORTING.md).
    - rattle_alloc, rattle_realloc and rattle_dealloc are those of heap.c, or do the same. memcpy, memmove and memset are
      there; on SRAM they must not halve a word.
@@ -38,14 +38,14 @@
    32-bit processors have no library. The counts of erases aren't asked for: the memory keeps wear in SRAM.
 
    What is ordered of the part. Between two erases of a segment each of its rows is ordered once at most, a later one lies
-   higher than an earlier one, and a row is ordered only where it reads as all ones, as error-correcting words and NAND ask
+   higher than an earlier one, and a row is ordered only if it reads as all ones, as error-correcting words and NAND ask
    (tested by drawn sessions with orders that go wrong, in examples/machine/failing.c; a clause says it of the pool of
    rows alone). load, look, begin, commit, abort, counts, attach and close order nothing. store and put begin at most
    4 * rows + 16 programs and six erases, a tick one of either, format one erase of each segment (proved of the memory over
    any board).
 
-   Where a call answers anything but ENVY_DONE, what its pointers point to is as before, but for ENVY_HELD. Where several
-   answers would be right, it is the first of them in the order in which the call names them, but that ENVY_NO_MEMORY may
+   If a call answers anything but ENVY_DONE, what its pointers point to is as before, except for ENVY_HELD. If several
+   answers would be right, it is the first of them in the order in which the call names them, except that ENVY_NO_MEMORY may
    come in place of what attach finds.
 
    ENVY_BAD: what was ordered of the part isn't there, and the library saw it, by comparing the row with what was ordered
@@ -68,7 +68,7 @@ typedef struct envy_parted {
 } envy_parted;
 #define ENVY_PARTED_INIT {0}
 
-/* The map of a part: so many rows of 256 bytes. A segment's rows lie together, and are whole blocks of the part. */
+/* The map of a part: rows of 256 bytes. A segment's rows lie together, and are whole blocks of the part. */
 typedef struct envy_part_map {
     uint8_t (*at)[ENVY_ROW_BYTES];
     size_t len;
@@ -87,22 +87,22 @@ uint32_t envy_parted_sizes(const envy_setup *setup, envy_part_sizes *sizes);
    program ends, and serves for any number of memories, one after another. */
 uint32_t envy_parted_new(envy_parted *m);
 
-/* Makes a memory of zeros over the part, whatever it holds, and erases each segment once. Where power fails in it, what
-   is found is what stood there, or nothing that is formatted, or a memory of zeros.
+/* Makes a memory of zeros over the part, whatever it holds, and erases each segment once. If power fails in it, what
+   is found is what was there, or nothing that is formatted, or a memory of zeros.
    ENVY_DONE; ENVY_OPEN; ENVY_POLICY, ENVY_SETUP_*; ENVY_FLASH_ADDRESS, ENVY_SRAM_ADDRESS; ENVY_FLASH_SIZE,
    ENVY_SRAM_SIZE; ENVY_PAST, ENVY_OVERLAP; ENVY_NO_MEMORY; ENVY_BAD.
-   Where it is refused the place is as before, nothing was ordered and the SRAM is as before, but for ENVY_BAD: then
-   some erase wasn't carried out, and nothing that is formatted stands there. */
+   If it is refused the place is as before, nothing was ordered and the SRAM is as before, except for ENVY_BAD: then
+   some erase wasn't carried out, and nothing that is formatted is there. */
 static inline uint32_t envy_parted_format(envy_parted *m, const envy_setup *setup, envy_part_map flash, envy_words sram,
                                           int32_t port);
 
-/* Takes up the memory that the part and the SRAM hold. Sizes, version and shape are compared, and the map of the memory
+/* Opens the memory that the part and the SRAM hold. Sizes, version and shape are compared, and the map of the memory
    is audited first, in a time that grows with the part. A byte of a page's data that was changed it can't see: the
    memory keeps no sums over data. Transactions that were open are undone then. Nothing is ordered, so it is never bad,
-   and where power fails in it the next attach finds the same. Policy, part, limit and mark may differ from those of before.
+   and if power fails in it the next attach finds the same. Policy, part, limit and mark may differ from the earlier ones.
    ENVY_DONE; ENVY_OPEN; ENVY_POLICY, ENVY_SETUP_*; ENVY_FLASH_ADDRESS, ENVY_SRAM_ADDRESS; ENVY_FLASH_SIZE,
    ENVY_SRAM_SIZE; ENVY_PAST, ENVY_OVERLAP; ENVY_UNFORMATTED; ENVY_OLDER; ENVY_OTHER_SHAPE; ENVY_BROKEN_*;
-   ENVY_NO_MEMORY. Where it is refused the place, the part and the SRAM are as before. */
+   ENVY_NO_MEMORY. If it is refused the place, the part and the SRAM are as before. */
 static inline uint32_t envy_parted_attach(envy_parted *m, const envy_setup *setup, envy_part_map flash, envy_words sram,
                                           int32_t port);
 
@@ -110,38 +110,38 @@ static inline uint32_t envy_parted_attach(envy_parted *m, const envy_setup *setu
    what open transactions put is undone by the next attach. On an empty place it does nothing. */
 void envy_parted_close(envy_parted *m);
 
-/* Writes the word at an address, also where an open transaction put it. ENVY_DONE, ENVY_EMPTY, ENVY_RANGE.
-   Where power fails in it, no word is another. */
+/* Writes the word at an address, also if an open transaction put it. ENVY_DONE, ENVY_EMPTY, ENVY_RANGE.
+   If power fails in it, no word is another. */
 uint32_t envy_parted_load(envy_parted *m, uint32_t address, uint64_t *word);
 
 /* Writes the committed word at an address: what a restart would leave. ENVY_DONE, ENVY_EMPTY, ENVY_RANGE.
-   Where power fails in it, no word is another. */
+   If power fails in it, no word is another. */
 uint32_t envy_parted_look(envy_parted *m, uint32_t address, uint64_t *word);
 
 /* Makes the word at an address this. From then on it outlives power. ENVY_DONE, ENVY_EMPTY, ENVY_RANGE, ENVY_HELD with
-   the slot that owns the page at *holder, or ENVY_BAD. Refused, it changes no word. Where power fails in it, the word is
+   the slot that owns the page at *holder, or ENVY_BAD. Refused, it changes no word. If power fails in it, the word is
    the old one or the new one. */
 uint32_t envy_parted_store(envy_parted *m, uint32_t address, uint64_t word, uint32_t *holder);
 
 /* Opens a transaction in the lowest slot that isn't open, and writes its number, 0 to 63, at *slot.
-   ENVY_DONE, ENVY_EMPTY, ENVY_BUSY. Where power fails in it, no slot is open afterwards. */
+   ENVY_DONE, ENVY_EMPTY, ENVY_BUSY. If power fails in it, no slot is open afterwards. */
 uint32_t envy_parted_begin(envy_parted *m, uint32_t *slot);
 
 /* Makes the word at an address this within the transaction of a slot, which owns the page from then on: stores and
    other transactions are kept from it. ENVY_DONE, ENVY_EMPTY, ENVY_RANGE, ENVY_CLOSED, ENVY_FULL, ENVY_HELD with the
-   slot that owns the page at *holder, or ENVY_BAD. Refused, it changes no word. Where power fails in it, all that the
+   slot that owns the page at *holder, or ENVY_BAD. Refused, it changes no word. If power fails in it, all that the
    transaction put is undone. */
 uint32_t envy_parted_put(envy_parted *m, uint32_t slot, uint32_t address, uint64_t word, uint32_t *holder);
 
-/* Closes a slot and keeps all that it put. From then on it outlives power. ENVY_DONE, ENVY_EMPTY, ENVY_CLOSED. Where
+/* Closes a slot and keeps all that it put. From then on it outlives power. ENVY_DONE, ENVY_EMPTY, ENVY_CLOSED. If
    power fails in it, all words that it put are there or none. */
 uint32_t envy_parted_commit(envy_parted *m, uint32_t slot);
 
-/* Closes a slot and puts back the words of its pages. ENVY_DONE, ENVY_EMPTY, ENVY_CLOSED. Where power fails in it, none
+/* Closes a slot and puts back the words of its pages. ENVY_DONE, ENVY_EMPTY, ENVY_CLOSED. If power fails in it, none
    of the words that it put is there. */
 uint32_t envy_parted_abort(envy_parted *m, uint32_t slot);
 
-/* Does one step of work in the background, and writes an envy_did. No word changes, also where power fails in it.
+/* Does one step of work in the background, and writes an envy_did. No word changes, also if power fails in it.
    ENVY_DONE, ENVY_EMPTY, ENVY_BAD. */
 uint32_t envy_parted_tick(envy_parted *m, uint32_t *did);
 

@@ -5,7 +5,7 @@
    transaction to a word makes it the owner of the word's page until it commits or aborts. Until then a store, or a put
    of another transaction, to any word of that page is answered ENVY_HELD with the owner's slot, also to a word that the
    owner never put, and changes nothing. Transactions aren't hidden from one another: load sees what any open
-   transaction put, and look sees what is committed, the words that a restart would leave. Nothing waits: who is refused
+   transaction put, and look sees what is committed, the words that a restart would leave. Nothing waits: whoever is refused
    tries again, or aborts.
 
    What the program promises, and nothing checks:
@@ -13,15 +13,15 @@
      which envy_sim_new answered ENVY_DONE. It neither copies nor changes a handle.
    - One call at a time uses a handle. It may use it from any thread if it orders the calls itself.
    - Every pointer is to memory that is there, aligned, of the size that is said, and in no two arguments at once. So is
-     that of an envy_bytes, which isn't NULL where there are no bytes either.
+     that of an envy_bytes, which isn't NULL even without bytes.
    - rattle_alloc, rattle_realloc and rattle_dealloc are those of heap.c, or do the same.
 
-   Where power is off, or fails in the call, a call that reads or changes words, opens or closes slots, does work in
+   If power is off, or fails in the call, a call that reads or changes words, opens or closes slots, does work in
    the background or writes an image answers ENVY_OFF, and so does each later one until envy_sim_revive answers ENVY_DONE.
-   Where power failed in a call, it was done or not. ENVY_BAD says that a flash operation failed in the call, and no
-   word changed. Where a call answers anything but ENVY_DONE, what its pointers point to is as before, but for
-   ENVY_HELD. Where several answers would be right, it is the first of them in the order in which the call names them,
-   but that ENVY_NO_MEMORY may come in place of what follows the setup's answers. */
+   If power failed in a call, it was done or not. ENVY_BAD says that a flash operation failed in the call, and no
+   word changed. If a call answers anything but ENVY_DONE, what its pointers point to is as before, except for
+   ENVY_HELD. If several answers would be right, it is the first of them in the order in which the call names them,
+   except that ENVY_NO_MEMORY may come in place of what follows the setup's answers. */
 #ifndef ENVY_SIM_H
 #define ENVY_SIM_H
 
@@ -37,7 +37,7 @@ typedef struct envy_sim {
 } envy_sim;
 #define ENVY_SIM_INIT {0}
 
-/* So many bytes of the program's. A call neither keeps nor changes the pointer and the count. */
+/* Bytes of the program's. A call neither keeps nor changes the pointer and the count. */
 typedef struct envy_bytes {
     uint8_t *at;
     size_t len;
@@ -48,7 +48,7 @@ typedef struct envy_bytes {
 uint32_t envy_sim_new(envy_sim *m);
 
 /* Makes a memory of zeros over a new board, whose power can return `lives` times. ENVY_DONE; ENVY_OPEN; ENVY_POLICY,
-   ENVY_SETUP_*; ENVY_NO_MEMORY. Where it is refused the place is as before. */
+   ENVY_SETUP_*; ENVY_NO_MEMORY. If it is refused the place is as before. */
 uint32_t envy_sim_format(envy_sim *m, const envy_setup *setup, uint32_t lives);
 
 /* Writes how many bytes the image of a board of this setup has: 32 of its head, 256 for each row of flash and 8 for
@@ -57,29 +57,29 @@ uint32_t envy_sim_image_size(const envy_setup *setup, uint64_t *size);
 
 /* Writes the image of the memory's board over the first bytes: the mark "eNVyIMG1", the six numbers of the shape as 4
    bytes each, the words of the rows of flash, and those of SRAM, 8 bytes to a word, the lowest byte of each number
-   first. The program `envy` writes and reads the same. What stands behind the image stays. It takes as many bytes of
+   first. The program `envy` writes and reads the same. What follows the image stays. It takes as many bytes of
    the heap as the image has, and frees them. ENVY_DONE, ENVY_EMPTY, ENVY_OFF, ENVY_SMALL, ENVY_NO_MEMORY. */
 uint32_t envy_sim_save(envy_sim *m, envy_bytes *image);
 
 /* Writes the shape that an image names into the first six numbers of a setup. It reads the head alone.
-   ENVY_DONE; ENVY_IMAGE_MARK, where 8 bytes are there and aren't the mark; ENVY_IMAGE_SHORT, where the bytes end within
-   the head; or an ENVY_IMAGE_SEGMENTS to ENVY_IMAGE_TOTAL. The bytes stay as they are, and where it is refused the
+   ENVY_DONE; ENVY_IMAGE_MARK, if 8 bytes are there and aren't the mark; ENVY_IMAGE_SHORT, if the bytes end within
+   the head; or an ENVY_IMAGE_SEGMENTS to ENVY_IMAGE_TOTAL. The bytes stay as they are, and if it is refused the
    setup does. */
 uint32_t envy_sim_image_shape(envy_bytes *image, envy_setup *setup);
 
-/* Takes up the memory that an image is, over a new board whose power can return `lives` times. It takes nothing on
+/* Opens the memory that an image is, over a new board whose power can return `lives` times. It takes nothing on
    trust: the mark and the shape are compared, and what the image makes of the board is audited. Transactions that were
-   open are undone. Bytes behind the image aren't looked at, and none is changed.
-   ENVY_DONE; ENVY_OPEN; ENVY_POLICY, ENVY_SETUP_*; what envy_sim_image_shape answers of the head; ENVY_IMAGE_OTHER, where
-   the setup has another shape than the head; ENVY_IMAGE_SHORT, where the bytes end behind the head; ENVY_UNFORMATTED;
-   ENVY_OLDER; ENVY_OTHER_SHAPE, where the map of SRAM keeps another shape than the head; ENVY_BROKEN_*; ENVY_NO_MEMORY.
-   Where it is refused the place is as before. */
+   open are undone. Bytes after the image aren't looked at, and none is changed.
+   ENVY_DONE; ENVY_OPEN; ENVY_POLICY, ENVY_SETUP_*; what envy_sim_image_shape answers of the head; ENVY_IMAGE_OTHER, if
+   the setup has another shape than the head; ENVY_IMAGE_SHORT, if the bytes end after the head; ENVY_UNFORMATTED;
+   ENVY_OLDER; ENVY_OTHER_SHAPE, if the map of SRAM has another shape than the head; ENVY_BROKEN_*; ENVY_NO_MEMORY.
+   If it is refused the place is as before. */
 uint32_t envy_sim_restore(envy_sim *m, const envy_setup *setup, uint32_t lives, envy_bytes *image);
 
 /* Ends the memory and its board, and frees what they took from the heap. On an empty place it does nothing. */
 void envy_sim_close(envy_sim *m);
 
-/* Writes the word at an address, also where an open transaction put it. ENVY_DONE, ENVY_EMPTY, ENVY_OFF, ENVY_RANGE. */
+/* Writes the word at an address, also if an open transaction put it. ENVY_DONE, ENVY_EMPTY, ENVY_OFF, ENVY_RANGE. */
 uint32_t envy_sim_load(envy_sim *m, uint32_t address, uint64_t *word);
 
 /* Writes the committed word at an address: what a restart would leave. ENVY_DONE, ENVY_EMPTY, ENVY_OFF, ENVY_RANGE. */
@@ -113,19 +113,19 @@ uint32_t envy_sim_counts(envy_sim *m, envy_counts *counts);
 
 /* Plans a failure of power in the k-th device operation from now (a program or erase of flash, or a write of a word of
    SRAM), in place of an earlier such plan. What the operation leaves is drawn from g. ENVY_DONE, ENVY_EMPTY, or
-   ENVY_ZERO where k is 0. */
+   ENVY_ZERO if k is 0. */
 uint32_t envy_sim_arm_cut(envy_sim *m, uint32_t k, uint64_t g);
 
 /* Plans that the k-th flash operation from now fails, in place of an earlier such plan. What its row or segment holds
-   then is drawn from g. ENVY_DONE, ENVY_EMPTY, or ENVY_ZERO where k is 0. */
+   then is drawn from g. ENVY_DONE, ENVY_EMPTY, or ENVY_ZERO if k is 0. */
 uint32_t envy_sim_arm_bad(envy_sim *m, uint32_t k, uint64_t g);
 
 /* Cuts power between two operations. ENVY_DONE, ENVY_EMPTY, ENVY_OFF. */
 uint32_t envy_sim_cut_now(envy_sim *m);
 
 /* Asks for power, and restarts the memory: all slots are closed, and the words are those that were committed. It uses
-   one of the lives. ENVY_DONE; ENVY_EMPTY; ENVY_POWERED where power is on already; ENVY_OFF where power failed again in
-   the restart, which may be asked for once more; ENVY_DEAD where no life is left, and nothing changed. */
+   one of the lives. ENVY_DONE; ENVY_EMPTY; ENVY_POWERED if power is on already; ENVY_OFF if power failed again in
+   the restart, which may be asked for once more; ENVY_DEAD if no life is left, and nothing changed. */
 uint32_t envy_sim_revive(envy_sim *m);
 
 /* Writes how often power can still return. ENVY_DONE, ENVY_EMPTY. */

@@ -7,7 +7,7 @@ const char *envy_error_text(uint32_t code) {
     switch (code) {
     case ENVY_DONE: return "done";
     case ENVY_EMPTY: return "the place holds no memory";
-    case ENVY_OFF: return "power is off";
+    case ENVY_OFF: return "power is off, or the file failed";
     case ENVY_RANGE: return "the address lies past the last page";
     case ENVY_HELD: return "another transaction owns the page";
     case ENVY_FULL: return "there is no room for more";
@@ -69,8 +69,11 @@ const char *envy_error_text(uint32_t code) {
     case ENVY_OVERLAP: return "the part and the SRAM overlap";
     case ENVY_NO_JOURNAL: return "the file holds no memory";
     case ENVY_OTHER_JOURNAL: return "the file is a journal of another version";
+    case ENVY_DAMAGED: return "the journal is damaged";
+    case ENVY_APPENDED: return "synced, but not compacted: no second file could be written";
     case ENVY_SYSTEM: return "the system refused a call";
     case ENVY_LOCKED: return "another process has the file open";
+    case ENVY_TOO_MANY: return "too many files are open";
     }
     return "no code of this library";
 }

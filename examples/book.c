@@ -21,7 +21,7 @@ static uint32_t account(uint32_t a) { return 32 * (a + 1); }
 
 static const envy_setup setup = {
     .segments = 8, .rows = 32, .pages = ACCOUNTS + 1, .shadows = 16, .frames = 16, .entries = 16,
-    .policy = ENVY_LOCALITY, .limit = 100, .mark = 12,
+    .policy = ENVY_GREEDY, .limit = 100, .mark = 12,
 };
 
 static envy_file book = ENVY_FILE_INIT;

@@ -13,7 +13,7 @@ const SETUP: Setup = Setup {
     shadows: 16,
     frames: 16,
     entries: 16,
-    policy: Policy::Locality,
+    policy: Policy::Greedy,
     limit: 100,
     mark: 12,
 };

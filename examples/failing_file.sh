@@ -1,11 +1,10 @@
 #!/usr/bin/env bash
 # A file that fails: of the memory in a file each call that makes, writes, cuts, renames or syncs the file, or a second one
-# that takes its place, fails once, in several ways (file/failing.py, file/file_calls.c). Takes the program, or the proved
-# one. It needs gcc and python3.
+# that takes its place, fails once, in several ways (file/failing.py, file/file_calls.c). Takes the program, or else the
+# proved one or a trial's. It needs gcc and python3.
 set -eu
 cd "$(dirname "$0")"
-program=${1-$PWD/../crates/envy/out/envy}
-[ -x "$program" ] || { echo "failing: no program at $program; ./envy --prove builds it" >&2; exit 1; }
+program=${1-$(../envy --program)} || exit 1
 # in memory, where that can be: no sync need reach a disk here
 place=/dev/shm
 [ -w $place ] || place=${TMPDIR:-/tmp}

@@ -28,5 +28,6 @@ git clone -q . "$work/clone" || exit 1
 answers run
 [ "$seconds" -le "$most" ] || fail "the first answer took more than $most seconds"
 answers run --policy fifo
+[ "$seconds" -le 1 ] || fail "the program of a trial was not kept: the second answer took $seconds seconds"
 [ -z "$(git -C "$work/clone" status --porcelain)" ] || fail "the clone was changed"
 [ "$failures" = 0 ]

@@ -1,14 +1,13 @@
 #!/usr/bin/env bash
 # How the cost of a call grows with the board, its frames and what other transactions own: instructions by valgrind's
 # callgrind, which don't depend on how busy the machine is, less those of the same trace without the calls. Takes the
-# program, or the proved one, and writes tables; some minutes. With --to FOLDER the first table is drawn too, where gnuplot
+# program, or else the proved one or a trial's, and writes tables; some minutes. With --to FOLDER the first table is drawn too, if gnuplot
 # is there (growth.png, growth.svg), and its numbers stand in growth.txt.
 set -eu
 cd "$(dirname "$0")/.."
 to=
 [ "${1-}" = --to ] && { to=$2; shift 2; }
-program=${1-$PWD/crates/envy/out/envy}
-[ -x "$program" ] || { echo "growth: no program at $program; ./envy --prove builds it" >&2; exit 1; }
+program=${1-$(./envy --program counted)} || exit 1
 command -v valgrind >/dev/null || { echo "growth: valgrind is not on the path" >&2; exit 1; }
 work=$(mktemp -d "${TMPDIR:-/tmp}/envy-growth.XXXXXX")
 trap 'rm -rf "$work"' EXIT
@@ -72,6 +71,7 @@ pages_of() {
     echo $((pages < most ? pages : most))
 }
 
+echo "# Rows: store-greedy store-hybrid store-lifetime transfer idle-tick abort-of-8-pages commit-of-8-pages" >"$work/growth.txt"
 echo '| Segments x rows | store, greedy | hybrid | lifetime | transfer | idle tick | abort of 8 pages | commit of 8 pages |'
 echo '|---|---|---|---|---|---|---|---|'
 for shape in 8x16 64x128 512x256 4096x256; do
@@ -107,18 +107,4 @@ done
 
 [ -n "$to" ] || exit 0
 cp "$work/growth.txt" "$to/growth.txt"
-command -v gnuplot >/dev/null || exit 0
-for kind in png svg; do
-    gnuplot <<GNUPLOT
-set terminal $kind size 1000,500
-set output "$to/growth.$kind"
-set logscale x 2
-set xtics ("8 x 16" 128, "64 x 128" 8192, "512 x 256" 131072, "4,096 x 256" 1048576)
-set xlabel "segments x rows of the board"
-set ylabel "instructions"
-set yrange [0:*]
-set key outside right
-plot "$to/growth.txt" using 1:2 with linespoints title "a store, greedy", "" using 1:3 with linespoints title "hybrid", "" using 1:4 with linespoints title "lifetime", \
-    "" using 1:6 with linespoints title "an idle tick", "" using 1:7 with linespoints title "an abort of 8 pages", "" using 1:8 with linespoints title "a commit"
-GNUPLOT
-done
+examples/pictures.sh growth "$to" '80 in 100 rows in use; 64 frames\n20,000 drawn stores, 200 transfers, 500 commits or aborts'

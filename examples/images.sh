@@ -4,13 +4,15 @@
 # Then 2,000 images with one to three bytes changed: each has a verdict, and where it is sound a trace is served.
 set -eu
 cd "$(dirname "$0")/.."
-./envy --stands || exit 1
+PROGRAM=$(./envy --program) || exit 1
+export PROGRAM
 exec python3 - "$@" <<'TEXT'
+import os
 import random
 import subprocess
 import sys
 
-PROGRAM = "crates/envy/out/envy"
+PROGRAM = os.environ["PROGRAM"]
 SHAPE = "--segments 4 --rows 4 --pages 7 --shadows 1 --frames 2 --entries 2".split()
 KEEPS = "--mark 1 --limit 2 --policy".split()
 POLICIES = ["greedy", "fifo", "locality", "hybrid"]

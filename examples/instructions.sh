@@ -1,11 +1,10 @@
 #!/usr/bin/env bash
 # Instructions of the program per line, by valgrind's callgrind, less those of an empty trace. Repeatable, also on a
-# busy machine. Takes the program, or the proved one; it writes a table.
+# busy machine. Takes the program, or else the proved one or a trial's; it writes a table.
 set -eu
 cd "$(dirname "$0")/.."
-program=${1-$PWD/crates/envy/out/envy}
+program=${1-$(./envy --program counted)} || exit 1
 lines=50000
-[ -x "$program" ] || { echo "instructions: no program at $program; ./envy --prove builds it" >&2; exit 1; }
 command -v valgrind >/dev/null || { echo "instructions: valgrind is not on the path" >&2; exit 1; }
 work=$(mktemp -d "${TMPDIR:-/tmp}/envy-instructions.XXXXXX")
 trap 'rm -rf "$work"' EXIT

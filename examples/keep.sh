@@ -2,13 +2,13 @@
 # A memory in a file: a process is killed between a commit and a sync, and behind it, and the next call tells what is there.
 set -eu
 cd "$(dirname "$0")/.."
-./envy --stands
+program=$(./envy --program)
 work=$(mktemp -d "${TMPDIR:-/tmp}/envy-keep.XXXXXX")
 trap 'rm -rf "$work"' EXIT
 
 # killed N LINES: a process that answered N lines is killed before its input ends
 killed() {
-    coproc KEPT { exec crates/envy/out/envy keep --file "$work/memory"; }
+    coproc KEPT { exec "$program" keep --file "$work/memory"; }
     local pid=$KEPT_PID
     printf "$2" >&"${KEPT[1]}"
     for _ in $(seq "$1"); do read -r -t 20 reply <&"${KEPT[0]}" && echo "  $reply"; done
@@ -19,7 +19,7 @@ killed() {
 # found WORD: what the next call finds at address 5
 found() {
     local word
-    word=$(echo 'load 5' | ./envy keep --file "$work/memory")
+    word=$(echo 'load 5' | "$program" keep --file "$work/memory")
     echo "opened: load 5 => $word"
     [ "$word" = "$1" ]
 }

@@ -7,8 +7,7 @@
 # archive (cd crates/envy_kept && rt lib).
 set -eu
 cd "$(dirname "$0")"
-program=${2-$PWD/../crates/envy/out/envy}
-[ -x "$program" ] || { echo "kept_speed: no program at $program; ./envy --prove builds it" >&2; exit 1; }
+program=${2-$(../envy --program counted)} || exit 1
 rounds=${ROUNDS-9}
 work=$(mktemp -d "${1-${TMPDIR:-/tmp}}/envy-kept-speed.XXXXXX")
 memory=$(mktemp -d "$([ -w /dev/shm ] && echo /dev/shm || echo "${TMPDIR:-/tmp}")/envy-kept-speed.XXXXXX")

@@ -20,17 +20,15 @@ make -s all tests
 work=$(mktemp -d "${TMPDIR:-/tmp}/envy-library.XXXXXX")
 trap 'rm -rf "$work"' EXIT
 
-# the lines of C that README and docs/LIBRARY.md show, as they stand there
-for page in ../README.md ../docs/LIBRARY.md; do
-    {
-        printf '#include "envy_sim.h"\nint main(void) {\n'
-        sed -n '/^    envy_setup setup/,/^    envy_sim_load/p' "$page"
-        printf '    return word == 7 ? 0 : 1;\n}\n'
-    } >"$work/lines.c"
-    gcc -Wall -Wextra -I ../c -o "$work/lines" "$work/lines.c" ../c/heap.c ../crates/envy_sim/out/libenvy_sim.a
-    "$work/lines"
-done
-echo "library: the lines of C do what the pages say"
+# the lines of C that docs/LIBRARY.md shows, as they are there
+{
+    printf '#include "envy_sim.h"\nint main(void) {\n'
+    sed -n '/^    envy_setup setup/,/^    envy_sim_load/p' ../docs/LIBRARY.md
+    printf '    return word == 7 ? 0 : 1;\n}\n'
+} >"$work/lines.c"
+gcc -Wall -Wextra -I ../c -o "$work/lines" "$work/lines.c" ../c/heap.c ../crates/envy_sim/out/libenvy_sim.a
+"$work/lines"
+echo "library: the lines of C do what the page says"
 
 # what is installed links by its own words, by pkg-config's where that is, and moves
 make -s -C ../c install PREFIX="$work/installed"
@@ -45,6 +43,12 @@ sed -n 's/^    //; /^#include "envy_kept_file.h"/,/^}/p' ../c/LINKING.md >"$work
 # shellcheck disable=SC2046
 gcc -Wall -Wextra $($config --cflags) -o "$work/kept-runs" "$work/runs.c" $($config --libs-kept)
 (cd "$work" && ./kept-runs && ./kept-runs) >"$work/told"
+[ "$(cat "$work/told")" = "$(printf 'run 1: done\nrun 2: done')" ]
+# and the program of README
+sed -n 's/^    //; /^#include "envy_kept_file.h"/,/^}/p' ../README.md >"$work/readme.c"
+# shellcheck disable=SC2046
+gcc -Wall -Wextra $($config --cflags) -o "$work/readme" "$work/readme.c" $($config --libs-kept)
+(cd "$work" && ./readme && ./readme) >"$work/told"
 [ "$(cat "$work/told")" = "$(printf 'run 1: done\nrun 2: done')" ]
 if pkg-config --version >/dev/null 2>&1; then
     export PKG_CONFIG_PATH=$work/installed/lib/pkgconfig
@@ -93,7 +97,9 @@ echo "library: the $(wc -l <"$work/words") words of an image are those of envy r
 # kept files: kills, failures, and the words of 10,000 drawn commands, which `envy keep` and the library find in one file
 out/kept_killed "$work/kept.file" 200 "${1-1}"
 ASAN_OPTIONS=detect_leaks=0 out/kept_failing-asan "${1-1}" # a handle lasts as long as the process
-mkdir "$work/kept" "$work/arm-kept" && out/kept_files "$work/kept"
+mkdir "$work/kept" "$work/edges" "$work/edges-asan" "$work/arm-kept" && out/kept_files "$work/kept"
+out/kept_edges "$work/edges"
+ASAN_OPTIONS=detect_leaks=0 out/kept_edges-asan "$work/edges-asan"
 grep -v '^power' "$work/trace" | awk '{ print } NR % 100 == 0 { print "sync" }' >"$work/syncing"
 ../envy keep --file "$work/word.kept" <"$work/syncing" >"$work/wanted"
 out/kept_words "$work/library.kept" <"$work/syncing" >"$work/kept.replies"

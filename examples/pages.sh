@@ -1,13 +1,14 @@
 #!/usr/bin/env bash
-# What README and docs/ show: calls with what they print, the demonstration, the converters, the files that are named.
-# Wants the proved program; ENVY names another one.
+# What README and docs/ show: their text (examples/page_text.sh), calls with what they print, the demonstration, the
+# converters, the files that are named. Without a proof the program is a trial's; ENVY names another one.
 set -u
 cd "$(dirname "$0")/.."
-[ -n "${ENVY-}" ] || ./envy --stands || exit 1
-program=${ENVY-$PWD/envy}
+examples/page_text.sh >&2
+text=$?
+program=${ENVY-$(./envy --program)} || exit 1
 work=$(mktemp -d "${TMPDIR:-/tmp}/envy-pages.XXXXXX") || exit 1
 trap 'rm -rf "$work"' EXIT
-failures=0
+failures=$text
 
 fail() {
     echo "pages: $*" >&2
@@ -35,7 +36,7 @@ shown docs/COMMANDS.md
 for call in "$work"/shown.*.call; do
     [ -e "$call" ] || fail "docs/COMMANDS.md shows no call"
     sed "s#\./envy run |#\"$program\" run |#" "$call" >"$work/call"
-    bash "$work/call" 2>&1 </dev/null | diff "${call%.call}.text" - >&2 || fail "$(cat "$call"): prints something else"
+    bash "$work/call" 2>&1 </dev/null | grep -v '^envy: this answer is of an unproved' | diff "${call%.call}.text" - >&2 || fail "$(cat "$call"): prints something else"
 done
 
 # the demonstration of README, whose remarks stand behind the replies
@@ -50,13 +51,21 @@ done <"$work/lines"
 line=$("$program" tpca | tail -n 1)
 grep -q -x -F "    $line" docs/COMMANDS.md || fail "docs/COMMANDS.md has another line of counters than $line"
 
-# traces of blocks: both samples tell the same requests, and the memory answers as the array does
-for kind in msr blkparse; do
+# traces of blocks: all samples tell the same requests, and the memory answers as the array does
+for kind in msr spc blkparse fio; do
     examples/block_trace.sh --sample $kind >"$work/sample.$kind"
     examples/block_trace.sh $kind <"$work/sample.$kind" >"$work/$kind.trace" 2>"$work/said" || fail "$kind: status $?"
     grep -q -x 'block_trace: 544 pages' "$work/said" || fail "$kind: $(cat "$work/said")"
+    cmp "$work/msr.trace" "$work/$kind.trace" || fail "the samples msr and $kind are two traces"
+    # in units of 4 KiB there are as many pages as blocks; a tick for each half of the millisecond between two requests
+    examples/block_trace.sh $kind --unit 4096 --ticks 500 <"$work/sample.$kind" >"$work/$kind.ticks" 2>"$work/said"
+    grep -q -x 'block_trace: 34 pages' "$work/said" || fail "$kind, 4096: $(cat "$work/said")"
+    [ "$(grep -c -x tick "$work/$kind.ticks")" = 398 ] || fail "$kind: $(grep -c -x tick "$work/$kind.ticks") ticks"
+    examples/block_trace.sh $kind <README.md >/dev/null 2>"$work/said" && fail "$kind: README is taken for such a trace"
 done
-cmp "$work/msr.trace" "$work/blkparse.trace" || fail "the two samples of blocks are two traces"
+printf 'fio version 2 iolog\na add\na open\na write 0 512\na wait 1000\na read 256 256\na close\n' >"$work/iolog"
+[ "$(examples/block_trace.sh fio --ticks 500 <"$work/iolog" 2>/dev/null | paste -s -d ',')" = 'store 0 1,store 32 2,tick,tick,load 32' ] ||
+    fail "an iolog of version 2 is read otherwise"
 shape=(--segments 24 --rows 32 --pages 544)
 "$program" plain "${shape[@]}" <"$work/msr.trace" >"$work/plain"
 "$program" run "${shape[@]}" <"$work/msr.trace" | cmp - "$work/plain" || fail "a trace of blocks is answered otherwise than by the array"

@@ -2,12 +2,11 @@
 # The program beside a native peer in C, which makes the same device operations (peer/). Sees that replies, counters and
 # images are the same on traces of each kind, and that puts and flash operations come in the same lines: a planned cut of
 # the K-th operation is lost, and a bad K-th flash operation fails, in the line in which the peer makes it. Then tells the
-# instructions of both by valgrind's callgrind, less those of the same trace without the calls. Takes the program, or the
-# proved one; needs gcc; some minutes.
+# instructions of both by valgrind's callgrind, less those of the same trace without the calls. Takes the program, or else
+# the proved one or a trial's; needs gcc; some minutes.
 set -eu
 cd "$(dirname "$0")/.."
-program=${1-$PWD/crates/envy/out/envy}
-[ -x "$program" ] || { echo "peer: no program at $program; ./envy --prove builds it" >&2; exit 1; }
+program=${1-$(./envy --program counted)} || exit 1
 command -v valgrind >/dev/null || { echo "peer: valgrind is not on the path" >&2; exit 1; }
 work=$(mktemp -d "${TMPDIR:-/tmp}/envy-peer.XXXXXX")
 trap 'rm -rf "$work"' EXIT

@@ -8,7 +8,7 @@
 # Of the words that the program loads and stores the first N (--skip, 0) are passed over and then so many taken
 # (--accesses, 1000000). With --transaction N each N stores are one transaction. Pages are numbered as they are met,
 # and the array has as many; the board is filled to four fifths. Frames of SRAM (--frames) are an eighth of the pages.
-# Wants the proved program.
+# Without a proof the answers are those of a trial's program.
 set -eu
 top=$(cd "$(dirname "$0")/.." && pwd)
 skip=0 accesses=1000000 transaction=0 frames=0
@@ -25,7 +25,7 @@ if [ $# -eq 0 ]; then
     sed -n '2,11s/^# \{0,1\}//p' "$0" >&2
     exit 2
 fi
-"$top/envy" --stands || exit 1
+program=$("$top/envy" --program) || exit 1
 if ! command -v valgrind >/dev/null; then
     echo "real_memory: valgrind is not there, so no program can be traced" >&2
     exit 1
@@ -82,11 +82,11 @@ segments=$(((pages + shadows) * 5 / (4 * rows) + 4))
 [ "$frames" -gt 0 ] || frames=$((pages / 8 > 8 ? pages / 8 : 8))
 shape=(--segments "$segments" --rows "$rows" --pages "$pages" --shadows "$shadows" --frames "$frames" --entries 64)
 echo "$*: $(wc -l < "$work/trace") lines, $pages pages; a board of $segments segments of $rows rows, $frames frames, 64 entries"
-"$top/envy" plain "${shape[@]}" < "$work/trace" > "$work/plain"
+"$program" plain "${shape[@]}" < "$work/trace" > "$work/plain"
 echo stat >> "$work/trace"
 printf '%-10s %10s %8s %8s %8s\n' policy accesses hits% flushes cost
-for policy in greedy fifo locality hybrid; do
-    "$top/envy" run "${shape[@]}" --policy "$policy" < "$work/trace" > "$work/replies"
+for policy in greedy fifo locality hybrid lifetime; do
+    "$program" run "${shape[@]}" --policy "$policy" < "$work/trace" > "$work/replies"
     if ! head -n -1 "$work/replies" | cmp -s - "$work/plain"; then
         echo "real_memory: under $policy the replies are not those of the plain machine" >&2
         exit 1

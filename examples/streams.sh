@@ -1,11 +1,10 @@
 #!/usr/bin/env bash
 # What no contract can say of the program's streams: each reply comes before the next line is waited for, every
 # exit leaves the replies of the lines before it, a reader that closes early gives status 4, what stands behind an
-# image is left to the next reader, and the system is asked seldom. Takes the program, or the proved one. Each step has a limit of time.
+# image is left to the next reader, and the system is asked seldom. Takes the program, or else the proved one or a trial's. Each step has a limit of time.
 set -u
 cd "$(dirname "$0")/.."
-program=${1-$PWD/crates/envy/out/envy}
-[ -x "$program" ] || { echo "streams: no program at $program; ./envy --prove builds it" >&2; exit 1; }
+program=${1-$(./envy --program)} || exit 1
 work=$(mktemp -d "${TMPDIR:-/tmp}/envy-streams.XXXXXX") || exit 1
 trap 'rm -rf "$work"' EXIT
 failures=0

@@ -1,12 +1,11 @@
 #!/usr/bin/env bash
 # The words and options: the table that help and checks are made from (words/table) against the program, each word with
 # each option; mistakes and what is told of them, at once; the program's own text and status behind it; and the examples
-# of --help, as they stand there. Wants the proved program; ENVY names another one.
+# of --help, as they stand there. Without a proof the program is a trial's; ENVY names another one.
 set -u
 cd "$(dirname "$0")/.."
 top=$PWD
-[ -n "${ENVY-}" ] || ./envy --stands || exit 1
-program=${ENVY-$top/crates/envy/out/envy}
+program=${ENVY-$(./envy --program)} || exit 1
 work=$(mktemp -d "${TMPDIR:-/tmp}/envy-words.XXXXXX") || exit 1
 trap 'rm -rf "$work"' EXIT
 failures=0
@@ -41,8 +40,9 @@ while IFS='|' read -r word takes; do
         case " $takes " in *" $option "*) wanted=0 ;; *) wanted=1 ;; esac
         understood "${given[@]}"
         [ $? = $wanted ] || fail "${given[*]}: the program thinks otherwise than the table"
+        # (2: the words are in the form, and break a rule)
         told check "${given[@]}" >/dev/null
-        [ $? = $wanted ] || fail "${given[*]}: the check thinks otherwise than the table"
+        [ $(($? == 1)) = $wanted ] || fail "${given[*]}: the check thinks otherwise than the table"
         pairs=$((pairs + 1))
     done
 done < <(told list)
@@ -106,8 +106,109 @@ keep --file a --lives 3|keep takes no --lives
 keep --file a --compact 2|--compact: 2 is above 1
 keep --file a --bytewise 2|--bytewise: 2 is above 1
 run -- --rows 3|behind -- stands --rows
+run examples/first.trace|examples/first.trace is no option, but a file (< examples/first.trace)
+run --rows 3 README.md|README.md is no option, but a file (< README.md)
+examples/first.trace|examples/first.trace is no word, but a file (./envy run < examples/first.trace)
 TEXT
 echo "words: $mistakes mistakes are told, and the program refuses each"
+
+# Numbers that the program refuses: what is told names them, the program's status is 2, and no trial is begun for them.
+while IFS='|' read -r given wanted; do
+    read -r -a given <<<"$given"
+    [ "$(told check "${given[@]}")" = "envy: $wanted" ] || fail "${given[*]}: another text: $(told check "${given[@]}")"
+    timeout 60 "$program" "${given[@]}" </dev/null >/dev/null 2>"$work/said"
+    [ $? = 2 ] || fail "${given[*]}: the program's status isn't 2"
+done <<'TEXT'
+run --segments 3|--segments: 3 (4 to 4096)
+run --segments 4097|--segments: 4097 (4 to 4096)
+plain --rows 1|--rows: 1 (2 to 65536)
+save --rows 65537|--rows: 65537 (2 to 65536)
+mirror --pages 0|--pages: 0 (1 to 1048576)
+gen --pages 1048577|--pages: 1048577 (1 to 1048576)
+run --frames 1|--frames: 1 (2 to 65536)
+run --entries 0|--entries: 0 (1 to 65536)
+run --limit 0|--limit: 0 (1 to 18446744073709551615)
+run --mark 0|--mark: 0 (1 to 65536)
+gen --hot 0 --share 5|--hot: 0 (1 to 99)
+gen --stores 100|--stores: 100 (1 to 99)
+run --pages 81|--pages 81 and --shadows 16 are 97 rows, above 96, those of 8 segments of 16 less two segments
+index --rows 2|--pages 384 and --shadows 32 are 416 rows, above 28, those of 16 segments of 2 less two segments
+run --segments 4096 --rows 257|--segments 4096 of --rows 257 are 1052672 rows, above 1048576
+run --policy hybrid --part 8|--part: 8 (1 to 7, the segments less one)
+run --policy=hybrid --part=0|--part: 0 (1 to 7, the segments less one)
+tpca --mark 17|--mark: 17 (1 to 16, the frames)
+gen --hot 3|--hot and --share are given together, or neither is
+tpca --transfers 1070|--branches 1 of --accounts 8000 and --transfers 1070 take 12292 words, above 12288, those of --pages 384
+tpca --shadows 4|--shadows: 4 (5 and more under tpca)
+index --shadows 31|--shadows: 31 (32 and more under index)
+index --pages 19|--pages: 19 (20 and more under index)
+TEXT
+# and the largest numbers that it takes
+while read -r -a given; do
+    told check "${given[@]}" || fail "${given[*]}: refused"
+    timeout 60 "$program" "${given[@]}" </dev/null >/dev/null || fail "${given[*]}: the program refuses them"
+done <<'TEXT'
+run --pages 80
+run --segments 4096 --rows 256
+run --policy hybrid --part 7
+run --mark 8
+tpca --transfers 1069 --every 0
+index --shadows 32 --pages 20
+TEXT
+
+# calls of the script itself that have a word too many, and help about help
+for given in '--prove now' '--stands now' '--note now' 'help run now' '--program slow' '--program fast now'; do
+    read -r -a words <<<"$given"
+    timeout 10 ./envy "${words[@]}" >"$work/out" 2>"$work/text" </dev/null
+    [ $? = 2 ] && [ ! -s "$work/out" ] && [ "$(wc -l <"$work/text")" = 1 ] || fail "$given: not refused"
+done
+./envy help help | cmp - <(./envy help) || fail "help help isn't the page of all words"
+
+# a line of an unknown word is named, and of which words such lines are, if the trace is a file
+while IFS='|' read -r word line wanted; do
+    printf '# a comment\n\n%s\nload 0\n' "$line" >"$work/trace"
+    [ "$word" != keep ] || word="keep --file $work/unknown"
+    read -r -a words <<<"$word"
+    ./envy "${words[@]}" <"$work/trace" >"$work/out" 2>"$work/text"
+    [ $? = 5 ] || fail "$word, $line: another status than 5"
+    grep -v 'unproved' "$work/text" | diff <(printf 'envy: line 3: unknown word\nenvy: %s\n' "$wanted") - >&2 || fail "$word, $line: another text"
+done <<'TEXT'
+run|fly 3|fly is no line under run (is it put?)
+run|insert 3 4|insert is no line under run, but one under index
+index|store 3 4|store is no line under index, but one under run, plain, save, resume, mirror, keep
+keep|cut 1 1|cut is no line under keep, but one under run, plain, save, resume, index, mirror
+plain|sync|sync is no line under plain, but one under keep
+TEXT
+# each line of the table is known to the words that it names, and to no other
+while IFS='|' read -r word _; do
+    case $word in gen | audit | map | tpca | resume) continue ;; esac
+    quick=()
+    [ "$word" != keep ] || quick=("--file=$work/lines-kept")
+    sed -n 's/^line | \([a-z]*\) .*/\1/p' words/table | while read -r line; do
+        timeout 60 "$program" "$word" "${quick[@]}" <<<"$line" >/dev/null 2>"$work/said"
+        grep -q 'unknown word' "$work/said" && unknown=1 || unknown=0
+        told line "$word" "$line" >/dev/null
+        [ $? = $unknown ] || echo "$line under $word"
+    done
+done < <(told list) >"$work/lines"
+[ -s "$work/lines" ] && fail "the program thinks otherwise than the table: $(paste -s -d ',' "$work/lines")"
+
+# a file that is no journal is named
+echo 'a text' >"$work/text.kept"
+echo 'load 0' | ./envy keep --file "$work/text.kept" >"$work/out" 2>"$work/text"
+[ $? = 10 ] && grep -q -x -F "envy: $work/text.kept doesn't begin as a journal does" "$work/text" || fail "no journal: the path isn't named"
+echo 'load 0' | ./envy keep --file="$work/fresh.kept" >"$work/out" 2>"$work/text"
+echo 'load 0' | ./envy keep "--file=$work/fresh.kept" >"$work/out" 2>>"$work/text"
+grep -q 'journal' "$work/text" && fail "a journal is named as none"
+
+# the script is found through a link
+ln -s "$top/envy" "$work/linked"
+"$work/linked" --version </dev/null | head -n 1 | grep -q -x "envy $(cat VERSION)" || fail "a link to the script isn't followed"
+
+# the demonstration says why it ends, and shows a trace that names no words
+[ -n "$(examples/demo.sh "$work/none" 2>&1)" ] || fail "demo.sh ends silently"
+printf 'store 5 7\nload 5\n' >"$work/own.trace"
+[ "$(cd "$work" && ENVY=$program "$top/examples/demo.sh" own.trace | wc -l)" = 2 ] || fail "demo.sh shows no trace without words"
 
 # Words that are in the form, though a rule may be broken: nothing is told of the form.
 while read -r -a given; do
@@ -128,7 +229,6 @@ tpca --transfers 0 --shadows 4
 resume --mark 4294967295
 index --pages 19
 TEXT
-[ "$(told check run --segments 3)" = 'envy: --segments: 3 (4 to 4096)' ] || fail "a number out of its range is not told"
 
 # Help is answered wherever it is asked for; it fits 80 columns and has each word and option.
 for given in --help -h 'run -h' 'run --rows 3 --help' '--version' 'help' 'help run' 'gen --version'; do
@@ -147,7 +247,7 @@ done
 
 # The examples, in order, in a folder that has the samples and a call of this program.
 ln -s "$top/examples" "$work/examples"
-printf '#!/bin/sh\nexec "%s" "$@"\n' "${ENVY-$top/envy}" >"$work/envy"
+printf '#!/bin/sh\nexec "%s" "$@"\n' "$program" >"$work/envy"
 chmod +x "$work/envy"
 while IFS= read -r line; do
     (cd "$work" && bash -c "set -o pipefail; $line") >"$work/out" 2>&1 || fail "$line: $(tail -n 1 "$work/out")"

@@ -3,6 +3,8 @@
 #   awk -f words.awk -- TABLE check WORD..    writes the first mistake of a call, if it has one. Status 1: the program would
 #                                             not understand the words; 2: a number is out of its range; 0: no mistake
 #   awk -f words.awk -- TABLE list            writes each word, a bar, and the options that it takes
+#   awk -f words.awk -- TABLE line WORD NAME  says of which words a line with this name is, if it is none of this word's
+#   awk -f words.awk -- TABLE manual | bash   writes a page for man, or the completions for bash
 function trimmed(text) { sub(/^[ \t]+/, "", text); sub(/[ \t]+$/, "", text); return text }
 
 # field TEXT N: the N-th of the fields between bars; the last one that a kind of line has keeps its bars
@@ -24,6 +26,7 @@ function read_table(file,    line, kind, name) {
             what[name] = field(line, 4, 5)
             example[name] = field(line, 5, 5)
         }
+        if (kind == "line") { lines[++line_count] = name; words_of[name] = " " field(line, 3, 3) " " }
         if (kind == "option") {
             options[++option_count] = name
             kind_of[name] = field(line, 3, 6)
@@ -50,6 +53,13 @@ function usual(option, word,    parts, count, i) {
     if (option == "mark" && word == "resume") return "the image's frames"
     if (word == "keep" && index(" segments rows pages shadows frames entries ", " " option " ")) return "the file's; of a new one " parts[1]
     return parts[1]
+}
+
+# the same as a number: under keep that of a new file
+function usual_number(option, word,    text) {
+    text = usual(option, word)
+    sub(/.* /, "", text)
+    return text + 0
 }
 
 function by_default(option, word) { return kind_of[option] == "path" ? "needed" : "by default " usual(option, word) }
@@ -94,9 +104,13 @@ function nearest(text, names, count, word,    i, far, best, found) {
     return found
 }
 
+# whether a word is a file with something in it, which the caller says by ENVY_FILES, a line for each
+function is_file(name) { return index("\n" ENVIRON["ENVY_FILES"] "\n", "\n" name "\n") > 0 }
+
 function mistake(text, status) { print "envy: " text; exit status }
 
 function no_word(text,    names, count, i) {
+    if (text !~ /^-/ && is_file(text)) mistake(text " is no word, but a file (./envy run < " text ")", 1)
     for (i = 1; i <= word_count; i++) names[i] = words[i]
     count = split("help --help --version --prove", more, " ")
     for (i = 1; i <= count; i++) names[word_count + i] = more[i]
@@ -107,6 +121,7 @@ function no_option(text, word,    bare, found) {
     bare = text
     sub(/^-+/, "", bare)
     found = nearest(bare, options, option_count, word)
+    if (text !~ /^-/ && is_file(text)) mistake(text " is no option, but a file (< " text ")", 1)
     if (takes[word] !~ /[a-z]/) mistake(text " is no option (" word " takes none)", 1)
     mistake(text " is no option" (text ~ /^-./ || near <= 4 ? " (is it --" found "?)" : ""), 1)
 }
@@ -139,8 +154,47 @@ function check_value(option, value,    bound) {
         out_of_range = "--" option ": " value " (" range[option] ")"
 }
 
+# a number that is given, or else the word's own
+function number(option, word) { return option in value ? value[option] + 0 : usual_number(option, word) }
+
+# The rules that numbers break together: each names the numbers that it compares, in the order of the program.
+function check_board(word,    segments, rows, pages, shadows, most, part, mark) {
+    segments = number("segments", word); rows = number("rows", word)
+    pages = number("pages", word); shadows = number("shadows", word)
+    most = (segments - 2) * rows
+    if (pages + shadows > most)
+        mistake(sprintf("--pages %.0f and --shadows %.0f are %.0f rows, above %.0f, those of %.0f segments of %.0f less two segments",
+            pages, shadows, pages + shadows, most, segments, rows), 2)
+    if (segments * rows > 1048576) mistake(sprintf("--segments %.0f of --rows %.0f are %.0f rows, above 1048576", segments, rows, segments * rows), 2)
+    part = number("part", word)
+    if (value["policy"] == "hybrid" && (part < 1 || part > segments - 1)) mistake(sprintf("--part: %.0f (1 to %.0f, the segments less one)", part, segments - 1), 2)
+    mark = "mark" in value ? value["mark"] + 0 : number("frames", word)
+    if (mark > number("frames", word)) mistake(sprintf("--mark: %.0f (1 to %.0f, the frames)", mark, number("frames", word)), 2)
+}
+
+function check_load(    branches, accounts, transfers, history, pages) {
+    branches = number("branches", "tpca"); accounts = number("accounts", "tpca"); transfers = number("transfers", "tpca")
+    pages = number("pages", "tpca")
+    history = 4 * int((1 + 11 * branches + branches * accounts + 3) / 4)
+    if (history + 4 * transfers > 32 * pages)
+        mistake(sprintf("--branches %.0f of --accounts %.0f and --transfers %.0f take %.0f words, above %.0f, those of --pages %.0f",
+            branches, accounts, transfers, history + 4 * transfers, 32 * pages, pages), 2)
+}
+
+function check_rules(word) {
+    if (word == "gen" && ("hot" in value) != ("share" in value)) mistake("--hot and --share are given together, or neither is", 2)
+    # a file that is there gives its own sizes
+    if (!index(takes[word], " segments ") || word == "keep" && is_file(value["file"])) return
+    if (!("policy" in value)) value["policy"] = "greedy"
+    check_board(word)
+    if (word == "tpca") check_load()
+    if (word == "tpca" && number("shadows", word) < 5) mistake("--shadows: " number("shadows", word) " (5 and more under tpca)", 2)
+    if (word == "index" && number("shadows", word) < 32) mistake("--shadows: " number("shadows", word) " (32 and more under index)", 2)
+    if (word == "index" && number("pages", word) < 20) mistake("--pages: " number("pages", word) " (20 and more under index)", 2)
+}
+
 # The first mistake of a call. Its form is looked at word by word, and values once the form of all is right.
-function check(first, last,    word, i, text, name, at, given, count, value) {
+function check(first, last,    word, i, text, name, at, given, count) {
     word = ARGV[first]
     if (last < first) mistake("no word (" trimmed(takes_all()) ")", 1)
     if (!(word in takes)) no_word(word)
@@ -163,6 +217,19 @@ function check(first, last,    word, i, text, name, at, given, count, value) {
     if (index(takes[word], " file ") && !("file" in value)) mistake(word " needs --file", 1)
     for (i = 1; i <= count; i++) check_value(given[i], value[given[i]])
     if (out_of_range != "") mistake(out_of_range, 2)
+    check_rules(word)
+}
+
+# of which words a line is that a word refused as unknown; names are compared as they are
+function check_line(word, name,    i, of) {
+    if (name in words_of) {
+        if (index(words_of[name], " " word " ")) exit 0
+        of = trimmed(words_of[name])
+        gsub(/ /, ", ", of)
+        mistake(name " is no line under " word ", but one under " of, 1)
+    }
+    for (i = 1; i <= line_count; i++) if (index(words_of[lines[i]], " " word " ")) names[++count] = lines[i]
+    mistake(name " is no line under " word " (is it " nearest(name, names, count, "") "?)", 1)
 }
 
 function takes_all(    i, all) {
@@ -197,9 +264,61 @@ function whole_page(    i, j, who) {
     }
 }
 
+# A page for man, section 1: FOLDER/page has the lines of a trace and the statuses
+function manual(    i, j, names, count, line, page) {
+    page = ARGV[1]
+    sub(/[^\/]*$/, "page", page)
+    print ".TH ENVY 1 \"" ARGV[4] "\" \"eNVy " ARGV[3] "\" \"User Commands\""
+    print ".SH NAME\nenvy \\- a proved, non-volatile main memory of flash, by traces"
+    print ".SH SYNOPSIS\n.B envy\n.I WORD\n.RB [ \\-\\-\\c\n.IR OPTION\n.IR VALUE ].."
+    print ".SH DESCRIPTION\nA trace of loads, stores and transactions comes on standard input, a command a line; the replies go to standard output."
+    print ".SH WORDS"
+    for (i = 1; i <= word_count; i++) {
+        print ".TP\n.B " words[i] "\n" of_page(what[words[i]]) ".\n.br\n" of_page(example[words[i]])
+        count = split(takes[words[i]], names, " ")
+        line = ""
+        for (j = 1; j <= count; j++) line = line (j > 1 ? ", " : "") "\\-\\-" names[j]
+        if (count) print ".br\nOptions: " line "."
+    }
+    print ".SH OPTIONS\nEach is given at most once, as \\-\\-name value or \\-\\-name=value."
+    for (i = 1; i <= option_count; i++)
+        print ".TP\n.B \\-\\-" options[i] "\n" of_page(meaning[options[i]]) ": " of_page(shown_range(options[i])) ". Default: " of_page(default_of[options[i]]) "."
+    print ".SH LINES, REPLIES AND STATUSES\n.nf"
+    while ((getline line < page) > 0) print of_page(line)
+    print ".fi"
+}
+
+function of_page(text) { gsub(/\\/, "\\e", text); gsub(/-/, "\\-", text); if (text ~ /^[.\047]/) text = "\\&" text; return text }
+
+# Completions for bash: words first, then the options of the word, then names or files
+function completions(    i, all) {
+    print "# completions of envy for bash, made from the table of its words"
+    print "_envy() {\n    local word=${COMP_WORDS[1]} now=${COMP_WORDS[COMP_CWORD]} before=${COMP_WORDS[COMP_CWORD - 1]} options="
+    print "    COMPREPLY=()\n    if [ \"$COMP_CWORD\" = 1 ]; then"
+    for (i = 1; i <= word_count; i++) all = all words[i] " "
+    print "        mapfile -t COMPREPLY < <(compgen -W \"" all "help --help --version\" -- \"$now\")\n        return\n    fi"
+    print "    case $before in"
+    for (i = 1; i <= option_count; i++)
+        if (kind_of[options[i]] == "path") print "    --" options[i] ") mapfile -t COMPREPLY < <(compgen -f -- \"$now\"); return ;;"
+        else if (kind_of[options[i]] !~ /^[0-9]/) print "    --" options[i] ") mapfile -t COMPREPLY < <(compgen -W \"" kind_of[options[i]] "\" -- \"$now\"); return ;;"
+    print "    --*) return ;;\n    esac\n    case $word in"
+    for (i = 1; i <= word_count; i++) {
+        all = takes[words[i]]
+        gsub(/ [a-z]/, "&", all)
+        gsub(/ /, " --", all)
+        sub(/ --$/, "", all)
+        if (all ~ /[a-z]/) print "    " words[i] ") options=\"" trimmed(all) "\" ;;"
+    }
+    print "    help) options=\"" trimmed(takes_all()) "\" ;;\n    esac"
+    print "    mapfile -t COMPREPLY < <(compgen -W \"$options\" -- \"$now\")\n}\ncomplete -o bashdefault -F _envy envy ./envy"
+}
+
 BEGIN {
     read_table(ARGV[1])
     if (ARGV[2] == "check") { check(3, ARGC - 1); exit 0 }
+    if (ARGV[2] == "line") { check_line(ARGV[3], ARGV[4]); exit 0 }
+    if (ARGV[2] == "manual") { manual(); exit 0 }
+    if (ARGV[2] == "bash") { completions(); exit 0 }
     if (ARGV[2] == "list") { for (i = 1; i <= word_count; i++) print words[i] "|" trimmed(takes[words[i]]); exit 0 }
     if (ARGC < 4) { whole_page(); exit 0 }
     if (!(ARGV[3] in takes)) no_word(ARGV[3])

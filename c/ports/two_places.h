@@ -1,9 +1,9 @@
-/* A word of 64 bits that no cut of power halves, in memory whose stores are of one beat of 8, 16 or 32 bits: SRAM behind
+/* A word of 64 bits that no cut of power halves, in memory whose stores are of one beat of 8, 16 or 32 bits: SRAM on
    such a bus, or SPI FRAM. Two places hold a word each, and a mark of one beat names the one that counts. A put writes the
    other place, and then the mark, which is done or not.
 
-   A program defines TWO_PLACES_BITS (8, 16 or 32) if it isn't 32, and, where a plain store doesn't do, TWO_PLACES_STORE and
-   TWO_PLACES_BARRIER, which comes back once what was stored is kept. Memory of zeros holds 0. */
+   A program defines TWO_PLACES_BITS (8, 16 or 32) if it isn't 32, and, if a plain store doesn't do, TWO_PLACES_STORE and
+   TWO_PLACES_BARRIER, which returns once what was stored is durable. Memory of zeros holds 0. */
 #ifndef ENVY_TWO_PLACES_H
 #define ENVY_TWO_PLACES_H
 #include <stdint.h>

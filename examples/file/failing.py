@@ -3,8 +3,9 @@
     failing.py PROGRAM LIBRARY FOLDER
 
 A session is a list of lines. It is run over and over, and each time another call of the file fails, until none is left to
-fail (file_calls.c says how). Then no reply is wrong, none but `lost` comes behind the failure, the status tells it, and the
-next call, which fails in nothing, finds the words of the last line that was answered `synced`, or of the next such line."""
+fail (file_calls.c says how). Then no reply is wrong, none but `lost` comes after the failure, the status tells it, and the
+next call, which fails in nothing, finds the words of the last line that was answered `synced`, or of the next such line. If
+what failed was a call of the second file, or a rename that wasn't done, the session goes on to its end as if nothing had."""
 
 import errno
 import mmap
@@ -19,6 +20,7 @@ BOARD = ["--segments=4", "--rows=3", "--pages=4", "--shadows=2", "--frames=2", "
 WORDS = 128
 LOOKS = [f"look {a}" for a in range(WORDS)]
 FILE_FAILED, UNOPENED = 6, 11
+UNOPENED_TEXTS = ["envy: the journal can't be read\n", "envy: no file can be made beside the journal\n"]
 # What a call does before it fails, and the error that it tells.
 FAILURES = [("none", errno.EIO), ("half", errno.ENOSPC), ("done", errno.EIO), ("lost", errno.EIO)]
 # A call that is interrupted, or writes a part, is no failure.
@@ -49,8 +51,9 @@ class Session:
 class Ran:
     """How a session ended: its replies, how many had come where the failure was first seen, and the rest."""
 
-    def __init__(self, replies, failed_at, more, status, errors):
+    def __init__(self, replies, failed_at, more, status, errors, is_beside):
         self.replies, self.failed_at, self.more, self.status, self.errors = replies, failed_at, more, status, errors
+        self.is_beside = is_beside
         self.synced = replies.count("synced")
 
     def wrong(self, session, is_failure):
@@ -59,13 +62,13 @@ class Ran:
         good = told[:-1] if was_lost else told
         if good != session.replies[: len(good)] or self.more:
             return f"another reply: {told[-2:]} {self.more[:80]}"
-        if self.failed_at is None or (not is_failure and self.status == 0):
+        if self.failed_at is None or (self.status == 0 and (self.is_beside or not is_failure)):
             is_right = self.status == 0 and len(good) == len(session.lines)
             return None if is_right else f"status {self.status} behind {len(good)} replies: {self.errors}"
         if self.status == UNOPENED:
-            is_right = not told and self.errors == "envy: the journal can't be read\n"
+            is_right = not told and self.errors in UNOPENED_TEXTS
             return None if is_right else f"status {self.status} behind {len(told)} replies: {self.errors}"
-        if self.status != FILE_FAILED:
+        if self.status != FILE_FAILED or self.is_beside:
             return f"status {self.status}: {self.errors}"
         # nothing was answered where the file failed before the first line, and all where it failed behind the last
         if not was_lost and 0 < len(told) < len(session.lines):
@@ -88,6 +91,10 @@ class Trial:
     def has_failed(self):
         """Whether a call was made to fail."""
         return struct.unpack("8Q", self.counts)[1] > 0
+
+    def is_beside(self):
+        """Whether that was a call of the second file."""
+        return struct.unpack("8Q", self.counts)[7] > 0
 
     def keep(self, options=(), environment=None):
         words = [self.program, "keep", "--file", self.file, *BOARD, *options]
@@ -134,7 +141,7 @@ class Trial:
         signal.alarm(0)
         if failed_at is None and self.has_failed():
             failed_at = len(replies)
-        return Ran(replies, failed_at, more, process.returncode, errors)
+        return Ran(replies, failed_at, more, process.returncode, errors, self.is_beside())
 
     def tried(self, session, kept, fails_at, how, error):
         """Runs a session of which one call fails, and the calls behind it. Returns whether there was such a call, the status,
@@ -155,7 +162,7 @@ class Trial:
 
     def all_tried(self, session, kept):
         """Lets each call fail in each way, and tells how that went. Whether all was right."""
-        calls, found, statuses = 0, [0, 0], {FILE_FAILED: 0, UNOPENED: 0}
+        calls, went_on, found, statuses = 0, 0, [0, 0], {FILE_FAILED: 0, UNOPENED: 0}
         for how, error in FAILURES + NO_FAILURES:
             fails_at, has_failed = 1, True
             while has_failed:
@@ -166,9 +173,13 @@ class Trial:
                 if has_failed and status:
                     statuses[status] += 1
                     found[is_next] += 1
+                else:
+                    went_on += has_failed
                 calls, fails_at = max(calls, fails_at - 1), fails_at + 1
         ended = " and ".join(f"{times} with {status}" for status, times in statuses.items())
-        print(f"failing: {session.name}, {calls} calls: ended {ended}; {found[0]} left the last sync's words, {found[1]} the next's")
+        print(
+            f"failing: {session.name}, {calls} calls: ended {ended}, {went_on} went on; {found[0]} left the last sync's words, {found[1]} the next's"
+        )
         return True
 
 

@@ -9,7 +9,11 @@
          none           nothing
          half           a write writes half of its bytes
          done           all that it should
-         lost           nothing; and what wasn't synced before is lost
+         lost           nothing; and what wasn't synced before is lost, of the neighbours alone if it is a call of one
+         stale          nothing; if it is a sync of the file, what wasn't synced before isn't on the disk, and is read all the
+                        same until posix_fadvise drops it: no later sync writes it. What is on the disk is in a file of
+                        FILE_CALLS_PATH and ".disk" then, also for later processes that are told `stale`
+         early          a read of the file answers 0, which is no failure. Only reads are counted
          short          a write writes half of its bytes, and tells so, which is no failure
          interrupted    nothing, and errno is EINTR; the next such call is made
 
@@ -42,14 +46,17 @@ static struct counts {
     uint64_t syncs; /* also writes that wait for the disk */
     uint64_t cuts;
     uint64_t renames;
-    uint64_t others; /* not used */
+    uint64_t beside; /* whether the call that failed was one of a neighbour, or a rename that wasn't done */
 } none, *counts = &none;
 
 static char path[PATH_MAX], folder[PATH_MAX];
 static long wait_us;
 static uint64_t fails_at;
 static int error_number;
-static enum { NONE, HALF, DONE, LOST, SHORT, INTERRUPTED } how;
+static enum { NONE, HALF, DONE, LOST, SHORT, INTERRUPTED, STALE, EARLY } how;
+/* what is on the disk of a file of which more is read, else -1 */
+static char disk_path[PATH_MAX + 8];
+static int disk = -1;
 
 static void keep(int fd);
 
@@ -58,7 +65,7 @@ static int plain_open(int folder_fd, const char *name, int flags, mode_t mode) {
 }
 
 __attribute__((constructor)) static void start(void) {
-    static const char *const names[] = {"none", "half", "done", "lost", "short", "interrupted"};
+    static const char *const names[] = {"none", "half", "done", "lost", "short", "interrupted", "stale", "early"};
     const char *file = getenv("FILE_CALLS_PATH"), *into = getenv("FILE_CALLS_COUNTS"), *said = getenv("FILE_CALLS_WAIT");
     if (said && !file) wait_us = atol(said);
     if (!file || !into || strlen(file) >= sizeof path) return;
@@ -73,14 +80,16 @@ __attribute__((constructor)) static void start(void) {
     if ((said = getenv("FILE_CALLS_FAIL"))) fails_at = strtoull(said, NULL, 10);
     if ((said = getenv("FILE_CALLS_ERROR"))) error_number = atoi(said);
     said = getenv("FILE_CALLS_HOW");
-    for (int i = 0; said && i <= INTERRUPTED; i++)
+    for (int i = 0; said && i <= EARLY; i++)
         if (!strcmp(said, names[i])) how = i;
     if (how == INTERRUPTED) error_number = EINTR;
     /* what the file holds before the program runs is on the disk */
-    if (how == LOST && (fd = plain_open(AT_FDCWD, path, O_RDONLY, 0)) >= 0) {
+    if ((how == LOST || how == STALE) && (fd = plain_open(AT_FDCWD, path, O_RDONLY, 0)) >= 0) {
         keep(fd);
         close(fd);
     }
+    snprintf(disk_path, sizeof disk_path, "%s.disk", path);
+    if (how == STALE) disk = plain_open(AT_FDCWD, disk_path, O_RDWR, 0);
 }
 
 static int is_ours(const char *name) { return *path && !strncmp(name, path, strlen(path)); }
@@ -121,7 +130,7 @@ static image *image_of(int fd) {
 
 /* A sync of a file, or of the folder, was done. */
 static void keep(int fd) {
-    if (how != LOST) return;
+    if (how != LOST && how != STALE) return;
     image *i = image_of(fd);
     if (!i) {
         if (*replaced) unlink(replaced);
@@ -143,8 +152,8 @@ static void lose(const char *name) {
     close(fd);
 }
 
-static void lose_all(void) {
-    if (*replaced) {
+static void lose_all(int is_beside) {
+    if (*replaced && !is_beside) {
         syscall(SYS_rename, path, renamed);
         syscall(SYS_rename, replaced, path);
         *replaced = 0;
@@ -153,18 +162,54 @@ static void lose_all(void) {
     for (struct dirent *one; names && (one = readdir(names));) {
         char name[PATH_MAX + sizeof one->d_name];
         snprintf(name, sizeof name, "%s/%s", folder, one->d_name);
-        if (is_ours(name)) lose(name);
+        if (is_ours(name) && !(is_beside && !strcmp(name, path))) lose(name);
     }
     closedir(names);
 }
 
-/* Whether a call is the one that fails. */
-static int fails(void) {
+/* ---- a file of which more is read than is on the disk */
+
+static int is_file(int fd) {
+    struct stat here, there;
+    return !fstat(fd, &here) && !stat(path, &there) && here.st_dev == there.st_dev && here.st_ino == there.st_ino;
+}
+
+/* From now on what is on the disk of the file is what its last sync left there. */
+static void become_stale(int fd) {
+    image *i = is_file(fd) ? image_of(fd) : NULL;
+    if (!i) return;
+    disk = plain_open(AT_FDCWD, disk_path, O_RDWR | O_CREAT | O_TRUNC, 0600);
+    if (syscall(SYS_pwrite64, disk, i->bytes, i->size, 0L) != i->size) _exit(99);
+}
+
+/* The file is what is on the disk again. */
+static void drop_held(int fd) {
+    struct stat state;
+    if (disk < 0 || !is_file(fd)) return;
+    fstat(disk, &state);
+    char *bytes = malloc((size_t)state.st_size + 1);
+    if (pread(disk, bytes, (size_t)state.st_size, 0) != state.st_size) _exit(99);
+    if (syscall(SYS_ftruncate, fd, 0L) || syscall(SYS_pwrite64, fd, bytes, state.st_size, 0L) != state.st_size) _exit(99);
+    free(bytes);
+    unlink(disk_path);
+    disk = -1;
+}
+
+/* Whether a call is the one that fails. It may be one of a neighbour. */
+static int fails(int is_beside) {
+    if (how == EARLY) return 0;
     counts->calls++;
     if (counts->calls != fails_at) return 0;
     counts->failed = fails_at;
-    if (how == LOST) lose_all();
+    counts->beside = (uint64_t)is_beside;
+    if (how == LOST) lose_all(is_beside);
     return 1;
+}
+
+/* Whether a descriptor that is watched is one of a neighbour. */
+static int is_beside(int fd) {
+    struct stat state;
+    return !is_file(fd) && !fstat(fd, &state) && !S_ISDIR(state.st_mode);
 }
 
 static int fail(void) {
@@ -203,7 +248,10 @@ static ssize_t any_write(int fd, const void *bytes, size_t size, off_t at, int i
     if (!is_watched(fd, 0)) return plain_write(fd, bytes, size, at, is_at);
     counts->writes++;
     if (fcntl(fd, F_GETFL) & O_DSYNC) counts->syncs++;
-    if (!fails()) return written(plain_write(fd, bytes, size, at, is_at));
+    if (!fails(is_beside(fd))) {
+        if (disk >= 0 && is_at && is_file(fd) && syscall(SYS_pwrite64, disk, bytes, size, at) < 0) _exit(99);
+        return written(plain_write(fd, bytes, size, at, is_at));
+    }
     if (how == HALF || how == SHORT) size = size / 2 + (how == SHORT && size == 1);
     ssize_t done = how == HALF || how == DONE || how == SHORT ? plain_write(fd, bytes, size, at, is_at) : 0;
     return how == SHORT ? done : fail();
@@ -219,7 +267,7 @@ static ssize_t any_writev(int fd, const struct iovec *pieces, int n, off_t at, i
     if (is_watched(fd, 0)) {
         counts->writes++;
         if (fcntl(fd, F_GETFL) & O_DSYNC) counts->syncs++;
-        if (fails()) return fail();
+        if (fails(is_beside(fd))) return fail();
         return written(is_at ? syscall(SYS_pwritev, fd, pieces, n, at, 0L) : syscall(SYS_writev, fd, pieces, n));
     }
     return is_at ? syscall(SYS_pwritev, fd, pieces, n, at, 0L) : syscall(SYS_writev, fd, pieces, n);
@@ -233,7 +281,8 @@ static int any_sync(int fd, long call) {
     wait_for_disk();
     if (!is_watched(fd, 1)) return (int)syscall(call, fd);
     counts->syncs++;
-    int is_failure = fails();
+    int is_failure = fails(is_beside(fd));
+    if (is_failure && how == STALE) become_stale(fd);
     if (is_failure && how != DONE && how != SHORT && how != HALF) return fail();
     int answer = (int)syscall(call, fd);
     if (!answer) keep(fd);
@@ -246,16 +295,40 @@ int fdatasync(int fd) { return any_sync(fd, SYS_fdatasync); }
 int ftruncate(int fd, off_t size) {
     if (!is_watched(fd, 0)) return (int)syscall(SYS_ftruncate, fd, size);
     counts->cuts++;
-    int is_failure = fails();
+    int is_failure = fails(is_beside(fd));
     if (is_failure && how != DONE && how != SHORT && how != HALF) return fail();
     int answer = (int)syscall(SYS_ftruncate, fd, size);
+    if (disk >= 0 && is_file(fd) && syscall(SYS_ftruncate, disk, size)) _exit(99);
     return is_failure && how != SHORT ? fail() : answer;
 }
+
+int posix_fadvise(int fd, off_t at, off_t size, int advice) {
+    if (is_watched(fd, 0) && advice == POSIX_FADV_DONTNEED && !at && !size) drop_held(fd);
+    return syscall(SYS_fadvise64, fd, at, size, advice) ? errno : 0;
+}
+
+int posix_fadvise64(int fd, off64_t at, off64_t size, int advice) { return posix_fadvise(fd, at, size, advice); }
+
+/* Whether a read is the one that answers 0 early. */
+static int ends_early(int fd) {
+    if (how != EARLY || !is_watched(fd, 0)) return 0;
+    counts->calls++;
+    if (counts->calls == fails_at) counts->failed = fails_at;
+    return counts->calls == fails_at;
+}
+
+ssize_t read(int fd, void *bytes, size_t size) { return ends_early(fd) ? 0 : syscall(SYS_read, fd, bytes, size); }
+
+ssize_t pread(int fd, void *bytes, size_t size, off_t at) {
+    return ends_early(fd) ? 0 : syscall(SYS_pread64, fd, bytes, size, at);
+}
+
+ssize_t pread64(int fd, void *bytes, size_t size, off64_t at) { return pread(fd, bytes, size, at); }
 
 /* Opening counts where it may make a file. */
 static int any_open(int folder_fd, const char *name, int flags, mode_t mode) {
     if (!(flags & O_CREAT) || !is_ours(name)) return plain_open(folder_fd, name, flags, mode);
-    int is_failure = fails();
+    int is_failure = fails(strcmp(name, path) != 0);
     if (is_failure && how != DONE && how != SHORT && how != HALF) return fail();
     int fd = plain_open(folder_fd, name, flags, mode);
     if (!is_failure || how == SHORT) return fd;
@@ -289,7 +362,7 @@ int ftruncate64(int fd, off64_t size) { return ftruncate(fd, size); }
 int renameat2(int from, const char *old_name, int to, const char *new_name, unsigned flags) {
     if (!is_ours(new_name)) return (int)syscall(SYS_renameat2, from, old_name, to, new_name, flags);
     counts->renames++;
-    int is_failure = fails();
+    int is_failure = fails(how != DONE && how != HALF);
     if (is_failure && how != DONE && how != SHORT && how != HALF) return fail();
     if (how == LOST && !*replaced) {
         snprintf(replaced, sizeof replaced, "%.4000s/.replaced", folder);
@@ -298,6 +371,10 @@ int renameat2(int from, const char *old_name, int to, const char *new_name, unsi
         if (link(path, replaced)) *replaced = 0;
     }
     int answer = (int)syscall(SYS_renameat2, from, old_name, to, new_name, flags);
+    if (!answer && disk >= 0) {
+        unlink(disk_path);
+        disk = -1;
+    }
     return is_failure && how != SHORT ? fail() : answer;
 }
 

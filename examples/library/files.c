@@ -5,9 +5,11 @@
 #include "../../c/envy_file.h"
 #include "../../c/envy_text.h"
 #include <fcntl.h>
+#include <signal.h>
 #include <stdio.h>
 #include <stdlib.h>
 #include <string.h>
+#include <sys/stat.h>
 #include <sys/wait.h>
 #include <unistd.h>
 
@@ -68,6 +70,51 @@ static void word_is(const char *path, uint64_t wanted) {
     must(envy_file_close(&f) == ENVY_DONE, "close");
 }
 
+static void ends_well(pid_t child) {
+    int status;
+    must(waitpid(child, &status, 0) == child && WIFEXITED(status) && !WEXITSTATUS(status), "the other process");
+}
+
+/* A new file has the rights that the umask leaves. No text that is printed comes into a file, if the standard streams are
+   closed. */
+static void made_without_streams(const char *path) {
+    envy_file f = ENVY_FILE_INIT;
+    struct stat about;
+    uint32_t holder;
+    umask(027);
+    pid_t child = fork();
+    if (child == 0) {
+        for (int stream = 0; stream < 3; stream++) close(stream);
+        if (envy_file_open(&f, path, &setup) != ENVY_DONE || f.descriptor < 3) _exit(1);
+        if (envy_mapped_store(&f.memory, 9, 11, &holder) != ENVY_DONE) _exit(2);
+        printf("a text for standard output\n");
+        fflush(stdout);
+        _exit(envy_file_close(&f) == ENVY_DONE ? 0 : 3);
+    }
+    ends_well(child);
+    must(!stat(path, &about) && (about.st_mode & 0777) == 0640, "a new file has other rights");
+    word_is(path, 11);
+}
+
+/* A process that was forked off gives up no lock, and a file that was closed isn't locked while such a process lives. */
+static void closed_while_forked(const char *path) {
+    envy_file f = ENVY_FILE_INIT;
+    must(envy_file_open(&f, path, &setup) == ENVY_DONE, "the file doesn't open");
+    pid_t child = fork();
+    if (child == 0) _exit(envy_file_close(&f) == ENVY_DONE ? 0 : 1);
+    ends_well(child);
+    refused(path, &setup, ENVY_LOCKED, "closed by a process that was forked off");
+    fflush(stdout);
+    if ((child = fork()) == 0) {
+        pause();
+        _exit(0);
+    }
+    must(envy_file_close(&f) == ENVY_DONE, "close");
+    word_is(path, 11);
+    kill(child, SIGKILL);
+    waitpid(child, NULL, 0);
+}
+
 int main(int words, char **word) {
     if (words != 2) return 2;
     const char *path = word[1];
@@ -85,10 +132,12 @@ int main(int words, char **word) {
         fflush(stdout);
         _exit(0);
     }
-    int status;
-    must(waitpid(child, &status, 0) == child && WIFEXITED(status) && !WEXITSTATUS(status), "the other process");
+    ends_well(child);
     must(envy_file_close(&f) == ENVY_DONE, "close");
     word_is(path, 11);
+    must(!unlink(path), "unlink");
+    made_without_streams(path);
+    closed_while_forked(path);
 
     size_t full;
     free(bytes_of(path, &full));

@@ -1,6 +1,6 @@
 /* The library over a file in this program's memory, whose calls fail where they are told: each answer of opening; a
-   session whose k-th call of the disk fails, for each k, with any part of it done, also where the file is opened as written
-   byte by byte; an opening whose k-th block of the heap
+   session whose k-th call of the disk fails, for each k, with any part of it done, also if the file is opened as written
+   byte by byte, and goes on if that was a call of the second file alone; an opening whose k-th block of the heap
    isn't given; and a compaction, which leaves a shorter file that opens as the same words.
 
      kept_failing SEED */
@@ -59,13 +59,26 @@ typedef struct file {
     size_t n;
 } file;
 static file first, second;
-static int calls, call_fails = NEVER, called_behind, in_session;
+static int calls, call_fails = NEVER, called_after, in_session;
+static bool is_over, has_second, second_failed;
 static uint64_t chance;
 
 /* Whether this call fails: then any part of it may be done. */
 static bool fails(void) {
-    if (calls > call_fails) called_behind++;
+    if (is_over) called_after++;
     return calls++ == call_fails;
+}
+
+/* A failure of the file ends it; one of the second file ends that one, until it is begun again. */
+static int over(bool failed) {
+    is_over |= failed;
+    return failed;
+}
+
+static int given_up(bool failed) {
+    has_second = !failed;
+    second_failed |= failed;
+    return failed;
 }
 
 static void put(file *f, size_t at, const uint8_t *bytes, size_t n) {
@@ -78,44 +91,50 @@ static int do_write(void *context, uint64_t at, const void *bytes, size_t n) {
     (void)context;
     bool failed = fails();
     put(&first, at, bytes, failed ? draw(&chance) % (n + 1) : n);
-    return failed;
+    return over(failed);
 }
 
 static int do_cut(void *context, uint64_t size) {
     (void)context;
     bool failed = fails();
     if (!failed || draw(&chance) % 2) first.n = size;
-    return failed;
+    return over(failed);
 }
 
 static int do_sync(void *context) {
     (void)context;
-    return fails();
+    return over(fails());
 }
 
 static int do_begin(void *context) {
     (void)context;
     bool failed = fails();
     if (!failed || draw(&chance) % 2) second.n = 0;
-    return failed;
+    return given_up(failed);
 }
 
 static int do_append(void *context, const void *bytes, size_t n) {
     (void)context;
     bool failed = fails();
+    if (!has_second) called_after++;
     put(&second, second.n, bytes, failed ? draw(&chance) % (n + 1) : n);
-    return failed;
+    return given_up(failed);
 }
 
 static int do_replace(void *context) {
     (void)context;
     bool failed = fails();
-    if (!failed || draw(&chance) % 2) {
+    uint64_t way = failed ? draw(&chance) % 3 : 0;
+    if (!has_second) called_after++;
+    has_second = false;
+    second_failed |= way == 2;
+    if (way == 2) return ENVY_NOT_REPLACED;
+    if (way == 0) {
         file old = first;
         first = second;
         second = old;
     }
-    return failed;
+    return over(failed);
 }
 
 static bool bytewise;
@@ -155,6 +174,15 @@ typedef struct session {
     int done;
 } session;
 
+/* If the second file fails, a compaction is done as a sync. */
+static uint32_t compacted_or_synced(void) {
+    second_failed = false;
+    uint32_t code = envy_kept_compact(&m);
+    if (code != ENVY_APPENDED) return code;
+    WANT(second_failed, true);
+    return ENVY_DONE;
+}
+
 static bool goes_on(session *s, uint32_t code) {
     if (s->ended) WANT(code, ENVY_OFF); /* never an answer but this behind a failure */
     if (code == ENVY_OFF) s->ended = true;
@@ -179,7 +207,7 @@ static void piece(session *s, uint64_t *state, int n) {
     if (on) memcpy(s->now, to, sizeof to);
     goes_on(s, envy_kept_tick(&m, &number));
     if (n % 3) return;
-    uint32_t code = n % 12 ? envy_kept_sync(&m) : envy_kept_compact(&m);
+    uint32_t code = n % 12 ? envy_kept_sync(&m) : compacted_or_synced();
     if (!s->ended) s->in_sync = true;
     if (goes_on(s, code)) {
         memcpy(s->synced, s->now, sizeof to);
@@ -193,7 +221,8 @@ static void session_with(int fails_at, uint64_t seed) {
     static session s;
     memset(&s, 0, sizeof s);
     first.n = second.n = 0;
-    calls = called_behind = 0;
+    calls = called_after = 0;
+    is_over = has_second = false;
     call_fails = fails_at;
     chance = seed ^ (uint64_t)fails_at;
     uint64_t state = seed;
@@ -215,9 +244,11 @@ static void session_with(int fails_at, uint64_t seed) {
     } else {
         WANT(code, ENVY_OFF);
     }
-    WANT(called_behind, 0);
+    WANT(called_after, 0);
+    if (code == ENVY_DONE) WANT(s.ended, is_over);
     in_session = calls;
     call_fails = NEVER;
+    is_over = has_second = false;
     WANT(open_file(&setup), ENVY_DONE);
     if (!is(s.synced)) {
         WANT(s.in_sync, true);

@@ -1,12 +1,11 @@
-/* Kept files of the host: locked, compacted under a link, with a second file that was left behind or is in use, and with
-   writes that the system refuses.
+/* Kept files of the host: locked, compacted under a link, with a second file that a process left or that is in use, and
+   with writes that the system refuses.
 
      kept_files FOLDER */
 #include "../../c/envy_kept_file.h"
 #include "../../c/envy_text.h"
 #include <errno.h>
 #include <fcntl.h>
-#include <signal.h>
 #include <stdio.h>
 #include <stdlib.h>
 #include <string.h>
@@ -51,7 +50,8 @@ static void locked_and_compacted(void) {
     /* by a link, beside what a process that was killed left */
     WANT(symlink("memory", "link"), 0);
     FILE *left = fopen("memory.envy-new", "w");
-    WANT(left && fputs("left behind", left) >= 0 && !fclose(left), 1);
+    WANT(left && fputs("left by a process", left) >= 0 && !fclose(left), 1);
+    WANT(chmod("memory.envy-new", S_ISVTX | 0600), 0);
     WANT(stat("memory", &before), 0);
     WANT(envy_kept_open_file(&f, "link", &setup), ENVY_DONE);
     WANT(envy_kept_compact(&f.memory), ENVY_DONE);
@@ -67,13 +67,13 @@ static void locked_and_compacted(void) {
     WANT(envy_kept_open_file(&g, "memory", &setup), ENVY_DONE);
     WANT(word_at(&g, 5), 7);
     WANT(word_at(&g, 6), 8);
-    /* a file of this name that is in use stays as it is, and the memory is over */
+    /* a file of this name that is in use stays as it is, and another name is taken */
     WANT(envy_kept_open_file(&f, "memory.envy-new", &setup), ENVY_DONE);
     store(&f, 1, 2);
     WANT(envy_kept_sync(&f.memory), ENVY_DONE);
-    WANT(envy_kept_compact(&g.memory), ENVY_OFF);
-    WANT(envy_kept_powered(&g.memory), ENVY_OFF);
-    WANT(envy_kept_close_file(&g), ENVY_OFF);
+    WANT(envy_kept_compact(&g.memory), ENVY_DONE);
+    WANT(access("memory.envy-new1", F_OK), (uint64_t)-1);
+    WANT(envy_kept_close_file(&g), ENVY_DONE);
     WANT(envy_kept_close_file(&f), ENVY_DONE);
     WANT(envy_kept_open_file(&f, "memory.envy-new", &setup), ENVY_DONE);
     WANT(word_at(&f, 1), 2);
@@ -86,27 +86,36 @@ static void limited(rlim_t bytes) {
     WANT(setrlimit(RLIMIT_FSIZE, &limit), 0);
 }
 
-/* The writes of a file that may not grow fail: it has the words of the last sync. */
+/* The writes of a file that may not grow fail, and no signal comes: it has the words of the last sync, or of the one that
+   failed. */
 static void full(void) {
     envy_kept_file f = ENVY_KEPT_FILE_INIT;
     struct stat about;
-    signal(SIGXFSZ, SIG_IGN);
+    uint64_t synced = 0;
+    uint32_t code = ENVY_DONE, holder;
     WANT(envy_kept_open_file(&f, "full", &setup), ENVY_DONE);
-    store(&f, 5, 7);
-    WANT(envy_kept_sync(&f.memory), ENVY_DONE);
     WANT(stat("full", &about), 0);
-    store(&f, 5, 8);
-    limited((rlim_t)about.st_size);
-    WANT(envy_kept_sync(&f.memory), ENVY_OFF);
+    limited((rlim_t)about.st_size + 10000);
+    for (uint64_t n = 1; code == ENVY_DONE && n < 1000000; n++) {
+        code = envy_kept_store(&f.memory, 5, n, &holder);
+        if (code == ENVY_DONE && n % 100 == 0 && (code = envy_kept_sync(&f.memory)) == ENVY_DONE) synced = n;
+    }
+    WANT(code, ENVY_OFF);
+    WANT(errno, EFBIG);
     limited(RLIM_INFINITY);
     WANT(envy_kept_sync(&f.memory), ENVY_OFF);
+    WANT(envy_kept_file_error(&f), EFBIG);
     WANT(envy_kept_close_file(&f), ENVY_OFF);
+    WANT(errno, EFBIG);
+    WANT(envy_kept_file_error(&f), EFBIG);
     WANT(envy_kept_open_file(&f, "full", &setup), ENVY_DONE);
-    WANT(word_at(&f, 5), 7);
+    WANT(word_at(&f, 5) == synced || word_at(&f, 5) == synced + 100, 1);
+    WANT(envy_kept_file_error(&f), 0);
     WANT(envy_kept_close_file(&f), ENVY_DONE);
     /* a new file that may not be written */
     limited(10);
     WANT(envy_kept_open_file(&f, "new", &setup), ENVY_OFF);
+    WANT(errno, EFBIG);
     limited(RLIM_INFINITY);
     WANT(envy_kept_open_file(&f, "new", &setup), ENVY_DONE);
     WANT(word_at(&f, 5), 0);

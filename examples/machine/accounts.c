@@ -20,8 +20,9 @@ static void must(uint32_t code, const char *what) {
 
 /* The part is read through the map that isn't cached, and its commands go out through the one of devices: a callback
    names the same bytes there. The barriers of the driver stand between. */
+static void reset(cfi_part *part) { cfi_command(part, 0, 0xff); } /* this part has no line, and FF ends all that it does */
 static cfi_part chips = {
-    .base = (volatile uint8_t *)FLASH_AT, .bus_bytes = 4, .chip_bytes = 2, .microseconds = microseconds,
+    .base = (volatile uint8_t *)FLASH_AT, .bus_bytes = 4, .chip_bytes = 2, .microseconds = microseconds, .reset = reset,
 };
 static envy_part driver;
 

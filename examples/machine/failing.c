@@ -1,12 +1,17 @@
 /* Orders that go wrong, over whole calls of a memory over a part, on the host: a callback makes a drawn order bad, late,
    half done, done elsewhere in its row, done and told bad, or upward. A call must answer ENVY_BAD exactly where what
    it ordered isn't there, leave every word as before, and order nothing more; between two erases of a segment each row is
-   ordered once, where it is blank, and a later one lies higher, so a row that went wrong is left alone. Then: what is
-   refused, with nothing ordered; the heap failing at each of its calls; two parts at once; a put of two places that is cut.
+   ordered once, where it is blank, and a later one lies higher, so a row that went wrong is left alone. The same over the
+   drivers of c/ports and a model of their chips (examples/ports/chip.h), which tells a failure although its cells read
+   right, or fails half done, or is late, or stays busy until it is reset. Then: what is refused, with nothing ordered; the
+   heap failing at each of its calls; two parts at once; a put of two places that is cut.
 
      failing SEED */
 #include "../../c/envy_parted.h"
 #include "../../c/envy_text.h"
+#include "../../c/ports/cfi_amd.h"
+#include "../../c/ports/cfi_intel.h"
+#include "../ports/chip.h"
 #include <stdbool.h>
 #include <stdio.h>
 #include <stdlib.h>
@@ -62,16 +67,30 @@ struct block rattle_realloc(void *at, size_t kept, size_t bytes, size_t align) {
 }
 void rattle_dealloc(void *at) { free(at); }
 
-enum manner { RIGHT, NOTHING, LATE, HALF, ELSEWHERE, TOLD_BAD, UPWARD, MANNERS };
+/* up to UPWARD by a callback of this file, from CHIP_FAILS on by a model of a chip under a driver */
+enum manner { RIGHT, NOTHING, LATE, HALF, ELSEWHERE, TOLD_BAD, UPWARD, CHIP_FAILS, CHIP_FAILS_HALF, CHIP_IS_LATE, CHIP_IS_STUCK, MANNERS };
 static const char *const manner_names[MANNERS] = {
-    "right", "nothing", "late", "half", "elsewhere", "told bad", "upward",
+    "right", "nothing", "late", "half", "elsewhere", "told bad", "upward", "chip fails", "chip half", "chip late", "chip stuck",
 };
+static const enum chip_fault fault_of[MANNERS] = {
+    [CHIP_FAILS] = CHIP_TELLS, [CHIP_FAILS_HALF] = CHIP_HALF, [CHIP_IS_LATE] = CHIP_LATE, [CHIP_IS_STUCK] = CHIP_STUCK,
+};
+static bool is_done_all_the_same(enum manner manner) { return manner == TOLD_BAD || manner == CHIP_IS_LATE; }
+
+/* what carries the orders out: a callback of this file, or a driver over a model of a chip */
+enum kind { PLAIN, INTEL, AMD, KINDS };
+static enum manner first_manner(enum kind kind) { return kind == PLAIN ? NOTHING : CHIP_FAILS; }
+static enum manner end_of_manners(enum kind kind) { return kind == PLAIN ? CHIP_FAILS : MANNERS; }
 enum call { FORMAT, STORE, PUT, TICK, CALLS };
 static const char *const call_names[CALLS] = {"format", "store", "put", "tick"};
 
 /* A part in memory. Order number `turn`, or the next erase, is carried out in a manner, and every other right. */
 typedef struct fake {
     uint8_t (*rows)[ENVY_ROW_BYTES];
+    enum kind kind;
+    chip chip;
+    cfi_part cfi;
+    envy_part driver;
     enum manner manner;
     uint64_t orders, turn, told_bad;
     uint8_t before[ENVY_ROW_BYTES];
@@ -93,6 +112,17 @@ static enum manner manner_of(fake *f, bool is_erase) {
     f->awaits_erase = false;
     return f->manner;
 }
+/* A driver returned: the part reads as its array, and what the chip told of a failure is there to be seen. */
+static void end_of_order(fake *f, enum manner manner, bool is_wrong) {
+    MUST(!chip_gives_status(&f->chip) && f->chip.mode == IS_ARRAY && f->chip.fault == CHIP_RIGHT);
+    MUST(is_wrong == (manner != RIGHT && !is_done_all_the_same(manner)));
+    MUST((f->cfi.resets != 0) == (manner == CHIP_IS_STUCK) && f->cfi.was_late == (manner == CHIP_IS_LATE || manner == CHIP_IS_STUCK));
+    f->cfi.resets = 0;
+    f->cfi.was_late = false;
+    f->is_wrong = is_wrong;
+    if (manner == CHIP_IS_LATE) table[CHIP_IS_LATE][in_call][f->is_erase]++;
+}
+static void reset(cfi_part *part) { chip_reset(chip_of(part->base)); }
 static void clear(volatile uint8_t *row, const uint8_t *page, size_t count, size_t shift) {
     for (size_t i = 0; i < count; i++) row[(i + shift) % ENVY_ROW_BYTES] &= page[i];
 }
@@ -104,6 +134,13 @@ static void program(void *context, volatile uint8_t *at, const uint8_t page[ENVY
     *next = (int)(row % ROWS) + 1;
     for (size_t i = 0; i < ENVY_ROW_BYTES; i++) MUST(at[i] == 0xff);
     enum manner manner = manner_of(f, false);
+    if (f->kind != PLAIN) {
+        f->chip.fault = fault_of[manner];
+        f->driver.program(f->driver.context, at, page);
+        chip_show(&f->chip);
+        end_of_order(f, manner, memcmp(f->rows[row], page, ENVY_ROW_BYTES) != 0);
+        return;
+    }
     switch (manner) {
     case NOTHING: break;
     case LATE: clear(at, f->before, ENVY_ROW_BYTES, 0); break;
@@ -122,6 +159,15 @@ static void erase(void *context, volatile uint8_t *at, size_t bytes) {
     MUST(bytes == ROWS * ENVY_ROW_BYTES && row % ROWS == 0 && row < ALL_ROWS);
     f->next[row / ROWS] = 0;
     enum manner manner = manner_of(f, true);
+    if (f->kind != PLAIN) {
+        f->chip.fault = fault_of[manner];
+        f->driver.erase(f->driver.context, at, bytes);
+        bool is_wrong = false;
+        chip_show(&f->chip);
+        for (size_t i = 0; i < bytes; i++) is_wrong |= at[i] != 0xff;
+        end_of_order(f, manner, is_wrong);
+        return;
+    }
     size_t count = manner == NOTHING || manner == LATE ? 0 : manner == HALF ? ROWS / 2 : manner == ELSEWHERE ? ROWS - 1 : ROWS;
     memset(f->rows[row], 0xff, count * ENVY_ROW_BYTES);
     f->is_wrong = false;
@@ -145,7 +191,24 @@ typedef struct store {
     uint64_t bads, heap_calls;
 } store;
 
-static void make(store *s) {
+/* A driver over a model: two chips of 16 bits with write buffers, or one without. */
+static void make_chip(fake *f, enum kind kind) {
+    bool is_intel = kind == INTEL;
+    f->kind = kind;
+    chip_make(&f->chip, is_intel ? CHIP_INTEL : CHIP_AMD, f->rows[0], is_intel ? 4 : 2, 2, is_intel ? 128 : 0);
+    f->cfi = (cfi_part){.base = f->rows[0], .bus_bytes = is_intel ? 4 : 2, .chip_bytes = 2, .microseconds = chip_microseconds};
+    int (*open)(cfi_part *) = is_intel ? cfi_intel_open : cfi_amd_open;
+    MUST(open(&f->cfi) == CFI_NO_RESET);
+    f->cfi.reset = reset;
+    f->chip.regions = 2; /* boot blocks */
+    MUST(open(&f->cfi) == CFI_UNEVEN);
+    f->chip.regions = 1;
+    MUST(open(&f->cfi) == CFI_DONE);
+    MUST(f->cfi.bytes == CHIP_BYTES && f->cfi.block_bytes == CHIP_BLOCK && f->cfi.buffer_bytes == f->chip.buffer_bytes);
+    MUST(f->cfi.word_us == CHIP_WORD_US && f->cfi.buffer_us == CHIP_BUFFER_US && f->cfi.erase_us == CHIP_ERASE_US);
+    f->driver = is_intel ? cfi_intel(&f->cfi) : cfi_amd(&f->cfi);
+}
+static void make(store *s, enum kind kind) {
     envy_part_sizes sizes;
     memset(s, 0, sizeof *s);
     s->setup = the_setup;
@@ -156,6 +219,7 @@ static void make(store *s) {
     memset(s->flash.at, 0, sizes.rows * ENVY_ROW_BYTES);
     memset(s->sram.at, 0, 8 * sizes.words);
     s->part.rows = s->flash.at;
+    if (kind != PLAIN) make_chip(&s->part, kind);
     s->callbacks = (envy_part){&s->part, program, erase};
     s->port = envy_part_open(&s->callbacks);
     MUST(s->port >= 0);
@@ -165,6 +229,7 @@ static void make(store *s) {
 static void unmake(store *s) {
     envy_parted_close(&s->memory);
     envy_part_close(s->port);
+    chip_unmake(&s->part.chip);
     free(s->memory.at); /* a place lasts until the program ends; here it is known to come from malloc */
     free(s->flash.at);
     free(s->sram.at);
@@ -189,7 +254,8 @@ static void begin_call(store *s, enum call call) {
     if (draw(6) || s->part.awaits_erase) return;
     s->part.awaits_erase = draw(4) == 0;
     s->part.turn = s->part.awaits_erase ? 0 : s->part.orders + 1 + draw(3);
-    s->part.manner = NOTHING + draw(MANNERS - 1);
+    enum manner first = first_manner(s->part.kind);
+    s->part.manner = first + draw(end_of_manners(s->part.kind) - first);
 }
 /* ENVY_BAD exactly where the last order isn't there, nothing ordered behind it, and no word changed. */
 static bool ends_well(store *s, uint32_t code, enum call call) {
@@ -260,10 +326,10 @@ static void restart(store *s) {
 }
 
 /* Two memories over a part each, with orders that go wrong in both. */
-static void sessions(void) {
+static void sessions(enum kind first, enum kind second) {
     static store two[2];
     for (int i = 0; i < 2; i++) {
-        make(&two[i]);
+        make(&two[i], i ? second : first);
         MUST(format(&two[i]) == ENVY_DONE);
         compare(&two[i]);
     }
@@ -284,11 +350,11 @@ static void sessions(void) {
 }
 
 /* A format whose order goes wrong: nothing that is formatted is left, and the next format is done. */
-static void formats(void) {
-    for (enum manner manner = NOTHING; manner < MANNERS; manner++)
+static void formats(enum kind kind) {
+    for (enum manner manner = first_manner(kind); manner < end_of_manners(kind); manner++)
         for (uint64_t turn = 1; turn <= SEGMENTS; turn++) {
             static store s;
-            make(&s);
+            make(&s, kind);
             in_call = FORMAT;
             s.part.manner = manner;
             s.part.turn = turn;
@@ -335,7 +401,7 @@ static envy_words words_at(uint64_t address, size_t len) { return (envy_words){(
 
 static void refusals(void) {
     store *s = &refused_store;
-    make(s);
+    make(s, PLAIN);
     const envy_setup setup = s->setup;
     envy_part_map f = s->flash;
     envy_words w = s->sram;
@@ -389,7 +455,7 @@ static void refusals(void) {
 /* The heap fails at its first call, its second, and so on, until opening is done. */
 static void want_of_memory(void) {
     static store s;
-    make(&s);
+    make(&s, PLAIN);
     uint64_t failed = 0;
     for (bool is_format = true;; is_format = false) {
         uint32_t code;
@@ -432,7 +498,7 @@ static void cut_puts(void) {
 
 static void tell(void) {
     for (enum manner m = NOTHING; m < MANNERS; m++) {
-        printf("%-9s", manner_names[m]);
+        printf("%-10s", manner_names[m]);
         for (enum call c = FORMAT; c < CALLS; c++) {
             printf("  %s", call_names[c]);
             if (c != FORMAT) printf(" %5lu programs", table[m][c][0]);
@@ -441,14 +507,15 @@ static void tell(void) {
             if (c != FORMAT) MUST(table[m][c][0]);
             if (m != UPWARD) MUST(table[m][c][1]);
         }
-        printf("%s\n", m == TOLD_BAD ? ": done all the same" : ": each answered ENVY_BAD, no word changed");
+        printf("%s\n", is_done_all_the_same(m) ? ": done all the same" : ": each answered ENVY_BAD, no word changed");
     }
 }
 
 int main(int count, char **words) {
     state = count > 1 ? strtoull(words[1], NULL, 10) : 1;
-    formats();
-    sessions();
+    for (enum kind kind = PLAIN; kind < KINDS; kind++) formats(kind);
+    sessions(PLAIN, PLAIN);
+    sessions(INTEL, AMD);
     refusals();
     want_of_memory();
     cut_puts();

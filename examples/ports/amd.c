@@ -45,6 +45,8 @@ bool row_is(const cfi_part *part, uint32_t row, const uint8_t page[ENVY_ROW_BYTE
     return true;
 }
 
+static void reset(cfi_part *part) { cfi_command(part, 0, 0xf0); } /* this part has no line */
+
 int main(int count, char **words) {
     if (count != 2) return 2;
     struct sockaddr_un at = {.sun_family = AF_UNIX};
@@ -55,7 +57,7 @@ int main(int count, char **words) {
         return 2;
     }
     socket_of = fdopen(s, "r+");
-    static cfi_part part = {.base = map, .bus_bytes = 2, .chip_bytes = 2, .microseconds = microseconds};
+    static cfi_part part = {.base = map, .bus_bytes = 2, .chip_bytes = 2, .microseconds = microseconds, .reset = reset};
     int code = cfi_amd_open(&part);
     say("open:", (uint64_t)code);
     say("blocks:", part.blocks);

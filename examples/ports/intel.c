@@ -52,7 +52,8 @@ bool row_is(const cfi_part *part, uint32_t row, const uint8_t page[ENVY_ROW_BYTE
     return true;
 }
 
-static cfi_part part = {.base = flash, .bus_bytes = 4, .chip_bytes = 2, .microseconds = microseconds};
+static void reset(cfi_part *p) { cfi_command(p, 0, 0xff); } /* this part has no line, and FF ends all that it does */
+static cfi_part part = {.base = flash, .bus_bytes = 4, .chip_bytes = 2, .microseconds = microseconds, .reset = reset};
 
 static uint64_t try_read_only(int port) {
     uint8_t page[ENVY_ROW_BYTES], held[ENVY_ROW_BYTES];

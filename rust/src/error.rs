@@ -44,14 +44,21 @@ pub enum Error {
     SlotOpen,
     /// The setup has fewer than 20 pages or 32 shadows, so no map fits.
     MapSetup,
-    /// The file failed: open it again. Of kept files alone.
-    Off,
+    /// The file failed, for this reason: open it again. Of kept files alone.
+    Off(io::Error),
     /// The file holds no memory. Of kept files alone.
     NoJournal,
     /// The file is a journal of another version. Of kept files alone.
     OtherJournal,
+    /// The file is a journal that no crash leaves so: something else changed it. Of kept files alone.
+    DamagedJournal,
+    /// All is on the disk, as after a sync, but no second file of a compaction could be written, for this reason. Of kept
+    /// files alone.
+    Appended(io::Error),
     /// Another process, or another `Memory`, has the file open.
     Locked,
+    /// As many files are open as the library serves at a time. Of kept files alone.
+    TooMany,
     /// The system refused a call.
     System(io::Error),
     /// A number that this package doesn't know.
@@ -147,10 +154,13 @@ impl Error {
             Error::MapFull => sys::MAP_FULL,
             Error::SlotOpen => sys::SLOT_OPEN,
             Error::MapSetup => sys::MAP_SETUP,
-            Error::Off => sys::OFF,
+            Error::Off(_) => sys::OFF,
             Error::NoJournal => sys::NO_JOURNAL,
             Error::OtherJournal => sys::OTHER_JOURNAL,
+            Error::DamagedJournal => sys::DAMAGED,
+            Error::Appended(_) => sys::APPENDED,
             Error::Locked => sys::LOCKED,
+            Error::TooMany => sys::TOO_MANY,
             Error::System(_) => sys::SYSTEM,
             Error::Other(code) => *code,
         }
@@ -175,11 +185,14 @@ impl Error {
             sys::MAP_FULL => Error::MapFull,
             sys::SLOT_OPEN => Error::SlotOpen,
             sys::MAP_SETUP => Error::MapSetup,
-            sys::OFF => Error::Off,
+            sys::OFF => Error::Off(io::Error::last_os_error()),
             sys::NO_JOURNAL => Error::NoJournal,
             sys::OTHER_JOURNAL => Error::OtherJournal,
+            sys::DAMAGED => Error::DamagedJournal,
+            sys::APPENDED => Error::Appended(io::Error::last_os_error()),
             sys::SYSTEM => Error::System(io::Error::last_os_error()),
             sys::LOCKED => Error::Locked,
+            sys::TOO_MANY => Error::TooMany,
             _ => Error::of_list(code),
         }
     }
@@ -210,7 +223,7 @@ impl fmt::Display for Error {
         f.write_str(&text.to_string_lossy())?;
         match self {
             Error::Held { slot } => write!(f, ": that of slot {slot}"),
-            Error::System(error) => write!(f, ": {error}"),
+            Error::Off(error) | Error::Appended(error) | Error::System(error) => write!(f, ": {error}"),
             _ => Ok(()),
         }
     }
@@ -219,7 +232,7 @@ impl fmt::Display for Error {
 impl std::error::Error for Error {
     fn source(&self) -> Option<&(dyn std::error::Error + 'static)> {
         match self {
-            Error::System(error) => Some(error),
+            Error::Off(error) | Error::Appended(error) | Error::System(error) => Some(error),
             _ => None,
         }
     }

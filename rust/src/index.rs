@@ -15,6 +15,7 @@ pub(crate) mod calls {
     pub trait Calls {
         fn tick(&self) -> Result<Did, Error>;
         fn sync(&self) -> Result<(), Error>;
+        fn error(&self, code: u32) -> Error;
         fn create(&self) -> u32;
         fn get(&self, key: u64, value: &mut u64) -> u32;
         fn insert(&self, key: u64, value: u64, before: &mut sys::Old) -> u32;
@@ -34,6 +35,9 @@ pub(crate) mod calls {
                 }
                 fn sync(&self) -> Result<(), $crate::Error> {
                     <$memory>::sync(self)
+                }
+                fn error(&self, code: u32) -> $crate::Error {
+                    <$memory>::error(self, code, 0)
                 }
                 fn create(&self) -> u32 {
                     // SAFETY: the memory is open, here and below, and what is written is the caller's.
@@ -100,8 +104,9 @@ impl<M: Holder> Index<M> {
     ///
     /// `MapSetup`: a map needs 20 pages and 32 shadows. `SlotOpen`, where a transaction was forgotten and never ended.
     pub fn create(memory: M) -> Result<Index<M>, Error> {
-        Error::check(memory.create())?;
-        Ok(Index { memory })
+        let index = Index { memory };
+        index.check(index.memory.create())?;
+        Ok(index)
     }
 
     /// Takes up the map that a memory holds.
@@ -145,7 +150,7 @@ impl<M: Holder> Index<M> {
     /// `MapSetup` or `SlotOpen`, as for each call below.
     pub fn get(&self, key: u64) -> Result<Option<u64>, Error> {
         let mut value = 0;
-        Ok(found(self.memory.get(key, &mut value))?.then_some(value))
+        Ok(self.found(self.memory.get(key, &mut value))?.then_some(value))
     }
 
     /// Sets the value of a key, and answers the one that it had.
@@ -155,7 +160,7 @@ impl<M: Holder> Index<M> {
     /// `MapFull`: the map doesn't have the key, and has as many pairs as it may have.
     pub fn insert(&self, key: u64, value: u64) -> Result<Option<u64>, Error> {
         let mut before = sys::Old::default();
-        Error::check(self.memory.insert(key, value, &mut before))?;
+        self.check(self.memory.insert(key, value, &mut before))?;
         Ok((before.had != 0).then_some(before.value))
     }
 
@@ -166,7 +171,7 @@ impl<M: Holder> Index<M> {
     /// As [`get`](Index::get).
     pub fn remove(&self, key: u64) -> Result<Option<u64>, Error> {
         let mut value = 0;
-        Ok(found(self.memory.remove(key, &mut value))?.then_some(value))
+        Ok(self.found(self.memory.remove(key, &mut value))?.then_some(value))
     }
 
     /// How many pairs the map has.
@@ -176,7 +181,7 @@ impl<M: Holder> Index<M> {
     /// As [`get`](Index::get).
     pub fn count(&self) -> Result<u64, Error> {
         let mut count = 0;
-        Error::check(self.memory.count(&mut count))?;
+        self.check(self.memory.count(&mut count))?;
         Ok(count)
     }
 
@@ -186,7 +191,7 @@ impl<M: Holder> Index<M> {
     ///
     /// As [`get`](Index::get).
     pub fn next(&self, key: u64) -> Result<Option<(u64, u64)>, Error> {
-        nearest(|pair| self.memory.next(key, pair))
+        self.nearest(|pair| self.memory.next(key, pair))
     }
 
     /// The pair with the least key above this one.
@@ -195,7 +200,7 @@ impl<M: Holder> Index<M> {
     ///
     /// As [`get`](Index::get).
     pub fn above(&self, key: u64) -> Result<Option<(u64, u64)>, Error> {
-        nearest(|pair| self.memory.above(key, pair))
+        self.nearest(|pair| self.memory.above(key, pair))
     }
 
     /// The pair with the greatest key that is at most this one.
@@ -204,7 +209,7 @@ impl<M: Holder> Index<M> {
     ///
     /// As [`get`](Index::get).
     pub fn last(&self, key: u64) -> Result<Option<(u64, u64)>, Error> {
-        nearest(|pair| self.memory.last(key, pair))
+        self.nearest(|pair| self.memory.last(key, pair))
     }
 
     /// The pairs whose keys lie in a range, by rising key. A pair is looked for when it is asked for, so what is inserted
@@ -225,19 +230,26 @@ impl<M: Holder> Index<M> {
             None => Range { index: self, from: Start::End, to: 0 },
         }
     }
-}
 
-/// The pair that a call looked for.
-fn nearest(call: impl FnOnce(&mut sys::Pair) -> u32) -> Result<Option<(u64, u64)>, Error> {
-    let mut pair = sys::Pair::default();
-    Ok(found(call(&mut pair))?.then_some((pair.key, pair.value)))
-}
+    /// The pair that a call looked for.
+    fn nearest(&self, call: impl FnOnce(&mut sys::Pair) -> u32) -> Result<Option<(u64, u64)>, Error> {
+        let mut pair = sys::Pair::default();
+        Ok(self.found(call(&mut pair))?.then_some((pair.key, pair.value)))
+    }
 
-/// Whether the pair is there.
-fn found(code: u32) -> Result<bool, Error> {
-    match code {
-        sys::ABSENT => Ok(false),
-        code => Error::check(code).map(|()| true),
+    /// Whether the pair is there.
+    fn found(&self, code: u32) -> Result<bool, Error> {
+        match code {
+            sys::ABSENT => Ok(false),
+            code => self.check(code).map(|()| true),
+        }
+    }
+
+    fn check(&self, code: u32) -> Result<(), Error> {
+        match code {
+            sys::DONE => Ok(()),
+            code => Err(self.memory.error(code)),
+        }
     }
 }
 

@@ -9,14 +9,15 @@ use std::cell::UnsafeCell;
 use std::ffi::c_char;
 use std::mem::ManuallyDrop;
 use std::path::Path;
-use std::ptr;
 use std::sync::Mutex;
+use std::{io, ptr};
 
 /// A memory in a file, which is locked while it is open. From a [`sync`](KeptMemory::sync) that was done on, whatever a stop
 /// of the process or of the machine leaves opens as the words of that sync or of a later one; what was done since may be
 /// lost. Where this is dropped it is synced. One thread at a time may use it; another may take it over.
 ///
-/// Where the file fails, each call is [`Error::Off`] from then on: drop this, and open the file again.
+/// If the file fails, each call is [`Error::Off`] from then on, with the reason: drop this, and open the file again. A process
+/// that was forked off has no file: there each call that would write to it is `Error::Off`.
 pub struct KeptMemory {
     // in a place of its own, since the file's calls are handed its address
     file: Box<UnsafeCell<sys::KeptFile>>,
@@ -36,7 +37,7 @@ impl KeptMemory {
     ///
     /// # Errors
     ///
-    /// `Locked`; `System`; `Setup` or `Policy`; `NoJournal`, `OtherJournal` or `OtherShape`; `NoMemory`; `Off`, where the
+    /// `Locked`; `TooMany`; `System`; `Setup` or `Policy`; `NoJournal`, `OtherJournal` or `OtherShape`; `NoMemory`; `Off`, where the
     /// file failed.
     pub fn open(path: impl AsRef<Path>, setup: &Setup) -> Result<KeptMemory, Error> {
         KeptMemory::opened(path.as_ref(), setup, sys::envy_kept_open_file)
@@ -66,11 +67,13 @@ impl KeptMemory {
                 second_at: 0,
                 path: ptr::null_mut(),
                 beside: ptr::null_mut(),
+                process: 0,
+                why: 0,
             })),
         };
         // SAFETY: the pointers are to this memory's file, which stays where it is, and to a string and a setup of this
         // call's.
-        Error::check(unsafe { open(memory.file.get(), path.as_ptr(), &setup.numbers()) })?;
+        memory.check(unsafe { open(memory.file.get(), path.as_ptr(), &setup.numbers()) })?;
         Ok(memory)
     }
 
@@ -81,6 +84,25 @@ impl KeptMemory {
         unsafe { ptr::addr_of_mut!((*self.file.get()).memory) }
     }
 
+    // The error of a number other than that of a call that was done. The file tells why it failed.
+    pub(crate) fn error(&self, code: u32, holder: u32) -> Error {
+        if code != sys::OFF {
+            return Error::of(code, holder);
+        }
+        // SAFETY: the file is there.
+        match unsafe { sys::envy_kept_file_error(self.file.get()) } {
+            0 => Error::Off(io::Error::other("the file is at the end of its range")),
+            why => Error::Off(io::Error::from_raw_os_error(why)),
+        }
+    }
+
+    fn check(&self, code: u32) -> Result<(), Error> {
+        match code {
+            sys::DONE => Ok(()),
+            code => Err(self.error(code, 0)),
+        }
+    }
+
     /// The word at an address, also where an open transaction put it.
     ///
     /// # Errors
@@ -89,7 +111,7 @@ impl KeptMemory {
     pub fn load(&self, address: u32) -> Result<u64, Error> {
         let mut word = 0;
         // SAFETY: the memory is open, and the word is this call's.
-        Error::check(unsafe { sys::envy_kept_load(self.handle(), address, &mut word) })?;
+        self.check(unsafe { sys::envy_kept_load(self.handle(), address, &mut word) })?;
         Ok(word)
     }
 
@@ -101,7 +123,7 @@ impl KeptMemory {
     pub fn look(&self, address: u32) -> Result<u64, Error> {
         let mut word = 0;
         // SAFETY: the memory is open, and the word is this call's.
-        Error::check(unsafe { sys::envy_kept_look(self.handle(), address, &mut word) })?;
+        self.check(unsafe { sys::envy_kept_look(self.handle(), address, &mut word) })?;
         Ok(word)
     }
 
@@ -112,7 +134,7 @@ impl KeptMemory {
     /// `Off`, or `Range`, where one of them lies past the last page: none is read.
     pub fn read(&self, address: u32, words: &mut [u64]) -> Result<(), Error> {
         // SAFETY: the memory is open, and the slice has so many words.
-        Error::check(unsafe { sys::envy_kept_read(self.handle(), address, words.as_mut_ptr(), words.len()) })
+        self.check(unsafe { sys::envy_kept_read(self.handle(), address, words.as_mut_ptr(), words.len()) })
     }
 
     /// Makes the word at an address this. A later sync brings it to the disk.
@@ -125,7 +147,7 @@ impl KeptMemory {
         // SAFETY: the memory is open, and the holder is this call's.
         match unsafe { sys::envy_kept_store(self.handle(), address, word, &mut holder) } {
             sys::DONE => Ok(()),
-            code => Err(Error::of(code, holder)),
+            code => Err(self.error(code, holder)),
         }
     }
 
@@ -137,7 +159,7 @@ impl KeptMemory {
     pub fn begin(&self) -> Result<KeptTransaction<'_>, Error> {
         let mut slot = 0;
         // SAFETY: the memory is open, and the slot is this call's.
-        Error::check(unsafe { sys::envy_kept_begin(self.handle(), &mut slot) })?;
+        self.check(unsafe { sys::envy_kept_begin(self.handle(), &mut slot) })?;
         Ok(KeptTransaction { memory: self, slot })
     }
 
@@ -149,7 +171,7 @@ impl KeptMemory {
     pub fn tick(&self) -> Result<Did, Error> {
         let mut did = 0;
         // SAFETY: the memory is open, and the number is this call's.
-        Error::check(unsafe { sys::envy_kept_tick(self.handle(), &mut did) })?;
+        self.check(unsafe { sys::envy_kept_tick(self.handle(), &mut did) })?;
         Ok(did_of(did))
     }
 
@@ -168,18 +190,18 @@ impl KeptMemory {
     /// `Off`: the file opens as of this sync or of the last one that was done.
     pub fn sync(&self) -> Result<(), Error> {
         // SAFETY: the memory is open.
-        Error::check(unsafe { sys::envy_kept_sync(self.handle()) })
+        self.check(unsafe { sys::envy_kept_sync(self.handle()) })
     }
 
-    /// A sync that leaves in the file no more than what the memory holds takes. A sync does so by itself where the file has
+    /// A sync that leaves in the file no more than what the memory holds takes. A sync does so by itself if the file has
     /// grown long.
     ///
     /// # Errors
     ///
-    /// `Off`, as of a sync.
+    /// `Off`, as of a sync; `Appended` if it was done as a sync, and no second file could be written.
     pub fn compact(&self) -> Result<(), Error> {
         // SAFETY: the memory is open.
-        Error::check(unsafe { sys::envy_kept_compact(self.handle()) })
+        self.check(unsafe { sys::envy_kept_compact(self.handle()) })
     }
 
     /// Syncs and ends the memory, as dropping it does, and tells whether the sync was done.
@@ -189,7 +211,7 @@ impl KeptMemory {
     /// `Off`.
     pub fn close(self) -> Result<(), Error> {
         // SAFETY: the memory is open. What is dropped behind this is a place without a file.
-        Error::check(unsafe { sys::envy_kept_close_file(self.file.get()) })
+        self.check(unsafe { sys::envy_kept_close_file(self.file.get()) })
     }
 }
 
@@ -229,7 +251,7 @@ impl KeptTransaction<'_> {
     pub fn view(&self, address: u32) -> Result<u64, Error> {
         let mut word = 0;
         // SAFETY: the memory is open, and the word is this call's.
-        Error::check(unsafe { sys::envy_kept_view(self.memory.handle(), self.slot, address, &mut word) })?;
+        self.memory.check(unsafe { sys::envy_kept_view(self.memory.handle(), self.slot, address, &mut word) })?;
         Ok(word)
     }
 
@@ -243,7 +265,7 @@ impl KeptTransaction<'_> {
         // SAFETY: the memory is open, and the holder is this call's.
         match unsafe { sys::envy_kept_put(self.memory.handle(), self.slot, address, word, &mut holder) } {
             sys::DONE => Ok(()),
-            code => Err(Error::of(code, holder)),
+            code => Err(self.memory.error(code, holder)),
         }
     }
 
@@ -261,7 +283,7 @@ impl KeptTransaction<'_> {
         };
         match code {
             sys::DONE => Ok(()),
-            code => Err(Stopped { done, error: Error::of(code, holder) }),
+            code => Err(Stopped { done, error: self.memory.error(code, holder) }),
         }
     }
 
@@ -273,7 +295,7 @@ impl KeptTransaction<'_> {
     pub fn commit(self) -> Result<(), Error> {
         let this = ManuallyDrop::new(self);
         // SAFETY: the memory is open.
-        Error::check(unsafe { sys::envy_kept_commit(this.memory.handle(), this.slot) })
+        this.memory.check(unsafe { sys::envy_kept_commit(this.memory.handle(), this.slot) })
     }
 
     /// Takes back all that was put, as dropping it does.

@@ -93,11 +93,17 @@ impl Memory {
                 at: ptr::null_mut(),
                 bytes: 0,
                 descriptor: -1,
+                process: 0,
             }),
         };
         // SAFETY: the pointers are to this memory's file, and to a string and a setup of this call's.
         Error::check(unsafe { sys::envy_file_open(memory.file.get(), path.as_ptr(), &setup.numbers()) })?;
         Ok(memory)
+    }
+
+    // The error of a number other than that of a call that was done.
+    pub(crate) fn error(&self, code: u32, holder: u32) -> Error {
+        Error::of(code, holder)
     }
 
     // Every call goes through this pointer. The file is this memory's alone, no call calls back, and `Memory` isn't

@@ -59,6 +59,7 @@ pub struct File {
     pub at: *mut c_void,
     pub bytes: usize,
     pub descriptor: c_int,
+    pub process: c_int,
 }
 
 /// A place for a file that is kept.
@@ -74,6 +75,8 @@ pub struct KeptFile {
     pub second_at: u64,
     pub path: *mut c_char,
     pub beside: *mut c_char,
+    pub process: c_int,
+    pub why: c_int,
 }
 
 pub const DONE: u32 = 0;
@@ -99,8 +102,11 @@ pub const SLOT_OPEN: u32 = 56;
 pub const MAP_SETUP: u32 = 57;
 pub const NO_JOURNAL: u32 = 72;
 pub const OTHER_JOURNAL: u32 = 73;
+pub const DAMAGED: u32 = 74;
+pub const APPENDED: u32 = 75;
 pub const SYSTEM: u32 = 1000;
 pub const LOCKED: u32 = 1001;
+pub const TOO_MANY: u32 = 1002;
 
 extern "C" {
     pub fn envy_version() -> *const c_char;
@@ -145,6 +151,7 @@ extern "C" {
     pub fn envy_kept_open_file(file: *mut KeptFile, path: *const c_char, setup: *const Setup) -> u32;
     pub fn envy_kept_open_file_bytewise(file: *mut KeptFile, path: *const c_char, setup: *const Setup) -> u32;
     pub fn envy_kept_close_file(file: *mut KeptFile) -> u32;
+    pub fn envy_kept_file_error(file: *const KeptFile) -> c_int;
     pub fn envy_kept_sync(m: *mut Handle) -> u32;
     pub fn envy_kept_compact(m: *mut Handle) -> u32;
     pub fn envy_kept_load(m: *mut Handle, address: u32, word: *mut u64) -> u32;

@@ -1,7 +1,9 @@
 //! A memory in a file that outlives the machine, as a Rust program uses it.
 #![cfg(feature = "kept")]
 use envy::{Error, Index, KeptMemory, Setup};
+use std::error::Error as _;
 use std::path::PathBuf;
+use std::process::Command;
 use std::{env, fs, process};
 
 fn path(name: &str) -> PathBuf {
@@ -87,5 +89,42 @@ fn a_map_in_a_kept_file_is_found() {
     assert_eq!((again.count().unwrap(), again.get(1).unwrap()), (100, Some(1)));
     drop((found, again));
     fs::remove_file(copy).unwrap();
+    fs::remove_file(path).unwrap();
+}
+
+/// A limit of the process, as C has it.
+#[repr(C)]
+struct Limit {
+    now: u64,
+    most: u64,
+}
+
+extern "C" {
+    fn setrlimit(resource: i32, limit: *const Limit) -> i32;
+}
+
+const FILE_SIZE: i32 = 1;
+const TOO_LARGE: i32 = 27;
+
+#[test]
+fn a_file_that_fails_tells_why() {
+    // in a process of its own, since the limit is one of the process
+    if env::var_os("ENVY_TEST_LIMITED").is_none() {
+        let mut itself = Command::new(env::current_exe().unwrap());
+        let ran = itself.args(["--exact", "a_file_that_fails_tells_why"]).env("ENVY_TEST_LIMITED", "1").output().unwrap();
+        assert!(ran.status.success(), "{}", String::from_utf8_lossy(&ran.stdout));
+        return;
+    }
+    let path = path("limited");
+    let memory = KeptMemory::open(&path, &Setup::for_words(1000, 4).unwrap()).unwrap();
+    let limit = Limit { now: fs::metadata(&path).unwrap().len() + 10_000, most: u64::MAX };
+    // SAFETY: the limit is this call's.
+    assert_eq!(unsafe { setrlimit(FILE_SIZE, &limit) }, 0);
+    let failed = (0..100_000).find_map(|word| memory.store(5, word).and_then(|()| memory.sync()).err());
+    for error in [failed.unwrap(), memory.sync().unwrap_err(), memory.close().unwrap_err()] {
+        let Error::Off(cause) = &error else { panic!("{error}") };
+        assert_eq!(cause.raw_os_error(), Some(TOO_LARGE));
+        assert!(error.source().is_some() && error.to_string().contains(&cause.to_string()));
+    }
     fs::remove_file(path).unwrap();
 }

@@ -3,9 +3,10 @@
 ghost use Rattle.std.specs.Prelude.{◌≡◌, ◌≢◌, ◌≤◌, IfOk, IsErr, IsOk};
 ghost use Rattle.envy_device.specs.Device.{Only};
 ghost use Rattle.envy_hostfile.specs.Host.{host_bytes, host_outcome};
-ghost use Rattle.envy_hostfile.specs.declared.opening.OpenFault.TheVariants.{Unreadable, InUse, Memory as OfMemory};
+ghost use Rattle.envy_hostfile.specs.declared.opening.OpenFault.TheVariants.{Unreadable, NotMade, InUse, Memory as OfMemory};
 ghost use Rattle.envy_serve.specs.Ends.{most_bytes};
 
+use crate::copying::copy_what_is_cut;
 use crate::streams::{AskedSource, HeldSink, StdSink, StdSource};
 use crate::{NO_MEMORY, WRITE_FAULT};
 use envy_args::{KeepWords, WordsFault, read_keep};
@@ -27,16 +28,19 @@ pub struct Told {
     pub status: u8,
     pub why: u8,
     pub lines: u64,
+    /// The byte at which a damaged file breaks off.
+    pub place: u64,
 }
 
 /// An end before any line.
 fn unserved(status: u8, why: u8) -> Told
-    ensures { result ≡ record { status = status; why = why; lines = 0 } }
+    ensures { result ≡ record { status = status; why = why; lines = 0; place = 0 } }
 {
     Told {
         status,
         why,
         lines: 0,
+        place: 0,
     }
 }
 
@@ -53,13 +57,15 @@ fn refused(fault: WordsFault) -> Told
 
 /// The end where a file wasn't opened.
 fn unopened(fault: OpenFault) -> Told
-    ensures read { fault ≡ Unreadable → result ≡ record { status = 11; why = 1; lines = 0 } }
-    ensures locked { fault ≡ InUse → result ≡ record { status = 11; why = 2; lines = 0 } }
-    ensures memory { fault ≡ OfMemory → result ≡ record { status = 8; why = 0; lines = 0 } }
+    ensures read { fault ≡ Unreadable → result ≡ record { status = 11; why = 1; lines = 0; place = 0 } }
+    ensures locked { fault ≡ InUse → result ≡ record { status = 11; why = 2; lines = 0; place = 0 } }
+    ensures second { fault ≡ NotMade → result ≡ record { status = 11; why = 3; lines = 0; place = 0 } }
+    ensures memory { fault ≡ OfMemory → result ≡ record { status = 8; why = 0; lines = 0; place = 0 } }
 {
     match fault {
         OpenFault::Unreadable => unserved(UNOPENED, 1),
         OpenFault::InUse => unserved(UNOPENED, 2),
+        OpenFault::NotMade => unserved(UNOPENED, 3),
         OpenFault::Memory => unserved(NO_MEMORY, 0),
     }
 }
@@ -75,7 +81,7 @@ fn handed_on(told: Told, handing: Result<(), Failed>) -> Told
         return Told {
             status: WRITE_FAULT,
             why: 0,
-            lines: told.lines,
+            ..told
         };
     }
     told
@@ -109,10 +115,17 @@ fn serve_file(
         why,
         lines,
         taken: _,
+        place,
         device: _,
         held: _,
     } = ended;
-    Ok(handed_on(Told { status, why, lines }, sink.flush()))
+    let told = Told {
+        status,
+        why,
+        lines,
+        place,
+    };
+    Ok(handed_on(told, sink.flush()))
 }
 
 /// Serves the memory in the file that the words behind `keep` name.
@@ -127,6 +140,7 @@ pub fn keep_words(rt: &HostRuntime, words: &[String]) -> Told
         Ok(opened) => opened,
         Err(fault) => return unopened(fault),
     };
+    copy_what_is_cut(rt, said.file, &bytes);
     match serve_file(rt, &said, device, &bytes) {
         Ok(told) => told,
         Err(NoMemory) => unserved(NO_MEMORY, 0),

@@ -3,17 +3,20 @@
 
 ghost use Rattle.std.specs.Prelude.{◌≡◌, ◌≢◌, ◌≤◌, IsErr, IsOk};
 
+mod copying;
 mod keeping;
+mod running;
 mod streams;
 mod words;
 
 use arrayvec::ArrayVec;
-use envy_bench::{MemBoard, MemMaker};
+use envy_bench::CalmBoard;
 use envy_io::{Failed, Sink};
 use envy_keep::keep_end_text;
-use envy_run::{Ended, end_text, run};
+use envy_run::{Ended, end_text};
 use envy_streams::{BufferedSink, BufferedSource};
 use keeping::keep_words;
+use running::run_over_calm_boards;
 use std::cell::RefCell;
 use std::process::ExitCode;
 use streams::{AskedSource, HeldSink, StdSink, StdSource};
@@ -36,7 +39,7 @@ fn say(rt: &HostRuntime, text: &[u8]) {
 
 /// The end that is told, once the last replies were handed on or weren't. Only of a run that was done to its end a
 /// failure to hand them on is told: what else ended it stays, so that power that was lost is told as lost.
-fn handed_on(mut ended: Ended<MemBoard>, handing: Result<(), Failed>) -> Ended<MemBoard>
+fn handed_on(mut ended: Ended<CalmBoard>, handing: Result<(), Failed>) -> Ended<CalmBoard>
     ensures stays { ended.status ≢ 0 → result ≡ ended }
     ensures handed { IsOk handing → result ≡ ended }
     ensures fails { ended.status ≡ 0 → IsErr handing → result ≡ record ended { status = 4; why = 0 } }
@@ -53,14 +56,14 @@ fn main_of_keep(rt: &HostRuntime, words: &[String]) -> ExitCode {
     let told = keep_words(rt, words);
     if told.status != 0 {
         let mut text = ArrayVec::new();
-        keep_end_text(told.status, told.why, told.lines, &mut text);
+        keep_end_text(told.status, told.why, told.lines, told.place, &mut text);
         say(rt, &text);
     }
     ExitCode::from(told.status)
 }
 
 /// Says how a run ended.
-fn main_of_run(rt: &HostRuntime, ended: Ended<MemBoard>) -> ExitCode
+fn main_of_run(rt: &HostRuntime, ended: Ended<CalmBoard>) -> ExitCode
     requires { ended.lines ≤ 1099511627777 }
 {
     if ended.status != 0 {
@@ -99,12 +102,6 @@ fn main(rt: HostRuntime) -> ExitCode {
         return main_without_memory(&rt);
     };
     let mut sink = HeldSink::new(&output);
-    let ended = run(
-        rt.alloc(),
-        &words,
-        &mut source,
-        &mut sink,
-        &mut MemMaker::new(),
-    );
+    let ended = run_over_calm_boards(rt.alloc(), &words, &mut source, &mut sink);
     main_of_run(&rt, handed_on(ended, sink.flush()))
 }

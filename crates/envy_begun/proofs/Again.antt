@@ -10,14 +10,14 @@ use Rattle.envy_base.proofs.Undoing.{undo_all-closed}
 use Rattle.envy_begun.specs.Beginning.{HasBegun, HasOperationsOf, HasStopped, IsStopped}
 use Rattle.envy_begun.specs.Opens.{OpensAs}
 use Rattle.envy_begun.specs.Plans.{BeginsOn, IsOpened}
-use Rattle.envy_begun.specs.Unserved.{Declines, HasNoWords}
+use Rattle.envy_begun.specs.Unserved.{Declines, HasNoWords, Refrains}
 use Rattle.envy_begun.specs.declared.planning.Holding.TheVariants.{Written}
 use Rattle.envy_begun.specs.declared.unbegun.Unbegun.{Unbegun}
-use Rattle.envy_begun.specs.declared.unbegun.Unbegun.TheVariants.{Failed, Memory, NoJournal}
+use Rattle.envy_begun.specs.declared.unbegun.Unbegun.TheVariants.{Damaged, Failed, Memory, NoJournal}
 use Rattle.envy_begun.proofs.Opening.{IsGood, opens-as}
-use Rattle.envy_calls.specs.Making.{Declined, IsWhole}
+use Rattle.envy_calls.specs.Making.{Forbids, IsWhole}
 use Rattle.envy_calls.specs.declared.code.Code.{Code}
-use Rattle.envy_calls.specs.declared.code.Code.TheVariants.{Off, NoMemory, Unformatted, Older, OtherShape, Setup as OfSetup, Broken}
+use Rattle.envy_calls.specs.declared.code.Code.TheVariants.{NoMemory, Unformatted, Older, OtherShape, Setup as OfSetup, Broken}
 use Rattle.envy_disk.specs.Disk.{with_disk}
 use Rattle.envy_journal.specs.Content.{Content, HasMisfit, content_of, holds}
 use Rattle.envy_journal.specs.Head.{head_bytes}
@@ -26,7 +26,7 @@ use Rattle.envy_journal.specs.Log.{Begins}
 use Rattle.envy_journal.specs.Reading.{operations}
 use Rattle.envy_journal.specs.Snapshot.{most_of}
 use Rattle.envy_journal.specs.declared.opening.OpenError.{OpenError}
-use Rattle.envy_journal.specs.declared.opening.OpenError.TheVariants.{Memory as OpenMemory, Failed as OpenFailed, Misfit}
+use Rattle.envy_journal.specs.declared.opening.OpenError.TheVariants.{Failed as OpenFailed}
 use Rattle.envy_synced.specs.Disk.{IsCompact, IsSynced, Reopens}
 use Rattle.envy_layout.specs.Same.{Kept}
 use Rattle.envy_layout.specs.Sound.{Head, IsSound, Sound}
@@ -35,7 +35,9 @@ use Rattle.envy_layout.specs.Words.{durable}
 use Rattle.envy_map.specs.Codes.{the_magic}
 use Rattle.envy_map.specs.Fields.{Chart, chart, map_fields, shape_of}
 use Rattle.envy_map.proofs.Sizes.{shape_of-sizes_of}
-use Rattle.envy_memory.specs.Attaching.{Attaches}
+use Rattle.envy_memory.specs.Attaching.{Attaches, Declines as AttachDeclines}
+use Rattle.envy_memory.specs.declared.faults.AttachFault.{AttachFault}
+use Rattle.envy_memory.specs.declared.faults.AttachFault.TheVariants.{Off as AttachOff, Setup as AttachSetup, NotFormatted, OtherShape as AttachShape, Memory as AttachMemory}
 use Rattle.envy_memory.specs.Calls.{fresh}
 use Rattle.envy_memory.specs.declared.faults.FormatFault.{FormatFault}
 use Rattle.envy_memory.specs.declared.faults.FormatFault.TheVariants.{Off as FormatOff}
@@ -70,6 +72,7 @@ module _ (sh : Shape) (file : List ℕ) (s : State) (o : IsOpened sh file s) whe
     head = subst (λ (x : Shape). Begins (head_bytes x) file) (sym o.shape) o.head;
     fields = ap (λ (y : Content). map_fields s.shape y.sram) (sym here);
     flash = ap (λ (y : Content). y.flash) (sym here);
+    ends = o.ends;
   }
 
   -- a memory was attached to the board that the operations of the file make
@@ -121,23 +124,42 @@ module _ (sh : Shape) (file : List ℕ) (s : State) (o : IsOpened sh file s) whe
       sound : IsSound (chart s)
       sound = OpensAs.sound opens s over here
 
-      pub not-declined : (code : Code) (new : State) → (code ≡ Off → ⊥) → (code ≡ NoMemory → ⊥) → Declined code s setup new → ⊥
-      not-declined Off new a b d = a refl
-      not-declined NoMemory new a b d = b refl
-      not-declined Unformatted new a b (same, never) = never (magic, inr version)
-      not-declined Older new a b (same, (m, one)) = one-two (chart s).fields.version one version
-      not-declined OtherShape new a b (same, (m, v, other)) = other (ap shape_of (Head.kept (Sound.head sound)) ∙ shape_of-sizes_of s.shape (IsBoard.shape board) ∙ over)
-      not-declined (Broken rule) new a b (same, (alike, breaks)) = BreaksFirst.fails breaks (sound-points s board sound rule)
-      not-declined (OfSetup fault) new a b (same, (whole, bad)) = absurd (let never = sym checks ∙ bad in cc)
-      not-declined other new a b (same, never) = absurd never
+      shape : shape_of (chart s).fields.sizes ≡ setup.shape
+      shape = ap shape_of (Head.kept (Sound.head sound)) ∙ shape_of-sizes_of s.shape (IsBoard.shape board) ∙ over
+
+      pub not-forbidden : (code : Code) → (code ≡ NoMemory → ⊥) → Forbids code (chart s) setup → ⊥
+      not-forbidden NoMemory b alike = b refl
+      not-forbidden Unformatted b never = never (magic, inr version)
+      not-forbidden Older b (m, one) = one-two (chart s).fields.version one version
+      not-forbidden OtherShape b (m, v, other) = other shape
+      not-forbidden (Broken rule) b (alike, breaks) = BreaksFirst.fails breaks (sound-points s board sound rule)
+      not-forbidden (OfSetup fault) b (whole, bad) = absurd (let never = sym checks ∙ bad in cc)
+      not-forbidden other b never = absurd never
+
+      -- the same board is whole
+      pub whole-again : IsWhole (chart s) setup
+      whole-again = record { magic = magic; version = version; shape = shape; sound = sound }
+
+-- a board that was audited opens as words
+pub opens-whole : (sh : Shape) (file : List ℕ) (s : State) (o : IsOpened sh file s) (setup : Setup) → sh ≡ setup.shape → IsWhole (chart s) setup → (words : List ℕ) × OpensAs setup.shape words file
+opens-whole sh file s o setup is whole =
+    let good : IsGood (chart s) = record { magic = IsWhole.magic whole; version = IsWhole.version whole; sound = IsWhole.sound whole } in
+    (durable (chart s), subst (λ (x : Shape). OpensAs x (durable (chart s)) file) (o.shape ∙ is) (opens-as (chart s) file good (reopens sh file s o)))
+
+-- what an audit refused
+pub audited-refrains : (sh : Shape) (file : List ℕ) (s : State) (o : IsOpened sh file s) (setup : Setup) (is : sh ≡ setup.shape) → IsBoard s → checked setup ≡ Ok tt → (unbegun : Unbegun)
+    → (unbegun ≡ Memory) ⊎ ((unbegun ≡ NoJournal) × (code : Code) × (code ≢ NoMemory) × Forbids code (chart s) setup) → Refrains (HasNoWords setup.shape file) file unbegun
+audited-refrains sh file s o setup is board checks unbegun (inl memory) = subst (λ (u : Unbegun). Refrains (HasNoWords setup.shape file) file u) (sym memory) tt
+audited-refrains sh file s o setup is board checks unbegun (inr (none, code, enough, forbids)) =
+    subst (λ (u : Unbegun). Refrains (HasNoWords setup.shape file) file u) (sym none) (inr (λ words opens. not-forbidden sh file s o setup is board checks words opens code enough forbids))
 
 -- why a journal wasn't opened, or a memory attached, and the file: by what was found
 module _ {D : Type 0} (seen : D → List ℕ) (has_failed : D → Bool) (old new : D) (unbegun : Unbegun) where
   abbrev pub SaysError : OpenError → Type 0
-  SaysError error = ((error ≡ OpenMemory) × IsStopped seen has_failed unbegun new) ⊎ (((error ≡ OpenFailed) × (unbegun ≡ Failed 0) × (new ≡ old)) ⊎ ((error ≡ Misfit) × (unbegun ≡ NoJournal) × (new ≡ old)))
+  SaysError error = ((error ≡ OpenFailed) × (unbegun ≡ Failed 0) × (new ≡ old)) ⊎ ((error ≢ OpenFailed) × IsStopped seen has_failed unbegun new)
 
-  abbrev pub SaysCode : Code → ℕ → Type 0
-  SaysCode code held = ((code ≡ Off) × (unbegun ≡ Failed held) × (new ≡ old)) ⊎ (((code ≡ NoMemory) × IsStopped seen has_failed unbegun new) ⊎ ((code ≢ Off) × (code ≢ NoMemory) × (unbegun ≡ NoJournal) × (new ≡ old)))
+  abbrev pub SaysAttach : AttachFault → ℕ → Type 0
+  SaysAttach fault held = ((fault ≡ AttachOff) × (unbegun ≡ Failed held) × (new ≡ old)) ⊎ ((fault ≢ AttachOff) × IsStopped seen has_failed unbegun new)
 
   abbrev pub SaysFault : FormatFault → ℕ → Type 0
   SaysFault fault held = ((fault ≡ FormatOff) × (unbegun ≡ Failed held) × (new ≡ old)) ⊎ ((fault ≢ FormatOff) × IsStopped seen has_failed unbegun new)
@@ -145,60 +167,52 @@ module _ {D : Type 0} (seen : D → List ℕ) (has_failed : D → Bool) (old new
   stops-as : (held : ℕ) → unbegun ≡ Failed held → new ≡ old → HasStopped seen has_failed held old → IsStopped seen has_failed unbegun new
   stops-as held why same stopped = subst (λ (u : Unbegun). IsStopped seen has_failed u new) (sym why) (subst (λ (x : D). HasStopped seen has_failed held x) (sym same) stopped)
 
-  -- a journal wasn't made
-  pub uncreated-stopped : (error : OpenError) → SaysError error → (error ≡ Misfit → ⊥) → (error ≡ OpenFailed → IsTrue (has_failed old)) → IsStopped seen has_failed unbegun new
-  uncreated-stopped error (inl (is, stopped)) fits failed = stopped
-  uncreated-stopped error (inr (inl (is, why, same))) fits failed = stops-as 0 why same (omega arith, λ few. failed is)
-  uncreated-stopped error (inr (inr (is, why, same))) fits failed = absurd (fits is)
+  -- a journal wasn't made or opened
+  pub unopened-stopped : (error : OpenError) → SaysError error → (error ≡ OpenFailed → IsTrue (has_failed old)) → IsStopped seen has_failed unbegun new
+  unopened-stopped error (inl (is, why, same)) failed = stops-as 0 why same (omega arith, λ few. failed is)
+  unopened-stopped error (inr (other, stopped)) failed = stopped
+
+  -- a memory wasn't attached
+  pub unattached-stopped : (fault : AttachFault) (held : ℕ) → SaysAttach fault held → (fault ≡ AttachOff → HasStopped seen has_failed held old) → IsStopped seen has_failed unbegun new
+  unattached-stopped fault held (inl (off, why, same)) stopped = stops-as held why same (stopped off)
+  unattached-stopped fault held (inr (on, is)) stopped = is
 
   -- a memory wasn't formatted
   pub unformatted-stopped : (fault : FormatFault) (held : ℕ) → SaysFault fault held → (fault ≡ FormatOff → HasStopped seen has_failed held old) → IsStopped seen has_failed unbegun new
   unformatted-stopped fault held (inl (off, why, same)) stopped = stops-as held why same (stopped off)
   unformatted-stopped fault held (inr (on, is)) stopped = is
 
-module _ {D : Type 0} (seen : D → List ℕ) (has_failed : D → Bool) (Reason : Type 0) where
-  pub stopped-declines : (device : D) (unbegun : Unbegun) → IsStopped seen has_failed unbegun device → Declines seen has_failed Reason unbegun device
-  stopped-declines device (Failed held) stopped = stopped
-  stopped-declines device Memory stopped = stopped
-  stopped-declines device other stopped = absurd stopped
+pub attach-same : (fault : AttachFault) (old new : State) (setup : Setup) → (fault ≡ AttachOff → ⊥) → AttachDeclines old setup fault new → new ≡ old
+attach-same AttachOff old new setup on d = absurd (on refl)
+attach-same (AttachSetup rule) old new setup on d = d.2
+attach-same NotFormatted old new setup on d = d.3
+attach-same (AttachShape kept) old new setup on d = d.5
+attach-same AttachMemory old new setup on d = d.1
 
-  module _ (old new : D) (unbegun : Unbegun) where
-    declines-as : (why : Unbegun) → unbegun ≡ why → new ≡ old → Declines seen has_failed Reason why old → Declines seen has_failed Reason unbegun new
-    declines-as why is same d = subst (λ (u : Unbegun). Declines seen has_failed Reason u new) (sym is) (subst (λ (x : D). Declines seen has_failed Reason why x) (sym same) d)
-
-    pub unopened-declines : (error : OpenError) → SaysError seen has_failed old new unbegun error → (error ≡ Misfit → Reason) → (error ≡ OpenFailed → IsTrue (has_failed old)) → Declines seen has_failed Reason unbegun new
-    unopened-declines error (inl (is, stopped)) misfit failed = stopped-declines new unbegun stopped
-    unopened-declines error (inr (inl (is, why, same))) misfit failed = declines-as (Failed 0) why same (omega arith, λ few. failed is)
-    unopened-declines error (inr (inr (is, why, same))) misfit failed = declines-as NoJournal why same (misfit is)
-
-    pub code-declines : (code : Code) (held : ℕ) → SaysCode seen has_failed old new unbegun code held → (code ≡ Off → HasStopped seen has_failed held old) → ((code ≡ Off → ⊥) → (code ≡ NoMemory → ⊥) → Reason) → Declines seen has_failed Reason unbegun new
-    code-declines code held (inl (off, why, same)) stopped none = declines-as (Failed held) why same (stopped off)
-    code-declines code held (inr (inl (memory, is))) stopped none = stopped-declines new unbegun is
-    code-declines code held (inr (inr (on, enough, why, same))) stopped none = declines-as NoJournal why same (none on enough)
-
-pub declined-same : (code : Code) (old new : State) (setup : Setup) → (code ≡ Off → ⊥) → Declined code old setup new → new ≡ old
-declined-same Off old new setup on d = absurd (on refl)
-declined-same other old new setup on d = d.0
-
-pub off-declined : (code : Code) (old new : State) (setup : Setup) → code ≡ Off → Declined code old setup new → new.on ≡ false
-off-declined code old new setup is d = (subst (λ (x : Code). Declined x old setup new) is d).0
+pub off-attach : (fault : AttachFault) (old new : State) (setup : Setup) → fault ≡ AttachOff → AttachDeclines old setup fault new → new.on ≡ false
+off-attach fault old new setup is d = (subst (λ (x : AttachFault). AttachDeclines old setup x new) is d).0
 
 -- the state of a board that was opened
-pub opened-state : (b : State) (dead : Bool) (plans given pulled lives : ℕ) (sh : Shape) (file : List ℕ) → dead ≡ false → Begins (head_bytes sh) file → b.shape ≡ sh → content_of b ≡ holds sh (operations file) → IsOpened sh file (with_disk (journal_state dead b) plans given pulled lives)
-opened-state b true plans given pulled lives sh file is head shape content = absurd (false≢true (sym is))
-opened-state b false plans given pulled lives sh file is head shape content = record { head = head; shape = shape; content = content }
+pub opened-state : (b : State) (dead : Bool) (plans given pulled lives : ℕ) (sh : Shape) (file : List ℕ) → dead ≡ false → IsOpened sh file b → IsOpened sh file (with_disk (journal_state dead b) plans given pulled lives)
+opened-state b true plans given pulled lives sh file is o = absurd (false≢true (sym is))
+opened-state b false plans given pulled lives sh file is o = record { head = o.head; shape = o.shape; content = o.content; ends = o.ends }
 
--- the same of an answer
-pub all-declines : {M D : Type 0} (seen : D → List ℕ) (has_failed : D → Bool) (Reason : Type 0) (result : Result M (Unbegun × D)) → IfErr result (λ e. IsStopped seen has_failed e.0 e.1) → IfErr result (λ e. Declines seen has_failed Reason e.0 e.1)
-all-declines seen has_failed Reason (Ok memory) stopped = tt
-all-declines seen has_failed Reason (Err e) stopped = stopped-declines seen has_failed Reason e.1 e.0 stopped
+-- why a journal isn't taken up
+module _ {M D : Type 0} (seen : D → List ℕ) (has_failed : D → Bool) (Reason : Type 0) (file : List ℕ) (old : D) where
+  pub all-declines : (result : Result M (Unbegun × D)) → IfErr result (λ e. IsStopped seen has_failed e.0 e.1) → IfErr result (λ e. Declines seen has_failed Reason file old e.0 e.1)
+  all-declines (Ok memory) stopped = tt
+  all-declines (Err e) stopped = inr stopped
 
 -- a reason for another
-pub declines-for : {D : Type 0} (seen : D → List ℕ) (has_failed : D → Bool) (P Q : Type 0) (unbegun : Unbegun) (device : D) → (P → Q) → Declines seen has_failed P unbegun device → Declines seen has_failed Q unbegun device
-declines-for seen has_failed P Q (Failed held) device goes d = d
-declines-for seen has_failed P Q Memory device goes d = d
-declines-for seen has_failed P Q NoJournal device goes d = goes d
-declines-for seen has_failed P Q other device goes d = absurd d
+pub refrains-for : (P Q : Type 0) (file : List ℕ) (unbegun : Unbegun) → (P → Q) → Refrains P file unbegun → Refrains Q file unbegun
+refrains-for P Q file NoJournal goes r = goes r
+refrains-for P Q file (Damaged place) goes r = r
+refrains-for P Q file Memory goes r = r
+refrains-for P Q file other goes r = absurd r
+
+pub declines-for : {D : Type 0} (seen : D → List ℕ) (has_failed : D → Bool) (P Q : Type 0) (file : List ℕ) (old : D) (unbegun : Unbegun) (new : D) → (P → Q) → Declines seen has_failed P file old unbegun new → Declines seen has_failed Q file old unbegun new
+declines-for seen has_failed P Q file old unbegun new goes (inl (r, same)) = inl (refrains-for P Q file unbegun goes r, same)
+declines-for seen has_failed P Q file old unbegun new goes (inr stopped) = inr stopped
 
 -- what holds at Ok
 pub ok_on : {T E : Type 0} {P Q : T → Type 0} (result : Result T E) → IfOk result P → ((x : T) → P x → Q x) → IfOk result Q

@@ -1,5 +1,5 @@
 -- A file in which no memory began: what a crash leaves of it.
-use Rattle.std.proofs.Common.{◌≡◌, ◌⊎◌, ◌∙◌, ◌≤◌, inl, inr, ⊎_elim, ℕ, Bool, List, false, Err, refl, sym, ap, subst, arith}
+use Rattle.std.proofs.Common.{◌≡◌, ◌⊎◌, ◌∙◌, ◌≤◌, inl, inr, ⊎_elim, ℕ, Bool, List, false, Err, Ok, refl, sym, ap, subst, arith}
 use Rattle.std.specs.Prelude.{IfErr, Result}
 use Rattle.std.proofs.Math.Logic.{∥∥₁_map}
 use Rattle.envy_base.specs.State.{State}
@@ -9,12 +9,14 @@ use Rattle.envy_begun.specs.Left.{KeepsWords, Leaves, OpensAlike, Stays, StaysWr
 use Rattle.envy_begun.specs.Plans.{IsOpened}
 use Rattle.envy_begun.specs.declared.planning.Holding.{Holding}
 use Rattle.envy_begun.specs.declared.unbegun.Unbegun.{Unbegun}
-use Rattle.envy_begun.specs.declared.unbegun.Unbegun.TheVariants.{Failed, Memory, NoJournal, Setup, OtherVersion, OtherSizes, Options}
-use Rattle.envy_begun.proofs.Again.{SaysCode, declined-same, err_on}
-use Rattle.envy_calls.specs.Making.{Declined}
-use Rattle.envy_calls.specs.declared.code.Code.{Code}
-use Rattle.envy_calls.specs.declared.code.Code.TheVariants.{Off as CodeOff}
-use Rattle.envy_device.specs.Device.{Elapses, LeavesOnly}
+use Rattle.envy_begun.specs.declared.unbegun.Unbegun.TheVariants.{Damaged, Failed, Memory, NoJournal, NotMade, Setup, OtherVersion, OtherSizes, Options}
+use Rattle.envy_begun.proofs.Again.{SaysAttach, attach-same, err_on}
+use Rattle.envy_begun.specs.Beginning.{IsStopped}
+use Rattle.envy_begun.specs.Unserved.{Refrains}
+use Rattle.envy_memory.specs.Attaching.{Declines as AttachDeclines}
+use Rattle.envy_memory.specs.declared.faults.AttachFault.{AttachFault}
+use Rattle.envy_memory.specs.declared.faults.AttachFault.TheVariants.{Off as AttachOff}
+use Rattle.envy_device.specs.Device.{Elapses, LeavesOnly, Only}
 use Rattle.envy_disk.specs.Disk.{Syncs}
 use Rattle.envy_journal.specs.Content.{Content, content_of, holds}
 use Rattle.envy_journal.specs.Head.{StandsFor, head_bytes}
@@ -57,6 +59,7 @@ stands-alike sh was file stands = record {
   head = stands.head;
   fields = ap (λ (p : List Operation). map_fields sh (holds sh p).sram) stands.reads;
   flash = ap (λ (p : List Operation). (holds sh p).flash) stands.reads;
+  ends = stands.ends;
 }
 
 reopens-alike : (sh : Shape) (was : List ℕ) (s : State) → IsOpened sh was s → (file : List ℕ) → Reopens (chart s) file → OpensAlike sh was file
@@ -64,27 +67,51 @@ reopens-alike sh was s o file r = record {
   head = subst (λ (x : Shape). Begins (head_bytes x) file) o.shape r.head;
   fields = subst (λ (x : Shape). map_fields x (holds x (operations file)).sram ≡ map_fields x s.sram) o.shape r.fields ∙ ap (λ (y : Content). map_fields sh y.sram) o.content;
   flash = subst (λ (x : Shape). (holds x (operations file)).flash ≡ s.flash) o.shape r.flash ∙ ap (λ (y : Content). y.flash) o.content;
+  ends = r.ends;
 }
 
+-- a file on which no call was made
+pub leaves-still : {D : Type 0} (may_leave : D → List ℕ → Type 0) (left_since : D → ℕ → List ℕ → Type 0) (moment : D → ℕ) (device : D) (was : List ℕ) → Only was (may_leave device) → ((c : List ℕ) → left_since device (moment device) c → may_leave device c)
+    → (Such : List ℕ → Type 0) → ((file : List ℕ) → file ≡ was → Such file) → Leaves left_since moment device Such
+leaves-still may_leave left_since moment device was only now Such same = record { since = moment device; before = omega arith; each = λ file left. ∣ same file (only file (now file left)) ∣₁ }
+
+pub still-written : (Reason : Type 0) (sh : Shape) (was : List ℕ) (unbegun : Unbegun) → Refrains Reason was unbegun → (file : List ℕ) → file ≡ was → StaysWritten unbegun sh was file
+still-written Reason sh was NoJournal r file same = same
+still-written Reason sh was (Damaged place) r file same = same
+still-written Reason sh was Memory r file same = inl same
+still-written Reason sh was NotMade r file same = absurd r
+still-written Reason sh was (Setup fault) r file same = absurd r
+still-written Reason sh was OtherVersion r file same = absurd r
+still-written Reason sh was OtherSizes r file same = absurd r
+still-written Reason sh was (Options fault) r file same = absurd r
+still-written Reason sh was (Failed held) r file same = absurd r
+
 -- where a file is alike it is so also where less is said
-pub alike-stays : (sh : Shape) (was : List ℕ) (unbegun : Unbegun) (file : List ℕ) → OpensAlike sh was file → StaysWritten unbegun sh was file
-alike-stays sh was (Failed held) file alike = inl alike
-alike-stays sh was Memory file alike = alike
-alike-stays sh was NoJournal file alike = alike
-alike-stays sh was (Setup fault) file alike = alike
-alike-stays sh was OtherVersion file alike = alike
-alike-stays sh was OtherSizes file alike = alike
-alike-stays sh was (Options fault) file alike = alike
+module _ {D : Type 0} (seen : D → List ℕ) (has_failed : D → Bool) (device : D) where
+  pub alike-stays : (sh : Shape) (was : List ℕ) (unbegun : Unbegun) → IsStopped seen has_failed unbegun device → (file : List ℕ) → OpensAlike sh was file → StaysWritten unbegun sh was file
+  alike-stays sh was (Failed held) stopped file alike = inl alike
+  alike-stays sh was Memory stopped file alike = inr alike
+  alike-stays sh was NotMade stopped file alike = inr alike
+  alike-stays sh was (Setup fault) stopped file alike = absurd stopped
+  alike-stays sh was NoJournal stopped file alike = absurd stopped
+  alike-stays sh was OtherVersion stopped file alike = absurd stopped
+  alike-stays sh was OtherSizes stopped file alike = absurd stopped
+  alike-stays sh was (Options fault) stopped file alike = absurd stopped
+  alike-stays sh was (Damaged place) stopped file alike = absurd stopped
 
 -- a sync that failed leaves a board on which the same operations were done
-module _ (s t : State) (off : Off) where
-  pub fails-opened : (sh : Shape) (was : List ℕ) → Syncs s (Err off) t → IsOpened sh was s → IsOpened sh was t
+module _ (T : Type 0) (s t : State) (off : Off) where
+  pub fails-opened : (sh : Shape) (was : List ℕ) → Syncs {T = T} s (Err off) t → IsOpened sh was s → IsOpened sh was t
   fails-opened sh was (inl (dark, is)) o = subst (λ (x : State). IsOpened sh was x) (sym is) o
-  fails-opened sh was (inr (on, is)) o = subst (λ (x : State). IsOpened sh was x) (sym is) (record { head = o.head; shape = o.shape; content = o.content })
+  fails-opened sh was (inr (on, is)) o = subst (λ (x : State). IsOpened sh was x) (sym is) (record { head = o.head; shape = o.shape; content = o.content; ends = o.ends })
 
-  pub fails-last : Syncs s (Err off) t → IsLast (chart s) (chart t)
+  pub fails-last : Syncs {T = T} s (Err off) t → IsLast (chart s) (chart t)
   fails-last (inl (dark, is)) = subst (λ (x : State). IsLast (chart s) (chart x)) (sym is) (record { shape = refl; moment = refl; bytes = refl })
   fails-last (inr (on, is)) = subst (λ (x : State). IsLast (chart s) (chart x)) (sym is) (record { shape = refl; moment = refl; bytes = refl })
+
+-- and one that succeeded too
+pub synced-opened : {T : Type 0} (s t : State) (made : T) (sh : Shape) (was : List ℕ) → Syncs {T = T} s (Ok made) t → IsOpened sh was s → IsOpened sh was t
+synced-opened s t made sh was (on, plans, given, is) o = subst (λ (x : State). IsOpened sh was x) (sym is) (record { head = o.head; shape = o.shape; content = o.content; ends = o.ends })
 
 -- the words that the file that was there opens as are found on a board that a restart began to take up
 kept-words : (sh : Shape) (was : List ℕ) (s t : State) → IsOpened sh was s → Kept (chart s) (chart t) → (file : List ℕ) → Reopens (chart t) file → KeepsWords sh was file
@@ -96,6 +123,7 @@ kept-words sh was s t o kept file r words opens =
       finds = λ x is content. same_words (chart t) x file r (is ∙ sym shape) content ∙ kept.durable ∙ opens.finds s o.shape here;
       magic = λ x is content. ap (λ (f : Fields). f.magic) (same_fields (chart t) x file r (is ∙ sym shape) content) ∙ kept.magic ∙ opens.magic s o.shape here;
       sound = λ x is content. same_sound (chart t) x file r (is ∙ sym shape) content kept.sound;
+      ends = r.ends;
     }
 
 module _ {D : Type 0} (left_since : D → ℕ → List ℕ → Type 0) (moment : D → ℕ) (sh : Shape) (was : List ℕ) (device : D) (s t : State) (o : IsOpened sh was s) (synced : IsSynced (chart s))
@@ -116,7 +144,7 @@ module _ {D : Type 0} (left_since : D → ℕ → List ℕ → Type 0) (moment :
   leaves-alike then l = leaves-such (OpensAlike sh was) l (λ file alike. alike) (λ file r. reopens-alike sh was t then file r)
 
   -- power failed while a memory was attached
-  pub off-leaves : (setup : OfSetup) (held : ℕ) → Declined CodeOff s setup t → Leaves left_since moment device (StaysWritten (Failed held) sh was)
+  pub off-leaves : (setup : OfSetup) (held : ℕ) → AttachDeclines s setup AttachOff t → Leaves left_since moment device (StaysWritten (Failed held) sh was)
   off-leaves setup held (off, inl (dark, is)) =
       leaves-such (StaysWritten (Failed held) sh was) (subst (λ (x : State). IsLast (chart s) (chart x)) (sym is) (record { shape = refl; moment = refl; bytes = refl }))
       (λ file alike. inl alike) (λ file r. inl (reopens-alike sh was s o file (subst (λ (x : State). Reopens (chart x) file) is r)))
@@ -125,18 +153,17 @@ module _ {D : Type 0} (left_since : D → ℕ → List ℕ → Type 0) (moment :
       leaves-such (StaysWritten (Failed held) sh was) (record { shape = sym kept.shape; moment = counted.plans; bytes = counted.given })
       (λ file alike. inl alike) (λ file r. inr (kept-words sh was s t o kept file r))
 
-  -- a memory wasn't attached, by the code
-  pub code-leaves : (seen : D → List ℕ) (has_failed : D → Bool) (setup : OfSetup) (new : D) (unbegun : Unbegun) (code : Code) (held : ℕ) → Declined code s setup t → SaysCode seen has_failed device new unbegun code held
+  -- a memory wasn't attached, by the fault
+  pub fault-leaves : (seen : D → List ℕ) (has_failed : D → Bool) (setup : OfSetup) (new : D) (unbegun : Unbegun) (fault : AttachFault) (held : ℕ) → AttachDeclines s setup fault t → SaysAttach seen has_failed device new unbegun fault held
       → moment device ≤ moment new → ((n : ℕ) (file : List ℕ) → n ≤ moment device → left_since new n file → left_since device n file) → Leaves left_since moment new (StaysWritten unbegun sh was)
-  code-leaves seen has_failed setup new unbegun code held d says later only = leaves-on left_since moment device new (StaysWritten unbegun sh was) later only (go says)
+  fault-leaves seen has_failed setup new unbegun fault held d says later only = leaves-on left_since moment device new (StaysWritten unbegun sh was) later only (go says)
     where
-      lit : (code ≡ CodeOff → ⊥) → Leaves left_since moment device (StaysWritten unbegun sh was)
-      lit on =
-          let same = declined-same code s t setup on d in
-          leaves-as left_since moment device (OpensAlike sh was) (StaysWritten unbegun sh was) (alike-stays sh was unbegun)
+      lit : IsStopped seen has_failed unbegun new → (fault ≡ AttachOff → ⊥) → Leaves left_since moment device (StaysWritten unbegun sh was)
+      lit stopped on =
+          let same = attach-same fault s t setup on d in
+          leaves-as left_since moment device (OpensAlike sh was) (StaysWritten unbegun sh was) (alike-stays seen has_failed new sh was unbegun stopped)
           (leaves-alike (subst (λ (x : State). IsOpened sh was x) (sym same) o) (subst (λ (x : State). IsLast (chart s) (chart x)) (sym same) (record { shape = refl; moment = refl; bytes = refl })))
 
-      go : SaysCode seen has_failed device new unbegun code held → Leaves left_since moment device (StaysWritten unbegun sh was)
-      go (inl (off, why, goes)) = subst (λ (u : Unbegun). Leaves left_since moment device (StaysWritten u sh was)) (sym why) (off-leaves setup held (subst (λ (x : Code). Declined x s setup t) off d))
-      go (inr (inl (memory, stopped))) = lit (λ off. absurd (let never = sym memory ∙ off in cc))
-      go (inr (inr (on, enough, why, goes))) = lit on
+      go : SaysAttach seen has_failed device new unbegun fault held → Leaves left_since moment device (StaysWritten unbegun sh was)
+      go (inl (off, why, goes)) = subst (λ (u : Unbegun). Leaves left_since moment device (StaysWritten u sh was)) (sym why) (off-leaves setup held (subst (λ (x : AttachFault). AttachDeclines s setup x t) off d))
+      go (inr (on, stopped)) = lit stopped on

@@ -36,18 +36,18 @@ module _ (c : Chart) (plans given pulled lives : ℕ) where
   told-fresh f = record { stands = told-stands (zeros c.shape.pages c.shape.shadows) f.stands; empty = told-empty f.empty }
 
 -- a sync leaves a fresh board fresh
-pub still-fresh : (old new : Chart) → SyncsChart old (Ok tt) new → IsFresh old → IsFresh new
+pub still-fresh : (old new : Chart) → SyncsChart {T = Unit {0}} old (Ok tt) new → IsFresh old → IsFresh new
 still-fresh old new (on, plans, given, is) f = subst (λ (c : Chart). IsFresh c) (sym is) (told-fresh old plans given old.plans old.given f)
 
 -- a board that is on the disk as it is
 pub begins-as-it-is : (holding : Holding) (file : List ℕ) (board : Chart) → IsSynced board → ComesFrom holding file board board → BeginsOn holding file board
 begins-as-it-is holding file board synced comes = record { was = board; synced = synced; last = record { shape = refl; moment = refl; bytes = refl }; comes = comes }
 
-pub err-off : (old new : Chart) (off : Off) → SyncsChart old (Err off) new → new.on ≡ false
+pub err-off : (old new : Chart) (off : Off) → SyncsChart {T = Unit {0}} old (Err off) new → new.on ≡ false
 err-off old new off (inl (dark, is)) = ap (λ (c : Chart). c.on) is ∙ dark
 err-off old new off (inr (on, is)) = ap (λ (c : Chart). c.on) is
 
-pub new-begun : (setup : Setup) (array : Array) (old new : Picture) → IsSynced new.chart → SyncsChart old.chart (Ok tt) new.chart → new ≡ record old { chart = new.chart } → Stands old.chart array → IsStarted setup old → old.chart.shape ≡ setup.shape → HasBegun setup array new
+pub new-begun : (setup : Setup) (array : Array) (old new : Picture) → IsSynced new.chart → SyncsChart {T = Unit {0}} old.chart (Ok tt) new.chart → new ≡ record old { chart = new.chart } → Stands old.chart array → IsStarted setup old → old.chart.shape ≡ setup.shape → HasBegun setup array new
 new-begun setup array old new good (on, plans, given, is) kept stood b shape =
     let told = with_numbers old.chart plans given old.chart.plans old.chart.given in
     let same : new ≡ record old { chart = told } = kept ∙ ap (λ (c : Chart). record old { chart = c }) is in

@@ -10,9 +10,11 @@ use Rattle.envy_base.specs.declared.board.Off.{Off}
 use Rattle.envy_base.specs.declared.shape.Shape.{Shape}
 use Rattle.envy_base.proofs.Undoing.{undo_all-closed}
 use Rattle.envy_begun.specs.Left.{IsUnformatted, Leaves, OpensAsZeros, StaysNew}
+use Rattle.envy_begun.specs.Beginning.{IsStopped}
+use Rattle.envy_begun.specs.Unserved.{Refrains}
 use Rattle.envy_begun.specs.Opens.{OpensAs}
 use Rattle.envy_begun.specs.declared.unbegun.Unbegun.{Unbegun}
-use Rattle.envy_begun.specs.declared.unbegun.Unbegun.TheVariants.{Failed, Memory, NoJournal, Setup, OtherVersion, OtherSizes, Options}
+use Rattle.envy_begun.specs.declared.unbegun.Unbegun.TheVariants.{Damaged, Failed, Memory, NoJournal, NotMade, Setup, OtherVersion, OtherSizes, Options}
 use Rattle.envy_begun.proofs.Again.{SaysFault}
 use Rattle.envy_begun.proofs.Alike.{leaves-as, leaves-on}
 use Rattle.envy_begun.proofs.Opening.{opens-as}
@@ -31,19 +33,33 @@ use Rattle.envy_policy.specs.declared.setup.Setup.{Setup as OfSetup}
 use Rattle.envy_synced.specs.Disk.{IsLast, IsSynced, Reopens}
 
 -- where nothing was done in a journal it is so also where less is said
-pub stands-stays : (sh : Shape) (unbegun : Unbegun) (file : List ℕ) → StandsFor sh [] file → StaysNew unbegun sh file
-stands-stays sh (Failed held) file stands = inl stands
-stands-stays sh Memory file stands = stands
-stands-stays sh NoJournal file stands = stands
-stands-stays sh (Setup fault) file stands = stands
-stands-stays sh OtherVersion file stands = stands
-stands-stays sh OtherSizes file stands = stands
-stands-stays sh (Options fault) file stands = stands
+module _ {D : Type 0} (seen : D → List ℕ) (has_failed : D → Bool) (device : D) where
+  pub stands-stays : (sh : Shape) (was : List ℕ) (unbegun : Unbegun) → IsStopped seen has_failed unbegun device → (file : List ℕ) → StandsFor sh [] file → StaysNew unbegun sh was file
+  stands-stays sh was (Failed held) stopped file stands = inl stands
+  stands-stays sh was Memory stopped file stands = inr stands
+  stands-stays sh was NotMade stopped file stands = inr stands
+  stands-stays sh was (Setup fault) stopped file stands = absurd stopped
+  stands-stays sh was NoJournal stopped file stands = absurd stopped
+  stands-stays sh was OtherVersion stopped file stands = absurd stopped
+  stands-stays sh was OtherSizes stopped file stands = absurd stopped
+  stands-stays sh was (Options fault) stopped file stands = absurd stopped
+  stands-stays sh was (Damaged place) stopped file stands = absurd stopped
 
--- what creating a journal may leave
-pub new-stays : (made sh : Shape) → made ≡ sh → (unbegun : Unbegun) (file : List ℕ) → IsNewOrUnmade made file → IsUnmade file ⊎ StaysNew unbegun sh file
-new-stays made sh is unbegun file (inl unmade) = inl unmade
-new-stays made sh is unbegun file (inr stands) = inr (stands-stays sh unbegun file (subst (λ (x : Shape). StandsFor x [] file) is stands))
+  -- what creating a journal may leave
+  pub new-stays : (made sh : Shape) → made ≡ sh → (unbegun : Unbegun) → IsStopped seen has_failed unbegun device → (file : List ℕ) → IsNewOrUnmade made file → IsUnmade file ⊎ StaysNew unbegun sh [] file
+  new-stays made sh is unbegun stopped file (inl unmade) = inl unmade
+  new-stays made sh is unbegun stopped file (inr stands) = inr (stands-stays sh [] unbegun stopped file (subst (λ (x : Shape). StandsFor x [] file) is stands))
+
+pub still-new : (Reason : Type 0) (sh : Shape) (was : List ℕ) (unbegun : Unbegun) → Refrains Reason was unbegun → (file : List ℕ) → file ≡ was → StaysNew unbegun sh was file
+still-new Reason sh was NoJournal r file same = same
+still-new Reason sh was (Damaged place) r file same = same
+still-new Reason sh was Memory r file same = inl same
+still-new Reason sh was NotMade r file same = absurd r
+still-new Reason sh was (Setup fault) r file same = absurd r
+still-new Reason sh was OtherVersion r file same = absurd r
+still-new Reason sh was OtherSizes r file same = absurd r
+still-new Reason sh was (Options fault) r file same = absurd r
+still-new Reason sh was (Failed held) r file same = absurd r
 
 -- power is on where formatting was refused for another reason
 pub refused-on : (old new : State) (setup : OfSetup) (fault : FormatFault) → (fault ≡ FormatOff → ⊥) → Refuses old setup fault new → IsTrue new.on
@@ -77,6 +93,7 @@ unformatted : (sh : Shape) (t : State) → t.shape ≡ sh → slice_index t.sram
 unformatted sh t is clear file r = subst (λ (x : Shape). IsUnformatted x file) is (record {
   head = r.head;
   magic = sym (word-first t.shape (holds t.shape (operations file)).sram) ∙ ap (λ (f : Fields). f.magic) r.fields ∙ word-first t.shape t.sram ∙ clear;
+  ends = r.ends;
 })
 
 opens-zeros : (sh : Shape) (c : Chart) → c.shape ≡ sh → Holds c (zeros c.shape.pages c.shape.shadows) → (file : List ℕ) → Reopens c file → OpensAsZeros sh file
@@ -110,53 +127,53 @@ module _ {D : Type 0} (left_since : D → ℕ → List ℕ → Type 0) (moment :
   lit-leaves on = leaves-new (StandsFor sh []) (λ file stands. stands) (λ file dark r. absurd (false≢true (sym dark ∙ on)))
 
   -- where power failed
-  pub dark-leaves : (held : ℕ) → ((file : List ℕ) → Reopens now file → OpensAsZeros sh file ⊎ IsUnformatted sh file) → Leaves left_since moment device (StaysNew (Failed held) sh)
-  dark-leaves held such = leaves-new (StaysNew (Failed held) sh) (λ file stands. inl stands) (λ file dark r. inr (such file r))
+  pub dark-leaves : (before : List ℕ) (held : ℕ) → ((file : List ℕ) → Reopens now file → OpensAsZeros sh file ⊎ IsUnformatted sh file) → Leaves left_since moment device (StaysNew (Failed held) sh before)
+  dark-leaves before held such = leaves-new (StaysNew (Failed held) sh before) (λ file stands. inl stands) (λ file dark r. inr (such file r))
 
 module _ {D : Type 0} (left_since : D → ℕ → List ℕ → Type 0) (moment : D → ℕ) (sh : Shape) (device : D) (s t : State) (synced : IsSynced (chart s)) (none : operations synced.bytes ≡ []) (is : s.shape ≡ sh) (counts : CountsFormat (chart s) (chart t))
     (reads : (file : List ℕ) → left_since device s.plans file → ∥ StandsFor s.shape (operations synced.bytes) file ⊎ ((t.on ≡ false) × Reopens (chart t) file) ∥₁) (time : t.plans ≤ moment device) where
   last : IsLast (chart s) (chart t)
   last = counts-last (chart s) (chart s) (chart t) counts (record { shape = refl; moment = refl; bytes = refl })
 
-  format-off : (setup : OfSetup) (held : ℕ) → Refuses s setup FormatOff t → Leaves left_since moment device (StaysNew (Failed held) sh)
-  format-off setup held r = dark-leaves left_since moment sh device (chart s) (chart t) synced none is last reads time held (λ file re. off-stays sh s t setup synced none is counts.shape r file re)
+  format-off : (before : List ℕ) (setup : OfSetup) (held : ℕ) → Refuses s setup FormatOff t → Leaves left_since moment device (StaysNew (Failed held) sh before)
+  format-off before setup held r = dark-leaves left_since moment sh device (chart s) (chart t) synced none is last reads time before held (λ file re. off-stays sh s t setup synced none is counts.shape r file re)
 
   format-on : (setup : OfSetup) (fault : FormatFault) → (fault ≡ FormatOff → ⊥) → Refuses s setup fault t → Leaves left_since moment device (StandsFor sh [])
   format-on setup fault other r = lit-leaves left_since moment sh device (chart s) (chart t) synced none is last reads time (refused-on s t setup fault other r)
 
   -- a memory wasn't formatted
-  pub format-leaves : (seen : D → List ℕ) (has_failed : D → Bool) (setup : OfSetup) (new : D) (unbegun : Unbegun) (fault : FormatFault) (held : ℕ) → Refuses s setup fault t → SaysFault seen has_failed device new unbegun fault held
-      → moment device ≤ moment new → ((n : ℕ) (file : List ℕ) → n ≤ moment device → left_since new n file → left_since device n file) → Leaves left_since moment new (StaysNew unbegun sh)
-  format-leaves seen has_failed setup new unbegun fault held r says later only = leaves-on left_since moment device new (StaysNew unbegun sh) later only (go says)
+  pub format-leaves : (before : List ℕ) (seen : D → List ℕ) (has_failed : D → Bool) (setup : OfSetup) (new : D) (unbegun : Unbegun) (fault : FormatFault) (held : ℕ) → Refuses s setup fault t → SaysFault seen has_failed device new unbegun fault held
+      → moment device ≤ moment new → ((n : ℕ) (file : List ℕ) → n ≤ moment device → left_since new n file → left_since device n file) → Leaves left_since moment new (StaysNew unbegun sh before)
+  format-leaves before seen has_failed setup new unbegun fault held r says later only = leaves-on left_since moment device new (StaysNew unbegun sh before) later only (go says)
     where
-      go : SaysFault seen has_failed device new unbegun fault held → Leaves left_since moment device (StaysNew unbegun sh)
-      go (inl (off, why, goes)) = subst (λ (u : Unbegun). Leaves left_since moment device (StaysNew u sh)) (sym why) (format-off setup held (subst (λ (f : FormatFault). Refuses s setup f t) off r))
-      go (inr (other, stopped)) = leaves-as left_since moment device (StandsFor sh []) (StaysNew unbegun sh) (stands-stays sh unbegun) (format-on setup fault other r)
+      go : SaysFault seen has_failed device new unbegun fault held → Leaves left_since moment device (StaysNew unbegun sh before)
+      go (inl (off, why, goes)) = subst (λ (u : Unbegun). Leaves left_since moment device (StaysNew u sh before)) (sym why) (format-off before setup held (subst (λ (f : FormatFault). Refuses s setup f t) off r))
+      go (inr (other, stopped)) = leaves-as left_since moment device (StandsFor sh []) (StaysNew unbegun sh before) (stands-stays seen has_failed new sh before unbegun stopped) (format-on setup fault other r)
 
 pub off-refused : (s t : State) (setup : OfSetup) (fault : FormatFault) → Refuses s setup fault t → fault ≡ FormatOff → t.on ≡ false
 off-refused s t setup fault r off = (subst (λ (f : FormatFault). Refuses s setup f t) off r).0
 
 -- a sync that failed
-fails-holds : (old new : Chart) (off : Off) (m : Array) → SyncsChart old (Err off) new → Holds old m → Holds new m
+fails-holds : (old new : Chart) (off : Off) (m : Array) → SyncsChart {T = Unit {0}} old (Err off) new → Holds old m → Holds new m
 fails-holds old new off m (inl (dark, is)) h = subst (λ (c : Chart). Holds c m) (sym is) h
 fails-holds old new off m (inr (on, is)) h = subst (λ (c : Chart). Holds c m) (sym is) (record { magic = h.magic; version = h.version; sound = h.sound; array = h.array; shadows = h.shadows; live = h.live; durable = h.durable; slots = h.slots; owners = h.owners })
 
-fails-shape : (old new : Chart) (off : Off) → SyncsChart old (Err off) new → new.shape ≡ old.shape
+fails-shape : (old new : Chart) (off : Off) → SyncsChart {T = Unit {0}} old (Err off) new → new.shape ≡ old.shape
 fails-shape old new off (inl (dark, is)) = ap (λ (c : Chart). c.shape) is
 fails-shape old new off (inr (on, is)) = ap (λ (c : Chart). c.shape) is
 
-fails-last : (was old new : Chart) (off : Off) → SyncsChart old (Err off) new → IsLast was old → IsLast was new
+fails-last : (was old new : Chart) (off : Off) → SyncsChart {T = Unit {0}} old (Err off) new → IsLast was old → IsLast was new
 fails-last was old new off (inl (dark, is)) l = subst (λ (c : Chart). IsLast was c) (sym is) l
 fails-last was old new off (inr (on, is)) l = subst (λ (c : Chart). IsLast was c) (sym is) (record { shape = l.shape; moment = l.moment; bytes = l.bytes })
 
 -- the first sync of a memory of zeros failed
-pub sync-off : {D : Type 0} (left_since : D → ℕ → List ℕ → Type 0) (moment : D → ℕ) (sh : Shape) (device : D) (was old new : Chart) (off : Off) (held : ℕ) (synced : IsSynced was) → operations synced.bytes ≡ [] → IsLast was old → old.shape ≡ sh
-    → SyncsChart old (Err off) new → Stands old (zeros sh.pages sh.shadows)
+pub sync-off : {D : Type 0} (before : List ℕ) (left_since : D → ℕ → List ℕ → Type 0) (moment : D → ℕ) (sh : Shape) (device : D) (was old new : Chart) (off : Off) (held : ℕ) (synced : IsSynced was) → operations synced.bytes ≡ [] → IsLast was old → old.shape ≡ sh
+    → SyncsChart {T = Unit {0}} old (Err off) new → Stands old (zeros sh.pages sh.shadows)
     → (IsLast was new → (file : List ℕ) → left_since device was.plans file → ∥ StandsFor was.shape (operations synced.bytes) file ⊎ ((new.on ≡ false) × Reopens new file) ∥₁) → new.plans ≤ moment device
-    → Leaves left_since moment device (StaysNew (Failed held) sh)
-sync-off left_since moment sh device was old new off held synced none l is fails stands reads time =
+    → Leaves left_since moment device (StaysNew (Failed held) sh before)
+sync-off before left_since moment sh device was old new off held synced none l is fails stands reads time =
     let then = fails-last was old new off fails l in
     let shape : new.shape ≡ sh = fails-shape old new off fails ∙ is in
     let stood : Holds new (zeros sh.pages sh.shadows) = fails-holds old new off (zeros sh.pages sh.shadows) fails (Stands.holds stands) in
-    dark-leaves left_since moment sh device was new synced none (then.shape ∙ shape) then (reads then) time held
+    dark-leaves left_since moment sh device was new synced none (then.shape ∙ shape) then (reads then) time before held
     (λ file r. inl (opens-zeros sh new shape (subst (λ (x : Shape). Holds new (zeros x.pages x.shadows)) (sym shape) stood) file r))

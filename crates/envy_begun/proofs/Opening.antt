@@ -1,5 +1,8 @@
 -- What a file opens as that was a board behind a sync.
-use Rattle.std.proofs.Common.{◌≡◌, ◌∙◌, ℕ, List, ap}
+use Rattle.std.proofs.Common.{◌≡◌, ◌∙◌, ◌≤◌, ℕ, List, length, take, ap, arith, length-take}
+use Rattle.envy_base.specs.declared.shape.Shape.{Shape}
+use Rattle.envy_journal.specs.Head.{head_bytes}
+use Rattle.envy_journal.specs.Log.{Begins}
 use Rattle.envy_begun.specs.Opens.{OpensAs}
 use Rattle.envy_synced.specs.Disk.{Reopens}
 use Rattle.envy_layout.specs.Sound.{IsSound}
@@ -21,4 +24,11 @@ opens-as was file good opens = record {
   magic = λ s shape content. ap (λ (f : Fields). f.magic) (same_fields was s file opens shape content) ∙ good.magic;
   version = λ s shape content. ap (λ (f : Fields). f.version) (same_fields was s file opens shape content) ∙ good.version;
   sound = λ s shape content. same_sound was s file opens shape content good.sound;
+  ends = opens.ends;
 }
+
+-- a file that begins with a head is at least as long
+pub long_head : (sh : Shape) (bytes : List ℕ) → Begins (head_bytes sh) bytes → 33 ≤ length bytes
+long_head sh bytes head =
+    let long : length (take 33 bytes) ≡ 33 = ap length head in
+    omega (arith, long, length-take {A = ℕ})

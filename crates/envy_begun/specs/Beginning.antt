@@ -2,7 +2,7 @@
 use Rattle.std.specs.Prelude.{◌≡◌, ℕ, ◌+◌, ◌^◌, ◌<◌, ◌≤◌, IsTrue, Bool, false, List, length}
 use Rattle.envy_base.specs.Array.{Array, undone}
 use Rattle.envy_begun.specs.declared.unbegun.Unbegun.{Unbegun}
-use Rattle.envy_begun.specs.declared.unbegun.Unbegun.TheVariants.{Failed, Memory}
+use Rattle.envy_begun.specs.declared.unbegun.Unbegun.TheVariants.{Failed, Memory, NotMade}
 use Rattle.envy_journal.specs.Held.{most_held}
 use Rattle.envy_journal.specs.Reading.{operations}
 use Rattle.envy_synced.specs.Disk.{IsLast, IsSynced}
@@ -40,8 +40,10 @@ pub record HasOperationsOf (file : List ℕ) (c : Chart) : Type 0 where
 abbrev pub HasStopped : {D : Type 0} → (D → List ℕ) → (D → Bool) → ℕ → D → Type 0
 HasStopped seen has_failed held device = (held ≤ most_held) × (length (seen device) + held < 2 ^ 60 → IsTrue (has_failed device))
 
--- why a new memory isn't there: the file stopped, or memory ran out and the last call on the file was done
+-- why a new memory isn't there: the file stopped, or memory ran out or no second file was made and the last call on the file
+-- was done
 abbrev pub IsStopped : {D : Type 0} → (D → List ℕ) → (D → Bool) → Unbegun → D → Type 0
 IsStopped seen has_failed (Failed held) device = HasStopped seen has_failed held device
 IsStopped seen has_failed Memory device = has_failed device ≡ false
+IsStopped seen has_failed NotMade device = has_failed device ≡ false
 IsStopped seen has_failed other device = ⊥

@@ -7,11 +7,11 @@ use Rattle.envy_begun.specs.Opens.{OpensAs}
 use Rattle.envy_begun.specs.declared.planning.Holding.{Holding}
 use Rattle.envy_begun.specs.declared.planning.Holding.TheVariants.{Unmade, Blank, Written}
 use Rattle.envy_begun.specs.declared.unbegun.Unbegun.{Unbegun}
-use Rattle.envy_begun.specs.declared.unbegun.Unbegun.TheVariants.{Failed}
+use Rattle.envy_begun.specs.declared.unbegun.Unbegun.TheVariants.{Failed, Memory, NotMade}
 use Rattle.envy_journal.specs.Content.{content_of, holds}
 use Rattle.envy_journal.specs.Head.{IsUnmade, StandsFor, head_bytes}
 use Rattle.envy_journal.specs.Log.{Begins}
-use Rattle.envy_journal.specs.Reading.{operations}
+use Rattle.envy_journal.specs.Reading.{operations, IsUnbroken}
 use Rattle.envy_layout.specs.Sound.{IsSound}
 use Rattle.envy_layout.specs.Words.{durable}
 use Rattle.envy_map.specs.Codes.{the_magic}
@@ -28,6 +28,7 @@ pub record OpensAlike (sh : Shape) (was file : List ℕ) : Type 0 where
   pub head : Begins (head_bytes sh) file
   pub fields : map_fields sh (holds sh (operations file)).sram ≡ map_fields sh (holds sh (operations was)).sram
   pub flash : (holds sh (operations file)).flash ≡ (holds sh (operations was)).flash
+  pub ends : IsUnbroken file
 
 -- A journal of a board of these sizes. A board on which its operations are done anew is formatted and sound, and a restart
 -- finds these words on it: `OpensAs`, in one of the two versions.
@@ -36,6 +37,7 @@ pub record HasWords (sh : Shape) (words file : List ℕ) : Type 0 where
   pub finds : (s : State) → s.shape ≡ sh → content_of s ≡ holds s.shape (operations file) → durable (chart s) ≡ words
   pub magic : (s : State) → s.shape ≡ sh → content_of s ≡ holds s.shape (operations file) → (chart s).fields.magic ≡ the_magic
   pub sound : (s : State) → s.shape ≡ sh → content_of s ≡ holds s.shape (operations file) → IsSound (chart s)
+  pub ends : IsUnbroken file
 
 -- whatever words the file that was there opens as are found in this one
 abbrev pub KeepsWords : Shape → List ℕ → List ℕ → Type 0
@@ -45,24 +47,30 @@ KeepsWords sh was file = (words : List ℕ) → OpensAs sh words was → HasWord
 pub record IsUnformatted (sh : Shape) (file : List ℕ) : Type 0 where
   pub head : Begins (head_bytes sh) file
   pub magic : slice_index (holds sh (operations file)).sram 0 ≡ 0
+  pub ends : IsUnbroken file
 
 -- zeros, as a restart finds them
 abbrev pub OpensAsZeros : Shape → List ℕ → Type 0
 OpensAsZeros sh file = OpensAs sh (zeros sh.pages sh.shadows).words file
 
 -- what is left of a journal in which nothing was done: that; or, where the file failed while the memory was formatted or
--- brought to the disk, also zeros, or a memory that isn't formatted
-abbrev pub StaysNew : Unbegun → Shape → List ℕ → Type 0
-StaysNew (Failed held) sh file = StandsFor sh [] file ⊎ (OpensAsZeros sh file ⊎ IsUnformatted sh file)
-StaysNew other sh file = StandsFor sh [] file
+-- brought to the disk, also zeros, or a memory that isn't formatted; where the file is refused it is left as it was
+abbrev pub StaysNew : Unbegun → Shape → List ℕ → List ℕ → Type 0
+StaysNew (Failed held) sh was file = StandsFor sh [] file ⊎ (OpensAsZeros sh file ⊎ IsUnformatted sh file)
+StaysNew Memory sh was file = (file ≡ was) ⊎ StandsFor sh [] file
+StaysNew NotMade sh was file = (file ≡ was) ⊎ StandsFor sh [] file
+StaysNew other sh was file = file ≡ was
 
--- what is left of a journal with operations: one alike; or, where the file failed, one in which the same words are found
+-- what is left of a journal with operations: one alike; or, where the file failed, one in which the same words are found;
+-- where the file is refused it is left as it was
 abbrev pub StaysWritten : Unbegun → Shape → List ℕ → List ℕ → Type 0
 StaysWritten (Failed held) sh was file = OpensAlike sh was file ⊎ KeepsWords sh was file
-StaysWritten other sh was file = OpensAlike sh was file
+StaysWritten Memory sh was file = (file ≡ was) ⊎ OpensAlike sh was file
+StaysWritten NotMade sh was file = (file ≡ was) ⊎ OpensAlike sh was file
+StaysWritten other sh was file = file ≡ was
 
 -- what is left of a file, by what it held
 abbrev pub Stays : Holding → Unbegun → Shape → List ℕ → List ℕ → Type 0
-Stays Unmade unbegun sh was file = IsUnmade file ⊎ StaysNew unbegun sh file
-Stays Blank unbegun sh was file = StaysNew unbegun sh file
+Stays Unmade unbegun sh was file = IsUnmade file ⊎ StaysNew unbegun sh [] file
+Stays Blank unbegun sh was file = StaysNew unbegun sh was file
 Stays Written unbegun sh was file = StaysWritten unbegun sh was file

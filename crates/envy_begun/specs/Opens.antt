@@ -5,17 +5,18 @@ use Rattle.envy_base.specs.declared.shape.Shape.{Shape}
 use Rattle.envy_journal.specs.Content.{content_of, holds}
 use Rattle.envy_journal.specs.Head.{head_bytes}
 use Rattle.envy_journal.specs.Log.{Begins}
-use Rattle.envy_journal.specs.Reading.{operations}
+use Rattle.envy_journal.specs.Reading.{operations, IsUnbroken}
 use Rattle.envy_layout.specs.Sound.{IsSound}
 use Rattle.envy_layout.specs.Words.{durable}
 use Rattle.envy_map.specs.Codes.{the_magic}
 use Rattle.envy_map.specs.Fields.{chart}
 
--- The file is a journal of a board of these sizes. A board on which its operations are done anew is formatted and sound,
--- and a restart finds these words on it.
+-- The file is a journal of a board of these sizes, and not damaged. A board on which its operations are done anew is
+-- formatted and sound, and a restart finds these words on it.
 pub record OpensAs (sh : Shape) (words : List ℕ) (file : List ℕ) : Type 0 where
   pub head : Begins (head_bytes sh) file
   pub finds : (s : State) → s.shape ≡ sh → content_of s ≡ holds s.shape (operations file) → durable (chart s) ≡ words
   pub magic : (s : State) → s.shape ≡ sh → content_of s ≡ holds s.shape (operations file) → (chart s).fields.magic ≡ the_magic
   pub version : (s : State) → s.shape ≡ sh → content_of s ≡ holds s.shape (operations file) → (chart s).fields.version ≡ 2
   pub sound : (s : State) → s.shape ≡ sh → content_of s ≡ holds s.shape (operations file) → IsSound (chart s)
+  pub ends : IsUnbroken file

@@ -8,7 +8,7 @@ use Rattle.envy_base.specs.declared.shape.Shape.{Shape}
 use Rattle.envy_journal.specs.Content.{content_of, holds}
 use Rattle.envy_journal.specs.Head.{IsUnmade, head_bytes}
 use Rattle.envy_journal.specs.Log.{Begins}
-use Rattle.envy_journal.specs.Reading.{operations}
+use Rattle.envy_journal.specs.Reading.{operations, IsUnbroken}
 use Rattle.envy_map.specs.Fields.{Chart}
 use Rattle.envy_memory.specs.Attaching.{IsTakenUp}
 use Rattle.envy_memory.specs.Calls.{fresh}
@@ -18,7 +18,7 @@ use Rattle.envy_policy.specs.declared.setup.Setup.{Setup}
 use Rattle.envy_begun.specs.declared.planning.Holding.{Holding}
 use Rattle.envy_begun.specs.declared.planning.Holding.TheVariants.{Unmade, Blank, Written}
 use Rattle.envy_begun.specs.declared.unbegun.Unbegun.{Unbegun}
-use Rattle.envy_begun.specs.declared.unbegun.Unbegun.TheVariants.{Memory, Failed}
+use Rattle.envy_begun.specs.declared.unbegun.Unbegun.TheVariants.{Memory, NotMade, Failed}
 use Rattle.envy_begun.specs.Opens.{OpensAs}
 use Rattle.envy_begun.specs.Unserved.{IsOver}
 use Rattle.envy_synced.specs.Disk.{IsLast, IsSynced, Reopens}
@@ -28,6 +28,7 @@ pub record IsOpened (sh : Shape) (file : List ℕ) (s : State) : Type 0 where
   pub head : Begins (head_bytes sh) file
   pub shape : s.shape ≡ sh
   pub content : content_of s ≡ holds sh (operations file)
+  pub ends : IsUnbroken file
 
 -- a journal whose sizes the options leave, with the setup over them
 pub record IsFound (options : KeepOptions) (file : List ℕ) (setup : Setup) : Type 0 where
@@ -48,6 +49,7 @@ IsPlanned options file = (setup : Setup) × (holding : Holding) × Plans holding
 -- want of memory and a failure of the file are told only where one can be planned
 abbrev pub ComesLater : KeepOptions → List ℕ → Unbegun → Type 0
 ComesLater options file Memory = IsPlanned options file
+ComesLater options file NotMade = IsPlanned options file
 ComesLater options file (Failed held) = IsPlanned options file
 ComesLater options file other = ⊤
 

@@ -1,19 +1,20 @@
 -- Why a file isn't served.
-use Rattle.std.specs.Prelude.{◌≡◌, ◌≢◌, ◌⊎◌, ℕ, Bool, false, List, [], Ok, Err}
+use Rattle.std.specs.Prelude.{◌≡◌, ◌≢◌, ◌⊎◌, ⊤, ℕ, Bool, false, List, [], Ok, Err}
 use Rattle.envy_args.specs.declared.keep.KeepOptions.{KeepOptions}
 use Rattle.envy_args.specs.Keep.{new_shape, setup_over, shape_named}
 use Rattle.envy_base.specs.declared.shape.Shape.{Shape}
 use Rattle.envy_base.specs.declared.shape.ShapeFault.{ShapeFault}
 use Rattle.envy_base.specs.Shape.{checked as shape_checked}
 use Rattle.envy_journal.specs.Content.{HasMisfit}
+use Rattle.envy_journal.specs.Found.{IsDamaged}
 use Rattle.envy_journal.specs.Head.{HasNoJournal, IsOtherVersion, IsUnmade, head_bytes}
 use Rattle.envy_journal.specs.Log.{Begins}
 use Rattle.envy_journal.specs.Reading.{operations}
 use Rattle.envy_policy.specs.Setup.{checked, rule_of}
-use Rattle.envy_begun.specs.Beginning.{HasStopped}
+use Rattle.envy_begun.specs.Beginning.{HasStopped, IsStopped}
 use Rattle.envy_begun.specs.Opens.{OpensAs}
 use Rattle.envy_begun.specs.declared.unbegun.Unbegun.{Unbegun}
-use Rattle.envy_begun.specs.declared.unbegun.Unbegun.TheVariants.{Setup, NoJournal, OtherVersion, OtherSizes, Options, Memory, Failed}
+use Rattle.envy_begun.specs.declared.unbegun.Unbegun.TheVariants.{Setup, NoJournal, OtherVersion, OtherSizes, Options, Damaged, Memory, NotMade, Failed}
 
 abbrev pub status_for : Unbegun → ℕ
 status_for (Setup fault) = 2
@@ -21,7 +22,9 @@ status_for NoJournal = 10
 status_for OtherVersion = 10
 status_for OtherSizes = 10
 status_for (Options fault) = 10
+status_for (Damaged place) = 10
 status_for Memory = 8
+status_for NotMade = 11
 status_for (Failed held) = 6
 
 abbrev pub why_for : Unbegun → ℕ
@@ -30,13 +33,20 @@ why_for NoJournal = 6
 why_for OtherVersion = 7
 why_for OtherSizes = 8
 why_for (Options fault) = 9
+why_for (Damaged place) = 10
 why_for Memory = 0
+why_for NotMade = 3
 why_for (Failed held) = 0
 
 -- how many bytes of operations were held back from the file
 abbrev pub held_for : Unbegun → ℕ
 held_for (Failed held) = held
 held_for other = 0
+
+-- the byte at which a damaged file breaks off
+abbrev pub place_for : Unbegun → ℕ
+place_for (Damaged place) = place
+place_for other = 0
 
 -- a journal of these sizes with no memory to be found: an operation isn't within them, or it opens as no words
 abbrev pub HasNoWords : Shape → List ℕ → Type 0
@@ -62,19 +72,24 @@ Refuses options file NoJournal = (IsUnmade file → ⊥) × IsNone file
 Refuses options file OtherVersion = (IsUnmade file → ⊥) × IsOtherVersion file
 Refuses options file OtherSizes = (IsUnmade file → ⊥) × (sh : Shape) × Begins (head_bytes sh) file × (shape_checked sh ≡ Ok tt) × (shape_named options.sizes sh ≢ sh)
 Refuses options file (Options fault) = (IsUnmade file → ⊥) × (sh : Shape) × IsOver options sh file × (shape_checked sh ≡ Ok tt) × (checked (setup_over options sh) ≡ Err fault)
+Refuses options file (Damaged place) = (IsUnmade file → ⊥) × (sh : Shape) × IsOver options sh file × IsDamaged place file
 Refuses options file other = ⊥
 
--- Why a file that held these bytes isn't served, and what became of it. Want of memory is told only where no call was made
--- on the file, or where the last one was done.
+-- Why a file that held these bytes isn't served, and what became of it: on a file that is refused no call was made. Want of
+-- memory is told only where none was made, or where the last one was done.
 abbrev pub Causes : {D : Type 0} → (D → List ℕ) → (D → Bool) → KeepOptions → List ℕ → D → D → Unbegun → Type 0
 Causes seen has_failed options file old new (Failed held) = HasStopped seen has_failed held new
 Causes seen has_failed options file old new Memory = (new ≡ old) ⊎ (has_failed new ≡ false)
-Causes seen has_failed options file old new NoJournal = Refuses options file NoJournal
+Causes seen has_failed options file old new NotMade = has_failed new ≡ false
 Causes seen has_failed options file old new unbegun = Refuses options file unbegun × (new ≡ old)
 
--- why a journal isn't taken up: of its own reasons this one alone
-abbrev pub Declines : {D : Type 0} → (D → List ℕ) → (D → Bool) → Type 0 → Unbegun → D → Type 0
-Declines seen has_failed Reason (Failed held) device = HasStopped seen has_failed held device
-Declines seen has_failed Reason Memory device = has_failed device ≡ false
-Declines seen has_failed Reason NoJournal device = Reason
-Declines seen has_failed Reason other device = ⊥
+-- why a journal isn't taken up before the first call on its file: of its own reasons this one alone
+abbrev pub Refrains : Type 0 → List ℕ → Unbegun → Type 0
+Refrains Reason file NoJournal = Reason
+Refrains Reason file (Damaged place) = IsDamaged place file
+Refrains Reason file Memory = ⊤
+Refrains Reason file other = ⊥
+
+-- why it isn't taken up, and what became of its file
+abbrev pub Declines : {D : Type 0} → (D → List ℕ) → (D → Bool) → Type 0 → List ℕ → D → Unbegun → D → Type 0
+Declines seen has_failed Reason file old unbegun new = (Refrains Reason file unbegun × (new ≡ old)) ⊎ IsStopped seen has_failed unbegun new

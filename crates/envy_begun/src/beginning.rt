@@ -61,8 +61,9 @@ fn sync_first<B: Steady + Drop, D: Place>(
     ensures fresh { IfOk result (λ memory. IsSynced memory.chart × IsFresh memory.chart) }
     ensures failed { IfErr result (λ e. IsStopped D.seen D.has_failed e.0 e.1) }
     // where nothing was done in the journal before
-    ensures left { (was : Chart) (synced : IsSynced was) → IsLast was memory.chart → operations synced.bytes ≡ []
-        → IfErr result (λ e. Leaves D.left_since D.moment e.1 (StaysNew e.0 _setup.shape)) }
+    ensures left { (was : Chart) (synced : IsSynced was) (file : List ℕ) → IsLast was memory.chart
+        → operations synced.bytes ≡ []
+        → IfErr result (λ e. Leaves D.left_since D.moment e.1 (StaysNew e.0 _setup.shape file)) }
 {
     match memory.sync() {
         Ok(()) => Ok(memory),
@@ -84,9 +85,9 @@ pub(crate) fn make_memory<B: Steady + Drop, D: Place>(
     ensures fresh { IfOk result (λ memory. IsSynced memory.chart × IsFresh memory.chart) }
     ensures failed { IfErr result (λ e. IsStopped D.seen D.has_failed e.0 e.1) }
     // where nothing was done in the journal before
-    ensures left { (synced : IsSynced (chart (⟦<Kept<B, D> as envy_base::Board>⟧.state kept)))
+    ensures left { (synced : IsSynced (chart (⟦<Kept<B, D> as envy_base::Board>⟧.state kept))) (file : List ℕ)
         → operations synced.bytes ≡ []
-        → IfErr result (λ e. Leaves D.left_since D.moment e.1 (StaysNew e.0 setup.shape)) }
+        → IfErr result (λ e. Leaves D.left_since D.moment e.1 (StaysNew e.0 setup.shape file)) }
 {
     match Memory::format(alloc, kept, setup) {
         Ok(memory) => sync_first(memory, setup),
@@ -113,7 +114,7 @@ pub fn begin_new<B: Steady + Drop, D: Place + Drop>(
     ensures failed { IfErr result (λ e. IsStopped D.seen D.has_failed e.0 e.1) }
     // a crash leaves the empty file, or a journal in which nothing was done, unless the file failed behind that
     ensures left { IfErr result (λ e.
-        Leaves D.left_since D.moment e.1 (λ file. IsUnmade file ⊎ StaysNew e.0 setup.shape file)) }
+        Leaves D.left_since D.moment e.1 (λ file. IsUnmade file ⊎ StaysNew e.0 setup.shape [] file)) }
 {
     let journal = match create(alloc, board, device, ROOM) {
         Ok(journal) => journal,

@@ -1,8 +1,9 @@
 // A journal that a file holds is opened, and a memory is attached.
-ghost use Rattle.std.specs.Prelude.{◌≡◌, [], List, ℕ, false, IfOk, IfErr, IsTrue, Ok};
+ghost use Rattle.std.specs.Prelude.{◌≡◌, ◌≢◌, ◌⊎◌, [], List, ℕ, false, IfOk, IfErr, IsTrue, OnOk, Ok};
 ghost use Rattle.envy_base.specs.Array.{zeros};
 ghost use Rattle.envy_device.specs.Device.{Only};
 ghost use Rattle.envy_journal.specs.Content.{HasMisfit, blank, content_of};
+ghost use Rattle.envy_journal.specs.Found.{IsEnd};
 ghost use Rattle.envy_journal.specs.Head.{StandsFor, head_bytes};
 ghost use Rattle.envy_journal.specs.Log.{Begins};
 ghost use Rattle.envy_journal.specs.Reading.{operations};
@@ -12,7 +13,11 @@ ghost use Rattle.envy_begun.specs.Plans.{BeginsOn, IsOpened};
 ghost use Rattle.envy_begun.specs.declared.planning.Holding.TheVariants.{Written};
 ghost use Rattle.envy_begun.specs.Left.{Leaves, OpensAlike, StaysNew, StaysWritten};
 ghost use Rattle.envy_begun.specs.Opens.{OpensAs};
-ghost use Rattle.envy_begun.specs.Unserved.{Declines, HasNoWords};
+ghost use Rattle.envy_begun.specs.Unserved.{Declines, HasNoWords, Refrains};
+ghost use Rattle.envy_begun.specs.declared.unbegun.Unbegun.TheVariants.{Memory as UnbegunMemory, NoJournal as UnbegunNoJournal};
+ghost use Rattle.envy_calls.specs.Making.{Forbids, IsWhole};
+ghost use Rattle.envy_calls.specs.declared.code.Code.{Code as OfCode};
+ghost use Rattle.envy_calls.specs.declared.code.Code.TheVariants.{NoMemory as CodeNoMemory};
 ghost use Rattle.envy_synced.specs.Disk.{IsCompact, IsSynced};
 ghost use Rattle.envy_map.specs.Fields.{chart};
 ghost use Rattle.envy_memory.specs.Calls.{fresh};
@@ -20,29 +25,86 @@ ghost use Rattle.envy_memory.specs.Formats.{IsFresh};
 ghost use Rattle.envy_policy.specs.Setup.{checked};
 
 use crate::beginning::{ROOM, closed, make_memory};
-use crate::stopping::{declined, unopened};
+use crate::stopping::{no_second, unattached, unopened};
 use crate::unbegun::Unbegun;
 use envy_base::Off;
-use envy_calls::attach;
+use envy_calls::{Code, refusal};
 use envy_device::{Device, Place};
-use envy_disk::OnDisk;
-use envy_journal::{Steady, open};
+use envy_disk::{Compaction, OnDisk};
+use envy_journal::{Steady, Unread, open_at, replay_file};
 use envy_memory::Memory;
 use envy_policy::Setup;
 use envy_synced::Kept;
 use std::alloc::Global;
 
-// Opens the journal that a file holds, on a blank board.
+// Does the operations of a journal on a blank board, and answers how many bytes of the file count.
+fn replayed<B: Steady>(board: &mut B, bytes: &[u8]) -> Result<usize, Unbegun>
+    requires blank { content_of (B.state board.old) ≡ blank (B.state board.old).shape }
+    requires head { Begins (head_bytes (B.state board.old).shape) bytes.now }
+    ensures shape { (B.state board.new).shape ≡ (B.state board.old).shape }
+    ensures opened { OnOk result (IsOpened (B.state board.old).shape bytes.now (B.state board.new)) }
+    ensures end { IfOk result (λ end. IsEnd end bytes.now) }
+    ensures refused { IfErr result (λ e.
+        Refrains (HasMisfit (B.state board.old).shape (operations bytes.now)) bytes.now e) }
+{
+    match replay_file(board, bytes) {
+        Ok(end) => Ok(end),
+        Err(Unread::Misfit) => Err(Unbegun::NoJournal),
+        Err(Unread::Damaged(place)) => Err(Unbegun::Damaged(place)),
+    }
+}
+
+// Audits a board, so that nothing that its file holds is trusted.
+fn audited<B: Steady>(alloc: Global, board: &B, setup: &Setup) -> Result<(), Unbegun>
+    ensures whole { OnOk result (IsWhole (chart (B.state board.now)) setup.now) }
+    ensures refused { IfErr result (λ e. (e ≡ UnbegunMemory)
+        ⊎ ((e ≡ UnbegunNoJournal) × (code : OfCode) × (code ≢ CodeNoMemory)
+        × Forbids code (chart (B.state board.now)) setup.now)) }
+{
+    match refusal(alloc, board, setup) {
+        Ok(None) => Ok(()),
+        Ok(Some(Code::NoMemory)) => Err(Unbegun::Memory),
+        Ok(Some(_)) => Err(Unbegun::NoJournal),
+        Err(Off) => unreachable!(),
+    }
+}
+
+// Does the operations of a journal on a blank board, and audits it. No call is made on the file.
+fn read_journal<B: Steady>(
+    alloc: Global,
+    board: &mut B,
+    bytes: &[u8],
+    setup: &Setup,
+) -> Result<usize, Unbegun>
+    requires blank { content_of (B.state board.old) ≡ blank (B.state board.old).shape }
+    requires head { Begins (head_bytes (B.state board.old).shape) bytes.now }
+    requires shape { (B.state board.old).shape ≡ setup.now.shape }
+    requires setup { checked setup.now ≡ Ok tt }
+    ensures shape { (B.state board.new).shape ≡ (B.state board.old).shape }
+    ensures opened { OnOk result (IsOpened (B.state board.old).shape bytes.now (B.state board.new)) }
+    ensures end { IfOk result (λ end. IsEnd end bytes.now) }
+    ensures words { OnOk result ((words : List ℕ) × OpensAs setup.now.shape words bytes.now) }
+    ensures refused { IfErr result (λ e. Refrains (HasNoWords setup.now.shape bytes.now) bytes.now e) }
+{
+    let end = replayed(board, bytes)?;
+    match audited(alloc, board, setup) {
+        Ok(()) => Ok(end),
+        Err(unbegun) => Err(unbegun),
+    }
+}
+
+// Opens a journal whose operations were done on a board.
 fn opened<B: Steady + Drop, D: Device + Drop>(
     alloc: Global,
     board: B,
     device: D,
     bytes: &[u8],
+    end: usize,
 ) -> Result<Kept<B, D>, (Unbegun, D)>
     requires bytes { bytes.now ≡ D.seen device }
     requires durable { Only (D.seen device) (D.may_leave device) }
-    requires blank { content_of (B.state board) ≡ blank (B.state board).shape }
-    requires head { Begins (head_bytes (B.state board).shape) bytes.now }
+    requires opened { IsOpened (B.state board).shape bytes.now (B.state board) }
+    requires end { IsEnd end bytes.now }
     ensures synced { IfOk result (λ kept. IsSynced (chart (⟦<Kept<B, D> as envy_base::Board>⟧.state kept))) }
     ensures opened { IfOk result (λ kept.
         IsOpened (B.state board).shape bytes.now (⟦<Kept<B, D> as envy_base::Board>⟧.state kept)) }
@@ -50,16 +112,15 @@ fn opened<B: Steady + Drop, D: Device + Drop>(
         × (operations synced.bytes ≡ operations bytes.now)) }
     ensures left { IfErr result (λ e.
         Leaves D.left_since D.moment e.1 (StandsFor (B.state board).shape (operations bytes.now))) }
-    ensures failed { IfErr result (λ e.
-        Declines D.seen D.has_failed (HasMisfit (B.state board).shape (operations bytes.now)) e.0 e.1) }
+    ensures failed { IfErr result (λ e. IsStopped D.seen D.has_failed e.0 e.1) }
 {
-    match open(alloc, board, device, bytes, ROOM) {
+    match open_at(alloc, board, device, bytes, end, ROOM) {
         Ok(journal) => Ok(Kept::new(journal)),
         Err((error, device)) => Err(unopened(error, device)),
     }
 }
 
-// Compacts the journal of a board, where that is asked for.
+// Compacts the journal of a board, if that is asked for. If no second file could be written, none is opened.
 fn compacted<B: Steady + Drop, D: Place>(
     mut kept: Kept<B, D>,
     compact: bool,
@@ -81,7 +142,11 @@ fn compacted<B: Steady + Drop, D: Place>(
         return Ok(kept);
     }
     match kept.compact() {
-        Ok(()) => Ok(kept),
+        Ok(Compaction::Done) => Ok(kept),
+        Ok(Compaction::Appended) => {
+            let (device, _) = closed(kept);
+            Err(no_second(device))
+        }
         Err(Off) => {
             let (device, held) = closed(kept);
             Err((Unbegun::Failed(held), device))
@@ -89,18 +154,19 @@ fn compacted<B: Steady + Drop, D: Place>(
     }
 }
 
-// Opens the journal that a file holds, and compacts it where that is asked for.
+// Opens a journal whose operations were done on a board, and compacts it where that is asked for.
 fn opened_as_asked<B: Steady + Drop, D: Place + Drop>(
     alloc: Global,
     board: B,
     device: D,
     bytes: &[u8],
+    end: usize,
     compact: bool,
 ) -> Result<Kept<B, D>, (Unbegun, D)>
     requires bytes { bytes.now ≡ D.seen device }
     requires durable { Only (D.seen device) (D.may_leave device) }
-    requires blank { content_of (B.state board) ≡ blank (B.state board).shape }
-    requires head { Begins (head_bytes (B.state board).shape) bytes.now }
+    requires opened { IsOpened (B.state board).shape bytes.now (B.state board) }
+    requires end { IsEnd end bytes.now }
     ensures synced { IfOk result (λ kept. IsSynced (chart (⟦<Kept<B, D> as envy_base::Board>⟧.state kept))) }
     ensures opened { IfOk result (λ kept.
         IsOpened (B.state board).shape bytes.now (⟦<Kept<B, D> as envy_base::Board>⟧.state kept)) }
@@ -110,10 +176,9 @@ fn opened_as_asked<B: Steady + Drop, D: Place + Drop>(
         HasOperationsOf bytes.now (chart (⟦<Kept<B, D> as envy_base::Board>⟧.state kept))) }
     ensures left { IfErr result (λ e.
         Leaves D.left_since D.moment e.1 (OpensAlike (B.state board).shape bytes.now)) }
-    ensures failed { IfErr result (λ e.
-        Declines D.seen D.has_failed (HasMisfit (B.state board).shape (operations bytes.now)) e.0 e.1) }
+    ensures failed { IfErr result (λ e. IsStopped D.seen D.has_failed e.0 e.1) }
 {
-    match opened(alloc, board, device, bytes) {
+    match opened(alloc, board, device, bytes, end) {
         Ok(kept) => compacted(kept, compact),
         Err(unbegun) => Err(unbegun),
     }
@@ -122,7 +187,7 @@ fn opened_as_asked<B: Steady + Drop, D: Place + Drop>(
 /// Opens a journal in which nothing was done yet, and makes a memory of zeros in it, which is on the disk then.
 pub(crate) fn begin_blank<B: Steady + Drop, D: Place + Drop>(
     alloc: Global,
-    board: B,
+    mut board: B,
     device: D,
     bytes: &[u8],
     setup: Setup,
@@ -135,12 +200,16 @@ pub(crate) fn begin_blank<B: Steady + Drop, D: Place + Drop>(
     ensures begun { IfOk result (HasBegun setup (zeros setup.shape.pages setup.shape.shadows)) }
     ensures fresh { IfOk result (λ memory. IsSynced memory.chart × IsFresh memory.chart) }
     ensures failed { IfErr result (λ e.
-        Declines D.seen D.has_failed (HasMisfit setup.shape (operations bytes.now)) e.0 e.1) }
-    // a crash leaves a journal in which nothing was done, unless the file failed behind its opening
+        Declines D.seen D.has_failed (HasMisfit setup.shape (operations bytes.now)) bytes.now device e.0 e.1) }
+    // a crash leaves a journal in which nothing was done, unless the file failed behind its opening; a damaged one stays
     ensures left { operations bytes.now ≡ []
-        → IfErr result (λ e. Leaves D.left_since D.moment e.1 (StaysNew e.0 setup.shape)) }
+        → IfErr result (λ e. Leaves D.left_since D.moment e.1 (StaysNew e.0 setup.shape bytes.now)) }
 {
-    let kept = match opened(alloc, board, device, bytes) {
+    let end = match replayed(&mut board, bytes) {
+        Ok(end) => end,
+        Err(unbegun) => return Err((unbegun, device)),
+    };
+    let kept = match opened(alloc, board, device, bytes, end) {
         Ok(kept) => kept,
         Err(unbegun) => return Err(unbegun),
     };
@@ -148,10 +217,11 @@ pub(crate) fn begin_blank<B: Steady + Drop, D: Place + Drop>(
 }
 
 /// Opens a journal, compacts it where that is asked for, and attaches a memory, which stands for the words that the file's
-/// last sync left, transactions undone. Nothing that the file holds is trusted.
+/// last sync left, transactions undone. Nothing that the file holds is trusted: its operations are done on the board, which
+/// is audited, before the first call on the file.
 pub fn begin_again<B: Steady + Drop, D: Place + Drop>(
     alloc: Global,
-    board: B,
+    mut board: B,
     device: D,
     bytes: &[u8],
     setup: Setup,
@@ -170,20 +240,26 @@ pub fn begin_again<B: Steady + Drop, D: Place + Drop>(
     // where that was asked for, the journal is no longer than a snapshot, and else it has the operations that it had
     ensures compacted { IsTrue compact → IfOk result (λ memory. IsCompact memory.chart) }
     ensures same { compact ≡ false → IfOk result (λ memory. HasOperationsOf bytes.now memory.chart) }
-    // a crash leaves a journal that opens as the one that was there; where the file failed, one with the same words
+    // a crash leaves a journal that opens as the one that was there; where the file failed, one with the same words; and
+    // one that is refused as it was
     ensures left { IfErr result (λ e.
         Leaves D.left_since D.moment e.1 (StaysWritten e.0 setup.shape bytes.now)) }
-    ensures failed { IfErr result (λ e. Declines D.seen D.has_failed (HasNoWords setup.shape bytes.now) e.0 e.1) }
+    ensures failed { IfErr result (λ e.
+        Declines D.seen D.has_failed (HasNoWords setup.shape bytes.now) bytes.now device e.0 e.1) }
 {
-    let kept = match opened_as_asked(alloc, board, device, bytes, compact) {
+    let end = match read_journal(alloc, &mut board, bytes, &setup) {
+        Ok(end) => end,
+        Err(unbegun) => return Err((unbegun, device)),
+    };
+    let kept = match opened_as_asked(alloc, board, device, bytes, end, compact) {
         Ok(kept) => kept,
         Err(unbegun) => return Err(unbegun),
     };
-    match attach(alloc, kept, setup) {
+    match Memory::attach(alloc, kept, setup) {
         Ok(memory) => Ok(memory),
-        Err((kept, code)) => {
+        Err((kept, fault)) => {
             let (device, held) = closed(kept);
-            Err(declined(code, held, device))
+            Err(unattached(fault, held, device))
         }
     }
 }

@@ -1,5 +1,5 @@
 ghost use Rattle.std.specs.Prelude.{◌≡◌};
-ghost use Rattle.envy_begun.specs.Unserved.{held_for, status_for, why_for};
+ghost use Rattle.envy_begun.specs.Unserved.{held_for, place_for, status_for, why_for};
 
 use envy_policy::SetupFault;
 
@@ -16,8 +16,12 @@ pub enum Unbegun {
     OtherSizes,
     /// The options break this rule over the sizes of the journal.
     Options(SetupFault),
+    /// The journal is damaged: it breaks off at this byte.
+    Damaged(usize),
     /// Memory ran out.
     Memory,
+    /// A second file, in which a journal is made, couldn't be made beside the file.
+    NotMade,
     /// The file failed, or came to the end of its range. So many bytes of operations were held back from it.
     Failed(usize),
 }
@@ -34,7 +38,9 @@ impl Unbegun {
             Unbegun::OtherVersion => (10, 7),
             Unbegun::OtherSizes => (10, 8),
             Unbegun::Options(_) => (10, 9),
+            Unbegun::Damaged(_) => (10, 10),
             Unbegun::Memory => (8, 0),
+            Unbegun::NotMade => (11, 3),
             Unbegun::Failed(_) => (6, 0),
         }
     }
@@ -45,6 +51,16 @@ impl Unbegun {
     {
         match self {
             Unbegun::Failed(held) => held,
+            _ => 0,
+        }
+    }
+
+    /// The byte at which a damaged journal breaks off.
+    pub fn place(self) -> usize
+        ensures { result ≡ place_for self }
+    {
+        match self {
+            Unbegun::Damaged(place) => place,
             _ => 0,
         }
     }

@@ -2,9 +2,11 @@
 #![tactic(auto)]
 
 mod board;
+mod calm;
 mod flash;
 mod maker;
 mod torn;
 
 pub use board::MemBoard;
+pub use calm::{CalmBoard, CalmMaker};
 pub use maker::MemMaker;

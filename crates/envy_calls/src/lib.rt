@@ -25,7 +25,7 @@ pub use ending::{abort, begin, commit};
 pub use faults::format_answer;
 pub use laws::no_two_answers_share_a_number;
 pub use loading::{load, look};
-pub use making::attach;
+pub use making::{attach, refusal};
 pub use setup::{EnvySetup, checked_setup};
 pub use shaping::shape;
 pub use storing::{put, store};

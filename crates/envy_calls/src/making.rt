@@ -11,8 +11,8 @@ use envy_memory::{AttachFault, Memory};
 use envy_policy::Setup;
 use std::alloc::Global;
 
-// Why a board may not be taken up by this setup.
-fn refusal<B: Board>(alloc: Global, board: &B, setup: &Setup) -> Result<Option<Code>, Off>
+/// Why a board may not be taken up by this setup, if it may not.
+pub fn refusal<B: Board>(alloc: Global, board: &B, setup: &Setup) -> Result<Option<Code>, Off>
     ensures { MatchResult result
         (λ found. MatchOption found (IsWhole (chart (B.state board.now)) setup.now) (λ code.
         Forbids code (chart (B.state board.now)) setup.now))

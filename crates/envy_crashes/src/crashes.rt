@@ -6,7 +6,7 @@ use envy_torn::{Dice, TornFile};
 use std::alloc::Global;
 use std::process::Abort;
 
-const SHAPE: Shape = Shape {
+pub(crate) const SHAPE: Shape = Shape {
     segments: 4,
     rows: 2,
     pages: 2,
@@ -15,24 +15,30 @@ const SHAPE: Shape = Shape {
     entries: 1,
 };
 
-// How many operations a session has, and after how many it syncs. Every other sync compacts.
-const SESSION: usize = 60;
+// How many operations a session has, and after how many it syncs. Every fourth sync compacts.
+pub(crate) const SESSION: usize = 60;
 
 const SYNC_EACH: usize = 7;
 
-// How many calls of the device the longest session makes at most.
-const MOST_CALLS: usize = 130;
+// How many calls of the device the longest session makes at most: zeros are written ahead again after each compaction.
+pub(crate) const MOST_CALLS: usize = 200;
+
+// After how many calls more the next session fails: those of the two kinds of files fail at others.
+const EACH: usize = 2;
+
+// How many calls on the second file the sessions in which one fails make, at most.
+const SECOND_CALLS: usize = 9;
 
 // How many crashes are drawn of each session.
-const CRASHES: usize = 8;
+const CRASHES: usize = 6;
 
 // How many bytes are held back between writes.
-const ROOM: usize = 800;
+pub(crate) const ROOM: usize = 800;
 
 // Why a test ends where memory, or a shape that checks, is wanted.
-const NO_ROOM: &str = "no room";
+pub(crate) const NO_ROOM: &str = "no room";
 
-const SIZES: &str = "the shape";
+pub(crate) const SIZES: &str = "the shape";
 
 type Opened<'a> = Result<Journaled<RegionBoard<'a>, TornFile>, (OpenError, TornFile)>;
 
@@ -44,7 +50,7 @@ fn drawn(dice: &mut Dice, n: usize) -> u32 {
 }
 
 // Operation `i` of a session.
-fn act<B: Board>(rt: &impl Abort, board: &mut B, i: usize) -> bool {
+pub(crate) fn act<B: Board>(rt: &impl Abort, board: &mut B, i: usize) -> bool {
     let shape = board.shape();
     let mut dice = Dice::new((i as u64).wrapping_mul(7919).wrapping_add(1));
     let kind = dice.below(32) / 4;
@@ -66,7 +72,7 @@ fn act<B: Board>(rt: &impl Abort, board: &mut B, i: usize) -> bool {
 
 // All words of a board. What ends a test ends it where it is found: a way out by `?` would let go of all that a function
 // holds, part by part, and cost each that holds a journal or a file.
-fn words<B: Board>(rt: &impl Abort, alloc: Global, board: &B) -> Vec<u64> {
+pub(crate) fn words<B: Board>(rt: &impl Abort, alloc: Global, board: &B) -> Vec<u64> {
     let shape = board.shape();
     let mut all = Vec::new(alloc);
     for row in 0..shape.segments * shape.rows {
@@ -129,7 +135,7 @@ fn taken_up(rt: &impl Abort, alloc: Global, bytes: Vec<u8>, left: usize, bytewis
 }
 
 // The words of a file that a crash left, once it is opened. At first opening it crashes too.
-fn reopened(
+pub(crate) fn reopened(
     rt: &impl Abort,
     alloc: Global,
     bytes: Vec<u8>,
@@ -147,18 +153,25 @@ fn reopened(
 
 // A session: its file, how many operations were done when the last sync was answered by Ok, how many when the last one
 // began, and whether no call failed.
-struct Session {
-    file: TornFile,
+#[derive(Drop)]
+pub(crate) struct Session {
+    pub(crate) file: TornFile,
     synced: usize,
     begun: usize,
     ended: bool,
 }
 
 // Runs a session over a file whose calls fail from one on.
-fn run(rt: &impl Abort, alloc: Global, left: usize, bytewise: bool) -> Session {
+pub(crate) fn run(rt: &impl Abort, alloc: Global, left: usize, bytewise: bool) -> Session {
+    run_on(rt, alloc, left, usize::MAX, bytewise)
+}
+
+// The same, over one whose second file's calls fail too, from another on.
+fn run_on(rt: &impl Abort, alloc: Global, left: usize, second: usize, bytewise: bool) -> Session {
     SHAPE.check().expect(rt, SIZES);
     let mut cells = Cells::blank(alloc, &SHAPE).expect(rt, NO_ROOM);
-    let file = TornFile::new(alloc, Vec::new(alloc), left, bytewise).expect(rt, NO_ROOM);
+    let mut file = TornFile::new(alloc, Vec::new(alloc), left, bytewise).expect(rt, NO_ROOM);
+    file.fail_second(second);
     let mut journal = match create(alloc, cells.board(), file, ROOM) {
         Ok(journal) => journal,
         Err((_, file)) => {
@@ -180,7 +193,7 @@ fn run(rt: &impl Abort, alloc: Global, left: usize, bytewise: bool) -> Session {
         }
         if i % SYNC_EACH == SYNC_EACH - 1 {
             begun = i + 1;
-            let is_compacted = i % (2 * SYNC_EACH) == SYNC_EACH - 1;
+            let is_compacted = i % (4 * SYNC_EACH) == SYNC_EACH - 1;
             let done = if is_compacted {
                 journal.compact()
             } else {
@@ -271,8 +284,9 @@ fn each_crash_leaves_a_sync(rt: &impl Abort, alloc: Global, bytewise: bool) {
         before: false,
         after: false,
     };
-    for left in 0..MOST_CALLS {
-        all = crash_all(rt, alloc, left, bytewise, &mut dice, all);
+    let first = usize::from(bytewise);
+    for k in 0..MOST_CALLS / EACH {
+        all = crash_all(rt, alloc, first + EACH * k, bytewise, &mut dice, all);
     }
     assert!(rt; all.ended && all.before && all.after);
 }
@@ -285,4 +299,58 @@ fn each_crash_leaves_the_operations_before_some_sync(rt: HostRuntime) {
 #[test]
 fn so_does_each_of_a_file_that_is_written_byte_by_byte(rt: HostRuntime) {
     each_crash_leaves_a_sync(&rt, rt.alloc(), true);
+}
+
+// Sessions in which calls on the second file fail, from another one on each time. Once the journal is made, each session
+// ends with all of its operations on the disk.
+fn each_failed_second_file_leaves_the_log(rt: &impl Abort, alloc: Global, bytewise: bool) {
+    let mut dice = Dice::new(7);
+    for second in 3..SECOND_CALLS {
+        let session = run_on(rt, alloc, usize::MAX, second, bytewise);
+        assert!(rt;
+            session.ended,
+            "ended with {second} calls on the second file"
+        );
+        let bytes = session.file.crash(alloc, &mut dice).expect(rt, NO_ROOM);
+        let held = reopened(rt, alloc, bytes, bytewise, &mut dice);
+        let all = wanted(rt, alloc, session.synced);
+        assert!(rt;
+            held.as_slice() == all.as_slice(),
+            "lost with {second} calls"
+        );
+    }
+}
+
+#[test]
+fn a_failed_second_file_leaves_the_log(rt: HostRuntime) {
+    each_failed_second_file_leaves_the_log(&rt, rt.alloc(), false);
+    each_failed_second_file_leaves_the_log(&rt, rt.alloc(), true);
+}
+
+// Zeros after a log are read as none, and so is a log without them.
+#[test]
+fn zeros_after_a_log_change_nothing(rt: HostRuntime) {
+    let alloc = rt.alloc();
+    let session = run(&rt, alloc, usize::MAX, false);
+    let bytes = session.file.bytes();
+    let mut end = 0;
+    for (i, byte) in bytes.iter().enumerate() {
+        if *byte != 0 {
+            end = i.saturating_add(1);
+        }
+    }
+    assert!(rt;
+        end.saturating_add(1) < bytes.len(),
+        "zeros are written ahead"
+    );
+    let mut short = bytes.to_vec(alloc).expect(&rt, NO_ROOM);
+    short.truncate(end);
+    let long = bytes.to_vec(alloc).expect(&rt, NO_ROOM);
+    let (with, _) = taken_up(&rt, alloc, long, MOST_CALLS, false);
+    let (without, _) = taken_up(&rt, alloc, short, MOST_CALLS, false);
+    let with = with.expect(&rt, "the file doesn't open");
+    let without = without.expect(&rt, "the file without zeros doesn't open");
+    assert!(rt; with.as_slice() == without.as_slice(), "they read alike");
+    let all = wanted(&rt, alloc, session.synced);
+    assert!(rt; with.as_slice() == all.as_slice(), "all is there");
 }

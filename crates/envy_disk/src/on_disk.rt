@@ -1,8 +1,18 @@
-ghost use Rattle.std.specs.Prelude.{OnOk};
+ghost use Rattle.std.specs.Prelude.{◌≡◌, Bool, IsTrue, IfOk, OnOk};
 ghost use Rattle.envy_disk.specs.Disk.{Syncs};
+ghost use Rattle.envy_disk.specs.declared.on_disk.Compaction.TheVariants.{Done, Appended};
 ghost use Rattle.envy_map.specs.Fields.{Chart, chart};
 
 use envy_base::{Board, Off};
+
+/// What became of a compaction that succeeded: all that the board holds is on the disk.
+#[derive(Clone, Copy, Debug, PartialEq, Eq)]
+pub enum Compaction {
+    /// It takes no more there than what the board holds takes.
+    Done,
+    /// The compaction was hindered, so it was brought there as by a sync.
+    Appended,
+}
 
 /// A board that can be brought to a disk. Four numbers that no call of a memory changes (the cuts by hand, the plans, and
 /// the returns of power that are left and were given) tell what its last syncs brought there.
@@ -13,14 +23,18 @@ pub trait OnDisk: Board {
     /// It takes no more there than what the board holds takes, however much was done to it.
     ghost is_compact: { Chart → Type 0 };
 
-    /// Brings the board to the disk. Where it fails, power is off.
+    /// The last compaction of it that was tried was hindered.
+    ghost is_hindered: { Self → Bool };
+
+    /// Brings the board to the disk. If it fails, power is off.
     fn sync(&mut self) -> Result<(), Off>
         ensures answer { Syncs (Self.state self.old) result (Self.state self.new) }
         ensures synced { OnOk result (is_synced (chart (Self.state self.new))) };
 
-    /// A sync that leaves no more on the disk than what the board holds takes.
-    fn compact(&mut self) -> Result<(), Off>
+    /// A sync that leaves no more on the disk than what the board holds takes, unless that was hindered.
+    fn compact(&mut self) -> Result<Compaction, Off>
         ensures answer { Syncs (Self.state self.old) result (Self.state self.new) }
         ensures synced { OnOk result (is_synced (chart (Self.state self.new))) }
-        ensures compact { OnOk result (is_compact (chart (Self.state self.new))) };
+        ensures compact { IfOk result (λ made. made ≡ Done → is_compact (chart (Self.state self.new))) }
+        ensures hindered { IfOk result (λ made. made ≡ Appended → IsTrue (is_hindered self.new)) };
 }

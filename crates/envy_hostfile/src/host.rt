@@ -4,7 +4,7 @@ ghost use Rattle.envy_record.specs.Calls.{Notes, have_failed, is_failure};
 ghost use Rattle.envy_record.specs.Noted.{call_of};
 
 use crate::folder::Folder;
-use envy_device::DeviceFailed;
+use envy_device::{DeviceFailed, ReplaceError, SecondFailed};
 use envy_record::{Made, RawFile, Record, Recorded};
 use std::fs::OpenFile;
 use std::io;
@@ -25,19 +25,22 @@ pub struct HostCalls<F, P> {
     folder: P,
     second: Option<Second<F>>,
     failed: bool,
+    /// Whether it is believed that what was read is on the disk, since it wasn't written anew.
+    pub is_believed: bool,
     /// The calls that were made, with their answers.
     pub record: Record,
     ghost noted: { failed ≡ have_failed record.calls },
 }
 
-/// An open file of the host. Once a call has failed, no later one is made.
+/// An open file of the host. Once a call on the file has failed, no later one is made.
 pub type HostFile<F, P> = Recorded<HostCalls<F, P>>;
 
 impl<F: FileExt + OpenFile + Drop, P: Folder<F>> HostCalls<F, P> {
     ghost use Rattle.envy_hostfile.specs.Host.{host_bytes, host_bytewise, host_failed, host_outcome};
 
-    /// A file that was synced, with its name, and then read whole: it holds these bytes, and they are on the disk. That it is
-    /// written byte by byte is a premise, which the caller states or doesn't.
+    /// A file that was synced, with its name, and then read whole: it holds these bytes, and it is believed that they are on
+    /// the disk. That it is written byte by byte is a premise, which the caller states or
+    /// doesn't.
     pub fn found(file: F, folder: P, bytes: &[u8], bytewise: bool) -> HostFile<F, P>
         ensures bytes { host_bytes result ≡ bytes.now }
         ensures durable { Only (host_bytes result) (host_outcome result) }
@@ -49,6 +52,7 @@ impl<F: FileExt + OpenFile + Drop, P: Folder<F>> HostCalls<F, P> {
             folder,
             second: None,
             failed: false,
+            is_believed: true,
             record: Record::new().and(&Made::Found { bytes }),
         };
         Recorded::found(calls, bytes, bytewise)
@@ -78,16 +82,29 @@ impl<F: FileExt + OpenFile + Drop, P: Folder<F>> HostCalls<F, P> {
         }
     }
 
-    fn make_second(&mut self) -> io::Result<()>
-        ensures { self.new.record ≡ self.old.record }
+    // Removes the second file, if there is one.
+    fn remove_second(&mut self)
+        ensures calls { self.new.record ≡ self.old.record }
+        ensures failed { self.new.failed ≡ self.old.failed }
     {
-        let file = self.folder.make()?;
+        if let Some(second) = self.second.take() {
+            self.folder.remove_second(&second.file);
+        }
+    }
+
+    fn make_second(&mut self) -> io::Result<()>
+        ensures calls { self.new.record ≡ self.old.record }
+        ensures failed { self.new.failed ≡ self.old.failed }
+    {
+        self.remove_second();
+        let file = self.folder.make(&self.file)?;
         self.second = Some(Second { file, size: 0 });
         Ok(())
     }
 
     fn grow_second(&mut self, bytes: &[u8]) -> io::Result<()>
-        ensures { self.new.record ≡ self.old.record }
+        ensures calls { self.new.record ≡ self.old.record }
+        ensures failed { self.new.failed ≡ self.old.failed }
     {
         let Some(second) = &mut self.second else {
             return Err(Error::from(ErrorKind::NotFound));
@@ -97,16 +114,29 @@ impl<F: FileExt + OpenFile + Drop, P: Folder<F>> HostCalls<F, P> {
         Ok(())
     }
 
-    // The first file is let go, and its lock with it, once the second has its name.
-    fn put_in_place(&mut self) -> io::Result<()>
-        ensures { self.new.record ≡ self.old.record }
+    // The first file is let go, and its lock with it, once the second has its name. A file whose name is another one's
+    // now was moved while it was open: that other one is left as it is.
+    fn put_in_place(&mut self) -> Result<(), ReplaceError>
+        ensures calls { self.new.record ≡ self.old.record }
+        ensures failed { self.new.failed ≡ self.old.failed }
     {
         let Some(second) = self.second.take() else {
-            return Err(Error::from(ErrorKind::NotFound));
+            return Err(ReplaceError::Second);
         };
-        second.file.sync_all()?;
-        self.folder.rename()?;
-        self.folder.sync()?;
+        if second.file.sync_all().is_err() || !self.folder.is_first(&self.file) {
+            self.folder.remove_second(&second.file);
+            return Err(ReplaceError::Second);
+        }
+        if self.folder.rename(&second.file).is_err() {
+            if !self.folder.is_first(&self.file) {
+                return Err(ReplaceError::Failed);
+            }
+            self.folder.remove_second(&second.file);
+            return Err(ReplaceError::Second);
+        }
+        if self.folder.sync().is_err() {
+            return Err(ReplaceError::Failed);
+        }
         self.file = second.file;
         Ok(())
     }
@@ -139,23 +169,50 @@ impl<F: FileExt + OpenFile + Drop, P: Folder<F>> RawFile for HostCalls<F, P> {
         self.note(answer, &Made::Synced, &Made::SyncFailed)
     }
 
-    fn begin(&mut self) -> Result<(), DeviceFailed> {
-        let answer = self.make_second();
-        self.note(answer, &Made::Began, &Made::BeginFailed)
+    fn begin(&mut self) -> Result<(), SecondFailed> {
+        match self.make_second() {
+            Ok(()) => {
+                self.record = self.record.and(&Made::Began);
+                Ok(())
+            }
+            Err(_) => {
+                self.record = self.record.and(&Made::BeginFailed);
+                Err(SecondFailed)
+            }
+        }
     }
 
-    fn append(&mut self, bytes: &[u8]) -> Result<(), DeviceFailed> {
+    // Of a second file that couldn't be written it isn't known what it holds, so it is given up.
+    fn append(&mut self, bytes: &[u8]) -> Result<(), SecondFailed> {
         let size = bytes.len();
-        let answer = self.grow_second(bytes);
-        self.note(
-            answer,
-            &Made::Appended { bytes },
-            &Made::AppendFailed { size },
-        )
+        match self.grow_second(bytes) {
+            Ok(()) => {
+                self.record = self.record.and(&Made::Appended { bytes });
+                Ok(())
+            }
+            Err(_) => {
+                self.remove_second();
+                self.record = self.record.and(&Made::AppendFailed { size });
+                Err(SecondFailed)
+            }
+        }
     }
 
-    fn replace(&mut self) -> Result<(), DeviceFailed> {
-        let answer = self.put_in_place();
-        self.note(answer, &Made::Replaced, &Made::ReplaceFailed)
+    fn replace(&mut self) -> Result<(), ReplaceError> {
+        match self.put_in_place() {
+            Ok(()) => {
+                self.record = self.record.and(&Made::Replaced);
+                Ok(())
+            }
+            Err(ReplaceError::Second) => {
+                self.record = self.record.and(&Made::SecondNotReplaced);
+                Err(ReplaceError::Second)
+            }
+            Err(ReplaceError::Failed) => {
+                self.record = self.record.and(&Made::ReplaceFailed);
+                self.failed = true;
+                Err(ReplaceError::Failed)
+            }
+        }
     }
 }

@@ -2,18 +2,25 @@ ghost use Rattle.std.specs.Prelude.{◌≡◌, false, IfOk};
 ghost use Rattle.envy_device.specs.Device.{Only};
 ghost use Rattle.envy_hostfile.specs.Host.{host_bytes, host_bytewise, host_outcome, host_failed};
 
-use crate::folder::{Names, is_named};
+use crate::descriptors::{above_standard, hold_standard};
+use crate::folder::{Names, is_named, lock};
 use crate::host::{HostCalls, HostFile};
+use envy_device::{Place, ReplaceError};
 use std::alloc::AllocError;
-use std::fs::{File, OpenOptions, TryLockError};
+use std::fs::{File, OpenOptions};
 use std::io::{ErrorKind, Read};
 use std::{fs, io};
+
+/// What a journal of the version that is known here begins with.
+const MARK: [u8; 9] = [1, b'e', b'N', b'V', b'y', b'J', b'N', b'L', 2];
 
 /// Why a file wasn't opened.
 #[derive(Clone, Copy, Debug, PartialEq, Eq)]
 pub enum OpenFault {
     /// It couldn't be made, opened, locked, synced or read, or it is no regular file.
     Unreadable,
+    /// No second file can be made beside it.
+    NotMade,
     /// It is locked, or was replaced while it was opened: another process has it open.
     InUse,
     /// Memory ran out.
@@ -44,20 +51,29 @@ impl From<AllocError> for OpenFault {
     }
 }
 
-// Opens a file, or makes an empty one, and locks it.
-fn locked(rt: &HostRuntime, path: &str) -> Result<File, OpenFault> {
-    let file = OpenOptions::new()
-        .read(true)
-        .write(true)
-        .create(true)
-        .open(rt, path)?;
+// Opens a file, or makes an empty one, and tells whether it made it.
+fn opened(rt: &HostRuntime, path: &str) -> io::Result<(File, bool)> {
+    let mut options = OpenOptions::new();
+    options.read(true).write(true);
+    match options.open(rt, path) {
+        Ok(file) => Ok((above_standard(file)?, false)),
+        Err(error) if error.kind() == ErrorKind::NotFound => {
+            let file = options.create(true).open(rt, path)?;
+            Ok((above_standard(file)?, true))
+        }
+        Err(error) => Err(error),
+    }
+}
+
+// Locks a file that was opened.
+fn locked(file: &File) -> Result<(), OpenFault> {
     if !file.metadata()?.is_file() {
         return Err(OpenFault::Unreadable);
     }
-    match file.try_lock() {
-        Ok(()) => Ok(file),
-        Err(TryLockError::WouldBlock) => Err(OpenFault::InUse),
-        Err(TryLockError::Error(_)) => Err(OpenFault::Unreadable),
+    match lock(file) {
+        Ok(()) => Ok(()),
+        Err(error) if error.kind() == ErrorKind::WouldBlock => Err(OpenFault::InUse),
+        Err(_) => Err(OpenFault::Unreadable),
     }
 }
 
@@ -65,9 +81,9 @@ fn locked(rt: &HostRuntime, path: &str) -> Result<File, OpenFault> {
 fn named<'a>(rt: &'a HostRuntime, path: &str) -> Result<Names<'a>, OpenFault> {
     let mut place = fs::canonicalize(rt, path)?;
     let path = format!(in rt.alloc(); "{}", place.as_str())?;
-    let second = format!(in rt.alloc(); "{}.envy-new", place.as_str())?;
+    let second = String::new(rt.alloc());
     place.pop();
-    let folder = File::open(rt, place.as_str())?;
+    let folder = above_standard(File::open(rt, place.as_str())?)?;
     Ok(Names {
         rt,
         path,
@@ -76,9 +92,86 @@ fn named<'a>(rt: &'a HostRuntime, path: &str) -> Result<Names<'a>, OpenFault> {
     })
 }
 
-/// Opens the file at a path, or makes an empty one, locks it, brings it and its name to the disk, and reads it whole. The
-/// lock goes with the file. A file that was locked and that the path doesn't name any more was replaced by the process
-/// that had it open. That the file is written byte by byte is a premise, which the caller states or doesn't.
+// Why no second file was made.
+fn not_made(error: &io::Error) -> OpenFault {
+    match error.kind() {
+        ErrorKind::OutOfMemory => OpenFault::Memory,
+        _ => OpenFault::NotMade,
+    }
+}
+
+// The names of a file that is locked, beside which a second one can be made. If none can, a file that was made is removed.
+fn placed<'a>(
+    rt: &'a HostRuntime,
+    path: &str,
+    file: &File,
+    is_made: bool,
+) -> Result<Names<'a>, OpenFault> {
+    let mut place = named(rt, path)?;
+    if !is_named(rt, place.path.as_str(), file)? {
+        return Err(OpenFault::InUse);
+    }
+    place.remove_all_left();
+    match place.try_out(file) {
+        Ok(()) => Ok(place),
+        Err(error) => {
+            if is_made {
+                let _ = fs::remove_file(rt, place.path.as_str());
+            }
+            Err(not_made(&error))
+        }
+    }
+}
+
+// All of the bytes of a file, from the disk.
+fn read_whole(rt: &HostRuntime, file: &mut File) -> Result<Vec<u8>, OpenFault> {
+    let size = file.metadata()?.len();
+    let mut bytes = Vec::new(rt.alloc());
+    file.read_to_end(&mut bytes)?;
+    if bytes.len() as u64 == size {
+        Ok(bytes)
+    } else {
+        Err(OpenFault::Unreadable)
+    }
+}
+
+// The file with the bytes that it has, written anew through the second file, so that they are on the disk. If no second file
+// takes its place, the file is as it was. What isn't a journal isn't written.
+fn written_anew<'a>(
+    found: HostFile<File, Names<'a>>,
+    bytes: &[u8],
+    _bytewise: bool,
+) -> Result<HostFile<File, Names<'a>>, OpenFault>
+    requires bytes { host_bytes found ≡ bytes.now }
+    requires durable { Only (host_bytes found) (host_outcome found) }
+    requires works { host_failed found ≡ false }
+    requires bytewise { host_bytewise found ≡ _bytewise }
+    ensures bytes { IfOk result (λ file. host_bytes file ≡ bytes.now) }
+    ensures durable { IfOk result (λ file. Only (host_bytes file) (host_outcome file)) }
+    ensures works { IfOk result (λ file. host_failed file ≡ false) }
+    ensures bytewise { IfOk result (λ file. host_bytewise file ≡ _bytewise) }
+{
+    let mut file = found;
+    if !bytes.starts_with(&MARK) || file.begin_second().is_err() {
+        return Ok(file);
+    }
+    if file.write_second(bytes).is_err() {
+        return Ok(file);
+    }
+    match file.replace() {
+        Ok(()) => {
+            file.file.is_believed = false;
+            Ok(file)
+        }
+        Err(ReplaceError::Second) => Ok(file),
+        Err(ReplaceError::Failed) => Err(OpenFault::Unreadable),
+    }
+}
+
+/// Opens the file at a path, or makes an empty one, locks it, brings it and its name to the disk, reads it whole, and writes
+/// what it read anew. The lock goes with the file. A file that was locked and that the path doesn't name
+/// any more was replaced by the process that had it open. Beside it a second file must be able to be made; those that a
+/// crash left are removed. That the file is written byte by byte is a premise, which the caller states or doesn't.
 pub fn open<'a>(
     rt: &'a HostRuntime,
     path: &str,
@@ -89,14 +182,13 @@ pub fn open<'a>(
     ensures works { IfOk result (λ opened. host_failed opened.0 ≡ false) }
     ensures bytewise { IfOk result (λ opened. host_bytewise opened.0 ≡ bytewise) }
 {
-    let mut file = locked(rt, path)?;
-    let place = named(rt, path)?;
-    if !is_named(rt, place.path.as_str(), &file)? {
-        return Err(OpenFault::InUse);
-    }
+    hold_standard(rt);
+    let (mut file, is_made) = opened(rt, path)?;
+    locked(&file)?;
+    let place = placed(rt, path, &file, is_made)?;
     file.sync_all()?;
     place.folder.sync_all()?;
-    let mut bytes = Vec::new(rt.alloc());
-    file.read_to_end(&mut bytes)?;
-    Ok((HostCalls::found(file, place, &bytes, bytewise), bytes))
+    let bytes = read_whole(rt, &mut file)?;
+    let found = HostCalls::found(file, place, &bytes, bytewise);
+    Ok((written_anew(found, &bytes, bytewise)?, bytes))
 }

@@ -1,6 +1,6 @@
 use crate::folder::is_named;
 use crate::{Folder, HostCalls, HostFile, Names, OpenFault, open};
-use envy_device::{Device, Place};
+use envy_device::{Device, Place, ReplaceError};
 use std::cell::Cell;
 use std::fmt::Debug;
 use std::fs::{self, File, Metadata, OpenFile, Permissions};
@@ -78,40 +78,52 @@ fn a_file_is_locked_written_synced_and_read_again(rt: HostRuntime) {
     remove(&rt, &rt, PATH);
 }
 
+// Writes a second file, and has it take the first one's place.
+fn replace(
+    rt: &impl Abort,
+    file: &mut HostFile<File, Names<'_>>,
+    bytes: &[u8],
+) -> Result<(), ReplaceError> {
+    let (head, tail) = bytes.split_at(bytes.len() / 2);
+    file.begin_second().expect(rt, "not made");
+    file.write_second(head).expect(rt, "not written");
+    file.write_second(tail).expect(rt, "not written");
+    file.replace()
+}
+
+// A file of somebody else's that has the second one's name stays as it is; one that a crash left is removed.
 #[test]
 fn a_second_file_takes_the_place(rt: HostRuntime) {
     let path = "envy_hostfile_second";
     let other = "envy_hostfile_second.envy-new";
+    let left = "envy_hostfile_second.envy-new1";
     let _ = fs::remove_file(&rt, path);
-    fs::write(&rt, other, b"left behind by a crash").expect(&rt, "not written");
+    fs::write(&rt, other, b"somebody's").expect(&rt, "not written");
+    fs::write(&rt, left, b"left by a crash").expect(&rt, "not written");
+    fs::set_permissions(&rt, left, Permissions::from_mode(0o1600)).expect(&rt, "access not set");
     let (mut file, _) = opened(&rt, &rt, path);
+    holds(&rt, fs::metadata(&rt, left).is_err(), "what a crash left");
     fs::set_permissions(&rt, path, Permissions::from_mode(0o640)).expect(&rt, "access not set");
     write_synced(&rt, &mut file, b"first");
     let opened_before = File::open(&rt, path).expect(&rt, "not opened");
-    file.begin_second().expect(&rt, "not made");
-    file.write_second(b"se").expect(&rt, "not written");
-    file.write_second(b"cond").expect(&rt, "not written");
-    file.replace().expect(&rt, "not replaced");
+    holds(&rt, replace(&rt, &mut file, b"second").is_ok(), "replaced");
     holds(&rt, is_in_use(&rt, path), "the second file is in use");
     holds(&rt, opened_before.try_lock().is_ok(), "the first is let go");
     let is_named = is_named(&rt, path, &opened_before).expect(&rt, "no names");
     holds(&rt, !is_named, "the first has no name");
-    file.write_at(6, b" file").expect(&rt, "not written");
-    file.sync().expect(&rt, "not synced");
+    write_synced(&rt, &mut file, b"seventh");
     drop(file);
     let (again, bytes) = opened(&rt, &rt, path);
-    same_bytes(&rt, bytes.as_slice(), b"second file", "what is read again");
-    holds(
-        &rt,
-        fs::metadata(&rt, other).is_err(),
-        "no second file is left",
-    );
+    same_bytes(&rt, bytes.as_slice(), b"seventh", "what is read again");
+    holds(&rt, fs::metadata(&rt, left).is_err(), "a second file");
+    same(&rt, &length_of(&rt, &rt, other), &10, "bytes of another");
     same(&rt, &access_of(&rt, &rt, path), &0o640, "access");
     drop(again);
     remove(&rt, &rt, path);
+    remove(&rt, &rt, other);
 }
 
-// A second file that another process has in use stays as it is.
+// A file at the second one's name that another process has in use stays as it is.
 #[test]
 fn a_second_file_in_use_is_left(rt: HostRuntime) {
     let path = "envy_hostfile_used";
@@ -121,8 +133,7 @@ fn a_second_file_in_use_is_left(rt: HostRuntime) {
     let (mut in_use, _) = opened(&rt, &rt, other);
     write_synced(&rt, &mut in_use, b"kept");
     let (mut file, _) = opened(&rt, &rt, path);
-    holds(&rt, file.begin_second().is_err(), "no second file is begun");
-    holds(&rt, file.sync().is_err(), "the file has failed");
+    holds(&rt, replace(&rt, &mut file, b"second").is_ok(), "replaced");
     same(
         &rt,
         &length_of(&rt, &rt, other),
@@ -133,6 +144,47 @@ fn a_second_file_in_use_is_left(rt: HostRuntime) {
     drop(in_use);
     remove(&rt, &rt, path);
     remove(&rt, &rt, other);
+}
+
+// A file that was moved while it was open takes no other one's place, and goes on.
+#[test]
+fn a_file_that_was_moved_replaces_no_other(rt: HostRuntime) {
+    let path = "envy_hostfile_moved";
+    let away = "envy_hostfile_moved_away";
+    let _ = fs::remove_file(&rt, path);
+    let (mut file, _) = opened(&rt, &rt, path);
+    fs::rename(&rt, path, away).expect(&rt, "not renamed");
+    fs::write(&rt, path, b"another").expect(&rt, "not written");
+    let answer = replace(&rt, &mut file, b"second");
+    same(&rt, &answer, &Err(ReplaceError::Second), "the answer");
+    write_synced(&rt, &mut file, b"goes on");
+    drop(file);
+    let (moved, bytes) = opened(&rt, &rt, away);
+    same_bytes(&rt, bytes.as_slice(), b"goes on", "what is read again");
+    let (other, bytes) = opened(&rt, &rt, path);
+    same_bytes(&rt, bytes.as_slice(), b"another", "the other file");
+    drop(moved);
+    drop(other);
+    remove(&rt, &rt, path);
+    remove(&rt, &rt, away);
+}
+
+// A name to which nothing can be added is refused, and no file comes to be.
+#[test]
+fn a_name_that_is_too_long_is_refused(rt: HostRuntime) {
+    let path = concat!(
+        "envy_hostfile_long",
+        "012345678901234567890123456789012345678901234567890123456789012345678901234567890123456789",
+        "012345678901234567890123456789012345678901234567890123456789012345678901234567890123456789",
+        "01234567890123456789012345678901234567890123456789"
+    );
+    let answer = open(&rt, path, false);
+    holds(
+        &rt,
+        matches!(answer, Err(OpenFault::NotMade)),
+        "it is refused",
+    );
+    holds(&rt, fs::metadata(&rt, path).is_err(), "no file is left");
 }
 
 // What is noted of the calls that end a batch or a second file, one digit for each.
@@ -213,15 +265,21 @@ impl OpenFile for &Slow {
 }
 
 impl<'a> Folder<&'a Slow> for &'a Slow {
-    fn make(&self) -> io::Result<&'a Slow> {
+    fn make(&mut self, _first: &&'a Slow) -> io::Result<&'a Slow> {
         self.call()?;
         self.next.set(0);
-        Ok(self)
+        Ok(*self)
     }
 
-    fn rename(&self) -> io::Result<()> {
+    fn is_first(&self, _first: &&'a Slow) -> bool {
+        true
+    }
+
+    fn rename(&mut self, _second: &&'a Slow) -> io::Result<()> {
         self.noted(RENAMED)
     }
+
+    fn remove_second(&mut self, _second: &&'a Slow) {}
 
     fn sync(&self) -> io::Result<()> {
         self.noted(FOLDER_SYNCED)
@@ -298,17 +356,17 @@ fn replaced_on(slow: &Slow) -> ((bool, bool, bool, bool), bool) {
 }
 
 // The second file is made, 3 bytes are 2 pieces with an interruption between, 2 bytes are one, and then the file is synced
-// and renamed, and the folder is synced.
+// and renamed, and the folder is synced. Until it is renamed the first file goes on.
 #[test]
-fn a_failure_at_any_call_on_the_second_file_ends_the_file(rt: HostRuntime) {
+fn a_failure_of_the_second_file_leaves_the_first(rt: HostRuntime) {
     let table = [
-        (0, 0, 0),
-        (1, 1, 0),
-        (2, 1, 0),
-        (3, 1, 0),
-        (4, 2, 0),
-        (5, 3, 0),
-        (6, 3, 3),
+        (0, 0, 2),
+        (1, 1, 2),
+        (2, 1, 2),
+        (3, 1, 2),
+        (4, 2, 2),
+        (5, 3, 2),
+        (6, 3, 32),
         (7, 3, 34),
         (9, 4, 3452),
     ];
@@ -320,7 +378,7 @@ fn a_failure_at_any_call_on_the_second_file_ends_the_file(rt: HostRuntime) {
             &rt,
             at,
             &replaced_on(&slow),
-            &(wanted, passed > 3),
+            &(wanted, at != 7),
             "what is done",
         );
         check(&rt, at, &slow.order.get(), order, "calls");

@@ -1,5 +1,5 @@
 -- Why a call of a log failed.
-use Rattle.std.proofs.Common.{◌≡◌, ℕ, ◌^◌, ◌≤◌, Bool, false, IsTrue, List, Result, Ok, Err, refl, arith}
+use Rattle.std.proofs.Common.{◌≡◌, ℕ, ◌^◌, ◌≤◌, Bool, false, IsTrue, List, length, Result, Ok, Err, refl, arith}
 use Rattle.std.proofs.lemmas.Bool.{false≢true}
 use Rattle.envy_journal.specs.declared.fault.SyncError.{SyncError}
 use Rattle.envy_journal.specs.declared.fault.SyncError.TheVariants.{Failed, Full, Ended}
@@ -16,8 +16,8 @@ module _ {D : Type 0} (seen : D → List ℕ) (has_failed : D → Bool) (dead : 
   by_end was = record { failed = λ e. cc; full = λ e. cc; ended = λ e. was }
 
   -- and a file at the end of its range
-  pub by_range : 2 ^ 60 ≤ size_of seen log → HasCause seen has_failed dead log (Err Full)
-  by_range long = record { failed = λ e. cc; full = λ e. long; ended = λ e. cc }
+  pub by_range : 2 ^ 60 ≤ size_of log → log.end ≤ length (seen log.device) → HasCause seen has_failed dead log (Err Full)
+  by_range long within = record { failed = λ e. cc; full = λ e. (long, within); ended = λ e. cc }
 
   -- what succeeds needs no cause
   pub no_fault : HasCause seen has_failed dead log (Ok tt)
@@ -31,5 +31,5 @@ module _ {D : Type 0} (seen : D → List ℕ) (has_failed : D → Bool) (log : L
   -- an error of a journal that hadn't ended ends it
   pub ended_by : (error : SyncError) → HasCause seen has_failed false log (Err error) → HasEnded seen has_failed log
   ended_by Failed is = λ small. is.failed refl
-  ended_by Full is = λ small. absurd (omega (arith, is.full refl))
+  ended_by Full is = λ small. let why = is.full refl in absurd (omega (arith, why.0, why.1))
   ended_by Ended is = λ small. absurd (false≢true (is.ended refl))

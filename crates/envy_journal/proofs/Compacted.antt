@@ -16,7 +16,7 @@ use Rattle.envy_journal.proofs.Settled.{logged_begun, done_begun, held_begun}
 module _ {D : Type 0} (seen : D → List ℕ) (may_leave : D → List ℕ → Type 0) (left_since : D → ℕ → List ℕ → Type 0) (last : D → ℕ) (log : Log D) (s : State) (is : IsLogged seen may_leave left_since last log s) where
   -- a file of all operations is one of what the board holds
   all_file : (c : List ℕ) → StandsFor s.shape (done seen log) c → IsFileOf s c
-  all_file c stands = record { head = stands.head; content = is.content ∙ ap (λ (p : List Operation). holds s.shape p) (sym stands.reads) }
+  all_file c stands = record { head = stands.head; content = is.content ∙ ap (λ (p : List Operation). holds s.shape p) (sym stands.reads); ends = stands.ends }
 
   module _ (moment : D → ℕ) (device : D) where
     -- the log was synced
@@ -43,7 +43,7 @@ module _ {D : Type 0} (seen : D → List ℕ) (may_leave : D → List ℕ → Ty
 
   -- the log behind it
   module _ (moment : D → ℕ) (new : Log D) (rest : IsAtRest seen may_leave moment last new.device new.gate) (end : new.end ≡ new.gate + 1) (used : new.used ≡ 0)
-      (leads : Leads false 33 (take new.gate (seen new.device)) (operations (take new.gate (seen new.device))) false) (file : IsFileOf s (take new.gate (seen new.device)))
+      (leads : Leads false 33 (take new.gate (seen new.device)) (operations (take new.gate (seen new.device))) false) (file : IsFileOf s (take new.gate (seen new.device))) (size : length (seen new.device) ≡ new.size)
       (now_only : (c : List ℕ) → left_since new.device (moment new.device) c → may_leave new.device c) (room : length new.buffer.items ≡ length log.buffer.items) where
     abbrev p : List Operation
     p = operations (take new.gate (seen new.device))
@@ -53,7 +53,7 @@ module _ {D : Type 0} (seen : D → List ℕ) (may_leave : D → List ℕ → Ty
 
     -- behind a compaction the log stands for the board again
     pub logged_compacted : IsLogged seen may_leave left_since last new s
-    logged_compacted = logged_begun seen may_leave left_since moment last new p rest end used leads now_only enough s file.content file.head
+    logged_compacted = logged_begun seen may_leave left_since moment last new p rest end used leads now_only enough size s file.content file.head
 
     -- each crash since leaves a file that stands for it
     pub stands_compacted : StandsSince seen left_since last new s

@@ -1,11 +1,11 @@
 -- What stands at the front of a batch that was counted.
 use Rattle.std.proofs.Common.{◌≡◌, ◌≢◌, inl, inr, ℕ, zero, suc, ◌+◌, ◌<◌, ◌≤◌, ◌==◌, nat_lt, true, false, List, [], ◌∷◌, length, get_or, take, drop, refl, sym, ◌∙◌, ap, arith, length-take, take-append-drop}
-use Rattle.std.proofs.lemmas.Bool.{cases_eq, cases_lt, cond-false, le-ltb, ne_eqb}
-use Rattle.std.proofs.lemmas.List.{take-take, drop-drop, drop_more, drop_all, get_or_past}
+use Rattle.std.proofs.lemmas.Bool.{cases_eq, cond-false, le-ltb, ne_eqb}
+use Rattle.std.proofs.lemmas.List.{take-take, drop-drop, drop_more, drop_all}
 use Rattle.std.specs.Int.{w64, from_le_bytes}
-use Rattle.envy_journal.specs.Reading.{are_operations, behind_tag, is_open, operations, reading, whole, zero_in, zeros}
+use Rattle.envy_journal.specs.Reading.{are_operations, behind_tag, whole, zero_in, zeros}
 use Rattle.envy_journal.proofs.Counting.{mark_right, mark_short, mark_whole, one_operation, operations_over, whole_empty, whole_none, whole_operations, whole_stop, whole_tag}
-use Rattle.envy_journal.proofs.Parsed.{nothing, part_length, shut, skipped, tagged}
+use Rattle.envy_journal.proofs.Parsed.{part_length, tagged}
 
 -- too few bytes of an operation
 pub whole_short : (l : List ℕ) (skip n : ℕ) → length l ≤ skip → whole n skip l ≡ false
@@ -32,6 +32,18 @@ behind_other tag put program erase = cond-false _ 12 _ (ne_eqb tag 1 put) ∙ co
 
 too_short : (tag : ℕ) (rest : List ℕ) → (tag ≡ 1 → length rest < 12) → (tag ≡ 2 → length rest < 260) → (tag ≡ 3 → length rest < 4) → behind_tag tag ≢ 0 → length rest ≤ behind_tag tag
 too_short tag rest put program erase some = elim (cases_eq tag 1) [
+  | inl is ↦ omega (arith, put is, behind_put tag is)
+  | inr one ↦ elim (cases_eq tag 2) [
+    | inl is ↦ omega (arith, program is, behind_program tag is)
+    | inr two ↦ elim (cases_eq tag 3) [
+      | inl is ↦ omega (arith, erase is, behind_erase tag is)
+      | inr three ↦ absurd (some (behind_other tag one two three))
+    ]
+  ]
+]
+
+pub too_few : (tag n : ℕ) → (tag ≡ 1 → n < 13) → (tag ≡ 2 → n < 261) → (tag ≡ 3 → n < 5) → behind_tag tag ≢ 0 → n < behind_tag tag + 1
+too_few tag n put program erase some = elim (cases_eq tag 1) [
   | inl is ↦ omega (arith, put is, behind_put tag is)
   | inr one ↦ elim (cases_eq tag 2) [
     | inl is ↦ omega (arith, program is, behind_program tag is)

@@ -1,6 +1,6 @@
 -- The bytes of a second file, while the log's buffer carries them.
-use Rattle.std.proofs.Common.{◌≡◌, ℕ, ◌+◌, ◌≤◌, true, false, Result, Ok, Err, OnOk, List, [], ◌∷◌, ◌++◌, length, take, refl, sym, ◌∙◌, ap, subst, arith, append_assoc, length-append, length-take}
-use Rattle.std.proofs.lemmas.List.{append-nil, take_at}
+use Rattle.std.proofs.Common.{◌≡◌, ℕ, ◌+◌, ◌≤◌, true, false, Result, Ok, Err, OnOk, List, [], ◌∷◌, ◌++◌, ◌-◌, length, take, drop, replicate, refl, sym, ◌∙◌, ap, subst, arith, append_assoc, length-append, length-take}
+use Rattle.std.proofs.lemmas.List.{append-nil, drop_at, take_at}
 use Rattle.envy_base.specs.State.{State}
 use Rattle.envy_base.specs.declared.shape.Shape.{Shape}
 use Rattle.envy_journal.specs.declared.operation.Operation.{Operation}
@@ -14,7 +14,8 @@ use Rattle.envy_journal.specs.Reading.{operations, Leads}
 use Rattle.envy_journal.specs.Snapshot.{Gathers, Makes, gathered}
 use Rattle.envy_journal.proofs.Batches.{closed_ends}
 use Rattle.envy_journal.proofs.Logged.{begins_front, ends_gate}
-use Rattle.envy_journal.proofs.Parsed.{leads_over, leads_open, leads_close, leads_both, leads_to}
+use Rattle.envy_journal.proofs.Broken.{rests_shut}
+use Rattle.envy_journal.proofs.Parsed.{leads_over, leads_open, leads_close, leads_both, leads_to, unbroken_at, unbroken_on}
 use Rattle.envy_journal.proofs.Replayed.{after-append}
 
 module _ {D : Type 0} (second : D → List ℕ) (log : Log D) (is : Gathers second log) where
@@ -22,7 +23,7 @@ module _ {D : Type 0} (second : D → List ℕ) (log : Log D) (is : Gathers seco
   buffered = omega (arith, length-take {A = ℕ}, is.fits)
 
   -- what is gathered is as long as the file and the buffer
-  pub gathered_length : length (gathered second log) ≡ log.end + log.used
+  pub gathered_length : length (gathered second log) ≡ log.second + log.used
   gathered_length = omega (arith, length-append (second log.device) (take log.used log.buffer.items), buffered, is.end)
 
   -- the buffer is written behind the second file
@@ -36,7 +37,7 @@ module _ {D : Type 0} (second : D → List ℕ) (log : Log D) (is : Gathers seco
     spilled_gathered = append-nil (second device) ∙ spilled_file
 
     -- and gathering goes on with an empty buffer
-    pub spilled_gathers : (fits : 0 ≤ length log.buffer.items) (few : length log.buffer.items ≤ most_held) → Gathers second (record log { device = device; end = log.end + log.used; used = 0; fits = fits; few = few })
+    pub spilled_gathers : (fits : 0 ≤ length log.buffer.items) (few : length log.buffer.items ≤ most_held) → Gathers second (record log { device = device; second = log.second + log.used; used = 0; fits = fits; few = few })
     spilled_gathers fits few = record { fits = omega arith; room = is.room; end = ap length spilled_file ∙ gathered_length }
 
 -- a head and an open gate
@@ -116,19 +117,27 @@ module _ (s : State) (most : ℕ) (bytes file : List ℕ) (is : Makes s.shape (c
         sym is.content
         ∙ ap (λ (p : List Operation). holds s.shape p)
         (sym (ends_gate kept file (operations bytes) kept_leads (closed_ends kept file (subst (λ (l : List ℕ). Begins l file) closed (begins_self file)))));
+    ends = unbroken_on kept (0 ∷ []) file (operations bytes) closed kept_leads (rests_shut 0 [] refl);
   }
 
   -- behind a replacement what lies before the gate is the new file,
   pub replaced_kept : IsFileOf s (take (length bytes + 1) file)
-  replaced_kept = subst (λ (l : List ℕ). IsFileOf s l) (sym front) (record { head = kept_head; content = sym is.content ∙ ap (λ (p : List Operation). holds s.shape p) (sym kept_reads) })
+  replaced_kept = subst (λ (l : List ℕ). IsFileOf s l) (sym front) (record { head = kept_head; content = sym is.content ∙ ap (λ (p : List Operation). holds s.shape p) (sym kept_reads); ends = unbroken_at kept (operations bytes) kept_leads })
 
   -- which is read to its end,
   pub replaced_leads : Leads false 33 (take (length bytes + 1) file) (operations (take (length bytes + 1) file)) false
   replaced_leads = subst (λ (l : List ℕ). Leads false 33 l (operations l) false) (sym front) (subst (λ (p : List Operation). Leads false 33 kept p false) (sym kept_reads) kept_leads)
 
-  -- with a closed gate behind it
+  -- with a closed gate behind it,
   pub replaced_end : file ≡ take (length bytes + 1) file ++ 0 ∷ []
   replaced_end = closed ∙ ap (λ (l : List ℕ). l ++ 0 ∷ []) (sym front)
+
+  -- and nothing more
+  pub replaced_closed : drop (length bytes + 1) file ≡ replicate (length file - (length bytes + 1)) 0
+  replaced_closed =
+      ap (λ (l : List ℕ). drop (length bytes + 1) l) closed
+      ∙ drop_at kept (0 ∷ []) (length bytes + 1) kept_length
+      ∙ ap (λ (n : ℕ). replicate n 0) {x = 1} {y = length file - (length bytes + 1)} (omega (arith, ap length whole, length-append bytes (5 ∷ 0 ∷ [])))
 
   pub replaced_size : length file ≡ length bytes + 2
   replaced_size = ap length whole ∙ length-append bytes (5 ∷ 0 ∷ [])

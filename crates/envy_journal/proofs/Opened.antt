@@ -1,33 +1,37 @@
 -- A file that was mended, as a journal begins with it.
-use Rattle.std.proofs.Common.{◌≡◌, ℕ, ◌≤◌, false, List, [], ◌∷◌, ◌++◌, length, take, refl, sym, ◌∙◌, ap, subst, arith}
-use Rattle.std.proofs.lemmas.List.{take-take, take_at}
+use Rattle.std.proofs.Common.{◌≡◌, ℕ, ◌-◌, ◌≤◌, false, List, [], ◌∷◌, ◌++◌, length, take, drop, replicate, refl, sym, ◌∙◌, ap, subst, arith}
+use Rattle.std.proofs.lemmas.List.{take-take, take_at, drop_at}
 use Rattle.envy_base.specs.declared.shape.Shape.{Shape}
 use Rattle.envy_device.specs.Device.{Only, LeavesOnly}
 use Rattle.envy_journal.specs.declared.operation.Operation.{Operation}
-use Rattle.envy_journal.specs.Found.{IsMended, ReadsAlike}
+use Rattle.envy_journal.specs.Found.{IsEnd, IsMended, ReadsAlike}
 use Rattle.envy_journal.specs.Head.{StandsFor, head_bytes}
 use Rattle.envy_journal.specs.Log.{Begins}
 use Rattle.envy_journal.specs.Reading.{operations, Leads}
 use Rattle.envy_journal.proofs.Moments.{started, widened}
-use Rattle.envy_journal.proofs.Parsed.{leads_to, leads_over, leads_end, shut}
+use Rattle.envy_journal.proofs.Parsed.{leads_to, leads_over, leads_end, shut, unbroken_on}
+use Rattle.envy_journal.proofs.Broken.{rests_shut}
 use Rattle.envy_journal.proofs.Settled.{head_alike}
 
-module _ (end gate : ℕ) (old new : List ℕ) (is : IsMended end gate old new) (le : 33 ≤ end) where
+module _ (end size : ℕ) (old new : List ℕ) (is : IsMended end size old new) (is_end : IsEnd end old) where
+  here : Leads false 33 (take end new) (operations old) false
+  here = subst (λ (l : List ℕ). Leads false 33 l (operations old) false) (sym is.front) is_end.leads
+
   -- a mended file is read as before
-  pub mended_reads : operations (take gate new) ≡ operations old
-  mended_reads = leads_to false false 33 (take gate new) (operations old) is.leads
+  pub mended_reads : operations (take end new) ≡ operations old
+  mended_reads = leads_to false false 33 (take end new) (operations old) here
 
   -- to its end
-  pub mended_leads : Leads false 33 (take gate new) (operations (take gate new)) false
-  mended_leads = subst (λ (p : List Operation). Leads false 33 (take gate new) p false) (sym mended_reads) is.leads
+  pub mended_leads : Leads false 33 (take end new) (operations (take end new)) false
+  mended_leads = subst (λ (p : List Operation). Leads false 33 (take end new) p false) (sym mended_reads) here
 
   -- with its head
-  pub mended_head : (sh : Shape) → Begins (head_bytes sh) old → Begins (head_bytes sh) (take gate new)
-  mended_head sh head = take-take 33 gate new (omega (arith, is.near)) ∙ head_alike sh end old new le head is.front
+  pub mended_head : (sh : Shape) → Begins (head_bytes sh) old → Begins (head_bytes sh) (take end new)
+  mended_head sh head = take-take 33 end new is_end.past_head ∙ head_alike sh end old new is_end.past_head head is.front
 
 -- a file with the same operations and head stands for the same
 pub alike_stands : (sh : Shape) (end : ℕ) (old c : List ℕ) → 33 ≤ end → Begins (head_bytes sh) old → ReadsAlike end old c → StandsFor sh (operations old) c
-alike_stands sh end old c le head alike = record { head = head_alike sh end old c le head alike.front; reads = alike.reads }
+alike_stands sh end old c le head alike = record { head = head_alike sh end old c le head alike.front; reads = alike.reads; ends = alike.ends }
 
 module _ {D : Type 0} (moment : D → ℕ) (left_since : D → ℕ → List ℕ → Type 0) (old new : D) where
   -- before the first call of a device
@@ -40,6 +44,10 @@ module _ {D : Type 0} (moment : D → ℕ) (left_since : D → ℕ → List ℕ 
       subst (λ (l : List ℕ). LeavesOnly moment left_since old new (StandsFor sh (operations l))) (sym is)
       (widened moment left_since old new (ReadsAlike end file) (StandsFor sh (operations file)) only (λ c alike. alike_stands sh end file c le (subst (λ (l : List ℕ). Begins (head_bytes sh) l) is head) alike))
 
+-- a file that stands for its own operations
+pub stands_self : (sh : Shape) (end : ℕ) (bytes file : List ℕ) → bytes ≡ file → Begins (head_bytes sh) bytes → IsEnd end bytes → StandsFor sh (operations bytes) file
+stands_self sh end bytes file is head is_end = subst (λ (l : List ℕ). StandsFor sh (operations bytes) l) is (record { head = head; reads = refl; ends = is_end.unbroken })
+
 -- a head and a closed gate are a journal without operations
 pub made_new : (sh : Shape) → StandsFor sh [] (head_bytes sh ++ 0 ∷ [])
 made_new sh =
@@ -47,6 +55,7 @@ made_new sh =
     record {
       head = take_at h (0 ∷ []) (length h) refl;
       reads = leads_end false false 33 h (0 ∷ []) [] (leads_over false 33 h refl) (shut 0 [] refl);
+      ends = unbroken_on h (0 ∷ []) (h ++ 0 ∷ []) [] refl (leads_over false 33 h refl) (rests_shut 0 [] refl);
     }
 
 -- the same at rest
@@ -56,11 +65,11 @@ module _ (sh : Shape) (file : List ℕ) (is : file ≡ head_bytes sh ++ 0 ∷ []
   made_front = ap (λ (l : List ℕ). take 33 l) is ∙ take_at (head_bytes sh) (0 ∷ []) 33 refl
 
   -- and a closed gate
-  pub made_file : file ≡ take 33 file ++ 0 ∷ []
-  made_file = is ∙ ap (λ (l : List ℕ). l ++ 0 ∷ []) (sym made_front)
-
   pub made_size : length file ≡ 34
   made_size = ap length is
+
+  pub made_closed : drop 33 file ≡ replicate (length file - 33) 0
+  made_closed = ap (λ (l : List ℕ). drop 33 l) is ∙ drop_at (head_bytes sh) (0 ∷ []) 33 refl ∙ ap (λ (n : ℕ). replicate n 0) {x = 1} {y = length file - 33} (omega (arith, made_size))
 
   pub made_head : Begins (head_bytes sh) (take 33 file)
   made_head = take-take 33 33 file (omega arith) ∙ made_front

@@ -38,7 +38,7 @@ module _ (bytes : List ℕ) (at : ℕ) (within : Bool) (is : IsBehind bytes at w
       ∙ ap (λ (l : List ℕ). reading false 0 l) (apart 1 ∙ ap (λ (l : List ℕ). l ++ drop (at + 1) bytes) six)
       ∙ leads_into 6 (drop (at + 1) bytes) (ap (λ (l : List ℕ). whole 0 0 l) (sym (drop-drop 1 at bytes)) ∙ found)
 
-  pub behind_gate : within ≡ false → 1 ≤ length back → Opens back → IsBehind bytes (at + 1) true
+  pub behind_gate : within ≡ false → 2 ≤ length back → Opens back → IsBehind bytes (at + 1) true
   behind_gate gate some opens = record { within_bytes = omega (arith, length-drop at bytes, some, is.within_bytes); reads = into gate opens }
 
   pub behind_batch : (size : ℕ) → within ≡ true → size ≤ length back → Leads true 0 (take size back) [] false → IsBehind bytes (at + size) false

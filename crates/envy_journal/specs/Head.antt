@@ -3,7 +3,7 @@ use Rattle.std.specs.Prelude.{◌≡◌, ◌≢◌, ◌⊎◌, ℕ, ◌<◌, Lis
 use Rattle.envy_base.specs.declared.shape.Shape.{Shape}
 use Rattle.envy_journal.specs.declared.operation.Operation.{Operation}
 use Rattle.envy_journal.specs.Log.{Begins}
-use Rattle.envy_journal.specs.Reading.{operations, number_bytes}
+use Rattle.envy_journal.specs.Reading.{operations, number_bytes, IsUnbroken}
 
 -- a journal that is made begins with a 1, and then its name
 abbrev pub mark : List ℕ
@@ -23,6 +23,7 @@ head_bytes sh =
 pub record StandsFor (sh : Shape) (done : List Operation) (file : List ℕ) : Type 0 where
   pub head : Begins (head_bytes sh) file
   pub reads : operations file ≡ done
+  pub ends : IsUnbroken file
 
 -- a file in which no journal is made yet is empty
 abbrev pub IsUnmade : List ℕ → Type 0

@@ -1,5 +1,5 @@
 -- A snapshot: a journal of what a board holds, and of no more.
-use Rattle.std.specs.Prelude.{◌≡◌, ℕ, ◌+◌, ◌*◌, ◌^◌, ◌≤◌, max, true, false, List, ◌++◌, length, take, drop}
+use Rattle.std.specs.Prelude.{◌≡◌, ℕ, ◌+◌, ◌*◌, ◌^◌, ◌≤◌, max, Bool, true, false, List, ◌++◌, length, take, drop}
 use Rattle.envy_base.specs.Map.{words_of}
 use Rattle.envy_base.specs.State.{State}
 use Rattle.envy_base.specs.declared.shape.Shape.{Shape}
@@ -7,16 +7,26 @@ use Rattle.envy_device.specs.Device.{LeavesOnly}
 use Rattle.envy_journal.specs.declared.log.Log.{Log}
 use Rattle.envy_journal.specs.Content.{Content, blank, holds}
 use Rattle.envy_journal.specs.Head.{head_bytes}
-use Rattle.envy_journal.specs.Log.{Begins}
+use Rattle.envy_journal.specs.Log.{Begins, batch_more, size_of, step}
 use Rattle.envy_journal.specs.Reading.{operations, Leads}
 
 -- so many bytes a snapshot takes at most: a head and a gate, a put of each word, a program of each row, a mark and a gate
 abbrev pub most_of : Shape → ℕ
 most_of sh = 36 + 13 * words_of sh + 261 * (sh.segments * sh.rows)
 
--- a sync leaves a file no longer than that: 1 MiB, or two snapshots
+-- a log that would be longer is compacted by a sync: 1 MiB, or two snapshots
 abbrev pub limit_of : Shape → ℕ
 limit_of sh = max (2 ^ 20) (2 * most_of sh)
+
+-- how long a sync leaves the file at most: the limit, or the next one once a compaction failed, a batch's gate and end, and
+-- the zeros that are written ahead
+abbrev pub longest : Shape → ℕ → ℕ
+longest sh next = max (limit_of sh) next + batch_more + step
+
+-- a sync appends to such a log, and compacts a longer one
+pub record IsShort {D : Type 0} (sh : Shape) (next : ℕ) (log : Log D) : Type 0 where
+  pub size : size_of log ≤ max (limit_of sh) next
+  pub file : log.size ≤ longest sh next
 
 -- a blank board with so many of the first words, or with all words and so many of the first rows
 abbrev pub with_words : State → ℕ → Content
@@ -40,9 +50,20 @@ gathered second log = second log.device ++ take log.used log.buffer.items
 pub record Gathers {D : Type 0} (second : D → List ℕ) (log : Log D) : Type 0 where
   pub fits : log.used ≤ length log.buffer.items
   pub room : 263 ≤ length log.buffer.items
-  pub end : length (second log.device) ≡ log.end
+  pub end : length (second log.device) ≡ log.second
 
 -- nothing became of the file: what a crash left at a moment of the calls it might have left before them
-pub record IsUntouched {D : Type 0} (may_leave : D → List ℕ → Type 0) (moment : D → ℕ) (left_since : D → ℕ → List ℕ → Type 0) (old new : D) : Type 0 where
+pub record IsUntouched {D : Type 0} (seen : D → List ℕ) (may_leave : D → List ℕ → Type 0) (moment : D → ℕ) (left_since : D → ℕ → List ℕ → Type 0) (synced : D → ℕ) (bytewise : D → Bool) (old new : D) : Type 0 where
+  pub file : seen new ≡ seen old
+  pub last : synced new ≡ synced old
+  pub trusted : bytewise new ≡ bytewise old
   pub fewer : (c : List ℕ) → may_leave new c → may_leave old c
   pub moments : LeavesOnly moment left_since old new (may_leave old)
+
+-- what a log tells of its file stays, while its buffer carries other bytes
+pub record IsAside {D : Type 0} (old new : Log D) : Type 0 where
+  pub gate : new.gate ≡ old.gate
+  pub end : new.end ≡ old.end
+  pub size : new.size ≡ old.size
+  pub zeros : new.zeros ≡ old.zeros
+  pub room : length new.buffer.items ≡ length old.buffer.items

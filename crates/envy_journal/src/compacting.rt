@@ -1,25 +1,26 @@
 // A journal is made anew of what the board holds, so that it tells no more than that.
-ghost use Rattle.std.specs.Prelude.{◌≡◌, ◌⊎◌, ℕ, ◌+◌, ◌-◌, ◌*◌, ◌<◌, ◌≤◌, false, List, IsTrue, length, take, slice_index_or, OnOk, OnErr};
+ghost use Rattle.std.specs.Prelude.{◌≡◌, ◌⊎◌, ℕ, ◌+◌, ◌-◌, ◌*◌, ◌<◌, ◌≤◌, false, List, IsTrue, length, take, slice_index_or, OnOk, OnErr, IsErrOf};
 ghost use Rattle.envy_base.specs.Map.{words_of};
 ghost use Rattle.envy_base.specs.Shape.{IsShape};
 ghost use Rattle.envy_base.specs.State.{row_of};
 ghost use Rattle.envy_device.specs.Device.{LeavesOnly};
+ghost use Rattle.envy_device.specs.declared.device.ReplaceError.TheVariants.{Second, Failed};
 ghost use Rattle.envy_journal.specs.Content.{blank, content_of, holds};
 ghost use Rattle.envy_journal.specs.Head.{head_bytes};
 ghost use Rattle.envy_journal.specs.Journal.{IsAtRest, IsFileOf};
 ghost use Rattle.envy_journal.specs.Log.{Begins};
 ghost use Rattle.envy_journal.specs.Reading.{operations, Leads};
-ghost use Rattle.envy_journal.specs.Snapshot.{Gathers, IsUntouched, Makes, gathered, limit_of, most_of, with_rows, with_words};
+ghost use Rattle.envy_journal.specs.Snapshot.{Gathers, IsAside, IsUntouched, Makes, gathered, limit_of, most_of, with_rows, with_words};
 
 use crate::head::HEAD;
 use crate::log::Log;
 use crate::operation::{PROGRAM_SIZE, PUT_SIZE, program_bytes, put_bytes};
 use crate::steady::Steady;
 use envy_base::Shape;
-use envy_device::{DeviceFailed, Place};
+use envy_device::{Place, ReplaceError, SecondFailed};
 use envy_map::words;
 
-// A shorter file isn't compacted by a sync.
+// A shorter log isn't compacted by a sync.
 const LEAST: usize = 1 << 20;
 
 // A row on which nothing was programmed.
@@ -34,7 +35,7 @@ fn most(shape: &Shape) -> usize
     HEAD + 3 + PUT_SIZE * words(shape) as usize + PROGRAM_SIZE * rows as usize
 }
 
-/// A longer file is compacted by a sync.
+/// A longer log is compacted by a sync.
 pub(crate) fn limit(shape: &Shape) -> usize
     requires { IsShape shape.now }
     ensures { result ≡ limit_of shape.now }
@@ -78,7 +79,7 @@ fn page_in<B: Steady>(board: &B, row: u32) -> [u64; 32]
 }
 
 // Adds what makes a word, unless it is zero.
-fn copy_word<B: Steady, D: Place>(board: &B, log: &mut Log<D>, w: u32) -> Result<(), DeviceFailed>
+fn copy_word<B: Steady, D: Place>(board: &B, log: &mut Log<D>, w: u32) -> Result<(), SecondFailed>
     requires word { w < length (B.state board.now).sram }
     requires gathers { Gathers D.second log.old }
     requires makes { Makes (B.state board.now).shape (with_words (B.state board.now) w) (34 + 13 * w)
@@ -86,9 +87,9 @@ fn copy_word<B: Steady, D: Place>(board: &B, log: &mut Log<D>, w: u32) -> Result
     ensures gathers { OnOk result (Gathers D.second log.new) }
     ensures makes { OnOk result (Makes (B.state board.now).shape (with_words (B.state board.now) (w + 1))
         (34 + 13 * (w + 1)) (gathered D.second log.new)) }
-    ensures room { length log.new.buffer.items ≡ length log.old.buffer.items }
-    ensures untouched { IsUntouched D.may_leave D.moment D.left_since log.old.device log.new.device }
-    ensures failed { OnErr result (IsTrue (D.has_failed log.new.device)) }
+    ensures aside { IsAside log.old log.new }
+    ensures untouched { IsUntouched D.seen D.may_leave D.moment D.left_since D.synced D.bytewise
+        log.old.device log.new.device }
 {
     let v = word_of(board, w);
     if v == 0 {
@@ -98,15 +99,15 @@ fn copy_word<B: Steady, D: Place>(board: &B, log: &mut Log<D>, w: u32) -> Result
 }
 
 // Adds what makes all words of SRAM.
-fn copy_words<B: Steady, D: Place>(board: &B, log: &mut Log<D>) -> Result<(), DeviceFailed>
+fn copy_words<B: Steady, D: Place>(board: &B, log: &mut Log<D>) -> Result<(), SecondFailed>
     requires gathers { Gathers D.second log.old }
     requires makes { Makes (B.state board.now).shape (blank (B.state board.now).shape) 34 (gathered D.second log.old) }
     ensures gathers { OnOk result (Gathers D.second log.new) }
     ensures makes { OnOk result (Makes (B.state board.now).shape (with_rows (B.state board.now) 0)
         (34 + 13 * words_of (B.state board.now).shape) (gathered D.second log.new)) }
-    ensures room { length log.new.buffer.items ≡ length log.old.buffer.items }
-    ensures untouched { IsUntouched D.may_leave D.moment D.left_since log.old.device log.new.device }
-    ensures failed { OnErr result (IsTrue (D.has_failed log.new.device)) }
+    ensures aside { IsAside log.old log.new }
+    ensures untouched { IsUntouched D.seen D.may_leave D.moment D.left_since D.synced D.bytewise
+        log.old.device log.new.device }
 {
     for w in 0..words(&board.shape()) {
         copy_word(board, log, w)?;
@@ -115,7 +116,7 @@ fn copy_words<B: Steady, D: Place>(board: &B, log: &mut Log<D>) -> Result<(), De
 }
 
 // Adds what makes a row, unless it is erased.
-fn copy_row<B: Steady, D: Place>(board: &B, log: &mut Log<D>, row: u32) -> Result<(), DeviceFailed>
+fn copy_row<B: Steady, D: Place>(board: &B, log: &mut Log<D>, row: u32) -> Result<(), SecondFailed>
     requires row { row < length (B.state board.now).flash }
     requires gathers { Gathers D.second log.old }
     requires makes { Makes (B.state board.now).shape (with_rows (B.state board.now) row)
@@ -123,9 +124,9 @@ fn copy_row<B: Steady, D: Place>(board: &B, log: &mut Log<D>, row: u32) -> Resul
     ensures gathers { OnOk result (Gathers D.second log.new) }
     ensures makes { OnOk result (Makes (B.state board.now).shape (with_rows (B.state board.now) (row + 1))
         (34 + 13 * words_of (B.state board.now).shape + 261 * (row + 1)) (gathered D.second log.new)) }
-    ensures room { length log.new.buffer.items ≡ length log.old.buffer.items }
-    ensures untouched { IsUntouched D.may_leave D.moment D.left_since log.old.device log.new.device }
-    ensures failed { OnErr result (IsTrue (D.has_failed log.new.device)) }
+    ensures aside { IsAside log.old log.new }
+    ensures untouched { IsUntouched D.seen D.may_leave D.moment D.left_since D.synced D.bytewise
+        log.old.device log.new.device }
 {
     let page = page_in(board, row);
     if page == ERASED {
@@ -135,7 +136,7 @@ fn copy_row<B: Steady, D: Place>(board: &B, log: &mut Log<D>, row: u32) -> Resul
 }
 
 // Adds what makes all rows.
-fn copy_rows<B: Steady, D: Place>(board: &B, log: &mut Log<D>) -> Result<(), DeviceFailed>
+fn copy_rows<B: Steady, D: Place>(board: &B, log: &mut Log<D>) -> Result<(), SecondFailed>
     requires gathers { Gathers D.second log.old }
     requires makes { Makes (B.state board.now).shape (with_rows (B.state board.now) 0)
         (34 + 13 * words_of (B.state board.now).shape) (gathered D.second log.old) }
@@ -143,9 +144,9 @@ fn copy_rows<B: Steady, D: Place>(board: &B, log: &mut Log<D>) -> Result<(), Dev
     ensures makes { OnOk result
         (Makes (B.state board.now).shape (content_of (B.state board.now)) (most_of (B.state board.now).shape - 2)
         (gathered D.second log.new)) }
-    ensures room { length log.new.buffer.items ≡ length log.old.buffer.items }
-    ensures untouched { IsUntouched D.may_leave D.moment D.left_since log.old.device log.new.device }
-    ensures failed { OnErr result (IsTrue (D.has_failed log.new.device)) }
+    ensures aside { IsAside log.old log.new }
+    ensures untouched { IsUntouched D.seen D.may_leave D.moment D.left_since D.synced D.bytewise
+        log.old.device log.new.device }
 {
     let shape = board.shape();
     for row in 0..shape.segments * shape.rows {
@@ -155,49 +156,53 @@ fn copy_rows<B: Steady, D: Place>(board: &B, log: &mut Log<D>) -> Result<(), Dev
 }
 
 // Adds what makes the board.
-fn copy_board<B: Steady, D: Place>(board: &B, log: &mut Log<D>) -> Result<(), DeviceFailed>
+fn copy_board<B: Steady, D: Place>(board: &B, log: &mut Log<D>) -> Result<(), SecondFailed>
     requires gathers { Gathers D.second log.old }
     requires makes { Makes (B.state board.now).shape (blank (B.state board.now).shape) 34 (gathered D.second log.old) }
     ensures gathers { OnOk result (Gathers D.second log.new) }
     ensures makes { OnOk result
         (Makes (B.state board.now).shape (content_of (B.state board.now)) (most_of (B.state board.now).shape - 2)
         (gathered D.second log.new)) }
-    ensures room { length log.new.buffer.items ≡ length log.old.buffer.items }
-    ensures untouched { IsUntouched D.may_leave D.moment D.left_since log.old.device log.new.device }
-    ensures failed { OnErr result (IsTrue (D.has_failed log.new.device)) }
+    ensures aside { IsAside log.old log.new }
+    ensures untouched { IsUntouched D.seen D.may_leave D.moment D.left_since D.synced D.bytewise
+        log.old.device log.new.device }
 {
     copy_words(board, log)?;
     copy_rows(board, log)
 }
 
 // Gathers what makes the board in a second file, in place of what the log held.
-fn gather<B: Steady, D: Place>(board: &B, log: &mut Log<D>) -> Result<(), DeviceFailed>
+fn gather<B: Steady, D: Place>(board: &B, log: &mut Log<D>) -> Result<(), SecondFailed>
     requires room { 263 ≤ length log.old.buffer.items }
     ensures gathers { OnOk result (Gathers D.second log.new) }
     ensures makes { OnOk result
         (Makes (B.state board.now).shape (content_of (B.state board.now)) (most_of (B.state board.now).shape - 2)
         (gathered D.second log.new)) }
-    ensures room { length log.new.buffer.items ≡ length log.old.buffer.items }
-    ensures untouched { IsUntouched D.may_leave D.moment D.left_since log.old.device log.new.device }
-    ensures failed { OnErr result (IsTrue (D.has_failed log.new.device)) }
+    ensures aside { IsAside log.old log.new }
+    ensures untouched { IsUntouched D.seen D.may_leave D.moment D.left_since D.synced D.bytewise
+        log.old.device log.new.device }
 {
     log.begin_second(&board.shape())?;
     copy_board(board, log)
 }
 
-/// Puts a journal of what the board holds in the file's place, and lets go of what the log held. A crash in it leaves what
-/// it might have left before, or that journal.
-pub(crate) fn rewrite<B: Steady, D: Place>(board: &B, log: &mut Log<D>) -> Result<(), DeviceFailed>
+// Puts a journal of what the board holds in the file's place. A crash in it leaves what it might have left before, or that
+// journal.
+fn replaced<B: Steady, D: Place>(board: &B, log: &mut Log<D>) -> Result<(), ReplaceError>
     requires room { 263 ≤ length log.old.buffer.items }
     ensures rest { OnOk result (IsAtRest D.seen D.may_leave D.moment D.synced log.new.device log.new.gate
         × (log.new.end ≡ log.new.gate + 1) × (log.new.used ≡ 0) × (log.new.zeros ≡ 0)) }
+    ensures size { OnOk result (length (D.seen log.new.device) ≡ log.new.size) }
     ensures leads { OnOk result
         (Leads false 33 (take log.new.gate (D.seen log.new.device))
         (operations (take log.new.gate (D.seen log.new.device))) false) }
     ensures file { OnOk result (IsFileOf (B.state board.now) (take log.new.gate (D.seen log.new.device))) }
     ensures short { OnOk result (length (D.seen log.new.device) ≤ most_of (B.state board.now).shape) }
     ensures room { length log.new.buffer.items ≡ length log.old.buffer.items }
-    ensures failed { OnErr result (IsTrue (D.has_failed log.new.device)) }
+    ensures aside { OnErr result (IsAside log.old log.new) }
+    ensures untouched { IsErrOf result Second
+        → IsUntouched D.seen D.may_leave D.moment D.left_since D.synced D.bytewise log.old.device log.new.device }
+    ensures failed { IsErrOf result Failed → IsTrue (D.has_failed log.new.device) }
     ensures any_moment { LeavesOnly D.moment D.left_since log.old.device log.new.device
         (λ c. D.may_leave log.old.device c ⊎ IsFileOf (B.state board.now) c) }
     ensures any_moment_ok { OnOk result (LeavesOnly D.moment D.left_since log.old.device log.new.device
@@ -206,4 +211,35 @@ pub(crate) fn rewrite<B: Steady, D: Place>(board: &B, log: &mut Log<D>) -> Resul
     gather(board, log)?;
     log.replace()?;
     Ok(())
+}
+
+/// The same, of a log whose buffer holds nothing. If the second file fails, the log is as it was.
+pub(crate) fn rewrite<B: Steady, D: Place>(board: &B, log: &mut Log<D>) -> Result<(), ReplaceError>
+    requires room { 263 ≤ length log.old.buffer.items }
+    requires spilled { log.old.used ≡ 0 }
+    ensures rest { OnOk result (IsAtRest D.seen D.may_leave D.moment D.synced log.new.device log.new.gate
+        × (log.new.end ≡ log.new.gate + 1) × (log.new.used ≡ 0) × (log.new.zeros ≡ 0)) }
+    ensures size { OnOk result (length (D.seen log.new.device) ≡ log.new.size) }
+    ensures leads { OnOk result
+        (Leads false 33 (take log.new.gate (D.seen log.new.device))
+        (operations (take log.new.gate (D.seen log.new.device))) false) }
+    ensures file { OnOk result (IsFileOf (B.state board.now) (take log.new.gate (D.seen log.new.device))) }
+    ensures short { OnOk result (length (D.seen log.new.device) ≤ most_of (B.state board.now).shape) }
+    ensures room { length log.new.buffer.items ≡ length log.old.buffer.items }
+    ensures aside { OnErr result (IsAside log.old log.new × (log.new.used ≡ 0)) }
+    ensures untouched { IsErrOf result Second
+        → IsUntouched D.seen D.may_leave D.moment D.left_since D.synced D.bytewise log.old.device log.new.device }
+    ensures failed { IsErrOf result Failed → IsTrue (D.has_failed log.new.device) }
+    ensures any_moment { LeavesOnly D.moment D.left_since log.old.device log.new.device
+        (λ c. D.may_leave log.old.device c ⊎ IsFileOf (B.state board.now) c) }
+    ensures any_moment_ok { OnOk result (LeavesOnly D.moment D.left_since log.old.device log.new.device
+        (λ c. D.may_leave log.old.device c ⊎ c ≡ D.seen log.new.device)) }
+{
+    match replaced(board, log) {
+        Ok(()) => Ok(()),
+        Err(error) => {
+            log.used = 0;
+            Err(error)
+        }
+    }
 }

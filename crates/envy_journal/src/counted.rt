@@ -37,8 +37,8 @@ pub(crate) fn zeros(bytes: &[u8]) -> usize
     count
 }
 
-// How many bytes of an operation stand behind its tag; none where no operation begins.
-fn size_behind(tag: u8) -> usize
+/// How many bytes of an operation stand behind its tag; none where no operation begins.
+pub(crate) fn size_behind(tag: u8) -> usize
     ensures value { result ≡ behind_tag tag }
     ensures few { result ≤ 260 }
 {

@@ -31,11 +31,11 @@ use Rattle.envy_keep.specs.Turns.{KeepRun, KeepTurn, keep_grammar, says_synced, 
 -- the last sync
 
 -- the last sync, done: the end is status 0
-pub concludes-ok : (old new : Picture) → IsSynced new.chart → SyncsChart old.chart (Ok tt) new.chart → new ≡ record old { chart = new.chart } → Concludes EndDone 0 old new
+pub concludes-ok : (old new : Picture) → IsSynced new.chart → SyncsChart {T = Unit {0}} old.chart (Ok tt) new.chart → new ≡ record old { chart = new.chart } → Concludes EndDone 0 old new
 concludes-ok old new good (on, plans, given, is) kept = inl (refl, good, plans, given, kept ∙ ap (λ (c : Chart). record old { chart = c }) is)
 
 -- the last sync, failed: power is off, and the end is status 6
-pub concludes-err : (old new : Picture) (off : Off) → IsTrue old.chart.on → SyncsChart old.chart (Err off) new.chart → new ≡ record old { chart = new.chart } → Concludes EndDone 6 old new
+pub concludes-err : (old new : Picture) (off : Off) → IsTrue old.chart.on → SyncsChart {T = Unit {0}} old.chart (Err off) new.chart → new ≡ record old { chart = new.chart } → Concludes EndDone 6 old new
 concludes-err old new off on (inl (dark, is)) kept = absurd (false≢true (sym dark ∙ on))
 concludes-err old new off on (inr (lit, is)) kept = inr (refl, kept ∙ ap (λ (c : Chart). record old { chart = c }) is)
 
@@ -139,7 +139,7 @@ module _ (left : ℕ → List ℕ → Type 0) (now : ℕ) (new : Picture) (last 
   whole-board start old turns t plans given synced same file since = ∥∥₁_map (last new.chart synced (record { shape = refl; moment = refl; bytes = refl }) file since) either
     where
       either : Reopens new.chart file ⊎ ((new.chart.on ≡ false) × Reopens new.chart file) → Reopens old.chart file ⊎ ((other : Chart) × NoBoardLater other × Reopens other file)
-      either (inl opens) = let r = subst (λ (p : Picture). Reopens p.chart file) same opens in inl (record { head = Reopens.head r; fields = Reopens.fields r; flash = Reopens.flash r })
+      either (inl opens) = let r = subst (λ (p : Picture). Reopens p.chart file) same opens in inl (record { head = Reopens.head r; fields = Reopens.fields r; flash = Reopens.flash r; ends = Reopens.ends r })
       either (inr (off, opens)) = absurd (false≢true (sym off ∙ ap (λ (p : Picture). p.chart.on) same ∙ Stands.on (KeptSince.stands t)))
 
   whole-ends : (start : Start) (old : Picture) (turns : List KeepTurn) (t : KeptSince start old turns) (plans given : ℕ) → IsSynced new.chart → new ≡ record old { chart = with_numbers old.chart plans given old.chart.plans old.chart.given } → SurvivesWhole start.array start.memory start.memory.chart.shape turns left now
@@ -160,7 +160,7 @@ module _ (left : ℕ → List ℕ → Type 0) (now : ℕ) (new : Picture) (last 
       let l = IsSaved.last t.saved in
       saved-survives start old.chart turns (IsWhole start.array start.memory.chart.shape turns) (HasBoard start.memory turns) t.saved (subst (λ (p : Picture). IsLast (IsSaved.was t.saved) p.chart) (sym same) (record { shape = l.shape; moment = l.moment; bytes = l.bytes })) t.shape (ap (λ (p : Picture). p.chart.shape) same ∙ t.shape)
       (λ file off opens. (undone t.array, (t.array, run-as old.chart.shape start.memory.chart.shape start.array t.array turns t.shape t.run, refl), opens-so (failed old.chart) start.memory.chart.shape (undone t.array) file (record { magic = Holds.magic stood.holds; version = Holds.version stood.holds; sound = Holds.sound stood.holds }) t.shape (Holds.durable stood.holds) (subst (λ (p : Picture). Reopens p.chart file) same opens)))
-      (λ file off opens. let r = subst (λ (p : Picture). Reopens p.chart file) same opens in (old.chart, (old, t.plays, refl), record { head = Reopens.head r; fields = Reopens.fields r; flash = Reopens.flash r }))
+      (λ file off opens. let r = subst (λ (p : Picture). Reopens p.chart file) same opens in (old.chart, (old, t.plays, refl), record { head = Reopens.head r; fields = Reopens.fields r; flash = Reopens.flash r; ends = Reopens.ends r }))
 
   ends-kept : (start : Start) (old : Picture) (end : End) (status : ℕ) (turns : List KeepTurn) → HasServed end (KeptSince start old) (LostSince start old) turns → Concludes end status old new → EndsKept end status start.array start.memory start.memory.chart.shape turns left now
   ends-kept start old EndDone status turns t (inl (is, synced, plans, given, same)) = inl (is, whole-ends start old turns t plans given synced same)

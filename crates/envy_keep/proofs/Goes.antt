@@ -49,11 +49,11 @@ use Rattle.envy_keep.specs.Turns.{KeepRun, KeepTurn, keep_grammar, trace_turns}
 -- what a sync answers
 
 -- a sync that is done is answered `synced`
-pub syncs-ok : (old new : Picture) → IsSynced new.chart → SyncsChart old.chart (Ok tt) new.chart → new ≡ record old { chart = new.chart } → SyncsTo Synced old new
+pub syncs-ok : (old new : Picture) → IsSynced new.chart → SyncsChart {T = Unit {0}} old.chart (Ok tt) new.chart → new ≡ record old { chart = new.chart } → SyncsTo Synced old new
 syncs-ok old new good (on, plans, given, is) kept = inl (refl, good, plans, given, kept ∙ ap (λ (c : Chart). record old { chart = c }) is)
 
 -- a sync that fails is answered `lost`
-pub syncs-err : (old new : Picture) (off : Off) → IsTrue old.chart.on → SyncsChart old.chart (Err off) new.chart → new ≡ record old { chart = new.chart } → SyncsTo (TraceReply Lost) old new
+pub syncs-err : (old new : Picture) (off : Off) → IsTrue old.chart.on → SyncsChart {T = Unit {0}} old.chart (Err off) new.chart → new ≡ record old { chart = new.chart } → SyncsTo (TraceReply Lost) old new
 syncs-err old new off on (inl (dark, is)) kept = absurd (false≢true (sym dark ∙ on))
 syncs-err old new off on (inr (lit, is)) kept = inr (refl, kept ∙ ap (λ (c : Chart). record old { chart = c }) is)
 

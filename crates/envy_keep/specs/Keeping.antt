@@ -8,7 +8,7 @@ use Rattle.envy_begun.specs.declared.unbegun.Unbegun.{Unbegun}
 use Rattle.envy_begun.specs.Beginning.{HasOperationsOf}
 use Rattle.envy_begun.specs.Left.{Leaves, Stays}
 use Rattle.envy_begun.specs.Plans.{BeginsAs, BeginsOn, ComesLater, Plans}
-use Rattle.envy_begun.specs.Unserved.{Causes, status_for, why_for}
+use Rattle.envy_begun.specs.Unserved.{Causes, place_for, status_for, why_for}
 use Rattle.envy_layout.specs.Stands.{Stands}
 use Rattle.envy_memory.specs.Formats.{IsStarted}
 use Rattle.envy_memory.specs.Picture.{Picture}
@@ -25,9 +25,11 @@ pub record Told : Type 0 where
   pub why : ℕ
   pub lines : ℕ
   pub taken : ℕ
+  -- the byte at which a damaged file breaks off
+  pub place : ℕ
 
-abbrev pub told : ℕ → ℕ → ℕ → ℕ → Told
-told status why lines taken = record { status = status; why = why; lines = lines; taken = taken }
+abbrev pub told : ℕ → ℕ → ℕ → ℕ → ℕ → Told
+told status why lines taken place = record { status = status; why = why; lines = lines; taken = taken; place = place }
 
 -- A trace was served over the memory in the file. It began on the board that the operations of the file make, taken up, or
 -- on a fresh one. It was made by the setup of the options: with their policy, limit and mark, and its parts agree with its
@@ -59,7 +61,7 @@ LeavesUnserved left_since moment options file unbegun device =
 -- nothing was read or written on the streams
 pub record IsUnserved {D : Type 0} (seen : D → List ℕ) (has_failed : D → Bool) (left_since : D → ℕ → List ℕ → Type 0) (moment : D → ℕ) (options : KeepOptions) (file : List ℕ) (old new : D) (end : Told) (io : Streams) : Type 0 where
   pub unbegun : Unbegun
-  pub says : end ≡ told (status_for unbegun) (why_for unbegun) 0 0
+  pub says : end ≡ told (status_for unbegun) (why_for unbegun) 0 0 (place_for unbegun)
   pub causes : Causes seen has_failed options file old new unbegun
   pub later : ComesLater options file unbegun
   pub left : LeavesUnserved left_since moment options file unbegun new

@@ -30,6 +30,8 @@ pub struct KeepEnded<D> {
     pub lines: u64,
     /// Bytes taken from the source.
     pub taken: u64,
+    /// The byte at which a damaged file breaks off; else 0.
+    pub place: u64,
     /// The file.
     pub device: D,
     /// How many bytes of operations were held back from it.
@@ -98,6 +100,7 @@ pub fn serve_kept<S: Source, K: Sink, B: Steady + Drop, D: Place>(
         why,
         lines: served.lines,
         taken: served.taken,
+        place: 0,
         device,
         held,
     }

@@ -1,7 +1,7 @@
 // A trace over the memory in a file.
 ghost use Rattle.std.specs.Prelude.{◌≡◌, ◌⊎◌, ◌<◌, ◌≤◌, Ok};
 ghost use Rattle.envy_begun.specs.Beginning.{HasStopped};
-ghost use Rattle.envy_begun.specs.Unserved.{held_for, status_for, why_for};
+ghost use Rattle.envy_begun.specs.Unserved.{held_for, place_for, status_for, why_for};
 ghost use Rattle.envy_begun.specs.Plans.{Plans};
 ghost use Rattle.envy_device.specs.Device.{Only};
 ghost use Rattle.envy_journal.specs.Content.{blank, content_of};
@@ -22,8 +22,8 @@ use std::alloc::Global;
 
 // The end where nothing is served.
 fn unserved<D>(unbegun: Unbegun, device: D) -> KeepEnded<D>
-    ensures says { told result.status result.why result.lines result.taken
-        ≡ told (status_for unbegun) (why_for unbegun) 0 0 }
+    ensures says { told result.status result.why result.lines result.taken result.place
+        ≡ told (status_for unbegun) (why_for unbegun) 0 0 (place_for unbegun) }
     ensures lines { result.lines ≡ 0 }
     ensures taken { result.taken ≡ 0 }
     ensures device { result.device ≡ device }
@@ -35,6 +35,7 @@ fn unserved<D>(unbegun: Unbegun, device: D) -> KeepEnded<D>
         why,
         lines: 0,
         taken: 0,
+        place: unbegun.place() as u64,
         device,
         held: unbegun.held(),
     }
@@ -60,7 +61,7 @@ fn serve_on<S: Source, K: Sink, B: Steady + Drop, D: Place + Drop>(
     requires checks { checked setup ≡ Ok tt }
     requires entries { 0 < setup.shape.entries }
     ensures keeps { let io = streams_of (S.feed source.old) (S.feed source.new) (K.drain sink.old) (K.drain sink.new) in
-        let end = told result.status result.why result.lines result.taken in
+        let end = told result.status result.why result.lines result.taken result.place in
         IsServed options.now bytes.now end (D.left_since result.device) (D.moment result.device) io
         ⊎ IsUnserved D.seen D.has_failed D.left_since D.moment options.now bytes.now device result.device end io }
     ensures stopped { result.status ≡ 6 → HasStopped D.seen D.has_failed result.held result.device }
@@ -95,7 +96,7 @@ pub fn keep<S: Source, K: Sink, D: Place + Drop>(
     requires bytes { D.seen device ≡ bytes.now }
     requires durable { Only (D.seen device) (D.may_leave device) }
     ensures keeps { let io = streams_of (S.feed source.old) (S.feed source.new) (K.drain sink.old) (K.drain sink.new) in
-        let end = told result.status result.why result.lines result.taken in
+        let end = told result.status result.why result.lines result.taken result.place in
         IsServed options.now bytes.now end (D.left_since result.device) (D.moment result.device) io
         ⊎ IsUnserved D.seen D.has_failed D.left_since D.moment options.now bytes.now device result.device end io }
     // power is off only where the file failed, or came to the end of its range

@@ -60,6 +60,7 @@ pub record Opened (given : EnvySetup) (file : List ℕ) (p : Picture) : Type 0 w
 -- file failed or is at the end of its range
 abbrev pub RefusesFile : KeepOptions → List ℕ → Unbegun → Type 0
 RefusesFile options file unbegun.Memory = IsPlanned options file
+RefusesFile options file unbegun.NotMade = IsPlanned options file
 RefusesFile options file (unbegun.Failed held) = IsPlanned options file
 RefusesFile options file why = Refuses options file why
 

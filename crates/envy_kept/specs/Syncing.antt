@@ -1,10 +1,15 @@
 -- What a sync answers by a number, and what it leaves.
-use Rattle.std.specs.Prelude.{◌≡◌, ℕ, OnOk, Option, None, Some, Result, Ok, Err, if◌then◌else◌}
+use Rattle.std.specs.Prelude.{◌≡◌, ℕ, IfOk, OnOk, Option, None, Some, Result, Ok, Err, if◌then◌else◌}
 use Rattle.envy_base.specs.declared.board.Off.{Off as OffBoard}
 use Rattle.envy_calls.specs.Codes.{number_of}
 use Rattle.envy_calls.specs.declared.code.Code.{Code}
 use Rattle.envy_calls.specs.declared.code.Code.TheVariants.{Done, Empty, Off}
 use Rattle.envy_disk.specs.Disk.{SyncsChart}
+use Rattle.envy_disk.specs.declared.on_disk.Compaction.{Compaction}
+use Rattle.envy_disk.specs.declared.on_disk.Compaction.TheVariants as compaction
+use Rattle.envy_kept.specs.Codes.{number_of_kept}
+use Rattle.envy_kept.specs.declared.code.KeptCode.{KeptCode}
+use Rattle.envy_kept.specs.declared.code.KeptCode.TheVariants.{Of, Appended}
 use Rattle.envy_memory.specs.Picture.{Picture}
 use Rattle.envy_synced.specs.Disk.{IsCompact, IsSynced}
 
@@ -25,10 +30,19 @@ abbrev pub DoesSync : Option Picture → Option Picture → ℕ → Type 0
 DoesSync None new code = (new ≡ None) × (code ≡ number_of Empty)
 DoesSync (Some p) new code = (q : Picture) × (new ≡ Some q) × SyncsTo p q code
 
--- a sync that leaves no more in the file than a snapshot
+abbrev pub compaction_code : Result Compaction OffBoard → KeptCode
+compaction_code (Ok compaction.Done) = Of Done
+compaction_code (Ok compaction.Appended) = Appended
+compaction_code (Err off) = Of Off
+
+-- A sync that leaves no more in the file than a snapshot, or says that this was hindered.
 pub record CompactsTo (p q : Picture) (code : ℕ) : Type 0 where
-  pub syncs : SyncsTo p q code
-  pub compact : OnOk syncs.answer (IsCompact q.chart)
+  pub answer : Result Compaction OffBoard
+  pub coded : code ≡ number_of_kept (compaction_code answer)
+  pub syncs : SyncsChart p.chart answer q.chart
+  pub synced : OnOk answer (IsSynced q.chart)
+  pub compact : IfOk answer (λ made. made ≡ compaction.Done → IsCompact q.chart)
+  pub kept : q ≡ record p { chart = q.chart }
 
 abbrev pub DoesCompact : Option Picture → Option Picture → ℕ → Type 0
 DoesCompact None new code = (new ≡ None) × (code ≡ number_of Empty)

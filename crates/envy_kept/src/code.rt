@@ -4,7 +4,7 @@ ghost use Rattle.envy_kept.specs.Codes.{number_of_kept, code_of_unbegun};
 use envy_begun::Unbegun;
 use envy_calls::Code;
 
-/// What opening a memory in a file answers.
+/// What calls on a memory in a file answer beside what they answer over any board.
 #[derive(Clone, Copy, Debug, PartialEq, Eq)]
 pub enum KeptCode {
     /// What a memory over any board answers.
@@ -13,6 +13,10 @@ pub enum KeptCode {
     NoJournal,
     /// The file is a journal of a version that isn't known here.
     OtherVersion,
+    /// The file is a journal that no crash leaves so.
+    Damaged,
+    /// A compaction was hindered: all that the memory holds is on the disk, but in no less than before.
+    Appended,
 }
 
 impl KeptCode {
@@ -24,6 +28,8 @@ impl KeptCode {
             KeptCode::Of(code) => code.number(),
             KeptCode::NoJournal => 72,
             KeptCode::OtherVersion => 73,
+            KeptCode::Damaged => 74,
+            KeptCode::Appended => 75,
         }
     }
 }
@@ -36,8 +42,9 @@ pub fn unbegun_code(unbegun: Unbegun) -> KeptCode
         Unbegun::Setup(fault) | Unbegun::Options(fault) => KeptCode::Of(Code::Setup(fault)),
         Unbegun::NoJournal => KeptCode::NoJournal,
         Unbegun::OtherVersion => KeptCode::OtherVersion,
+        Unbegun::Damaged(_) => KeptCode::Damaged,
         Unbegun::OtherSizes => KeptCode::Of(Code::OtherShape),
         Unbegun::Memory => KeptCode::Of(Code::NoMemory),
-        Unbegun::Failed(_) => KeptCode::Of(Code::Off),
+        Unbegun::NotMade | Unbegun::Failed(_) => KeptCode::Of(Code::Off),
     }
 }

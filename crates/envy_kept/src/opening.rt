@@ -1,6 +1,7 @@
 ghost use Rattle.std.specs.Prelude.{◌≡◌, ◌≢◌, None};
 ghost use Rattle.envy_calls.specs.Codes.{number_of};
 ghost use Rattle.envy_calls.specs.declared.code.Code.TheVariants.{Done, NoMemory};
+ghost use Rattle.envy_journal.specs.Cutting.{cut_batch as cut_of};
 ghost use Rattle.envy_kept.specs.Flawless.{AreFlawless};
 ghost use Rattle.envy_kept.specs.Opening.{DoesOpen};
 ghost use denote.RawPtr.{InBlock, null_ptr};
@@ -8,6 +9,7 @@ ghost use denote.RawPtr.{InBlock, null_ptr};
 use crate::handle::{EnvyKept, Slot, give_back, lend};
 use crate::making::open_place;
 use envy_calls::{Code, EnvySetup};
+use envy_journal::cut_batch;
 use std::alloc::Global;
 
 /// Makes a place that holds no memory.
@@ -69,6 +71,15 @@ pub extern "C" fn envy_kept_open_bytewise(
     let code = open_place(alloc, slot, setup, file, port, true);
     give_back(m, slot);
     code.number()
+}
+
+/// How many bytes at the end of a journal opening it cuts off, if they hold what reads as a sync: then copy the file first.
+/// Else 0.
+#[unsafe(no_mangle)]
+pub extern "C" fn envy_kept_cut(file: &[u8]) -> u64
+    ensures { result ≡ cut_of file.now }
+{
+    cut_batch(file) as u64
 }
 
 /// Ends a memory. What was done since the last sync may be lost; the file may be opened again.

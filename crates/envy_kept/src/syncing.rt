@@ -1,12 +1,14 @@
 // What brings a memory to the disk.
 ghost use Rattle.envy_kept.specs.Flawless.{AreFlawless};
-ghost use Rattle.envy_kept.specs.Syncing.{DoesCompact, DoesSync, DoesTellPower, sync_code};
+ghost use Rattle.envy_kept.specs.Syncing.{DoesCompact, DoesSync, DoesTellPower, compaction_code, sync_code};
 ghost use Rattle.std.specs.Prelude.{◌≡◌};
 ghost use denote.RawPtr.{InBlock};
 
+use crate::code::KeptCode;
 use crate::handle::{EnvyKept, Slot, give_back, lend};
 use envy_base::Off;
 use envy_calls::Code;
+use envy_disk::Compaction;
 
 fn sync_answer(answer: Result<(), Off>) -> Code
     ensures { result ≡ sync_code answer }
@@ -26,13 +28,23 @@ fn sync(slot: &mut Slot) -> u32
     sync_answer(memory.sync()).number()
 }
 
+fn compaction_answer(answer: Result<Compaction, Off>) -> KeptCode
+    ensures { result ≡ compaction_code answer }
+{
+    match answer {
+        Ok(Compaction::Done) => KeptCode::Of(Code::Done),
+        Ok(Compaction::Appended) => KeptCode::Appended,
+        Err(Off) => KeptCode::Of(Code::Off),
+    }
+}
+
 fn compact(slot: &mut Slot) -> u32
     ensures { DoesCompact slot.old slot.new result }
 {
     let Some(memory) = slot else {
         return Code::Empty.number();
     };
-    sync_answer(memory.compact()).number()
+    compaction_answer(memory.compact()).number()
 }
 
 fn powered(slot: &Slot) -> u32
@@ -59,7 +71,7 @@ pub extern "C" fn envy_kept_sync(m: &mut EnvyKept) -> u32
     code
 }
 
-/// The same, and leaves no more in the file than what the board holds takes.
+/// The same, and leaves no more in the file than what the board holds takes, or says that this was hindered.
 #[unsafe(no_mangle)]
 pub extern "C" fn envy_kept_compact(m: &mut EnvyKept) -> u32
     requires { InBlock m.old.at }

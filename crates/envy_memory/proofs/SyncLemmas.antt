@@ -11,7 +11,7 @@ use Rattle.envy_memory.specs.Picture.{IsMemory}
 use Rattle.envy_txn.specs.Owners.{Ownership}
 use Rattle.envy_wear.specs.Swaps.{IsQuiet}
 
-pub synced_chart : (old new : State) (r : Result Unit Off) → Syncs old r new → SyncsChart (chart old) r (chart new)
+pub synced_chart : {T : Type 0} (old new : State) (r : Result T Off) → Syncs old r new → SyncsChart (chart old) r (chart new)
 synced_chart old new (Ok done) (on, plans, given, is) = (on, plans, given, ap chart is)
 synced_chart old new (Err off) (inl (dark, is)) = inl (dark, ap chart is)
 synced_chart old new (Err off) (inr (on, is)) = inr (on, ap chart is)
@@ -34,13 +34,13 @@ module _ (c : Chart) (x : Parts) (o : Ownership) (limit mark : ℕ) (is : IsMemo
     settled = λ on. absurd (false≢true on);
   }
 
-  pub synced_memory : (new : Chart) (r : Result Unit Off) → SyncsChart c r new → IsMemory new x o limit mark
+  pub synced_memory : {T : Type 0} (new : Chart) (r : Result T Off) → SyncsChart c r new → IsMemory new x o limit mark
   synced_memory new (Ok done) (on, plans, given, same) = subst (λ (d : Chart). IsMemory d x o limit mark) (sym same) (with_numbers_memory plans given c.plans c.given)
   synced_memory new (Err off) (inl (dark, same)) = subst (λ (d : Chart). IsMemory d x o limit mark) (sym same) is
   synced_memory new (Err off) (inr (on, same)) = subst (λ (d : Chart). IsMemory d x o limit mark) (sym same) failed_memory
 
 -- and as quiet
-pub synced_quiet : (c : Chart) (x : Parts) (limit quiet : ℕ) → (IsTrue c.on → IsQuiet c.shape c.fields limit x.reloc.since quiet) → (new : Chart) (r : Result Unit Off) → SyncsChart c r new → IsTrue new.on → IsQuiet new.shape new.fields limit x.reloc.since quiet
+pub synced_quiet : (c : Chart) (x : Parts) (limit quiet : ℕ) → (IsTrue c.on → IsQuiet c.shape c.fields limit x.reloc.since quiet) → (new : Chart) {T : Type 0} (r : Result T Off) → SyncsChart c r new → IsTrue new.on → IsQuiet new.shape new.fields limit x.reloc.since quiet
 synced_quiet c x limit quiet was new (Ok done) (on, plans, given, same) lit = subst (λ (d : Chart). IsQuiet d.shape d.fields limit x.reloc.since quiet) (sym same) (was on)
 synced_quiet c x limit quiet was new (Err off) (inl (dark, same)) lit = subst (λ (d : Chart). IsTrue d.on → IsQuiet d.shape d.fields limit x.reloc.since quiet) (sym same) was lit
 synced_quiet c x limit quiet was new (Err off) (inr (on, same)) lit = absurd (false≢true (sym (ap (λ (d : Chart). d.on) same) ∙ lit))

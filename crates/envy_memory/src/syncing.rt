@@ -1,9 +1,10 @@
-ghost use Rattle.std.specs.Prelude.{◌≡◌, OnOk};
+ghost use Rattle.std.specs.Prelude.{◌≡◌, IfOk, OnOk};
 ghost use Rattle.envy_disk.specs.Disk.{SyncsChart};
+ghost use Rattle.envy_disk.specs.declared.on_disk.Compaction.TheVariants.{Done};
 
 use crate::memory::Memory;
 use envy_base::Off;
-use envy_disk::OnDisk;
+use envy_disk::{Compaction, OnDisk};
 
 impl<B: OnDisk> Memory<B> {
     /// Brings all that the board holds to the disk, with what open transactions put. It is no access, and nothing else
@@ -20,16 +21,17 @@ impl<B: OnDisk> Memory<B> {
         self.board.sync()
     }
 
-    /// A sync that leaves no more on the disk than what the board holds takes. It writes all of it, so it takes longer.
+    /// A sync that leaves no more on the disk than what the board holds takes, unless the board says that this was
+    /// hindered. It writes all of it, so it takes longer.
     ///
     /// # Errors
     ///
     /// `Off`: power is off then.
-    pub fn compact(&mut self) -> Result<(), Off>
+    pub fn compact(&mut self) -> Result<Compaction, Off>
         ensures answer { SyncsChart self.old.chart result self.new.chart }
         ensures kept { self.new ≡ record self.old { chart = self.new.chart } }
         ensures synced { OnOk result (B.is_synced self.new.chart) }
-        ensures compact { OnOk result (B.is_compact self.new.chart) }
+        ensures compact { IfOk result (λ made. made ≡ Done → B.is_compact self.new.chart) }
     {
         self.board.compact()
     }

@@ -1,1 +1,2 @@
+mod Dead
 pub mod RowLaws

@@ -1,3 +1,4 @@
+pub mod Dead
 pub mod Making
 pub mod Orders
 pub mod Part

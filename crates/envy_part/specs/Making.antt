@@ -16,8 +16,8 @@ pub record HasSizes (sh : Shape) (rows : List (List ℕ)) (words : List ℕ) : T
 abbrev pub new_part : Shape → List (List ℕ) → List ℕ → State
 new_part sh rows words = part_state sh rows words (replicate sh.segments 0) 0 0
 
--- the cause of each fault
+-- the first that doesn't fit, those before it being right
 abbrev pub Misfits : Shape → List (List ℕ) → List ℕ → PartFault → Type 0
 Misfits sh rows words FlashSize = length rows ≢ sh.segments * sh.rows
-Misfits sh rows words SramSize = length words ≢ words_of sh
+Misfits sh rows words SramSize = (length rows ≡ sh.segments * sh.rows) × (length words ≢ words_of sh)
 Misfits sh rows words NoMemory = HasSizes sh rows words

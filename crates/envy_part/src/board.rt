@@ -5,7 +5,7 @@ ghost use Rattle.envy_base.specs.Shape.{IsShape};
 ghost use Rattle.envy_bank.specs.Lanes.{row_from};
 ghost use Rattle.envy_base.specs.State.{AreWords, IsBoard, Puts, Programs, Erases, ands};
 ghost use Rattle.envy_part.specs.Orders.{Adds};
-ghost use Rattle.envy_part.specs.Orders.Order.{Programs as ToProgram, Erases as ToErase};
+ghost use Rattle.envy_part.specs.Orders.Order.{Programs as ToProgram, Erases as ToErase, Barrier as ToOrder};
 ghost use Rattle.envy_part.specs.Part.{ArePages, MissesOnes, MissesPage, part_state};
 
 use crate::rows::{anded, word, words};
@@ -48,6 +48,16 @@ fn count_erase(erases: &mut Vec<u64>, segment: usize)
 {
     let count = &mut erases[segment];
     *count = more(*count);
+}
+
+// One store of 64 bits to SRAM, and the barrier after it.
+fn put_word<P: Port>(port: &mut P, sram: &mut [u64], w: usize, v: u64)
+    requires { w < length sram.old }
+    ensures stored { sram.new ≡ slice_set sram.old w v }
+    ensures ordered { Adds (ToOrder v) (P.orders port.old) (P.orders port.new) }
+{
+    sram[w] = v;
+    port.barrier(&sram[w]);
 }
 
 impl<'a, P: Port + Drop> PartBoard<'a, P> {
@@ -168,14 +178,15 @@ impl<'a, P: Port> Board for PartBoard<'a, P> {
     }
 
     /// One store of 64 bits to an aligned address: where power fails, the word must be the old one or the new one.
-    /// A compiler may join the stores of neighbouring words into one of 128 bits, which must halve only at words.
+    /// A barrier of the port's follows, so that no later store is there before this one.
     fn put(&mut self, w: u32, v: u64) -> Result<(), Off>
         requires { w < length (⟦<PartBoard<'a, P> as Board>⟧.state self.old).sram }
         ensures does { Puts (⟦<PartBoard<'a, P> as Board>⟧.state self.old) w v result
             (⟦<PartBoard<'a, P> as Board>⟧.state self.new) }
-        ensures ordered { P.orders self.new.port ≡ P.orders self.old.port }
+        ensures ordered { Adds (ToOrder v) (P.orders self.old.port) (P.orders self.new.port) }
     {
-        self.sram[w as usize] = v;
+        let sram = &mut *self.sram;
+        put_word(&mut self.port, sram, w as usize, v);
         Ok(())
     }
 }

@@ -9,6 +9,7 @@
 
 mod board;
 mod fault;
+mod laws;
 mod orders;
 mod places;
 mod port;
@@ -18,5 +19,6 @@ mod tests;
 
 pub use board::PartBoard;
 pub use fault::PartFault;
+pub use laws::a_restart_reads_no_dead_row;
 pub use places::{PlaceFault, Places};
 pub use port::{IoPort, Port};

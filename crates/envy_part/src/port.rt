@@ -1,7 +1,7 @@
 ghost use Rattle.std.specs.Prelude.{◌≡◌, List, Option, None, length};
 ghost use Rattle.envy_bank.specs.Lanes.{row_from};
 ghost use Rattle.envy_part.specs.Orders.{Order, Adds};
-ghost use Rattle.envy_part.specs.Orders.Order.{Programs, Erases};
+ghost use Rattle.envy_part.specs.Orders.Order.{Programs, Erases, Barrier};
 
 /// What carries out orders on a part that is mapped into memory.
 ///
@@ -20,12 +20,16 @@ pub trait Port {
     fn erase(&mut self, rows: &mut [[u8; 256]])
         ensures long { length rows.new ≡ length rows.old }
         ensures ordered { Adds (Erases (length rows.old)) (orders self.old) (orders self.new) };
+
+    /// Orders that what was stored in SRAM so far, this word last, is there before what is stored later.
+    fn barrier(&mut self, word: &u64)
+        ensures { Adds (Barrier word.now) (orders self.old) (orders self.new) };
 }
 
 /// The port of a program in C, which serves two calls in the manner of `write` and `read`.
 ///
 /// The first brings the order: 256 bytes, a page, or one byte of ones, an erase. The second has it carried out, and
-/// its buffer is the map itself: the row, or the rows.
+/// its buffer is the map itself: the row, or the rows. One byte of zeros is a barrier, which is carried out at once.
 #[derive(Drop)]
 pub struct IoPort {
     /// The number that tells one part from another.
@@ -43,5 +47,9 @@ impl Port for IoPort {
     fn erase(&mut self, rows: &mut [[u8; 256]]) {
         io::write_all(self.number, &[0xFF]);
         io::read_full(self.number, rows.as_flattened_mut());
+    }
+
+    fn barrier(&mut self, _word: &u64) {
+        io::write_all(self.number, &[0]);
     }
 }

@@ -90,6 +90,8 @@ impl Port for Fake {
             rows[q] = [0xFF; 256];
         }
     }
+
+    fn barrier(&mut self, _word: &u64) {}
 }
 
 // The page that is ordered: its words are neither alike nor all ones.

@@ -1,4 +1,4 @@
-ghost use Rattle.std.specs.Prelude.{◌≡◌, false, true};
+ghost use Rattle.std.specs.Prelude.{◌≡◌, false};
 ghost use Rattle.envy_record.specs.Calls.{is_failure};
 ghost use Rattle.envy_record.specs.Noted.{call_of};
 ghost use Rattle.envy_portfile.specs.Orders.{behind_of, done_of, failed_of, header_of, number_of, place_of};
@@ -16,7 +16,7 @@ pub(crate) enum Order<'a> {
     Sync,
     /// Begin a second file, with no bytes.
     Begin,
-    /// Write these bytes behind those of the second file.
+    /// Write these bytes after those of the second file.
     Append { bytes: &'a [u8] },
     /// Bring the second file to the disk, and put it in the file's place.
     Replace,
@@ -90,7 +90,7 @@ pub(crate) fn done<'a>(order: &Order<'a>) -> Made<'a>
 /// The call that it is, where it wasn't, or where nothing is known of it.
 pub(crate) fn failed<'a>(order: &Order<'a>) -> Made<'a>
     ensures call { call_of result ≡ failed_of order.now }
-    ensures fails { is_failure (call_of result) ≡ true }
+    ensures fails { is_failure (call_of result) ≡ is_failure (failed_of order.now) }
 {
     match *order {
         Order::Write { at, bytes } => Made::WriteFailed { at, bytes },

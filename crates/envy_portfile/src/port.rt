@@ -1,14 +1,18 @@
-ghost use Rattle.std.specs.Prelude.{◌≡◌, false};
+ghost use Rattle.std.specs.Prelude.{◌≡◌, true, false};
 ghost use Rattle.envy_device.specs.Device.{Only};
-ghost use Rattle.envy_record.specs.Calls.{MayLeave, Notes, have_failed, seen_after};
+ghost use Rattle.envy_record.specs.Calls.{MayLeave, Notes, have_failed, is_failure, seen_after};
 ghost use Rattle.envy_portfile.specs.Orders.{done_of, failed_of};
 
 use crate::order::{Order, done, failed};
-use envy_device::DeviceFailed;
+use envy_device::{DeviceFailed, ReplaceError, SecondFailed};
 use envy_record::{Made, RawFile, Record, Recorded};
 
 /// The answer that says that an order was carried out.
 const DONE: u8 = 0;
+/// The answer that says that one wasn't, or that nothing is known of it.
+const FAILED: u8 = 1;
+/// The answer that says that the second file wasn't put in the file's place, and that the file is as it was.
+const NOT_REPLACED: u8 = 2;
 
 /// A file behind a port of a program in C.
 #[derive(Drop)]
@@ -25,7 +29,7 @@ pub struct FilePort {
 pub type PortFile = Recorded<FilePort>;
 
 impl FilePort {
-    /// The file behind a port, which was brought to the disk and then read whole: it holds these bytes. That it is written
+    /// The file behind a port, which was brought to the disk and then read whole from there: it holds these bytes. That it is written
     /// byte by byte is a premise, which the caller states or doesn't.
     pub fn found(number: i32, bytes: &[u8], bytewise: bool) -> PortFile
         ensures bytes { seen_after result.file.record.calls ≡ bytes.now }
@@ -42,23 +46,43 @@ impl FilePort {
         Recorded::found(port, bytes, bytewise)
     }
 
-    // Gives an order, waits for the answer, and notes the call by it. Nothing else here calls the port.
+    // Gives an order, and waits for the answer. Nothing else here calls the port.
+    fn answer(&self, order: &Order<'_>) -> u8 {
+        let mut answer = [FAILED];
+        let is_answered = io::write_all(self.number, &order.header())
+            && io::write_all(self.number, order.behind())
+            && io::read_full(self.number, &mut answer) == 1;
+        if is_answered { answer[0] } else { FAILED }
+    }
+
+    // Gives an order about the file, and notes the call by its answer.
     fn order(&mut self, order: &Order<'_>) -> Result<(), DeviceFailed>
+        requires { is_failure (failed_of order.now) ≡ true }
         ensures { Notes (done_of order.now) (failed_of order.now) result self.old.record.calls
             self.new.record.calls }
     {
-        let mut answer = [!DONE];
-        let is_done = io::write_all(self.number, &order.header())
-            && io::write_all(self.number, order.behind())
-            && io::read_full(self.number, &mut answer) == 1
-            && answer[0] == DONE;
-        if is_done {
+        if self.answer(order) == DONE {
             self.record = self.record.and(&done(order));
             Ok(())
         } else {
             self.record = self.record.and(&failed(order));
             self.failed = true;
             Err(DeviceFailed)
+        }
+    }
+
+    // The same of an order about the second file, which leaves the file as it is.
+    fn order_second(&mut self, order: &Order<'_>) -> Result<(), SecondFailed>
+        requires { is_failure (failed_of order.now) ≡ false }
+        ensures { Notes (done_of order.now) (failed_of order.now) result self.old.record.calls
+            self.new.record.calls }
+    {
+        if self.answer(order) == DONE {
+            self.record = self.record.and(&done(order));
+            Ok(())
+        } else {
+            self.record = self.record.and(&failed(order));
+            Err(SecondFailed)
         }
     }
 }
@@ -82,15 +106,29 @@ impl RawFile for FilePort {
         self.order(&Order::Sync)
     }
 
-    fn begin(&mut self) -> Result<(), DeviceFailed> {
-        self.order(&Order::Begin)
+    fn begin(&mut self) -> Result<(), SecondFailed> {
+        self.order_second(&Order::Begin)
     }
 
-    fn append(&mut self, bytes: &[u8]) -> Result<(), DeviceFailed> {
-        self.order(&Order::Append { bytes })
+    fn append(&mut self, bytes: &[u8]) -> Result<(), SecondFailed> {
+        self.order_second(&Order::Append { bytes })
     }
 
-    fn replace(&mut self) -> Result<(), DeviceFailed> {
-        self.order(&Order::Replace)
+    fn replace(&mut self) -> Result<(), ReplaceError> {
+        match self.answer(&Order::Replace) {
+            DONE => {
+                self.record = self.record.and(&Made::Replaced);
+                Ok(())
+            }
+            NOT_REPLACED => {
+                self.record = self.record.and(&Made::SecondNotReplaced);
+                Err(ReplaceError::Second)
+            }
+            _ => {
+                self.record = self.record.and(&Made::ReplaceFailed);
+                self.failed = true;
+                Err(ReplaceError::Failed)
+            }
+        }
     }
 }

@@ -3,9 +3,12 @@
 use Rattle.std.specs.Prelude.{◌≡◌, ◌⊎◌, ℕ, suc, ◌+◌, ◌≤◌, ◌==◌, Bool, true, false, if◌then◌else◌, List, [], ◌∷◌, ◌++◌, length, take, drop, Result, Ok, Err, refl}
 use Rattle.std.specs.Coded.{Coded, code_by, coded×, coded_list, coded_ℕ}
 use Rattle.envy_device.specs.Device.{Torn, Mixed, Cut as CutShort}
+use Rattle.envy_device.specs.declared.device.ReplaceError.{ReplaceError}
+use Rattle.envy_device.specs.declared.device.ReplaceError.TheVariants.{Second, Failed}
 
 pub data Call : Type 0 where
-  -- it was synced, and then read whole
+  -- It was synced, and then read whole. That what was read is on the disk is believed: after a write that failed the system
+  -- may give what it holds. So a file of the host is written anew after it, and C has the system drop what it holds before.
   Found : (bytes : List ℕ) → Call
   Wrote : (at : ℕ) (bytes : List ℕ) → Call
   WriteFailed : (at : ℕ) (bytes : List ℕ) → Call
@@ -19,6 +22,8 @@ pub data Call : Type 0 where
   Appended : (bytes : List ℕ) → Call
   AppendFailed : (size : ℕ) → Call
   Replaced : Call
+  -- it wasn't put there, and the file is as it was; or it may have been put there
+  SecondNotReplaced : Call
   ReplaceFailed : Call
 
 -- the bytes of the second file that held these, after a call
@@ -51,13 +56,11 @@ abbrev pub Tears : Bool → ℕ → List ℕ → List ℕ → List ℕ → Type 
 Tears true at bytes d e = Mixed at bytes d e
 Tears false at bytes d e = Torn at (length bytes) d e
 
--- a call that failed
+-- A call that failed on the file. One that failed on the second file alone left the file as it was.
 abbrev pub is_failure : Call → Bool
 is_failure (WriteFailed at bytes) = true
 is_failure (CutFailed size) = true
 is_failure SyncFailed = true
-is_failure BeginFailed = true
-is_failure (AppendFailed size) = true
 is_failure ReplaceFailed = true
 is_failure other = false
 
@@ -137,7 +140,8 @@ parts BeginFailed = (8, (0, (0, [])))
 parts (Appended bytes) = (9, (0, (0, bytes)))
 parts (AppendFailed size) = (10, (0, (size, [])))
 parts Replaced = (11, (0, (0, [])))
-parts ReplaceFailed = (12, (0, (0, [])))
+parts SecondNotReplaced = (12, (0, (0, [])))
+parts ReplaceFailed = (13, (0, (0, [])))
 
 abbrev pub whole : ℕ → ℕ → ℕ → List ℕ → Call
 whole kind at size bytes =
@@ -153,7 +157,8 @@ whole kind at size bytes =
     else (if kind == 9 then Appended bytes
     else (if kind == 10 then AppendFailed size
     else (if kind == 11 then Replaced
-    else ReplaceFailed)))))))))))
+    else (if kind == 12 then SecondNotReplaced
+    else ReplaceFailed))))))))))))
 
 abbrev pub made_of : ℕ × (ℕ × (ℕ × List ℕ)) → Call
 made_of p = whole p.0 p.1.0 p.1.1.0 p.1.1.1
@@ -171,6 +176,7 @@ made_of_parts BeginFailed = refl
 made_of_parts (Appended bytes) = refl
 made_of_parts (AppendFailed size) = refl
 made_of_parts Replaced = refl
+made_of_parts SecondNotReplaced = refl
 made_of_parts ReplaceFailed = refl
 
 abbrev pub coded_call : Coded Call
@@ -180,3 +186,9 @@ coded_call = code_by (ℕ × (ℕ × (ℕ × List ℕ))) (coded× coded_ℕ (cod
 abbrev pub Notes : {E : Type 0} → Call → Call → Result Unit E → List Call → List Call → Type 0
 Notes did failed (Ok done) old new = new ≡ did ∷ old
 Notes did failed (Err error) old new = new ≡ failed ∷ old
+
+-- the second file was to be put in the file's place: that is the newest call
+abbrev pub NotesReplace : Result Unit ReplaceError → List Call → List Call → Type 0
+NotesReplace (Ok done) old new = new ≡ Replaced ∷ old
+NotesReplace (Err Second) old new = new ≡ SecondNotReplaced ∷ old
+NotesReplace (Err Failed) old new = new ≡ ReplaceFailed ∷ old

@@ -1,7 +1,7 @@
 -- A call as a record notes it.
 use Rattle.envy_record.specs.declared.made.Made.{Made}
 use Rattle.envy_record.specs.declared.made.Made.TheVariants as made
-use Rattle.envy_record.specs.Calls.{Call, Found, Wrote, WriteFailed, CutTo, CutFailed, Synced, SyncFailed, Began, BeginFailed, Appended, AppendFailed, Replaced, ReplaceFailed}
+use Rattle.envy_record.specs.Calls.{Call, Found, Wrote, WriteFailed, CutTo, CutFailed, Synced, SyncFailed, Began, BeginFailed, Appended, AppendFailed, Replaced, SecondNotReplaced, ReplaceFailed}
 
 abbrev pub call_of : Made → Call
 call_of (made.Found bytes) = Found bytes.now
@@ -16,4 +16,5 @@ call_of made.BeginFailed = BeginFailed
 call_of (made.Appended bytes) = Appended bytes.now
 call_of (made.AppendFailed size) = AppendFailed size
 call_of made.Replaced = Replaced
+call_of made.SecondNotReplaced = SecondNotReplaced
 call_of made.ReplaceFailed = ReplaceFailed

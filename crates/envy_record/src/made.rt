@@ -1,7 +1,7 @@
 /// A call that was made on a file or on a second one beside it, and what it answered.
 #[derive(Clone, Copy, Drop)]
 pub enum Made<'a> {
-    /// The file was synced, and then read whole.
+    /// The file was synced, and then read whole, from the disk.
     Found { bytes: &'a [u8] },
     /// These bytes were written at this offset.
     Wrote { at: usize, bytes: &'a [u8] },
@@ -25,6 +25,8 @@ pub enum Made<'a> {
     AppendFailed { size: usize },
     /// The second file was brought to the disk and put in the file's place.
     Replaced,
-    /// It wasn't, or it isn't known whether the disk has it so.
+    /// It wasn't put there. The file is as it was.
+    SecondNotReplaced,
+    /// It may have been put there, and it isn't known what the disk has.
     ReplaceFailed,
 }

@@ -4,20 +4,23 @@ ghost use Rattle.envy_record.specs.Calls.{MayLeave, have_failed, seen_after, syn
 ghost use Rattle.envy_record.specs.Calls.Call.{Found};
 
 use crate::raw::RawFile;
-use envy_device::{Device, DeviceFailed, Place};
+use envy_device::{Device, DeviceFailed, Place, ReplaceError, SecondFailed};
 
-/// A file as a device. Once a call has failed, no later one is made: after a sync that failed the system may have let go
-/// of what it couldn't write, and tells so once.
+/// A file as a device. Once a call on the file has failed, no later one is made: after a sync that failed the system may
+/// have let go of what it couldn't write, and tells so once. Once a call on the second file has failed, that one is given
+/// up, and the next call on it is one that begins it.
 #[derive(Drop)]
 pub struct Recorded<F> {
     /// What makes the calls.
     pub file: F,
     /// Whether the file is trusted to be written byte by byte.
     pub bytewise: bool,
+    /// Whether a second file was begun, and no call on it failed since.
+    pub begun: bool,
 }
 
 impl<F: RawFile> Recorded<F> {
-    /// A file that was brought to the disk and then read whole, on which no other call was made. That it is written byte by
+    /// A file that was brought to the disk and then read whole from there, on which no other call was made. That it is written byte by
     /// byte is a premise, which the caller states or doesn't.
     pub fn found(file: F, _bytes: &[u8], bytewise: bool) -> Recorded<F>
         requires { F.calls file ≡ Found _bytes.now ∷ [] }
@@ -26,7 +29,11 @@ impl<F: RawFile> Recorded<F> {
         ensures works { have_failed (F.calls result.file) ≡ false }
         ensures bytewise { result.bytewise ≡ bytewise }
     {
-        Recorded { file, bytewise }
+        Recorded {
+            file,
+            bytewise,
+            begun: false,
+        }
     }
 }
 
@@ -88,24 +95,32 @@ impl<F: RawFile> Place for Recorded<F> {
 
     ghost second = { λ f. second_after (F.calls f.file) };
 
-    fn begin_second(&mut self) -> Result<(), DeviceFailed> {
+    fn begin_second(&mut self) -> Result<(), SecondFailed> {
         if self.file.has_failed() {
-            return Err(DeviceFailed);
+            return Err(SecondFailed);
         }
-        self.file.begin()
+        let answer = self.file.begin();
+        self.begun = answer.is_ok();
+        answer
     }
 
-    fn write_second(&mut self, bytes: &[u8]) -> Result<(), DeviceFailed> {
-        if self.file.has_failed() {
-            return Err(DeviceFailed);
+    fn write_second(&mut self, bytes: &[u8]) -> Result<(), SecondFailed> {
+        if self.file.has_failed() || !self.begun {
+            return Err(SecondFailed);
         }
-        self.file.append(bytes)
+        let answer = self.file.append(bytes);
+        self.begun = answer.is_ok();
+        answer
     }
 
-    fn replace(&mut self) -> Result<(), DeviceFailed> {
+    fn replace(&mut self) -> Result<(), ReplaceError> {
         if self.file.has_failed() {
-            return Err(DeviceFailed);
+            return Err(ReplaceError::Failed);
         }
+        if !self.begun {
+            return Err(ReplaceError::Second);
+        }
+        self.begun = false;
         self.file.replace()
     }
 }

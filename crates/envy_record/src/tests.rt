@@ -2,7 +2,7 @@ ghost use Rattle.std.specs.Prelude.{◌≡◌, true, false};
 ghost use Rattle.envy_record.specs.Calls.{have_failed};
 
 use crate::{Made, RawFile, Record, Recorded};
-use envy_device::{Device, DeviceFailed, Place};
+use envy_device::{Device, DeviceFailed, Place, ReplaceError, SecondFailed};
 use std::test::Fail;
 
 // A file whose calls do nothing, and of which one fails.
@@ -19,17 +19,38 @@ impl Fake {
     ghost use Rattle.envy_record.specs.Calls.{Notes, is_failure};
     ghost use Rattle.envy_record.specs.Noted.{call_of};
 
+    // Whether this call fails.
+    fn fails(&mut self) -> bool
+        ensures calls { self.new.record ≡ self.old.record }
+        ensures failed { self.new.failed ≡ self.old.failed }
+    {
+        let call = self.calls;
+        self.calls = call.wrapping_add(1);
+        call == self.fails_at
+    }
+
     fn call(&mut self, done: &Made<'_>, failed: &Made<'_>) -> Result<(), DeviceFailed>
         requires done { is_failure (call_of done.now) ≡ false }
         requires failed { is_failure (call_of failed.now) ≡ true }
         ensures { Notes (call_of done.now) (call_of failed.now) result self.old.record.calls self.new.record.calls }
     {
-        let call = self.calls;
-        self.calls = call.wrapping_add(1);
-        if call == self.fails_at {
+        if self.fails() {
             self.record = self.record.and(failed);
             self.failed = true;
             return Err(DeviceFailed);
+        }
+        self.record = self.record.and(done);
+        Ok(())
+    }
+
+    fn call_second(&mut self, done: &Made<'_>, failed: &Made<'_>) -> Result<(), SecondFailed>
+        requires done { is_failure (call_of done.now) ≡ false }
+        requires failed { is_failure (call_of failed.now) ≡ false }
+        ensures { Notes (call_of done.now) (call_of failed.now) result self.old.record.calls self.new.record.calls }
+    {
+        if self.fails() {
+            self.record = self.record.and(failed);
+            return Err(SecondFailed);
         }
         self.record = self.record.and(done);
         Ok(())
@@ -55,24 +76,40 @@ impl RawFile for Fake {
         self.call(&Made::Synced, &Made::SyncFailed)
     }
 
-    fn begin(&mut self) -> Result<(), DeviceFailed> {
-        self.call(&Made::Began, &Made::BeginFailed)
+    fn begin(&mut self) -> Result<(), SecondFailed> {
+        self.call_second(&Made::Began, &Made::BeginFailed)
     }
 
-    fn append(&mut self, bytes: &[u8]) -> Result<(), DeviceFailed> {
+    fn append(&mut self, bytes: &[u8]) -> Result<(), SecondFailed> {
         let size = bytes.len();
-        self.call(&Made::Appended { bytes }, &Made::AppendFailed { size })
+        self.call_second(&Made::Appended { bytes }, &Made::AppendFailed { size })
     }
 
-    fn replace(&mut self) -> Result<(), DeviceFailed> {
-        self.call(&Made::Replaced, &Made::ReplaceFailed)
+    fn replace(&mut self) -> Result<(), ReplaceError> {
+        if self.fails() {
+            self.record = self.record.and(&Made::SecondNotReplaced);
+            return Err(ReplaceError::Second);
+        }
+        self.record = self.record.and(&Made::Replaced);
+        Ok(())
     }
 }
 
-// Six calls, one of each kind, of which the n-th fails: those behind it fail too, and aren't made.
+// Six calls, one of each kind, of which the n-th fails. After one on the file fails no call is made. After one on the second
+// file fails those on the file are made, and none on the second file.
 #[test]
-fn behind_a_failure_no_call_is_made(rt: HostRuntime) -> Result<(), Fail> {
-    for fails_at in 0..7u32 {
+fn after_a_failure_no_call_is_made(rt: HostRuntime) -> Result<(), Fail> {
+    // for each call that fails, which of the six are done, and how many are made
+    let table = [
+        (0, [false, false, false, false, false, false], 1),
+        (1, [true, false, false, false, false, false], 2),
+        (2, [true, true, false, false, false, true], 4),
+        (3, [true, true, true, false, false, true], 5),
+        (4, [true, true, true, true, false, true], 6),
+        (5, [true, true, true, true, true, false], 6),
+        (6, [true, true, true, true, true, true], 6),
+    ];
+    for (fails_at, wanted, made) in table {
         let record = Record::new().and(&Made::Found { bytes: b"abc" });
         let fake = Fake {
             record,
@@ -89,14 +126,8 @@ fn behind_a_failure_no_call_is_made(rt: HostRuntime) -> Result<(), Fail> {
             file.replace().is_ok(),
             file.cut(0).is_ok(),
         ];
-        for call in 0..6u32 {
-            assert_eq!(rt;
-                answers[call as usize],
-                call < fails_at,
-                "call {call}, fails at {fails_at}"
-            );
-        }
-        assert_eq!(rt; file.file.calls, fails_at.saturating_add(1).min(6));
+        assert_eq!(rt; answers, wanted, "fails at {fails_at}");
+        assert_eq!(rt; file.file.calls, made, "calls, if {fails_at} fails");
     }
     Ok(())
 }

@@ -20,7 +20,7 @@ pub before_stays : (was old new : Chart) (k j : ℕ) → Works k j old new → I
 before_stays was old new k j works before = record { shape = before.shape ∙ sym works.shape; moment = works.counted.pulled ∙ before.moment; bytes = works.counted.lives ∙ before.bytes }
 
 -- a further sync makes the last the one before
-pub last_before : (was old new : Chart) → SyncsChart old (Ok tt) new → IsLast was old → IsBefore was new
+pub last_before : (was old new : Chart) → SyncsChart {T = Unit {0}} old (Ok tt) new → IsLast was old → IsBefore was new
 last_before was old new (on, plans, given, is) last = record {
   shape = last.shape ∙ sym (ap (λ (c : Chart). c.shape) is);
   moment = ap (λ (c : Chart). c.pulled) is ∙ last.moment;

@@ -19,7 +19,7 @@ pub fn calls_keep_the_last_sync()
 /// Behind a sync that succeeded the memory is as that sync left it, and the one that was the last is the one before.
 pub fn a_sync_is_the_last()
     ensures last { (c : Chart) → IsLast c c }
-    ensures before { (was old new : Chart) → SyncsChart old (Ok tt) new → IsLast was old → IsBefore was new }
+    ensures before { (was old new : Chart) → SyncsChart {T = Unit {0}} old (Ok tt) new → IsLast was old → IsBefore was new }
 {}
 
 /// A board that is opened from a file that opens as another has the words of that one, as a restart finds them. Where

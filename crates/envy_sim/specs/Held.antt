@@ -6,8 +6,8 @@ use denote.Ref.{MutRef}
 use mir.Syntax.{named}
 use base.Fml.{Fml, ftrue}
 use Rattle.std.specs.contracts.option.Option as option
-use Rattle.envy_sim.specs.contracts.board.CalmBoard as calm_board
-use Rattle.envy_sim.specs.contracts.board.CalmBoardBoard.TheImpl as board
+use Rattle.envy_bench.specs.contracts.calm.CalmBoard as calm_board
+use Rattle.envy_bench.specs.contracts.calm.CalmBoardBoard.TheImpl as board
 use Rattle.envy_memory.specs.contracts.memory.Memory as memory
 
 -- a memory over a board in memory, and a place that may hold one

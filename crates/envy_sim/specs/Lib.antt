@@ -1,8 +1,6 @@
 pub mod Bytes
-pub mod Calm
 pub mod Held
 pub mod Image
 pub mod Making
 pub mod Power
 pub mod Reading
-pub mod State

@@ -5,7 +5,7 @@ ghost use Rattle.envy_memory.specs.Picture.{Picture};
 ghost use Rattle.envy_sim.specs.Held.{slot_owns, lent_row};
 ghost use denote.RawPtr.{InBlock};
 
-use crate::board::CalmBoard;
+use envy_bench::CalmBoard;
 use envy_memory::Memory;
 use std::marker::Model;
 

@@ -5,7 +5,6 @@
 //! what its caller promises.
 #![tactic(auto)]
 
-mod board;
 mod bytes;
 mod calls;
 mod cursor;

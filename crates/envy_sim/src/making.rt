@@ -1,9 +1,9 @@
 ghost use Rattle.std.specs.Prelude.{◌≡◌, MatchResult};
 ghost use Rattle.envy_sim.specs.Making.{Formatted, Opens, RefusesFormat, RefusesImage, Restored};
 
-use crate::board::CalmBoard;
 use crate::handle::Slot;
 use crate::restoring::board_of_image;
+use envy_bench::CalmBoard;
 use envy_calls::{Code, EnvySetup, attach, checked_setup, format_answer};
 use envy_memory::Memory;
 use std::alloc::Global;

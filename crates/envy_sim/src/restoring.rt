@@ -4,11 +4,11 @@ ghost use Rattle.envy_base.specs.Shape.{IsShape};
 ghost use Rattle.envy_bench.specs.Parts.{new_state};
 ghost use Rattle.envy_sim.specs.Image.{HoldsImage, NoBoard, NoHead, ReadsShape};
 ghost use Rattle.envy_sim.specs.Reading.{IsOpened};
-ghost use Rattle.envy_sim.specs.State.{calm_state};
+ghost use Rattle.envy_bench.specs.CalmState.{calm_state};
 
-use crate::board::CalmBoard;
 use crate::cursor::Cursor;
 use envy_base::Shape;
+use envy_bench::CalmBoard;
 use envy_calls::{Code, EnvySetup};
 use envy_image::{HeadFault, InFault, install, read_head};
 use envy_io::Lines;

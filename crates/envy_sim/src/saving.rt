@@ -2,11 +2,11 @@
 ghost use Rattle.std.specs.Prelude.{◌≡◌};
 ghost use Rattle.envy_base.specs.Shape.{IsShape};
 ghost use Rattle.envy_sim.specs.Image.{DoesImageSize, DoesSave, Saves, image_size};
-ghost use Rattle.envy_sim.specs.State.{calm_state};
+ghost use Rattle.envy_bench.specs.CalmState.{calm_state};
 
-use crate::board::CalmBoard;
 use crate::handle::Slot;
 use envy_base::{Board, Shape};
+use envy_bench::CalmBoard;
 use envy_calls::{Code, EnvySetup, checked_setup};
 use envy_image::{OutFault, write_image};
 use envy_io::MemSink;

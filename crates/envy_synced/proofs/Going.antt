@@ -161,6 +161,7 @@ module _ {D : Type 0} (seen : D → List ℕ) (moment : D → ℕ) (left_since :
       all_of file has = record {
         head = subst (λ (sh : Shape). Begins (head_bytes sh) file) (sym shape) has.head;
         content = content ∙ has.content ∙ ap (λ (sh : Shape). holds sh (operations file)) (sym shape);
+        ends = has.ends;
       }
 
       either : (file : List ℕ) → StandsFor s.shape (kept seen now) file ⊎ IsFileOf s file → Ends t (kept seen was) file
@@ -192,6 +193,6 @@ module _ {D : Type 0} (seen : D → List ℕ) (moment : D → ℕ) (left_since :
   failed false a now new was before on is only still = unsynced now was before a is on new (cut a) refl refl refl (only refl)
 
 -- a sync that fails cuts power and leaves what was told
-pub fails_told : (plans given pulled lives : ℕ) (dead : Bool) (a : State) (off : Off) → IsTrue a.on → Syncs (with_disk (journal_state dead a) plans given pulled lives) (Err off) (with_disk (cut a) plans given pulled lives)
-fails_told plans given pulled lives true a off on = inl (refl, refl)
-fails_told plans given pulled lives false a off on = inr (on, refl)
+pub fails_told : (T : Type 0) (plans given pulled lives : ℕ) (dead : Bool) (a : State) (off : Off) → IsTrue a.on → Syncs {T = T} (with_disk (journal_state dead a) plans given pulled lives) (Err off) (with_disk (cut a) plans given pulled lives)
+fails_told T plans given pulled lives true a off on = inl (refl, refl)
+fails_told T plans given pulled lives false a off on = inr (on, refl)

@@ -25,6 +25,7 @@ reopens_synced was sh bytes file is shape given stands =
       head = subst (λ (x : Shape). Begins (head_bytes x) file) (sym shape) stands.head;
       fields = ap (λ (p : List Operation). map_fields was.shape (holds was.shape p).sram) same ∙ is.fields;
       flash = ap (λ (p : List Operation). (holds was.shape p).flash) same ∙ is.flash;
+      ends = stands.ends;
     }
 
 reopens_now : (s t : State) (file : List ℕ) → IsFileOf s file → t.shape ≡ s.shape → content_of t ≡ content_of s → Reopens (chart t) file
@@ -32,6 +33,7 @@ reopens_now s t file is shape content = record {
   head = subst (λ (x : Shape). Begins (head_bytes x) file) (sym shape) is.head;
   fields = subst (λ (x : Shape). map_fields x (holds x (operations file)).sram ≡ map_fields x t.sram) (sym shape) (ap (λ (x : Content). map_fields s.shape x.sram) (sym (content ∙ is.content)));
   flash = subst (λ (x : Shape). (holds x (operations file)).flash ≡ t.flash) (sym shape) (ap (λ (x : Content). x.flash) (sym (content ∙ is.content)));
+  ends = is.ends;
 }
 
 -- a board just behind a compaction

@@ -8,7 +8,7 @@ use Rattle.envy_journal.specs.Content.{holds}
 use Rattle.envy_journal.specs.Head.{StandsFor, head_bytes}
 use Rattle.envy_journal.specs.Journal.{IsFileOf, kept}
 use Rattle.envy_journal.specs.Log.{Begins, kept_bytes}
-use Rattle.envy_journal.specs.Reading.{operations}
+use Rattle.envy_journal.specs.Reading.{operations, IsUnbroken}
 use Rattle.envy_journal.specs.Snapshot.{most_of}
 use Rattle.envy_disk.specs.Disk.{with_disk}
 use Rattle.envy_synced.specs.Number.{number}
@@ -35,6 +35,7 @@ pub record Reopens (c : Chart) (file : List ℕ) : Type 0 where
   pub head : Begins (head_bytes c.shape) file
   pub fields : map_fields c.shape (holds c.shape (operations file)).sram ≡ c.fields
   pub flash : (holds c.shape (operations file)).flash ≡ c.flash
+  pub ends : IsUnbroken file
 
 -- a board just behind a sync: what its numbers tell is on the disk is what it holds
 pub record IsSynced (c : Chart) : Type 0 where

@@ -1,7 +1,8 @@
-ghost use Rattle.std.specs.Prelude.{◌≡◌, ◌⊎◌, ◌<◌, ◌≤◌, ℕ, List, false, IsTrue, length};
+ghost use Rattle.std.specs.Prelude.{◌≡◌, ◌⊎◌, ◌<◌, ◌≤◌, ℕ, List, false, IsTrue, length, nat_lt};
 ghost use Rattle.std.proofs.Props.{props};
 ghost use Rattle.envy_base.specs.State.{Puts, Programs, Erases};
 ghost use Rattle.envy_map.specs.Fields.{Chart, chart};
+ghost use Rattle.envy_disk.specs.declared.on_disk.Compaction.TheVariants.{Done, Appended};
 ghost use Rattle.envy_journal.specs.Head.{StandsFor};
 ghost use Rattle.envy_journal.specs.Journal.{journal_state, kept, done};
 ghost use Rattle.envy_journal.specs.Log.{HasEnded};
@@ -10,7 +11,7 @@ ghost use Rattle.envy_synced.specs.Disk.{IsKept, IsLast, IsBefore, IsCompact, Is
 
 use envy_base::{Board, Off, Shape, Trouble};
 use envy_device::{Device, Place};
-use envy_disk::OnDisk;
+use envy_disk::{Compaction, OnDisk};
 use envy_journal::{Journaled, Steady};
 use std::mem;
 use std::snapshot::Snapshot;
@@ -130,6 +131,8 @@ impl<B: Steady, D: Place> OnDisk for Kept<B, D> {
 
     ghost is_compact = { IsCompact };
 
+    ghost is_hindered = { λ k. nat_lt 0 k.journal.next };
+
     fn sync(&mut self) -> Result<(), Off> {
         match self.journal.sync() {
             Ok(()) => {
@@ -140,14 +143,27 @@ impl<B: Steady, D: Place> OnDisk for Kept<B, D> {
         }
     }
 
-    fn compact(&mut self) -> Result<(), Off> {
+    fn compact(&mut self) -> Result<Compaction, Off> {
         match self.journal.compact() {
             Ok(()) => {
+                let made = made_of(&self.journal);
                 let last = mem::replace(&mut self.synced, Snapshot::of(&self.journal));
                 self.before = last;
-                Ok(())
+                Ok(made)
             }
             Err(_) => Err(Off),
         }
+    }
+}
+
+// What became of the last compaction that was tried.
+fn made_of<B: Steady, D: Device>(journal: &Journaled<B, D>) -> Compaction
+    ensures done { result ≡ Done → journal.now.next ≡ 0 }
+    ensures appended { result ≡ Appended → IsTrue (nat_lt 0 journal.now.next) }
+{
+    if journal.compaction_failed() {
+        Compaction::Appended
+    } else {
+        Compaction::Done
     }
 }

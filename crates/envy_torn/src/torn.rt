@@ -4,8 +4,8 @@ ghost use Rattle.std.specs.Prelude.{◌≡◌, ◌≤◌, ℕ, List, [], ◌∷�
 ghost use Rattle.envy_torn.specs.Calls.{seen_after, written};
 
 use crate::Dice;
-use crate::drawn::{cut_some, mix, tear, write_over};
-use envy_device::{Device, DeviceFailed, Place};
+use crate::drawn::{cut_some, mix, tear, write_anew, write_over};
+use envy_device::{Device, DeviceFailed, Place, ReplaceError, SecondFailed};
 use std::alloc::{AllocError, Global};
 use std::mem;
 
@@ -32,12 +32,13 @@ pub struct TornFile {
     // the second file
     second: Vec<u8>,
     first: Vec<u8>,
-    calls: Vec<Call>,
+    pub(crate) calls: Vec<Call>,
     // how many calls there were when the last sync succeeded
     synced: usize,
-    failed: bool,
-    // how many calls can still succeed
+    pub(crate) failed: bool,
+    // how many calls can still succeed, and how many of those on the second file
     left: usize,
+    second_left: usize,
     // whether it is trusted to be written byte by byte
     bytewise: bool,
     ghost seen: { bytes.items ≡ seen_after calls.items first.items },
@@ -73,8 +74,18 @@ impl TornFile {
             synced: 0,
             failed: false,
             left,
+            second_left: usize::MAX,
             bytewise,
         })
+    }
+
+    /// So many calls on the second file succeed from now on, and every later one fails. The file itself stays as it is.
+    pub fn fail_second(&mut self, left: usize)
+        ensures kept { Kept self.old self.new }
+        ensures bytes { file_bytes self.new ≡ file_bytes self.old }
+        ensures failed { file_failed self.new ≡ file_failed self.old }
+    {
+        self.second_left = left;
     }
 
     /// The bytes of the file.
@@ -87,33 +98,34 @@ impl TornFile {
     /// What a crash at this moment leaves, drawn: each write since the last sync is done, lost or torn, to any bytes or, where
     /// the file is trusted to be written byte by byte, to bytes that were there and bytes that were written.
     pub fn crash(&self, alloc: Global, dice: &mut Dice) -> Result<Vec<u8>, AllocError> {
+        let synced = self.synced.min(self.calls.len());
         let mut seen = self.first.to_vec(alloc)?;
-        let mut disk = self.first.to_vec(alloc)?;
-        for call in &self.calls {
-            match call {
-                Call::Write { at, bytes } => {
-                    write_over(&mut seen, *at, bytes)?;
-                    self.lose(&mut disk, *at, bytes, dice)?;
-                }
-                Call::Cut { len } => {
-                    seen.truncate(*len);
-                    cut_some(&mut disk, *len, dice);
-                }
-                Call::Sync => disk = seen.to_vec(alloc)?,
-                Call::BadWrite { at, bytes } => self.lose(&mut disk, *at, bytes, dice)?,
-                Call::BadCut { len } => cut_some(&mut disk, *len, dice),
-                Call::Replace { bytes } => {
-                    seen = bytes.to_vec(alloc)?;
-                    disk = bytes.to_vec(alloc)?;
-                }
-                Call::BadReplace { bytes } => {
-                    if dice.below(2) == 0 {
-                        disk = bytes.to_vec(alloc)?;
-                    }
+        for call in &self.calls[..synced] {
+            follow(&mut seen, call)?;
+        }
+        let mut disk = seen.to_vec(alloc)?;
+        for call in &self.calls[synced..] {
+            self.leave(&mut disk, call, dice)?;
+        }
+        Ok(disk)
+    }
+
+    // Does a call since the last sync in part, as a crash may leave it.
+    fn leave(&self, disk: &mut Vec<u8>, call: &Call, dice: &mut Dice) -> Result<(), AllocError> {
+        match call {
+            Call::Write { at, bytes } | Call::BadWrite { at, bytes } => {
+                self.lose(disk, *at, bytes, dice)?
+            }
+            Call::Cut { len } | Call::BadCut { len } => cut_some(disk, *len, dice),
+            Call::Sync => {}
+            Call::Replace { bytes } => write_anew(disk, bytes)?,
+            Call::BadReplace { bytes } => {
+                if dice.below(2) == 0 {
+                    write_anew(disk, bytes)?;
                 }
             }
         }
-        Ok(disk)
+        Ok(())
     }
 
     // Does a write in part, as a crash may leave it.
@@ -147,6 +159,20 @@ impl TornFile {
             return false;
         }
         self.left -= 1;
+        true
+    }
+
+    // Whether this call on the second file may succeed.
+    fn second_may_pass(&mut self) -> bool
+        ensures kept { Kept self.old self.new }
+        ensures bytes { file_bytes self.new ≡ file_bytes self.old }
+        ensures second { file_second self.new ≡ file_second self.old }
+        ensures failed { self.new.failed ≡ self.old.failed }
+    {
+        if self.second_left == 0 {
+            return false;
+        }
+        self.second_left -= 1;
         true
     }
 
@@ -225,6 +251,17 @@ impl TornFile {
             Err(_) => self.failed = true,
         }
     }
+}
+
+// Makes a file what a call makes of it.
+pub(crate) fn follow(seen: &mut Vec<u8>, call: &Call) -> Result<(), AllocError> {
+    match call {
+        Call::Write { at, bytes } => write_over(seen, *at, bytes)?,
+        Call::Cut { len } => seen.truncate(*len),
+        Call::Replace { bytes } => write_anew(seen, bytes)?,
+        Call::Sync | Call::BadWrite { .. } | Call::BadCut { .. } | Call::BadReplace { .. } => {}
+    }
+    Ok(())
 }
 
 // Adds a call, where there is memory for it.
@@ -328,24 +365,28 @@ impl Place for TornFile {
 
     ghost second = { file_second };
 
-    fn begin_second(&mut self) -> Result<(), DeviceFailed> {
-        if !self.may_pass() {
-            self.failed = true;
-            return Err(DeviceFailed);
+    fn begin_second(&mut self) -> Result<(), SecondFailed> {
+        if !self.second_may_pass() || !self.may_pass() {
+            return Err(SecondFailed);
         }
         self.second = Vec::new(self.alloc);
         Ok(())
     }
 
-    fn write_second(&mut self, bytes: &[u8]) -> Result<(), DeviceFailed> {
-        if !self.may_pass() || self.second.extend_from_slice(bytes).is_err() {
-            self.failed = true;
-            return Err(DeviceFailed);
+    fn write_second(&mut self, bytes: &[u8]) -> Result<(), SecondFailed> {
+        if !self.second_may_pass() || !self.may_pass() {
+            return Err(SecondFailed);
+        }
+        if self.second.extend_from_slice(bytes).is_err() {
+            return Err(SecondFailed);
         }
         Ok(())
     }
 
-    fn replace(&mut self) -> Result<(), DeviceFailed> {
+    fn replace(&mut self) -> Result<(), ReplaceError> {
+        if !self.second_may_pass() {
+            return Err(ReplaceError::Second);
+        }
         match self.planned_replace() {
             Some((copy, next)) => {
                 self.finish(Call::Replace { bytes: copy }, next)?;
@@ -355,7 +396,7 @@ impl Place for TornFile {
             None => {
                 let bytes = mem::replace(&mut self.second, Vec::new(self.alloc));
                 self.fail(Call::BadReplace { bytes });
-                Err(DeviceFailed)
+                Err(ReplaceError::Failed)
             }
         }
     }

@@ -4,7 +4,7 @@ use Rattle.envy_begun.proofs.Fresh.{counts-last, format-leaves, off-refused}
 use Rattle.envy_begun.proofs.beginning.make_memory.Goals as goal
 
 pub returns-in-Ok-clause-left : goal.returns-in-Ok-clause-left
-returns-in-Ok-clause-left g c synced none = c.sync_first.ensures.left _ synced (counts-last _ _ c.in-Ok.memory.chart c.in-Ok.ensures.counts (record { shape = refl; moment = refl; bytes = refl })) none
+returns-in-Ok-clause-left g c synced before none = c.sync_first.ensures.left _ synced before (counts-last _ _ c.in-Ok.memory.chart c.in-Ok.ensures.counts (record { shape = refl; moment = refl; bytes = refl })) none
 
 pub returns-in-Err-clause-failed : goal.returns-in-Err-clause-failed
 returns-in-Err-clause-failed g c =
@@ -12,7 +12,7 @@ returns-in-Err-clause-failed g c =
     (λ off. c.closed-device.ensures.stopped (off-refused _ _ c.args.setup c.in-Err.fault c.in-Err.ensures.made off))
 
 pub returns-in-Err-clause-left : goal.returns-in-Err-clause-left
-returns-in-Err-clause-left g c synced none =
+returns-in-Err-clause-left g c synced before none =
     format-leaves g.D.Device.left_since g.D.Device.moment c.args.setup.shape c.closed-device.result.0 _ _ synced none c.requires.shape c.in-Err.ensures.counts
     (c.closed-device.ensures.reads _ synced (counts-last _ _ _ c.in-Err.ensures.counts (record { shape = refl; moment = refl; bytes = refl }))) c.closed-device.ensures.time
-    g.D.Device.seen g.D.Device.has_failed c.args.setup c.unformatted.result.1 c.unformatted.result.0 c.in-Err.fault c.closed-device.result.1 c.in-Err.ensures.made c.unformatted.ensures.says c.unformatted.ensures.time c.unformatted.ensures.left
+    before g.D.Device.seen g.D.Device.has_failed c.args.setup c.unformatted.result.1 c.unformatted.result.0 c.in-Err.fault c.closed-device.result.1 c.in-Err.ensures.made c.unformatted.ensures.says c.unformatted.ensures.time c.unformatted.ensures.left

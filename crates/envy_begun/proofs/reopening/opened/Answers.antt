@@ -1,7 +1,7 @@
-use Rattle.std.proofs.Common.{◌∙◌}
-use Rattle.envy_begun.proofs.Again.{opened-state, unopened-declines}
+use Rattle.std.proofs.Common.{◌∙◌, sym, subst, ⊎_elim}
+use Rattle.envy_begun.specs.Plans.{IsOpened}
+use Rattle.envy_begun.proofs.Again.{opened-state, unopened-stopped}
 use Rattle.envy_begun.proofs.Alike.{leaves-on, leaves-only}
-use Rattle.envy_journal.specs.Content.{HasMisfit}
 use Rattle.envy_journal.specs.Head.{StandsFor}
 use Rattle.envy_journal.specs.Reading.{operations}
 use Rattle.envy_begun.proofs.reopening.opened.Goals as goal
@@ -9,15 +9,16 @@ use Rattle.envy_begun.proofs.reopening.opened.Goals as goal
 pub returns-in-Ok-clause-opened : goal.returns-in-Ok-clause-opened
 returns-in-Ok-clause-opened g c =
     let j = c.in-Ok.journal in
+    let o = subst (λ (b : g.row.B.Denot). IsOpened (g.B.Board.state c.args.board).shape c.args.bytes.now (g.B.Board.state b)) (sym c.in-Ok.ensures.board) c.requires.opened in
     rw c.new.ensures.journal
-    (opened-state (g.B.Board.state j.board) j.dead _ _ _ _ (g.B.Board.state c.args.board).shape c.args.bytes.now c.in-Ok.ensures.alive.0 c.requires.head c.in-Ok.ensures.shape c.in-Ok.ensures.content)
+    (opened-state (g.B.Board.state j.board) j.dead _ _ _ _ (g.B.Board.state c.args.board).shape c.args.bytes.now c.in-Ok.ensures.alive.0 o)
 
 pub returns-in-Ok-clause-reads : goal.returns-in-Ok-clause-reads
 returns-in-Ok-clause-reads g c = (c.new.ensures.reads.0, c.new.ensures.reads.1 ∙ c.in-Ok.ensures.kept)
 
 pub returns-in-Err-clause-failed : goal.returns-in-Err-clause-failed
 returns-in-Err-clause-failed g c =
-    unopened-declines g.D.Device.seen g.D.Device.has_failed (HasMisfit (g.B.Board.state c.args.board).shape (operations c.args.bytes.now)) c.in-Err.device c.unopened.result.1 c.unopened.result.0 c.in-Err.error c.unopened.ensures.says c.in-Err.ensures.misfit c.in-Err.ensures.failed
+    unopened-stopped g.D.Device.seen g.D.Device.has_failed c.in-Err.device c.unopened.result.1 c.unopened.result.0 c.in-Err.error c.unopened.ensures.says (λ is. ⊎_elim (λ failed. failed.1) (λ memory. absurd (let never = sym memory.0 ∙ is in cc)) c.in-Err.ensures.cause)
 
 pub returns-in-Err-clause-left : goal.returns-in-Err-clause-left
 returns-in-Err-clause-left g c =

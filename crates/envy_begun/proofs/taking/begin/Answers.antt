@@ -1,4 +1,4 @@
-use Rattle.std.proofs.Common.{◌⊎◌, inl, refl, subst, sym}
+use Rattle.std.proofs.Common.{◌⊎◌, inl, [], refl, subst, sym}
 use Rattle.envy_begun.specs.Left.{StaysNew, StaysWritten}
 use Rattle.envy_begun.specs.Plans.{BeginsOn, Plans}
 use Rattle.envy_begun.specs.declared.planning.Holding.{Holding}
@@ -39,12 +39,12 @@ returns-in-Written-clause-failed g c =
 
 pub returns-in-Unmade-clause-left : goal.returns-in-Unmade-clause-left
 returns-in-Unmade-clause-left g c =
-    all-stays g.D.Device.left_since g.D.Device.moment c.args.setup.shape c.args.bytes.now c.args.holding Unmade c.begin_new.result (λ unbegun file. IsUnmade file ⊎ StaysNew unbegun c.args.setup.shape file) c.in-Unmade.is (λ unbegun file stays. stays) c.begin_new.ensures.left
+    all-stays g.D.Device.left_since g.D.Device.moment c.args.setup.shape c.args.bytes.now c.args.holding Unmade c.begin_new.result (λ unbegun file. IsUnmade file ⊎ StaysNew unbegun c.args.setup.shape [] file) c.in-Unmade.is (λ unbegun file stays. stays) c.begin_new.ensures.left
 
 pub returns-in-Blank-clause-left : goal.returns-in-Blank-clause-left
 returns-in-Blank-clause-left g c =
     let found = subst (λ (h : Holding). Plans h c.args.options.now c.args.bytes.now c.args.setup) c.in-Blank.is c.requires.plans in
-    all-stays g.D.Device.left_since g.D.Device.moment c.args.setup.shape c.args.bytes.now c.args.holding Blank c.begin_blank.result (λ unbegun. StaysNew unbegun c.args.setup.shape) c.in-Blank.is (λ unbegun file stays. stays) (c.begin_blank.ensures.left found.1)
+    all-stays g.D.Device.left_since g.D.Device.moment c.args.setup.shape c.args.bytes.now c.args.holding Blank c.begin_blank.result (λ unbegun. StaysNew unbegun c.args.setup.shape c.args.bytes.now) c.in-Blank.is (λ unbegun file stays. stays) (c.begin_blank.ensures.left found.1)
 
 pub returns-in-Written-clause-left : goal.returns-in-Written-clause-left
 returns-in-Written-clause-left g c =

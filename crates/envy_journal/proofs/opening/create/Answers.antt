@@ -1,10 +1,10 @@
-use Rattle.std.proofs.Common.{◌∙◌, ◌∷◌, [], ◌++◌, List, sym, ap, subst}
+use Rattle.std.proofs.Common.{◌∙◌, ◌∷◌, [], ◌++◌, List, arith, sym, ap, subst}
 use Rattle.envy_base.specs.declared.shape.Shape.{Shape}
 use Rattle.envy_device.specs.Device.{LeavesOnly}
 use Rattle.envy_journal.specs.declared.operation.Operation.{Operation}
 use Rattle.envy_journal.specs.Content.{holds}
 use Rattle.envy_journal.specs.Head.{IsNewOrUnmade, head_bytes}
-use Rattle.envy_journal.proofs.Opened.{made_file, made_size, made_head, made_leads, made_reads}
+use Rattle.envy_journal.proofs.Opened.{made_closed, made_size, made_head, made_leads, made_reads}
 use Rattle.envy_journal.proofs.opening.create.Goals as goal
 
 pub begun-requires-clause-at_rest : goal.begun-requires-clause-at_rest
@@ -12,7 +12,7 @@ begun-requires-clause-at_rest g c =
     let made = c.in-Ok-make.ensures in
     let sh = c.shape.result in
     let file = g.D.Device.seen c.make.new.device in
-    record { file = made_file sh file made.file; size = made_size sh file made.file; durable = made.durable; synced_now = made.synced }
+    record { within = omega (arith, made_size sh file made.file); closed = made_closed sh file made.file; durable = made.durable; synced_now = made.synced }
 
 pub begun-requires-clause-head : goal.begun-requires-clause-head
 begun-requires-clause-head g c =

@@ -14,7 +14,7 @@ returns-in-Err-clause-keeps g c =
 
 pub returns-in-Err-clause-stopped : goal.returns-in-Err-clause-stopped
 returns-in-Err-clause-stopped g c =
-    unserved-stopped g.D.Device.seen g.D.Device.has_failed c.args.options.now c.args.bytes.now c.args.device c.args.device c.unserved.result.device c.in-Err.unbegun _ _ _ _ c.unserved.result.held c.unserved.ensures.says c.unserved.ensures.device c.unserved.ensures.held
+    unserved-stopped g.D.Device.seen g.D.Device.has_failed c.args.options.now c.args.bytes.now c.args.device c.args.device c.unserved.result.device c.in-Err.unbegun _ _ _ _ _ c.unserved.result.held c.unserved.ensures.says c.unserved.ensures.device c.unserved.ensures.held
     (refused-causes g.D.Device.seen g.D.Device.has_failed c.args.options.now c.args.bytes.now c.args.device c.args.device c.in-Err.unbegun c.in-Err.ensures.refused refl)
 
 pub returns-in_default-clause-keeps : goal.returns-in_default-clause-keeps
@@ -26,4 +26,4 @@ returns-in_default-clause-keeps g c =
 
 pub returns-in_default-clause-stopped : goal.returns-in_default-clause-stopped
 returns-in_default-clause-stopped g c =
-    unserved-stopped g.D.Device.seen g.D.Device.has_failed c.args.options.now c.args.bytes.now c.args.device c.args.device c.unserved-in_default.result.device Memory _ _ _ _ c.unserved-in_default.result.held c.unserved-in_default.ensures.says c.unserved-in_default.ensures.device c.unserved-in_default.ensures.held (inl refl)
+    unserved-stopped g.D.Device.seen g.D.Device.has_failed c.args.options.now c.args.bytes.now c.args.device c.args.device c.unserved-in_default.result.device Memory _ _ _ _ _ c.unserved-in_default.result.held c.unserved-in_default.ensures.says c.unserved-in_default.ensures.device c.unserved-in_default.ensures.held (inl refl)

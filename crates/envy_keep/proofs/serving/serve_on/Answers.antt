@@ -13,7 +13,7 @@ returns-in-Err-clause-keeps g c =
 
 pub returns-in-Err-clause-stopped : goal.returns-in-Err-clause-stopped
 returns-in-Err-clause-stopped g c =
-    unserved-stopped g.D.Device.seen g.D.Device.has_failed c.args.options.now c.args.bytes.now c.args.device c.in-Err.device c.unserved.result.device c.in-Err.unbegun _ _ _ _ c.unserved.result.held c.unserved.ensures.says c.unserved.ensures.device c.unserved.ensures.held c.in-Err.ensures.failed
+    unserved-stopped g.D.Device.seen g.D.Device.has_failed c.args.options.now c.args.bytes.now c.args.device c.in-Err.device c.unserved.result.device c.in-Err.unbegun _ _ _ _ _ c.unserved.result.held c.unserved.ensures.says c.unserved.ensures.device c.unserved.ensures.held c.in-Err.ensures.failed
 
 pub serve_kept-requires : goal.serve_kept-requires
 serve_kept-requires g c =
@@ -23,6 +23,6 @@ serve_kept-requires g c =
 pub returns-in-Ok-clause-keeps : goal.returns-in-Ok-clause-keeps
 returns-in-Ok-clause-keeps g c =
     let (array, begins, begun) = c.in-Ok.ensures.begun in
-    inl (served-as c.args.options.now c.args.bytes.now c.args.setup c.args.holding array c.in-Ok.memory _ _ _ _ _ _ _ c.requires.plans c.requires.checks begins begun c.in-Ok.ensures.board c.known.ensures.memory
+    inl (served-as c.args.options.now c.args.bytes.now c.args.setup c.args.holding array c.in-Ok.memory _ _ _ _ _ _ _ _ c.requires.plans c.requires.checks begins begun c.in-Ok.ensures.board c.known.ensures.memory
     (λ written asked. c.in-Ok.ensures.compacted written asked) (λ written not. c.in-Ok.ensures.same written not)
     (c.serve_kept.ensures.served (record { array = array; memory = c.in-Ok.memory }) (kept-first c.args.setup array c.in-Ok.memory c.requires.entries begun)))

@@ -4,7 +4,7 @@ use Rattle.envy_begun.specs.Beginning.{HasBegun}
 use Rattle.envy_begun.specs.Plans.{BeginsAs, Plans}
 use Rattle.envy_policy.specs.declared.setup.Setup.{Setup}
 use Rattle.envy_kept.specs.Opening.{options_of}
-use Rattle.envy_kept.proofs.Opened.{same_setup}
+use Rattle.envy_kept.proofs.Opened.{port-caused, same_setup}
 use Rattle.envy_kept.proofs.making.begun.Goals as goal
 
 pub returns-in-Ok-begin-clause-begun : goal.returns-in-Ok-begin-clause-begun
@@ -23,3 +23,8 @@ returns-in-Ok-begin-clause-begun c =
       c.in-Ok-begin.ensures.board,
       λ written. c.in-Ok-begin.ensures.same written (ap (λ (o : KeepOptions). o.compact) c.options-options.ensures),
     )
+
+pub returns-in-Err-clause-refused : goal.returns-in-Err-clause-refused
+returns-in-Err-clause-refused c =
+    let plans = subst (λ (o : KeepOptions). Plans c.in_ok-setup.holding o c.args.file.now c.in_ok-setup.setup) c.options-options.ensures c.in_ok-setup.ensures.plans in
+    port-caused c.args.setup.now _ c.args.file.now _ _ c.in-Err.unbegun c.options-options.ensures c.in-Err.ensures.failed (c.in_ok-setup.setup, c.in_ok-setup.holding, plans, c.in_ok-setup.ensures.checks)

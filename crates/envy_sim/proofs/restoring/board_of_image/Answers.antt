@@ -3,7 +3,7 @@ use Rattle.envy_base.specs.State.{State}
 use Rattle.envy_base.specs.declared.shape.Shape.{Shape}
 use Rattle.envy_sim.specs.Image.{HoldsImage, NoBoard}
 use Rattle.envy_sim.specs.Reading.{IsOpened}
-use Rattle.envy_sim.specs.State.{calm_state}
+use Rattle.envy_bench.specs.CalmState.{calm_state}
 use Rattle.envy_calls.specs.declared.code.Code.TheVariants.{ImageShort}
 use Rattle.envy_sim.proofs.Opened.{body-holds, body-short}
 use Rattle.envy_sim.proofs.restoring.board_of_image.Goals as goal

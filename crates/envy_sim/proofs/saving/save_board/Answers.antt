@@ -1,7 +1,7 @@
 use Rattle.std.proofs.Common.{◌≤◌, length, sym, ap}
 use Rattle.std.proofs.lemmas.List.{length-take-le}
 use Rattle.envy_io.specs.InMemory.{MemDrain}
-use Rattle.envy_sim.specs.State.{calm_state}
+use Rattle.envy_bench.specs.CalmState.{calm_state}
 use Rattle.envy_sim.proofs.Saved.{image-fits, image-over}
 use Rattle.envy_sim.proofs.saving.save_board.Goals as goal
 

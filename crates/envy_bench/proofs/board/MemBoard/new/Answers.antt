@@ -1,6 +1,5 @@
-use Rattle.std.proofs.Common.{◌≡◌, ◌∙◌, ◌*◌, ℕ, List, ap, length, replicate}
+use Rattle.std.proofs.Common.{◌∙◌, ◌*◌, ℕ, List, ap, length}
 use Rattle.std.proofs.lemmas.List.{length-replicate}
-use Rattle.envy_base.specs.State.{IsBoard}
 use Rattle.envy_bank.specs.Rows.{BankState, ones}
 use Rattle.envy_bench.proofs.Boards.{IsPage-whole, AreWords-zeros}
 use Rattle.envy_bench.proofs.board.MemBoard.new.Goals as goal

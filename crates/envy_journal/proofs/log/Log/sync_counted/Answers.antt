@@ -1,10 +1,10 @@
-use Rattle.std.proofs.Common.{◌∙◌, ◌++◌, ◌∷◌, [], List, ℕ, subst, refl, sym}
+use Rattle.std.proofs.Common.{◌≡◌, ◌∙◌, ◌++◌, ◌∷◌, [], List, ℕ, ap, arith, length, replicate, subst, refl, sym}
 use Rattle.envy_device.specs.Device.{LeavesOnly}
 use Rattle.envy_journal.specs.Log.{Begins, kept_bytes}
 use Rattle.envy_journal.proofs.Batches.{counted_none}
 use Rattle.envy_journal.proofs.Moments.{started, goes_on}
 use Rattle.envy_journal.proofs.Once.{counted, ended, ended_left, ended_torn, gate_in, once_batch, once_length, opened_file, opened_once}
-use Rattle.envy_journal.proofs.Synced.{P, at_first, synced}
+use Rattle.envy_journal.proofs.Synced.{P, at_first, synced, zeros_after}
 use Rattle.envy_journal.proofs.log.Log.sync_counted.Given.{Over}
 use Rattle.envy_journal.proofs.log.Log.sync_counted.Goals.{After-write_at, After-write_at-2}
 use Rattle.envy_journal.proofs.log.Log.sync_counted.Goals as goal
@@ -32,7 +32,7 @@ at_gate g c =
     let log = c.args.self.now in
     let lefts = ended_left D.seen D.may_leave D.left_since D.synced log r.sound D.bytewise r.counted r.bytewise r.spilled r.small c.write_at.new.self _ c.counted_end.ensures c.in_ok-write_at.ensures.written (c.write_at.ensures.mixed r.bytewise) in
     let fronts = ended_torn D.seen D.may_leave D.left_since D.synced log r.sound D.bytewise r.counted r.bytewise r.spilled r.small c.write_at.new.self _ c.counted_end.ensures c.write_at.ensures.crash in
-    opened_once D.seen D.may_leave D.left_since D.synced log r.sound D.bytewise r.counted r.bytewise r.spilled r.small (D.may_leave c.write_at.new.self) (D.may_leave c.write_at-2.new.self) fronts lefts (c.write_at-2.ensures.mixed (c.write_at.ensures.bytewise ∙ r.bytewise))
+    opened_once D.seen D.may_leave D.left_since D.synced log r.sound D.bytewise r.counted r.bytewise r.spilled r.small _ (D.may_leave c.write_at.new.self) (D.may_leave c.write_at-2.new.self) fronts lefts (c.write_at-2.ensures.mixed (c.write_at.ensures.bytewise ∙ r.bytewise))
 
 opened : (g : Over) (c : After-write_at-2 g) → LeavesOnly g.D.Device.moment g.D.Device.left_since c.args.self.now.device c.write_at.new.self (P g.D.Device.seen g.D.Device.may_leave g.D.Device.left_since g.D.Device.synced c.args.self.now c.requires.sound)
     → LeavesOnly g.D.Device.moment g.D.Device.left_since c.args.self.now.device c.write_at-2.new.self (P g.D.Device.seen g.D.Device.may_leave g.D.Device.left_since g.D.Device.synced c.args.self.now c.requires.sound)
@@ -44,7 +44,7 @@ write_at-requires-2 g c =
     let D = g.D.Device in
     let log = c.args.self.now in
     let is = ended D.seen D.may_leave D.left_since D.synced log r.sound D.bytewise r.counted r.bytewise r.spilled r.small c.write_at.new.self _ c.counted_end.ensures c.in_ok-write_at.ensures.written in
-    gate_in D.seen D.may_leave D.left_since D.synced log r.sound D.bytewise r.counted r.bytewise r.spilled r.small (D.seen c.write_at.new.self) is
+    gate_in D.seen D.may_leave D.left_since D.synced log r.sound D.bytewise r.counted r.bytewise r.spilled r.small (D.seen c.write_at.new.self) _ is
 
 pub returns-in_err-write_at-clause-any_moment : goal.returns-in_err-write_at-clause-any_moment
 returns-in_err-write_at-clause-any_moment g c = written g (goal.at.returns-in_err-write_at-clause-any_moment g c).After-write_at
@@ -77,8 +77,10 @@ returns-clause-ok g c =
     let only = c.in_ok-sync.ensures.durable in
     let all = counted seen leave left last log r.sound g.D.Device.bytewise r.counted r.bytewise r.spilled r.small in
     let is = ended seen leave left last log r.sound g.D.Device.bytewise r.counted r.bytewise r.spilled r.small c.write_at.new.self _ c.counted_end.ensures c.in_ok-write_at.ensures.written in
-    let now = c.sync.ensures.seen ∙ opened_file seen leave left last log r.sound g.D.Device.bytewise r.counted r.bytewise r.spilled r.small (seen c.write_at.new.self) (seen c.write_at-2.new.self) is c.in_ok-write_at-2.ensures.written in
-    let whole = synced seen leave left last log r.sound all _ (once_length seen leave left last log r.sound g.D.Device.bytewise r.counted r.bytewise r.spilled r.small) refl r.spilled refl now
+    let now = c.sync.ensures.seen ∙ opened_file seen leave left last log r.sound g.D.Device.bytewise r.counted r.bytewise r.spilled r.small (seen c.write_at.new.self) (seen c.write_at-2.new.self) _ is c.in_ok-write_at-2.ensures.written in
+    let long : length c.counted_end.result ≡ 10 = ap length c.counted_end.ensures in
+    let zeros = zeros_after seen leave left last log r.sound (length c.counted_end.result) ∙ ap (λ (n : ℕ). replicate n 0) (let size = log.size in let end = log.end in omega (arith, long)) in
+    let whole = synced seen leave left last log r.sound all _ _ (once_length seen leave left last log r.sound g.D.Device.bytewise r.counted r.bytewise r.spilled r.small) refl r.spilled refl now (omega (arith, r.fits)) zeros
     (λ x was. only x was ∙ sym c.sync.ensures.seen) (λ x was. g.met.D.Device.only_now c.sync.new.self x (subst (λ (n : ℕ). left c.sync.new.self n x) c.in_ok-sync.ensures.synced was)) in
     (whole.0, (all, once_batch seen leave left last log r.sound g.D.Device.bytewise r.counted r.bytewise r.spilled r.small, whole.1), whole.2)
 

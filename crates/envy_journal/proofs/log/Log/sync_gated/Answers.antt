@@ -1,9 +1,10 @@
-use Rattle.std.proofs.Common.{◌≡◌, ◌∙◌, ◌+◌, ◌++◌, ◌∷◌, [], List, ℕ, ap, take, subst, refl, sym}
+use Rattle.std.proofs.Common.{◌≡◌, ◌≤◌, ◌∙◌, ◌+◌, ◌-◌, ◌++◌, ◌∷◌, [], List, ℕ, ap, arith, length, length-append, replicate, take, subst, refl, sym}
 use Rattle.envy_device.specs.Device.{LeavesOnly}
 use Rattle.envy_journal.proofs.Moments.{started, goes_on}
 use Rattle.envy_journal.specs.Log.{held_bytes, kept_bytes}
 use Rattle.envy_journal.proofs.Batches.{counted_none, gated_batch}
-use Rattle.envy_journal.proofs.Synced.{P, after_whole, at_first, batch, batch_length, staged_torn, staged, opened_follows, opened, synced}
+use Rattle.envy_journal.proofs.Spilled.{buffer_length}
+use Rattle.envy_journal.proofs.Synced.{P, after_whole, at_first, batch, batch_length, rest_after, staged_torn, staged, opened_follows, opened, synced, zeros_after}
 use Rattle.envy_journal.proofs.log.Log.sync_gated.Given.{Over}
 use Rattle.envy_journal.proofs.log.Log.sync_gated.Goals.{After-write_at, After-sync, After-write_at-2, After-sync-2}
 use Rattle.envy_journal.proofs.log.Log.sync_gated.Goals as goal
@@ -36,7 +37,7 @@ gate_torn g c =
     let log = c.args.self.now in
     let bytes = ap (λ (l : List ℕ). take (log.used + 2) l) c.deref.ensures.value ∙ c.seal.ensures.sealed in
     let is_staged = staged D.seen D.may_leave D.left_since D.synced log s c.write_at.new.self _ bytes c.in_ok-write_at.ensures.written in
-    opened_follows D.seen D.may_leave D.left_since D.synced log s k.whole (D.may_leave c.sync.new.self) (D.may_leave c.write_at-2.new.self) (D.seen c.write_at.new.self) is_staged c.in_ok-sync.ensures.durable c.write_at-2.ensures.crash
+    opened_follows D.seen D.may_leave D.left_since D.synced log s k.whole (D.may_leave c.sync.new.self) (D.may_leave c.write_at-2.new.self) (D.seen c.write_at.new.self) _ is_staged c.in_ok-sync.ensures.durable c.write_at-2.ensures.crash
 
 at_gate : (g : Over) (c : After-write_at-2 g) → LeavesOnly g.D.Device.moment g.D.Device.left_since c.args.self.now.device c.sync.new.self (P g.D.Device.seen g.D.Device.may_leave g.D.Device.left_since g.D.Device.synced c.args.self.now c.requires.sound)
     → LeavesOnly g.D.Device.moment g.D.Device.left_since c.args.self.now.device c.write_at-2.new.self (P g.D.Device.seen g.D.Device.may_leave g.D.Device.left_since g.D.Device.synced c.args.self.now c.requires.sound)
@@ -68,16 +69,29 @@ returns-clause-any_moment g c =
     let before = at_gate g at.After-write_at-2 (on_disk g at.After-sync (written g at.After-write_at)) in
     goes_on g.D.Device.moment g.D.Device.left_since c.args.self.now.device c.write_at-2.new.self c.sync-2.new.self _ _ before c.sync-2.ensures.time (λ x now. gate_torn g at.After-write_at-2 x (c.sync-2.ensures.crash x now))
 
+-- the zeros after the batch
+abbrev after_batch : (g : Over) (c : After-sync-2 g) → List ℕ
+after_batch g c = rest_after g.D.Device.seen g.D.Device.may_leave g.D.Device.left_since g.D.Device.synced c.args.self.now c.requires.sound (length (take (c.args.self.now.used + 2) c.deref.result.now))
+
 -- the file in the end
-file : (g : Over) (c : After-sync-2 g) → g.D.Device.seen c.sync-2.new.self ≡ (kept_bytes g.D.Device.seen c.args.self.now ++ batch g.D.Device.seen g.D.Device.may_leave g.D.Device.left_since g.D.Device.synced c.args.self.now c.requires.sound) ++ 0 ∷ []
+file : (g : Over) (c : After-sync-2 g) → g.D.Device.seen c.sync-2.new.self ≡ (kept_bytes g.D.Device.seen c.args.self.now ++ batch g.D.Device.seen g.D.Device.may_leave g.D.Device.left_since g.D.Device.synced c.args.self.now c.requires.sound) ++ 0 ∷ after_batch g c
 file g c =
     let s = c.requires.sound in
     let D = g.D.Device in
     let log = c.args.self.now in
     let bytes = ap (λ (l : List ℕ). take (log.used + 2) l) c.deref.ensures.value ∙ c.seal.ensures.sealed in
     let is_staged = staged D.seen D.may_leave D.left_since D.synced log s c.write_at.new.self _ bytes c.in_ok-write_at.ensures.written in
-    let is_open = opened D.seen D.may_leave D.left_since D.synced log s (D.seen c.sync.new.self) (D.seen c.write_at-2.new.self) (c.sync.ensures.seen ∙ is_staged) c.in_ok-write_at-2.ensures.written in
-    c.sync-2.ensures.seen ∙ is_open ∙ after_whole D.seen D.may_leave D.left_since D.synced log s
+    let is_open = opened D.seen D.may_leave D.left_since D.synced log s (D.seen c.sync.new.self) (D.seen c.write_at-2.new.self) (after_batch g c) (c.sync.ensures.seen ∙ is_staged) c.in_ok-write_at-2.ensures.written in
+    c.sync-2.ensures.seen ∙ is_open ∙ after_whole D.seen D.may_leave D.left_since D.synced log s (after_batch g c)
+
+zeros : (g : Over) (c : After-sync-2 g) → after_batch g c ≡ replicate (c.args.self.now.size - (c.args.self.now.end + c.args.self.now.used + 1 + 1)) 0
+zeros g c =
+    let s = c.requires.sound in
+    let D = g.D.Device in
+    let log = c.args.self.now in
+    let bytes = ap (λ (l : List ℕ). take (log.used + 2) l) c.deref.ensures.value ∙ c.seal.ensures.sealed in
+    let long : length (take (log.used + 2) c.deref.result.now) ≡ log.used + 2 = omega (arith, ap length bytes, length-append (take log.used log.buffer.items) (5 ∷ 0 ∷ []), buffer_length D.seen D.may_leave D.left_since D.synced log s) in
+    zeros_after D.seen D.may_leave D.left_since D.synced log s (length (take (log.used + 2) c.deref.result.now)) ∙ ap (λ (n : ℕ). replicate n 0) (omega (arith, long))
 
 pub returns-clause-ok : goal.returns-clause-ok
 returns-clause-ok g c =
@@ -88,7 +102,9 @@ returns-clause-ok g c =
     let last = g.D.Device.synced in
     let log = c.args.self.now in
     let only = c.in_ok-sync-2.ensures.durable in
-    let all = synced seen leave left last log s (batch seen leave left last log s) _ (sym (batch_length seen leave left last log s)) refl refl c.seal.ensures.room (file g (goal.at.returns-clause-ok g c).After-sync-2)
+    let at = (goal.at.returns-clause-ok g c).After-sync-2 in
+    let fits : log.end + log.used + 1 + 1 ≤ log.size = omega (arith, c.requires.fits) in
+    let all = synced seen leave left last log s (batch seen leave left last log s) (after_batch g at) _ (sym (batch_length seen leave left last log s)) refl refl c.seal.ensures.room (file g at) fits (zeros g at)
     (λ x was. only x was ∙ sym c.sync-2.ensures.seen) (λ x was. g.met.D.Device.only_now c.sync-2.new.self x (subst (λ (n : ℕ). left c.sync-2.new.self n x) c.in_ok-sync-2.ensures.synced was)) in
     (all.0, (batch seen leave left last log s, gated_batch (held_bytes seen log), all.1), all.2)
 
@@ -96,10 +112,3 @@ pub returns-clause-counted : goal.returns-clause-counted
 returns-clause-counted g c =
     let ok = returns-clause-ok g c in
     counted_none g.D.Device.seen g.D.Device.may_leave g.D.Device.bytewise _ ok.2 refl (λ x was. c.in_ok-sync-2.ensures.durable x was ∙ sym c.sync-2.ensures.seen)
-
-pub returns-then-self-ge-MOST-clause-any_moment : goal.returns-then-self-ge-MOST-clause-any_moment
-returns-then-self-ge-MOST-clause-any_moment g c =
-    let s = c.requires.sound in
-    let D = g.D.Device in
-    let log = c.args.self.now in
-    started D.moment D.left_since log.device _ (λ x was. at_first D.seen D.may_leave D.left_since D.synced log s x (s.durable x (g.met.D.Device.only_now log.device x was)))

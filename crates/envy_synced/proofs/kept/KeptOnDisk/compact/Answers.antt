@@ -4,6 +4,7 @@ use Rattle.envy_journal.specs.Content.{content_of, holds}
 use Rattle.envy_journal.specs.Head.{StandsFor}
 use Rattle.envy_journal.specs.Journal.{journal_state, kept}
 use Rattle.envy_journal.specs.Log.{kept_bytes}
+use Rattle.envy_disk.specs.declared.on_disk.Compaction.{Compaction}
 use Rattle.envy_journal.specs.Snapshot.{most_of}
 use Rattle.envy_map.specs.Fields.{chart}
 use Rattle.envy_synced.specs.Disk.{IsCompact, IsKept, IsSynced, disk_state}
@@ -65,16 +66,17 @@ returns-in-Ok-clause-synced g c =
     rw (c.replace-last.ensures.value, c.replace-last.ensures.after, c.of.ensures, e.ok.still_alive) fresh
 
 pub returns-in-Ok-clause-compact : goal.returns-in-Ok-clause-compact
-returns-in-Ok-clause-compact g c =
+returns-in-Ok-clause-compact g c = λ done.
     let k = c.args.self.now in
     let new = c.compact.new.self in
     let seen = g.D.Device.seen in
     let moment = g.D.Device.moment in
     let b = g.B.Board.state new.board in
     let e = c.in-Ok.ensures in
-    let short = subst (λ (x : g.row.B.Denot). length (seen new.log.device) ≤ most_of (g.B.Board.state x).shape) (sym e.board) e.short in
-    let few : IsCompact (chart (disk_state seen moment new.log k.synced.value.log b)) = compact_now seen moment new.log k.synced.value.log b short in
-    rw (c.replace-last.ensures.value, c.replace-last.ensures.after, c.of.ensures, e.ok.still_alive) few
+    let few = e.short (c.made_of-made.ensures.done done) in
+    let short = subst (λ (x : g.row.B.Denot). length (seen new.log.device) ≤ most_of (g.B.Board.state x).shape) (sym e.board) few in
+    let compact : IsCompact (chart (disk_state seen moment new.log k.synced.value.log b)) = compact_now seen moment new.log k.synced.value.log b short in
+    rw (c.replace-last.ensures.value, c.replace-last.ensures.after, c.of.ensures, e.ok.still_alive) compact
 
 pub returns-in-Err-clause-answer : goal.returns-in-Err-clause-answer
 returns-in-Err-clause-answer g c =
@@ -87,4 +89,4 @@ returns-in-Err-clause-answer g c =
     let before = k.before.value.log in
     let e = c.in-Err.ensures in
     let dead : new.dead ≡ true = e.dead in
-    rw (dead, e.board) (fails_told (moment was.device) (number (kept_bytes seen was)) (moment before.device) (number (kept_bytes seen before)) j.dead (g.B.Board.state j.board) _ (g.met.B.Steady.steady j.board).on)
+    rw (dead, e.board) (fails_told Compaction (moment was.device) (number (kept_bytes seen was)) (moment before.device) (number (kept_bytes seen before)) j.dead (g.B.Board.state j.board) _ (g.met.B.Steady.steady j.board).on)

@@ -74,4 +74,4 @@ returns-in-Err-clause-answer g c =
     let before = k.before.value.log in
     let e = c.in-Err.ensures in
     let dead : new.dead ≡ true = e.dead in
-    rw (dead, e.board) (fails_told (moment was.device) (number (kept_bytes seen was)) (moment before.device) (number (kept_bytes seen before)) j.dead (g.B.Board.state j.board) _ (g.met.B.Steady.steady j.board).on)
+    rw (dead, e.board) (fails_told (Unit {0}) (moment was.device) (number (kept_bytes seen was)) (moment before.device) (number (kept_bytes seen before)) j.dead (g.B.Board.state j.board) _ (g.met.B.Steady.steady j.board).on)

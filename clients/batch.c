@@ -1,0 +1,97 @@
+/* Batches. Over a mapped file a batch is the transaction of a slot: a process that is killed leaves the whole or nothing of
+   it. Over a durable file nothing is on the disk before a sync, and no sync is made in a batch, so the words of before are
+   kept in memory alone, to undo it. */
+#include "bytes.h"
+#include "known.h"
+#include <stdlib.h>
+#include <string.h>
+
+typedef struct undone {
+    struct undone *before;
+    uint32_t address;
+    size_t n;
+    uint64_t words[];
+} undone;
+
+void batch_forget(bytes *b) {
+    while (b->undone) {
+        undone *last = b->undone;
+        b->undone = last->before;
+        free(last);
+    }
+}
+
+#ifdef ENVY_CLIENT_MAPPED
+static uint32_t begin(bytes *b) { return envy_mapped_begin(&b->file->memory, &b->slot); }
+static uint32_t commit(bytes *b) { return envy_mapped_commit(&b->file->memory, b->slot); }
+
+static uint32_t undo(bytes *b) {
+    known_forget_all(b->known);
+    return envy_mapped_abort(&b->file->memory, b->slot);
+}
+
+static uint32_t put_in_batch(bytes *b, uint32_t address, const uint64_t *words, const uint64_t *old, size_t n) {
+    size_t done;
+    uint32_t holder;
+    (void)old;
+    return envy_mapped_write(&b->file->memory, b->slot, address, words, n, &done, &holder);
+}
+#endif
+
+static uint32_t put_alone(bytes *b, uint32_t address, const uint64_t *words, size_t n) {
+    uint32_t code = ENVY_DONE, holder;
+    for (size_t i = 0; i < n && !code; i++)
+        code = MEMORY_CALL(store)(&b->file->memory, address + (uint32_t)i, words[i], &holder);
+    return code;
+}
+
+#ifndef ENVY_CLIENT_MAPPED
+static uint32_t begin(bytes *b) { return envy_kept_powered(&b->file->memory); }
+
+static uint32_t commit(bytes *b) {
+    batch_forget(b);
+    return ENVY_DONE;
+}
+
+static uint32_t undo(bytes *b) {
+    uint32_t code = ENVY_DONE;
+    known_forget_all(b->known);
+    for (const undone *u = b->undone; u && !code; u = u->before) code = put_alone(b, u->address, u->words, u->n);
+    batch_forget(b);
+    return code;
+}
+
+static uint32_t put_in_batch(bytes *b, uint32_t address, const uint64_t *words, const uint64_t *old, size_t n) {
+    undone *last = malloc(sizeof *last + n * WORD_BYTES);
+    if (!last) return ENVY_NO_MEMORY;
+    *last = (undone){b->undone, address, n};
+    memcpy(last->words, old, n * WORD_BYTES);
+    b->undone = last;
+    return put_alone(b, address, words, n);
+}
+#endif
+
+uint32_t bytes_put(bytes *b, uint32_t address, const uint64_t *words, const uint64_t *old, size_t n) {
+    return b->in_batch ? put_in_batch(b, address, words, old, n) : put_alone(b, address, words, n);
+}
+
+uint32_t bytes_begin(bytes *b) {
+    uint32_t code = begin(b);
+    if (code) return code;
+    b->in_batch = 1;
+    b->length_first = b->length;
+    return ENVY_DONE;
+}
+
+uint32_t bytes_commit(bytes *b) {
+    uint32_t code = commit(b);
+    if (!code) b->in_batch = 0;
+    return code;
+}
+
+uint32_t bytes_abort(bytes *b) {
+    uint32_t code = undo(b);
+    b->in_batch = 0;
+    b->length = b->length_first;
+    return code;
+}

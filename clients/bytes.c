@@ -1,0 +1,285 @@
+#define _GNU_SOURCE
+#include "bytes.h"
+#include "envy_setup.h"
+#include "envy_text.h"
+#include "known.h"
+#include <errno.h>
+#include <fcntl.h>
+#include <stdlib.h>
+#include <string.h>
+#include <sys/stat.h>
+#include <unistd.h>
+
+#if __BYTE_ORDER__ != __ORDER_LITTLE_ENDIAN__
+#error "bytes are taken as they lie in words: this needs a processor that has the lowest byte first"
+#endif
+
+enum { KIND_WORD = 0, LENGTH_WORD = 1, LINE_BYTES = LINE_WORDS * WORD_BYTES, PIECE_WORDS = 512 };
+static const uint64_t PAGE_BYTES = HEADER_WORDS * WORD_BYTES;
+
+const char *bytes_text(uint32_t code) {
+    return code == BYTES_OTHER_KIND ? "the array is another program's" : envy_error_text(code);
+}
+
+/* A background step writes pages back from three quarters of the frames on. */
+static uint32_t mark_of(uint32_t frames) { return frames - frames / 4; }
+
+static uint32_t setup_for(const bytes_options *options, envy_setup *setup) {
+    uint64_t words = options->size / WORD_BYTES + (options->size % WORD_BYTES != 0);
+    uint32_t code = envy_setup_for(HEADER_WORDS + words, options->shadows, setup);
+    if (code || !options->frames) return code;
+    setup->frames = options->frames;
+    setup->mark = mark_of(options->frames);
+    return ENVY_DONE;
+}
+
+uint64_t bytes_largest(const bytes_options *options) {
+    envy_setup setup;
+    bytes_options tried = *options;
+    uint64_t fits = 0, over = UINT64_C(1) << 40;
+    while (over - fits > 1) {
+        tried.size = fits + (over - fits) / 2;
+        if (setup_for(&tried, &setup)) over = tried.size;
+        else fits = tried.size;
+    }
+    return fits;
+}
+
+#ifdef ENVY_CLIENT_MAPPED
+static uint32_t shape_of(const char *path, envy_setup *setup) { return envy_file_shape(path, setup); }
+
+static uint32_t open_file(bytes *b, const char *path, int bytewise) {
+    (void)bytewise;
+    return envy_file_open(b->file, path, &b->setup);
+}
+#else
+static uint32_t number_at(const uint8_t *bytes) {
+    return bytes[0] | (uint32_t)bytes[1] << 8 | (uint32_t)bytes[2] << 16 | (uint32_t)bytes[3] << 24;
+}
+
+/* The shape that the head of a durable file tells: a mark, a version, and six sizes, each of 4 bytes with the lowest first.
+   No call of the library tells it. Whether the version is known, and the file whole, is for the opening to say. */
+static uint32_t shape_of(const char *path, envy_setup *setup) {
+    static const char mark[] = "\1eNVyJNL";
+    enum { MARK_BYTES = sizeof mark - 1, SIZES_AT = MARK_BYTES + 1, SIZE_COUNT = 6, SIZE_BYTES = 4 };
+    uint8_t head[SIZES_AT + SIZE_COUNT * SIZE_BYTES];
+    uint32_t sizes[SIZE_COUNT];
+    int descriptor = open(path, O_RDONLY | O_CLOEXEC);
+    if (descriptor < 0) return ENVY_SYSTEM;
+    ssize_t got = pread(descriptor, head, sizeof head, 0);
+    close(descriptor);
+    if (got < 0) return ENVY_SYSTEM;
+    if (got != sizeof head || memcmp(head, mark, MARK_BYTES)) return ENVY_NO_JOURNAL;
+    for (int i = 0; i < SIZE_COUNT; i++) sizes[i] = number_at(head + SIZES_AT + i * SIZE_BYTES);
+    *setup = (envy_setup){.segments = sizes[0], .rows = sizes[1], .pages = sizes[2], .shadows = sizes[3], .frames = sizes[4],
+                          .entries = sizes[5], .policy = ENVY_GREEDY, .part = 2, .limit = 100, .mark = mark_of(sizes[4])};
+    return ENVY_DONE;
+}
+
+static uint32_t open_file(bytes *b, const char *path, int bytewise) {
+    return (bytewise ? envy_kept_open_file_bytewise : envy_kept_open_file)(b->file, path, &b->setup);
+}
+#endif
+
+/* Places of closed files. A memory's place in the library stays until the process ends, so it serves again. */
+typedef struct place {
+    array_file file; /* first, so that a file's place is known */
+    struct place *next;
+} place;
+static place *spare;
+
+static array_file *take_place(void) {
+    place *p = spare;
+    if (p) {
+        spare = p->next;
+        return &p->file;
+    }
+    if (!(p = malloc(sizeof *p))) return NULL;
+    p->file = (array_file)ARRAY_FILE_INIT;
+    return &p->file;
+}
+
+static void give_place(array_file *file) {
+    place *p = (place *)file;
+    p->next = spare;
+    spare = p;
+}
+
+/* Whether all words of the array are zeros. */
+static uint32_t is_blank(bytes *b, int *blank) {
+    static const uint64_t zeros[PIECE_WORDS];
+    uint64_t words[PIECE_WORDS], all = (uint64_t)b->setup.pages * HEADER_WORDS;
+    *blank = 1;
+    for (uint64_t a = 0; a < all && *blank; a += PIECE_WORDS) {
+        size_t n = all - a < PIECE_WORDS ? (size_t)(all - a) : PIECE_WORDS;
+        uint32_t code = MEMORY_CALL(read)(&b->file->memory, (uint32_t)a, words, n);
+        if (code) return code;
+        *blank = !memcmp(words, zeros, n * WORD_BYTES);
+    }
+    return ENVY_DONE;
+}
+
+/* Reads the header, and names the client in an array that nobody has used. */
+static uint32_t claim(bytes *b, uint64_t kind) {
+    uint64_t header[HEADER_WORDS];
+    uint32_t holder;
+    int blank;
+    uint32_t code = MEMORY_CALL(read)(&b->file->memory, 0, header, HEADER_WORDS);
+    if (code) return code;
+    b->length = header[LENGTH_WORD];
+    if (header[KIND_WORD] == kind) return b->length <= b->room ? ENVY_DONE : (uint32_t)BYTES_OTHER_KIND;
+    if (header[KIND_WORD]) return BYTES_OTHER_KIND;
+    if ((code = is_blank(b, &blank))) return code;
+    if (!blank) return BYTES_OTHER_KIND;
+    code = MEMORY_CALL(store)(&b->file->memory, KIND_WORD, kind, &holder);
+    return code ? code : bytes_sync(b);
+}
+
+uint32_t bytes_open(bytes *b, const char *path, uint64_t kind, const bytes_options *options) {
+    struct stat found;
+    *b = (bytes){.known = NULL};
+    int is_old = !stat(path, &found) && found.st_size;
+    uint32_t code = is_old ? shape_of(path, &b->setup) : setup_for(options, &b->setup);
+    if (code) return code;
+    if (!(b->file = take_place())) return ENVY_NO_MEMORY;
+    if (!(b->known = known_new())) code = ENVY_NO_MEMORY;
+    if (!code) code = open_file(b, path, options->bytewise);
+    if (code) {
+        free(b->known);
+        give_place(b->file);
+        return code;
+    }
+    b->room = (uint64_t)b->setup.pages * PAGE_BYTES - PAGE_BYTES;
+    code = claim(b, kind);
+    if (code) bytes_close(b, 0);
+    return code;
+}
+
+uint32_t bytes_close(bytes *b, int is_kept) {
+    int why = errno;
+    free(b->known);
+    b->known = NULL;
+    batch_forget(b);
+#ifdef ENVY_CLIENT_MAPPED
+    (void)is_kept;
+    uint32_t code = envy_file_close(b->file);
+#else
+    /* a memory that has ended isn't synced when its file is closed */
+    if (!is_kept) envy_kept_close(&b->file->memory);
+    uint32_t code = envy_kept_close_file(b->file);
+    if (!is_kept && code == ENVY_EMPTY) code = ENVY_DONE;
+#endif
+    give_place(b->file);
+    if (!code) errno = why;
+    return code;
+}
+
+static int is_past(const bytes *b, uint64_t at, uint64_t n) { return at > b->room || n > b->room - at; }
+
+static uint32_t word_at(uint64_t at) { return HEADER_WORDS + (uint32_t)(at / WORD_BYTES); }
+
+static uint32_t read_words(bytes *b, uint64_t at, uint64_t *words, size_t n) {
+    if (!n) return ENVY_DONE;
+    uint32_t code = MEMORY_CALL(read)(&b->file->memory, word_at(at), words, n);
+    if (code) return code;
+    b->counts.words_read += n;
+    known_note(b->known, at, words, n);
+    return ENVY_DONE;
+}
+
+uint32_t bytes_read(bytes *b, uint64_t at, void *to, size_t n) {
+    uint64_t words[PIECE_WORDS];
+    if (is_past(b, at, n)) return ENVY_RANGE;
+    if (at % WORD_BYTES == 0 && n % WORD_BYTES == 0 && (uintptr_t)to % WORD_BYTES == 0)
+        return read_words(b, at, to, n / WORD_BYTES);
+    for (uint8_t *next = to; n;) {
+        size_t skip = at % WORD_BYTES, part = sizeof words - skip;
+        if (part > n) part = n;
+        uint32_t code = read_words(b, at - skip, words, (skip + part + WORD_BYTES - 1) / WORD_BYTES);
+        if (code) return code;
+        memcpy(next, (uint8_t *)words + skip, part);
+        next += part;
+        at += part;
+        n -= part;
+    }
+    return ENVY_DONE;
+}
+
+/* Stores the words of a line that differ, from one to another. */
+static uint32_t store_changed(bytes *b, uint64_t number, known_line *line, const uint64_t *words, size_t from, size_t to) {
+    for (size_t i = from; i < to;) {
+        size_t end = i;
+        while (end < to && line->words[end] != words[end]) end++;
+        if (end == i) {
+            i++;
+            continue;
+        }
+        uint32_t address = HEADER_WORDS + (uint32_t)(number * LINE_WORDS + i);
+        uint32_t code = bytes_put(b, address, words + i, line->words + i, end - i);
+        if (code) {
+            known_forget(line);
+            return code;
+        }
+        memcpy(line->words + i, words + i, (end - i) * WORD_BYTES);
+        b->counts.words_stored += end - i;
+        i = end;
+    }
+    return ENVY_DONE;
+}
+
+static uint32_t write_in_line(bytes *b, uint64_t number, size_t skip, const uint8_t *bytes_, size_t n) {
+    uint64_t words[LINE_WORDS];
+    known_line *line;
+    uint32_t code = known_find(b, number, &line);
+    if (code) return code;
+    size_t from = skip / WORD_BYTES, to = (skip + n + WORD_BYTES - 1) / WORD_BYTES;
+    b->counts.words_given += to - from;
+    if (!memcmp((uint8_t *)line->words + skip, bytes_, n)) return ENVY_DONE;
+    memcpy(words + from, line->words + from, (to - from) * WORD_BYTES);
+    memcpy((uint8_t *)words + skip, bytes_, n);
+    return store_changed(b, number, line, words, from, to);
+}
+
+uint32_t bytes_write(bytes *b, uint64_t at, const void *from, size_t n) {
+    if (is_past(b, at, n)) return ENVY_RANGE;
+    for (const uint8_t *next = from; n;) {
+        size_t skip = at % LINE_BYTES, part = LINE_BYTES - skip;
+        if (part > n) part = n;
+        uint32_t code = write_in_line(b, at / LINE_BYTES, skip, next, part);
+        if (code) return code;
+        next += part;
+        at += part;
+        n -= part;
+    }
+    return ENVY_DONE;
+}
+
+uint32_t bytes_zero(bytes *b, uint64_t at, uint64_t n) {
+    static const uint8_t zeros[LINE_BYTES];
+    if (is_past(b, at, n)) return ENVY_RANGE;
+    while (n) {
+        size_t part = LINE_BYTES - at % LINE_BYTES;
+        if (part > n) part = (size_t)n;
+        uint32_t code = bytes_write(b, at, zeros, part);
+        if (code) return code;
+        at += part;
+        n -= part;
+    }
+    return ENVY_DONE;
+}
+
+uint32_t bytes_set_length(bytes *b, uint64_t length) {
+    if (b->length == length) return ENVY_DONE;
+    uint32_t code = bytes_put(b, LENGTH_WORD, &length, &b->length, 1);
+    if (!code) b->length = length;
+    return code;
+}
+
+uint32_t bytes_sync(bytes *b) {
+    b->counts.syncs++;
+#ifdef ENVY_CLIENT_MAPPED
+    return envy_file_sync(b->file);
+#else
+    return envy_kept_sync(&b->file->memory);
+#endif
+}

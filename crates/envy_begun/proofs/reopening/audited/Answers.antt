@@ -1,0 +1,1 @@
+use Rattle.envy_begun.proofs.reopening.audited.Goals as goal

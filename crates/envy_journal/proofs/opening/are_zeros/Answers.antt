@@ -1,0 +1,1 @@
+use Rattle.envy_journal.proofs.opening.are_zeros.Goals as goal

@@ -1,0 +1,283 @@
+/* Kept files at the edge of the process: a handle that was never made, standard streams that are closed, processes that
+   are forked off, a file that is moved while it is open, names that others have, folders in which nothing may be made, and
+   more files than can be open.
+
+     kept_edges FOLDER */
+#include "../../c/envy_kept_file.h"
+#include "../../c/envy_kept_index.h"
+#include <errno.h>
+#include <fcntl.h>
+#include <signal.h>
+#include <stdio.h>
+#include <stdlib.h>
+#include <string.h>
+#include <sys/stat.h>
+#include <sys/wait.h>
+#include <unistd.h>
+
+static const envy_setup setup = {
+    .segments = 4, .rows = 8, .pages = 12, .shadows = 4, .frames = 3, .entries = 2,
+    .policy = ENVY_GREEDY, .limit = 100, .mark = 2,
+};
+
+static void want(int line, uint64_t found, uint64_t wanted) {
+    if (found == wanted) return;
+    int why = errno;
+    dprintf(STDERR_FILENO, "kept_edges.c:%d: %llu, not %llu, errno %d\n", line, (unsigned long long)found,
+            (unsigned long long)wanted, why);
+    _exit(1);
+}
+#define WANT(found, wanted) want(__LINE__, (uint64_t)(found), (uint64_t)(wanted))
+
+static void store(envy_kept_file *f, uint32_t address, uint64_t word) {
+    uint32_t holder;
+    WANT(envy_kept_store(&f->memory, address, word, &holder), ENVY_DONE);
+}
+
+static uint64_t word_at(envy_kept_file *f, uint32_t address) {
+    uint64_t word;
+    WANT(envy_kept_load(&f->memory, address, &word), ENVY_DONE);
+    return word;
+}
+
+/* What a file holds at address 5 when it is opened again. */
+static uint64_t kept_in(const char *path) {
+    envy_kept_file f = ENVY_KEPT_FILE_INIT;
+    WANT(envy_kept_open_file(&f, path, &setup), ENVY_DONE);
+    uint64_t word = word_at(&f, 5);
+    WANT(envy_kept_close_file(&f), ENVY_DONE);
+    return word;
+}
+
+static void make(const char *path, const char *text, mode_t mode) {
+    FILE *file = fopen(path, "w");
+    WANT(file && fputs(text, file) >= 0 && !fclose(file), 1);
+    WANT(chmod(path, mode), 0);
+}
+
+static int is_text(const char *path, const char *text) {
+    char found[100] = {0};
+    FILE *file = fopen(path, "r");
+    if (!file) return 0;
+    size_t n = fread(found, 1, sizeof found - 1, file);
+    fclose(file);
+    return n == strlen(text) && !memcmp(found, text, n);
+}
+
+static void never_made(void) {
+    envy_kept m = ENVY_KEPT_INIT;
+    uint64_t word = 7;
+    uint32_t number;
+    size_t done = 7;
+    envy_counts counts;
+    envy_pair pair;
+    WANT(envy_kept_load(&m, 0, &word), ENVY_EMPTY);
+    WANT(envy_kept_look(&m, 0, &word), ENVY_EMPTY);
+    WANT(envy_kept_view(&m, 0, 0, &word), ENVY_EMPTY);
+    WANT(envy_kept_read(&m, 0, &word, 1), ENVY_EMPTY);
+    WANT(envy_kept_store(&m, 0, 1, &number), ENVY_EMPTY);
+    WANT(envy_kept_begin(&m, &number), ENVY_EMPTY);
+    WANT(envy_kept_put(&m, 0, 0, 1, &number), ENVY_EMPTY);
+    WANT(envy_kept_write(&m, 0, 0, &word, 1, &done, &number), ENVY_EMPTY);
+    WANT(envy_kept_commit(&m, 0), ENVY_EMPTY);
+    WANT(envy_kept_abort(&m, 0), ENVY_EMPTY);
+    WANT(envy_kept_tick(&m, &number), ENVY_EMPTY);
+    WANT(envy_kept_counts(&m, &counts), ENVY_EMPTY);
+    WANT(envy_kept_sync(&m), ENVY_EMPTY);
+    WANT(envy_kept_compact(&m), ENVY_EMPTY);
+    WANT(envy_kept_powered(&m), ENVY_EMPTY);
+    WANT(envy_kept_index_count(&m, &word), ENVY_EMPTY);
+    WANT(envy_kept_index_next(&m, 0, &pair), ENVY_EMPTY);
+    WANT(envy_kept_open(&m, &setup, (const uint8_t *)"", 0, 0), ENVY_EMPTY);
+    envy_kept_close(&m);
+    WANT(word, 7);
+    WANT(done, 0);
+}
+
+/* Ends with the status of a process that was forked off. */
+static void passed(int line, pid_t child) {
+    int status;
+    want(line, (uint64_t)waitpid(child, &status, 0), (uint64_t)child);
+    want(line, (uint64_t)status, 0);
+}
+#define PASSED(child) passed(__LINE__, child)
+
+/* A program whose standard streams are closed, in any combination, and which prints all the same. */
+static void prints(unsigned closed) {
+    envy_kept_file f = ENVY_KEPT_FILE_INIT;
+    for (int stream = 0; stream < 3; stream++)
+        if (closed >> stream & 1) close(stream);
+    WANT(envy_kept_open_file(&f, "streams", &setup), ENVY_DONE);
+    WANT(f.descriptor > 2, 1);
+    store(&f, 5, closed);
+    WANT(envy_kept_sync(&f.memory), ENVY_DONE);
+    for (int i = 0; i < 100; i++) {
+        printf("a text for standard output\n");
+        fprintf(stderr, "%s", closed & 4 ? "a text for standard error\n" : "");
+    }
+    fflush(stdout);
+    WANT(envy_kept_compact(&f.memory), ENVY_DONE);
+    WANT(f.descriptor > 2, 1);
+    printf("a text for standard output\n");
+    fflush(stdout);
+    WANT(envy_kept_close_file(&f), ENVY_DONE);
+    _exit(0);
+}
+
+static void closed_streams(void) {
+    int null = open("/dev/null", O_WRONLY), out = dup(1);
+    fflush(stdout);
+    dup2(null, 1);
+    for (unsigned closed = 0; closed < 8; closed++) {
+        pid_t child = fork();
+        if (!child) prints(closed);
+        PASSED(child);
+        WANT(kept_in("streams"), closed);
+    }
+    dup2(out, 1);
+    close(out);
+    close(null);
+}
+
+/* A process that was forked off works on its copy of the memory, and closes it. */
+static void works_on_a_copy(envy_kept_file *f) {
+    uint32_t holder;
+    for (uint64_t n = 0; n < 20000; n++) {
+        uint32_t code = envy_kept_store(&f->memory, 5, 1000 + n, &holder);
+        if (code == ENVY_OFF) break;
+        WANT(code, ENVY_DONE);
+    }
+    WANT(envy_kept_sync(&f->memory), ENVY_OFF);
+    WANT(envy_kept_compact(&f->memory), ENVY_OFF);
+    WANT(envy_kept_close_file(f), ENVY_OFF);
+    WANT(errno, EPERM);
+    WANT(envy_kept_file_error(f), EPERM);
+    _exit(0);
+}
+
+static void forked(void) {
+    envy_kept_file f = ENVY_KEPT_FILE_INIT, g = ENVY_KEPT_FILE_INIT;
+    WANT(envy_kept_open_file(&f, "forked", &setup), ENVY_DONE);
+    for (uint64_t n = 1; n <= 40; n++) {
+        store(&f, 5, n);
+        pid_t child = fork();
+        if (!child && n % 2) works_on_a_copy(&f);
+        if (!child) {
+            /* as a destructor does, and nothing else */
+            WANT(envy_kept_close_file(&f), ENVY_OFF);
+            _exit(0);
+        }
+        store(&f, 5, 100 + n);
+        WANT(n % 5 ? envy_kept_sync(&f.memory) : envy_kept_compact(&f.memory), ENVY_DONE);
+        PASSED(child);
+        store(&f, 6, n);
+        WANT(envy_kept_sync(&f.memory), ENVY_DONE);
+        WANT(envy_kept_open_file(&g, "forked", &setup), ENVY_LOCKED);
+    }
+    WANT(envy_kept_close_file(&f), ENVY_DONE);
+    WANT(kept_in("forked"), 140);
+    /* a file that was closed isn't locked while such a process lives */
+    WANT(envy_kept_open_file(&f, "forked", &setup), ENVY_DONE);
+    pid_t child = fork();
+    if (!child) {
+        pause();
+        _exit(0);
+    }
+    WANT(envy_kept_close_file(&f), ENVY_DONE);
+    WANT(kept_in("forked"), 140);
+    kill(child, SIGKILL);
+    waitpid(child, NULL, 0);
+}
+
+/* A file that is moved while it is open goes on where it is, and another one at its old path stays as it is. */
+static void moved(void) {
+    envy_kept_file f = ENVY_KEPT_FILE_INIT;
+    WANT(envy_kept_open_file(&f, "moved", &setup), ENVY_DONE);
+    store(&f, 5, 1);
+    WANT(envy_kept_sync(&f.memory), ENVY_DONE);
+    WANT(rename("moved", "away"), 0);
+    make("moved", "another file", 0600);
+    store(&f, 5, 2);
+    WANT(envy_kept_compact(&f.memory), ENVY_APPENDED);
+    WANT(errno, ENOENT);
+    store(&f, 5, 3);
+    WANT(envy_kept_close_file(&f), ENVY_DONE);
+    WANT(is_text("moved", "another file"), 1);
+    WANT(access("moved.envy-new", F_OK), -1);
+    WANT(kept_in("away"), 3);
+}
+
+/* A name that somebody else has is left: a file, a link to nothing, a folder. What a process that was killed left is
+   removed. */
+static void names(void) {
+    envy_kept_file f = ENVY_KEPT_FILE_INIT;
+    struct stat link;
+    make("names.envy-new", "somebody's file", 0600);
+    WANT(symlink("nowhere", "names.envy-new1"), 0);
+    WANT(mkdir("names.envy-new2", 0700), 0);
+    make("names.envy-new3", "left by a process that was killed", S_ISVTX | 0600);
+    WANT(envy_kept_open_file(&f, "names", &setup), ENVY_DONE);
+    WANT(access("names.envy-new3", F_OK), -1);
+    store(&f, 5, 7);
+    WANT(envy_kept_compact(&f.memory), ENVY_DONE);
+    WANT(envy_kept_close_file(&f), ENVY_DONE);
+    WANT(is_text("names.envy-new", "somebody's file"), 1);
+    WANT(lstat("names.envy-new1", &link), 0);
+    WANT(S_ISLNK(link.st_mode), 1);
+    WANT(access("nowhere", F_OK), -1);
+    WANT(access("names.envy-new3", F_OK), -1);
+    WANT(stat("names", &link), 0);
+    WANT(link.st_mode & S_ISVTX, 0);
+    WANT(kept_in("names"), 7);
+}
+
+/* A folder in which nothing may be made, and a name to which nothing can be added, are told at once. */
+static void no_second(void) {
+    envy_kept_file f = ENVY_KEPT_FILE_INIT;
+    char name[256];
+    memset(name, 'n', 250);
+    name[250] = 0;
+    WANT(envy_kept_open_file(&f, name, &setup), ENVY_SYSTEM);
+    WANT(errno, ENAMETOOLONG);
+    WANT(access(name, F_OK), -1);
+    WANT(mkdir("bare", 0777), 0);
+    make("bare/file", "", 0666);
+    WANT(chmod("bare", 0555) | chmod(".", 0755), 0);
+    pid_t child = fork();
+    if (!child) {
+        if (!getuid() && setuid(65534)) _exit(1);
+        /* (if the folder above can't be entered either, the error is the same) */
+        WANT(envy_kept_open_file(&f, "bare/file", &setup), ENVY_SYSTEM);
+        WANT(errno, EACCES);
+        _exit(0);
+    }
+    PASSED(child);
+}
+
+/* More files than can be open at a time are told as that. */
+static void too_many(void) {
+    static envy_kept_file files[ENVY_DISKS + 1];
+    char name[32];
+    for (int i = 0; i <= ENVY_DISKS; i++) {
+        files[i] = (envy_kept_file)ENVY_KEPT_FILE_INIT;
+        snprintf(name, sizeof name, "many%d", i);
+        WANT(envy_kept_open_file(&files[i], name, &setup), i < ENVY_DISKS ? ENVY_DONE : ENVY_TOO_MANY);
+    }
+    for (int i = 0; i < ENVY_DISKS; i++) WANT(envy_kept_close_file(&files[i]), ENVY_DONE);
+    WANT(envy_kept_open_file(&files[ENVY_DISKS], name, &setup), ENVY_DONE);
+    WANT(envy_kept_close_file(&files[ENVY_DISKS]), ENVY_DONE);
+}
+
+int main(int words, char **word) {
+    if (words != 2 || chdir(word[1])) return 2;
+    alarm(300);
+    never_made();
+    closed_streams();
+    forked();
+    moved();
+    names();
+    no_second();
+    too_many();
+    puts("kept files: closed streams, forked processes, a moved file, names that others have and too many files do no harm");
+    return 0;
+}

@@ -1,0 +1,90 @@
+#!/usr/bin/env bash
+# What can be checked of README and docs/ without the program: that each link leads somewhere, that long pages begin with a
+# list of contents, that the versions agree, that each table of figures in docs/PERFORMANCE.md has its command, that sentences
+# are short and plain, that the pages together stay short, and that tables are those of the files that they are made from.
+set -u
+cd "$(dirname "$0")/.."
+failures=0
+python3 - <<'PY' || failures=1
+import glob, os, re, sys
+
+MOST_WORDS_A_SENTENCE = 22
+MOST_ODD_WORDS = 12
+MOST_WORDS = 45000
+LONG = 150
+
+pages = ["README.md"] + sorted(glob.glob("docs/*.md"))
+others = ["c/LINKING.md", "attacks/README.md"]
+text = {page: open(page, encoding="utf-8").read() for page in pages + others}
+failures = 0
+
+
+def fail(why):
+    global failures
+    failures += 1
+    print("page text:", why, file=sys.stderr)
+
+
+def without_code(page):
+    return re.sub(r"(?s:```.*?```)|^ {4}(?! *(?:- |\d+\. )).*$", "", page, flags=re.M)
+
+
+def anchor(heading):
+    plain = re.sub(r"\[([^\]]*)\]\([^)]*\)", r"\1", heading)
+    return re.sub(r"[^\w\- ]", "", plain.lower().strip()).replace(" ", "-")
+
+
+anchors = {page: {anchor(h) for h in re.findall(r"^#+ (.*)$", without_code(it), re.M)} for page, it in text.items()}
+
+# each link names a file that is there, and a heading of it
+for page, it in text.items():
+    for target in re.findall(r"\]\(([^)\s]+)\)", without_code(it)):
+        if re.match(r"[a-z]+:", target):
+            continue
+        file, _, heading = target.partition("#")
+        path = os.path.normpath(os.path.join(os.path.dirname(page), file)) if file else page
+        if not os.path.exists(path):
+            fail(f"{page}: the link {target} leads to no file")
+        elif heading and path in anchors and heading not in anchors[path]:
+            fail(f"{page}: the link {target} leads to no heading of {path}")
+
+# a long page has links to its headings before the second of them
+for page in pages:
+    front = "## ".join(text[page].split("\n## ")[:2])
+    if page != "README.md" and text[page].count("\n") > LONG and len(re.findall(r"\]\(#", front)) < 3:
+        fail(f"{page} has more than {LONG} lines and no list of contents")
+
+# one version
+version = open("VERSION").read().strip()
+for file, pattern in (("rust/Cargo.toml", r'^version = "(.*)"'), ("c/envy_text.h", r'^#define ENVY_VERSION "(.*)"')):
+    found = re.search(pattern, open(file).read(), re.M)
+    if found and found.group(1) != version:
+        fail(f"{file} has the version {found.group(1)}, and VERSION {version}")
+
+# a table of figures has a command in its section
+command = r"examples/[a-z_/.-]+\.sh|\./envy [a-z]+|\.ci/run|make -C"
+for section in re.split(r"(?m)^## ", text["docs/PERFORMANCE.md"])[1:]:
+    figures = [line for line in section.split("\n") if line.startswith("|") and re.search(r"\|\s*[\d,.]+", line)]
+    if figures and not re.search(command, section):
+        fail("docs/PERFORMANCE.md: no command for the figures of \"" + section.split("\n")[0] + "\"")
+
+# sentences: their mean, and words that an engineer reads twice
+for page in pages:
+    prose = re.sub(r"(?s:```.*?```)|^ {4}.*$|^\|.*$|^#.*$|`[^`]*`", " x ", text[page], flags=re.M)
+    lengths = [len(s.split()) for s in re.split(r"(?<=[.!?:;])\s", prose) if len(s.split()) > 2]
+    mean = sum(lengths) / max(1, len(lengths))
+    odd = len(re.findall(r"\b(behind|of before|so many|taken up|but for)\b", prose))
+    odd += len(re.findall(r", where\b|\bWhere\b|\bwhere (?:the|a|an|it|no)\b", prose))
+    if mean > MOST_WORDS_A_SENTENCE:
+        fail(f"{page}: {mean:.1f} words a sentence, {MOST_WORDS_A_SENTENCE} at most")
+    if odd > MOST_ODD_WORDS:
+        fail(f"{page}: {odd} times behind, of before, so many, taken up, but for, or where for if; {MOST_ODD_WORDS} at most")
+
+words = sum(len(re.findall(r"\S*\w\S*", without_code(text[page]))) for page in pages)
+if words > MOST_WORDS:
+    fail(f"README and docs/ have {words} words outside code, {MOST_WORDS} at most")
+print(f"page text: {len(pages)} pages of {words} words outside code")
+sys.exit(failures > 0)
+PY
+examples/tables.sh --compare || failures=1
+exit $failures

@@ -1,0 +1,95 @@
+#!/usr/bin/env bash
+# A release as its user finds it, with stand-ins for the archives, so that nothing is proved here: the program answers from
+# the tar and from the package, help and mistakes too; the man page and the completions name each word and option; the
+# versions agree; what make installs it takes away again; and a second release has the same bytes. It needs gcc and the
+# compiler for 64-bit ARM, and says so if they are missing.
+set -u
+cd "$(dirname "$0")/.."
+for tool in gcc aarch64-linux-gnu-gcc aarch64-linux-gnu-ar aarch64-linux-gnu-objcopy; do
+    if ! $tool --version >/dev/null 2>&1; then
+        echo "released: nothing was tried: $tool doesn't run here" >&2
+        exit 0
+    fi
+done
+program=${ENVY-$(./envy --program)} || exit 1
+work=$(mktemp -d "${TMPDIR:-/tmp}/envy-released.XXXXXX") || exit 1
+trap 'rm -rf "$work"' EXIT
+failures=0
+
+fail() {
+    echo "released: $*" >&2
+    failures=$((failures + 1))
+}
+
+# in a clone of its own, so that out/ here stays as it is
+git clone -q . "$work/clone" || exit 1
+cp release.sh envy VERSION "$work/clone" && cp words/* "$work/clone/words" && cp c/Makefile "$work/clone/c"
+mkdir -p "$work/from/x86_64" "$work/from/aarch64"
+echo 'int envy_stand_in;' >"$work/stand_in.c"
+gcc -c -o "$work/x86_64.o" "$work/stand_in.c"
+aarch64-linux-gnu-gcc -c -o "$work/aarch64.o" "$work/stand_in.c"
+for name in mapped sim kept parted; do
+    ar rcs "$work/from/x86_64/libenvy_$name.a" "$work/x86_64.o"
+    aarch64-linux-gnu-ar rcs "$work/from/aarch64/libenvy_$name.a" "$work/aarch64.o"
+done
+cp "$program" "$work/from/program"
+version=$(cat VERSION)
+(cd "$work/clone" && ./release.sh --from "$work/from" && cksum out/* >"$work/first" && ./release.sh --from "$work/from" && cksum out/* >"$work/second") \
+    >"$work/said" 2>&1 || fail "no release: $(tail -n 3 "$work/said")"
+cmp "$work/first" "$work/second" || fail "a second release has other bytes"
+
+# answers NAME CALL: the program of a release, by the first sample; its help and a mistake
+answers() {
+    "$2" run <examples/first.trace 2>"$work/text" | cmp - examples/first.replies || fail "$1: other replies than in this repository"
+    [ ! -s "$work/text" ] || fail "$1: $(cat "$work/text")"
+    [ "$("$2" --version | head -n 1)" = "envy $version" ] || fail "$1: another version"
+    "$2" help run | grep -q -e '--pages' || fail "$1: no help"
+    [ "$("$2" run --page 8 2>&1 </dev/null | head -n 1)" = 'envy: --page is no option (is it --pages?)' ] || fail "$1: a mistake isn't named"
+    "$2" --prove >"$work/out" 2>&1 && fail "$1: something is proved"
+}
+tar -C "$work" -xzf "$work/clone/out/envy-$version.tar.gz" || fail "the tar isn't one"
+here=$work/envy-$version
+answers "the tar" "$here/envy"
+ln -s "$here/envy" "$work/linked"
+answers "a link to it" "$work/linked"
+if command -v dpkg-deb >/dev/null; then
+    dpkg-deb -x "$work/clone/out/envy_${version}_amd64.deb" "$work/installed" || fail "the package isn't one"
+    answers "the package" "$work/installed/usr/bin/envy"
+    for file in usr/lib/libenvy_parted.a usr/include/envy_kept.h usr/share/envy/aarch64/libenvy_kept.a usr/share/doc/envy/copyright \
+        usr/share/doc/envy/changelog.gz usr/share/man/man1/envy.1.gz usr/share/bash-completion/completions/envy; do
+        [ -s "$work/installed/$file" ] || fail "the package has no $file"
+    done
+else
+    echo "released: no package was tried: dpkg-deb is not on the path" >&2
+fi
+for file in LICENSE NOTICE CHANGELOG.md rust/Cargo.toml lib/x86_64/libenvy_parted.a lib/aarch64/libenvy_parted.a include/envy_parted.h; do
+    [ -s "$here/$file" ] || fail "the tar has no $file"
+done
+grep -q "^version = \"$version\"" "$here/rust/Cargo.toml" || fail "the Rust package has another version"
+grep -q "ENVY_VERSION \"$version\"" "$here/include/envy_text.h" || fail "the header has another version"
+grep -q "^## $version" CHANGELOG.md || fail "CHANGELOG.md has nothing of $version"
+
+# completed WORDS..: what is offered for the last word
+completed() {
+    bash -c '. "$1"; shift; COMP_WORDS=("$@"); COMP_CWORD=$((${#COMP_WORDS[@]} - 1)); _envy; echo "${COMPREPLY[*]}"' - "$here/completions/envy" "$@"
+}
+while IFS='|' read -r word takes; do
+    grep -q "^\.B $word\$" "$here/man/man1/envy.1" || fail "the man page has no $word"
+    case " $(completed envy '') " in *" $word "*) ;; *) fail "$word is not offered" ;; esac
+    offered=$(completed envy "$word" --)
+    [ "$offered" = "$(for it in $takes; do echo "--$it"; done | paste -s -d ' ')" ] || fail "$word: other options are offered: $offered"
+done < <(awk -f words/words.awk -- words/table list)
+for option in $(sed -n 's/^option | \([a-z]*\) .*/\1/p' words/table); do
+    grep -q -F ".B \\-\\-$option" "$here/man/man1/envy.1" || fail "the man page has no --$option"
+done
+[ "$(completed envy run --policy li)" = lifetime ] || fail "no policy is offered"
+
+# what is installed goes again
+make -s -C "$work/clone/c" MAPPED="$work/from/x86_64/libenvy_mapped.a" MEMORY="$work/from/x86_64/libenvy_sim.a" \
+    KEPT="$work/from/x86_64/libenvy_kept.a" PARTED="$work/from/x86_64/libenvy_parted.a" PREFIX="$work/prefix" install || fail "nothing was installed"
+[ "$(find "$work/prefix" -type f | wc -l)" -ge 18 ] || fail "too little was installed"
+make -s -C "$work/clone/c" PREFIX="$work/prefix" uninstall
+[ -z "$(find "$work/prefix" -type f)" ] || fail "uninstall left $(find "$work/prefix" -type f | head -n 3)"
+
+[ "$failures" = 0 ] && echo "released: all is as it must be"
+[ "$failures" = 0 ]
