@@ -18,6 +18,7 @@ use Rattle.envy_args.specs.declared.command.Command.{Command}
 use Rattle.envy_args.specs.declared.command.Command.TheVariants.{Run, Plain, Tpca, Gen, Save, Resume, Audit, Segments, Index, Mirror}
 use Rattle.envy_args.specs.declared.command.WordsFault.{WordsFault}
 use Rattle.envy_args.specs.declared.command.WordsFault.TheVariants.{Form, Setup as Rule}
+use Rattle.envy_base.specs.declared.page.TheConstants.{PAGE_WORDS}
 
 -- a word, a name or a value, as bytes
 abbrev pub Text : Type 0
@@ -183,7 +184,7 @@ after_check (Err fault) next = Err (Rule (rule_of fault))
 -- the records of the load fit
 abbrev pub fits : Area → ℕ → Bool
 fits area pages = nat_le 1 area.branches && (nat_le 1 area.accounts
-    && nat_le (history_at area.branches area.accounts + 4 * area.transfers) (32 * pages))
+    && nat_le (history_at area.branches area.accounts + 4 * area.transfers) (PAGE_WORDS * pages))
 
 -- Commands
 

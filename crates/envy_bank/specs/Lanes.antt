@@ -4,6 +4,7 @@ use Rattle.std.specs.List.{range_with_len, All}
 use Rattle.std.specs.Int.{w64, to_le_bytes, from_le_bytes}
 use Rattle.envy_chip.specs.declared.chip.Mode.TheVariants.{Array}
 use Rattle.envy_chip.specs.Commands.{ChipState, with_erased_block}
+use Rattle.envy_base.specs.declared.page.TheConstants.{PAGE_WORDS}
 
 -- lane j of a row is byte j mod 8 of word j div 8, the least significant byte first
 unfoldable pub lane_of : List ℕ → ℕ → ℕ
@@ -11,7 +12,7 @@ lane_of row j = slice_index (to_le_bytes w64 (slice_index row (j / 8))) (j % 8)
 
 -- so a row is made of the words of eight lanes each
 unfoldable pub row_from : List ℕ → List ℕ
-row_from lanes = map (λ i. from_le_bytes w64 (take 8 (drop (8 * i) lanes))) (range_with_len 0 32)
+row_from lanes = map (λ i. from_le_bytes w64 (take 8 (drop (8 * i) lanes))) (range_with_len 0 PAGE_WORDS)
 
 -- the byte of each chip at the address q
 abbrev pub lanes_at : List ChipState → ℕ → List ℕ

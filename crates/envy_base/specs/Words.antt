@@ -4,6 +4,7 @@ use Rattle.std.specs.List.{list_any}
 use Rattle.envy_base.specs.declared.board.Off.{Off}
 use Rattle.envy_base.specs.declared.board.Trouble.{Trouble}
 use Rattle.envy_base.specs.declared.board.Trouble.TheVariants.{Off as TroubleOff, Bad}
+use Rattle.envy_base.specs.declared.page.TheConstants.{PAGE_WORDS}
 
 pub record Sheet : Type 0 where
   -- what loads read, and what stands after power fails
@@ -61,7 +62,7 @@ Loads old a (Ok v) new = IsTrue new.on × (v ≡ slice_index old.words a) × (ne
 Loads old a (Err off) new = new.on ≡ false
 
 abbrev pub Puts : Sheet → ℕ → ℕ → Result Unit Trouble → Sheet → Type 0
-Puts old a w (Ok done) new = IsTrue new.on × (new.words ≡ slice_set old.words a w) × IsTrue (has new.pages (a / 32))
+Puts old a w (Ok done) new = IsTrue new.on × (new.words ≡ slice_set old.words a w) × IsTrue (has new.pages (a / PAGE_WORDS))
 Puts old a w (Err TroubleOff) new = new.on ≡ false
 Puts old a w (Err Bad) new = IsTrue new.on × (new.words ≡ old.words) × (new.pages ≡ old.pages) × Rose old.bads new.bads
 

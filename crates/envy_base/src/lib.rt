@@ -12,6 +12,7 @@ mod board;
 mod counts;
 mod fields;
 mod laws;
+mod page;
 mod shape;
 mod words;
 
@@ -23,5 +24,6 @@ pub use fields::{Job, Place, Slot, Undo};
 pub use laws::{
     restart_keeps_the_array, step_gives_one_answer, step_keeps_the_array, zeros_are_an_array,
 };
-pub use shape::{Shape, ShapeFault};
+pub use page::{Page, PAGE_BYTES, PAGE_LENGTH, PAGE_WORDS};
+pub use shape::{positions_of, Shape, ShapeFault, MOST_ROWS};
 pub use words::Words;

@@ -1,5 +1,8 @@
-ghost use Rattle.std.specs.Prelude.{◌≡◌, OnOk};
-ghost use Rattle.envy_base.specs.Shape.{IsShape, checked};
+ghost use Rattle.std.specs.Prelude.{◌≡◌, ◌≤◌, OnOk};
+ghost use Rattle.envy_base.specs.Shape.{IsShape, checked, positions_of};
+
+/// The most rows of a board: a place and an undo of the map hold a row below it in 32 bits.
+pub const MOST_ROWS: u32 = 16_777_216;
 
 /// The sizes of a board.
 #[derive(Clone, Copy, Debug, PartialEq, Eq)]
@@ -33,7 +36,7 @@ pub enum ShapeFault {
     Entries,
     /// Pages and shadows exceed the rows of all segments but two.
     Share,
-    /// More than 1,048,576 rows.
+    /// More than 16,777,216 rows.
     Total,
 }
 
@@ -65,9 +68,17 @@ impl Shape {
         {
             return Err(ShapeFault::Share);
         }
-        if shape.segments * shape.rows > 1048576 {
+        if shape.segments * shape.rows > MOST_ROWS {
             return Err(ShapeFault::Total);
         }
         Ok(())
     }
+}
+
+/// How many positions a board of this shape has: one for each segment but the spare.
+pub fn positions_of(shape: &Shape) -> u32
+    requires some { 1 ≤ shape.now.segments }
+    ensures { result ≡ positions_of shape.now }
+{
+    shape.segments - 1
 }

@@ -13,7 +13,7 @@ ghost use Rattle.envy_base.specs.Words.{
   has,
 };
 
-use crate::{Off, Trouble};
+use crate::{Off, PAGE_WORDS, Trouble};
 
 /// A memory of words of 64 bits, 32 to a page, with one transaction at a time. A transaction may put
 /// words in a limited number of pages. Where power fails, the transaction is undone, but one that was
@@ -45,9 +45,9 @@ pub trait Words {
     fn put(&mut self, a: u32, w: u64) -> Result<(), Trouble>
         requires address { a < length (sheet self.old).words }
         requires begun { IsTrue (sheet self.old).started }
-        requires room { IsTrue (has (sheet self.old).pages (a / 32))
+        requires room { IsTrue (has (sheet self.old).pages (a / PAGE_WORDS))
             ⊎ (length (sheet self.old).pages < (sheet self.old).room) }
-        ensures works { OnPage (a / 32) (sheet self.old) (sheet self.new) }
+        ensures works { OnPage (a / PAGE_WORDS) (sheet self.old) (sheet self.new) }
         ensures answer { Puts (sheet self.old) a w result (sheet self.new) };
 
     /// Keeps what the open transaction put, and closes it. After `Off` it stands or is undone.

@@ -6,7 +6,7 @@ ghost use Rattle.envy_base.specs.State.{IsBoard};
 ghost use Rattle.envy_bench.specs.Parts.{state_of};
 
 use crate::flash::Flash;
-use envy_base::{Bench, Board, NoMemory, Off, Shape, Trouble};
+use envy_base::{Bench, Board, NoMemory, Off, Page, Shape, Trouble};
 use envy_map::words;
 use envy_power::{Event, Sram, Supply};
 use std::alloc::Global;
@@ -118,7 +118,7 @@ impl MemBoard {
     #[cold]
     #[inline(never)]
     #[tactic(auto, unfolding(envy_base::specs::Counting::up, envy_power::specs::Power::up))]
-    fn program_planned(&mut self, row: u32, page: &[u64; 32]) -> Result<(), Trouble>
+    fn program_planned(&mut self, row: u32, page: &Page) -> Result<(), Trouble>
         requires { row < length (board_state self.old).flash }
         ensures state { Programs (board_state self.old) row page.now result (board_state self.new) }
         ensures exact { IsTrue (board_state self.old).on
@@ -181,7 +181,7 @@ impl Board for MemBoard {
     }
 
     #[tactic(auto, unfolding(envy_base::specs::Counting::up, envy_power::specs::Power::up))]
-    fn program(&mut self, row: u32, page: &[u64; 32]) -> Result<(), Trouble>
+    fn program(&mut self, row: u32, page: &Page) -> Result<(), Trouble>
         requires { row < length (board_state self.old).flash }
         ensures state { Programs (board_state self.old) row page.now result (board_state self.new) }
         ensures exact { IsTrue (board_state self.old).on

@@ -6,7 +6,7 @@ ghost use Rattle.envy_btree.specs.Tree.{window, Shows, Rising, keys_of, values_o
 ghost use Rattle.envy_btree.specs.Nodes.{IsRead, pasted, OnlyPiece, Ranks, IsSet, IsDropped};
 
 use arrayvec::ArrayVec;
-use envy_base::{Off, Trouble, Words};
+use envy_base::{Off, PAGE_WORDS, Trouble, Words};
 
 /// A node of the tree: its keys, and its values or children.
 #[derive(Drop)]
@@ -104,9 +104,9 @@ pub(crate) fn read_node<W: Words>(words: &mut W, piece: u32) -> Result<Node, Off
 pub(crate) fn write_list<W: Words>(words: &mut W, a: u32, list: &[u64]) -> Result<(), Trouble>
     requires begun { IsTrue (W.sheet words.old).started }
     requires within { a + length list.now ≤ length (W.sheet words.old).words }
-    requires page { a % 32 + length list.now ≤ 32 }
+    requires page { a % PAGE_WORDS + length list.now ≤ PAGE_WORDS }
     requires room { length (W.sheet words.old).pages + 1 ≤ (W.sheet words.old).room }
-    ensures works { OnPage (a / 32) (W.sheet words.old) (W.sheet words.new) }
+    ensures works { OnPage (a / PAGE_WORDS) (W.sheet words.old) (W.sheet words.new) }
     ensures fails { Fails (W.sheet words.old) result (W.sheet words.new) }
     ensures list { OnOk result
         ((W.sheet words.new).words ≡ pasted a list.now (length list.now) (W.sheet words.old).words) }

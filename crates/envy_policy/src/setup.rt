@@ -1,7 +1,7 @@
 ghost use Rattle.std.specs.Prelude.{◌≡◌, ◌≤◌, OnOk};
 ghost use Rattle.envy_policy.specs.Setup.{IsSetup, checked, rule_of, run_of, victims_of};
 
-use envy_base::{Shape, ShapeFault};
+use envy_base::{Shape, ShapeFault, positions_of};
 
 /// How the cleaner chooses a position to write to. The positions are split into partitions of
 /// consecutive positions, and each page is written back into its own partition where that has room.
@@ -101,7 +101,7 @@ impl Setup {
         let setup = *self;
         setup.shape.check()?;
         if let Policy::Hybrid(part) = setup.policy {
-            if part == 0 || part > setup.shape.segments - 1 {
+            if part == 0 || part > positions_of(&setup.shape) {
                 return Err(SetupFault::Part);
             }
         }
