@@ -126,7 +126,7 @@ fn positions_fit<B: Board>(board: &B) -> Result<bool, Off>
         Tells c.on ((k : ℕ) → k < positions_of c.shape → slice_index c.fields.positions k < c.shape.segments) result }
 {
     let shape = board.shape();
-    for position in 0..positions_of(shape) {
+    for position in 0..positions_of(&shape) {
         if probe::segment_at(board, position)? >= shape.segments as u64 {
             return Ok(false);
         }

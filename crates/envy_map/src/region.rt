@@ -43,7 +43,7 @@ pub fn table_start(shape: &Shape) -> u32
     requires { IsShape shape.now }
     ensures { result ≡ table_at shape.now }
 {
-    position_start(shape) + (positions_of(shape))
+    position_start(shape) + positions_of(shape)
 }
 
 /// The first word of the undos of pages.
