@@ -1,6 +1,7 @@
 -- What a board is, and what each of its calls does.
-use Rattle.std.specs.Prelude.{◌≡◌, ◌≢◌, ◌⊎◌, ℕ, ◌-◌, ◌*◌, ◌/◌, ◌^◌, ◌<◌, Bool, true, false, IsTrue, List, [], ◌∷◌, length, slice_set, slice_index, slice_index_or, bit_and, replicate, Result, Ok, Err}
+use Rattle.std.specs.Prelude.{◌≡◌, ◌≢◌, ◌⊎◌, ℕ, ◌-◌, ◌*◌, ◌/◌, ◌^◌, ◌<◌, Bool, true, false, IsTrue, List, [], ◌∷◌, length, slice_set, slice_index, slice_index_or, bit_and, replicate, Option, Some, None, Result, Ok, Err}
 use Rattle.envy_base.specs.declared.shape.Shape.{Shape}
+use Rattle.envy_base.specs.declared.faults.PlannedFault.{PlannedFault}
 use Rattle.envy_base.specs.declared.board.Off.{Off}
 use Rattle.envy_base.specs.declared.board.Trouble.{Trouble}
 use Rattle.envy_base.specs.declared.board.Trouble.TheVariants.{Off as TroubleOff, Bad}
@@ -20,9 +21,10 @@ pub record State : Type 0 where
   pub bads : ℕ
   pub begun : ℕ
   pub erases : List ℕ
-  -- cuts by hand, plans made, returns of power left, and those that the board was made with
+  -- cuts by hand, plans made and the last of them, returns of power left, and those that the board was made with
   pub pulled : ℕ
   pub plans : ℕ
+  pub last_plan : Option PlannedFault
   pub lives : ℕ
   pub given : ℕ
 
@@ -110,8 +112,8 @@ abbrev pub lit : State → State
 lit s = record s { on = true; lives = s.lives - 1 }
 
 -- a failure is planned
-abbrev pub planned : State → State
-planned s = record s { plans = up s.plans }
+abbrev pub planned : PlannedFault → State → State
+planned fault s = record s { plans = up s.plans; last_plan = Some fault }
 
 -- a new board of this shape, whose power can return so often
 pub record IsMade (sh : Shape) (returns : ℕ) (s : State) : Type 0 where
@@ -125,3 +127,4 @@ pub record IsMade (sh : Shape) (returns : ℕ) (s : State) : Type 0 where
   pub erases : (e : ℕ) → slice_index s.erases e ≡ 0
   pub pulled : s.pulled ≡ 0
   pub plans : s.plans ≡ 0
+  pub last_plan : s.last_plan ≡ None

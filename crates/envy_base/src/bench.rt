@@ -2,7 +2,7 @@ ghost use Rattle.std.specs.Prelude.{◌≡◌, ◌<◌, ◌≤◌, ◌↔◌, �
 ghost use Rattle.envy_base.specs.State.{State, pull, lit, planned, IsMade};
 ghost use Rattle.envy_base.specs.Shape.{IsShape};
 
-use crate::{Board, Shape};
+use crate::{Board, PlannedFault, Shape};
 use std::alloc::{AllocError, Global};
 
 /// Memory ran out.
@@ -14,13 +14,13 @@ pub trait Bench: Board {
     /// count), in place of an earlier such plan. What the cut leaves is drawn from `g`.
     fn arm_cut(&mut self, k: u32, g: u64)
         requires { 1 ≤ k }
-        ensures { Self.state self.new ≡ planned (Self.state self.old) };
+        ensures { Self.state self.new ≡ planned (PlannedFault.Cut k g) (Self.state self.old) };
 
     /// Plans a bad operation at the `k`-th flash operation from now (`program` and `erase` count),
     /// in place of an earlier such plan. What it leaves is drawn from `g`.
     fn arm_bad(&mut self, k: u32, g: u64)
         requires { 1 ≤ k }
-        ensures { Self.state self.new ≡ planned (Self.state self.old) };
+        ensures { Self.state self.new ≡ planned (PlannedFault.Bad k g) (Self.state self.old) };
 
     /// Cuts power between two operations.
     fn cut_now(&mut self)

@@ -10,6 +10,7 @@ mod area;
 mod bench;
 mod board;
 mod counts;
+mod faults;
 mod fields;
 mod laws;
 mod page;
@@ -20,6 +21,7 @@ pub use area::Area;
 pub use bench::{Bench, Maker, NoMemory};
 pub use board::{Board, Off, Trouble};
 pub use counts::Counts;
+pub use faults::PlannedFault;
 pub use fields::{Job, Place, Slot, Undo};
 pub use laws::{
     restart_keeps_the_array, step_gives_one_answer, step_keeps_the_array, zeros_are_an_array,
