@@ -19,6 +19,7 @@ use Rattle.envy_args.specs.declared.command.Command.TheVariants.{Run, Plain, Tpc
 use Rattle.envy_args.specs.declared.command.WordsFault.{WordsFault}
 use Rattle.envy_args.specs.declared.command.WordsFault.TheVariants.{Form, Setup as Rule}
 use Rattle.envy_base.specs.declared.page.TheConstants.{PAGE_WORDS}
+use Rattle.envy_base.specs.declared.shape.TheConstants.{MOST_ROWS}
 
 -- a word, a name or a value, as bytes
 abbrev pub Text : Type 0
@@ -226,7 +227,7 @@ mixed pages stores (Err fault) = Err fault
 abbrev pub mix_of : ℕ → Option ℕ → Option ℕ → Option ℕ → Result Mix WordsFault
 mix_of pages hot share stores =
     if pages == 0 then Err (Rule 3)
-    else (if nat_lt 1048576 pages then Err (Rule 7)
+    else (if nat_lt MOST_ROWS pages then Err (Rule 7)
     else (if not (is_per_cent hot && (is_per_cent share && is_per_cent stores)) then Err (Rule 15)
     else mixed pages stores (skew_of hot share)))
 

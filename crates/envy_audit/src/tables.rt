@@ -6,7 +6,7 @@ ghost use Rattle.envy_audit.specs.Finding.{Tells};
 ghost use Rattle.envy_audit.specs.Points.{Decodes, PositionsDiffer, FramesDiffer, RowsDiffer, rows_of};
 ghost use Rattle.envy_audit.specs.Tables.{MarksPlaced, NotesOwners, Notes, IsWithin, Fills};
 
-use envy_base::{Board, Off, Place, Slot, Undo, positions_of};
+use envy_base::{Board, Off, Place, Slot, Undo, positions_of, MOST_ROWS};
 use envy_map::{place, segment_at, slot, undo};
 
 /// Notes which segments stand at positions, and answers whether no two positions name one.
@@ -69,7 +69,7 @@ fn kept_place<B: Board>(board: &B, page: u32, now: Place) -> Result<Place, Off>
 /// another's.
 fn note(owners: &mut [u32], page: u32, place: Place) -> bool
     requires place { IsWithin (length owners.old) place }
-    requires page { page < 1048576 }
+    requires page { page < MOST_ROWS }
     ensures { Notes page place owners.old result owners.new }
 {
     let Place::Row(row) = place else {

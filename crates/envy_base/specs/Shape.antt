@@ -9,17 +9,20 @@ use Rattle.envy_base.specs.declared.shape.TheConstants.{MOST_ROWS}
 abbrev pub positions_of : Shape → ℕ
 positions_of sh = sh.segments - 1
 
--- the first rule that fails
-unfoldable pub checked : Shape → Result Unit ShapeFault
-checked sh =
+-- the first rule that fails, of a board of so many rows at most
+unfoldable pub checked_within : ℕ → Shape → Result Unit ShapeFault
+checked_within most sh =
     if nat_lt sh.segments 4 || nat_lt 4096 sh.segments then Err Segments
     else (if nat_lt sh.rows 2 || nat_lt 65536 sh.rows then Err Rows
     else (if sh.pages == 0 then Err Pages
     else (if nat_lt sh.frames 2 || nat_lt 65536 sh.frames then Err Frames
     else (if sh.entries == 0 || nat_lt 65536 sh.entries then Err Entries
     else (if nat_lt ((sh.segments - 2) * sh.rows) (sh.pages + sh.shadows) then Err Share
-    else (if nat_lt MOST_ROWS (sh.segments * sh.rows) then Err Total
+    else (if nat_lt most (sh.segments * sh.rows) then Err Total
     else Ok tt))))))
+
+abbrev pub checked : Shape → Result Unit ShapeFault
+checked sh = checked_within MOST_ROWS sh
 
 -- the sizes of a shape that checks
 pub record IsShape (sh : Shape) : Type 0 where

@@ -25,6 +25,6 @@ impl Area {
         let history = (balances + 3) / 4 * 4;
         area.branches >= 1
             && area.accounts >= 1
-            && history + 4 * area.transfers as u128 <= PAGE_WORDS * pages as u128
+            && history + 4 * area.transfers as u128 <= PAGE_WORDS as u128 * pages as u128
     }
 }

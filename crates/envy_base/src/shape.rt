@@ -1,5 +1,5 @@
 ghost use Rattle.std.specs.Prelude.{◌≡◌, ◌≤◌, OnOk};
-ghost use Rattle.envy_base.specs.Shape.{IsShape, checked, positions_of};
+ghost use Rattle.envy_base.specs.Shape.{IsShape, checked, checked_within, positions_of};
 
 /// The most rows of a board: a place and an undo of the map hold a row below it in 32 bits.
 pub const MOST_ROWS: u32 = 16_777_216;
@@ -36,15 +36,24 @@ pub enum ShapeFault {
     Entries,
     /// Pages and shadows exceed the rows of all segments but two.
     Share,
-    /// More than 16,777,216 rows.
+    /// More rows than may be: 16,777,216, or fewer where the caller says so.
     Total,
 }
 
 impl Shape {
     /// Answers the first rule that fails, in the order in which `ShapeFault` lists them.
-    #[tactic(auto, unfolding(crate::specs::Shape::checked))]
     pub fn check(&self) -> Result<(), ShapeFault>
         ensures table { result ≡ checked self.now }
+        ensures sizes { OnOk result (IsShape self.now) }
+    {
+        self.check_within(MOST_ROWS)
+    }
+
+    /// Answers the first rule that fails, for a board of at most so many rows.
+    #[tactic(auto, unfolding(crate::specs::Shape::checked_within))]
+    pub fn check_within(&self, most: u32) -> Result<(), ShapeFault>
+        requires most { most ≤ MOST_ROWS }
+        ensures table { result ≡ checked_within most self.now }
         ensures sizes { OnOk result (IsShape self.now) }
     {
         let shape = *self;
@@ -68,7 +77,7 @@ impl Shape {
         {
             return Err(ShapeFault::Share);
         }
-        if shape.segments * shape.rows > MOST_ROWS {
+        if shape.segments * shape.rows > most {
             return Err(ShapeFault::Total);
         }
         Ok(())

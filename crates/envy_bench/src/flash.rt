@@ -2,7 +2,7 @@ ghost use Rattle.std.specs.Prelude.{◌≡◌, ◌*◌, ◌<◌, ◌≤◌, IfOk
 ghost use Rattle.envy_bank.specs.Rows.{IsBank, ErasesBlock, ands, erased_bank, row_of, with_row};
 ghost use Rattle.envy_bench.specs.TornRows.{torn_row, TearsRows};
 
-use envy_base::{PAGE_WORDS, Page};
+use envy_base::{PAGE_WORDS, Page, MOST_ROWS};
 use crate::torn::next_row;
 use envy_bank::{Bank, NoMemory};
 use envy_power::Torn;
@@ -49,7 +49,7 @@ impl Flash {
     pub fn new(alloc: Global, segments: u32, rows: u32) -> Result<Flash, NoMemory>
         requires segments { 1 ≤ segments }
         requires rows { 1 ≤ rows }
-        requires size { segments * rows ≤ 1048576 }
+        requires size { segments * rows ≤ MOST_ROWS }
         ensures erased { IfOk result (λ flash. flash ≡ erased_bank segments rows) }
         ensures whole { IfOk result IsBank }
     {

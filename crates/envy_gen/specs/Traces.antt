@@ -11,6 +11,7 @@ use Rattle.envy_trace.specs.Spelling.{line_bytes}
 use Rattle.envy_gen.specs.declared.mix.Mix.{Mix}
 use Rattle.envy_gen.specs.declared.mix.Skew.{Skew}
 use Rattle.envy_base.specs.declared.page.TheConstants.{PAGE_WORDS}
+use Rattle.envy_base.specs.declared.shape.TheConstants.{MOST_ROWS}
 
 -- all that the generator PCG64 (XSL RR 128/64) will answer whose seed of 32 bytes is expanded from `start`
 unfoldable pub answers_of : ℕ → Stream
@@ -22,7 +23,7 @@ IsPerCent n = (1 ≤ n) × (n ≤ 99)
 -- what lines can be drawn by
 pub record IsMix (mix : Mix) : Type 0 where
   pub some : 1 ≤ mix.pages
-  pub few : mix.pages ≤ 1048576
+  pub few : mix.pages ≤ MOST_ROWS
   pub hot : IfSome mix.skew (λ skew. IsPerCent skew.hot)
   pub share : IfSome mix.skew (λ skew. IsPerCent skew.share)
   pub stores : IfSome mix.stores IsPerCent

@@ -2,6 +2,7 @@ ghost use Rattle.std.specs.Prelude.{◌≡◌, ◌≤◌};
 ghost use Rattle.envy_trace.specs.Spelling.{HasPlace};
 ghost use Rattle.envy_gen.specs.Traces.{IsMix, address_of, drawn, hot_pages, next_line};
 
+use envy_base::MOST_ROWS;
 use crate::mix::{Mix, Skew};
 use envy_trace::Line;
 use rand_core::Rng;
@@ -15,7 +16,7 @@ const DRAWN_SLOTS: u64 = 4;
 /// The hot pages among so many.
 fn hot_pages(pages: u32, skew: &Skew) -> u32
     requires some { 1 ≤ pages }
-    requires few { pages ≤ 1048576 }
+    requires few { pages ≤ MOST_ROWS }
     requires hot { skew.now.hot ≤ 99 }
     ensures value { result ≡ hot_pages pages skew.now }
     ensures some { 1 ≤ result }

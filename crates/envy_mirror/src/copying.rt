@@ -5,7 +5,7 @@ ghost use Rattle.envy_mirror.specs.Asking.{Reckons};
 ghost use Rattle.envy_mirror.specs.Catching.{Copies};
 ghost use Rattle.envy_mirror.specs.Pair.{IsClosed};
 
-use envy_base::{Bench, PAGE_WORDS, Trouble};
+use envy_base::{Bench, PAGE_WORDS, Trouble, MOST_ROWS};
 use envy_memory::{Memory, StoreFault};
 
 /// Copies one word of a page.
@@ -49,7 +49,7 @@ pub fn copy_page<A: Bench, B: Bench>(
     requires closed { IsClosed to.old.chart }
     requires shape { to.old.chart.shape ≡ from.now.chart.shape }
     requires within { page < to.old.chart.shape.pages }
-    requires few { to.old.chart.shape.pages ≤ 1048576 }
+    requires few { to.old.chart.shape.pages ≤ MOST_ROWS }
     ensures closed { IsTrue to.new.chart.on → IsClosed to.new.chart }
     ensures copies { OnOk result (Copies page from.now.chart to.old.chart to.new.chart) }
     ensures others { IsErrOf result Trouble.Bad → (a : ℕ) → a / PAGE_WORDS ≢ page

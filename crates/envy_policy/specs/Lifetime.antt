@@ -8,6 +8,7 @@ use Rattle.envy_policy.specs.declared.fraction.Fraction.{Fraction}
 use Rattle.envy_policy.specs.declared.fraction.Weighed.{Weighed}
 use Rattle.envy_policy.specs.Choice.{IsLeast}
 use Rattle.envy_policy.specs.Notes.{Notes, class_of, open_for}
+use Rattle.envy_base.specs.declared.shape.TheConstants.{MOST_ROWS}
 
 -- the numbers of free, of dead and of kept rows at each position
 pub record RowCounts : Type 0 where
@@ -101,5 +102,5 @@ pub record IsCounted (positions : ℕ) (rows : RowCounts) : Type 0 where
   pub free : length rows.free ≡ positions
   pub dead : length rows.dead ≡ positions
   pub kept : length rows.kept ≡ positions
-  pub few_dead : (position : ℕ) → slice_index rows.dead position ≤ 1048576
-  pub few_kept : (position : ℕ) → slice_index rows.kept position ≤ 1048576
+  pub few_dead : (position : ℕ) → slice_index rows.dead position ≤ MOST_ROWS
+  pub few_kept : (position : ℕ) → slice_index rows.kept position ≤ MOST_ROWS
