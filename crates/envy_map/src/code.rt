@@ -83,7 +83,7 @@ pub fn decode_place(number: u64) -> Option<Place>
 {
     if number == 0 {
         Some(Place::Absent)
-    } else if number % 4 == 1 && number / 4 < MOST_ROWS {
+    } else if number % 4 == 1 && number / 4 < MOST_ROWS as u64 {
         Some(Place::Row((number / 4) as u32))
     } else if number % 4 == 2 && number / 4 < 65_536 {
         Some(Place::Frame((number / 4) as u32))
@@ -117,7 +117,7 @@ pub fn decode_undo(number: u64) -> Option<Undo>
         Some(Undo::Blank {
             slot: (number / 4) as u8,
         })
-    } else if number % 4 == 2 && number / 256 < MOST_ROWS {
+    } else if number % 4 == 2 && number / 256 < MOST_ROWS as u64 {
         Some(Undo::Shadow {
             slot: (number % 256 / 4) as u8,
             row: (number / 256) as u32,
