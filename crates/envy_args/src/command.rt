@@ -34,17 +34,22 @@ pub enum Command {
         setup: Setup,
         lives: u32,
     },
-    /// Read an image, and answer the trace behind it. A mark of None is the image's number of frames.
+    /// Read an image of at most so many rows, and answer the trace behind it. A mark of None is the image's number of frames.
     Resume {
         policy: Policy,
         limit: u64,
         mark: Option<u32>,
         lives: u32,
+        most: u32,
     },
-    /// Read an image and judge it.
-    Audit,
-    /// Read an image and tell its segments.
-    Segments,
+    /// Read an image of at most so many rows, and judge it.
+    Audit {
+        most: u32,
+    },
+    /// Read an image of at most so many rows, and tell its segments.
+    Segments {
+        most: u32,
+    },
     /// Keep an index tree in the memory: a trace of its operations is answered.
     Index {
         setup: Setup,
@@ -65,7 +70,7 @@ pub enum WordsFault {
     /// They are, but break a rule. This is the number of the first: 1 to 10 those of a setup, 11 that
     /// the records of the load fit, 12 that it has shadows enough, 13 that an index has shadows enough, 14
     /// that it has pages enough, 15 that a number of per cent is 1 to 99, 16 that hot pages and their share are
-    /// given together.
+    /// given together, 17 that a board that may be large has no more rows than any may have.
     Setup(u8),
     /// Out of memory.
     Memory,
