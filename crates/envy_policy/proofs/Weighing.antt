@@ -37,7 +37,7 @@ aged-small n rows positions x whole counted =
     let dead = counted.few_dead x in
     let kept = counted.few_kept x in
     let clock = whole.clock in
-    let product = mul-le (slice_index rows.dead x) (n.clock - slice_index n.cleaned x + 1) 1048576 (2 ^ 64) dead (omega arith) in
+    let product = mul-le (slice_index rows.dead x) (n.clock - slice_index n.cleaned x + 1) 16777216 (2 ^ 64) dead (omega arith) in
     record { over = omega arith; under = omega arith }
 
 -- a worth stays far from the end of its type

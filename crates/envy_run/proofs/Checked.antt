@@ -35,13 +35,13 @@ shape-is sh e =
     let frames = passed (nat_lt sh.frames 2 || nat_lt 65536 sh.frames) Frames _ pages.1 in
     let entries = passed (sh.entries == 0 || nat_lt 65536 sh.entries) Entries _ frames.1 in
     let share = passed (nat_lt ((sh.segments - 2) * sh.rows) (sh.pages + sh.shadows)) Share _ entries.1 in
-    let total = passed (nat_lt 1048576 (sh.segments * sh.rows)) Total _ share.1 in
+    let total = passed (nat_lt 16777216 (sh.segments * sh.rows)) Total _ share.1 in
     let s = neither (nat_lt sh.segments 4) (nat_lt 4096 sh.segments) segments.0 in
     let r = neither (nat_lt sh.rows 2) (nat_lt 65536 sh.rows) rows.0 in
     let f = neither (nat_lt sh.frames 2) (nat_lt 65536 sh.frames) frames.0 in
     let n = neither (sh.entries == 0) (nat_lt 65536 sh.entries) entries.0 in
     let within = not-below ((sh.segments - 2) * sh.rows) (sh.pages + sh.shadows) share.0 in
-    let all = not-below 1048576 (sh.segments * sh.rows) total.0 in
+    let all = not-below 16777216 (sh.segments * sh.rows) total.0 in
     let fewer = mul-le (sh.segments - 2) sh.rows sh.segments sh.rows (omega arith) (omega arith) in
     record {
       segments = not-below sh.segments 4 s.0;
