@@ -1,7 +1,7 @@
 ghost use Rattle.std.specs.Prelude.{◌≡◌, ◌*◌, ◌<◌, ◌≤◌, ◌↔◌, IsTrue, IfOk, length, slice_index};
 ghost use Rattle.envy_bank.specs.Rows.{IsBank, ErasesBlock, ands, erased_bank, row_of, with_row};
 
-use envy_base::{PAGE_WORDS, Page};
+use envy_base::{Page, MOST_ROWS, PAGE_WORDS};
 use crate::counting::more;
 use crate::kept::KeptRows;
 use std::alloc::{AllocError, Global};
@@ -33,7 +33,7 @@ impl Bank {
     pub fn new(alloc: Global, blocks: u32, rows: u32) -> Result<Bank, NoMemory>
         requires blocks { 1 ≤ blocks }
         requires rows { 1 ≤ rows }
-        requires size { blocks * rows ≤ 1048576 }
+        requires size { blocks * rows ≤ MOST_ROWS }
         ensures erased { IfOk result (λ bank. bank ≡ erased_bank blocks rows) }
         ensures whole { IfOk result IsBank }
     {

@@ -6,7 +6,7 @@ use envy_base::{PAGE_WORDS, Page};
 use crate::bank::NoMemory;
 use crate::counting::more;
 use crate::lanes::{erase_lanes, new_lanes, program_lanes, read_lanes, upset_lanes};
-use envy_chip::Chip;
+use envy_chip::{Chip, MOST_BYTES};
 use std::alloc::Global;
 use std::marker::Model;
 
@@ -36,7 +36,7 @@ impl ChipBank {
     pub fn new(alloc: Global, blocks: u32, rows: u32) -> Result<ChipBank, NoMemory>
         requires blocks { 1 ≤ blocks }
         requires rows { 1 ≤ rows }
-        requires size { blocks * rows ≤ 1048576 }
+        requires size { blocks * rows ≤ MOST_BYTES }
         ensures erased { IfOk result (λ bank. bank ≡ erased_bank blocks rows) }
         ensures whole { IfOk result IsBank }
     {

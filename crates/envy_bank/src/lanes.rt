@@ -5,6 +5,7 @@ ghost use Rattle.envy_bank.specs.Lanes.{lane_of, IsReady, anded, blanked, EachLa
 
 use envy_base::{PAGE_WORDS, Page};
 use envy_chip::{
+    MOST_BYTES,
     CLEAR_STATUS, Chip, ERASE_CONFIRM, ERASE_SETUP, PROGRAM_ERROR, PROGRAM_SETUP, READ_ARRAY,
 };
 use std::alloc::{AllocError, Global};
@@ -52,7 +53,7 @@ fn erase_lane(chip: &mut Chip, addr: u32)
 pub fn new_lanes(alloc: Global, blocks: u32, rows: u32) -> Result<Vec<Chip>, AllocError>
     requires blocks { 1 ≤ blocks }
     requires rows { 1 ≤ rows }
-    requires size { blocks * rows ≤ 1048576 }
+    requires size { blocks * rows ≤ MOST_BYTES }
     ensures { IfOk result (λ chips. chips.items ≡ replicate 256 (erased_chip blocks rows)) }
 {
     let mut chips = Vec::with_capacity(alloc, LANES)?;

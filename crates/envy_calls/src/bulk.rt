@@ -9,7 +9,6 @@ ghost use Rattle.envy_memory.specs.Picture.{Picture};
 use crate::code::Code;
 use crate::ending::slot_named;
 use crate::faults::put_answer;
-use crate::viewing::PAGE_WORDS;
 use envy_base::{Board, PAGE_WORDS};
 use envy_memory::{LoadFault, Memory};
 

@@ -12,9 +12,6 @@ use envy_base::{Board, PAGE_WORDS, Undo};
 use envy_map::undo;
 use envy_memory::Memory;
 
-/// The words of a page.
-pub(crate) const PAGE_WORDS: u32 = 32;
-
 // The slot that an undo names.
 fn slot_of(undo: Undo) -> Option<u8>
     ensures { result ≡ slot_of_undo (Some undo) }

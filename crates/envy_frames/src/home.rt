@@ -2,7 +2,7 @@ ghost use Rattle.std.specs.Prelude.{◌≡◌, ◌-◌, ◌<◌};
 ghost use Rattle.envy_base.specs.Shape.{IsShape, positions_of};
 ghost use Rattle.envy_frames.specs.Agreement.{default_home};
 
-use envy_base::Shape;
+use envy_base::{positions_of, Shape};
 
 /// The home of a page that was absent, and of each held page after a restart: the positions are
 /// shared out among the pages in order.
@@ -12,5 +12,5 @@ pub fn default_home(shape: &Shape, page: u32) -> u32
     ensures value { result ≡ default_home shape.now page }
     ensures position { result < positions_of shape.now }
 {
-    (page as u64 * (shape.segments as u64 - 1) / shape.pages as u64) as u32
+    (page as u64 * positions_of(shape) as u64 / shape.pages as u64) as u32
 }

@@ -5,7 +5,7 @@ ghost use Rattle.envy_base.specs.Step.{Step, MayOwn, Load, Look, Store, Begin, P
 ghost use Rattle.envy_plain.specs.Refusals.{answer_of};
 
 use crate::refusal::Refusal;
-use crate::saved_word::{PAGE_WORDS, SavedWord, forget, release, restore, word_before};
+use crate::saved_word::{SavedWord, forget, release, restore, word_before};
 use envy_base::{NoMemory, PAGE_WORDS, Shape};
 use std::alloc::Global;
 use std::marker::Model;

@@ -4,9 +4,6 @@ ghost use Rattle.envy_plain.specs.Fields.{saved_by};
 
 use envy_base::PAGE_WORDS;
 
-/// The words of a page.
-pub(crate) const PAGE_WORDS: u32 = 32;
-
 /// A word that an open slot has stored over, as it was before.
 #[derive(Clone, Copy)]
 pub(crate) struct SavedWord {

@@ -97,7 +97,7 @@ abbrev pub HasRowsFor : RowCounts → Choice → Type 0
 HasRowsFor rows (Free position) = (position < length rows.free) × (0 < slice_index rows.free position)
 HasRowsFor rows (Clean position aside) = (position < length rows.dead) × (0 < slice_index rows.dead position) × (aside ≡ None)
 
--- the counts are of so many positions, each of at most 1,048,576 rows
+-- the counts are of so many positions, each of at most the rows of a board
 pub record IsCounted (positions : ℕ) (rows : RowCounts) : Type 0 where
   pub free : length rows.free ≡ positions
   pub dead : length rows.dead ≡ positions
