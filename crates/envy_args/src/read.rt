@@ -1,10 +1,10 @@
-ghost use Rattle.std.specs.Prelude.{◌≡◌, ◌⊎◌, ◌≤◌, map, Ok, Err, MatchResult};
+ghost use Rattle.std.specs.Prelude.{◌≡◌, ◌⊎◌, ◌≤◌, map, codes, Ok, Err, MatchResult};
 ghost use Rattle.std.specs.String.{string_bytes};
-ghost use Rattle.envy_args.specs.Words.{command_of, run_of, plain_of, tpca_of, gen_of, mix_of, skew_of, is_per_cent, save_of, resume_of, audit_of, segments_of, index_of, mirror_of, lives_of, setup_of, shape_of, area_of, run_options, plain_options, tpca_options, gen_options, resume_options, audit_options, most_rows, rule_within};
+ghost use Rattle.envy_args.specs.Words.{command_of, run_of, plain_of, tpca_of, gen_of, mix_of, skew_of, is_per_cent, save_of, resume_of, index_of, mirror_of, lives_of, setup_of, shape_of, area_of, run_options, plain_options, tpca_options, gen_options, resume_options, most_rows, rule_within};
 ghost use Rattle.envy_policy.specs.Setup.{checked_within};
 ghost use Rattle.envy_policy.specs.declared.setup.SetupFault.{SetupFault};
 ghost use Rattle.envy_args.specs.declared.command.WordsFault.TheVariants.{Setup as Rule};
-ghost use Rattle.envy_args.specs.Reading.{GivesIf, are_readable, shape_options, area_options, made, make_of, options_of};
+ghost use Rattle.envy_args.specs.Reading.{GivesIf, has_number, are_readable, shape_options, area_options, made, make_of, options_of};
 
 use crate::command::{Command, WordsFault};
 use crate::options::Options;
@@ -104,8 +104,8 @@ fn make(word: Word, options: &Options) -> Result<Command, WordsFault>
         Word::Gen => generate(options),
         Word::Save => save(options),
         Word::Resume => resume(options),
-        Word::Audit => audit(options),
-        Word::Segments => segments(options),
+        Word::Audit => Ok(Command::Audit),
+        Word::Segments => Ok(Command::Segments),
         Word::Index => index(options),
         Word::Mirror => mirror(options),
     }
@@ -156,28 +156,12 @@ fn resume(options: &Options) -> Result<Command, WordsFault>
     let limit = options.wide_number("limit", 100)?;
     let mark = options.given_number("mark")?;
     let lives = options.number("lives", MOST_LIVES)?;
-    let most = most_rows(options)?;
     Ok(Command::Resume {
         policy,
         limit,
         mark,
         lives,
-        most,
     })
-}
-
-fn audit(options: &Options) -> Result<Command, WordsFault>
-    ensures { result ≡ made audit_options audit_of options.now }
-{
-    let most = most_rows(options)?;
-    Ok(Command::Audit { most })
-}
-
-fn segments(options: &Options) -> Result<Command, WordsFault>
-    ensures { result ≡ made audit_options segments_of options.now }
-{
-    let most = most_rows(options)?;
-    Ok(Command::Segments { most })
 }
 
 fn plain(options: &Options) -> Result<Command, WordsFault>
@@ -284,7 +268,7 @@ fn powered(options: &Options, default: &Shape) -> Result<(Setup, u32, u32), Word
 
 /// The most rows of a board.
 fn most_rows(options: &Options) -> Result<u32, WordsFault>
-    ensures { GivesIf (are_readable audit_options options.now) (most_rows options.now) result }
+    ensures { GivesIf (has_number 1 options.now (codes "large")) (most_rows options.now) result }
 {
     let large = options.flag("large")?;
     Ok(if large { MOST_ROWS } else { USUAL_ROWS })

@@ -16,7 +16,7 @@ pub(crate) enum Word {
 }
 
 /// The options of the load. The first twelve are those of a run, the first ten those of the plain
-/// machine. Those of a resumed run are the seventh to the twelfth, and those of an audit the twelfth.
+/// machine. Those of a resumed run are the seventh to the eleventh.
 const OPTIONS: [&str; 17] = [
     "segments",
     "rows",
@@ -88,8 +88,8 @@ impl Word {
             Word::Plain => &OPTIONS[..10],
             Word::Tpca => &OPTIONS,
             Word::Gen => &["start", "lines", "pages", "hot", "share", "stores"],
-            Word::Resume => &OPTIONS[6..12],
-            Word::Audit | Word::Segments => &OPTIONS[11..12],
+            Word::Resume => &OPTIONS[6..11],
+            Word::Audit | Word::Segments => &[],
         }
     }
 }

@@ -27,5 +27,5 @@ pub use laws::{
     restart_keeps_the_array, step_gives_one_answer, step_keeps_the_array, zeros_are_an_array,
 };
 pub use page::{Page, PAGE_BYTES, PAGE_LENGTH, PAGE_WORDS};
-pub use shape::{positions_of, Shape, ShapeFault, MOST_ROWS};
+pub use shape::{positions_of, Shape, ShapeFault, MOST_ROWS, MOST_WORDS};
 pub use words::Words;

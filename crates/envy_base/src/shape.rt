@@ -1,8 +1,13 @@
 ghost use Rattle.std.specs.Prelude.{◌≡◌, ◌≤◌, OnOk};
 ghost use Rattle.envy_base.specs.Shape.{IsShape, checked, checked_within, positions_of};
 
+use crate::PAGE_WORDS;
+
 /// The most rows of a board: a place and an undo of the map hold a row below it in 32 bits.
 pub const MOST_ROWS: u32 = 16_777_216;
+
+/// The most words of an array.
+pub const MOST_WORDS: u32 = PAGE_WORDS * MOST_ROWS;
 
 /// The sizes of a board.
 #[derive(Clone, Copy, Debug, PartialEq, Eq)]

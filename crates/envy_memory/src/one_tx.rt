@@ -19,6 +19,8 @@ use envy_base::{Bench, Board, Off, PAGE_WORDS, Trouble, Words};
 pub struct OneTx<B: Board> {
     memory: Memory<B>,
     begun: bool,
+    ghost use Rattle.envy_base.specs.declared.page.TheConstants.{PAGE_WORDS};
+
     ghost few: { PAGE_WORDS * memory.chart.shape.pages < 2 ^ 32 },
     ghost held: { ∥ (IsTrue memory.chart.on → IsHeld memory.chart begun) ∥₁ },
 }

@@ -236,8 +236,8 @@ impl Lifetime {
         requires rows { IsCounted (length self.now.cleaned) (R.counts rows.now) }
         requires position { position < length self.now.cleaned }
         ensures worth { result ≡ worth self.now (R.counts rows.now) class position }
-        ensures over { result.over ≤ 2 ^ 84 }
-        ensures under { result.under ≤ 2 ^ 22 }
+        ensures over { result.over ≤ 2 ^ 90 }
+        ensures under { result.under ≤ 2 ^ 26 }
         ensures some { 1 ≤ result.under }
     {
         let dead = rows.dead(position) as u128;

@@ -29,7 +29,8 @@ pub struct Space {
 }
 
 impl Model for Space {
-    ghost use Rattle.std.specs.Prelude.{take, ◌-◌};
+    ghost use Rattle.std.specs.Prelude.{take};
+    ghost use Rattle.envy_base.specs.Shape.{positions_of};
     ghost use Rattle.envy_space.specs.Pool.{Pool, IsSpace};
 
     ghost Value = { Pool };
