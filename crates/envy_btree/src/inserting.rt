@@ -11,8 +11,8 @@ use crate::getting::get;
 use envy_base::{Trouble, Words};
 
 /// Sets the value of a key, and answers the old one. A new key is refused as `Full` where the map has
-/// `14 * (q - 8)` pairs, with `q` pieces in all. It is one transaction, which puts at most 27 pages: it
-/// needs no more room.
+/// `14 * (q - 8)` pairs, with `q` pieces in all. It is one transaction, which makes at most 841 puts, in
+/// at most 27 pages: it needs no more room.
 pub fn insert<W: Words>(words: &mut W, key: u64, value: u64) -> Result<Option<u64>, TreeFault>
     requires shut { (W.sheet words.old).started ≡ false }
     requires room { 27 ≤ (W.sheet words.old).room }

@@ -10,8 +10,9 @@ use crate::getting::get;
 use crate::uprooting::remove_at_root;
 use envy_base::{Trouble, Words};
 
-/// Takes a key out of the map, and answers its value. It is one transaction, which puts at most 24
-/// pages, and needs no more room; where the map doesn't have the key there is none. It is never `Full`.
+/// Takes a key out of the map, and answers its value. It is one transaction, which makes at most 1,089
+/// puts, in at most 24 pages, and needs no more room; where the map doesn't have the key there is none. It
+/// is never `Full`.
 pub fn remove<W: Words>(words: &mut W, key: u64) -> Result<Option<u64>, TreeFault>
     requires shut { (W.sheet words.old).started ≡ false }
     requires room { 24 ≤ (W.sheet words.old).room }

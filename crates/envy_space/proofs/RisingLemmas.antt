@@ -73,8 +73,8 @@ claim-made old new x y segment page (Ok q) s sound within same claims rises = ro
 claim-made old new x y segment page (Err off) s sound within same claims rises = (rises s, Framed.shape (Stays.framed (Same.stays same)))
 
 -- without power it does nothing
-pub claim-dark : (old : Chart) (segment : ℕ) (r : Result ℕ Off) (s : ℕ) → r ≡ Err Off → Makes s (claim_in s segment r) old old
-claim-dark old segment r s is = subst (λ (x : Result ℕ Off). Makes s (claim_in s segment x) old old) (sym is) (omega arith, refl)
+pub claim-dark : (old : Chart) (segment s : ℕ) (off : Off) → Makes s (claim_in s segment (Err off)) old old
+claim-dark old segment s off = (omega arith, refl)
 
 -- a change of a position leaves every fill
 pub position-left : (k e s : ℕ) (old new : Chart) (r : Result Unit Off) → Writes (with_position k e) old r new → Makes s Leaves old new
