@@ -186,14 +186,21 @@ most_rows options = if number_of options (codes "large") 0 == 1 then MOST_ROWS e
 abbrev pub rule_within : ℕ → SetupFault → ℕ
 rule_within most fault = if rule_of fault == 7 && most == MOST_ROWS then 17 else rule_of fault
 
--- the first rule that fails, or else what follows
-abbrev pub after_check : ℕ → Result Unit SetupFault → Result Command WordsFault → Result Command WordsFault
-after_check most (Ok done) next = next
-after_check most (Err fault) next = Err (Rule (rule_within most fault))
+abbrev pub numbered : ℕ → Result Unit SetupFault → Result Unit WordsFault
+numbered most (Ok done) = Ok tt
+numbered most (Err fault) = Err (Rule (rule_within most fault))
 
--- what follows a setup that keeps the rules, where a board has so many rows at most
+-- the first rule that a setup breaks, where a board has so many rows at most
+abbrev pub rules_within : ℕ → Setup → Result Unit WordsFault
+rules_within most setup = numbered most (checked_within most setup)
+
+-- the first rule that fails, or else what follows
+abbrev pub after_check : Result Unit WordsFault → Result Command WordsFault → Result Command WordsFault
+after_check (Ok done) next = next
+after_check (Err fault) next = Err fault
+
 abbrev pub of_setup : ℕ → Setup → Result Command WordsFault → Result Command WordsFault
-of_setup most setup = after_check most (checked_within most setup)
+of_setup most setup = after_check (rules_within most setup)
 
 -- the records of the load fit
 abbrev pub fits : Area → ℕ → Bool
@@ -276,7 +283,7 @@ tree_of setup options =
 
 abbrev pub index_of : Options → Result Command WordsFault
 index_of options = let setup = setup_of usual_of_index options in
-    of_setup (most_rows options) setup (tree_of setup options)
+    of_setup USUAL_ROWS setup (tree_of setup options)
 
 abbrev pub mirror_of : Options → Result Command WordsFault
 mirror_of options = let setup = setup_of usual options in
@@ -292,8 +299,12 @@ abbrev pub plain_options : List Text
 plain_options = codes "segments" ∷ codes "rows" ∷ codes "pages" ∷ codes "shadows" ∷ codes "frames" ∷ codes "entries"
     ∷ codes "part" ∷ codes "policy" ∷ codes "limit" ∷ codes "mark" ∷ []
 
+-- a tree has no large board
+abbrev pub index_options : List Text
+index_options = plain_options ++ codes "lives" ∷ []
+
 abbrev pub run_options : List Text
-run_options = plain_options ++ codes "lives" ∷ codes "large" ∷ []
+run_options = index_options ++ codes "large" ∷ []
 
 abbrev pub tpca_options : List Text
 tpca_options = run_options
@@ -318,7 +329,7 @@ commands =
     ∷ record { name = codes "resume"; options = resume_options; make = resume_of }
     ∷ record { name = codes "audit"; options = audit_options; make = audit_of }
     ∷ record { name = codes "map"; options = audit_options; make = segments_of }
-    ∷ record { name = codes "index"; options = run_options; make = index_of }
+    ∷ record { name = codes "index"; options = index_options; make = index_of }
     ∷ record { name = codes "mirror"; options = run_options; make = mirror_of }
     ∷ []
 

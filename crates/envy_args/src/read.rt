@@ -1,9 +1,6 @@
-ghost use Rattle.std.specs.Prelude.{◌≡◌, ◌⊎◌, ◌≤◌, map, codes, Ok, Err, MatchResult};
+ghost use Rattle.std.specs.Prelude.{◌≡◌, ◌⊎◌, ◌≤◌, map, codes, Err};
 ghost use Rattle.std.specs.String.{string_bytes};
-ghost use Rattle.envy_args.specs.Words.{command_of, run_of, plain_of, tpca_of, gen_of, mix_of, skew_of, is_per_cent, save_of, resume_of, index_of, mirror_of, lives_of, setup_of, shape_of, area_of, run_options, plain_options, tpca_options, gen_options, resume_options, most_rows, rule_within};
-ghost use Rattle.envy_policy.specs.Setup.{checked_within};
-ghost use Rattle.envy_policy.specs.declared.setup.SetupFault.{SetupFault};
-ghost use Rattle.envy_args.specs.declared.command.WordsFault.TheVariants.{Setup as Rule};
+ghost use Rattle.envy_args.specs.Words.{command_of, run_of, plain_of, tpca_of, gen_of, mix_of, skew_of, is_per_cent, save_of, resume_of, index_of, mirror_of, lives_of, setup_of, shape_of, area_of, run_options, index_options, plain_options, tpca_options, gen_options, resume_options, most_rows, rules_within};
 ghost use Rattle.envy_args.specs.Reading.{GivesIf, has_number, are_readable, shape_options, area_options, made, make_of, options_of};
 
 use crate::command::{Command, WordsFault};
@@ -114,7 +111,7 @@ fn make(word: Word, options: &Options) -> Result<Command, WordsFault>
 fn run(options: &Options) -> Result<Command, WordsFault>
     ensures { result ≡ made run_options run_of options.now }
 {
-    let (setup, lives, most) = powered(options, &USUAL)?;
+    let ((setup, lives), most) = maybe_large(options, &USUAL)?;
     check(&setup, most)?;
     Ok(Command::Run { setup, lives })
 }
@@ -122,7 +119,7 @@ fn run(options: &Options) -> Result<Command, WordsFault>
 fn save(options: &Options) -> Result<Command, WordsFault>
     ensures { result ≡ made run_options save_of options.now }
 {
-    let (setup, lives, most) = powered(options, &USUAL)?;
+    let ((setup, lives), most) = maybe_large(options, &USUAL)?;
     check(&setup, most)?;
     Ok(Command::Save { setup, lives })
 }
@@ -130,16 +127,16 @@ fn save(options: &Options) -> Result<Command, WordsFault>
 fn mirror(options: &Options) -> Result<Command, WordsFault>
     ensures { result ≡ made run_options mirror_of options.now }
 {
-    let (setup, lives, most) = powered(options, &USUAL)?;
+    let ((setup, lives), most) = maybe_large(options, &USUAL)?;
     check(&setup, most)?;
     Ok(Command::Mirror { setup, lives })
 }
 
 fn index(options: &Options) -> Result<Command, WordsFault>
-    ensures { result ≡ made run_options index_of options.now }
+    ensures { result ≡ made index_options index_of options.now }
 {
-    let (setup, lives, most) = powered(options, &USUAL_OF_INDEX)?;
-    check(&setup, most)?;
+    let (setup, lives) = powered(options, &USUAL_OF_INDEX)?;
+    check(&setup, USUAL_ROWS)?;
     if setup.shape.shadows < INDEX_SHADOWS {
         return Err(WordsFault::Setup(13));
     }
@@ -175,7 +172,7 @@ fn plain(options: &Options) -> Result<Command, WordsFault>
 fn tpca(options: &Options) -> Result<Command, WordsFault>
     ensures { result ≡ made tpca_options tpca_of options.now }
 {
-    let (setup, lives, most) = powered(options, &USUAL_OF_LOAD)?;
+    let ((setup, lives), most) = maybe_large(options, &USUAL_OF_LOAD)?;
     let start = options.wide_number("start", 1)?;
     let area = area(options)?;
     let every = options.number("every", 0)?;
@@ -255,36 +252,50 @@ fn skew(hot: Option<u32>, share: Option<u32>) -> Result<Option<Skew>, WordsFault
     }
 }
 
-/// A setup over a board whose power can fail, with how often it returns and the most rows that it may have.
-fn powered(options: &Options, default: &Shape) -> Result<(Setup, u32, u32), WordsFault>
-    ensures { GivesIf (are_readable run_options options.now)
-        (setup_of default.now options.now, lives_of options.now, most_rows options.now) result }
+/// A setup over a board whose power can fail, with how often it returns.
+fn powered(options: &Options, default: &Shape) -> Result<(Setup, u32), WordsFault>
+    ensures { GivesIf (are_readable index_options options.now) (setup_of default.now options.now, lives_of options.now)
+        result }
 {
     let setup = setup(options, default)?;
     let lives = options.number("lives", MOST_LIVES)?;
+    Ok((setup, lives))
+}
+
+/// The same, over a board that may be large, with the most rows that it may have.
+fn maybe_large(options: &Options, default: &Shape) -> Result<((Setup, u32), u32), WordsFault>
+    ensures { GivesIf (are_readable run_options options.now)
+        ((setup_of default.now options.now, lives_of options.now), most_rows options.now) result }
+{
+    let powered = powered(options, default)?;
     let most = most_rows(options)?;
-    Ok((setup, lives, most))
+    Ok((powered, most))
 }
 
 /// The most rows of a board.
 fn most_rows(options: &Options) -> Result<u32, WordsFault>
     ensures { GivesIf (has_number 1 options.now (codes "large")) (most_rows options.now) result }
 {
-    let large = options.flag("large")?;
-    Ok(if large { MOST_ROWS } else { USUAL_ROWS })
+    if options.flag("large")? {
+        Ok(MOST_ROWS)
+    } else {
+        Ok(USUAL_ROWS)
+    }
 }
 
 /// The first rule that a setup breaks, over a board of at most so many rows.
 fn check(setup: &Setup, most: u32) -> Result<(), WordsFault>
     requires most { most ≤ MOST_ROWS }
-    ensures { MatchResult result (λ _. checked_within most setup.now ≡ Ok tt)
-        (λ fault. (broken : SetupFault) × (checked_within most setup.now ≡ Err broken) × (fault ≡ Rule (rule_within most broken))) }
+    ensures { result ≡ rules_within most setup.now }
 {
     let Err(fault) = setup.check_within(most) else {
         return Ok(());
     };
     let rule = fault.rule();
-    Err(WordsFault::Setup(if rule == TOO_MANY_ROWS && most == MOST_ROWS { TOO_MANY_OF_LARGE } else { rule }))
+    if rule == TOO_MANY_ROWS && most == MOST_ROWS {
+        return Err(WordsFault::Setup(TOO_MANY_OF_LARGE));
+    }
+    Err(WordsFault::Setup(rule))
 }
 
 fn setup(options: &Options, default: &Shape) -> Result<Setup, WordsFault>
