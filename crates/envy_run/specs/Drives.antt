@@ -16,7 +16,7 @@ use Rattle.envy_policy.specs.declared.setup.Setup.{Setup}
 use Rattle.envy_report.specs.Stat.{stat_bytes}
 use Rattle.envy_serve.specs.Streams.{Streams}
 use Rattle.envy_tpca.specs.declared.sums.Sums.{Sums}
-use Rattle.envy_tpca.specs.Driving.{AddsUp, accesses_of, plans_in}
+use Rattle.envy_tpca.specs.Driving.{AddsUp, PlansCuts, accesses_of, last_cut, plans_in}
 use Rattle.envy_tpca.specs.Load.{Draws, seeded}
 use Rattle.envy_tpca.specs.Tpc.{Tpc}
 use Rattle.envy_run.specs.Counters.{AddsUp as CountsAddUp, IsLow}
