@@ -13,6 +13,7 @@ use Rattle.envy_power.specs.declared.supply.Event.{Event}
 use Rattle.envy_power.specs.declared.supply.Event.TheVariants.{Pass, Cut, Bad}
 use Rattle.envy_power.specs.Power.{Power, flash_event, flash_counted, struck}
 use Rattle.envy_power.specs.Power.{up as power_up, cut as power_cut}
+use Rattle.envy_bench.specs.declared.plans.Plans.{Plans}
 use Rattle.envy_bench.specs.Parts.{state_of}
 use Rattle.envy_bench.specs.TornRows.{torn_row, TearsRows}
 use Rattle.envy_bench.specs.Events.{EraseMeets}
@@ -29,7 +30,7 @@ bank_up-up n = refl
 pub IsPage-whole : (flash : BankState) (q : ℕ) → IsBank flash → q < length flash.flash → IsPage (get_or flash.flash q [])
 IsPage-whole flash q whole lt = let page = whole.pages q lt in record { long = page.long; words = page.words }
 
-module _ (sh : Shape) (flash new : BankState) (sram : List ℕ) (p now : Power) (begun pulled plans given : ℕ) where
+module _ (sh : Shape) (flash new : BankState) (sram : List ℕ) (p now : Power) (begun pulled : ℕ) (plans : Plans) (given : ℕ) where
   -- power by the event
 
   passed : now ≡ flash_counted p → state_of sh new sram now begun pulled plans given ≡ state_of sh new sram p begun pulled plans given
@@ -70,7 +71,7 @@ pub record EraseEnds (event : Event) (old : State) (e : ℕ) (r : Result Unit Tr
   pub exact : EraseMeets event old e r new
   pub state : Erases old e r new
 
-module _ (sh : Shape) (flash mid new : BankState) (sram : List ℕ) (p now : Power) (begun pulled plans given e g : ℕ) (powered : IsTrue p.on) (wide : flash.rows ≡ sh.rows) (erased : ErasesBlock e flash mid) where
+module _ (sh : Shape) (flash mid new : BankState) (sram : List ℕ) (p now : Power) (begun pulled : ℕ) (plans : Plans) (given e g : ℕ) (powered : IsTrue p.on) (wide : flash.rows ≡ sh.rows) (erased : ErasesBlock e flash mid) where
   -- an erase that nothing is planned for
   pub erase_passes : Pass ≡ flash_event p → now ≡ flash_counted p
       → EraseEnds (flash_event p) (state_of sh flash sram p begun pulled plans given) e (Ok tt) (state_of sh mid sram now begun pulled plans given)
@@ -110,7 +111,7 @@ module _ (sh : Shape) (flash mid new : BankState) (sram : List ℕ) (p now : Pow
       }
 
 -- a program that is disturbed: its row holds a page
-module _ (sh : Shape) (flash new : BankState) (sram : List ℕ) (p now : Power) (begun count pulled plans given q g : ℕ) (x : List ℕ) (powered : IsTrue p.on) (low : q < length flash.flash)
+module _ (sh : Shape) (flash new : BankState) (sram : List ℕ) (p now : Power) (begun count pulled : ℕ) (plans : Plans) (given q g : ℕ) (x : List ℕ) (powered : IsTrue p.on) (low : q < length flash.flash)
     (made : new ≡ bank_with_row flash q (torn_row g 0)) (whole : IsBank new) (counts : count ≡ up begun) where
   torn_page : IsPage (torn_row g 0)
   torn_page =

@@ -1,12 +1,13 @@
 -- What the parts of a board in memory stand for.
-use Rattle.std.specs.Prelude.{ℕ, ◌*◌, true, List, replicate}
+use Rattle.std.specs.Prelude.{ℕ, ◌*◌, true, List, replicate, None}
 use Rattle.envy_base.specs.declared.shape.Shape.{Shape}
 use Rattle.envy_base.specs.State.{State, ones}
 use Rattle.envy_base.specs.Map.{words_of}
 use Rattle.envy_bank.specs.Rows.{BankState}
 use Rattle.envy_power.specs.Power.{Power}
+use Rattle.envy_bench.specs.declared.plans.Plans.{Plans}
 
-abbrev pub state_of : Shape → BankState → List ℕ → Power → ℕ → ℕ → ℕ → ℕ → State
+abbrev pub state_of : Shape → BankState → List ℕ → Power → ℕ → ℕ → Plans → ℕ → State
 state_of shape flash sram power begun pulled plans given = record {
   shape = shape;
   flash = flash.flash;
@@ -17,7 +18,8 @@ state_of shape flash sram power begun pulled plans given = record {
   begun = begun;
   erases = flash.erases;
   pulled = pulled;
-  plans = plans;
+  plans = plans.made;
+  last_plan = plans.last;
   lives = power.lives;
   given = given;
 }
@@ -35,6 +37,7 @@ new_state shape lives = record {
   erases = replicate shape.segments 0;
   pulled = 0;
   plans = 0;
+  last_plan = None;
   lives = lives;
   given = lives;
 }

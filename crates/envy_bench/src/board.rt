@@ -6,7 +6,8 @@ ghost use Rattle.envy_base.specs.State.{IsBoard};
 ghost use Rattle.envy_bench.specs.Parts.{state_of};
 
 use crate::flash::Flash;
-use envy_base::{Bench, Board, NoMemory, Off, Page, Shape, Trouble};
+use envy_base::{Bench, Board, NoMemory, Off, Page, Shape, Trouble, PlannedFault};
+use crate::plans::Plans;
 use envy_map::words;
 use envy_power::{Event, Sram, Supply};
 use std::alloc::Global;
@@ -23,7 +24,7 @@ pub struct MemBoard {
     supply: Supply,
     begun: u64,
     pulled: u64,
-    plans: u64,
+    plans: Plans,
     given: u32,
     ghost sound: { IsBoard (state_of shape flash sram supply begun pulled plans given) } by { Prim.hlevel props },
     ghost same_rows: { flash.rows ≡ shape.rows },
@@ -58,7 +59,10 @@ impl MemBoard {
             supply: Supply::new(lives),
             begun: 0,
             pulled: 0,
-            plans: 0,
+            plans: Plans {
+                made: 0,
+                last: None,
+            },
             given: lives,
         })
     }
@@ -249,20 +253,26 @@ impl Bench for MemBoard {
 
     fn arm_cut(&mut self, k: u32, g: u64)
         requires { 1 ≤ k }
-        ensures state { board_state self.new ≡ planned (board_state self.old) }
+        ensures state { board_state self.new ≡ planned (PlannedFault.Cut k g) (board_state self.old) }
         ensures power { board_power self.new ≡ with_cut k g (board_power self.old) }
     {
         self.supply.arm_cut(k, g);
-        self.plans = more(self.plans);
+        self.plans = Plans {
+            made: more(self.plans.made),
+            last: Some(PlannedFault::Cut { k, g }),
+        };
     }
 
     fn arm_bad(&mut self, k: u32, g: u64)
         requires { 1 ≤ k }
-        ensures state { board_state self.new ≡ planned (board_state self.old) }
+        ensures state { board_state self.new ≡ planned (PlannedFault.Bad k g) (board_state self.old) }
         ensures power { board_power self.new ≡ with_bad k g (board_power self.old) }
     {
         self.supply.arm_bad(k, g);
-        self.plans = more(self.plans);
+        self.plans = Plans {
+            made: more(self.plans.made),
+            last: Some(PlannedFault::Bad { k, g }),
+        };
     }
 
     #[tactic(auto, unfolding(envy_base::specs::Counting::up, envy_power::specs::Power::up))]

@@ -6,7 +6,7 @@ ghost use Rattle.envy_bench.specs.Calm.{IsCalm};
 ghost use Rattle.envy_bench.specs.Parts.{new_state};
 
 use crate::MemBoard;
-use envy_base::{Bench, Board, Maker, NoMemory, Off, Page, Shape, Trouble};
+use envy_base::{Bench, Board, Maker, NoMemory, Off, Page, Shape, Trouble, PlannedFault};
 use std::alloc::Global;
 
 /// A board in memory. Until a failure is planned, or power is cut by hand, nothing of it fails.
@@ -74,7 +74,7 @@ impl Bench for CalmBoard {
     #[tactic(auto, unfolding(envy_base::specs::Counting::up))]
     fn arm_cut(&mut self, k: u32, g: u64)
         requires { 1 ≤ k }
-        ensures state { calm_state self.new ≡ planned (calm_state self.old) }
+        ensures state { calm_state self.new ≡ planned (PlannedFault.Cut k g) (calm_state self.old) }
         ensures power { board_power self.new.board ≡ with_cut k g (board_power self.old.board) }
     {
         self.board.arm_cut(k, g);
@@ -83,7 +83,7 @@ impl Bench for CalmBoard {
     #[tactic(auto, unfolding(envy_base::specs::Counting::up))]
     fn arm_bad(&mut self, k: u32, g: u64)
         requires { 1 ≤ k }
-        ensures state { calm_state self.new ≡ planned (calm_state self.old) }
+        ensures state { calm_state self.new ≡ planned (PlannedFault.Bad k g) (calm_state self.old) }
         ensures power { board_power self.new.board ≡ with_bad k g (board_power self.old.board) }
     {
         self.board.arm_bad(k, g);

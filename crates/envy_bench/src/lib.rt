@@ -5,6 +5,7 @@ mod board;
 mod calm;
 mod flash;
 mod maker;
+mod plans;
 mod torn;
 
 pub use board::MemBoard;

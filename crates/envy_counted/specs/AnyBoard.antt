@@ -1,6 +1,6 @@
 -- What is asked of any board: its counts of failures may rise by more than its answers tell, as those of a board that
 -- tries a failed operation again, or whose operation was bad when power cut it.
-use Rattle.std.specs.Prelude.{◌≡◌, ◌⊎◌, ℕ, ◌≤◌, false, IsTrue, List, slice_index, Result, Ok, Err}
+use Rattle.std.specs.Prelude.{◌≡◌, ◌⊎◌, ℕ, ◌≤◌, false, IsTrue, List, slice_index, None, Result, Ok, Err}
 use Rattle.envy_base.specs.declared.board.Off.{Off}
 use Rattle.envy_base.specs.declared.board.Trouble.{Trouble}
 use Rattle.envy_base.specs.declared.board.Trouble.TheVariants.{Off as TroubleOff, Bad}
@@ -53,3 +53,4 @@ pub record IsAnyMade (sh : Shape) (returns : ℕ) (s : State) : Type 0 where
   pub erases : (e : ℕ) → slice_index s.erases e ≡ 0
   pub pulled : s.pulled ≡ 0
   pub plans : s.plans ≡ 0
+  pub last_plan : s.last_plan ≡ None

@@ -3,7 +3,7 @@ ghost use Rattle.envy_base.specs.Shape.{IsShape};
 ghost use Rattle.envy_base.specs.State.{State, IsBoard, Reads, row_of, pull, lit, planned};
 ghost use Rattle.envy_counted.specs.AnyBoard.{AnyPuts, AnyPrograms, AnyErases, IsAnyMade};
 
-use envy_base::{NoMemory, Off, PAGE_WORDS, Page, Shape, Trouble};
+use envy_base::{NoMemory, Off, PAGE_WORDS, Page, Shape, Trouble, PlannedFault};
 use std::alloc::Global;
 
 /// A board that keeps the least that is asked of one: flash in rows of one page, battery-backed SRAM
@@ -54,12 +54,12 @@ pub trait AnyBench: AnyBoard {
     /// Plans a cut of power at the `k`-th device operation from now, in place of an earlier such plan.
     fn arm_cut(&mut self, k: u32, g: u64)
         requires { 1 ≤ k }
-        ensures { Self.state self.new ≡ planned (Self.state self.old) };
+        ensures { Self.state self.new ≡ planned (PlannedFault.Cut k g) (Self.state self.old) };
 
     /// Plans a bad operation at the `k`-th flash operation from now, in place of an earlier such plan.
     fn arm_bad(&mut self, k: u32, g: u64)
         requires { 1 ≤ k }
-        ensures { Self.state self.new ≡ planned (Self.state self.old) };
+        ensures { Self.state self.new ≡ planned (PlannedFault.Bad k g) (Self.state self.old) };
 
     /// Cuts power between two operations.
     fn cut_now(&mut self)

@@ -32,13 +32,13 @@ Grows-up xs e lt = record { long = length-set xs e _; each = λ s. at s (cases_e
     at s (inr other) = rw (get_or-set_other xs e s (up (get_or xs e 0)) 0 other) (omega arith)
 
 pub Counted-erased : (s : State) (e : ℕ) (rows : List (List ℕ)) → e < length s.erases → Counted 0 1 (chart s) (chart (with_segment s e rows))
-Counted-erased s e rows lt = record { power = inl (refl, refl); cuts = omega arith; bads = omega arith; begun = omega arith; few = omega arith; erases = Grows-up s.erases e lt; pulled = refl; plans = refl; lives = refl; given = refl }
+Counted-erased s e rows lt = record { power = inl (refl, refl); cuts = omega arith; bads = omega arith; begun = omega arith; few = omega arith; erases = Grows-up s.erases e lt; pulled = refl; plans = refl; last_plan = refl; lives = refl; given = refl }
 
 pub Counted-erase_cut : (s : State) (e : ℕ) (rows : List (List ℕ)) → IsTrue s.on → e < length s.erases → Counted 0 1 (chart s) (chart (cut (with_segment s e rows)))
-Counted-erase_cut s e rows on lt = record { power = inr (on, refl, refl); cuts = up-least s.cuts; bads = omega arith; begun = omega arith; few = omega arith; erases = Grows-up s.erases e lt; pulled = refl; plans = refl; lives = refl; given = refl }
+Counted-erase_cut s e rows on lt = record { power = inr (on, refl, refl); cuts = up-least s.cuts; bads = omega arith; begun = omega arith; few = omega arith; erases = Grows-up s.erases e lt; pulled = refl; plans = refl; last_plan = refl; lives = refl; given = refl }
 
 pub Counted-erase_bad : (s : State) (e : ℕ) (rows : List (List ℕ)) → e < length s.erases → Counted 0 1 (chart s) (chart (record (with_segment s e rows) { bads = up s.bads }))
-Counted-erase_bad s e rows lt = record { power = inl (refl, refl); cuts = omega arith; bads = up-least s.bads; begun = omega arith; few = omega arith; erases = Grows-up s.erases e lt; pulled = refl; plans = refl; lives = refl; given = refl }
+Counted-erase_bad s e rows lt = record { power = inl (refl, refl); cuts = omega arith; bads = up-least s.bads; begun = omega arith; few = omega arith; erases = Grows-up s.erases e lt; pulled = refl; plans = refl; last_plan = refl; lives = refl; given = refl }
 
 -- an erase in the middle of formatting
 pub erase-reached : (s new : State) (e : ℕ) → e < length s.erases → Erases s e (Ok tt) new → Reached 1 (chart s) (chart new)

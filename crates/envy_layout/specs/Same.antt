@@ -27,6 +27,7 @@ pub record Counted (k j : ℕ) (old new : Chart) : Type 0 where
   pub erases : Grows j old.erases new.erases
   pub pulled : new.pulled ≡ old.pulled
   pub plans : new.plans ≡ old.plans
+  pub last_plan : new.last_plan ≡ old.last_plan
   pub lives : new.lives ≡ old.lives
   pub given : new.given ≡ old.given
 

@@ -1,6 +1,7 @@
 -- The fields of the SRAM map, and a board read by them.
 use Rattle.std.specs.Prelude.{◌≡◌, ◌⊎◌, Bool, false, ℕ, ◌+◌, ◌-◌, ◌*◌, ◌/◌, ◌%◌, ◌^◌, List, [], ◌∷◌, map, take, drop, Option, None, slice_index, slice_index_or}
 use Rattle.envy_base.specs.declared.shape.Shape.{Shape}
+use Rattle.envy_base.specs.declared.faults.PlannedFault.{PlannedFault}
 use Rattle.envy_base.specs.declared.fields.Job.{Job}
 use Rattle.envy_base.specs.declared.fields.Place.{Place}
 use Rattle.envy_base.specs.declared.fields.Slot.{Slot}
@@ -86,6 +87,7 @@ pub record Chart : Type 0 where
   pub erases : List ℕ
   pub pulled : ℕ
   pub plans : ℕ
+  pub last_plan : Option PlannedFault
   pub lives : ℕ
   pub given : ℕ
 
@@ -101,6 +103,7 @@ chart s = record {
   erases = s.erases;
   pulled = s.pulled;
   plans = s.plans;
+  last_plan = s.last_plan;
   lives = s.lives;
   given = s.given;
 }

@@ -5,6 +5,7 @@ use Rattle.std.proofs.Math.Logic.{∥∥₁_elim, ∥∥₁_map}
 use Rattle.std.proofs.Props.{props}
 use Rattle.std.proofs.lemmas.Bool.{cases_eq, cases_lt, eq-eqb}
 use Rattle.std.proofs.lemmas.List.{get_or_past}
+use Rattle.envy_base.specs.declared.faults.PlannedFault.{PlannedFault}
 use Rattle.envy_base.specs.Array.{Array, Saved, slot_of, undone, owns, owner, put_back, aborted}
 use Rattle.envy_base.specs.Step.{Answer, Step, Lost, Commit, Abort, Done, Closed}
 use Rattle.envy_base.specs.Words.{OnPage, Puts as SheetPuts, has}
@@ -216,13 +217,13 @@ shut-stands c on magic version sound held = record {
 pub few-as : (c d : Chart) → d.shape ≡ c.shape → 32 * c.shape.pages < 2 ^ 32 → 32 * d.shape.pages < 2 ^ 32
 few-as c d same few = let e = ap (λ (sh : Shape). sh.pages) same in omega arith
 
-planned-holds : (c : Chart) (m : Array) → Holds c m → Holds (planned c) m
-planned-holds c m h = record { magic = h.magic; version = h.version; sound = h.sound; array = h.array; shadows = h.shadows; live = h.live; durable = h.durable; slots = h.slots; owners = h.owners }
+planned-holds : (fault : PlannedFault) (c : Chart) (m : Array) → Holds c m → Holds (planned fault c) m
+planned-holds fault c m h = record { magic = h.magic; version = h.version; sound = h.sound; array = h.array; shadows = h.shadows; live = h.live; durable = h.durable; slots = h.slots; owners = h.owners }
 
-pub planned-held : (p q : Picture) (b : Bool) → q ≡ record p { chart = planned p.chart } → ∥ (IsTrue p.chart.on → IsHeld p.chart b) ∥₁ → ∥ (IsTrue q.chart.on → IsHeld q.chart b) ∥₁
-planned-held p q b is held =
+pub planned-held : (fault : PlannedFault) (p q : Picture) (b : Bool) → q ≡ record p { chart = planned fault p.chart } → ∥ (IsTrue p.chart.on → IsHeld p.chart b) ∥₁ → ∥ (IsTrue q.chart.on → IsHeld q.chart b) ∥₁
+planned-held fault p q b is held =
     subst (λ (x : Picture). ∥ (IsTrue x.chart.on → IsHeld x.chart b) ∥₁) (sym is)
-    (∥∥₁_map held (λ hold on. let h = hold on in record { array = IsHeld.array h; stands = record { on = on; holds = planned-holds p.chart (IsHeld.array h) (Stands.holds (IsHeld.stands h)) }; slots = IsHeld.slots h }))
+    (∥∥₁_map held (λ hold on. let h = hold on in record { array = IsHeld.array h; stands = record { on = on; holds = planned-holds fault p.chart (IsHeld.array h) (Stands.holds (IsHeld.stands h)) }; slots = IsHeld.slots h }))
 
 pub same-held : (c d : Chart) (b : Bool) → d ≡ c → ∥ (IsTrue c.on → IsHeld c b) ∥₁ → ∥ (IsTrue d.on → IsHeld d b) ∥₁
 same-held c d b is held = subst (λ (x : Chart). ∥ (IsTrue x.on → IsHeld x b) ∥₁) (sym is) held

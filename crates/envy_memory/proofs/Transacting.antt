@@ -74,7 +74,7 @@ kept-held p b h = Holds.durable (Stands.holds (IsHeld.stands h))
 -- ---- what every call keeps
 
 fixed-same : (i j : ℕ) (c d : Chart) → d.shape ≡ c.shape → Counted i j c d → fixed_of d ≡ fixed_of c
-fixed-same i j c d shape n = let a = n.pulled in let b = n.plans in let e = n.given in let f = n.lives in cc
+fixed-same i j c d shape n = let a = n.pulled in let b = n.plans in let e = n.given in let f = n.lives in let h = n.last_plan in cc
 
 still-on : (on then_on : Bool) (b : Bool) → (on ≡ false → then_on ≡ false) → IsTrue then_on → (then_on && b) ≡ (on && b)
 still-on true then_on b dark lit = ap (λ (x : Bool). x && b) lit

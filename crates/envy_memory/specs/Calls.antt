@@ -1,8 +1,9 @@
 -- What each call of a memory may answer, and what it leaves, from a board that stood for the array m.
-use Rattle.std.specs.Prelude.{◌≡◌, ℕ, ◌-◌, ◌^◌, ◌<◌, true, false, IsTrue, List, replicate, None, Result, Ok, Err}
+use Rattle.std.specs.Prelude.{◌≡◌, ℕ, ◌-◌, ◌^◌, ◌<◌, true, false, IsTrue, List, replicate, None, Some, Result, Ok, Err}
 use Rattle.envy_base.specs.Array.{Array}
 use Rattle.envy_base.specs.Counting.{up}
 use Rattle.envy_base.specs.Step.{Load, Look, Store, Begin, Put, Commit, Abort, Tick, Word, Done, Started, Range, Held, Closed, Full, Busy}
+use Rattle.envy_base.specs.declared.faults.PlannedFault.{PlannedFault}
 use Rattle.envy_base.specs.declared.board.Trouble.{Trouble}
 use Rattle.envy_base.specs.declared.board.Trouble.TheVariants.{Off as TroubleOff, Bad as TroubleBad}
 use Rattle.envy_map.specs.Fields.{Chart}
@@ -104,5 +105,5 @@ abbrev pub lit : Chart → Chart
 lit c = record c { on = true; lives = c.lives - 1 }
 
 -- a failure is planned
-abbrev pub planned : Chart → Chart
-planned c = record c { plans = up c.plans }
+abbrev pub planned : PlannedFault → Chart → Chart
+planned fault c = record c { plans = up c.plans; last_plan = Some fault }

@@ -2,6 +2,8 @@
 use Rattle.std.specs.Prelude.{◌≡◌, ℕ, ◌&&◌, Bool, true, false, List, [], ◌∷◌, map, sum, replicate, Option, None, Some}
 use Rattle.envy_base.specs.Array.{Array, Saved}
 use Rattle.envy_base.specs.Words.{Sheet}
+use Rattle.envy_base.specs.declared.faults.PlannedFault.{PlannedFault}
+use Rattle.envy_base.specs.declared.faults.PlannedFault.TheVariants.{Cut, Bad}
 use Rattle.envy_map.specs.Fields.{Chart}
 use Rattle.envy_layout.specs.Stands.{Stands}
 use Rattle.envy_layout.specs.Words.{live, durable}
@@ -14,10 +16,16 @@ abbrev pub words_read : Bool → Chart → List ℕ
 words_read true c = live c
 words_read false c = durable c
 
--- the numbers of a board that no call of `Words` changes: its sizes, the cuts by hand and the plans that were made, and
--- the returns of power that it was given and has left
+-- a planned fault as numbers, different ones for each
+abbrev pub numbers_of : Option PlannedFault → List ℕ
+numbers_of None = []
+numbers_of (Some (Cut k g)) = 0 ∷ k ∷ g ∷ []
+numbers_of (Some (Bad k g)) = 1 ∷ k ∷ g ∷ []
+
+-- the numbers of a board that no call of `Words` changes: its sizes, the cuts by hand and the plans that were made, the
+-- returns of power that it was given and has left, and the last plan
 abbrev pub fixed_of : Chart → List ℕ
-fixed_of c = c.shape.segments ∷ c.shape.rows ∷ c.shape.pages ∷ c.shape.shadows ∷ c.shape.frames ∷ c.shape.entries ∷ c.pulled ∷ c.plans ∷ c.given ∷ c.lives ∷ []
+fixed_of c = c.shape.segments ∷ c.shape.rows ∷ c.shape.pages ∷ c.shape.shadows ∷ c.shape.frames ∷ c.shape.entries ∷ c.pulled ∷ c.plans ∷ c.given ∷ c.lives ∷ numbers_of c.last_plan
 
 -- The words of a memory whose transaction has begun or not. The pages put in it are those that it owns, and a put may
 -- begin the flash work of one flush.

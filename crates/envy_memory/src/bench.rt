@@ -10,14 +10,14 @@ ghost use Rattle.envy_memory.specs.Restarts.{Restarts};
 
 use crate::faults::ReviveFault;
 use crate::memory::Memory;
-use envy_base::Bench;
+use envy_base::{Bench, PlannedFault};
 use envy_flush::restart;
 
 impl<B: Bench> Memory<B> {
     /// Plans a cut of power at the `k`-th device operation from now.
     pub fn arm_cut(&mut self, k: u32, g: u64)
         requires { 1 ≤ k }
-        ensures { self.new ≡ record self.old { chart = planned self.old.chart } }
+        ensures { self.new ≡ record self.old { chart = planned (PlannedFault.Cut k g) self.old.chart } }
     {
         self.board.arm_cut(k, g);
     }
@@ -25,7 +25,7 @@ impl<B: Bench> Memory<B> {
     /// Plans a bad operation at the `k`-th flash operation from now.
     pub fn arm_bad(&mut self, k: u32, g: u64)
         requires { 1 ≤ k }
-        ensures { self.new ≡ record self.old { chart = planned self.old.chart } }
+        ensures { self.new ≡ record self.old { chart = planned (PlannedFault.Bad k g) self.old.chart } }
     {
         self.board.arm_bad(k, g);
     }

@@ -13,7 +13,7 @@ ghost use Rattle.envy_memory.specs.Sheets.{IsHeld, sheet_of};
 
 use crate::faults::{BeginFault, EndFault, LoadFault, PutFault, ReviveFault};
 use crate::memory::Memory;
-use envy_base::{Bench, Board, Off, PAGE_WORDS, Trouble, Words};
+use envy_base::{Bench, Board, Off, PAGE_WORDS, Trouble, Words, PlannedFault};
 
 /// A memory with one transaction at a time, which has the first slot.
 pub struct OneTx<B: Board> {
@@ -86,7 +86,7 @@ impl<B: Bench> OneTx<B> {
     /// Plans a cut of power at the `k`-th device operation from now.
     pub fn arm_cut(&mut self, k: u32, g: u64)
         requires { 1 ≤ k }
-        ensures memory { self.new.memory ≡ record self.old.memory { chart = planned self.old.memory.chart } }
+        ensures memory { self.new.memory ≡ record self.old.memory { chart = planned (PlannedFault.Cut k g) self.old.memory.chart } }
         ensures begun { self.new.begun ≡ self.old.begun }
     {
         self.memory.arm_cut(k, g);
@@ -95,7 +95,7 @@ impl<B: Bench> OneTx<B> {
     /// Plans a bad operation at the `k`-th flash operation from now.
     pub fn arm_bad(&mut self, k: u32, g: u64)
         requires { 1 ≤ k }
-        ensures memory { self.new.memory ≡ record self.old.memory { chart = planned self.old.memory.chart } }
+        ensures memory { self.new.memory ≡ record self.old.memory { chart = planned (PlannedFault.Bad k g) self.old.memory.chart } }
         ensures begun { self.new.begun ≡ self.old.begun }
     {
         self.memory.arm_bad(k, g);

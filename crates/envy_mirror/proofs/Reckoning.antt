@@ -11,6 +11,7 @@ Reckons-trans p q r a b = record {
   bads = let x = a.bads in let y = b.bads in omega arith;
   pulled = b.pulled ∙ a.pulled;
   plans = b.plans ∙ a.plans;
+  last_plan = b.last_plan ∙ a.last_plan;
   lives = b.lives ∙ a.lives;
   given = b.given ∙ a.given;
   tallies = Tallies-trans p.chart q.chart r.chart p.parts q.parts r.parts a.tallies b.tallies;

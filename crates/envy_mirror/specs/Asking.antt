@@ -27,6 +27,7 @@ pub record Reckons (old new : Picture) : Type 0 where
   pub bads : old.chart.bads ≤ new.chart.bads
   pub pulled : new.chart.pulled ≡ old.chart.pulled
   pub plans : new.chart.plans ≡ old.chart.plans
+  pub last_plan : new.chart.last_plan ≡ old.chart.last_plan
   pub lives : new.chart.lives ≡ old.chart.lives
   pub given : new.chart.given ≡ old.chart.given
   pub tallies : Tallies old.chart old.parts new.chart new.parts

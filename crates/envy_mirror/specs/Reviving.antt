@@ -1,6 +1,7 @@
 -- Power asked for where no side is Good, and given or not; and power cut by hand.
 use Rattle.std.specs.Prelude.{◌≡◌, ℕ, ◌-◌, ◌^◌, ◌<◌, Bool, true, false, List, length, replicate, Result, Ok, Err, IsTrue, ◌&&◌, ◌||◌, if◌then◌else◌, zero, suc}
 use Rattle.envy_base.specs.Array.{Array, undone}
+use Rattle.envy_base.specs.declared.faults.PlannedFault.{PlannedFault}
 use Rattle.envy_layout.specs.Sound.{IsSound}
 use Rattle.envy_layout.specs.Stands.{Stands}
 use Rattle.envy_layout.specs.Words.{durable}
@@ -50,8 +51,8 @@ with_side First side p = record p { first = side }
 with_side Second side p = record p { second = side }
 
 -- a failure of a side is planned
-abbrev pub plan_side : Which → Pair → Pair
-plan_side one p = let side = side_at one p in with_side one (record side { memory = record side.memory { chart = planned side.memory.chart } }) p
+abbrev pub plan_side : Which → PlannedFault → Pair → Pair
+plan_side one fault p = let side = side_at one p in with_side one (record side { memory = record side.memory { chart = planned fault side.memory.chart } }) p
 
 -- the side is cut; where both were Good, the other was Good last
 abbrev pub cut_pair : Which → Pair → Pair

@@ -5,14 +5,14 @@ ghost use Rattle.envy_mirror.specs.Reviving.{LeavesCut, cut_pair, plan_side, whi
 
 use crate::mirror::Mirror;
 use crate::standing::Which;
-use envy_base::Bench;
+use envy_base::{Bench, PlannedFault};
 
 impl<A: Bench, B: Bench> Mirror<A, B> {
     /// Plans a cut of a side's power at its `k`-th device operation from now.
     pub fn arm_cut(&mut self, side: u8, k: u32, g: u64)
         requires side { side < 2 }
         requires k { 1 ≤ k }
-        ensures { self.new ≡ plan_side (which side) self.old }
+        ensures { self.new ≡ plan_side (which side) (PlannedFault.Cut k g) self.old }
     {
         match side {
             0 => self.first.memory.arm_cut(k, g),
@@ -24,7 +24,7 @@ impl<A: Bench, B: Bench> Mirror<A, B> {
     pub fn arm_bad(&mut self, side: u8, k: u32, g: u64)
         requires side { side < 2 }
         requires k { 1 ≤ k }
-        ensures { self.new ≡ plan_side (which side) self.old }
+        ensures { self.new ≡ plan_side (which side) (PlannedFault.Bad k g) self.old }
     {
         match side {
             0 => self.first.memory.arm_bad(k, g),

@@ -1,5 +1,6 @@
 -- What the counts of one board show of one call.
 use Rattle.std.proofs.Common.{◌≡◌, ℕ, ◌+◌, ◌-◌, ◌^◌, ◌<◌, ◌≤◌, refl, sym, ◌∙◌, ap, subst, arith}
+use Rattle.envy_base.specs.declared.faults.PlannedFault.{PlannedFault}
 use Rattle.envy_base.specs.Counting.{up}
 use Rattle.envy_base.proofs.Counting.{up-least, up-below}
 use Rattle.envy_base.specs.declared.counts.Counts.{Counts}
@@ -141,8 +142,8 @@ Charged-pulled a = record {
 }
 
 -- a failure was planned
-pub Charged-planned : (a : Picture) → Charged one_plan a (record a { chart = planned a.chart })
-Charged-planned a = record {
+pub Charged-planned : (fault : PlannedFault) (a : Picture) → Charged one_plan a (record a { chart = planned fault a.chart })
+Charged-planned fault a = record {
   shape = refl;
   given = refl;
   lives = omega arith;

@@ -1,6 +1,8 @@
 -- What any line does to a pair, from what was heard of its call.
 use Rattle.std.proofs.Common.{◌≡◌, inl, ℕ, ◌/◌, ◌<◌, Bool, true, false, List, [], ◌∷◌, refl, sym, ◌∙◌, ap, subst, arith}
 use Rattle.std.specs.Prelude.{Result, Ok, Err}
+use Rattle.envy_base.specs.declared.faults.PlannedFault.{PlannedFault}
+use Rattle.envy_base.specs.declared.faults.PlannedFault.TheVariants.{Cut as PlanCut, Bad as PlanBad}
 use Rattle.envy_base.specs.Array.{Array}
 use Rattle.envy_base.specs.Step.{Command, Answer, Step}
 use Rattle.envy_base.specs.Step.{Load as DoLoad, Look as DoLook, Store as DoStore, Begin as DoBegin, Put as DoPut, Commit as DoCommit, Abort as DoAbort, Tick as DoTick}
@@ -181,40 +183,40 @@ look-heard a reply k old new side within s h =
 
 -- ---- plans
 
-planned-stands : (c : Chart) (m : Array) → Stands c m → Stands (planned c) m
-planned-stands c m s = let h = s.holds in record { on = s.on; holds = record { magic = h.magic; version = h.version; sound = h.sound; array = h.array; shadows = h.shadows; live = h.live; durable = h.durable; slots = h.slots; owners = h.owners } }
+planned-stands : (fault : PlannedFault) (c : Chart) (m : Array) → Stands c m → Stands (planned fault c) m
+planned-stands fault c m s = let h = s.holds in record { on = s.on; holds = record { magic = h.magic; version = h.version; sound = h.sound; array = h.array; shadows = h.shadows; live = h.live; durable = h.durable; slots = h.slots; owners = h.owners } }
 
-planned-agrees : (g : Standing) (c : Chart) (stale : List Bool) (m : Array) → AgreesBy g c stale m → AgreesBy g (planned c) stale m
-planned-agrees Good c stale m s = planned-stands c m s
-planned-agrees Behind c stale m t = record { closed = planned-stands c (fresh c.shape.shadows (live c)) t.closed; fresh = λ a lt un. let f = t.fresh a lt un in record { free = f.free; same = f.same } }
-planned-agrees IsGone c stale m s = tt
+planned-agrees : (fault : PlannedFault) (g : Standing) (c : Chart) (stale : List Bool) (m : Array) → AgreesBy g c stale m → AgreesBy g (planned fault c) stale m
+planned-agrees fault Good c stale m s = planned-stands fault c m s
+planned-agrees fault Behind c stale m t = record { closed = planned-stands fault c (fresh c.shape.shadows (live c)) t.closed; fresh = λ a lt un. let f = t.fresh a lt un in record { free = f.free; same = f.same } }
+planned-agrees fault IsGone c stale m s = tt
 
-planned-mirrors : (w : Which) (p : Pair) (m : Array) → Mirrors p m → Mirrors (plan_side w p) m
-planned-mirrors First p m h = record { some = h.some; first = planned-agrees p.first.standing p.first.memory.chart p.stale m h.first; second = h.second }
-planned-mirrors Second p m h = record { some = h.some; first = h.first; second = planned-agrees p.second.standing p.second.memory.chart p.stale m h.second }
+planned-mirrors : (fault : PlannedFault) (w : Which) (p : Pair) (m : Array) → Mirrors p m → Mirrors (plan_side w fault p) m
+planned-mirrors fault First p m h = record { some = h.some; first = planned-agrees fault p.first.standing p.first.memory.chart p.stale m h.first; second = h.second }
+planned-mirrors fault Second p m h = record { some = h.some; first = h.first; second = planned-agrees fault p.second.standing p.second.memory.chart p.stale m h.second }
 
-planned-bill : (w : Which) (p : Pair) → Bill (record { lines = 1; powers = 0; plans = 1; losts = 0; faults = 0; first_falls = 0; second_falls = 0 }) p (plan_side w p)
-planned-bill First p = record { first = one_plan; second = no_toll; to_first = Charged-planned p.first.memory; to_second = Charged-refl p.second.memory; pulls = omega arith; faults = omega arith; losts = omega arith; plans = refl; first_falls = omega arith; second_falls = omega arith; few_pulls = omega arith; few_faults = omega arith; few_losts = omega arith; few_first = omega arith; few_second = omega arith }
-planned-bill Second p = record { first = no_toll; second = one_plan; to_first = Charged-refl p.first.memory; to_second = Charged-planned p.second.memory; pulls = omega arith; faults = omega arith; losts = omega arith; plans = refl; first_falls = omega arith; second_falls = omega arith; few_pulls = omega arith; few_faults = omega arith; few_losts = omega arith; few_first = omega arith; few_second = omega arith }
+planned-bill : (fault : PlannedFault) (w : Which) (p : Pair) → Bill (record { lines = 1; powers = 0; plans = 1; losts = 0; faults = 0; first_falls = 0; second_falls = 0 }) p (plan_side w fault p)
+planned-bill fault First p = record { first = one_plan; second = no_toll; to_first = Charged-planned fault p.first.memory; to_second = Charged-refl p.second.memory; pulls = omega arith; faults = omega arith; losts = omega arith; plans = refl; first_falls = omega arith; second_falls = omega arith; few_pulls = omega arith; few_faults = omega arith; few_losts = omega arith; few_first = omega arith; few_second = omega arith }
+planned-bill fault Second p = record { first = no_toll; second = one_plan; to_first = Charged-refl p.first.memory; to_second = Charged-planned fault p.second.memory; pulls = omega arith; faults = omega arith; losts = omega arith; plans = refl; first_falls = omega arith; second_falls = omega arith; few_pulls = omega arith; few_faults = omega arith; few_losts = omega arith; few_first = omega arith; few_second = omega arith }
 
-planned-state : (w v : Which) (k : Known) (p : Pair) → state_of k (plan_side w p) v ≡ state_of k p v
-planned-state First v k p = refl
-planned-state Second v k p = refl
+planned-state : (fault : PlannedFault) (w v : Which) (k : Known) (p : Pair) → state_of k (plan_side w fault p) v ≡ state_of k p v
+planned-state fault First v k p = refl
+planned-state fault Second v k p = refl
 
-planned-spent : (w : Which) (k : Known) (p : Pair) → Serves k p → Serves k (plan_side w p)
-planned-spent First k p s = record { mirrors = planned-mirrors First p k.array s.mirrors; first = s.first; second = s.second }
-planned-spent Second k p s = record { mirrors = planned-mirrors Second p k.array s.mirrors; first = s.first; second = s.second }
+planned-spent : (fault : PlannedFault) (w : Which) (k : Known) (p : Pair) → Serves k p → Serves k (plan_side w fault p)
+planned-spent fault First k p s = record { mirrors = planned-mirrors fault First p k.array s.mirrors; first = s.first; second = s.second }
+planned-spent fault Second k p s = record { mirrors = planned-mirrors fault Second p k.array s.mirrors; first = s.first; second = s.second }
 
-plan-heard : (line : Line) (reply : Reply) (k : Known) (old new : Pair) (side : ℕ) → ((s t : MirrorState) → t ≡ s → DoesLine s line (Plain Armed ∷ []) t) → sums_of (OfArray line) (Plain Armed ∷ []) 0 0 ≡ record { lines = 1; powers = 0; plans = 1; losts = 0; faults = 0; first_falls = 0; second_falls = 0 } → side < 2 → Serves k old → reply ≡ Armed → new ≡ plan_side (which side) old → HeardLine k (OfArray line) (Plain reply) old side new side
-plan-heard line reply k old new side does is within s armed same =
+plan-heard : (fault : PlannedFault) (line : Line) (reply : Reply) (k : Known) (old new : Pair) (side : ℕ) → ((s t : MirrorState) → t ≡ s → DoesLine s line (Plain Armed ∷ []) t) → sums_of (OfArray line) (Plain Armed ∷ []) 0 0 ≡ record { lines = 1; powers = 0; plans = 1; losts = 0; faults = 0; first_falls = 0; second_falls = 0 } → side < 2 → Serves k old → reply ≡ Armed → new ≡ plan_side (which side) fault old → HeardLine k (OfArray line) (Plain reply) old side new side
+plan-heard fault line reply k old new side does is within s armed same =
     subst (λ (r : Reply). HeardLine k (OfArray line) (Plain r) old side new side) (sym armed)
     (subst (λ (p : Pair). HeardLine k (OfArray line) (Plain Armed) old side p side) (sym same) (inl (
       k,
       record {
-        does = does (state_of k old (which side)) (state_of k (plan_side (which side) old) (which side)) (planned-state (which side) (which side) k old);
-        serves = planned-spent (which side) k old s;
+        does = does (state_of k old (which side)) (state_of k (plan_side (which side) fault old) (which side)) (planned-state fault (which side) (which side) k old);
+        serves = planned-spent fault (which side) k old s;
         within = within;
-        costs = record { first_falls = 0; second_falls = 0; bill = subst (λ (x : Sums). Bill x old (plan_side (which side) old)) (sym is) (planned-bill (which side) old); first = plus-none k.first.falls; second = plus-none k.second.falls };
+        costs = record { first_falls = 0; second_falls = 0; bill = subst (λ (x : Sums). Bill x old (plan_side (which side) fault old)) (sym is) (planned-bill fault (which side) old); first = plus-none k.first.falls; second = plus-none k.second.falls };
         told = tt;
       },
     )))
@@ -275,8 +277,8 @@ line-heard (Commit u) reply k old new side within i s h = command-heard (Commit 
 line-heard (Abort u) reply k old new side within i s h = command-heard (Abort u) (DoAbort u) reply k old new side (is-abort u) within i s h
 line-heard Tick reply k old new side within i s h = command-heard Tick DoTick reply k old new side is-tick within i s h
 line-heard Power reply k old new side within i s h = absurd h
-line-heard (Cut n g) reply k old new side within i s (armed, same) = plan-heard (Cut n g) reply k old new side (λ x t is. (refl, is)) refl within s armed same
-line-heard (Bad n g) reply k old new side within i s (armed, same) = plan-heard (Bad n g) reply k old new side (λ x t is. (refl, is)) refl within s armed same
+line-heard (Cut n g) reply k old new side within i s (armed, same) = plan-heard (PlanCut n g) (Cut n g) reply k old new side (λ x t is. (refl, is)) refl within s armed same
+line-heard (Bad n g) reply k old new side within i s (armed, same) = plan-heard (PlanBad n g) (Bad n g) reply k old new side (λ x t is. (refl, is)) refl within s armed same
 line-heard Stat reply k old new side within i s (says, same) = stat-heard reply k old new side within s says same
 
 pub heard : (line : MirrorLine) (reply : MirrorReply) (k : Known) (old new : Pair) (side new_side : ℕ) → IsMirrorLine line → side < 2 → IsPair new → Serves k old → Hears line reply old side new new_side → HeardLine k line reply old side new new_side

@@ -7,6 +7,7 @@ use Rattle.envy_memory.specs.Picture.{counts_of}
 use Rattle.envy_memory.specs.declared.faults.LoadFault.{LoadFault}
 use Rattle.envy_mirror.specs.Asking.{Answers}
 use Rattle.envy_mirror.specs.Catching.{CatchesUp}
+use Rattle.envy_base.specs.declared.faults.PlannedFault.TheVariants.{Cut as PlanCut, Bad as PlanBad}
 use Rattle.envy_mirror.specs.Mirroring.{Mirrors}
 use Rattle.envy_mirror.specs.Pair.{Pair, is_good, side_at}
 use Rattle.envy_mirror.specs.Reading.{Finds, AsksLowest}
@@ -66,8 +67,8 @@ HearsLine side (Put t a w) reply old new = Commanded (DoPut t a w) reply old new
 HearsLine side (Commit t) reply old new = Commanded (DoCommit t) reply old new
 HearsLine side (Abort t) reply old new = Commanded (DoAbort t) reply old new
 HearsLine side Tick reply old new = Commanded DoTick reply old new
-HearsLine side (Cut k g) reply old new = (reply ≡ Armed) × (new ≡ plan_side (which side) old)
-HearsLine side (Bad k g) reply old new = (reply ≡ Armed) × (new ≡ plan_side (which side) old)
+HearsLine side (Cut k g) reply old new = (reply ≡ Armed) × (new ≡ plan_side (which side) (PlanCut k g) old)
+HearsLine side (Bad k g) reply old new = (reply ≡ Armed) × (new ≡ plan_side (which side) (PlanBad k g) old)
 HearsLine side Stat reply old new = (reply ≡ StatLine (counts_of (side_at (which side) old).memory.parts)) × (new ≡ old)
 HearsLine side line reply old new = ⊥
 

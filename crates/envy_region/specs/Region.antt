@@ -1,5 +1,5 @@
 -- The board that memory of a caller's is.
-use Rattle.std.specs.Prelude.{◌≡◌, ◌<◌, ◌≤◌, ℕ, true, List, [], length, slice_index_or}
+use Rattle.std.specs.Prelude.{◌≡◌, ◌<◌, ◌≤◌, ℕ, true, List, [], length, slice_index_or, None}
 use Rattle.envy_base.specs.declared.shape.Shape.{Shape}
 use Rattle.envy_base.specs.State.{State, ones}
 
@@ -16,6 +16,7 @@ region_state shape flash sram erases begun = record {
   erases = erases;
   pulled = 0;
   plans = 0;
+  last_plan = None;
   lives = 0;
   given = 0;
 }

@@ -9,6 +9,7 @@ use Rattle.envy_args.specs.declared.command.WordsFault.TheVariants.{Memory}
 use Rattle.envy_args.specs.Words.{Text, command_of}
 use Rattle.envy_base.specs.State.{State, IsMade}
 use Rattle.envy_base.specs.declared.area.Area.{Area}
+use Rattle.envy_base.specs.declared.faults.PlannedFault.{PlannedFault}
 use Rattle.envy_base.specs.declared.counts.Counts.{Counts}
 use Rattle.envy_base.specs.declared.shape.Shape.{Shape}
 use Rattle.envy_io.specs.Streams.{Drain, Feed}
@@ -21,9 +22,10 @@ use Rattle.envy_memory.specs.Picture.{Picture, counts_of}
 use Rattle.envy_memory.specs.Rises.{RoseOver}
 use Rattle.envy_policy.specs.declared.setup.Setup.{Setup}
 use Rattle.envy_serve.specs.Streams.{Streams}
-use Rattle.envy_tpca.specs.Driving.{HasCounted, IsDriven, IsToldBefore, is_planned, plans_in}
+use Rattle.envy_tpca.specs.Driving.{HasCounted, IsDriven, IsToldBefore, PlansCuts, is_planned, last_cut, plans_in}
 use Rattle.envy_tpca.specs.Since.{IsPast, Keeps, Rises}
 use Rattle.envy_tpca.specs.Tpc.{Tpc}
+use Rattle.envy_tpca.proofs.Planning.{last-none}
 use Rattle.envy_run.specs.Counters.{AddsUp}
 use Rattle.envy_run.specs.Driven.{AfterLoad, HasBroken, HasTold, IsCause}
 use Rattle.envy_run.specs.Drives.{FailsAsPlanned, IsCounted, IsDriver, IsUnbegun, TellsAll, TellsReturns, driving, load_of, report}
@@ -74,7 +76,7 @@ module _ (setup : Setup) (returns start : ℕ) (area : Area) (every : ℕ) (firs
   driver after =
       let none = Began.plans b in
       let plans = AfterLoad.plans after in
-      record { shape = same-shape; given = keeps.given ∙ b.given; pulled = keeps.pulled ∙ b.pulled; plans = omega arith }
+      record { shape = same-shape; given = keeps.given ∙ b.given; pulled = keeps.pulled ∙ b.pulled; plans = omega arith; last_plan = subst (λ (o : Option PlannedFault). PlansCuts area every o now.chart.last_plan) (Began.last_plan b) (AfterLoad.last_plan after) }
 
   reports : area.transfers < 2 ^ 32 → IsDriver setup returns area every now.chart → HasTold area (load_of start area) every first now ending to sink → Does (driving setup returns start area every) (ended ending now.chart whole) (unheard feed to sink)
   reports few so told =
@@ -113,6 +115,7 @@ module _ (setup : Setup) (returns start : ℕ) (area : Area) (every : ℕ) (firs
                   omega arith;
               cuts = omega arith;
               plans = let exact = Rises.exact plans (omega arith) in omega arith;
+              last_plan = IsDriven.last_plan d ∙ ap (last_cut every area.transfers) (Began.last_plan b);
             },
           ),
         );
@@ -230,7 +233,7 @@ pub driver-prepared : (setup : Setup) (returns : ℕ) (area : Area) (every : ℕ
 driver-prepared setup returns area every made now m p =
     let none = m.plans in
     let plans = p.plans in
-    (record { begun = p.begun ∙ m.begun; plans = p.plans ∙ m.plans }, record { shape = p.shape ∙ m.shape; given = p.given ∙ m.given; pulled = p.pulled ∙ m.pulled; plans = omega arith })
+    (record { begun = p.begun ∙ m.begun; plans = p.plans ∙ m.plans; last_plan = p.last_plan ∙ m.last_plan }, record { shape = p.shape ∙ m.shape; given = p.given ∙ m.given; pulled = p.pulled ∙ m.pulled; plans = omega arith; last_plan = (0, omega arith, p.last_plan ∙ m.last_plan ∙ last-none every None) })
 
 -- a run that ended before the load was begun
 pub drives-quiet : (setup : Setup) (returns start : ℕ) (area : Area) (every : ℕ) (o : Outcome) (feed : Feed) (sink : Drain) → NoneBegun setup returns o → Does (driving setup returns start area every) o (unheard feed sink sink)

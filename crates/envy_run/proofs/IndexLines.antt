@@ -1,8 +1,10 @@
 -- What the calls of the index tree say of the words of a memory.
-use Rattle.std.proofs.Common.{◌≡◌, ◌⊎◌, inl, inr, ℕ, ◌+◌, ◌-◌, ◌*◌, ◌/◌, ◌^◌, ◌<◌, ◌≤◌, Bool, false, List, length, refl, sym, ◌∙◌, ap, subst, arith}
+use Rattle.std.proofs.Common.{◌≡◌, ◌⊎◌, inl, inr, ℕ, ◌+◌, ◌-◌, ◌*◌, ◌/◌, ◌^◌, ◌<◌, ◌≤◌, Bool, false, List, [], ◌∷◌, length, refl, sym, ◌∙◌, ap, subst, arith}
 use Rattle.std.specs.Prelude.{◌&&◌, IsTrue, Option, None, Some, Ok, Err}
 use Rattle.envy_base.specs.Words.{Works, Keeps, Rose}
 use Rattle.envy_base.specs.declared.board.Off.{Off}
+use Rattle.envy_base.specs.declared.faults.PlannedFault.{PlannedFault}
+use Rattle.envy_base.specs.declared.faults.PlannedFault.TheVariants.{Cut as PlanCut, Bad as PlanBad}
 use Rattle.envy_base.specs.declared.shape.Shape.{Shape}
 use Rattle.envy_btree.specs.Answers.{Gets, Inserts, Removes}
 use Rattle.envy_btree.specs.Answers.{IsFull as IsFullIn}
@@ -20,10 +22,10 @@ use Rattle.envy_map.specs.Fields.{Chart}
 use Rattle.envy_memory.specs.Calls.{planned}
 use Rattle.envy_memory.specs.Lawful.{words_long}
 use Rattle.envy_memory.specs.Picture.{Picture}
-use Rattle.envy_memory.specs.Sheets.{fixed_of, sheet_of, words_read}
+use Rattle.envy_memory.specs.Sheets.{fixed_of, numbers_of, sheet_of, words_read}
 use Rattle.envy_serve.specs.Turns.{one_if}
 use Rattle.envy_run.specs.IndexServing.{Serving, AnswersIndex, LostAt, ReplyLicence}
-use Rattle.envy_run.specs.IndexTurns.{Pairs, IsFull, Says, most_of, told, is_lost, is_fault, is_plan}
+use Rattle.envy_run.specs.IndexTurns.{Pairs, IsFull, Says, most_of, told, is_lost, is_fault, plan_of}
 use Rattle.envy_run.specs.Licence.{Licence}
 use Rattle.envy_run.proofs.Replying.{Licence-planned}
 
@@ -56,6 +58,19 @@ pub record Fixed (c d : Chart) : Type 0 where
   pub pulled : d.pulled ≡ c.pulled
   pub plans : d.plans ≡ c.plans
   pub given : d.given ≡ c.given
+  pub last_plan : d.last_plan ≡ c.last_plan
+
+-- numbers tell a planned fault
+numbers-tell : (a b : Option PlannedFault) → numbers_of a ≡ numbers_of b → a ≡ b
+numbers-tell None None e = refl
+numbers-tell None (Some (PlanCut k g)) e = absurd (let never = e in cc)
+numbers-tell None (Some (PlanBad k g)) e = absurd (let never = e in cc)
+numbers-tell (Some (PlanCut k g)) None e = absurd (let never = e in cc)
+numbers-tell (Some (PlanBad k g)) None e = absurd (let never = e in cc)
+numbers-tell (Some (PlanCut k g)) (Some (PlanCut l h)) e = cc
+numbers-tell (Some (PlanBad k g)) (Some (PlanBad l h)) e = cc
+numbers-tell (Some (PlanCut k g)) (Some (PlanBad l h)) e = absurd (let never : 0 ≡ 1 = cc in omega (arith, never))
+numbers-tell (Some (PlanBad k g)) (Some (PlanCut l h)) e = absurd (let never : 1 ≡ 0 = cc in omega (arith, never))
 
 pub fixed-says : (c d : Chart) → fixed_of d ≡ fixed_of c → Fixed c d
 fixed-says c d same = record {
@@ -63,26 +78,28 @@ fixed-says c d same = record {
   pulled = cc;
   plans = cc;
   given = cc;
+  last_plan = numbers-tell d.last_plan c.last_plan (cc);
 }
 
 -- counts that the calls of the tree leave license its replies
-licence-kept : (losts faults : ℕ) (c d : Chart) → Fixed c d → c.cuts ≤ d.cuts → c.bads ≤ d.bads → (d.cuts < 2 ^ 64 - 1 → c.cuts + losts ≤ d.cuts) → (d.bads < 2 ^ 64 - 1 → c.bads + faults ≤ d.bads) → Licence 0 0 losts faults c d
+licence-kept : (losts faults : ℕ) (c d : Chart) → Fixed c d → c.cuts ≤ d.cuts → c.bads ≤ d.bads → (d.cuts < 2 ^ 64 - 1 → c.cuts + losts ≤ d.cuts) → (d.bads < 2 ^ 64 - 1 → c.bads + faults ≤ d.bads) → Licence 0 [] losts faults c d
 licence-kept losts faults c d f cuts bads lost bad = record {
   shape = f.shape;
   given = f.given;
   pulled = let e = f.pulled in λ lt. omega arith;
   plans_made = let e = f.plans in λ lt. omega arith;
+  last_plan = f.last_plan;
   cuts = record { kept = cuts; rise = λ lt. let le = lost lt in omega arith };
   bads = record { kept = bads; rise = bad };
 }
 
-pub licence-calm : (c d : Chart) → Fixed c d → c.cuts ≤ d.cuts → c.bads ≤ d.bads → Licence 0 0 0 0 c d
+pub licence-calm : (c d : Chart) → Fixed c d → c.cuts ≤ d.cuts → c.bads ≤ d.bads → Licence 0 [] 0 0 c d
 licence-calm c d f cuts bads = licence-kept 0 0 c d f cuts bads (λ lt. omega arith) (λ lt. omega arith)
 
-pub licence-lost : (c d : Chart) → Fixed c d → c.cuts ≤ d.cuts → c.bads ≤ d.bads → Rose c.cuts d.cuts → Licence 0 0 1 0 c d
+pub licence-lost : (c d : Chart) → Fixed c d → c.cuts ≤ d.cuts → c.bads ≤ d.bads → Rose c.cuts d.cuts → Licence 0 [] 1 0 c d
 licence-lost c d f cuts bads rose = licence-kept 1 0 c d f cuts bads (λ lt. let more = rose (omega arith) in omega arith) (λ lt. omega arith)
 
-pub licence-fault : (c d : Chart) → Fixed c d → c.cuts ≤ d.cuts → c.bads ≤ d.bads → Rose c.bads d.bads → Licence 0 0 0 1 c d
+pub licence-fault : (c d : Chart) → Fixed c d → c.cuts ≤ d.cuts → c.bads ≤ d.bads → Rose c.bads d.bads → Licence 0 [] 0 1 c d
 licence-fault c d f cuts bads rose = licence-kept 0 1 c d f cuts bads (λ lt. omega arith) (λ lt. let more = rose (omega arith) in omega arith)
 
 -- what each call keeps
@@ -115,10 +132,10 @@ told-answers most es n line q d None says s = (n, inl says, s)
 told-answers most es n line q d (Some v) says s = (n, inl says, s)
 
 -- and it needs no licence
-pub told-licence : (line : IndexLine) (value : Option ℕ) (reply : IndexReply) (c d : Chart) → is_plan line ≡ false → reply ≡ told value → Licence 0 0 0 0 c d → ReplyLicence line reply c d
-told-licence line value reply c d plain is x = subst (λ (r : IndexReply). ReplyLicence line r c d) (sym is) (subst (λ (z : Bool). Licence 0 (one_if z) (one_if (is_lost (told value))) (one_if (is_fault (told value))) c d) (sym plain) (at value))
+pub told-licence : (line : IndexLine) (value : Option ℕ) (reply : IndexReply) (c d : Chart) → plan_of line ≡ [] → reply ≡ told value → Licence 0 [] 0 0 c d → ReplyLicence line reply c d
+told-licence line value reply c d plain is x = subst (λ (r : IndexReply). ReplyLicence line r c d) (sym is) (subst (λ (z : List PlannedFault). Licence 0 z (one_if (is_lost (told value))) (one_if (is_fault (told value))) c d) (sym plain) (at value))
   where
-    at : (value : Option ℕ) → Licence 0 0 (one_if (is_lost (told value))) (one_if (is_fault (told value))) c d
+    at : (value : Option ℕ) → Licence 0 [] (one_if (is_lost (told value))) (one_if (is_fault (told value))) c d
     at None = x
     at (Some v) = x
 
@@ -179,5 +196,5 @@ out-lost p q b d key es g = at g.1
 
 -- ---- plans
 
-pub plan-licence : (p q : Picture) → q ≡ record p { chart = planned p.chart } → Licence 0 1 0 0 p.chart q.chart
-plan-licence p q is = Licence-planned p.chart q.chart (ap (λ (x : Picture). x.chart) is)
+pub plan-licence : (fault : PlannedFault) (p q : Picture) → q ≡ record p { chart = planned fault p.chart } → Licence 0 (fault ∷ []) 0 0 p.chart q.chart
+plan-licence fault p q is = Licence-planned fault p.chart q.chart (ap (λ (x : Picture). x.chart) is)

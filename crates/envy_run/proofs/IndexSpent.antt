@@ -3,6 +3,7 @@ use Rattle.std.proofs.Common.{◌≡◌, ℕ, ◌+◌, ◌*◌, ◌≤◌, Bool,
 use Rattle.std.proofs.Math.Nat.{mul-le-mul_left}
 use Rattle.std.specs.Prelude.{sum}
 use Rattle.envy_base.specs.Words.{Spends as SheetSpends}
+use Rattle.envy_base.specs.declared.faults.PlannedFault.{PlannedFault}
 use Rattle.envy_base.specs.declared.shape.Shape.{Shape}
 use Rattle.envy_layout.specs.Same.{Counted, Grows, Kept}
 use Rattle.envy_map.specs.Fields.{Chart}
@@ -23,8 +24,8 @@ pub puts-sheet : (n : ℕ) (p q : Picture) (b d : Bool) → SheetSpends n (sheet
 puts-sheet n p q b d s = let programs = s.programs in let erases = s.erases in record { programs = programs; erases = erases }
 
 -- a plan begins nothing
-pub puts-planned : (p q : Picture) → q ≡ record p { chart = planned p.chart } → SpendsPuts 0 p.chart q.chart
-puts-planned p q is = subst (λ (x : Picture). SpendsPuts 0 p.chart x.chart) (sym is) (spends-none (0 * flush_programs p.chart.shape.rows) (0 * flush_erases) p.chart (planned p.chart) refl refl)
+pub puts-planned : (fault : PlannedFault) (p q : Picture) → q ≡ record p { chart = planned fault p.chart } → SpendsPuts 0 p.chart q.chart
+puts-planned fault p q is = subst (λ (x : Picture). SpendsPuts 0 p.chart x.chart) (sym is) (spends-none (0 * flush_programs p.chart.shape.rows) (0 * flush_erases) p.chart (planned fault p.chart) refl refl)
 
 -- nor does a restart
 pub spends-lit : (a b c : Chart) → Spends 0 0 a b → Kept (lit b) c → Spends 0 0 a c

@@ -2,6 +2,7 @@
 use Rattle.std.proofs.Common.{◌≡◌, ◌⊎◌, inl, inr, ℕ, ◌+◌, ◌*◌, ◌^◌, ◌<◌, ◌≤◌, Bool, true, false, List, [], ◌∷◌, ◌++◌, length, take, refl, sym, ◌∙◌, ap, subst, arith}
 use Rattle.std.specs.Prelude.{IsTrue, Option, None, Some, IfSome, Result, Ok, Err, replicate, sum, ◌↔◌, ◌&&◌}
 use Rattle.std.proofs.lemmas.List.{append-nil}
+use Rattle.envy_base.specs.declared.faults.PlannedFault.{PlannedFault}
 use Rattle.envy_base.specs.Shape.{IsShape}
 use Rattle.envy_base.specs.State.{State, IsMade}
 use Rattle.envy_base.proofs.Counting.{up-least, up-below}
@@ -48,8 +49,8 @@ use Rattle.envy_run.specs.Headline.{index_task}
 use Rattle.envy_run.specs.IndexDone.{HoldsIndex, HoldsIndexOff, IndexDies, IndexLicences}
 use Rattle.envy_run.specs.IndexServing.{Serving, LostAt, AnswersIndex, ReplyLicence, LineLicence, IndexOff, IndexBack, RecoversIndex, IndexLineDone, IndexLineDead, ObeysIndex, IndexLicensed, IndexedSince, FellIn, FellSince}
 use Rattle.envy_run.specs.IndexSpending.{SpendsPuts, puts_of, puts_in, tries_before}
-use Rattle.envy_run.specs.IndexTurns.{Pairs, IndexTurn, IndexRun, Says, Faults, Loses, DoesIndex, is_command, FailsIn, index_grammar, most_of, before_restart, is_power, is_plan, is_lost, is_fault}
-use Rattle.envy_run.specs.Licence.{Licence}
+use Rattle.envy_run.specs.IndexTurns.{Pairs, IndexTurn, IndexRun, Says, Faults, Loses, DoesIndex, is_command, FailsIn, index_grammar, most_of, before_restart, is_power, is_plan, plan_of, is_lost, is_fault}
+use Rattle.envy_run.specs.Licence.{Licence, plans_in, newest}
 use Rattle.envy_run.specs.Outcome.{Outcome, ending_of, outcome_of}
 use Rattle.envy_run.specs.Prepares.{IsPrepared, IsReady, NoneBegun, WasMade}
 use Rattle.envy_run.specs.Task.{DoesTask}
@@ -57,7 +58,7 @@ use Rattle.envy_run.specs.declared.ending.Finished.{Finished}
 use Rattle.envy_run.proofs.Accounts.{account_of, served_outcome, unread}
 use Rattle.envy_run.proofs.IndexSpent.{puts-none, puts-then, puts-more, spends-lit, thrifty-index}
 use Rattle.envy_run.proofs.Obeying.{Licence-as, front-after, front-before, one-more}
-use Rattle.envy_run.proofs.Recovering.{Licence-trans, Licence-revived}
+use Rattle.envy_run.proofs.Recovering.{Licence-trans, Licence-revived, plans-count}
 use Rattle.envy_run.proofs.Replying.{Licence-refl}
 use Rattle.envy_run.proofs.Spent.{spends-none}
 use Rattle.envy_run.proofs.Traced.{IsTriedOn, tried-on, times-few}
@@ -89,7 +90,7 @@ lost-no-power (Bad k g) command = (refl, refl)
 -- ---- restarts
 
 off-more : (a b c : Chart) → IndexOff a b → Kept (lit b) c → c.on ≡ false → IndexOff a c
-off-more a b c x kept off = record { off = off; durable = kept.durable ∙ x.durable; licence = Licence-trans 0 0 0 0 0 0 0 0 a b c x.licence (Licence-revived b c kept); spent = spends-lit a b c x.spent kept }
+off-more a b c x kept off = record { off = off; durable = kept.durable ∙ x.durable; licence = Licence-trans 0 [] 0 0 0 [] 0 0 a b c x.licence (Licence-revived b c kept); spent = spends-lit a b c x.spent kept }
 
 pub off-again : {E : Type 0} (a : Chart) (b c : Picture) → IndexOff a b.chart → (E × (c ≡ b)) ⊎ (Kept (lit b.chart) c.chart × (c.chart.on ≡ false)) → IndexOff a c.chart
 off-again a b c x (inl (never, same)) = subst (λ (p : Picture). IndexOff a p.chart) (sym same) x
@@ -104,7 +105,7 @@ and-shut true begun shut = shut
 and-shut false begun shut = refl
 
 pub back-after : (a b : Chart) (c : Picture) (begun : Bool) → IndexOff a b → Kept (lit b) c.chart → IsTrue c.chart.on → begun ≡ false → IndexBack a c begun
-back-after a b c begun x kept on shut = record { on = on; shut = and-shut c.chart.on begun shut; durable = kept.durable ∙ x.durable; licence = Licence-trans 0 0 0 0 0 0 0 0 a b c.chart x.licence (Licence-revived b c.chart kept); spent = spends-lit a b c.chart x.spent kept }
+back-after a b c begun x kept on shut = record { on = on; shut = and-shut c.chart.on begun shut; durable = kept.durable ∙ x.durable; licence = Licence-trans 0 [] 0 0 0 [] 0 0 a b c.chart x.licence (Licence-revived b c.chart kept); spent = spends-lit a b c.chart x.spent kept }
 
 -- ---- one line
 
@@ -117,7 +118,7 @@ one-line most es line reply old new begun on answers licence spent = at reply an
       record {
         does = inr (inl (reply, refl, says));
         serving = serving;
-        licensed = Licence-as 0 (one_if (is_plan line)) (one_if (is_lost reply)) (one_if (is_fault reply)) (one_if (is_power line)) (one_if (is_plan line)) (one_if (is_lost reply) + 0) (one_if (is_fault reply) + 0) old new.chart (sym (ap one_if (says-no-power most es line reply n says))) refl (one-more (one_if (is_lost reply))) (one-more (one_if (is_fault reply))) x;
+        licensed = Licence-as 0 (plan_of line) (one_if (is_lost reply)) (one_if (is_fault reply)) (one_if (is_power line)) (plan_of line) (one_if (is_lost reply) + 0) (one_if (is_fault reply) + 0) old new.chart (sym (ap one_if (says-no-power most es line reply n says))) refl (one-more (one_if (is_lost reply))) (one-more (one_if (is_fault reply))) x;
         spent = spent;
       },
     )
@@ -174,8 +175,8 @@ index-recovers most es line reply old c new b begun p sink mid_sink then_sink wr
     no-power : LostAt most es line c → (is_power line ≡ false) × (before_restart line ≡ Lost ∷ [])
     no-power l = lost-no-power line (Loses.command (LostAt.loses l))
 
-    licensed-one : LostAt most es line c → ReplyLicence line Lost old c → Licence 0 0 0 0 c new.chart → LineLicence line (Lost ∷ []) old new.chart
-    licensed-one l y z = Licence-as 0 (one_if (is_plan line) + 0) 1 0 (one_if (is_power line)) (one_if (is_plan line)) 1 0 old new.chart (sym (ap one_if (no-power l).0)) (sym (one-more (one_if (is_plan line)))) refl refl (Licence-trans 0 (one_if (is_plan line)) 1 0 0 0 0 0 old c new.chart y z)
+    licensed-one : LostAt most es line c → ReplyLicence line Lost old c → Licence 0 [] 0 0 c new.chart → LineLicence line (Lost ∷ []) old new.chart
+    licensed-one l y z = Licence-as 0 (plan_of line) 1 0 (one_if (is_power line)) (plan_of line) 1 0 old new.chart (sym (ap one_if (no-power l).0)) refl refl refl (Licence-trans 0 (plan_of line) 1 0 0 [] 0 0 old c new.chart y z)
 
     done-both : ReplyLicence line Lost old c → (l : LostAt most es line c) → IndexBack c new begun → IndexLineDone most es line (Lost ∷ Restarted ∷ []) (LostAt.left l) old new begun
     done-both y l back = record { does = inr (inr (inl (refl, LostAt.loses l))); serving = back-serving (LostAt.left l) old c new begun (record { room = stays.room; size = stays.size }) back (LostAt.map l); licensed = licensed-one l y back.licence; spent = puts-then (puts_of line) old c new.chart spent back.spent }
@@ -207,12 +208,13 @@ index-recovers most es line reply old c new b begun p sink mid_sink then_sink wr
 pub index-power : (most : ℕ) (es : Pairs) (p c new : Picture) (b begun : Bool) (sink then_sink : Drain) (obeyed : Obeyed) → Serving p b es → c ≡ record p { chart = pulled p.chart } → RecoversIndex (Ok tt) obeyed c.chart new begun sink then_sink → ObeysIndex most es Power obeyed p.chart new begun sink then_sink
 index-power most es p c new b begun sink then_sink obeyed s is recovers = at obeyed recovers
   where
-    cut : Licence 1 0 0 0 p.chart c.chart
-    cut = subst (λ (x : Picture). Licence 1 0 0 0 p.chart x.chart) (sym is) (record {
+    cut : Licence 1 [] 0 0 p.chart c.chart
+    cut = subst (λ (x : Picture). Licence 1 [] 0 0 p.chart x.chart) (sym is) (record {
       shape = refl;
       given = refl;
       pulled = λ lt. up-low p.chart.pulled lt;
       plans_made = λ lt. omega arith;
+      last_plan = refl;
       cuts = record { kept = up-least p.chart.cuts; rise = λ lt. let e = up-below p.chart.cuts lt in omega arith };
       bads = record { kept = omega arith; rise = λ lt. omega arith };
     })
@@ -227,14 +229,14 @@ index-power most es p c new b begun sink then_sink obeyed s is recovers = at obe
     stays = subst (λ (x : Picture). Stays es p.chart x.chart) (sym is) (record { room = s.room; size = s.size })
 
     done-so : IndexBack c.chart new begun → IndexLineDone most es Power (Restarted ∷ []) es p.chart new begun
-    done-so back = record { does = inr (inr (inr (refl, refl, refl))); serving = back-serving es p.chart c.chart new begun stays back map; licensed = Licence-trans 1 0 0 0 0 0 0 0 p.chart c.chart new.chart cut back.licence; spent = puts-then 0 p.chart c.chart new.chart cut-spent back.spent }
+    done-so back = record { does = inr (inr (inr (refl, refl, refl))); serving = back-serving es p.chart c.chart new begun stays back map; licensed = Licence-trans 1 [] 0 0 0 [] 0 0 p.chart c.chart new.chart cut back.licence; spent = puts-then 0 p.chart c.chart new.chart cut-spent back.spent }
 
     at : (obeyed : Obeyed) → RecoversIndex (Ok tt) obeyed c.chart new begun sink then_sink → ObeysIndex most es Power obeyed p.chart new begun sink then_sink
     at Done (ok, back, told) = (Restarted ∷ [], es, done-so back, told)
     at WriteFault (back, inl (err, kept)) = absurd (let never = err in cc)
     at WriteFault (back, inr (ok, part)) = (Restarted ∷ [], es, done-so back, part)
     at Dead (off, dead, kept) = (
-      record { off = off.off; dead = dead; found = (es, inr (refl, refl), subst (λ (ws : List ℕ). IsIndex ws es) (sym off.durable) map); licensed = Licence-trans 1 0 0 0 0 0 0 0 p.chart c.chart new.chart cut off.licence; spent = puts-then 0 p.chart c.chart new.chart cut-spent off.spent },
+      record { off = off.off; dead = dead; found = (es, inr (refl, refl), subst (λ (ws : List ℕ). IsIndex ws es) (sym off.durable) map); licensed = Licence-trans 1 [] 0 0 0 [] 0 0 p.chart c.chart new.chart cut off.licence; spent = puts-then 0 p.chart c.chart new.chart cut-spent off.spent },
       inl (subst (λ (d : Drain). Written [] sink d) (sym kept) (record { whole = sym (with_end-nil sink.written); faults = omega arith })),
     )
 
@@ -254,7 +256,7 @@ joined first p q b d turns t line replies left x = record {
   pairs = left;
   run = subst (λ (sh : Shape). IndexRun (most_of sh.pages) (record { line = line; replies = replies } ∷ turns) left) (sym (Licence.shape x.licensed)) (IndexedSince.pairs t, IndexedSince.run t, x.does);
   serving = x.serving;
-  licensed = Licence-trans (count_lines is_power turns) (count_lines is_plan turns) (count_replies is_lost turns) (count_replies is_fault turns) _ _ _ _ first p.chart q.chart t.licensed x.licensed;
+  licensed = Licence-trans (count_lines is_power turns) (plans_in plan_of turns) (count_replies is_lost turns) (count_replies is_fault turns) _ _ _ _ first p.chart q.chart t.licensed x.licensed;
   spent = puts-more (puts_in turns) (puts_of line) first p.chart q.chart (Licence.shape t.licensed) t.spent x.spent;
 }
 
@@ -272,13 +274,26 @@ index-obeys first p q b d turns line Dead sink then_sink t (dead, told) = (
       off = dead.off;
       dead = dead.dead;
     };
-    licensed = Licence-trans (count_lines is_power turns) (count_lines is_plan turns) (count_replies is_lost turns) (count_replies is_fault turns) _ _ _ _ first p.chart q.chart t.licensed dead.licensed;
+    licensed = Licence-trans (count_lines is_power turns) (plans_in plan_of turns) (count_replies is_lost turns) (count_replies is_fault turns) _ _ _ _ first p.chart q.chart t.licensed dead.licensed;
     spent = puts-more (puts_in turns) (puts_of line) first p.chart q.chart (Licence.shape t.licensed) t.spent dead.spent;
   },
   told,
 )
 
 -- ---- licences
+
+-- each line that plans a failure plans one
+length-plan : (line : IndexLine) → length (plan_of line) ≡ one_if (is_plan line)
+length-plan Empty = refl
+length-plan (Get key) = refl
+length-plan (Insert key value) = refl
+length-plan (Remove key) = refl
+length-plan Power = refl
+length-plan (Cut k g) = refl
+length-plan (Bad k g) = refl
+
+length-plans : (turns : List IndexTurn) → length (plans_in plan_of turns) ≡ count_lines is_plan turns
+length-plans turns = plans-count plan_of is_plan length-plan turns
 
 -- a line has two replies at most
 does-few : (most : ℕ) (es : Pairs) (line : IndexLine) (replies : List IndexReply) (n : Pairs) → DoesIndex most es line replies n → length replies ≤ 2
@@ -328,6 +343,7 @@ pub record IndexBegan (setup : Setup) (returns : ℕ) (first : Chart) : Type 0 w
   pub given : first.given ≡ returns
   pub pulled : first.pulled ≡ 0
   pub plans : first.plans ≡ 0
+  pub last_plan : first.last_plan ≡ None
   pub begun : first.begun ≡ 0
   pub tried : IsTriedOn setup first
 
@@ -341,6 +357,7 @@ licences-none setup returns c b = record {
   given = b.given;
   pulled = b.pulled;
   plans = b.plans;
+  last_plan = b.last_plan;
   losts = omega arith;
   faults = omega arith;
   thrifty = thrifty-index (IsTriedOn.times b.tried) (tries_before [] c) [] c c refl (let paid = IsTriedOn.paid b.tried in omega arith) b.begun (tried-erases setup returns c b) (puts-none c);
@@ -362,7 +379,8 @@ licences-since setup returns first p d turns b few since =
       shape = Licence.shape l ∙ b.shape;
       given = Licence.given l ∙ b.given;
       pulled = let e = Licence.pulled l (omega arith) in omega arith;
-      plans = let e = Licence.plans_made l (omega arith) in omega arith;
+      plans = let long = length-plans turns in let e = Licence.plans_made l (omega arith) in omega arith;
+      last_plan = Licence.last_plan l ∙ ap (newest (plans_in plan_of turns)) b.last_plan;
       losts = below-top (count_lines is_power turns + count_replies is_lost turns) p.chart.cuts (omega arith) (λ lt. let rise = RoseOver.rise (Licence.cuts l) lt in omega arith);
       faults = below-top (count_replies is_fault turns) p.chart.bads (omega arith) (λ lt. let rise = RoseOver.rise (Licence.bads l) lt in omega arith);
       thrifty = thrifty-index times (tries_before turns p.chart) turns first p.chart (Licence.shape l) enough b.begun (tried-erases setup returns first b) (spent-either first p d turns since);
@@ -371,12 +389,11 @@ licences-since setup returns first p d turns b few since =
 -- ---- the whole trace
 
 -- before the first line: the words are zeros, and no transaction is open
-pub index-none : (setup : Setup) (returns : ℕ) (s : State) (p : Picture) (b : Bool) → IsShape setup.shape → 32 ≤ setup.shape.shadows → 20 ≤ setup.shape.pages → IsMade setup.shape returns s → IsReady (chart s) setup p → b ≡ false → IndexedSince p.chart p b []
-index-none setup returns s p b sizes room least made ready shut =
+pub index-none : (setup : Setup) (returns : ℕ) (s : State) (p : Picture) (b : Bool) → IsShape setup.shape → 32 ≤ setup.shape.shadows → 20 ≤ setup.shape.pages → setup.shape.pages ≤ 1048576 → IsMade setup.shape returns s → IsReady (chart s) setup p → b ≡ false → IndexedSince p.chart p b []
+index-none setup returns s p b sizes room least most made ready shut =
     let shape : p.chart.shape ≡ setup.shape = IsPrepared.shape (IsReady.prepared ready) ∙ made.shape in
     let shadows = ap (λ (sh : Shape). sh.shadows) shape in
     let pages = ap (λ (sh : Shape). sh.pages) shape in
-    let most = sizes.few_pages in
     let stands = IsFresh.stands (IsReady.fresh ready) in
     let zeros_are : durable p.chart ≡ replicate (32 * p.chart.shape.pages) 0 = Holds.durable (Stands.holds stands) ∙ undo_all-closed 64 (replicate (32 * p.chart.shape.pages) 0) in
     record {
@@ -444,7 +461,7 @@ fallen most first p b now (turn ∷ earlier) o board same x d =
     )
 
 pub index-began : (setup : Setup) (returns : ℕ) (s : State) (c : Chart) → returns < 2 ^ 32 → IsMade setup.shape returns s → IsPrepared (chart s) c → IndexBegan setup returns c
-index-began setup returns s c low made p = record { shape = p.shape ∙ made.shape; given = p.given ∙ made.given; pulled = p.pulled ∙ made.pulled; plans = p.plans ∙ made.plans; begun = p.begun ∙ made.begun; tried = tried-on setup returns s c low made p }
+index-began setup returns s c low made p = record { shape = p.shape ∙ made.shape; given = p.given ∙ made.given; pulled = p.pulled ∙ made.pulled; plans = p.plans ∙ made.plans; last_plan = p.last_plan ∙ made.last_plan; begun = p.begun ∙ made.begun; tried = tried-on setup returns s c low made p }
 
 index-made : (setup : Setup) (returns : ℕ) (board : Option Chart) → returns < 2 ^ 32 → IfSome board (WasMade setup returns) → IfSome board (IndexLicences setup returns [])
 index-made setup returns None low none = tt
@@ -489,7 +506,7 @@ index-ended {B} state setup returns first p b now end lines taken skipped board 
     (index-ends (state board) setup returns first p b now end lines taken io x began few
     (subst (λ (k : ℕ). (turns : List IndexTurn) × Serves end lines taken index_grammar k (IndexedSince first p b) (FellSince first p.chart) [] turns io) none serves)))
 
-pub stays-of : (es : Pairs) (p : Picture) (b : Bool) (c : Chart) (i j k l : ℕ) → Serving p b es → Licence i j k l p.chart c → Stays es p.chart c
+pub stays-of : (es : Pairs) (p : Picture) (b : Bool) (c : Chart) (i : ℕ) (j : List PlannedFault) (k l : ℕ) → Serving p b es → Licence i j k l p.chart c → Stays es p.chart c
 stays-of es p b c i j k l s x =
     let shadows = ap (λ (sh : Shape). sh.shadows) (Licence.shape x) in
     let pages = ap (λ (sh : Shape). sh.pages) (Licence.shape x) in

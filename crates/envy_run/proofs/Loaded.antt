@@ -83,6 +83,7 @@ unharmed-goes sh returns old new made goes = record {
   lives = ap (λ (s : State). s.lives) goes.same ∙ made.lives;
   pulled = ap (λ (s : State). s.pulled) goes.same ∙ made.pulled;
   plans = ap (λ (s : State). s.plans) goes.same ∙ made.plans;
+  last_plan = ap (λ (s : State). s.last_plan) goes.same ∙ made.last_plan;
 }
 
 module _ (sh : Shape) (returns : ℕ) (from feed to : Feed) (old new : State) (was now : Taking) (shape : IsShape sh) (made : IsMade sh returns old) (head : HasTaken (head_of sh) from was feed) where
@@ -161,6 +162,7 @@ module _ (sh : Shape) (returns : ℕ) (from feed to : Feed) (old new : State) (w
       lives = ap (λ (s : State). s.lives) (Upsets.same f.upset) ∙ made.lives;
       pulled = ap (λ (s : State). s.pulled) (Upsets.same f.upset) ∙ made.pulled;
       plans = ap (λ (s : State). s.plans) (Upsets.same f.upset) ∙ made.plans;
+      last_plan = ap (λ (s : State). s.last_plan) (Upsets.same f.upset) ∙ made.last_plan;
     };
   }
 
@@ -186,6 +188,7 @@ module _ (sh : Shape) (returns : ℕ) (from feed to : Feed) (old new : State) (w
           lives = ap (λ (s : State). s.lives) (Goes.same i.goes) ∙ made.lives;
           pulled = ap (λ (s : State). s.pulled) (Goes.same i.goes) ∙ made.pulled;
           plans = ap (λ (s : State). s.plans) (Goes.same i.goes) ∙ made.plans;
+          last_plan = ap (λ (s : State). s.last_plan) (Goes.same i.goes) ∙ made.last_plan;
           cuts = ap (λ (s : State). s.cuts) (Goes.same i.goes) ∙ made.cuts;
           bads = ap (λ (s : State). s.bads) (Goes.same i.goes) ∙ made.bads;
           begun = i.begun ∙ (ap (λ (x : Shape). count_after (x.segments * x.rows) old.begun) made.shape ∙ count-zero (sh.segments * sh.rows) old.begun shape.few made.begun);

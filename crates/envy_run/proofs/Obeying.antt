@@ -6,6 +6,7 @@ use Rattle.std.proofs.Math.Seq.{take-append-add}
 use Rattle.std.proofs.lemmas.List.{take-append-le}
 use Rattle.envy_base.specs.Array.{Array, undone, restarted}
 use Rattle.envy_base.proofs.Counting.{up-least, up-below}
+use Rattle.envy_base.specs.declared.faults.PlannedFault.{PlannedFault}
 use Rattle.envy_base.specs.Step.{Command, Lost as LostAs}
 use Rattle.envy_base.specs.declared.shape.Shape.{Shape}
 use Rattle.envy_flush.proofs.CountLemmas.{Tallies-trans}
@@ -21,7 +22,7 @@ use Rattle.envy_layout.specs.Sound.{IsSound}
 use Rattle.envy_layout.specs.Stands.{Holds, Stands, IsLost as LostIn}
 use Rattle.envy_layout.specs.Words.{durable}
 use Rattle.envy_memory.specs.Calls.{fresh, pulled}
-use Rattle.envy_memory.specs.Rises.{RoseOver}
+use Rattle.envy_memory.specs.Rises.{RoseBy, RoseOver}
 use Rattle.envy_trace.specs.declared.line.Line.{Line}
 use Rattle.envy_trace.specs.declared.line.Line.TheVariants.{Empty as EmptyLine, Load as LoadLine, Look as LookLine, Store as StoreLine, Begin as BeginLine, Put as PutLine, Commit as CommitLine, Abort as AbortLine, Tick as TickLine, Power as PowerLine, Cut as CutLine, Bad as BadLine, Stat as StatLine}
 use Rattle.envy_trace.specs.declared.reply.Reply.{Reply}
@@ -31,13 +32,13 @@ use Rattle.envy_serve.specs.declared.service.Obeyed.{Obeyed}
 use Rattle.envy_serve.specs.declared.service.Obeyed.TheVariants.{Done, WriteFault, Dead}
 use Rattle.envy_run.specs.Answers.{AnswersTo, AnswerLicence, LosesIn}
 use Rattle.envy_run.specs.Below.{WorksOf}
-use Rattle.envy_run.specs.Licence.{Licence}
+use Rattle.envy_run.specs.Licence.{Licence, newest}
 use Rattle.envy_run.specs.Obeys.{ObeysLine, Licensed, LineDone, LineDead}
 use Rattle.envy_run.specs.Restarts.{Recovers, IsStillOff, IsBack}
 use Rattle.envy_serve.specs.Streams.{Written, FrontWritten}
 use Rattle.envy_serve.specs.Turns.{texts, one_if}
 use Rattle.envy_serve.specs.Answering.{losable}
-use Rattle.envy_run.specs.Turns.{Replies, trace_grammar, is_power, is_plan, is_lost, is_fault, before_restart}
+use Rattle.envy_run.specs.Turns.{Replies, trace_grammar, is_power, plan_of, is_lost, is_fault, before_restart}
 use Rattle.envy_base.specs.declared.counts.Counts.{Counts}
 use Rattle.envy_run.specs.Counters.{is_empty}
 use Rattle.envy_run.specs.Hits.{accessed}
@@ -50,12 +51,13 @@ use Rattle.envy_run.proofs.Replying.{Licence-refl}
 use Rattle.envy_run.proofs.Spent.{spends-line, spends-none, spends-stay}
 
 -- a licence under equal numbers
-pub Licence-as : (a b c d i j k l : ℕ) (p q : Chart) → a ≡ i → b ≡ j → c ≡ k → d ≡ l → Licence a b c d p q → Licence i j k l p q
+pub Licence-as : (a : ℕ) (b : List PlannedFault) (c d i : ℕ) (j : List PlannedFault) (k l : ℕ) (p q : Chart) → a ≡ i → b ≡ j → c ≡ k → d ≡ l → Licence a b c d p q → Licence i j k l p q
 Licence-as a b c d i j k l p q ea eb ec ed x = record {
   shape = x.shape;
   given = x.given;
   pulled = λ lt. let e = x.pulled (omega arith) in omega arith;
-  plans_made = λ lt. let e = x.plans_made (omega arith) in omega arith;
+  plans_made = subst (λ (fs : List PlannedFault). RoseBy (length fs) p.plans q.plans) eb x.plans_made;
+  last_plan = subst (λ (fs : List PlannedFault). q.last_plan ≡ newest fs p.last_plan) eb x.last_plan;
   cuts = record { kept = RoseOver.kept x.cuts; rise = λ lt. let e = RoseOver.rise x.cuts lt in omega arith };
   bads = record { kept = RoseOver.kept x.bads; rise = λ lt. let e = RoseOver.rise x.bads lt in omega arith };
 }
@@ -124,7 +126,7 @@ done-so May m line reply old c on a licence works notes =
       record {
         does = inr (inl (reply, refl, replies));
         stands = stands;
-        licensed = Licence-as 0 (one_if (is_plan line)) (one_if (is_lost reply)) (one_if (is_fault reply)) (one_if (is_power line)) (one_if (is_plan line)) (one_if (is_lost reply) + 0) (one_if (is_fault reply) + 0) old.chart c.chart (sym (ap one_if no_power)) refl (one-more (one_if (is_lost reply))) (one-more (one_if (is_fault reply))) licence;
+        licensed = Licence-as 0 (plan_of line) (one_if (is_lost reply)) (one_if (is_fault reply)) (one_if (is_power line)) (plan_of line) (one_if (is_lost reply) + 0) (one_if (is_fault reply) + 0) old.chart c.chart (sym (ap one_if no_power)) refl (one-more (one_if (is_lost reply))) (one-more (one_if (is_fault reply))) licence;
         spent = spends-line line old.chart c.chart works;
         notes = notes;
       },
@@ -237,11 +239,11 @@ call-recovers May m line reply old c new sink mid_sink then_sink wrote obeyed st
     said-so : (loses : LosesIn m line c.chart) → IsSaidLine line
     said-so loses = lost-in line loses.command loses.is
 
-    licensed-both : LosesIn m line c.chart → AnswerLicence line Lost old.chart c.chart → Licence 0 0 0 0 c.chart new.chart → Licensed line (Lost ∷ Restarted ∷ []) old.chart new.chart
-    licensed-both loses x y = Licence-as 0 (one_if (is_plan line) + 0) 1 0 (one_if (is_power line)) (one_if (is_plan line)) 1 0 old.chart new.chart (sym (ap one_if (said-so loses).0)) (sym (one-more (one_if (is_plan line)))) refl refl (Licence-trans 0 (one_if (is_plan line)) 1 0 0 0 0 0 old.chart c.chart new.chart x y)
+    licensed-both : LosesIn m line c.chart → AnswerLicence line Lost old.chart c.chart → Licence 0 [] 0 0 c.chart new.chart → Licensed line (Lost ∷ Restarted ∷ []) old.chart new.chart
+    licensed-both loses x y = Licence-as 0 (plan_of line) 1 0 (one_if (is_power line)) (plan_of line) 1 0 old.chart new.chart (sym (ap one_if (said-so loses).0)) refl refl refl (Licence-trans 0 (plan_of line) 1 0 0 [] 0 0 old.chart c.chart new.chart x y)
 
-    licensed-one : LosesIn m line c.chart → AnswerLicence line Lost old.chart c.chart → Licence 0 0 0 0 c.chart new.chart → Licensed line (Lost ∷ []) old.chart new.chart
-    licensed-one loses x y = Licence-as 0 (one_if (is_plan line) + 0) 1 0 (one_if (is_power line)) (one_if (is_plan line)) 1 0 old.chart new.chart (sym (ap one_if (said-so loses).0)) (sym (one-more (one_if (is_plan line)))) refl refl (Licence-trans 0 (one_if (is_plan line)) 1 0 0 0 0 0 old.chart c.chart new.chart x y)
+    licensed-one : LosesIn m line c.chart → AnswerLicence line Lost old.chart c.chart → Licence 0 [] 0 0 c.chart new.chart → Licensed line (Lost ∷ []) old.chart new.chart
+    licensed-one loses x y = Licence-as 0 (plan_of line) 1 0 (one_if (is_power line)) (plan_of line) 1 0 old.chart new.chart (sym (ap one_if (said-so loses).0)) refl refl refl (Licence-trans 0 (plan_of line) 1 0 0 [] 0 0 old.chart c.chart new.chart x y)
 
     spent-so : CountsStay c new → Spends (programs_of old.chart.shape.rows line) (erases_of line) old.chart new.chart
     spent-so stay = spends-stay (programs_of old.chart.shape.rows line) (erases_of line) old.chart c new (spends-line line old.chart c.chart works) stay
@@ -293,12 +295,13 @@ power-recovers May m old c new sink then_sink obeyed stood is (sound, words) rec
     shadows : m.shadows ≡ c.chart.shape.shadows
     shadows = Holds.shadows stood.holds ∙ ap (λ (x : Picture). x.chart.shape.shadows) (sym is)
 
-    cut : Licence 1 0 0 0 old.chart c.chart
-    cut = subst (λ (x : Picture). Licence 1 0 0 0 old.chart x.chart) (sym is) (record {
+    cut : Licence 1 [] 0 0 old.chart c.chart
+    cut = subst (λ (x : Picture). Licence 1 [] 0 0 old.chart x.chart) (sym is) (record {
       shape = refl;
       given = refl;
       pulled = λ lt. up-low old.chart.pulled lt;
       plans_made = λ lt. omega arith;
+      last_plan = refl;
       cuts = record { kept = up-least old.chart.cuts; rise = λ lt. let e = up-below old.chart.cuts lt in omega arith };
       bads = record { kept = omega arith; rise = λ lt. omega arith };
     })
@@ -310,7 +313,7 @@ power-recovers May m old c new sink then_sink obeyed stood is (sound, words) rec
     done-so_power back = record {
       does = inr (inr (inr (refl, refl, refl)));
       stands = subst (λ (s : ℕ). Stands new.chart (fresh s (undone m))) (sym shadows) (subst (λ (ws : List ℕ). Stands new.chart (fresh c.chart.shape.shadows ws)) words back.stands);
-      licensed = Licence-trans 1 0 0 0 0 0 0 0 old.chart c.chart new.chart cut back.licence;
+      licensed = Licence-trans 1 [] 0 0 0 [] 0 0 old.chart c.chart new.chart cut back.licence;
       spent = spent-so back.counts;
       notes = Notes-power old c new is back;
     }
@@ -320,7 +323,7 @@ power-recovers May m old c new sink then_sink obeyed stood is (sound, words) rec
     at WriteFault (back, inl (err, same)) = absurd (let never = err in cc)
     at WriteFault (back, inr (ok, part)) = (Restarted ∷ [], restarted m, done-so_power back, part)
     at Dead (still, dead, same) = (
-      record { off = still.off; magic = still.magic ∙ ap (λ (x : Picture). x.chart.fields.magic) is ∙ Holds.magic stood.holds; version = still.version ∙ ap (λ (x : Picture). x.chart.fields.version) is ∙ Holds.version stood.holds; sound = still.sound sound; dead = dead; found = (restarted m, inr (refl, refl), still.durable ∙ words); licensed = Licence-trans 1 0 0 0 0 0 0 0 old.chart c.chart new.chart cut still.licence; spent = spent-so still.counts },
+      record { off = still.off; magic = still.magic ∙ ap (λ (x : Picture). x.chart.fields.magic) is ∙ Holds.magic stood.holds; version = still.version ∙ ap (λ (x : Picture). x.chart.fields.version) is ∙ Holds.version stood.holds; sound = still.sound sound; dead = dead; found = (restarted m, inr (refl, refl), still.durable ∙ words); licensed = Licence-trans 1 [] 0 0 0 [] 0 0 old.chart c.chart new.chart cut still.licence; spent = spent-so still.counts },
       inl (subst (λ (d : Drain). Written [] sink d) (sym same) (record { whole = sym (with_end-nil sink.written); faults = omega arith })),
     )
 

@@ -1,5 +1,7 @@
 -- A board between a failure of power and its return.
-use Rattle.std.proofs.Common.{◌≡◌, ◌⊎◌, inl, inr, ℕ, ◌+◌, ◌<◌, false, List, length, sym, ◌∙◌, ap, subst, arith}
+use Rattle.std.proofs.Common.{◌≡◌, ◌⊎◌, inl, inr, ℕ, ◌+◌, ◌<◌, Bool, false, List, [], ◌∷◌, ◌++◌, length, Option, refl, sym, ◌∙◌, ap, subst, arith}
+use Rattle.std.proofs.lemmas.List.{length-append}
+use Rattle.envy_base.specs.declared.faults.PlannedFault.{PlannedFault}
 use Rattle.envy_base.specs.declared.shape.Shape.{Shape}
 use Rattle.envy_map.specs.Fields.{Chart}
 use Rattle.envy_layout.specs.Same.{Counted, Grows, Kept}
@@ -9,25 +11,36 @@ use Rattle.envy_memory.proofs.Counted.{RoseBy-trans, RoseOver-trans}
 use Rattle.envy_memory.specs.Calls.{fresh, lit}
 use Rattle.envy_memory.specs.Picture.{Picture, counts_of}
 use Rattle.envy_table.specs.Hits.{Empties}
-use Rattle.envy_run.specs.Licence.{Licence}
+use Rattle.envy_run.specs.Licence.{Licence, newest, plans_in}
+use Rattle.envy_serve.specs.Turns.{Turn, count_lines, one_if}
 use Rattle.envy_run.specs.Restarts.{IsStillOff, IsBack, Restarts}
 use Rattle.envy_run.specs.Tells.{CountsStay}
 use Rattle.envy_run.proofs.Replying.{Licence-counted}
 
-pub Licence-trans : (a b c d i j k l : ℕ) (p q r : Chart) → Licence a b c d p q → Licence i j k l q r → Licence (a + i) (b + j) (c + k) (d + l) p r
+newest-newest : (xs ys : List PlannedFault) (before : Option PlannedFault) → newest xs (newest ys before) ≡ newest (xs ++ ys) before
+newest-newest [] ys before = refl
+newest-newest (x ∷ xs) ys before = refl
+
+pub Licence-trans : (a : ℕ) (b : List PlannedFault) (c d i : ℕ) (j : List PlannedFault) (k l : ℕ) (p q r : Chart) → Licence a b c d p q → Licence i j k l q r → Licence (a + i) (j ++ b) (c + k) (d + l) p r
 Licence-trans a b c d i j k l p q r x y = record {
   shape = y.shape ∙ x.shape;
   given = y.given ∙ x.given;
   pulled = RoseBy-trans a i _ _ _ x.pulled y.pulled;
-  plans_made = RoseBy-trans b j _ _ _ x.plans_made y.plans_made;
+  plans_made = let both = RoseBy-trans (length b) (length j) _ _ _ x.plans_made y.plans_made in let long = length-append j b in λ lt. let e = both (omega arith) in omega arith;
+  last_plan = y.last_plan ∙ ap (newest j) x.last_plan ∙ newest-newest j b p.last_plan;
   cuts = let both = RoseOver-trans (a + c) (i + k) _ _ _ x.cuts y.cuts in record { kept = both.kept; rise = λ lt. let le = both.rise lt in omega arith };
   bads = RoseOver-trans d l _ _ _ x.bads y.bads;
 }
 
+-- as many failures as lines that plan one
+pub plans-count : {Line Reply : Type 0} (plan : Line → List PlannedFault) (test : Line → Bool) → ((line : Line) → length (plan line) ≡ one_if (test line)) → (turns : List (Turn Line Reply)) → length (plans_in plan turns) ≡ count_lines test turns
+plans-count plan test each [] = refl
+plans-count plan test each (turn ∷ earlier) = let long = length-append (plan turn.line) (plans_in plan earlier) in let here = each turn.line in let rest = plans-count plan test each earlier in omega arith
+
 -- asking for power once
-pub Licence-revived : (c d : Chart) → Kept (lit c) d → Licence 0 0 0 0 c d
+pub Licence-revived : (c d : Chart) → Kept (lit c) d → Licence 0 [] 0 0 c d
 Licence-revived c d kept = let counted = kept.counted in let made = Licence-counted 0 0 0 0 (lit c) d kept.shape counted (λ lt. let le = counted.cuts in omega arith) (λ lt. let le = counted.bads in omega arith) in
-    record { shape = made.shape; given = made.given; pulled = made.pulled; plans_made = made.plans_made; cuts = made.cuts; bads = made.bads }
+    record { shape = made.shape; given = made.given; pulled = made.pulled; plans_made = made.plans_made; last_plan = made.last_plan; cuts = made.cuts; bads = made.bads }
 
 -- asking for power once begins nothing
 CountsStay-more : (a b c : Picture) → CountsStay a b → Kept (lit b.chart) c.chart → counts_of c.parts ≡ counts_of b.parts → length c.parts.cache.entries ≡ length b.parts.cache.entries → CountsStay a c
@@ -49,7 +62,7 @@ StillOff-more a b c still kept version off counts size = record {
   version = version ∙ still.version;
   sound = λ s. kept.sound;
   durable = kept.durable ∙ still.durable;
-  licence = Licence-trans 0 0 0 0 0 0 0 0 a.chart b.chart c.chart still.licence (Licence-revived b.chart c.chart kept);
+  licence = Licence-trans 0 [] 0 0 0 [] 0 0 a.chart b.chart c.chart still.licence (Licence-revived b.chart c.chart kept);
   counts = CountsStay-more a b c still.counts kept counts size;
 }
 
@@ -70,7 +83,7 @@ StillOff-dead a b c still asked version counts size none = (StillOff-again a b c
 pub Back-after : (a b c : Picture) → IsStillOff a b → Kept (lit b.chart) c.chart → Stands c.chart (fresh b.chart.shape.shadows (durable b.chart)) → counts_of c.parts ≡ counts_of b.parts → length c.parts.cache.entries ≡ length b.parts.cache.entries → Empties b.parts.cache c.parts.cache → IsBack a c
 Back-after a b c still kept stands counts size empties = record {
   stands = subst (λ (ws : List ℕ). Stands c.chart (fresh a.chart.shape.shadows ws)) still.durable (subst (λ (n : ℕ). Stands c.chart (fresh n (durable b.chart))) (ap (λ (sh : Shape). sh.shadows) still.shape) stands);
-  licence = Licence-trans 0 0 0 0 0 0 0 0 a.chart b.chart c.chart still.licence (Licence-revived b.chart c.chart kept);
+  licence = Licence-trans 0 [] 0 0 0 [] 0 0 a.chart b.chart c.chart still.licence (Licence-revived b.chart c.chart kept);
   counts = CountsStay-more a b c still.counts kept counts size;
   vacant = empties.pages;
 }

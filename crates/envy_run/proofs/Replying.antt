@@ -1,7 +1,8 @@
 -- The reply of a line, from what the call of the memory answered.
-use Rattle.std.proofs.Common.{◌≡◌, ◌⊎◌, inl, inr, ℕ, ◌+◌, ◌-◌, ◌^◌, ◌<◌, ◌≤◌, false, refl, sym, ap, subst, arith}
+use Rattle.std.proofs.Common.{◌≡◌, ◌⊎◌, inl, inr, ℕ, ◌+◌, ◌-◌, ◌^◌, ◌<◌, ◌≤◌, false, [], ◌∷◌, refl, sym, ap, subst, arith}
 use Rattle.std.specs.Prelude.{◌↔◌, IsTrue, Result, Ok}
 use Rattle.envy_base.specs.Array.{Array}
+use Rattle.envy_base.specs.declared.faults.PlannedFault.{PlannedFault}
 use Rattle.envy_base.specs.Step.{Command, Answer}
 use Rattle.envy_map.specs.Fields.{Chart}
 use Rattle.envy_layout.specs.Same.{Counted}
@@ -30,67 +31,70 @@ says-or m command answer c (n, step, stands) = (n, inl (answer, step, refl), sta
 pub fails-or : (m : Array) (command : Command) (c : Chart) → Fails m command c → (n : Array) × (Says m command Fault n ⊎ Faults m command Fault n) × Stands c n
 fails-or m command c (k, accepts, stands) = (m, inr (k, accepts, refl, refl), stands)
 
-pub Licence-refl : (c : Chart) → Licence 0 0 0 0 c c
+pub Licence-refl : (c : Chart) → Licence 0 [] 0 0 c c
 Licence-refl c = record {
   shape = refl;
   given = refl;
   pulled = λ lt. omega arith;
   plans_made = λ lt. omega arith;
+  last_plan = refl;
   cuts = record { kept = omega arith; rise = λ lt. omega arith };
   bads = record { kept = omega arith; rise = λ lt. omega arith };
 }
 
 -- the counts of a call license as many `lost` and `fault` as failures came in it
-pub Licence-counted : (k j losts faults : ℕ) (c d : Chart) → d.shape ≡ c.shape → Counted k j c d → (d.cuts < 2 ^ 64 - 1 → c.cuts + losts ≤ d.cuts) → (d.bads < 2 ^ 64 - 1 → c.bads + faults ≤ d.bads) → Licence 0 0 losts faults c d
+pub Licence-counted : (k j losts faults : ℕ) (c d : Chart) → d.shape ≡ c.shape → Counted k j c d → (d.cuts < 2 ^ 64 - 1 → c.cuts + losts ≤ d.cuts) → (d.bads < 2 ^ 64 - 1 → c.bads + faults ≤ d.bads) → Licence 0 [] losts faults c d
 Licence-counted k j losts faults c d shape counted cuts bads = record {
   shape = shape;
   given = counted.given;
   pulled = let e = counted.pulled in λ lt. omega arith;
   plans_made = let e = counted.plans in λ lt. omega arith;
+  last_plan = counted.last_plan;
   cuts = record { kept = counted.cuts; rise = λ lt. let le = cuts lt in omega arith };
   bads = record { kept = counted.bads; rise = bads };
 }
 
 -- a call in which nothing failed
-pub Licence-calm : (k j : ℕ) (c d : Chart) → Works k j c d → Licence 0 0 0 0 c d
+pub Licence-calm : (k j : ℕ) (c d : Chart) → Works k j c d → Licence 0 [] 0 0 c d
 Licence-calm k j c d w =
     let cuts = Counted.cuts w.counted in
     let bads = Counted.bads w.counted in
     Licence-counted k j 0 0 c d w.shape w.counted (λ lt. omega arith) (λ lt. omega arith)
 
 -- one in which power failed
-pub Licence-lost : (k j : ℕ) (c d : Chart) → Works k j c d → IsTrue c.on → d.on ≡ false → IsCut c d → Licence 0 0 1 0 c d
+pub Licence-lost : (k j : ℕ) (c d : Chart) → Works k j c d → IsTrue c.on → d.on ≡ false → IsCut c d → Licence 0 [] 1 0 c d
 Licence-lost k j c d w on off cut =
     let cuts = Counted.cuts w.counted in
     let bads = Counted.bads w.counted in
     Licence-counted k j 1 0 c d w.shape w.counted (λ lt. let more = cut on off (omega arith) in omega arith) (λ lt. omega arith)
 
 -- one in which a flash operation failed
-pub Licence-failed : (k j : ℕ) (c d : Chart) → Works k j c d → HasFailed c d → Licence 0 0 0 1 c d
+pub Licence-failed : (k j : ℕ) (c d : Chart) → Works k j c d → HasFailed c d → Licence 0 [] 0 1 c d
 Licence-failed k j c d w failed =
     let cuts = Counted.cuts w.counted in
     let bads = Counted.bads w.counted in
     Licence-counted k j 0 1 c d w.shape w.counted (λ lt. omega arith) (λ lt. let more = failed (omega arith) in omega arith)
 
 -- the same of a background step
-pub tick-calm : (c d : Chart) → TicksOnce c d → Licence 0 0 0 0 c d
+pub tick-calm : (c d : Chart) → TicksOnce c d → Licence 0 [] 0 0 c d
 tick-calm c d (inl w) = Licence-calm 1 0 c d w
 tick-calm c d (inr w) = Licence-calm 0 1 c d w
 
-pub tick-lost : (c d : Chart) → TicksOnce c d → IsTrue c.on → d.on ≡ false → IsCut c d → Licence 0 0 1 0 c d
+pub tick-lost : (c d : Chart) → TicksOnce c d → IsTrue c.on → d.on ≡ false → IsCut c d → Licence 0 [] 1 0 c d
 tick-lost c d (inl w) on off cut = Licence-lost 1 0 c d w on off cut
 tick-lost c d (inr w) on off cut = Licence-lost 0 1 c d w on off cut
 
-pub tick-failed : (c d : Chart) → TicksOnce c d → HasFailed c d → Licence 0 0 0 1 c d
+pub tick-failed : (c d : Chart) → TicksOnce c d → HasFailed c d → Licence 0 [] 0 1 c d
 tick-failed c d (inl w) failed = Licence-failed 1 0 c d w failed
 tick-failed c d (inr w) failed = Licence-failed 0 1 c d w failed
 
-pub Licence-planned : (c d : Chart) → d ≡ planned c → Licence 0 1 0 0 c d
-Licence-planned c d e = subst (λ (x : Chart). Licence 0 1 0 0 c x) (sym e) (record {
+pub Licence-planned : (fault : PlannedFault) (c d : Chart) → d ≡ planned fault c → Licence 0 (fault ∷ []) 0 0 c d
+Licence-planned fault c d e = subst (λ (x : Chart). Licence 0 (fault ∷ []) 0 0 c x) (sym e) (record {
   shape = refl;
   given = refl;
   pulled = λ lt. omega arith;
   plans_made = λ lt. up-low c.plans lt;
+  last_plan = refl;
   cuts = record { kept = omega arith; rise = λ lt. omega arith };
   bads = record { kept = omega arith; rise = λ lt. omega arith };
 })

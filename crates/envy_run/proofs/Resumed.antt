@@ -76,6 +76,7 @@ module _ (setup : Setup) (found : State) (installed : IsInstalled setup.shape fo
         given = IsUntouched.given u;
         pulled = IsUntouched.pulled u ∙ installed.pulled;
         plans = IsUntouched.plans u ∙ installed.plans;
+        last_plan = IsUntouched.last_plan u ∙ installed.last_plan;
         counts = IsStarted.counts a.begins;
         begun = IsUntouched.begun u ∙ installed.begun;
         erases = λ none. IsUntouched.erases u ∙ erased-once;
@@ -123,6 +124,7 @@ module _ (setup : Setup) (found : State) (installed : IsInstalled setup.shape fo
           given = IsUntouched.given u;
           pulled = IsUntouched.pulled u ∙ installed.pulled;
           plans = IsUntouched.plans u ∙ installed.plans;
+          last_plan = IsUntouched.last_plan u ∙ installed.last_plan;
           losts = omega arith;
           faults = omega arith;
           told = tt;

@@ -31,7 +31,7 @@ use Rattle.envy_serve.specs.declared.serving.End.{End}
 use Rattle.envy_serve.specs.Ends.{Serves, Ends, most_bytes}
 use Rattle.envy_serve.specs.Obeys.{Obeys}
 use Rattle.envy_serve.specs.Streams.{Streams}
-use Rattle.envy_serve.specs.Turns.{count_lines, count_replies}
+use Rattle.envy_serve.specs.Turns.{count_lines, count_replies, one_if}
 use Rattle.envy_serve.proofs.Advancing.{Serves-as, served-either}
 use Rattle.envy_run.specs.Done.{Run, Dies, DiesIn, HoldsOff, OnBoard}
 use Rattle.envy_run.specs.Headline.{Licences, run_task, zeros_of}
@@ -39,7 +39,7 @@ use Rattle.envy_run.specs.Task.{DoesTask}
 use Rattle.envy_run.specs.Counters.{AddsUp, just_told, told_in}
 use Rattle.envy_run.specs.Hits.{MayTell}
 use Rattle.envy_run.specs.Tells.{Telling}
-use Rattle.envy_run.specs.Licence.{Licence}
+use Rattle.envy_run.specs.Licence.{Licence, plans_in, newest}
 use Rattle.envy_run.specs.Obeys.{ObeysLine, LineDone}
 use Rattle.envy_run.specs.declared.ending.Finished.{Finished}
 use Rattle.envy_run.specs.Prepares.{HasTried, IsBegun, IsPrepared, IsReady, NoneBegun, WasMade}
@@ -47,10 +47,10 @@ use Rattle.envy_run.specs.Resumes.{LicencesBehind}
 use Rattle.envy_run.specs.Outcome.{Outcome, ending_of, outcome_of}
 use Rattle.envy_run.specs.Spending.{IsThrifty, Spends, programs_in, programs_of, erases_in, erases_of, tries_of}
 use Rattle.envy_run.specs.Tracing.{Start, HasDone, LicensedTurns, SpentSince, TracedSince, DiedSince}
-use Rattle.envy_run.specs.Turns.{TraceTurn, Does, trace_grammar, is_power, is_plan, is_lost, is_fault, FailsIn, before_restart}
+use Rattle.envy_run.specs.Turns.{TraceTurn, Does, trace_grammar, is_power, is_plan, plan_of, is_lost, is_fault, FailsIn, before_restart}
 use Rattle.envy_run.proofs.Accounts.{account_of, served_outcome, unread}
 use Rattle.envy_run.proofs.Hitting.{telling-more}
-use Rattle.envy_run.proofs.Recovering.{Licence-trans}
+use Rattle.envy_run.proofs.Recovering.{Licence-trans, plans-count}
 use Rattle.envy_run.proofs.Replying.{Licence-refl}
 use Rattle.envy_run.proofs.Spent.{spends-none, spends-trans}
 
@@ -66,7 +66,7 @@ traced-done start old new turns t line replies left d = record {
     run = subst (λ (sh : Shape). Run sh.entries start.array (record { line = line; replies = replies } ∷ turns) left) (sym (Licence.shape d.licensed)) (HasDone.array t.done, HasDone.run t.done, d.does);
     stands = d.stands;
   };
-  licensed = Licence-trans (count_lines is_power turns) (count_lines is_plan turns) (count_replies is_lost turns) (count_replies is_fault turns) _ _ _ _ start.memory.chart old.chart new.chart t.licensed d.licensed;
+  licensed = Licence-trans (count_lines is_power turns) (plans_in plan_of turns) (count_replies is_lost turns) (count_replies is_fault turns) _ _ _ _ start.memory.chart old.chart new.chart t.licensed d.licensed;
   spent = spent-more start old new turns line t.spent (Licence.shape t.licensed) d.spent;
   telling = telling-more start.memory (record { line = line; replies = replies }) turns old new t.telling (Licence.shape d.licensed) d.notes;
 }
@@ -89,13 +89,32 @@ traced-obeys start old new turns line Dead sink then_sink t (dead, told) = (
           },
           record { found = words; magic = dead.magic; version = dead.version; sound = dead.sound; off = dead.off; dead = dead.dead },
         );
-    licensed = Licence-trans (count_lines is_power turns) (count_lines is_plan turns) (count_replies is_lost turns) (count_replies is_fault turns) _ _ _ _ start.memory.chart old.chart new.chart t.licensed dead.licensed;
+    licensed = Licence-trans (count_lines is_power turns) (plans_in plan_of turns) (count_replies is_lost turns) (count_replies is_fault turns) _ _ _ _ start.memory.chart old.chart new.chart t.licensed dead.licensed;
     spent = spent-more start old new turns line t.spent (Licence.shape t.licensed) dead.spent;
   },
   told,
 )
 
 -- What the counts of a board that began with none say.
+
+-- each line that plans a failure plans one
+length-plan : (line : Line) → length (plan_of line) ≡ one_if (is_plan line)
+length-plan Empty = refl
+length-plan (Load a) = refl
+length-plan (Look a) = refl
+length-plan (Store a w) = refl
+length-plan Begin = refl
+length-plan (Put t a w) = refl
+length-plan (Commit t) = refl
+length-plan (Abort t) = refl
+length-plan Tick = refl
+length-plan Power = refl
+length-plan (Cut k g) = refl
+length-plan (Bad k g) = refl
+length-plan Stat = refl
+
+length-plans : (turns : List TraceTurn) → length (plans_in plan_of turns) ≡ count_lines is_plan turns
+length-plans turns = plans-count plan_of is_plan length-plan turns
 
 -- no line began anything yet
 pub thrifty-none : (programs times : ℕ) (now : Chart) → now.begun ≡ programs → sum now.erases ≤ now.shape.segments * times → IsThrifty programs times [] now
@@ -143,8 +162,8 @@ times-few times n cuts now paid low few rise = at (cases_lt now (2 ^ 64 - 1))
     at (inr top) = omega arith
 
 -- before the first line there is nothing to license
-pub licences-none : (setup : Setup) (returns : ℕ) (now : Chart) → now.shape ≡ setup.shape → now.given ≡ returns → now.pulled ≡ 0 → now.plans ≡ 0 → now.begun ≡ 0 → IsTriedOn setup now → Licences setup returns [] now
-licences-none setup returns now shape given pulled plans begun tried =
+pub licences-none : (setup : Setup) (returns : ℕ) (now : Chart) → now.shape ≡ setup.shape → now.given ≡ returns → now.pulled ≡ 0 → now.plans ≡ 0 → now.last_plan ≡ None → now.begun ≡ 0 → IsTriedOn setup now → Licences setup returns [] now
+licences-none setup returns now shape given pulled plans last begun tried =
     let paid = tried.paid in
     let segments = ap (λ (sh : Shape). sh.segments * tried.times) shape in
     let erases = tried.erases in
@@ -153,6 +172,7 @@ licences-none setup returns now shape given pulled plans begun tried =
       given = given;
       pulled = pulled;
       plans = plans;
+      last_plan = last;
       losts = omega arith;
       faults = omega arith;
       told = tt;
@@ -207,6 +227,7 @@ pub record Began (programs : ℕ) (setup : Setup) (returns : ℕ) (first : Pictu
   pub given : first.chart.given ≡ returns
   pub pulled : first.chart.pulled ≡ 0
   pub plans : first.chart.plans ≡ 0
+  pub last_plan : first.chart.last_plan ≡ None
   pub counts : counts_of first.parts ≡ no_counts
   pub begun : first.chart.begun ≡ programs
   pub erases : first.chart.cuts ≡ 0 → sum first.chart.erases ≡ setup.shape.segments
@@ -288,7 +309,8 @@ licences-behind programs times setup returns start p turns b before few since =
       shape = Licence.shape l ∙ b.shape;
       given = Licence.given l ∙ b.given;
       pulled = let e = Licence.pulled l (omega arith) in omega arith;
-      plans = let e = Licence.plans_made l (omega arith) in omega arith;
+      plans = let long = length-plans turns in let e = Licence.plans_made l (omega arith) in omega arith;
+      last_plan = Licence.last_plan l ∙ ap (newest (plans_in plan_of turns)) b.last_plan;
       losts = below-top (count_lines is_power turns + count_replies is_lost turns) p.chart.cuts (omega arith) (λ lt. let rise = RoseOver.rise (Licence.cuts l) lt in omega arith);
       faults = below-top (count_replies is_fault turns) p.chart.bads (omega arith) (λ lt. let rise = RoseOver.rise (Licence.bads l) lt in omega arith);
       told = since-told programs setup returns start p turns b since;
@@ -303,7 +325,7 @@ licences-since setup returns start p turns b tried few since =
     let powers = count-lines is_power turns in
     let lost = traced-few is_lost start p turns since in
     let enough = times-few tried.times (count_lines is_power turns + count_replies is_lost turns) start.memory.chart.cuts p.chart.cuts tried.paid tried.low (omega arith) (λ lt. RoseOver.rise (Licence.cuts licence) lt) in
-    record { shape = l.shape; given = l.given; pulled = l.pulled; plans = l.plans; losts = l.losts; faults = l.faults; told = l.told; thrifty = thrifty-more 0 tried.times (tries_of turns p.chart) turns p.chart enough l.thrifty }
+    record { shape = l.shape; given = l.given; pulled = l.pulled; plans = l.plans; last_plan = l.last_plan; losts = l.losts; faults = l.faults; told = l.told; thrifty = thrifty-more 0 tried.times (tries_of turns p.chart) turns p.chart enough l.thrifty }
 
 length-vacant : (n : ℕ) → length (vacant n) ≡ n
 length-vacant n = length-replicate n None
@@ -359,6 +381,7 @@ began setup returns s first made long ready = record {
   given = IsPrepared.given ready.prepared ∙ made.given;
   pulled = IsPrepared.pulled ready.prepared ∙ made.pulled;
   plans = IsPrepared.plans ready.prepared ∙ made.plans;
+  last_plan = IsPrepared.last_plan ready.prepared ∙ made.last_plan;
   counts = (IsStarted.counts ready.begins);
   begun = ready.begun ∙ made.begun;
   erases = λ none. once-sum s.erases first.chart.erases setup.shape.segments (ready.long ∙ long) made.erases (subst (λ (sh : Shape). (e : ℕ) → e < sh.segments → slice_index first.chart.erases e ≡ up (slice_index s.erases e)) made.shape (ready.once none));
@@ -406,7 +429,7 @@ runs-served whole setup returns old first now end lines taken io some ready b tr
 
 -- so it is where formatting failed
 pub licences-prepared : (setup : Setup) (returns : ℕ) (s : State) (now : Chart) → returns < 2 ^ 32 → IsMade setup.shape returns s → IsPrepared (chart s) now → Licences setup returns [] now
-licences-prepared setup returns s now low made p = licences-none setup returns now (p.shape ∙ made.shape) (p.given ∙ made.given) (p.pulled ∙ made.pulled) (p.plans ∙ made.plans) (p.begun ∙ made.begun) (tried-on setup returns s now low made p)
+licences-prepared setup returns s now low made p = licences-none setup returns now (p.shape ∙ made.shape) (p.given ∙ made.given) (p.pulled ∙ made.pulled) (p.plans ∙ made.plans) (p.last_plan ∙ made.last_plan) (p.begun ∙ made.begun) (tried-on setup returns s now low made p)
 
 licences-made : (setup : Setup) (returns : ℕ) (board : Option Chart) → returns < 2 ^ 32 → IfSome board (WasMade setup returns) → IfSome board (Licences setup returns [])
 licences-made setup returns None low none = tt

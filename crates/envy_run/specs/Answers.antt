@@ -1,6 +1,8 @@
 -- What answering a line does, power being on at entry.
 use Rattle.std.specs.Prelude.{◌≡◌, Some}
 use Rattle.envy_base.specs.Array.{Array}
+use Rattle.envy_base.specs.declared.faults.PlannedFault.{PlannedFault}
+use Rattle.envy_base.specs.declared.faults.PlannedFault.TheVariants.{Cut as PlanCut, Bad as PlanBad}
 use Rattle.envy_base.specs.declared.counts.Counts.{Counts}
 use Rattle.envy_base.specs.Step.{Command}
 use Rattle.envy_map.specs.Fields.{Chart}
@@ -12,14 +14,12 @@ use Rattle.envy_trace.specs.declared.reply.Reply.TheVariants.{Lost}
 use Rattle.envy_run.specs.Licence.{Licence}
 use Rattle.envy_run.specs.declared.answering.Beside.{Beside}
 use Rattle.envy_run.specs.declared.answering.Beside.TheVariants.{Nothing, Power as OfPower, Plan as OfPlan}
-use Rattle.envy_run.specs.declared.answering.Plan.{Plan}
-use Rattle.envy_run.specs.declared.answering.Plan.TheVariants.{Cut as PlanCut, Bad as PlanBad}
 use Rattle.envy_serve.specs.Answering.{losable}
-use Rattle.envy_run.specs.Turns.{Replies, is_plan, is_fault, is_lost}
+use Rattle.envy_run.specs.Turns.{Replies, plan_of, is_fault, is_lost}
 use Rattle.envy_serve.specs.Turns.{one_if}
 
 -- the line that plans this
-abbrev pub line_of_plan : Plan → Line
+abbrev pub line_of_plan : PlannedFault → Line
 line_of_plan (PlanCut k g) = Cut k g
 line_of_plan (PlanBad k g) = Bad k g
 
@@ -44,4 +44,4 @@ abbrev pub Answered : Array → Line → Reply → Chart → Type 0
 Answered m line reply new = AnswersTo (λ counts. ⊥) m line reply new
 
 abbrev pub AnswerLicence : Line → Reply → Chart → Chart → Type 0
-AnswerLicence line reply old new = Licence 0 (one_if (is_plan line)) (one_if (is_lost reply)) (one_if (is_fault reply)) old new
+AnswerLicence line reply old new = Licence 0 (plan_of line) (one_if (is_lost reply)) (one_if (is_fault reply)) old new

@@ -22,6 +22,7 @@ pub record IsUntouched (old new : Chart) : Type 0 where
   pub shape : new.shape ≡ old.shape
   pub pulled : new.pulled ≡ old.pulled
   pub plans : new.plans ≡ old.plans
+  pub last_plan : new.last_plan ≡ old.last_plan
   pub given : new.given ≡ old.given
   pub cuts : old.cuts ≤ new.cuts
   pub bads : old.bads ≤ new.bads

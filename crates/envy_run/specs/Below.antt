@@ -1,6 +1,7 @@
 -- What answering a line does below the array: how much flash work it begins at most, and by which rules.
 use Rattle.std.specs.Prelude.{◌≡◌, ⊤, Ok, Err}
 use Rattle.envy_base.specs.declared.board.Trouble.TheVariants.{Bad as TroubleBad}
+use Rattle.envy_base.specs.declared.faults.PlannedFault.TheVariants.{Cut as PlanCut, Bad as PlanBad}
 use Rattle.envy_flush.specs.declared.did.Did.{Did}
 use Rattle.envy_map.specs.Fields.{Chart}
 use Rattle.envy_memory.specs.Below.{StoresBelow, PutsBelow, TicksBelow, flush_programs, flush_erases}
@@ -23,8 +24,8 @@ WorksOf Begin old new = Works 0 0 old new
 WorksOf (Commit t) old new = Works 0 0 old new
 WorksOf (Abort t) old new = Works 0 0 old new
 WorksOf Tick old new = TicksOnce old new
-WorksOf (Cut k g) old new = new ≡ planned old
-WorksOf (Bad k g) old new = new ≡ planned old
+WorksOf (Cut k g) old new = new ≡ planned (PlanCut k g) old
+WorksOf (Bad k g) old new = new ≡ planned (PlanBad k g) old
 WorksOf line old new = new ≡ old
 
 -- A background step, a store and a put that were done, or that a bad operation ended, did below the array what that call
@@ -53,7 +54,7 @@ FollowsRules (Commit t) Closed old new = new ≡ old
 FollowsRules (Commit t) reply old new = new ≡ record old { chart = new.chart; owned = new.owned; parts = record old.parts { space = new.parts.space } }
 FollowsRules (Abort t) Closed old new = new ≡ old
 FollowsRules (Abort t) reply old new = new ≡ record old { chart = new.chart; owned = new.owned; parts = record old.parts { frames = new.parts.frames; space = new.parts.space; cache = new.parts.cache } }
-FollowsRules (Cut k g) reply old new = new ≡ record old { chart = planned old.chart }
-FollowsRules (Bad k g) reply old new = new ≡ record old { chart = planned old.chart }
+FollowsRules (Cut k g) reply old new = new ≡ record old { chart = planned (PlanCut k g) old.chart }
+FollowsRules (Bad k g) reply old new = new ≡ record old { chart = planned (PlanBad k g) old.chart }
 FollowsRules Stat reply old new = new ≡ old
 FollowsRules line reply old new = ⊤

@@ -4,7 +4,7 @@ use Rattle.envy_base.specs.declared.area.Area.{Area}
 use Rattle.envy_io.specs.Streams.{Drain}
 use Rattle.envy_memory.specs.Picture.{Picture}
 use Rattle.envy_tpca.specs.declared.sums.Sums.{Sums}
-use Rattle.envy_tpca.specs.Driving.{HasCounted, IsDriven, plans_in}
+use Rattle.envy_tpca.specs.Driving.{HasCounted, IsDriven, PlansCuts, plans_in}
 use Rattle.envy_tpca.specs.Load.{Draws}
 use Rattle.envy_tpca.specs.Since.{IsPast, Keeps}
 use Rattle.envy_run.specs.Drives.{report}
@@ -31,3 +31,4 @@ pub record AfterLoad (area : Area) (load : Draws) (every : ℕ) (first now : Pic
   pub ends : HasTold area load every first now ending to sink ⊎ HasBroken area load first now ending to sink
   pub keeps : Keeps first now
   pub plans : now.chart.plans ≤ first.chart.plans + plans_in every area.transfers
+  pub last_plan : PlansCuts area every first.chart.last_plan now.chart.last_plan

@@ -16,7 +16,7 @@ use Rattle.envy_policy.specs.declared.setup.Setup.{Setup}
 use Rattle.envy_report.specs.Stat.{stat_bytes}
 use Rattle.envy_serve.specs.Streams.{Streams}
 use Rattle.envy_tpca.specs.declared.sums.Sums.{Sums}
-use Rattle.envy_tpca.specs.Driving.{AddsUp, accesses_of, plans_in}
+use Rattle.envy_tpca.specs.Driving.{AddsUp, PlansCuts, accesses_of, last_cut, plans_in}
 use Rattle.envy_tpca.specs.Load.{Draws, seeded}
 use Rattle.envy_tpca.specs.Tpc.{Tpc}
 use Rattle.envy_run.specs.Counters.{AddsUp as CountsAddUp, IsLow}
@@ -77,6 +77,7 @@ pub record CountsSums (returns : ℕ) (area : Area) (every : ℕ) (sums : Sums) 
   pub accesses : now.cuts ≡ 0 → IsLow sums.counts.hits → IsLow sums.counts.misses → sums.counts.hits + sums.counts.misses ≡ accesses_of area
   pub cuts : sums.cuts + now.lives ≤ returns
   pub plans : now.plans ≡ plans_in every area.transfers
+  pub last_plan : now.last_plan ≡ last_cut every area.transfers None
 
 -- Boards of a kind whose power fails only as it was planned, or by hand: none of them counts a failure before that.
 abbrev pub FailsAsPlanned : {B : Type 0} → (B → State) → Type 0
@@ -94,6 +95,7 @@ pub record TellsReturns (returns : ℕ) (area : Area) (o : Outcome) (io : Stream
 pub record IsUnbegun (now : Chart) : Type 0 where
   pub begun : now.begun ≡ 0
   pub plans : now.plans ≡ 0
+  pub last_plan : now.last_plan ≡ None
 
 -- a restart finds the words after as many transfers as word 0 says, each of them counted once
 pub record IsCounted (setup : Setup) (start : ℕ) (area : Area) (now : Chart) : Type 0 where
@@ -101,12 +103,14 @@ pub record IsCounted (setup : Setup) (start : ℕ) (area : Area) (now : Chart) :
   pub few : slice_index (durable now) 0 ≤ area.transfers
   pub words : Tpc area setup.shape.pages (load_of start area) (slice_index (durable now) 0) (durable now)
 
--- What the board's counts say, whatever the ending: no cut by hand, and no more plans than transfers to be cut.
+-- What the board's counts say, whatever the ending: no cut by hand, and no more plans than transfers to be cut, the last
+-- of them a cut before one of these.
 pub record IsDriver (setup : Setup) (returns : ℕ) (area : Area) (every : ℕ) (now : Chart) : Type 0 where
   pub shape : now.shape ≡ setup.shape
   pub given : now.given ≡ returns
   pub pulled : now.pulled ≡ 0
   pub plans : now.plans ≤ plans_in every area.transfers
+  pub last_plan : PlansCuts area every None now.last_plan
 
 -- The report of these sums is written. Or memory ran out, a flash operation failed, or power didn't return, in formatting
 -- or in the load: nothing is written.

@@ -30,6 +30,7 @@ use Rattle.envy_run.specs.IndexDone.{HoldsIndex, HoldsIndexOff, IndexDies, Index
 use Rattle.envy_run.specs.IndexTurns.{IndexRun, Pairs, index_grammar, most_of}
 use Rattle.envy_run.specs.Drives.{driving}
 use Rattle.envy_run.specs.Meaning.{Meaning, Does}
+use Rattle.envy_run.specs.Licence.{plans_in, newest}
 use Rattle.envy_run.specs.MirrorTask.{mirror_task}
 use Rattle.envy_run.specs.Outcome.{Outcome, EndsBy, IsQuiet}
 use Rattle.envy_run.specs.Resumes.{resuming, setup_found}
@@ -37,7 +38,7 @@ use Rattle.envy_run.specs.Spending.{IsThrifty, tries_of}
 use Rattle.envy_run.specs.Unserved.{IsOutOfMemory, IsUnread, IsUnready}
 use Rattle.envy_run.specs.Writing.{WritesTrace}
 use Rattle.envy_run.specs.Task.{Task, serving}
-use Rattle.envy_run.specs.Turns.{TraceTurn, trace_grammar, is_power, is_plan, is_lost, is_fault}
+use Rattle.envy_run.specs.Turns.{TraceTurn, trace_grammar, is_power, is_plan, plan_of, is_lost, is_fault}
 use Rattle.envy_run.specs.declared.ending.Ending.TheVariants.{OutOfMemory, WordsRefused}
 
 -- the command that the words name, or why they are refused
@@ -45,7 +46,7 @@ abbrev pub command_in : {Z : Type 0} → List (String Z) → Result Command Word
 command_in words = command_of (map string_bytes words)
 
 -- What a board that began with no counts says of the turns: power was cut by hand once for each line `power`, a failure
--- was planned by each line `cut` and `bad`, each `lost` has a failure of power of its own besides, and each `fault` a
+-- was planned by each line `cut` and `bad`, the last by the last of them, each `lost` has a failure of power of its own besides, and each `fault` a
 -- flash operation that failed. Where the last line asked for the counters, they add up to the board's. The lines began
 -- no more flash work than their calls may.
 pub record Licences (setup : Setup) (returns : ℕ) (turns : List TraceTurn) (now : Chart) : Type 0 where
@@ -53,6 +54,7 @@ pub record Licences (setup : Setup) (returns : ℕ) (turns : List TraceTurn) (no
   pub given : now.given ≡ returns
   pub pulled : now.pulled ≡ count_lines is_power turns
   pub plans : now.plans ≡ count_lines is_plan turns
+  pub last_plan : now.last_plan ≡ newest (plans_in plan_of turns) None
   pub losts : count_lines is_power turns + count_replies is_lost turns ≤ now.cuts
   pub faults : count_replies is_fault turns ≤ now.bads
   pub told : IfSome (just_told turns) (λ counts. AddsUp 0 counts now)

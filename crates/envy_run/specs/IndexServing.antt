@@ -17,10 +17,10 @@ use Rattle.envy_serve.specs.declared.service.Obeyed.{Obeyed}
 use Rattle.envy_serve.specs.declared.service.Obeyed.TheVariants.{Done, WriteFault, Dead}
 use Rattle.envy_serve.specs.Streams.{Written, FrontWritten}
 use Rattle.envy_serve.specs.Turns.{count_lines, count_replies, count_of, one_if, texts}
-use Rattle.envy_run.specs.IndexTurns.{Pairs, IndexTurn, IndexRun, Says, Faults, Loses, DoesIndex, FailsIn, index_grammar, most_of, before_restart, is_power, is_plan, is_lost, is_fault}
+use Rattle.envy_run.specs.IndexTurns.{Pairs, IndexTurn, IndexRun, Says, Faults, Loses, DoesIndex, FailsIn, index_grammar, most_of, before_restart, is_power, is_plan, is_lost, is_fault, plan_of}
 use Rattle.envy_run.specs.IndexSpending.{SpendsPuts, puts_of, puts_in}
-use Rattle.envy_run.specs.Licence.{Licence}
 use Rattle.envy_run.specs.Spending.{Spends}
+use Rattle.envy_run.specs.Licence.{Licence, plans_in}
 use Rattle.envy_base.specs.declared.page.TheConstants.{PAGE_WORDS}
 
 -- power is on, no transaction is open, and the words stand for the map, with room for each change of it
@@ -45,17 +45,17 @@ AnswersIndex most es line reply p begun = (n : Pairs) × (Says most es line repl
 
 -- the counts that license a reply
 abbrev pub ReplyLicence : IndexLine → IndexReply → Chart → Chart → Type 0
-ReplyLicence line reply old new = Licence 0 (one_if (is_plan line)) (one_if (is_lost reply)) (one_if (is_fault reply)) old new
+ReplyLicence line reply old new = Licence 0 (plan_of line) (one_if (is_lost reply)) (one_if (is_fault reply)) old new
 
 -- and those that license a line with its replies
 abbrev pub LineLicence : IndexLine → List IndexReply → Chart → Chart → Type 0
-LineLicence line replies old new = Licence (one_if (is_power line)) (one_if (is_plan line)) (count_of is_lost replies) (count_of is_fault replies) old new
+LineLicence line replies old new = Licence (one_if (is_power line)) (plan_of line) (count_of is_lost replies) (count_of is_fault replies) old new
 
 -- power is off, and the committed words are those of before
 pub record IndexOff (old new : Chart) : Type 0 where
   pub off : new.on ≡ false
   pub durable : durable new ≡ durable old
-  pub licence : Licence 0 0 0 0 old new
+  pub licence : Licence 0 [] 0 0 old new
   pub spent : Spends 0 0 old new
 
 -- power is back, with the committed words of before
@@ -63,7 +63,7 @@ pub record IndexBack (old : Chart) (new : Picture) (begun : Bool) : Type 0 where
   pub on : IsTrue new.chart.on
   pub shut : (sheet_of new begun).started ≡ false
   pub durable : durable new.chart ≡ durable old
-  pub licence : Licence 0 0 0 0 old new.chart
+  pub licence : Licence 0 [] 0 0 old new.chart
   pub spent : Spends 0 0 old new.chart
 
 abbrev pub RestartsIndex : Bool → Chart → Picture → Bool → Type 0
@@ -99,7 +99,7 @@ ObeysIndex most es line Dead old new begun sink then_sink = IndexLineDead most e
 
 -- the counts that license the turns
 abbrev pub IndexLicensed : List IndexTurn → Chart → Chart → Type 0
-IndexLicensed turns first now = Licence (count_lines is_power turns) (count_lines is_plan turns) (count_replies is_lost turns) (count_replies is_fault turns) first now
+IndexLicensed turns first now = Licence (count_lines is_power turns) (plans_in plan_of turns) (count_replies is_lost turns) (count_replies is_fault turns) first now
 
 -- what the words did since a trace began
 pub record IndexedSince (first : Chart) (p : Picture) (begun : Bool) (turns : List IndexTurn) : Type 0 where

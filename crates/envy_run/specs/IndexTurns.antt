@@ -1,5 +1,7 @@
 -- What a map answers to the lines of a trace of the index.
 use Rattle.std.specs.Prelude.{◌≡◌, ◌⊎◌, ℕ, ◌-◌, ◌*◌, ◌/◌, Bool, true, false, IsTrue, List, [], ◌∷◌, ◌++◌, length, Option, None, Some}
+use Rattle.envy_base.specs.declared.faults.PlannedFault.{PlannedFault}
+use Rattle.envy_base.specs.declared.faults.PlannedFault.TheVariants.{Cut as PlanCut, Bad as PlanBad}
 use Rattle.envy_btree.specs.declared.line.IndexLine.{IndexLine}
 use Rattle.envy_btree.specs.declared.line.IndexLine.TheVariants.{Empty, Get, Insert, Remove, Power, Cut, Bad}
 use Rattle.envy_btree.specs.declared.reply.IndexReply.{IndexReply}
@@ -85,6 +87,12 @@ abbrev pub is_plan : IndexLine → Bool
 is_plan (Cut k g) = true
 is_plan (Bad k g) = true
 is_plan line = false
+
+-- that failure, if it does
+abbrev pub plan_of : IndexLine → List PlannedFault
+plan_of (Cut k g) = PlanCut k g ∷ []
+plan_of (Bad k g) = PlanBad k g ∷ []
+plan_of line = []
 
 abbrev pub is_lost : IndexReply → Bool
 is_lost IsLost = true

@@ -86,6 +86,7 @@ pub record IsUnharmed (returns : ℕ) (c : Chart) : Type 0 where
   pub lives : c.lives ≡ returns
   pub pulled : c.pulled ≡ 0
   pub plans : c.plans ≡ 0
+  pub last_plan : c.last_plan ≡ None
 
 -- the head is read, and its shape checks; no memory is needed for it
 abbrev pub TakesHead : Feed → Result Shape Refusal → Taking → Feed → Type 0
@@ -101,6 +102,7 @@ pub record IsInstalled (sh : Shape) (returns : ℕ) (s : State) : Type 0 where
   pub lives : s.lives ≡ returns
   pub pulled : s.pulled ≡ 0
   pub plans : s.plans ≡ 0
+  pub last_plan : s.last_plan ≡ None
   pub cuts : s.cuts ≡ 0
   pub bads : s.bads ≡ 0
   pub begun : s.begun ≡ sh.segments * sh.rows

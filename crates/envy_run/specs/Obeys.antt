@@ -19,13 +19,13 @@ use Rattle.envy_run.specs.Licence.{Licence}
 use Rattle.envy_run.specs.Spending.{Spends, programs_of, erases_of}
 use Rattle.envy_run.specs.Tells.{Notes}
 use Rattle.envy_base.specs.declared.counts.Counts.{Counts}
-use Rattle.envy_run.specs.Turns.{Does, FailsIn, before_restart, trace_grammar, is_power, is_plan, is_lost, is_fault}
+use Rattle.envy_run.specs.Turns.{Does, FailsIn, before_restart, trace_grammar, is_power, plan_of, is_lost, is_fault}
 use Rattle.envy_serve.specs.Streams.{Written, FrontWritten}
 use Rattle.envy_serve.specs.Turns.{texts, one_if, count_of}
 
 -- the counts that license a line with these replies
 abbrev pub Licensed : Line → List Reply → Chart → Chart → Type 0
-Licensed line replies old new = Licence (one_if (is_power line)) (one_if (is_plan line)) (count_of is_lost replies) (count_of is_fault replies) old new
+Licensed line replies old new = Licence (one_if (is_power line)) (plan_of line) (count_of is_lost replies) (count_of is_fault replies) old new
 
 -- the line was answered by a call that power was on for
 pub record LineAnswers (May : Counts → Type 0) (m : Array) (line : Line) (reply : Reply) (old new : Picture) : Type 0 where

@@ -25,13 +25,13 @@ pub record IsStillOff (old new : Picture) : Type 0 where
   pub version : new.chart.fields.version ≡ old.chart.fields.version
   pub sound : IsSound old.chart → IsSound new.chart
   pub durable : durable new.chart ≡ durable old.chart
-  pub licence : Licence 0 0 0 0 old.chart new.chart
+  pub licence : Licence 0 [] 0 0 old.chart new.chart
   pub counts : CountsStay old new
 
 -- power is back, the board stands for what it would have been found with, and the cache is empty
 pub record IsBack (old new : Picture) : Type 0 where
   pub stands : Stands new.chart (fresh old.chart.shape.shadows (durable old.chart))
-  pub licence : Licence 0 0 0 0 old.chart new.chart
+  pub licence : Licence 0 [] 0 0 old.chart new.chart
   pub counts : CountsStay old new
   pub vacant : (i : ℕ) → page_at new.parts.cache.entries i ≡ None
 

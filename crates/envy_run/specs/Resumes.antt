@@ -28,7 +28,8 @@ use Rattle.envy_run.specs.Meaning.{Meaning}
 use Rattle.envy_run.specs.Outcome.{Outcome, EndsBy}
 use Rattle.envy_run.specs.Spending.{IsThrifty}
 use Rattle.envy_run.specs.Task.{MaybeHeld, MaybeServed, Session, Task, turns_of}
-use Rattle.envy_run.specs.Turns.{TraceTurn, trace_grammar, is_power, is_plan, is_lost, is_fault}
+use Rattle.envy_run.specs.Licence.{plans_in, newest}
+use Rattle.envy_run.specs.Turns.{TraceTurn, trace_grammar, is_power, is_plan, plan_of, is_lost, is_fault}
 use Rattle.envy_run.specs.Unserved.{IsOutOfMemory, IsDark}
 use Rattle.envy_run.specs.declared.ending.Ending.TheVariants.{ImageRefused, OutOfMemory, PowerLost}
 use Rattle.envy_run.specs.declared.ending.ImageFault.TheVariants.{Unruly, Unsound}
@@ -46,6 +47,7 @@ pub record LicencesBehind (programs times : ℕ) (setup : Setup) (returns : ℕ)
   pub given : now.given ≡ returns
   pub pulled : now.pulled ≡ count_lines is_power turns
   pub plans : now.plans ≡ count_lines is_plan turns
+  pub last_plan : now.last_plan ≡ newest (plans_in plan_of turns) None
   pub losts : count_lines is_power turns + count_replies is_lost turns ≤ now.cuts
   pub faults : count_replies is_fault turns ≤ now.bads
   pub told : IfSome (just_told turns) (λ counts. AddsUp programs counts now)

@@ -9,10 +9,10 @@ use Rattle.envy_serve.specs.Turns.{count_lines, count_replies}
 use Rattle.envy_trace.specs.declared.fault.LineFault.TheVariants.{Long}
 use Rattle.envy_trace.specs.Grammar.{line_of}
 use Rattle.envy_run.specs.Done.{Run, Dies, HoldsOff}
-use Rattle.envy_run.specs.Licence.{Licence}
+use Rattle.envy_run.specs.Licence.{Licence, plans_in}
 use Rattle.envy_run.specs.Spending.{Spends, programs_in, erases_in}
 use Rattle.envy_run.specs.Tells.{Telling}
-use Rattle.envy_run.specs.Turns.{TraceTurn, is_power, is_plan, is_lost, is_fault}
+use Rattle.envy_run.specs.Turns.{TraceTurn, is_power, plan_of, is_lost, is_fault}
 
 -- what a service over a board begins with
 pub record Start : Type 0 where
@@ -31,7 +31,7 @@ HasDied first now turns = (left : Array) × Dies now.shape.entries first turns l
 
 -- the counts that license the turns
 abbrev pub LicensedTurns : List TraceTurn → Chart → Chart → Type 0
-LicensedTurns turns first now = Licence (count_lines is_power turns) (count_lines is_plan turns) (count_replies is_lost turns) (count_replies is_fault turns) first now
+LicensedTurns turns first now = Licence (count_lines is_power turns) (plans_in plan_of turns) (count_replies is_lost turns) (count_replies is_fault turns) first now
 
 -- the flash work of the lines
 abbrev pub SpentSince : Start → Picture → List TraceTurn → Type 0

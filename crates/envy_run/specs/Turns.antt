@@ -1,5 +1,7 @@
 -- What the plain array answers to the lines of a trace.
 use Rattle.std.specs.Prelude.{◌≡◌, ◌⊎◌, ℕ, Bool, true, false, List, [], ◌∷◌, ◌++◌, Some}
+use Rattle.envy_base.specs.declared.faults.PlannedFault.{PlannedFault}
+use Rattle.envy_base.specs.declared.faults.PlannedFault.TheVariants.{Cut as PlanCut, Bad as PlanBad}
 use Rattle.envy_base.specs.Array.{Array, restarted}
 use Rattle.envy_base.specs.declared.counts.Counts.{Counts}
 use Rattle.envy_base.specs.Step.{Command, Answer, Step, Accepts, Lost}
@@ -80,6 +82,12 @@ abbrev pub is_plan : Line → Bool
 is_plan (Cut k g) = true
 is_plan (Bad k g) = true
 is_plan line = false
+
+-- that failure, if it does
+abbrev pub plan_of : Line → List PlannedFault
+plan_of (Cut k g) = PlanCut k g ∷ []
+plan_of (Bad k g) = PlanBad k g ∷ []
+plan_of line = []
 
 abbrev pub is_lost : Reply → Bool
 is_lost IsLost = true

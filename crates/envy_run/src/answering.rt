@@ -10,7 +10,7 @@ ghost use Rattle.envy_run.specs.Turns.{TraceTurn};
 ghost use Rattle.envy_trace.specs.Spelling.{IsLine};
 ghost use Rattle.envy_trace.specs.declared.line.Line.TheVariants.{Load, Look, Store, Begin, Put, Commit, Abort, Tick, Stat};
 
-use envy_base::{Bench, Board, Trouble};
+use envy_base::{Bench, Board, PlannedFault, Trouble};
 use envy_memory::{BeginFault, EndFault, LoadFault, Memory, PutFault, StoreFault};
 use envy_trace::{Line, Reply};
 
@@ -147,15 +147,6 @@ fn tick<B: Board>(memory: &mut Memory<B>) -> Reply
     }
 }
 
-/// What a line plans.
-#[derive(Clone, Copy, Debug, PartialEq, Eq)]
-pub enum Plan {
-    /// A cut of power in the k-th device operation from here; `g` chooses what it leaves.
-    Cut { k: u32, g: u64 },
-    /// That the k-th flash operation from here goes bad; `g` chooses what it leaves.
-    Bad { k: u32, g: u64 },
-}
-
 /// What a line asks for that no board does: its caller does it.
 #[derive(Clone, Copy, Debug, PartialEq, Eq)]
 pub enum Beside {
@@ -164,7 +155,7 @@ pub enum Beside {
     /// Power is cut by hand.
     Power,
     /// A failure is planned.
-    Plan(Plan),
+    Plan(PlannedFault),
 }
 
 /// Does one line, where it is a call of a memory over any board, and the reply; what else a line asks for is handed back, and
@@ -206,14 +197,14 @@ pub fn answer<B: Board>(memory: &mut Memory<B>, line: &Line) -> Result<Reply, Be
         Line::Abort { slot } => Ok(abort(memory, slot)),
         Line::Tick => Ok(tick(memory)),
         Line::Power => Err(Beside::Power),
-        Line::Cut { k, g } => Err(Beside::Plan(Plan::Cut { k, g })),
-        Line::Bad { k, g } => Err(Beside::Plan(Plan::Bad { k, g })),
+        Line::Cut { k, g } => Err(Beside::Plan(PlannedFault::Cut { k, g })),
+        Line::Bad { k, g } => Err(Beside::Plan(PlannedFault::Bad { k, g })),
         Line::Stat => Ok(Reply::Stat(memory.counts())),
     }
 }
 
 /// Plans what a line plans, and the reply.
-pub fn arm<B: Bench>(memory: &mut Memory<B>, plan: Plan) -> Reply
+pub fn arm<B: Bench>(memory: &mut Memory<B>, plan: PlannedFault) -> Reply
     requires on { IsTrue memory.old.chart.on }
     requires ranges { IsLine (line_of_plan plan) }
     ensures step { (earlier : List TraceTurn) (m : Array) → Stands memory.old.chart m
@@ -228,11 +219,11 @@ pub fn arm<B: Bench>(memory: &mut Memory<B>, plan: Plan) -> Reply
     ensures rules { FollowsRules (line_of_plan plan) result memory.old memory.new }
 {
     match plan {
-        Plan::Cut { k, g } => {
+        PlannedFault::Cut { k, g } => {
             memory.arm_cut(k, g);
             Reply::Armed
         }
-        Plan::Bad { k, g } => {
+        PlannedFault::Bad { k, g } => {
             memory.arm_bad(k, g);
             Reply::Armed
         }

@@ -27,7 +27,7 @@ mod save_run;
 mod tpca_run;
 mod tracing;
 
-pub use answering::{Beside, Plan, answer, arm};
+pub use answering::{Beside, answer, arm};
 pub use ended::{Ended, end_text};
 pub use laws::memory_and_plain_machine_write_alike;
 pub use running::run;

@@ -1,6 +1,7 @@
 -- What the calls that make power and flash fail answer, and what they leave in the place for a memory.
 use Rattle.std.specs.Prelude.{◌≡◌, ◌⊎◌, ◌↔◌, ℕ, ◌-◌, ◌^◌, ◌<◌, ◌≤◌, false, IsTrue, OnOk, MatchResult, length, Option, None, Some, Result, Ok, Err}
 use Rattle.envy_base.specs.Array.{Array, undone}
+use Rattle.envy_base.specs.declared.faults.PlannedFault.{PlannedFault}
 use Rattle.envy_layout.specs.Same.{Kept}
 use Rattle.envy_layout.specs.Sound.{IsSound}
 use Rattle.envy_layout.specs.Stands.{Stands}
@@ -15,11 +16,11 @@ use Rattle.envy_calls.specs.declared.code.Code.{Code}
 use Rattle.envy_calls.specs.declared.code.Code.TheVariants.{Done, Empty, Off, Zero, Dead, Powered}
 
 -- a plan for the k-th operation from now, of which there is no 0th
-abbrev pub DoesPlan : Option Picture → Option Picture → ℕ → ℕ → Type 0
-DoesPlan None new k code = (new ≡ None) × (code ≡ number_of Empty)
-DoesPlan (Some p) new k code =
+abbrev pub DoesPlan : Option Picture → Option Picture → ℕ → PlannedFault → ℕ → Type 0
+DoesPlan None new k fault code = (new ≡ None) × (code ≡ number_of Empty)
+DoesPlan (Some p) new k fault code =
     ((k ≡ 0) × (code ≡ number_of Zero) × (new ≡ Some p))
-    ⊎ ((1 ≤ k) × (code ≡ number_of Done) × (new ≡ Some (record p { chart = planned p.chart })))
+    ⊎ ((1 ≤ k) × (code ≡ number_of Done) × (new ≡ Some (record p { chart = planned fault p.chart })))
 
 -- a cut by hand, where power is on: a restart finds all slots undone
 pub record CutsTo (p q : Picture) : Type 0 where

@@ -3,11 +3,12 @@ ghost use Rattle.envy_sim.specs.Power.{DoesCut, DoesPlan, DoesRevive, DoesCountL
 ghost use denote.RawPtr.{InBlock};
 
 use crate::handle::{EnvyMemory, Slot, lend};
+use envy_base::PlannedFault;
 use envy_calls::Code;
 use envy_memory::ReviveFault;
 
 fn arm_cut(slot: &mut Slot, k: u32, g: u64) -> u32
-    ensures { DoesPlan slot.old slot.new k result }
+    ensures { DoesPlan slot.old slot.new k (PlannedFault.Cut k g) result }
 {
     let Some(memory) = slot else {
         return Code::Empty.number();
@@ -20,7 +21,7 @@ fn arm_cut(slot: &mut Slot, k: u32, g: u64) -> u32
 }
 
 fn arm_bad(slot: &mut Slot, k: u32, g: u64) -> u32
-    ensures { DoesPlan slot.old slot.new k result }
+    ensures { DoesPlan slot.old slot.new k (PlannedFault.Bad k g) result }
 {
     let Some(memory) = slot else {
         return Code::Empty.number();
@@ -82,7 +83,7 @@ fn lives(slot: &Slot, left: &mut u32) -> u32
 pub extern "C" fn envy_sim_arm_cut(m: &mut EnvyMemory, k: u32, g: u64) -> u32
     requires { InBlock m.old.at }
     ensures live { InBlock m.new.at }
-    ensures plans { DoesPlan m.old.slot.now m.new.slot.now k result }
+    ensures plans { DoesPlan m.old.slot.now m.new.slot.now k (PlannedFault.Cut k g) result }
 {
     let slot = lend(m);
     let code = arm_cut(slot, k, g);
@@ -95,7 +96,7 @@ pub extern "C" fn envy_sim_arm_cut(m: &mut EnvyMemory, k: u32, g: u64) -> u32
 pub extern "C" fn envy_sim_arm_bad(m: &mut EnvyMemory, k: u32, g: u64) -> u32
     requires { InBlock m.old.at }
     ensures live { InBlock m.new.at }
-    ensures plans { DoesPlan m.old.slot.now m.new.slot.now k result }
+    ensures plans { DoesPlan m.old.slot.now m.new.slot.now k (PlannedFault.Bad k g) result }
 {
     let slot = lend(m);
     let code = arm_bad(slot, k, g);

@@ -2,6 +2,7 @@
 use Rattle.std.proofs.Common.{◌≡◌, ◌⊎◌, inl, inr, ℕ, ◌+◌, ◌-◌, ◌^◌, ◌<◌, ◌≤◌, refl, sym, ◌∙◌, subst, arith}
 use Rattle.std.proofs.lemmas.Bool.{cases_lt}
 use Rattle.envy_base.specs.Counting.{up}
+use Rattle.envy_base.specs.declared.faults.PlannedFault.{PlannedFault}
 use Rattle.envy_flush.proofs.CountLemmas.{Tallies-trans}
 use Rattle.envy_flush.specs.Counts.{Tallies}
 use Rattle.envy_layout.specs.Same.{Counted, Grows, Kept}
@@ -34,7 +35,7 @@ Keeps-trans a b c x y =
     }
 
 pub Since-trans : (n k : ℕ) (a b c : Picture) → Since n a b → Since k b c → Since (n + k) a c
-Since-trans n k a b c x y = record { keeps = Keeps-trans a b c x.keeps y.keeps; plans = Rises-more n k _ _ _ x.plans y.plans }
+Since-trans n k a b c x y = record { keeps = Keeps-trans a b c x.keeps y.keeps; plans = Rises-more n k _ _ _ x.plans y.plans; unplanned = λ none. y.unplanned (omega arith) ∙ x.unplanned (omega arith) }
 
 pub Since-more : (n : ℕ) (a b c : Picture) → Since n a b → Since 0 b c → Since n a c
 Since-more n a b c x y = let z = Since-trans n 0 a b c x y in subst (λ (k : ℕ). Since k a c) (omega arith) z
@@ -43,6 +44,7 @@ pub Since-refl : (a : Picture) → Since 0 a a
 Since-refl a = record {
   keeps = record { shape = refl; given = refl; pulled = refl; lives = omega arith; cuts = omega arith; bads = omega arith; tallies = Tallies-stay a a refl refl refl };
   plans = Rises-same _ _ refl;
+  unplanned = λ none. refl;
 }
 
 -- a call
@@ -50,6 +52,7 @@ since-counted : (k j : ℕ) (old new : Picture) → new.chart.shape ≡ old.char
 since-counted k j old new shape counted tallies = record {
   keeps = record { shape = shape; given = counted.given; pulled = counted.pulled; lives = let e = counted.lives in omega arith; cuts = counted.cuts; bads = counted.bads; tallies = tallies };
   plans = Rises-same _ _ counted.plans;
+  unplanned = λ none. counted.last_plan;
 }
 
 -- work counts and keeps what a run keeps
@@ -81,6 +84,7 @@ since-load old new cache same = subst (Since 0 old) (sym same) (record {
     };
   };
   plans = Rises-same _ _ refl;
+  unplanned = λ none. refl;
 })
 
 -- a plan
@@ -89,8 +93,8 @@ unfolding up
 planned-rises n = record { least = omega arith; most = omega arith; exact = λ lt. omega arith }
 
 -- and a plan, which is one more
-pub since-planned : (old new : Picture) → new ≡ record old { chart = planned old.chart } → Since 1 old new
-since-planned old new same = subst (Since 1 old) (sym same) (record {
+pub since-planned : (fault : PlannedFault) (old new : Picture) → new ≡ record old { chart = planned fault old.chart } → Since 1 old new
+since-planned fault old new same = subst (Since 1 old) (sym same) (record {
   keeps = record {
     shape = refl;
     given = refl;
@@ -104,6 +108,7 @@ since-planned old new same = subst (Since 1 old) (sym same) (record {
     };
   };
   plans = planned-rises old.chart.plans;
+  unplanned = λ none. absurd (omega (arith, none));
 })
 
 -- power was asked for
@@ -115,6 +120,7 @@ since-lit old new kept counts =
     record {
       keeps = record { shape = kept.shape; given = c.given; pulled = c.pulled; lives = omega arith; cuts = c.cuts; bads = c.bads; tallies = Tallies-stay old new counts (omega arith) (omega arith) };
       plans = Rises-same _ _ c.plans;
+      unplanned = λ none. c.last_plan;
     }
 
 -- a count that rises after another that doesn't fall

@@ -1,5 +1,5 @@
 -- One transfer more of a load that is driven.
-use Rattle.std.proofs.Common.{◌≡◌, ◌⊎◌, inl, inr, ℕ, zero, suc, ◌<◌, ◌≤◌, ◌+◌, ◌*◌, List, [], ◌∷◌, Result, Ok, Err, sym, ◌∙◌, ap, subst, arith}
+use Rattle.std.proofs.Common.{◌≡◌, ◌⊎◌, inl, inr, ℕ, zero, suc, ◌<◌, ◌≤◌, ◌+◌, ◌*◌, List, [], ◌∷◌, Some, Result, Ok, Err, refl, sym, ◌∙◌, ap, subst, arith}
 use Rattle.std.specs.Prelude.{◌++◌, ◌%◌, ◌/◌, ◌^◌, ℤ, if◌then◌else◌, replicate, IsErr, IsErrAnd}
 use Rattle.envy_base.specs.Area.{Fits}
 use Rattle.envy_base.specs.Array.{put_back}
@@ -13,7 +13,7 @@ use Rattle.envy_tpca.specs.declared.fault.DriveFault.{DriveFault}
 use Rattle.envy_tpca.specs.declared.places.Places.{Places}
 use Rattle.envy_tpca.specs.declared.places.Spots.{Spots}
 use Rattle.envy_tpca.specs.declared.transfer.Transfer.{Transfer}
-use Rattle.envy_tpca.specs.Driving.{IsLoadOf, is_planned, plans_in}
+use Rattle.envy_tpca.specs.Driving.{IsLoadOf, is_planned, plans_in, cut_before, last_cut}
 use Rattle.envy_tpca.specs.Load.{Draws, next_transfer, after, first}
 use Rattle.envy_tpca.specs.Running.{MayDrive, IsAt, IsWithin, AfterAll}
 use Rattle.envy_tpca.specs.Since.{Since}
@@ -24,7 +24,7 @@ use Rattle.envy_tpca.proofs.Between.{cause-later, counted-tried}
 use Rattle.envy_tpca.proofs.Calling.{durable-rests}
 use Rattle.envy_tpca.proofs.Drawing.{length-first, first-more, first-none}
 use Rattle.envy_tpca.proofs.Looking.{zeros-law}
-use Rattle.envy_tpca.proofs.Planning.{plans-more, plans-none}
+use Rattle.envy_tpca.proofs.Planning.{plans-more, plans-none, last-after, last-none}
 use Rattle.envy_tpca.proofs.Since.{Since-trans, Since-more}
 use Rattle.envy_tpca.proofs.Totals.{IsDrawn, is-drawn, first-small}
 
@@ -114,25 +114,29 @@ step-since : (every i : ℕ) (old mid p q : Picture) → Since (plans_in every i
 step-since every i old mid p q before plan did =
     subst (λ (n : ℕ). Since n old q) (sym (plans-more every i)) (Since-more (plans_in every i + (if is_planned every i then 1 else 0)) old p q (Since-trans (plans_in every i) (if is_planned every i then 1 else 0) old mid p before plan) did)
 
+step-last : (every i : ℕ) (old mid p q : Picture) → mid.chart.last_plan ≡ last_cut every i old.chart.last_plan → p.chart.last_plan ≡ (if is_planned every i then Some (cut_before i) else mid.chart.last_plan) → Since 0 p q → q.chart.last_plan ≡ last_cut every (i + 1) old.chart.last_plan
+step-last every i old mid p q before plan did = did.unplanned refl ∙ last-after every i old.chart.last_plan mid.chart.last_plan p.chart.last_plan before plan
+
 -- behind it one more is done
-pub step-done : (area : Area) (l : Places) (load : Draws) (every i : ℕ) (old mid p q : Picture) (t : Transfer) (spots : Spots) (u : Unit) → MayDrive area l load old → IsAt area load every i old mid → Since (if is_planned every i then 1 else 0) mid p
+pub step-done : (area : Area) (l : Places) (load : Draws) (every i : ℕ) (old mid p q : Picture) (t : Transfer) (spots : Spots) (u : Unit) → MayDrive area l load old → IsAt area load every i old mid → Since (if is_planned every i then 1 else 0) mid p → p.chart.last_plan ≡ (if is_planned every i then Some (cut_before i) else mid.chart.last_plan)
     → IsTried p.chart.shape.shadows l (32 * old.chart.shape.pages) (first i load) (durable p.chart) i t spots → t ≡ (next_transfer (after i load)).0
     → AfterTransfer 0 p (durable p.chart) (put_back (writes l (first i load) t) (durable p.chart)) (Ok u) q → IsAt area load every (i + 1) old q × Rests (durable q.chart) q
-step-done area l load every i old mid p q t spots u may reached plan tried is (rests, did) =
+step-done area l load every i old mid p q t spots u may reached plan last tried is (rests, did) =
     let now = put_back (writes l (first i load) t) (durable p.chart) in
     let same : durable q.chart ≡ now = durable-rests now q rests in (
       record {
         words = step-words area l load old.chart.shape.pages i p.chart.shape.shadows (durable p.chart) (durable q.chart) t spots may.places tried is same;
         since = step-since every i old mid p q reached.since plan did;
+        last_plan = step-last every i old mid p q reached.last_plan last did;
       },
       subst (λ (ws : List ℕ). Rests ws q) (sym same) rests,
     )
 
 -- or the run ends with it done or not
-pub step-ended : (area : Area) (l : Places) (load : Draws) (every i : ℕ) (old mid p q : Picture) (t : Transfer) (spots : Spots) (fault : DriveFault) → MayDrive area l load old → IsAt area load every i old mid → Since (if is_planned every i then 1 else 0) mid p
+pub step-ended : (area : Area) (l : Places) (load : Draws) (every i : ℕ) (old mid p q : Picture) (t : Transfer) (spots : Spots) (fault : DriveFault) → MayDrive area l load old → IsAt area load every i old mid → Since (if is_planned every i then 1 else 0) mid p → p.chart.last_plan ≡ (if is_planned every i then Some (cut_before i) else mid.chart.last_plan)
     → durable p.chart ≡ durable mid.chart → i < area.transfers → IsTried p.chart.shape.shadows l (32 * old.chart.shape.pages) (first i load) (durable p.chart) i t spots → t ≡ (next_transfer (after i load)).0
     → AfterTransfer 0 p (durable p.chart) (put_back (writes l (first i load) t) (durable p.chart)) (Err fault) q → IsEnd fault old q × IsWithin area load every old q
-step-ended area l load every i old mid p q t spots fault may reached plan kept lt tried is (end, stopped) =
+step-ended area l load every i old mid p q t spots fault may reached plan last kept lt tried is (end, stopped) =
     let since = step-since every i old mid p q reached.since plan stopped.since in
     (cause-later (plans_in every i + (if is_planned every i then 1 else 0)) old p q fault (Since-trans (plans_in every i) (if is_planned every i then 1 else 0) old mid p reached.since plan) stopped.since end, within since stopped.words)
   where
@@ -144,6 +148,7 @@ step-ended area l load every i old mid p q t spots fault may reached plan kept l
       few_planned = omega arith;
       words = subst (λ (ws : List ℕ). Tpc area old.chart.shape.pages load i ws) (sym (same ∙ kept)) reached.words;
       since = since;
+      last_plan = step-last every i old mid p q reached.last_plan last stopped.since;
     }
     within since (inr same) = record {
       done = i + 1;
@@ -152,11 +157,12 @@ step-ended area l load every i old mid p q t spots fault may reached plan kept l
       few_planned = omega arith;
       words = step-words area l load old.chart.shape.pages i p.chart.shape.shadows (durable p.chart) (durable q.chart) t spots may.places tried is same;
       since = since;
+      last_plan = step-last every i old mid p q reached.last_plan last stopped.since;
     }
 
 -- before the first transfer
 pub at-first : (area : Area) (l : Places) (load : Draws) (every : ℕ) (p : Picture) → MayDrive area l load p → Since 0 p p → IsAt area load every 0 p p
-at-first area l load every p may since = record { words = may.words; since = subst (λ (n : ℕ). Since n p p) (sym (plans-none every)) since }
+at-first area l load every p may since = record { words = may.words; since = subst (λ (n : ℕ). Since n p p) (sym (plans-none every)) since; last_plan = last-none every p.chart.last_plan }
 
 -- words of zeros are those after no transfer
 pub zeros-words : (area : Area) (load : Draws) (pages : ℕ) (words : List ℕ) → words ≡ replicate (32 * pages) 0 → Tpc area pages load 0 words

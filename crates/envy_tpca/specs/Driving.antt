@@ -1,5 +1,7 @@
 -- What driving a load may answer, and what it leaves.
-use Rattle.std.specs.Prelude.{◌≡◌, ℕ, zero, suc, ◌+◌, ◌*◌, ◌%◌, ◌-◌, ◌^◌, ◌<◌, ◌≤◌, ◌==◌, ◌&&◌, not, Bool, slice_index, if◌then◌else◌}
+use Rattle.std.specs.Prelude.{◌≡◌, ℕ, zero, suc, ◌+◌, ◌*◌, ◌%◌, ◌-◌, ◌^◌, ◌<◌, ◌≤◌, ◌==◌, ◌&&◌, not, Bool, Option, Some, slice_index, if◌then◌else◌}
+use Rattle.envy_base.specs.declared.faults.PlannedFault.{PlannedFault}
+use Rattle.envy_base.specs.declared.faults.PlannedFault.TheVariants.{Cut}
 use Rattle.envy_base.specs.declared.area.Area.{Area}
 use Rattle.envy_base.specs.declared.counts.Counts.{Counts}
 use Rattle.envy_layout.specs.Words.{durable}
@@ -28,6 +30,19 @@ is_planned every i = not (every == 0) && (i % every == 0)
 unfoldable pub plans_in : ℕ → ℕ → ℕ
 plans_in every zero = 0
 plans_in every (suc n) = plans_in every n + (if is_planned every n then 1 else 0)
+
+-- the cut that is planned before transfer i
+abbrev pub cut_before : ℕ → PlannedFault
+cut_before i = Cut (1 + (37 * i) % 512) i
+
+-- the last failure that is planned before the first n transfers, from the one of before
+unfoldable pub last_cut : ℕ → ℕ → Option PlannedFault → Option PlannedFault
+last_cut every zero before = before
+last_cut every (suc n) before = if is_planned every n then Some (cut_before n) else last_cut every n before
+
+-- so it is after some of the transfers of an area
+abbrev pub PlansCuts : Area → ℕ → Option PlannedFault → Option PlannedFault → Type 0
+PlansCuts area every old new = (n : ℕ) × (n ≤ area.transfers) × (new ≡ last_cut every n old)
 
 -- one load for each balance and for the delta of each transfer
 abbrev pub loads_of : Area → ℕ
@@ -67,5 +82,6 @@ pub record IsDriven (area : Area) (load : Draws) (every : ℕ) (old : Picture) (
   pub adds_up : AddsUp area load sums
   pub cuts : sums.cuts + new.chart.lives ≡ old.chart.lives
   pub plans : Rises (plans_in every area.transfers) old.chart.plans new.chart.plans
+  pub last_plan : new.chart.last_plan ≡ last_cut every area.transfers old.chart.last_plan
   pub counts : IsToldBefore (loads_of area) sums.counts (counts_of new.parts)
   pub accesses : CountsAccesses area old sums.counts new

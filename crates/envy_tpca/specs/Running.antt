@@ -6,7 +6,7 @@ use Rattle.envy_layout.specs.Words.{durable}
 use Rattle.envy_memory.specs.Picture.{Picture}
 use Rattle.envy_tpca.specs.declared.fault.DriveFault.{DriveFault}
 use Rattle.envy_tpca.specs.declared.places.Places.{Places}
-use Rattle.envy_tpca.specs.Driving.{IsLoadOf, plans_in}
+use Rattle.envy_tpca.specs.Driving.{IsLoadOf, plans_in, last_cut}
 use Rattle.envy_tpca.specs.Load.{Draws, after, first}
 use Rattle.envy_tpca.specs.Since.{Since}
 use Rattle.envy_tpca.specs.Tpc.{Tpc, deltas, places_of}
@@ -27,6 +27,7 @@ pub record MayDrive (area : Area) (l : Places) (load : Draws) (p : Picture) : Ty
 pub record IsAt (area : Area) (load : Draws) (every i : ℕ) (old new : Picture) : Type 0 where
   pub words : Tpc area old.chart.shape.pages load i (durable new.chart)
   pub since : Since (plans_in every i) old new
+  pub last_plan : new.chart.last_plan ≡ last_cut every i old.chart.last_plan
 
 -- a transfer that was begun may be done or not; its plan is made
 pub record IsWithin (area : Area) (load : Draws) (every : ℕ) (old new : Picture) : Type 0 where
@@ -36,6 +37,7 @@ pub record IsWithin (area : Area) (load : Draws) (every : ℕ) (old new : Pictur
   pub few_planned : planned ≤ area.transfers
   pub words : Tpc area old.chart.shape.pages load done (durable new.chart)
   pub since : Since (plans_in every planned) old new
+  pub last_plan : new.chart.last_plan ≡ last_cut every planned old.chart.last_plan
 
 abbrev pub AfterAll : Area → Draws → ℕ → Picture → Result ℤ DriveFault → Draws → Picture → Type 0
 AfterAll area load every old (Ok sum) then_load new =

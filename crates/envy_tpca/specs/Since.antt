@@ -28,7 +28,8 @@ pub record Keeps (first now : Picture) : Type 0 where
   pub bads : first.chart.bads ≤ now.chart.bads
   pub tallies : Tallies first.chart first.parts now.chart now.parts
 
--- and n failures were planned
+-- and n failures were planned; where none was, the last one is that of before
 pub record Since (n : ℕ) (first now : Picture) : Type 0 where
   pub keeps : Keeps first now
   pub plans : Rises n first.chart.plans now.chart.plans
+  pub unplanned : n ≡ 0 → now.chart.last_plan ≡ first.chart.last_plan

@@ -1,13 +1,14 @@
 //! Driving a load.
 
-ghost use Rattle.std.specs.Prelude.{◌≡◌, ◌↔◌, ◌+◌, ◌*◌, ◌%◌, ◌^◌, ◌<◌, ◌≤◌, ℕ, false, IfOk, OnOk, Ok, Err, List, if◌then◌else◌};
+ghost use Rattle.std.specs.Prelude.{◌≡◌, ◌↔◌, ◌+◌, ◌*◌, ◌%◌, ◌^◌, ◌<◌, ◌≤◌, ℕ, false, IfOk, OnOk, Ok, Err, List, Some, if◌then◌else◌};
 ghost use Rattle.envy_base.specs.Area.{Fits};
 ghost use Rattle.envy_base.specs.Array.{Array, zeros, put_back};
 ghost use Rattle.envy_layout.specs.Stands.{Stands};
 ghost use Rattle.envy_layout.specs.Words.{durable};
+ghost use Rattle.envy_memory.specs.Calls.{planned};
 ghost use Rattle.envy_tpca.specs.declared.places.Places.{Places as APlaces};
 ghost use Rattle.envy_tpca.specs.declared.transfer.Transfer.{Transfer as ATransfer};
-ghost use Rattle.envy_tpca.specs.Driving.{IsLoadOf, HasCounted, IsDriven, is_planned, plans_in};
+ghost use Rattle.envy_tpca.specs.Driving.{IsLoadOf, HasCounted, IsDriven, PlansCuts, cut_before, is_planned, plans_in};
 ghost use Rattle.envy_tpca.specs.Load.{after};
 ghost use Rattle.envy_tpca.specs.Loading.{CountsUncut};
 ghost use Rattle.envy_tpca.specs.Running.{MayDrive, AfterAll};
@@ -60,15 +61,24 @@ fn place_of(i: u32) -> u32
     1 + 37 * (i % 512) % 512
 }
 
+/// Plans the cut before transfer `i`.
+fn arm_before<B: Bench>(memory: &mut Memory<B>, i: u32)
+    ensures { memory.new ≡ record memory.old { chart = planned (cut_before i) memory.old.chart } }
+{
+    memory.arm_cut(place_of(i), u64::from(i));
+}
+
 /// Plans a cut before transfer `i`, where it is a multiple of `every` and that is above 0.
 pub fn plan_cut<B: Bench>(memory: &mut Memory<B>, every: u32, i: u32)
     ensures since { Since (if is_planned every i then 1 else 0) memory.old memory.new }
+    ensures last { memory.new.chart.last_plan
+        ≡ (if is_planned every i then Some (cut_before i) else memory.old.chart.last_plan) }
     ensures stands { (m : Array) → Stands memory.old.chart m → Stands memory.new.chart m }
     ensures same { durable memory.new.chart ≡ durable memory.old.chart }
     ensures parts { memory.new.parts ≡ memory.old.parts }
 {
     if every != 0 && i % every == 0 {
-        memory.arm_cut(place_of(i), u64::from(i));
+        arm_before(memory, i);
     }
 }
 
@@ -121,6 +131,7 @@ pub fn drive<B: Bench>(
     ensures bad { (result ≡ Err DriveFault.Bad) → IsPast memory.old.chart.bads memory.new.chart.bads }
     ensures keeps { Keeps memory.old memory.new }
     ensures plans { RisesWithin (plans_in every area.now.transfers) memory.old.chart.plans memory.new.chart.plans }
+    ensures last { PlansCuts area.now every memory.old.chart.last_plan memory.new.chart.last_plan }
 {
     let given = memory.lives();
     let places = lay_out(area, memory.board());

@@ -84,6 +84,11 @@ returns-in_err-deltas-clause-plans g c =
     few-plans c.args.area.now c.args.load.now c.args.every c.args.memory.now c.transfer_all.new.memory
     (all-err c.args.area.now c.args.load.now c.args.every c.args.memory.now c.transfer_all.new.memory c.transfer_all.result c.transfer_all.new.load c.in_err-deltas.field-0.0 c.transfer_all.ensures.after c.in_err-deltas.was).1
 
+pub returns-in_err-deltas-clause-last : goal.returns-in_err-deltas-clause-last
+returns-in_err-deltas-clause-last g c =
+    let w = (all-err c.args.area.now c.args.load.now c.args.every c.args.memory.now c.transfer_all.new.memory c.transfer_all.result c.transfer_all.new.load c.in_err-deltas.field-0.0 c.transfer_all.ensures.after c.in_err-deltas.was).1 in
+    (w.planned, w.few_planned, w.last_plan)
+
 pub sum_balances-branches-requires-clause-small : goal.sum_balances-branches-requires-clause-small
 sum_balances-branches-requires-clause-small g c =
     let at = goal.at.sum_balances-branches-requires-clause-small g c in
@@ -169,6 +174,7 @@ returns-clause-driven g c =
       };
       cuts = omega arith;
       plans = subst (λ (ch : Chart). Rises (plans_in c.args.every area.transfers) old.chart.plans ch.plans) (sym e5) all.3.since.plans;
+      last_plan = ap (λ (ch : Chart). ch.last_plan) e5 ∙ all.3.last_plan;
       counts = told-before _ _ one last c.counts-counts.result c.counts-counts.ensures made (omega arith);
       accesses = told-uncut area old one last c.counts-counts.result c.counts-counts.ensures e5 c.in_ok-deltas.ensures.uncut;
     }
@@ -182,3 +188,9 @@ returns-clause-keeps g c =
     let all = done g at.After-counts-counts in
     let last = c.sum_history-history.new.memory in
     Keeps-trans old one last all.3.since.keeps (since-load one last _ made.same).keeps
+
+pub returns-clause-last : goal.returns-clause-last
+returns-clause-last g c =
+    let at = goal.at.returns-clause-last g c in
+    let all = done g at.After-counts-counts in
+    (c.args.area.now.transfers, omega arith, ap (λ (ch : Chart). ch.last_plan) (chart-history g at.After-sum_history-history) ∙ all.3.last_plan)

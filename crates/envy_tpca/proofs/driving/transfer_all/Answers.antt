@@ -72,7 +72,7 @@ returns-in_err-transfer_once-clause-after g c =
     let now = put_back (writes c.args.places (first c.loop-i.i load) c.next-t.result) (durable p.chart) in
     let a = once-err 0 p (durable p.chart) now c.transfer_once.result c.transfer_once.new.memory c.in_err-transfer_once.field-0.0 (c.transfer_once.ensures.after c.args.places (32 * old.chart.shape.pages) (first c.loop-i.i load) t) c.in_err-transfer_once.was in
     all-fails c.args.area.now load c.args.every old c.transfer_once.new.memory c.from_residual.result c.next-t.new.self c.in_err-transfer_once.field-0.0
-    (step-ended c.args.area.now c.args.places load c.args.every c.loop-i.i old mid p c.transfer_once.new.memory c.next-t.result c.spots.result c.in_err-transfer_once.field-0.0 c.requires c.loop-i.invariant.reached c.plan_cut.ensures.since c.plan_cut.ensures.same c.loop-i-test.true t (drawn g at.After-next-t) a)
+    (step-ended c.args.area.now c.args.places load c.args.every c.loop-i.i old mid p c.transfer_once.new.memory c.next-t.result c.spots.result c.in_err-transfer_once.field-0.0 c.requires c.loop-i.invariant.reached c.plan_cut.ensures.since c.plan_cut.ensures.last c.plan_cut.ensures.same c.loop-i-test.true t (drawn g at.After-next-t) a)
     c.from_residual.ensures.0 c.from_residual.ensures.1
 
 pub loop-i-preserved : goal.loop-i-preserved
@@ -90,7 +90,7 @@ loop-i-preserved g c =
     let t = tried g at.After-spots is in
     let now = put_back (writes c.args.places (first c.loop-i.i load) c.next-t.result) (durable p.chart) in
     let a = once-ok 0 p (durable p.chart) now c.transfer_once.result c.transfer_once.new.memory _ (c.transfer_once.ensures.after c.args.places (32 * old.chart.shape.pages) (first c.loop-i.i load) t) c.in_ok-transfer_once.was in
-    let d = step-done c.args.area.now c.args.places load c.args.every c.loop-i.i old mid p c.transfer_once.new.memory c.next-t.result c.spots.result _ c.requires c.loop-i.invariant.reached c.plan_cut.ensures.since t is a in
+    let d = step-done c.args.area.now c.args.places load c.args.every c.loop-i.i old mid p c.transfer_once.new.memory c.next-t.result c.spots.result _ c.requires c.loop-i.invariant.reached c.plan_cut.ensures.since c.plan_cut.ensures.last t is a in
     let long = length-first (c.loop-i.i + 1) load in
     record {
       load = ap (λ (d : Transfer × Draws). d.1) c.next-t.ensures ∙ ap (λ (d : Draws). (next_transfer d).1) c.loop-i.invariant.load ∙ sym (after-more c.loop-i.i load);

@@ -6,5 +6,5 @@ use Rattle.envy_memory.proofs.one_tx.OneTx.arm_cut.Goals as goal
 pub invariant_of-self : goal.invariant_of-self
 invariant_of-self g c = record {
   few = few-as c.args.self.now.memory.chart c.arm_cut.new.self.chart (ap (λ (p : Picture). p.chart.shape) c.arm_cut.ensures) c.args.self.now.few;
-  held = planned-held c.args.self.now.memory c.arm_cut.new.self c.args.self.now.begun c.arm_cut.ensures c.args.self.now.held;
+  held = planned-held _ c.args.self.now.memory c.arm_cut.new.self c.args.self.now.begun c.arm_cut.ensures c.args.self.now.held;
 }
