@@ -1,5 +1,5 @@
 ghost use Rattle.std.specs.Prelude.{◌≡◌, ◌≢◌, ℕ, List, ◌+◌, ◌-◌, ◌*◌, ◌/◌, ◌^◌, ◌<◌, ◌≤◌, length, slice_index, false, OnOk, MatchOption, IsTrue};
-ghost use Rattle.envy_base.specs.Words.{Works, Keeps, Fails};
+ghost use Rattle.envy_base.specs.Words.{Spends, Works, Keeps, Fails};
 ghost use Rattle.envy_btree.specs.Pairs.{with_pair};
 ghost use Rattle.envy_btree.specs.Index.{IsPlanted, IsIndex, most_pairs};
 ghost use Rattle.envy_btree.specs.Answers.{Inserts, Settles};
@@ -19,6 +19,7 @@ pub fn insert<W: Words>(words: &mut W, key: u64, value: u64) -> Result<Option<u6
     requires size { length (W.sheet words.old).words ≤ 2 ^ 25 }
     requires map { (es : List (ℕ × ℕ)) × IsIndex (W.sheet words.old).words es }
     ensures keeps { Keeps (W.sheet words.old) (W.sheet words.new) }
+    ensures spends { Spends 842 (W.sheet words.old) (W.sheet words.new) }
     ensures shut { (W.sheet words.new).started ≡ false }
     ensures inserts { (es : List (ℕ × ℕ)) → IsIndex (W.sheet words.old).words es
         → Inserts key value es (W.sheet words.old) result (W.sheet words.new) }
@@ -61,6 +62,7 @@ fn insert_alone<W: Words>(words: &mut W, key: u64, value: u64, pairs: u64) -> Re
     requires size { length (W.sheet words.old).words ≤ 2 ^ 25 }
     requires map { (es : List (ℕ × ℕ)) × IsIndex (W.sheet words.old).words es }
     ensures keeps { Keeps (W.sheet words.old) (W.sheet words.new) }
+    ensures spends { Spends 842 (W.sheet words.old) (W.sheet words.new) }
     ensures shut { (W.sheet words.new).started ≡ false }
     ensures settles { (es : List (ℕ × ℕ)) → IsIndex (W.sheet words.old).words es
         → pairs ≡ length (with_pair key value es) → pairs ≤ most_pairs (W.sheet words.old).words
@@ -80,6 +82,7 @@ fn insert_inside<W: Words>(words: &mut W, key: u64, value: u64, pairs: u64) -> R
     requires map { (es : List (ℕ × ℕ)) × IsPlanted (W.sheet words.old).words es
         × (length es ≤ most_pairs (W.sheet words.old).words) }
     ensures works { Works 27 (W.sheet words.old) (W.sheet words.new) }
+    ensures spends { Spends 841 (W.sheet words.old) (W.sheet words.new) }
     ensures fails { Fails (W.sheet words.old) result (W.sheet words.new) }
     ensures planted { (es : List (ℕ × ℕ)) → IsPlanted (W.sheet words.old).words es
         → length es ≤ most_pairs (W.sheet words.old).words

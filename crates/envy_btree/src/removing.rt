@@ -1,5 +1,5 @@
 ghost use Rattle.std.specs.Prelude.{◌≡◌, ℕ, List, ◌+◌, ◌^◌, ◌<◌, ◌≤◌, length, slice_index, false, OnOk, IsTrue};
-ghost use Rattle.envy_base.specs.Words.{Works, Keeps, Fails};
+ghost use Rattle.envy_base.specs.Words.{Spends, Works, Keeps, Fails};
 ghost use Rattle.envy_btree.specs.Pairs.{without};
 ghost use Rattle.envy_btree.specs.Index.{IsPlanted, IsIndex, most_pairs};
 ghost use Rattle.envy_btree.specs.Answers.{Removes, Settles};
@@ -18,6 +18,7 @@ pub fn remove<W: Words>(words: &mut W, key: u64) -> Result<Option<u64>, TreeFaul
     requires size { length (W.sheet words.old).words ≤ 2 ^ 25 }
     requires map { (es : List (ℕ × ℕ)) × IsIndex (W.sheet words.old).words es }
     ensures keeps { Keeps (W.sheet words.old) (W.sheet words.new) }
+    ensures spends { Spends 1090 (W.sheet words.old) (W.sheet words.new) }
     ensures shut { (W.sheet words.new).started ≡ false }
     ensures removes { (es : List (ℕ × ℕ)) → IsIndex (W.sheet words.old).words es
         → Removes key es (W.sheet words.old) result (W.sheet words.new) }
@@ -40,6 +41,7 @@ fn remove_alone<W: Words>(words: &mut W, key: u64, pairs: u64) -> Result<(), Tre
     requires size { length (W.sheet words.old).words ≤ 2 ^ 25 }
     requires map { (es : List (ℕ × ℕ)) × IsIndex (W.sheet words.old).words es }
     ensures keeps { Keeps (W.sheet words.old) (W.sheet words.new) }
+    ensures spends { Spends 1090 (W.sheet words.old) (W.sheet words.new) }
     ensures shut { (W.sheet words.new).started ≡ false }
     ensures settles { (es : List (ℕ × ℕ)) → IsIndex (W.sheet words.old).words es → pairs ≡ length (without key es)
         → pairs ≤ most_pairs (W.sheet words.old).words
@@ -57,6 +59,7 @@ fn remove_inside<W: Words>(words: &mut W, key: u64, pairs: u64) -> Result<(), Tr
     requires size { length (W.sheet words.old).words ≤ 2 ^ 25 }
     requires map { (es : List (ℕ × ℕ)) × IsPlanted (W.sheet words.old).words es }
     ensures works { Works 24 (W.sheet words.old) (W.sheet words.new) }
+    ensures spends { Spends 1089 (W.sheet words.old) (W.sheet words.new) }
     ensures fails { Fails (W.sheet words.old) result (W.sheet words.new) }
     ensures planted { (es : List (ℕ × ℕ)) → IsPlanted (W.sheet words.old).words es
         → OnOk result (IsPlanted (W.sheet words.new).words (without key es)

@@ -356,12 +356,11 @@ licences-since setup returns first p d turns b few since =
 -- ---- the whole trace
 
 -- before the first line: the words are zeros, and no transaction is open
-pub index-none : (setup : Setup) (returns : ℕ) (s : State) (p : Picture) (b : Bool) → IsShape setup.shape → 32 ≤ setup.shape.shadows → 20 ≤ setup.shape.pages → IsMade setup.shape returns s → IsReady (chart s) setup p → b ≡ false → IndexedSince p.chart p b []
-index-none setup returns s p b sizes room least made ready shut =
+pub index-none : (setup : Setup) (returns : ℕ) (s : State) (p : Picture) (b : Bool) → IsShape setup.shape → 32 ≤ setup.shape.shadows → 20 ≤ setup.shape.pages → setup.shape.pages ≤ 1048576 → IsMade setup.shape returns s → IsReady (chart s) setup p → b ≡ false → IndexedSince p.chart p b []
+index-none setup returns s p b sizes room least most made ready shut =
     let shape : p.chart.shape ≡ setup.shape = IsPrepared.shape (IsReady.prepared ready) ∙ made.shape in
     let shadows = ap (λ (sh : Shape). sh.shadows) shape in
     let pages = ap (λ (sh : Shape). sh.pages) shape in
-    let most = sizes.few_pages in
     let stands = IsFresh.stands (IsReady.fresh ready) in
     let zeros_are : durable p.chart ≡ replicate (32 * p.chart.shape.pages) 0 = Holds.durable (Stands.holds stands) ∙ undo_all-closed 64 (replicate (32 * p.chart.shape.pages) 0) in
     record {

@@ -19,13 +19,14 @@ use Rattle.envy_serve.specs.Streams.{Written, FrontWritten}
 use Rattle.envy_serve.specs.Turns.{count_lines, count_replies, count_of, one_if, texts}
 use Rattle.envy_run.specs.IndexTurns.{Pairs, IndexTurn, IndexRun, Says, Faults, Loses, DoesIndex, FailsIn, index_grammar, most_of, before_restart, is_power, plan_of, is_lost, is_fault}
 use Rattle.envy_run.specs.Licence.{Licence, plans_in}
+use Rattle.envy_base.specs.declared.page.TheConstants.{PAGE_WORDS}
 
 -- power is on, no transaction is open, and the words stand for the map, with room for each change of it
 pub record Serving (p : Picture) (begun : Bool) (es : Pairs) : Type 0 where
   pub on : IsTrue p.chart.on
   pub shut : (sheet_of p begun).started ≡ false
   pub room : 32 ≤ p.chart.shape.shadows
-  pub size : 32 * p.chart.shape.pages ≤ 2 ^ 25
+  pub size : PAGE_WORDS * p.chart.shape.pages ≤ 2 ^ 25
   pub map : IsIndex (durable p.chart) es
 
 -- power failed in the line

@@ -8,6 +8,7 @@ ghost use Rattle.envy_layout.specs.Same.{Same};
 ghost use Rattle.envy_layout.specs.Sound.{IsSound};
 ghost use Rattle.envy_space.specs.Claiming.{ClaimsRow, MayClaim};
 ghost use Rattle.envy_space.specs.Pool.{PoolAgrees, Replaces};
+ghost use Rattle.envy_base.specs.Shape.{positions_of};
 
 use crate::Space;
 use envy_base::{Board, Off};
@@ -78,7 +79,7 @@ impl Space {
         requires agrees { IsTrue (B.state board.old).on
             → PoolAgrees (B.state board.old).shape (chart (B.state board.old)).fields self.old }
         requires shape { self.old.shape ≡ (B.state board.old).shape }
-        requires position { position < self.old.shape.segments - 1 }
+        requires position { position < positions_of self.old.shape }
         requires switching { let f = (chart (B.state board.old)).fields in
             IsTrue (B.state board.old).on → f.job ≡ Some (Switch (slice_index f.positions position)) }
         requires clear { let f = (chart (B.state board.old)).fields in
@@ -107,7 +108,7 @@ impl Space {
         requires agrees { IsTrue (B.state board.old).on
             → PoolAgrees (B.state board.old).shape (chart (B.state board.old)).fields self.old }
         requires shape { self.old.shape ≡ (B.state board.old).shape }
-        requires position { position < self.old.shape.segments - 1 }
+        requires position { position < positions_of self.old.shape }
         requires switching { let f = (chart (B.state board.old)).fields in
             IsTrue (B.state board.old).on → f.job ≡ Some (Switch (slice_index f.positions position)) }
         requires clear { let f = (chart (B.state board.old)).fields in
