@@ -1,6 +1,6 @@
 ghost use Rattle.std.specs.Prelude.{◌≡◌, ◌⊎◌, ◌≤◌, map, codes, Err};
 ghost use Rattle.std.specs.String.{string_bytes};
-ghost use Rattle.envy_args.specs.Words.{command_of, run_of, plain_of, tpca_of, gen_of, mix_of, skew_of, is_per_cent, save_of, resume_of, index_of, mirror_of, lives_of, setup_of, shape_of, area_of, run_options, index_options, plain_options, tpca_options, gen_options, resume_options, most_rows, rules_within};
+ghost use Rattle.envy_args.specs.Words.{command_of, run_of, plain_of, tpca_of, gen_of, mix_of, skew_of, is_per_cent, save_of, resume_of, index_of, mirror_of, lives_of, setup_of, shape_of, area_of, run_options, index_options, plain_options, tpca_options, gen_options, resume_options, most_rows, rule_within, rules_within};
 ghost use Rattle.envy_args.specs.Reading.{GivesIf, has_number, are_readable, shape_options, area_options, made, make_of, options_of};
 
 use crate::command::{Command, WordsFault};
@@ -291,11 +291,18 @@ fn check(setup: &Setup, most: u32) -> Result<(), WordsFault>
     let Err(fault) = setup.check_within(most) else {
         return Ok(());
     };
-    let rule = fault.rule();
-    if rule == TOO_MANY_ROWS && most == MOST_ROWS {
-        return Err(WordsFault::Setup(TOO_MANY_OF_LARGE));
+    Err(WordsFault::Setup(rule_within(most, &fault)))
+}
+
+/// The number of the rule that a setup breaks, where a board has so many rows at most: `SetupFault::rule`, but of too
+/// many rows it says how many there may be.
+pub fn rule_within(most: u32, fault: &SetupFault) -> u8
+    ensures { result ≡ rule_within most fault.now }
+{
+    match fault.rule() {
+        TOO_MANY_ROWS if most == MOST_ROWS => TOO_MANY_OF_LARGE,
+        rule => rule,
     }
-    Err(WordsFault::Setup(rule))
 }
 
 fn setup(options: &Options, default: &Shape) -> Result<Setup, WordsFault>

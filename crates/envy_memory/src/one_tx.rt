@@ -13,7 +13,7 @@ ghost use Rattle.envy_memory.specs.Sheets.{IsHeld, sheet_of};
 
 use crate::faults::{BeginFault, EndFault, LoadFault, PutFault, ReviveFault};
 use crate::memory::Memory;
-use envy_base::{Bench, Board, Off, PAGE_WORDS, PlannedFault, Trouble, Words};
+use envy_base::{Bench, Board, Off, PAGE_WORDS, Trouble, Words, PlannedFault};
 
 /// A memory with one transaction at a time, which has the first slot.
 pub struct OneTx<B: Board> {
