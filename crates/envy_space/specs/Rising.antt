@@ -27,6 +27,10 @@ abbrev pub claim_in : (s segment : ℕ) → Result ℕ Off → Call
 claim_in s segment (Ok q) = if s == segment then Claims q else Leaves
 claim_in s segment (Err off) = Breaks
 
+-- what emptying the fill of segment e does to the rows of segment s
+abbrev pub erase_in : (s e : ℕ) → Call
+erase_in s e = if s == e then Erases else Leaves
+
 -- each call begins with the board that the one before it left
 abbrev pub Linked : ℕ → List Call → Chart → Chart → Type 0
 Linked s [] old new = new ≡ old
