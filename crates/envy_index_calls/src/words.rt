@@ -39,10 +39,7 @@ fn refusal<B: Board>(memory: &Memory<B>) -> Option<Code>
     ensures { MatchOption result (MayServe memory.now) (Declines memory.now) }
 {
     let shape = memory.board().shape();
-    if shape.pages < LEAST_PAGES
-        || shape.pages > MOST_MAP_PAGES
-        || shape.shadows < LEAST_SHADOWS
-    {
+    if shape.pages < LEAST_PAGES || shape.pages > MOST_MAP_PAGES || shape.shadows < LEAST_SHADOWS {
         return Some(Code::MapSetup);
     }
     match has_open_slot(memory.board()) {
