@@ -4,8 +4,7 @@ use Rattle.std.specs.Prelude.{◌&&◌, IsTrue, Option, None, Some, Result, Ok, 
 use Rattle.std.specs.Option.{ForSome}
 use Rattle.std.proofs.lemmas.List.{ext_get_or, length-replicate, get_or-replicate}
 use Rattle.envy_base.specs.Array.{Array, Saved, IsArray, slot_of}
-use Rattle.envy_base.specs.Shape.{IsShape}
-use Rattle.envy_base.specs.Words.{Works as SheetWorks, Keeps, Rose}
+use Rattle.envy_base.specs.Words.{Works as SheetWorks, Spends, Keeps, Rose}
 use Rattle.envy_base.specs.declared.board.Off.{Off as OffBoard}
 use Rattle.envy_base.specs.declared.board.Trouble.{Trouble}
 use Rattle.envy_base.specs.declared.board.Trouble.TheVariants.{Off as TroubleOff, Bad as TroubleBad}
@@ -26,7 +25,8 @@ use Rattle.envy_memory.specs.Sheets.{fixed_of, sheet_of, words_read}
 use Rattle.envy_calls.specs.Codes.{number_of}
 use Rattle.envy_calls.specs.declared.code.Code.{Code}
 use Rattle.envy_calls.specs.declared.code.Code.TheVariants.{Done}
-use Rattle.envy_index_calls.specs.Indexed.{Pairs, HoldsMap, HoldsSomeMap, HoldsArray, HasOpen, IsShut, Serves, Rests, MayServe, Lends, Works, Asks, Gets, Counts, Finds, Inserts, Removes, Blanks, Creates, DoesCreate, TellsValue, TellsCount, TellsPair, TellsInsert, TellsRemoval, made_code, old_of}
+use Rattle.envy_index_calls.specs.Indexed.{Pairs, HoldsMap, HoldsSomeMap, HoldsArray, HasOpen, IsShut, Serves, Rests, MayServe, Lends, Works, Asks, Gets, Counts, Finds, Inserts, Removes, Blanks, Creates, DoesCreate, creation_puts, TellsValue, TellsCount, TellsPair, TellsInsert, TellsRemoval, made_code, old_of}
+use Rattle.envy_index_calls.specs.declared.words.TheConstants.{MOST_MAP_PAGES}
 use Rattle.envy_index_calls.specs.declared.pairs.EnvyPair.{EnvyPair}
 use Rattle.envy_index_calls.specs.declared.pairs.EnvyOld.{EnvyOld}
 use Rattle.envy_index_calls.proofs.Blanking.{blanked-index}
@@ -81,8 +81,8 @@ shape-fixed : (c d : Chart) → fixed_of d ≡ fixed_of c → d.shape ≡ c.shap
 shape-fixed c d same = shape-same d.shape c.shape (cc) (cc) (cc) (cc) (cc) (cc)
 
 -- the numbers that no call changes, one by one
-fixed-works : (p q : Picture) → fixed_of q.chart ≡ fixed_of p.chart → p.chart.cuts ≤ q.chart.cuts → p.chart.bads ≤ q.chart.bads → (IsTrue p.chart.on → q.chart.on ≡ false → Rose p.chart.cuts q.chart.cuts) → Works p q
-fixed-works p q same cuts bads cut = record {
+fixed-works : (puts : ℕ) (p q : Picture) (b d : Bool) → fixed_of q.chart ≡ fixed_of p.chart → p.chart.cuts ≤ q.chart.cuts → p.chart.bads ≤ q.chart.bads → (IsTrue p.chart.on → q.chart.on ≡ false → Rose p.chart.cuts q.chart.cuts) → Spends puts (sheet_of p b) (sheet_of q d) → Works puts p q
+fixed-works puts p q b d same cuts bads cut s = record {
   shape = shape-fixed p.chart q.chart same;
   cuts = cuts;
   bads = bads;
@@ -91,6 +91,8 @@ fixed-works p q same cuts bads cut = record {
   plans = (cc);
   given = (cc);
   lives = (cc);
+  programs = s.programs;
+  erases = s.erases;
 }
 
 -- what a call of the tree leaves, once it is back in its place
@@ -105,12 +107,12 @@ serves-back : (q : Picture) (d : Bool) (es : Pairs) → Back q d → IsTrue q.ch
 serves-back q d es b on map = record { shut = shut-back q d b on; map = subst (λ (ws : List ℕ). IsIndex ws es) (ap (λ (x : Bool). words_read x q.chart) (Back.shut b)) map }
 
 -- what the map did to the words the memory did
-pub works-back : (p q : Picture) (b d : Bool) → SheetWorks 0 (sheet_of p b) (sheet_of q d) → Works p q
-works-back p q b d w = fixed-works p q w.fixed w.cuts w.bads w.cut
+pub works-back : (p q : Picture) (b d : Bool) → SheetWorks 0 (sheet_of p b) (sheet_of q d) → Spends 0 (sheet_of p b) (sheet_of q d) → Works 0 p q
+works-back p q b d w s = fixed-works 0 p q b d w.fixed w.cuts w.bads w.cut s
 
 -- what leaves the words leaves the memory's answers
-pub keeps-back : (p q : Picture) (b d : Bool) → Keeps (sheet_of p b) (sheet_of q d) → Works p q
-keeps-back p q b d w = fixed-works p q w.fixed w.cuts w.bads w.cut
+pub keeps-back : (puts : ℕ) (p q : Picture) (b d : Bool) → Keeps (sheet_of p b) (sheet_of q d) → Spends puts (sheet_of p b) (sheet_of q d) → Works puts p q
+keeps-back puts p q b d w s = fixed-works puts p q b d w.fixed w.cuts w.bads w.cut s
 
 rests-back : (p q : Picture) (b d : Bool) → SheetWorks 0 (sheet_of p b) (sheet_of q d) → Back q d → IsTrue q.chart.on → Rests p q
 rests-back p q b d w back on = record { shut = shut-back q d back on; same = w.kept }
@@ -129,25 +131,24 @@ closed-slots c m s shut =
     ext_get_or None m.slots (replicate 64 None) (long ∙ sym (length-replicate {A = Option Saved} 64 None)) (λ t lt. let few : t < 64 = subst (λ (n : ℕ). t < n) long lt in closed-slot c t (slot_of m t) few (Holds.slots h t few) shut ∙ sym (get_or-replicate {A = Option Saved} 64 t None None few))
 
 -- a sound memory of enough pages with no transaction open may serve a map
-pub may-serve : (p : Picture) (sh : Shape) (c d : Chart) (b : Bool) → HoldsArray p → c ≡ p.chart → d ≡ p.chart → IsShape c.shape → sh ≡ c.shape → 20 ≤ sh.pages → 32 ≤ sh.shadows → b ≡ false → HasOpen d b → MayServe p
-may-serve p sh c d b (m, stands) same same_too shape is pages shadows closed shut =
-    let sizes = subst (λ (x : Chart). IsShape x.shape) same shape in
+pub may-serve : (p : Picture) (sh : Shape) (c d : Chart) (b : Bool) → HoldsArray p → c ≡ p.chart → d ≡ p.chart → sh ≡ c.shape → 20 ≤ sh.pages → sh.pages ≤ MOST_MAP_PAGES → 32 ≤ sh.shadows → b ≡ false → HasOpen d b → MayServe p
+may-serve p sh c d b (m, stands) same same_too is pages few shadows closed shut =
     let its : sh ≡ p.chart.shape = is ∙ ap (λ (x : Chart). x.shape) same in
     let open_not = subst (λ (x : Chart). HasOpen x false) same_too (subst (λ (x : Bool). HasOpen d x) closed shut) in
     record {
       pages = subst (λ (x : Shape). 20 ≤ x.pages) its pages;
       shadows = subst (λ (x : Shape). 32 ≤ x.shadows) its shadows;
-      few = let few = IsShape.few_pages sizes in omega arith;
+      few = subst (λ (x : Shape). x.pages ≤ MOST_MAP_PAGES) its few;
       array = m;
       stands = stands;
       slots = closed-slots p.chart m stands open_not;
     }
 
 -- the call was made
-pub asks : (Tells : Pairs → Picture → Picture → Code → Type 0) (old new : Option Picture) (p q : Picture) (b : Bool) (code : Code) → Lent old p b → new ≡ Some q → Works p q → ((es : Pairs) → HoldsMap p es → Tells es p q code) → Asks old new (number_of code) Tells
-asks Tells old new p q b code l is works tells = subst (λ (o : Option Picture). Asks o new (number_of code) Tells) (sym (Lent.is l)) (q, code, is, refl, works, tells)
+pub asks : (puts : ℕ) (Tells : Pairs → Picture → Picture → Code → Type 0) (old new : Option Picture) (p q : Picture) (b : Bool) (code : Code) → Lent old p b → new ≡ Some q → Works puts p q → ((es : Pairs) → HoldsMap p es → Tells es p q code) → Asks puts old new (number_of code) Tells
+asks puts Tells old new p q b code l is works tells = subst (λ (o : Option Picture). Asks puts o new (number_of code) Tells) (sym (Lent.is l)) (q, code, is, refl, works, tells)
 
-pub creates : (old new : Option Picture) (p q : Picture) (b : Bool) (code : Code) → Lent old p b → new ≡ Some q → Works p q → Creates p q code → DoesCreate old new (number_of code)
+pub creates : (old new : Option Picture) (p q : Picture) (b : Bool) (code : Code) → Lent old p b → new ≡ Some q → Works creation_puts p q → Creates p q code → DoesCreate old new (number_of code)
 creates old new p q b code l is works done = subst (λ (o : Option Picture). DoesCreate o new (number_of code)) (sym (Lent.is l)) (q, code, is, refl, works, done)
 
 -- ---- calls that change no pair
