@@ -8,6 +8,7 @@ use Rattle.envy_base.specs.declared.shape.Shape.{Shape}
 use Rattle.envy_layout.specs.Same.{Counted, Grows, Kept}
 use Rattle.envy_map.specs.Fields.{Chart}
 use Rattle.envy_memory.specs.Below.{flush_programs, flush_erases}
+use Rattle.envy_base.specs.declared.faults.PlannedFault.{PlannedFault}
 use Rattle.envy_memory.specs.Calls.{lit, planned}
 use Rattle.envy_memory.specs.Picture.{Picture}
 use Rattle.envy_memory.specs.Sheets.{sheet_of}
