@@ -52,11 +52,11 @@ loop-position-preserved g c =
 pub returns-clause-most : goal.returns-clause-most
 returns-clause-most g c =
     let wear : ℕ → ℕ = wear_at (chart (g.B.Board.state c.args.board.now)).fields in
-    let end = at-end c.loop-position.position c.shape.result (g.B.Board.state c.args.board.now).shape c.shape.ensures (g.met.B.Board.lawful c.args.board.now).shape (subst (λ (n : ℕ). n ≤ c.loop-position.position) c.positions_of-position-end.ensures c.loop-position-test.false) c.loop-position.auto.position-end in
+    let end = at-end c.loop-position.position c.shape.result (g.B.Board.state c.args.board.now).shape c.shape.ensures (g.met.B.Board.lawful c.args.board.now).shape (subst (λ (n : ℕ). n ≤ c.loop-position.position) c.positions_of-position-end.ensures c.loop-position-test.false) (subst (λ (n : ℕ). 1 ≤ n → c.loop-position.position ≤ n) c.positions_of-position-end.ensures c.loop-position.auto.position-end) in
     (subst (λ (n : ℕ). IsMostWorn n wear c.loop-position.seen.most.position) end c.loop-position.invariant.most, c.loop-position.invariant.most_wear)
 
 pub returns-clause-least : goal.returns-clause-least
 returns-clause-least g c =
     let wear : ℕ → ℕ = wear_at (chart (g.B.Board.state c.args.board.now)).fields in
-    let end = at-end c.loop-position.position c.shape.result (g.B.Board.state c.args.board.now).shape c.shape.ensures (g.met.B.Board.lawful c.args.board.now).shape (subst (λ (n : ℕ). n ≤ c.loop-position.position) c.positions_of-position-end.ensures c.loop-position-test.false) c.loop-position.auto.position-end in
+    let end = at-end c.loop-position.position c.shape.result (g.B.Board.state c.args.board.now).shape c.shape.ensures (g.met.B.Board.lawful c.args.board.now).shape (subst (λ (n : ℕ). n ≤ c.loop-position.position) c.positions_of-position-end.ensures c.loop-position-test.false) (subst (λ (n : ℕ). 1 ≤ n → c.loop-position.position ≤ n) c.positions_of-position-end.ensures c.loop-position.auto.position-end) in
     (subst (λ (n : ℕ). IsLeastWorn n wear c.loop-position.seen.least.position) end c.loop-position.invariant.least, c.loop-position.invariant.least_wear)
