@@ -1,9 +1,8 @@
 -- Plans of cuts.
-use Rattle.std.proofs.Common.{◌≡◌, ℕ, zero, suc, ◌≤◌, ◌+◌, ◌-◌, ◌*◌, true, Option, Some, refl, sym, ◌∙◌, ap, subst, arith, add-one}
+use Rattle.std.proofs.Common.{◌≡◌, ℕ, zero, suc, ◌≤◌, ◌+◌, ◌-◌, true, Option, Some, refl, sym, ◌∙◌, ap, subst, arith, add-one}
 use Rattle.std.specs.Prelude.{◌%◌, if◌then◌else◌}
 use Rattle.std.proofs.lemmas.Bool.{ne_eqb, eq-eqb}
 use Rattle.envy_base.specs.declared.faults.PlannedFault.{PlannedFault}
-use Rattle.envy_base.specs.declared.faults.PlannedFault.TheVariants.{Cut}
 use Rattle.envy_memory.specs.Calls.{planned}
 use Rattle.envy_memory.specs.Picture.{Picture}
 use Rattle.envy_tpca.specs.Driving.{is_planned, plans_in, cut_before, last_cut}
@@ -18,8 +17,8 @@ pub plans-one : (fault : PlannedFault) (every i : ℕ) (old new : Picture) → (
 plans-one fault every i old new some e same = rw (is-planned every i some e) (since-planned fault old new same)
 
 -- and the last one is the cut before transfer i
-pub cut-one : (every i k g : ℕ) (old new : Picture) → (every ≡ 0 → ⊥) → i % every ≡ 0 → k ≡ 1 + (37 * i) % 512 → g ≡ i → new ≡ record old { chart = planned (Cut k g) old.chart } → new.chart.last_plan ≡ (if is_planned every i then Some (cut_before i) else old.chart.last_plan)
-cut-one every i k g old new some e place number same = rw (is-planned every i some e) (ap (λ (p : Picture). p.chart.last_plan) same ∙ ap (λ (n : ℕ). Some (Cut n g)) place ∙ ap (λ (n : ℕ). Some (Cut (1 + (37 * i) % 512) n)) number)
+pub cut-one : (every i : ℕ) (old new : Picture) → (every ≡ 0 → ⊥) → i % every ≡ 0 → new ≡ record old { chart = planned (cut_before i) old.chart } → new.chart.last_plan ≡ (if is_planned every i then Some (cut_before i) else old.chart.last_plan)
+cut-one every i old new some e same = rw (is-planned every i some e) (ap (λ (p : Picture). p.chart.last_plan) same)
 
 -- the last plan up to the next transfer
 pub last-more : (every n : ℕ) (before : Option PlannedFault) → last_cut every (n + 1) before ≡ (if is_planned every n then Some (cut_before n) else last_cut every n before)

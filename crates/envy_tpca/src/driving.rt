@@ -5,6 +5,7 @@ ghost use Rattle.envy_base.specs.Area.{Fits};
 ghost use Rattle.envy_base.specs.Array.{Array, zeros, put_back};
 ghost use Rattle.envy_layout.specs.Stands.{Stands};
 ghost use Rattle.envy_layout.specs.Words.{durable};
+ghost use Rattle.envy_memory.specs.Calls.{planned};
 ghost use Rattle.envy_tpca.specs.declared.places.Places.{Places as APlaces};
 ghost use Rattle.envy_tpca.specs.declared.transfer.Transfer.{Transfer as ATransfer};
 ghost use Rattle.envy_tpca.specs.Driving.{IsLoadOf, HasCounted, IsDriven, PlansCuts, cut_before, is_planned, plans_in};
@@ -60,6 +61,13 @@ fn place_of(i: u32) -> u32
     1 + 37 * (i % 512) % 512
 }
 
+/// Plans the cut before transfer `i`.
+fn arm_before<B: Bench>(memory: &mut Memory<B>, i: u32)
+    ensures { memory.new ≡ record memory.old { chart = planned (cut_before i) memory.old.chart } }
+{
+    memory.arm_cut(place_of(i), u64::from(i));
+}
+
 /// Plans a cut before transfer `i`, where it is a multiple of `every` and that is above 0.
 pub fn plan_cut<B: Bench>(memory: &mut Memory<B>, every: u32, i: u32)
     ensures since { Since (if is_planned every i then 1 else 0) memory.old memory.new }
@@ -70,7 +78,7 @@ pub fn plan_cut<B: Bench>(memory: &mut Memory<B>, every: u32, i: u32)
     ensures parts { memory.new.parts ≡ memory.old.parts }
 {
     if every != 0 && i % every == 0 {
-        memory.arm_cut(place_of(i), u64::from(i));
+        arm_before(memory, i);
     }
 }
 
