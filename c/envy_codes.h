@@ -40,7 +40,7 @@ enum envy_code {
     ENVY_SETUP_FRAMES = 24,   /* 2 to 65,536 frames */
     ENVY_SETUP_ENTRIES = 25,  /* 1 to 65,536 entries */
     ENVY_SETUP_SHARE = 26,    /* pages and shadows: at most the rows of all segments but two */
-    ENVY_SETUP_TOTAL = 27,    /* at most 1,048,576 rows */
+    ENVY_SETUP_TOTAL = 27,    /* at most 16,777,216 rows */
     ENVY_SETUP_PART = 28,     /* a hybrid partition of 1 to all but one segment */
     ENVY_SETUP_LIMIT = 29,    /* a limit of at least 1 */
     ENVY_SETUP_MARK = 30,     /* a mark of 1 to the number of frames */

@@ -6,7 +6,7 @@
 #include "envy_mapped.h"
 #endif
 
-enum { PAGE_WORDS = 32, MOST_ROWS = 1048576 };
+enum { PAGE_WORDS = 32, MOST_ROWS = 16777216 };
 
 static uint32_t between(uint64_t least, uint64_t wanted, uint64_t most) {
     return (uint32_t)(wanted < least ? least : wanted > most ? most : wanted);

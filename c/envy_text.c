@@ -32,7 +32,7 @@ const char *envy_error_text(uint32_t code) {
     case ENVY_SETUP_FRAMES: return "frames must be 2 to 65536";
     case ENVY_SETUP_ENTRIES: return "entries must be 1 to 65536";
     case ENVY_SETUP_SHARE: return "pages and shadows must be at most the rows of all segments but two";
-    case ENVY_SETUP_TOTAL: return "rows must be at most 1048576 in all";
+    case ENVY_SETUP_TOTAL: return "rows must be at most 16777216 in all";
     case ENVY_SETUP_PART: return "the part must be 1 to all segments but one";
     case ENVY_SETUP_LIMIT: return "the limit must be at least 1";
     case ENVY_SETUP_MARK: return "the mark must be 1 to the number of frames";
@@ -58,7 +58,7 @@ const char *envy_error_text(uint32_t code) {
     case ENVY_IMAGE_FRAMES: return "the image's frames must be 2 to 65536";
     case ENVY_IMAGE_ENTRIES: return "the image's entries must be 1 to 65536";
     case ENVY_IMAGE_SHARE: return "the image's pages and shadows must be at most the rows of all segments but two";
-    case ENVY_IMAGE_TOTAL: return "the image's rows must be at most 1048576 in all";
+    case ENVY_IMAGE_TOTAL: return "the image's rows must be at most 16777216 in all";
     case ENVY_ABSENT: return "the map has no such pair";
     case ENVY_MAP_FULL: return "the map has no room for more pairs";
     case ENVY_SLOT_OPEN: return "a transaction is open";

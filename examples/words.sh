@@ -123,8 +123,9 @@ run --segments 3|--segments: 3 (4 to 4096)
 run --segments 4097|--segments: 4097 (4 to 4096)
 plain --rows 1|--rows: 1 (2 to 65536)
 save --rows 65537|--rows: 65537 (2 to 65536)
-mirror --pages 0|--pages: 0 (1 to 1048576)
-gen --pages 1048577|--pages: 1048577 (1 to 1048576)
+mirror --pages 0|--pages: 0 (1 to 16777216)
+run --pages 16777217|--pages: 16777217 (1 to 16777216)
+gen --pages 1048577|--pages: 1048577 (1 to 1048576 under gen)
 run --frames 1|--frames: 1 (2 to 65536)
 run --entries 0|--entries: 0 (1 to 65536)
 run --limit 0|--limit: 0 (1 to 18446744073709551615)
@@ -133,7 +134,12 @@ gen --hot 0 --share 5|--hot: 0 (1 to 99)
 gen --stores 100|--stores: 100 (1 to 99)
 run --pages 81|--pages 81 and --shadows 16 are 97 rows, above 96, those of 8 segments of 16 less two segments
 index --rows 2|--pages 384 and --shadows 32 are 416 rows, above 28, those of 16 segments of 2 less two segments
-run --segments 4096 --rows 257|--segments 4096 of --rows 257 are 1052672 rows, above 1048576
+run --segments 4096 --rows 257|--segments 4096 of --rows 257 are 1052672 rows, above 1048576 (--large 1 takes them)
+plain --segments 4096 --rows 257|--segments 4096 of --rows 257 are 1052672 rows, above 1048576
+index --segments 17 --rows 65536|--segments 17 of --rows 65536 are 1114112 rows, above 1048576
+mirror --segments 257 --rows 65536 --large 0|--segments 257 of --rows 65536 are 16842752 rows, above 1048576
+save --segments 4096 --rows 4097 --large 1|--segments 4096 of --rows 4097 are 16781312 rows, above 16777216
+keep --segments 257 --rows 65536 --file never|--segments 257 of --rows 65536 are 16842752 rows, above 16777216
 run --policy hybrid --part 8|--part: 8 (1 to 7, the segments less one)
 run --policy=hybrid --part=0|--part: 0 (1 to 7, the segments less one)
 tpca --mark 17|--mark: 17 (1 to 16, the frames)
@@ -150,6 +156,7 @@ while read -r -a given; do
 done <<'TEXT'
 run --pages 80
 run --segments 4096 --rows 256
+run --segments 17 --rows 65536 --large 1
 run --policy hybrid --part 7
 run --mark 8
 tpca --transfers 1069 --every 0

@@ -158,14 +158,17 @@ function check_value(option, value,    bound) {
 function number(option, word) { return option in value ? value[option] + 0 : usual_number(option, word) }
 
 # The rules that numbers break together: each names the numbers that it compares, in the order of the program.
-function check_board(word,    segments, rows, pages, shadows, most, part, mark) {
+function check_board(word,    segments, rows, pages, shadows, most, rows_at_most, part, mark) {
     segments = number("segments", word); rows = number("rows", word)
     pages = number("pages", word); shadows = number("shadows", word)
     most = (segments - 2) * rows
     if (pages + shadows > most)
         mistake(sprintf("--pages %.0f and --shadows %.0f are %.0f rows, above %.0f, those of %.0f segments of %.0f less two segments",
             pages, shadows, pages + shadows, most, segments, rows), 2)
-    if (segments * rows > 1048576) mistake(sprintf("--segments %.0f of --rows %.0f are %.0f rows, above 1048576", segments, rows, segments * rows), 2)
+    rows_at_most = word == "keep" || value["large"] == 1 ? 16777216 : 1048576
+    if (segments * rows > rows_at_most)
+        mistake(sprintf("--segments %.0f of --rows %.0f are %.0f rows, above %.0f%s", segments, rows, segments * rows, rows_at_most,
+            index(takes[word], " large ") && segments * rows <= 16777216 ? " (--large 1 takes them)" : ""), 2)
     part = number("part", word)
     if (value["policy"] == "hybrid" && (part < 1 || part > segments - 1)) mistake(sprintf("--part: %.0f (1 to %.0f, the segments less one)", part, segments - 1), 2)
     mark = "mark" in value ? value["mark"] + 0 : number("frames", word)
@@ -182,6 +185,7 @@ function check_load(    branches, accounts, transfers, history, pages) {
 }
 
 function check_rules(word) {
+    if (word == "gen" && number("pages", word) > 1048576) mistake("--pages: " number("pages", word) " (1 to 1048576 under gen)", 2)
     if (word == "gen" && ("hot" in value) != ("share" in value)) mistake("--hot and --share are given together, or neither is", 2)
     # a file that is there gives its own sizes
     if (!index(takes[word], " segments ") || word == "keep" && is_file(value["file"])) return

@@ -4,11 +4,10 @@ use Rattle.std.proofs.lemmas.Bool.{and_from, and_parts, false_from_ne_true}
 use Rattle.envy_base.specs.Area.{Fits}
 use Rattle.envy_base.specs.declared.area.Area.{Area}
 use Rattle.envy_policy.specs.declared.setup.Setup.{Setup}
-use Rattle.envy_policy.specs.declared.setup.SetupFault.{SetupFault}
-use Rattle.envy_policy.specs.Setup.{checked, rule_of}
 use Rattle.envy_args.specs.declared.command.Command.TheVariants.{Tpca}
+use Rattle.envy_args.specs.declared.command.WordsFault.{WordsFault}
 use Rattle.envy_args.specs.declared.command.WordsFault.TheVariants.{Form, Setup as Rule}
-use Rattle.envy_args.specs.Words.{Options, after_check, area_of, fits, lives_of, load_of, number_of, setup_of, start_of, tpca_of, tpca_options, usual_of_load}
+use Rattle.envy_args.specs.Words.{Options, after_check, area_of, fits, lives_of, load_of, most_rows, number_of, rules_within, setup_of, start_of, tpca_of, tpca_options, usual_of_load}
 use Rattle.envy_args.specs.Reading.{are_readable, made}
 
 pub fits-Fits : (area : Area) (pages : ℕ) → IsTrue (fits area pages) ↔ Fits area pages
@@ -21,26 +20,26 @@ fits-Fits area pages = (
 )
 
 module _ (o : Options) (all : are_readable tpca_options o ≡ true) (setup : Setup) (read : setup ≡ setup_of usual_of_load o) where
-  made-load : made tpca_options tpca_of o ≡ after_check (checked setup) (load_of setup o)
-  made-load = ap (λ b. if b then tpca_of o else Err Form) all ∙ ap (λ (s : Setup). after_check (checked s) (load_of s o)) (sym read)
+  made-load : made tpca_options tpca_of o ≡ after_check (rules_within (most_rows o) setup) (load_of setup o)
+  made-load = ap (λ b. if b then tpca_of o else Err Form) all ∙ ap (λ (s : Setup). after_check (rules_within (most_rows o) s) (load_of s o)) (sym read)
 
-  pub load-refused : (fault : SetupFault) → Err fault ≡ checked setup → made tpca_options tpca_of o ≡ Err (Rule (rule_of fault))
+  pub load-refused : (fault : WordsFault) → Err fault ≡ rules_within (most_rows o) setup → made tpca_options tpca_of o ≡ Err fault
   load-refused fault e = made-load ∙ ap (λ r. after_check r (load_of setup o)) (sym e)
 
-  load-checked : Ok tt ≡ checked setup → made tpca_options tpca_of o ≡ load_of setup o
+  load-checked : Ok tt ≡ rules_within (most_rows o) setup → made tpca_options tpca_of o ≡ load_of setup o
   load-checked e = made-load ∙ ap (λ r. after_check r (load_of setup o)) (sym e)
 
-  pub load-unfit : Ok tt ≡ checked setup → (b : Bool) → (IsTrue b ↔ Fits (area_of o) setup.shape.pages) → b ≡ false → made tpca_options tpca_of o ≡ Err (Rule 11)
+  pub load-unfit : Ok tt ≡ rules_within (most_rows o) setup → (b : Bool) → (IsTrue b ↔ Fits (area_of o) setup.shape.pages) → b ≡ false → made tpca_options tpca_of o ≡ Err (Rule 11)
   load-unfit e b decides is =
       let unfit = false_from_ne_true (fits (area_of o) setup.shape.pages) (λ yes. true≢false (sym (decides.1 ((fits-Fits (area_of o) setup.shape.pages).0 yes)) ∙ is)) in
       load-checked e ∙ rw unfit refl
 
-  pub load-shadows : Ok tt ≡ checked setup → (b : Bool) → (IsTrue b ↔ Fits (area_of o) setup.shape.pages) → b ≡ true → setup.shape.shadows < 5 → made tpca_options tpca_of o ≡ Err (Rule 12)
+  pub load-shadows : Ok tt ≡ rules_within (most_rows o) setup → (b : Bool) → (IsTrue b ↔ Fits (area_of o) setup.shape.pages) → b ≡ true → setup.shape.shadows < 5 → made tpca_options tpca_of o ≡ Err (Rule 12)
   load-shadows e b decides is few =
       let fit = (fits-Fits (area_of o) setup.shape.pages).1 (decides.0 is) in
       load-checked e ∙ rw (fit, lt-ltb setup.shape.shadows 5 few) refl
 
-  pub load-made : Ok tt ≡ checked setup → (b : Bool) → (IsTrue b ↔ Fits (area_of o) setup.shape.pages) → b ≡ true → 5 ≤ setup.shape.shadows
+  pub load-made : Ok tt ≡ rules_within (most_rows o) setup → (b : Bool) → (IsTrue b ↔ Fits (area_of o) setup.shape.pages) → b ≡ true → 5 ≤ setup.shape.shadows
       → made tpca_options tpca_of o ≡ Ok (Tpca setup (lives_of o) (start_of o) (area_of o) (number_of o (codes "every") 0))
   load-made e b decides is enough =
       let fit = (fits-Fits (area_of o) setup.shape.pages).1 (decides.0 is) in

@@ -4,7 +4,7 @@ use Rattle.std.proofs.lemmas.Bool.{and_from, and_left, and_right}
 use Rattle.std.proofs.lemmas.List.Folds.{list_all-append}
 use Rattle.envy_gen.specs.declared.mix.Mix.{Mix}
 use Rattle.envy_args.specs.declared.command.WordsFault.{WordsFault}
-use Rattle.envy_args.specs.Words.{Options, Text, gen_of, gen_options, generating, given_number, mix_of, number_of, plain_options, resume_options, run_options, start_of, tpca_options}
+use Rattle.envy_args.specs.Words.{Options, Text, gen_of, gen_options, generating, given_number, index_options, mix_of, number_of, plain_options, resume_options, run_options, start_of, tpca_options}
 use Rattle.envy_args.specs.Reading.{are_readable, area_options, is_readable, made, policy_options, shape_options}
 
 abbrev after_policy : List Text
@@ -65,14 +65,23 @@ module _ (o : Options) where
 
   -- ---- a run
 
-  pub run-setup : are_readable plain_options o ≡ false → are_readable run_options o ≡ false
-  run-setup = first plain_options (codes "lives" ∷ [])
+  pub index-setup : are_readable plain_options o ≡ false → are_readable index_options o ≡ false
+  index-setup = first plain_options (codes "lives" ∷ [])
 
-  pub run-lives : is_readable o (codes "lives") ≡ false → are_readable run_options o ≡ false
-  run-lives e = second plain_options (codes "lives" ∷ []) (and_left _ _ e)
+  pub index-lives : is_readable o (codes "lives") ≡ false → are_readable index_options o ≡ false
+  index-lives e = second plain_options (codes "lives" ∷ []) (and_left _ _ e)
 
-  pub run-all : are_readable plain_options o ≡ true → is_readable o (codes "lives") ≡ true → are_readable run_options o ≡ true
-  run-all e d = both plain_options (codes "lives" ∷ []) e (and_from _ _ d refl)
+  pub index-all : are_readable plain_options o ≡ true → is_readable o (codes "lives") ≡ true → are_readable index_options o ≡ true
+  index-all e d = both plain_options (codes "lives" ∷ []) e (and_from _ _ d refl)
+
+  pub run-powered : are_readable index_options o ≡ false → are_readable run_options o ≡ false
+  run-powered = first index_options (codes "large" ∷ [])
+
+  pub run-large : is_readable o (codes "large") ≡ false → are_readable run_options o ≡ false
+  run-large e = second index_options (codes "large" ∷ []) (and_left _ _ e)
+
+  pub run-all : are_readable index_options o ≡ true → is_readable o (codes "large") ≡ true → are_readable run_options o ≡ true
+  run-all e d = both index_options (codes "large" ∷ []) e (and_from _ _ d refl)
 
   -- ---- a load
 

@@ -5,7 +5,7 @@ use Rattle.std.specs.Option.{option_map_or}
 use Rattle.envy_args.specs.declared.command.Command.{Command}
 use Rattle.envy_args.specs.declared.command.WordsFault.{WordsFault}
 use Rattle.envy_args.specs.declared.command.WordsFault.TheVariants.{Form}
-use Rattle.envy_args.specs.Words.{Text, Options, is_number, is_value, value_of, run_of, plain_of, tpca_of, gen_of, save_of, resume_of, audit_of, segments_of, index_of, mirror_of, run_options, plain_options, tpca_options, gen_options, resume_options, audit_options}
+use Rattle.envy_args.specs.Words.{Text, Options, is_number, is_value, value_of, run_of, plain_of, tpca_of, gen_of, save_of, resume_of, audit_of, segments_of, index_of, mirror_of, run_options, index_options, plain_options, tpca_options, gen_options, resume_options, audit_options}
 use Rattle.envy_args.specs.declared.word.Word.{Word}
 use Rattle.envy_args.specs.declared.word.Word.TheVariants.{Run, Plain, Tpca, Gen, Save, Resume, Audit, Segments, Index, Mirror}
 
@@ -35,7 +35,7 @@ options_of Save = run_options
 options_of Resume = resume_options
 options_of Audit = audit_options
 options_of Segments = audit_options
-options_of Index = run_options
+options_of Index = index_options
 options_of Mirror = run_options
 
 -- the option isn't given, or has a number as its value

@@ -13,11 +13,14 @@ use Rattle.envy_gen.specs.declared.mix.Skew.{Skew}
 use Rattle.envy_policy.specs.declared.setup.Policy.TheVariants.{Greedy, Fifo, Locality, Hybrid, Lifetime}
 use Rattle.envy_policy.specs.declared.setup.Setup.{Setup}
 use Rattle.envy_policy.specs.declared.setup.SetupFault.{SetupFault}
-use Rattle.envy_policy.specs.Setup.{checked, rule_of}
+use Rattle.envy_policy.specs.Setup.{checked_within, rule_of}
 use Rattle.envy_args.specs.declared.command.Command.{Command}
 use Rattle.envy_args.specs.declared.command.Command.TheVariants.{Run, Plain, Tpca, Gen, Save, Resume, Audit, Segments, Index, Mirror}
+use Rattle.envy_args.specs.declared.read.TheConstants.{USUAL_ROWS}
 use Rattle.envy_args.specs.declared.command.WordsFault.{WordsFault}
 use Rattle.envy_args.specs.declared.command.WordsFault.TheVariants.{Form, Setup as Rule}
+use Rattle.envy_base.specs.declared.page.TheConstants.{PAGE_WORDS}
+use Rattle.envy_base.specs.declared.shape.TheConstants.{MOST_ROWS}
 
 -- a word, a name or a value, as bytes
 abbrev pub Text : Type 0
@@ -82,7 +85,7 @@ policy_named part text =
 abbrev pub bits_of : Text → ℕ
 bits_of name =
     if bytes_eq name (codes "limit") || bytes_eq name (codes "start") then 64
-    else (if bytes_eq name (codes "compact") || bytes_eq name (codes "bytewise") then 1 else 32)
+    else (if bytes_eq name (codes "compact") || (bytes_eq name (codes "bytewise") || bytes_eq name (codes "large")) then 1 else 32)
 
 -- a path: it isn't empty, and doesn't begin with `-`
 abbrev pub is_path : Text → Bool
@@ -175,25 +178,44 @@ area_of options = record {
 
 -- Rules
 
+-- the most rows of a board: more, where the words ask for a large one
+abbrev pub most_rows : Options → ℕ
+most_rows options = if number_of options (codes "large") 0 == 1 then MOST_ROWS else USUAL_ROWS
+
+-- a rule's number; of a board with too many rows it says how many there may be
+abbrev pub rule_within : ℕ → SetupFault → ℕ
+rule_within most fault = if rule_of fault == 7 && most == MOST_ROWS then 17 else rule_of fault
+
+abbrev pub numbered : ℕ → Result Unit SetupFault → Result Unit WordsFault
+numbered most (Ok done) = Ok tt
+numbered most (Err fault) = Err (Rule (rule_within most fault))
+
+-- the first rule that a setup breaks, where a board has so many rows at most
+abbrev pub rules_within : ℕ → Setup → Result Unit WordsFault
+rules_within most setup = numbered most (checked_within most setup)
+
 -- the first rule that fails, or else what follows
-abbrev pub after_check : Result Unit SetupFault → Result Command WordsFault → Result Command WordsFault
+abbrev pub after_check : Result Unit WordsFault → Result Command WordsFault → Result Command WordsFault
 after_check (Ok done) next = next
-after_check (Err fault) next = Err (Rule (rule_of fault))
+after_check (Err fault) next = Err fault
+
+abbrev pub of_setup : ℕ → Setup → Result Command WordsFault → Result Command WordsFault
+of_setup most setup = after_check (rules_within most setup)
 
 -- the records of the load fit
 abbrev pub fits : Area → ℕ → Bool
 fits area pages = nat_le 1 area.branches && (nat_le 1 area.accounts
-    && nat_le (history_at area.branches area.accounts + 4 * area.transfers) (32 * pages))
+    && nat_le (history_at area.branches area.accounts + 4 * area.transfers) (PAGE_WORDS * pages))
 
 -- Commands
 
 abbrev pub run_of : Options → Result Command WordsFault
 run_of options = let setup = setup_of usual options in
-    after_check (checked setup) (Ok (Run setup (lives_of options)))
+    of_setup (most_rows options) setup (Ok (Run setup (lives_of options)))
 
 abbrev pub plain_of : Options → Result Command WordsFault
 plain_of options = let setup = setup_of usual options in
-    after_check (checked setup) (Ok (Plain setup))
+    of_setup USUAL_ROWS setup (Ok (Plain setup))
 
 abbrev pub load_of : Setup → Options → Result Command WordsFault
 load_of setup options =
@@ -203,7 +225,7 @@ load_of setup options =
 
 abbrev pub tpca_of : Options → Result Command WordsFault
 tpca_of options = let setup = setup_of usual_of_load options in
-    after_check (checked setup) (load_of setup options)
+    of_setup (most_rows options) setup (load_of setup options)
 
 -- a number of per cent, where it is given
 abbrev pub is_per_cent : Option ℕ → Bool
@@ -225,7 +247,7 @@ mixed pages stores (Err fault) = Err fault
 abbrev pub mix_of : ℕ → Option ℕ → Option ℕ → Option ℕ → Result Mix WordsFault
 mix_of pages hot share stores =
     if pages == 0 then Err (Rule 3)
-    else (if nat_lt 1048576 pages then Err (Rule 7)
+    else (if nat_lt USUAL_ROWS pages then Err (Rule 7)
     else (if not (is_per_cent hot && (is_per_cent share && is_per_cent stores)) then Err (Rule 15)
     else mixed pages stores (skew_of hot share)))
 
@@ -240,7 +262,7 @@ gen_of options = generating (start_of options) (number_of options (codes "lines"
 
 abbrev pub save_of : Options → Result Command WordsFault
 save_of options = let setup = setup_of usual options in
-    after_check (checked setup) (Ok (Save setup (lives_of options)))
+    of_setup (most_rows options) setup (Ok (Save setup (lives_of options)))
 
 -- a mark that isn't given stands open; no rule is asked before the image is read
 abbrev pub resume_of : Options → Result Command WordsFault
@@ -261,11 +283,11 @@ tree_of setup options =
 
 abbrev pub index_of : Options → Result Command WordsFault
 index_of options = let setup = setup_of usual_of_index options in
-    after_check (checked setup) (tree_of setup options)
+    of_setup USUAL_ROWS setup (tree_of setup options)
 
 abbrev pub mirror_of : Options → Result Command WordsFault
 mirror_of options = let setup = setup_of usual options in
-    after_check (checked setup) (Ok (Mirror setup (lives_of options)))
+    of_setup (most_rows options) setup (Ok (Mirror setup (lives_of options)))
 
 -- an entry of the table: a command word, its options, and what they make of it
 pub record Entry : Type 0 where
@@ -277,8 +299,12 @@ abbrev pub plain_options : List Text
 plain_options = codes "segments" ∷ codes "rows" ∷ codes "pages" ∷ codes "shadows" ∷ codes "frames" ∷ codes "entries"
     ∷ codes "part" ∷ codes "policy" ∷ codes "limit" ∷ codes "mark" ∷ []
 
+-- a tree has no large board
+abbrev pub index_options : List Text
+index_options = plain_options ++ codes "lives" ∷ []
+
 abbrev pub run_options : List Text
-run_options = plain_options ++ codes "lives" ∷ []
+run_options = index_options ++ codes "large" ∷ []
 
 abbrev pub tpca_options : List Text
 tpca_options = run_options
@@ -303,7 +329,7 @@ commands =
     ∷ record { name = codes "resume"; options = resume_options; make = resume_of }
     ∷ record { name = codes "audit"; options = audit_options; make = audit_of }
     ∷ record { name = codes "map"; options = audit_options; make = segments_of }
-    ∷ record { name = codes "index"; options = run_options; make = index_of }
+    ∷ record { name = codes "index"; options = index_options; make = index_of }
     ∷ record { name = codes "mirror"; options = run_options; make = mirror_of }
     ∷ []
 

@@ -22,6 +22,10 @@ pub fn words_name_commands()
     ensures pages { command_of (codes "run" ∷ codes "--pages=0" ∷ codes "--" ∷ []) ≡ Err (Rule 3) }
     ensures total { command_of (codes "run" ∷ codes "--segments" ∷ codes "17" ∷ codes "--rows=65536" ∷ [])
         ≡ Err (Rule 7) }
+    ensures large { (command_of (codes "run" ∷ codes "--segments" ∷ codes "17" ∷ codes "--rows=65536" ∷ codes "--large=1" ∷ [])
+        ≡ Ok (Run (record { shape = record usual { segments = 17; rows = 65536 }; policy = Greedy; limit = 100; mark = 8 }) 4294967295))
+        × (command_of (codes "run" ∷ codes "--segments" ∷ codes "257" ∷ codes "--rows=65536" ∷ codes "--large=1" ∷ [])
+        ≡ Err (Rule 17)) }
     ensures transfers { command_of (codes "tpca" ∷ codes "--transfers" ∷ codes "1070" ∷ []) ≡ Err (Rule 11) }
     ensures judged { (command_of (codes "audit" ∷ []) ≡ Ok Audit)
         × (command_of (codes "map" ∷ []) ≡ Ok Segments) }

@@ -14,4 +14,4 @@ mod word;
 pub use command::{Command, WordsFault};
 pub use keep::{KeepOptions, KeepWords, Sizes, read_keep};
 pub use laws::{the_area_is_asked_to_fit, words_name_commands};
-pub use read::read_words;
+pub use read::{USUAL_ROWS, read_words, rule_within};

@@ -1,12 +1,12 @@
-ghost use Rattle.std.specs.Prelude.{◌≡◌, ◌⊎◌, map, Err};
+ghost use Rattle.std.specs.Prelude.{◌≡◌, ◌⊎◌, ◌≤◌, map, codes, Err};
 ghost use Rattle.std.specs.String.{string_bytes};
-ghost use Rattle.envy_args.specs.Words.{command_of, run_of, plain_of, tpca_of, gen_of, mix_of, skew_of, is_per_cent, save_of, resume_of, index_of, mirror_of, lives_of, setup_of, shape_of, area_of, run_options, plain_options, tpca_options, gen_options, resume_options};
-ghost use Rattle.envy_args.specs.Reading.{GivesIf, are_readable, shape_options, area_options, made, make_of, options_of};
+ghost use Rattle.envy_args.specs.Words.{command_of, run_of, plain_of, tpca_of, gen_of, mix_of, skew_of, is_per_cent, save_of, resume_of, index_of, mirror_of, lives_of, setup_of, shape_of, area_of, run_options, index_options, plain_options, tpca_options, gen_options, resume_options, most_rows, rule_within, rules_within};
+ghost use Rattle.envy_args.specs.Reading.{GivesIf, has_number, are_readable, shape_options, area_options, made, make_of, options_of};
 
 use crate::command::{Command, WordsFault};
 use crate::options::Options;
 use crate::word::Word;
-use envy_base::{Area, Shape};
+use envy_base::{Area, Shape, MOST_ROWS};
 use envy_gen::{Mix, Skew};
 use envy_policy::{Setup, SetupFault};
 use std::alloc::Global;
@@ -56,8 +56,13 @@ const USUAL_OF_INDEX: Shape = Shape {
 /// How often power returns, where the words don't say otherwise.
 const MOST_LIVES: u32 = u32::MAX;
 
-/// The most pages that a generated trace goes over.
-const MOST_PAGES: u32 = 1_048_576;
+/// The most rows of a board, unless the words ask for a large one, and the most pages of a generated trace.
+pub const USUAL_ROWS: u32 = 1_048_576;
+
+/// The number of the rule that a board has too many rows, and its number for boards that may be large.
+const TOO_MANY_ROWS: u8 = 7;
+
+const TOO_MANY_OF_LARGE: u8 = 17;
 
 /// The fewest shadows of a load.
 const LOAD_SHADOWS: u32 = 5;
@@ -106,32 +111,32 @@ fn make(word: Word, options: &Options) -> Result<Command, WordsFault>
 fn run(options: &Options) -> Result<Command, WordsFault>
     ensures { result ≡ made run_options run_of options.now }
 {
-    let (setup, lives) = powered(options, &USUAL)?;
-    setup.check()?;
+    let ((setup, lives), most) = maybe_large(options, &USUAL)?;
+    check(&setup, most)?;
     Ok(Command::Run { setup, lives })
 }
 
 fn save(options: &Options) -> Result<Command, WordsFault>
     ensures { result ≡ made run_options save_of options.now }
 {
-    let (setup, lives) = powered(options, &USUAL)?;
-    setup.check()?;
+    let ((setup, lives), most) = maybe_large(options, &USUAL)?;
+    check(&setup, most)?;
     Ok(Command::Save { setup, lives })
 }
 
 fn mirror(options: &Options) -> Result<Command, WordsFault>
     ensures { result ≡ made run_options mirror_of options.now }
 {
-    let (setup, lives) = powered(options, &USUAL)?;
-    setup.check()?;
+    let ((setup, lives), most) = maybe_large(options, &USUAL)?;
+    check(&setup, most)?;
     Ok(Command::Mirror { setup, lives })
 }
 
 fn index(options: &Options) -> Result<Command, WordsFault>
-    ensures { result ≡ made run_options index_of options.now }
+    ensures { result ≡ made index_options index_of options.now }
 {
     let (setup, lives) = powered(options, &USUAL_OF_INDEX)?;
-    setup.check()?;
+    check(&setup, USUAL_ROWS)?;
     if setup.shape.shadows < INDEX_SHADOWS {
         return Err(WordsFault::Setup(13));
     }
@@ -160,18 +165,18 @@ fn plain(options: &Options) -> Result<Command, WordsFault>
     ensures { result ≡ made plain_options plain_of options.now }
 {
     let setup = setup(options, &USUAL)?;
-    setup.check()?;
+    check(&setup, USUAL_ROWS)?;
     Ok(Command::Plain { setup })
 }
 
 fn tpca(options: &Options) -> Result<Command, WordsFault>
     ensures { result ≡ made tpca_options tpca_of options.now }
 {
-    let (setup, lives) = powered(options, &USUAL_OF_LOAD)?;
+    let ((setup, lives), most) = maybe_large(options, &USUAL_OF_LOAD)?;
     let start = options.wide_number("start", 1)?;
     let area = area(options)?;
     let every = options.number("every", 0)?;
-    setup.check()?;
+    check(&setup, most)?;
     if !area.fits(setup.shape.pages) {
         return Err(WordsFault::Setup(11));
     }
@@ -212,7 +217,7 @@ fn mix(
     if pages == 0 {
         return Err(WordsFault::Setup(3));
     }
-    if pages > MOST_PAGES {
+    if pages > USUAL_ROWS {
         return Err(WordsFault::Setup(7));
     }
     if !(is_per_cent(hot) && is_per_cent(share) && is_per_cent(stores)) {
@@ -249,12 +254,55 @@ fn skew(hot: Option<u32>, share: Option<u32>) -> Result<Option<Skew>, WordsFault
 
 /// A setup over a board whose power can fail, with how often it returns.
 fn powered(options: &Options, default: &Shape) -> Result<(Setup, u32), WordsFault>
-    ensures { GivesIf (are_readable run_options options.now) (setup_of default.now options.now, lives_of options.now)
+    ensures { GivesIf (are_readable index_options options.now) (setup_of default.now options.now, lives_of options.now)
         result }
 {
     let setup = setup(options, default)?;
     let lives = options.number("lives", MOST_LIVES)?;
     Ok((setup, lives))
+}
+
+/// The same, over a board that may be large, with the most rows that it may have.
+fn maybe_large(options: &Options, default: &Shape) -> Result<((Setup, u32), u32), WordsFault>
+    ensures { GivesIf (are_readable run_options options.now)
+        ((setup_of default.now options.now, lives_of options.now), most_rows options.now) result }
+{
+    let powered = powered(options, default)?;
+    let most = most_rows(options)?;
+    Ok((powered, most))
+}
+
+/// The most rows of a board.
+fn most_rows(options: &Options) -> Result<u32, WordsFault>
+    ensures { GivesIf (has_number 1 options.now (codes "large")) (most_rows options.now) result }
+{
+    if options.flag("large")? {
+        Ok(MOST_ROWS)
+    } else {
+        Ok(USUAL_ROWS)
+    }
+}
+
+/// The first rule that a setup breaks, over a board of at most so many rows.
+fn check(setup: &Setup, most: u32) -> Result<(), WordsFault>
+    requires most { most ≤ MOST_ROWS }
+    ensures { result ≡ rules_within most setup.now }
+{
+    let Err(fault) = setup.check_within(most) else {
+        return Ok(());
+    };
+    Err(WordsFault::Setup(rule_within(most, &fault)))
+}
+
+/// The number of the rule that a setup breaks, where a board has so many rows at most: `SetupFault::rule`, but of too
+/// many rows it says how many there may be.
+pub fn rule_within(most: u32, fault: &SetupFault) -> u8
+    ensures { result ≡ rule_within most fault.now }
+{
+    match fault.rule() {
+        TOO_MANY_ROWS if most == MOST_ROWS => TOO_MANY_OF_LARGE,
+        rule => rule,
+    }
 }
 
 fn setup(options: &Options, default: &Shape) -> Result<Setup, WordsFault>

@@ -15,9 +15,9 @@ pub(crate) enum Word {
     Mirror,
 }
 
-/// The options of the load. The first eleven are those of a run, the first ten those of the plain
+/// The options of the load. The first twelve are those of a run, the first eleven those of a tree, the first ten those of the plain
 /// machine. Those of a resumed run are the seventh to the eleventh.
-const OPTIONS: [&str; 16] = [
+const OPTIONS: [&str; 17] = [
     "segments",
     "rows",
     "pages",
@@ -29,6 +29,7 @@ const OPTIONS: [&str; 16] = [
     "limit",
     "mark",
     "lives",
+    "large",
     "start",
     "branches",
     "accounts",
@@ -83,7 +84,8 @@ impl Word {
         ensures { map (λ name. name.now) result.now ≡ options_of self }
     {
         match self {
-            Word::Run | Word::Save | Word::Index | Word::Mirror => &OPTIONS[..11],
+            Word::Run | Word::Save | Word::Mirror => &OPTIONS[..12],
+            Word::Index => &OPTIONS[..11],
             Word::Plain => &OPTIONS[..10],
             Word::Tpca => &OPTIONS,
             Word::Gen => &["start", "lines", "pages", "hot", "share", "stores"],

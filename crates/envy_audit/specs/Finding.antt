@@ -5,6 +5,7 @@ use Rattle.envy_base.specs.declared.fields.Slot.{Slot}
 use Rattle.envy_map.specs.Fields.{Chart, place, undo, slot}
 use Rattle.envy_layout.specs.Sound.{slots_of, slot_named}
 use Rattle.envy_audit.specs.Points.{IsPlaceOf, IsUndoOf, Switches, rows_of}
+use Rattle.envy_base.specs.Shape.{positions_of}
 
 -- whether a fact holds, or `Off` where power is off
 abbrev pub Tells : Bool → Type 0 → Result Bool Off → Type 0
@@ -20,7 +21,7 @@ pub record PagesDecode (c : Chart) : Type 0 where
 -- fills, positions, backs and origins are in their ranges
 pub record NumbersFit (c : Chart) : Type 0 where
   pub fills : (s : ℕ) → s < c.shape.segments → slice_index c.fields.fills s ≤ c.shape.rows
-  pub positions : (k : ℕ) → k < c.shape.segments - 1 → slice_index c.fields.positions k < c.shape.segments
+  pub positions : (k : ℕ) → k < positions_of c.shape → slice_index c.fields.positions k < c.shape.segments
   pub backs : (q : ℕ) → q < rows_of c.shape → slice_index c.fields.backs q < c.shape.pages
   pub origins : (i : ℕ) → i < c.shape.rows → slice_index c.fields.origins i < rows_of c.shape
 

@@ -11,6 +11,7 @@ use Rattle.envy_base.specs.declared.fields.Undo.TheVariants.{Clear, Blank, Shado
 use Rattle.envy_base.specs.State.{ones}
 use Rattle.envy_map.specs.Fields.{Chart, sizes_of, place, undo, slot}
 use Rattle.envy_layout.specs.Sound.{Names, IsKept, IsPlaced, IsSpare, slots_of, slot_named, owned_by}
+use Rattle.envy_base.specs.Shape.{positions_of}
 
 -- the number of rows of a board
 abbrev pub rows_of : Shape → ℕ
@@ -48,14 +49,14 @@ pub record Decodes (c : Chart) : Type 0 where
   pub undos : (p : ℕ) → p < c.shape.pages → IsUndoOf c.shape (slots_of c.fields.version) (undo c.fields p)
   pub places : (p : ℕ) → p < c.shape.pages → IsPlaceOf c.shape (place c.fields p)
   pub fills : (s : ℕ) → s < c.shape.segments → slice_index c.fields.fills s ≤ c.shape.rows
-  pub positions : (k : ℕ) → k < c.shape.segments - 1 → slice_index c.fields.positions k < c.shape.segments
+  pub positions : (k : ℕ) → k < positions_of c.shape → slice_index c.fields.positions k < c.shape.segments
   pub backs : (q : ℕ) → q < rows_of c.shape → slice_index c.fields.backs q < c.shape.pages
   pub origins : (i : ℕ) → i < c.shape.rows → slice_index c.fields.origins i < rows_of c.shape
 
 -- (b) No two positions name one segment.
 abbrev pub PositionsDiffer : Chart → Type 0
 PositionsDiffer c =
-    (i j : ℕ) → i < c.shape.segments - 1 → j < c.shape.segments - 1 → slice_index c.fields.positions i ≡ slice_index c.fields.positions j → i ≡ j
+    (i j : ℕ) → i < positions_of c.shape → j < positions_of c.shape → slice_index c.fields.positions i ≡ slice_index c.fields.positions j → i ≡ j
 
 -- (c) No two places name one frame.
 abbrev pub FramesDiffer : Chart → Type 0

@@ -6,7 +6,7 @@ ghost use Rattle.envy_audit.specs.Points.{Decodes, CopiesOf, rows_of};
 ghost use Rattle.envy_audit.specs.Tables.{NotesOwners, MarksCopied, Fills};
 ghost use Rattle.envy_audit.specs.Copying.{OriginsStand, KeptAreCopied, CopiesAreSame, IsKeptOnce};
 
-use envy_base::{Board, Off};
+use envy_base::{Board, Off, PAGE_WORDS};
 use envy_map::{back, fill, origin};
 
 // Notes the rows that the spare's first rows were copied from, and answers whether they are rows of the
@@ -72,7 +72,7 @@ fn are_equal<B: Board>(board: &B, a: u32, b: u32) -> Result<bool, Off>
     ensures { let c = chart (B.state board.now) in
         Tells c.on (slice_index_or c.flash a [] ≡ slice_index_or c.flash b []) result }
 {
-    for i in 0..32 {
+    for i in 0..PAGE_WORDS {
         if board.read(a, i)? != board.read(b, i)? {
             return Ok(false);
         }

@@ -4,8 +4,9 @@ ghost use Rattle.envy_layout.specs.Sound.{slots_of};
 ghost use Rattle.envy_audit.specs.Finding.{Tells};
 ghost use Rattle.envy_audit.specs.Points.{Decodes, IsJobOf, IsPlaceOf, IsUndoOf, rows_of};
 ghost use Rattle.envy_audit.specs.Finding.{PagesDecode, NumbersFit};
+ghost use Rattle.envy_base.specs.Shape.{positions_of};
 
-use envy_base::{Board, Job, Off, Place, Shape, Undo};
+use envy_base::{Board, Job, Off, Place, Shape, Undo, positions_of};
 use envy_map::{probe, version};
 
 fn is_job_of(shape: &Shape, job: Option<Job>) -> bool
@@ -122,10 +123,10 @@ fn fills_fit<B: Board>(board: &B) -> Result<bool, Off>
 
 fn positions_fit<B: Board>(board: &B) -> Result<bool, Off>
     ensures { let c = chart (B.state board.now) in
-        Tells c.on ((k : ℕ) → k < c.shape.segments - 1 → slice_index c.fields.positions k < c.shape.segments) result }
+        Tells c.on ((k : ℕ) → k < positions_of c.shape → slice_index c.fields.positions k < c.shape.segments) result }
 {
     let shape = board.shape();
-    for position in 0..shape.segments - 1 {
+    for position in 0..positions_of(&shape) {
         if probe::segment_at(board, position)? >= shape.segments as u64 {
             return Ok(false);
         }

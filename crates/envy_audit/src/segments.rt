@@ -5,7 +5,7 @@ ghost use Rattle.envy_audit.specs.Finding.{Tells};
 ghost use Rattle.envy_audit.specs.Points.{Decodes, FreeAreOnes, IdleSpareIsEmpty, rows_of};
 ghost use Rattle.envy_audit.specs.Tables.{MarksPlaced};
 
-use envy_base::{Board, Job, Off};
+use envy_base::{Board, Job, Off, PAGE_WORDS};
 use envy_map::{fill, job};
 
 // Whether a row is all ones.
@@ -13,7 +13,7 @@ fn is_ones<B: Board>(board: &B, row: u32) -> Result<bool, Off>
     requires row { row < rows_of (B.state board.now).shape }
     ensures { let c = chart (B.state board.now) in Tells c.on (slice_index_or c.flash row [] ≡ ones) result }
 {
-    for i in 0..32 {
+    for i in 0..PAGE_WORDS {
         let word = board.read(row, i)?;
         if word != u64::MAX {
             return Ok(false);

@@ -6,7 +6,7 @@ ghost use Rattle.envy_audit.specs.Finding.{Tells};
 ghost use Rattle.envy_audit.specs.Points.{Decodes, PositionsDiffer, FramesDiffer, RowsDiffer, rows_of};
 ghost use Rattle.envy_audit.specs.Tables.{MarksPlaced, NotesOwners, Notes, IsWithin, Fills};
 
-use envy_base::{Board, Off, Place, Slot, Undo};
+use envy_base::{Board, Off, Place, Slot, Undo, positions_of, MOST_ROWS};
 use envy_map::{place, segment_at, slot, undo};
 
 /// Notes which segments stand at positions, and answers whether no two positions name one.
@@ -17,7 +17,7 @@ pub(crate) fn mark_placed<B: Board>(board: &B, placed: &mut [bool]) -> Result<bo
     ensures marks { Fills result (MarksPlaced (chart (B.state board.now)) placed.new) }
 {
     placed.fill(false);
-    for position in 0..board.shape().segments - 1 {
+    for position in 0..positions_of(&board.shape()) {
         let segment = segment_at(board, position)? as usize;
         if placed[segment] {
             return Ok(false);
@@ -69,7 +69,7 @@ fn kept_place<B: Board>(board: &B, page: u32, now: Place) -> Result<Place, Off>
 /// another's.
 fn note(owners: &mut [u32], page: u32, place: Place) -> bool
     requires place { IsWithin (length owners.old) place }
-    requires page { page < 1048576 }
+    requires page { page < MOST_ROWS }
     ensures { Notes page place owners.old result owners.new }
 {
     let Place::Row(row) = place else {

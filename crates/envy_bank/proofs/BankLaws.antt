@@ -124,7 +124,7 @@ pub IsBank-made : (chips : List ChipState) (rows : ℕ) (erases : List ℕ) → 
 IsBank-made chips rows erases are = record {
   some_rows = are.some_rows;
   whole = length-rows_from chips (length erases * rows);
-  few = rw (length-rows_from chips (length erases * rows)) are.few;
+  few = rw (length-rows_from chips (length erases * rows)) (let low = are.few in omega arith);
   pages = λ q lt.
       let low : q < length erases * rows = (let long = length-rows_from chips (length erases * rows) in omega arith) in
       rw (get_or-rows_from chips (length erases * rows) q low) (IsPage-row_from (lanes_at chips q) (AreBytes-lanes_at chips q are.wired.ready));

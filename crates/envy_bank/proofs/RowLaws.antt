@@ -49,7 +49,7 @@ IsBank-programmed flash new rows erases s q page bank is lt paged made =
     subst (λ fs. IsBank (record { flash = fs; rows = rows; erases = erases })) (sym made)
     (IsBank-row (record { flash = flash; rows = rows; erases = erases }) q (ands (get_or flash q []) page) bank (IsPage-ands (get_or flash q []) page (bank.pages q low) paged))
 
-pub IsBank-new : (flash : List (List ℕ)) (rows blocks : ℕ) (erases : List ℕ) → flash ≡ replicate (blocks * rows) ones → erases ≡ replicate blocks 0 → 1 ≤ rows → blocks * rows ≤ 1048576
+pub IsBank-new : (flash : List (List ℕ)) (rows blocks : ℕ) (erases : List ℕ) → flash ≡ replicate (blocks * rows) ones → erases ≡ replicate blocks 0 → 1 ≤ rows → blocks * rows ≤ 16777216
     → IsBank (record { flash = flash; rows = rows; erases = erases })
 IsBank-new flash rows blocks erases is counts some few =
     let long : length (replicate (blocks * rows) ones) ≡ blocks * rows = length-replicate (blocks * rows) ones in

@@ -2,8 +2,10 @@
 use Rattle.std.specs.Prelude.{◌≡◌, ℕ, ◌*◌, ◌/◌, ◌%◌, ◌<◌, ◌≤◌, false, List, [], map, length, take, drop, slice_index, slice_index_or, slice_set, bit_and}
 use Rattle.std.specs.List.{range_with_len, All}
 use Rattle.std.specs.Int.{w64, to_le_bytes, from_le_bytes}
+use Rattle.envy_chip.specs.declared.chip.TheConstants.{MOST_BYTES}
 use Rattle.envy_chip.specs.declared.chip.Mode.TheVariants.{Array}
 use Rattle.envy_chip.specs.Commands.{ChipState, with_erased_block}
+use Rattle.envy_base.specs.declared.page.TheConstants.{PAGE_WORDS}
 
 -- lane j of a row is byte j mod 8 of word j div 8, the least significant byte first
 unfoldable pub lane_of : List ℕ → ℕ → ℕ
@@ -11,7 +13,7 @@ lane_of row j = slice_index (to_le_bytes w64 (slice_index row (j / 8))) (j % 8)
 
 -- so a row is made of the words of eight lanes each
 unfoldable pub row_from : List ℕ → List ℕ
-row_from lanes = map (λ i. from_le_bytes w64 (take 8 (drop (8 * i) lanes))) (range_with_len 0 32)
+row_from lanes = map (λ i. from_le_bytes w64 (take 8 (drop (8 * i) lanes))) (range_with_len 0 PAGE_WORDS)
 
 -- the byte of each chip at the address q
 abbrev pub lanes_at : List ChipState → ℕ → List ℕ
@@ -55,6 +57,6 @@ LanesHold q row chips = (j : ℕ) (d : ChipState) → j < length chips → slice
 -- the chips of a bank of so many blocks of so many rows, of which each has its lane of each row
 pub record AreChips (blocks rows : ℕ) (chips : List ChipState) : Type 0 where
   pub some_rows : 1 ≤ rows
-  pub few : blocks * rows ≤ 1048576
+  pub few : blocks * rows ≤ MOST_BYTES
   pub wired : AreLanes (blocks * rows) rows chips
   pub lanes : (q : ℕ) → q < blocks * rows → LanesHold q (slice_index_or (rows_from chips (blocks * rows)) q []) chips

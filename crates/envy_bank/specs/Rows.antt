@@ -1,5 +1,7 @@
 -- A bank as rows of words: what it holds, and what a program and an erase make of it.
 use Rattle.std.specs.Prelude.{◌≡◌, ◌≢◌, ℕ, ◌+◌, ◌-◌, ◌*◌, ◌/◌, ◌^◌, ◌<◌, ◌≤◌, min, max, List, [], ◌∷◌, length, replicate, slice_index, slice_index_or, slice_set, bit_and}
+use Rattle.envy_base.specs.declared.page.TheConstants.{PAGE_WORDS}
+use Rattle.envy_base.specs.declared.shape.TheConstants.{MOST_ROWS}
 
 -- the rows, the number of rows of a block, and how often each block was erased
 pub record BankState : Type 0 where
@@ -9,14 +11,14 @@ pub record BankState : Type 0 where
 
 -- a page has 32 words of 64 bits
 pub record IsPage (xs : List ℕ) : Type 0 where
-  pub long : length xs ≡ 32
+  pub long : length xs ≡ PAGE_WORDS
   pub words : (i : ℕ) → slice_index xs i < 2 ^ 64
 
 -- whole blocks of at least one row, each row a page
 pub record IsBank (s : BankState) : Type 0 where
   pub some_rows : 1 ≤ s.rows
   pub whole : length s.flash ≡ length s.erases * s.rows
-  pub few : length s.flash ≤ 1048576
+  pub few : length s.flash ≤ MOST_ROWS
   pub pages : (q : ℕ) → q < length s.flash → IsPage (slice_index_or s.flash q [])
 
 abbrev pub row_of : BankState → ℕ → List ℕ
@@ -30,7 +32,7 @@ ands (x ∷ xs) (y ∷ ys) = bit_and x y ∷ ands xs ys
 
 -- an erased row
 abbrev pub ones : List ℕ
-ones = replicate 32 (2 ^ 64 - 1)
+ones = replicate PAGE_WORDS (2 ^ 64 - 1)
 
 -- a count of 64 bits after one more: it stops at the top
 unfoldable pub up : ℕ → ℕ

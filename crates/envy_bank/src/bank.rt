@@ -1,6 +1,7 @@
 ghost use Rattle.std.specs.Prelude.{◌≡◌, ◌*◌, ◌<◌, ◌≤◌, ◌↔◌, IsTrue, IfOk, length, slice_index};
 ghost use Rattle.envy_bank.specs.Rows.{IsBank, ErasesBlock, ands, erased_bank, row_of, with_row};
 
+use envy_base::{Page, MOST_ROWS, PAGE_WORDS};
 use crate::counting::more;
 use crate::kept::KeptRows;
 use std::alloc::{AllocError, Global};
@@ -32,7 +33,7 @@ impl Bank {
     pub fn new(alloc: Global, blocks: u32, rows: u32) -> Result<Bank, NoMemory>
         requires blocks { 1 ≤ blocks }
         requires rows { 1 ≤ rows }
-        requires size { blocks * rows ≤ 1048576 }
+        requires size { blocks * rows ≤ MOST_ROWS }
         ensures erased { IfOk result (λ bank. bank ≡ erased_bank blocks rows) }
         ensures whole { IfOk result IsBank }
     {
@@ -44,7 +45,7 @@ impl Bank {
     }
 
     /// Programs a row, which becomes its AND with the page. Answers whether it is the page then.
-    pub fn program_row(&mut self, row: u32, page: &[u64; 32]) -> bool
+    pub fn program_row(&mut self, row: u32, page: &Page) -> bool
         requires { row < length self.old.flash }
         ensures row { self.new ≡ with_row self.old row (ands (row_of self.old row) page.now) }
         ensures held { IsTrue result ↔ (row_of self.new row ≡ page.now) }
@@ -69,7 +70,7 @@ impl Bank {
     /// The word `i` of a row.
     pub fn read_word(&self, row: u32, i: u32) -> u64
         requires row { row < length self.now.flash }
-        requires i { i < 32 }
+        requires i { i < PAGE_WORDS }
         ensures word { result ≡ slice_index (row_of self.now row) i }
         ensures whole { IsBank self.now }
     {
@@ -86,7 +87,7 @@ impl Bank {
     }
 
     /// Sets a row to anything, as a disturbed operation may.
-    pub fn upset_row(&mut self, row: u32, page: &[u64; 32])
+    pub fn upset_row(&mut self, row: u32, page: &Page)
         requires { row < length self.old.flash }
         ensures row { self.new ≡ with_row self.old row page.now }
         ensures whole { IsBank self.new }

@@ -2,10 +2,11 @@ ghost use Rattle.std.specs.Prelude.{◌≡◌, ◌*◌, ◌<◌, ◌≤◌, ◌�
 ghost use Rattle.envy_bank.specs.Lanes.{lane_of};
 ghost use Rattle.envy_bank.specs.Rows.{IsBank, ErasesBlock, ands, erased_bank, row_of, with_row};
 
+use envy_base::{PAGE_WORDS, Page};
 use crate::bank::NoMemory;
 use crate::counting::more;
 use crate::lanes::{erase_lanes, new_lanes, program_lanes, read_lanes, upset_lanes};
-use envy_chip::Chip;
+use envy_chip::{Chip, MOST_BYTES};
 use std::alloc::Global;
 use std::marker::Model;
 
@@ -35,7 +36,7 @@ impl ChipBank {
     pub fn new(alloc: Global, blocks: u32, rows: u32) -> Result<ChipBank, NoMemory>
         requires blocks { 1 ≤ blocks }
         requires rows { 1 ≤ rows }
-        requires size { blocks * rows ≤ 1048576 }
+        requires size { blocks * rows ≤ MOST_BYTES }
         ensures erased { IfOk result (λ bank. bank ≡ erased_bank blocks rows) }
         ensures whole { IfOk result IsBank }
     {
@@ -47,7 +48,7 @@ impl ChipBank {
     }
 
     /// Programs a row, which becomes its AND with the page. Answers whether it is the page then.
-    pub fn program_row(&mut self, row: u32, page: &[u64; 32]) -> bool
+    pub fn program_row(&mut self, row: u32, page: &Page) -> bool
         requires { row < length self.old.flash }
         ensures row { self.new ≡ with_row self.old row (ands (row_of self.old row) page.now) }
         ensures held { IsTrue result ↔ (row_of self.new row ≡ page.now) }
@@ -70,7 +71,7 @@ impl ChipBank {
     /// The word `i` of a row.
     pub fn read_word(&self, row: u32, i: u32) -> u64
         requires row { row < length self.now.flash }
-        requires i { i < 32 }
+        requires i { i < PAGE_WORDS }
         ensures word { result ≡ slice_index (row_of self.now row) i }
         ensures whole { IsBank self.now }
     {
@@ -97,7 +98,7 @@ impl ChipBank {
     }
 
     /// Sets a row to anything, as a disturbed operation may.
-    pub fn upset_row(&mut self, row: u32, page: &[u64; 32])
+    pub fn upset_row(&mut self, row: u32, page: &Page)
         requires { row < length self.old.flash }
         ensures row { self.new ≡ with_row self.old row page.now }
         ensures whole { IsBank self.new }

@@ -2,6 +2,7 @@ ghost use Rattle.std.specs.Prelude.{◌≡◌, ◌+◌, ◌-◌, ◌<◌, ◌≤
 ghost use Rattle.envy_bank.specs.Rows.{ands, ones};
 ghost use Rattle.envy_bank.specs.Kept.{MarksRange, ErasesRange};
 
+use envy_base::{PAGE_LENGTH, PAGE_WORDS, Page};
 use std::alloc::{AllocError, Global};
 use std::marker::Model;
 
@@ -10,7 +11,7 @@ use std::marker::Model;
 /// taken for all of them at the start.
 #[derive(Drop)]
 pub struct KeptRows {
-    pages: Vec<[u64; 32]>,
+    pages: Vec<Page>,
     erased: Vec<bool>,
 }
 
@@ -26,12 +27,12 @@ impl Model for KeptRows {
 }
 
 // Clears in the row the bits that are clear in the page. Answers whether it is the page then.
-fn clear_bits(row: &mut [u64; 32], page: &[u64; 32]) -> bool
+fn clear_bits(row: &mut Page, page: &Page) -> bool
     ensures row { row.new ≡ ands row.old page.now }
     ensures held { IsTrue result ↔ (row.new ≡ page.now) }
 {
     let mut held = true;
-    for i in 0..32 {
+    for i in 0..PAGE_LENGTH {
         let word = row[i] & page[i];
         held &= word == page[i];
         row[i] = word;
@@ -51,20 +52,20 @@ fn mark_range(marks: &mut [bool], first: usize, end: usize)
 }
 
 // Makes the pages up to the one before a row's.
-fn fill(pages: &mut Vec<[u64; 32]>, row: usize)
+fn fill(pages: &mut Vec<Page>, row: usize)
     requires behind { length pages.old.items ≤ row }
     requires room { row < vec_capacity pages.old }
-    ensures pages { pages.new.items ≡ pages.old.items ++ replicate (row - length pages.old.items) (replicate 32 0) }
+    ensures pages { pages.new.items ≡ pages.old.items ++ replicate (row - length pages.old.items) (replicate PAGE_WORDS 0) }
     ensures capacity { vec_capacity pages.old ≤ vec_capacity pages.new }
 {
-    if pages.resize(row, [0; 32]).is_err() {
+    if pages.resize(row, [0; PAGE_LENGTH]).is_err() {
         unreachable!();
     }
 }
 
 // Adds a page behind the last one, in memory that is there.
 #[inline(always)]
-fn append(pages: &mut Vec<[u64; 32]>, page: &[u64; 32])
+fn append(pages: &mut Vec<Page>, page: &Page)
     requires room { length pages.old.items < vec_capacity pages.old }
     ensures pages { pages.new.items ≡ pages.old.items ++ page.now ∷ [] }
     ensures capacity { vec_capacity pages.old ≤ vec_capacity pages.new }
@@ -78,10 +79,10 @@ fn append(pages: &mut Vec<[u64; 32]>, page: &[u64; 32])
 // Adds the page of a row that isn't the next one.
 #[cold]
 #[inline(never)]
-fn append_at(pages: &mut Vec<[u64; 32]>, row: usize, page: &[u64; 32])
+fn append_at(pages: &mut Vec<Page>, row: usize, page: &Page)
     requires behind { length pages.old.items ≤ row }
     requires room { row < vec_capacity pages.old }
-    ensures pages { pages.new.items ≡ pages.old.items ++ replicate (row - length pages.old.items) (replicate 32 0) ++ page.now ∷ [] }
+    ensures pages { pages.new.items ≡ pages.old.items ++ replicate (row - length pages.old.items) (replicate PAGE_WORDS 0) ++ page.now ∷ [] }
     ensures capacity { vec_capacity pages.old ≤ vec_capacity pages.new }
 {
     fill(pages, row);
@@ -90,10 +91,10 @@ fn append_at(pages: &mut Vec<[u64; 32]>, row: usize, page: &[u64; 32])
 
 // Sets the page of a row, which is made where it isn't there yet.
 #[inline(always)]
-fn set_page(pages: &mut Vec<[u64; 32]>, row: usize, page: &[u64; 32])
+fn set_page(pages: &mut Vec<Page>, row: usize, page: &Page)
     requires { row < vec_capacity pages.old }
     ensures pages { pages.new.items
-        ≡ slice_set (pages.old.items ++ replicate (row + 1 - length pages.old.items) (replicate 32 0)) row page.now }
+        ≡ slice_set (pages.old.items ++ replicate (row + 1 - length pages.old.items) (replicate PAGE_WORDS 0)) row page.now }
     ensures capacity { vec_capacity pages.old ≤ vec_capacity pages.new }
 {
     if row < pages.len() {
@@ -120,7 +121,7 @@ impl KeptRows {
     #[inline]
     pub fn word(&self, row: usize, i: usize) -> u64
         requires row { row < length self.now }
-        requires i { i < 32 }
+        requires i { i < PAGE_WORDS }
         ensures { result ≡ slice_index (slice_index_or self.now row []) i }
     {
         if self.erased[row] {
@@ -131,7 +132,7 @@ impl KeptRows {
 
     /// Sets a row to the page.
     #[inline(always)]
-    pub fn write(&mut self, row: usize, page: &[u64; 32])
+    pub fn write(&mut self, row: usize, page: &Page)
         requires { row < length self.old }
         ensures { self.new ≡ slice_set self.old row page.now }
     {
@@ -140,7 +141,7 @@ impl KeptRows {
     }
 
     /// Makes a row its AND with the page. Answers whether it is the page then.
-    pub fn program(&mut self, row: usize, page: &[u64; 32]) -> bool
+    pub fn program(&mut self, row: usize, page: &Page) -> bool
         requires { row < length self.old }
         ensures row { self.new ≡ slice_set self.old row (ands (slice_index_or self.old row []) page.now) }
         ensures held { IsTrue result ↔ (slice_index_or self.new row [] ≡ page.now) }

@@ -3,7 +3,9 @@ ghost use Rattle.std.specs.List.{All};
 ghost use Rattle.envy_chip.specs.Commands.{erased_chip, upset_at};
 ghost use Rattle.envy_bank.specs.Lanes.{lane_of, IsReady, anded, blanked, EachLane, LanesHold, lanes_at, row_from};
 
+use envy_base::{PAGE_WORDS, Page};
 use envy_chip::{
+    MOST_BYTES,
     CLEAR_STATUS, Chip, ERASE_CONFIRM, ERASE_SETUP, PROGRAM_ERROR, PROGRAM_SETUP, READ_ARRAY,
 };
 use std::alloc::{AllocError, Global};
@@ -12,7 +14,7 @@ pub const LANES: usize = 256;
 
 // The byte of a row that the chip `lane` holds.
 #[tactic(auto, unfolding(crate::specs::Lanes::lane_of))]
-fn lane_byte(row: &[u64; 32], lane: usize) -> u8
+fn lane_byte(row: &Page, lane: usize) -> u8
     requires { lane < 256 }
     ensures { result ≡ lane_of row.now lane }
 {
@@ -51,7 +53,7 @@ fn erase_lane(chip: &mut Chip, addr: u32)
 pub fn new_lanes(alloc: Global, blocks: u32, rows: u32) -> Result<Vec<Chip>, AllocError>
     requires blocks { 1 ≤ blocks }
     requires rows { 1 ≤ rows }
-    requires size { blocks * rows ≤ 1048576 }
+    requires size { blocks * rows ≤ MOST_BYTES }
     ensures { IfOk result (λ chips. chips.items ≡ replicate 256 (erased_chip blocks rows)) }
 {
     let mut chips = Vec::with_capacity(alloc, LANES)?;
@@ -66,7 +68,7 @@ pub fn read_lanes(chips: &[Chip], addr: u32, word: usize) -> u64
     requires count { length chips.now ≡ 256 }
     requires ready { All IsReady chips.now }
     requires addr { All (λ chip. addr < length chip.bytes) chips.now }
-    requires word { word < 32 }
+    requires word { word < PAGE_WORDS }
     ensures { result ≡ slice_index (row_from (lanes_at chips.now addr)) word }
 {
     let mut bytes = [0u8; 8];
@@ -77,7 +79,7 @@ pub fn read_lanes(chips: &[Chip], addr: u32, word: usize) -> u64
 }
 
 /// Programs a row into the chips, and answers whether each then holds its lane of it.
-pub fn program_lanes(chips: &mut [Chip], addr: u32, row: &[u64; 32]) -> bool
+pub fn program_lanes(chips: &mut [Chip], addr: u32, row: &Page) -> bool
     requires count { length chips.old ≡ 256 }
     requires ready { All IsReady chips.old }
     requires addr { All (λ chip. addr < length chip.bytes) chips.old }
@@ -104,7 +106,7 @@ pub fn erase_lanes(chips: &mut [Chip], addr: u32)
 }
 
 /// Sets each chip's byte to its lane of the row, whatever it was.
-pub fn upset_lanes(chips: &mut [Chip], addr: u32, row: &[u64; 32])
+pub fn upset_lanes(chips: &mut [Chip], addr: u32, row: &Page)
     requires count { length chips.old ≡ 256 }
     requires ready { All IsReady chips.old }
     requires addr { All (λ chip. addr < length chip.bytes) chips.old }

@@ -1,8 +1,9 @@
 -- Work within a transaction, one step after another.
-use Rattle.std.proofs.Common.{◌≡◌, ◌⊎◌, ℕ, ◌+◌, ◌-◌, ◌^◌, ◌<◌, ◌≤◌, Bool, true, false, IsTrue, length, refl, ap, sym, subst, ◌∙◌, inl, inr, Result, Ok, Err, arith}
+use Rattle.std.proofs.Common.{◌≡◌, ◌⊎◌, ℕ, ◌+◌, ◌-◌, ◌*◌, ◌^◌, ◌<◌, ◌≤◌, Bool, true, false, IsTrue, length, refl, ap, sym, subst, ◌∙◌, inl, inr, Result, Ok, Err, arith}
+use Rattle.std.proofs.Math.Nat.{mul-le-mul_right}
 use Rattle.std.proofs.lemmas.Bool.{cases_lt}
 use Rattle.envy_base.specs.declared.board.Off.{Off}
-use Rattle.envy_base.specs.Words.{Sheet, IsSheet, Works, OnPage, Loads, Rose, has}
+use Rattle.envy_base.specs.Words.{Sheet, IsSheet, Work, Works, Spends, OnPage, Loads, Rose, has}
 
 on_or_off : (b : Bool) → IsTrue b ⊎ (b ≡ false)
 on_or_off true = inl refl
@@ -80,3 +81,32 @@ on_from s h t = elim (on_or_off s.on) [ inl y ↦ y | inr n ↦ no_both s.starte
 
 pub OnPage-room : (p q : ℕ) (a b : Sheet) → OnPage p a b → IsTrue b.on → q ≡ p → length a.pages + 1 ≤ a.room → IsTrue (has b.pages q) ⊎ (length b.pages < b.room)
 OnPage-room p q a b o on e room = elim (o.put on) [ inl h ↦ inl (subst (λ x. IsTrue (has b.pages x)) (sym e) h) | inr same ↦ inr (omega (arith, ap length same, o.works.room)) ]
+
+-- flash work, by the puts that it is worth
+
+pub Spends-refl : (s : Sheet) → Spends 0 s s
+Spends-refl s = record { price = refl; programs = omega arith; erases = omega arith }
+
+worth-more : (j k p old new : ℕ) → j ≤ k → new ≤ old + j * p → new ≤ old + k * p
+worth-more j k p old new le few = omega (arith, few, mul-le-mul_right p le)
+
+pub Spends-more : (j k : ℕ) (a b : Sheet) → j ≤ k → Spends j a b → Spends k a b
+Spends-more j k a b le s = record {
+  price = s.price;
+  programs = worth-more j k a.price.programs a.work.programs b.work.programs le s.programs;
+  erases = worth-more j k a.price.erases a.work.erases b.work.erases le s.erases;
+}
+
+worth-both : (j k p q x y z : ℕ) → q ≡ p → y ≤ x + j * p → z ≤ y + k * q → z ≤ x + (j + k) * p
+worth-both j k p q x y z same first next = let then_next = subst (λ r. z ≤ y + k * r) same next in omega (arith, first, then_next)
+
+pub Spends-trans : (j k : ℕ) (a b c : Sheet) → Spends j a b → Spends k b c → Spends (j + k) a c
+Spends-trans j k a b c s t = record {
+  price = t.price ∙ s.price;
+  programs = worth-both j k a.price.programs b.price.programs a.work.programs b.work.programs c.work.programs (ap (λ (w : Work). w.programs) s.price) s.programs t.programs;
+  erases = worth-both j k a.price.erases b.price.erases a.work.erases b.work.erases c.work.erases (ap (λ (w : Work). w.erases) s.price) s.erases t.erases;
+}
+
+-- one after the other, which are worth no more than that
+pub Spends-then : (j k n : ℕ) (a b c : Sheet) → j + k ≤ n → Spends j a b → Spends k b c → Spends n a c
+Spends-then j k n a b c le s t = Spends-more (j + k) n a c le (Spends-trans j k a b c s t)

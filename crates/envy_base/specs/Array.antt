@@ -1,6 +1,7 @@
 -- The plain array: words, and 64 slots of which each is closed, or open with a list of saved words.
 use Rattle.std.specs.Prelude.{◌≡◌, ◌≢◌, ℕ, ◌*◌, ◌/◌, ◌≤◌, ◌==◌, Bool, true, false, IsTrue, List, [], ◌∷◌, length, replicate, Option, None, Some, is_some, slice_set, slice_index, slice_index_or, count_by, position, AllPairs, if◌then◌else◌}
 use Rattle.std.specs.List.{list_any, range_with_len}
+use Rattle.envy_base.specs.declared.page.TheConstants.{PAGE_WORDS}
 
 -- pairs of an address and the word that stood there before
 abbrev pub Saved : Type 0
@@ -13,17 +14,17 @@ pub record Array : Type 0 where
   pub shadows : ℕ
 
 abbrev pub page_of : ℕ → ℕ
-page_of a = a / 32
+page_of a = a / PAGE_WORDS
 
 abbrev pub pages : Array → ℕ
-pages m = length m.words / 32
+pages m = length m.words / PAGE_WORDS
 
 abbrev pub slot_of : Array → ℕ → Option Saved
 slot_of m t = slice_index_or m.slots t None
 
 -- whether the list has an address of the page
 abbrev pub saves_in : ℕ → Saved → Bool
-saves_in p saved = list_any (λ (e : ℕ × ℕ). e.0 / 32 == p) saved
+saves_in p saved = list_any (λ (e : ℕ × ℕ). e.0 / PAGE_WORDS == p) saved
 
 abbrev pub owns : ℕ → Option Saved → Bool
 owns p None = false
@@ -79,11 +80,11 @@ restarted m = record m { words = undone m; slots = replicate 64 None }
 
 -- an array of zeros, with no slot open
 abbrev pub zeros : ℕ → ℕ → Array
-zeros pages shadows = record { words = replicate (32 * pages) 0; slots = replicate 64 None; shadows = shadows }
+zeros pages shadows = record { words = replicate (PAGE_WORDS * pages) 0; slots = replicate 64 None; shadows = shadows }
 
 -- whole pages and 64 slots; no address saved twice, no page owned twice, and no more owned than may be
 pub record IsArray (m : Array) : Type 0 where
-  pub whole : length m.words ≡ 32 * pages m
+  pub whole : length m.words ≡ PAGE_WORDS * pages m
   pub slots : length m.slots ≡ 64
   pub once : (t : ℕ) (saved : Saved) → slot_of m t ≡ Some saved → AllPairs (λ (d e : ℕ × ℕ). d.0 ≢ e.0) saved
   pub apart : (t u p : ℕ) → IsTrue (owns p (slot_of m t)) → IsTrue (owns p (slot_of m u)) → t ≡ u

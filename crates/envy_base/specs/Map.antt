@@ -1,6 +1,7 @@
 -- Where each region of the SRAM map begins, in words. Places and undos stand two to a word.
 use Rattle.std.specs.Prelude.{ℕ, ◌+◌, ◌*◌, ◌/◌}
 use Rattle.envy_base.specs.declared.shape.Shape.{Shape}
+use Rattle.envy_base.specs.declared.page.TheConstants.{PAGE_WORDS}
 
 abbrev pub slots_at : ℕ
 slots_at = 8
@@ -31,4 +32,4 @@ frames_at sh = origin_at sh + sh.rows
 
 -- the number of SRAM words
 abbrev pub words_of : Shape → ℕ
-words_of sh = frames_at sh + 32 * sh.frames
+words_of sh = frames_at sh + PAGE_WORDS * sh.frames

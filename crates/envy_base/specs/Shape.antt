@@ -1,20 +1,28 @@
 -- The sizes of a board.
-use Rattle.std.specs.Prelude.{◌+◌, ◌-◌, ◌*◌, ◌≤◌, ◌==◌, ◌||◌, nat_lt, Result, Ok, Err, if◌then◌else◌}
+use Rattle.std.specs.Prelude.{ℕ, ◌+◌, ◌-◌, ◌*◌, ◌≤◌, ◌==◌, ◌||◌, nat_lt, Result, Ok, Err, if◌then◌else◌}
 use Rattle.envy_base.specs.declared.shape.Shape.{Shape}
 use Rattle.envy_base.specs.declared.shape.ShapeFault.{ShapeFault}
 use Rattle.envy_base.specs.declared.shape.ShapeFault.TheVariants.{Segments, Rows, Pages, Frames, Entries, Share, Total}
+use Rattle.envy_base.specs.declared.shape.TheConstants.{MOST_ROWS}
 
--- the first rule that fails
-unfoldable pub checked : Shape → Result Unit ShapeFault
-checked sh =
+-- how many positions a board has: one for each segment but the spare
+abbrev pub positions_of : Shape → ℕ
+positions_of sh = sh.segments - 1
+
+-- the first rule that fails, of a board of so many rows at most
+unfoldable pub checked_within : ℕ → Shape → Result Unit ShapeFault
+checked_within most sh =
     if nat_lt sh.segments 4 || nat_lt 4096 sh.segments then Err Segments
     else (if nat_lt sh.rows 2 || nat_lt 65536 sh.rows then Err Rows
     else (if sh.pages == 0 then Err Pages
     else (if nat_lt sh.frames 2 || nat_lt 65536 sh.frames then Err Frames
     else (if sh.entries == 0 || nat_lt 65536 sh.entries then Err Entries
     else (if nat_lt ((sh.segments - 2) * sh.rows) (sh.pages + sh.shadows) then Err Share
-    else (if nat_lt 1048576 (sh.segments * sh.rows) then Err Total
+    else (if nat_lt most (sh.segments * sh.rows) then Err Total
     else Ok tt))))))
+
+abbrev pub checked : Shape → Result Unit ShapeFault
+checked sh = checked_within MOST_ROWS sh
 
 -- the sizes of a shape that checks
 pub record IsShape (sh : Shape) : Type 0 where
@@ -28,5 +36,5 @@ pub record IsShape (sh : Shape) : Type 0 where
   pub entries : 1 ≤ sh.entries
   pub few_entries : sh.entries ≤ 65536
   pub share : sh.pages + sh.shadows ≤ (sh.segments - 2) * sh.rows
-  pub few : sh.segments * sh.rows ≤ 1048576
-  pub few_pages : sh.pages + sh.shadows ≤ 1048576
+  pub few : sh.segments * sh.rows ≤ MOST_ROWS
+  pub few_pages : sh.pages + sh.shadows ≤ MOST_ROWS

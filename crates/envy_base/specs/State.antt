@@ -8,6 +8,7 @@ use Rattle.envy_base.specs.declared.board.Trouble.TheVariants.{Off as TroubleOff
 use Rattle.envy_base.specs.Counting.{up}
 use Rattle.envy_base.specs.Map.{words_of}
 use Rattle.envy_base.specs.Shape.{IsShape}
+use Rattle.envy_base.specs.declared.page.TheConstants.{PAGE_WORDS}
 
 pub record State : Type 0 where
   pub shape : Shape
@@ -32,11 +33,11 @@ abbrev pub AreWords : List ℕ → Type 0
 AreWords xs = (i : ℕ) → slice_index xs i < 2 ^ 64
 
 pub record IsPage (xs : List ℕ) : Type 0 where
-  pub long : length xs ≡ 32
+  pub long : length xs ≡ PAGE_WORDS
   pub words : AreWords xs
 
 abbrev pub ones : List ℕ
-ones = replicate 32 (2 ^ 64 - 1)
+ones = replicate PAGE_WORDS (2 ^ 64 - 1)
 
 abbrev pub IsOnes : List ℕ → Type 0
 IsOnes xs = xs ≡ ones

@@ -1,9 +1,15 @@
 -- What a memory of words with one transaction is, and what each of its calls does.
-use Rattle.std.specs.Prelude.{◌≡◌, ◌⊎◌, ℕ, ◌+◌, ◌-◌, ◌/◌, ◌^◌, ◌<◌, ◌≤◌, ◌==◌, Bool, false, IsTrue, List, [], length, slice_set, slice_index, Result, Ok, Err}
+use Rattle.std.specs.Prelude.{◌≡◌, ◌⊎◌, ℕ, ◌+◌, ◌-◌, ◌*◌, ◌/◌, ◌^◌, ◌<◌, ◌≤◌, ◌==◌, Bool, false, IsTrue, List, [], length, slice_set, slice_index, Result, Ok, Err}
 use Rattle.std.specs.List.{list_any}
 use Rattle.envy_base.specs.declared.board.Off.{Off}
 use Rattle.envy_base.specs.declared.board.Trouble.{Trouble}
 use Rattle.envy_base.specs.declared.board.Trouble.TheVariants.{Off as TroubleOff, Bad}
+use Rattle.envy_base.specs.declared.page.TheConstants.{PAGE_WORDS}
+
+-- flash operations: rows programmed, and segments erased
+pub record Work : Type 0 where
+  pub programs : ℕ
+  pub erases : ℕ
 
 pub record Sheet : Type 0 where
   -- what loads read, and what stands after power fails
@@ -17,6 +23,9 @@ pub record Sheet : Type 0 where
   pub on : Bool
   pub cuts : ℕ
   pub bads : ℕ
+  -- flash work that began, and the most that one put may begin
+  pub work : Work
+  pub price : Work
   -- further numbers of the memory, which no call of the trait changes
   pub fixed : List ℕ
 
@@ -34,6 +43,12 @@ Rose a b = a < 2 ^ 64 - 1 → a < b
 -- the page is among those put
 abbrev pub has : List ℕ → ℕ → Bool
 has pages p = list_any (λ q. q == p) pages
+
+-- No more flash work began than n puts may begin, at every exit. The price of a put stays.
+pub record Spends (n : ℕ) (old new : Sheet) : Type 0 where
+  pub price : new.price ≡ old.price
+  pub programs : new.work.programs ≤ old.work.programs + n * old.price.programs
+  pub erases : new.work.erases ≤ old.work.erases + n * old.price.erases
 
 -- Work within a transaction, at every exit: it leaves the kept words, and puts at most k pages more.
 -- Power goes only where cuts rose, and doesn't return.
@@ -61,7 +76,7 @@ Loads old a (Ok v) new = IsTrue new.on × (v ≡ slice_index old.words a) × (ne
 Loads old a (Err off) new = new.on ≡ false
 
 abbrev pub Puts : Sheet → ℕ → ℕ → Result Unit Trouble → Sheet → Type 0
-Puts old a w (Ok done) new = IsTrue new.on × (new.words ≡ slice_set old.words a w) × IsTrue (has new.pages (a / 32))
+Puts old a w (Ok done) new = IsTrue new.on × (new.words ≡ slice_set old.words a w) × IsTrue (has new.pages (a / PAGE_WORDS))
 Puts old a w (Err TroubleOff) new = new.on ≡ false
 Puts old a w (Err Bad) new = IsTrue new.on × (new.words ≡ old.words) × (new.pages ≡ old.pages) × Rose old.bads new.bads
 

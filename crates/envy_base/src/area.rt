@@ -1,6 +1,8 @@
 ghost use Rattle.std.specs.Prelude.{◌↔◌, IsTrue};
 ghost use Rattle.envy_base.specs.Area.{Fits};
 
+use crate::PAGE_WORDS;
+
 /// The records of the TPC-A load: 10 tellers to a branch, and room for the history of the transfers.
 #[derive(Clone, Copy, Debug, PartialEq, Eq)]
 pub struct Area {
@@ -23,6 +25,6 @@ impl Area {
         let history = (balances + 3) / 4 * 4;
         area.branches >= 1
             && area.accounts >= 1
-            && history + 4 * area.transfers as u128 <= 32 * pages as u128
+            && history + 4 * area.transfers as u128 <= PAGE_WORDS as u128 * pages as u128
     }
 }

@@ -1,7 +1,7 @@
 ghost use Rattle.std.specs.Prelude.{◌≡◌, ◌<◌, length, slice_index};
 ghost use Rattle.envy_base.specs.State.{State, Puts, Programs, Erases, Reads, IsBoard, row_of};
 
-use crate::Shape;
+use crate::{Page, Shape, PAGE_WORDS};
 
 /// Power failed in the call, or was off at entry.
 #[derive(Clone, Copy, Debug, PartialEq, Eq)]
@@ -33,7 +33,7 @@ pub trait Board {
     /// Word `i`, of 32, of a row.
     fn read(&self, row: u32, i: u32) -> Result<u64, Off>
         requires row { row < length (state self.now).flash }
-        requires place { i < 32 }
+        requires place { i < PAGE_WORDS }
         ensures { Reads (state self.now) (slice_index (row_of (state self.now) row) i) result };
 
     /// A word of SRAM.
@@ -42,7 +42,7 @@ pub trait Board {
         ensures { Reads (state self.now) (slice_index (state self.now).sram w) result };
 
     /// Makes a row the bitwise AND of itself and a page.
-    fn program(&mut self, row: u32, page: &[u64; 32]) -> Result<(), Trouble>
+    fn program(&mut self, row: u32, page: &Page) -> Result<(), Trouble>
         requires { row < length (state self.old).flash }
         ensures { Programs (state self.old) row page.now result (state self.new) };
 

@@ -1,5 +1,13 @@
-ghost use Rattle.std.specs.Prelude.{◌≡◌, OnOk};
-ghost use Rattle.envy_base.specs.Shape.{IsShape, checked};
+ghost use Rattle.std.specs.Prelude.{◌≡◌, ◌≤◌, OnOk};
+ghost use Rattle.envy_base.specs.Shape.{IsShape, checked, checked_within, positions_of};
+
+use crate::PAGE_WORDS;
+
+/// The most rows of a board: a place and an undo of the map hold a row below it in 32 bits.
+pub const MOST_ROWS: u32 = 16_777_216;
+
+/// The most words of an array.
+pub const MOST_WORDS: u32 = PAGE_WORDS * MOST_ROWS;
 
 /// The sizes of a board.
 #[derive(Clone, Copy, Debug, PartialEq, Eq)]
@@ -33,15 +41,24 @@ pub enum ShapeFault {
     Entries,
     /// Pages and shadows exceed the rows of all segments but two.
     Share,
-    /// More than 1,048,576 rows.
+    /// More rows than may be: 16,777,216, or fewer where the caller says so.
     Total,
 }
 
 impl Shape {
     /// Answers the first rule that fails, in the order in which `ShapeFault` lists them.
-    #[tactic(auto, unfolding(crate::specs::Shape::checked))]
     pub fn check(&self) -> Result<(), ShapeFault>
         ensures table { result ≡ checked self.now }
+        ensures sizes { OnOk result (IsShape self.now) }
+    {
+        self.check_within(MOST_ROWS)
+    }
+
+    /// Answers the first rule that fails, for a board of at most so many rows.
+    #[tactic(auto, unfolding(crate::specs::Shape::checked_within))]
+    pub fn check_within(&self, most: u32) -> Result<(), ShapeFault>
+        requires most { most ≤ MOST_ROWS }
+        ensures table { result ≡ checked_within most self.now }
         ensures sizes { OnOk result (IsShape self.now) }
     {
         let shape = *self;
@@ -65,9 +82,17 @@ impl Shape {
         {
             return Err(ShapeFault::Share);
         }
-        if shape.segments * shape.rows > 1048576 {
+        if shape.segments * shape.rows > most {
             return Err(ShapeFault::Total);
         }
         Ok(())
     }
+}
+
+/// How many positions a board of this shape has: one for each segment but the spare.
+pub fn positions_of(shape: &Shape) -> u32
+    requires some { 1 ≤ shape.now.segments }
+    ensures { result ≡ positions_of shape.now }
+{
+    shape.segments - 1
 }

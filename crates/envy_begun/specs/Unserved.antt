@@ -10,7 +10,9 @@ use Rattle.envy_journal.specs.Found.{IsDamaged}
 use Rattle.envy_journal.specs.Head.{HasNoJournal, IsOtherVersion, IsUnmade, head_bytes}
 use Rattle.envy_journal.specs.Log.{Begins}
 use Rattle.envy_journal.specs.Reading.{operations}
-use Rattle.envy_policy.specs.Setup.{checked, rule_of}
+use Rattle.envy_policy.specs.Setup.{checked}
+use Rattle.envy_args.specs.Words.{rule_within}
+use Rattle.envy_base.specs.declared.shape.TheConstants.{MOST_ROWS}
 use Rattle.envy_begun.specs.Beginning.{HasStopped, IsStopped}
 use Rattle.envy_begun.specs.Opens.{OpensAs}
 use Rattle.envy_begun.specs.declared.unbegun.Unbegun.{Unbegun}
@@ -28,7 +30,7 @@ status_for NotMade = 11
 status_for (Failed held) = 6
 
 abbrev pub why_for : Unbegun → ℕ
-why_for (Setup fault) = rule_of fault
+why_for (Setup fault) = rule_within MOST_ROWS fault
 why_for NoJournal = 6
 why_for OtherVersion = 7
 why_for OtherSizes = 8

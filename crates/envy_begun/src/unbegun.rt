@@ -1,6 +1,8 @@
 ghost use Rattle.std.specs.Prelude.{◌≡◌};
 ghost use Rattle.envy_begun.specs.Unserved.{held_for, place_for, status_for, why_for};
 
+use envy_args::rule_within;
+use envy_base::MOST_ROWS;
 use envy_policy::SetupFault;
 
 /// Why there is no memory to serve.
@@ -33,7 +35,7 @@ impl Unbegun {
         ensures why { result.1 ≡ why_for self }
     {
         match self {
-            Unbegun::Setup(fault) => (2, fault.rule()),
+            Unbegun::Setup(fault) => (2, rule_within(MOST_ROWS, &fault)),
             Unbegun::NoJournal => (10, 6),
             Unbegun::OtherVersion => (10, 7),
             Unbegun::OtherSizes => (10, 8),

@@ -6,8 +6,8 @@ ghost use Rattle.envy_base.specs.State.{IsBoard};
 ghost use Rattle.envy_bench.specs.Parts.{state_of};
 
 use crate::flash::Flash;
+use envy_base::{Bench, Board, NoMemory, Off, Page, Shape, Trouble, PlannedFault};
 use crate::plans::Plans;
-use envy_base::{Bench, Board, NoMemory, Off, PlannedFault, Shape, Trouble};
 use envy_map::words;
 use envy_power::{Event, Sram, Supply};
 use std::alloc::Global;
@@ -122,7 +122,7 @@ impl MemBoard {
     #[cold]
     #[inline(never)]
     #[tactic(auto, unfolding(envy_base::specs::Counting::up, envy_power::specs::Power::up))]
-    fn program_planned(&mut self, row: u32, page: &[u64; 32]) -> Result<(), Trouble>
+    fn program_planned(&mut self, row: u32, page: &Page) -> Result<(), Trouble>
         requires { row < length (board_state self.old).flash }
         ensures state { Programs (board_state self.old) row page.now result (board_state self.new) }
         ensures exact { IsTrue (board_state self.old).on
@@ -185,7 +185,7 @@ impl Board for MemBoard {
     }
 
     #[tactic(auto, unfolding(envy_base::specs::Counting::up, envy_power::specs::Power::up))]
-    fn program(&mut self, row: u32, page: &[u64; 32]) -> Result<(), Trouble>
+    fn program(&mut self, row: u32, page: &Page) -> Result<(), Trouble>
         requires { row < length (board_state self.old).flash }
         ensures state { Programs (board_state self.old) row page.now result (board_state self.new) }
         ensures exact { IsTrue (board_state self.old).on

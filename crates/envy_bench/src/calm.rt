@@ -6,7 +6,7 @@ ghost use Rattle.envy_bench.specs.Calm.{IsCalm};
 ghost use Rattle.envy_bench.specs.Parts.{new_state};
 
 use crate::MemBoard;
-use envy_base::{Bench, Board, Maker, NoMemory, Off, PlannedFault, Shape, Trouble};
+use envy_base::{Bench, Board, Maker, NoMemory, Off, Page, Shape, Trouble, PlannedFault};
 use std::alloc::Global;
 
 /// A board in memory. Until a failure is planned, or power is cut by hand, nothing of it fails.
@@ -52,7 +52,7 @@ impl Board for CalmBoard {
         self.board.get(w)
     }
 
-    fn program(&mut self, row: u32, page: &[u64; 32]) -> Result<(), Trouble> {
+    fn program(&mut self, row: u32, page: &Page) -> Result<(), Trouble> {
         self.board.program(row, page)
     }
 

@@ -2,6 +2,7 @@ ghost use Rattle.std.specs.Prelude.{◌≡◌, ◌*◌, ◌<◌, ◌≤◌, IfOk
 ghost use Rattle.envy_bank.specs.Rows.{IsBank, ErasesBlock, ands, erased_bank, row_of, with_row};
 ghost use Rattle.envy_bench.specs.TornRows.{torn_row, TearsRows};
 
+use envy_base::{PAGE_WORDS, Page, MOST_ROWS};
 use crate::torn::next_row;
 use envy_bank::{Bank, NoMemory};
 use envy_power::Torn;
@@ -48,7 +49,7 @@ impl Flash {
     pub fn new(alloc: Global, segments: u32, rows: u32) -> Result<Flash, NoMemory>
         requires segments { 1 ≤ segments }
         requires rows { 1 ≤ rows }
-        requires size { segments * rows ≤ 1048576 }
+        requires size { segments * rows ≤ MOST_ROWS }
         ensures erased { IfOk result (λ flash. flash ≡ erased_bank segments rows) }
         ensures whole { IfOk result IsBank }
     {
@@ -59,14 +60,14 @@ impl Flash {
     /// Word `i` of a row.
     pub fn read(&self, row: u32, i: u32) -> u64
         requires row { row < length self.now.flash }
-        requires i { i < 32 }
+        requires i { i < PAGE_WORDS }
         ensures { result ≡ slice_index (row_of self.now row) i }
     {
         self.bank.read_word(row, i)
     }
 
     /// Programs a row, which becomes its AND with the page.
-    pub fn program(&mut self, row: u32, page: &[u64; 32])
+    pub fn program(&mut self, row: u32, page: &Page)
         requires { row < length self.old.flash }
         ensures row { self.new ≡ with_row self.old row (ands (row_of self.old row) page.now) }
         ensures whole { IsBank self.new }

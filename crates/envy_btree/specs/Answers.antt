@@ -9,6 +9,13 @@ use Rattle.envy_btree.specs.declared.fault.TreeFault.TheVariants.{Off as FaultOf
 use Rattle.envy_btree.specs.Pairs.{assoc, with_pair, without}
 use Rattle.envy_btree.specs.Index.{IsIndex, most_pairs}
 
+-- The most puts that a change is worth, with the transaction that it opens as one of them.
+abbrev pub insert_puts : ℕ
+insert_puts = 842
+
+abbrev pub removal_puts : ℕ
+removal_puts = 1090
+
 -- the map has no room for this key
 abbrev pub IsFull : List ℕ → ℕ → List (ℕ × ℕ) → Type 0
 IsFull words key es = (assoc key es ≡ None) × (length es ≡ most_pairs words)

@@ -1,5 +1,5 @@
 ghost use Rattle.std.specs.Prelude.{◌≡◌, false};
-ghost use Rattle.envy_base.specs.Words.{Keeps};
+ghost use Rattle.envy_base.specs.Words.{Spends, Keeps};
 ghost use Rattle.envy_btree.specs.Answers.{Tried, Ends};
 
 use crate::fault::TreeFault;
@@ -9,6 +9,7 @@ use envy_base::{Off, Trouble, Words};
 pub(crate) fn close<W: Words>(words: &mut W, done: Result<(), Trouble>) -> Result<(), TreeFault>
     requires tried { Tried done (W.sheet words.old) }
     ensures keeps { Keeps (W.sheet words.old) (W.sheet words.new) }
+    ensures spends { Spends 0 (W.sheet words.old) (W.sheet words.new) }
     ensures shut { (W.sheet words.new).started ≡ false }
     ensures ends { Ends done (W.sheet words.old) result (W.sheet words.new) }
 {

@@ -1,5 +1,5 @@
 ghost use Rattle.std.specs.Prelude.{◌≡◌, ℕ, List, ◌+◌, ◌*◌, ◌^◌, ◌<◌, ◌≤◌, [], ◌∷◌, length, slice_index, OnOk, IsTrue};
-ghost use Rattle.envy_base.specs.Words.{Works, Fails, has};
+ghost use Rattle.envy_base.specs.Words.{Spends, Works, Fails, has};
 ghost use Rattle.envy_heap.specs.Pieces.{IsHeap, spare, one};
 ghost use Rattle.envy_btree.specs.Pairs.{with_pair};
 ghost use Rattle.envy_btree.specs.Index.{IsPlanted, most_pairs};
@@ -20,6 +20,7 @@ fn crown<W: Words>(words: &mut W, inner: bool, keys: &[u64], slots: &[u64]) -> R
     requires keys { length keys.now ≤ 31 }
     requires slots { length slots.now ≤ 32 }
     ensures works { Works 2 (W.sheet words.old) (W.sheet words.new) }
+    ensures spends { Spends 66 (W.sheet words.old) (W.sheet words.new) }
     ensures fails { Fails (W.sheet words.old) result (W.sheet words.new) }
     ensures crowned { (free : List ℕ) → IsHeap (W.sheet words.old).words free
         → OnOk result
@@ -41,6 +42,7 @@ pub(crate) fn insert_at_root<W: Words>(words: &mut W, key: u64, value: u64) -> R
     requires map { (es : List (ℕ × ℕ)) × IsPlanted (W.sheet words.old).words es
         × (length es ≤ most_pairs (W.sheet words.old).words) }
     ensures works { Works 26 (W.sheet words.old) (W.sheet words.new) }
+    ensures spends { Spends 840 (W.sheet words.old) (W.sheet words.new) }
     ensures fails { Fails (W.sheet words.old) result (W.sheet words.new) }
     ensures planted { (es : List (ℕ × ℕ)) → IsPlanted (W.sheet words.old).words es
         → length es ≤ most_pairs (W.sheet words.old).words

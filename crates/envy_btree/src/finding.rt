@@ -1,5 +1,5 @@
 ghost use Rattle.std.specs.Prelude.{◌≡◌, IfOk, MatchResult, IsTrue, OnOk, false};
-ghost use Rattle.envy_base.specs.Words.{Works};
+ghost use Rattle.envy_base.specs.Words.{Spends, Works};
 ghost use Rattle.envy_btree.specs.Pairs.{assoc};
 ghost use Rattle.envy_btree.specs.Tree.{pairs_of};
 ghost use Rattle.envy_btree.specs.Changes.{Rests};
@@ -17,6 +17,7 @@ pub(crate) fn find<W: Words>(
 ) -> Result<Option<u64>, Off>
     requires rests { Rests (W.sheet words.old).words piece level }
     ensures works { Works 0 (W.sheet words.old) (W.sheet words.new) }
+    ensures spends { Spends 0 (W.sheet words.old) (W.sheet words.new) }
     ensures answer { (t : Rests (W.sheet words.old).words piece level)
         → IfOk result (λ x. x ≡ assoc key (pairs_of t.depth t.tree)) }
     ensures same { OnOk result ((W.sheet words.new).words ≡ (W.sheet words.old).words) }

@@ -1,5 +1,5 @@
 ghost use Rattle.std.specs.Prelude.{◌≡◌, ◌≤◌, ◌^◌, ℕ, List, false, length};
-ghost use Rattle.envy_base.specs.Words.{Works};
+ghost use Rattle.envy_base.specs.Words.{Spends, Works};
 ghost use Rattle.envy_btree.specs.Answers.{Gets};
 ghost use Rattle.envy_btree.specs.Index.{IsIndex};
 
@@ -12,6 +12,7 @@ pub fn get<W: Words>(words: &mut W, key: u64) -> Result<Option<u64>, Off>
     requires size { length (W.sheet words.old).words ≤ 2 ^ 25 }
     requires map { (es : List (ℕ × ℕ)) × IsIndex (W.sheet words.old).words es }
     ensures works { Works 0 (W.sheet words.old) (W.sheet words.new) }
+    ensures spends { Spends 0 (W.sheet words.old) (W.sheet words.new) }
     ensures shut { (W.sheet words.new).started ≡ false }
     ensures gets { (es : List (ℕ × ℕ)) → IsIndex (W.sheet words.old).words es
         → Gets key es (W.sheet words.old) result (W.sheet words.new) }

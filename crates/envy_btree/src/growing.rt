@@ -1,6 +1,6 @@
 ghost use Rattle.std.specs.Prelude.{◌≡◌, ℕ, List, Bool, ◌+◌, ◌*◌, ◌<◌, ◌≤◌, length, IfOk, IsTrue, true, false};
 ghost use Rattle.std.specs.List.{insert};
-ghost use Rattle.envy_base.specs.Words.{Works, Fails, has};
+ghost use Rattle.envy_base.specs.Words.{Spends, Works, Fails, has};
 ghost use Rattle.envy_heap.specs.Pieces.{IsHeap, handed, spare, at};
 ghost use Rattle.envy_btree.specs.Pairs.{with_pair};
 ghost use Rattle.envy_btree.specs.Tree.{Rising, keys_of, values_of};
@@ -32,6 +32,7 @@ fn grow_leaf<W: Words>(
     requires long { length node.old.slots.items ≡ length node.old.keys.items }
     requires place { Ranks key node.old.keys.items i }
     ensures works { Works 4 (W.sheet words.old) (W.sheet words.new) }
+    ensures spends { Spends 129 (W.sheet words.old) (W.sheet words.new) }
     ensures fails { Fails (W.sheet words.old) result (W.sheet words.new) }
     ensures saved { (low high : ℕ) (es : List (ℕ × ℕ)) (free : List ℕ) → Rising low high es
         → node.old.keys.items ≡ keys_of es → node.old.slots.items ≡ values_of es → IsHeap (W.sheet words.old).words free
@@ -63,6 +64,7 @@ fn grow_node<W: Words>(
     requires long { length node.old.slots.items ≡ length node.old.keys.items + 1 }
     requires place { i ≤ length node.old.keys.items }
     ensures works { Works 4 (W.sheet words.old) (W.sheet words.new) }
+    ensures spends { Spends 129 (W.sheet words.old) (W.sheet words.new) }
     ensures fails { Fails (W.sheet words.old) result (W.sheet words.new) }
     ensures saved { (free : List ℕ) → IsHeap (W.sheet words.old).words free
         → handed (W.sheet words.old).words free piece ≡ 1
@@ -88,6 +90,7 @@ pub(crate) fn insert_under<W: Words>(
     requires room { length (W.sheet words.old).pages + (4 * level + 4) ≤ (W.sheet words.old).room }
     requires way { Way (W.sheet words.old).words piece level key }
     ensures works { Works (4 * level + 4) (W.sheet words.old) (W.sheet words.new) }
+    ensures spends { Spends (129 * level + 129) (W.sheet words.old) (W.sheet words.new) }
     ensures fails { Fails (W.sheet words.old) result (W.sheet words.new) }
     ensures grows { (way : Way (W.sheet words.old).words piece level key)
         → IfOk result (λ r.

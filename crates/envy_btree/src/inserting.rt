@@ -1,8 +1,8 @@
 ghost use Rattle.std.specs.Prelude.{◌≡◌, ◌≢◌, ℕ, List, ◌+◌, ◌-◌, ◌*◌, ◌/◌, ◌^◌, ◌<◌, ◌≤◌, length, slice_index, false, OnOk, MatchOption, IsTrue};
-ghost use Rattle.envy_base.specs.Words.{Works, Keeps, Fails};
+ghost use Rattle.envy_base.specs.Words.{Spends, Works, Keeps, Fails};
 ghost use Rattle.envy_btree.specs.Pairs.{with_pair};
 ghost use Rattle.envy_btree.specs.Index.{IsPlanted, IsIndex, most_pairs};
-ghost use Rattle.envy_btree.specs.Answers.{Inserts, Settles};
+ghost use Rattle.envy_btree.specs.Answers.{insert_puts, Inserts, Settles};
 
 use crate::closing::close;
 use crate::crowning::insert_at_root;
@@ -11,14 +11,15 @@ use crate::getting::get;
 use envy_base::{Trouble, Words};
 
 /// Sets the value of a key, and answers the old one. A new key is refused as `Full` where the map has
-/// `14 * (q - 8)` pairs, with `q` pieces in all. It is one transaction, which puts at most 27 pages: it
-/// needs no more room.
+/// `14 * (q - 8)` pairs, with `q` pieces in all. It is one transaction, which makes at most 841 puts, in
+/// at most 27 pages: it needs no more room.
 pub fn insert<W: Words>(words: &mut W, key: u64, value: u64) -> Result<Option<u64>, TreeFault>
     requires shut { (W.sheet words.old).started ≡ false }
     requires room { 27 ≤ (W.sheet words.old).room }
     requires size { length (W.sheet words.old).words ≤ 2 ^ 25 }
     requires map { (es : List (ℕ × ℕ)) × IsIndex (W.sheet words.old).words es }
     ensures keeps { Keeps (W.sheet words.old) (W.sheet words.new) }
+    ensures spends { Spends insert_puts (W.sheet words.old) (W.sheet words.new) }
     ensures shut { (W.sheet words.new).started ≡ false }
     ensures inserts { (es : List (ℕ × ℕ)) → IsIndex (W.sheet words.old).words es
         → Inserts key value es (W.sheet words.old) result (W.sheet words.new) }
@@ -61,6 +62,7 @@ fn insert_alone<W: Words>(words: &mut W, key: u64, value: u64, pairs: u64) -> Re
     requires size { length (W.sheet words.old).words ≤ 2 ^ 25 }
     requires map { (es : List (ℕ × ℕ)) × IsIndex (W.sheet words.old).words es }
     ensures keeps { Keeps (W.sheet words.old) (W.sheet words.new) }
+    ensures spends { Spends insert_puts (W.sheet words.old) (W.sheet words.new) }
     ensures shut { (W.sheet words.new).started ≡ false }
     ensures settles { (es : List (ℕ × ℕ)) → IsIndex (W.sheet words.old).words es
         → pairs ≡ length (with_pair key value es) → pairs ≤ most_pairs (W.sheet words.old).words
@@ -80,6 +82,7 @@ fn insert_inside<W: Words>(words: &mut W, key: u64, value: u64, pairs: u64) -> R
     requires map { (es : List (ℕ × ℕ)) × IsPlanted (W.sheet words.old).words es
         × (length es ≤ most_pairs (W.sheet words.old).words) }
     ensures works { Works 27 (W.sheet words.old) (W.sheet words.new) }
+    ensures spends { Spends 841 (W.sheet words.old) (W.sheet words.new) }
     ensures fails { Fails (W.sheet words.old) result (W.sheet words.new) }
     ensures planted { (es : List (ℕ × ℕ)) → IsPlanted (W.sheet words.old).words es
         → length es ≤ most_pairs (W.sheet words.old).words

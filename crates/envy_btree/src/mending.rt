@@ -1,5 +1,5 @@
 ghost use Rattle.std.specs.Prelude.{◌≡◌, ◌≢◌, ℕ, List, Bool, ◌+◌, ◌*◌, ◌<◌, ◌≤◌, ◌++◌, length, slice_index, OnOk, IsTrue, true, false};
-ghost use Rattle.envy_base.specs.Words.{Works, Fails};
+ghost use Rattle.envy_base.specs.Words.{Spends, Works, Fails};
 ghost use Rattle.envy_heap.specs.Pieces.{IsHeap, handed, at, one};
 ghost use Rattle.envy_btree.specs.Tree.{Shows};
 ghost use Rattle.envy_btree.specs.Changes.{joined_keys, Beside, HasPair, IsShort, Mended};
@@ -43,6 +43,7 @@ fn write_pair<W: Words>(
     requires slots { length joined.now.slots.items ≡ length joined.now.keys.items + one joined.now.inner }
 
     ensures works { Works 4 (W.sheet words.old) (W.sheet words.new) }
+    ensures spends { Spends 128 (W.sheet words.old) (W.sheet words.new) }
     ensures fails { Fails (W.sheet words.old) result (W.sheet words.new) }
     ensures kind { node.new.inner ≡ node.old.inner }
     ensures few { length node.new.keys.items ≤ length node.old.keys.items }
@@ -80,6 +81,7 @@ pub(crate) fn mend_with_front<W: Words>(
         child.now.keys.items child.now.slots.items }
 
     ensures works { Works 4 (W.sheet words.old) (W.sheet words.new) }
+    ensures spends { Spends 128 (W.sheet words.old) (W.sheet words.new) }
     ensures fails { Fails (W.sheet words.old) result (W.sheet words.new) }
     ensures kind { node.new.inner ≡ node.old.inner }
     ensures few { length node.new.keys.items ≤ length node.old.keys.items }
@@ -110,6 +112,7 @@ pub(crate) fn mend_with_rear<W: Words>(
         child.old.keys.items child.old.slots.items }
 
     ensures works { Works 4 (W.sheet words.old) (W.sheet words.new) }
+    ensures spends { Spends 128 (W.sheet words.old) (W.sheet words.new) }
     ensures fails { Fails (W.sheet words.old) result (W.sheet words.new) }
     ensures kind { node.new.inner ≡ node.old.inner }
     ensures few { length node.new.keys.items ≤ length node.old.keys.items }

@@ -1,5 +1,5 @@
 ghost use Rattle.std.specs.Prelude.{◌≡◌, ◌≤◌, length, IfOk, MatchResult, IsTrue, OnOk, false, ℕ, List};
-ghost use Rattle.envy_base.specs.Words.{Works};
+ghost use Rattle.envy_base.specs.Words.{Spends, Works};
 ghost use Rattle.envy_btree.specs.Changes.{Rests};
 ghost use Rattle.envy_btree.specs.Nearest.{first_from, last_to};
 ghost use Rattle.envy_btree.specs.Nodes.{Ranks};
@@ -19,6 +19,7 @@ pub(crate) fn find_from<W: Words>(
 ) -> Result<Option<(u64, u64)>, Off>
     requires rests { Rests (W.sheet words.old).words piece level }
     ensures works { Works 0 (W.sheet words.old) (W.sheet words.new) }
+    ensures spends { Spends 0 (W.sheet words.old) (W.sheet words.new) }
     ensures answer { (t : Rests (W.sheet words.old).words piece level)
         → IfOk result (λ x. x ≡ first_from key (pairs_of t.depth t.tree)) }
     ensures same { OnOk result ((W.sheet words.new).words ≡ (W.sheet words.old).words) }
@@ -51,6 +52,7 @@ pub(crate) fn find_to<W: Words>(
 ) -> Result<Option<(u64, u64)>, Off>
     requires rests { Rests (W.sheet words.old).words piece level }
     ensures works { Works 0 (W.sheet words.old) (W.sheet words.new) }
+    ensures spends { Spends 0 (W.sheet words.old) (W.sheet words.new) }
     ensures answer { (t : Rests (W.sheet words.old).words piece level)
         → IfOk result (λ x. x ≡ last_to key (pairs_of t.depth t.tree)) }
     ensures same { OnOk result ((W.sheet words.new).words ≡ (W.sheet words.old).words) }

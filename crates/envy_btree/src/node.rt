@@ -1,12 +1,12 @@
 ghost use Rattle.std.specs.Prelude.{◌≡◌, ℕ, List, ◌<◌, ◌≤◌, ◌+◌, ◌↔◌, length, IfOk, OnOk, MatchResult, IsTrue, ◌%◌, ◌/◌, false, slice_index, slice_set};
 ghost use Rattle.arrayvec.specs.ArrayVec.{array_vec_len};
-ghost use Rattle.envy_base.specs.Words.{Works, OnPage, Fails};
+ghost use Rattle.envy_base.specs.Words.{Spends, Works, OnPage, Fails};
 ghost use Rattle.envy_heap.specs.Pieces.{head, at, one};
 ghost use Rattle.envy_btree.specs.Tree.{window, Shows, Rising, keys_of, values_of};
 ghost use Rattle.envy_btree.specs.Nodes.{IsRead, pasted, OnlyPiece, Ranks, IsSet, IsDropped};
 
 use arrayvec::ArrayVec;
-use envy_base::{Off, Trouble, Words};
+use envy_base::{Off, PAGE_WORDS, Trouble, Words};
 
 /// A node of the tree: its keys, and its values or children.
 #[derive(Drop)]
@@ -68,6 +68,7 @@ pub(crate) fn read_list<W: Words>(words: &mut W, a: u32, n: u32) -> Result<Array
     requires few { n ≤ 64 }
     requires within { a + n ≤ length (W.sheet words.old).words }
     ensures works { Works 0 (W.sheet words.old) (W.sheet words.new) }
+    ensures spends { Spends 0 (W.sheet words.old) (W.sheet words.new) }
     ensures list { IfOk result (λ v. v.items ≡ window (W.sheet words.old).words a n) }
     ensures same { OnOk result ((W.sheet words.new).words ≡ (W.sheet words.old).words) }
     ensures power { MatchResult result (λ _. IsTrue (W.sheet words.old).on → IsTrue (W.sheet words.new).on)
@@ -86,6 +87,7 @@ pub(crate) fn read_node<W: Words>(words: &mut W, piece: u32) -> Result<Node, Off
     requires within { at piece 63 < length (W.sheet words.old).words }
     requires few { slice_index (W.sheet words.old).words (head piece) < 64 }
     ensures works { Works 0 (W.sheet words.old) (W.sheet words.new) }
+    ensures spends { Spends 0 (W.sheet words.old) (W.sheet words.new) }
     ensures node { IfOk result (λ x. IsRead (W.sheet words.old).words piece x.inner x.keys.items x.slots.items) }
     ensures same { OnOk result ((W.sheet words.new).words ≡ (W.sheet words.old).words) }
     ensures power { MatchResult result (λ _. IsTrue (W.sheet words.new).on) (λ _. (W.sheet words.new).on ≡ false) }
@@ -104,9 +106,10 @@ pub(crate) fn read_node<W: Words>(words: &mut W, piece: u32) -> Result<Node, Off
 pub(crate) fn write_list<W: Words>(words: &mut W, a: u32, list: &[u64]) -> Result<(), Trouble>
     requires begun { IsTrue (W.sheet words.old).started }
     requires within { a + length list.now ≤ length (W.sheet words.old).words }
-    requires page { a % 32 + length list.now ≤ 32 }
+    requires page { a % PAGE_WORDS + length list.now ≤ PAGE_WORDS }
     requires room { length (W.sheet words.old).pages + 1 ≤ (W.sheet words.old).room }
-    ensures works { OnPage (a / 32) (W.sheet words.old) (W.sheet words.new) }
+    ensures works { OnPage (a / PAGE_WORDS) (W.sheet words.old) (W.sheet words.new) }
+    ensures spends { Spends (length list.now) (W.sheet words.old) (W.sheet words.new) }
     ensures fails { Fails (W.sheet words.old) result (W.sheet words.new) }
     ensures list { OnOk result
         ((W.sheet words.new).words ≡ pasted a list.now (length list.now) (W.sheet words.old).words) }
@@ -132,6 +135,7 @@ pub(crate) fn write_node<W: Words>(
     requires slots { length slots.now ≤ 32 }
     requires room { length (W.sheet words.old).pages + 2 ≤ (W.sheet words.old).room }
     ensures works { Works 2 (W.sheet words.old) (W.sheet words.new) }
+    ensures spends { Spends 64 (W.sheet words.old) (W.sheet words.new) }
     ensures fails { Fails (W.sheet words.old) result (W.sheet words.new) }
     ensures node { OnOk result (Shows (W.sheet words.new).words piece (one inner) keys.now slots.now) }
     ensures only { OnOk result (OnlyPiece piece (W.sheet words.old).words (W.sheet words.new).words) }

@@ -1,8 +1,8 @@
 ghost use Rattle.std.specs.Prelude.{◌≡◌, ℕ, List, ◌+◌, ◌^◌, ◌<◌, ◌≤◌, length, slice_index, false, OnOk, IsTrue};
-ghost use Rattle.envy_base.specs.Words.{Works, Keeps, Fails};
+ghost use Rattle.envy_base.specs.Words.{Spends, Works, Keeps, Fails};
 ghost use Rattle.envy_btree.specs.Pairs.{without};
 ghost use Rattle.envy_btree.specs.Index.{IsPlanted, IsIndex, most_pairs};
-ghost use Rattle.envy_btree.specs.Answers.{Removes, Settles};
+ghost use Rattle.envy_btree.specs.Answers.{removal_puts, Removes, Settles};
 
 use crate::closing::close;
 use crate::fault::TreeFault;
@@ -10,14 +10,16 @@ use crate::getting::get;
 use crate::uprooting::remove_at_root;
 use envy_base::{Trouble, Words};
 
-/// Takes a key out of the map, and answers its value. It is one transaction, which puts at most 24
-/// pages, and needs no more room; where the map doesn't have the key there is none. It is never `Full`.
+/// Takes a key out of the map, and answers its value. It is one transaction, which makes at most 1,089
+/// puts, in at most 24 pages, and needs no more room; where the map doesn't have the key there is none. It
+/// is never `Full`.
 pub fn remove<W: Words>(words: &mut W, key: u64) -> Result<Option<u64>, TreeFault>
     requires shut { (W.sheet words.old).started ≡ false }
     requires room { 24 ≤ (W.sheet words.old).room }
     requires size { length (W.sheet words.old).words ≤ 2 ^ 25 }
     requires map { (es : List (ℕ × ℕ)) × IsIndex (W.sheet words.old).words es }
     ensures keeps { Keeps (W.sheet words.old) (W.sheet words.new) }
+    ensures spends { Spends removal_puts (W.sheet words.old) (W.sheet words.new) }
     ensures shut { (W.sheet words.new).started ≡ false }
     ensures removes { (es : List (ℕ × ℕ)) → IsIndex (W.sheet words.old).words es
         → Removes key es (W.sheet words.old) result (W.sheet words.new) }
@@ -40,6 +42,7 @@ fn remove_alone<W: Words>(words: &mut W, key: u64, pairs: u64) -> Result<(), Tre
     requires size { length (W.sheet words.old).words ≤ 2 ^ 25 }
     requires map { (es : List (ℕ × ℕ)) × IsIndex (W.sheet words.old).words es }
     ensures keeps { Keeps (W.sheet words.old) (W.sheet words.new) }
+    ensures spends { Spends removal_puts (W.sheet words.old) (W.sheet words.new) }
     ensures shut { (W.sheet words.new).started ≡ false }
     ensures settles { (es : List (ℕ × ℕ)) → IsIndex (W.sheet words.old).words es → pairs ≡ length (without key es)
         → pairs ≤ most_pairs (W.sheet words.old).words
@@ -57,6 +60,7 @@ fn remove_inside<W: Words>(words: &mut W, key: u64, pairs: u64) -> Result<(), Tr
     requires size { length (W.sheet words.old).words ≤ 2 ^ 25 }
     requires map { (es : List (ℕ × ℕ)) × IsPlanted (W.sheet words.old).words es }
     ensures works { Works 24 (W.sheet words.old) (W.sheet words.new) }
+    ensures spends { Spends 1089 (W.sheet words.old) (W.sheet words.new) }
     ensures fails { Fails (W.sheet words.old) result (W.sheet words.new) }
     ensures planted { (es : List (ℕ × ℕ)) → IsPlanted (W.sheet words.old).words es
         → OnOk result (IsPlanted (W.sheet words.new).words (without key es)

@@ -1,5 +1,5 @@
 ghost use Rattle.std.specs.Prelude.{◌≡◌, ◌≢◌, ℕ, List, ◌+◌, ◌-◌, ◌<◌, ◌≤◌, length, IsTrue, IfOk};
-ghost use Rattle.envy_base.specs.Words.{Works, Fails, has};
+ghost use Rattle.envy_base.specs.Words.{Spends, Works, Fails, has};
 ghost use Rattle.envy_heap.specs.Pieces.{IsHeap, handed, spare, at, one};
 ghost use Rattle.envy_btree.specs.Nodes.{Halves};
 ghost use Rattle.envy_btree.specs.Changes.{Saved};
@@ -24,6 +24,7 @@ pub(crate) fn save<W: Words>(
     requires keys { length node.now.keys.items ≤ 46 }
     requires slots { length node.now.slots.items ≡ length node.now.keys.items + one node.now.inner }
     ensures works { Works 4 (W.sheet words.old) (W.sheet words.new) }
+    ensures spends { Spends 129 (W.sheet words.old) (W.sheet words.new) }
     ensures fails { Fails (W.sheet words.old) result (W.sheet words.new) }
     ensures saved { (free : List ℕ) → IsHeap (W.sheet words.old).words free
         → handed (W.sheet words.old).words free piece ≡ 1
@@ -56,6 +57,7 @@ pub(crate) fn write_halves<W: Words>(
     requires few { length node.now.keys.items ≤ 46 }
     requires slots { length node.now.slots.items ≡ length node.now.keys.items + one node.now.inner }
     ensures works { Works 4 (W.sheet words.old) (W.sheet words.new) }
+    ensures spends { Spends 128 (W.sheet words.old) (W.sheet words.new) }
     ensures fails { Fails (W.sheet words.old) result (W.sheet words.new) }
     ensures halves { IfOk result (λ key.
         Halves (W.sheet words.old).words (W.sheet words.new).words first second

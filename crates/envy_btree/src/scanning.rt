@@ -1,5 +1,5 @@
 ghost use Rattle.std.specs.Prelude.{◌≡◌, ◌≤◌, ◌+◌, ◌^◌, ℕ, List, false, length};
-ghost use Rattle.envy_base.specs.Words.{Works};
+ghost use Rattle.envy_base.specs.Words.{Spends, Works};
 ghost use Rattle.envy_btree.specs.Answers.{Counts, Finds};
 ghost use Rattle.envy_btree.specs.Index.{IsIndex};
 ghost use Rattle.envy_btree.specs.Nearest.{IsLeastFrom, IsGreatestTo};
@@ -14,6 +14,7 @@ pub fn next<W: Words>(words: &mut W, key: u64) -> Result<Option<(u64, u64)>, Off
     requires size { length (W.sheet words.old).words ≤ 2 ^ 25 }
     requires map { (es : List (ℕ × ℕ)) × IsIndex (W.sheet words.old).words es }
     ensures works { Works 0 (W.sheet words.old) (W.sheet words.new) }
+    ensures spends { Spends 0 (W.sheet words.old) (W.sheet words.new) }
     ensures shut { (W.sheet words.new).started ≡ false }
     ensures finds { (es : List (ℕ × ℕ)) → IsIndex (W.sheet words.old).words es
         → Finds (IsLeastFrom key es) es result (W.sheet words.new) }
@@ -33,6 +34,7 @@ pub fn next_above<W: Words>(words: &mut W, key: u64) -> Result<Option<(u64, u64)
     requires size { length (W.sheet words.old).words ≤ 2 ^ 25 }
     requires map { (es : List (ℕ × ℕ)) × IsIndex (W.sheet words.old).words es }
     ensures works { Works 0 (W.sheet words.old) (W.sheet words.new) }
+    ensures spends { Spends 0 (W.sheet words.old) (W.sheet words.new) }
     ensures shut { (W.sheet words.new).started ≡ false }
     ensures finds { (es : List (ℕ × ℕ)) → IsIndex (W.sheet words.old).words es
         → Finds (IsLeastFrom (key + 1) es) es result (W.sheet words.new) }
@@ -48,6 +50,7 @@ fn nothing_above<W: Words>(words: &mut W) -> Result<Option<(u64, u64)>, Off>
     requires shut { (W.sheet words.old).started ≡ false }
     requires map { (es : List (ℕ × ℕ)) × IsIndex (W.sheet words.old).words es }
     ensures works { Works 0 (W.sheet words.old) (W.sheet words.new) }
+    ensures spends { Spends 0 (W.sheet words.old) (W.sheet words.new) }
     ensures shut { (W.sheet words.new).started ≡ false }
     ensures finds { (es : List (ℕ × ℕ)) → IsIndex (W.sheet words.old).words es
         → Finds (IsLeastFrom (2 ^ 64) es) es result (W.sheet words.new) }
@@ -62,6 +65,7 @@ pub fn last<W: Words>(words: &mut W, key: u64) -> Result<Option<(u64, u64)>, Off
     requires size { length (W.sheet words.old).words ≤ 2 ^ 25 }
     requires map { (es : List (ℕ × ℕ)) × IsIndex (W.sheet words.old).words es }
     ensures works { Works 0 (W.sheet words.old) (W.sheet words.new) }
+    ensures spends { Spends 0 (W.sheet words.old) (W.sheet words.new) }
     ensures shut { (W.sheet words.new).started ≡ false }
     ensures finds { (es : List (ℕ × ℕ)) → IsIndex (W.sheet words.old).words es
         → Finds (IsGreatestTo key es) es result (W.sheet words.new) }
@@ -79,6 +83,7 @@ pub fn count<W: Words>(words: &mut W) -> Result<u64, Off>
     requires shut { (W.sheet words.old).started ≡ false }
     requires map { (es : List (ℕ × ℕ)) × IsIndex (W.sheet words.old).words es }
     ensures works { Works 0 (W.sheet words.old) (W.sheet words.new) }
+    ensures spends { Spends 0 (W.sheet words.old) (W.sheet words.new) }
     ensures shut { (W.sheet words.new).started ≡ false }
     ensures counts { (es : List (ℕ × ℕ)) → IsIndex (W.sheet words.old).words es → Counts es result (W.sheet words.new) }
 {

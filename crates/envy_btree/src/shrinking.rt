@@ -1,5 +1,5 @@
 ghost use Rattle.std.specs.Prelude.{◌≡◌, ℕ, List, ◌+◌, ◌-◌, ◌*◌, ◌<◌, ◌≤◌, ◌++◌, length, slice_index, IfOk, IfSome, IsTrue, true, false};
-ghost use Rattle.envy_base.specs.Words.{Works, Fails};
+ghost use Rattle.envy_base.specs.Words.{Spends, Works, Fails};
 ghost use Rattle.envy_heap.specs.Pieces.{IsHeap, at, one};
 ghost use Rattle.envy_btree.specs.Pairs.{without};
 ghost use Rattle.envy_btree.specs.Tree.{Rising, keys_of, values_of};
@@ -20,6 +20,7 @@ fn put_back<W: Words>(words: &mut W, piece: u32, node: Node) -> Result<Option<No
     requires few { length node.keys.items ≤ 31 }
     requires slots { length node.slots.items ≤ 32 }
     ensures works { Works 2 (W.sheet words.old) (W.sheet words.new) }
+    ensures spends { Spends 64 (W.sheet words.old) (W.sheet words.new) }
     ensures fails { Fails (W.sheet words.old) result (W.sheet words.new) }
     ensures hand { IfOk result (λ r. IfSome r (λ _. Works 0 (W.sheet words.old) (W.sheet words.new))) }
     ensures back { IfOk result (λ r.
@@ -48,6 +49,7 @@ fn shrink_leaf<W: Words>(
     requires long { length node.slots.items ≡ length node.keys.items }
     requires place { Ranks key node.keys.items i }
     ensures works { Works 2 (W.sheet words.old) (W.sheet words.new) }
+    ensures spends { Spends 64 (W.sheet words.old) (W.sheet words.new) }
     ensures fails { Fails (W.sheet words.old) result (W.sheet words.new) }
     ensures hand { IfOk result (λ r. IfSome r (λ _. Works 0 (W.sheet words.old) (W.sheet words.new))) }
     ensures back { (low high : ℕ) (es : List (ℕ × ℕ)) → Rising low high es → node.keys.items ≡ keys_of es
@@ -77,6 +79,7 @@ fn shrink_with_front<W: Words>(
         child.keys.items child.slots.items }
 
     ensures works { Works 6 (W.sheet words.old) (W.sheet words.new) }
+    ensures spends { Spends 192 (W.sheet words.old) (W.sheet words.new) }
     ensures fails { Fails (W.sheet words.old) result (W.sheet words.new) }
     ensures hand { IfOk result (λ r. IfSome r (λ _. Works 4 (W.sheet words.old) (W.sheet words.new))) }
     ensures mended { (free : List ℕ) → IsHeap (W.sheet words.old).words free
@@ -107,6 +110,7 @@ fn shrink_with_rear<W: Words>(
         child.keys.items child.slots.items }
 
     ensures works { Works 6 (W.sheet words.old) (W.sheet words.new) }
+    ensures spends { Spends 192 (W.sheet words.old) (W.sheet words.new) }
     ensures fails { Fails (W.sheet words.old) result (W.sheet words.new) }
     ensures hand { IfOk result (λ r. IfSome r (λ _. Works 4 (W.sheet words.old) (W.sheet words.new))) }
     ensures mended { (free : List ℕ) → IsHeap (W.sheet words.old).words free
@@ -132,6 +136,7 @@ pub(crate) fn remove_under<W: Words>(
     requires room { length (W.sheet words.old).pages + (4 * level + 2) ≤ (W.sheet words.old).room }
     requires rests { Rests (W.sheet words.old).words piece level }
     ensures works { Works (4 * level + 2) (W.sheet words.old) (W.sheet words.new) }
+    ensures spends { Spends (192 * level + 64) (W.sheet words.old) (W.sheet words.new) }
     ensures fails { Fails (W.sheet words.old) result (W.sheet words.new) }
     ensures hand { IfOk result (λ r. IfSome r (λ _. Works (4 * level) (W.sheet words.old) (W.sheet words.new))) }
     ensures shrinks { (t : Rests (W.sheet words.old).words piece level)

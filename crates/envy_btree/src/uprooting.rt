@@ -1,5 +1,5 @@
 ghost use Rattle.std.specs.Prelude.{◌≡◌, ℕ, List, ◌+◌, ◌^◌, ◌<◌, ◌≤◌, length, slice_index, slice_set, true, OnOk, IsTrue};
-ghost use Rattle.envy_base.specs.Words.{Works, Fails};
+ghost use Rattle.envy_base.specs.Words.{Spends, Works, Fails};
 ghost use Rattle.envy_heap.specs.Pieces.{IsHeap, Freed, handed};
 ghost use Rattle.envy_btree.specs.Pairs.{without};
 ghost use Rattle.envy_btree.specs.Index.{IsPlanted};
@@ -19,6 +19,7 @@ fn uncrown<W: Words>(words: &mut W, piece: u32, node: &Node) -> Result<(), Troub
     requires child { node.now.inner ≡ true → 1 ≤ length node.now.slots.items }
     requires fits { slice_index node.now.slots.items 0 < 2 ^ 32 }
     ensures works { Works 3 (W.sheet words.old) (W.sheet words.new) }
+    ensures spends { Spends 3 (W.sheet words.old) (W.sheet words.new) }
     ensures fails { Fails (W.sheet words.old) result (W.sheet words.new) }
     ensures uncrowned { (free : List ℕ) → IsHeap (W.sheet words.old).words free
         → handed (W.sheet words.old).words free piece ≡ 1
@@ -46,6 +47,7 @@ pub(crate) fn remove_at_root<W: Words>(words: &mut W, key: u64) -> Result<(), Tr
     requires size { length (W.sheet words.old).words ≤ 2 ^ 25 }
     requires map { (es : List (ℕ × ℕ)) × IsPlanted (W.sheet words.old).words es }
     ensures works { Works 23 (W.sheet words.old) (W.sheet words.new) }
+    ensures spends { Spends 1088 (W.sheet words.old) (W.sheet words.new) }
     ensures fails { Fails (W.sheet words.old) result (W.sheet words.new) }
     ensures planted { (es : List (ℕ × ℕ)) → IsPlanted (W.sheet words.old).words es
         → OnOk result (IsPlanted (W.sheet words.new).words (without key es)

@@ -11,6 +11,7 @@ use Rattle.envy_calls.specs.Answers.{LoadsTo, PutsTo, slot_named}
 use Rattle.envy_calls.specs.Codes.{number_of}
 use Rattle.envy_calls.specs.declared.code.Code.{Code}
 use Rattle.envy_calls.specs.declared.code.Code.TheVariants.{Done, Empty, Off, Range}
+use Rattle.envy_base.specs.declared.page.TheConstants.{PAGE_WORDS}
 
 -- the first k of these words were loaded, one after another
 abbrev pub Loaded : ℕ → List ℕ → ℕ → Picture → Picture → Type 0
@@ -34,7 +35,7 @@ read_code (Err LoadRange) = Range
 
 -- there are words, and the last one's address lies past the last page
 abbrev pub GoesPast : Picture → ℕ → ℕ → Type 0
-GoesPast p a n = (0 < n) × (32 * p.chart.shape.pages < a + n)
+GoesPast p a n = (0 < n) × (PAGE_WORDS * p.chart.shape.pages < a + n)
 
 -- Each word is the array's at its address. Refused, nothing was read.
 pub record ReadsTo (p q : Picture) (a code : ℕ) (before after : List ℕ) : Type 0 where

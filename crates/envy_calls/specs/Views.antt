@@ -10,6 +10,7 @@ use Rattle.envy_memory.specs.declared.faults.LoadFault.TheVariants.{Off as LoadO
 use Rattle.envy_calls.specs.Answers.{LoadsTo, LooksAt, slot_named}
 use Rattle.envy_calls.specs.Codes.{number_of, load_code, loaded}
 use Rattle.envy_calls.specs.declared.code.Code.TheVariants.{Empty}
+use Rattle.envy_base.specs.declared.page.TheConstants.{PAGE_WORDS}
 
 -- the word at an address for slot t: the array's where t owns its page, else the one that an undoing of all open
 -- transactions would leave
@@ -21,7 +22,7 @@ Sees m t a w =
 
 -- the page's undo names the slot
 abbrev pub IsOwn : Picture → ℕ → ℕ → Type 0
-IsOwn p t a = slot_of_undo (undo p.chart.fields (a / 32)) ≡ Some t
+IsOwn p t a = slot_of_undo (undo p.chart.fields (a / PAGE_WORDS)) ≡ Some t
 
 -- A load where the slot owns the page, and else a look, which is no access to it.
 pub record ViewsTo (p q : Picture) (t a code before after : ℕ) : Type 0 where
@@ -30,7 +31,7 @@ pub record ViewsTo (p q : Picture) (t a code before after : ℕ) : Type 0 where
   pub written : after ≡ loaded before answer
   pub sees : IfOk answer (λ w. (m : Array) → Stands p.chart m → Sees m t a w)
   pub off : (answer ≡ Err LoadOff) ↔ (p.chart.on ≡ false)
-  pub range : (answer ≡ Err LoadRange) ↔ (IsTrue p.chart.on × (32 * p.chart.shape.pages ≤ a))
+  pub range : (answer ≡ Err LoadRange) ↔ (IsTrue p.chart.on × (PAGE_WORDS * p.chart.shape.pages ≤ a))
   pub own : OnOk answer (IsOwn p t a → LoadsTo p q a code before after)
   pub other : OnOk answer ((IsOwn p t a → ⊥) → (q ≡ p) × LooksAt p a code before after)
   pub refused : OnErr answer (q ≡ p)

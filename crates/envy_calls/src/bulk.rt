@@ -9,13 +9,12 @@ ghost use Rattle.envy_memory.specs.Picture.{Picture};
 use crate::code::Code;
 use crate::ending::slot_named;
 use crate::faults::put_answer;
-use crate::viewing::PAGE_WORDS;
-use envy_base::Board;
+use envy_base::{Board, PAGE_WORDS};
 use envy_memory::{LoadFault, Memory};
 
 // The addresses of a memory are far from the end of their type.
 fn addresses_fit<B: Board>(memory: &Memory<B>)
-    ensures { 32 * memory.now.chart.shape.pages < 2 ^ 32 }
+    ensures { PAGE_WORDS * memory.now.chart.shape.pages < 2 ^ 32 }
 {
     let board = memory.board();
     let _shape = board.shape();
@@ -24,7 +23,7 @@ fn addresses_fit<B: Board>(memory: &Memory<B>)
 // A word that lies within the array of a memory that has power.
 fn load_word<B: Board>(memory: &mut Memory<B>, a: u32) -> u64
     requires on { IsTrue memory.old.chart.on }
-    requires within { a < 32 * memory.old.chart.shape.pages }
+    requires within { a < PAGE_WORDS * memory.old.chart.shape.pages }
     ensures loads { LoadsTo memory.old memory.new a (number_of Done) 0 result }
     ensures kept { memory.new
         ≡ record memory.old { parts = record memory.old.parts { cache = memory.new.parts.cache } } }
@@ -38,8 +37,8 @@ fn load_word<B: Board>(memory: &mut Memory<B>, a: u32) -> u64
 // Words that lie within the array of a memory that has power.
 fn load_words<B: Board>(memory: &mut Memory<B>, a: u32, into: &mut [u64])
     requires on { IsTrue memory.old.chart.on }
-    requires within { a + length into.old ≤ 32 * memory.old.chart.shape.pages }
-    requires few { 32 * memory.old.chart.shape.pages < 2 ^ 32 }
+    requires within { a + length into.old ≤ PAGE_WORDS * memory.old.chart.shape.pages }
+    requires few { PAGE_WORDS * memory.old.chart.shape.pages < 2 ^ 32 }
     ensures long { length into.new ≡ length into.old }
     ensures loads { Loaded (length into.new) into.new a memory.old memory.new }
     ensures kept { memory.new

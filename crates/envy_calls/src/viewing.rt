@@ -8,12 +8,9 @@ ghost use Rattle.envy_calls.specs.Views.{DoesView, IsOwn, ViewsTo};
 use crate::code::Code;
 use crate::ending::slot_named;
 use crate::faults::load_answer;
-use envy_base::{Board, Undo};
+use envy_base::{Board, PAGE_WORDS, Undo};
 use envy_map::undo;
 use envy_memory::Memory;
-
-/// The words of a page.
-pub(crate) const PAGE_WORDS: u32 = 32;
 
 // The slot that an undo names.
 fn slot_of(undo: Undo) -> Option<u8>
@@ -29,8 +26,8 @@ fn slot_of(undo: Undo) -> Option<u8>
 // Whether slot `t` owns the page of an address. Without power, and past the last page, it doesn't.
 fn is_own<B: Board>(memory: &Memory<B>, t: u8, a: u32) -> bool
     ensures { MatchBool result
-        ((a < 32 * memory.now.chart.shape.pages) × IsOwn memory.now t a)
-        (IsTrue memory.now.chart.on → a < 32 * memory.now.chart.shape.pages → IsOwn memory.now t a → ⊥) }
+        ((a < PAGE_WORDS * memory.now.chart.shape.pages) × IsOwn memory.now t a)
+        (IsTrue memory.now.chart.on → a < PAGE_WORDS * memory.now.chart.shape.pages → IsOwn memory.now t a → ⊥) }
 {
     let board = memory.board();
     if a / PAGE_WORDS >= board.shape().pages {

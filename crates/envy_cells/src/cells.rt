@@ -3,19 +3,19 @@ ghost use Rattle.envy_base.specs.Map.{words_of};
 ghost use Rattle.envy_base.specs.Shape.{IsShape};
 ghost use Rattle.envy_base.specs.State.{ones};
 
-use envy_base::Shape;
+use envy_base::{PAGE_LENGTH, Page, Shape};
 use envy_map::words;
 use envy_region::RegionBoard;
 use std::alloc::{AllocError, Global};
 
 // So many rows of ones.
-fn erased(alloc: Global, rows: usize) -> Result<Vec<[u64; 32]>, AllocError>
+fn erased(alloc: Global, rows: usize) -> Result<Vec<Page>, AllocError>
     ensures { IfOk result (λ flash. flash.items ≡ replicate rows ones) }
 {
     let mut flash = Vec::with_capacity(alloc, rows)?;
     for row in 0..rows {
         let _ = row;
-        flash.push([u64::MAX; 32])?;
+        flash.push([u64::MAX; PAGE_LENGTH])?;
     }
     Ok(flash)
 }
@@ -24,7 +24,7 @@ fn erased(alloc: Global, rows: usize) -> Result<Vec<[u64; 32]>, AllocError>
 #[derive(Drop)]
 pub struct Cells {
     pub(crate) shape: Shape,
-    pub(crate) flash: Vec<[u64; 32]>,
+    pub(crate) flash: Vec<Page>,
     pub(crate) sram: Vec<u64>,
     pub(crate) erases: Vec<u64>,
 }

@@ -7,7 +7,7 @@ ghost use Rattle.envy_base.specs.State.{IsBoard, ones};
 ghost use Rattle.envy_region.specs.Region.{region_state, Erased};
 
 use crate::cells::Cells;
-use envy_base::{Board, Off, Shape, Trouble};
+use envy_base::{Board, Off, Page, Shape, Trouble};
 use envy_region::{anded, fill};
 use std::alloc::{AllocError, Global};
 
@@ -15,7 +15,7 @@ use std::alloc::{AllocError, Global};
 #[derive(Drop)]
 pub struct CellBoard {
     shape: Shape,
-    flash: Vec<[u64; 32]>,
+    flash: Vec<Page>,
     sram: Vec<u64>,
     erases: Vec<u64>,
     begun: u64,
@@ -58,7 +58,7 @@ fn more(count: u64) -> u64
 }
 
 // Makes so many rows of a table all ones.
-fn erase_rows(flash: &mut Vec<[u64; 32]>, first: usize, rows: usize)
+fn erase_rows(flash: &mut Vec<Page>, first: usize, rows: usize)
     requires { first + rows ≤ length flash.old.items }
     ensures { Erased first (first + rows) flash.old.items flash.new.items }
 {
@@ -86,7 +86,7 @@ impl Board for CellBoard {
         Ok(self.sram[w as usize])
     }
 
-    fn program(&mut self, row: u32, page: &[u64; 32]) -> Result<(), Trouble> {
+    fn program(&mut self, row: u32, page: &Page) -> Result<(), Trouble> {
         let held = self.flash[row as usize];
         let both = anded(&held, page);
         self.begun = more(self.begun);

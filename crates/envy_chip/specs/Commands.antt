@@ -1,5 +1,6 @@
 -- A flash chip by its command table: what it holds, and what each byte that is written to it does.
 use Rattle.std.specs.Prelude.{◌≡◌, ℕ, ◌+◌, ◌*◌, ◌/◌, ◌≤◌, ◌==◌, Bool, true, false, if◌then◌else◌, List, ◌++◌, take, drop, replicate, slice_index, slice_set, bit_and, length}
+use Rattle.envy_chip.specs.declared.chip.TheConstants.{MOST_BYTES}
 use Rattle.envy_chip.specs.declared.chip.Mode.{Mode}
 use Rattle.envy_chip.specs.declared.chip.Mode.TheVariants.{Array, Status, ProgramSetup, EraseSetup}
 
@@ -76,4 +77,4 @@ pub record IsChip (bytes : List ℕ) (rows : ℕ) : Type 0 where
   pub blocks : ℕ
   pub whole : length bytes ≡ blocks * rows
   pub some_rows : 1 ≤ rows
-  pub few : length bytes ≤ 1048576
+  pub few : length bytes ≤ MOST_BYTES

@@ -7,6 +7,9 @@ use std::marker::Model;
 /// Want of memory.
 pub type NoMemory = AllocError;
 
+/// The most bytes of a chip.
+pub const MOST_BYTES: u32 = 1_048_576;
+
 /// The command that makes the next write program a byte.
 pub const PROGRAM_SETUP: u8 = 0x40;
 /// The command that makes the next write confirm, or cancel, the erase of a block.
@@ -67,7 +70,7 @@ impl Chip {
     pub fn new(alloc: Global, blocks: u32, rows: u32) -> Result<Chip, NoMemory>
         requires blocks { 1 ≤ blocks }
         requires rows { 1 ≤ rows }
-        requires size { blocks * rows ≤ 1048576 }
+        requires size { blocks * rows ≤ MOST_BYTES }
         ensures { IfOk result (λ chip. chip ≡ erased_chip blocks rows) }
     {
         Ok(Chip {

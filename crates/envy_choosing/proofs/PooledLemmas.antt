@@ -28,7 +28,7 @@ few f n most all k = elim (cases_lt k n) [
   | inr past ↦ let none = get_or_past (rows_of f n) k 0 (omega (arith, past, long f n)) in omega (arith, none)
 ]
 
-rows-few : (pool : Pool) → IsPool pool → pool.shape.rows ≤ 1048576
+rows-few : (pool : Pool) → IsPool pool → pool.shape.rows ≤ 16777216
 rows-few pool whole = let shape = whole.shape in let most = shape.few_rows in omega (arith, most)
 
 -- what the pool counts are counts of as many positions
@@ -37,8 +37,8 @@ counted pool positions whole is = record {
   free = long (free_at pool) (pool.shape.segments - 1) ∙ sym is;
   dead = long (dead_at pool) (pool.shape.segments - 1) ∙ sym is;
   kept = long (kept_at pool) (pool.shape.segments - 1) ∙ sym is;
-  few_dead = few (dead_at pool) (pool.shape.segments - 1) 1048576 (λ k lt. let fit = whole.fills_fit (slice_index pool.positions k) in let rows = rows-few pool whole in omega (arith, fit, rows));
-  few_kept = few (kept_at pool) (pool.shape.segments - 1) 1048576 (λ k lt. let fit = whole.fills_fit (slice_index pool.positions k) in let less = whole.kept_fit (slice_index pool.positions k) in let rows = rows-few pool whole in omega (arith, fit, less, rows));
+  few_dead = few (dead_at pool) (pool.shape.segments - 1) 16777216 (λ k lt. let fit = whole.fills_fit (slice_index pool.positions k) in let rows = rows-few pool whole in omega (arith, fit, rows));
+  few_kept = few (kept_at pool) (pool.shape.segments - 1) 16777216 (λ k lt. let fit = whole.fills_fit (slice_index pool.positions k) in let less = whole.kept_fit (slice_index pool.positions k) in let rows = rows-few pool whole in omega (arith, fit, less, rows));
 }
 
 -- some position has a free or a dead row

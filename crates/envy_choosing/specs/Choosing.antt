@@ -6,16 +6,17 @@ use Rattle.envy_policy.specs.Choice.{IsChoice, IsUsable}
 use Rattle.envy_policy.specs.History.{History, partition_of}
 use Rattle.envy_policy.specs.Lifetime.{RowCounts, IsLifetimeChoice}
 use Rattle.envy_space.specs.Pool.{Pool, free_at, dead_at}
+use Rattle.envy_base.specs.Shape.{positions_of}
 
 -- the free, the dead, and the kept rows at each position
 abbrev pub frees : Pool → List ℕ
-frees pool = map (free_at pool) (range_with_len 0 (pool.shape.segments - 1))
+frees pool = map (free_at pool) (range_with_len 0 (positions_of pool.shape))
 
 abbrev pub deads : Pool → List ℕ
-deads pool = map (dead_at pool) (range_with_len 0 (pool.shape.segments - 1))
+deads pool = map (dead_at pool) (range_with_len 0 (positions_of pool.shape))
 
 abbrev pub kepts : Pool → List ℕ
-kepts pool = map (λ k. slice_index pool.kept (slice_index pool.positions k)) (range_with_len 0 (pool.shape.segments - 1))
+kepts pool = map (λ k. slice_index pool.kept (slice_index pool.positions k)) (range_with_len 0 (positions_of pool.shape))
 
 abbrev pub counts_in : Pool → RowCounts
 counts_in pool = record { free = frees pool; dead = deads pool; kept = kepts pool }
@@ -44,7 +45,7 @@ pub record IsAbove (h : History) (pool : Pool) (own g : ℕ) : Type 0 where
 
 -- position k of partition g has a free row, and another segment stands there than the avoided one
 pub record IsFreeBeside (h : History) (pool : Pool) (g : ℕ) (avoided : Option ℕ) (k : ℕ) : Type 0 where
-  pub position : k < pool.shape.segments - 1
+  pub position : k < positions_of pool.shape
   pub near : partition_of h k ≡ g
   pub free : 0 < free_at pool k
   pub other : avoided ≢ Some (slice_index pool.positions k)

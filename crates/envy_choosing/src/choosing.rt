@@ -4,6 +4,7 @@ ghost use Rattle.envy_space.specs.Pool.{free_at, dead_at};
 ghost use Rattle.envy_choosing.specs.Choosing.{ChoiceFor, IsAbove, IsBelow, IsFreeBeside, IsUsableIn, deads, frees};
 ghost use Rattle.envy_policy.specs.History.{IsHistory, partition_of};
 ghost use Rattle.envy_policy.specs.Setup.{victims_of};
+ghost use Rattle.envy_base.specs.Shape.{positions_of};
 
 use crate::pooled::choose_by_lives;
 use envy_policy::{Choice, Chooser, Victims, nearer};
@@ -13,10 +14,10 @@ use envy_space::Space;
 /// the pages' copies, else by the home.
 #[inline(always)]
 pub fn choose_row(space: &Space, chooser: &Chooser, home: u32, page: u32) -> Choice
-    requires positions { chooser.now.positions ≡ space.now.shape.segments - 1 }
-    requires home { home < space.now.shape.segments - 1 }
+    requires positions { chooser.now.positions ≡ positions_of space.now.shape }
+    requires home { home < positions_of space.now.shape }
     requires page { page < chooser.now.pages }
-    requires some { (k : ℕ) × (k < space.now.shape.segments - 1) × (0 < free_at space.now k + dead_at space.now k) }
+    requires some { (k : ℕ) × (k < positions_of space.now.shape) × (0 < free_at space.now k + dead_at space.now k) }
     ensures { ChoiceFor chooser.now space.now home page result }
 {
     match chooser.lives() {
@@ -28,9 +29,9 @@ pub fn choose_row(space: &Space, chooser: &Chooser, home: u32, page: u32) -> Cho
 /// The choice by the home. Where a row is free in the page's own partition nothing else is asked.
 #[inline(always)]
 fn choose_near(space: &Space, chooser: &Chooser, home: u32) -> Choice
-    requires positions { chooser.now.positions ≡ space.now.shape.segments - 1 }
-    requires home { home < space.now.shape.segments - 1 }
-    requires some { (k : ℕ) × (k < space.now.shape.segments - 1) × (0 < free_at space.now k + dead_at space.now k) }
+    requires positions { chooser.now.positions ≡ positions_of space.now.shape }
+    requires home { home < positions_of space.now.shape }
+    requires some { (k : ℕ) × (k < positions_of space.now.shape) × (0 < free_at space.now k + dead_at space.now k) }
     ensures { IsChoice chooser.now (frees space.now) (deads space.now) home result }
 {
     let own = chooser.partition_of(home);
@@ -44,7 +45,7 @@ fn choose_near(space: &Space, chooser: &Chooser, home: u32) -> Choice
 #[cold]
 #[inline(never)]
 fn free_or_clean(space: &Space, chooser: &Chooser, partition: u32) -> Choice
-    requires positions { chooser.now.positions ≡ space.now.shape.segments - 1 }
+    requires positions { chooser.now.positions ≡ positions_of space.now.shape }
     requires partition { partition < length chooser.now.heats }
     requires usable { IsUsableIn chooser.now space.now partition }
     ensures { (home : ℕ) → IsNearest chooser.now (frees space.now) (deads space.now) home partition
@@ -61,7 +62,7 @@ fn free_or_clean(space: &Space, chooser: &Chooser, partition: u32) -> Choice
 
 /// The lowest position of a partition that has a free row.
 fn free_in(space: &Space, chooser: &Chooser, partition: u32) -> Option<u32>
-    requires positions { chooser.now.positions ≡ space.now.shape.segments - 1 }
+    requires positions { chooser.now.positions ≡ positions_of space.now.shape }
     requires partition { partition < length chooser.now.heats }
     ensures { MatchOption result
         ((k : ℕ) → HasRows chooser.now (frees space.now) partition k → ⊥)
@@ -74,8 +75,8 @@ fn free_in(space: &Space, chooser: &Chooser, partition: u32) -> Option<u32>
 /// The lowest position of a home's partition that has a free row and where another segment stands than the
 /// avoided one.
 pub fn free_beside(space: &Space, chooser: &Chooser, home: u32, avoided: Option<u32>) -> Option<u32>
-    requires positions { chooser.now.positions ≡ space.now.shape.segments - 1 }
-    requires home { home < space.now.shape.segments - 1 }
+    requires positions { chooser.now.positions ≡ positions_of space.now.shape }
+    requires home { home < positions_of space.now.shape }
     ensures { MatchOption result
         ((k : ℕ) → IsFreeBeside chooser.now space.now (partition_of chooser.now home) avoided k → ⊥)
         (IsLeast (IsFreeBeside chooser.now space.now (partition_of chooser.now home) avoided) (λ k. k)) }
@@ -90,7 +91,7 @@ pub fn free_beside(space: &Space, chooser: &Chooser, home: u32, avoided: Option<
 
 /// Whether a partition has a free or a dead row.
 fn is_usable(space: &Space, chooser: &Chooser, partition: u32) -> bool
-    requires positions { chooser.now.positions ≡ space.now.shape.segments - 1 }
+    requires positions { chooser.now.positions ≡ positions_of space.now.shape }
     requires partition { partition < length chooser.now.heats }
     ensures usable { IsTrue result ↔ IsUsableIn chooser.now space.now partition }
     ensures whole { IsHistory chooser.now }
@@ -103,9 +104,9 @@ fn is_usable(space: &Space, chooser: &Chooser, partition: u32) -> bool
 #[cold]
 #[inline(never)]
 fn nearest(space: &Space, chooser: &Chooser, home: u32) -> u32
-    requires positions { chooser.now.positions ≡ space.now.shape.segments - 1 }
-    requires home { home < space.now.shape.segments - 1 }
-    requires some { (k : ℕ) × (k < space.now.shape.segments - 1) × (0 < free_at space.now k + dead_at space.now k) }
+    requires positions { chooser.now.positions ≡ positions_of space.now.shape }
+    requires home { home < positions_of space.now.shape }
+    requires some { (k : ℕ) × (k < positions_of space.now.shape) × (0 < free_at space.now k + dead_at space.now k) }
     ensures nearest { IsNearest chooser.now (frees space.now) (deads space.now) home result }
     ensures counted { result < length chooser.now.heats }
 {
@@ -118,7 +119,7 @@ fn nearest(space: &Space, chooser: &Chooser, home: u32) -> u32
 
 /// The nearest usable partition below another.
 fn below(space: &Space, chooser: &Chooser, own: u32) -> Option<u32>
-    requires positions { chooser.now.positions ≡ space.now.shape.segments - 1 }
+    requires positions { chooser.now.positions ≡ positions_of space.now.shape }
     requires own { own < length chooser.now.heats }
     ensures { MatchOption result
         ((y : ℕ) → y < own → IsUsableIn chooser.now space.now y → ⊥)
@@ -133,7 +134,7 @@ fn below(space: &Space, chooser: &Chooser, own: u32) -> Option<u32>
 
 /// The nearest usable partition above another.
 fn above(space: &Space, chooser: &Chooser, own: u32) -> Option<u32>
-    requires positions { chooser.now.positions ≡ space.now.shape.segments - 1 }
+    requires positions { chooser.now.positions ≡ positions_of space.now.shape }
     requires own { own < length chooser.now.heats }
     ensures { MatchOption result
         ((y : ℕ) → own < y → IsUsableIn chooser.now space.now y → ⊥)
@@ -148,7 +149,7 @@ fn above(space: &Space, chooser: &Chooser, own: u32) -> Option<u32>
 
 /// The position of a partition with dead rows that is cleaned.
 fn victim(space: &Space, chooser: &Chooser, partition: u32) -> u32
-    requires positions { chooser.now.positions ≡ space.now.shape.segments - 1 }
+    requires positions { chooser.now.positions ≡ positions_of space.now.shape }
     requires partition { partition < length chooser.now.heats }
     requires some { (k : ℕ) × HasRows chooser.now (deads space.now) partition k }
     ensures { IsVictim (victims_of chooser.now.policy) chooser.now (deads space.now) partition result }
@@ -161,7 +162,7 @@ fn victim(space: &Space, chooser: &Chooser, partition: u32) -> u32
 
 /// The position of a partition with most dead rows, the lowest of several.
 fn most_dead(space: &Space, chooser: &Chooser, partition: u32) -> Option<u32>
-    requires positions { chooser.now.positions ≡ space.now.shape.segments - 1 }
+    requires positions { chooser.now.positions ≡ positions_of space.now.shape }
     requires partition { partition < length chooser.now.heats }
     ensures { MatchOption result
         ((k : ℕ) → HasRows chooser.now (deads space.now) partition k → ⊥)
@@ -173,7 +174,7 @@ fn most_dead(space: &Space, chooser: &Chooser, partition: u32) -> Option<u32>
 
 /// The next position of a partition, in turn, that has a dead row.
 fn next_in_turn(space: &Space, chooser: &Chooser, partition: u32) -> Option<u32>
-    requires positions { chooser.now.positions ≡ space.now.shape.segments - 1 }
+    requires positions { chooser.now.positions ≡ positions_of space.now.shape }
     requires partition { partition < length chooser.now.heats }
     ensures { MatchOption result
         ((k : ℕ) → HasRows chooser.now (deads space.now) partition k → ⊥)

@@ -3,7 +3,7 @@ ghost use Rattle.envy_base.specs.Shape.{IsShape};
 ghost use Rattle.envy_base.specs.State.{State, IsBoard, Reads, row_of, pull, lit, planned};
 ghost use Rattle.envy_counted.specs.AnyBoard.{AnyPuts, AnyPrograms, AnyErases, IsAnyMade};
 
-use envy_base::{NoMemory, Off, PlannedFault, Shape, Trouble};
+use envy_base::{NoMemory, Off, PAGE_WORDS, Page, Shape, Trouble, PlannedFault};
 use std::alloc::Global;
 
 /// A board that keeps the least that is asked of one: flash in rows of one page, battery-backed SRAM
@@ -23,7 +23,7 @@ pub trait AnyBoard {
     /// Word `i`, of 32, of a row.
     fn read(&self, row: u32, i: u32) -> Result<u64, Off>
         requires row { row < length (state self.now).flash }
-        requires place { i < 32 }
+        requires place { i < PAGE_WORDS }
         ensures { Reads (state self.now) (slice_index (row_of (state self.now) row) i) result };
 
     /// A word of SRAM.
@@ -32,7 +32,7 @@ pub trait AnyBoard {
         ensures { Reads (state self.now) (slice_index (state self.now).sram w) result };
 
     /// Makes a row the bitwise AND of itself and a page.
-    fn program(&mut self, row: u32, page: &[u64; 32]) -> Result<(), Trouble>
+    fn program(&mut self, row: u32, page: &Page) -> Result<(), Trouble>
         requires { row < length (state self.old).flash }
         ensures { AnyPrograms (state self.old) row page.now result (state self.new) };
 

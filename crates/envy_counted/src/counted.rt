@@ -4,7 +4,7 @@ ghost use Rattle.envy_counted.specs.AnyBoard.{with_failures};
 ghost use Rattle.envy_counted.specs.Counted.{TellsNoMore};
 
 use crate::{AnyBench, AnyBoard};
-use envy_base::{Bench, Board, Off, Shape, Trouble};
+use envy_base::{Bench, Board, Off, Page, Shape, Trouble};
 
 /// A board over any: its counts of failures are those of the answers that it gave.
 #[derive(Drop)]
@@ -82,7 +82,7 @@ impl<B: AnyBoard> Board for Counted<B> {
         self.board.get(w)
     }
 
-    fn program(&mut self, row: u32, page: &[u64; 32]) -> Result<(), Trouble> {
+    fn program(&mut self, row: u32, page: &Page) -> Result<(), Trouble> {
         let on = self.board.powered();
         let answer = self.board.program(row, page);
         if let Err(trouble) = answer {

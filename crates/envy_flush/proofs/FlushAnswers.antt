@@ -81,7 +81,7 @@ pub has-page : (f : Fields) (flash : List (List ℕ)) (p k q : ℕ) → place f 
 has-page f flash p k q here copy j low = copy j low ∙ ap (λ (x : Option Place). word_at f.frames flash x j) (sym here)
 
 -- a row is one of few
-pub row-few : (sh : Shape) (q : ℕ) → IsShape sh → q < sh.segments * sh.rows → q < 1048576
+pub row-few : (sh : Shape) (q : ℕ) → IsShape sh → q < sh.segments * sh.rows → q < 16777216
 row-few sh q is range = let few = IsShape.few is in omega arith
 
 -- it may be programmed

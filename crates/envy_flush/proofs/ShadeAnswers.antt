@@ -85,5 +85,5 @@ parts-filled x y z first second =
     ∙ ap (λ (o : Order). record x { frames = o; cache = z.cache }) (sym (ap (λ (v : Parts). v.frames) second))
 
 -- the row of a shadow has a code
-pub row-code : (sh : Shape) (q : ℕ) → IsShape sh → q < sh.segments * sh.rows → q < 1048576
+pub row-code : (sh : Shape) (q : ℕ) → IsShape sh → q < sh.segments * sh.rows → q < 16777216
 row-code sh q shape range = let few = shape.few in omega arith

@@ -9,10 +9,11 @@ use Rattle.envy_table.specs.Agreement.{AreCurrent}
 use Rattle.envy_layout.specs.Naming.{AreParted}
 use Rattle.envy_reloc.specs.Plan.{IsPlanOf}
 use Rattle.envy_flush.specs.declared.parts.Parts.{Parts}
+use Rattle.envy_base.specs.Shape.{positions_of}
 
 -- the stages that are left of a swap are positions, two at most
 pub record AreStages (sh : Shape) (stages : List ℕ) : Type 0 where
-  pub within : All (λ k. k < sh.segments - 1) stages
+  pub within : All (λ k. k < positions_of sh) stages
   pub few : length stages ≤ 2
 
 -- the parts have the sizes of the board, with power or without
@@ -20,7 +21,7 @@ pub record Fits (sh : Shape) (x : Parts) : Type 0 where
   pub pool : x.space.shape ≡ sh
   pub frames : x.frames.count ≡ sh.frames
   pub entries : length x.cache.entries ≡ sh.entries
-  pub positions : x.chooser.positions ≡ sh.segments - 1
+  pub positions : x.chooser.positions ≡ positions_of sh
   pub pages : x.chooser.pages ≡ sh.pages
   pub stages : AreStages sh x.stages
 

@@ -24,6 +24,7 @@ use Rattle.envy_flush.specs.Cleaning.{CleansAll, StopsClean}
 use Rattle.envy_flush.specs.Leaving.{CountsBad}
 use Rattle.envy_flush.specs.Steps.{Finishes, StopsStep}
 use Rattle.envy_flush.specs.declared.parts.Parts.{Parts}
+use Rattle.envy_base.specs.Shape.{positions_of}
 
 -- row q was claimed for page p, no page names it, and it stays where it is until a page does
 pub record Granted (sh : Shape) (f : Fields) (p q : ℕ) : Type 0 where
@@ -110,7 +111,7 @@ IsBusy c x = (c.fields.job ≢ Some Idle) ⊎ (0 < length x.stages)
 
 -- position k lies in the partition of this home, and has a free row that the job leaves free
 pub record IsAvailable (h : History) (home : ℕ) (c : Chart) (k : ℕ) : Type 0 where
-  pub position : k < c.shape.segments - 1
+  pub position : k < positions_of c.shape
   pub near : partition_of h k ≡ partition_of h home
   pub room : slice_index c.fields.fills (slice_index c.fields.positions k) < c.shape.rows
   pub free : IsFreeOf c.fields.job (slice_index c.fields.positions k)
@@ -125,8 +126,8 @@ pub record IsLowestNear (h : History) (home : ℕ) (c : Chart) (k : ℕ) : Type 
 -- the position whose rows the job takes away, or none
 abbrev pub IsEmptied : Chart → Option ℕ → Type 0
 IsEmptied c emptied = MatchOption emptied
-    ((k : ℕ) → k < c.shape.segments - 1 → IsFreeOf c.fields.job (slice_index c.fields.positions k))
-    (λ k. (k < c.shape.segments - 1) × (IsFreeOf c.fields.job (slice_index c.fields.positions k) → ⊥))
+    ((k : ℕ) → k < positions_of c.shape → IsFreeOf c.fields.job (slice_index c.fields.positions k))
+    (λ k. (k < positions_of c.shape) × (IsFreeOf c.fields.job (slice_index c.fields.positions k) → ⊥))
 
 -- where lives are noted, this is the position for the page beside the job
 abbrev pub GoesBeside : Notes → Pool → ℕ → Chart → Option ℕ → Type 0

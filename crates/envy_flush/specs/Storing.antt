@@ -20,6 +20,8 @@ use Rattle.envy_flush.specs.Flushing.{MakesRoom}
 use Rattle.envy_layout.specs.Naming.{AreParted}
 use Rattle.envy_reloc.specs.Plan.{IsPlanOf}
 use Rattle.envy_flush.specs.declared.parts.Parts.{Parts}
+use Rattle.envy_base.specs.declared.page.TheConstants.{PAGE_WORDS}
+use Rattle.envy_base.specs.Shape.{positions_of}
 
 -- a word that a restart keeps
 abbrev pub Wrote : ℕ → ℕ → Chart → ℕ → ℕ → Result Unit Trouble → Chart → Type 0
@@ -80,13 +82,13 @@ pub record Lands (c : Chart) (p k : ℕ) (from : Place) : Type 0 where
 -- word i of them changed
 pub record FillsFrame (p : ℕ) (from : Place) (i w : ℕ) (old : Chart) (was : Parts) (new : Chart) (now : Parts) (k : ℕ) : Type 0 where
   pub words : List ℕ
-  pub fields : new ≡ with_fields old (with_frame k words 32 old.fields)
+  pub fields : new ≡ with_fields old (with_frame k words PAGE_WORDS old.fields)
   pub range : k < old.shape.frames
   pub unheld : IsUnheld was.frames.held k
   pub unnamed : IsUnnamed new.fields k
   pub copy : HasChanged new.fields new.flash p (Frame k) i w
   pub home : ℕ
-  pub within : home < old.shape.segments - 1
+  pub within : home < positions_of old.shape
   pub homed : IsHome old.shape old.fields p from home
   pub held : now.frames.held ≡ was.frames.held ++ (record { frame = k; page = p; home = home }) ∷ []
 

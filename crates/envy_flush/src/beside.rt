@@ -5,6 +5,7 @@ ghost use Rattle.envy_layout.specs.Sound.{IsSound};
 ghost use Rattle.envy_reloc.specs.Plan.{IsFreeOf};
 ghost use Rattle.envy_flush.specs.Agreement.{Ready};
 ghost use Rattle.envy_flush.specs.Flushing.{GoesBeside, IsEmptied, IsLowestAvailable, IsLowestNear, IsNoneAvailable, IsNoneNear};
+ghost use Rattle.envy_base.specs.Shape.{positions_of};
 
 use crate::parts::Parts;
 use envy_base::{Board, Job, Off};
@@ -34,7 +35,7 @@ fn relocated<B: Board>(board: &B) -> Result<Option<u32>, Off>
 fn emptied<B: Board>(board: &B, parts: &Parts) -> Result<Option<u32>, Off>
     requires ready { Ready (chart (B.state board.now)) parts.now }
     ensures emptied { IfOk result (IsEmptied (chart (B.state board.now))) }
-    ensures others { IfOk result (λ found. (k : ℕ) → k < (B.state board.now).shape.segments - 1 → found ≢ Some k
+    ensures others { IfOk result (λ found. (k : ℕ) → k < positions_of (B.state board.now).shape → found ≢ Some k
         → IsFreeOf (chart (B.state board.now)).fields.job (slice_index parts.now.space.positions k)) }
     ensures off { OnErr result ((B.state board.now).on ≡ false) }
 {
@@ -47,9 +48,9 @@ fn emptied<B: Board>(board: &B, parts: &Parts) -> Result<Option<u32>, Off>
 /// The lowest position of the home partition that has a free row which the job leaves free.
 fn usable_near<B: Board>(board: &B, parts: &Parts, home: u32) -> Result<Option<u32>, Off>
     requires ready { Ready (chart (B.state board.now)) parts.now }
-    requires home { home < (B.state board.now).shape.segments - 1 }
+    requires home { home < positions_of (B.state board.now).shape }
 
-    ensures within { IfOk result (λ found. IfSome found (λ k. k < (B.state board.now).shape.segments - 1)) }
+    ensures within { IfOk result (λ found. IfSome found (λ k. k < positions_of (B.state board.now).shape)) }
     ensures room { IfOk result (λ found.
         IfSome found (λ k. slice_index parts.now.space.fills (slice_index parts.now.space.positions k)
         < (B.state board.now).shape.rows)) }
@@ -72,10 +73,10 @@ fn usable_by_lives<B: Board>(
     page: u32,
 ) -> Result<Option<u32>, Off>
     requires ready { Ready (chart (B.state board.now)) parts.now }
-    requires positions { length lives.now.cleaned ≡ parts.now.space.shape.segments - 1 }
+    requires positions { length lives.now.cleaned ≡ positions_of parts.now.space.shape }
     requires page { page < length lives.now.born }
 
-    ensures within { IfOk result (λ found. IfSome found (λ k. k < (B.state board.now).shape.segments - 1)) }
+    ensures within { IfOk result (λ found. IfSome found (λ k. k < positions_of (B.state board.now).shape)) }
     ensures room { IfOk result (λ found.
         IfSome found (λ k. slice_index parts.now.space.fills (slice_index parts.now.space.positions k)
         < (B.state board.now).shape.rows)) }
@@ -91,10 +92,10 @@ fn usable_by_lives<B: Board>(
 /// The position for a page with this home beside the job, or none: then job and stages are finished first.
 pub fn usable<B: Board>(board: &B, parts: &Parts, home: u32, page: u32) -> Result<Option<u32>, Off>
     requires ready { Ready (chart (B.state board.now)) parts.now }
-    requires home { home < (B.state board.now).shape.segments - 1 }
+    requires home { home < positions_of (B.state board.now).shape }
     requires page { page < (B.state board.now).shape.pages }
 
-    ensures within { IfOk result (λ found. IfSome found (λ k. k < (B.state board.now).shape.segments - 1)) }
+    ensures within { IfOk result (λ found. IfSome found (λ k. k < positions_of (B.state board.now).shape)) }
     ensures room { IfOk result (λ found.
         IfSome found (λ k. slice_index parts.now.space.fills (slice_index parts.now.space.positions k)
         < (B.state board.now).shape.rows)) }

@@ -14,7 +14,7 @@ ghost use Rattle.envy_layout.specs.Power.{power_of};
 use crate::homes::home_of;
 use crate::page::read_words;
 use crate::parts::Parts;
-use envy_base::{Board, Off, Place};
+use envy_base::{Board, Off, PAGE_LENGTH, PAGE_WORDS, Place};
 use envy_layout::{move_to_frame, write_free_frame};
 use envy_map::place;
 use envy_space::Space;
@@ -31,7 +31,7 @@ pub fn fill_frame<B: Board>(
 ) -> Result<u32, Off>
     requires ready { Ready (chart (B.state board.old)) parts.old }
     requires page { page < (B.state board.old).shape.pages }
-    requires word { i < 32 }
+    requires word { i < PAGE_WORDS }
     requires room { length parts.old.frames.held < parts.old.frames.count }
     requires here { place_of (chart (B.state board.old)).fields page ≡ Some from }
     requires elsewhere { IsElsewhere (Some from) }
@@ -44,7 +44,7 @@ pub fn fill_frame<B: Board>(
     ensures power { (B.state board.new).on ≡ power_of result }
 {
     let home = home_of(board, parts, page, from)?;
-    let mut words = [0; 32];
+    let mut words = [0; PAGE_LENGTH];
     read_words(board, from, &mut words)?;
     words[i as usize] = w;
     let Some(frame) = parts.frames.take(page, home) else {
@@ -76,19 +76,19 @@ fn move_in<B: Board>(
     w: u64,
 ) -> Result<(), Off>
     requires near { Near (chart (B.state board.old)) parts.old page frame from }
-    requires word { i < 32 }
+    requires word { i < PAGE_WORDS }
     requires copy { HasChanged (chart (B.state board.old)).fields (B.state board.old).flash page
         (Place.Frame frame) i w }
 
     ensures free { let old = chart (B.state board.old) in
         let new = chart (B.state board.new) in
         owned_by old.fields.slots (undo_of old.fields page) ≡ false
-        → MatchResult result (λ _. Stored 0 0 old new (32 * page + i) w) (λ _.
-        Interrupted 0 0 old new (32 * page + i) w) }
+        → MatchResult result (λ _. Stored 0 0 old new (PAGE_WORDS * page + i) w) (λ _.
+        Interrupted 0 0 old new (PAGE_WORDS * page + i) w) }
     ensures owned { let old = chart (B.state board.old) in
         let new = chart (B.state board.new) in
         owned_by old.fields.slots (undo_of old.fields page) ≡ true
-        → MatchResult result (λ _. Shadowed 0 0 old new (32 * page + i) w) (λ _. Dropped 0 0 old new) }
+        → MatchResult result (λ _. Shadowed 0 0 old new (PAGE_WORDS * page + i) w) (λ _. Dropped 0 0 old new) }
     ensures counted { Counted 0 0 (chart (B.state board.old)) (chart (B.state board.new)) }
     ensures fields { OnOk result (chart (B.state board.new) ≡ with_fields (chart (B.state board.old))
         (with_place page (Some (Place.Frame frame)) (chart (B.state board.old)).fields)) }
@@ -113,19 +113,19 @@ pub fn bring<B: Board>(
 ) -> Result<(), Off>
     requires ready { Ready (chart (B.state board.old)) parts.old }
     requires page { page < (B.state board.old).shape.pages }
-    requires word { i < 32 }
+    requires word { i < PAGE_WORDS }
     requires room { length parts.old.frames.held < parts.old.frames.count }
     requires elsewhere { IsElsewhere (place_of (chart (B.state board.old)).fields page) }
 
     ensures free { let old = chart (B.state board.old) in
         let new = chart (B.state board.new) in
         owned_by old.fields.slots (undo_of old.fields page) ≡ false
-        → MatchResult result (λ _. Stored 0 0 old new (32 * page + i) w) (λ _.
-        Interrupted 0 0 old new (32 * page + i) w) }
+        → MatchResult result (λ _. Stored 0 0 old new (PAGE_WORDS * page + i) w) (λ _.
+        Interrupted 0 0 old new (PAGE_WORDS * page + i) w) }
     ensures owned { let old = chart (B.state board.old) in
         let new = chart (B.state board.new) in
         owned_by old.fields.slots (undo_of old.fields page) ≡ true
-        → MatchResult result (λ _. Shadowed 0 0 old new (32 * page + i) w) (λ _. Dropped 0 0 old new) }
+        → MatchResult result (λ _. Shadowed 0 0 old new (PAGE_WORDS * page + i) w) (λ _. Dropped 0 0 old new) }
     ensures counted { Counted 0 0 (chart (B.state board.old)) (chart (B.state board.new)) }
     ensures brings { OnOk result
         (Brings page (chart (B.state board.old)) parts.old (chart (B.state board.new)) parts.new) }

@@ -6,6 +6,7 @@ ghost use Rattle.envy_reloc.specs.Plan.{IsFreeOf};
 ghost use Rattle.envy_flush.specs.Leaving.{LeavesParts};
 ghost use Rattle.envy_layout.specs.Power.{power_of};
 ghost use Rattle.envy_flush.specs.Flushing.{TakesFresh};
+ghost use Rattle.envy_base.specs.Shape.{positions_of};
 
 use crate::parts::Parts;
 use envy_base::{Board, Off};
@@ -19,7 +20,7 @@ pub fn claim_at<B: Board>(
     page: u32,
 ) -> Result<u32, Off>
     requires ready { Ready (chart (B.state board.old)) parts.old }
-    requires position { position < (B.state board.old).shape.segments - 1 }
+    requires position { position < positions_of (B.state board.old).shape }
     requires page { page < (B.state board.old).shape.pages }
     requires room { slice_index parts.old.space.fills (slice_index parts.old.space.positions position)
         < (B.state board.old).shape.rows }

@@ -11,6 +11,7 @@ ghost use Rattle.envy_flush.specs.Steps.{Begins, CountsNone, StopsStep};
 ghost use Rattle.envy_flush.specs.Leaving.{LeavesParts, KeepsFrames, CountsBad};
 ghost use Rattle.envy_layout.specs.Power.{power_of, power_after};
 ghost use Rattle.envy_flush.specs.Flushing.{CleansFor, IsAtRest};
+ghost use Rattle.envy_base.specs.Shape.{positions_of};
 
 use crate::claiming::claim_at;
 use crate::jobs::{runs, tick_job};
@@ -22,7 +23,7 @@ use envy_layout::keeper;
 /// The rows that are moved to a neighbour: the kept rows of a position with the lowest numbers, four at most.
 fn kept_rows<B: Board>(board: &B, parts: &Parts, position: u32) -> Result<ArrayVec<u32, 4>, Off>
     requires ready { Ready (chart (B.state board.now)) parts.now }
-    requires position { position < (B.state board.now).shape.segments - 1 }
+    requires position { position < positions_of (B.state board.now).shape }
     ensures rows { IfOk result (λ rows.
         All (λ q. q / (B.state board.now).shape.rows ≡ slice_index parts.now.space.positions position) rows.items) }
     ensures lowest { IfOk result (λ rows.
@@ -59,7 +60,7 @@ fn planned<B: Board>(
     aside: Option<u32>,
 ) -> Result<Plan, Off>
     requires ready { Ready (chart (B.state board.now)) parts.now }
-    requires position { position < (B.state board.now).shape.segments - 1 }
+    requires position { position < positions_of (B.state board.now).shape }
     requires aside { IfSome aside (λ g. g < length parts.now.chooser.heats) }
 
     ensures rows { IfOk result (λ plan.
@@ -69,7 +70,7 @@ fn planned<B: Board>(
         AreMoves (B.state board.now).shape (chart (B.state board.now)).fields position aside plan.moves.items) }
     ensures takers { IfOk result (λ plan. plan.neighbour ≡ takers parts.now.chooser aside) }
     ensures neighbour { IfOk result (λ plan. (first last : ℕ) → plan.neighbour ≡ Some (first, last) → (first ≤ last)
-        × (last < (B.state board.now).shape.segments - 1)) }
+        × (last < positions_of (B.state board.now).shape)) }
     ensures off { OnErr result ((B.state board.now).on ≡ false) }
 {
     match aside {
@@ -98,7 +99,7 @@ pub fn begin_clean<B: Board>(
 ) -> Result<(), Off>
     requires ready { Ready (chart (B.state board.old)) parts.old }
     requires idle { (chart (B.state board.old)).fields.job ≡ Some Idle }
-    requires position { position < (B.state board.old).shape.segments - 1 }
+    requires position { position < positions_of (B.state board.old).shape }
     requires aside { IfSome aside (λ g. g < length parts.old.chooser.heats) }
 
     ensures same { Same 0 0 (chart (B.state board.old)) (chart (B.state board.new)) }
@@ -164,7 +165,7 @@ fn run_clean<B: Board>(
 ) -> Result<(), Trouble>
     requires ready { Ready (chart (B.state board.old)) parts.old }
     requires rest { IsAtRest (chart (B.state board.old)) parts.old }
-    requires position { position < (B.state board.old).shape.segments - 1 }
+    requires position { position < positions_of (B.state board.old).shape }
     requires aside { IfSome aside (λ g. g < length parts.old.chooser.heats) }
     requires dead { (d : ℕ)
         × (d / (B.state board.old).shape.rows ≡ slice_index (chart (B.state board.old)).fields.positions position)
@@ -206,7 +207,7 @@ pub fn clean<B: Board>(
 ) -> Result<u32, Trouble>
     requires ready { Ready (chart (B.state board.old)) parts.old }
     requires rest { IsAtRest (chart (B.state board.old)) parts.old }
-    requires position { position < (B.state board.old).shape.segments - 1 }
+    requires position { position < positions_of (B.state board.old).shape }
     requires aside { IfSome aside (λ g. g < length parts.old.chooser.heats) }
     requires dead { (d : ℕ)
         × (d / (B.state board.old).shape.rows ≡ slice_index (chart (B.state board.old)).fields.positions position)

@@ -14,7 +14,7 @@ ghost use Rattle.envy_layout.specs.Power.{power_of, power_after};
 use crate::parts::Parts;
 use crate::programming::copy_row;
 use crate::rows::get_row;
-use envy_base::{Board, Off, Place, Trouble};
+use envy_base::{Board, Off, PAGE_WORDS, Place, Trouble};
 use envy_layout::move_place;
 
 /// Lets a page that stands in a frame stand in a row that holds its words, and gives the frame back.
@@ -30,9 +30,9 @@ fn move_out<B: Board>(
     requires page { page < (B.state board.old).shape.pages }
     requires here { place (chart (B.state board.old)).fields page ≡ Some (Place.Frame frame) }
     requires granted { Granted (B.state board.old).shape (chart (B.state board.old)).fields page row }
-    requires copy { (j : ℕ) → j < 32
+    requires copy { (j : ℕ) → j < PAGE_WORDS
         → slice_index (row_of (B.state board.old) row) j ≡ slice_index (chart (B.state board.old)).fields.frames
-        (32 * frame + j) }
+        (PAGE_WORDS * frame + j) }
 
     ensures same { Same 0 0 (chart (B.state board.old)) (chart (B.state board.new)) }
     ensures leaves { LeavesParts (chart (B.state board.old)) parts.old (chart (B.state board.new)) parts.new }

@@ -3,6 +3,7 @@ ghost use Rattle.envy_map.specs.Fields.{chart, place as place_of};
 ghost use Rattle.envy_frames.specs.Agreement.{IsElsewhere};
 ghost use Rattle.envy_flush.specs.Agreement.{Ready};
 ghost use Rattle.envy_flush.specs.Storing.{IsHome};
+ghost use Rattle.envy_base.specs.Shape.{positions_of};
 
 use crate::parts::Parts;
 use envy_base::{Board, Job, Off, Place};
@@ -17,7 +18,7 @@ pub fn home_of<B: Board>(board: &B, parts: &Parts, page: u32, from: Place) -> Re
     requires elsewhere { IsElsewhere (Some from) }
 
     ensures home { IfOk result (IsHome (B.state board.now).shape (chart (B.state board.now)).fields page from) }
-    ensures within { IfOk result (λ home. home < (B.state board.now).shape.segments - 1) }
+    ensures within { IfOk result (λ home. home < positions_of (B.state board.now).shape) }
     ensures off { OnErr result ((B.state board.now).on ≡ false) }
 {
     let shape = board.shape();

@@ -3,13 +3,13 @@ ghost use Rattle.envy_map.specs.Fields.{chart};
 ghost use Rattle.envy_layout.specs.Words.{word_at};
 ghost use Rattle.envy_flush.specs.Pages.{InRange};
 
-use envy_base::{Board, Off, Place};
+use envy_base::{Board, Off, PAGE_WORDS, Page, Place};
 use envy_map::frame_word;
 
 /// A word of a page that is there.
 pub fn word<B: Board>(board: &B, from: Place, i: u32) -> Result<u64, Off>
     requires range { InRange (B.state board.now) from }
-    requires place { i < 32 }
+    requires place { i < PAGE_WORDS }
     ensures { MatchResult result
         (λ v. v ≡ word_at (chart (B.state board.now)).fields.frames (B.state board.now).flash (Some from) i)
         (λ _. (B.state board.now).on ≡ false) }
@@ -22,10 +22,10 @@ pub fn word<B: Board>(board: &B, from: Place, i: u32) -> Result<u64, Off>
 }
 
 /// Reads the words of a page that is there into `words`.
-pub fn read_words<B: Board>(board: &B, from: Place, words: &mut [u64; 32]) -> Result<(), Off>
+pub fn read_words<B: Board>(board: &B, from: Place, words: &mut Page) -> Result<(), Off>
     requires range { InRange (B.state board.now) from }
-    ensures long { length words.new ≡ 32 }
-    ensures words { OnOk result ((j : ℕ) → j < 32
+    ensures long { length words.new ≡ PAGE_WORDS }
+    ensures words { OnOk result ((j : ℕ) → j < PAGE_WORDS
         → slice_index words.new j ≡ word_at (chart (B.state board.now)).fields.frames (B.state board.now).flash
         (Some from) j) }
     ensures off { OnErr result ((B.state board.now).on ≡ false) }

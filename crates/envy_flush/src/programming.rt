@@ -10,7 +10,7 @@ ghost use Rattle.envy_layout.specs.Power.{power_after};
 
 use crate::page::read_words;
 use crate::parts::Parts;
-use envy_base::{Board, Place, Trouble};
+use envy_base::{Board, PAGE_LENGTH, PAGE_WORDS, Place, Trouble};
 use envy_layout::program_counted;
 
 /// A count after one more, which stops at the top.
@@ -37,14 +37,14 @@ pub fn copy_row<B: Board>(
     ensures same { Same 1 0 (chart (B.state board.old)) (chart (B.state board.new)) }
     ensures leaves { LeavesParts (chart (B.state board.old)) parts.old (chart (B.state board.new)) parts.new }
     ensures only { ProgramsOnly row (chart (B.state board.old)) (chart (B.state board.new)) }
-    ensures copy { OnOk result ((j : ℕ) → j < 32
+    ensures copy { OnOk result ((j : ℕ) → j < PAGE_WORDS
         → slice_index (row_of (B.state board.new) row) j ≡ slice_index (chart (B.state board.old)).fields.frames
-        (32 * frame + j)) }
+        (PAGE_WORDS * frame + j)) }
     ensures parts { parts.new ≡ record parts.old { flushes = up parts.old.flushes } }
     ensures power { (B.state board.new).on ≡ power_after result }
     ensures bad { IsErrOf result Trouble.Bad → (B.state board.new).bads ≡ up (B.state board.old).bads }
 {
-    let mut words = [0; 32];
+    let mut words = [0; PAGE_LENGTH];
     read_words(board, Place::Frame(frame), &mut words)?;
     program_counted(board, row, &words, &mut parts.flushes)
 }

@@ -20,7 +20,7 @@ use crate::bringing::fill_frame;
 use crate::parts::Parts;
 use crate::shading::put_framed;
 use crate::storing::make_room;
-use envy_base::{Board, Off, Place, Trouble, Undo};
+use envy_base::{Board, Off, PAGE_WORDS, Place, Trouble, Undo};
 use envy_layout::move_to_frame;
 use envy_map::place;
 use envy_txn::Owned;
@@ -53,12 +53,12 @@ fn shade_places<B: Board>(
     requires on { IsTrue (B.state board.old).on }
     requires may { MayGive slot page (chart (B.state board.old)) owned.old }
     requires lands { Lands (chart (B.state board.old)) page frame from }
-    requires word { i < 32 }
+    requires word { i < PAGE_WORDS }
     requires copy { HasChanged (chart (B.state board.old)).fields (B.state board.old).flash page
         (Place.Frame frame) i w }
 
     ensures done { OnOk result (PutDone 0 0 slot page (chart (B.state board.old)) (chart (B.state board.new))
-        (32 * page + i) w) }
+        (PAGE_WORDS * page + i) w) }
     ensures durable { OnErr result (SameDurable 0 0 (chart (B.state board.old)) (chart (B.state board.new))) }
     ensures fields { OnOk result (chart (B.state board.new) ≡ with_fields (chart (B.state board.old))
         (with_place page (Some (Place.Frame frame))
@@ -85,12 +85,12 @@ fn shade_in<B: Board>(
 ) -> Result<(), Off>
     requires near { Near (chart (B.state board.old)) parts.old page frame from }
     requires may { MayGive slot page (chart (B.state board.old)) owned.old }
-    requires word { i < 32 }
+    requires word { i < PAGE_WORDS }
     requires copy { HasChanged (chart (B.state board.old)).fields (B.state board.old).flash page
         (Place.Frame frame) i w }
 
     ensures done { OnOk result (PutDone 0 0 slot page (chart (B.state board.old)) (chart (B.state board.new))
-        (32 * page + i) w) }
+        (PAGE_WORDS * page + i) w) }
     ensures durable { OnErr result (SameDurable 0 0 (chart (B.state board.old)) (chart (B.state board.new))) }
     ensures fields { OnOk result (chart (B.state board.new) ≡ with_fields (chart (B.state board.old))
         (with_place page (Some (Place.Frame frame))
@@ -119,12 +119,12 @@ fn bring_shaded<B: Board>(
 ) -> Result<(), Off>
     requires ready { Ready (chart (B.state board.old)) parts.old }
     requires may { MayGive slot page (chart (B.state board.old)) owned.old }
-    requires word { i < 32 }
+    requires word { i < PAGE_WORDS }
     requires room { length parts.old.frames.held < parts.old.frames.count }
     requires elsewhere { IsElsewhere (place_of (chart (B.state board.old)).fields page) }
 
     ensures done { OnOk result (PutDone 0 0 slot page (chart (B.state board.old)) (chart (B.state board.new))
-        (32 * page + i) w) }
+        (PAGE_WORDS * page + i) w) }
     ensures durable { OnErr result (SameDurable 0 0 (chart (B.state board.old)) (chart (B.state board.new))) }
     ensures brings { OnOk result
         ((b : Brings page (chart (B.state board.old)) parts.old (chart (B.state board.new)) parts.new)
@@ -152,11 +152,11 @@ fn put_elsewhere<B: Board>(
 ) -> Result<(), Trouble>
     requires ready { Ready (chart (B.state board.old)) parts.old }
     requires may { MayGive slot page (chart (B.state board.old)) owned.old }
-    requires word { i < 32 }
+    requires word { i < PAGE_WORDS }
     requires elsewhere { IsElsewhere (place_of (chart (B.state board.old)).fields page) }
 
     ensures put { PutFirst (4 * (B.state board.old).shape.rows + 13) 6 slot page (chart (B.state board.old))
-        (32 * page + i) w result (chart (B.state board.new)) }
+        (PAGE_WORDS * page + i) w result (chart (B.state board.new)) }
     ensures leaves { LeavesParts (chart (B.state board.old)) parts.old (chart (B.state board.new)) parts.new }
     ensures makes { OnOk result ((mid : Chart) × (between : TheParts)
         × MakesRoom (chart (B.state board.old)) parts.old mid between
@@ -184,10 +184,10 @@ pub fn put_first<B: Board>(
 ) -> Result<(), Trouble>
     requires ready { Ready (chart (B.state board.old)) parts.old }
     requires may { MayGive slot page (chart (B.state board.old)) owned.old }
-    requires word { i < 32 }
+    requires word { i < PAGE_WORDS }
 
     ensures put { PutFirst (4 * (B.state board.old).shape.rows + 13) 6 slot page (chart (B.state board.old))
-        (32 * page + i) w result (chart (B.state board.new)) }
+        (PAGE_WORDS * page + i) w result (chart (B.state board.new)) }
     ensures steady { Steady (chart (B.state board.new)) parts.new }
     ensures counting { Counting (chart (B.state board.old)) parts.old (chart (B.state board.new)) parts.new }
     ensures accesses { Accesses page parts.old.cache parts.new.cache }

@@ -5,6 +5,7 @@ ghost use Rattle.envy_flush.specs.Agreement.{Ready};
 ghost use Rattle.envy_flush.specs.Flushing.{IsBusy, IsAtRest, GetsFresh, StopsGetting};
 ghost use Rattle.envy_flush.specs.Leaving.{LeavesParts, KeepsFrames};
 ghost use Rattle.envy_layout.specs.Power.{power_of, power_after};
+ghost use Rattle.envy_base.specs.Shape.{positions_of};
 
 use crate::beside::usable;
 use crate::claiming::claim_at;
@@ -28,7 +29,7 @@ fn idle_row<B: Board>(
     requires ready { Ready (chart (B.state board.old)) parts.old }
     requires rest { IsAtRest (chart (B.state board.old)) parts.old }
     requires page { page < (B.state board.old).shape.pages }
-    requires home { home < (B.state board.old).shape.segments - 1 }
+    requires home { home < positions_of (B.state board.old).shape }
 
     ensures same { Same ((B.state board.old).shape.rows + 5) 2 (chart (B.state board.old)) (chart (B.state board.new)) }
     ensures leaves { LeavesParts (chart (B.state board.old)) parts.old (chart (B.state board.new)) parts.new }
@@ -70,7 +71,7 @@ fn busy_row<B: Board>(
     requires ready { Ready (chart (B.state board.old)) parts.old }
     requires page { page < (B.state board.old).shape.pages }
     requires busy { IsBusy (chart (B.state board.old)) parts.old }
-    requires home { home < (B.state board.old).shape.segments - 1 }
+    requires home { home < positions_of (B.state board.old).shape }
 
     ensures same { Same
         (4 * (B.state board.old).shape.rows + 12) 6 (chart (B.state board.old)) (chart (B.state board.new)) }
@@ -99,7 +100,7 @@ pub fn get_row<B: Board>(
 ) -> Result<u32, Trouble>
     requires ready { Ready (chart (B.state board.old)) parts.old }
     requires page { page < (B.state board.old).shape.pages }
-    requires home { home < (B.state board.old).shape.segments - 1 }
+    requires home { home < positions_of (B.state board.old).shape }
 
     ensures same { Same
         (4 * (B.state board.old).shape.rows + 12) 6 (chart (B.state board.old)) (chart (B.state board.new)) }

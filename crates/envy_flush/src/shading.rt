@@ -12,7 +12,7 @@ ghost use Rattle.envy_layout.specs.Power.{power_of, power_after};
 use crate::parts::Parts;
 use crate::programming::copy_row;
 use crate::rows::get_row;
-use envy_base::{Board, Off, Place, Trouble, Undo};
+use envy_base::{Board, Off, PAGE_WORDS, Place, Trouble, Undo};
 use envy_layout::change_frame_word;
 use envy_txn::Owned;
 
@@ -30,9 +30,9 @@ fn shade<B: Board>(
     requires may { MayGive slot page (chart (B.state board.old)) owned.old }
     requires here { place_of (chart (B.state board.old)).fields page ≡ Some (Place.Frame frame) }
     requires granted { Granted (B.state board.old).shape (chart (B.state board.old)).fields page row }
-    requires copy { (j : ℕ) → j < 32
+    requires copy { (j : ℕ) → j < PAGE_WORDS
         → slice_index (row_of (B.state board.old) row) j ≡ slice_index (chart (B.state board.old)).fields.frames
-        (32 * frame + j) }
+        (PAGE_WORDS * frame + j) }
 
     ensures same { SameWords 0 0 (chart (B.state board.old)) (chart (B.state board.new)) }
     ensures leaves { LeavesParts (chart (B.state board.old)) parts.old (chart (B.state board.new)) parts.new }
@@ -91,11 +91,11 @@ pub fn put_framed<B: Board>(
 ) -> Result<(), Trouble>
     requires ready { Ready (chart (B.state board.old)) parts.old }
     requires may { MayGive slot page (chart (B.state board.old)) owned.old }
-    requires word { i < 32 }
+    requires word { i < PAGE_WORDS }
     requires here { place_of (chart (B.state board.old)).fields page ≡ Some (Place.Frame frame) }
 
     ensures put { PutFirst (4 * (B.state board.old).shape.rows + 13) 6 slot page (chart (B.state board.old))
-        (32 * page + i) w result (chart (B.state board.new)) }
+        (PAGE_WORDS * page + i) w result (chart (B.state board.new)) }
     ensures leaves { LeavesParts (chart (B.state board.old)) parts.old (chart (B.state board.new)) parts.new }
     ensures puts { OnOk result
         (ShadesHere slot page frame (chart (B.state board.old)) parts.old (chart (B.state board.new)) parts.new) }

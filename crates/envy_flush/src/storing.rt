@@ -15,7 +15,7 @@ ghost use Rattle.envy_layout.specs.Power.{power_after};
 use crate::bringing::bring;
 use crate::flushing::flush_oldest;
 use crate::parts::Parts;
-use envy_base::{Board, Place, Trouble};
+use envy_base::{Board, PAGE_WORDS, Place, Trouble};
 use envy_layout::change_frame_word;
 
 /// Gives a frame back where none is free.
@@ -51,15 +51,15 @@ fn store_elsewhere<B: Board>(
 ) -> Result<(), Trouble>
     requires ready { Ready (chart (B.state board.old)) parts.old }
     requires page { page < (B.state board.old).shape.pages }
-    requires word { i < 32 }
+    requires word { i < PAGE_WORDS }
     requires elsewhere { IsElsewhere (place_of (chart (B.state board.old)).fields page) }
 
     ensures free { let old = chart (B.state board.old) in
         owned_by old.fields.slots (undo_of old.fields page) ≡ false
-        → Wrote (4 * old.shape.rows + 13) 6 old (32 * page + i) w result (chart (B.state board.new)) }
+        → Wrote (4 * old.shape.rows + 13) 6 old (PAGE_WORDS * page + i) w result (chart (B.state board.new)) }
     ensures owned { let old = chart (B.state board.old) in
         owned_by old.fields.slots (undo_of old.fields page) ≡ true
-        → Shaded (4 * old.shape.rows + 13) 6 old (32 * page + i) w result (chart (B.state board.new)) }
+        → Shaded (4 * old.shape.rows + 13) 6 old (PAGE_WORDS * page + i) w result (chart (B.state board.new)) }
     ensures leaves { LeavesParts (chart (B.state board.old)) parts.old (chart (B.state board.new)) parts.new }
     ensures makes { OnOk result ((mid : Chart) × (between : TheParts)
         × MakesRoom (chart (B.state board.old)) parts.old mid between
@@ -83,14 +83,14 @@ pub fn store_word<B: Board>(
 ) -> Result<(), Trouble>
     requires ready { Ready (chart (B.state board.old)) parts.old }
     requires page { page < (B.state board.old).shape.pages }
-    requires word { i < 32 }
+    requires word { i < PAGE_WORDS }
 
     ensures free { let old = chart (B.state board.old) in
         owned_by old.fields.slots (undo_of old.fields page) ≡ false
-        → Wrote (4 * old.shape.rows + 13) 6 old (32 * page + i) w result (chart (B.state board.new)) }
+        → Wrote (4 * old.shape.rows + 13) 6 old (PAGE_WORDS * page + i) w result (chart (B.state board.new)) }
     ensures owned { let old = chart (B.state board.old) in
         owned_by old.fields.slots (undo_of old.fields page) ≡ true
-        → Shaded (4 * old.shape.rows + 13) 6 old (32 * page + i) w result (chart (B.state board.new)) }
+        → Shaded (4 * old.shape.rows + 13) 6 old (PAGE_WORDS * page + i) w result (chart (B.state board.new)) }
     ensures steady { Steady (chart (B.state board.new)) parts.new }
     ensures counting { Counting (chart (B.state board.old)) parts.old (chart (B.state board.new)) parts.new }
     ensures accesses { Accesses page parts.old.cache parts.new.cache }

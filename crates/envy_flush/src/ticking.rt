@@ -13,6 +13,7 @@ ghost use Rattle.envy_flush.specs.Ticks.{IsNoneDue, TicksChoice, TicksFlush, Tic
 ghost use Rattle.envy_flush.specs.Leaving.{LeavesParts, CountsBad};
 ghost use Rattle.envy_layout.specs.Power.{power_after};
 ghost use Rattle.envy_flush.specs.Flushing.{IsAtRest};
+ghost use Rattle.envy_base.specs.Shape.{positions_of};
 
 use crate::claiming::claim_at;
 use crate::cleaning::begin_clean;
@@ -38,7 +39,7 @@ fn flush_at<B: Board>(
     requires ready { Ready (chart (B.state board.old)) parts.old }
     requires rest { IsAtRest (chart (B.state board.old)) parts.old }
     requires oldest { slice_get parts.old.frames.held 0 ≡ Some held }
-    requires position { position < (B.state board.old).shape.segments - 1 }
+    requires position { position < positions_of (B.state board.old).shape }
     requires room { slice_index parts.old.space.fills (slice_index parts.old.space.positions position)
         < (B.state board.old).shape.rows }
     requires chosen { ChoiceFor parts.old.chooser parts.old.space held.home held.page (Free position) }

@@ -6,12 +6,13 @@ use Rattle.envy_base.specs.declared.fields.Place.{Place}
 use Rattle.envy_base.specs.declared.fields.Place.TheVariants.{Absent, Row, Frame}
 use Rattle.envy_frames.specs.declared.held.Held.{Held}
 use Rattle.envy_frames.specs.Order.{IsApart}
+use Rattle.envy_base.specs.Shape.{positions_of}
 
 -- the place of the page is the frame, and its home is a position
 pub record IsHeld (sh : Shape) (places : List (Option Place)) (h : Held) : Type 0 where
   pub here : slice_index_or places h.page None ≡ Some (Frame h.frame)
   pub page : h.page < sh.pages
-  pub home : h.home < sh.segments - 1
+  pub home : h.home < positions_of sh
 
 -- the held frames are those that places name, each once, each with the page whose place names it
 pub record AreHeld (sh : Shape) (places : List (Option Place)) (held : List Held) : Type 0 where
@@ -32,7 +33,7 @@ is_framed None = false
 
 -- the home of a page that came from no row
 abbrev pub default_home : Shape → ℕ → ℕ
-default_home sh p = p * (sh.segments - 1) / sh.pages
+default_home sh p = p * (positions_of sh) / sh.pages
 
 -- how page p is held after a restart, where its place is a frame
 abbrev pub held_at : Shape → ℕ → Option Place → Option Held

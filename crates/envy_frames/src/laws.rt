@@ -6,6 +6,7 @@ ghost use Rattle.envy_base.specs.declared.shape.Shape.{Shape};
 ghost use Rattle.envy_frames.specs.Agreement.{AreHeld, IsElsewhere, is_framed};
 ghost use Rattle.envy_frames.specs.Order.{IsUnheld, is_other};
 ghost use Rattle.envy_frames.specs.declared.held.Held.{Held};
+ghost use Rattle.envy_base.specs.Shape.{positions_of};
 
 /// Once the place of a held page is no longer a frame, the others are held when its frame is given
 /// back.
@@ -19,7 +20,7 @@ pub fn giving_back_keeps_the_agreement()
 /// the others.
 pub fn taking_keeps_the_agreement()
     ensures { (sh : Shape) (places : List (Option Place)) (held : List Held) (page frame home : ℕ)
-        → AreHeld sh places held → length places ≡ sh.pages → page < sh.pages → home < sh.segments - 1
+        → AreHeld sh places held → length places ≡ sh.pages → page < sh.pages → home < positions_of sh
         → IsElsewhere (slice_index_or places page None) → IsUnheld held frame
         → AreHeld sh (slice_set places page (Some (Frame frame)))
         (held ++ (record { frame = frame; page = page; home = home }) ∷ []) }

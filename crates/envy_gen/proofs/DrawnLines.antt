@@ -66,13 +66,13 @@ either-fits a b false false low high = high refl
 some-cold : (n : ℕ) → (n == 0) ≡ false → 1 ≤ n
 some-cold n e = grind (arith, nat_tests)
 
-address_in-fits : (y pages : ℕ) (skew : Option Skew) → 1 ≤ pages → pages ≤ 1048576 → IfSome skew (λ s. IsPerCent s.hot) → address_in y pages skew < 2 ^ 32
+address_in-fits : (y pages : ℕ) (skew : Option Skew) → 1 ≤ pages → pages ≤ 16777216 → IfSome skew (λ s. IsPerCent s.hot) → address_in y pages skew < 2 ^ 32
 address_in-fits y pages None some few hot = omega arith
 address_in-fits y pages (Some skew) some few (low, high) =
     let h : ℕ = max 1 (pages * skew.hot / 100) in
     let scaled : pages * skew.hot ≤ pages * 99 = mul-le-mul_left pages high in
     let least : 1 ≤ h = omega arith in
-    let most : h ≤ 1048576 = omega arith in
+    let most : h ≤ 16777216 = omega arith in
     either-fits (y % (32 * h)) (32 * h + y % (32 * (pages - h))) (pages - h == 0) _ (omega arith)
     (λ cold. let some : 1 ≤ pages - h = some-cold (pages - h) cold in omega arith)
 

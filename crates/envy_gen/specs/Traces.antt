@@ -10,6 +10,8 @@ use Rattle.envy_trace.specs.declared.line.Line.TheVariants.{Load, Store, Begin, 
 use Rattle.envy_trace.specs.Spelling.{line_bytes}
 use Rattle.envy_gen.specs.declared.mix.Mix.{Mix}
 use Rattle.envy_gen.specs.declared.mix.Skew.{Skew}
+use Rattle.envy_base.specs.declared.page.TheConstants.{PAGE_WORDS}
+use Rattle.envy_base.specs.declared.shape.TheConstants.{MOST_ROWS}
 
 -- all that the generator PCG64 (XSL RR 128/64) will answer whose seed of 32 bytes is expanded from `start`
 unfoldable pub answers_of : ℕ → Stream
@@ -21,7 +23,7 @@ IsPerCent n = (1 ≤ n) × (n ≤ 99)
 -- what lines can be drawn by
 pub record IsMix (mix : Mix) : Type 0 where
   pub some : 1 ≤ mix.pages
-  pub few : mix.pages ≤ 1048576
+  pub few : mix.pages ≤ MOST_ROWS
   pub hot : IfSome mix.skew (λ skew. IsPerCent skew.hot)
   pub share : IfSome mix.skew (λ skew. IsPerCent skew.share)
   pub stores : IfSome mix.stores IsPerCent
@@ -33,11 +35,11 @@ hot_pages pages skew = max 1 (pages * skew.hot / 100)
 -- An address in an array of so many pages of 32 words. Where there is a skew, an access goes to a hot page by its
 -- share, or if no page is cold, and else to a cold one.
 abbrev pub address_in : ℕ → ℕ → Option Skew → ℕ
-address_in y pages None = y % (32 * pages)
+address_in y pages None = y % (PAGE_WORDS * pages)
 address_in y pages (Some skew) =
     let hot = hot_pages pages skew in
-    if pages - hot == 0 || nat_lt (y / 2 ^ 34 % 100) skew.share then y % (32 * hot)
-    else 32 * hot + y % (32 * (pages - hot))
+    if pages - hot == 0 || nat_lt (y / 2 ^ 34 % 100) skew.share then y % (PAGE_WORDS * hot)
+    else PAGE_WORDS * hot + y % (PAGE_WORDS * (pages - hot))
 
 abbrev pub address_of : ℕ → Mix → ℕ
 address_of y mix = address_in y mix.pages mix.skew

@@ -2,12 +2,10 @@ ghost use Rattle.std.specs.Prelude.{◌≡◌, ◌≤◌};
 ghost use Rattle.envy_trace.specs.Spelling.{HasPlace};
 ghost use Rattle.envy_gen.specs.Traces.{IsMix, address_of, drawn, hot_pages, next_line};
 
+use envy_base::{MOST_ROWS, PAGE_WORDS};
 use crate::mix::{Mix, Skew};
 use envy_trace::Line;
 use rand_core::Rng;
-
-/// How many words a page has.
-const PAGE_WORDS: u64 = 32;
 
 /// How many slots are drawn from.
 const DRAWN_SLOTS: u64 = 4;
@@ -15,7 +13,7 @@ const DRAWN_SLOTS: u64 = 4;
 /// The hot pages among so many.
 fn hot_pages(pages: u32, skew: &Skew) -> u32
     requires some { 1 ≤ pages }
-    requires few { pages ≤ 1048576 }
+    requires few { pages ≤ MOST_ROWS }
     requires hot { skew.now.hot ≤ 99 }
     ensures value { result ≡ hot_pages pages skew.now }
     ensures some { 1 ≤ result }
@@ -30,14 +28,14 @@ fn address(y: u64, mix: &Mix) -> u32
     ensures { result ≡ address_of y mix.now }
 {
     let Some(skew) = mix.skew else {
-        return (y % (PAGE_WORDS * u64::from(mix.pages))) as u32;
+        return (y % (PAGE_WORDS as u64 * u64::from(mix.pages))) as u32;
     };
     let hot = u64::from(hot_pages(mix.pages, &skew));
     let cold = u64::from(mix.pages) - hot;
     if cold == 0 || (y >> 34) % 100 < u64::from(skew.share) {
-        return (y % (PAGE_WORDS * hot)) as u32;
+        return (y % (PAGE_WORDS as u64 * hot)) as u32;
     }
-    (PAGE_WORDS * hot + y % (PAGE_WORDS * cold)) as u32
+    (PAGE_WORDS as u64 * hot + y % (PAGE_WORDS as u64 * cold)) as u32
 }
 
 /// The line of three words. The first chooses its kind, the second its address and slot, and the third is the

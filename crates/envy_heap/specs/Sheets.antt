@@ -13,5 +13,7 @@ sheet_of words kept started pages used = record {
   on = true;
   cuts = 0;
   bads = 0;
+  work = record { programs = 0; erases = 0 };
+  price = record { programs = 0; erases = 0 };
   fixed = [];
 }

@@ -1,6 +1,6 @@
 ghost use Rattle.std.specs.Prelude.{◌≡◌, ◌⊎◌, ◌↔◌, ℕ, ◌+◌, ◌<◌, ◌≤◌, List, IsTrue, false, MatchResult, IfOk, MatchOption, length, OnErr};
 ghost use Rattle.envy_base.specs.declared.board.Trouble.{Trouble};
-ghost use Rattle.envy_base.specs.Words.{Works, OnPage, Fails};
+ghost use Rattle.envy_base.specs.Words.{Works, Spends, OnPage, Fails};
 ghost use Rattle.envy_heap.specs.Pieces.{IsHeap, handed, TakesAs, Gives};
 
 use envy_base::{Trouble, Words};
@@ -11,6 +11,7 @@ pub fn take<W: Words>(words: &mut W) -> Result<Option<u32>, Trouble>
     requires room { length (W.sheet words.old).pages + 2 ≤ (W.sheet words.old).room }
     requires heap { (free : List ℕ) × IsHeap (W.sheet words.old).words free }
     ensures works { OnPage 0 (W.sheet words.old) (W.sheet words.new) }
+    ensures spends { Spends 1 (W.sheet words.old) (W.sheet words.new) }
     ensures fails { Fails (W.sheet words.old) result (W.sheet words.new) }
     ensures takes { (free : List ℕ) → IsHeap (W.sheet words.old).words free
         → TakesAs (W.sheet words.old).words free result (W.sheet words.new).words }
@@ -37,6 +38,7 @@ pub fn give<W: Words>(words: &mut W, piece: u32) -> Result<(), Trouble>
     requires heap { (free : List ℕ) × IsHeap (W.sheet words.old).words free
         × (handed (W.sheet words.old).words free piece ≡ 1) }
     ensures works { Works 2 (W.sheet words.old) (W.sheet words.new) }
+    ensures spends { Spends 2 (W.sheet words.old) (W.sheet words.new) }
     ensures fails { Fails (W.sheet words.old) result (W.sheet words.new) }
     ensures gives { (free : List ℕ) → IsHeap (W.sheet words.old).words free
         → handed (W.sheet words.old).words free piece ≡ 1

@@ -3,7 +3,7 @@ ghost use Rattle.std.proofs.Props.{props};
 ghost use Rattle.envy_base.specs.Words.{IsSheet};
 ghost use Rattle.envy_heap.specs.Sheets.{sheet_of};
 
-use envy_base::{NoMemory, Off, Trouble, Words};
+use envy_base::{NoMemory, Off, PAGE_WORDS, Trouble, Words};
 use std::alloc::Global;
 
 /// Words over plain vectors, which power never leaves and whose puts never fail.
@@ -67,7 +67,7 @@ impl Words for VecWords {
 
     fn put(&mut self, a: u32, w: u64) -> Result<(), Trouble> {
         self.words[a as usize] = w;
-        let page = a / 32;
+        let page = a / PAGE_WORDS;
         if !self.pages[..self.used].contains(&page) {
             self.pages[self.used] = page;
             self.used += 1;

@@ -15,6 +15,7 @@ use Rattle.envy_image.specs.declared.reading.Stop.{Stop}
 use Rattle.envy_image.specs.declared.reading.Stop.TheVariants.{Short as StopShort, Failed as StopFailed, Spent as StopSpent}
 use Rattle.envy_image.specs.Image.{head_of, body_of, rows_bytes, words_bytes}
 use Rattle.envy_image.specs.Reading.{Consumes, Ends, Stops}
+use Rattle.envy_base.specs.declared.page.TheConstants.{PAGE_WORDS}
 
 -- the head that was read last has this shape
 pub record HasReadHead (sh : Shape) (now : Taking) (feed : Feed) : Type 0 where
@@ -145,7 +146,7 @@ PutsWords first words old (Err off) new = Upsets old new
 -- 32 words from one on are what the bytes say
 abbrev pub FillsPiece : ℕ → State → Taking → Feed → Result Unit InFault → State → Taking → Feed → Type 0
 FillsPiece first old was from (Ok done) new now to =
-    (words : List ℕ) × (length words ≡ 32) × HasPut first words old new × Consumes was from (words_bytes words) now to
+    (words : List ℕ) × (length words ≡ PAGE_WORDS) × HasPut first words old new × Consumes was from (words_bytes words) now to
 FillsPiece first old was from (Err fault) new now to = StopsAs fault 256 old was from new now to
 
 abbrev pub FillsFirst : ℕ → State → Taking → Feed → Result Unit InFault → State → Taking → Feed → Type 0

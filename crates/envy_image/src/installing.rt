@@ -7,7 +7,7 @@ ghost use Rattle.envy_image.specs.Image.{words_bytes};
 ghost use Rattle.envy_image.specs.Installing.{HasReadHead, IsWithin, Installs, Blanks, ReadsPage, ProgramsRows, PutsWords, FillsPiece, FillsFirst, FillsWords, Filled};
 
 use crate::reading::{Stop, read_bytes, read_word, word_of};
-use envy_base::{Board, Off, Trouble};
+use envy_base::{Board, Off, PAGE_LENGTH, PAGE_WORDS, Page, Trouble};
 use envy_io::{Lines, Source};
 
 /// Why an image wasn't installed.
@@ -72,19 +72,19 @@ fn erase_all<B: Board>(board: &mut B) -> Result<(), Trouble>
 }
 
 // The words that a page's bytes spell.
-fn page_of(bytes: &[u8; 256]) -> [u64; 32]
+fn page_of(bytes: &[u8; 256]) -> Page
     ensures page { IsPage result }
     ensures bytes { words_bytes result ≡ bytes.now }
 {
-    let mut page = [0; 32];
-    for i in 0..32 {
+    let mut page = [0; PAGE_LENGTH];
+    for i in 0..PAGE_LENGTH {
         page[i] = word_of(&bytes[8 * i..8 * i + 8]);
     }
     page
 }
 
 // Reads the next page.
-fn read_page<S: Source>(lines: &mut Lines, source: &mut S) -> Result<[u64; 32], Stop>
+fn read_page<S: Source>(lines: &mut Lines, source: &mut S) -> Result<Page, Stop>
     ensures { ReadsPage lines.old (S.feed source.old) result lines.new (S.feed source.new) }
 {
     let mut bytes = [0; 256];
@@ -113,13 +113,13 @@ fn program_rows<B: Board, S: Source>(
 }
 
 // Puts 32 words into SRAM, from one on.
-fn put_words<B: Board>(board: &mut B, first: u32, words: &[u64; 32]) -> Result<(), Off>
+fn put_words<B: Board>(board: &mut B, first: u32, words: &Page) -> Result<(), Off>
     requires on { IsTrue (B.state board.old).on }
-    requires room { first + 32 ≤ length (B.state board.old).sram }
-    requires words { length words.now ≡ 32 }
+    requires room { first + PAGE_WORDS ≤ length (B.state board.old).sram }
+    requires words { length words.now ≡ PAGE_WORDS }
     ensures { PutsWords first words.now (B.state board.old) result (B.state board.new) }
 {
-    for i in 0..32 {
+    for i in 0..PAGE_WORDS {
         board.put(first + i, words[i as usize])?;
     }
     Ok(())
@@ -133,7 +133,7 @@ fn fill_piece<B: Board, S: Source>(
     first: u32,
 ) -> Result<(), InFault>
     requires on { IsTrue (B.state board.old).on }
-    requires room { first + 32 ≤ length (B.state board.old).sram }
+    requires room { first + PAGE_WORDS ≤ length (B.state board.old).sram }
     ensures { FillsPiece first (B.state board.old) lines.old (S.feed source.old) result (B.state board.new) lines.new
         (S.feed source.new) }
 {
@@ -150,13 +150,13 @@ fn fill_pieces<B: Board, S: Source>(
     pieces: u32,
 ) -> Result<(), InFault>
     requires on { IsTrue (B.state board.old).on }
-    requires room { 32 * pieces ≤ length (B.state board.old).sram }
+    requires room { PAGE_WORDS * pieces ≤ length (B.state board.old).sram }
     requires within { IsWithin lines.old }
-    ensures { FillsFirst (32 * pieces) (B.state board.old) lines.old (S.feed source.old) result
+    ensures { FillsFirst (PAGE_WORDS * pieces) (B.state board.old) lines.old (S.feed source.old) result
         (B.state board.new) lines.new (S.feed source.new) }
 {
     for piece in 0..pieces {
-        fill_piece(board, lines, source, 32 * piece)?;
+        fill_piece(board, lines, source, PAGE_WORDS * piece)?;
     }
     Ok(())
 }
@@ -192,9 +192,9 @@ fn fill_words<B: Board, S: Source>(
     ensures { FillsWords (B.state board.old) lines.old (S.feed source.old) result (B.state board.new) lines.new
         (S.feed source.new) }
 {
-    let pieces = envy_map::words(&board.shape()) / 32;
+    let pieces = envy_map::words(&board.shape()) / PAGE_WORDS;
     fill_pieces(board, lines, source, pieces)?;
-    fill_rest(board, lines, source, 32 * pieces)
+    fill_rest(board, lines, source, PAGE_WORDS * pieces)
 }
 
 /// Makes a board what an image says, from the bytes behind its head: every segment is erased, every row

@@ -3,7 +3,7 @@ ghost use Rattle.envy_io.specs.Streams.{Drain, WritesAll};
 ghost use Rattle.envy_image.specs.Image.{image_of, head_of, body_of, rows_bytes, words_bytes, word_bytes, numbers_bytes, number_bytes};
 ghost use Rattle.envy_image.specs.Writing.{WritesOut, WritesFirst};
 
-use envy_base::{Board, Off, Shape};
+use envy_base::{Board, Off, PAGE_WORDS, Shape};
 use envy_io::{Failed, Sink, write_all};
 
 /// The bytes that an image begins with.
@@ -88,7 +88,7 @@ fn bytes_of_row<B: Board>(board: &B, row: u32) -> Result<[u8; 256], Off>
     ensures on { IsOk result }
 {
     let mut bytes = [0; 256];
-    for i in 0..32 {
+    for i in 0..PAGE_WORDS {
         let word = board.read(row, i)?;
         let at = 8 * i as usize;
         bytes[at..at + 8].copy_from_slice(&word.to_le_bytes());
@@ -124,12 +124,12 @@ fn write_rows<B: Board, K: Sink>(board: &B, sink: &mut K) -> Result<(), OutFault
 // The bytes of 32 words of SRAM, from one on.
 fn bytes_of_piece<B: Board>(board: &B, first: u32) -> Result<[u8; 256], Off>
     requires on { IsTrue (B.state board.now).on }
-    requires room { first + 32 ≤ length (B.state board.now).sram }
-    ensures read { IfOk result (λ bytes. bytes ≡ words_bytes (take 32 (drop first (B.state board.now).sram))) }
+    requires room { first + PAGE_WORDS ≤ length (B.state board.now).sram }
+    ensures read { IfOk result (λ bytes. bytes ≡ words_bytes (take PAGE_WORDS (drop first (B.state board.now).sram))) }
     ensures on { IsOk result }
 {
     let mut bytes = [0; 256];
-    for i in 0..32 {
+    for i in 0..PAGE_WORDS {
         let word = board.get(first + i)?;
         let at = 8 * i as usize;
         bytes[at..at + 8].copy_from_slice(&word.to_le_bytes());
@@ -140,9 +140,9 @@ fn bytes_of_piece<B: Board>(board: &B, first: u32) -> Result<[u8; 256], Off>
 // Writes 32 words of SRAM, from one on, in one piece.
 fn write_piece<B: Board, K: Sink>(board: &B, first: u32, sink: &mut K) -> Result<(), OutFault>
     requires on { IsTrue (B.state board.now).on }
-    requires room { first + 32 ≤ length (B.state board.now).sram }
+    requires room { first + PAGE_WORDS ≤ length (B.state board.now).sram }
     ensures { WritesOut (B.state board.now).on (K.drain sink.old)
-        (words_bytes (take 32 (drop first (B.state board.now).sram))) result (K.drain sink.new) }
+        (words_bytes (take PAGE_WORDS (drop first (B.state board.now).sram))) result (K.drain sink.new) }
 {
     let bytes = bytes_of_piece(board, first)?;
     write_all(sink, &bytes)?;
@@ -152,12 +152,12 @@ fn write_piece<B: Board, K: Sink>(board: &B, first: u32, sink: &mut K) -> Result
 // Writes the first words of SRAM, so many times 32.
 fn write_pieces<B: Board, K: Sink>(board: &B, pieces: u32, sink: &mut K) -> Result<(), OutFault>
     requires on { IsTrue (B.state board.now).on }
-    requires room { 32 * pieces ≤ length (B.state board.now).sram }
-    ensures { WritesFirst (32 * pieces) (B.state board.now).on (K.drain sink.old) (B.state board.now).sram result
+    requires room { PAGE_WORDS * pieces ≤ length (B.state board.now).sram }
+    ensures { WritesFirst (PAGE_WORDS * pieces) (B.state board.now).on (K.drain sink.old) (B.state board.now).sram result
         (K.drain sink.new) }
 {
     for piece in 0..pieces {
-        write_piece(board, 32 * piece, sink)?;
+        write_piece(board, PAGE_WORDS * piece, sink)?;
     }
     Ok(())
 }
@@ -183,9 +183,9 @@ fn write_words<B: Board, K: Sink>(board: &B, sink: &mut K) -> Result<(), OutFaul
     ensures { WritesOut (B.state board.now).on (K.drain sink.old) (words_bytes (B.state board.now).sram) result
         (K.drain sink.new) }
 {
-    let pieces = envy_map::words(&board.shape()) / 32;
+    let pieces = envy_map::words(&board.shape()) / PAGE_WORDS;
     write_pieces(board, pieces, sink)?;
-    write_rest(board, 32 * pieces, sink)
+    write_rest(board, PAGE_WORDS * pieces, sink)
 }
 
 // Writes what stands behind the head.

@@ -5,7 +5,7 @@ use Rattle.std.specs.Option.{ForSome}
 use Rattle.std.proofs.lemmas.List.{ext_get_or, length-replicate, get_or-replicate}
 use Rattle.envy_base.specs.Array.{Array, Saved, IsArray, slot_of}
 use Rattle.envy_base.specs.Shape.{IsShape}
-use Rattle.envy_base.specs.Words.{Works as SheetWorks, Keeps, Rose}
+use Rattle.envy_base.specs.Words.{Works as SheetWorks, Spends, Keeps, Rose}
 use Rattle.envy_base.specs.declared.board.Off.{Off as OffBoard}
 use Rattle.envy_base.specs.declared.board.Trouble.{Trouble}
 use Rattle.envy_base.specs.declared.board.Trouble.TheVariants.{Off as TroubleOff, Bad as TroubleBad}
@@ -26,7 +26,7 @@ use Rattle.envy_memory.specs.Sheets.{fixed_of, sheet_of, words_read}
 use Rattle.envy_calls.specs.Codes.{number_of}
 use Rattle.envy_calls.specs.declared.code.Code.{Code}
 use Rattle.envy_calls.specs.declared.code.Code.TheVariants.{Done}
-use Rattle.envy_index_calls.specs.Indexed.{Pairs, HoldsMap, HoldsSomeMap, HoldsArray, HasOpen, IsShut, Serves, Rests, MayServe, Lends, Works, Asks, Gets, Counts, Finds, Inserts, Removes, Blanks, Creates, DoesCreate, TellsValue, TellsCount, TellsPair, TellsInsert, TellsRemoval, made_code, old_of}
+use Rattle.envy_index_calls.specs.Indexed.{Pairs, HoldsMap, HoldsSomeMap, HoldsArray, HasOpen, IsShut, Serves, Rests, MayServe, Lends, Works, Asks, Gets, Counts, Finds, Inserts, Removes, Blanks, Creates, DoesCreate, creation_puts, TellsValue, TellsCount, TellsPair, TellsInsert, TellsRemoval, made_code, old_of}
 use Rattle.envy_index_calls.specs.declared.pairs.EnvyPair.{EnvyPair}
 use Rattle.envy_index_calls.specs.declared.pairs.EnvyOld.{EnvyOld}
 use Rattle.envy_index_calls.proofs.Blanking.{blanked-index}
@@ -81,8 +81,8 @@ shape-fixed : (c d : Chart) → fixed_of d ≡ fixed_of c → d.shape ≡ c.shap
 shape-fixed c d same = shape-same d.shape c.shape (cc) (cc) (cc) (cc) (cc) (cc)
 
 -- the numbers that no call changes, one by one
-fixed-works : (p q : Picture) → fixed_of q.chart ≡ fixed_of p.chart → p.chart.cuts ≤ q.chart.cuts → p.chart.bads ≤ q.chart.bads → (IsTrue p.chart.on → q.chart.on ≡ false → Rose p.chart.cuts q.chart.cuts) → Works p q
-fixed-works p q same cuts bads cut = record {
+fixed-works : (puts : ℕ) (p q : Picture) (b d : Bool) → fixed_of q.chart ≡ fixed_of p.chart → p.chart.cuts ≤ q.chart.cuts → p.chart.bads ≤ q.chart.bads → (IsTrue p.chart.on → q.chart.on ≡ false → Rose p.chart.cuts q.chart.cuts) → Spends puts (sheet_of p b) (sheet_of q d) → Works puts p q
+fixed-works puts p q b d same cuts bads cut s = record {
   shape = shape-fixed p.chart q.chart same;
   cuts = cuts;
   bads = bads;
@@ -91,6 +91,8 @@ fixed-works p q same cuts bads cut = record {
   plans = (cc);
   given = (cc);
   lives = (cc);
+  programs = s.programs;
+  erases = s.erases;
 }
 
 -- what a call of the tree leaves, once it is back in its place
@@ -105,12 +107,12 @@ serves-back : (q : Picture) (d : Bool) (es : Pairs) → Back q d → IsTrue q.ch
 serves-back q d es b on map = record { shut = shut-back q d b on; map = subst (λ (ws : List ℕ). IsIndex ws es) (ap (λ (x : Bool). words_read x q.chart) (Back.shut b)) map }
 
 -- what the map did to the words the memory did
-pub works-back : (p q : Picture) (b d : Bool) → SheetWorks 0 (sheet_of p b) (sheet_of q d) → Works p q
-works-back p q b d w = fixed-works p q w.fixed w.cuts w.bads w.cut
+pub works-back : (p q : Picture) (b d : Bool) → SheetWorks 0 (sheet_of p b) (sheet_of q d) → Spends 0 (sheet_of p b) (sheet_of q d) → Works 0 p q
+works-back p q b d w s = fixed-works 0 p q b d w.fixed w.cuts w.bads w.cut s
 
 -- what leaves the words leaves the memory's answers
-pub keeps-back : (p q : Picture) (b d : Bool) → Keeps (sheet_of p b) (sheet_of q d) → Works p q
-keeps-back p q b d w = fixed-works p q w.fixed w.cuts w.bads w.cut
+pub keeps-back : (puts : ℕ) (p q : Picture) (b d : Bool) → Keeps (sheet_of p b) (sheet_of q d) → Spends puts (sheet_of p b) (sheet_of q d) → Works puts p q
+keeps-back puts p q b d w s = fixed-works puts p q b d w.fixed w.cuts w.bads w.cut s
 
 rests-back : (p q : Picture) (b d : Bool) → SheetWorks 0 (sheet_of p b) (sheet_of q d) → Back q d → IsTrue q.chart.on → Rests p q
 rests-back p q b d w back on = record { shut = shut-back q d back on; same = w.kept }
@@ -144,10 +146,10 @@ may-serve p sh c d b (m, stands) same same_too shape is pages shadows closed shu
     }
 
 -- the call was made
-pub asks : (Tells : Pairs → Picture → Picture → Code → Type 0) (old new : Option Picture) (p q : Picture) (b : Bool) (code : Code) → Lent old p b → new ≡ Some q → Works p q → ((es : Pairs) → HoldsMap p es → Tells es p q code) → Asks old new (number_of code) Tells
-asks Tells old new p q b code l is works tells = subst (λ (o : Option Picture). Asks o new (number_of code) Tells) (sym (Lent.is l)) (q, code, is, refl, works, tells)
+pub asks : (puts : ℕ) (Tells : Pairs → Picture → Picture → Code → Type 0) (old new : Option Picture) (p q : Picture) (b : Bool) (code : Code) → Lent old p b → new ≡ Some q → Works puts p q → ((es : Pairs) → HoldsMap p es → Tells es p q code) → Asks puts old new (number_of code) Tells
+asks puts Tells old new p q b code l is works tells = subst (λ (o : Option Picture). Asks puts o new (number_of code) Tells) (sym (Lent.is l)) (q, code, is, refl, works, tells)
 
-pub creates : (old new : Option Picture) (p q : Picture) (b : Bool) (code : Code) → Lent old p b → new ≡ Some q → Works p q → Creates p q code → DoesCreate old new (number_of code)
+pub creates : (old new : Option Picture) (p q : Picture) (b : Bool) (code : Code) → Lent old p b → new ≡ Some q → Works creation_puts p q → Creates p q code → DoesCreate old new (number_of code)
 creates old new p q b code l is works done = subst (λ (o : Option Picture). DoesCreate o new (number_of code)) (sym (Lent.is l)) (q, code, is, refl, works, done)
 
 -- ---- calls that change no pair

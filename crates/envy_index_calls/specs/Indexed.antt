@@ -1,6 +1,6 @@
 -- What the calls of a map answer by a code, and what they leave. The map is the whole array's: it is what the committed
 -- words of the memory stand for, as an index tree.
-use Rattle.std.specs.Prelude.{◌≡◌, ◌≢◌, ◌⊎◌, ℕ, zero, suc, ◌^◌, ◌<◌, ◌≤◌, Bool, true, false, IsTrue, List, [], length, replicate, slice_set, Option, None, Some, Result, Ok, Err}
+use Rattle.std.specs.Prelude.{◌≡◌, ◌≢◌, ◌⊎◌, ℕ, zero, suc, ◌+◌, ◌*◌, ◌^◌, ◌<◌, ◌≤◌, Bool, true, false, IsTrue, List, [], length, replicate, slice_set, sum, Option, None, Some, Result, Ok, Err}
 use Rattle.envy_base.specs.Array.{Array}
 use Rattle.envy_base.specs.Words.{Sheet, Rose}
 use Rattle.envy_base.specs.declared.board.Off.{Off as OffBoard}
@@ -10,6 +10,7 @@ use Rattle.envy_base.specs.declared.fields.Slot.TheVariants.{Active}
 use Rattle.envy_map.specs.Fields.{Chart, slot as slot_of}
 use Rattle.envy_layout.specs.Stands.{Stands}
 use Rattle.envy_layout.specs.Words.{durable}
+use Rattle.envy_memory.specs.Below.{flush_programs, flush_erases}
 use Rattle.envy_memory.specs.Calls.{fresh}
 use Rattle.envy_memory.specs.Picture.{Picture}
 use Rattle.envy_btree.specs.Answers.{IsFull}
@@ -75,8 +76,8 @@ Declines p SlotOpen = HasOpen p.chart true × (20 ≤ p.chart.shape.pages) × (3
 Declines p code = ⊥
 
 -- What every call does: sizes stay, and the numbers that a board over a file tells of its disk by; power that was on and is
--- off failed in the call.
-pub record Works (p q : Picture) : Type 0 where
+-- off failed in the call. No more flash work began than so many puts may begin.
+pub record Works (puts : ℕ) (p q : Picture) : Type 0 where
   pub shape : q.chart.shape ≡ p.chart.shape
   pub cuts : p.chart.cuts ≤ q.chart.cuts
   pub bads : p.chart.bads ≤ q.chart.bads
@@ -85,6 +86,12 @@ pub record Works (p q : Picture) : Type 0 where
   pub plans : q.chart.plans ≡ p.chart.plans
   pub given : q.chart.given ≡ p.chart.given
   pub lives : q.chart.lives ≡ p.chart.lives
+  pub programs : q.chart.begun ≤ p.chart.begun + puts * flush_programs p.chart.shape.rows
+  pub erases : sum q.chart.erases ≤ sum p.chart.erases + puts * flush_erases
+
+-- A map is made by a transaction that puts four words, and it counts as a put itself.
+abbrev pub creation_puts : ℕ
+creation_puts = 5
 
 -- The memory is taken out of a place, with no slot open; or the place stays, and why.
 abbrev pub Lends : Option Picture → Option Picture → Result (Picture × Bool) Code → Type 0
@@ -93,11 +100,11 @@ Lends (Some p) new (Ok x) = (x.0 ≡ p) × (x.1 ≡ false) × MayServe p
 Lends None new (Err code) = (new ≡ None) × (code ≡ Empty)
 Lends (Some p) new (Err code) = (new ≡ Some p) × Declines p code
 
--- In a place: its memory's call, which tells this of each map that the memory holds; without a memory that is the
--- answer.
-abbrev pub Asks : Option Picture → Option Picture → ℕ → (Pairs → Picture → Picture → Code → Type 0) → Type 0
-Asks None new number Tells = (new ≡ None) × (number ≡ number_of Empty)
-Asks (Some p) new number Tells = (q : Picture) × (code : Code) × (new ≡ Some q) × (number ≡ number_of code) × Works p q × ((es : Pairs) → HoldsMap p es → Tells es p q code)
+-- In a place: its memory's call, which tells this of each map that the memory holds, and is worth so many puts at most;
+-- without a memory that is the answer.
+abbrev pub Asks : ℕ → Option Picture → Option Picture → ℕ → (Pairs → Picture → Picture → Code → Type 0) → Type 0
+Asks puts None new number Tells = (new ≡ None) × (number ≡ number_of Empty)
+Asks puts (Some p) new number Tells = (q : Picture) × (code : Code) × (new ≡ Some q) × (number ≡ number_of code) × Works puts p q × ((es : Pairs) → HoldsMap p es → Tells es p q code)
 
 -- power failed in a call that changes no word
 abbrev pub Loses : Picture → Picture → Type 0
@@ -213,4 +220,4 @@ Creates p q code = (q ≡ p) × Declines p code
 
 abbrev pub DoesCreate : Option Picture → Option Picture → ℕ → Type 0
 DoesCreate None new number = (new ≡ None) × (number ≡ number_of Empty)
-DoesCreate (Some p) new number = (q : Picture) × (code : Code) × (new ≡ Some q) × (number ≡ number_of code) × Works p q × Creates p q code
+DoesCreate (Some p) new number = (q : Picture) × (code : Code) × (new ≡ Some q) × (number ≡ number_of code) × Works creation_puts p q × Creates p q code

@@ -56,7 +56,7 @@ fn told_pair(found: Result<Option<(u64, u64)>, Off>, pair: &mut EnvyPair) -> Cod
 /// The value of a key.
 pub fn get<B: Board + Drop>(slot: &mut Option<Memory<B>>, key: u64, value: &mut u64) -> Code
     requires { ForSome slot.old HoldsSomeMap }
-    ensures gets { Asks slot.old slot.new (number_of result) (Gets key value.new) }
+    ensures gets { Asks 0 slot.old slot.new (number_of result) (Gets key value.new) }
     ensures unwritten { result ≢ Done → value.new ≡ value.old }
 {
     let mut words = match words_of(slot) {
@@ -71,7 +71,7 @@ pub fn get<B: Board + Drop>(slot: &mut Option<Memory<B>>, key: u64, value: &mut 
 /// How many pairs there are.
 pub fn count<B: Board + Drop>(slot: &mut Option<Memory<B>>, number: &mut u64) -> Code
     requires { ForSome slot.old HoldsSomeMap }
-    ensures counts { Asks slot.old slot.new (number_of result) (Counts number.new) }
+    ensures counts { Asks 0 slot.old slot.new (number_of result) (Counts number.new) }
     ensures unwritten { result ≢ Done → number.new ≡ number.old }
 {
     let mut words = match words_of(slot) {
@@ -86,7 +86,7 @@ pub fn count<B: Board + Drop>(slot: &mut Option<Memory<B>>, number: &mut u64) ->
 /// The pair with the least key that is at least `key`.
 pub fn next<B: Board + Drop>(slot: &mut Option<Memory<B>>, key: u64, pair: &mut EnvyPair) -> Code
     requires { ForSome slot.old HoldsSomeMap }
-    ensures finds { Asks slot.old slot.new (number_of result) (Finds (IsLeastFrom key) pair.new) }
+    ensures finds { Asks 0 slot.old slot.new (number_of result) (Finds (IsLeastFrom key) pair.new) }
     ensures unwritten { result ≢ Done → pair.new ≡ pair.old }
 {
     let mut words = match words_of(slot) {
@@ -101,7 +101,7 @@ pub fn next<B: Board + Drop>(slot: &mut Option<Memory<B>>, key: u64, pair: &mut 
 /// The pair with the least key above `key`.
 pub fn above<B: Board + Drop>(slot: &mut Option<Memory<B>>, key: u64, pair: &mut EnvyPair) -> Code
     requires { ForSome slot.old HoldsSomeMap }
-    ensures finds { Asks slot.old slot.new (number_of result) (Finds (IsLeastFrom (key + 1)) pair.new) }
+    ensures finds { Asks 0 slot.old slot.new (number_of result) (Finds (IsLeastFrom (key + 1)) pair.new) }
     ensures unwritten { result ≢ Done → pair.new ≡ pair.old }
 {
     let mut words = match words_of(slot) {
@@ -116,7 +116,7 @@ pub fn above<B: Board + Drop>(slot: &mut Option<Memory<B>>, key: u64, pair: &mut
 /// The pair with the greatest key that is at most `key`.
 pub fn last<B: Board + Drop>(slot: &mut Option<Memory<B>>, key: u64, pair: &mut EnvyPair) -> Code
     requires { ForSome slot.old HoldsSomeMap }
-    ensures finds { Asks slot.old slot.new (number_of result) (Finds (IsGreatestTo key) pair.new) }
+    ensures finds { Asks 0 slot.old slot.new (number_of result) (Finds (IsGreatestTo key) pair.new) }
     ensures unwritten { result ≢ Done → pair.new ≡ pair.old }
 {
     let mut words = match words_of(slot) {

@@ -1,6 +1,7 @@
 // The calls of a map that change pairs, each of which is one transaction.
 ghost use Rattle.std.specs.Prelude.{◌≡◌, ◌≢◌, ◌+◌, ◌<◌, ◌≤◌, ◌^◌, ℕ, length, false, IsTrue, OnOk};
 ghost use Rattle.std.specs.Option.{ForSome};
+ghost use Rattle.envy_btree.specs.Answers.{insert_puts, removal_puts};
 ghost use Rattle.envy_calls.specs.Codes.{number_of};
 ghost use Rattle.envy_calls.specs.declared.code.Code.TheVariants.{Done};
 ghost use Rattle.envy_index_calls.specs.Indexed.{Asks, HoldsSomeMap, Inserts, Removes, TellsInsert, TellsRemoval, fault_code, old_of};
@@ -68,7 +69,7 @@ pub fn insert<B: Board + Drop>(
     before: &mut EnvyOld,
 ) -> Code
     requires { ForSome slot.old HoldsSomeMap }
-    ensures inserts { Asks slot.old slot.new (number_of result) (Inserts key value before.new) }
+    ensures inserts { Asks insert_puts slot.old slot.new (number_of result) (Inserts key value before.new) }
     ensures unwritten { result ≢ Done → before.new ≡ before.old }
 {
     let mut words = match words_of(slot) {
@@ -83,7 +84,7 @@ pub fn insert<B: Board + Drop>(
 /// Takes a key out of the map.
 pub fn remove<B: Board + Drop>(slot: &mut Option<Memory<B>>, key: u64, value: &mut u64) -> Code
     requires { ForSome slot.old HoldsSomeMap }
-    ensures removes { Asks slot.old slot.new (number_of result) (Removes key value.new) }
+    ensures removes { Asks removal_puts slot.old slot.new (number_of result) (Removes key value.new) }
     ensures unwritten { result ≢ Done → value.new ≡ value.old }
 {
     let mut words = match words_of(slot) {

@@ -1,9 +1,9 @@
 // How a map begins.
 ghost use Rattle.std.specs.Prelude.{◌≡◌, ◌+◌, ◌≤◌, length, false, IsTrue, OnOk};
 ghost use Rattle.std.specs.Option.{ForSome};
-ghost use Rattle.envy_base.specs.Words.{Fails, Keeps, Works};
+ghost use Rattle.envy_base.specs.Words.{Fails, Keeps, Spends, Works};
 ghost use Rattle.envy_calls.specs.Codes.{number_of};
-ghost use Rattle.envy_index_calls.specs.Indexed.{Blanks, DoesCreate, EndsTry, HoldsArray, IsTried, blanked, made_code};
+ghost use Rattle.envy_index_calls.specs.Indexed.{Blanks, DoesCreate, EndsTry, HoldsArray, IsTried, blanked, creation_puts, made_code};
 
 use crate::words::{return_words, words_of};
 use envy_base::{Board, Trouble, Words};
@@ -19,6 +19,7 @@ fn blank<W: Words>(words: &mut W) -> Result<(), Trouble>
     requires room { length (W.sheet words.old).pages + 1 ≤ (W.sheet words.old).room }
     requires size { 4 ≤ length (W.sheet words.old).words }
     ensures works { Works 1 (W.sheet words.old) (W.sheet words.new) }
+    ensures spends { Spends 4 (W.sheet words.old) (W.sheet words.new) }
     ensures fails { Fails (W.sheet words.old) result (W.sheet words.new) }
     ensures blanks { OnOk result ((W.sheet words.new).words ≡ blanked (W.sheet words.old).words) }
 {
@@ -32,6 +33,7 @@ fn blank<W: Words>(words: &mut W) -> Result<(), Trouble>
 fn end<W: Words>(words: &mut W, done: Result<(), Trouble>) -> Result<(), Trouble>
     requires tried { IsTried done (W.sheet words.old) }
     ensures keeps { Keeps (W.sheet words.old) (W.sheet words.new) }
+    ensures spends { Spends 0 (W.sheet words.old) (W.sheet words.new) }
     ensures shut { (W.sheet words.new).started ≡ false }
     ensures ends { EndsTry done (W.sheet words.old) result (W.sheet words.new) }
 {
@@ -49,6 +51,7 @@ fn create_alone<W: Words>(words: &mut W) -> Result<(), Trouble>
     requires room { 1 ≤ (W.sheet words.old).room }
     requires size { 4 ≤ length (W.sheet words.old).words }
     ensures keeps { Keeps (W.sheet words.old) (W.sheet words.new) }
+    ensures spends { Spends creation_puts (W.sheet words.old) (W.sheet words.new) }
     ensures shut { (W.sheet words.new).started ≡ false }
     ensures blanks { Blanks (W.sheet words.old) result (W.sheet words.new) }
 {

@@ -16,7 +16,7 @@ use crate::head::HEAD;
 use crate::log::Log;
 use crate::operation::{PROGRAM_SIZE, PUT_SIZE, program_bytes, put_bytes};
 use crate::steady::Steady;
-use envy_base::Shape;
+use envy_base::{PAGE_LENGTH, PAGE_WORDS, Page, Shape};
 use envy_device::{Place, ReplaceError, SecondFailed};
 use envy_map::words;
 
@@ -24,7 +24,7 @@ use envy_map::words;
 const LEAST: usize = 1 << 20;
 
 // A row on which nothing was programmed.
-const ERASED: [u64; 32] = [u64::MAX; 32];
+const ERASED: Page = [u64::MAX; PAGE_LENGTH];
 
 // How many bytes a snapshot takes at most.
 fn most(shape: &Shape) -> usize
@@ -57,7 +57,7 @@ fn word_of<B: Steady>(board: &B, w: u32) -> u64
 // A word of a row.
 fn word_in_row<B: Steady>(board: &B, row: u32, i: u32) -> u64
     requires row { row < length (B.state board.now).flash }
-    requires place { i < 32 }
+    requires place { i < PAGE_WORDS }
     ensures { result ≡ slice_index_or (row_of (B.state board.now) row) i 0 }
 {
     match board.read(row, i) {
@@ -67,11 +67,11 @@ fn word_in_row<B: Steady>(board: &B, row: u32, i: u32) -> u64
 }
 
 // A row.
-fn page_in<B: Steady>(board: &B, row: u32) -> [u64; 32]
+fn page_in<B: Steady>(board: &B, row: u32) -> Page
     requires { row < length (B.state board.now).flash }
     ensures { result ≡ row_of (B.state board.now) row }
 {
-    let mut page = [0; 32];
+    let mut page = [0; PAGE_LENGTH];
     for i in 0..32u32 {
         page[i as usize] = word_in_row(board, row, i);
     }

@@ -19,14 +19,14 @@ wrote-power change c new (Err off) (inl (was, is)) = ap (λ (x : Chart). x.on) i
 wrote-power change c new (Err off) (inr (on, f, what, is)) = ap (λ (x : Chart). x.on) is
 
 -- row i of a segment, by a shape as it was read
-pub row-of : (sh read : Shape) (e i : ℕ) → read ≡ sh → IsShape sh → e < sh.segments → i < sh.rows → e * read.rows + i < 1048576
+pub row-of : (sh read : Shape) (e i : ℕ) → read ≡ sh → IsShape sh → e < sh.segments → i < sh.rows → e * read.rows + i < 16777216
 row-of sh read e i same shape segment row =
     let few = shape.few in
     let below = mul-add-lt e sh.rows i sh.segments segment row in
-    subst (λ (x : Shape). e * x.rows + i < 1048576) (sym same) (omega (arith, below))
+    subst (λ (x : Shape). e * x.rows + i < 16777216) (sym same) (omega (arith, below))
 
-pub row-fits : (n i : ℕ) → n + i < 1048576 → Fits w32 (n + i)
+pub row-fits : (n i : ℕ) → n + i < 16777216 → Fits w32 (n + i)
 row-fits n i few = omega arith
 
-pub base-fits : (n i : ℕ) → n + i < 1048576 → Fits w32 n
+pub base-fits : (n i : ℕ) → n + i < 16777216 → Fits w32 n
 base-fits n i few = omega arith

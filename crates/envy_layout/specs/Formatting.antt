@@ -15,6 +15,8 @@ use Rattle.envy_map.specs.Writes.{with_size, with_version, with_job, with_fill, 
 use Rattle.envy_layout.specs.Same.{Counted}
 use Rattle.envy_layout.specs.Sound.{IsSound, slots_of}
 use Rattle.envy_layout.specs.Words.{live, durable}
+use Rattle.envy_base.specs.declared.page.TheConstants.{PAGE_WORDS}
+use Rattle.envy_base.specs.Shape.{positions_of}
 
 -- but for power the board is sound and stands for zeros: no slot is open, each segment is worn once and
 -- empty, and position k names segment k
@@ -22,15 +24,15 @@ pub record IsEmpty (version : ℕ) (c : Chart) : Type 0 where
   pub magic : c.fields.magic ≡ the_magic
   pub version_is : c.fields.version ≡ version
   pub sound : IsSound c
-  pub live_zeros : live c ≡ replicate (32 * c.shape.pages) 0
-  pub durable_zeros : durable c ≡ replicate (32 * c.shape.pages) 0
+  pub live_zeros : live c ≡ replicate (PAGE_WORDS * c.shape.pages) 0
+  pub durable_zeros : durable c ≡ replicate (PAGE_WORDS * c.shape.pages) 0
   pub job : c.fields.job ≡ Some Idle
   pub slots : (t : ℕ) → t < slots_of version → slot c.fields t ≡ Some Vacant
   pub places : (p : ℕ) → p < c.shape.pages → place c.fields p ≡ Some Absent
   pub undos : (p : ℕ) → p < c.shape.pages → undo c.fields p ≡ Some Clear
   pub wears : (s : ℕ) → s < c.shape.segments → slice_index c.fields.wears s ≡ 1
   pub fills : (s : ℕ) → s < c.shape.segments → slice_index c.fields.fills s ≡ 0
-  pub positions : (k : ℕ) → k < c.shape.segments - 1 → slice_index c.fields.positions k ≡ k
+  pub positions : (k : ℕ) → k < positions_of c.shape → slice_index c.fields.positions k ≡ k
 
 -- one erase of each of the first n segments began
 abbrev pub AreErasedOnce : ℕ → List ℕ → List ℕ → Type 0
@@ -127,7 +129,7 @@ pub record Reached (n : ℕ) (old new : Chart) : Type 0 where
 -- all regions of a new map but its head
 abbrev pub with_regions_laid : Shape → ℕ → Fields → Fields
 with_regions_laid sh slots f =
-    with_origins_laid sh.rows (with_backs_laid (sh.segments * sh.rows) (with_undos_laid (2 * ((sh.pages + 1) / 2)) (with_places_laid (2 * ((sh.pages + 1) / 2)) (with_positions_laid (sh.segments - 1) (with_slots_laid slots f)))))
+    with_origins_laid sh.rows (with_backs_laid (sh.segments * sh.rows) (with_undos_laid (2 * ((sh.pages + 1) / 2)) (with_places_laid (2 * ((sh.pages + 1) / 2)) (with_positions_laid (positions_of sh) (with_slots_laid slots f)))))
 
 -- the whole map of an empty array, but for its first word, over erased flash
 pub record IsLaid (sh : Shape) (version : ℕ) (f : Fields) (flash : List (List ℕ)) : Type 0 where
@@ -140,8 +142,8 @@ pub record IsLaid (sh : Shape) (version : ℕ) (f : Fields) (flash : List (List 
   pub wears : (s : ℕ) → s < sh.segments → slice_index f.wears s ≡ 1
   pub fills_long : length f.fills ≡ sh.segments
   pub fills : (s : ℕ) → s < sh.segments → slice_index f.fills s ≡ 0
-  pub positions_long : length f.positions ≡ sh.segments - 1
-  pub positions : (k : ℕ) → k < sh.segments - 1 → slice_index f.positions k ≡ k
+  pub positions_long : length f.positions ≡ positions_of sh
+  pub positions : (k : ℕ) → k < positions_of sh → slice_index f.positions k ≡ k
   pub places_long : length f.places ≡ sh.pages
   pub places : (p : ℕ) → p < sh.pages → place f p ≡ Some Absent
   pub undos_long : length f.undos ≡ sh.pages
@@ -150,5 +152,5 @@ pub record IsLaid (sh : Shape) (version : ℕ) (f : Fields) (flash : List (List 
   pub backs : (q : ℕ) → q < sh.segments * sh.rows → slice_index f.backs q ≡ 0
   pub origins_long : length f.origins ≡ sh.rows
   pub origins : (i : ℕ) → i < sh.rows → slice_index f.origins i ≡ 0
-  pub frames_long : length f.frames ≡ 32 * sh.frames
+  pub frames_long : length f.frames ≡ PAGE_WORDS * sh.frames
   pub erased : (q : ℕ) → q < sh.segments * sh.rows → slice_index_or flash q [] ≡ ones

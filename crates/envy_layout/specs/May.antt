@@ -10,6 +10,7 @@ use Rattle.envy_base.specs.declared.fields.Undo.TheVariants.{Clear, Blank, Shado
 use Rattle.envy_map.specs.Fields.{Fields, place, undo, slot}
 use Rattle.envy_layout.specs.Words.{kept, word_at, live_word, durable_word}
 use Rattle.envy_layout.specs.Sound.{Names, IsPlaced, IsSpare, slots_of, slot_named}
+use Rattle.envy_base.specs.declared.page.TheConstants.{PAGE_WORDS}
 
 -- no place names the frame
 abbrev pub IsUnnamed : Fields → ℕ → Type 0
@@ -37,11 +38,11 @@ MayTake sh f p (Frame k) = (k < sh.frames) × ((r : ℕ) → place f r ≡ Some 
 
 -- the words there are those that loads of the page read
 abbrev pub HasPage : Fields → List (List ℕ) → ℕ → Place → Type 0
-HasPage f flash p x = (j : ℕ) → j < 32 → word_at f.frames flash (Some x) j ≡ live_word f flash p j
+HasPage f flash p x = (j : ℕ) → j < PAGE_WORDS → word_at f.frames flash (Some x) j ≡ live_word f flash p j
 
 -- or those with word i changed
 abbrev pub HasChanged : Fields → List (List ℕ) → ℕ → Place → ℕ → ℕ → Type 0
-HasChanged f flash p x i w = (j : ℕ) → j < 32 → word_at f.frames flash (Some x) j ≡ (if j == i then w else live_word f flash p j)
+HasChanged f flash p x i w = (j : ℕ) → j < PAGE_WORDS → word_at f.frames flash (Some x) j ≡ (if j == i then w else live_word f flash p j)
 
 -- what an undo names
 abbrev pub named_by : Undo → Option Place
@@ -55,7 +56,7 @@ IsOpen f t = (t < slots_of f.version) × (slot f t ≡ Some Active)
 
 -- the words there are those that a restart would leave of the page
 abbrev pub HasKept : Fields → List (List ℕ) → ℕ → Option Place → Type 0
-HasKept f flash p x = (j : ℕ) → j < 32 → word_at f.frames flash x j ≡ durable_word f flash p j
+HasKept f flash p x = (j : ℕ) → j < PAGE_WORDS → word_at f.frames flash x j ≡ durable_word f flash p j
 
 -- the page may go back to what this undo names
 abbrev pub MayUndo : Shape → Fields → List (List ℕ) → ℕ → Undo → Type 0

@@ -4,6 +4,7 @@ use Rattle.envy_base.specs.Counting.{up}
 use Rattle.envy_map.specs.Fields.{Chart, undo}
 use Rattle.envy_layout.specs.Sound.{IsSound, slot_named}
 use Rattle.envy_layout.specs.Words.{live, durable}
+use Rattle.envy_base.specs.declared.page.TheConstants.{PAGE_WORDS}
 
 -- power and the count of its failures: both stay, or it failed once
 abbrev pub Powers : Bool → ℕ → Bool → ℕ → Type 0
@@ -135,13 +136,13 @@ pub record Commits (k j t : ℕ) (old new : Chart) : Type 0 where
   pub magic : new.fields.magic ≡ old.fields.magic
   pub version : new.fields.version ≡ old.fields.version
   pub sound : IsSound new
-  pub own : (a : ℕ) → slot_named (undo old.fields (a / 32)) ≡ Some t → slice_index (durable new) a ≡ slice_index (live old) a
-  pub others : (a : ℕ) → slot_named (undo old.fields (a / 32)) ≢ Some t → slice_index (durable new) a ≡ slice_index (durable old) a
+  pub own : (a : ℕ) → slot_named (undo old.fields (a / PAGE_WORDS)) ≡ Some t → slice_index (durable new) a ≡ slice_index (live old) a
+  pub others : (a : ℕ) → slot_named (undo old.fields (a / PAGE_WORDS)) ≢ Some t → slice_index (durable new) a ≡ slice_index (durable old) a
   pub live : live new ≡ live old
   pub counted : Counted k j old new
   pub worn : Wears old new
 
 -- loads read of page p what a restart leaves of it, and of the other pages what they read
 pub record Restored (p : ℕ) (old new : Chart) : Type 0 where
-  pub own : (a : ℕ) → a / 32 ≡ p → slice_index (live new) a ≡ slice_index (durable old) a
-  pub others : (a : ℕ) → a / 32 ≢ p → slice_index (live new) a ≡ slice_index (live old) a
+  pub own : (a : ℕ) → a / PAGE_WORDS ≡ p → slice_index (live new) a ≡ slice_index (durable old) a
+  pub others : (a : ℕ) → a / PAGE_WORDS ≢ p → slice_index (live new) a ≡ slice_index (live old) a

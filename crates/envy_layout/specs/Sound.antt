@@ -13,6 +13,8 @@ use Rattle.envy_base.specs.declared.fields.Undo.TheVariants.{Clear, Blank, Shado
 use Rattle.envy_base.specs.State.{ones}
 use Rattle.envy_map.specs.Fields.{Fields, Chart, sizes_of}
 use Rattle.envy_layout.specs.Words.{kept_by}
+use Rattle.envy_base.specs.declared.page.TheConstants.{PAGE_WORDS}
+use Rattle.envy_base.specs.Shape.{positions_of}
 
 -- a reference: the page's place names the row, or its undo does and the slot is active
 abbrev pub Refers : List (Option Slot) → List (Option Undo) → List (Option Place) → ℕ → ℕ → Type 0
@@ -45,12 +47,12 @@ owned_by slots (Some (Shadow t q)) = is_active (slice_index_or slots t None)
 
 -- a segment stands at a position
 abbrev pub IsPlaced : Shape → List ℕ → ℕ → Type 0
-IsPlaced sh positions s = (k : ℕ) × (k < sh.segments - 1) × (slice_index positions k ≡ s)
+IsPlaced sh positions s = (k : ℕ) × (k < positions_of sh) × (slice_index positions k ≡ s)
 
 -- the spare: the segment that no position names
 pub record IsSpare (sh : Shape) (positions : List ℕ) (e : ℕ) : Type 0 where
   pub segment : e < sh.segments
-  pub nowhere : (k : ℕ) → k < sh.segments - 1 → slice_index positions k ≢ e
+  pub nowhere : (k : ℕ) → k < positions_of sh → slice_index positions k ≢ e
 
 -- how many slots a board of this version has
 abbrev pub slots_of : ℕ → ℕ
@@ -91,14 +93,14 @@ pub record Numbers (sh : Shape) (wears fills positions backs origins frames : Li
   pub wears_long : length wears ≡ sh.segments
   pub fills_long : length fills ≡ sh.segments
   pub fills_fit : (s : ℕ) → slice_index fills s ≤ sh.rows
-  pub positions_long : length positions ≡ sh.segments - 1
-  pub positions_fit : (k : ℕ) → k < sh.segments - 1 → slice_index positions k < sh.segments
-  pub apart : (i j : ℕ) → i < sh.segments - 1 → j < sh.segments - 1 → slice_index positions i ≡ slice_index positions j → i ≡ j
+  pub positions_long : length positions ≡ positions_of sh
+  pub positions_fit : (k : ℕ) → k < positions_of sh → slice_index positions k < sh.segments
+  pub apart : (i j : ℕ) → i < positions_of sh → j < positions_of sh → slice_index positions i ≡ slice_index positions j → i ≡ j
   pub backs_long : length backs ≡ sh.segments * sh.rows
   pub backs_fit : (q : ℕ) → q < sh.segments * sh.rows → slice_index backs q < sh.pages
   pub origins_long : length origins ≡ sh.rows
   pub origins_fit : (i : ℕ) → i < sh.rows → slice_index origins i < sh.segments * sh.rows
-  pub frames_long : length frames ≡ 32 * sh.frames
+  pub frames_long : length frames ≡ PAGE_WORDS * sh.frames
 
 -- rows from a fill upward are erased, but in the spare while it is being erased; an idle spare is empty
 pub record Blanks (sh : Shape) (job : Option Job) (fills positions : List ℕ) (flash : List (List ℕ)) : Type 0 where

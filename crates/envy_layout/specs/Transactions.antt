@@ -8,6 +8,7 @@ use Rattle.envy_map.specs.Fields.{Chart, undo}
 use Rattle.envy_layout.specs.Same.{Counted, Wears}
 use Rattle.envy_layout.specs.Sound.{IsSound, owned_by, slot_named}
 use Rattle.envy_layout.specs.Words.{live, durable}
+use Rattle.envy_base.specs.declared.page.TheConstants.{PAGE_WORDS}
 
 -- the open transaction that owns a page with this undo
 abbrev pub owner_in : List (Option Slot) → Option Undo → Option ℕ
@@ -40,5 +41,5 @@ pub record Closes (t : ℕ) (old new : Chart) : Type 0 where
 
 -- loads read of the pages of slot t what a restart would have left of them, and of the others what they read
 pub record TakesBack (t : ℕ) (old new : Chart) : Type 0 where
-  pub own : (a : ℕ) → slot_named (undo old.fields (a / 32)) ≡ Some t → slice_index (live new) a ≡ slice_index (durable old) a
-  pub others : (a : ℕ) → slot_named (undo old.fields (a / 32)) ≢ Some t → slice_index (live new) a ≡ slice_index (live old) a
+  pub own : (a : ℕ) → slot_named (undo old.fields (a / PAGE_WORDS)) ≡ Some t → slice_index (live new) a ≡ slice_index (durable old) a
+  pub others : (a : ℕ) → slot_named (undo old.fields (a / PAGE_WORDS)) ≢ Some t → slice_index (live new) a ≡ slice_index (live old) a

@@ -8,6 +8,7 @@ use Rattle.envy_base.specs.declared.fields.Slot.TheVariants.{Vacant, Active, Com
 use Rattle.envy_base.specs.declared.fields.Undo.{Undo}
 use Rattle.envy_base.specs.declared.fields.Undo.TheVariants.{Clear, Blank, Shadow}
 use Rattle.envy_map.specs.Fields.{Fields, Chart, place, undo}
+use Rattle.envy_base.specs.declared.page.TheConstants.{PAGE_WORDS}
 
 abbrev pub if_active : Option Slot → Option Place → Option Place → Option Place
 if_active (Some Active) back now = back
@@ -30,7 +31,7 @@ abbrev pub word_at : List ℕ → List (List ℕ) → Option Place → ℕ → �
 word_at frames flash None i = 0
 word_at frames flash (Some Absent) i = 0
 word_at frames flash (Some (Row q)) i = slice_index (slice_index_or flash q []) i
-word_at frames flash (Some (Frame k)) i = slice_index frames (32 * k + i)
+word_at frames flash (Some (Frame k)) i = slice_index frames (PAGE_WORDS * k + i)
 
 abbrev pub live_word : Fields → List (List ℕ) → ℕ → ℕ → ℕ
 live_word f flash p i = word_at f.frames flash (place f p) i
@@ -40,7 +41,7 @@ durable_word f flash p i = word_at f.frames flash (kept f p) i
 
 -- the list of the words of so many pages
 unfoldable pub words : ℕ → (ℕ → ℕ → ℕ) → List ℕ
-words pages word = map (λ a. word (a / 32) (a % 32)) (range_with_len 0 (32 * pages))
+words pages word = map (λ a. word (a / PAGE_WORDS) (a % PAGE_WORDS)) (range_with_len 0 (PAGE_WORDS * pages))
 
 -- what loads read
 abbrev pub live : Chart → List ℕ

@@ -6,18 +6,18 @@ ghost use Rattle.envy_layout.specs.May.{IsUnnamed, HasChanged};
 ghost use Rattle.envy_layout.specs.Power.{power_of};
 ghost use Rattle.envy_layout.specs.Same.{Counted, Wears, Same, Stored, Interrupted, Shadowed, Dropped};
 
-use envy_base::{Board, Off, Place};
+use envy_base::{Board, Off, PAGE_WORDS, Page, Place};
 use envy_map::{set_frame_word, set_place, write_frame};
 
 /// Fills a frame that no place names, from its first word. The array stays as it is.
-pub fn write_free_frame<B: Board>(board: &mut B, frame: u32, page: &[u64; 32]) -> Result<(), Off>
+pub fn write_free_frame<B: Board>(board: &mut B, frame: u32, page: &Page) -> Result<(), Off>
     requires sound { IsSound (chart (B.state board.old)) }
     requires frame { frame < (B.state board.old).shape.frames }
     requires unnamed { IsTrue (B.state board.old).on → IsUnnamed (chart (B.state board.old)).fields frame }
 
     ensures same { Same 0 0 (chart (B.state board.old)) (chart (B.state board.new)) }
     ensures fields { OnOk result (chart (B.state board.new) ≡ with_fields (chart (B.state board.old))
-        (with_frame frame page.now 32 (chart (B.state board.old)).fields)) }
+        (with_frame frame page.now PAGE_WORDS (chart (B.state board.old)).fields)) }
     ensures places { (chart (B.state board.new)).fields.places ≡ (chart (B.state board.old)).fields.places }
     ensures power { (B.state board.new).on ≡ power_of result }
 {
@@ -36,19 +36,19 @@ pub fn change_frame_word<B: Board>(
 ) -> Result<(), Off>
     requires sound { IsSound (chart (B.state board.old)) }
     requires frame { frame < (B.state board.old).shape.frames }
-    requires place { i < 32 }
+    requires place { i < PAGE_WORDS }
     requires here { IsTrue (B.state board.old).on
         → place (chart (B.state board.old)).fields page ≡ Some (Place.Frame frame) }
 
     ensures free { let old = chart (B.state board.old) in
         let new = chart (B.state board.new) in
         (IsTrue old.on → owned_by old.fields.slots (undo old.fields page) ≡ false)
-        → MatchResult result (λ _. Stored 0 0 old new (32 * page + i) word) (λ _.
-        Interrupted 0 0 old new (32 * page + i) word) }
+        → MatchResult result (λ _. Stored 0 0 old new (PAGE_WORDS * page + i) word) (λ _.
+        Interrupted 0 0 old new (PAGE_WORDS * page + i) word) }
     ensures owned { let old = chart (B.state board.old) in
         let new = chart (B.state board.new) in
         (IsTrue old.on → owned_by old.fields.slots (undo old.fields page) ≡ true)
-        → MatchResult result (λ _. Shadowed 0 0 old new (32 * page + i) word) (λ _. Dropped 0 0 old new) }
+        → MatchResult result (λ _. Shadowed 0 0 old new (PAGE_WORDS * page + i) word) (λ _. Dropped 0 0 old new) }
     ensures counted { Counted 0 0 (chart (B.state board.old)) (chart (B.state board.new)) }
     ensures worn { Wears (chart (B.state board.old)) (chart (B.state board.new)) }
     ensures writes { Writes (with_frame_word frame i word) (chart (B.state board.old)) result
@@ -71,7 +71,7 @@ pub fn move_to_frame<B: Board>(
     requires sound { IsSound (chart (B.state board.old)) }
     requires page { page < (B.state board.old).shape.pages }
     requires frame { frame < (B.state board.old).shape.frames }
-    requires place { i < 32 }
+    requires place { i < PAGE_WORDS }
     requires unnamed { IsTrue (B.state board.old).on → IsUnnamed (chart (B.state board.old)).fields frame }
     requires copy { IsTrue (B.state board.old).on
         → HasChanged (chart (B.state board.old)).fields (B.state board.old).flash page (Place.Frame frame) i word }
@@ -79,12 +79,12 @@ pub fn move_to_frame<B: Board>(
     ensures free { let old = chart (B.state board.old) in
         let new = chart (B.state board.new) in
         (IsTrue old.on → owned_by old.fields.slots (undo old.fields page) ≡ false)
-        → MatchResult result (λ _. Stored 0 0 old new (32 * page + i) word) (λ _.
-        Interrupted 0 0 old new (32 * page + i) word) }
+        → MatchResult result (λ _. Stored 0 0 old new (PAGE_WORDS * page + i) word) (λ _.
+        Interrupted 0 0 old new (PAGE_WORDS * page + i) word) }
     ensures owned { let old = chart (B.state board.old) in
         let new = chart (B.state board.new) in
         (IsTrue old.on → owned_by old.fields.slots (undo old.fields page) ≡ true)
-        → MatchResult result (λ _. Shadowed 0 0 old new (32 * page + i) word) (λ _. Dropped 0 0 old new) }
+        → MatchResult result (λ _. Shadowed 0 0 old new (PAGE_WORDS * page + i) word) (λ _. Dropped 0 0 old new) }
     ensures counted { Counted 0 0 (chart (B.state board.old)) (chart (B.state board.new)) }
     ensures worn { Wears (chart (B.state board.old)) (chart (B.state board.new)) }
     ensures writes { Writes (with_place page (Some (Place.Frame frame))) (chart (B.state board.old)) result

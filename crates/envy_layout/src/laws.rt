@@ -1,6 +1,6 @@
 ghost use Rattle.std.specs.Prelude.{◌≡◌, ◌≢◌, ◌↔◌, ◌<◌, ◌≤◌, ◌+◌, ◌-◌, ◌*◌, ◌/◌, ℕ, true, false, List, Option, None, Some, length, slice_index, slice_index_or, slice_set, sum_by, count_by, if◌then◌else◌};
 ghost use Rattle.std.specs.List.{range_with_len};
-ghost use Rattle.envy_base.specs.Shape.{IsShape};
+ghost use Rattle.envy_base.specs.Shape.{IsShape, positions_of};
 ghost use Rattle.envy_base.specs.declared.fields.Place.{Place};
 ghost use Rattle.envy_base.specs.declared.fields.Slot.{Slot};
 ghost use Rattle.envy_base.specs.declared.fields.Undo.{Undo};
@@ -39,7 +39,7 @@ pub fn enough_rows_are_left()
     ensures { (c : Chart) → IsShape c.shape → IsSound c → c.shape.rows ≤ sum_by
         (λ k. let s = slice_index c.fields.positions k in free_in c.shape c.fields.fills s + dead_in c.shape
         c.fields.slots c.fields.undos c.fields.places c.fields.fills s)
-        (range_with_len 0 (c.shape.segments - 1)) }
+        (range_with_len 0 (positions_of c.shape)) }
 {}
 
 /// Where the place or the undo of one page changes, the kept rows of a segment change by those that the

@@ -1,8 +1,9 @@
 ghost use Rattle.std.specs.Prelude.{◌≡◌, ◌<◌, ◌≤◌, ◌+◌, ◌-◌, ◌*◌, ◌/◌, ◌^◌, IsTrue, OnOk, OnErr};
 ghost use Rattle.envy_layout.specs.Formatting.{IsStopped, with_head, with_slots_laid, with_positions_laid, with_places_laid, with_undos_laid, with_backs_laid, with_origins_laid};
 ghost use Rattle.envy_map.specs.Fields.{chart, with_fields};
+ghost use Rattle.envy_base.specs.Shape.{positions_of};
 
-use envy_base::{Board, Job, Off, Slot};
+use envy_base::{Board, Job, Off, Slot, positions_of};
 use envy_map::{
     clear_places, clear_undos, set_back, set_job, set_origin, set_segment_at, set_size, set_slot,
     set_version,
@@ -49,10 +50,10 @@ pub fn lay_slots<B: Board>(board: &mut B, count: u8) -> Result<(), Off>
 pub fn lay_positions<B: Board>(board: &mut B) -> Result<(), Off>
     requires { IsTrue (B.state board.old).on }
     ensures done { OnOk result (chart (B.state board.new) ≡ with_fields (chart (B.state board.old))
-        (with_positions_laid ((B.state board.old).shape.segments - 1) (chart (B.state board.old)).fields)) }
+        (with_positions_laid (positions_of (B.state board.old).shape) (chart (B.state board.old)).fields)) }
     ensures stopped { OnErr result (IsStopped 0 (chart (B.state board.old)) (chart (B.state board.new))) }
 {
-    for k in 0..board.shape().segments - 1 {
+    for k in 0..positions_of(&board.shape()) {
         set_segment_at(board, k, k)?;
     }
     Ok(())

@@ -1,5 +1,5 @@
 ghost use Rattle.std.specs.Prelude.{◌≡◌, ◌⊎◌, ◌-◌, ◌<◌, ℕ, IsTrue, Some, OnOk, slice_index};
-ghost use Rattle.envy_base.specs.Shape.{IsShape};
+ghost use Rattle.envy_base.specs.Shape.{IsShape, positions_of};
 ghost use Rattle.envy_base.specs.declared.fields.Job.TheVariants.{Switch};
 ghost use Rattle.envy_map.specs.Fields.{Chart, chart, with_fields};
 ghost use Rattle.envy_map.specs.Writes.{Writes, with_position};
@@ -15,7 +15,7 @@ use envy_map::set_segment_at;
 /// array stays.
 pub fn change_position<B: Board>(board: &mut B, position: u32, segment: u32) -> Result<(), Off>
     requires sound { IsSound (chart (B.state board.old)) }
-    requires position { position < (B.state board.old).shape.segments - 1 }
+    requires position { position < positions_of (B.state board.old).shape }
     requires segment { segment < (B.state board.old).shape.segments }
     requires fits { IsTrue (B.state board.old).on
         → FitsPositions (B.state board.old).shape (with_position position segment (chart (B.state board.old)).fields)
@@ -35,7 +35,7 @@ pub fn change_position<B: Board>(board: &mut B, position: u32, segment: u32) -> 
 /// row lies there. That segment is the spare then. The array stays.
 pub fn replace_segment<B: Board>(board: &mut B, position: u32, spare: u32) -> Result<(), Off>
     requires sound { IsSound (chart (B.state board.old)) }
-    requires position { position < (B.state board.old).shape.segments - 1 }
+    requires position { position < positions_of (B.state board.old).shape }
     requires segment { spare < (B.state board.old).shape.segments }
     requires spare { IsTrue (B.state board.old).on
         → IsSpare (B.state board.old).shape (chart (B.state board.old)).fields.positions spare }

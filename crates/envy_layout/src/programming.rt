@@ -7,11 +7,11 @@ ghost use Rattle.envy_layout.specs.Power.{power_after};
 ghost use Rattle.envy_layout.specs.Same.{Same};
 ghost use Rattle.envy_layout.specs.Sound.{IsSound};
 
-use envy_base::{Board, Trouble};
+use envy_base::{Board, Page, Trouble};
 
 /// Programs a row that is claimed and that no page names. An erased row holds the page then. Where the
 /// program fails, or power does, the row may hold anything; the array stays as it is all the same.
-pub fn program_row<B: Board>(board: &mut B, row: u32, page: &[u64; 32]) -> Result<(), Trouble>
+pub fn program_row<B: Board>(board: &mut B, row: u32, page: &Page) -> Result<(), Trouble>
     requires sound { IsSound (chart (B.state board.old)) }
     requires row { row < (B.state board.old).shape.segments * (B.state board.old).shape.rows }
     requires may { IsTrue (B.state board.old).on

@@ -10,7 +10,7 @@ ghost use Rattle.envy_layout.specs.Sound.{IsSound};
 
 use crate::erasing::one_more;
 use crate::programming::program_row;
-use envy_base::{Board, Off, Place, Slot, Trouble, Undo};
+use envy_base::{Board, Off, PAGE_LENGTH, PAGE_WORDS, Page, Place, Slot, Trouble, Undo};
 use envy_map::{back, place, slot, undo};
 
 /// The page that keeps a row: by its place, or else by its undo, whose slot is active.
@@ -51,16 +51,16 @@ pub fn keeper<B: Board>(board: &B, row: u32) -> Result<Option<Kept>, Off>
 }
 
 /// The 32 words of a row.
-pub fn words_of_row<B: Board>(board: &B, row: u32) -> Result<[u64; 32], Off>
+pub fn words_of_row<B: Board>(board: &B, row: u32) -> Result<Page, Off>
     requires { row < (B.state board.now).shape.segments * (B.state board.now).shape.rows }
     ensures words { IfOk result (λ words. words ≡ row_of (B.state board.now) row) }
     ensures power { (B.state board.now).on ≡ power_of result }
 {
-    let mut words = [0; 32];
+    let mut words = [0; PAGE_LENGTH];
     if !board.powered() {
         return Err(Off);
     }
-    for i in 0..32 {
+    for i in 0..PAGE_WORDS {
         words[i as usize] = board.read(row, i)?;
     }
     Ok(words)
@@ -70,7 +70,7 @@ pub fn words_of_row<B: Board>(board: &B, row: u32) -> Result<[u64; 32], Off>
 pub fn program_counted<B: Board>(
     board: &mut B,
     row: u32,
-    words: &[u64; 32],
+    words: &Page,
     count: &mut u64,
 ) -> Result<(), Trouble>
     requires sound { IsSound (chart (B.state board.old)) }

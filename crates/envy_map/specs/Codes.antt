@@ -8,6 +8,7 @@ use Rattle.envy_base.specs.declared.fields.Slot.{Slot}
 use Rattle.envy_base.specs.declared.fields.Slot.TheVariants.{Vacant, Active, Committed}
 use Rattle.envy_base.specs.declared.fields.Undo.{Undo}
 use Rattle.envy_base.specs.declared.fields.Undo.TheVariants.{Clear, Blank, Shadow}
+use Rattle.envy_base.specs.declared.shape.TheConstants.{MOST_ROWS}
 
 -- the first word of a formatted board: the text `eNVyFLSH`, its first letter in the highest byte
 abbrev pub the_magic : ℕ
@@ -49,13 +50,13 @@ place_code (Frame f) = 2 + 4 * f
 -- a row or frame of some board
 abbrev pub IsPlace : Place → Type 0
 IsPlace Absent = Unit {0}
-IsPlace (Row q) = q < 1048576
+IsPlace (Row q) = q < MOST_ROWS
 IsPlace (Frame f) = f < 65536
 
 unfoldable pub place_of : ℕ → Option Place
 place_of w =
     if w == 0 then Some Absent
-    else (if (w % 4 == 1) && nat_lt (w / 4) 1048576 then Some (Row (w / 4))
+    else (if (w % 4 == 1) && nat_lt (w / 4) MOST_ROWS then Some (Row (w / 4))
     else (if (w % 4 == 2) && nat_lt (w / 4) 65536 then Some (Frame (w / 4)) else None))
 
 abbrev pub undo_code : Undo → ℕ
@@ -67,13 +68,13 @@ undo_code (Shadow t q) = 2 + 4 * t + 256 * q
 abbrev pub IsUndo : Undo → Type 0
 IsUndo Clear = Unit {0}
 IsUndo (Blank t) = t < 64
-IsUndo (Shadow t q) = (t < 64) × (q < 1048576)
+IsUndo (Shadow t q) = (t < 64) × (q < MOST_ROWS)
 
 unfoldable pub undo_of : ℕ → Option Undo
 undo_of w =
     if w == 0 then Some Clear
     else (if (w % 4 == 1) && nat_lt (w / 4) 64 then Some (Blank (w / 4))
-    else (if (w % 4 == 2) && nat_lt (w / 256) 1048576 then Some (Shadow (w % 256 / 4) (w / 256)) else None))
+    else (if (w % 4 == 2) && nat_lt (w / 256) MOST_ROWS then Some (Shadow (w % 256 / 4) (w / 256)) else None))
 
 -- the halves of words, the low one first
 abbrev pub halves : List ℕ → List ℕ

@@ -10,6 +10,8 @@ use Rattle.envy_base.specs.Counting.{up}
 use Rattle.envy_base.specs.Map.{slots_at, wear_at, fill_at, position_at, table_at, undo_at, back_at, origin_at, frames_at}
 use Rattle.envy_base.specs.State.{State}
 use Rattle.envy_map.specs.Codes.{the_magic, job_of, slot_of, place_of, undo_of, halves}
+use Rattle.envy_base.specs.declared.page.TheConstants.{PAGE_WORDS}
+use Rattle.envy_base.specs.Shape.{positions_of}
 
 -- `None` stands where no encoding gives the number
 pub record Fields : Type 0 where
@@ -46,12 +48,12 @@ map_fields sh sram = record {
   slots = map slot_of (region sram slots_at 64);
   wears = region sram wear_at sh.segments;
   fills = region sram (fill_at sh) sh.segments;
-  positions = region sram (position_at sh) (sh.segments - 1);
+  positions = region sram (position_at sh) (positions_of sh);
   places = map place_of (packed sram (table_at sh) sh.pages);
   undos = map undo_of (packed sram (undo_at sh) sh.pages);
   backs = region sram (back_at sh) (sh.segments * sh.rows);
   origins = region sram (origin_at sh) sh.rows;
-  frames = region sram (frames_at sh) (32 * sh.frames);
+  frames = region sram (frames_at sh) (PAGE_WORDS * sh.frames);
 }
 
 -- the words that keep a shape

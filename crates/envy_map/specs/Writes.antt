@@ -8,6 +8,7 @@ use Rattle.envy_base.specs.declared.fields.Slot.{Slot}
 use Rattle.envy_base.specs.declared.fields.Undo.{Undo}
 use Rattle.envy_base.specs.declared.fields.Undo.TheVariants.{Clear}
 use Rattle.envy_map.specs.Fields.{Fields, Chart, failed, with_fields}
+use Rattle.envy_base.specs.declared.page.TheConstants.{PAGE_WORDS}
 
 -- what a reader answers: the field, or `Off` exactly where power is off
 abbrev pub Gives : {T : Type 0} → Chart → Option T → Result T Off → Type 0
@@ -67,7 +68,7 @@ abbrev pub with_origin : ℕ → ℕ → Fields → Fields
 with_origin i q f = record f { origins = slice_set f.origins i q }
 
 abbrev pub with_frame_word : ℕ → ℕ → ℕ → Fields → Fields
-with_frame_word k i w f = record f { frames = slice_set f.frames (32 * k + i) w }
+with_frame_word k i w f = record f { frames = slice_set f.frames (PAGE_WORDS * k + i) w }
 
 -- d with the first n words of s written over it from at on
 abbrev pub pasted : List ℕ → ℕ → List ℕ → ℕ → List ℕ
@@ -75,7 +76,7 @@ pasted d at s n = take at d ++ take n s ++ drop (at + n) d
 
 -- the first n words of a page stand in a frame
 abbrev pub with_frame : ℕ → List ℕ → ℕ → Fields → Fields
-with_frame k page n f = record f { frames = pasted f.frames (32 * k) page n }
+with_frame k page n f = record f { frames = pasted f.frames (PAGE_WORDS * k) page n }
 
 -- n turns have been made since old, each with a put; the fields are these now
 pub record Going (old now : Chart) (f : Fields) (n : ℕ) : Type 0 where

@@ -1,7 +1,7 @@
 ghost use Rattle.std.specs.Prelude.{◌≡◌, IfSome, IfNone};
 ghost use Rattle.envy_map.specs.Codes.{job_code, job_of, IsJob, slot_code, slot_of, place_code, place_of, IsPlace, undo_code, undo_of, IsUndo};
 
-use envy_base::{Job, Place, Slot, Undo};
+use envy_base::{Job, Place, Slot, Undo, MOST_ROWS};
 
 /// The number that stands for a job.
 pub fn encode_job(job: Job) -> u64
@@ -83,7 +83,7 @@ pub fn decode_place(number: u64) -> Option<Place>
 {
     if number == 0 {
         Some(Place::Absent)
-    } else if number % 4 == 1 && number / 4 < 1_048_576 {
+    } else if number % 4 == 1 && number / 4 < MOST_ROWS as u64 {
         Some(Place::Row((number / 4) as u32))
     } else if number % 4 == 2 && number / 4 < 65_536 {
         Some(Place::Frame((number / 4) as u32))
@@ -117,7 +117,7 @@ pub fn decode_undo(number: u64) -> Option<Undo>
         Some(Undo::Blank {
             slot: (number / 4) as u8,
         })
-    } else if number % 4 == 2 && number / 256 < 1_048_576 {
+    } else if number % 4 == 2 && number / 256 < MOST_ROWS as u64 {
         Some(Undo::Shadow {
             slot: (number % 256 / 4) as u8,
             row: (number / 256) as u32,

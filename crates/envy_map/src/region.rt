@@ -2,7 +2,7 @@ ghost use Rattle.std.specs.Prelude.{◌≡◌};
 ghost use Rattle.envy_base.specs.Map.{fill_at, position_at, table_at, undo_at, back_at, origin_at, frames_at, words_of};
 ghost use Rattle.envy_base.specs.Shape.{IsShape};
 
-use envy_base::Shape;
+use envy_base::{PAGE_WORDS, Shape, positions_of};
 
 /// The word by which a formatted board is known.
 pub const MAGIC_AT: u32 = 0;
@@ -43,7 +43,7 @@ pub fn table_start(shape: &Shape) -> u32
     requires { IsShape shape.now }
     ensures { result ≡ table_at shape.now }
 {
-    position_start(shape) + (shape.segments - 1)
+    position_start(shape) + positions_of(shape)
 }
 
 /// The first word of the undos of pages.
@@ -83,5 +83,5 @@ pub fn words(shape: &Shape) -> u32
     requires { IsShape shape.now }
     ensures { result ≡ words_of shape.now }
 {
-    frame_start(shape) + 32 * shape.frames
+    frame_start(shape) + PAGE_WORDS * shape.frames
 }

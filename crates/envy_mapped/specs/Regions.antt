@@ -8,13 +8,14 @@ use denote.Array.{Array}
 use denote.Builtin.{u64}
 use mir.Syntax.{named}
 use base.Fml.{Fml, ftrue}
+use Rattle.envy_base.specs.declared.page.TheConstants.{PAGE_WORDS}
 
 -- a `&'static mut` to words, and to rows of 32 words
 abbrev pub words_row : RattleType
 words_row = MutSlice (named 0) [] u64
 
 abbrev pub rows_row : RattleType
-rows_row = MutSlice (named 0) [] (Array u64 32)
+rows_row = MutSlice (named 0) [] (Array u64 PAGE_WORDS)
 
 -- Null owns nothing. Any other pointer, with a count, owns what the reference to so many items owns.
 abbrev pub words_own : Ptr → ℕ → words_row.Denot → Fml

@@ -4,6 +4,7 @@ ghost use Rattle.std.specs.Option.{ForSome};
 ghost use Rattle.envy_btree.specs.Nearest.{IsLeastFrom, IsGreatestTo};
 ghost use Rattle.envy_calls.specs.Codes.{number_of};
 ghost use Rattle.envy_calls.specs.declared.code.Code.TheVariants.{Done};
+ghost use Rattle.envy_btree.specs.Answers.{insert_puts, removal_puts};
 ghost use Rattle.envy_index_calls.specs.Indexed.{Asks, Counts, DoesCreate, Finds, Gets, HoldsArray, HoldsSomeMap, Inserts, Removes};
 ghost use Rattle.envy_mapped.specs.Steady.{AreSteady};
 ghost use denote.RawPtr.{InBlock};
@@ -33,7 +34,7 @@ pub extern "C" fn envy_index_get(m: &mut EnvyMapped, key: u64, value: &mut u64) 
     requires map { ForSome m.old.slot.now HoldsSomeMap }
     ensures live { InBlock m.new.at }
     ensures steady { AreSteady m.old.slot.now m.new.slot.now }
-    ensures gets { Asks m.old.slot.now m.new.slot.now result (Gets key value.new) }
+    ensures gets { Asks 0 m.old.slot.now m.new.slot.now result (Gets key value.new) }
     ensures unwritten { result ≢ number_of Done → value.new ≡ value.old }
 {
     let slot = lend(m);
@@ -54,7 +55,7 @@ pub extern "C" fn envy_index_insert(
     requires map { ForSome m.old.slot.now HoldsSomeMap }
     ensures live { InBlock m.new.at }
     ensures steady { AreSteady m.old.slot.now m.new.slot.now }
-    ensures inserts { Asks m.old.slot.now m.new.slot.now result (Inserts key value before.new) }
+    ensures inserts { Asks insert_puts m.old.slot.now m.new.slot.now result (Inserts key value before.new) }
     ensures unwritten { result ≢ number_of Done → before.new ≡ before.old }
 {
     let slot = lend(m);
@@ -70,7 +71,7 @@ pub extern "C" fn envy_index_remove(m: &mut EnvyMapped, key: u64, value: &mut u6
     requires map { ForSome m.old.slot.now HoldsSomeMap }
     ensures live { InBlock m.new.at }
     ensures steady { AreSteady m.old.slot.now m.new.slot.now }
-    ensures removes { Asks m.old.slot.now m.new.slot.now result (Removes key value.new) }
+    ensures removes { Asks removal_puts m.old.slot.now m.new.slot.now result (Removes key value.new) }
     ensures unwritten { result ≢ number_of Done → value.new ≡ value.old }
 {
     let slot = lend(m);
@@ -86,7 +87,7 @@ pub extern "C" fn envy_index_count(m: &mut EnvyMapped, number: &mut u64) -> u32
     requires map { ForSome m.old.slot.now HoldsSomeMap }
     ensures live { InBlock m.new.at }
     ensures steady { AreSteady m.old.slot.now m.new.slot.now }
-    ensures counts { Asks m.old.slot.now m.new.slot.now result (Counts number.new) }
+    ensures counts { Asks 0 m.old.slot.now m.new.slot.now result (Counts number.new) }
     ensures unwritten { result ≢ number_of Done → number.new ≡ number.old }
 {
     let slot = lend(m);
@@ -102,7 +103,7 @@ pub extern "C" fn envy_index_next(m: &mut EnvyMapped, key: u64, pair: &mut EnvyP
     requires map { ForSome m.old.slot.now HoldsSomeMap }
     ensures live { InBlock m.new.at }
     ensures steady { AreSteady m.old.slot.now m.new.slot.now }
-    ensures finds { Asks m.old.slot.now m.new.slot.now result (Finds (IsLeastFrom key) pair.new) }
+    ensures finds { Asks 0 m.old.slot.now m.new.slot.now result (Finds (IsLeastFrom key) pair.new) }
     ensures unwritten { result ≢ number_of Done → pair.new ≡ pair.old }
 {
     let slot = lend(m);
@@ -118,7 +119,7 @@ pub extern "C" fn envy_index_above(m: &mut EnvyMapped, key: u64, pair: &mut Envy
     requires map { ForSome m.old.slot.now HoldsSomeMap }
     ensures live { InBlock m.new.at }
     ensures steady { AreSteady m.old.slot.now m.new.slot.now }
-    ensures finds { Asks m.old.slot.now m.new.slot.now result (Finds (IsLeastFrom (key + 1)) pair.new) }
+    ensures finds { Asks 0 m.old.slot.now m.new.slot.now result (Finds (IsLeastFrom (key + 1)) pair.new) }
     ensures unwritten { result ≢ number_of Done → pair.new ≡ pair.old }
 {
     let slot = lend(m);
@@ -134,7 +135,7 @@ pub extern "C" fn envy_index_last(m: &mut EnvyMapped, key: u64, pair: &mut EnvyP
     requires map { ForSome m.old.slot.now HoldsSomeMap }
     ensures live { InBlock m.new.at }
     ensures steady { AreSteady m.old.slot.now m.new.slot.now }
-    ensures finds { Asks m.old.slot.now m.new.slot.now result (Finds (IsGreatestTo key) pair.new) }
+    ensures finds { Asks 0 m.old.slot.now m.new.slot.now result (Finds (IsGreatestTo key) pair.new) }
     ensures unwritten { result ≢ number_of Done → pair.new ≡ pair.old }
 {
     let slot = lend(m);

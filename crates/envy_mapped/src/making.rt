@@ -4,6 +4,7 @@ ghost use Rattle.envy_mapped.specs.Opening.{Attached, Formatted, Given, HasSizes
 ghost use Rattle.envy_mapped.specs.Regions.{AreWhole};
 ghost use Rattle.envy_policy.specs.Setup.{IsSetup, checked};
 
+use envy_base::Page;
 use crate::handle::Slot;
 use envy_calls::{Code, EnvySetup, attach, checked_setup, format_answer};
 use envy_map::words;
@@ -15,7 +16,7 @@ use std::alloc::Global;
 // The setup, if the regions have the sizes of its shape.
 fn setup_for(
     given: &EnvySetup,
-    flash: &[[u64; 32]],
+    flash: &[Page],
     sram: &[u64],
     erases: &[u64],
 ) -> Result<Setup, Code>
@@ -41,7 +42,7 @@ fn setup_for(
 fn formatted(
     alloc: Global,
     given: &EnvySetup,
-    flash: &'static mut [[u64; 32]],
+    flash: &'static mut [Page],
     sram: &'static mut [u64],
     erases: &'static mut [u64],
 ) -> Result<Memory<RegionBoard<'static>>, Code>
@@ -67,7 +68,7 @@ fn formatted(
 fn attached(
     alloc: Global,
     given: &EnvySetup,
-    flash: &'static mut [[u64; 32]],
+    flash: &'static mut [Page],
     sram: &'static mut [u64],
     erases: &'static mut [u64],
 ) -> Result<Memory<RegionBoard<'static>>, Code>
@@ -94,7 +95,7 @@ pub fn format_place(
     alloc: Global,
     slot: &mut Slot,
     given: &EnvySetup,
-    flash: &'static mut [[u64; 32]],
+    flash: &'static mut [Page],
     sram: &'static mut [u64],
     erases: &'static mut [u64],
 ) -> Code
@@ -125,7 +126,7 @@ pub fn attach_place(
     alloc: Global,
     slot: &mut Slot,
     given: &EnvySetup,
-    flash: &'static mut [[u64; 32]],
+    flash: &'static mut [Page],
     sram: &'static mut [u64],
     erases: &'static mut [u64],
 ) -> Code

@@ -4,6 +4,7 @@ ghost use Rattle.std.specs.Borrow.{MutBor};
 ghost use Rattle.envy_mapped.specs.Regions.{words_own, words_row, rows_own, rows_row};
 ghost use denote.RawPtr.{InBlock};
 
+use envy_base::Page;
 use std::marker::Model;
 
 /// So many words.
@@ -45,11 +46,11 @@ impl Model for EnvyRows {
 
 impl EnvyRows {
     /// The rows.
-    pub fn into_slice(self) -> &'static mut [[u64; 32]]
+    pub fn into_slice(self) -> &'static mut [Page]
         requires { InBlock self.at }
         ensures { result ≡ self.rows }
     {
         let EnvyRows { at, len } = self;
-        unsafe { std::slice::from_raw_parts_mut(at as *mut [u64; 32], len) }
+        unsafe { std::slice::from_raw_parts_mut(at as *mut Page, len) }
     }
 }

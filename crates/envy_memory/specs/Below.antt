@@ -27,16 +27,17 @@ use Rattle.envy_memory.specs.declared.faults.PutFault.{PutFault}
 use Rattle.envy_memory.specs.declared.faults.PutFault.TheVariants.{Bad as PutBad}
 use Rattle.envy_memory.specs.declared.faults.EndFault.{EndFault}
 use Rattle.envy_memory.specs.declared.faults.EndFault.TheVariants.{Closed as EndClosed}
+use Rattle.envy_base.specs.declared.page.TheConstants.{PAGE_WORDS}
 
 -- When a call is refused: power is on, and ..
 
 -- .. the address lies past the last page
 abbrev pub IsPast : ℕ → Picture → Type 0
-IsPast a p = IsTrue p.chart.on × (32 * p.chart.shape.pages ≤ a)
+IsPast a p = IsTrue p.chart.on × (PAGE_WORDS * p.chart.shape.pages ≤ a)
 
 -- .. slot u owns the page
 abbrev pub IsOwned : ℕ → ℕ → Picture → Type 0
-IsOwned u a p = IsTrue p.chart.on × (a < 32 * p.chart.shape.pages) × (owner_of p.owned.pairs (a / 32) ≡ Some u)
+IsOwned u a p = IsTrue p.chart.on × (a < PAGE_WORDS * p.chart.shape.pages) × (owner_of p.owned.pairs (a / PAGE_WORDS) ≡ Some u)
 
 -- .. all slots are open
 abbrev pub IsBusy : Picture → Type 0
@@ -48,17 +49,17 @@ IsShut t p = IsTrue p.chart.on × (slot_of p.chart.fields t ≢ Some Active)
 
 -- .. the address lies within the array, and slot t isn't open
 abbrev pub IsShutTo : ℕ → ℕ → Picture → Type 0
-IsShutTo t a p = IsTrue p.chart.on × (a < 32 * p.chart.shape.pages) × (slot_of p.chart.fields t ≢ Some Active)
+IsShutTo t a p = IsTrue p.chart.on × (a < PAGE_WORDS * p.chart.shape.pages) × (slot_of p.chart.fields t ≢ Some Active)
 
 -- .. the slot is open, and slot u, another one, owns the page
 abbrev pub IsKeptFrom : ℕ → ℕ → ℕ → Picture → Type 0
 IsKeptFrom u t a p =
-    IsTrue p.chart.on × (a < 32 * p.chart.shape.pages) × (slot_of p.chart.fields t ≡ Some Active) × (owner_of p.owned.pairs (a / 32) ≡ Some u) × (u ≢ t)
+    IsTrue p.chart.on × (a < PAGE_WORDS * p.chart.shape.pages) × (slot_of p.chart.fields t ≡ Some Active) × (owner_of p.owned.pairs (a / PAGE_WORDS) ≡ Some u) × (u ≢ t)
 
 -- .. the slot is open, no slot owns the page, and no more pages may be owned
 abbrev pub IsFull : ℕ → ℕ → Picture → Type 0
 IsFull t a p =
-    IsTrue p.chart.on × (a < 32 * p.chart.shape.pages) × (slot_of p.chart.fields t ≡ Some Active) × (owner_of p.owned.pairs (a / 32) ≡ None)
+    IsTrue p.chart.on × (a < PAGE_WORDS * p.chart.shape.pages) × (slot_of p.chart.fields t ≡ Some Active) × (owner_of p.owned.pairs (a / PAGE_WORDS) ≡ None)
     × (length p.owned.pairs ≡ p.chart.shape.shadows)
 
 -- The most programs and erases that one flush may begin, with a cleaning and the end of a swap before it, by the rows of
@@ -70,18 +71,18 @@ abbrev pub flush_erases : ℕ
 flush_erases = 6
 
 pub record LoadsBelow (a : ℕ) (answer : Result ℕ LoadFault) (p q : Picture) : Type 0 where
-  pub visits : LoadVisits (a / 32) answer p q
+  pub visits : LoadVisits (a / PAGE_WORDS) answer p q
   pub kept : q ≡ record p { parts = record p.parts { cache = q.parts.cache } }
 
 pub record StoresBelow (a : ℕ) (answer : Result Unit StoreFault) (p q : Picture) : Type 0 where
   pub unpowered : p.chart.on ≡ false → q ≡ p
   pub works : Works (flush_programs p.chart.shape.rows) flush_erases p.chart q.chart
   pub counts : Counts p q
-  pub visits : StoreVisits (a / 32) answer p q
-  pub flushes : OnOk answer (q.parts.flushes ≡ flushes_after false (a / 32) p)
-  pub does : OnOk answer (StoresBy (a / 32) p.chart p.parts q.chart q.parts)
+  pub visits : StoreVisits (a / PAGE_WORDS) answer p q
+  pub flushes : OnOk answer (q.parts.flushes ≡ flushes_after false (a / PAGE_WORDS) p)
+  pub does : OnOk answer (StoresBy (a / PAGE_WORDS) p.chart p.parts q.chart q.parts)
   pub ends : OnOk answer (Ends p.chart p.parts q.chart q.parts)
-  pub stops : IsErrOf answer StoreBad → Stops (a / 32) p.chart p.parts q.chart q.parts
+  pub stops : IsErrOf answer StoreBad → Stops (a / PAGE_WORDS) p.chart p.parts q.chart q.parts
   pub kept : q ≡ record p { chart = q.chart; sram = q.sram; parts = q.parts }
 
 pub record BeginsBelow (answer : Result ℕ BeginFault) (p q : Picture) : Type 0 where
@@ -95,11 +96,11 @@ pub record PutsBelow (t a : ℕ) (answer : Result Unit PutFault) (p q : Picture)
   pub unpowered : p.chart.on ≡ false → q ≡ p
   pub works : Works (flush_programs p.chart.shape.rows) flush_erases p.chart q.chart
   pub counts : Counts p q
-  pub visits : PutVisits (a / 32) answer p q
-  pub flushes : OnOk answer (q.parts.flushes ≡ flushes_after (is_unowned p.owned (a / 32)) (a / 32) p)
-  pub does : OnOk answer (PutEffect t (a / 32) p q)
+  pub visits : PutVisits (a / PAGE_WORDS) answer p q
+  pub flushes : OnOk answer (q.parts.flushes ≡ flushes_after (is_unowned p.owned (a / PAGE_WORDS)) (a / PAGE_WORDS) p)
+  pub does : OnOk answer (PutEffect t (a / PAGE_WORDS) p q)
   pub ends : OnOk answer (Ends p.chart p.parts q.chart q.parts)
-  pub stops : IsErrOf answer PutBad → Stops (a / 32) p.chart p.parts q.chart q.parts × (q.owned ≡ p.owned)
+  pub stops : IsErrOf answer PutBad → Stops (a / PAGE_WORDS) p.chart p.parts q.chart q.parts × (q.owned ≡ p.owned)
   pub kept : q ≡ record p { chart = q.chart; sram = q.sram; parts = q.parts; owned = q.owned }
 
 pub record CommitsBelow (t : ℕ) (answer : Result Unit EndFault) (p q : Picture) : Type 0 where

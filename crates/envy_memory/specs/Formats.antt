@@ -16,6 +16,7 @@ use Rattle.envy_table.specs.Entries.{vacant}
 use Rattle.envy_memory.specs.Picture.{Picture, counts_of}
 use Rattle.envy_memory.specs.declared.faults.FormatFault.{FormatFault}
 use Rattle.envy_memory.specs.declared.faults.FormatFault.TheVariants.{Off, Setup as OfSetup, OtherShape, Memory, Bad}
+use Rattle.envy_base.specs.Shape.{positions_of}
 
 abbrev pub no_counts : Counts
 no_counts = record { hits = 0; misses = 0; flushes = 0; copies = 0; moves = 0; erases = 0; swaps = 0 }
@@ -27,7 +28,7 @@ pub record IsStarted (setup : Setup) (p : Picture) : Type 0 where
   pub counts : counts_of p.parts ≡ no_counts
   pub since : p.parts.reloc.since ≡ 0
   pub entries : p.parts.cache.entries ≡ vacant setup.shape.entries
-  pub chooser : p.parts.chooser ≡ started setup.policy setup.shape.pages (setup.shape.segments - 1)
+  pub chooser : p.parts.chooser ≡ started setup.policy setup.shape.pages (positions_of setup.shape)
   pub stages : p.parts.stages ≡ []
   pub moves : p.parts.reloc.moves ≡ []
   pub held : p.parts.frames.held ≡ held_by_default p.chart.shape p.chart.fields.places

@@ -6,13 +6,14 @@ use Rattle.envy_layout.proofs.WordLists.{length-live, length-durable}
 use Rattle.envy_map.specs.Fields.{Chart}
 use Rattle.envy_memory.specs.Picture.{Picture}
 use Rattle.envy_memory.specs.Sheets.{words_read, sheet_of}
+use Rattle.envy_base.specs.declared.page.TheConstants.{PAGE_WORDS}
 
 -- there are as many words as the pages have, open or not
-pub words_long : (open_now : Bool) (c : Chart) → length (words_read open_now c) ≡ 32 * c.shape.pages
+pub words_long : (open_now : Bool) (c : Chart) → length (words_read open_now c) ≡ PAGE_WORDS * c.shape.pages
 words_long true c = length-live c
 words_long false c = length-durable c
 
-pub lawful_sheet : (p : Picture) (begun : Bool) → 32 * p.chart.shape.pages < 2 ^ 32 → IsSheet (sheet_of p begun)
+pub lawful_sheet : (p : Picture) (begun : Bool) → PAGE_WORDS * p.chart.shape.pages < 2 ^ 32 → IsSheet (sheet_of p begun)
 lawful_sheet p begun few = record {
   long = length-durable p.chart ∙ sym (words_long (p.chart.on && begun) p.chart);
   few = subst (λ (n : ℕ). n < 2 ^ 32) (sym (words_long (p.chart.on && begun) p.chart)) few;

@@ -12,7 +12,7 @@ ghost use Rattle.envy_memory.specs.Picture.{IsMemory, counts_of, state_in};
 
 use crate::faults::LoadFault;
 use crate::looking::kept_place;
-use envy_base::{Board, Counts};
+use envy_base::{Board, Counts, PAGE_WORDS};
 use envy_flush::{Parts, word};
 use envy_txn::Owned;
 use std::marker::Model;
@@ -57,11 +57,11 @@ impl<B: Board> Memory<B> {
         if !self.board.powered() {
             return Err(LoadFault::Off);
         }
-        if a / 32 >= self.board.shape().pages {
+        if a / PAGE_WORDS >= self.board.shape().pages {
             return Err(LoadFault::Range);
         }
-        let from = self.parts.cache.translate(&self.board, a / 32)?;
-        Ok(word(&self.board, from, a % 32)?)
+        let from = self.parts.cache.translate(&self.board, a / PAGE_WORDS)?;
+        Ok(word(&self.board, from, a % PAGE_WORDS)?)
     }
 
     /// The committed word at an address, which a restart would leave. It is no access to the page.
@@ -78,11 +78,11 @@ impl<B: Board> Memory<B> {
         if !self.board.powered() {
             return Err(LoadFault::Off);
         }
-        if a / 32 >= self.board.shape().pages {
+        if a / PAGE_WORDS >= self.board.shape().pages {
             return Err(LoadFault::Range);
         }
-        let from = kept_place(&self.board, a / 32)?;
-        Ok(word(&self.board, from, a % 32)?)
+        let from = kept_place(&self.board, a / PAGE_WORDS)?;
+        Ok(word(&self.board, from, a % PAGE_WORDS)?)
     }
 
     /// What has been counted since the memory was made.

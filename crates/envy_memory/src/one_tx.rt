@@ -13,13 +13,15 @@ ghost use Rattle.envy_memory.specs.Sheets.{IsHeld, sheet_of};
 
 use crate::faults::{BeginFault, EndFault, LoadFault, PutFault, ReviveFault};
 use crate::memory::Memory;
-use envy_base::{Bench, Board, Off, PlannedFault, Trouble, Words};
+use envy_base::{Bench, Board, Off, PAGE_WORDS, Trouble, Words, PlannedFault};
 
 /// A memory with one transaction at a time, which has the first slot.
 pub struct OneTx<B: Board> {
     memory: Memory<B>,
     begun: bool,
-    ghost few: { 32 * memory.chart.shape.pages < 2 ^ 32 },
+    ghost use Rattle.envy_base.specs.declared.page.TheConstants.{PAGE_WORDS};
+
+    ghost few: { PAGE_WORDS * memory.chart.shape.pages < 2 ^ 32 },
     ghost held: { ∥ (IsTrue memory.chart.on → IsHeld memory.chart begun) ∥₁ },
 }
 
@@ -133,7 +135,7 @@ impl<B: Board> Words for OneTx<B> {
     ghost lawful = { λ s. lawful_sheet s.memory s.begun s.few };
 
     fn size(&self) -> u32 {
-        32 * self.memory.board().shape().pages
+        PAGE_WORDS * self.memory.board().shape().pages
     }
 
     fn room(&self) -> u32 {

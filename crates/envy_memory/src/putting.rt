@@ -6,7 +6,7 @@ ghost use Rattle.envy_memory.specs.Calls.{Puts, IsCut, HasFailed, Undisturbed};
 
 use crate::faults::PutFault;
 use crate::memory::Memory;
-use envy_base::Board;
+use envy_base::{Board, PAGE_WORDS};
 use envy_flush::{is_open, put_first, store_word};
 
 impl<B: Board> Memory<B> {
@@ -32,7 +32,7 @@ impl<B: Board> Memory<B> {
         if !self.board.powered() {
             return Err(PutFault::Off);
         }
-        let page = a / 32;
+        let page = a / PAGE_WORDS;
         if page >= self.board.shape().pages {
             return Err(PutFault::Range);
         }
@@ -46,7 +46,7 @@ impl<B: Board> Memory<B> {
             if slot != t {
                 return Err(PutFault::Held(slot));
             }
-            return Ok(store_word(&mut self.board, &mut self.parts, page, a % 32, value)?);
+            return Ok(store_word(&mut self.board, &mut self.parts, page, a % PAGE_WORDS, value)?);
         }
         if !self.owned.room() {
             return Err(PutFault::Full);
@@ -57,7 +57,7 @@ impl<B: Board> Memory<B> {
             &mut self.owned,
             page,
             t,
-            a % 32,
+            a % PAGE_WORDS,
             value,
         )?)
     }

@@ -6,7 +6,7 @@ ghost use Rattle.envy_memory.specs.Calls.{Stores, IsCut, HasFailed, Undisturbed}
 
 use crate::faults::StoreFault;
 use crate::memory::Memory;
-use envy_base::Board;
+use envy_base::{Board, PAGE_WORDS};
 use envy_flush::store_word;
 
 impl<B: Board> Memory<B> {
@@ -30,14 +30,14 @@ impl<B: Board> Memory<B> {
         if !self.board.powered() {
             return Err(StoreFault::Off);
         }
-        let page = a / 32;
+        let page = a / PAGE_WORDS;
         if page >= self.board.shape().pages {
             return Err(StoreFault::Range);
         }
         if let Some(slot) = self.owned.owner(page) {
             return Err(StoreFault::Held(slot));
         }
-        store_word(&mut self.board, &mut self.parts, page, a % 32, value)?;
+        store_word(&mut self.board, &mut self.parts, page, a % PAGE_WORDS, value)?;
         Ok(())
     }
 }

@@ -117,7 +117,7 @@ IsPair-reached old new command one two reply i first second stale last =
       second = side-reached command one two old.second new.second i.second second;
       shape = too ∙ i.shape ∙ sym shape;
       marks = ap length stale ∙ length-marked command reply old.stale ∙ i.marks ∙ ap (λ (sh : Shape). sh.pages) (sym shape);
-      few = subst (λ (sh : Shape). sh.pages ≤ 1048576) (sym shape) i.few;
+      few = subst (λ (sh : Shape). sh.pages ≤ 16777216) (sym shape) i.few;
       last = subst (λ (w : Which). Leads w new.first.standing new.second.standing) (sym last) (leads-reached old new command one two i first second);
     }
 

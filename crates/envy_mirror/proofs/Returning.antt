@@ -50,7 +50,7 @@ IsPair-returned-first result old s left i dark last r =
       second = i.second;
       shape = i.shape ∙ sym shape;
       marks = length-returned result old.first s old.stale left r ∙ i.marks ∙ ap (λ (sh : Shape). sh.pages) (sym shape);
-      few = subst (λ (sh : Shape). sh.pages ≤ 1048576) (sym shape) i.few;
+      few = subst (λ (sh : Shape). sh.pages ≤ 16777216) (sym shape) i.few;
       last = subst (λ (w : Which). Leads w s.standing old.second.standing) (sym last) (leads-returned result old.first s old.stale left old.second.standing dark leads r);
     }
 

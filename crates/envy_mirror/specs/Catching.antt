@@ -15,6 +15,7 @@ use Rattle.envy_mirror.specs.declared.catching.CatchFault.{CatchFault}
 use Rattle.envy_mirror.specs.declared.catching.CatchFault.TheVariants.{Off, Dead, Slipped, Bad}
 use Rattle.envy_mirror.specs.declared.standing.Standing.{Standing}
 use Rattle.envy_mirror.specs.declared.standing.Standing.TheVariants.{Good, Behind, Gone}
+use Rattle.envy_base.specs.declared.page.TheConstants.{PAGE_WORDS}
 
 -- t is the lowest open slot
 pub record IsLowestOpen (c : Chart) (t : ℕ) : Type 0 where
@@ -42,8 +43,8 @@ pub record Wakes (old new : Picture) : Type 0 where
 
 -- the words of one page came from the board `from`; the others stayed
 pub record Copies (p : ℕ) (from old new : Chart) : Type 0 where
-  pub page : (a : ℕ) → a / 32 ≡ p → slice_index (live new) a ≡ slice_index (durable from) a
-  pub others : (a : ℕ) → a / 32 ≢ p → slice_index (live new) a ≡ slice_index (live old) a
+  pub page : (a : ℕ) → a / PAGE_WORDS ≡ p → slice_index (live new) a ≡ slice_index (durable from) a
+  pub others : (a : ℕ) → a / PAGE_WORDS ≢ p → slice_index (live new) a ≡ slice_index (live old) a
 
 -- Power failed in that: where it was asked for, or where the lowest stale page was being copied.
 abbrev pub Slips : Standing → Chart → List Bool → Picture → Picture → Type 0
@@ -57,7 +58,7 @@ Helps (Err Dead) from old stale new left = (old.standing ≡ Gone) × (old.memor
 Helps (Ok Woken) from old stale new left = (old.standing ≡ Gone) × (new.standing ≡ Behind) × Wakes old.memory new.memory × (left ≡ replicate (length stale) true)
 Helps (Ok (Waiting t)) from old stale new left = (old.standing ≡ Behind) × IsLowestOpen from.memory.chart t × (new ≡ old) × (left ≡ stale)
 Helps (Ok (Copied p)) from old stale new left = (old.standing ≡ Behind) × NoneOpen from.memory.chart × IsLowestStale stale p × (new.standing ≡ Behind) × Copies p from.memory.chart old.memory.chart new.memory.chart × Reckons old.memory new.memory × (left ≡ slice_set stale p false)
-Helps (Err Bad) from old stale new left = (old.standing ≡ Behind) × NoneOpen from.memory.chart × (p : ℕ) × IsLowestStale stale p × (new.standing ≡ Behind) × ((a : ℕ) → a / 32 ≢ p → slice_index (live new.memory.chart) a ≡ slice_index (live old.memory.chart) a) × Reckons old.memory new.memory × HasFailed old.memory.chart new.memory.chart × (left ≡ stale)
+Helps (Err Bad) from old stale new left = (old.standing ≡ Behind) × NoneOpen from.memory.chart × (p : ℕ) × IsLowestStale stale p × (new.standing ≡ Behind) × ((a : ℕ) → a / PAGE_WORDS ≢ p → slice_index (live new.memory.chart) a ≡ slice_index (live old.memory.chart) a) × Reckons old.memory new.memory × HasFailed old.memory.chart new.memory.chart × (left ≡ stale)
 Helps (Err Slipped) from old stale new left = (new.standing ≡ Gone) × Slips old.standing from.memory.chart stale old.memory new.memory × (left ≡ stale) × (old.memory.chart.cuts < 2 ^ 64 - 1 → old.memory.chart.cuts < new.memory.chart.cuts)
 Helps (Ok Joined) from old stale new left = (old.standing ≡ Behind) × NoneOpen from.memory.chart × NoneStale stale × (new ≡ record old { standing = Good }) × (left ≡ stale)
 Helps (Ok Whole) from old stale new left = ⊥

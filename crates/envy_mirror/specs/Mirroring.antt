@@ -9,19 +9,20 @@ use Rattle.envy_mirror.specs.Pair.{Side, Pair, is_good, side_at, IsClosed, IsDar
 use Rattle.envy_mirror.specs.Replies.{Reply, Off, Bad, Said}
 use Rattle.envy_mirror.specs.declared.standing.Standing.{Standing}
 use Rattle.envy_mirror.specs.declared.standing.Standing.TheVariants.{Good, Behind, Gone}
+use Rattle.envy_base.specs.declared.page.TheConstants.{PAGE_WORDS}
 
 abbrev pub is_stale : List Bool → ℕ → Bool
 is_stale marks p = slice_index_or marks p false
 
 -- nobody owns the page of this address, and the side has the array's word there
 pub record IsFreshAt (c : Chart) (m : Array) (a : ℕ) : Type 0 where
-  pub free : owner m (a / 32) ≡ None
+  pub free : owner m (a / PAGE_WORDS) ≡ None
   pub same : slice_index (live c) a ≡ slice_index m.words a
 
 -- a side that is Behind has no slot open, and is the array on each page that isn't stale
 pub record Trails (c : Chart) (stale : List Bool) (m : Array) : Type 0 where
   pub closed : IsClosed c
-  pub fresh : (a : ℕ) → a / 32 < length stale → is_stale stale (a / 32) ≡ false → IsFreshAt c m a
+  pub fresh : (a : ℕ) → a / PAGE_WORDS < length stale → is_stale stale (a / PAGE_WORDS) ≡ false → IsFreshAt c m a
 
 abbrev pub AgreesBy : Standing → Chart → List Bool → Array → Type 0
 AgreesBy Good c stale m = Stands c m

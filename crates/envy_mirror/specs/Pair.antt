@@ -9,6 +9,7 @@ use Rattle.envy_mirror.specs.declared.standing.Standing.{Standing}
 use Rattle.envy_mirror.specs.declared.standing.Standing.TheVariants.{Good, Behind, Gone}
 use Rattle.envy_mirror.specs.declared.standing.Which.{Which}
 use Rattle.envy_mirror.specs.declared.standing.Which.TheVariants.{First, Second}
+use Rattle.envy_base.specs.declared.shape.TheConstants.{MOST_ROWS}
 
 pub record Side : Type 0 where
   pub memory : Picture
@@ -69,7 +70,7 @@ pub record IsPair (p : Pair) : Type 0 where
   pub second : IsSide p.second
   pub shape : p.second.memory.chart.shape ≡ p.first.memory.chart.shape
   pub marks : length p.stale ≡ p.first.memory.chart.shape.pages
-  pub few : p.first.memory.chart.shape.pages ≤ 1048576
+  pub few : p.first.memory.chart.shape.pages ≤ MOST_ROWS
   pub last : Leads p.last p.first.standing p.second.standing
 
 -- which side was Good last: where both were, side 0 is asked first, so side 1 outlasts it

@@ -16,6 +16,7 @@ use Rattle.envy_memory.specs.declared.faults.EndFault.{EndFault}
 use Rattle.envy_memory.specs.declared.faults.EndFault.TheVariants.{Off as EndOff, Closed as EndClosed}
 use Rattle.envy_mirror.specs.declared.call.Kind.{Kind}
 use Rattle.envy_mirror.specs.declared.call.Kind.TheVariants.{Off as KindOff, Bad as KindBad, Refused, Accepted}
+use Rattle.envy_base.specs.declared.page.TheConstants.{PAGE_WORDS}
 
 -- power is off; a flash operation failed; or the plain array's answer
 pub data Reply : Type 0 where
@@ -82,9 +83,9 @@ kind_of (Said answer) = kind_if (is_accepted answer)
 abbrev pub written_by : Command → Option ℕ
 written_by (Load a) = None
 written_by (Look a) = None
-written_by (Store a w) = Some (a / 32)
+written_by (Store a w) = Some (a / PAGE_WORDS)
 written_by Begin = None
-written_by (Put t a w) = Some (a / 32)
+written_by (Put t a w) = Some (a / PAGE_WORDS)
 written_by (Commit t) = None
 written_by (Abort t) = None
 written_by Tick = None

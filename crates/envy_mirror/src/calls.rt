@@ -4,7 +4,7 @@ ghost use Rattle.std.specs.Prelude.{◌≡◌, ◌/◌};
 ghost use Rattle.envy_mirror.specs.Replies.{kind_of, end_reply};
 
 use crate::call::{Call, Kind};
-use envy_base::{Bench, Trouble};
+use envy_base::{Bench, PAGE_WORDS, Trouble};
 use envy_memory::{BeginFault, Did, EndFault, Memory, PutFault, StoreFault};
 
 /// `Memory::store`
@@ -36,7 +36,7 @@ impl Call for StoreCall {
     }
 
     fn page(&self) -> Option<u32> {
-        Some(self.address / 32)
+        Some(self.address / PAGE_WORDS)
     }
 
     fn kind(told: &Result<(), StoreFault>) -> Kind {
@@ -124,7 +124,7 @@ impl Call for PutCall {
     }
 
     fn page(&self) -> Option<u32> {
-        Some(self.address / 32)
+        Some(self.address / PAGE_WORDS)
     }
 
     fn kind(told: &Result<(), PutFault>) -> Kind {

@@ -8,7 +8,7 @@ use crate::copying::copy_page;
 use crate::half::Half;
 use crate::mirror::Mirror;
 use crate::standing::Standing;
-use envy_base::{Bench, Slot, Trouble};
+use envy_base::{Bench, Slot, Trouble, MOST_ROWS};
 use envy_map::slot;
 use envy_memory::{Memory, ReviveFault};
 
@@ -97,7 +97,7 @@ fn copy_stale<A: Bench, B: Bench>(
     requires behind { side.old.standing ≡ Standing.Behind }
     requires closed { IsClosed side.old.memory.chart }
     requires shape { side.old.memory.chart.shape ≡ from.now.chart.shape }
-    requires few { from.now.chart.shape.pages ≤ 1048576 }
+    requires few { from.now.chart.shape.pages ≤ MOST_ROWS }
     requires marks { length stale.old.items ≡ from.now.chart.shape.pages }
     requires none { NoneOpen from.now.chart }
     requires lowest { IsLowestStale stale.old.items page }
@@ -130,7 +130,7 @@ fn help<A: Bench, B: Bench>(
     requires other { is_good side.old ≡ false }
     requires side { IsSide side.old }
     requires shape { side.old.memory.chart.shape ≡ from.now.memory.chart.shape }
-    requires few { from.now.memory.chart.shape.pages ≤ 1048576 }
+    requires few { from.now.memory.chart.shape.pages ≤ MOST_ROWS }
     requires marks { length stale.old.items ≡ from.now.memory.chart.shape.pages }
     ensures helps { Helps result from.now side.old stale.old.items side.new stale.new.items }
     ensures side { IsSide side.new }

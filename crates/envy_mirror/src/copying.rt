@@ -5,7 +5,7 @@ ghost use Rattle.envy_mirror.specs.Asking.{Reckons};
 ghost use Rattle.envy_mirror.specs.Catching.{Copies};
 ghost use Rattle.envy_mirror.specs.Pair.{IsClosed};
 
-use envy_base::{Bench, Trouble};
+use envy_base::{Bench, PAGE_WORDS, Trouble, MOST_ROWS};
 use envy_memory::{Memory, StoreFault};
 
 /// Copies one word of a page.
@@ -17,7 +17,7 @@ fn copy_word<A: Bench, B: Bench>(
     requires on { IsTrue from.now.chart.on }
     requires closed { IsClosed to.old.chart }
     requires shape { to.old.chart.shape ≡ from.now.chart.shape }
-    requires within { a < 32 * to.old.chart.shape.pages }
+    requires within { a < PAGE_WORDS * to.old.chart.shape.pages }
     ensures closed { IsTrue to.new.chart.on → IsClosed to.new.chart }
     ensures live { OnOk result
         (live to.new.chart ≡ slice_set (live to.old.chart) a (slice_index (durable from.now.chart) a)) }
@@ -49,18 +49,18 @@ pub fn copy_page<A: Bench, B: Bench>(
     requires closed { IsClosed to.old.chart }
     requires shape { to.old.chart.shape ≡ from.now.chart.shape }
     requires within { page < to.old.chart.shape.pages }
-    requires few { to.old.chart.shape.pages ≤ 1048576 }
+    requires few { to.old.chart.shape.pages ≤ MOST_ROWS }
     ensures closed { IsTrue to.new.chart.on → IsClosed to.new.chart }
     ensures copies { OnOk result (Copies page from.now.chart to.old.chart to.new.chart) }
-    ensures others { IsErrOf result Trouble.Bad → (a : ℕ) → a / 32 ≢ page
+    ensures others { IsErrOf result Trouble.Bad → (a : ℕ) → a / PAGE_WORDS ≢ page
         → slice_index (live to.new.chart) a ≡ slice_index (live to.old.chart) a }
     ensures failed { IsErrOf result Trouble.Bad → HasFailed to.old.chart to.new.chart }
     ensures off { (result ≡ Err Trouble.Off) ↔ (to.new.chart.on ≡ false) }
     ensures cut { IsCut to.old.chart to.new.chart }
     ensures reckons { Reckons to.old to.new }
 {
-    for i in 0..32 {
-        copy_word(from, to, 32 * page + i)?;
+    for i in 0..PAGE_WORDS {
+        copy_word(from, to, PAGE_WORDS * page + i)?;
     }
     Ok(())
 }

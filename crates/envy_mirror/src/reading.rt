@@ -10,7 +10,7 @@ ghost use Rattle.envy_mirror.specs.Reading.{AsksLowest, Finds, SeesLowest};
 ghost use Rattle.envy_mirror.specs.Reviving.{which};
 
 use crate::mirror::Mirror;
-use envy_base::Bench;
+use envy_base::{Bench, PAGE_WORDS};
 use envy_memory::LoadFault;
 
 impl<A: Bench, B: Bench> Mirror<A, B> {
@@ -23,7 +23,7 @@ impl<A: Bench, B: Bench> Mirror<A, B> {
     pub fn load(&mut self, a: u32) -> Result<u64, LoadFault>
         ensures finds { Finds (Load a) result self.old self.new }
         ensures lowest { AsksLowest (is_good self.old.first) (is_good self.old.second)
-            (a / 32) result self.old self.new }
+            (a / PAGE_WORDS) result self.old self.new }
     {
         if self.first.is_good() {
             return self.first.memory.load(a);

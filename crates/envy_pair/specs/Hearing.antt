@@ -29,6 +29,7 @@ use Rattle.envy_serve.specs.Answering.{said}
 use Rattle.envy_pair.specs.MirrorRun.{may_fault}
 use Rattle.envy_pair.specs.declared.answering.Beside.{Beside}
 use Rattle.envy_pair.specs.declared.answering.Beside.TheVariants.{Nothing, Power as OfPower}
+use Rattle.envy_base.specs.declared.page.TheConstants.{PAGE_WORDS}
 
 -- the reply that shows what the pair answered
 abbrev pub shown : PairReply → Reply
@@ -48,7 +49,7 @@ pub record Loaded (a : ℕ) (reply : Reply) (old new : Pair) : Type 0 where
   pub result : Result ℕ LoadFault
   pub shows : reply ≡ shown (load_reply result)
   pub finds : Finds (DoLoad a) result old new
-  pub lowest : AsksLowest (is_good old.first) (is_good old.second) (a / 32) result old new
+  pub lowest : AsksLowest (is_good old.first) (is_good old.second) (a / PAGE_WORDS) result old new
 
 pub record Looked (a : ℕ) (reply : Reply) (old new : Pair) : Type 0 where
   pub result : Result ℕ LoadFault

@@ -10,7 +10,7 @@ ghost use Rattle.envy_part.specs.Part.{ArePages, MissesOnes, MissesPage, part_st
 
 use crate::rows::{anded, word, words};
 use crate::{PartFault, Port, orders};
-use envy_base::{Board, Off, Shape, Trouble};
+use envy_base::{Board, Off, Page, Shape, Trouble};
 use std::alloc::Global;
 
 /// A board whose flash is a part that is mapped into memory, and whose SRAM lies there too.
@@ -133,7 +133,7 @@ impl<'a, P: Port> Board for PartBoard<'a, P> {
     /// # Errors
     ///
     /// `Bad` where the row isn't that AND.
-    fn program(&mut self, row: u32, page: &[u64; 32]) -> Result<(), Trouble>
+    fn program(&mut self, row: u32, page: &Page) -> Result<(), Trouble>
         requires { row < length (⟦<PartBoard<'a, P> as Board>⟧.state self.old).flash }
         ensures does { Programs (⟦<PartBoard<'a, P> as Board>⟧.state self.old) row page.now result
             (⟦<PartBoard<'a, P> as Board>⟧.state self.new) }

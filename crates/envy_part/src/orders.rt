@@ -6,13 +6,14 @@ ghost use Rattle.envy_part.specs.Orders.{Adds};
 ghost use Rattle.envy_part.specs.Orders.Order.{Programs, Erases};
 ghost use Rattle.envy_part.specs.Part.{ArePages, AreOnes, HasZeros};
 
+use envy_base::{PAGE_LENGTH, Page};
 use crate::Port;
 use crate::rows::{bytes_of, words};
 
-const ONES: [u64; 32] = [u64::MAX; 32];
+const ONES: Page = [u64::MAX; PAGE_LENGTH];
 
 /// Orders that a row become the page, once, and answers whether it is.
-pub fn program<P: Port>(port: &mut P, row: &mut [u8; 256], page: &[u64; 32]) -> bool
+pub fn program<P: Port>(port: &mut P, row: &mut [u8; 256], page: &Page) -> bool
     ensures page { IsPage (row_from row.new) }
     ensures held { IsTrue result → row_from row.new ≡ page.now }
     ensures bad { IsFalse result → row_from row.new ≢ page.now }

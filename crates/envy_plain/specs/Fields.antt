@@ -3,6 +3,7 @@ use Rattle.std.specs.Prelude.{◌≡◌, ◌≢◌, ℕ, ◌*◌, ◌<◌, ◌�
 use Rattle.std.specs.List.{range_with_len}
 use Rattle.envy_base.specs.Array.{Array, Saved, pages, owner, owned, IsArray}
 use Rattle.envy_plain.specs.declared.saved_word.SavedWord.{SavedWord}
+use Rattle.envy_base.specs.declared.page.TheConstants.{PAGE_WORDS}
 
 -- the pairs of slot t in the list of all slots, the newest first
 abbrev pub saved_by : ℕ → List SavedWord → Saved
@@ -33,4 +34,4 @@ pub record IsPlain (words : List ℕ) (active : List Bool) (saved : List SavedWo
   pub once : AllPairs (λ d e. d.address ≢ e.address) saved
   pub table : owners ≡ map (owner (array_in words active saved shadows)) (range_with_len 0 (pages (array_in words active saved shadows)))
   pub counted : count ≡ owned (array_in words active saved shadows)
-  pub enough : 32 * shadows ≤ room
+  pub enough : PAGE_WORDS * shadows ≤ room

@@ -5,8 +5,8 @@ ghost use Rattle.envy_base.specs.Step.{Step, MayOwn, Load, Look, Store, Begin, P
 ghost use Rattle.envy_plain.specs.Refusals.{answer_of};
 
 use crate::refusal::Refusal;
-use crate::saved_word::{PAGE_WORDS, SavedWord, forget, release, restore, word_before};
-use envy_base::{NoMemory, Shape};
+use crate::saved_word::{SavedWord, forget, release, restore, word_before};
+use envy_base::{NoMemory, PAGE_WORDS, Shape};
 use std::alloc::Global;
 use std::marker::Model;
 
@@ -172,7 +172,7 @@ impl Plain {
     /// How many words the open slots have saved: never more than there is room for.
     pub fn saved_count(&self) -> usize
         ensures count { result ≡ saved_words self.now }
-        ensures room { result ≤ 32 * self.now.shadows }
+        ensures room { result ≤ PAGE_WORDS * self.now.shadows }
     {
         self.saved.len()
     }

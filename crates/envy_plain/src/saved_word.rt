@@ -2,8 +2,7 @@ ghost use Rattle.std.specs.Prelude.{◌≡◌, ◌≢◌, ◌+◌, ◌*◌, ◌/
 ghost use Rattle.envy_base.specs.Array.{saves_in, put_back};
 ghost use Rattle.envy_plain.specs.Fields.{saved_by};
 
-/// The words of a page.
-pub(crate) const PAGE_WORDS: u32 = 32;
+use envy_base::PAGE_WORDS;
 
 /// A word that an open slot has stored over, as it was before.
 #[derive(Clone, Copy)]
@@ -42,7 +41,7 @@ pub(crate) fn restore(words: &mut [u64], saved: &[SavedWord], slot: u8)
 
 /// Takes the pages of a slot's saved words from their owner, and answers how many these are.
 pub(crate) fn release(owners: &mut [Option<u8>], saved: &[SavedWord], slot: u8) -> u32
-    requires in_range { All (λ e. e.address / 32 < length owners.old) saved.now }
+    requires in_range { All (λ e. e.address / PAGE_WORDS < length owners.old) saved.now }
     requires few { count_by is_some owners.old < 2 ^ 32 }
     ensures count { result + count_by is_some owners.new ≡ count_by is_some owners.old }
     ensures owners { (p : ℕ) → slice_index_or owners.new p None

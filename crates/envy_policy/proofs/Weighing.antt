@@ -29,15 +29,15 @@ worth-under n rows Lasting x = omega arith
 
 -- their products fit 128 bits
 pub record IsSmall (a : Fraction) : Type 0 where
-  pub over : a.over ≤ 2 ^ 84
-  pub under : a.under ≤ 2 ^ 22
+  pub over : a.over ≤ 2 ^ 90
+  pub under : a.under ≤ 2 ^ 26
 
 aged-small : (n : Notes) (rows : RowCounts) (positions x : ℕ) → IsNotes n → IsCounted positions rows → IsSmall (aged n rows x)
 aged-small n rows positions x whole counted =
     let dead = counted.few_dead x in
     let kept = counted.few_kept x in
     let clock = whole.clock in
-    let product = mul-le (slice_index rows.dead x) (n.clock - slice_index n.cleaned x + 1) 1048576 (2 ^ 64) dead (omega arith) in
+    let product = mul-le (slice_index rows.dead x) (n.clock - slice_index n.cleaned x + 1) 16777216 (2 ^ 64) dead (omega arith) in
     record { over = omega arith; under = omega arith }
 
 -- a worth stays far from the end of its type
@@ -64,10 +64,10 @@ worth-read n rows Lasting x dead clock since kept not r k = rw (r.is_dead, r.is_
 pub age-fits : (clock since : ℕ) → clock < 2 ^ 64 → Fits w128 (clock - since + 1)
 age-fits clock since few = omega (arith, few)
 
-pub over-fits : (over : ℕ) → over ≤ 2 ^ 84 → Fits w128 over
+pub over-fits : (over : ℕ) → over ≤ 2 ^ 90 → Fits w128 over
 over-fits over few = omega (arith, few)
 
-pub over-read : (n : Notes) (rows : RowCounts) (positions x dead clock since : ℕ) → IsNotes n → IsCounted positions rows → IsRead n rows x dead clock since → dead * (clock - since + 1) ≤ 2 ^ 84
+pub over-read : (n : Notes) (rows : RowCounts) (positions x dead clock since : ℕ) → IsNotes n → IsCounted positions rows → IsRead n rows x dead clock since → dead * (clock - since + 1) ≤ 2 ^ 90
 over-read n rows positions x dead clock since whole counted r = rw (r.is_dead, r.is_clock, r.is_since) (aged-small n rows positions x whole counted).over
 
 -- a position that isn't full changes nothing

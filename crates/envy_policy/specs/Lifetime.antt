@@ -8,6 +8,7 @@ use Rattle.envy_policy.specs.declared.fraction.Fraction.{Fraction}
 use Rattle.envy_policy.specs.declared.fraction.Weighed.{Weighed}
 use Rattle.envy_policy.specs.Choice.{IsLeast}
 use Rattle.envy_policy.specs.Notes.{Notes, class_of, open_for}
+use Rattle.envy_base.specs.declared.shape.TheConstants.{MOST_ROWS}
 
 -- the numbers of free, of dead and of kept rows at each position
 pub record RowCounts : Type 0 where
@@ -96,10 +97,10 @@ abbrev pub HasRowsFor : RowCounts → Choice → Type 0
 HasRowsFor rows (Free position) = (position < length rows.free) × (0 < slice_index rows.free position)
 HasRowsFor rows (Clean position aside) = (position < length rows.dead) × (0 < slice_index rows.dead position) × (aside ≡ None)
 
--- the counts are of so many positions, each of at most 1,048,576 rows
+-- the counts are of so many positions, each of at most the rows of a board
 pub record IsCounted (positions : ℕ) (rows : RowCounts) : Type 0 where
   pub free : length rows.free ≡ positions
   pub dead : length rows.dead ≡ positions
   pub kept : length rows.kept ≡ positions
-  pub few_dead : (position : ℕ) → slice_index rows.dead position ≤ 1048576
-  pub few_kept : (position : ℕ) → slice_index rows.kept position ≤ 1048576
+  pub few_dead : (position : ℕ) → slice_index rows.dead position ≤ MOST_ROWS
+  pub few_kept : (position : ℕ) → slice_index rows.kept position ≤ MOST_ROWS

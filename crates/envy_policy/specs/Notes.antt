@@ -4,6 +4,7 @@ use Rattle.envy_base.specs.Counting.{up}
 use Rattle.envy_policy.specs.declared.class.Class.{Class}
 use Rattle.envy_policy.specs.declared.class.Class.TheVariants.{Brief, Short, Long, Lasting}
 use Rattle.envy_policy.specs.declared.class.OpenPositions.{OpenPositions}
+use Rattle.envy_base.specs.declared.shape.TheConstants.{MOST_ROWS}
 
 pub record Notes : Type 0 where
   -- rows claimed for flushes since the start or the last reset
@@ -68,7 +69,7 @@ noted_clean position n = record n { cleaned = slice_set n.cleaned position n.clo
 -- what is known of all notes
 pub record IsNotes (n : Notes) : Type 0 where
   pub clock : n.clock < 2 ^ 64
-  pub few_pages : length n.born ≤ 1048576
+  pub few_pages : length n.born ≤ MOST_ROWS
   pub few_positions : length n.cleaned ≤ 4095
   pub born : (page : ℕ) → slice_index n.born page ≤ n.clock
   pub cleaned : (position : ℕ) → slice_index n.cleaned position ≤ n.clock

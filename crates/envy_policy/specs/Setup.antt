@@ -2,7 +2,8 @@
 use Rattle.std.specs.Prelude.{ℕ, ◌-◌, ◌≤◌, ◌==◌, ◌||◌, nat_lt, Bool, false, Result, Ok, Err, if◌then◌else◌}
 use Rattle.envy_base.specs.declared.shape.ShapeFault.{ShapeFault}
 use Rattle.envy_base.specs.declared.shape.ShapeFault.TheVariants.{Segments, Rows, Pages, Frames, Entries, Share, Total}
-use Rattle.envy_base.specs.Shape.{IsShape, checked as shape_checked}
+use Rattle.envy_base.specs.Shape.{IsShape, checked_within as shape_within, positions_of}
+use Rattle.envy_base.specs.declared.shape.TheConstants.{MOST_ROWS}
 use Rattle.envy_policy.specs.declared.setup.Policy.{Policy}
 use Rattle.envy_policy.specs.declared.setup.Policy.TheVariants.{Greedy, Fifo, Locality, Hybrid, Lifetime}
 use Rattle.envy_policy.specs.declared.setup.Setup.{Setup}
@@ -40,13 +41,16 @@ abbrev pub shape_first : Result Unit ShapeFault → Result Unit SetupFault → R
 shape_first (Err fault) others = Err (OfShape fault)
 shape_first (Ok done) others = others
 
--- the first rule that fails: those of the shape, and then part, limit and mark
-unfoldable pub checked : Setup → Result Unit SetupFault
-checked setup = shape_first (shape_checked setup.shape)
-    (if fails_part setup.policy (setup.shape.segments - 1) then Err Part
+-- the first rule that fails, of a board of so many rows at most: those of the shape, and then part, limit and mark
+unfoldable pub checked_within : ℕ → Setup → Result Unit SetupFault
+checked_within most setup = shape_first (shape_within most setup.shape)
+    (if fails_part setup.policy (positions_of setup.shape) then Err Part
     else (if setup.limit == 0 then Err Limit
     else (if setup.mark == 0 || nat_lt setup.shape.frames setup.mark then Err Mark
     else Ok tt)))
+
+abbrev pub checked : Setup → Result Unit SetupFault
+checked setup = checked_within MOST_ROWS setup
 
 -- a rule's number in the order of asking
 abbrev pub shape_rule : ShapeFault → ℕ
@@ -67,8 +71,8 @@ rule_of Mark = 10
 -- the sizes of a setup that checks
 pub record IsSetup (setup : Setup) : Type 0 where
   pub shape : IsShape setup.shape
-  pub part : 1 ≤ run_of setup.policy (setup.shape.segments - 1)
-  pub few_part : run_of setup.policy (setup.shape.segments - 1) ≤ setup.shape.segments - 1
+  pub part : 1 ≤ run_of setup.policy (positions_of setup.shape)
+  pub few_part : run_of setup.policy (positions_of setup.shape) ≤ positions_of setup.shape
   pub limit : 1 ≤ setup.limit
   pub mark : 1 ≤ setup.mark
   pub few_mark : setup.mark ≤ setup.shape.frames

@@ -3,12 +3,13 @@ ghost use Rattle.std.specs.List.{range_with_len};
 ghost use Rattle.envy_policy.specs.Setup.{IsSetup, victims_of};
 ghost use Rattle.envy_policy.specs.History.{IsHistory, run, started, flushed, claimed, cleaned, partition_of, first_of, end_of, last_in};
 ghost use Rattle.envy_policy.specs.Choice.{IsChoice, IsWithin, IsLeast, IsNearest, IsUsable, HasRows, IsMost, IsVictim, IsAside, steps};
+ghost use Rattle.envy_base.specs.Shape.{positions_of};
 
 use crate::heats::Heats;
 use crate::lives::{note_claim, note_clean, reset, started};
 use crate::rows::{first_with, most};
 use crate::{Choice, Lifetime, Policy, Setup, Victims};
-use envy_base::NoMemory;
+use envy_base::{NoMemory, positions_of};
 use std::alloc::Global;
 use std::marker::Model;
 
@@ -45,10 +46,10 @@ impl Chooser {
     pub fn new(alloc: Global, setup: &Setup) -> Result<Chooser, NoMemory>
         requires { IsSetup setup.now }
         ensures { IfOk result (λ chooser.
-            chooser ≡ started setup.now.policy setup.now.shape.pages (setup.now.shape.segments - 1)) }
+            chooser ≡ started setup.now.policy setup.now.shape.pages (positions_of setup.now.shape)) }
     {
         let policy = setup.policy;
-        let positions = setup.shape.segments - 1;
+        let positions = positions_of(&setup.shape);
         let run = policy.run(positions);
         let count = ((positions - 1) / run + 1) as usize;
         let heats = Heats::new(alloc, count)?;

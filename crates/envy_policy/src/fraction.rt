@@ -10,10 +10,10 @@ pub(crate) struct Fraction {
 impl Fraction {
     /// Whether it is the greater of the two, by exact products.
     pub(crate) fn exceeds(&self, other: &Fraction) -> bool
-        requires over { self.now.over ≤ 2 ^ 84 }
-        requires under { self.now.under ≤ 2 ^ 22 }
-        requires other_over { other.now.over ≤ 2 ^ 84 }
-        requires other_under { other.now.under ≤ 2 ^ 22 }
+        requires over { self.now.over ≤ 2 ^ 90 }
+        requires under { self.now.under ≤ 2 ^ 26 }
+        requires other_over { other.now.over ≤ 2 ^ 90 }
+        requires other_under { other.now.under ≤ 2 ^ 26 }
         ensures { result ≡ nat_lt (other.now.over * self.now.under) (self.now.over * other.now.under) }
     {
         other.over * self.under < self.over * other.under

@@ -1,6 +1,6 @@
 ghost use Rattle.std.specs.Prelude.{◌≡◌, ◌≢◌, ℕ, ◌+◌, ◌-◌, ◌^◌, ◌<◌, ◌≤◌, None, Some, length, slice_index, IfOk, IfSome, IsTrue, MatchOption, false};
 ghost use Rattle.envy_base.specs.Counting.{up};
-ghost use Rattle.envy_base.specs.Shape.{IsShape};
+ghost use Rattle.envy_base.specs.Shape.{IsShape, positions_of};
 ghost use Rattle.envy_policy.specs.declared.fraction.Fraction.{Fraction};
 ghost use Rattle.envy_policy.specs.Lifetime.{RowCounts, IsCounted, HasRoom, HasRowsFor, IsBeside, IsFresh, IsFull, IsLifetimeChoice, IsLowest, IsVictim, worth, IsBestBelow, IsTaken};
 ghost use Rattle.envy_policy.specs.Notes.{IsNotes, class_of, noted_clean, noted_flush, unnoted};
@@ -49,7 +49,7 @@ impl Lifetime {
     /// Nothing is noted. It takes all memory that is ever needed: 8 bytes for each page and position.
     pub fn new(alloc: Global, shape: &Shape) -> Result<Lifetime, NoMemory>
         requires { IsShape shape.now }
-        ensures { IfOk result (λ lifetime. lifetime ≡ unnoted shape.now.pages (shape.now.segments - 1)) }
+        ensures { IfOk result (λ lifetime. lifetime ≡ unnoted shape.now.pages (positions_of shape.now)) }
     {
         let born = vec![in alloc; 0; shape.pages as usize]?;
         let cleaned = vec![in alloc; 0; shape.segments as usize - 1]?;
@@ -236,8 +236,8 @@ impl Lifetime {
         requires rows { IsCounted (length self.now.cleaned) (R.counts rows.now) }
         requires position { position < length self.now.cleaned }
         ensures worth { result ≡ worth self.now (R.counts rows.now) class position }
-        ensures over { result.over ≤ 2 ^ 84 }
-        ensures under { result.under ≤ 2 ^ 22 }
+        ensures over { result.over ≤ 2 ^ 90 }
+        ensures under { result.under ≤ 2 ^ 26 }
         ensures some { 1 ≤ result.under }
     {
         let dead = rows.dead(position) as u128;

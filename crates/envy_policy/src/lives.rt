@@ -3,6 +3,7 @@ ghost use Rattle.std.specs.Option.{option_map};
 ghost use Rattle.envy_policy.specs.Setup.{IsSetup};
 ghost use Rattle.envy_policy.specs.History.{lives_of};
 ghost use Rattle.envy_policy.specs.Notes.{noted_clean, noted_flush, unnoted};
+ghost use Rattle.envy_base.specs.Shape.{positions_of};
 
 use crate::{Lifetime, Policy, Setup};
 use envy_base::NoMemory;
@@ -13,7 +14,7 @@ use std::alloc::Global;
 pub fn started(alloc: Global, setup: &Setup) -> Result<Option<Lifetime>, NoMemory>
     requires { IsSetup setup.now }
     ensures { IfOk result (λ lives.
-        lives ≡ lives_of setup.now.policy setup.now.shape.pages (setup.now.shape.segments - 1)) }
+        lives ≡ lives_of setup.now.policy setup.now.shape.pages (positions_of setup.now.shape)) }
 {
     if let Policy::Lifetime = setup.policy {
         return Ok(Some(Lifetime::new(alloc, &setup.shape)?));

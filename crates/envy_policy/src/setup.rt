@@ -1,7 +1,7 @@
 ghost use Rattle.std.specs.Prelude.{◌≡◌, ◌≤◌, OnOk};
-ghost use Rattle.envy_policy.specs.Setup.{IsSetup, checked, rule_of, run_of, victims_of};
+ghost use Rattle.envy_policy.specs.Setup.{IsSetup, checked, checked_within, rule_of, run_of, victims_of};
 
-use envy_base::{Shape, ShapeFault};
+use envy_base::{positions_of, Shape, ShapeFault, MOST_ROWS};
 
 /// How the cleaner chooses a position to write to. The positions are split into partitions of
 /// consecutive positions, and each page is written back into its own partition where that has room.
@@ -93,15 +93,24 @@ impl Policy {
 
 impl Setup {
     /// Answers the first rule that fails: those of the shape, and then part, limit and mark.
-    #[tactic(auto, unfolding(crate::specs::Setup::checked))]
     pub fn check(&self) -> Result<(), SetupFault>
         ensures table { result ≡ checked self.now }
         ensures sizes { OnOk result (IsSetup self.now) }
     {
+        self.check_within(MOST_ROWS)
+    }
+
+    /// Answers the first rule that fails, for a board of at most so many rows.
+    #[tactic(auto, unfolding(crate::specs::Setup::checked_within))]
+    pub fn check_within(&self, most: u32) -> Result<(), SetupFault>
+        requires most { most ≤ MOST_ROWS }
+        ensures table { result ≡ checked_within most self.now }
+        ensures sizes { OnOk result (IsSetup self.now) }
+    {
         let setup = *self;
-        setup.shape.check()?;
+        setup.shape.check_within(most)?;
         if let Policy::Hybrid(part) = setup.policy {
-            if part == 0 || part > setup.shape.segments - 1 {
+            if part == 0 || part > positions_of(&setup.shape) {
                 return Err(SetupFault::Part);
             }
         }

@@ -4,7 +4,7 @@ ghost use Rattle.envy_base.specs.Counting.{up};
 ghost use Rattle.envy_base.specs.State.{IsBoard, ands, ones};
 ghost use Rattle.envy_region.specs.Region.{region_state, Erased};
 
-use envy_base::{Board, Off, Shape, Trouble};
+use envy_base::{Board, Off, PAGE_LENGTH, Page, Shape, Trouble};
 
 /// A board whose flash, SRAM and counts of erases lie in memory of its caller's.
 #[derive(Drop)]
@@ -12,7 +12,7 @@ pub struct RegionBoard<'a> {
     /// The sizes.
     pub shape: Shape,
     /// Rows of flash, 32 words to each; a segment's rows lie together.
-    pub flash: &'a mut [[u64; 32]],
+    pub flash: &'a mut [Page],
     /// Words of SRAM.
     pub sram: &'a mut [u64],
     /// How many erases of each segment began.
@@ -34,7 +34,7 @@ impl<'a> RegionBoard<'a> {
     /// A board over memory of the sizes that the shape asks for. It reads and writes none of it.
     pub fn over(
         shape: Shape,
-        flash: &'a mut [[u64; 32]],
+        flash: &'a mut [Page],
         sram: &'a mut [u64],
         erases: &'a mut [u64],
     ) -> RegionBoard<'a>
@@ -73,7 +73,7 @@ impl<'a> Board for RegionBoard<'a> {
         Ok(self.sram[w as usize])
     }
 
-    fn program(&mut self, row: u32, page: &[u64; 32]) -> Result<(), Trouble> {
+    fn program(&mut self, row: u32, page: &Page) -> Result<(), Trouble> {
         let held = self.flash[row as usize];
         let both = anded(&held, page);
         self.begun = more(self.begun);
@@ -95,20 +95,20 @@ impl<'a> Board for RegionBoard<'a> {
 }
 
 /// Makes so many rows all ones.
-pub fn fill(flash: &mut [[u64; 32]], first: usize, rows: usize)
+pub fn fill(flash: &mut [Page], first: usize, rows: usize)
     requires { first + rows ≤ length flash.old }
     ensures { Erased first (first + rows) flash.old flash.new }
 {
     for row in first..first + rows {
-        flash[row] = [u64::MAX; 32];
+        flash[row] = [u64::MAX; PAGE_LENGTH];
     }
 }
 
 /// The bitwise AND of a row and a page.
-pub fn anded(row: &[u64; 32], page: &[u64; 32]) -> [u64; 32]
+pub fn anded(row: &Page, page: &Page) -> Page
     ensures { result ≡ ands row.now page.now }
 {
-    let mut both = [0; 32];
+    let mut both = [0; PAGE_LENGTH];
     for i in 0..32usize {
         both[i] = row[i] & page[i];
     }

@@ -4,7 +4,7 @@ ghost use Rattle.envy_region.specs.Fences.{AddsFence};
 ghost use Rattle.envy_region.specs.Region.{region_state};
 
 use crate::RegionBoard;
-use envy_base::{Board, Off, Shape, Trouble};
+use envy_base::{Board, Off, Page, Shape, Trouble};
 
 /// What orders stores to memory, on a processor that doesn't keep their order.
 pub trait Fence {
@@ -68,7 +68,7 @@ impl<'a, F: Fence> Board for OrderedBoard<'a, F> {
         self.board.get(w)
     }
 
-    fn program(&mut self, row: u32, page: &[u64; 32]) -> Result<(), Trouble> {
+    fn program(&mut self, row: u32, page: &Page) -> Result<(), Trouble> {
         self.board.program(row, page)
     }
 

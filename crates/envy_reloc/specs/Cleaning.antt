@@ -6,6 +6,7 @@ use Rattle.envy_base.specs.declared.fields.Job.TheVariants.{Idle, Copy, Switch, 
 use Rattle.envy_base.specs.declared.shape.Shape.{Shape}
 use Rattle.envy_map.specs.Fields.{Fields}
 use Rattle.envy_layout.specs.Sound.{IsSpare, Names}
+use Rattle.envy_base.specs.Shape.{positions_of}
 
 -- row d is dead, and no row of the spare e was copied from it
 pub record IsSkipped (e d : ℕ) (f : Fields) : Type 0 where
@@ -25,8 +26,8 @@ pub record Cleans (sh : Shape) (positions : List ℕ) (k n : ℕ) (f : Fields) (
   pub e : ℕ
   pub v : ℕ
   pub d : ℕ
-  pub low : k < sh.segments - 1
-  pub long : length positions ≡ sh.segments - 1
+  pub low : k < positions_of sh
+  pub long : length positions ≡ positions_of sh
   pub here : slice_index positions k ≡ v
   pub spare : IsSpare sh positions e
   pub row : d / sh.rows ≡ v

@@ -20,6 +20,7 @@ use Rattle.envy_reloc.specs.Rows.{HasRoom, IsLeft}
 use Rattle.envy_reloc.specs.declared.copying.Left.{Left}
 use Rattle.envy_reloc.specs.declared.moving.Move.{Move}
 use Rattle.envy_reloc.specs.declared.step.Phase.{Phase}
+use Rattle.envy_base.specs.Shape.{positions_of}
 
 -- the pool, the cache and the owners are the map's
 pub record PartsAgree (c : Chart) (x : Pool) (entries : List Entry) : Type 0 where
@@ -101,7 +102,7 @@ pub record IsMove (c : Chart) (pool : Pool) (next : Move) : Type 0 where
   pub v : ℕ
   pub copying : c.fields.job ≡ Some (Copy v)
   pub room : HasRoom pool.shape pool.fills pool.positions v next.position
-  pub position : next.position < pool.shape.segments - 1
+  pub position : next.position < positions_of pool.shape
   pub page : next.kept.page < c.shape.pages
   pub back : slice_index c.fields.backs next.row ≡ next.kept.page
   pub named : IsNamed c.fields next.kept.page next.row next.kept.undo

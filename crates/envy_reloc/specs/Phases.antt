@@ -15,6 +15,7 @@ use Rattle.envy_reloc.specs.Switching.{SwitchesAll}
 use Rattle.envy_reloc.specs.declared.moving.Move.{Move}
 use Rattle.envy_reloc.specs.declared.step.Phase.{Phase}
 use Rattle.envy_reloc.specs.declared.step.Phase.TheVariants.{Moved, Copied, Switched, Placed, Erased}
+use Rattle.envy_base.specs.Shape.{positions_of}
 
 -- one program or one erase at most has begun
 abbrev pub SameOnce : Chart → Chart → Type 0
@@ -107,7 +108,7 @@ pub record PlacesSpare (old : Chart) (plan : Plan) (new : Chart) (then_plan : Pl
   pub v : ℕ
   pub switching : old.fields.job ≡ Some (Switch v)
   pub k : ℕ
-  pub position : k < old.shape.segments - 1
+  pub position : k < positions_of old.shape
   pub here : slice_index old.fields.positions k ≡ v
   pub e : ℕ
   pub spare : IsSpare old.shape old.fields.positions e

@@ -8,6 +8,7 @@ use Rattle.envy_base.specs.declared.fields.Slot.{Slot}
 use Rattle.envy_base.specs.declared.fields.Undo.{Undo}
 use Rattle.envy_map.specs.Fields.{Fields}
 use Rattle.envy_layout.specs.Sound.{Refers, IsPlaced, IsSpare}
+use Rattle.envy_base.specs.Shape.{positions_of}
 
 -- What a client sees of a `Reloc`: the rows that are still to be moved to other positions, in order, and the
 -- first and the last of these; the rows of the segment below the mark have been looked at by copies; how many
@@ -40,7 +41,7 @@ pub record AreCopies (sh : Shape) (fills backs origins : List ℕ) (flash : List
 -- positions in order, and the spare holds copies.
 pub record IsPrepared (sh : Shape) (job : Option Job) (positions fills backs origins : List ℕ) (flash : List (List ℕ)) (plan : Plan) : Type 0 where
   pub moves : (v : ℕ) → job ≡ Some (Copy v) → All (λ q. q / sh.rows ≡ v) plan.moves
-  pub aside : (v first last : ℕ) → job ≡ Some (Copy v) → plan.aside ≡ Some (first, last) → (first ≤ last) × (last < sh.segments - 1)
+  pub aside : (v first last : ℕ) → job ≡ Some (Copy v) → plan.aside ≡ Some (first, last) → (first ≤ last) × (last < positions_of sh)
   pub copies : (v e : ℕ) → job ≡ Some (Copy v) → IsSpare sh positions e → AreCopies sh fills backs origins flash v e
 
 -- While a segment is being copied, each row of it below the mark that is kept has its copy, and the rows that

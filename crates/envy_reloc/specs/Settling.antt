@@ -7,10 +7,11 @@ use Rattle.envy_map.specs.Fields.{Fields}
 use Rattle.envy_map.specs.Writes.{with_job}
 use Rattle.envy_layout.specs.Sound.{IsSpare}
 use Rattle.envy_reloc.specs.Switching.{SwitchesPlace}
+use Rattle.envy_base.specs.Shape.{positions_of}
 
 -- the position of segment s, or none where it is the spare
 abbrev pub Finds : Shape → List ℕ → ℕ → Option ℕ → Type 0
-Finds sh positions s (Some k) = (k < sh.segments - 1) × (slice_index positions k ≡ s)
+Finds sh positions s (Some k) = (k < positions_of sh) × (slice_index positions k ≡ s)
 Finds sh positions s None = IsSpare sh positions s
 
 -- nothing but the job, positions and places has changed
@@ -26,7 +27,7 @@ GivesUp f g = g ≡ with_job (Some Erase) f
 pub record Finishes (sh : Shape) (v : ℕ) (f g : Fields) : Type 0 where
   pub k : ℕ
   pub e : ℕ
-  pub position : k < sh.segments - 1
+  pub position : k < positions_of sh
   pub here : slice_index f.positions k ≡ v
   pub spare : IsSpare sh f.positions e
   pub fields : g ≡ record f { job = Some Erase; positions = slice_set f.positions k e; places = g.places }

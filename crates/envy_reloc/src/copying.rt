@@ -10,7 +10,7 @@ ghost use Rattle.envy_space.specs.Pool.{PoolAgrees};
 ghost use Rattle.envy_reloc.specs.Keeping.{ClaimsCopy, MayCopy, PoolFollows};
 ghost use Rattle.envy_reloc.specs.Rows.{NextKept};
 
-use envy_base::{Board, Off, Trouble};
+use envy_base::{Board, Off, PAGE_LENGTH, PAGE_WORDS, Page, Trouble};
 use envy_layout::{keeper, note_origin, program_counted};
 use envy_space::Space;
 
@@ -49,7 +49,7 @@ pub(crate) fn next_kept<B: Board>(
 }
 
 /// Reads the 32 words of a row into `words`.
-pub(crate) fn read_row<B: Board>(board: &B, row: u32, words: &mut [u64; 32]) -> Result<(), Off>
+pub(crate) fn read_row<B: Board>(board: &B, row: u32, words: &mut Page) -> Result<(), Off>
     requires { row < (B.state board.now).shape.segments * (B.state board.now).shape.rows }
     ensures words { OnOk result (words.new ≡ row_of (B.state board.now) row) }
     ensures power { (B.state board.now).on ≡ power_of result }
@@ -57,7 +57,7 @@ pub(crate) fn read_row<B: Board>(board: &B, row: u32, words: &mut [u64; 32]) -> 
     if !board.powered() {
         return Err(Off);
     }
-    for i in 0..32 {
+    for i in 0..PAGE_WORDS {
         words[i as usize] = board.read(row, i)?;
     }
     Ok(())
@@ -92,7 +92,7 @@ pub(crate) fn copy_row<B: Board>(
     let filled = space.fill(spare);
     note_origin(board, filled, left.row)?;
     let target = space.claim(board, spare, left.page)?;
-    let mut words = [0; 32];
+    let mut words = [0; PAGE_LENGTH];
     read_row(board, left.row, &mut words)?;
     program_counted(board, target, &words, copied)
 }

@@ -10,6 +10,7 @@ ghost use Rattle.envy_layout.specs.Same.{Same};
 ghost use Rattle.envy_layout.specs.Sound.{IsSound, IsPlaced, IsSpare};
 ghost use Rattle.envy_space.specs.Pool.{PoolAgrees};
 ghost use Rattle.envy_reloc.specs.Keeping.{PoolFollows};
+ghost use Rattle.envy_base.specs.Shape.{positions_of};
 
 use envy_base::{Board, Off, Trouble};
 use envy_layout::{begin_erase, empty_spare, end_job, erase_counted};
@@ -32,7 +33,7 @@ pub(crate) fn place_spare<B: Board>(
     ensures pool { IsTrue (B.state board.new).on
         → PoolAgrees (B.state board.new).shape (chart (B.state board.new)).fields space.new }
     ensures shape { space.new.shape ≡ space.old.shape }
-    ensures places { OnOk result ((k e : ℕ) × (k < (B.state board.old).shape.segments - 1)
+    ensures places { OnOk result ((k e : ℕ) × (k < positions_of (B.state board.old).shape)
         × (slice_index (chart (B.state board.old)).fields.positions k ≡ segment)
         × IsSpare (B.state board.old).shape (chart (B.state board.old)).fields.positions e
         × (chart (B.state board.new) ≡ with_fields (chart (B.state board.old))

@@ -1,5 +1,5 @@
 ghost use Rattle.std.specs.Prelude.{◌≡◌, ◌<◌, ◌≤◌, ◌+◌, ◌-◌, ℕ, false, IsTrue, None, Some, OnOk, OnErr, IfOk, IsErrOf, slice_index};
-ghost use Rattle.envy_base.specs.Shape.{IsShape};
+ghost use Rattle.envy_base.specs.Shape.{IsShape, positions_of};
 ghost use Rattle.envy_base.specs.Counting.{up, Tally};
 ghost use Rattle.envy_base.specs.State.{row_of};
 ghost use Rattle.envy_base.specs.declared.fields.Job.TheVariants.{Copy};
@@ -18,7 +18,7 @@ ghost use Rattle.envy_reloc.specs.Rows.{Rooms};
 use crate::Reloc;
 use crate::copying::read_row;
 use crate::following::follow;
-use envy_base::{Board, Off, Place, Trouble};
+use envy_base::{Board, Off, PAGE_LENGTH, Place, Trouble};
 use envy_layout::{Kept, keeper, move_place, move_undo, program_counted};
 use envy_space::Space;
 use envy_table::Cache;
@@ -34,7 +34,7 @@ pub(crate) struct Move {
 /// The lowest position of a run that has a free row, but for the segment that is being relocated.
 fn room_between(space: &Space, segment: u32, first: u32, last: u32) -> Option<u32>
     requires order { first ≤ last }
-    requires last { last < space.now.shape.segments - 1 }
+    requires last { last < positions_of space.now.shape }
     requires shape { IsShape space.now.shape }
     ensures { Rooms space.now.shape space.now.fills space.now.positions segment first last result }
 {
@@ -123,7 +123,7 @@ fn program_move<B: Board>(
     ensures counts { Tally (B.state board.old).begun moved.old (B.state board.new).begun moved.new }
 {
     let target = space.claim(board, segment, page)?;
-    let mut words = [0; 32];
+    let mut words = [0; PAGE_LENGTH];
     read_row(board, row, &mut words)?;
     program_counted(board, target, &words, moved)?;
     Ok(target)

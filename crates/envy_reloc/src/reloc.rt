@@ -6,6 +6,7 @@ ghost use Rattle.envy_layout.specs.Sound.{IsSound};
 ghost use Rattle.envy_space.specs.Pool.{PoolAgrees};
 ghost use Rattle.envy_reloc.specs.Keeping.{Begins, MayBegin};
 ghost use Rattle.envy_reloc.specs.Plan.{Plan, IsPlanOf};
+ghost use Rattle.envy_base.specs.Shape.{positions_of};
 
 use arrayvec::ArrayVec;
 use envy_base::{Board, Off};
@@ -63,10 +64,10 @@ impl Reloc {
     ) -> Result<(), Off>
         requires ready { IsTrue (B.state board.old).on → MayBegin (chart (B.state board.old)) space.now }
         requires shape { space.now.shape ≡ (B.state board.old).shape }
-        requires position { position < space.now.shape.segments - 1 }
+        requires position { position < positions_of space.now.shape }
         requires moves { All (λ q. q / space.now.shape.rows ≡ slice_index space.now.positions position) moves.items }
         requires aside { (first last : ℕ) → aside ≡ Some (first, last) → (first ≤ last)
-            × (last < space.now.shape.segments - 1) }
+            × (last < positions_of space.now.shape) }
 
         ensures same { IsSound (chart (B.state board.old))
             → Same 0 0 (chart (B.state board.old)) (chart (B.state board.new)) }

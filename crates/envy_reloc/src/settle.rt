@@ -6,10 +6,11 @@ ghost use Rattle.envy_layout.specs.Power.{power_of};
 ghost use Rattle.envy_layout.specs.Same.{Same};
 ghost use Rattle.envy_layout.specs.Sound.{IsSound, IsPlaced, IsSpare};
 ghost use Rattle.envy_reloc.specs.Settling.{Finds, KeepsOthers, Finishes, Settles};
+ghost use Rattle.envy_base.specs.Shape.{positions_of};
 
 use crate::Reloc;
 use crate::switching::switch_row;
-use envy_base::{Board, Job, Off};
+use envy_base::{Board, Job, Off, positions_of};
 use envy_layout::{begin_erase, replace_segment};
 use envy_map::{fill, job, segment_at};
 
@@ -21,7 +22,7 @@ fn find_position<B: Board>(board: &B, segment: u32) -> Result<Option<u32>, Off>
         Finds (B.state board.now).shape (chart (B.state board.now)).fields.positions segment found) }
     ensures off { OnErr result ((B.state board.now).on ≡ false) }
 {
-    for position in 0..board.shape().segments - 1 {
+    for position in 0..positions_of(&board.shape()) {
         if segment_at(board, position)? == segment {
             return Ok(Some(position));
         }
@@ -35,12 +36,12 @@ fn placed_segments<B: Board>(board: &B) -> Result<[bool; 4096], Off>
     ensures long { IfOk result (λ placed. length placed ≡ 4096) }
     ensures placed { IfOk result (λ placed. (s : ℕ) → IsTrue (slice_index_or placed s false)
         → IsPlaced (B.state board.now).shape (chart (B.state board.now)).fields.positions s) }
-    ensures all { IfOk result (λ placed. (k : ℕ) → k < (B.state board.now).shape.segments - 1
+    ensures all { IfOk result (λ placed. (k : ℕ) → k < positions_of (B.state board.now).shape
         → IsTrue (slice_index_or placed (slice_index (chart (B.state board.now)).fields.positions k) false)) }
     ensures off { OnErr result ((B.state board.now).on ≡ false) }
 {
     let mut placed = [false; 4096];
-    for position in 0..board.shape().segments - 1 {
+    for position in 0..positions_of(&board.shape()) {
         placed[segment_at(board, position)? as usize] = true;
     }
     Ok(placed)
@@ -69,7 +70,7 @@ fn finish_switch<B: Board>(board: &mut B, segment: u32, position: u32) -> Result
     requires clear { (p : ℕ) → p < (B.state board.old).shape.pages
         → undo (chart (B.state board.old)).fields p ≡ Some Clear }
     requires switching { (chart (B.state board.old)).fields.job ≡ Some (Switch segment) }
-    requires position { position < (B.state board.old).shape.segments - 1 }
+    requires position { position < positions_of (B.state board.old).shape }
     requires here { slice_index (chart (B.state board.old)).fields.positions position ≡ segment }
 
     ensures same { Same 0 0 (chart (B.state board.old)) (chart (B.state board.new)) }

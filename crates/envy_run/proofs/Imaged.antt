@@ -35,7 +35,7 @@ shape-checks sh s =
     let t4 : (nat_lt sh.frames 2 || nat_lt 65536 sh.frames) ≡ false = grind (arith, nat_tests) in
     let t5 : (sh.entries == 0 || nat_lt 65536 sh.entries) ≡ false = grind (arith, nat_tests) in
     let t6 : nat_lt ((sh.segments - 2) * sh.rows) (sh.pages + sh.shadows) ≡ false = grind (arith, nat_tests) in
-    let t7 : nat_lt 1048576 (sh.segments * sh.rows) ≡ false = grind (arith, nat_tests) in
+    let t7 : nat_lt 16777216 (sh.segments * sh.rows) ≡ false = grind (arith, nat_tests) in
     rw (t1, t2, t3, t4, t5, t6, t7) refl
 
 module _ (b : State) (rest : List ℕ) (whole : IsBoard b) (bytes : List ℕ) (feed : Feed) (source : Some (image_of b ++ rest) ≡ with_front bytes feed.left) where

@@ -1,6 +1,6 @@
 -- What an index did in a line and in a trace, from what its calls say.
-use Rattle.std.proofs.Common.{◌≡◌, ◌⊎◌, inl, inr, ℕ, ◌+◌, ◌*◌, ◌^◌, ◌≤◌, Bool, true, false, List, [], ◌∷◌, ◌++◌, length, take, refl, sym, ◌∙◌, ap, subst, arith}
-use Rattle.std.specs.Prelude.{IsTrue, Option, None, Some, IfSome, Result, Ok, Err, replicate, ◌↔◌, ◌&&◌}
+use Rattle.std.proofs.Common.{◌≡◌, ◌⊎◌, inl, inr, ℕ, ◌+◌, ◌*◌, ◌^◌, ◌<◌, ◌≤◌, Bool, true, false, List, [], ◌∷◌, ◌++◌, length, take, refl, sym, ◌∙◌, ap, subst, arith}
+use Rattle.std.specs.Prelude.{IsTrue, Option, None, Some, IfSome, Result, Ok, Err, replicate, sum, ◌↔◌, ◌&&◌}
 use Rattle.std.proofs.lemmas.List.{append-nil}
 use Rattle.envy_base.specs.declared.faults.PlannedFault.{PlannedFault}
 use Rattle.envy_base.specs.Shape.{IsShape}
@@ -28,6 +28,7 @@ use Rattle.envy_layout.specs.Words.{durable}
 use Rattle.envy_map.specs.Codes.{the_magic}
 use Rattle.envy_map.specs.Fields.{Chart, chart}
 use Rattle.envy_memory.proofs.Counted.{below-top, up-low}
+use Rattle.envy_memory.specs.Below.{flush_programs, flush_erases}
 use Rattle.envy_memory.specs.Calls.{fresh, lit, pulled}
 use Rattle.envy_memory.specs.Formats.{IsFresh}
 use Rattle.envy_memory.specs.Picture.{Picture}
@@ -47,6 +48,7 @@ use Rattle.envy_run.specs.Done.{OnBoard}
 use Rattle.envy_run.specs.Headline.{index_task}
 use Rattle.envy_run.specs.IndexDone.{HoldsIndex, HoldsIndexOff, IndexDies, IndexLicences}
 use Rattle.envy_run.specs.IndexServing.{Serving, LostAt, AnswersIndex, ReplyLicence, LineLicence, IndexOff, IndexBack, RecoversIndex, IndexLineDone, IndexLineDead, ObeysIndex, IndexLicensed, IndexedSince, FellIn, FellSince}
+use Rattle.envy_run.specs.IndexSpending.{SpendsPuts, puts_of, puts_in, tries_before}
 use Rattle.envy_run.specs.IndexTurns.{Pairs, IndexTurn, IndexRun, Says, Faults, Loses, DoesIndex, is_command, FailsIn, index_grammar, most_of, before_restart, is_power, is_plan, plan_of, is_lost, is_fault}
 use Rattle.envy_run.specs.Licence.{Licence, plans_in, newest}
 use Rattle.envy_run.specs.Outcome.{Outcome, ending_of, outcome_of}
@@ -54,9 +56,12 @@ use Rattle.envy_run.specs.Prepares.{IsPrepared, IsReady, NoneBegun, WasMade}
 use Rattle.envy_run.specs.Task.{DoesTask}
 use Rattle.envy_run.specs.declared.ending.Finished.{Finished}
 use Rattle.envy_run.proofs.Accounts.{account_of, served_outcome, unread}
+use Rattle.envy_run.proofs.IndexSpent.{puts-none, puts-then, puts-more, spends-lit, thrifty-index}
 use Rattle.envy_run.proofs.Obeying.{Licence-as, front-after, front-before, one-more}
 use Rattle.envy_run.proofs.Recovering.{Licence-trans, Licence-revived, plans-count}
 use Rattle.envy_run.proofs.Replying.{Licence-refl}
+use Rattle.envy_run.proofs.Spent.{spends-none}
+use Rattle.envy_run.proofs.Traced.{IsTriedOn, tried-on, times-few}
 
 texts-one : (reply : IndexReply) → texts index_grammar (reply ∷ []) ≡ index_bytes reply ++ newline ∷ []
 texts-one reply = append-nil (index_bytes reply ++ newline ∷ [])
@@ -85,7 +90,7 @@ lost-no-power (Bad k g) command = (refl, refl)
 -- ---- restarts
 
 off-more : (a b c : Chart) → IndexOff a b → Kept (lit b) c → c.on ≡ false → IndexOff a c
-off-more a b c x kept off = record { off = off; durable = kept.durable ∙ x.durable; licence = Licence-trans 0 [] 0 0 0 [] 0 0 a b c x.licence (Licence-revived b c kept) }
+off-more a b c x kept off = record { off = off; durable = kept.durable ∙ x.durable; licence = Licence-trans 0 [] 0 0 0 [] 0 0 a b c x.licence (Licence-revived b c kept); spent = spends-lit a b c x.spent kept }
 
 pub off-again : {E : Type 0} (a : Chart) (b c : Picture) → IndexOff a b.chart → (E × (c ≡ b)) ⊎ (Kept (lit b.chart) c.chart × (c.chart.on ≡ false)) → IndexOff a c.chart
 off-again a b c x (inl (never, same)) = subst (λ (p : Picture). IndexOff a p.chart) (sym same) x
@@ -100,12 +105,12 @@ and-shut true begun shut = shut
 and-shut false begun shut = refl
 
 pub back-after : (a b : Chart) (c : Picture) (begun : Bool) → IndexOff a b → Kept (lit b) c.chart → IsTrue c.chart.on → begun ≡ false → IndexBack a c begun
-back-after a b c begun x kept on shut = record { on = on; shut = and-shut c.chart.on begun shut; durable = kept.durable ∙ x.durable; licence = Licence-trans 0 [] 0 0 0 [] 0 0 a b c.chart x.licence (Licence-revived b c.chart kept) }
+back-after a b c begun x kept on shut = record { on = on; shut = and-shut c.chart.on begun shut; durable = kept.durable ∙ x.durable; licence = Licence-trans 0 [] 0 0 0 [] 0 0 a b c.chart x.licence (Licence-revived b c.chart kept); spent = spends-lit a b c.chart x.spent kept }
 
 -- ---- one line
 
-one-line : (most : ℕ) (es : Pairs) (line : IndexLine) (reply : IndexReply) (old : Chart) (new : Picture) (begun : Bool) → IsTrue new.chart.on → AnswersIndex most es line reply new begun → ReplyLicence line reply old new.chart → (left : Pairs) × IndexLineDone most es line (reply ∷ []) left old new begun
-one-line most es line reply old new begun on answers licence = at reply answers licence
+one-line : (most : ℕ) (es : Pairs) (line : IndexLine) (reply : IndexReply) (old : Chart) (new : Picture) (begun : Bool) → IsTrue new.chart.on → AnswersIndex most es line reply new begun → ReplyLicence line reply old new.chart → SpendsPuts (puts_of line) old new.chart → (left : Pairs) × IndexLineDone most es line (reply ∷ []) left old new begun
+one-line most es line reply old new begun on answers licence spent = at reply answers licence
   where
     so : (reply : IndexReply) → (n : Pairs) × (Says most es line reply n ⊎ Faults most es line reply n) × Serving new begun n → ReplyLicence line reply old new.chart → (left : Pairs) × IndexLineDone most es line (reply ∷ []) left old new begun
     so reply (n, says, serving) x = (
@@ -114,6 +119,7 @@ one-line most es line reply old new begun on answers licence = at reply answers 
         does = inr (inl (reply, refl, says));
         serving = serving;
         licensed = Licence-as 0 (plan_of line) (one_if (is_lost reply)) (one_if (is_fault reply)) (one_if (is_power line)) (plan_of line) (one_if (is_lost reply) + 0) (one_if (is_fault reply) + 0) old new.chart (sym (ap one_if (says-no-power most es line reply n says))) refl (one-more (one_if (is_lost reply))) (one-more (one_if (is_fault reply))) x;
+        spent = spent;
       },
     )
 
@@ -136,14 +142,14 @@ lit-after most es line Lost new begun other a = absurd (other refl)
 lit-after most es line Restarted new begun other (n, says, s) = Serving.on s
 lit-after most es line Armed new begun other (n, says, s) = Serving.on s
 
-pub index-done : (most : ℕ) (es : Pairs) (line : IndexLine) (reply : IndexReply) (old : Chart) (new : Picture) (begun : Bool) (sink then_sink : Drain) → (reply ≡ Lost → ⊥) → AnswersIndex most es line reply new begun → ReplyLicence line reply old new.chart → WritesAll sink (index_bytes reply ++ newline ∷ []) (Ok tt) then_sink → ObeysIndex most es line Done old new begun sink then_sink
-index-done most es line reply old new begun sink then_sink other a x (whole, faults, after) =
-    let (left, done) = one-line most es line reply old new begun (lit-after most es line reply new begun other a) a x in
+pub index-done : (most : ℕ) (es : Pairs) (line : IndexLine) (reply : IndexReply) (old : Chart) (new : Picture) (begun : Bool) (sink then_sink : Drain) → (reply ≡ Lost → ⊥) → AnswersIndex most es line reply new begun → ReplyLicence line reply old new.chart → SpendsPuts (puts_of line) old new.chart → WritesAll sink (index_bytes reply ++ newline ∷ []) (Ok tt) then_sink → ObeysIndex most es line Done old new begun sink then_sink
+index-done most es line reply old new begun sink then_sink other a x spent (whole, faults, after) =
+    let (left, done) = one-line most es line reply old new begun (lit-after most es line reply new begun other a) a x spent in
     (reply ∷ [], left, done, record { whole = whole ∙ ap (with_end sink.written) (sym (texts-one reply)); faults = faults })
 
-pub index-failed : (most : ℕ) (es : Pairs) (line : IndexLine) (reply : IndexReply) (old : Chart) (new : Picture) (begun : Bool) (sink then_sink : Drain) (failed : Failed) → (reply ≡ Lost → ⊥) → AnswersIndex most es line reply new begun → ReplyLicence line reply old new.chart → WritesAll sink (index_bytes reply ++ newline ∷ []) (Err failed) then_sink → ObeysIndex most es line WriteFault old new begun sink then_sink
-index-failed most es line reply old new begun sink then_sink failed other a x (n, lt, front, faults) =
-    let (left, done) = one-line most es line reply old new begun (lit-after most es line reply new begun other a) a x in
+pub index-failed : (most : ℕ) (es : Pairs) (line : IndexLine) (reply : IndexReply) (old : Chart) (new : Picture) (begun : Bool) (sink then_sink : Drain) (failed : Failed) → (reply ≡ Lost → ⊥) → AnswersIndex most es line reply new begun → ReplyLicence line reply old new.chart → SpendsPuts (puts_of line) old new.chart → WritesAll sink (index_bytes reply ++ newline ∷ []) (Err failed) then_sink → ObeysIndex most es line WriteFault old new begun sink then_sink
+index-failed most es line reply old new begun sink then_sink failed other a x spent (n, lt, front, faults) =
+    let (left, done) = one-line most es line reply old new begun (lit-after most es line reply new begun other a) a x spent in
     (reply ∷ [], left, done, record { count = n; front = front ∙ ap (λ (t : List ℕ). with_end sink.written (take n t)) (sym (texts-one reply)); faults = faults })
 
 -- what stays while power is off
@@ -159,8 +165,8 @@ back-serving es old c new begun stays back map =
     let size = stays.size in
     record { on = back.on; shut = back.shut; room = omega arith; size = omega arith; map = subst (λ (ws : List ℕ). IsIndex ws es) (sym back.durable) map }
 
-pub index-recovers : (most : ℕ) (es : Pairs) (line : IndexLine) (reply : IndexReply) (old c : Chart) (new : Picture) (b begun : Bool) (p : Picture) (sink mid_sink then_sink : Drain) (wrote : Result Unit Failed) (obeyed : Obeyed) → p.chart ≡ c → Stays es old c → reply ≡ Lost → AnswersIndex most es line reply p b → ReplyLicence line reply old c → WritesAll sink (index_bytes reply ++ newline ∷ []) wrote mid_sink → RecoversIndex wrote obeyed c new begun mid_sink then_sink → ObeysIndex most es line obeyed old new begun sink then_sink
-index-recovers most es line reply old c new b begun p sink mid_sink then_sink wrote obeyed same stays is a x writes recovers =
+pub index-recovers : (most : ℕ) (es : Pairs) (line : IndexLine) (reply : IndexReply) (old c : Chart) (new : Picture) (b begun : Bool) (p : Picture) (sink mid_sink then_sink : Drain) (wrote : Result Unit Failed) (obeyed : Obeyed) → p.chart ≡ c → Stays es old c → reply ≡ Lost → AnswersIndex most es line reply p b → ReplyLicence line reply old c → SpendsPuts (puts_of line) old c → WritesAll sink (index_bytes reply ++ newline ∷ []) wrote mid_sink → RecoversIndex wrote obeyed c new begun mid_sink then_sink → ObeysIndex most es line obeyed old new begun sink then_sink
+index-recovers most es line reply old c new b begun p sink mid_sink then_sink wrote obeyed same stays is a x spent writes recovers =
     lost-so (subst (λ (d : Chart). LostAt most es line d) same (subst (λ (r : IndexReply). AnswersIndex most es line r p b) is a)) (subst (λ (r : IndexReply). ReplyLicence line r old c) is x) wrote obeyed (subst (λ (r : IndexReply). WritesAll sink (index_bytes r ++ newline ∷ []) wrote mid_sink) is writes) recovers
   where
     first : List ℕ
@@ -173,7 +179,7 @@ index-recovers most es line reply old c new b begun p sink mid_sink then_sink wr
     licensed-one l y z = Licence-as 0 (plan_of line) 1 0 (one_if (is_power line)) (plan_of line) 1 0 old new.chart (sym (ap one_if (no-power l).0)) refl refl refl (Licence-trans 0 (plan_of line) 1 0 0 [] 0 0 old c new.chart y z)
 
     done-both : ReplyLicence line Lost old c → (l : LostAt most es line c) → IndexBack c new begun → IndexLineDone most es line (Lost ∷ Restarted ∷ []) (LostAt.left l) old new begun
-    done-both y l back = record { does = inr (inr (inl (refl, LostAt.loses l))); serving = back-serving (LostAt.left l) old c new begun (record { room = stays.room; size = stays.size }) back (LostAt.map l); licensed = licensed-one l y back.licence }
+    done-both y l back = record { does = inr (inr (inl (refl, LostAt.loses l))); serving = back-serving (LostAt.left l) old c new begun (record { room = stays.room; size = stays.size }) back (LostAt.map l); licensed = licensed-one l y back.licence; spent = puts-then (puts_of line) old c new.chart spent back.spent }
 
     dead-so : ReplyLicence line Lost old c → LostAt most es line c → IndexOff c new.chart → new.chart.lives ≡ 0 → IndexLineDead most es line old new.chart
     dead-so y l off dead = record {
@@ -181,6 +187,7 @@ index-recovers most es line reply old c new b begun p sink mid_sink then_sink wr
       dead = dead;
       found = (LostAt.left l, inl (LostAt.loses l), subst (λ (ws : List ℕ). IsIndex ws (LostAt.left l)) (sym off.durable) (LostAt.map l));
       licensed = subst (λ (rs : List IndexReply). LineLicence line rs old new.chart) (sym (no-power l).1) (licensed-one l y off.licence);
+      spent = puts-then (puts_of line) old c new.chart spent off.spent;
     }
 
     lost-so : LostAt most es line c → ReplyLicence line Lost old c → (wrote : Result Unit Failed) (obeyed : Obeyed) → WritesAll sink first wrote mid_sink → RecoversIndex wrote obeyed c new begun mid_sink then_sink → ObeysIndex most es line obeyed old new begun sink then_sink
@@ -212,6 +219,9 @@ index-power most es p c new b begun sink then_sink obeyed s is recovers = at obe
       bads = record { kept = omega arith; rise = λ lt. omega arith };
     })
 
+    cut-spent : SpendsPuts 0 p.chart c.chart
+    cut-spent = subst (λ (x : Picture). SpendsPuts 0 p.chart x.chart) (sym is) (spends-none (0 * flush_programs p.chart.shape.rows) (0 * flush_erases) p.chart (pulled p.chart) refl refl)
+
     map : IsIndex (durable c.chart) es
     map = subst (λ (x : Picture). IsIndex (durable x.chart) es) (sym is) s.map
 
@@ -219,21 +229,21 @@ index-power most es p c new b begun sink then_sink obeyed s is recovers = at obe
     stays = subst (λ (x : Picture). Stays es p.chart x.chart) (sym is) (record { room = s.room; size = s.size })
 
     done-so : IndexBack c.chart new begun → IndexLineDone most es Power (Restarted ∷ []) es p.chart new begun
-    done-so back = record { does = inr (inr (inr (refl, refl, refl))); serving = back-serving es p.chart c.chart new begun stays back map; licensed = Licence-trans 1 [] 0 0 0 [] 0 0 p.chart c.chart new.chart cut back.licence }
+    done-so back = record { does = inr (inr (inr (refl, refl, refl))); serving = back-serving es p.chart c.chart new begun stays back map; licensed = Licence-trans 1 [] 0 0 0 [] 0 0 p.chart c.chart new.chart cut back.licence; spent = puts-then 0 p.chart c.chart new.chart cut-spent back.spent }
 
     at : (obeyed : Obeyed) → RecoversIndex (Ok tt) obeyed c.chart new begun sink then_sink → ObeysIndex most es Power obeyed p.chart new begun sink then_sink
     at Done (ok, back, told) = (Restarted ∷ [], es, done-so back, told)
     at WriteFault (back, inl (err, kept)) = absurd (let never = err in cc)
     at WriteFault (back, inr (ok, part)) = (Restarted ∷ [], es, done-so back, part)
     at Dead (off, dead, kept) = (
-      record { off = off.off; dead = dead; found = (es, inr (refl, refl), subst (λ (ws : List ℕ). IsIndex ws es) (sym off.durable) map); licensed = Licence-trans 1 [] 0 0 0 [] 0 0 p.chart c.chart new.chart cut off.licence },
+      record { off = off.off; dead = dead; found = (es, inr (refl, refl), subst (λ (ws : List ℕ). IsIndex ws es) (sym off.durable) map); licensed = Licence-trans 1 [] 0 0 0 [] 0 0 p.chart c.chart new.chart cut off.licence; spent = puts-then 0 p.chart c.chart new.chart cut-spent off.spent },
       inl (subst (λ (d : Drain). Written [] sink d) (sym kept) (record { whole = sym (with_end-nil sink.written); faults = omega arith })),
     )
 
 -- an empty line does nothing
 pub index-empty : (most : ℕ) (es : Pairs) (line : IndexLine) (p : Picture) (b : Bool) (sink : Drain) → line ≡ Empty → Serving p b es → ObeysIndex most es line Done p.chart p b sink sink
 index-empty most es line p b sink is s = subst (λ (l : IndexLine). ObeysIndex most es l Done p.chart p b sink sink) (sym is)
-    ([], es, record { does = inl (refl, refl, refl); serving = s; licensed = Licence-refl p.chart }, record { whole = sym (with_end-nil sink.written); faults = omega arith })
+    ([], es, record { does = inl (refl, refl, refl); serving = s; licensed = Licence-refl p.chart; spent = puts-none p.chart }, record { whole = sym (with_end-nil sink.written); faults = omega arith })
 
 -- what the grammar reads has its ranges
 pub said-ranges : (bytes : List ℕ) (line : IndexLine) → index_line_of bytes ≡ Ok line → (index_line_of bytes ≡ Ok line) ↔ ReadsIndex bytes line → IsIndexLine line
@@ -247,6 +257,7 @@ joined first p q b d turns t line replies left x = record {
   run = subst (λ (sh : Shape). IndexRun (most_of sh.pages) (record { line = line; replies = replies } ∷ turns) left) (sym (Licence.shape x.licensed)) (IndexedSince.pairs t, IndexedSince.run t, x.does);
   serving = x.serving;
   licensed = Licence-trans (count_lines is_power turns) (plans_in plan_of turns) (count_replies is_lost turns) (count_replies is_fault turns) _ _ _ _ first p.chart q.chart t.licensed x.licensed;
+  spent = puts-more (puts_in turns) (puts_of line) first p.chart q.chart (Licence.shape t.licensed) t.spent x.spent;
 }
 
 pub index-obeys : (first : Chart) (p q : Picture) (b d : Bool) (turns : List IndexTurn) (line : IndexLine) (obeyed : Obeyed) (sink then_sink : Drain) (t : IndexedSince first p b turns) → ObeysIndex (most_of p.chart.shape.pages) (IndexedSince.pairs t) line obeyed p.chart q d sink then_sink → Obeys obeyed index_grammar (IndexedSince first q d) (FellSince first q.chart) turns line sink then_sink
@@ -264,6 +275,7 @@ index-obeys first p q b d turns line Dead sink then_sink t (dead, told) = (
       dead = dead.dead;
     };
     licensed = Licence-trans (count_lines is_power turns) (plans_in plan_of turns) (count_replies is_lost turns) (count_replies is_fault turns) _ _ _ _ first p.chart q.chart t.licensed dead.licensed;
+    spent = puts-more (puts_in turns) (puts_of line) first p.chart q.chart (Licence.shape t.licensed) t.spent dead.spent;
   },
   told,
 )
@@ -321,6 +333,10 @@ licensed-either : (first : Chart) (p : Picture) (b : Bool) (turns : List IndexTu
 licensed-either first p b turns (inl t) = IndexedSince.licensed t
 licensed-either first p b turns (inr d) = FellSince.licensed d
 
+spent-either : (first : Chart) (p : Picture) (b : Bool) (turns : List IndexTurn) → IndexedSince first p b turns ⊎ FellSince first p.chart turns → SpendsPuts (puts_in turns) first p.chart
+spent-either first p b turns (inl t) = IndexedSince.spent t
+spent-either first p b turns (inr d) = FellSince.spent d
+
 -- what a board was when its trace began
 pub record IndexBegan (setup : Setup) (returns : ℕ) (first : Chart) : Type 0 where
   pub shape : first.shape ≡ setup.shape
@@ -328,10 +344,24 @@ pub record IndexBegan (setup : Setup) (returns : ℕ) (first : Chart) : Type 0 w
   pub pulled : first.pulled ≡ 0
   pub plans : first.plans ≡ 0
   pub last_plan : first.last_plan ≡ None
+  pub begun : first.begun ≡ 0
+  pub tried : IsTriedOn setup first
+
+tried-erases : (setup : Setup) (returns : ℕ) (c : Chart) (b : IndexBegan setup returns c) → sum c.erases ≤ c.shape.segments * IsTriedOn.times (IndexBegan.tried b)
+tried-erases setup returns c b = subst (λ (sh : Shape). sum c.erases ≤ sh.segments * IsTriedOn.times (IndexBegan.tried b)) (sym b.shape) (IsTriedOn.erases b.tried)
 
 -- before the first line there is nothing to license
 licences-none : (setup : Setup) (returns : ℕ) (c : Chart) → IndexBegan setup returns c → IndexLicences setup returns [] c
-licences-none setup returns c b = record { shape = b.shape; given = b.given; pulled = b.pulled; plans = b.plans; last_plan = b.last_plan; losts = omega arith; faults = omega arith }
+licences-none setup returns c b = record {
+  shape = b.shape;
+  given = b.given;
+  pulled = b.pulled;
+  plans = b.plans;
+  last_plan = b.last_plan;
+  losts = omega arith;
+  faults = omega arith;
+  thrifty = thrifty-index (IsTriedOn.times b.tried) (tries_before [] c) [] c c refl (let paid = IsTriedOn.paid b.tried in omega arith) b.begun (tried-erases setup returns c b) (puts-none c);
+}
 
 -- what the board's counts say of the turns since it was formatted
 licences-since : (setup : Setup) (returns : ℕ) (first : Chart) (p : Picture) (d : Bool) (turns : List IndexTurn) → IndexBegan setup returns first → length turns ≤ most_bytes → IndexedSince first p d turns ⊎ FellSince first p.chart turns → IndexLicences setup returns turns p.chart
@@ -343,6 +373,8 @@ licences-since setup returns first p d turns b few since =
     let fault = since-few is_fault first p d turns since in
     let pulled_none = b.pulled in
     let plans_none = b.plans in
+    let times = IsTriedOn.times b.tried in
+    let enough = times-few times (count_lines is_power turns + count_replies is_lost turns) first.cuts p.chart.cuts (IsTriedOn.paid b.tried) (IsTriedOn.low b.tried) (omega arith) (λ lt. RoseOver.rise (Licence.cuts l) lt) in
     record {
       shape = Licence.shape l ∙ b.shape;
       given = Licence.given l ∙ b.given;
@@ -351,17 +383,17 @@ licences-since setup returns first p d turns b few since =
       last_plan = Licence.last_plan l ∙ ap (newest (plans_in plan_of turns)) b.last_plan;
       losts = below-top (count_lines is_power turns + count_replies is_lost turns) p.chart.cuts (omega arith) (λ lt. let rise = RoseOver.rise (Licence.cuts l) lt in omega arith);
       faults = below-top (count_replies is_fault turns) p.chart.bads (omega arith) (λ lt. let rise = RoseOver.rise (Licence.bads l) lt in omega arith);
+      thrifty = thrifty-index times (tries_before turns p.chart) turns first p.chart (Licence.shape l) enough b.begun (tried-erases setup returns first b) (spent-either first p d turns since);
     }
 
 -- ---- the whole trace
 
 -- before the first line: the words are zeros, and no transaction is open
-pub index-none : (setup : Setup) (returns : ℕ) (s : State) (p : Picture) (b : Bool) → IsShape setup.shape → 32 ≤ setup.shape.shadows → 20 ≤ setup.shape.pages → IsMade setup.shape returns s → IsReady (chart s) setup p → b ≡ false → IndexedSince p.chart p b []
-index-none setup returns s p b sizes room least made ready shut =
+pub index-none : (setup : Setup) (returns : ℕ) (s : State) (p : Picture) (b : Bool) → IsShape setup.shape → 32 ≤ setup.shape.shadows → 20 ≤ setup.shape.pages → setup.shape.pages ≤ 1048576 → IsMade setup.shape returns s → IsReady (chart s) setup p → b ≡ false → IndexedSince p.chart p b []
+index-none setup returns s p b sizes room least most made ready shut =
     let shape : p.chart.shape ≡ setup.shape = IsPrepared.shape (IsReady.prepared ready) ∙ made.shape in
     let shadows = ap (λ (sh : Shape). sh.shadows) shape in
     let pages = ap (λ (sh : Shape). sh.pages) shape in
-    let most = sizes.few_pages in
     let stands = IsFresh.stands (IsReady.fresh ready) in
     let zeros_are : durable p.chart ≡ replicate (32 * p.chart.shape.pages) 0 = Holds.durable (Stands.holds stands) ∙ undo_all-closed 64 (replicate (32 * p.chart.shape.pages) 0) in
     record {
@@ -375,6 +407,7 @@ index-none setup returns s p b sizes room least made ready shut =
         map = subst (λ (ws : List ℕ). IsIndex ws []) (sym zeros_are) (zeros-index (32 * p.chart.shape.pages) (omega arith));
       };
       licensed = Licence-refl p.chart;
+      spent = puts-none p.chart;
     }
 
 -- what the memory gives back with its board
@@ -427,21 +460,21 @@ fallen most first p b now (turn ∷ earlier) o board same x d =
       ),
     )
 
-pub index-began : (setup : Setup) (returns : ℕ) (s : State) (c : Chart) → IsMade setup.shape returns s → IsPrepared (chart s) c → IndexBegan setup returns c
-index-began setup returns s c made p = record { shape = p.shape ∙ made.shape; given = p.given ∙ made.given; pulled = p.pulled ∙ made.pulled; plans = p.plans ∙ made.plans; last_plan = p.last_plan ∙ made.last_plan }
+pub index-began : (setup : Setup) (returns : ℕ) (s : State) (c : Chart) → returns < 2 ^ 32 → IsMade setup.shape returns s → IsPrepared (chart s) c → IndexBegan setup returns c
+index-began setup returns s c low made p = record { shape = p.shape ∙ made.shape; given = p.given ∙ made.given; pulled = p.pulled ∙ made.pulled; plans = p.plans ∙ made.plans; last_plan = p.last_plan ∙ made.last_plan; begun = p.begun ∙ made.begun; tried = tried-on setup returns s c low made p }
 
-index-made : (setup : Setup) (returns : ℕ) (board : Option Chart) → IfSome board (WasMade setup returns) → IfSome board (IndexLicences setup returns [])
-index-made setup returns None none = tt
-index-made setup returns (Some now) m = licences-none setup returns now (index-began setup returns m.made now m.new m.prepared)
+index-made : (setup : Setup) (returns : ℕ) (board : Option Chart) → returns < 2 ^ 32 → IfSome board (WasMade setup returns) → IfSome board (IndexLicences setup returns [])
+index-made setup returns None low none = tt
+index-made setup returns (Some now) low m = licences-none setup returns now (index-began setup returns m.made now low m.new m.prepared)
 
 -- a run that ended before a line was read
-pub index-quiet : (setup : Setup) (returns : ℕ) (o : Outcome) (feed : Feed) (sink : Drain) → NoneBegun setup returns o → DoesTask (index_task setup returns) o (record { from = feed; feed = feed; to = sink; sink = sink })
-index-quiet setup returns o feed sink n =
+pub index-quiet : (setup : Setup) (returns : ℕ) (o : Outcome) (feed : Feed) (sink : Drain) → returns < 2 ^ 32 → NoneBegun setup returns o → DoesTask (index_task setup returns) o (record { from = feed; feed = feed; to = sink; sink = sink })
+index-quiet setup returns o feed sink low n =
     let io : Streams = record { from = feed; feed = feed; to = sink; sink = sink } in
     account_of (index_task setup returns) o io (record {
       turns = [];
       answers = inr (refl, unread o io (record { lines = n.lines; taken = n.taken; source = refl; sink = refl }) n.cause, n.cause);
-      licences = index-made setup returns o.board n.board;
+      licences = index-made setup returns o.board low n.board;
     })
 
 -- the size of the map stays

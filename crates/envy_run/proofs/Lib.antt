@@ -13,6 +13,7 @@ pub mod Hitting
 pub mod Imaged
 pub mod Loaded
 pub mod IndexLines
+pub mod IndexSpent
 pub mod IndexTold
 pub mod MirrorWell
 pub mod Mirrored

@@ -166,7 +166,7 @@ module _ (sh : Shape) (returns : ℕ) (from feed to : Feed) (old new : State) (w
     };
   }
 
-  count-zero : (n count : ℕ) → n ≤ 1048576 → count ≡ 0 → count_after n count ≡ n
+  count-zero : (n count : ℕ) → n ≤ 16777216 → count ≡ 0 → count_after n count ≡ n
   unfolding count_after
   count-zero n count few none = omega arith
 

@@ -154,7 +154,7 @@ tried-on setup returns s now low made p =
     }
 
 -- formatting was begun no more often than failures of power that no line tells allow
-times-few : (times n cuts now : ℕ) → times ≤ 1 + cuts → times < 2 ^ 34 → n < 2 ^ 63 → (now < 2 ^ 64 - 1 → cuts + n ≤ now) → times ≤ 1 + (now - n)
+pub times-few : (times n cuts now : ℕ) → times ≤ 1 + cuts → times < 2 ^ 34 → n < 2 ^ 63 → (now < 2 ^ 64 - 1 → cuts + n ≤ now) → times ≤ 1 + (now - n)
 times-few times n cuts now paid low few rise = at (cases_lt now (2 ^ 64 - 1))
   where
     at : (now < 2 ^ 64 - 1) ⊎ (2 ^ 64 - 1 ≤ now) → times ≤ 1 + (now - n)

@@ -8,6 +8,7 @@ use Rattle.envy_trace.specs.declared.reply.Reply.TheVariants.{Range, Held, Close
 use Rattle.envy_serve.specs.Turns.{one_if}
 use Rattle.envy_run.specs.Counters.{NoneFell, counter, last_told}
 use Rattle.envy_run.specs.Turns.{TraceTurn}
+use Rattle.envy_base.specs.declared.page.TheConstants.{PAGE_WORDS}
 
 -- the reply says that the command isn't done
 abbrev pub is_refusal : Reply → Bool
@@ -23,9 +24,9 @@ unless_refused (reply ∷ replies) page = if is_refusal reply then None else Som
 
 -- the page of a host access: a load, store or put that isn't refused
 abbrev pub accessed : Line → List Reply → Option ℕ
-accessed (Load a) replies = unless_refused replies (a / 32)
-accessed (Store a w) replies = unless_refused replies (a / 32)
-accessed (Put t a w) replies = unless_refused replies (a / 32)
+accessed (Load a) replies = unless_refused replies (a / PAGE_WORDS)
+accessed (Store a w) replies = unless_refused replies (a / PAGE_WORDS)
+accessed (Put t a w) replies = unless_refused replies (a / PAGE_WORDS)
 accessed line replies = None
 
 -- power came in these replies

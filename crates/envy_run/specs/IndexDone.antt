@@ -9,6 +9,7 @@ use Rattle.envy_map.specs.Fields.{Chart}
 use Rattle.envy_memory.specs.Calls.{fresh}
 use Rattle.envy_policy.specs.declared.setup.Setup.{Setup}
 use Rattle.envy_serve.specs.Turns.{count_lines, count_replies}
+use Rattle.envy_run.specs.IndexSpending.{IsThriftyIndex, tries_before}
 use Rattle.envy_run.specs.IndexTurns.{Pairs, IndexTurn, IndexRun, before_restart, FailsIn, is_power, is_plan, plan_of, is_lost, is_fault}
 use Rattle.envy_run.specs.Licence.{plans_in, newest}
 
@@ -38,8 +39,8 @@ pub record HoldsIndexOff (pairs : Pairs) (now : Chart) : Type 0 where
   pub dead : now.lives ≡ 0
 
 -- What a board that began with no counts says of the turns: power was cut by hand once for each line `power`, a failure
--- was planned by each line `cut` and `bad`, the last by the last of them, each `lost` has a failure of power of its own besides, and each `fault` a
--- flash operation that failed.
+-- was planned by each line `cut` and `bad`, the last by the last of them, each `lost` has a failure of power of its own
+-- besides, and each `fault` a flash operation that failed. The lines began no more flash work than their calls may.
 pub record IndexLicences (setup : Setup) (returns : ℕ) (turns : List IndexTurn) (now : Chart) : Type 0 where
   pub shape : now.shape ≡ setup.shape
   pub given : now.given ≡ returns
@@ -48,3 +49,4 @@ pub record IndexLicences (setup : Setup) (returns : ℕ) (turns : List IndexTurn
   pub last_plan : now.last_plan ≡ newest (plans_in plan_of turns) None
   pub losts : count_lines is_power turns + count_replies is_lost turns ≤ now.cuts
   pub faults : count_replies is_fault turns ≤ now.bads
+  pub thrifty : IsThriftyIndex (tries_before turns now) turns now

@@ -17,15 +17,16 @@ use Rattle.envy_serve.specs.declared.service.Obeyed.{Obeyed}
 use Rattle.envy_serve.specs.declared.service.Obeyed.TheVariants.{Done, WriteFault, Dead}
 use Rattle.envy_serve.specs.Streams.{Written, FrontWritten}
 use Rattle.envy_serve.specs.Turns.{count_lines, count_replies, count_of, one_if, texts}
-use Rattle.envy_run.specs.IndexTurns.{Pairs, IndexTurn, IndexRun, Says, Faults, Loses, DoesIndex, FailsIn, index_grammar, most_of, before_restart, is_power, plan_of, is_lost, is_fault}
+use Rattle.envy_run.specs.IndexTurns.{Pairs, IndexTurn, IndexRun, Says, Faults, Loses, DoesIndex, FailsIn, index_grammar, most_of, before_restart, is_power, is_plan, is_lost, is_fault, plan_of}
 use Rattle.envy_run.specs.Licence.{Licence, plans_in}
+use Rattle.envy_base.specs.declared.page.TheConstants.{PAGE_WORDS}
 
 -- power is on, no transaction is open, and the words stand for the map, with room for each change of it
 pub record Serving (p : Picture) (begun : Bool) (es : Pairs) : Type 0 where
   pub on : IsTrue p.chart.on
   pub shut : (sheet_of p begun).started ≡ false
   pub room : 32 ≤ p.chart.shape.shadows
-  pub size : 32 * p.chart.shape.pages ≤ 2 ^ 25
+  pub size : PAGE_WORDS * p.chart.shape.pages ≤ 2 ^ 25
   pub map : IsIndex (durable p.chart) es
 
 -- power failed in the line
@@ -53,6 +54,7 @@ pub record IndexOff (old new : Chart) : Type 0 where
   pub off : new.on ≡ false
   pub durable : durable new ≡ durable old
   pub licence : Licence 0 [] 0 0 old new
+  pub spent : Spends 0 0 old new
 
 -- power is back, with the committed words of before
 pub record IndexBack (old : Chart) (new : Picture) (begun : Bool) : Type 0 where
@@ -60,6 +62,7 @@ pub record IndexBack (old : Chart) (new : Picture) (begun : Bool) : Type 0 where
   pub shut : (sheet_of new begun).started ≡ false
   pub durable : durable new.chart ≡ durable old
   pub licence : Licence 0 [] 0 0 old new.chart
+  pub spent : Spends 0 0 old new.chart
 
 abbrev pub RestartsIndex : Bool → Chart → Picture → Bool → Type 0
 RestartsIndex true old new begun = IndexBack old new begun
@@ -77,6 +80,7 @@ pub record IndexLineDone (most : ℕ) (es : Pairs) (line : IndexLine) (replies :
   pub does : DoesIndex most es line replies left
   pub serving : Serving new begun left
   pub licensed : LineLicence line replies old new.chart
+  pub spent : SpendsPuts (puts_of line) old new.chart
 
 -- power doesn't return: the line was done or not done
 pub record IndexLineDead (most : ℕ) (es : Pairs) (line : IndexLine) (old new : Chart) : Type 0 where
@@ -84,6 +88,7 @@ pub record IndexLineDead (most : ℕ) (es : Pairs) (line : IndexLine) (old new :
   pub dead : new.lives ≡ 0
   pub found : (left : Pairs) × FailsIn most es line left × IsIndex (durable new) left
   pub licensed : LineLicence line (before_restart line) old new
+  pub spent : SpendsPuts (puts_of line) old new
 
 abbrev pub ObeysIndex : ℕ → Pairs → IndexLine → Obeyed → Chart → Picture → Bool → Drain → Drain → Type 0
 ObeysIndex most es line Done old new begun sink then_sink = (replies : List IndexReply) × (left : Pairs) × IndexLineDone most es line replies left old new begun × Written (texts index_grammar replies) sink then_sink
@@ -100,6 +105,7 @@ pub record IndexedSince (first : Chart) (p : Picture) (begun : Bool) (turns : Li
   pub run : IndexRun (most_of p.chart.shape.pages) turns pairs
   pub serving : Serving p begun pairs
   pub licensed : IndexLicensed turns first p.chart
+  pub spent : SpendsPuts (puts_in turns) first p.chart
 
 -- power failed in the last line and didn't return
 pub record FellIn (c : Chart) (turn : IndexTurn) (earlier : List IndexTurn) : Type 0 where
@@ -117,6 +123,7 @@ HasFallen c (turn ∷ earlier) = FellIn c turn earlier
 pub record FellSince (first c : Chart) (turns : List IndexTurn) : Type 0 where
   pub fell : HasFallen c turns
   pub licensed : IndexLicensed turns first c
+  pub spent : SpendsPuts (puts_in turns) first c
 
 -- the laws of the service
 

@@ -12,6 +12,7 @@ use Rattle.envy_btree.specs.Replies.{index_bytes}
 use Rattle.envy_io.specs.Lines.{newline}
 use Rattle.envy_serve.specs.Grammar.{Grammar}
 use Rattle.envy_serve.specs.Turns.{Turn, Leads}
+use Rattle.envy_base.specs.declared.page.TheConstants.{PAGE_WORDS}
 
 -- a finite map, as its pairs by rising key
 abbrev pub Pairs : Type 0
@@ -27,7 +28,7 @@ IndexTurn = Turn IndexLine IndexReply
 
 -- the most pairs of a map in the words of so many pages: 14 for each piece of 64 words but eight
 abbrev pub most_of : ℕ → ℕ
-most_of pages = 14 * ((32 * pages - 64) / 64 - 8)
+most_of pages = 14 * ((PAGE_WORDS * pages - 64) / 64 - 8)
 
 -- the reply that tells a value, or that there is none
 abbrev pub told : Option ℕ → IndexReply

@@ -14,6 +14,7 @@ pub mod Headline
 pub mod Hits
 pub mod IndexDone
 pub mod IndexServing
+pub mod IndexSpending
 pub mod IndexTurns
 pub mod Licence
 pub mod Loading

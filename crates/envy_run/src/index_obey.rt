@@ -9,6 +9,7 @@ ghost use Rattle.envy_btree.specs.declared.reply.IndexReply.TheVariants.{Lost};
 ghost use Rattle.envy_io.specs.Lines.{newline};
 ghost use Rattle.envy_io.specs.Streams.{WritesAll};
 ghost use Rattle.envy_run.specs.IndexServing.{Serving, AnswersIndex, ReplyLicence, ObeysIndex, RestartsIndex, RecoversIndex};
+ghost use Rattle.envy_run.specs.IndexSpending.{SpendsPuts, puts_of};
 ghost use Rattle.envy_memory.specs.Picture.{Picture};
 ghost use Rattle.envy_run.specs.IndexTurns.{Pairs, most_of};
 
@@ -99,6 +100,7 @@ fn tell<K: Sink, B: Bench>(
     ensures { (line : IndexLine) (es : Pairs) (before : Picture) (begun : Bool) → Serving before begun es
         → AnswersIndex (most_of before.chart.shape.pages) es line reply.now words.old.memory words.old.begun
         → ReplyLicence line reply.now before.chart words.old.memory.chart
+        → SpendsPuts (puts_of line) before.chart words.old.memory.chart
         → ObeysIndex (most_of before.chart.shape.pages) es line result before.chart words.new.memory words.new.begun
         (K.drain sink.old) (K.drain sink.new) }
 {

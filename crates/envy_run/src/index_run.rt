@@ -12,6 +12,7 @@ use crate::ending::{Finished, finished_with};
 use crate::indexing::Indexing;
 use crate::prepare::make_memory;
 use crate::restart::ReplyBuffer;
+use envy_args::USUAL_ROWS;
 use envy_base::Maker;
 use envy_io::{Lines, Sink, Source};
 use envy_memory::OneTx;
@@ -32,6 +33,7 @@ pub fn run_index<S: Source, K: Sink, M: Maker>(
     requires rules { checked setup ≡ Ok tt }
     requires room { 32 ≤ setup.shape.shadows }
     requires size { 20 ≤ setup.shape.pages }
+    requires few { setup.shape.pages ≤ USUAL_ROWS }
     ensures runs { DoesTask (index_task setup lives) (outcome_of M.Made.Board.state result)
         (streams_of (S.feed source.old) (S.feed source.new) (K.drain sink.old) (K.drain sink.new)) }
     ensures few { result.lines ≤ result.taken }

@@ -16,7 +16,7 @@ ghost use Rattle.envy_serve.specs.Ends.{most_bytes};
 use crate::ending::{Ending, Finished, unserved, written};
 use crate::prepare::make_memory;
 use crate::report::write_report;
-use envy_base::{Area, Bench, Maker};
+use envy_base::{Area, Bench, Maker, MOST_ROWS};
 use envy_io::Sink;
 use envy_memory::Memory;
 use envy_policy::Setup;
@@ -32,7 +32,7 @@ fn drive_load<B: Bench, K: Sink>(
     sink: &mut K,
 ) -> Ending
     requires fits { Fits area.now memory.old.chart.shape.pages }
-    requires low { memory.old.chart.shape.pages ≤ 2 ^ 20 }
+    requires low { memory.old.chart.shape.pages ≤ MOST_ROWS }
     requires room { 5 ≤ memory.old.chart.shape.shadows }
     requires zeros { Stands memory.old.chart (zeros memory.old.chart.shape.pages memory.old.chart.shape.shadows) }
     ensures { AfterLoad area.now (load_of start area.now) every memory.old memory.new result (K.drain sink.old)

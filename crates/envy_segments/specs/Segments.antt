@@ -5,6 +5,7 @@ use Rattle.envy_io.specs.Lines.{spelled}
 use Rattle.envy_layout.specs.Sound.{IsSpare}
 use Rattle.envy_map.specs.Fields.{Chart}
 use Rattle.envy_space.specs.Pool.{Pool, PoolAgrees, free_rows, dead_rows}
+use Rattle.envy_base.specs.Shape.{positions_of}
 
 -- a number behind a comma
 abbrev pub further : ℕ → List ℕ
@@ -25,7 +26,7 @@ line_at pool wears k = segment_line pool wears (decimal k) (slice_index pool.pos
 
 -- the heading, a line for each position by its number, and one for the spare
 abbrev pub segments_text : Pool → List ℕ → ℕ → List ℕ
-segments_text pool wears spare = spelled (heading ∷ (map (line_at pool wears) (range_with_len 0 (pool.shape.segments - 1))
+segments_text pool wears spare = spelled (heading ∷ (map (line_at pool wears) (range_with_len 0 (positions_of pool.shape))
     ++ segment_line pool wears (codes "spare") spare ∷ []))
 
 -- the text tells the segments of the board, whose rows the pool counts

@@ -8,6 +8,8 @@ ghost use Rattle.envy_layout.specs.Same.{Same};
 ghost use Rattle.envy_layout.specs.Sound.{IsSound};
 ghost use Rattle.envy_space.specs.Claiming.{ClaimsRow, MayClaim};
 ghost use Rattle.envy_space.specs.Pool.{PoolAgrees, Replaces};
+ghost use Rattle.envy_space.specs.Rising.{Leaves, Makes, claim_in};
+ghost use Rattle.envy_base.specs.Shape.{positions_of};
 
 use crate::Space;
 use envy_base::{Board, Off};
@@ -36,6 +38,8 @@ impl Space {
         ensures claims { IfOk result (λ row.
             ClaimsRow (chart (B.state board.old)) self.old segment page row (chart (B.state board.new)) self.new) }
         ensures rises { FillsRise (chart (B.state board.old)) (chart (B.state board.new)) }
+        ensures makes { (s : ℕ)
+            → Makes s (claim_in s segment result) (chart (B.state board.old)) (chart (B.state board.new)) }
         ensures power { (B.state board.new).on ≡ power_of result }
     {
         if !board.powered() {
@@ -78,7 +82,7 @@ impl Space {
         requires agrees { IsTrue (B.state board.old).on
             → PoolAgrees (B.state board.old).shape (chart (B.state board.old)).fields self.old }
         requires shape { self.old.shape ≡ (B.state board.old).shape }
-        requires position { position < self.old.shape.segments - 1 }
+        requires position { position < positions_of self.old.shape }
         requires switching { let f = (chart (B.state board.old)).fields in
             IsTrue (B.state board.old).on → f.job ≡ Some (Switch (slice_index f.positions position)) }
         requires clear { let f = (chart (B.state board.old)).fields in
@@ -93,6 +97,7 @@ impl Space {
         ensures shape { self.new.shape ≡ self.old.shape }
         ensures replaces { OnOk result ((e : ℕ)
             × Replaces (chart (B.state board.old)) self.old position e (chart (B.state board.new)) self.new) }
+        ensures leaves { (s : ℕ) → Makes s Leaves (chart (B.state board.old)) (chart (B.state board.new)) }
         ensures power { (B.state board.new).on ≡ power_of result }
     {
         if !board.powered() {
@@ -107,7 +112,7 @@ impl Space {
         requires agrees { IsTrue (B.state board.old).on
             → PoolAgrees (B.state board.old).shape (chart (B.state board.old)).fields self.old }
         requires shape { self.old.shape ≡ (B.state board.old).shape }
-        requires position { position < self.old.shape.segments - 1 }
+        requires position { position < positions_of self.old.shape }
         requires switching { let f = (chart (B.state board.old)).fields in
             IsTrue (B.state board.old).on → f.job ≡ Some (Switch (slice_index f.positions position)) }
         requires clear { let f = (chart (B.state board.old)).fields in
@@ -119,6 +124,7 @@ impl Space {
         ensures shape { self.new.shape ≡ self.old.shape }
         ensures replaces { OnOk result ((e : ℕ)
             × Replaces (chart (B.state board.old)) self.old position e (chart (B.state board.new)) self.new) }
+        ensures leaves { (s : ℕ) → Makes s Leaves (chart (B.state board.old)) (chart (B.state board.new)) }
         ensures power { (B.state board.new).on ≡ power_of result }
     {
         let spare = self.spare();

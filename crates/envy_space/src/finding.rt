@@ -1,6 +1,7 @@
 ghost use Rattle.std.specs.Prelude.{◌≡◌, ◌-◌, ◌≤◌};
 ghost use Rattle.envy_space.specs.Pool.{free_at, dead_at, usable_at};
 ghost use Rattle.envy_space.specs.Winners.{Lowest, Highest};
+ghost use Rattle.envy_base.specs.Shape.{positions_of};
 
 use crate::Space;
 
@@ -8,7 +9,7 @@ impl Space {
     /// The lowest position from `first` to below `end` that has a free row.
     pub fn lowest_free(&self, first: u32, end: u32) -> Option<u32>
         requires order { first ≤ end }
-        requires end { end ≤ self.now.shape.segments - 1 }
+        requires end { end ≤ positions_of self.now.shape }
         ensures { Lowest (free_at self.now) first end result }
     {
         self.has_free.lowest(first, end)
@@ -17,7 +18,7 @@ impl Space {
     /// The lowest position from `first` to below `end` that has a dead row.
     pub fn lowest_dead(&self, first: u32, end: u32) -> Option<u32>
         requires order { first ≤ end }
-        requires end { end ≤ self.now.shape.segments - 1 }
+        requires end { end ≤ positions_of self.now.shape }
         ensures { Lowest (dead_at self.now) first end result }
     {
         self.has_dead.lowest(first, end)
@@ -26,7 +27,7 @@ impl Space {
     /// The highest position from `first` to below `end` that has a free row.
     pub fn highest_free(&self, first: u32, end: u32) -> Option<u32>
         requires order { first ≤ end }
-        requires end { end ≤ self.now.shape.segments - 1 }
+        requires end { end ≤ positions_of self.now.shape }
         ensures { Highest (free_at self.now) first end result }
     {
         self.has_free.highest(first, end)
@@ -35,7 +36,7 @@ impl Space {
     /// The highest position from `first` to below `end` that has a dead row.
     pub fn highest_dead(&self, first: u32, end: u32) -> Option<u32>
         requires order { first ≤ end }
-        requires end { end ≤ self.now.shape.segments - 1 }
+        requires end { end ≤ positions_of self.now.shape }
         ensures { Highest (dead_at self.now) first end result }
     {
         self.has_dead.highest(first, end)
@@ -44,7 +45,7 @@ impl Space {
     /// The lowest position from `first` to below `end` that has a free or a dead row.
     pub fn lowest_usable(&self, first: u32, end: u32) -> Option<u32>
         requires order { first ≤ end }
-        requires end { end ≤ self.now.shape.segments - 1 }
+        requires end { end ≤ positions_of self.now.shape }
         ensures { Lowest (usable_at self.now) first end result }
     {
         match (self.lowest_free(first, end), self.lowest_dead(first, end)) {
@@ -57,7 +58,7 @@ impl Space {
     /// The highest position from `first` to below `end` that has a free or a dead row.
     pub fn highest_usable(&self, first: u32, end: u32) -> Option<u32>
         requires order { first ≤ end }
-        requires end { end ≤ self.now.shape.segments - 1 }
+        requires end { end ≤ positions_of self.now.shape }
         ensures { Highest (usable_at self.now) first end result }
     {
         match (self.highest_free(first, end), self.highest_dead(first, end)) {

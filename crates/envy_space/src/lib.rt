@@ -21,5 +21,5 @@ mod winners;
 
 pub use following::notes_follow_a_row;
 pub use laws::{notes_follow_a_page, notes_follow_a_place};
-pub use rising::no_row_is_claimed_twice;
+pub use rising::{an_emptied_segment_is_erased, no_row_is_claimed_twice};
 pub use space::Space;

@@ -1,5 +1,5 @@
 ghost use Rattle.std.specs.Prelude.{◌≡◌, ℕ, ◌+◌, ◌-◌, ◌*◌, ◌/◌, ◌<◌, ◌≤◌, IfOk, slice_index};
-ghost use Rattle.envy_base.specs.Shape.{IsShape};
+ghost use Rattle.envy_base.specs.Shape.{IsShape, positions_of};
 ghost use Rattle.envy_map.specs.Fields.{Chart};
 ghost use Rattle.envy_layout.specs.Formatting.{IsEmpty};
 ghost use Rattle.envy_layout.specs.Sound.{IsPlaced, IsSpare};
@@ -9,7 +9,7 @@ ghost use Rattle.envy_space.specs.Winners.{Wins};
 use crate::flags::Flags;
 use crate::order::Order;
 use crate::scores::Scores;
-use envy_base::{NoMemory, Shape};
+use envy_base::{NoMemory, Shape, positions_of};
 use std::alloc::Global;
 use std::marker::Model;
 
@@ -29,12 +29,13 @@ pub struct Space {
 }
 
 impl Model for Space {
-    ghost use Rattle.std.specs.Prelude.{take, ◌-◌};
+    ghost use Rattle.std.specs.Prelude.{take};
+    ghost use Rattle.envy_base.specs.Shape.{positions_of};
     ghost use Rattle.envy_space.specs.Pool.{Pool, IsSpace};
 
     ghost Value = { Pool };
 
-    ghost view = { λ a. record { shape = a.shape; fills = a.fills.items; kept = a.kept.items; positions = take (a.shape.segments - 1) a.order } };
+    ghost view = { λ a. record { shape = a.shape; fills = a.fills.items; kept = a.kept.items; positions = take (positions_of a.shape) a.order } };
 
     ghost invariant = { λ a. IsSpace a.shape a.fills.items a.kept.items a.order a.dead a.has_free a.has_dead };
 }
@@ -102,7 +103,7 @@ impl Space {
     /// How many rows are free in the segments at the positions from `first` to `last`.
     pub fn free_in(&self, first: u32, last: u32) -> u32
         requires order { first ≤ last }
-        requires last { last < self.now.shape.segments - 1 }
+        requires last { last < positions_of self.now.shape }
         ensures { result ≡ free_between self.now first last }
     {
         let _ = &self.shape;
@@ -115,15 +116,15 @@ impl Space {
 
     /// How many positions there are.
     pub fn positions(&self) -> u32
-        ensures positions { result ≡ self.now.shape.segments - 1 }
+        ensures positions { result ≡ positions_of self.now.shape }
         ensures pool { IsPool self.now }
     {
-        self.shape.segments - 1
+        positions_of(&self.shape)
     }
 
     /// The segment at a position.
     pub fn segment_at(&self, position: u32) -> u32
-        requires { position < self.now.shape.segments - 1 }
+        requires { position < positions_of self.now.shape }
         ensures segment { result ≡ slice_index self.now.positions position }
         ensures pool { IsPool self.now }
     {
@@ -133,7 +134,7 @@ impl Space {
     /// The position at which a segment stands.
     pub fn position_of(&self, segment: u32) -> u32
         requires { IsPlaced self.now.shape self.now.positions segment }
-        ensures within { result < self.now.shape.segments - 1 }
+        ensures within { result < positions_of self.now.shape }
         ensures stands { slice_index self.now.positions result ≡ segment }
         ensures pool { IsPool self.now }
     {
@@ -145,14 +146,14 @@ impl Space {
         ensures spare { IsSpare self.now.shape self.now.positions result }
         ensures pool { IsPool self.now }
     {
-        self.order.segment_at(self.shape.segments - 1)
+        self.order.segment_at(positions_of(&self.shape))
     }
 
     /// The position from `first` to `last` with the most dead rows, the lowest of several, or `None`
     /// where no row there is dead.
     pub fn most_dead(&self, first: u32, last: u32) -> Option<u32>
         requires order { first ≤ last }
-        requires last { last < self.now.shape.segments - 1 }
+        requires last { last < positions_of self.now.shape }
         ensures { Wins (dead_at self.now) first last result }
     {
         self.dead.best(first, last)
@@ -203,7 +204,7 @@ impl Space {
 
     /// Lets a segment stand at a position. The segment of the position stands where that one stood.
     pub fn stand(&mut self, position: u32, segment: u32)
-        requires position { position < self.old.shape.segments - 1 }
+        requires position { position < positions_of self.old.shape }
         requires segment { segment < self.old.shape.segments }
         ensures { StandsAt position segment self.old self.new }
     {

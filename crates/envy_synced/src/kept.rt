@@ -9,7 +9,7 @@ ghost use Rattle.envy_journal.specs.Log.{HasEnded};
 ghost use Rattle.envy_journal.specs.Reading.{operations};
 ghost use Rattle.envy_synced.specs.Disk.{IsKept, IsLast, IsBefore, IsCompact, IsSynced, Reopens, disk_state};
 
-use envy_base::{Board, Off, Shape, Trouble};
+use envy_base::{Board, Off, Page, Shape, Trouble};
 use envy_device::{Device, Place};
 use envy_disk::{Compaction, OnDisk};
 use envy_journal::{Journaled, Steady};
@@ -113,7 +113,7 @@ impl<B: Steady, D: Device> Board for Kept<B, D> {
         self.journal.get(w)
     }
 
-    fn program(&mut self, row: u32, page: &[u64; 32]) -> Result<(), Trouble> {
+    fn program(&mut self, row: u32, page: &Page) -> Result<(), Trouble> {
         self.journal.program(row, page)
     }
 

@@ -44,7 +44,7 @@ few-plans area load every old p w = let e = w.since.plans.most in let f = plans-
 -- all that is known of the words of an area whose transfers are done
 pub record Sized (area : Area) (l : Places) (load : Draws) (pages : ℕ) : Type 0 where
   pub fits : Fits area pages
-  pub low : pages ≤ 2 ^ 20
+  pub low : pages ≤ 2 ^ 24
   pub sizes : IsLoadOf area load
   pub places : l ≡ places_of area
 

@@ -4,6 +4,7 @@ use Rattle.rand_core.specs.Pcg32Seed.{pcg32_seed}
 use Rattle.rand_pcg.specs.Lcg.{Lcg}
 use Rattle.rand_pcg.specs.Pcg.{pcg64, pcg64_of_seed}
 use Rattle.envy_tpca.specs.declared.transfer.Transfer.{Transfer}
+use Rattle.envy_base.specs.declared.shape.TheConstants.{MOST_WORDS}
 
 -- what a load draws from: branches, accounts of each, and the state of its generator
 pub record Draws : Type 0 where
@@ -47,4 +48,4 @@ first (suc n) d = first n d ++ (next_transfer (after n d)).0 ∷ []
 pub record IsLoad (branches accounts : ℕ) : Type 0 where
   pub some_branches : 1 ≤ branches
   pub some_accounts : 1 ≤ accounts
-  pub few : branches * (accounts + 11) < 2 ^ 25
+  pub few : branches * (accounts + 11) < MOST_WORDS

@@ -11,11 +11,12 @@ use Rattle.envy_tpca.specs.Load.{Draws, after, first}
 use Rattle.envy_tpca.specs.Since.{Since}
 use Rattle.envy_tpca.specs.Tpc.{Tpc, deltas, places_of}
 use Rattle.envy_tpca.specs.Trying.{Rests, IsEnd}
+use Rattle.envy_base.specs.declared.shape.TheConstants.{MOST_ROWS}
 
 -- the area fits, the load was made for it, five pages may be owned, and the memory rests on the words of no transfer
 pub record MayDrive (area : Area) (l : Places) (load : Draws) (p : Picture) : Type 0 where
   pub fits : Fits area p.chart.shape.pages
-  pub low : p.chart.shape.pages ≤ 2 ^ 20
+  pub low : p.chart.shape.pages ≤ MOST_ROWS
   pub places : l ≡ places_of area
   pub sizes : IsLoadOf area load
   pub room : 5 ≤ p.chart.shape.shadows

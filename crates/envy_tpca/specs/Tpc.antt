@@ -5,6 +5,7 @@ use Rattle.envy_base.specs.declared.area.Area.{Area}
 use Rattle.envy_tpca.specs.Load.{Draws, first}
 use Rattle.envy_tpca.specs.declared.places.Places.{Places}
 use Rattle.envy_tpca.specs.declared.transfer.Transfer.{Transfer}
+use Rattle.envy_base.specs.declared.page.TheConstants.{PAGE_WORDS}
 
 -- a number as a word, in two's complement
 abbrev pub as_word : ℤ → ℕ
@@ -56,4 +57,4 @@ pub record TpcAt (l : Places) (size : ℕ) (ts : List Transfer) (words : List �
 
 -- the words of the area after the first i transfers that the load gives
 abbrev pub Tpc : Area → ℕ → Draws → ℕ → List ℕ → Type 0
-Tpc area pages load i words = TpcAt (places_of area) (32 * pages) (first i load) words
+Tpc area pages load i words = TpcAt (places_of area) (PAGE_WORDS * pages) (first i load) words

@@ -4,13 +4,13 @@ ghost use Rattle.envy_tpca.specs.Tpc.{places_of};
 ghost use Rattle.envy_tpca.specs.Trial.{AreSpots, InRange};
 
 use crate::{Places, Spots, Transfer};
-use envy_base::{Area, Board};
+use envy_base::{Area, Board, MOST_ROWS, MOST_WORDS};
 
 /// Where the records of an area that fits stand.
 pub fn lay_out<B: Board>(area: &Area, board: &B) -> Places
     requires { Fits area.now (B.state board.now).shape.pages }
     ensures places { result ≡ places_of area.now }
-    ensures low { (B.state board.now).shape.pages ≤ 2 ^ 20 }
+    ensures low { (B.state board.now).shape.pages ≤ MOST_ROWS }
 {
     // the caller has asked
     if !area.fits(board.shape().pages) {
@@ -26,7 +26,7 @@ pub fn lay_out<B: Board>(area: &Area, board: &B) -> Places
 
 /// Where the records of transfer `i` stand.
 pub fn spots(places: Places, i: u32, transfer: Transfer) -> Spots
-    requires { InRange places (2 ^ 25) i transfer }
+    requires { InRange places MOST_WORDS i transfer }
     ensures { AreSpots places i transfer result }
 {
     Spots {

@@ -1,6 +1,7 @@
 ghost use Rattle.std.specs.Prelude.{◌≡◌, ◌+◌, ◌*◌, ◌^◌, ◌<◌, ◌≤◌};
 ghost use Rattle.envy_tpca.specs.Load.{seeded, next_transfer};
 
+use envy_base::MOST_WORDS;
 use crate::Transfer;
 use crate::draw::drawn;
 use rand_core::SeedableRng;
@@ -32,7 +33,7 @@ impl Load {
     pub fn new(start: u64, branches: u32, accounts: u32) -> Load
         requires branches { 1 ≤ branches }
         requires accounts { 1 ≤ accounts }
-        requires few { branches * (accounts + 11) < 2 ^ 25 }
+        requires few { branches * (accounts + 11) < MOST_WORDS }
         ensures { result ≡ record { branches = branches; accounts = accounts; words = seeded start } }
     {
         Load {

@@ -6,6 +6,7 @@ use Rattle.envy_map.specs.Fields.{Chart, with_fields, place, undo, slot}
 use Rattle.envy_layout.specs.May.{IsSettled}
 use Rattle.envy_layout.specs.Sound.{slot_named, slots_of}
 use Rattle.envy_layout.specs.Words.{kept, live, durable}
+use Rattle.envy_base.specs.declared.page.TheConstants.{PAGE_WORDS}
 
 -- no undo names slot t any more: those that did are clear, and nothing else of the board changed
 pub record Releases (t : ℕ) (old new : Chart) : Type 0 where
@@ -20,8 +21,8 @@ pub record Restores (t : ℕ) (old new : Chart) : Type 0 where
   pub others : (p : ℕ) → slot_named (undo old.fields p) ≢ Some t → (place new.fields p ≡ place old.fields p) × (undo new.fields p ≡ undo old.fields p)
   pub rest : new ≡ with_fields old (record old.fields { places = new.fields.places; undos = new.fields.undos })
   -- loads read of the pages of the slot what a restart would have left of them, and of the others what they read
-  pub own_words : (a : ℕ) → slot_named (undo old.fields (a / 32)) ≡ Some t → slice_index (live new) a ≡ slice_index (durable old) a
-  pub other_words : (a : ℕ) → slot_named (undo old.fields (a / 32)) ≢ Some t → slice_index (live new) a ≡ slice_index (live old) a
+  pub own_words : (a : ℕ) → slot_named (undo old.fields (a / PAGE_WORDS)) ≡ Some t → slice_index (live new) a ≡ slice_index (durable old) a
+  pub other_words : (a : ℕ) → slot_named (undo old.fields (a / PAGE_WORDS)) ≢ Some t → slice_index (live new) a ≡ slice_index (live old) a
 
 -- each page is where a restart reads it, each undo is clear, and each slot that the board has is vacant:
 -- nothing else of the board changed

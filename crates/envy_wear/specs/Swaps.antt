@@ -3,6 +3,7 @@ use Rattle.std.specs.Prelude.{ℕ, ◌+◌, ◌-◌, ◌^◌, ◌<◌, ◌≤◌
 use Rattle.envy_base.specs.declared.shape.Shape.{Shape}
 use Rattle.envy_map.specs.Fields.{Fields}
 use Rattle.envy_wear.specs.declared.swap.Swap.{Swap}
+use Rattle.envy_base.specs.Shape.{positions_of}
 
 -- the wear of the segment at a position
 abbrev pub wear_at : Fields → ℕ → ℕ
@@ -23,8 +24,8 @@ pub record IsLeastWorn (n : ℕ) (wear : ℕ → ℕ) (k : ℕ) : Type 0 where
 -- The most worn and the least worn position are further apart than the limit, and as many erases as the
 -- limit says, or more, have begun since the last swap.
 pub record IsDue (sh : Shape) (f : Fields) (limit since : ℕ) (s : Swap) : Type 0 where
-  pub worn : IsMostWorn (sh.segments - 1) (wear_at f) s.worn
-  pub young : IsLeastWorn (sh.segments - 1) (wear_at f) s.young
+  pub worn : IsMostWorn (positions_of sh) (wear_at f) s.worn
+  pub young : IsLeastWorn (positions_of sh) (wear_at f) s.young
   pub apart : limit < wear_at f s.worn - wear_at f s.young
   pub enough : limit ≤ since
 

@@ -4,9 +4,10 @@ ghost use Rattle.envy_layout.specs.Power.{power_of};
 ghost use Rattle.envy_layout.specs.Sound.{IsSound};
 ghost use Rattle.envy_wear.specs.declared.swap.Swap.{Swap as ASwap};
 ghost use Rattle.envy_wear.specs.Swaps.{wear_at, IsDue, IsMostWorn, IsLeastWorn};
+ghost use Rattle.envy_base.specs.Shape.{positions_of};
 
 use crate::swap::Swap;
-use envy_base::{Board, Off};
+use envy_base::{Board, Off, positions_of};
 use envy_map::{segment_at, wear};
 
 /// A position, and the wear of its segment.
@@ -51,7 +52,7 @@ pub fn due<B: Board>(board: &B, limit: u64, since: u64) -> Result<Option<Swap>, 
 /// The wear of the segment at a position.
 fn worn_at<B: Board>(board: &B, position: u32) -> Result<Worn, Off>
     requires sound { IsSound (chart (B.state board.now)) }
-    requires position { position < (B.state board.now).shape.segments - 1 }
+    requires position { position < positions_of (B.state board.now).shape }
     ensures position { IfOk result (λ worn. worn.position ≡ position) }
     ensures wear { IfOk result (λ worn. worn.wear ≡ wear_at (chart (B.state board.now)).fields position) }
     ensures off { OnErr result ((B.state board.now).on ≡ false) }
@@ -90,10 +91,10 @@ impl Extremes {
 fn extremes_of_all<B: Board>(board: &B) -> Result<Extremes, Off>
     requires sound { IsSound (chart (B.state board.now)) }
     ensures most { let c = chart (B.state board.now) in
-        IfOk result (λ x. IsMostWorn (c.shape.segments - 1) (wear_at c.fields) x.most.position
+        IfOk result (λ x. IsMostWorn (positions_of c.shape) (wear_at c.fields) x.most.position
         × (x.most.wear ≡ wear_at c.fields x.most.position)) }
     ensures least { let c = chart (B.state board.now) in
-        IfOk result (λ x. IsLeastWorn (c.shape.segments - 1) (wear_at c.fields) x.least.position
+        IfOk result (λ x. IsLeastWorn (positions_of c.shape) (wear_at c.fields) x.least.position
         × (x.least.wear ≡ wear_at c.fields x.least.position)) }
     ensures off { OnErr result ((B.state board.now).on ≡ false) }
 {
@@ -102,7 +103,7 @@ fn extremes_of_all<B: Board>(board: &B) -> Result<Extremes, Off>
         most: first,
         least: first,
     };
-    for position in 1..board.shape().segments - 1 {
+    for position in 1..positions_of(&board.shape()) {
         seen = seen.with(worn_at(board, position)?);
     }
     Ok(seen)

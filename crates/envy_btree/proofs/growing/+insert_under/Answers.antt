@@ -1,5 +1,5 @@
 use Rattle.std.proofs.Common.{◌≡◌, List, ℕ, Option, ◌+◌, ◌-◌, ◌*◌, arith, sym, subst, ◌∙◌, get_or, false}
-use Rattle.envy_base.proofs.Working.{Works-trans, Works-more}
+use Rattle.envy_base.proofs.Working.{Works-trans, Works-more, Spends-trans, Spends-then}
 use Rattle.envy_heap.specs.Pieces.{IsHeap, handed}
 use Rattle.envy_btree.specs.Pairs.{with_pair}
 use Rattle.envy_btree.specs.Tree.{Rising, keys_of, values_of}
@@ -192,3 +192,8 @@ grow_node-requires-clause-place g t c = (subst (λ x. Ranks c.args.key x c.rank-
 
 pub returns-clause-fails : goal.returns-clause-fails
 returns-clause-fails g t c = fails-after (0 + (4 * (c.args.level - 1) + 4)) 4 (g.W.Words.sheet c.args.words.now) (g.W.Words.sheet c.insert_under.new.words) (g.W.Words.sheet c.grow_node.new.words) c.grow_node.result (Works-trans 0 (4 * (c.args.level - 1) + 4) (g.W.Words.sheet c.args.words.now) (g.W.Words.sheet c.read_node.new.words) (g.W.Words.sheet c.insert_under.new.words) c.read_node.ensures.works c.insert_under.ensures.works) c.grow_node.ensures.works c.grow_node.ensures.fails
+
+pub returns-clause-spends : goal.returns-clause-spends
+returns-clause-spends g t c =
+    let s = Way-goes _ _ _ _ c.args.value _ _ _ _ _ c.requires.way c.in_ok-node.ensures.node c.if-not-node.false c.deref.ensures.0 c.rank-i.ensures in
+    Spends-then (0 + (129 * (c.args.level - 1) + 129)) 129 _ _ _ _ (omega (arith, s.lower)) (Spends-trans 0 (129 * (c.args.level - 1) + 129) _ _ _ c.read_node.ensures.spends c.insert_under.ensures.spends) c.grow_node.ensures.spends

@@ -1,7 +1,7 @@
 use Rattle.std.proofs.Common.{◌≡◌, ◌+◌, ◌/◌, ◌∙◌, ap, subst, get_or, set, arith}
 use Rattle.std.proofs.lemmas.List.Edits.{paste_more}
 use Rattle.envy_base.specs.Words.{OnPage}
-use Rattle.envy_base.proofs.Working.{on_from, OnPage-room, OnPage-trans}
+use Rattle.envy_base.proofs.Working.{on_from, OnPage-room, OnPage-trans, Spends-trans, Spends-then}
 use Rattle.envy_btree.proofs.node.write_list.Goals as goal
 
 pub put-requires-clause-room : goal.put-requires-clause-room
@@ -16,8 +16,12 @@ loop-i-preserved g c =
     record {
       words = put.1 ∙ ap (λ x. set x (c.args.a + c.loop-i.i) (get_or c.args.list.now c.loop-i.i 0)) mid.words ∙ grown;
       page = OnPage-trans (c.args.a / 32) _ _ _ mid.page (subst (λ p. OnPage p (g.W.Words.sheet c.loop-i.words) (g.W.Words.sheet c.put.new.self)) e c.in_ok-put.ensures.works);
+      spends = Spends-trans c.loop-i.i 1 _ _ _ mid.spends c.in_ok-put.ensures.spends;
       begun = c.in_ok-put.ensures.works.works.still put.0 ∙ mid.begun;
     }
+
+pub returns-in_err-put-clause-spends : goal.returns-in_err-put-clause-spends
+returns-in_err-put-clause-spends g c = Spends-then c.loop-i.i 1 _ _ _ _ (omega arith) c.loop-i.invariant.spends c.put.ensures.spends
 
 pub returns-clause-fails : goal.returns-clause-fails
 returns-clause-fails g c = on_from _ (g.met.W.Words.lawful c.loop-i.words) c.loop-i.invariant.begun

@@ -1,6 +1,6 @@
 use Rattle.std.proofs.Common.{◌≡◌, IfOk, IfSome, Option, List, ℕ, ◌+◌, ◌-◌, ◌*◌, ◌∙◌, suc, arith, sym, subst, false}
 use Rattle.envy_base.specs.Words.{Works}
-use Rattle.envy_base.proofs.Working.{Works-trans, Works-more}
+use Rattle.envy_base.proofs.Working.{Works-trans, Works-more, Spends-trans, Spends-then}
 use Rattle.envy_btree.specs.Pairs.{without}
 use Rattle.envy_btree.specs.Tree.{Rising, keys_of, values_of}
 use Rattle.envy_btree.specs.Changes.{Rests}
@@ -244,3 +244,13 @@ shrink_with_rear-requires-clause-inner g t c = c.if-not-node.false
 
 pub returns-clause-fails : goal.returns-clause-fails
 returns-clause-fails g t c = fails-after (0 + (4 * (c.args.level - 1) + 2)) 6 (g.W.Words.sheet c.args.words.now) (g.W.Words.sheet c.remove_under.new.words) (g.W.Words.sheet c.shrink_with_rear.new.words) c.shrink_with_rear.result (Works-trans 0 (4 * (c.args.level - 1) + 2) (g.W.Words.sheet c.args.words.now) (g.W.Words.sheet c.read_node.new.words) (g.W.Words.sheet c.remove_under.new.words) c.read_node.ensures.works c.remove_under.ensures.works) c.shrink_with_rear.ensures.works c.shrink_with_rear.ensures.fails
+
+pub returns-then-i-gt0-clause-spends : goal.returns-then-i-gt0-clause-spends
+returns-then-i-gt0-clause-spends g t c =
+    let s = (Rests-dives _ _ _ _ _ _ _ _ _ c.requires.rests c.in_ok-node.ensures.node c.if-not-node.false c.deref.ensures.0 c.rank-i.ensures) in
+    Spends-then (0 + (192 * (c.args.level - 1) + 64)) 192 _ _ _ _ (omega (arith, s.lower)) (Spends-trans 0 (192 * (c.args.level - 1) + 64) _ _ _ c.read_node.ensures.spends c.remove_under.ensures.spends) c.shrink_with_front.ensures.spends
+
+pub returns-clause-spends : goal.returns-clause-spends
+returns-clause-spends g t c =
+    let s = (Rests-dives _ _ _ _ _ _ _ _ _ c.requires.rests c.in_ok-node.ensures.node c.if-not-node.false c.deref.ensures.0 c.rank-i.ensures) in
+    Spends-then (0 + (192 * (c.args.level - 1) + 64)) 192 _ _ _ _ (omega (arith, s.lower)) (Spends-trans 0 (192 * (c.args.level - 1) + 64) _ _ _ c.read_node.ensures.spends c.remove_under.ensures.spends) c.shrink_with_rear.ensures.spends

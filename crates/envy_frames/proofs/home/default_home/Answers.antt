@@ -10,7 +10,7 @@ overflow_mul-result c =
     let some = shape.segments in
     let pages = shape.few_pages in
     let page = c.requires.page in
-    let small = mul-lt c.args.page (c.args.shape.now.segments - 1) 1048576 4096 (omega arith) (omega arith) in
+    let small = mul-lt c.args.page (c.args.shape.now.segments - 1) 16777216 4096 (omega arith) (omega arith) in
     omega (arith, small)
 
 pub overflow_cast-result-4 : goal.overflow_cast-result-4

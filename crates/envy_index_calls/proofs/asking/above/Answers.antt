@@ -27,7 +27,7 @@ returns-clause-finds g c =
     let q = c.next_above-found.new.words.memory in
     let d = c.next_above-found.new.words.begun in
     let back : Back q d = record { shut = c.next_above-found.ensures.shut; stands = c.return_words.ensures.shut } in
-    asks (Finds (IsLeastFrom (c.args.key + 1)) c.told_pair.new.pair) c.args.slot.now c.return_words.new.slot p q b c.told_pair.result l c.return_words.ensures.back (works-back p q b d c.next_above-found.ensures.works) (λ es h. finds (IsLeastFrom (c.args.key + 1)) es p q b d c.next_above-found.result c.told_pair.result c.args.pair.now c.told_pair.new.pair c.next_above-found.ensures.works back c.told_pair.ensures (c.next_above-found.ensures.finds es (map-in c.args.slot.now p b es l h)))
+    asks 0 (Finds (IsLeastFrom (c.args.key + 1)) c.told_pair.new.pair) c.args.slot.now c.return_words.new.slot p q b c.told_pair.result l c.return_words.ensures.back (works-back p q b d c.next_above-found.ensures.works c.next_above-found.ensures.spends) (λ es h. finds (IsLeastFrom (c.args.key + 1)) es p q b d c.next_above-found.result c.told_pair.result c.args.pair.now c.told_pair.new.pair c.next_above-found.ensures.works back c.told_pair.ensures (c.next_above-found.ensures.finds es (map-in c.args.slot.now p b es l h)))
 
 pub returns-clause-unwritten : goal.returns-clause-unwritten
 returns-clause-unwritten g c = pair-stays c.next_above-found.result c.told_pair.result c.args.pair.now c.told_pair.new.pair c.told_pair.ensures

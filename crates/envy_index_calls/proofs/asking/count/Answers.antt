@@ -18,7 +18,7 @@ returns-clause-counts g c =
     let q = c.count-counted.new.words.memory in
     let d = c.count-counted.new.words.begun in
     let back : Back q d = record { shut = c.count-counted.ensures.shut; stands = c.return_words.ensures.shut } in
-    asks (Counts c.told_count.new.number) c.args.slot.now c.return_words.new.slot p q b c.told_count.result l c.return_words.ensures.back (works-back p q b d c.count-counted.ensures.works) (λ es h. counts es p q b d c.count-counted.result c.told_count.result c.args.number.now c.told_count.new.number c.count-counted.ensures.works back c.told_count.ensures (c.count-counted.ensures.counts es (map-in c.args.slot.now p b es l h)))
+    asks 0 (Counts c.told_count.new.number) c.args.slot.now c.return_words.new.slot p q b c.told_count.result l c.return_words.ensures.back (works-back p q b d c.count-counted.ensures.works c.count-counted.ensures.spends) (λ es h. counts es p q b d c.count-counted.result c.told_count.result c.args.number.now c.told_count.new.number c.count-counted.ensures.works back c.told_count.ensures (c.count-counted.ensures.counts es (map-in c.args.slot.now p b es l h)))
 
 pub returns-clause-unwritten : goal.returns-clause-unwritten
 returns-clause-unwritten g c = count-stays c.count-counted.result c.told_count.result c.args.number.now c.told_count.new.number c.told_count.ensures

@@ -25,7 +25,7 @@ returns-clause-gets g c =
     let q = c.get-found.new.words.memory in
     let d = c.get-found.new.words.begun in
     let back : Back q d = record { shut = c.get-found.ensures.shut; stands = c.return_words.ensures.shut } in
-    asks (Gets c.args.key c.told_value.new.value) c.args.slot.now c.return_words.new.slot p q b c.told_value.result l c.return_words.ensures.back (works-back p q b d c.get-found.ensures.works) (λ es h. gets c.args.key es p q b d c.get-found.result c.told_value.result c.args.value.now c.told_value.new.value c.get-found.ensures.works back c.told_value.ensures (c.get-found.ensures.gets es (map-in c.args.slot.now p b es l h)))
+    asks 0 (Gets c.args.key c.told_value.new.value) c.args.slot.now c.return_words.new.slot p q b c.told_value.result l c.return_words.ensures.back (works-back p q b d c.get-found.ensures.works c.get-found.ensures.spends) (λ es h. gets c.args.key es p q b d c.get-found.result c.told_value.result c.args.value.now c.told_value.new.value c.get-found.ensures.works back c.told_value.ensures (c.get-found.ensures.gets es (map-in c.args.slot.now p b es l h)))
 
 pub returns-clause-unwritten : goal.returns-clause-unwritten
 returns-clause-unwritten g c = value-stays c.get-found.result c.told_value.result c.args.value.now c.told_value.new.value c.told_value.ensures

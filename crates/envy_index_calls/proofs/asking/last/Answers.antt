@@ -26,7 +26,7 @@ returns-clause-finds g c =
     let q = c.last-found.new.words.memory in
     let d = c.last-found.new.words.begun in
     let back : Back q d = record { shut = c.last-found.ensures.shut; stands = c.return_words.ensures.shut } in
-    asks (Finds (IsGreatestTo c.args.key) c.told_pair.new.pair) c.args.slot.now c.return_words.new.slot p q b c.told_pair.result l c.return_words.ensures.back (works-back p q b d c.last-found.ensures.works) (λ es h. finds (IsGreatestTo c.args.key) es p q b d c.last-found.result c.told_pair.result c.args.pair.now c.told_pair.new.pair c.last-found.ensures.works back c.told_pair.ensures (c.last-found.ensures.finds es (map-in c.args.slot.now p b es l h)))
+    asks 0 (Finds (IsGreatestTo c.args.key) c.told_pair.new.pair) c.args.slot.now c.return_words.new.slot p q b c.told_pair.result l c.return_words.ensures.back (works-back p q b d c.last-found.ensures.works c.last-found.ensures.spends) (λ es h. finds (IsGreatestTo c.args.key) es p q b d c.last-found.result c.told_pair.result c.args.pair.now c.told_pair.new.pair c.last-found.ensures.works back c.told_pair.ensures (c.last-found.ensures.finds es (map-in c.args.slot.now p b es l h)))
 
 pub returns-clause-unwritten : goal.returns-clause-unwritten
 returns-clause-unwritten g c = pair-stays c.last-found.result c.told_pair.result c.args.pair.now c.told_pair.new.pair c.told_pair.ensures

@@ -1,4 +1,5 @@
 use Rattle.std.proofs.Common.{arith}
+use Rattle.envy_btree.specs.Answers.{insert_puts}
 use Rattle.envy_index_calls.specs.Indexed.{Inserts, MayServe}
 use Rattle.envy_index_calls.proofs.Lending.{Back, Lent, lent, some-map, map-in, asks, keeps-back, inserts, old-stays, size-in}
 use Rattle.envy_index_calls.proofs.changing.insert.Goals as goal
@@ -33,7 +34,7 @@ returns-clause-inserts g c =
     let q = c.insert-inserted.new.words.memory in
     let d = c.insert-inserted.new.words.begun in
     let back : Back q d = record { shut = c.insert-inserted.ensures.shut; stands = c.return_words.ensures.shut } in
-    asks (Inserts c.args.key c.args.value c.told_insert.new.before) c.args.slot.now c.return_words.new.slot p q b c.told_insert.result l c.return_words.ensures.back (keeps-back p q b d c.insert-inserted.ensures.keeps) (λ es h. inserts c.args.key c.args.value es c.args.slot.now p q b d c.insert-inserted.result c.told_insert.result c.args.before.now c.told_insert.new.before l back c.told_insert.ensures (c.insert-inserted.ensures.inserts es (map-in c.args.slot.now p b es l h)))
+    asks insert_puts (Inserts c.args.key c.args.value c.told_insert.new.before) c.args.slot.now c.return_words.new.slot p q b c.told_insert.result l c.return_words.ensures.back (keeps-back insert_puts p q b d c.insert-inserted.ensures.keeps c.insert-inserted.ensures.spends) (λ es h. inserts c.args.key c.args.value es c.args.slot.now p q b d c.insert-inserted.result c.told_insert.result c.args.before.now c.told_insert.new.before l back c.told_insert.ensures (c.insert-inserted.ensures.inserts es (map-in c.args.slot.now p b es l h)))
 
 pub returns-clause-unwritten : goal.returns-clause-unwritten
 returns-clause-unwritten g c = old-stays c.insert-inserted.result c.told_insert.result c.args.before.now c.told_insert.new.before c.told_insert.ensures

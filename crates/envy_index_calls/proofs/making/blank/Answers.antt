@@ -1,6 +1,6 @@
 use Rattle.std.proofs.Common.{◌≡◌, ◌/◌, ◌∙◌, ap, sym, subst, set, arith}
 use Rattle.envy_base.specs.Words.{OnPage}
-use Rattle.envy_base.proofs.Working.{on_from, OnPage-room, OnPage-trans}
+use Rattle.envy_base.proofs.Working.{on_from, OnPage-room, OnPage-trans, Spends-trans}
 use Rattle.envy_index_calls.proofs.Blanking.{blanked-more}
 use Rattle.envy_index_calls.proofs.making.blank.Goals as goal
 
@@ -18,6 +18,7 @@ loop-a-preserved g c =
     record {
       words = put.1 ∙ ap (λ x. set x c.loop-a.a 0) mid.words ∙ sym (blanked-more c.loop-a.a (g.W.Words.sheet c.args.words.now).words);
       page = OnPage-trans 0 _ _ _ mid.page (subst (λ p. OnPage p (g.W.Words.sheet c.loop-a.words) (g.W.Words.sheet c.put.new.self)) e c.in_ok-put.ensures.works);
+      spends = Spends-trans c.loop-a.a 1 _ _ _ mid.spends c.in_ok-put.ensures.spends;
       begun = c.in_ok-put.ensures.works.works.still put.0 ∙ mid.begun;
     }
 

@@ -1,5 +1,6 @@
 use Rattle.std.proofs.Common.{refl}
 use Rattle.envy_run.proofs.IndexLines.{map-in, size-in, calls-works, ask-told, ask-lost, told-licence, licence-calm, licence-lost}
+use Rattle.envy_run.proofs.IndexSpent.{puts-sheet}
 use Rattle.envy_run.specs.IndexServing.{Serving}
 use Rattle.envy_btree.specs.declared.line.IndexLine.TheVariants.{Get}
 use Rattle.envy_run.proofs.index_answering.ask.Goals as goal
@@ -36,3 +37,9 @@ returns-in-Err-clause-licence g c =
     let k = calls-works w.memory v.memory w.begun v.begun c.get.ensures.works c.get.ensures.shut in
     let off = (c.in-Err.ensures.gets c.requires.0 (map-in w.memory w.begun c.requires.0 c.requires.1)).0 in
     licence-lost w.memory.chart v.memory.chart k.fixed k.cuts k.bads (k.cut (Serving.on c.requires.1) off)
+
+pub returns-in-Ok-clause-spent : goal.returns-in-Ok-clause-spent
+returns-in-Ok-clause-spent g c = let w = c.args.words.now in let v = c.get.new.words in puts-sheet 0 w.memory v.memory w.begun v.begun c.get.ensures.spends
+
+pub returns-in-Err-clause-spent : goal.returns-in-Err-clause-spent
+returns-in-Err-clause-spent g c = let w = c.args.words.now in let v = c.get.new.words in puts-sheet 0 w.memory v.memory w.begun v.begun c.get.ensures.spends

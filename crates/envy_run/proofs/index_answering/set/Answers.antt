@@ -1,6 +1,8 @@
 use Rattle.std.proofs.Common.{refl}
 use Rattle.envy_run.proofs.IndexLines.{map-in, size-in, calls-keeps, set-told, set-full, set-bad, set-lost, told-licence, licence-calm, licence-fault, licence-lost}
+use Rattle.envy_run.proofs.IndexSpent.{puts-sheet}
 use Rattle.envy_run.specs.IndexServing.{Serving}
+use Rattle.envy_btree.specs.Answers.{insert_puts}
 use Rattle.envy_btree.specs.declared.line.IndexLine.TheVariants.{Insert}
 use Rattle.envy_run.proofs.index_answering.set.Goals as goal
 
@@ -71,3 +73,15 @@ returns-in-Err-Off-clause-licence g c =
     let k = calls-keeps w.memory v.memory w.begun v.begun c.insert.ensures.keeps c.insert.ensures.shut in
     let e = rw c.in-Err-Off.field-0-is at c.in-Err-Off.ensures in
     licence-lost w.memory.chart v.memory.chart k.fixed k.cuts k.bads (k.cut (Serving.on c.requires.1) (e.inserts c.requires.0 (map-in w.memory w.begun c.requires.0 c.requires.1)).0)
+
+pub returns-in-Ok-clause-spent : goal.returns-in-Ok-clause-spent
+returns-in-Ok-clause-spent g c = let w = c.args.words.now in let v = c.insert.new.words in puts-sheet insert_puts w.memory v.memory w.begun v.begun c.insert.ensures.spends
+
+pub returns-in-Err-Full-clause-spent : goal.returns-in-Err-Full-clause-spent
+returns-in-Err-Full-clause-spent g c = let w = c.args.words.now in let v = c.insert.new.words in puts-sheet insert_puts w.memory v.memory w.begun v.begun c.insert.ensures.spends
+
+pub returns-in-Err-Bad-clause-spent : goal.returns-in-Err-Bad-clause-spent
+returns-in-Err-Bad-clause-spent g c = let w = c.args.words.now in let v = c.insert.new.words in puts-sheet insert_puts w.memory v.memory w.begun v.begun c.insert.ensures.spends
+
+pub returns-in-Err-Off-clause-spent : goal.returns-in-Err-Off-clause-spent
+returns-in-Err-Off-clause-spent g c = let w = c.args.words.now in let v = c.insert.new.words in puts-sheet insert_puts w.memory v.memory w.begun v.begun c.insert.ensures.spends

@@ -1,6 +1,8 @@
 use Rattle.std.proofs.Common.{refl}
 use Rattle.envy_run.proofs.IndexLines.{map-in, size-in, calls-keeps, out-told, out-bad, out-lost, told-licence, licence-calm, licence-fault, licence-lost}
+use Rattle.envy_run.proofs.IndexSpent.{puts-sheet}
 use Rattle.envy_run.specs.IndexServing.{Serving}
+use Rattle.envy_btree.specs.Answers.{removal_puts}
 use Rattle.envy_btree.specs.declared.line.IndexLine.TheVariants.{Remove}
 use Rattle.envy_run.proofs.index_answering.take_out.Goals as goal
 
@@ -61,3 +63,12 @@ unreachable-requires g c =
     let w = c.args.words.now in
     let e = rw c.in-Err-Full.field-0-is at c.in-Err-Full.ensures in
     e.removes c.requires.0 (map-in w.memory w.begun c.requires.0 c.requires.1)
+
+pub returns-in-Ok-clause-spent : goal.returns-in-Ok-clause-spent
+returns-in-Ok-clause-spent g c = let w = c.args.words.now in let v = c.remove.new.words in puts-sheet removal_puts w.memory v.memory w.begun v.begun c.remove.ensures.spends
+
+pub returns-in-Err-Bad-clause-spent : goal.returns-in-Err-Bad-clause-spent
+returns-in-Err-Bad-clause-spent g c = let w = c.args.words.now in let v = c.remove.new.words in puts-sheet removal_puts w.memory v.memory w.begun v.begun c.remove.ensures.spends
+
+pub returns-in-Err-Off-clause-spent : goal.returns-in-Err-Off-clause-spent
+returns-in-Err-Off-clause-spent g c = let w = c.args.words.now in let v = c.remove.new.words in puts-sheet removal_puts w.memory v.memory w.begun v.begun c.remove.ensures.spends

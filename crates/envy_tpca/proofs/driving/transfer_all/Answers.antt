@@ -46,7 +46,7 @@ spots-requires g c =
     let room = c.requires.fits.room in
     let low = c.requires.low in
     let few : c.args.area.now.transfers < 2 ^ 32 = omega arith in
-    range-wide c.args.places (32 * c.args.memory.now.chart.shape.pages) (2 ^ 25) c.loop-i.i c.next-t.result (omega arith) (step-range c.args.area.now c.args.places c.args.load.now c.args.memory.now c.loop-i.i c.next-t.result c.requires c.loop-i-test.true few (drawn g (goal.at.spots-requires g c).After-next-t))
+    range-wide c.args.places (32 * c.args.memory.now.chart.shape.pages) (2 ^ 29) c.loop-i.i c.next-t.result (omega arith) (step-range c.args.area.now c.args.places c.args.load.now c.args.memory.now c.loop-i.i c.next-t.result c.requires c.loop-i-test.true few (drawn g (goal.at.spots-requires g c).After-next-t))
 
 pub transfer_once-requires-clause-trial : goal.transfer_once-requires-clause-trial
 transfer_once-requires-clause-trial g c =

@@ -1,4 +1,4 @@
-use Rattle.std.proofs.Common.{◌≡◌, ap, sym, subst, true, false, ◌∙◌, ◌⊎◌, List, ℕ}
+use Rattle.std.proofs.Common.{arith, ◌≡◌, ap, sym, subst, true, false, ◌∙◌, ◌⊎◌, List, ℕ}
 use Rattle.std.specs.Prelude.{Result, Err}
 use Rattle.envy_base.specs.Array.{Array}
 use Rattle.envy_layout.specs.Stands.{Stands}
@@ -6,7 +6,7 @@ use Rattle.envy_layout.specs.Words.{durable}
 use Rattle.envy_memory.specs.Calls.{Commits, Works}
 use Rattle.envy_memory.specs.declared.faults.EndFault.{EndFault}
 use Rattle.envy_memory.proofs.Ended.{few-as, lit-ok, and-false, finish-all, finish-kept, finish-lost, words-as}
-use Rattle.envy_memory.proofs.Transacting.{flag-is, begun-on, is-active, sheet-keeps}
+use Rattle.envy_memory.proofs.Transacting.{flag-is, begun-on, is-active, sheet-keeps, sheet-spends}
 use Rattle.envy_memory.proofs.one_tx.OneTxWords.finish.Goals as goal
 
 pub invariant_of-self : goal.invariant_of-self
@@ -54,3 +54,9 @@ returns-in-Err-Off-clause-answer g c =
     let is = c.in-Err-Off.is ∙ ap (λ x. Err x) it in
     let step = subst (λ (r : Result Unit EndFault). (m : Array) → Stands p.chart m → Commits m 0 r q.chart) is e.step in
     (e.off.0 is, subst (λ (ws : List ℕ). (durable q.chart ≡ durable p.chart) ⊎ (durable q.chart ≡ ws)) (sym (words-as p b true live.1)) (finish-lost p q.chart live.0 (flag-is p.chart b true live.1 c.args.self.now.held) step))
+
+pub returns-in-Ok-clause-spends : goal.returns-in-Ok-clause-spends
+returns-in-Ok-clause-spends g c = sheet-spends 0 0 0 c.args.self.now.memory c.commit-ended.new.self c.args.self.now.begun false (omega arith) (omega arith) c.commit-ended.ensures.below.works
+
+pub returns-in-Err-Off-clause-spends : goal.returns-in-Err-Off-clause-spends
+returns-in-Err-Off-clause-spends g c = sheet-spends 0 0 0 c.args.self.now.memory c.commit-ended.new.self c.args.self.now.begun false (omega arith) (omega arith) c.commit-ended.ensures.below.works

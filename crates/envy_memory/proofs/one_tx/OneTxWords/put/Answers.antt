@@ -1,11 +1,12 @@
-use Rattle.std.proofs.Common.{sym, subst}
+use Rattle.std.proofs.Common.{arith, sym, subst}
 use Rattle.std.specs.Prelude.{Result}
 use Rattle.envy_base.specs.Words.{Puts}
 use Rattle.envy_base.specs.declared.board.Trouble.{Trouble}
+use Rattle.envy_memory.specs.Below.{flush_erases, flush_programs}
 use Rattle.envy_memory.specs.Calls.{Works}
 use Rattle.envy_memory.specs.Sheets.{sheet_of}
 use Rattle.envy_memory.proofs.Ended.{PutMeets, few-as, put-keeps, never-refused, put-works, put-answer}
-use Rattle.envy_memory.proofs.Transacting.{begun-on}
+use Rattle.envy_memory.proofs.Transacting.{begun-on, sheet-spends}
 use Rattle.envy_memory.proofs.one_tx.OneTxWords.put.Goals as goal
 
 pub invariant_of-self : goal.invariant_of-self
@@ -44,3 +45,6 @@ returns-clause-answer g c =
     let e = c.put.ensures in
     let meets : PutMeets p c.put.new.self b c.args.a c.args.w c.put.result = record { begun = live.1; on = live.0; held = c.args.self.now.held; address = c.requires.address; room = c.requires.room; step = e.step; off = e.off; cut = e.cut; range = e.range; closed = e.closed; full = e.full; bad = e.bad; below = e.below } in
     subst (λ (r : Result Unit Trouble). Puts (sheet_of p b) c.args.a c.args.w r (sheet_of c.put.new.self b)) (sym c.trouble.ensures) (put-answer p c.put.new.self b c.args.a c.args.w c.put.result meets (never-refused p c.put.new.self b c.args.a c.args.w c.put.result meets))
+
+pub returns-clause-spends : goal.returns-clause-spends
+returns-clause-spends g c = sheet-spends 1 (flush_programs c.args.self.now.memory.chart.shape.rows) flush_erases c.args.self.now.memory c.put.new.self c.args.self.now.begun c.args.self.now.begun (omega arith) (omega arith) c.put.ensures.below.works

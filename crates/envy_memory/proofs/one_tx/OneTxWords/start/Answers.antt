@@ -1,4 +1,4 @@
-use Rattle.std.proofs.Common.{ap, sym, subst, true, false, ◌∙◌, ℕ}
+use Rattle.std.proofs.Common.{arith, ap, sym, subst, true, false, ◌∙◌, ℕ}
 use Rattle.std.specs.Prelude.{Result, Err}
 use Rattle.envy_base.specs.Array.{Array}
 use Rattle.envy_layout.specs.Stands.{Stands}
@@ -7,7 +7,7 @@ use Rattle.envy_memory.specs.Picture.{Picture}
 use Rattle.envy_memory.specs.declared.faults.BeginFault.{BeginFault}
 use Rattle.envy_txn.specs.Owners.{Ownership}
 use Rattle.envy_memory.proofs.Ended.{few-as, lit-ok, start-gone, words-as, start-any, and-true}
-use Rattle.envy_memory.proofs.Transacting.{flag-is, never-busy, pages_of, sheet-keeps, shut-on, start-pages, started-kept, started-words, was-on}
+use Rattle.envy_memory.proofs.Transacting.{flag-is, never-busy, pages_of, sheet-keeps, sheet-spends, shut-on, start-pages, started-kept, started-words, was-on}
 use Rattle.envy_memory.proofs.one_tx.OneTxWords.start.Goals as goal
 
 pub invariant_of-self : goal.invariant_of-self
@@ -60,3 +60,9 @@ returns-in-Err-Off-clause-answer g c =
     let is = c.in-Err-Off.is ∙ ap (λ x. Err x) it in
     let step = subst (λ (r : Result ℕ BeginFault). (m : Array) → Stands p.chart m → Begins m r q.chart) is e.step in
     (e.off.0 is, start-gone p.chart q.chart b c.requires c.args.self.now.held step e.below.works)
+
+pub returns-in-Ok-clause-spends : goal.returns-in-Ok-clause-spends
+returns-in-Ok-clause-spends g c = sheet-spends 1 0 0 c.args.self.now.memory c.begin-begun.new.self c.args.self.now.begun true (omega arith) (omega arith) c.begin-begun.ensures.below.works
+
+pub returns-in-Err-Off-clause-spends : goal.returns-in-Err-Off-clause-spends
+returns-in-Err-Off-clause-spends g c = sheet-spends 1 0 0 c.args.self.now.memory c.begin-begun.new.self c.args.self.now.begun true (omega arith) (omega arith) c.begin-begun.ensures.below.works

@@ -1,11 +1,11 @@
-use Rattle.std.proofs.Common.{ap, subst, true, false, ◌∙◌}
+use Rattle.std.proofs.Common.{arith, ap, subst, true, false, ◌∙◌}
 use Rattle.std.specs.Prelude.{Result, Err}
 use Rattle.envy_base.specs.Array.{Array}
 use Rattle.envy_layout.specs.Stands.{Stands}
 use Rattle.envy_memory.specs.Calls.{Aborts, Works}
 use Rattle.envy_memory.specs.declared.faults.EndFault.{EndFault}
 use Rattle.envy_memory.proofs.Ended.{few-as, lit-ok, and-false, undo-all, undo-kept, undo-lost}
-use Rattle.envy_memory.proofs.Transacting.{flag-is, begun-on, is-active, sheet-keeps}
+use Rattle.envy_memory.proofs.Transacting.{flag-is, begun-on, is-active, sheet-keeps, sheet-spends}
 use Rattle.envy_memory.proofs.one_tx.OneTxWords.undo.Goals as goal
 
 pub invariant_of-self : goal.invariant_of-self
@@ -53,3 +53,9 @@ returns-in-Err-Off-clause-answer g c =
     let is = c.in-Err-Off.is ∙ ap (λ x. Err x) it in
     let step = subst (λ (r : Result Unit EndFault). (m : Array) → Stands p.chart m → Aborts m 0 r q.chart) is e.step in
     (e.off.0 is, undo-lost p.chart q.chart live.0 (flag-is p.chart b true live.1 c.args.self.now.held) step)
+
+pub returns-in-Ok-clause-spends : goal.returns-in-Ok-clause-spends
+returns-in-Ok-clause-spends g c = sheet-spends 0 0 0 c.args.self.now.memory c.abort-ended.new.self c.args.self.now.begun false (omega arith) (omega arith) c.abort-ended.ensures.below.works
+
+pub returns-in-Err-Off-clause-spends : goal.returns-in-Err-Off-clause-spends
+returns-in-Err-Off-clause-spends g c = sheet-spends 0 0 0 c.args.self.now.memory c.abort-ended.new.self c.args.self.now.begun false (omega arith) (omega arith) c.abort-ended.ensures.below.works
