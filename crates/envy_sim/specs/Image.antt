@@ -6,7 +6,6 @@ use Rattle.envy_base.specs.State.{State}
 use Rattle.envy_base.specs.declared.shape.Shape.{Shape}
 use Rattle.envy_image.specs.Image.{mark, head_of, image_of, FitNumbers}
 use Rattle.envy_image.specs.Installing.{Goes, body_size, count_after}
-use Rattle.envy_map.specs.Fields.{chart}
 use Rattle.envy_memory.specs.Picture.{Picture, state_in}
 use Rattle.envy_policy.specs.Setup.{checked as setup_checked}
 use Rattle.envy_policy.specs.declared.setup.Setup.{Setup as OfSetup}
