@@ -80,7 +80,7 @@ enum envy_code {
     ENVY_ABSENT = 54,    /* the map has no such pair */
     ENVY_MAP_FULL = 55,  /* the map has as many pairs as it may have */
     ENVY_SLOT_OPEN = 56, /* a transaction is open, which is to be committed or aborted first */
-    ENVY_MAP_SETUP = 57, /* the setup has fewer than 20 pages or 32 shadows, so no map fits */
+    ENVY_MAP_SETUP = 57, /* no map fits: fewer than 20 pages or 32 shadows, or more than 1,048,576 pages */
 
     /* where a flash part and SRAM lie; over a part alone */
     ENVY_FLASH_ADDRESS = 64, /* the part's map begins at 0, or at no multiple of 256 */

@@ -62,7 +62,7 @@ const char *envy_error_text(uint32_t code) {
     case ENVY_ABSENT: return "the map has no such pair";
     case ENVY_MAP_FULL: return "the map has no room for more pairs";
     case ENVY_SLOT_OPEN: return "a transaction is open";
-    case ENVY_MAP_SETUP: return "a map needs at least 20 pages and 32 shadows";
+    case ENVY_MAP_SETUP: return "a map needs 20 to 1048576 pages and at least 32 shadows";
     case ENVY_FLASH_ADDRESS: return "the part's map doesn't begin at a multiple of 256 bytes";
     case ENVY_SRAM_ADDRESS: return "the SRAM doesn't begin at a multiple of 8 bytes";
     case ENVY_PAST: return "a region reaches past the last address";

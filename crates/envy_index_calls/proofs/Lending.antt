@@ -4,7 +4,6 @@ use Rattle.std.specs.Prelude.{◌&&◌, IsTrue, Option, None, Some, Result, Ok, 
 use Rattle.std.specs.Option.{ForSome}
 use Rattle.std.proofs.lemmas.List.{ext_get_or, length-replicate, get_or-replicate}
 use Rattle.envy_base.specs.Array.{Array, Saved, IsArray, slot_of}
-use Rattle.envy_base.specs.Shape.{IsShape}
 use Rattle.envy_base.specs.Words.{Works as SheetWorks, Spends, Keeps, Rose}
 use Rattle.envy_base.specs.declared.board.Off.{Off as OffBoard}
 use Rattle.envy_base.specs.declared.board.Trouble.{Trouble}
@@ -27,6 +26,7 @@ use Rattle.envy_calls.specs.Codes.{number_of}
 use Rattle.envy_calls.specs.declared.code.Code.{Code}
 use Rattle.envy_calls.specs.declared.code.Code.TheVariants.{Done}
 use Rattle.envy_index_calls.specs.Indexed.{Pairs, HoldsMap, HoldsSomeMap, HoldsArray, HasOpen, IsShut, Serves, Rests, MayServe, Lends, Works, Asks, Gets, Counts, Finds, Inserts, Removes, Blanks, Creates, DoesCreate, creation_puts, TellsValue, TellsCount, TellsPair, TellsInsert, TellsRemoval, made_code, old_of}
+use Rattle.envy_index_calls.specs.declared.words.TheConstants.{MOST_MAP_PAGES}
 use Rattle.envy_index_calls.specs.declared.pairs.EnvyPair.{EnvyPair}
 use Rattle.envy_index_calls.specs.declared.pairs.EnvyOld.{EnvyOld}
 use Rattle.envy_index_calls.proofs.Blanking.{blanked-index}
@@ -131,15 +131,14 @@ closed-slots c m s shut =
     ext_get_or None m.slots (replicate 64 None) (long ∙ sym (length-replicate {A = Option Saved} 64 None)) (λ t lt. let few : t < 64 = subst (λ (n : ℕ). t < n) long lt in closed-slot c t (slot_of m t) few (Holds.slots h t few) shut ∙ sym (get_or-replicate {A = Option Saved} 64 t None None few))
 
 -- a sound memory of enough pages with no transaction open may serve a map
-pub may-serve : (p : Picture) (sh : Shape) (c d : Chart) (b : Bool) → HoldsArray p → c ≡ p.chart → d ≡ p.chart → IsShape c.shape → sh ≡ c.shape → 20 ≤ sh.pages → 32 ≤ sh.shadows → b ≡ false → HasOpen d b → MayServe p
-may-serve p sh c d b (m, stands) same same_too shape is pages shadows closed shut =
-    let sizes = subst (λ (x : Chart). IsShape x.shape) same shape in
+pub may-serve : (p : Picture) (sh : Shape) (c d : Chart) (b : Bool) → HoldsArray p → c ≡ p.chart → d ≡ p.chart → sh ≡ c.shape → 20 ≤ sh.pages → sh.pages ≤ MOST_MAP_PAGES → 32 ≤ sh.shadows → b ≡ false → HasOpen d b → MayServe p
+may-serve p sh c d b (m, stands) same same_too is pages few shadows closed shut =
     let its : sh ≡ p.chart.shape = is ∙ ap (λ (x : Chart). x.shape) same in
     let open_not = subst (λ (x : Chart). HasOpen x false) same_too (subst (λ (x : Bool). HasOpen d x) closed shut) in
     record {
       pages = subst (λ (x : Shape). 20 ≤ x.pages) its pages;
       shadows = subst (λ (x : Shape). 32 ≤ x.shadows) its shadows;
-      few = let few = IsShape.few_pages sizes in omega arith;
+      few = subst (λ (x : Shape). x.pages ≤ MOST_MAP_PAGES) its few;
       array = m;
       stands = stands;
       slots = closed-slots p.chart m stands open_not;

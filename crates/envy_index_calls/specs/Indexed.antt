@@ -21,6 +21,7 @@ use Rattle.envy_btree.specs.declared.fault.TreeFault.TheVariants.{Off as FaultOf
 use Rattle.envy_calls.specs.Codes.{number_of}
 use Rattle.envy_calls.specs.declared.code.Code.{Code}
 use Rattle.envy_calls.specs.declared.code.Code.TheVariants.{Done, Empty, Off, Bad, Absent, MapFull, SlotOpen, MapSetup}
+use Rattle.envy_index_calls.specs.declared.words.TheConstants.{MOST_MAP_PAGES}
 use Rattle.envy_index_calls.specs.declared.pairs.EnvyPair.{EnvyPair}
 use Rattle.envy_index_calls.specs.declared.pairs.EnvyOld.{EnvyOld}
 
@@ -64,15 +65,15 @@ HasOpen c false = (t : ℕ) → t < 64 → slot_of c.fields t ≢ Some Active
 pub record MayServe (p : Picture) : Type 0 where
   pub pages : 20 ≤ p.chart.shape.pages
   pub shadows : 32 ≤ p.chart.shape.shadows
-  pub few : p.chart.shape.pages ≤ 2 ^ 20
+  pub few : p.chart.shape.pages ≤ MOST_MAP_PAGES
   pub array : Array
   pub stands : Stands p.chart array
   pub slots : array.slots ≡ replicate 64 None
 
--- Why a call isn't made: nothing changes then. A map needs 20 pages and 32 shadows.
+-- Why a call isn't made: nothing changes then. A map needs 20 pages and 32 shadows, and has no more pages than its most.
 abbrev pub Declines : Picture → Code → Type 0
-Declines p MapSetup = (p.chart.shape.pages < 20) ⊎ (p.chart.shape.shadows < 32)
-Declines p SlotOpen = HasOpen p.chart true × (20 ≤ p.chart.shape.pages) × (32 ≤ p.chart.shape.shadows)
+Declines p MapSetup = (p.chart.shape.pages < 20) ⊎ (MOST_MAP_PAGES < p.chart.shape.pages) ⊎ (p.chart.shape.shadows < 32)
+Declines p SlotOpen = HasOpen p.chart true × (20 ≤ p.chart.shape.pages) × (p.chart.shape.pages ≤ MOST_MAP_PAGES) × (32 ≤ p.chart.shape.shadows)
 Declines p code = ⊥
 
 -- What every call does: sizes stay, and the numbers that a board over a file tells of its disk by; power that was on and is

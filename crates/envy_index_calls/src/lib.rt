@@ -14,3 +14,4 @@ pub use asking::{above, count, get, last, next};
 pub use changing::{insert, remove};
 pub use making::create;
 pub use pairs::{EnvyOld, EnvyPair};
+pub use words::MOST_MAP_PAGES;

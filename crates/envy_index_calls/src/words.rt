@@ -16,6 +16,9 @@ const LEAST_PAGES: u32 = 20;
 
 const LEAST_SHADOWS: u32 = 32;
 
+/// The most pages of an array that holds a map: no key is more than six nodes deep in it.
+pub const MOST_MAP_PAGES: u32 = 1 << 20;
+
 // Whether one of the 64 slots is open.
 fn has_open_slot<B: Board>(board: &B) -> Result<bool, Off>
     requires sound { IsSound (chart (B.state board.now)) }
@@ -36,7 +39,7 @@ fn refusal<B: Board>(memory: &Memory<B>) -> Option<Code>
     ensures { MatchOption result (MayServe memory.now) (Declines memory.now) }
 {
     let shape = memory.board().shape();
-    if shape.pages < LEAST_PAGES || shape.shadows < LEAST_SHADOWS {
+    if shape.pages < LEAST_PAGES || shape.pages > MOST_MAP_PAGES || shape.shadows < LEAST_SHADOWS {
         return Some(Code::MapSetup);
     }
     match has_open_slot(memory.board()) {

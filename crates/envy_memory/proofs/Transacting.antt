@@ -24,7 +24,7 @@ use Rattle.envy_memory.specs.Calls.{Loads, Begins, Puts, Works, IsCut}
 use Rattle.envy_memory.specs.Effects.{PutEffect}
 use Rattle.envy_memory.specs.Lawful.{words_long}
 use Rattle.envy_memory.specs.Picture.{Picture}
-use Rattle.envy_memory.specs.Sheets.{words_read, fixed_of, sheet_of, IsHeld}
+use Rattle.envy_memory.specs.Sheets.{words_read, fixed_of, put_price, sheet_of, IsHeld}
 use Rattle.envy_memory.specs.declared.faults.BeginFault.TheVariants.{Off as BeginOff}
 use Rattle.envy_memory.specs.declared.faults.PutFault.{PutFault}
 use Rattle.envy_memory.specs.declared.faults.PutFault.TheVariants.{Off as PutOff, Range as PutRange, Closed as PutClosed, Held as PutHeld, Full as PutFull, Bad as PutBad}
@@ -115,7 +115,7 @@ sheet-spends n k j p q b d programs erases w =
     let few = Counted.few w.counted in
     let most = Grows.few (Counted.erases w.counted) in
     record {
-      price = ap (λ (sh : Shape). record { programs = flush_programs sh.rows; erases = flush_erases }) w.shape;
+      price = ap put_price w.shape;
       programs = omega arith;
       erases = omega arith;
     }

@@ -1,9 +1,10 @@
 -- A memory with one transaction at a time, as words.
 use Rattle.std.specs.Prelude.{◌≡◌, ℕ, ◌&&◌, Bool, true, false, List, [], ◌∷◌, map, sum, replicate, Option, None, Some}
 use Rattle.envy_base.specs.Array.{Array, Saved}
-use Rattle.envy_base.specs.Words.{Sheet}
+use Rattle.envy_base.specs.Words.{Sheet, Work}
 use Rattle.envy_base.specs.declared.faults.PlannedFault.{PlannedFault}
 use Rattle.envy_base.specs.declared.faults.PlannedFault.TheVariants.{Cut, Bad}
+use Rattle.envy_base.specs.declared.shape.Shape.{Shape}
 use Rattle.envy_map.specs.Fields.{Chart}
 use Rattle.envy_layout.specs.Stands.{Stands}
 use Rattle.envy_layout.specs.Words.{live, durable}
@@ -27,8 +28,11 @@ numbers_of (Some (Bad k g)) = 1 ∷ k ∷ g ∷ []
 abbrev pub fixed_of : Chart → List ℕ
 fixed_of c = c.shape.segments ∷ c.shape.rows ∷ c.shape.pages ∷ c.shape.shadows ∷ c.shape.frames ∷ c.shape.entries ∷ c.pulled ∷ c.plans ∷ c.given ∷ c.lives ∷ numbers_of c.last_plan
 
--- The words of a memory whose transaction has begun or not. The pages put in it are those that it owns, and a put may
--- begin the flash work of one flush.
+-- the most flash work that a put may begin: that of one flush
+abbrev pub put_price : Shape → Work
+put_price sh = record { programs = flush_programs sh.rows; erases = flush_erases }
+
+-- The words of a memory whose transaction has begun or not. The pages put in it are those that it owns.
 abbrev pub sheet_of : Picture → Bool → Sheet
 sheet_of p begun = record {
   words = words_read (p.chart.on && begun) p.chart;
@@ -40,7 +44,7 @@ sheet_of p begun = record {
   cuts = p.chart.cuts;
   bads = p.chart.bads;
   work = record { programs = p.chart.begun; erases = sum p.chart.erases };
-  price = record { programs = flush_programs p.chart.shape.rows; erases = flush_erases };
+  price = put_price p.chart.shape;
   fixed = fixed_of p.chart;
 }
 

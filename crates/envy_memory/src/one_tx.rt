@@ -1,6 +1,7 @@
 ghost use Rattle.std.specs.Prelude.{◌≡◌, ◌↔◌, ◌⊎◌, ◌*◌, ◌-◌, ◌^◌, ◌<◌, ◌≤◌, false, IsTrue, OnOk, MatchResult, [], replicate, None, Ok, Err};
 ghost use Rattle.envy_base.specs.Array.{Array};
 ghost use Rattle.envy_base.specs.Shape.{IsShape};
+ghost use Rattle.envy_base.specs.declared.page.TheConstants.{PAGE_WORDS};
 ghost use Rattle.envy_layout.specs.Same.{Kept};
 ghost use Rattle.envy_layout.specs.Stands.{Stands};
 ghost use Rattle.envy_layout.specs.Words.{durable};
@@ -13,14 +14,12 @@ ghost use Rattle.envy_memory.specs.Sheets.{IsHeld, sheet_of};
 
 use crate::faults::{BeginFault, EndFault, LoadFault, PutFault, ReviveFault};
 use crate::memory::Memory;
-use envy_base::{Bench, Board, Off, PAGE_WORDS, Trouble, Words, PlannedFault};
+use envy_base::{Bench, Board, Off, PAGE_WORDS, PlannedFault, Trouble, Words};
 
 /// A memory with one transaction at a time, which has the first slot.
 pub struct OneTx<B: Board> {
     memory: Memory<B>,
     begun: bool,
-    ghost use Rattle.envy_base.specs.declared.page.TheConstants.{PAGE_WORDS};
-
     ghost few: { PAGE_WORDS * memory.chart.shape.pages < 2 ^ 32 },
     ghost held: { ∥ (IsTrue memory.chart.on → IsHeld memory.chart begun) ∥₁ },
 }

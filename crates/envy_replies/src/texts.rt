@@ -55,6 +55,10 @@ ends 2 6 0 envy: pages and shadows exceed the share
 $ run --segments 17 --rows 65536
 > load 0;
 ends 2 7 0 envy: more than 1048576 rows
+~ too many rows of a large board
+$ run --segments 257 --rows 65281 --large 1
+> load 0;
+ends 2 17 0 envy: more than 16777216 rows
 ~ the size of a part
 $ run --policy hybrid --part 0
 $ run --policy hybrid --part 8
@@ -122,6 +126,9 @@ const TEXTS: &str = "\
 2 12 0 envy: shadows must be at least 5
 2 13 0 envy: shadows must be at least 32
 2 14 0 envy: pages must be at least 20
+2 15 0 envy: per cent must be 1 to 99
+2 16 0 envy: hot and share go together
+2 17 0 envy: more than 16777216 rows
 3 0 0 envy: read fault after 0 lines
 3 0 12 envy: read fault after 12 lines
 4 0 0 envy: write fault after 0 lines

@@ -69,8 +69,8 @@ numbers-tell (Some (PlanCut k g)) None e = absurd (let never = e in cc)
 numbers-tell (Some (PlanBad k g)) None e = absurd (let never = e in cc)
 numbers-tell (Some (PlanCut k g)) (Some (PlanCut l h)) e = cc
 numbers-tell (Some (PlanBad k g)) (Some (PlanBad l h)) e = cc
-numbers-tell (Some (PlanCut k g)) (Some (PlanBad l h)) e = absurd (let never : 0 ≡ 1 = cc in omega (arith, never))
-numbers-tell (Some (PlanBad k g)) (Some (PlanCut l h)) e = absurd (let never : 1 ≡ 0 = cc in omega (arith, never))
+numbers-tell (Some (PlanCut k g)) (Some (PlanBad l h)) e = absurd (let never : ◌≡◌ {A = ℕ} 0 1 = cc in omega (arith, never))
+numbers-tell (Some (PlanBad k g)) (Some (PlanCut l h)) e = absurd (let never : ◌≡◌ {A = ℕ} 1 0 = cc in omega (arith, never))
 
 pub fixed-says : (c d : Chart) → fixed_of d ≡ fixed_of c → Fixed c d
 fixed-says c d same = record {

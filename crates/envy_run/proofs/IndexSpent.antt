@@ -3,6 +3,7 @@ use Rattle.std.proofs.Common.{◌≡◌, ℕ, ◌+◌, ◌*◌, ◌≤◌, Bool,
 use Rattle.std.proofs.Math.Nat.{mul-le-mul_left}
 use Rattle.std.specs.Prelude.{sum}
 use Rattle.envy_base.specs.Words.{Spends as SheetSpends}
+use Rattle.envy_base.specs.declared.faults.PlannedFault.{PlannedFault}
 use Rattle.envy_base.specs.declared.shape.Shape.{Shape}
 use Rattle.envy_layout.specs.Same.{Counted, Grows, Kept}
 use Rattle.envy_map.specs.Fields.{Chart}

@@ -7,7 +7,7 @@ use std::alloc::Global;
 use std::process::Abort;
 
 // None of these is in the form.
-const OTHER_FORMS: [&str; 63] = [
+const OTHER_FORMS: [&str; 68] = [
     "",
     "fly",
     "Run",
@@ -71,10 +71,15 @@ const OTHER_FORMS: [&str; 63] = [
     "run --hot 5",
     "index --pairs 1",
     "mirror --side 1",
+    "gen --large 1",
+    "index --large 1",
+    "plain --large 0",
+    "resume --large 1",
+    "run --large 2",
 ];
 
 // The first rule that fails is told.
-const RULES: [(&str, u8); 32] = [
+const RULES: [(&str, u8); 50] = [
     ("run --segments 3", 1),
     ("run --segments=3 --pages 0 --mark 9", 1),
     ("run --rows 1", 2),
@@ -107,6 +112,24 @@ const RULES: [(&str, u8); 32] = [
     ("index --pages 19", 14),
     ("index --pages 19 --shadows 31", 13),
     ("index --rows 1 --shadows 31", 2),
+    ("run --segments 17 --rows 61681", 7),
+    ("run --segments 17 --rows 61681 --large 0", 7),
+    ("run --segments 257 --rows 65281", 7),
+    ("run --segments 257 --rows 65281 --large 1", 17),
+    ("save --segments 17 --rows 61681", 7),
+    ("save --segments 17 --rows 61681 --large 0", 7),
+    ("save --segments 257 --rows 65281", 7),
+    ("save --segments 257 --rows 65281 --large 1", 17),
+    ("mirror --segments 17 --rows 61681", 7),
+    ("mirror --segments 17 --rows 61681 --large 0", 7),
+    ("mirror --segments 257 --rows 65281", 7),
+    ("mirror --segments 257 --rows 65281 --large 1", 17),
+    ("tpca --segments 17 --rows 61681", 7),
+    ("tpca --segments 17 --rows 61681 --large 0", 7),
+    ("tpca --segments 257 --rows 65281", 7),
+    ("tpca --segments 257 --rows 65281 --large 1", 17),
+    ("plain --segments 17 --rows 61681", 7),
+    ("index --segments 17 --rows 61681", 7),
 ];
 
 /// Tests that each line is in another form, and that no words at all are.

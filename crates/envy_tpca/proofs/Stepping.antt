@@ -138,26 +138,26 @@ pub step-ended : (area : Area) (l : Places) (load : Draws) (every i : ℕ) (old 
     → AfterTransfer 0 p (durable p.chart) (put_back (writes l (first i load) t) (durable p.chart)) (Err fault) q → IsEnd fault old q × IsWithin area load every old q
 step-ended area l load every i old mid p q t spots fault may reached plan last kept lt tried is (end, stopped) =
     let since = step-since every i old mid p q reached.since plan stopped.since in
-    (cause-later (plans_in every i + (if is_planned every i then 1 else 0)) old p q fault (Since-trans (plans_in every i) (if is_planned every i then 1 else 0) old mid p reached.since plan) stopped.since end, within since stopped.words)
+    (cause-later (plans_in every i + (if is_planned every i then 1 else 0)) old p q fault (Since-trans (plans_in every i) (if is_planned every i then 1 else 0) old mid p reached.since plan) stopped.since end, within since (step-last every i old mid p q reached.last_plan last stopped.since) stopped.words)
   where
-    within : Since (plans_in every (i + 1)) old q → (durable q.chart ≡ durable p.chart) ⊎ (durable q.chart ≡ put_back (writes l (first i load) t) (durable p.chart)) → IsWithin area load every old q
-    within since (inl same) = record {
+    within : Since (plans_in every (i + 1)) old q → q.chart.last_plan ≡ last_cut every (i + 1) old.chart.last_plan → (durable q.chart ≡ durable p.chart) ⊎ (durable q.chart ≡ put_back (writes l (first i load) t) (durable p.chart)) → IsWithin area load every old q
+    within since last_is (inl same) = record {
       done = i;
       planned = i + 1;
       few = omega arith;
       few_planned = omega arith;
       words = subst (λ (ws : List ℕ). Tpc area old.chart.shape.pages load i ws) (sym (same ∙ kept)) reached.words;
       since = since;
-      last_plan = step-last every i old mid p q reached.last_plan last stopped.since;
+      last_plan = last_is;
     }
-    within since (inr same) = record {
+    within since last_is (inr same) = record {
       done = i + 1;
       planned = i + 1;
       few = omega arith;
       few_planned = omega arith;
       words = step-words area l load old.chart.shape.pages i p.chart.shape.shadows (durable p.chart) (durable q.chart) t spots may.places tried is same;
       since = since;
-      last_plan = step-last every i old mid p q reached.last_plan last stopped.since;
+      last_plan = last_is;
     }
 
 -- before the first transfer
