@@ -3,7 +3,6 @@ ghost use Rattle.std.specs.Prelude.{◌≡◌};
 ghost use Rattle.envy_base.specs.Shape.{IsShape};
 ghost use Rattle.envy_sim.specs.Image.{DoesImageSize, DoesSave, Saves, image_size};
 ghost use Rattle.envy_bench.specs.CalmState.{calm_state};
-ghost use Rattle.envy_memory.specs.Picture.{state_in};
 
 use crate::handle::Slot;
 use envy_base::{Board, Shape};
@@ -11,7 +10,6 @@ use envy_bench::CalmBoard;
 use envy_calls::{Code, EnvySetup, checked_setup};
 use envy_image::{OutFault, write_image};
 use envy_io::MemSink;
-use envy_memory::Memory;
 use std::alloc::Global;
 
 // How many bytes the image of a board of a shape has.
@@ -63,13 +61,6 @@ fn save_board(alloc: Global, board: &CalmBoard, into: &mut [u8]) -> Code
     }
 }
 
-// Writes the image of a memory's board over the first bytes.
-fn save_memory(alloc: Global, memory: &Memory<CalmBoard>, into: &mut [u8]) -> Code
-    ensures { Saves (state_in memory.now) into.old into.new result }
-{
-    save_board(alloc, memory.board(), into)
-}
-
 /// Writes the image of the memory's board over the first bytes.
 pub fn save(alloc: Global, slot: &Slot, into: &mut [u8]) -> u32
     ensures { DoesSave slot.now into.old into.new result }
@@ -77,5 +68,5 @@ pub fn save(alloc: Global, slot: &Slot, into: &mut [u8]) -> u32
     let Some(memory) = slot else {
         return Code::Empty.number();
     };
-    save_memory(alloc, memory, into).number()
+    save_board(alloc, memory.board(), into).number()
 }
