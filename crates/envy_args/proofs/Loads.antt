@@ -19,27 +19,27 @@ fits-Fits area pages = (
   λ fit. and_from (nat_le 1 area.branches) _ (le-leb _ _ fit.branches) (and_from (nat_le 1 area.accounts) _ (le-leb _ _ fit.accounts) (le-leb _ _ fit.room)),
 )
 
-module _ (o : Options) (all : are_readable tpca_options o ≡ true) (setup : Setup) (read : setup ≡ setup_of usual_of_load o) where
-  made-load : made tpca_options tpca_of o ≡ after_check (rules_within (most_rows o) setup) (load_of setup o)
-  made-load = ap (λ b. if b then tpca_of o else Err Form) all ∙ ap (λ (s : Setup). after_check (rules_within (most_rows o) s) (load_of s o)) (sym read)
+module _ (o : Options) (all : are_readable tpca_options o ≡ true) (setup : Setup) (read : setup ≡ setup_of usual_of_load o) (most : ℕ) (limit : most ≡ most_rows o) where
+  made-load : made tpca_options tpca_of o ≡ after_check (rules_within most setup) (load_of setup o)
+  made-load = ap (λ b. if b then tpca_of o else Err Form) all ∙ ap (λ (s : Setup). after_check (rules_within (most_rows o) s) (load_of s o)) (sym read) ∙ ap (λ (m : ℕ). after_check (rules_within m setup) (load_of setup o)) (sym limit)
 
-  pub load-refused : (fault : WordsFault) → Err fault ≡ rules_within (most_rows o) setup → made tpca_options tpca_of o ≡ Err fault
+  pub load-refused : (fault : WordsFault) → Err fault ≡ rules_within most setup → made tpca_options tpca_of o ≡ Err fault
   load-refused fault e = made-load ∙ ap (λ r. after_check r (load_of setup o)) (sym e)
 
-  load-checked : Ok tt ≡ rules_within (most_rows o) setup → made tpca_options tpca_of o ≡ load_of setup o
+  load-checked : Ok tt ≡ rules_within most setup → made tpca_options tpca_of o ≡ load_of setup o
   load-checked e = made-load ∙ ap (λ r. after_check r (load_of setup o)) (sym e)
 
-  pub load-unfit : Ok tt ≡ rules_within (most_rows o) setup → (b : Bool) → (IsTrue b ↔ Fits (area_of o) setup.shape.pages) → b ≡ false → made tpca_options tpca_of o ≡ Err (Rule 11)
+  pub load-unfit : Ok tt ≡ rules_within most setup → (b : Bool) → (IsTrue b ↔ Fits (area_of o) setup.shape.pages) → b ≡ false → made tpca_options tpca_of o ≡ Err (Rule 11)
   load-unfit e b decides is =
       let unfit = false_from_ne_true (fits (area_of o) setup.shape.pages) (λ yes. true≢false (sym (decides.1 ((fits-Fits (area_of o) setup.shape.pages).0 yes)) ∙ is)) in
       load-checked e ∙ rw unfit refl
 
-  pub load-shadows : Ok tt ≡ rules_within (most_rows o) setup → (b : Bool) → (IsTrue b ↔ Fits (area_of o) setup.shape.pages) → b ≡ true → setup.shape.shadows < 5 → made tpca_options tpca_of o ≡ Err (Rule 12)
+  pub load-shadows : Ok tt ≡ rules_within most setup → (b : Bool) → (IsTrue b ↔ Fits (area_of o) setup.shape.pages) → b ≡ true → setup.shape.shadows < 5 → made tpca_options tpca_of o ≡ Err (Rule 12)
   load-shadows e b decides is few =
       let fit = (fits-Fits (area_of o) setup.shape.pages).1 (decides.0 is) in
       load-checked e ∙ rw (fit, lt-ltb setup.shape.shadows 5 few) refl
 
-  pub load-made : Ok tt ≡ rules_within (most_rows o) setup → (b : Bool) → (IsTrue b ↔ Fits (area_of o) setup.shape.pages) → b ≡ true → 5 ≤ setup.shape.shadows
+  pub load-made : Ok tt ≡ rules_within most setup → (b : Bool) → (IsTrue b ↔ Fits (area_of o) setup.shape.pages) → b ≡ true → 5 ≤ setup.shape.shadows
       → made tpca_options tpca_of o ≡ Ok (Tpca setup (lives_of o) (start_of o) (area_of o) (number_of o (codes "every") 0))
   load-made e b decides is enough =
       let fit = (fits-Fits (area_of o) setup.shape.pages).1 (decides.0 is) in

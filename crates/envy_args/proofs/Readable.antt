@@ -11,7 +11,7 @@ abbrev after_policy : List Text
 after_policy = codes "limit" ∷ codes "mark" ∷ []
 
 abbrev in_image : List Text
-in_image = codes "limit" ∷ codes "mark" ∷ codes "lives" ∷ []
+in_image = codes "limit" ∷ codes "mark" ∷ codes "lives" ∷ codes "large" ∷ []
 
 abbrev after_lives : List Text
 after_lives = codes "start" ∷ area_options ++ codes "every" ∷ []
@@ -60,8 +60,11 @@ module _ (o : Options) where
   pub resume-lives : is_readable o (codes "lives") ≡ false → are_readable resume_options o ≡ false
   resume-lives e = second policy_options in_image (and_right (is_readable o (codes "limit")) _ (and_right (is_readable o (codes "mark")) _ (and_left _ _ e)))
 
-  pub resume-all : are_readable policy_options o ≡ true → is_readable o (codes "limit") ≡ true → is_readable o (codes "mark") ≡ true → is_readable o (codes "lives") ≡ true → are_readable resume_options o ≡ true
-  resume-all policy limit mark lives = both policy_options in_image policy (and_from _ _ limit (and_from _ _ mark (and_from _ _ lives refl)))
+  pub resume-large : is_readable o (codes "large") ≡ false → are_readable resume_options o ≡ false
+  resume-large e = second policy_options in_image (and_right (is_readable o (codes "limit")) _ (and_right (is_readable o (codes "mark")) _ (and_right (is_readable o (codes "lives")) _ (and_left _ _ e))))
+
+  pub resume-all : are_readable policy_options o ≡ true → is_readable o (codes "limit") ≡ true → is_readable o (codes "mark") ≡ true → is_readable o (codes "lives") ≡ true → is_readable o (codes "large") ≡ true → are_readable resume_options o ≡ true
+  resume-all policy limit mark lives large = both policy_options in_image policy (and_from _ _ limit (and_from _ _ mark (and_from _ _ lives (and_from _ _ large refl))))
 
   -- ---- a run
 

@@ -267,13 +267,13 @@ save_of options = let setup = setup_of usual options in
 -- a mark that isn't given stands open; no rule is asked before the image is read
 abbrev pub resume_of : Options → Result Command WordsFault
 resume_of options = Ok (Resume (policy_of options) (number_of options (codes "limit") 100)
-    (given_number options (codes "mark")) (lives_of options))
+    (given_number options (codes "mark")) (lives_of options) (most_rows options))
 
 abbrev pub audit_of : Options → Result Command WordsFault
-audit_of options = Ok Audit
+audit_of options = Ok (Audit (most_rows options))
 
 abbrev pub segments_of : Options → Result Command WordsFault
-segments_of options = Ok Segments
+segments_of options = Ok (Segments (most_rows options))
 
 abbrev pub tree_of : Setup → Options → Result Command WordsFault
 tree_of setup options =
@@ -314,10 +314,10 @@ abbrev pub gen_options : List Text
 gen_options = codes "start" ∷ codes "lines" ∷ codes "pages" ∷ codes "hot" ∷ codes "share" ∷ codes "stores" ∷ []
 
 abbrev pub resume_options : List Text
-resume_options = codes "part" ∷ codes "policy" ∷ codes "limit" ∷ codes "mark" ∷ codes "lives" ∷ []
+resume_options = codes "part" ∷ codes "policy" ∷ codes "limit" ∷ codes "mark" ∷ codes "lives" ∷ codes "large" ∷ []
 
 abbrev pub audit_options : List Text
-audit_options = []
+audit_options = codes "large" ∷ []
 
 abbrev pub commands : List Entry
 commands =

@@ -34,17 +34,22 @@ pub enum Command {
         setup: Setup,
         lives: u32,
     },
-    /// Read an image, and answer the trace behind it. A mark of None is the image's number of frames.
+    /// Read an image of at most so many rows, and answer the trace behind it. A mark of None is the image's number of frames.
     Resume {
         policy: Policy,
         limit: u64,
         mark: Option<u32>,
         lives: u32,
+        most: u32,
     },
-    /// Read an image and judge it.
-    Audit,
-    /// Read an image and tell its segments.
-    Segments,
+    /// Read an image of at most so many rows, and judge it.
+    Audit {
+        most: u32,
+    },
+    /// Read an image of at most so many rows, and tell its segments.
+    Segments {
+        most: u32,
+    },
     /// Keep an index tree in the memory: a trace of its operations is answered.
     Index {
         setup: Setup,

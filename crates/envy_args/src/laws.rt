@@ -6,6 +6,8 @@ ghost use Rattle.envy_args.specs.declared.command.Command.TheVariants.{Run, Resu
 ghost use Rattle.envy_args.specs.declared.command.WordsFault.TheVariants.{Form, Setup as Rule};
 ghost use Rattle.envy_args.specs.Words.{command_of, fits, usual};
 
+use crate::read::USUAL_ROWS;
+
 /// The test by which the rule of the area is asked is that the records fit.
 pub fn the_area_is_asked_to_fit()
     ensures { (area : Area) (pages : ℕ) → IsTrue (fits area pages) ↔ Fits area pages }
@@ -27,9 +29,9 @@ pub fn words_name_commands()
         × (command_of (codes "run" ∷ codes "--segments" ∷ codes "257" ∷ codes "--rows=65536" ∷ codes "--large=1" ∷ [])
         ≡ Err (Rule 17)) }
     ensures transfers { command_of (codes "tpca" ∷ codes "--transfers" ∷ codes "1070" ∷ []) ≡ Err (Rule 11) }
-    ensures judged { (command_of (codes "audit" ∷ []) ≡ Ok Audit)
-        × (command_of (codes "map" ∷ []) ≡ Ok Segments) }
-    ensures open { command_of (codes "resume" ∷ []) ≡ Ok (Resume Greedy 100 None 4294967295) }
+    ensures judged { (command_of (codes "audit" ∷ []) ≡ Ok (Audit USUAL_ROWS))
+        × (command_of (codes "map" ∷ []) ≡ Ok (Segments USUAL_ROWS)) }
+    ensures open { command_of (codes "resume" ∷ []) ≡ Ok (Resume Greedy 100 None 4294967295 USUAL_ROWS) }
     ensures tree { command_of (codes "index" ∷ codes "--pages=19" ∷ codes "--shadows=31" ∷ []) ≡ Err (Rule 13) }
     ensures heap { command_of (codes "index" ∷ codes "--pages=19" ∷ []) ≡ Err (Rule 14) }
     ensures shadows { command_of (codes "tpca" ∷ codes "--shadows" ∷ codes "4" ∷ []) ≡ Err (Rule 12) }

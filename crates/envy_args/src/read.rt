@@ -1,6 +1,6 @@
 ghost use Rattle.std.specs.Prelude.{◌≡◌, ◌⊎◌, ◌≤◌, map, codes, Err};
 ghost use Rattle.std.specs.String.{string_bytes};
-ghost use Rattle.envy_args.specs.Words.{command_of, run_of, plain_of, tpca_of, gen_of, mix_of, skew_of, is_per_cent, save_of, resume_of, index_of, mirror_of, lives_of, setup_of, shape_of, area_of, run_options, index_options, plain_options, tpca_options, gen_options, resume_options, most_rows, rule_within, rules_within};
+ghost use Rattle.envy_args.specs.Words.{command_of, run_of, plain_of, tpca_of, gen_of, mix_of, skew_of, is_per_cent, save_of, resume_of, audit_of, segments_of, index_of, mirror_of, lives_of, setup_of, shape_of, area_of, run_options, index_options, plain_options, tpca_options, gen_options, resume_options, audit_options, most_rows, rule_within, rules_within};
 ghost use Rattle.envy_args.specs.Reading.{GivesIf, has_number, are_readable, shape_options, area_options, made, make_of, options_of};
 
 use crate::command::{Command, WordsFault};
@@ -101,8 +101,8 @@ fn make(word: Word, options: &Options) -> Result<Command, WordsFault>
         Word::Gen => generate(options),
         Word::Save => save(options),
         Word::Resume => resume(options),
-        Word::Audit => Ok(Command::Audit),
-        Word::Segments => Ok(Command::Segments),
+        Word::Audit => audit(options),
+        Word::Segments => segments(options),
         Word::Index => index(options),
         Word::Mirror => mirror(options),
     }
@@ -153,12 +153,28 @@ fn resume(options: &Options) -> Result<Command, WordsFault>
     let limit = options.wide_number("limit", 100)?;
     let mark = options.given_number("mark")?;
     let lives = options.number("lives", MOST_LIVES)?;
+    let most = most_rows(options)?;
     Ok(Command::Resume {
         policy,
         limit,
         mark,
         lives,
+        most,
     })
+}
+
+fn audit(options: &Options) -> Result<Command, WordsFault>
+    ensures { result ≡ made audit_options audit_of options.now }
+{
+    let most = most_rows(options)?;
+    Ok(Command::Audit { most })
+}
+
+fn segments(options: &Options) -> Result<Command, WordsFault>
+    ensures { result ≡ made audit_options segments_of options.now }
+{
+    let most = most_rows(options)?;
+    Ok(Command::Segments { most })
 }
 
 fn plain(options: &Options) -> Result<Command, WordsFault>

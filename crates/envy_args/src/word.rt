@@ -16,7 +16,8 @@ pub(crate) enum Word {
 }
 
 /// The options of the load. The first twelve are those of a run, the first eleven those of a tree, the first ten those of the plain
-/// machine. Those of a resumed run are the seventh to the eleventh.
+/// machine. Those of a resumed run are the seventh to the twelfth, and
+/// that of an audit is the twelfth.
 const OPTIONS: [&str; 17] = [
     "segments",
     "rows",
@@ -89,8 +90,8 @@ impl Word {
             Word::Plain => &OPTIONS[..10],
             Word::Tpca => &OPTIONS,
             Word::Gen => &["start", "lines", "pages", "hot", "share", "stores"],
-            Word::Resume => &OPTIONS[6..11],
-            Word::Audit | Word::Segments => &[],
+            Word::Resume => &OPTIONS[6..12],
+            Word::Audit | Word::Segments => &OPTIONS[11..12],
         }
     }
 }

@@ -39,7 +39,7 @@ use Rattle.envy_run.specs.IndexTurns.{index_grammar}
 use Rattle.envy_run.specs.Meaning.{Meaning, Does}
 use Rattle.envy_run.specs.MirrorTask.{mirror_task}
 use Rattle.envy_run.specs.Outcome.{Outcome, EndsBy, IsQuiet, ending_of, outcome_of}
-use Rattle.envy_run.specs.Resumes.{FoundUnsound, HoldsImageStill, IsLeftBy, IsUnattached, LicencesOf, Misfit, Refused, Resumes, Resumption, TakenUp, TakesUp, resume_task, resuming, setup_found}
+use Rattle.envy_run.specs.Resumes.{FoundUnsound, HoldsImageStill, IsLeftBy, IsUnattached, LicencesOf, Misfit, Refused, Resumes, Resumption, TakenUp, TooLarge, TakesUp, resume_task, resuming, setup_found}
 use Rattle.envy_run.specs.Task.{MaybeHeld, Session, Task, turns_of}
 use Rattle.envy_run.specs.Theorem.{IsAlone, IsAloneIn, Leaves, Prints}
 use Rattle.envy_run.specs.Tracing.{long_any}
@@ -49,7 +49,7 @@ use Rattle.envy_run.specs.Writing.{WritesTrace}
 use Rattle.envy_run.specs.declared.ending.Ending.TheVariants.{Done, OutOfMemory, WordsRefused}
 use Rattle.envy_run.specs.declared.ending.Finished.{Finished}
 use Rattle.envy_run.proofs.Accounts.{Did, Died, WasDone, WasServed, done_of}
-use Rattle.envy_run.proofs.Audited.{completes-judging, image-taken}
+use Rattle.envy_run.proofs.Audited.{completes-judging, image-taken, never-large}
 use Rattle.envy_run.proofs.MirrorWell.{completes-mirror}
 use Rattle.envy_run.proofs.Resumed.{good-behind, never-unruly, never-unsound}
 
@@ -123,14 +123,14 @@ completes-tpca setup returns start area every o io d low well = at d.account d.p
     at None (quiet, ending) (why, found) = unready-well o quiet.taken why well
 
 -- under `resume` the trace behind a sound image is
-completes-resume : (setup : Shape → Setup) (returns : ℕ) (o : Outcome) (io : Streams) → Does (resuming setup returns) o io → (holds : HoldsImage io) → HoldsTrace setup io holds → IsWellInstalled o → IsComplete o
-completes-resume setup returns o io d holds trace well = at d.account d.printed d.board d.licences
+completes-resume : (most : ℕ) (setup : Shape → Setup) (returns : ℕ) (o : Outcome) (io : Streams) → Does (resuming most setup returns) o io → (holds : HoldsImage io) → HoldsTrace most setup io holds → IsWellInstalled o → IsComplete o
+completes-resume most setup returns o io d holds trace well = at d.account d.printed d.board d.licences
   where
     cause : IsOutOfMemory o ⊎ IsDark o → IsComplete o
     cause (inl out) = inr out.ending
     cause (inr dark) = absurd (lit-dead dark.now (well.returns dark.now dark.board_is) dark.off dark.lives)
 
-    taken : (found : State) (behind : Option (List ℕ)) (session : Option (Session Line Reply Array)) (t : TakesUp setup returns found behind session o io) → MaybeHeld (resume_task found (setup found.shape) returns) session o → Task.Licences (resume_task found (setup found.shape) returns) o (turns_of session) → IsComplete o
+    taken : (found : State) (behind : Option (List ℕ)) (session : Option (Session Line Reply Array)) (t : TakesUp most setup returns found behind session o io) → MaybeHeld (resume_task found (setup found.shape) returns) session o → Task.Licences (resume_task found (setup found.shape) returns) o (turns_of session) → IsComplete o
     taken found behind session t held licences = each (WasDone.answers done)
       where
         w : Task Line Reply Array
@@ -143,14 +143,15 @@ completes-resume setup returns o io d holds trace well = at d.account d.printed 
         done = done_of w o jo (record { account = session; printed = t.served; board = held; licences = licences })
 
         each : WasServed w done.turns o jo ⊎ ((done.turns ≡ []) × IsUnattached found o jo × HoldsImageStill found o) → IsComplete o
-        each (inl served) = inl (task-well w done.turns o jo long_any served (good-behind setup returns o io holds trace found behind t.whole t.image) (λ (m, dies, (now, is, off)). lit-dead now (well.returns now is) (HoldsOff.off off) (HoldsOff.dead off)))
+        each (inl served) = inl (task-well w done.turns o jo long_any served (good-behind most setup returns o io holds trace found behind t.whole t.image) (λ (m, dies, (now, is, off)). lit-dead now (well.returns now is) (HoldsOff.off off) (HoldsOff.dead off)))
         each (inr (none, unread, still)) = cause still.cause
 
-    at : (account : Resumption) → Resumes setup returns account o io → IsLeftBy setup returns account o → LicencesOf setup returns account o → IsComplete o
+    at : (account : Resumption) → Resumes most setup returns account o io → IsLeftBy setup returns account o → LicencesOf setup returns account o → IsComplete o
     at (TakenUp found behind session) t held licences = taken found behind session t held licences
     at (Refused refusal bytes) declines unharmed none = inr (image-taken refusal bytes o io holds well.installed declines.refuses)
-    at (Misfit sh) breaks none also_none = absurd (never-unruly setup returns o io holds trace sh breaks)
-    at (FoundUnsound found) unsound left none = absurd (never-unsound setup returns o io holds trace found left unsound)
+    at (TooLarge sh) large none also_none = absurd (never-large most sh o io holds trace.few large)
+    at (Misfit sh) breaks none also_none = absurd (never-unruly most setup returns o io holds trace sh breaks)
+    at (FoundUnsound found) unsound left none = absurd (never-unsound most setup returns o io holds trace found left unsound)
 
 -- for want of memory
 without-complete : (o : Outcome) (io : Streams) → IsWithoutMemory o io → IsComplete o
@@ -168,12 +169,12 @@ completes (Ok (Tpca setup returns start area every)) o io (inl drives) = λ low 
 completes (Ok (Tpca setup returns start area every)) o io (inr without) = λ low well. without-complete o io without
 completes (Ok (Save setup returns)) o io (inl saves) = λ good well. completes-save setup returns o io (done_of (save_task setup returns) o io saves) good well
 completes (Ok (Save setup returns)) o io (inr without) = λ good well. without-complete o io without
-completes (Ok (Resume policy limit mark returns)) o io (inl resumes) = λ holds trace well. completes-resume (setup_found policy limit mark) returns o io resumes holds trace well
-completes (Ok (Resume policy limit mark returns)) o io (inr without) = λ holds trace well. without-complete o io without
-completes (Ok Audit) o io (inl audits) = λ holds calm. completes-judging IsVerdict o io audits holds calm
-completes (Ok Audit) o io (inr without) = λ holds calm. without-complete o io without
-completes (Ok Segments) o io (inl maps) = λ holds calm. completes-judging IsMap o io maps holds calm
-completes (Ok Segments) o io (inr without) = λ holds calm. without-complete o io without
+completes (Ok (Resume policy limit mark returns most)) o io (inl resumes) = λ holds trace well. completes-resume most (setup_found policy limit mark) returns o io resumes holds trace well
+completes (Ok (Resume policy limit mark returns most)) o io (inr without) = λ holds trace well. without-complete o io without
+completes (Ok (Audit most)) o io (inl audits) = λ holds small calm. completes-judging most IsVerdict o io audits holds small calm
+completes (Ok (Audit most)) o io (inr without) = λ holds small calm. without-complete o io without
+completes (Ok (Segments most)) o io (inl maps) = λ holds small calm. completes-judging most IsMap o io maps holds small calm
+completes (Ok (Segments most)) o io (inr without) = λ holds small calm. without-complete o io without
 completes (Ok (Index setup returns)) o io (inl indexes) = λ good well. completes-index setup returns o io (done_of (index_task setup returns) o io indexes) good well
 completes (Ok (Index setup returns)) o io (inr without) = λ good well. without-complete o io without
 completes (Ok (Mirror setup returns)) o io (inl mirrors) = λ good well. completes-mirror setup returns o io (done_of (mirror_task setup returns) o io mirrors) good well
@@ -188,9 +189,9 @@ alone-mapped (Plain setup) f second alone = ap (option_map f) alone
 alone-mapped (Gen start count mix) f second alone = ap (option_map f) alone
 alone-mapped (Tpca setup returns start area every) f second alone = ap (option_map f) alone
 alone-mapped (Save setup returns) f second alone = ap (option_map f) alone
-alone-mapped (Resume policy limit mark returns) f second alone = ap (option_map f) alone
-alone-mapped Audit f second alone = ap (option_map f) alone
-alone-mapped Segments f second alone = ap (option_map f) alone
+alone-mapped (Resume policy limit mark returns most) f second alone = ap (option_map f) alone
+alone-mapped (Audit most) f second alone = ap (option_map f) alone
+alone-mapped (Segments most) f second alone = ap (option_map f) alone
 alone-mapped (Index setup returns) f second alone = ap (option_map f) alone
 
 -- the command is that of the words

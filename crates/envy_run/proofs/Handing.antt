@@ -76,9 +76,9 @@ alone-so (Ok (Plain setup)) o none = none
 alone-so (Ok (Gen start count mix)) o none = none
 alone-so (Ok (Tpca setup returns start area every)) o none = none
 alone-so (Ok (Save setup returns)) o none = none
-alone-so (Ok (Resume policy limit mark returns)) o none = none
-alone-so (Ok Audit) o none = none
-alone-so (Ok Segments) o none = none
+alone-so (Ok (Resume policy limit mark returns most)) o none = none
+alone-so (Ok (Audit most)) o none = none
+alone-so (Ok (Segments most)) o none = none
 alone-so (Ok (Index setup returns)) o none = none
 alone-so (Err fault) o none = none
 

@@ -73,12 +73,17 @@ module _ (b : State) (rest : List ℕ) (whole : IsBoard b) (bytes : List ℕ) (f
       let split : head_of b.shape ++ (body_of b.flash b.sram ++ rest) ≡ mark ++ (numbers_bytes (numbers_of b.shape) ++ (body_of b.flash b.sram ++ rest)) = append_assoc mark (numbers_bytes (numbers_of b.shape)) (body_of b.flash b.sram ++ rest) in
       other (same-front bytes mark left _ eight (sym all ∙ (parts ∙ split)))
 
+  -- its shape is that of the head
+  pub shape-told : (sh : Shape) → bytes ≡ head_of sh → FitNumbers sh → b.shape ≡ sh
+  shape-told sh is fit =
+      let (left, same, all) = front-taken (image_of b ++ rest) bytes feed.left source in
+      let heads : head_of b.shape ++ (body_of b.flash b.sram ++ rest) ≡ head_of sh ++ left = sym parts ∙ (all ∙ ap (λ (xs : List ℕ). xs ++ left) is) in
+      same-head b.shape sh _ _ (fit-numbers b.shape (IsBoard.shape whole)) fit heads
+
   -- its shape checks
   pub never-misshapen : (sh : Shape) (fault : _) → bytes ≡ head_of sh → checked sh ≡ Err fault → FitNumbers sh → ⊥
   never-misshapen sh fault is fails fit =
-      let (left, same, all) = front-taken (image_of b ++ rest) bytes feed.left source in
-      let heads : head_of b.shape ++ (body_of b.flash b.sram ++ rest) ≡ head_of sh ++ left = sym parts ∙ (all ∙ ap (λ (xs : List ℕ). xs ++ left) is) in
-      let one : b.shape ≡ sh = same-head b.shape sh _ _ (fit-numbers b.shape (IsBoard.shape whole)) fit heads in
+      let one : b.shape ≡ sh = shape-told sh is fit in
       let good : checked sh ≡ Ok tt = subst (λ (x : Shape). checked x ≡ Ok tt) one (shape-checks b.shape (IsBoard.shape whole)) in
       let never = sym good ∙ fails in
       cc

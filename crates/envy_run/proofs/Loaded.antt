@@ -20,8 +20,8 @@ use Rattle.envy_io.proofs.Counts.{Rises-after}
 use Rattle.envy_io.proofs.TakesLemmas.{with_front-with_front}
 use Rattle.envy_map.specs.Fields.{Chart, chart}
 use Rattle.envy_serve.specs.Ends.{most_bytes}
-use Rattle.envy_run.specs.Audits.{Judged, Refused, audit_lives, judging}
-use Rattle.envy_run.specs.Loading.{Cause, HasFailed, HasTaken, IsFlawless, IsInstalled, IsUnharmed, Loaded, ReachesBehindHead, RefusesImage, StopsBehindHead, StopsInHead, StopsWithin, Unloaded, ending_for}
+use Rattle.envy_run.specs.Audits.{Judged, Refused, TooLarge, audit_lives, judging}
+use Rattle.envy_run.specs.Loading.{Cause, HasFailed, HasTaken, IsFlawless, IsInstalled, IsTooLarge, IsUnharmed, IsWithin, Loaded, ReachesBehindHead, RefusesImage, StopsBehindHead, StopsInHead, StopsWithin, Unloaded, ending_for}
 use Rattle.envy_run.specs.Meaning.{Does}
 use Rattle.envy_run.specs.Outcome.{outcome_of}
 use Rattle.envy_run.specs.Writing.{WritesAs}
@@ -233,29 +233,50 @@ pub refused-within : {B : Type 0} {ending : Ending} {taken : ℕ} (e : Finished 
 refused-within {B} {ending} {taken} e board now is same below cap =
     let told : e.taken ≡ taken = ap (λ (x : Finished B). x.taken) is in omega (arith, told, same, below, cap)
 
+-- bytes that begin with a head of so many rows
+pub within-head : (most : ℕ) (sh : Shape) (bytes rest : List ℕ) → bytes ≡ head_of sh ++ rest → checked sh ≡ Ok tt → sh.segments * sh.rows ≤ most → IsWithin most bytes
+within-head most sh bytes rest is checks few = λ other more told ok.
+    subst (λ (x : Shape). x.segments * x.rows ≤ most) (same-head sh other rest more (fit-numbers sh (shape-is sh checks)) (fit-numbers other (shape-is other ok)) (sym is ∙ told)) few
+
+-- a head of more rows
+pub too-large : {B : Type 0} (state : B → State) (most : ℕ) (sh : Shape) (taken : ℕ) (from feed : Feed) (sink : Drain) (now : Taking) → taken ≡ now.taken → checked sh ≡ Ok tt → most < sh.segments * sh.rows → HasTaken (head_of sh) from now feed
+    → IsTooLarge most sh (outcome_of state (record { ending = ending_for Misshapen; lines = 0; taken = taken; board = None; second = None })) (record { from = from; feed = feed; to = sink; sink = sink })
+too-large state most sh taken from feed sink now same checks many t = record {
+  ending = record { status = refl; why = refl };
+  shape = checks;
+  rows = many;
+  took = record { lines = refl; taken = same ∙ t.taken; source = t.left; sink = refl };
+}
+
 -- the words `audit` and `map`
 
+pub tells-large : {B : Type 0} (most : ℕ) (Says : Verdict → Chart → List ℕ → Type 0) (state : B → State) (sh : Shape) (taken : ℕ) (e : Finished B) (from feed : Feed) (sink : Drain) (now : Taking) → e ≡ record { ending = ending_for Misshapen; lines = 0; taken = taken; board = None; second = None } → taken ≡ now.taken → checked sh ≡ Ok tt → most < sh.segments * sh.rows → HasTaken (head_of sh) from now feed → Does (judging most Says) (outcome_of state e) (record { from = from; feed = feed; to = sink; sink = sink })
+tells-large {B} most Says state sh taken e from feed sink now is same checks many t =
+    subst (λ (x : Finished B). Does (judging most Says) (outcome_of state x) (record { from = from; feed = feed; to = sink; sink = sink })) (sym is)
+    (record { account = TooLarge sh; printed = too-large state most sh taken from feed sink now same checks many t; board = refl; licences = tt })
+
 -- and the run tells so
-pub tells-refused : {B : Type 0} (Says : Verdict → Chart → List ℕ → Type 0) (state : B → State) (sh : Shape) (refusal : Refusal) (taken : ℕ) (board : Option B) (e : Finished B) (from feed : Feed) (sink : Drain) (now : Taking) → e ≡ record { ending = ending_for refusal; lines = 0; taken = taken; board = board; second = None } → taken ≡ now.taken → Unloaded sh audit_lives from (option_map state board) refusal now feed → Does (judging Says) (outcome_of state e) (record { from = from; feed = feed; to = sink; sink = sink })
-tells-refused {B} Says state sh refusal taken board e from feed sink now is same u =
-    subst (λ (x : Finished B). Does (judging Says) (outcome_of state x) (record { from = from; feed = feed; to = sink; sink = sink })) (sym is)
+pub tells-refused : {B : Type 0} (most : ℕ) (Says : Verdict → Chart → List ℕ → Type 0) (state : B → State) (sh : Shape) (refusal : Refusal) (taken : ℕ) (board : Option B) (e : Finished B) (from feed : Feed) (sink : Drain) (now : Taking) → e ≡ record { ending = ending_for refusal; lines = 0; taken = taken; board = board; second = None } → taken ≡ now.taken → checked sh ≡ Ok tt → sh.segments * sh.rows ≤ most → Unloaded sh audit_lives from (option_map state board) refusal now feed → Does (judging most Says) (outcome_of state e) (record { from = from; feed = feed; to = sink; sink = sink })
+tells-refused {B} most Says state sh refusal taken board e from feed sink now is same checks few u =
+    subst (λ (x : Finished B). Does (judging most Says) (outcome_of state x) (record { from = from; feed = feed; to = sink; sink = sink })) (sym is)
     (record {
       account = Refused refusal u.bytes;
-      printed = image-refused state sh refusal audit_lives taken board from feed sink now same u;
+      printed = (image-refused state sh refusal audit_lives taken board from feed sink now same u, within-head most sh u.bytes u.head.0 u.head.1 checks few);
       board = refused-unharmed state sh refusal audit_lives board from feed now u;
       licences = tt;
     })
 
 -- an image that was judged, and the run tells the verdict
-pub tells-judged : {B : Type 0} (Says : Verdict → Chart → List ℕ → Type 0) (state : B → State) (sh : Shape) (verdict : Verdict) (text : List ℕ) (ending : Ending) (taken : ℕ) (board : B) (e : Finished B) (from feed : Feed) (to sink : Drain) (now : Taking) → e ≡ record { ending = ending; lines = 0; taken = taken; board = Some board; second = None } → taken ≡ now.taken → Loaded sh audit_lives from (state board) verdict now feed → Says verdict (chart (state board)) text → WritesAs text ending to sink → Does (judging Says) (outcome_of state e) (record { from = from; feed = feed; to = to; sink = sink })
-tells-judged {B} Says state sh verdict text ending taken board e from feed to sink now is same l says writes =
-    subst (λ (x : Finished B). Does (judging Says) (outcome_of state x) (record { from = from; feed = feed; to = to; sink = sink })) (sym is)
+pub tells-judged : {B : Type 0} (most : ℕ) (Says : Verdict → Chart → List ℕ → Type 0) (state : B → State) (sh : Shape) (verdict : Verdict) (text : List ℕ) (ending : Ending) (taken : ℕ) (board : B) (e : Finished B) (from feed : Feed) (to sink : Drain) (now : Taking) → e ≡ record { ending = ending; lines = 0; taken = taken; board = Some board; second = None } → taken ≡ now.taken → sh.segments * sh.rows ≤ most → Loaded sh audit_lives from (state board) verdict now feed → Says verdict (chart (state board)) text → WritesAs text ending to sink → Does (judging most Says) (outcome_of state e) (record { from = from; feed = feed; to = to; sink = sink })
+tells-judged {B} most Says state sh verdict text ending taken board e from feed to sink now is same few l says writes =
+    subst (λ (x : Finished B). Does (judging most Says) (outcome_of state x) (record { from = from; feed = feed; to = to; sink = sink })) (sym is)
     (record {
       account = Judged (state board) verdict text;
       printed = record {
         source = l.taken.left;
         taken = same ∙ l.taken.taken;
         lines = refl;
+        few = subst (λ (x : Shape). x.segments * x.rows ≤ most) (sym l.installed.shape) few;
         judges = l.judges;
         says = says;
         writes = written-as state (record { ending = ending; lines = 0; taken = taken; board = Some board; second = None }) text to sink writes;

@@ -41,7 +41,7 @@ use Rattle.envy_run.specs.Done.{Run, Dies}
 use Rattle.envy_run.specs.Loading.{HasTaken, IsInstalled, Loaded, TakesHead, TookOnly, Unloaded, ending_for}
 use Rattle.envy_run.specs.Meaning.{Does}
 use Rattle.envy_run.specs.Outcome.{Outcome, EndsBy, ending_of, outcome_of}
-use Rattle.envy_run.specs.Resumes.{BreaksRule, FoundUnsound, IsUnsound, LicencesBehind, Misfit, Refused, TakenUp, resume_task, resuming, words_found}
+use Rattle.envy_run.specs.Resumes.{BreaksRule, FoundUnsound, IsUnsound, LicencesBehind, Misfit, Refused, TakenUp, TooLarge, resume_task, resuming, words_found}
 use Rattle.envy_run.specs.Task.{DoesTask, MaybeServed, Session}
 use Rattle.envy_run.specs.Tracing.{Start, TracedSince, DiedSince}
 use Rattle.envy_run.specs.Turns.{TraceTurn, trace_grammar}
@@ -51,9 +51,10 @@ use Rattle.envy_run.specs.declared.ending.Ending.TheVariants.{ImageRefused, OutO
 use Rattle.envy_run.specs.declared.ending.Finished.{Finished}
 use Rattle.envy_run.specs.declared.ending.ImageFault.TheVariants.{Unruly, Unsound}
 use Rattle.envy_run.specs.declared.loading.Refusal.{Refusal}
+use Rattle.envy_run.specs.declared.loading.Refusal.TheVariants.{Misshapen}
 use Rattle.envy_run.proofs.Accounts.{Did, Died, account_of, ends-as, served_outcome}
 use Rattle.envy_run.proofs.Checked.{shape-is}
-use Rattle.envy_run.proofs.Loaded.{image-refused, installed-itself, no-head, refused-unharmed}
+use Rattle.envy_run.proofs.Loaded.{image-refused, installed-itself, no-head, refused-unharmed, too-large, within-head}
 use Rattle.envy_run.proofs.Traced.{Began, licences-behind, on-board, ones-sum, thrifty-none, traced-first}
 
 -- a memory that was attached to the board of an image
@@ -153,8 +154,8 @@ served-earlier found setup returns (Some s) o io faults le served =
     }
 
 -- the trace behind an image is that of the board in it
-takes-up : (words : Shape → Setup) (setup : Setup) (returns : ℕ) (sh : Shape) (found : State) (o : Outcome) (from mid feed : Feed) (to sink : Drain) (now : Taking) → setup ≡ words sh → checked setup ≡ Ok tt → Loaded sh returns from found Sound now mid → DoesTask (resume_task found setup found.given) o (record { from = mid; feed = feed; to = to; sink = sink }) → Does (resuming words returns) o (record { from = from; feed = feed; to = to; sink = sink })
-takes-up words setup returns sh found o from mid feed to sink now is checks l does =
+takes-up : (most : ℕ) (words : Shape → Setup) (setup : Setup) (returns : ℕ) (sh : Shape) (found : State) (o : Outcome) (from mid feed : Feed) (to sink : Drain) (now : Taking) → setup ≡ words sh → sh.segments * sh.rows ≤ most → checked setup ≡ Ok tt → Loaded sh returns from found Sound now mid → DoesTask (resume_task found setup found.given) o (record { from = mid; feed = feed; to = to; sink = sink }) → Does (resuming most words returns) o (record { from = from; feed = feed; to = to; sink = sink })
+takes-up most words setup returns sh found o from mid feed to sink now is few checks l does =
     let io : Streams = record { from = mid; feed = feed; to = to; sink = sink } in
     let same : setup ≡ words found.shape = is ∙ ap words (sym (IsInstalled.shape l.installed)) in
     let d : DoesTask (resume_task found (words found.shape) returns) o io = subst (λ (n : ℕ). DoesTask (resume_task found (words found.shape) n) o io) (IsInstalled.given l.installed) (subst (λ (x : Setup). DoesTask (resume_task found x found.given) o io) same does) in
@@ -163,6 +164,7 @@ takes-up words setup returns sh found o from mid feed to sink now is checks l do
       printed = record {
         whole = IsInstalled.whole l.installed;
         image = HasTaken.left l.taken;
+        few = subst (λ (x : Shape). x.segments * x.rows ≤ most) (sym (IsInstalled.shape l.installed)) few;
         rules = subst (λ (x : Setup). checked x ≡ Ok tt) same checks;
         sound = l.judges;
         served = served-earlier found (words found.shape) returns d.account o io from.faults (HasTaken.faults l.taken) d.printed;
@@ -172,9 +174,9 @@ takes-up words setup returns sh found o from mid feed to sink now is checks l do
     }
 
 -- the image was installed and is sound, and what is behind it was done
-pub resume-sound : (words : Shape → Setup) (setup : Setup) (returns : ℕ) (sh : Shape) (verdict : Verdict) (found : State) (o : Outcome) (from mid feed : Feed) (to sink : Drain) (now : Taking) → setup ≡ words sh → checked setup ≡ Ok tt → verdict ≡ Sound → Loaded sh returns from found verdict now mid → DoesTask (resume_task found setup found.given) o (record { from = mid; feed = feed; to = to; sink = sink }) → Does (resuming words returns) o (record { from = from; feed = feed; to = to; sink = sink })
-resume-sound words setup returns sh verdict found o from mid feed to sink now is checks sound l does =
-    takes-up words setup returns sh found o from mid feed to sink now is checks (subst (λ (v : Verdict). Loaded sh returns from found v now mid) sound l) does
+pub resume-sound : (most : ℕ) (words : Shape → Setup) (setup : Setup) (returns : ℕ) (sh : Shape) (verdict : Verdict) (found : State) (o : Outcome) (from mid feed : Feed) (to sink : Drain) (now : Taking) → setup ≡ words sh → sh.segments * sh.rows ≤ most → checked setup ≡ Ok tt → verdict ≡ Sound → Loaded sh returns from found verdict now mid → DoesTask (resume_task found setup found.given) o (record { from = mid; feed = feed; to = to; sink = sink }) → Does (resuming most words returns) o (record { from = from; feed = feed; to = to; sink = sink })
+resume-sound most words setup returns sh verdict found o from mid feed to sink now is few checks sound l does =
+    takes-up most words setup returns sh found o from mid feed to sink now is few checks (subst (λ (v : Verdict). Loaded sh returns from found v now mid) sound l) does
 
 -- the board that an image was installed on, by its own count of lives
 pub installed-given : (setup : Setup) (sh : Shape) (returns : ℕ) (s : State) → setup.shape ≡ sh → IsInstalled sh returns s → IsInstalled setup.shape s.given s
@@ -201,39 +203,47 @@ unsound (Broken x) s board other judges sound = judges.fails (sound-points s boa
 -- the ends of `resume` without a trace
 
 -- bytes that hold no image that could be taken up
-pub resume-declined : {B : Type 0} (state : B → State) (words : Shape → Setup) (sh : Shape) (refusal : Refusal) (returns taken : ℕ) (board : Option B) (e : Finished B) (from feed : Feed) (sink : Drain) (now : Taking) → e ≡ record { ending = ending_for refusal; lines = 0; taken = taken; board = board; second = None } → taken ≡ now.taken → shape_checked sh ≡ Ok tt → checked (words sh) ≡ Ok tt → Unloaded sh returns from (option_map state board) refusal now feed → Does (resuming words returns) (outcome_of state e) (record { from = from; feed = feed; to = sink; sink = sink })
-resume-declined {B} state words sh refusal returns taken board e from feed sink now is same shape rules u =
-    subst (λ (x : Finished B). Does (resuming words returns) (outcome_of state x) (record { from = from; feed = feed; to = sink; sink = sink })) (sym is)
+pub resume-declined : {B : Type 0} (state : B → State) (most : ℕ) (words : Shape → Setup) (sh : Shape) (refusal : Refusal) (returns taken : ℕ) (board : Option B) (e : Finished B) (from feed : Feed) (sink : Drain) (now : Taking) → e ≡ record { ending = ending_for refusal; lines = 0; taken = taken; board = board; second = None } → taken ≡ now.taken → shape_checked sh ≡ Ok tt → sh.segments * sh.rows ≤ most → checked (words sh) ≡ Ok tt → Unloaded sh returns from (option_map state board) refusal now feed → Does (resuming most words returns) (outcome_of state e) (record { from = from; feed = feed; to = sink; sink = sink })
+resume-declined {B} state most words sh refusal returns taken board e from feed sink now is same shape few rules u =
+    subst (λ (x : Finished B). Does (resuming most words returns) (outcome_of state x) (record { from = from; feed = feed; to = sink; sink = sink })) (sym is)
     (record {
       account = Refused refusal u.bytes;
-      printed = record { refuses = image-refused state sh refusal returns taken board from feed sink now same u; rules = λ other rest told ok. subst (λ (x : Shape). checked (words x) ≡ Ok tt) (same-head sh other u.head.0 rest (fit-numbers sh (shape-is sh shape)) (fit-numbers other (shape-is other ok)) (sym u.head.1 ∙ told)) rules };
+      printed = record { refuses = image-refused state sh refusal returns taken board from feed sink now same u; within = within-head most sh u.bytes u.head.0 u.head.1 shape few; rules = λ other rest told ok. subst (λ (x : Shape). checked (words x) ≡ Ok tt) (same-head sh other u.head.0 rest (fit-numbers sh (shape-is sh shape)) (fit-numbers other (shape-is other ok)) (sym u.head.1 ∙ told)) rules };
       board = refused-unharmed state sh refusal returns board from feed now u;
       licences = tt;
     })
 
 -- the head itself wasn't read
-pub resume-headless : {B : Type 0} (state : B → State) (words : Shape → Setup) (refusal : Refusal) (returns taken : ℕ) (e : Finished B) (from feed : Feed) (sink : Drain) (now : Taking) → e ≡ record { ending = ending_for refusal; lines = 0; taken = taken; board = None; second = None } → taken ≡ now.taken → TakesHead from (Err refusal) now feed → Does (resuming words returns) (outcome_of state e) (record { from = from; feed = feed; to = sink; sink = sink })
-resume-headless {B} state words refusal returns taken e from feed sink now is same (bytes, t, cause, other) =
-    subst (λ (x : Finished B). Does (resuming words returns) (outcome_of state x) (record { from = from; feed = feed; to = sink; sink = sink })) (sym is)
+pub resume-headless : {B : Type 0} (state : B → State) (most : ℕ) (words : Shape → Setup) (refusal : Refusal) (returns taken : ℕ) (e : Finished B) (from feed : Feed) (sink : Drain) (now : Taking) → e ≡ record { ending = ending_for refusal; lines = 0; taken = taken; board = None; second = None } → taken ≡ now.taken → TakesHead from (Err refusal) now feed → Does (resuming most words returns) (outcome_of state e) (record { from = from; feed = feed; to = sink; sink = sink })
+resume-headless {B} state most words refusal returns taken e from feed sink now is same (bytes, t, cause, other) =
+    subst (λ (x : Finished B). Does (resuming most words returns) (outcome_of state x) (record { from = from; feed = feed; to = sink; sink = sink })) (sym is)
     (record {
       account = Refused refusal bytes;
       printed = record {
         refuses = record { ending = record { status = refl; why = refl }; took = record { lines = refl; taken = same ∙ t.taken; source = t.left; sink = refl }; cause = cause };
+        within = λ sh rest told ok. absurd (no-head refusal bytes from feed other cause sh rest told ok);
         rules = λ sh rest told ok. absurd (no-head refusal bytes from feed other cause sh rest told ok);
       };
       board = tt;
       licences = tt;
     })
 
+-- a head of too many rows
+pub resume-large : {B : Type 0} (state : B → State) (most : ℕ) (words : Shape → Setup) (sh : Shape) (returns taken : ℕ) (e : Finished B) (from feed : Feed) (sink : Drain) (now : Taking) → e ≡ record { ending = ending_for Misshapen; lines = 0; taken = taken; board = None; second = None } → taken ≡ now.taken → shape_checked sh ≡ Ok tt → most < sh.segments * sh.rows → HasTaken (head_of sh) from now feed → Does (resuming most words returns) (outcome_of state e) (record { from = from; feed = feed; to = sink; sink = sink })
+resume-large {B} state most words sh returns taken e from feed sink now is same shape many t =
+    subst (λ (x : Finished B). Does (resuming most words returns) (outcome_of state x) (record { from = from; feed = feed; to = sink; sink = sink })) (sym is)
+    (record { account = TooLarge sh; printed = too-large state most sh taken from feed sink now same shape many t; board = refl; licences = tt })
+
 -- an image whose shape breaks a rule with the words
-pub resume-unruly : {B : Type 0} (state : B → State) (words : Shape → Setup) (setup : Setup) (sh : Shape) (returns taken : ℕ) (e : Finished B) (from feed : Feed) (sink : Drain) (now : Taking) → e ≡ record { ending = ImageRefused Unruly; lines = 0; taken = taken; board = None; second = None } → taken ≡ now.taken → setup ≡ words sh → IsErr (checked setup) → shape_checked sh ≡ Ok tt → HasTaken (head_of sh) from now feed → Does (resuming words returns) (outcome_of state e) (record { from = from; feed = feed; to = sink; sink = sink })
-resume-unruly {B} state words setup sh returns taken e from feed sink now is same found fails shape t =
-    subst (λ (x : Finished B). Does (resuming words returns) (outcome_of state x) (record { from = from; feed = feed; to = sink; sink = sink })) (sym is)
+pub resume-unruly : {B : Type 0} (state : B → State) (most : ℕ) (words : Shape → Setup) (setup : Setup) (sh : Shape) (returns taken : ℕ) (e : Finished B) (from feed : Feed) (sink : Drain) (now : Taking) → e ≡ record { ending = ImageRefused Unruly; lines = 0; taken = taken; board = None; second = None } → taken ≡ now.taken → setup ≡ words sh → IsErr (checked setup) → shape_checked sh ≡ Ok tt → sh.segments * sh.rows ≤ most → HasTaken (head_of sh) from now feed → Does (resuming most words returns) (outcome_of state e) (record { from = from; feed = feed; to = sink; sink = sink })
+resume-unruly {B} state most words setup sh returns taken e from feed sink now is same found fails shape few t =
+    subst (λ (x : Finished B). Does (resuming most words returns) (outcome_of state x) (record { from = from; feed = feed; to = sink; sink = sink })) (sym is)
     (record {
       account = Misfit sh;
       printed = record {
         ending = record { status = refl; why = refl };
         shape = shape;
+        few = few;
         took = record { lines = refl; taken = same ∙ t.taken; source = t.left; sink = refl };
         fails = subst (λ (x : Setup). IsErr (checked x)) found fails;
       };
@@ -242,15 +252,16 @@ resume-unruly {B} state words setup sh returns taken e from feed sink now is sam
     })
 
 -- an image whose board isn't sound
-pub resume-unsound : {B : Type 0} (state : B → State) (words : Shape → Setup) (setup : Setup) (sh : Shape) (verdict : Verdict) (returns taken : ℕ) (board : B) (e : Finished B) (from feed : Feed) (sink : Drain) (now : Taking) → e ≡ record { ending = ImageRefused Unsound; lines = 0; taken = taken; board = Some board; second = None } → taken ≡ now.taken → setup ≡ words sh → checked setup ≡ Ok tt → (verdict ≡ Sound → ⊥) → Loaded sh returns from (state board) verdict now feed → Does (resuming words returns) (outcome_of state e) (record { from = from; feed = feed; to = sink; sink = sink })
-resume-unsound {B} state words setup sh verdict returns taken board e from feed sink now is same found checks other l =
+pub resume-unsound : {B : Type 0} (state : B → State) (most : ℕ) (words : Shape → Setup) (setup : Setup) (sh : Shape) (verdict : Verdict) (returns taken : ℕ) (board : B) (e : Finished B) (from feed : Feed) (sink : Drain) (now : Taking) → e ≡ record { ending = ImageRefused Unsound; lines = 0; taken = taken; board = Some board; second = None } → taken ≡ now.taken → setup ≡ words sh → sh.segments * sh.rows ≤ most → checked setup ≡ Ok tt → (verdict ≡ Sound → ⊥) → Loaded sh returns from (state board) verdict now feed → Does (resuming most words returns) (outcome_of state e) (record { from = from; feed = feed; to = sink; sink = sink })
+resume-unsound {B} state most words setup sh verdict returns taken board e from feed sink now is same found few checks other l =
     let i = l.installed in
-    subst (λ (x : Finished B). Does (resuming words returns) (outcome_of state x) (record { from = from; feed = feed; to = sink; sink = sink })) (sym is)
+    subst (λ (x : Finished B). Does (resuming most words returns) (outcome_of state x) (record { from = from; feed = feed; to = sink; sink = sink })) (sym is)
     (record {
       account = FoundUnsound (state board);
       printed = record {
         ending = record { status = refl; why = refl };
         took = record { lines = refl; taken = same ∙ HasTaken.taken l.taken; source = HasTaken.left l.taken; sink = refl };
+        few = subst (λ (x : Shape). x.segments * x.rows ≤ most) (sym i.shape) few;
         rules = subst (λ (x : Setup). checked x ≡ Ok tt) (found ∙ ap words (sym i.shape)) checks;
         fails = unsound verdict (state board) i.whole other l.judges;
       };
@@ -266,7 +277,7 @@ stopped-ends {B} ending taken board e now bytes from feed is same t =
 
 -- where all goes well
 
-module _ (words : Shape → Setup) (returns : ℕ) (o : Outcome) (io : Streams) (holds : HoldsImage io) (trace : HoldsTrace words io holds) where
+module _ (most : ℕ) (words : Shape → Setup) (returns : ℕ) (o : Outcome) (io : Streams) (holds : HoldsImage io) (trace : HoldsTrace most words io holds) where
   -- the image that was found is the one that is there
   same-image : (found : State) (behind : Option (List ℕ)) → IsBoard found → io.from.left ≡ with_front (image_of found) behind → HoldTheSame found holds.image × (behind ≡ Some holds.rest)
   same-image found behind whole image =
@@ -291,7 +302,7 @@ module _ (words : Shape → Setup) (returns : ℕ) (o : Outcome) (io : Streams) 
         writes = t.writes;
       }
 
-  pub never-unruly : (sh : Shape) → BreaksRule words sh o io → ⊥
+  pub never-unruly : (sh : Shape) → BreaksRule most words sh o io → ⊥
   unfolding image_of
   never-unruly sh b =
       let (left, is, all) = front-taken (image_of holds.image ++ holds.rest) (head_of sh) io.feed.left (sym holds.told ∙ TookOnly.source b.took) in
@@ -307,7 +318,7 @@ module _ (words : Shape → Setup) (returns : ℕ) (o : Outcome) (io : Streams) 
       (subst (λ (sram : List ℕ). IsFormatted (map_fields s.shape sram) × SoundMap s.shape (map_fields s.shape sram) t.flash) (sym same.sram)
       (subst (λ (sh : Shape). IsFormatted (map_fields sh t.sram) × SoundMap sh (map_fields sh t.sram) t.flash) (sym same.shape) sound))
 
-  pub never-unsound : (found : State) → IsLeftInstalled returns found o → IsUnsound words found o io → ⊥
+  pub never-unsound : (found : State) → IsLeftInstalled returns found o → IsUnsound most words found o io → ⊥
   never-unsound found left u =
       let (same, is) = same-image found io.feed.left (IsInstalled.whole left.installed) (TookOnly.source u.took) in
       u.fails (sound-alike found holds.image same trace.sound)

@@ -1,5 +1,5 @@
 -- A command for which all goes well is done to its end, or memory runs out.
-use Rattle.std.specs.Prelude.{◌≡◌, ◌⊎◌, ℕ, ◌<◌, IsTrue, ⊤, List, ◌++◌, length, Some, Result, Ok}
+use Rattle.std.specs.Prelude.{◌≡◌, ◌⊎◌, ℕ, ◌*◌, ◌<◌, ◌≤◌, IsTrue, ⊤, List, ◌++◌, length, Some, Result, Ok}
 use Rattle.envy_args.specs.declared.command.Command.{Command}
 use Rattle.envy_args.specs.declared.command.Command.TheVariants.{Run, Plain, Tpca, Gen, Save, Resume, Audit, Segments, Index, Mirror}
 use Rattle.envy_args.specs.declared.command.WordsFault.{WordsFault}
@@ -43,8 +43,13 @@ pub record HoldsImage (io : Streams) : Type 0 where
 abbrev pub NeverFailed : Outcome → Type 0
 NeverFailed o = (c : Chart) → o.board ≡ Some c → (c.cuts ≡ 0) × (c.bads ≡ 0)
 
+-- its board has no more rows than this
+abbrev pub IsSmall : ℕ → {io : Streams} → HoldsImage io → Type 0
+IsSmall most holds = (HoldsImage.image holds).shape.segments * (HoldsImage.image holds).shape.rows ≤ most
+
 -- the rules hold of the image's shape, its board is sound, and what is behind it can be served to its end
-pub record HoldsTrace (setup : Shape → Setup) (io : Streams) (holds : HoldsImage io) : Type 0 where
+pub record HoldsTrace (most : ℕ) (setup : Shape → Setup) (io : Streams) (holds : HoldsImage io) : Type 0 where
+  pub few : IsSmall most holds
   pub rules : checked (setup (HoldsImage.image holds).shape) ≡ Ok tt
   pub sound : Judges Sound (chart (HoldsImage.image holds))
   pub trace : IsGoodTrace trace_grammar (length (image_of (HoldsImage.image holds))) (record io { from = record { left = Some (HoldsImage.rest holds); faults = io.from.faults } })
@@ -61,8 +66,8 @@ Completes (Ok (Index setup returns)) o io = IsGoodTrace index_grammar 0 io → I
 Completes (Ok (Gen start count mix)) o io = StaysLow io.to.faults io.sink.faults → IsComplete o
 Completes (Ok (Tpca setup returns start area every)) o io = StaysLow io.to.faults io.sink.faults → IsWell o → IsComplete o
 Completes (Ok (Save setup returns)) o io = IsGoodTrace trace_grammar 0 io → IsWell o → IsComplete o
-Completes (Ok (Resume policy limit mark returns)) o io = (holds : HoldsImage io) → HoldsTrace (setup_found policy limit mark) io holds → IsWellInstalled o → IsComplete o
-Completes (Ok Audit) o io = HoldsImage io → NeverFailed o → IsComplete o
-Completes (Ok Segments) o io = HoldsImage io → NeverFailed o → IsComplete o
+Completes (Ok (Resume policy limit mark returns most)) o io = (holds : HoldsImage io) → HoldsTrace most (setup_found policy limit mark) io holds → IsWellInstalled o → IsComplete o
+Completes (Ok (Audit most)) o io = (holds : HoldsImage io) → IsSmall most holds → NeverFailed o → IsComplete o
+Completes (Ok (Segments most)) o io = (holds : HoldsImage io) → IsSmall most holds → NeverFailed o → IsComplete o
 Completes (Ok (Mirror setup returns)) o io = IsGoodTrace mirror_grammar 0 io → AreWell o → IsComplete o ⊎ HasDiedOut o
 Completes command o io = ⊤

@@ -132,6 +132,10 @@ ending_for Unmarked = ImageRefused ImageUnmarked
 ending_for Misshapen = ImageRefused ImageMisshapen
 ending_for Upset = NotInstalled
 
+-- the bytes begin with the head of no board that has more rows than this
+abbrev pub IsWithin : ℕ → List ℕ → Type 0
+IsWithin most bytes = (sh : Shape) (rest : List ℕ) → bytes ≡ head_of sh ++ rest → checked sh ≡ Ok tt → sh.segments * sh.rows ≤ most
+
 -- these bytes were taken, no line was read, and nothing was written
 pub record TookOnly (bytes : List ℕ) (o : Outcome) (io : Streams) : Type 0 where
   pub lines : o.lines ≡ 0
@@ -144,3 +148,11 @@ pub record RefusesImage (refusal : Refusal) (bytes : List ℕ) (o : Outcome) (io
   pub ending : EndsBy (ending_for refusal) o
   pub took : TookOnly bytes o io
   pub cause : Cause refusal bytes o.board io.from io.feed
+
+-- A head was read of a board that has more rows than the words allow. It is told as a bad shape, and no byte behind it is
+-- taken.
+pub record IsTooLarge (most : ℕ) (sh : Shape) (o : Outcome) (io : Streams) : Type 0 where
+  pub ending : EndsBy (ImageRefused ImageMisshapen) o
+  pub shape : checked sh ≡ Ok tt
+  pub rows : most < sh.segments * sh.rows
+  pub took : TookOnly (head_of sh) o io

@@ -23,7 +23,7 @@ use Rattle.envy_run.specs.Attached.{HoldsStill}
 use Rattle.envy_run.specs.Counters.{AddsUp, just_told}
 use Rattle.envy_run.specs.Audits.{IsLeftInstalled}
 use Rattle.envy_run.specs.Done.{Run, Dies, HoldsOff, OnBoard}
-use Rattle.envy_run.specs.Loading.{IsUnharmed, RefusesImage, TookOnly}
+use Rattle.envy_run.specs.Loading.{IsTooLarge, IsUnharmed, IsWithin, RefusesImage, TookOnly}
 use Rattle.envy_run.specs.Meaning.{Meaning}
 use Rattle.envy_run.specs.Outcome.{Outcome, EndsBy}
 use Rattle.envy_run.specs.Spending.{IsThrifty}
@@ -87,53 +87,60 @@ resume_task found setup returns = record {
 }
 
 -- What was found: a board that holds the image, the bytes behind it, and the session that they were served in, if any; why
--- there is no such board, and the bytes that were taken; a shape with which the words break a rule; or a board that isn't
--- sound.
+-- there is no such board, and the bytes that were taken; a shape of too many rows; one with which the words break a rule; or
+-- a board that isn't sound.
 pub data Resumption : Type 0 where
   TakenUp : (found : State) (behind : Option (List ℕ)) (session : Option (Session Line Reply Array)) → Resumption
   Refused : (refusal : Refusal) (bytes : List ℕ) → Resumption
+  TooLarge : (sh : Shape) → Resumption
   Misfit : (sh : Shape) → Resumption
   FoundUnsound : (found : State) → Resumption
 
 -- The bytes taken first are the image of a board that is formatted and sound, and of whose shape the rules hold. What
 -- stands behind them is a trace that was served.
-pub record TakesUp (setup : Shape → Setup) (returns : ℕ) (found : State) (behind : Option (List ℕ)) (session : Option (Session Line Reply Array)) (o : Outcome) (io : Streams) : Type 0 where
+pub record TakesUp (most : ℕ) (setup : Shape → Setup) (returns : ℕ) (found : State) (behind : Option (List ℕ)) (session : Option (Session Line Reply Array)) (o : Outcome) (io : Streams) : Type 0 where
   pub whole : IsBoard found
   pub image : io.from.left ≡ with_front (image_of found) behind
+  pub few : found.shape.segments * found.shape.rows ≤ most
   pub rules : checked (setup found.shape) ≡ Ok tt
   pub sound : Judges Sound (chart found)
   pub served : MaybeServed (resume_task found (setup found.shape) returns) session o (record io { from = record { left = behind; faults = io.from.faults } })
 
 -- No image was taken up, for this reason. Where the bytes taken begin with the head of a shape that checks, the words
 -- break no rule with it: such a rule is told before all that comes behind the head.
-pub record DeclinesImage (refusal : Refusal) (bytes : List ℕ) (setup : Shape → Setup) (o : Outcome) (io : Streams) : Type 0 where
+pub record DeclinesImage (most : ℕ) (refusal : Refusal) (bytes : List ℕ) (setup : Shape → Setup) (o : Outcome) (io : Streams) : Type 0 where
   pub refuses : RefusesImage refusal bytes o io
+  pub within : IsWithin most bytes
   pub rules : (sh : Shape) (rest : List ℕ) → bytes ≡ head_of sh ++ rest → shape_checked sh ≡ Ok tt → checked (setup sh) ≡ Ok tt
 
 -- a head was read, and the words break a rule with its shape
-pub record BreaksRule (setup : Shape → Setup) (sh : Shape) (o : Outcome) (io : Streams) : Type 0 where
+pub record BreaksRule (most : ℕ) (setup : Shape → Setup) (sh : Shape) (o : Outcome) (io : Streams) : Type 0 where
   pub ending : EndsBy (ImageRefused Unruly) o
   pub shape : shape_checked sh ≡ Ok tt
+  pub few : sh.segments * sh.rows ≤ most
   pub took : TookOnly (head_of sh) o io
   pub fails : IsErr (checked (setup sh))
 
 -- the image was installed, and its board isn't formatted and sound
-pub record IsUnsound (setup : Shape → Setup) (found : State) (o : Outcome) (io : Streams) : Type 0 where
+pub record IsUnsound (most : ℕ) (setup : Shape → Setup) (found : State) (o : Outcome) (io : Streams) : Type 0 where
   pub ending : EndsBy (ImageRefused Unsound) o
   pub took : TookOnly (image_of found) o io
+  pub few : found.shape.segments * found.shape.rows ≤ most
   pub rules : checked (setup found.shape) ≡ Ok tt
   pub fails : Judges Sound (chart found) → ⊥
 
-abbrev pub Resumes : (Shape → Setup) → ℕ → Resumption → Outcome → Streams → Type 0
-Resumes setup returns (TakenUp found behind session) o io = TakesUp setup returns found behind session o io
-Resumes setup returns (Refused refusal bytes) o io = DeclinesImage refusal bytes setup o io
-Resumes setup returns (Misfit sh) o io = BreaksRule setup sh o io
-Resumes setup returns (FoundUnsound found) o io = IsUnsound setup found o io
+abbrev pub Resumes : ℕ → (Shape → Setup) → ℕ → Resumption → Outcome → Streams → Type 0
+Resumes most setup returns (TakenUp found behind session) o io = TakesUp most setup returns found behind session o io
+Resumes most setup returns (Refused refusal bytes) o io = DeclinesImage most refusal bytes setup o io
+Resumes most setup returns (TooLarge sh) o io = IsTooLarge most sh o io
+Resumes most setup returns (Misfit sh) o io = BreaksRule most setup sh o io
+Resumes most setup returns (FoundUnsound found) o io = IsUnsound most setup found o io
 
 -- no board was made with such a shape; one that isn't sound is handed back as installing left it
 abbrev pub IsLeftBy : (Shape → Setup) → ℕ → Resumption → Outcome → Type 0
 IsLeftBy setup returns (TakenUp found behind session) o = MaybeHeld (resume_task found (setup found.shape) returns) session o
 IsLeftBy setup returns (Refused refusal bytes) o = IfSome o.board (IsUnharmed returns)
+IsLeftBy setup returns (TooLarge sh) o = o.board ≡ None
 IsLeftBy setup returns (Misfit sh) o = o.board ≡ None
 IsLeftBy setup returns (FoundUnsound found) o = IsLeftInstalled returns found o
 
@@ -141,11 +148,11 @@ abbrev pub LicencesOf : (Shape → Setup) → ℕ → Resumption → Outcome →
 LicencesOf setup returns (TakenUp found behind session) o = Task.Licences (resume_task found (setup found.shape) returns) o (turns_of session)
 LicencesOf setup returns resumption o = ⊤
 
--- the word `resume`
-abbrev pub resuming : (Shape → Setup) → ℕ → Meaning
-resuming setup returns = record {
+-- the word `resume`, of images of at most so many rows
+abbrev pub resuming : ℕ → (Shape → Setup) → ℕ → Meaning
+resuming most setup returns = record {
   Account = Resumption;
-  Printed = Resumes setup returns;
+  Printed = Resumes most setup returns;
   Board = IsLeftBy setup returns;
   Licences = LicencesOf setup returns;
 }

@@ -9,7 +9,7 @@ ghost use Rattle.envy_serve.specs.Ends.{most_bytes};
 ghost use Rattle.envy_serve.specs.Streams.{streams_of};
 
 use crate::ending::{Finished, stopped_at, written};
-use crate::loading::{refused, take_head, take_image};
+use crate::loading::{Refusal, is_too_large, refused, take_head, take_image};
 use arrayvec::ArrayVec;
 use envy_base::Maker;
 use envy_image::{Rule, Verdict};
@@ -67,14 +67,15 @@ pub(crate) fn write_verdict<K: Sink>(verdict: Verdict, sink: &mut K) -> Result<(
     sink.flush()
 }
 
-/// Reads the image that the source begins with, and writes the verdict on it. No byte behind it is read.
+/// Reads the image of at most so many rows that the source begins with, and writes the verdict on it. No byte behind it is read.
 pub fn run_audit<S: Source, K: Sink, M: Maker>(
     alloc: Global,
+    most: u32,
     source: &mut S,
     sink: &mut K,
     maker: &mut M,
 ) -> Finished<M::Made>
-    ensures audits { Does (judging IsVerdict) (outcome_of M.Made.Board.state result)
+    ensures audits { Does (judging most IsVerdict) (outcome_of M.Made.Board.state result)
         (streams_of (S.feed source.old) (S.feed source.new) (K.drain sink.old) (K.drain sink.new)) }
     ensures few { result.lines ≤ result.taken }
     ensures read { result.taken ≤ most_bytes }
@@ -85,6 +86,9 @@ pub fn run_audit<S: Source, K: Sink, M: Maker>(
         Ok(shape) => shape,
         Err(refusal) => return refused(refusal, lines.taken(), None),
     };
+    if is_too_large(&shape, most) {
+        return refused(Refusal::Misshapen, lines.taken(), None);
+    }
     match take_image(alloc, &shape, AUDIT_LIVES, &mut lines, source, maker) {
         Ok((board, verdict)) => {
             let ending = written(write_verdict(verdict, sink));

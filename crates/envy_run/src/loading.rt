@@ -1,6 +1,6 @@
 //! An image that the source begins with, on a new board.
 
-ghost use Rattle.std.specs.Prelude.{◌≡◌, ◌≤◌, ⊤, MatchResult, Ok};
+ghost use Rattle.std.specs.Prelude.{◌≡◌, ◌*◌, ◌<◌, ◌≤◌, ⊤, MatchBool, MatchResult, Ok};
 ghost use Rattle.std.specs.Option.{option_map};
 ghost use Rattle.envy_base.specs.Shape.{checked};
 ghost use Rattle.envy_image.specs.Image.{head_of};
@@ -66,6 +66,14 @@ pub(crate) fn take_head<S: Source>(lines: &mut Lines, source: &mut S) -> Result<
         // a head is far shorter than what may be taken
         Err(HeadFault::Spent) => unreachable!(),
     }
+}
+
+/// Whether a board of this shape has more rows than so many.
+pub(crate) fn is_too_large(shape: &Shape, most: u32) -> bool
+    requires { checked shape.now ≡ Ok tt }
+    ensures { MatchBool result (most < shape.now.segments * shape.now.rows) (shape.now.segments * shape.now.rows ≤ most) }
+{
+    shape.segments as u64 * shape.rows as u64 > most as u64
 }
 
 /// Makes a board of the shape that was read, installs on it the image behind the head, and judges it.

@@ -12,7 +12,7 @@ ghost use Rattle.envy_serve.specs.Streams.{streams_of};
 
 use crate::audit_run::{AUDIT_LIVES, write_verdict};
 use crate::ending::{Finished, stopped_at, written};
-use crate::loading::{Refusal, refused, take_head, take_image};
+use crate::loading::{Refusal, is_too_large, refused, take_head, take_image};
 use envy_base::{Board, Maker};
 use envy_image::Verdict;
 use envy_io::{Failed, Lines, Sink, Source};
@@ -59,11 +59,12 @@ fn write_map<B: Board, K: Sink>(
 /// verdict on it. No byte behind it is read.
 pub fn run_map<S: Source, K: Sink, M: Maker>(
     alloc: Global,
+    most: u32,
     source: &mut S,
     sink: &mut K,
     maker: &mut M,
 ) -> Finished<M::Made>
-    ensures maps { Does (judging IsMap) (outcome_of M.Made.Board.state result)
+    ensures maps { Does (judging most IsMap) (outcome_of M.Made.Board.state result)
         (streams_of (S.feed source.old) (S.feed source.new) (K.drain sink.old) (K.drain sink.new)) }
     ensures few { result.lines ≤ result.taken }
     ensures read { result.taken ≤ most_bytes }
@@ -74,6 +75,9 @@ pub fn run_map<S: Source, K: Sink, M: Maker>(
         Ok(shape) => shape,
         Err(refusal) => return refused(refusal, lines.taken(), None),
     };
+    if is_too_large(&shape, most) {
+        return refused(Refusal::Misshapen, lines.taken(), None);
+    }
     // the shape was checked
     if shape.check().is_err() {
         unreachable!();

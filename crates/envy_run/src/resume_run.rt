@@ -19,7 +19,7 @@ ghost use Rattle.envy_serve.specs.Streams.{streams_of};
 
 use crate::attach::{Unattached, attach};
 use crate::ending::{Ending, Finished, ImageFault, finished_with, stopped_at};
-use crate::loading::{refused, take_head, take_image};
+use crate::loading::{Refusal, is_too_large, refused, take_head, take_image};
 use crate::restart::ReplyBuffer;
 use crate::tracing::Tracing;
 use envy_base::{Bench, Maker, Shape};
@@ -37,6 +37,8 @@ pub struct Resuming {
     /// Of None the image's number of frames stands.
     pub mark: Option<u32>,
     pub lives: u32,
+    /// The most rows that the image may have.
+    pub most: u32,
 }
 
 /// The setup over a board of this shape.
@@ -98,7 +100,7 @@ pub fn run_resume<S: Source, K: Sink, M: Maker>(
     sink: &mut K,
     maker: &mut M,
 ) -> Finished<M::Made>
-    ensures resumes { Does (resuming (setup_found words.now.policy words.now.limit words.now.mark) words.now.lives)
+    ensures resumes { Does (resuming words.now.most (setup_found words.now.policy words.now.limit words.now.mark) words.now.lives)
         (outcome_of M.Made.Board.state result)
         (streams_of (S.feed source.old) (S.feed source.new) (K.drain sink.old) (K.drain sink.new)) }
     ensures few { result.lines ≤ result.taken }
@@ -110,6 +112,9 @@ pub fn run_resume<S: Source, K: Sink, M: Maker>(
         Ok(shape) => shape,
         Err(refusal) => return refused(refusal, lines.taken(), None),
     };
+    if is_too_large(&shape, words.most) {
+        return refused(Refusal::Misshapen, lines.taken(), None);
+    }
     let setup = setup_over(&shape, words);
     if setup.check().is_err() {
         let ending = Ending::ImageRefused(ImageFault::Unruly);

@@ -83,8 +83,8 @@ fn perform<S: Source, K: Sink, M: Maker>(
         Command::Plain { setup } => run_plain(alloc, &setup, source, sink),
         Command::Gen { start, lines, mix } => run_gen(sink, start, lines, &mix),
         Command::Save { setup, lives } => run_save(alloc, setup, lives, source, sink, maker),
-        Command::Audit => run_audit(alloc, source, sink, maker),
-        Command::Segments => run_map(alloc, source, sink, maker),
+        Command::Audit { most } => run_audit(alloc, most, source, sink, maker),
+        Command::Segments { most } => run_map(alloc, most, source, sink, maker),
         Command::Index { setup, lives } => run_index(alloc, setup, lives, source, sink, maker),
         Command::Tpca {
             setup,
@@ -102,12 +102,14 @@ fn perform<S: Source, K: Sink, M: Maker>(
             limit,
             mark,
             lives,
+            most,
         } => {
             let words = Resuming {
                 policy,
                 limit,
                 mark,
                 lives,
+                most,
             };
             run_resume(alloc, &words, source, sink, maker)
         }

@@ -7,7 +7,7 @@ use std::alloc::Global;
 use std::process::Abort;
 
 // None of these is in the form.
-const OTHER_FORMS: [&str; 68] = [
+const OTHER_FORMS: [&str; 67] = [
     "",
     "fly",
     "Run",
@@ -74,7 +74,6 @@ const OTHER_FORMS: [&str; 68] = [
     "gen --large 1",
     "index --large 1",
     "plain --large 0",
-    "resume --large 1",
     "run --large 2",
 ];
 

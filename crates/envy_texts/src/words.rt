@@ -39,6 +39,9 @@ pub(crate) fn check(
 // Power may return as often as a number of 32 bits tells.
 const LIVES: u32 = 4294967295;
 
+// The most rows of a board that isn't asked to be large.
+const ROWS: u32 = 1048576;
+
 const SHAPE: Shape = Shape {
     segments: 8,
     rows: 16,
@@ -129,8 +132,8 @@ const DEFAULTS: [Row; 10] = [
             lives: LIVES,
         }),
     ),
-    ("audit", Ok(Command::Audit)),
-    ("map", Ok(Command::Segments)),
+    ("audit", Ok(Command::Audit { most: ROWS })),
+    ("map", Ok(Command::Segments { most: ROWS })),
     (
         "resume",
         Ok(Command::Resume {
@@ -138,6 +141,7 @@ const DEFAULTS: [Row; 10] = [
             limit: 100,
             mark: None,
             lives: LIVES,
+            most: ROWS,
         }),
     ),
     (
@@ -195,7 +199,7 @@ const LOCALITY: Setup = Setup {
 };
 
 // Options stand in any order and in both forms.
-const OPTIONS: [Row; 16] = [
+const OPTIONS: [Row; 18] = [
     ("run --frames 9 --mark 3", Ok(NINE_AND_THREE)),
     ("run --mark=3 --frames=9", Ok(NINE_AND_THREE)),
     ("run --mark 3 --frames=9 --", Ok(NINE_AND_THREE)),
@@ -291,8 +295,11 @@ const OPTIONS: [Row; 16] = [
             limit: 0,
             mark: Some(0),
             lives: 3,
+            most: ROWS,
         }),
     ),
+    ("audit --large 1", Ok(Command::Audit { most: 16777216 })),
+    ("map --large=0", Ok(Command::Segments { most: ROWS })),
 ];
 
 // Numbers go to the end of their width.

@@ -36,26 +36,26 @@ returns-in_err-check c =
     let o = c.args.options.now in
     let all = tpca-all o c.in_ok-setup.ensures.0 c.in_ok-start.ensures.0 c.in_ok-area.ensures.0 c.in_ok-every.ensures.0 in
     let p = err_from_is_err_and c.from_residual-in_err-check.result c.from_residual-in_err-check.ensures.1 in
-    rw (p.1, p.2) (sym (load-refused o all _ (ap (λ (p : Setup × ℕ). p.0) c.in_ok-setup.ensures.1) _ c.in_err-check.ensures.table))
+    rw (p.1, p.2) (sym (load-refused o all _ (ap (λ (p : (Setup × ℕ) × ℕ). p.0.0) c.in_ok-setup.ensures.1) _ (ap (λ (p : (Setup × ℕ) × ℕ). p.1) c.in_ok-setup.ensures.1) _ c.in_err-check.ensures))
 
 pub returns-then-not-fits : goal.returns-then-not-fits
 returns-then-not-fits c =
     let o = c.args.options.now in
     let all = tpca-all o c.in_ok-setup.ensures.0 c.in_ok-start.ensures.0 c.in_ok-area.ensures.0 c.in_ok-every.ensures.0 in
     let decides = subst (λ (area : Area). IsTrue c.fits.result ↔ Fits area c.in_ok-setup.setup.shape.pages) c.in_ok-area.ensures.1 c.fits.ensures in
-    sym (load-unfit o all _ (ap (λ (p : Setup × ℕ). p.0) c.in_ok-setup.ensures.1) c.in_ok-check.ensures.table _ decides c.if-not-fits.true)
+    sym (load-unfit o all _ (ap (λ (p : (Setup × ℕ) × ℕ). p.0.0) c.in_ok-setup.ensures.1) _ (ap (λ (p : (Setup × ℕ) × ℕ). p.1) c.in_ok-setup.ensures.1) c.in_ok-check.ensures _ decides c.if-not-fits.true)
 
 pub returns-then-setup-lt-LOAD_SHADOWS : goal.returns-then-setup-lt-LOAD_SHADOWS
 returns-then-setup-lt-LOAD_SHADOWS c =
     let o = c.args.options.now in
     let all = tpca-all o c.in_ok-setup.ensures.0 c.in_ok-start.ensures.0 c.in_ok-area.ensures.0 c.in_ok-every.ensures.0 in
     let decides = subst (λ (area : Area). IsTrue c.fits.result ↔ Fits area c.in_ok-setup.setup.shape.pages) c.in_ok-area.ensures.1 c.fits.ensures in
-    sym (load-shadows o all _ (ap (λ (p : Setup × ℕ). p.0) c.in_ok-setup.ensures.1) c.in_ok-check.ensures.table _ decides c.if-not-fits.false c.if-setup-lt-LOAD_SHADOWS.true)
+    sym (load-shadows o all _ (ap (λ (p : (Setup × ℕ) × ℕ). p.0.0) c.in_ok-setup.ensures.1) _ (ap (λ (p : (Setup × ℕ) × ℕ). p.1) c.in_ok-setup.ensures.1) c.in_ok-check.ensures _ decides c.if-not-fits.false c.if-setup-lt-LOAD_SHADOWS.true)
 
 pub returns : goal.returns
 returns c =
     let o = c.args.options.now in
     let all = tpca-all o c.in_ok-setup.ensures.0 c.in_ok-start.ensures.0 c.in_ok-area.ensures.0 c.in_ok-every.ensures.0 in
     let decides = subst (λ (area : Area). IsTrue c.fits.result ↔ Fits area c.in_ok-setup.setup.shape.pages) c.in_ok-area.ensures.1 c.fits.ensures in
-    rw (ap (λ (p : Setup × ℕ). p.1) c.in_ok-setup.ensures.1, c.in_ok-start.ensures.1, c.in_ok-area.ensures.1, c.in_ok-every.ensures.1)
-    (sym (load-made o all _ (ap (λ (p : Setup × ℕ). p.0) c.in_ok-setup.ensures.1) c.in_ok-check.ensures.table _ decides c.if-not-fits.false c.if-setup-lt-LOAD_SHADOWS.false))
+    rw (ap (λ (p : (Setup × ℕ) × ℕ). p.0.1) c.in_ok-setup.ensures.1, c.in_ok-start.ensures.1, c.in_ok-area.ensures.1, c.in_ok-every.ensures.1)
+    (sym (load-made o all _ (ap (λ (p : (Setup × ℕ) × ℕ). p.0.0) c.in_ok-setup.ensures.1) _ (ap (λ (p : (Setup × ℕ) × ℕ). p.1) c.in_ok-setup.ensures.1) c.in_ok-check.ensures _ decides c.if-not-fits.false c.if-setup-lt-LOAD_SHADOWS.false))

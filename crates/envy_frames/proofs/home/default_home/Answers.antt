@@ -10,17 +10,18 @@ overflow_mul-result c =
     let some = shape.segments in
     let pages = shape.few_pages in
     let page = c.requires.page in
-    let small = mul-lt c.args.page (c.args.shape.now.segments - 1) 16777216 4096 (omega arith) (omega arith) in
+    let is = c.positions_of.ensures in
+    let small = mul-lt c.args.page c.positions_of.result 16777216 4096 (omega arith) (omega arith) in
     omega (arith, small)
 
 pub overflow_cast-result-4 : goal.overflow_cast-result-4
 overflow_cast-result-4 c =
     let few = c.requires.shape.few_segments in
     let fits = default_home-fits c.args.shape.now c.args.page c.requires.shape c.requires.page in
-    omega (arith, fits)
+    rw c.positions_of.ensures (omega (arith, fits))
 
 pub returns-clause-value : goal.returns-clause-value
-returns-clause-value c = refl
+returns-clause-value c = rw c.positions_of.ensures refl
 
 pub returns-clause-position : goal.returns-clause-position
-returns-clause-position c = default_home-fits c.args.shape.now c.args.page c.requires.shape c.requires.page
+returns-clause-position c = rw c.positions_of.ensures (default_home-fits c.args.shape.now c.args.page c.requires.shape c.requires.page)
