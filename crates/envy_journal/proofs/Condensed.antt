@@ -19,6 +19,7 @@ use Rattle.envy_journal.specs.Snapshot.{limit_of, most_of}
 use Rattle.envy_journal.specs.declared.log.Log.{Log}
 use Rattle.envy_journal.specs.declared.operation.Operation.{Operation}
 use Rattle.envy_journal.specs.declared.operation.Operation.TheVariants.{Put, Program, Erase}
+use Rattle.envy_journal.proofs.Idle.{no_bytes}
 use Rattle.envy_journal.proofs.Logged.{logged_more}
 use Rattle.envy_journal.proofs.Parsed.{leads_none, nothing}
 use Rattle.envy_journal.proofs.Patched.{ands-ones}
@@ -239,3 +240,9 @@ ok_both (Err e) p q goes = tt
 -- no more of it is in the file than is held
 pub spilled_few : {D : Type 0} (seen : D → List ℕ) (may_leave : D → List ℕ → Type 0) (left_since : D → ℕ → List ℕ → Type 0) (last : D → ℕ) (log : Log D) → IsSound seen may_leave left_since last log → (most : ℕ) → length (held_bytes seen log) ≤ most → log.end - (log.gate + 1) ≤ most
 spilled_few seen may_leave left_since last log s most le = omega (arith, le, held_long seen may_leave left_since last log s)
+
+-- nor is any of it if no operation is held
+pub none_spilled : {D : Type 0} (seen : D → List ℕ) (may_leave : D → List ℕ → Type 0) (left_since : D → ℕ → List ℕ → Type 0) (last : D → ℕ) (bytewise : D → Bool) (log : Log D) → IsSound seen may_leave left_since last log → IsCounted seen may_leave bytewise log → held seen log ≡ []
+    → (most : ℕ) → log.end - (log.gate + 1) ≤ most
+none_spilled seen may_leave left_since last bytewise log s counted none most =
+    spilled_few seen may_leave left_since last log s most (omega (arith, ap length (no_bytes (held_bytes seen log) counted.whole none)))

@@ -1,6 +1,6 @@
 // What is held is made anew of what the board holds, once the file has much of it: a board that is never synced would else
 // fill its file without end.
-ghost use Rattle.std.specs.Prelude.{◌≡◌, ◌+◌, ◌*◌, ◌<◌, ◌≤◌, ◌∷◌, ◌++◌, [], List, ℕ, true, false, IsTrue, length, OnOk, OnErr};
+ghost use Rattle.std.specs.Prelude.{◌≡◌, ◌+◌, ◌*◌, ◌<◌, ◌≤◌, [], true, false, IsTrue, length, OnOk, OnErr};
 ghost use Rattle.std.specs.Result.{IsOk};
 ghost use Rattle.envy_base.specs.Map.{words_of};
 ghost use Rattle.envy_device.specs.Device.{LeavesOnly};
@@ -203,7 +203,7 @@ impl<B: Steady, D: Device> Journaled<B, D> {
         ensures short { OnOk result (spilled self.new.log ≤ limit_of (B.state self.old.board).shape) }
         ensures idle { self.old.dead ≡ false → spilled self.old.log ≤ limit_of (B.state self.old.board).shape
             → IsOk result × (self.new.log ≡ self.old.log) }
-        ensures alive { OnOk result (self.new.dead ≡ false) }
+        ensures alive { OnOk result ((self.old.dead ≡ false) × (self.new.dead ≡ false)) }
         ensures board { self.new.board ≡ self.old.board }
         ensures next { self.new.next ≡ self.old.next }
         ensures runs { OnOk result
