@@ -7,7 +7,7 @@ ghost use Rattle.envy_journal.specs.Head.{StandsFor};
 ghost use Rattle.envy_journal.specs.Journal.{journal_state, kept};
 ghost use Rattle.envy_journal.specs.Snapshot.{limit_of};
 
-use envy_base::{Board, Off, Trouble};
+use envy_base::{Board, Off, Page, Trouble};
 use envy_device::Device;
 use envy_journal::{Journaled, Steady};
 
@@ -37,7 +37,7 @@ fn lighten<B: Steady, D: Device>(journal: &mut Journaled<B, D>) -> Result<(), Of
 pub(crate) fn program<B: Steady, D: Device>(
     journal: &mut Journaled<B, D>,
     row: u32,
-    page: &[u64; 32],
+    page: &Page,
 ) -> Result<(), Trouble>
     requires { row < length (journal_state journal.old.dead (B.state journal.old.board)).flash }
     ensures state { Programs (journal_state journal.old.dead (B.state journal.old.board)) row page.now result
