@@ -16,6 +16,9 @@
 static const char BESIDE[] = ".envy-new";
 enum { NAMES = 8, NUMBER = 1 };
 
+/* How many bytes the head of a journal has. */
+enum { HEAD = 33 };
+
 /* The bits of a mode that are access rights; and one that isn't, which only a second file has: what a crash leaves of one
    is known by it. */
 enum { RIGHTS = 0777, MARK = S_ISVTX };
@@ -58,13 +61,51 @@ static int written(int descriptor, uint64_t at, const char *bytes, size_t n) {
     return 0;
 }
 
+/* Writes bytes to a new file with such a name, on the disk. 0 if it is there whole. */
+static int copied(const char *path, const uint8_t *bytes, size_t n) {
+    int copy = open(path, O_WRONLY | O_CREAT | O_EXCL | O_CLOEXEC, 0600);
+    if (copy < 0) return -1;
+    int fails = written(copy, 0, (const char *)bytes, n) || fsync(copy);
+    return close(copy) || fails ? -1 : 0;
+}
+
+/* Copies the file under the first name beside it that nothing has, which is left in `name`. 0 if that is done. */
+static int copy_aside(const envy_kept_file *f, char *name, size_t size, const uint8_t *bytes, size_t n) {
+    for (int number = 0; number < NAMES; number++) {
+        if (number) snprintf(name, size, "%s.envy-cut%d", f->path, number);
+        else snprintf(name, size, "%s.envy-cut", f->path);
+        if (!copied(name, bytes, n)) return 0;
+        if (errno != EEXIST) return -1;
+    }
+    return -1;
+}
+
+/* Copies the file before the first call that changes it, if what the opening cuts off may hold a sync, and says so on
+   standard error. If it can't be copied that is said, and the opening goes on. A file that is refused isn't changed. */
+static void copy_what_is_cut(envy_kept_file *f) {
+    const uint8_t *bytes = f->found;
+    size_t n = f->found_n;
+    f->found = NULL;
+    unsigned long long cut = bytes ? envy_kept_cut(bytes, n) : 0;
+    if (!cut) return;
+    size_t size = strlen(f->path) + sizeof ".envy-cut" + NUMBER;
+    char *name = malloc(size);
+    if (name && !copy_aside(f, name, size, bytes, n))
+        fprintf(stderr, "envy: %llu bytes behind the last sync look like a sync; the file is copied to %s\n", cut, name);
+    else
+        fprintf(stderr, "envy: %llu bytes behind the last sync look like a sync; the file can't be copied\n", cut);
+    free(name);
+}
+
 static int write_file(void *context, uint64_t at, const void *bytes, size_t n) {
     envy_kept_file *f = context;
+    copy_what_is_cut(f);
     return is_forked(f) || written(f->descriptor, at, bytes, n) ? failed(f) : 0;
 }
 
 static int cut_file(void *context, uint64_t size) {
     envy_kept_file *f = context;
+    copy_what_is_cut(f);
     int why = is_forked(f);
     if (!why) do why = ftruncate(f->descriptor, (off_t)size);
     while (why && errno == EINTR);
@@ -191,6 +232,7 @@ static int replace_file(void *context) {
     envy_kept_file *f = context;
     if (is_forked(f)) return failed(f);
     if (f->second < 0) return ENVY_NOT_REPLACED;
+    copy_what_is_cut(f);
     int why = renamed(f);
     if (why) {
         remove_second(f);
@@ -248,22 +290,36 @@ static uint32_t placed(envy_kept_file *f, int is_made) {
     return ENVY_SYSTEM;
 }
 
-/* The bytes of the file, in memory of their own: a mapping would show what the memory writes while it is opened. */
+/* Reads so many bytes at the front of a file. 0 if they are all there. */
+static int read_front(int descriptor, uint8_t *bytes, size_t n) {
+    for (size_t at = 0; at < n;) {
+        ssize_t done = pread(descriptor, bytes + at, n - at, (off_t)at);
+        if (done < 0 && errno == EINTR) continue;
+        if (!done) errno = EIO;
+        if (done <= 0) return -1;
+        at += (size_t)done;
+    }
+    return 0;
+}
+
+/* The bytes of the file, in memory of their own: a mapping would show what the memory writes while it is opened. The head
+   is read first: of a file that doesn't begin as a journal does no more is read. */
 static uint8_t *read_whole(int descriptor, size_t *n) {
+    static const uint8_t name[] = {1, 'e', 'N', 'V', 'y', 'J', 'N', 'L'};
     struct stat found;
     if (fstat(descriptor, &found)) return NULL;
     *n = (size_t)found.st_size;
+    uint8_t head[HEAD];
+    if (*n >= HEAD) {
+        if (read_front(descriptor, head, HEAD)) return NULL;
+        if (memcmp(head, name, sizeof name)) *n = HEAD;
+    }
     uint8_t *bytes = malloc(*n + 1);
-    if (!bytes) return NULL;
-    for (size_t at = 0; at < *n;) {
-        ssize_t done = pread(descriptor, bytes + at, *n - at, (off_t)at);
-        if (done < 0 && errno == EINTR) continue;
-        if (done <= 0) {
-            if (!done) errno = EIO;
-            free(bytes);
-            return NULL;
-        }
-        at += (size_t)done;
+    if (bytes && read_front(descriptor, bytes, *n)) {
+        int why = errno;
+        free(bytes);
+        errno = why;
+        bytes = NULL;
     }
     return bytes;
 }
@@ -280,47 +336,16 @@ static int drop_held(const envy_kept_file *f) {
     return why != 0;
 }
 
-/* Writes bytes to a new file with such a name, on the disk. 0 if it is there whole. */
-static int copied(const char *path, const uint8_t *bytes, size_t n) {
-    int copy = open(path, O_WRONLY | O_CREAT | O_EXCL | O_CLOEXEC, 0600);
-    if (copy < 0) return -1;
-    int fails = written(copy, 0, (const char *)bytes, n) || fsync(copy);
-    return close(copy) || fails ? -1 : 0;
-}
-
-/* Copies the file under the first name beside it that nothing has, which is left in `name`. 0 if that is done. */
-static int copy_aside(const envy_kept_file *f, char *name, size_t size, const uint8_t *bytes, size_t n) {
-    for (int number = 0; number < NAMES; number++) {
-        if (number) snprintf(name, size, "%s.envy-cut%d", f->path, number);
-        else snprintf(name, size, "%s.envy-cut", f->path);
-        if (!copied(name, bytes, n)) return 0;
-        if (errno != EEXIST) return -1;
-    }
-    return -1;
-}
-
-/* Copies the file before it is opened, if what the opening cuts off may hold a sync, and says so on standard error. If it
-   can't be copied that is said, and the opening goes on. */
-static void copy_what_is_cut(const envy_kept_file *f, const uint8_t *bytes, size_t n) {
-    unsigned long long cut = envy_kept_cut(bytes, n);
-    if (!cut) return;
-    size_t size = strlen(f->path) + sizeof ".envy-cut" + NUMBER;
-    char *name = malloc(size);
-    if (name && !copy_aside(f, name, size, bytes, n))
-        fprintf(stderr, "envy: %llu bytes behind the last sync look like a sync; the file is copied to %s\n", cut, name);
-    else
-        fprintf(stderr, "envy: %llu bytes behind the last sync look like a sync; the file can't be copied\n", cut);
-    free(name);
-}
-
 /* Brings the file that was opened to the disk, reads it from there, and has the memory in it made or opened. */
 static uint32_t taken(envy_kept_file *f, const envy_setup *setup, opening *open_it) {
     size_t n;
     if (fsync(f->descriptor) || sync_folder(f) || drop_held(f)) return ENVY_SYSTEM;
     uint8_t *bytes = read_whole(f->descriptor, &n);
     if (!bytes) return errno == ENOMEM ? ENVY_NO_MEMORY : ENVY_SYSTEM;
-    copy_what_is_cut(f, bytes, n);
+    f->found = bytes;
+    f->found_n = n;
     uint32_t code = open_it(&f->memory, setup, bytes, n, f->port);
+    f->found = NULL;
     /* (of a file that is made the second file's failure is told as that of the file) */
     if (code == ENVY_OFF && !f->why) failed(f);
     free(bytes);

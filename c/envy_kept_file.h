@@ -22,11 +22,13 @@ typedef struct envy_kept_file {
     char *beside; /* the path of the second file */
     int process;  /* the one that opened the file */
     int why;      /* errno of the call on the file that failed, else 0 */
+    const uint8_t *found; /* its bytes, while it is opened and what the opening cuts off may hold a sync; else NULL */
+    size_t found_n;
 } envy_kept_file;
-#define ENVY_KEPT_FILE_INIT {ENVY_KEPT_INIT, {0, 0, 0, 0, 0, 0, 0}, -1, -1, -1, 0, 0, 0, 0, 0}
+#define ENVY_KEPT_FILE_INIT {ENVY_KEPT_INIT, {0, 0, 0, 0, 0, 0, 0}, -1, -1, -1, 0, 0, 0, 0, 0, 0, 0}
 
 /* Opens the file at a path, or makes an empty one, locks it, brings it and its folder to the disk, has the system drop
-   what it holds of the file, reads it whole, and has envy_kept_open make or open the memory in it. Beside it a second file
+   what it holds of the file, reads it whole (of one that doesn't begin as a journal does only the head), and has envy_kept_open make or open the memory in it. Beside it a second file
    may come to be, at the path and ".envy-new", or with a number of 1 to 7 after that if something else has the name. One is
    made and removed at once, so that a folder in which none can be made, or a name that is too long, is ENVY_SYSTEM here;
    those that a crash left are removed. No descriptor of the file is one of a standard stream, and a standard stream that is

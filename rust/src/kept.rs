@@ -69,6 +69,8 @@ impl KeptMemory {
                 beside: ptr::null_mut(),
                 process: 0,
                 why: 0,
+                found: ptr::null(),
+                found_n: 0,
             })),
         };
         // SAFETY: the pointers are to this memory's file, which stays where it is, and to a string and a setup of this

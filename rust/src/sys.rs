@@ -77,6 +77,8 @@ pub struct KeptFile {
     pub beside: *mut c_char,
     pub process: c_int,
     pub why: c_int,
+    pub found: *const u8,
+    pub found_n: usize,
 }
 
 pub const DONE: u32 = 0;

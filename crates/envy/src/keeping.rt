@@ -3,15 +3,15 @@
 ghost use Rattle.std.specs.Prelude.{◌≡◌, ◌≢◌, ◌≤◌, IfOk, IsErr, IsOk};
 ghost use Rattle.envy_device.specs.Device.{Only};
 ghost use Rattle.envy_hostfile.specs.Host.{host_bytes, host_outcome};
-ghost use Rattle.envy_hostfile.specs.declared.opening.OpenFault.TheVariants.{Unreadable, NotMade, InUse, Memory as OfMemory};
+ghost use Rattle.envy_hostfile.specs.declared.opening.OpenFault.TheVariants.{Unreadable, NotMade, InUse, NoJournal, Memory as OfMemory};
 ghost use Rattle.envy_serve.specs.Ends.{most_bytes};
 
-use crate::copying::copy_what_is_cut;
 use crate::streams::{AskedSource, HeldSink, StdSink, StdSource};
 use crate::{NO_MEMORY, WRITE_FAULT};
 use envy_args::{KeepWords, WordsFault, read_keep};
 use envy_hostfile::{HostFile, Names, OpenFault, open};
 use envy_io::{Failed, Sink};
+use envy_journal::cut_batch;
 use envy_keep::{KeepEnded, keep};
 use envy_streams::{BufferedSink, BufferedSource, NoMemory};
 use std::cell::RefCell;
@@ -21,6 +21,11 @@ use std::fs::File;
 const REFUSED: u8 = 2;
 /// The status where the file couldn't be opened.
 const UNOPENED: u8 = 11;
+
+/// The status where the file is refused.
+const UNSERVED: u8 = 10;
+/// Why, where it doesn't begin as a journal does.
+const NO_JOURNAL: u8 = 6;
 
 /// What is told at the end.
 #[derive(Clone, Copy, Debug, PartialEq, Eq)]
@@ -60,12 +65,14 @@ fn unopened(fault: OpenFault) -> Told
     ensures read { fault ≡ Unreadable → result ≡ record { status = 11; why = 1; lines = 0; place = 0 } }
     ensures locked { fault ≡ InUse → result ≡ record { status = 11; why = 2; lines = 0; place = 0 } }
     ensures second { fault ≡ NotMade → result ≡ record { status = 11; why = 3; lines = 0; place = 0 } }
+    ensures foreign { fault ≡ NoJournal → result ≡ record { status = 10; why = 6; lines = 0; place = 0 } }
     ensures memory { fault ≡ OfMemory → result ≡ record { status = 8; why = 0; lines = 0; place = 0 } }
 {
     match fault {
         OpenFault::Unreadable => unserved(UNOPENED, 1),
         OpenFault::InUse => unserved(UNOPENED, 2),
         OpenFault::NotMade => unserved(UNOPENED, 3),
+        OpenFault::NoJournal => unserved(UNSERVED, NO_JOURNAL),
         OpenFault::Memory => unserved(NO_MEMORY, 0),
     }
 }
@@ -136,11 +143,11 @@ pub fn keep_words(rt: &HostRuntime, words: &[String]) -> Told
         Ok(said) => said,
         Err(fault) => return refused(fault),
     };
-    let (device, bytes) = match open(rt, said.file, said.bytewise) {
+    let (mut device, bytes) = match open(rt, said.file, said.bytewise) {
         Ok(opened) => opened,
         Err(fault) => return unopened(fault),
     };
-    copy_what_is_cut(rt, said.file, &bytes);
+    device.file.cut = cut_batch(&bytes);
     match serve_file(rt, &said, device, &bytes) {
         Ok(told) => told,
         Err(NoMemory) => unserved(NO_MEMORY, 0),

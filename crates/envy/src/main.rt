@@ -3,7 +3,6 @@
 
 ghost use Rattle.std.specs.Prelude.{◌≡◌, ◌≢◌, ◌≤◌, IsErr, IsOk};
 
-mod copying;
 mod keeping;
 mod running;
 mod streams;

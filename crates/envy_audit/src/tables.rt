@@ -6,7 +6,7 @@ ghost use Rattle.envy_audit.specs.Finding.{Tells};
 ghost use Rattle.envy_audit.specs.Points.{Decodes, PositionsDiffer, FramesDiffer, RowsDiffer, rows_of};
 ghost use Rattle.envy_audit.specs.Tables.{MarksPlaced, NotesOwners, Notes, IsWithin, Fills};
 
-use envy_base::{Board, Off, Place, Slot, Undo, positions_of, MOST_ROWS};
+use envy_base::{Board, MOST_ROWS, Off, Place, Slot, Undo, positions_of};
 use envy_map::{place, segment_at, slot, undo};
 
 /// Notes which segments stand at positions, and answers whether no two positions name one.

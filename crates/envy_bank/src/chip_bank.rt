@@ -2,10 +2,10 @@ ghost use Rattle.std.specs.Prelude.{◌≡◌, ◌*◌, ◌<◌, ◌≤◌, ◌�
 ghost use Rattle.envy_bank.specs.Lanes.{lane_of};
 ghost use Rattle.envy_bank.specs.Rows.{IsBank, ErasesBlock, ands, erased_bank, row_of, with_row};
 
-use envy_base::{PAGE_WORDS, Page};
 use crate::bank::NoMemory;
 use crate::counting::more;
 use crate::lanes::{erase_lanes, new_lanes, program_lanes, read_lanes, upset_lanes};
+use envy_base::{PAGE_WORDS, Page};
 use envy_chip::{Chip, MOST_BYTES};
 use std::alloc::Global;
 use std::marker::Model;

@@ -5,8 +5,8 @@ ghost use Rattle.envy_bank.specs.Lanes.{lane_of, IsReady, anded, blanked, EachLa
 
 use envy_base::{PAGE_WORDS, Page};
 use envy_chip::{
-    MOST_BYTES,
-    CLEAR_STATUS, Chip, ERASE_CONFIRM, ERASE_SETUP, PROGRAM_ERROR, PROGRAM_SETUP, READ_ARRAY,
+    CLEAR_STATUS, Chip, ERASE_CONFIRM, ERASE_SETUP, MOST_BYTES, PROGRAM_ERROR, PROGRAM_SETUP,
+    READ_ARRAY,
 };
 use std::alloc::{AllocError, Global};
 

@@ -1,7 +1,7 @@
 ghost use Rattle.std.specs.Prelude.{◌≡◌, ◌<◌, length, slice_index};
 ghost use Rattle.envy_base.specs.State.{State, Puts, Programs, Erases, Reads, IsBoard, row_of};
 
-use crate::{Page, Shape, PAGE_WORDS};
+use crate::{PAGE_WORDS, Page, Shape};
 
 /// Power failed in the call, or was off at entry.
 #[derive(Clone, Copy, Debug, PartialEq, Eq)]

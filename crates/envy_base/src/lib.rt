@@ -26,6 +26,6 @@ pub use fields::{Job, Place, Slot, Undo};
 pub use laws::{
     restart_keeps_the_array, step_gives_one_answer, step_keeps_the_array, zeros_are_an_array,
 };
-pub use page::{Page, PAGE_BYTES, PAGE_LENGTH, PAGE_WORDS};
-pub use shape::{positions_of, Shape, ShapeFault, MOST_ROWS, MOST_WORDS};
+pub use page::{PAGE_BYTES, PAGE_LENGTH, PAGE_WORDS, Page};
+pub use shape::{MOST_ROWS, MOST_WORDS, Shape, ShapeFault, positions_of};
 pub use words::Words;

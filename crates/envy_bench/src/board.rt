@@ -6,8 +6,8 @@ ghost use Rattle.envy_base.specs.State.{IsBoard};
 ghost use Rattle.envy_bench.specs.Parts.{state_of};
 
 use crate::flash::Flash;
-use envy_base::{Bench, Board, NoMemory, Off, Page, Shape, Trouble, PlannedFault};
 use crate::plans::Plans;
+use envy_base::{Bench, Board, NoMemory, Off, Page, PlannedFault, Shape, Trouble};
 use envy_map::words;
 use envy_power::{Event, Sram, Supply};
 use std::alloc::Global;

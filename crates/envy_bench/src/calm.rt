@@ -6,7 +6,7 @@ ghost use Rattle.envy_bench.specs.Calm.{IsCalm};
 ghost use Rattle.envy_bench.specs.Parts.{new_state};
 
 use crate::MemBoard;
-use envy_base::{Bench, Board, Maker, NoMemory, Off, Page, Shape, Trouble, PlannedFault};
+use envy_base::{Bench, Board, Maker, NoMemory, Off, Page, PlannedFault, Shape, Trouble};
 use std::alloc::Global;
 
 /// A board in memory. Until a failure is planned, or power is cut by hand, nothing of it fails.

@@ -2,9 +2,9 @@ ghost use Rattle.std.specs.Prelude.{◌≡◌, ◌*◌, ◌<◌, ◌≤◌, IfOk
 ghost use Rattle.envy_bank.specs.Rows.{IsBank, ErasesBlock, ands, erased_bank, row_of, with_row};
 ghost use Rattle.envy_bench.specs.TornRows.{torn_row, TearsRows};
 
-use envy_base::{PAGE_WORDS, Page, MOST_ROWS};
 use crate::torn::next_row;
 use envy_bank::{Bank, NoMemory};
+use envy_base::{MOST_ROWS, PAGE_WORDS, Page};
 use envy_power::Torn;
 use std::alloc::Global;
 use std::marker::Model;

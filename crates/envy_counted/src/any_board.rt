@@ -3,7 +3,7 @@ ghost use Rattle.envy_base.specs.Shape.{IsShape};
 ghost use Rattle.envy_base.specs.State.{State, IsBoard, Reads, row_of, pull, lit, planned};
 ghost use Rattle.envy_counted.specs.AnyBoard.{AnyPuts, AnyPrograms, AnyErases, IsAnyMade};
 
-use envy_base::{NoMemory, Off, PAGE_WORDS, Page, Shape, Trouble, PlannedFault};
+use envy_base::{NoMemory, Off, PAGE_WORDS, Page, PlannedFault, Shape, Trouble};
 use std::alloc::Global;
 
 /// A board that keeps the least that is asked of one: flash in rows of one page, battery-backed SRAM

@@ -89,7 +89,7 @@ pub(crate) fn words<B: Board>(rt: &impl Abort, alloc: Global, board: &B) -> Vec<
 }
 
 // The words of a board after the first `n` operations of a session.
-fn wanted(rt: &impl Abort, alloc: Global, n: usize) -> Vec<u64> {
+pub(crate) fn wanted(rt: &impl Abort, alloc: Global, n: usize) -> Vec<u64> {
     SHAPE.check().expect(rt, SIZES);
     let mut cells = Cells::blank(alloc, &SHAPE).expect(rt, NO_ROOM);
     let mut board = cells.board();

@@ -3,6 +3,8 @@
 #![tactic(auto)]
 
 #[cfg(test)]
+mod condensed;
+#[cfg(test)]
 mod crashes;
 #[cfg(test)]
 mod left;

@@ -2,7 +2,7 @@ ghost use Rattle.std.specs.Prelude.{◌≡◌, ◌-◌, ◌<◌};
 ghost use Rattle.envy_base.specs.Shape.{IsShape, positions_of};
 ghost use Rattle.envy_frames.specs.Agreement.{default_home};
 
-use envy_base::{positions_of, Shape};
+use envy_base::{Shape, positions_of};
 
 /// The home of a page that was absent, and of each held page after a restart: the positions are
 /// shared out among the pages in order.

@@ -2,8 +2,8 @@ ghost use Rattle.std.specs.Prelude.{◌≡◌, ◌≤◌};
 ghost use Rattle.envy_trace.specs.Spelling.{HasPlace};
 ghost use Rattle.envy_gen.specs.Traces.{IsMix, address_of, drawn, hot_pages, next_line};
 
-use envy_base::{MOST_ROWS, PAGE_WORDS};
 use crate::mix::{Mix, Skew};
+use envy_base::{MOST_ROWS, PAGE_WORDS};
 use envy_trace::Line;
 use rand_core::Rng;
 

@@ -31,6 +31,9 @@ pub trait Folder<F> {
 
     /// Brings the names to the disk.
     fn sync(&self) -> io::Result<()>;
+
+    /// Copies the first file, since so many bytes of it that look like a sync are cut off, and says so.
+    fn copy_aside(&self, first: &F, cut: usize);
 }
 
 /// A file's name, that of the second file, and the folder of both. The second file's name is that of the first with
@@ -163,5 +166,9 @@ impl<'a> Folder<File> for Names<'a> {
 
     fn sync(&self) -> io::Result<()> {
         self.folder.sync_all()
+    }
+
+    fn copy_aside(&self, first: &File, cut: usize) {
+        self.copy_what_is_cut(first, cut);
     }
 }

@@ -27,6 +27,9 @@ pub struct HostCalls<F, P> {
     failed: bool,
     /// Whether it is believed that what was read is on the disk, since it wasn't written anew.
     pub is_believed: bool,
+    /// How many bytes the opening cuts off that look like a sync. Unless there are none the file is copied before the first
+    /// call that changes it.
+    pub cut: usize,
     /// The calls that were made, with their answers.
     pub record: Record,
     ghost noted: { failed ≡ have_failed record.calls },
@@ -53,6 +56,7 @@ impl<F: FileExt + OpenFile + Drop, P: Folder<F>> HostCalls<F, P> {
             second: None,
             failed: false,
             is_believed: true,
+            cut: 0,
             record: Record::new().and(&Made::Found { bytes }),
         };
         Recorded::found(calls, bytes, bytewise)
@@ -79,6 +83,17 @@ impl<F: FileExt + OpenFile + Drop, P: Folder<F>> HostCalls<F, P> {
                 self.failed = true;
                 Err(DeviceFailed)
             }
+        }
+    }
+
+    // Copies the file before it changes, once, if what is cut off looks like a sync.
+    fn copy_aside(&mut self)
+        ensures calls { self.new.record ≡ self.old.record }
+        ensures failed { self.new.failed ≡ self.old.failed }
+    {
+        if self.cut > 0 {
+            self.folder.copy_aside(&self.file, self.cut);
+            self.cut = 0;
         }
     }
 
@@ -151,6 +166,7 @@ impl<F: FileExt + OpenFile + Drop, P: Folder<F>> RawFile for HostCalls<F, P> {
 
     // Where the system is interrupted, or writes a part, the write goes on with what is left.
     fn write_at(&mut self, at: usize, bytes: &[u8]) -> Result<(), DeviceFailed> {
+        self.copy_aside();
         let answer = self.file.write_all_at(bytes, at as u64);
         self.note(
             answer,
@@ -160,6 +176,7 @@ impl<F: FileExt + OpenFile + Drop, P: Folder<F>> RawFile for HostCalls<F, P> {
     }
 
     fn cut(&mut self, size: usize) -> Result<(), DeviceFailed> {
+        self.copy_aside();
         let answer = self.file.set_len(size as u64);
         self.note(answer, &Made::CutTo { size }, &Made::CutFailed { size })
     }
@@ -199,6 +216,7 @@ impl<F: FileExt + OpenFile + Drop, P: Folder<F>> RawFile for HostCalls<F, P> {
     }
 
     fn replace(&mut self) -> Result<(), ReplaceError> {
+        self.copy_aside();
         match self.put_in_place() {
             Ok(()) => {
                 self.record = self.record.and(&Made::Replaced);

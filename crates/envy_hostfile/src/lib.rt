@@ -8,6 +8,10 @@
 //! `envy_record`: among that, that a rename leaves the name with either file, whole, and once the folder is synced with the
 //! second.
 //!
+//! A file that has bytes and doesn't begin as a journal does isn't read further, and nothing is made beside it. One of which
+//! the opening cuts off what may be a sync (`HostCalls::cut`) is copied before the first call that changes it, so one that is
+//! refused isn't copied.
+//!
 //! What is read when a file is opened is written anew, through the second file, before anything else is done to it. After a
 //! write that failed the system reports that once, to one process, and from then on takes what it holds for written: the
 //! next process would read what the disk hasn't, and its own syncs would not write that again. What was written anew is on
@@ -19,6 +23,7 @@
 //! file's any more, and says that it is in use.
 #![tactic(auto)]
 
+mod copying;
 mod descriptors;
 mod folder;
 mod host;

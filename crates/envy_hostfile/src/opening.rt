@@ -9,10 +9,14 @@ use envy_device::{Place, ReplaceError};
 use std::alloc::AllocError;
 use std::fs::{File, OpenOptions};
 use std::io::{ErrorKind, Read};
+use std::os::unix::fs::FileExt;
 use std::{fs, io};
 
 /// What a journal of the version that is known here begins with.
 const MARK: [u8; 9] = [1, b'e', b'N', b'V', b'y', b'J', b'N', b'L', 2];
+
+/// How much of it is the name, in front of the version.
+const NAME: usize = 8;
 
 /// Why a file wasn't opened.
 #[derive(Clone, Copy, Debug, PartialEq, Eq)]
@@ -23,6 +27,8 @@ pub enum OpenFault {
     NotMade,
     /// It is locked, or was replaced while it was opened: another process has it open.
     InUse,
+    /// It has bytes, and they don't begin as a journal does.
+    NoJournal,
     /// Memory ran out.
     Memory,
 }
@@ -63,6 +69,16 @@ fn opened(rt: &HostRuntime, path: &str) -> io::Result<(File, bool)> {
         }
         Err(error) => Err(error),
     }
+}
+
+// Whether a file begins otherwise than a journal does: of a long one no more is read.
+fn is_foreign(file: &File) -> io::Result<bool> {
+    let mut front = [0; NAME];
+    if file.metadata()?.len() < NAME as u64 {
+        return Ok(false);
+    }
+    file.read_exact_at(&mut front, 0)?;
+    Ok(front[..] != MARK[..NAME])
 }
 
 // Locks a file that was opened.
@@ -168,7 +184,7 @@ fn written_anew<'a>(
     }
 }
 
-/// Opens the file at a path, or makes an empty one, locks it, brings it and its name to the disk, reads it whole, and writes
+/// Opens the file at a path, or makes an empty one, locks it, looks whether it begins as a journal does, brings it and its name to the disk, reads it whole, and writes
 /// what it read anew. The lock goes with the file. A file that was locked and that the path doesn't name
 /// any more was replaced by the process that had it open. Beside it a second file must be able to be made; those that a
 /// crash left are removed. That the file is written byte by byte is a premise, which the caller states or doesn't.
@@ -185,6 +201,9 @@ pub fn open<'a>(
     hold_standard(rt);
     let (mut file, is_made) = opened(rt, path)?;
     locked(&file)?;
+    if is_foreign(&file)? {
+        return Err(OpenFault::NoJournal);
+    }
     let place = placed(rt, path, &file, is_made)?;
     file.sync_all()?;
     place.folder.sync_all()?;

@@ -284,6 +284,8 @@ impl<'a> Folder<&'a Slow> for &'a Slow {
     fn sync(&self) -> io::Result<()> {
         self.noted(FOLDER_SYNCED)
     }
+
+    fn copy_aside(&self, _first: &&'a Slow, _cut: usize) {}
 }
 
 // A file that fails at one call.
@@ -390,4 +392,19 @@ fn a_failure_of_the_second_file_leaves_the_first(rt: HostRuntime) {
             "each write goes on",
         );
     }
+}
+
+#[test]
+fn a_foreign_file_is_left_as_it_is(rt: HostRuntime) {
+    let path = "envy_hostfile_foreign";
+    fs::write(&rt, path, b"another kind of file").expect(&rt, "not written");
+    let answer = open(&rt, path, false);
+    holds(
+        &rt,
+        matches!(answer, Err(OpenFault::NoJournal)),
+        "it is no journal",
+    );
+    let found = fs::read(&rt, path).expect(&rt, "not read");
+    same_bytes(&rt, &found, b"another kind of file", "the file");
+    remove(&rt, &rt, path);
 }

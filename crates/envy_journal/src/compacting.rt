@@ -20,11 +20,11 @@ use envy_base::{PAGE_LENGTH, PAGE_WORDS, Page, Shape};
 use envy_device::{Place, ReplaceError, SecondFailed};
 use envy_map::words;
 
-// A shorter log isn't compacted by a sync.
-const LEAST: usize = 1 << 20;
+/// A shorter log isn't compacted by a sync.
+pub(crate) const LEAST: usize = 1 << 20;
 
-// A row on which nothing was programmed.
-const ERASED: Page = [u64::MAX; PAGE_LENGTH];
+/// A row on which nothing was programmed.
+pub(crate) const ERASED: Page = [u64::MAX; PAGE_LENGTH];
 
 // How many bytes a snapshot takes at most.
 fn most(shape: &Shape) -> usize
@@ -43,8 +43,8 @@ pub(crate) fn limit(shape: &Shape) -> usize
     (2 * most(shape)).max(LEAST)
 }
 
-// A word of SRAM.
-fn word_of<B: Steady>(board: &B, w: u32) -> u64
+/// A word of SRAM.
+pub(crate) fn word_of<B: Steady>(board: &B, w: u32) -> u64
     requires { w < length (B.state board.now).sram }
     ensures { result ≡ slice_index_or (B.state board.now).sram w 0 }
 {
@@ -66,8 +66,8 @@ fn word_in_row<B: Steady>(board: &B, row: u32, i: u32) -> u64
     }
 }
 
-// A row.
-fn page_in<B: Steady>(board: &B, row: u32) -> Page
+/// A row.
+pub(crate) fn page_in<B: Steady>(board: &B, row: u32) -> Page
     requires { row < length (B.state board.now).flash }
     ensures { result ≡ row_of (B.state board.now) row }
 {

@@ -1,7 +1,7 @@
 ghost use Rattle.std.specs.Prelude.{◌≡◌, IfSome, IfNone};
 ghost use Rattle.envy_map.specs.Codes.{job_code, job_of, IsJob, slot_code, slot_of, place_code, place_of, IsPlace, undo_code, undo_of, IsUndo};
 
-use envy_base::{Job, Place, Slot, Undo, MOST_ROWS};
+use envy_base::{Job, MOST_ROWS, Place, Slot, Undo};
 
 /// The number that stands for a job.
 pub fn encode_job(job: Job) -> u64

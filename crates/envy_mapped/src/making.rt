@@ -4,8 +4,8 @@ ghost use Rattle.envy_mapped.specs.Opening.{Attached, Formatted, Given, HasSizes
 ghost use Rattle.envy_mapped.specs.Regions.{AreWhole};
 ghost use Rattle.envy_policy.specs.Setup.{IsSetup, checked};
 
-use envy_base::Page;
 use crate::handle::Slot;
+use envy_base::Page;
 use envy_calls::{Code, EnvySetup, attach, checked_setup, format_answer};
 use envy_map::words;
 use envy_memory::Memory;
@@ -14,12 +14,7 @@ use envy_region::RegionBoard;
 use std::alloc::Global;
 
 // The setup, if the regions have the sizes of its shape.
-fn setup_for(
-    given: &EnvySetup,
-    flash: &[Page],
-    sram: &[u64],
-    erases: &[u64],
-) -> Result<Setup, Code>
+fn setup_for(given: &EnvySetup, flash: &[Page], sram: &[u64], erases: &[u64]) -> Result<Setup, Code>
     ensures { MatchResult result
         (λ setup. (setup_of given.now ≡ Some setup) × (checked setup ≡ Ok tt) × IsSetup setup
         × HasSizes setup.shape flash.now sram.now erases.now)

@@ -126,8 +126,8 @@ vacant-emptied n entries long none = ext_get_or None entries (vacant n) (long �
 pub counts-same : (x y : Parts) → SameCounts x y → counts_of y ≡ counts_of x
 counts-same x y s = rw (s.hits, s.misses, s.flushes, s.copied, s.moved, s.erased, s.swaps) refl
 
-pub IsStarted-anew : (setup : Setup) (c : Chart) (x : Parts) (o : Ownership) → StartsAnew (started_parts setup) c x → o.pairs ≡ [] → IsStarted setup (record { chart = c; parts = x; owned = o; limit = setup.limit; mark = setup.mark })
-IsStarted-anew setup c x o s none = record {
+pub IsStarted-anew : {sram : List ℕ} (setup : Setup) (c : Chart) (x : Parts) (o : Ownership) → StartsAnew (started_parts setup) c x → o.pairs ≡ [] → IsStarted setup (record { chart = c; parts = x; owned = o; limit = setup.limit; mark = setup.mark; sram = sram })
+IsStarted-anew {sram} setup c x o s none = record {
   counts = counts-same (started_parts setup) x s.counts;
   since = s.since;
   entries = vacant-emptied setup.shape.entries x.cache.entries (Empties.size s.empties ∙ length-replicate setup.shape.entries None) (Empties.pages s.empties);

@@ -1,5 +1,5 @@
 -- What an accepted store or put does below the array, and one that a failure ended.
-use Rattle.std.proofs.Common.{◌≡◌, ◌/◌, inl, inr, false, ℕ, ◌++◌, ◌∷◌, [], Some, None, Ok, Err, refl, subst}
+use Rattle.std.proofs.Common.{◌≡◌, ◌/◌, inl, inr, false, ℕ, List, ◌++◌, ◌∷◌, [], Some, None, Ok, Err, refl, subst}
 use Rattle.std.specs.Prelude.{◌<◌, IsTrue, IsErrOf, IfOk, MatchResult, length, Result}
 use Rattle.envy_base.specs.declared.board.Trouble.{Trouble}
 use Rattle.envy_base.specs.declared.board.Trouble.TheVariants.{Off as TroubleOff, Bad as TroubleBad}
@@ -36,10 +36,10 @@ pub record Worked (page : ℕ) (p : Picture) (new : Chart) (now : Parts) : Type 
 powered : (p q : Picture) → IsTrue p.chart.on → p.chart.on ≡ false → q ≡ p
 powered p q on off = absurd (let clash : IsTrue false = subst IsTrue off on in cc)
 
-pub below-stored : (a : ℕ) (p : Picture) (new : Chart) (now : Parts) → Worked (a / 32) p new now → Fits p.chart.shape p.parts
-    → StoresBy (a / 32) p.chart p.parts new now → StoresBelow a (Ok tt) p (record p { chart = new; parts = now })
-below-stored a p new now worked fits stores = record {
-  unpowered = powered p (record p { chart = new; parts = now }) worked.on;
+pub below-stored : {sram : List ℕ} (a : ℕ) (p : Picture) (new : Chart) (now : Parts) → Worked (a / 32) p new now → Fits p.chart.shape p.parts
+    → StoresBy (a / 32) p.chart p.parts new now → StoresBelow a (Ok tt) p (record p { sram = sram; chart = new; parts = now })
+below-stored {sram} a p new now worked fits stores = record {
+  unpowered = powered p (record p { sram = sram; chart = new; parts = now }) worked.on;
   works = worked.works;
   counts = worked.counts;
   visits = worked.visits;
@@ -50,10 +50,10 @@ below-stored a p new now worked fits stores = record {
   kept = refl;
 }
 
-pub below-store_ended : (a : ℕ) (p : Picture) (new : Chart) (now : Parts) (e : Trouble) → Worked (a / 32) p new now
-    → (IsErrOf {T = Unit {0}} {E = Trouble} (Err e) TroubleBad → Stops (a / 32) p.chart p.parts new now) → StoresBelow a (Err (store_fault e)) p (record p { chart = new; parts = now })
-below-store_ended a p new now TroubleOff worked stops = record {
-  unpowered = powered p (record p { chart = new; parts = now }) worked.on;
+pub below-store_ended : {sram : List ℕ} (a : ℕ) (p : Picture) (new : Chart) (now : Parts) (e : Trouble) → Worked (a / 32) p new now
+    → (IsErrOf {T = Unit {0}} {E = Trouble} (Err e) TroubleBad → Stops (a / 32) p.chart p.parts new now) → StoresBelow a (Err (store_fault e)) p (record p { sram = sram; chart = new; parts = now })
+below-store_ended {sram} a p new now TroubleOff worked stops = record {
+  unpowered = powered p (record p { sram = sram; chart = new; parts = now }) worked.on;
   works = worked.works;
   counts = worked.counts;
   visits = inl (worked.on, worked.visits);
@@ -63,8 +63,8 @@ below-store_ended a p new now TroubleOff worked stops = record {
   stops = λ is. absurd (let clash : Err StoreOff ≡ Err StoreBad = is in cc);
   kept = refl;
 }
-below-store_ended a p new now TroubleBad worked stops = record {
-  unpowered = powered p (record p { chart = new; parts = now }) worked.on;
+below-store_ended {sram} a p new now TroubleBad worked stops = record {
+  unpowered = powered p (record p { sram = sram; chart = new; parts = now }) worked.on;
   works = worked.works;
   counts = worked.counts;
   visits = worked.visits;
@@ -76,10 +76,10 @@ below-store_ended a p new now TroubleBad worked stops = record {
 }
 
 -- a put to a page that its slot owns
-pub below-put_again : (t a : ℕ) (p : Picture) (new : Chart) (now : Parts) → Worked (a / 32) p new now → Fits p.chart.shape p.parts
-    → owner_of p.owned.pairs (a / 32) ≡ Some t → StoresBy (a / 32) p.chart p.parts new now → PutsBelow t a (Ok tt) p (record p { chart = new; parts = now })
-below-put_again t a p new now worked fits own stores = record {
-  unpowered = powered p (record p { chart = new; parts = now }) worked.on;
+pub below-put_again : {sram : List ℕ} (t a : ℕ) (p : Picture) (new : Chart) (now : Parts) → Worked (a / 32) p new now → Fits p.chart.shape p.parts
+    → owner_of p.owned.pairs (a / 32) ≡ Some t → StoresBy (a / 32) p.chart p.parts new now → PutsBelow t a (Ok tt) p (record p { sram = sram; chart = new; parts = now })
+below-put_again {sram} t a p new now worked fits own stores = record {
+  unpowered = powered p (record p { sram = sram; chart = new; parts = now }) worked.on;
   works = worked.works;
   counts = worked.counts;
   visits = worked.visits;
@@ -91,12 +91,12 @@ below-put_again t a p new now worked fits own stores = record {
 }
 
 -- the first put to a page
-pub below-put_first : (t a : ℕ) (p : Picture) (new : Chart) (now : Parts) (then_owned : Ownership) → Worked (a / 32) p new now → Fits p.chart.shape p.parts
+pub below-put_first : {sram : List ℕ} (t a : ℕ) (p : Picture) (new : Chart) (now : Parts) (then_owned : Ownership) → Worked (a / 32) p new now → Fits p.chart.shape p.parts
     → owner_of p.owned.pairs (a / 32) ≡ None → PutsBy t (a / 32) p.chart p.parts new now
     → then_owned ≡ record p.owned { pairs = p.owned.pairs ++ (record { page = a / 32; slot = t }) ∷ [] }
-    → PutsBelow t a (Ok tt) p (record p { chart = new; parts = now; owned = then_owned })
-below-put_first t a p new now then_owned worked fits none puts gives = record {
-  unpowered = powered p (record p { chart = new; parts = now; owned = then_owned }) worked.on;
+    → PutsBelow t a (Ok tt) p (record p { sram = sram; chart = new; parts = now; owned = then_owned })
+below-put_first {sram} t a p new now then_owned worked fits none puts gives = record {
+  unpowered = powered p (record p { sram = sram; chart = new; parts = now; owned = then_owned }) worked.on;
   works = worked.works;
   counts = worked.counts;
   visits = worked.visits;
@@ -107,11 +107,11 @@ below-put_first t a p new now then_owned worked fits none puts gives = record {
   kept = refl;
 }
 
-pub below-put_ended : (t a : ℕ) (p : Picture) (new : Chart) (now : Parts) (then_owned : Ownership) (e : Trouble) → Worked (a / 32) p new now
+pub below-put_ended : {sram : List ℕ} (t a : ℕ) (p : Picture) (new : Chart) (now : Parts) (then_owned : Ownership) (e : Trouble) → Worked (a / 32) p new now
     → (IsErrOf {T = Unit {0}} {E = Trouble} (Err e) TroubleBad → Stops (a / 32) p.chart p.parts new now) → (IsErrOf {T = Unit {0}} {E = Trouble} (Err e) TroubleBad → then_owned ≡ p.owned)
-    → PutsBelow t a (Err (put_fault e)) p (record p { chart = new; parts = now; owned = then_owned })
-below-put_ended t a p new now then_owned TroubleOff worked stops stays = record {
-  unpowered = powered p (record p { chart = new; parts = now; owned = then_owned }) worked.on;
+    → PutsBelow t a (Err (put_fault e)) p (record p { sram = sram; chart = new; parts = now; owned = then_owned })
+below-put_ended {sram} t a p new now then_owned TroubleOff worked stops stays = record {
+  unpowered = powered p (record p { sram = sram; chart = new; parts = now; owned = then_owned }) worked.on;
   works = worked.works;
   counts = worked.counts;
   visits = inl (worked.on, worked.visits);
@@ -121,8 +121,8 @@ below-put_ended t a p new now then_owned TroubleOff worked stops stays = record 
   stops = λ is. absurd (let clash : Err PutOff ≡ Err PutBad = is in cc);
   kept = refl;
 }
-below-put_ended t a p new now then_owned TroubleBad worked stops stays = record {
-  unpowered = powered p (record p { chart = new; parts = now; owned = then_owned }) worked.on;
+below-put_ended {sram} t a p new now then_owned TroubleBad worked stops stays = record {
+  unpowered = powered p (record p { sram = sram; chart = new; parts = now; owned = then_owned }) worked.on;
   works = worked.works;
   counts = worked.counts;
   visits = worked.visits;
@@ -143,9 +143,9 @@ pub record Ticked (answer : Result Did Trouble) (p : Picture) (new : Chart) (now
   pub counts : MatchResult answer (λ _. CountsTick p.chart p.parts new now) (λ _. Counting p.chart p.parts new now)
   pub rests : Rests p.parts.cache now.cache
 
-pub below-ticked : (answer : Result Did Trouble) (p : Picture) (new : Chart) (now : Parts) → Ticked answer p new now → TicksBelow answer p (record p { chart = new; parts = now })
-below-ticked answer p new now t = record {
-  unpowered = powered p (record p { chart = new; parts = now }) t.on;
+pub below-ticked : {sram : List ℕ} (answer : Result Did Trouble) (p : Picture) (new : Chart) (now : Parts) → Ticked answer p new now → TicksBelow answer p (record p { sram = sram; chart = new; parts = now })
+below-ticked {sram} answer p new now t = record {
+  unpowered = powered p (record p { sram = sram; chart = new; parts = now }) t.on;
   works = TicksOnce-all p.chart new t.on t.step;
   does = t.does;
   idle = (

@@ -138,51 +138,51 @@ aborts-refused t f p = record {
 pub commits-refused : (t : ℕ) (f : EndFault) (p : Picture) → CommitsBelow t (Err f) p p
 commits-refused t f p = record { unpowered = λ off. refl; works = works-still p.chart; rows = tt; owned = tt; kept = refl; refused = λ e. refl }
 
-pub aborts-ended : (t : ℕ) (p : Picture) (new : Chart) (y : Parts) (o : Ownership) → IsTrue p.chart.on → Headed p.chart new → Rests p.parts.cache y.cache
-    → y ≡ record p.parts { frames = y.frames; space = y.space; cache = y.cache } → AbortsBelow t (Err Off) p (record p { chart = new; parts = y; owned = o })
-aborts-ended t p new y o on h rests parts = record {
+pub aborts-ended : {sram : List ℕ} (t : ℕ) (p : Picture) (new : Chart) (y : Parts) (o : Ownership) → IsTrue p.chart.on → Headed p.chart new → Rests p.parts.cache y.cache
+    → y ≡ record p.parts { frames = y.frames; space = y.space; cache = y.cache } → AbortsBelow t (Err Off) p (record p { sram = sram; chart = new; parts = y; owned = o })
+aborts-ended {sram} t p new y o on h rests parts = record {
   unpowered = λ off. absurd (unlit p.chart.on off on);
   works = works-headed p.chart new on h;
   rows = tt;
   rests = rests;
   held = tt;
   owned = tt;
-  kept = ap (λ (z : Parts). record p { chart = new; parts = z; owned = o }) parts;
+  kept = ap (λ (z : Parts). record p { sram = sram; chart = new; parts = z; owned = o }) parts;
   refused = λ e. absurd (off-open e);
 }
 
-pub aborts-done : (t : ℕ) (p : Picture) (new : Chart) (y : Parts) (o : Ownership) → IsTrue p.chart.on → Headed p.chart new → Rests p.parts.cache y.cache
+pub aborts-done : {sram : List ℕ} (t : ℕ) (p : Picture) (new : Chart) (y : Parts) (o : Ownership) → IsTrue p.chart.on → Headed p.chart new → Rests p.parts.cache y.cache
     → y ≡ record p.parts { frames = y.frames; space = y.space; cache = y.cache } → TakesSlot t p.chart p.parts p.owned new y o
-    → AbortsBelow t (Ok tt) p (record p { chart = new; parts = y; owned = o })
-aborts-done t p new y o on h rests parts takes = record {
+    → AbortsBelow t (Ok tt) p (record p { sram = sram; chart = new; parts = y; owned = o })
+aborts-done {sram} t p new y o on h rests parts takes = record {
   unpowered = λ off. absurd (unlit p.chart.on off on);
   works = works-headed p.chart new on h;
   rows = takes.ends.rows;
   rests = rests;
   held = takes.held;
   owned = takes.ends.pairs;
-  kept = ap (λ (z : Parts). record p { chart = new; parts = z; owned = o }) parts;
+  kept = ap (λ (z : Parts). record p { sram = sram; chart = new; parts = z; owned = o }) parts;
   refused = λ e. absurd (done-open e);
 }
 
-pub commits-ended : (t : ℕ) (p : Picture) (new : Chart) (y : Parts) (o : Ownership) → IsTrue p.chart.on → Headed p.chart new → y ≡ record p.parts { space = y.space }
-    → CommitsBelow t (Err Off) p (record p { chart = new; parts = y; owned = o })
-commits-ended t p new y o on h parts = record {
+pub commits-ended : {sram : List ℕ} (t : ℕ) (p : Picture) (new : Chart) (y : Parts) (o : Ownership) → IsTrue p.chart.on → Headed p.chart new → y ≡ record p.parts { space = y.space }
+    → CommitsBelow t (Err Off) p (record p { sram = sram; chart = new; parts = y; owned = o })
+commits-ended {sram} t p new y o on h parts = record {
   unpowered = λ off. absurd (unlit p.chart.on off on);
   works = works-headed p.chart new on h;
   rows = tt;
   owned = tt;
-  kept = ap (λ (z : Parts). record p { chart = new; parts = z; owned = o }) parts;
+  kept = ap (λ (z : Parts). record p { sram = sram; chart = new; parts = z; owned = o }) parts;
   refused = λ e. absurd (off-open e);
 }
 
-pub commits-done : (t : ℕ) (p : Picture) (new : Chart) (y : Parts) (o : Ownership) → IsTrue p.chart.on → Headed p.chart new → y ≡ record p.parts { space = y.space }
-    → EndsSlot t p.chart p.owned new o → CommitsBelow t (Ok tt) p (record p { chart = new; parts = y; owned = o })
-commits-done t p new y o on h parts ends = record {
+pub commits-done : {sram : List ℕ} (t : ℕ) (p : Picture) (new : Chart) (y : Parts) (o : Ownership) → IsTrue p.chart.on → Headed p.chart new → y ≡ record p.parts { space = y.space }
+    → EndsSlot t p.chart p.owned new o → CommitsBelow t (Ok tt) p (record p { sram = sram; chart = new; parts = y; owned = o })
+commits-done {sram} t p new y o on h parts ends = record {
   unpowered = λ off. absurd (unlit p.chart.on off on);
   works = works-headed p.chart new on h;
   rows = ends.rows;
   owned = ends.pairs;
-  kept = ap (λ (z : Parts). record p { chart = new; parts = z; owned = o }) parts;
+  kept = ap (λ (z : Parts). record p { sram = sram; chart = new; parts = z; owned = o }) parts;
   refused = λ e. absurd (done-open e);
 }

@@ -119,8 +119,8 @@ IsMemory-new c setup x o on e shape sizes parts owned =
     IsMemory-settled c x o setup.limit setup.mark e.magic e.version_is (subst (λ (y : Parts). Ready c y) (sym parts) (Ready-new c setup on e shape)) (settled c e)
     (ap (λ (z : Ownership). z.pairs) owned) (ap (λ (z : Ownership). z.limit) owned ∙ ap (λ (sh : Shape). sh.shadows) (sym shape)) sizes.limit sizes.mark
 
-pub IsStarted-new : (c : Chart) (setup : Setup) (x : Parts) (o : Ownership) → IsEmpty 2 c → x ≡ started_parts setup → o ≡ record { pairs = []; limit = setup.shape.shadows } → IsStarted setup (record { chart = c; parts = x; owned = o; limit = setup.limit; mark = setup.mark })
-IsStarted-new c setup x o e parts owned = subst (λ (y : Parts). IsStarted setup (record { chart = c; parts = y; owned = o; limit = setup.limit; mark = setup.mark })) (sym parts) (record {
+pub IsStarted-new : {sram : List ℕ} (c : Chart) (setup : Setup) (x : Parts) (o : Ownership) → IsEmpty 2 c → x ≡ started_parts setup → o ≡ record { pairs = []; limit = setup.shape.shadows } → IsStarted setup (record { chart = c; parts = x; owned = o; limit = setup.limit; mark = setup.mark; sram = sram })
+IsStarted-new {sram} c setup x o e parts owned = subst (λ (y : Parts). IsStarted setup (record { chart = c; parts = y; owned = o; limit = setup.limit; mark = setup.mark; sram = sram })) (sym parts) (record {
   counts = refl;
   since = refl;
   entries = refl;

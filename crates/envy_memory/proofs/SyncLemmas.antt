@@ -1,6 +1,6 @@
 -- A board that was brought to a disk is a memory's still.
 use Rattle.std.specs.Prelude.{Result, IsTrue}
-use Rattle.std.proofs.Common.{inl, inr, ℕ, Ok, Err, sym, ◌∙◌, ap, subst}
+use Rattle.std.proofs.Common.{◌≡◌, inl, inr, ℕ, Ok, Err, sym, ◌∙◌, ap, subst}
 use Rattle.std.proofs.lemmas.Bool.{false≢true}
 use Rattle.envy_base.specs.declared.board.Off.{Off}
 use Rattle.envy_base.specs.State.{State}
@@ -15,6 +15,12 @@ pub synced_chart : {T : Type 0} (old new : State) (r : Result T Off) → Syncs o
 synced_chart old new (Ok done) (on, plans, given, is) = (on, plans, given, ap chart is)
 synced_chart old new (Err off) (inl (dark, is)) = inl (dark, ap chart is)
 synced_chart old new (Err off) (inr (on, is)) = inr (on, ap chart is)
+
+-- and SRAM stays
+pub synced_sram : {T : Type 0} (old new : State) (r : Result T Off) → Syncs old r new → new.sram ≡ old.sram
+synced_sram old new (Ok done) (on, plans, given, is) = ap (λ (s : State). s.sram) is
+synced_sram old new (Err off) (inl (dark, is)) = ap (λ (s : State). s.sram) is
+synced_sram old new (Err off) (inr (on, is)) = ap (λ (s : State). s.sram) is
 
 module _ (c : Chart) (x : Parts) (o : Ownership) (limit mark : ℕ) (is : IsMemory c x o limit mark) where
   with_numbers_memory : (plans given pulled lives : ℕ) → IsMemory (with_numbers c plans given pulled lives) x o limit mark

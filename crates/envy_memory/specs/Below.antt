@@ -83,13 +83,13 @@ pub record StoresBelow (a : ℕ) (answer : Result Unit StoreFault) (p q : Pictur
   pub does : OnOk answer (StoresBy (a / PAGE_WORDS) p.chart p.parts q.chart q.parts)
   pub ends : OnOk answer (Ends p.chart p.parts q.chart q.parts)
   pub stops : IsErrOf answer StoreBad → Stops (a / PAGE_WORDS) p.chart p.parts q.chart q.parts
-  pub kept : q ≡ record p { chart = q.chart; parts = q.parts }
+  pub kept : q ≡ record p { chart = q.chart; sram = q.sram; parts = q.parts }
 
 pub record BeginsBelow (answer : Result ℕ BeginFault) (p q : Picture) : Type 0 where
   pub unpowered : p.chart.on ≡ false → q ≡ p
   pub works : Works 0 0 p.chart q.chart
   pub slot : IfOk answer (λ t. q.chart.fields ≡ with_slot t (Some Active) p.chart.fields)
-  pub kept : q ≡ record p { chart = q.chart }
+  pub kept : q ≡ record p { chart = q.chart; sram = q.sram }
   pub refused : (answer ≡ Err BeginBusy) → q ≡ p
 
 pub record PutsBelow (t a : ℕ) (answer : Result Unit PutFault) (p q : Picture) : Type 0 where
@@ -101,14 +101,14 @@ pub record PutsBelow (t a : ℕ) (answer : Result Unit PutFault) (p q : Picture)
   pub does : OnOk answer (PutEffect t (a / PAGE_WORDS) p q)
   pub ends : OnOk answer (Ends p.chart p.parts q.chart q.parts)
   pub stops : IsErrOf answer PutBad → Stops (a / PAGE_WORDS) p.chart p.parts q.chart q.parts × (q.owned ≡ p.owned)
-  pub kept : q ≡ record p { chart = q.chart; parts = q.parts; owned = q.owned }
+  pub kept : q ≡ record p { chart = q.chart; sram = q.sram; parts = q.parts; owned = q.owned }
 
 pub record CommitsBelow (t : ℕ) (answer : Result Unit EndFault) (p q : Picture) : Type 0 where
   pub unpowered : p.chart.on ≡ false → q ≡ p
   pub works : Works 0 0 p.chart q.chart
   pub rows : OnOk answer (Rows p.chart q.chart)
   pub owned : OnOk answer (q.owned ≡ record p.owned { pairs = others_of t p.owned.pairs })
-  pub kept : q ≡ record p { chart = q.chart; owned = q.owned; parts = record p.parts { space = q.parts.space } }
+  pub kept : q ≡ record p { chart = q.chart; sram = q.sram; owned = q.owned; parts = record p.parts { space = q.parts.space } }
   pub refused : (answer ≡ Err EndClosed) → q ≡ p
 
 pub record AbortsBelow (t : ℕ) (answer : Result Unit EndFault) (p q : Picture) : Type 0 where
@@ -118,7 +118,7 @@ pub record AbortsBelow (t : ℕ) (answer : Result Unit EndFault) (p q : Picture)
   pub rests : Rests p.parts.cache q.parts.cache
   pub held : OnOk answer (q.parts.frames.held ≡ filter (λ h. not (names_slot t (undo_of p.chart.fields h.page))) p.parts.frames.held)
   pub owned : OnOk answer (q.owned ≡ record p.owned { pairs = others_of t p.owned.pairs })
-  pub kept : q ≡ record p { chart = q.chart; owned = q.owned; parts = record p.parts { frames = q.parts.frames; space = q.parts.space; cache = q.parts.cache } }
+  pub kept : q ≡ record p { chart = q.chart; sram = q.sram; owned = q.owned; parts = record p.parts { frames = q.parts.frames; space = q.parts.space; cache = q.parts.cache } }
   pub refused : (answer ≡ Err EndClosed) → q ≡ p
 
 pub record TicksBelow (answer : Result Did Trouble) (p q : Picture) : Type 0 where
@@ -129,4 +129,4 @@ pub record TicksBelow (answer : Result Did Trouble) (p q : Picture) : Type 0 whe
   pub stops : IsErrOf answer TroubleBad → TicksBad p.mark p.chart p.parts q.chart q.parts
   pub counts : MatchResult answer (λ _. CountsTick p.chart p.parts q.chart q.parts) (λ _. Counting p.chart p.parts q.chart q.parts)
   pub rests : Rests p.parts.cache q.parts.cache
-  pub kept : q ≡ record p { chart = q.chart; parts = q.parts }
+  pub kept : q ≡ record p { chart = q.chart; sram = q.sram; parts = q.parts }

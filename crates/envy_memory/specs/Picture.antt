@@ -1,7 +1,8 @@
 -- What a client sees of a memory, and what holds of each.
-use Rattle.std.specs.Prelude.{◌≡◌, ◌≢◌, ℕ, ◌≤◌, IsTrue, Some}
+use Rattle.std.specs.Prelude.{◌≡◌, ◌≢◌, ℕ, ◌≤◌, IsTrue, List, Some}
 use Rattle.envy_base.specs.declared.counts.Counts.{Counts}
 use Rattle.envy_base.specs.declared.fields.Slot.TheVariants.{Committed}
+use Rattle.envy_base.specs.State.{State}
 use Rattle.envy_map.specs.Codes.{the_magic}
 use Rattle.envy_map.specs.Fields.{Chart, slot}
 use Rattle.envy_layout.specs.Sound.{IsSound}
@@ -10,13 +11,33 @@ use Rattle.envy_flush.specs.declared.parts.Parts.{Parts}
 use Rattle.envy_txn.specs.Owners.{Ownership, AreOwned}
 
 -- The board read by its map; the held frames, the pool, the cache's entries, heats, turns and lives, the moves and the
--- stages that are left, and the counts (`parts`); the owner pairs; the limit of a swap and the mark of a flush.
+-- stages that are left, and the counts (`parts`); the owner pairs; the limit of a swap and the mark of a flush; the words
+-- of SRAM, those too that the map doesn't read.
 pub record Picture : Type 0 where
   pub chart : Chart
   pub parts : Parts
   pub owned : Ownership
   pub limit : ℕ
   pub mark : ℕ
+  pub sram : List ℕ
+
+-- its board
+abbrev pub state_in : Picture → State
+state_in p = record {
+  shape = p.chart.shape;
+  flash = p.chart.flash;
+  sram = p.sram;
+  on = p.chart.on;
+  cuts = p.chart.cuts;
+  bads = p.chart.bads;
+  begun = p.chart.begun;
+  erases = p.chart.erases;
+  pulled = p.chart.pulled;
+  plans = p.chart.plans;
+  last_plan = p.chart.last_plan;
+  lives = p.chart.lives;
+  given = p.chart.given;
+}
 
 -- the seven counters
 abbrev pub counts_of : Parts → Counts

@@ -8,7 +8,7 @@ ghost use Rattle.envy_layout.specs.Stands.{Stands};
 ghost use Rattle.envy_layout.specs.Words.{durable};
 ghost use Rattle.envy_memory.specs.Calls.{Loads, Looks};
 ghost use Rattle.envy_memory.specs.Below.{LoadsBelow, IsPast};
-ghost use Rattle.envy_memory.specs.Picture.{IsMemory, counts_of};
+ghost use Rattle.envy_memory.specs.Picture.{IsMemory, counts_of, state_in};
 
 use crate::faults::LoadFault;
 use crate::looking::kept_place;
@@ -37,7 +37,7 @@ impl<B: Board> Model for Memory<B> {
 
     ghost Value = { Picture };
 
-    ghost view = { λ a. record { chart = chart (B.state a.board); parts = a.parts; owned = a.owned; limit = a.limit; mark = a.mark } };
+    ghost view = { λ a. record { chart = chart (B.state a.board); parts = a.parts; owned = a.owned; limit = a.limit; mark = a.mark; sram = (B.state a.board).sram } };
 
     ghost invariant = { λ a. IsMemory (chart (B.state a.board)) a.parts a.owned a.limit a.mark × (IsTrue (B.state a.board).on → IsQuiet (B.state a.board).shape (chart (B.state a.board)).fields a.limit a.parts.reloc.since a.quiet) };
 }
@@ -109,6 +109,7 @@ impl<B: Board> Memory<B> {
 
     /// The board.
     pub fn board(&self) -> &B
+        ensures state { B.state result.now ≡ state_in self.now }
         ensures same { chart (B.state result.now) ≡ self.now.chart }
         ensures sound { IsSound (chart (B.state result.now)) }
         ensures version { (chart (B.state result.now)).fields.version ≡ 2 }
@@ -132,6 +133,7 @@ impl<B: Board> Memory<B> {
 
     /// Gives the board back. A memory may be attached to it.
     pub fn into_board(self) -> B
+        ensures state { B.state result ≡ state_in self }
         ensures same { chart (B.state result) ≡ self.chart }
         ensures sound { IsSound (chart (B.state result)) }
     {

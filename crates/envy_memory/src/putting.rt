@@ -46,7 +46,13 @@ impl<B: Board> Memory<B> {
             if slot != t {
                 return Err(PutFault::Held(slot));
             }
-            return Ok(store_word(&mut self.board, &mut self.parts, page, a % PAGE_WORDS, value)?);
+            return Ok(store_word(
+                &mut self.board,
+                &mut self.parts,
+                page,
+                a % PAGE_WORDS,
+                value,
+            )?);
         }
         if !self.owned.room() {
             return Err(PutFault::Full);

@@ -37,7 +37,13 @@ impl<B: Board> Memory<B> {
         if let Some(slot) = self.owned.owner(page) {
             return Err(StoreFault::Held(slot));
         }
-        store_word(&mut self.board, &mut self.parts, page, a % PAGE_WORDS, value)?;
+        store_word(
+            &mut self.board,
+            &mut self.parts,
+            page,
+            a % PAGE_WORDS,
+            value,
+        )?;
         Ok(())
     }
 }

@@ -8,7 +8,7 @@ use crate::copying::copy_page;
 use crate::half::Half;
 use crate::mirror::Mirror;
 use crate::standing::Standing;
-use envy_base::{Bench, Slot, Trouble, MOST_ROWS};
+use envy_base::{Bench, MOST_ROWS, Slot, Trouble};
 use envy_map::slot;
 use envy_memory::{Memory, ReviveFault};
 

@@ -5,7 +5,7 @@ ghost use Rattle.envy_mirror.specs.Asking.{Reckons};
 ghost use Rattle.envy_mirror.specs.Catching.{Copies};
 ghost use Rattle.envy_mirror.specs.Pair.{IsClosed};
 
-use envy_base::{Bench, PAGE_WORDS, Trouble, MOST_ROWS};
+use envy_base::{Bench, MOST_ROWS, PAGE_WORDS, Trouble};
 use envy_memory::{Memory, StoreFault};
 
 /// Copies one word of a page.

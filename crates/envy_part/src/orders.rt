@@ -6,9 +6,9 @@ ghost use Rattle.envy_part.specs.Orders.{Adds};
 ghost use Rattle.envy_part.specs.Orders.Order.{Programs, Erases};
 ghost use Rattle.envy_part.specs.Part.{ArePages, AreOnes, HasZeros};
 
-use envy_base::{PAGE_LENGTH, Page};
 use crate::Port;
 use crate::rows::{bytes_of, words};
+use envy_base::{PAGE_LENGTH, Page};
 
 const ONES: Page = [u64::MAX; PAGE_LENGTH];
 

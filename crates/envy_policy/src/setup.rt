@@ -1,7 +1,7 @@
 ghost use Rattle.std.specs.Prelude.{◌≡◌, ◌≤◌, OnOk};
 ghost use Rattle.envy_policy.specs.Setup.{IsSetup, checked, checked_within, rule_of, run_of, victims_of};
 
-use envy_base::{positions_of, Shape, ShapeFault, MOST_ROWS};
+use envy_base::{MOST_ROWS, Shape, ShapeFault, positions_of};
 
 /// How the cleaner chooses a position to write to. The positions are split into partitions of
 /// consecutive positions, and each page is written back into its own partition where that has room.

@@ -43,21 +43,23 @@ shape-within most sh low e =
     let n = neither (sh.entries == 0) (nat_lt 65536 sh.entries) entries.0 in
     let within = not-below ((sh.segments - 2) * sh.rows) (sh.pages + sh.shadows) share.0 in
     let all = not-below most (sh.segments * sh.rows) total.0 in
-    let fewer = mul-le (sh.segments - 2) sh.rows sh.segments sh.rows (omega arith) (omega arith) in
-    (record {
-      segments = not-below sh.segments 4 s.0;
-      few_segments = not-below 4096 sh.segments s.1;
-      rows = not-below sh.rows 2 r.0;
-      few_rows = not-below 65536 sh.rows r.1;
-      pages = not-none sh.pages pages.0;
-      frames = not-below sh.frames 2 f.0;
-      few_frames = not-below 65536 sh.frames f.1;
-      entries = not-none sh.entries n.0;
-      few_entries = not-below 65536 sh.entries n.1;
-      share = within;
-      few = omega arith;
-      few_pages = omega arith;
-    }, all)
+    let fewer = mul-le (sh.segments - 2) sh.rows sh.segments sh.rows (omega arith) (omega arith) in (
+      record {
+        segments = not-below sh.segments 4 s.0;
+        few_segments = not-below 4096 sh.segments s.1;
+        rows = not-below sh.rows 2 r.0;
+        few_rows = not-below 65536 sh.rows r.1;
+        pages = not-none sh.pages pages.0;
+        frames = not-below sh.frames 2 f.0;
+        few_frames = not-below 65536 sh.frames f.1;
+        entries = not-none sh.entries n.0;
+        few_entries = not-below 65536 sh.entries n.1;
+        share = within;
+        few = omega arith;
+        few_pages = omega arith;
+      },
+      all,
+    )
 
 pub shape-is : (sh : Shape) → shape_checked sh ≡ Ok tt → IsShape sh
 shape-is sh e = (shape-within 16777216 sh (omega arith) e).0

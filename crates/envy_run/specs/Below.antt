@@ -49,11 +49,11 @@ FollowsRules (Load a) Range old new = new ≡ old
 FollowsRules (Load a) reply old new = new ≡ record old { parts = record old.parts { cache = new.parts.cache } }
 FollowsRules (Look a) reply old new = new ≡ old
 FollowsRules Begin Busy old new = new ≡ old
-FollowsRules Begin reply old new = new ≡ record old { chart = new.chart }
+FollowsRules Begin reply old new = new ≡ record old { chart = new.chart; sram = new.sram }
 FollowsRules (Commit t) Closed old new = new ≡ old
-FollowsRules (Commit t) reply old new = new ≡ record old { chart = new.chart; owned = new.owned; parts = record old.parts { space = new.parts.space } }
+FollowsRules (Commit t) reply old new = new ≡ record old { chart = new.chart; sram = new.sram; owned = new.owned; parts = record old.parts { space = new.parts.space } }
 FollowsRules (Abort t) Closed old new = new ≡ old
-FollowsRules (Abort t) reply old new = new ≡ record old { chart = new.chart; owned = new.owned; parts = record old.parts { frames = new.parts.frames; space = new.parts.space; cache = new.parts.cache } }
+FollowsRules (Abort t) reply old new = new ≡ record old { chart = new.chart; sram = new.sram; owned = new.owned; parts = record old.parts { frames = new.parts.frames; space = new.parts.space; cache = new.parts.cache } }
 FollowsRules (Cut k g) reply old new = new ≡ record old { chart = planned (PlanCut k g) old.chart }
 FollowsRules (Bad k g) reply old new = new ≡ record old { chart = planned (PlanBad k g) old.chart }
 FollowsRules Stat reply old new = new ≡ old

@@ -16,7 +16,7 @@ ghost use Rattle.envy_serve.specs.Ends.{most_bytes};
 use crate::ending::{Ending, Finished, unserved, written};
 use crate::prepare::make_memory;
 use crate::report::write_report;
-use envy_base::{Area, Bench, Maker, MOST_ROWS};
+use envy_base::{Area, Bench, MOST_ROWS, Maker};
 use envy_io::Sink;
 use envy_memory::Memory;
 use envy_policy::Setup;

@@ -6,8 +6,7 @@ use Rattle.envy_base.specs.State.{State}
 use Rattle.envy_base.specs.declared.shape.Shape.{Shape}
 use Rattle.envy_image.specs.Image.{mark, head_of, image_of, FitNumbers}
 use Rattle.envy_image.specs.Installing.{Goes, body_size, count_after}
-use Rattle.envy_map.specs.Fields.{chart}
-use Rattle.envy_memory.specs.Picture.{Picture}
+use Rattle.envy_memory.specs.Picture.{Picture, state_in}
 use Rattle.envy_policy.specs.Setup.{checked as setup_checked}
 use Rattle.envy_policy.specs.declared.setup.Setup.{Setup as OfSetup}
 use Rattle.envy_calls.specs.Codes.{number_of}
@@ -60,11 +59,10 @@ Saves board before after Small = IsTrue board.on × (length before < image_size 
 Saves board before after NoMemory = IsTrue board.on × (image_size board.shape ≤ length before) × (after ≡ before)
 Saves board before after other = ⊥
 
--- in a place: the board is the one of the memory that it holds
+-- in a place: it is the board of the memory that it holds
 abbrev pub DoesSave : Option Picture → List ℕ → List ℕ → ℕ → Type 0
 DoesSave None before after answer = (answer ≡ number_of Empty) × (after ≡ before)
-DoesSave (Some p) before after answer =
-    (board : State) × (chart board ≡ p.chart) × ((code : Code) × (answer ≡ number_of code) × Saves board before after code)
+DoesSave (Some p) before after answer = (code : Code) × (answer ≡ number_of code) × Saves (state_in p) before after code
 
 -- how many bytes the image of a setup's board has, or why there is no setup
 abbrev pub DoesImageSize : EnvySetup → ℕ → ℕ → Code → Type 0

@@ -33,7 +33,7 @@ journal_bads true s = refl
 journal_bads false s = refl
 
 -- nothing is ever bad on it
-never-bad : (d e : Bool) (s t : State) → IsSteady s → IsSteady t → (journal_state e t).bads ≡ up (journal_state d s).bads → ⊥
+pub never-bad : (d e : Bool) (s t : State) → IsSteady s → IsSteady t → (journal_state e t).bads ≡ up (journal_state d s).bads → ⊥
 never-bad d e s t was is rose = bads-never s t was is (sym (journal_bads e t) ∙ rose ∙ ap up (journal_bads d s))
 
 -- What an operation says of the sizes and of power. `K` is what holds where it succeeded.

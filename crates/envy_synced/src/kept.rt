@@ -3,12 +3,15 @@ ghost use Rattle.std.proofs.Props.{props};
 ghost use Rattle.envy_base.specs.State.{Puts, Programs, Erases};
 ghost use Rattle.envy_map.specs.Fields.{Chart, chart};
 ghost use Rattle.envy_disk.specs.declared.on_disk.Compaction.TheVariants.{Done, Appended};
+ghost use Rattle.envy_journal.specs.Condensed.{spilled};
 ghost use Rattle.envy_journal.specs.Head.{StandsFor};
 ghost use Rattle.envy_journal.specs.Journal.{journal_state, kept, done};
 ghost use Rattle.envy_journal.specs.Log.{HasEnded};
 ghost use Rattle.envy_journal.specs.Reading.{operations};
+ghost use Rattle.envy_journal.specs.Snapshot.{limit_of};
 ghost use Rattle.envy_synced.specs.Disk.{IsKept, IsLast, IsBefore, IsCompact, IsSynced, Reopens, disk_state};
 
+use crate::light::{erase, program, put};
 use envy_base::{Board, Off, Page, Shape, Trouble};
 use envy_device::{Device, Place};
 use envy_disk::{Compaction, OnDisk};
@@ -24,6 +27,8 @@ pub struct Kept<B: Steady, D: Device> {
     synced: Snapshot<Journaled<B, D>>,
     before: Snapshot<Journaled<B, D>>,
     ghost kept: { IsKept D.seen D.moment D.left_since journal.log synced.value.log before.value.log (journal_state journal.dead (B.state journal.board)) } by { Prim.hlevel props },
+    // the file has no more of what isn't synced than a limit
+    ghost light: { journal.dead ≡ false → spilled journal.log ≤ limit_of (B.state journal.board).shape },
 }
 
 impl<B: Steady, D: Device> Kept<B, D> {
@@ -48,9 +53,12 @@ impl<B: Steady, D: Device> Kept<B, D> {
     /// The device. A crash of the machine at any moment since the last sync that succeeded leaves a file that opens as
     /// the board was behind it, with the operations that were on the disk then, or, where power is off, as it is now: then a
     /// later sync may have done its work and failed.
-    /// One since the sync before leaves what that one brought to the disk, or one of these.
+    /// One since the sync before leaves what that one brought to the disk, or one of these. While power is on, the file has
+    /// no more of what isn't synced than a limit.
     pub fn device(&self) -> &D
         ensures here { result.now ≡ self.now.journal.log.device }
+        ensures light { IsTrue (⟦<Kept<B, D> as Board>⟧.state self.now).on
+            → spilled self.now.journal.log ≤ limit_of (⟦<Kept<B, D> as Board>⟧.state self.now).shape }
         ensures time { (⟦<Kept<B, D> as Board>⟧.state self.now).plans ≤ D.moment result.now }
         ensures last { (was : Chart) → IsSynced was → IsLast was (chart (⟦<Kept<B, D> as Board>⟧.state self.now))
             → (file : List ℕ) → D.left_since result.now was.plans file
@@ -114,15 +122,15 @@ impl<B: Steady, D: Device> Board for Kept<B, D> {
     }
 
     fn program(&mut self, row: u32, page: &Page) -> Result<(), Trouble> {
-        self.journal.program(row, page)
+        program(&mut self.journal, row, page)
     }
 
     fn erase(&mut self, segment: u32) -> Result<(), Trouble> {
-        self.journal.erase(segment)
+        erase(&mut self.journal, segment)
     }
 
     fn put(&mut self, w: u32, v: u64) -> Result<(), Off> {
-        self.journal.put(w, v)
+        put(&mut self.journal, w, v)
     }
 }
 

@@ -7,5 +7,6 @@
 #![tactic(auto)]
 
 mod kept;
+mod light;
 
 pub use kept::Kept;

@@ -1,9 +1,9 @@
 ghost use Rattle.std.specs.Prelude.{◌≡◌, ◌+◌, ◌*◌, ◌^◌, ◌<◌, ◌≤◌};
 ghost use Rattle.envy_tpca.specs.Load.{seeded, next_transfer};
 
-use envy_base::MOST_WORDS;
 use crate::Transfer;
 use crate::draw::drawn;
+use envy_base::MOST_WORDS;
 use rand_core::SeedableRng;
 use rand_core::utils::NextWord;
 use rand_pcg::Lcg128Xsl64;

@@ -1,4 +1,4 @@
-use Rattle.std.proofs.Common.{◌≡◌, ◌∙◌, ◌-◌, ◌<◌, ℕ, sym, ap, subst}
+use Rattle.std.proofs.Common.{◌≡◌, ◌∙◌, ◌-◌, ◌<◌, ◌≤◌, ℕ, sym, ap, subst}
 use Rattle.envy_base.specs.declared.shape.Shape.{Shape}
 use Rattle.envy_map.specs.Fields.{chart}
 use Rattle.envy_wear.specs.Swaps.{wear_at, IsMostWorn, IsLeastWorn}
@@ -29,7 +29,7 @@ loop-position-init g c =
 
 pub worn_at-requires-in-loop-position-clause-position : goal.worn_at-requires-in-loop-position-clause-position
 worn_at-requires-in-loop-position-clause-position g c =
-    subst (λ (sh : Shape). c.loop-position.position < sh.segments - 1) c.shape.ensures c.loop-position-test.true
+    subst (λ (sh : Shape). c.loop-position.position < sh.segments - 1) c.shape.ensures (subst (λ (n : ℕ). c.loop-position.position < n) c.positions_of-position-end.ensures c.loop-position-test.true)
 
 pub returns-in_err-worn_at-clause-most : goal.returns-in_err-worn_at-clause-most
 returns-in_err-worn_at-clause-most g c = none-if c.from_residual-in_err-worn_at.result _ _ c.from_residual-in_err-worn_at.ensures.1
@@ -52,11 +52,11 @@ loop-position-preserved g c =
 pub returns-clause-most : goal.returns-clause-most
 returns-clause-most g c =
     let wear : ℕ → ℕ = wear_at (chart (g.B.Board.state c.args.board.now)).fields in
-    let end = at-end c.loop-position.position c.shape.result (g.B.Board.state c.args.board.now).shape c.shape.ensures (g.met.B.Board.lawful c.args.board.now).shape c.loop-position-test.false c.loop-position.auto.position-end in
+    let end = at-end c.loop-position.position c.shape.result (g.B.Board.state c.args.board.now).shape c.shape.ensures (g.met.B.Board.lawful c.args.board.now).shape (subst (λ (n : ℕ). n ≤ c.loop-position.position) c.positions_of-position-end.ensures c.loop-position-test.false) (subst (λ (n : ℕ). 1 ≤ n → c.loop-position.position ≤ n) c.positions_of-position-end.ensures c.loop-position.auto.position-end) in
     (subst (λ (n : ℕ). IsMostWorn n wear c.loop-position.seen.most.position) end c.loop-position.invariant.most, c.loop-position.invariant.most_wear)
 
 pub returns-clause-least : goal.returns-clause-least
 returns-clause-least g c =
     let wear : ℕ → ℕ = wear_at (chart (g.B.Board.state c.args.board.now)).fields in
-    let end = at-end c.loop-position.position c.shape.result (g.B.Board.state c.args.board.now).shape c.shape.ensures (g.met.B.Board.lawful c.args.board.now).shape c.loop-position-test.false c.loop-position.auto.position-end in
+    let end = at-end c.loop-position.position c.shape.result (g.B.Board.state c.args.board.now).shape c.shape.ensures (g.met.B.Board.lawful c.args.board.now).shape (subst (λ (n : ℕ). n ≤ c.loop-position.position) c.positions_of-position-end.ensures c.loop-position-test.false) (subst (λ (n : ℕ). 1 ≤ n → c.loop-position.position ≤ n) c.positions_of-position-end.ensures c.loop-position.auto.position-end) in
     (subst (λ (n : ℕ). IsLeastWorn n wear c.loop-position.seen.least.position) end c.loop-position.invariant.least, c.loop-position.invariant.least_wear)

@@ -79,7 +79,7 @@ returns-then-t-ge64-clause-cut g c = still-cut c.args.self.now.chart
 
 pub returns-then-t-ge64-clause-closed : goal.returns-then-t-ge64-clause-closed
 returns-then-t-ge64-clause-closed g c =
-    let old : Picture = record { chart = chart (g.B.Board.state c.self.inside.board); parts = c.self.inside.parts; owned = c.self.inside.owned; limit = c.self.inside.limit; mark = c.self.inside.mark } in
+    let old : Picture = record { chart = chart (g.B.Board.state c.self.inside.board); parts = c.self.inside.parts; owned = c.self.inside.owned; limit = c.self.inside.limit; mark = c.self.inside.mark; sram = (g.B.Board.state c.self.inside.board).sram } in
     let is : IsShut c.args.t old = (sym c.if-not-powered.ensures, beyond-slots (chart (g.B.Board.state c.self.inside.board)) c.args.t c.self.invariant.0.sound c.if-t-ge64.true) in
     shut-closed c.args.t c.args.self.now (subst (λ (p : Picture). IsShut c.args.t p) c.self.view_is is)
 
@@ -103,7 +103,7 @@ returns-then-not-branch-clause-cut g c = still-cut c.args.self.now.chart
 
 pub returns-then-not-branch-clause-closed : goal.returns-then-not-branch-clause-closed
 returns-then-not-branch-clause-closed g c =
-    let old : Picture = record { chart = chart (g.B.Board.state c.self.inside.board); parts = c.self.inside.parts; owned = c.self.inside.owned; limit = c.self.inside.limit; mark = c.self.inside.mark } in
+    let old : Picture = record { chart = chart (g.B.Board.state c.self.inside.board); parts = c.self.inside.parts; owned = c.self.inside.owned; limit = c.self.inside.limit; mark = c.self.inside.mark; sram = (g.B.Board.state c.self.inside.board).sram } in
     let is : IsShut c.args.t old = (sym c.if-not-powered.ensures, c.in_ok-is_open.ensures.never c.if-not-branch.true) in
     shut-closed c.args.t c.args.self.now (subst (λ (p : Picture). IsShut c.args.t p) c.self.view_is is)
 
@@ -171,7 +171,7 @@ pub returns-in_err-abort_pages-clause-closed : goal.returns-in_err-abort_pages-c
 returns-in_err-abort_pages-clause-closed g c =
     let p = err_from_is_err_and c.from_residual-in_err-abort_pages.result c.from_residual-in_err-abort_pages.ensures.1 in
     let is : c.from_residual-in_err-abort_pages.result ≡ Err Off = p.1 ∙ ap (λ (f : EndFault). Err f) p.2 in
-    let old : Picture = record { chart = chart (g.B.Board.state c.self.inside.board); parts = c.self.inside.parts; owned = c.self.inside.owned; limit = c.self.inside.limit; mark = c.self.inside.mark } in
+    let old : Picture = record { chart = chart (g.B.Board.state c.self.inside.board); parts = c.self.inside.parts; owned = c.self.inside.owned; limit = c.self.inside.limit; mark = c.self.inside.mark; sram = (g.B.Board.state c.self.inside.board).sram } in
     subst (λ (r : Answer). (r ≡ Err Closed) ↔ IsShut c.args.t c.args.self.now) (sym is)
     (subst (λ (p : Picture). (◌≡◌ {A = Answer} (Err Off) (Err Closed)) ↔ IsShut c.args.t p) c.self.view_is (open-closed c.args.t old (Err Off) off-open (c.in_ok-is_open.ensures.yes c.if-not-branch.false)))
 
@@ -179,9 +179,9 @@ pub returns-in_err-abort_pages-clause-below : goal.returns-in_err-abort_pages-cl
 returns-in_err-abort_pages-clause-below g c =
     let p = err_from_is_err_and c.from_residual-in_err-abort_pages.result c.from_residual-in_err-abort_pages.ensures.1 in
     let is : c.from_residual-in_err-abort_pages.result ≡ Err Off = p.1 ∙ ap (λ (f : EndFault). Err f) p.2 in
-    let old : Picture = record { chart = chart (g.B.Board.state c.self.inside.board); parts = c.self.inside.parts; owned = c.self.inside.owned; limit = c.self.inside.limit; mark = c.self.inside.mark } in
+    let old : Picture = record { chart = chart (g.B.Board.state c.self.inside.board); parts = c.self.inside.parts; owned = c.self.inside.owned; limit = c.self.inside.limit; mark = c.self.inside.mark; sram = (g.B.Board.state c.self.inside.board).sram } in
     let new = chart (g.B.Board.state c.abort_pages.new.board) in
-    let now : Picture = record { chart = new; parts = c.abort_pages.new.parts; owned = c.abort_pages.new.owned; limit = c.self.inside.limit; mark = c.self.inside.mark } in
+    let now : Picture = record { chart = new; parts = c.abort_pages.new.parts; owned = c.abort_pages.new.owned; limit = c.self.inside.limit; mark = c.self.inside.mark; sram = (g.B.Board.state c.abort_pages.new.board).sram } in
     let o = c.in_err-abort_pages.ensures in
     subst (λ (r : Answer). AbortsBelow c.args.t r c.args.self.now now) (sym is)
     (subst (λ (p : Picture). AbortsBelow c.args.t (Err Off) p now) c.self.view_is
@@ -189,7 +189,7 @@ returns-in_err-abort_pages-clause-below g c =
 
 pub invariant_of-self : goal.invariant_of-self
 invariant_of-self g c =
-    let old : Picture = record { chart = chart (g.B.Board.state c.self.inside.board); parts = c.self.inside.parts; owned = c.self.inside.owned; limit = c.self.inside.limit; mark = c.self.inside.mark } in
+    let old : Picture = record { chart = chart (g.B.Board.state c.self.inside.board); parts = c.self.inside.parts; owned = c.self.inside.owned; limit = c.self.inside.limit; mark = c.self.inside.mark; sram = (g.B.Board.state c.self.inside.board).sram } in
     let new = chart (g.B.Board.state c.abort_pages.new.board) in
     let o = c.in_err-abort_pages.ensures in (
       IsMemory-headed c.self.inside.limit c.self.inside.mark old.chart new old.parts c.abort_pages.new.parts old.owned c.abort_pages.new.owned c.self.invariant.0 (headed-same old.chart new o.durable) o.steady o.owners (λ on. absurd (unlit new.on o.power on)),
@@ -198,7 +198,7 @@ invariant_of-self g c =
 
 pub invariant_of-self-2 : goal.invariant_of-self-2
 invariant_of-self-2 g c =
-    let old : Picture = record { chart = chart (g.B.Board.state c.self.inside.board); parts = c.self.inside.parts; owned = c.self.inside.owned; limit = c.self.inside.limit; mark = c.self.inside.mark } in
+    let old : Picture = record { chart = chart (g.B.Board.state c.self.inside.board); parts = c.self.inside.parts; owned = c.self.inside.owned; limit = c.self.inside.limit; mark = c.self.inside.mark; sram = (g.B.Board.state c.self.inside.board).sram } in
     let new = chart (g.B.Board.state c.abort_pages.new.board) in
     let o = c.in_ok-abort_pages.ensures in (
       IsMemory-headed c.self.inside.limit c.self.inside.mark old.chart new old.parts c.abort_pages.new.parts old.owned c.abort_pages.new.owned c.self.invariant.0 (headed-same old.chart new o.durable) o.steady o.owners (λ on u. settled-closed c.args.t u old.chart new c.self.invariant.0.sound c.if-t-ge64.false o.aborts.ends.closes (c.self.invariant.0.settled (sym c.if-not-powered.ensures) u)),
@@ -216,14 +216,14 @@ returns-clause-complete g c calm = done-lit
 
 pub returns-clause-closed : goal.returns-clause-closed
 returns-clause-closed g c =
-    let old : Picture = record { chart = chart (g.B.Board.state c.self.inside.board); parts = c.self.inside.parts; owned = c.self.inside.owned; limit = c.self.inside.limit; mark = c.self.inside.mark } in
+    let old : Picture = record { chart = chart (g.B.Board.state c.self.inside.board); parts = c.self.inside.parts; owned = c.self.inside.owned; limit = c.self.inside.limit; mark = c.self.inside.mark; sram = (g.B.Board.state c.self.inside.board).sram } in
     subst (λ (p : Picture). (◌≡◌ {A = Answer} (Ok tt) (Err Closed)) ↔ IsShut c.args.t p) c.self.view_is (open-closed c.args.t old (Ok tt) done-open (c.in_ok-is_open.ensures.yes c.if-not-branch.false))
 
 pub returns-clause-below : goal.returns-clause-below
 returns-clause-below g c =
-    let old : Picture = record { chart = chart (g.B.Board.state c.self.inside.board); parts = c.self.inside.parts; owned = c.self.inside.owned; limit = c.self.inside.limit; mark = c.self.inside.mark } in
+    let old : Picture = record { chart = chart (g.B.Board.state c.self.inside.board); parts = c.self.inside.parts; owned = c.self.inside.owned; limit = c.self.inside.limit; mark = c.self.inside.mark; sram = (g.B.Board.state c.self.inside.board).sram } in
     let new = chart (g.B.Board.state c.abort_pages.new.board) in
-    let now : Picture = record { chart = new; parts = c.abort_pages.new.parts; owned = c.abort_pages.new.owned; limit = c.self.inside.limit; mark = c.self.inside.mark } in
+    let now : Picture = record { chart = new; parts = c.abort_pages.new.parts; owned = c.abort_pages.new.owned; limit = c.self.inside.limit; mark = c.self.inside.mark; sram = (g.B.Board.state c.abort_pages.new.board).sram } in
     let o = c.in_ok-abort_pages.ensures in
     subst (λ (p : Picture). AbortsBelow c.args.t (Ok tt) p now) c.self.view_is
     (aborts-done c.args.t old new now.parts now.owned (sym c.if-not-powered.ensures) (headed-same old.chart new o.durable) o.rests o.parts o.aborts)

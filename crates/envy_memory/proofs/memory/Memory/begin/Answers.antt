@@ -1,4 +1,4 @@
-use Rattle.std.proofs.Common.{Bool, ◌≡◌, ◌≢◌, ◌∙◌, ℕ, ◌<◌, false, Option, Some, None, Ok, Err, refl, sym, subst, ap}
+use Rattle.std.proofs.Common.{Bool, ◌≡◌, ◌≢◌, ◌∙◌, ℕ, ◌<◌, List, false, Option, Some, None, Ok, Err, refl, sym, subst, ap}
 use Rattle.std.specs.Prelude.{IsTrue, Result, ◌↔◌}
 use Rattle.std.proofs.lemmas.Bool.{false≢true}
 use Rattle.std.proofs.lemmas.Result.{err_from_is_err_and}
@@ -68,11 +68,11 @@ all-active c u sound version low = is-active (slot c.fields u) (Slots.decode (So
 begins-refused : (f : BeginFault) (p : Picture) → BeginsBelow (Err f) p p
 begins-refused f p = record { unpowered = λ off. refl; works = works-still p.chart; slot = tt; kept = refl; refused = λ e. refl }
 
-ended : (p : Picture) (new : Chart) → IsTrue p.chart.on → Headed p.chart new → BeginsBelow (Err Off) p (record p { chart = new })
-ended p new on h = record { unpowered = λ off. absurd (unlit p.chart.on off on); works = works-headed p.chart new on h; slot = tt; kept = refl; refused = λ e. absurd (off-free e) }
+ended : {sram : List ℕ} (p : Picture) (new : Chart) → IsTrue p.chart.on → Headed p.chart new → BeginsBelow (Err Off) p (record p { sram = sram; chart = new })
+ended {sram} p new on h = record { unpowered = λ off. absurd (unlit p.chart.on off on); works = works-headed p.chart new on h; slot = tt; kept = refl; refused = λ e. absurd (off-free e) }
 
-opened : (t : ℕ) (p : Picture) (new : Chart) → IsTrue p.chart.on → Headed p.chart new → new ≡ with_fields p.chart (with_slot t (Some Active) p.chart.fields) → BeginsBelow (Ok t) p (record p { chart = new })
-opened t p new on h is = record {
+opened : {sram : List ℕ} (t : ℕ) (p : Picture) (new : Chart) → IsTrue p.chart.on → Headed p.chart new → new ≡ with_fields p.chart (with_slot t (Some Active) p.chart.fields) → BeginsBelow (Ok t) p (record p { sram = sram; chart = new })
+opened {sram} t p new on h is = record {
   unpowered = λ off. absurd (unlit p.chart.on off on);
   works = works-headed p.chart new on h;
   slot = ap (λ (c : Chart). c.fields) is;
@@ -183,7 +183,7 @@ returns-in_default-clause-cut g c = still-cut c.args.self.now.chart
 
 pub returns-in_default-clause-busy : goal.returns-in_default-clause-busy
 returns-in_default-clause-busy g c =
-    let old : Picture = record { chart = chart (g.B.Board.state c.self.inside.board); parts = c.self.inside.parts; owned = c.self.inside.owned; limit = c.self.inside.limit; mark = c.self.inside.mark } in
+    let old : Picture = record { chart = chart (g.B.Board.state c.self.inside.board); parts = c.self.inside.parts; owned = c.self.inside.owned; limit = c.self.inside.limit; mark = c.self.inside.mark; sram = (g.B.Board.state c.self.inside.board).sram } in
     let is : IsBusy old = (sym c.if-not-powered.ensures, λ u low. all-active old.chart u c.self.invariant.0.sound c.self.invariant.0.version low (c.in_ok-t.ensures.none c.in_default.is u low) (c.self.invariant.0.settled (sym c.if-not-powered.ensures) u)) in
     full-busy c.args.self.now (subst IsBusy c.self.view_is is)
 
@@ -215,15 +215,15 @@ pub returns-in_err-open_slot-clause-below : goal.returns-in_err-open_slot-clause
 returns-in_err-open_slot-clause-below g c =
     let p = err_from_is_err_and c.from_residual-in_err-open_slot.result c.from_residual-in_err-open_slot.ensures.1 in
     let is : c.from_residual-in_err-open_slot.result ≡ Err Off = p.1 ∙ ap (λ (f : BeginFault). Err f) p.2 in
-    let old : Picture = record { chart = chart (g.B.Board.state c.self.inside.board); parts = c.self.inside.parts; owned = c.self.inside.owned; limit = c.self.inside.limit; mark = c.self.inside.mark } in
+    let old : Picture = record { chart = chart (g.B.Board.state c.self.inside.board); parts = c.self.inside.parts; owned = c.self.inside.owned; limit = c.self.inside.limit; mark = c.self.inside.mark; sram = (g.B.Board.state c.self.inside.board).sram } in
     let new = chart (g.B.Board.state c.open_slot.new.board) in
-    let now : Picture = record { chart = new; parts = c.self.inside.parts; owned = c.self.inside.owned; limit = c.self.inside.limit; mark = c.self.inside.mark } in
+    let now : Picture = record { chart = new; parts = c.self.inside.parts; owned = c.self.inside.owned; limit = c.self.inside.limit; mark = c.self.inside.mark; sram = (g.B.Board.state c.open_slot.new.board).sram } in
     subst (λ (r : Answer). BeginsBelow r c.args.self.now now) (sym is)
     (subst (λ (p : Picture). BeginsBelow (Err Off) p now) c.self.view_is (ended old new (sym c.if-not-powered.ensures) (headed-words old.chart new c.open_slot.ensures.same)))
 
 pub invariant_of-self : goal.invariant_of-self
 invariant_of-self g c =
-    let old : Picture = record { chart = chart (g.B.Board.state c.self.inside.board); parts = c.self.inside.parts; owned = c.self.inside.owned; limit = c.self.inside.limit; mark = c.self.inside.mark } in
+    let old : Picture = record { chart = chart (g.B.Board.state c.self.inside.board); parts = c.self.inside.parts; owned = c.self.inside.owned; limit = c.self.inside.limit; mark = c.self.inside.mark; sram = (g.B.Board.state c.self.inside.board).sram } in
     let new = chart (g.B.Board.state c.open_slot.new.board) in
     let e = c.open_slot.ensures in (
       IsMemory-headed c.self.inside.limit c.self.inside.mark old.chart new old.parts old.parts old.owned old.owned c.self.invariant.0 (headed-words old.chart new e.same) e.steady (record { limit = refl; agree = e.owners }) (λ on. absurd (unlit new.on c.in_err-open_slot.ensures.power on)),
@@ -232,7 +232,7 @@ invariant_of-self g c =
 
 pub invariant_of-self-2 : goal.invariant_of-self-2
 invariant_of-self-2 g c =
-    let old : Picture = record { chart = chart (g.B.Board.state c.self.inside.board); parts = c.self.inside.parts; owned = c.self.inside.owned; limit = c.self.inside.limit; mark = c.self.inside.mark } in
+    let old : Picture = record { chart = chart (g.B.Board.state c.self.inside.board); parts = c.self.inside.parts; owned = c.self.inside.owned; limit = c.self.inside.limit; mark = c.self.inside.mark; sram = (g.B.Board.state c.self.inside.board).sram } in
     let new = chart (g.B.Board.state c.open_slot.new.board) in
     let e = c.open_slot.ensures in (
       IsMemory-headed c.self.inside.limit c.self.inside.mark old.chart new old.parts old.parts old.owned old.owned c.self.invariant.0 (headed-words old.chart new e.same) e.steady (record { limit = refl; agree = e.owners }) (λ on u. settled-set c.in-Some.t u Active old.chart new c.self.invariant.0.sound (c.in_ok-t.ensures.low c.in-Some.t c.in-Some.is).0 active-settled (ap (λ (z : Chart). z.fields.slots) c.in_ok-open_slot.ensures.fields) (c.self.invariant.0.settled (sym c.if-not-powered.ensures) u)),
@@ -250,7 +250,7 @@ returns-clause-complete g c calm = done-lit c.in-Some.t
 
 pub returns-clause-below : goal.returns-clause-below
 returns-clause-below g c =
-    let old : Picture = record { chart = chart (g.B.Board.state c.self.inside.board); parts = c.self.inside.parts; owned = c.self.inside.owned; limit = c.self.inside.limit; mark = c.self.inside.mark } in
+    let old : Picture = record { chart = chart (g.B.Board.state c.self.inside.board); parts = c.self.inside.parts; owned = c.self.inside.owned; limit = c.self.inside.limit; mark = c.self.inside.mark; sram = (g.B.Board.state c.self.inside.board).sram } in
     let new = chart (g.B.Board.state c.open_slot.new.board) in
-    let now : Picture = record { chart = new; parts = c.self.inside.parts; owned = c.self.inside.owned; limit = c.self.inside.limit; mark = c.self.inside.mark } in
+    let now : Picture = record { chart = new; parts = c.self.inside.parts; owned = c.self.inside.owned; limit = c.self.inside.limit; mark = c.self.inside.mark; sram = (g.B.Board.state c.open_slot.new.board).sram } in
     subst (λ (p : Picture). BeginsBelow (Ok c.in-Some.t) p now) c.self.view_is (opened c.in-Some.t old new (sym c.if-not-powered.ensures) (headed-words old.chart new c.open_slot.ensures.same) c.in_ok-open_slot.ensures.fields)

@@ -1,8 +1,8 @@
-use Rattle.std.proofs.Common.{subst}
+use Rattle.std.proofs.Common.{◌≡◌, ℕ, List, ap, subst}
 use Rattle.envy_disk.specs.Disk.{SyncsChart}
 use Rattle.envy_map.specs.Fields.{chart}
 use Rattle.envy_memory.specs.Picture.{Picture}
-use Rattle.envy_memory.proofs.SyncLemmas.{synced_chart, synced_memory, synced_quiet}
+use Rattle.envy_memory.proofs.SyncLemmas.{synced_chart, synced_memory, synced_quiet, synced_sram}
 use Rattle.envy_memory.proofs.memory.Memory.compact.Goals as goal
 
 pub invariant_of-self : goal.invariant_of-self
@@ -18,3 +18,11 @@ returns-clause-answer g c =
     let old = g.B.Board.state c.self.inside.board in
     let new = g.B.Board.state c.compact.new.self in
     subst (λ (p : Picture). SyncsChart p.chart c.compact.result (chart new)) c.self.view_is (synced_chart old new c.compact.result c.compact.ensures.answer)
+
+pub returns-clause-kept : goal.returns-clause-kept
+returns-clause-kept g c =
+    let m = c.self.inside in
+    let old = g.B.Board.state m.board in
+    let new = g.B.Board.state c.compact.new.self in
+    let now : Picture = record { chart = chart new; parts = m.parts; owned = m.owned; limit = m.limit; mark = m.mark; sram = new.sram } in
+    subst (λ (p : Picture). now ≡ record p { chart = chart new }) c.self.view_is (ap (λ (words : List ℕ). record now { sram = words }) (synced_sram old new c.compact.result c.compact.ensures.answer))

@@ -101,7 +101,7 @@ returns-then-a-shape-clause-off g c = past-off c.args.self.now.chart.on (subst (
 pub returns-then-a-shape-clause-range : goal.returns-then-a-shape-clause-range
 returns-then-a-shape-clause-range g c =
     let pages = ap (λ (sh : Shape). sh.pages) c.shape.ensures in
-    let old : Picture = record { chart = chart (g.B.Board.state c.self.inside.board); parts = c.self.inside.parts; owned = c.self.inside.owned; limit = c.self.inside.limit; mark = c.self.inside.mark } in
+    let old : Picture = record { chart = chart (g.B.Board.state c.self.inside.board); parts = c.self.inside.parts; owned = c.self.inside.owned; limit = c.self.inside.limit; mark = c.self.inside.mark; sram = (g.B.Board.state c.self.inside.board).sram } in
     let is : IsPast c.args.a old = (sym c.if-not-powered.ensures, past-of c.args.a c.shape.result.pages old.chart.shape.pages pages c.if-a-shape.true) in
     past-range c.args.a c.args.self.now (subst (λ (p : Picture). IsPast c.args.a p) c.self.view_is is)
 
@@ -162,13 +162,13 @@ returns-clause-off g c = read-off c.in_ok-word.field-0 (g.B.Board.state c.self.i
 pub returns-clause-range : goal.returns-clause-range
 returns-clause-range g c =
     let pages = ap (λ (sh : Shape). sh.pages) c.shape.ensures in
-    let old : Picture = record { chart = chart (g.B.Board.state c.self.inside.board); parts = c.self.inside.parts; owned = c.self.inside.owned; limit = c.self.inside.limit; mark = c.self.inside.mark } in
+    let old : Picture = record { chart = chart (g.B.Board.state c.self.inside.board); parts = c.self.inside.parts; owned = c.self.inside.owned; limit = c.self.inside.limit; mark = c.self.inside.mark; sram = (g.B.Board.state c.self.inside.board).sram } in
     subst (λ (p : Picture). (◌≡◌ {A = Answer} (Ok c.in_ok-word.field-0) (Err Range)) ↔ IsPast c.args.a p) c.self.view_is
     (read-range c.args.a c.in_ok-word.field-0 old (inside-of c.args.a c.shape.result.pages old.chart.shape.pages pages c.if-a-shape.false))
 
 pub returns-clause-below : goal.returns-clause-below
 returns-clause-below g c =
-    let now : Picture = record { chart = chart (g.B.Board.state c.self.inside.board); parts = record c.self.inside.parts { cache = c.translate.new.self }; owned = c.self.inside.owned; limit = c.self.inside.limit; mark = c.self.inside.mark } in
+    let now : Picture = record { chart = chart (g.B.Board.state c.self.inside.board); parts = record c.self.inside.parts { cache = c.translate.new.self }; owned = c.self.inside.owned; limit = c.self.inside.limit; mark = c.self.inside.mark; sram = (g.B.Board.state c.self.inside.board).sram } in
     subst (λ (p : Picture). LoadsBelow c.args.a (Ok c.in_ok-word.field-0) p now) c.self.view_is (record { visits = c.in_ok-from.ensures.accesses; kept = refl })
 
 pub returns-then-not-powered-clause-step : goal.returns-then-not-powered-clause-step

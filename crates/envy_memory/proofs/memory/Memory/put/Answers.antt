@@ -62,7 +62,7 @@ kept g c =
       λ on. IsQuiet-counted old new c.self.inside.parts c.store_word.new.parts c.self.inside.limit c.self.inside.quiet (Framed.shape (Leaves.framed l)) (Leaves.worn l) e.counting on (c.self.invariant.1 (sym c.if-not-powered.ensures)),
     )
 
-worked : (g : Over) (c : After-store_word g) → Worked (c.args.a / 32) (record { chart = chart (g.B.Board.state c.self.inside.board); parts = c.self.inside.parts; owned = c.self.inside.owned; limit = c.self.inside.limit; mark = c.self.inside.mark }) (chart (g.B.Board.state c.store_word.new.board)) c.store_word.new.parts
+worked : (g : Over) (c : After-store_word g) → Worked (c.args.a / 32) (record { chart = chart (g.B.Board.state c.self.inside.board); parts = c.self.inside.parts; owned = c.self.inside.owned; limit = c.self.inside.limit; mark = c.self.inside.mark; sram = (g.B.Board.state c.self.inside.board).sram }) (chart (g.B.Board.state c.store_word.new.board)) c.store_word.new.parts
 worked g c =
     let e = c.store_word.ensures in
     record { on = sym c.if-not-powered.ensures; works = Works-left _ 6 _ 6 _ _ (omega arith) (omega arith) (sym c.if-not-powered.ensures) (leaves g c); counts = e.counting; visits = e.accesses }
@@ -75,7 +75,7 @@ meets-free g c m x =
 caused-first : (g : Over) (c : After-put_first g) → IsCut (chart (g.B.Board.state c.self.inside.board)) (chart (g.B.Board.state c.put_first.new.board))
 caused-first g c = cause _ 6 _ _ (Counted-first _ 6 c.args.t (c.args.a / 32) _ _ (32 * (c.args.a / 32) + c.args.a % 32) c.args.value c.put_first.result c.put_first.ensures.put)
 
-worked-first : (g : Over) (c : After-put_first g) → Worked (c.args.a / 32) (record { chart = chart (g.B.Board.state c.self.inside.board); parts = c.self.inside.parts; owned = c.self.inside.owned; limit = c.self.inside.limit; mark = c.self.inside.mark }) (chart (g.B.Board.state c.put_first.new.board)) c.put_first.new.parts
+worked-first : (g : Over) (c : After-put_first g) → Worked (c.args.a / 32) (record { chart = chart (g.B.Board.state c.self.inside.board); parts = c.self.inside.parts; owned = c.self.inside.owned; limit = c.self.inside.limit; mark = c.self.inside.mark; sram = (g.B.Board.state c.self.inside.board).sram }) (chart (g.B.Board.state c.put_first.new.board)) c.put_first.new.parts
 worked-first g c =
     let rows = (chart (g.B.Board.state c.self.inside.board)).shape.rows in
     let e = c.put_first.ensures in
@@ -155,7 +155,7 @@ invariant_of-self-2 g c = kept-first g (goal.at.invariant_of-self-2 g c).After-p
 
 pub returns-in_err-store_word-clause-below : goal.returns-in_err-store_word-clause-below
 returns-in_err-store_word-clause-below g c =
-    let new : Picture = record { chart = chart (g.B.Board.state c.store_word.new.board); parts = c.store_word.new.parts; owned = c.self.inside.owned; limit = c.self.inside.limit; mark = c.self.inside.mark } in
+    let new : Picture = record { chart = chart (g.B.Board.state c.store_word.new.board); parts = c.store_word.new.parts; owned = c.self.inside.owned; limit = c.self.inside.limit; mark = c.self.inside.mark; sram = (g.B.Board.state c.store_word.new.board).sram } in
     let p = err_from_is_err_and c.from_residual-in_err-store_word.result c.from_residual-in_err-store_word.ensures.1 in let fault = c.in_err-store_word.field-0.0 in
     rw (p.1, p.2) (subst (λ (p : Picture). PutsBelow c.args.t c.args.a (Err (put_fault fault)) p new) c.self.view_is
     (below-put_ended c.args.t c.args.a _ new.chart new.parts c.self.inside.owned fault (worked g (goal.at.returns-in_err-store_word-clause-below g c).After-store_word) (λ is. (c.in_err-store_word.ensures.stops is).0) (λ is. refl)))
@@ -163,74 +163,74 @@ returns-in_err-store_word-clause-below g c =
 pub returns-in-Some-clause-below : goal.returns-in-Some-clause-below
 returns-in-Some-clause-below g c =
     let at = goal.at.returns-in-Some-clause-below g c in
-    let new : Picture = record { chart = chart (g.B.Board.state c.store_word.new.board); parts = c.store_word.new.parts; owned = c.self.inside.owned; limit = c.self.inside.limit; mark = c.self.inside.mark } in
+    let new : Picture = record { chart = chart (g.B.Board.state c.store_word.new.board); parts = c.store_word.new.parts; owned = c.self.inside.owned; limit = c.self.inside.limit; mark = c.self.inside.mark; sram = (g.B.Board.state c.store_word.new.board).sram } in
     subst (λ (p : Picture). PutsBelow c.args.t c.args.a (Ok tt) p new) c.self.view_is
     (below-put_again c.args.t c.args.a _ new.chart new.parts (worked g at.After-store_word) c.self.invariant.0.fits (own g at.After-store_word) c.in_ok-store_word.ensures.stores)
 
 pub returns-in_err-put_first-clause-below : goal.returns-in_err-put_first-clause-below
 returns-in_err-put_first-clause-below g c =
-    let new : Picture = record { chart = chart (g.B.Board.state c.put_first.new.board); parts = c.put_first.new.parts; owned = c.put_first.new.owned; limit = c.self.inside.limit; mark = c.self.inside.mark } in
+    let new : Picture = record { chart = chart (g.B.Board.state c.put_first.new.board); parts = c.put_first.new.parts; owned = c.put_first.new.owned; limit = c.self.inside.limit; mark = c.self.inside.mark; sram = (g.B.Board.state c.put_first.new.board).sram } in
     let p = err_from_is_err_and c.from_residual-in_err-put_first.result c.from_residual-in_err-put_first.ensures.1 in let fault = c.in_err-put_first.field-0.0 in
     rw (p.1, p.2) (subst (λ (p : Picture). PutsBelow c.args.t c.args.a (Err (put_fault fault)) p new) c.self.view_is
     (below-put_ended c.args.t c.args.a _ new.chart new.parts new.owned fault (worked-first g (goal.at.returns-in_err-put_first-clause-below g c).After-put_first) (λ is. (c.in_err-put_first.ensures.stops is).0) (λ is. (c.in_err-put_first.ensures.stops is).2)))
 
 pub returns-clause-below : goal.returns-clause-below
 returns-clause-below g c =
-    let new : Picture = record { chart = chart (g.B.Board.state c.put_first.new.board); parts = c.put_first.new.parts; owned = c.put_first.new.owned; limit = c.self.inside.limit; mark = c.self.inside.mark } in
+    let new : Picture = record { chart = chart (g.B.Board.state c.put_first.new.board); parts = c.put_first.new.parts; owned = c.put_first.new.owned; limit = c.self.inside.limit; mark = c.self.inside.mark; sram = (g.B.Board.state c.put_first.new.board).sram } in
     subst (λ (p : Picture). PutsBelow c.args.t c.args.a (Ok tt) p new) c.self.view_is
     (below-put_first c.args.t c.args.a _ new.chart new.parts new.owned (worked-first g (goal.at.returns-clause-below g c).After-put_first) c.self.invariant.0.fits (sym c.in_default.ensures.value) c.in_ok-put_first.ensures.puts c.in_ok-put_first.ensures.gives)
 
 off-answers : (g : Over) (c : goal.Then-not-powered g) → Refuses c.args.t c.args.a (Err Off) c.args.self.now
 off-answers g c =
-    let old : Picture = record { chart = chart (g.B.Board.state c.self.inside.board); parts = c.self.inside.parts; owned = c.self.inside.owned; limit = c.self.inside.limit; mark = c.self.inside.mark } in
+    let old : Picture = record { chart = chart (g.B.Board.state c.self.inside.board); parts = c.self.inside.parts; owned = c.self.inside.owned; limit = c.self.inside.limit; mark = c.self.inside.mark; sram = (g.B.Board.state c.self.inside.board).sram } in
     subst (λ (p : Picture). Refuses c.args.t c.args.a (Err Off) p) c.self.view_is (refuses-off c.args.t c.args.a old (sym c.if-not-powered.ensures))
 
 past-answers : (g : Over) (c : goal.Then-page-shape g) → Refuses c.args.t c.args.a (Err Range) c.args.self.now
 past-answers g c =
-    let old : Picture = record { chart = chart (g.B.Board.state c.self.inside.board); parts = c.self.inside.parts; owned = c.self.inside.owned; limit = c.self.inside.limit; mark = c.self.inside.mark } in
+    let old : Picture = record { chart = chart (g.B.Board.state c.self.inside.board); parts = c.self.inside.parts; owned = c.self.inside.owned; limit = c.self.inside.limit; mark = c.self.inside.mark; sram = (g.B.Board.state c.self.inside.board).sram } in
     let pages = ap (λ (sh : Shape). sh.pages) c.shape.ensures in subst (λ (p : Picture). Refuses c.args.t c.args.a (Err Range) p) c.self.view_is (refuses-past c.args.t c.args.a old (sym c.if-not-powered.ensures, past-of c.args.a c.shape.result.pages old.chart.shape.pages pages c.if-page-shape.true))
 
 high-answers : (g : Over) (c : goal.Then-t-ge64 g) → Refuses c.args.t c.args.a (Err Closed) c.args.self.now
 high-answers g c =
-    let old : Picture = record { chart = chart (g.B.Board.state c.self.inside.board); parts = c.self.inside.parts; owned = c.self.inside.owned; limit = c.self.inside.limit; mark = c.self.inside.mark } in
+    let old : Picture = record { chart = chart (g.B.Board.state c.self.inside.board); parts = c.self.inside.parts; owned = c.self.inside.owned; limit = c.self.inside.limit; mark = c.self.inside.mark; sram = (g.B.Board.state c.self.inside.board).sram } in
     let pages = ap (λ (sh : Shape). sh.pages) c.shape.ensures in let shut : slot old.chart.fields c.args.t ≢ Some Active = beyond-slots old.chart c.args.t c.self.invariant.0.sound c.if-t-ge64.true in
     subst (λ (p : Picture). Refuses c.args.t c.args.a (Err Closed) p) c.self.view_is (refuses-shut c.args.t c.args.a old (sym c.if-not-powered.ensures, inside-of c.args.a c.shape.result.pages old.chart.shape.pages pages c.if-page-shape.false, shut))
 
 shut-answers : (g : Over) (c : goal.Then-not-branch g) → Refuses c.args.t c.args.a (Err Closed) c.args.self.now
 shut-answers g c =
-    let old : Picture = record { chart = chart (g.B.Board.state c.self.inside.board); parts = c.self.inside.parts; owned = c.self.inside.owned; limit = c.self.inside.limit; mark = c.self.inside.mark } in
+    let old : Picture = record { chart = chart (g.B.Board.state c.self.inside.board); parts = c.self.inside.parts; owned = c.self.inside.owned; limit = c.self.inside.limit; mark = c.self.inside.mark; sram = (g.B.Board.state c.self.inside.board).sram } in
     let pages = ap (λ (sh : Shape). sh.pages) c.shape.ensures in subst (λ (p : Picture). Refuses c.args.t c.args.a (Err Closed) p) c.self.view_is (refuses-shut c.args.t c.args.a old (sym c.if-not-powered.ensures, inside-of c.args.a c.shape.result.pages old.chart.shape.pages pages c.if-page-shape.false, c.in_ok-is_open.ensures.never c.if-not-branch.true))
 
 kept-answers : (g : Over) (c : goal.Then-slot-t g) → Refuses c.args.t c.args.a (Err (Held c.in-Some.slot)) c.args.self.now
 kept-answers g c =
-    let old : Picture = record { chart = chart (g.B.Board.state c.self.inside.board); parts = c.self.inside.parts; owned = c.self.inside.owned; limit = c.self.inside.limit; mark = c.self.inside.mark } in
+    let old : Picture = record { chart = chart (g.B.Board.state c.self.inside.board); parts = c.self.inside.parts; owned = c.self.inside.owned; limit = c.self.inside.limit; mark = c.self.inside.mark; sram = (g.B.Board.state c.self.inside.board).sram } in
     let pages = ap (λ (sh : Shape). sh.pages) c.shape.ensures in subst (λ (p : Picture). Refuses c.args.t c.args.a (Err (Held c.in-Some.slot)) p) c.self.view_is (refuses-kept c.args.t c.args.a c.in-Some.slot old (sym c.if-not-powered.ensures, inside-of c.args.a c.shape.result.pages old.chart.shape.pages pages c.if-page-shape.false, c.in_ok-is_open.ensures.yes c.if-not-branch.false, sym c.in-Some.ensures.value, c.if-slot-t.true))
 
 full-answers : (g : Over) (c : goal.Then-not-room g) → Refuses c.args.t c.args.a (Err Full) c.args.self.now
 full-answers g c =
-    let old : Picture = record { chart = chart (g.B.Board.state c.self.inside.board); parts = c.self.inside.parts; owned = c.self.inside.owned; limit = c.self.inside.limit; mark = c.self.inside.mark } in
+    let old : Picture = record { chart = chart (g.B.Board.state c.self.inside.board); parts = c.self.inside.parts; owned = c.self.inside.owned; limit = c.self.inside.limit; mark = c.self.inside.mark; sram = (g.B.Board.state c.self.inside.board).sram } in
     let pages = ap (λ (sh : Shape). sh.pages) c.shape.ensures in let full : length old.owned.pairs ≡ old.owned.limit = full-of (length old.owned.pairs) old.owned.limit c.room.result c.room.ensures.value c.if-not-room.true c.owner.ensures.whole.few in
     subst (λ (p : Picture). Refuses c.args.t c.args.a (Err Full) p) c.self.view_is (refuses-full c.args.t c.args.a old (sym c.if-not-powered.ensures, inside-of c.args.a c.shape.result.pages old.chart.shape.pages pages c.if-page-shape.false, c.in_ok-is_open.ensures.yes c.if-not-branch.false, sym c.in_default.ensures.value, full ∙ c.self.invariant.0.shadows))
 
 own-ended : (g : Over) (c : goal.After-from_residual-in_err-store_word g) → Refuses c.args.t c.args.a c.from_residual-in_err-store_word.result c.args.self.now
 own-ended g c =
-    let old : Picture = record { chart = chart (g.B.Board.state c.self.inside.board); parts = c.self.inside.parts; owned = c.self.inside.owned; limit = c.self.inside.limit; mark = c.self.inside.mark } in
+    let old : Picture = record { chart = chart (g.B.Board.state c.self.inside.board); parts = c.self.inside.parts; owned = c.self.inside.owned; limit = c.self.inside.limit; mark = c.self.inside.mark; sram = (g.B.Board.state c.self.inside.board).sram } in
     let pages = ap (λ (sh : Shape). sh.pages) c.shape.ensures in subst (λ (p : Picture). Refuses c.args.t c.args.a c.from_residual-in_err-store_word.result p) c.self.view_is (taken-own c.args.t c.args.a c.from_residual-in_err-store_word.result old (let p = err_from_is_err_and c.from_residual-in_err-store_word.result c.from_residual-in_err-store_word.ensures.1 in rw (p.1, p.2) (no-refusal c.in_err-store_word.field-0.0)) (inside-of c.args.a c.shape.result.pages old.chart.shape.pages pages c.if-page-shape.false) (c.in_ok-is_open.ensures.yes c.if-not-branch.false) (sym c.in-Some.ensures.value ∙ ap (λ (x : _). Some x) c.if-slot-t.false))
 
 own-done : (g : Over) (c : goal.In_ok-store_word g) → Refuses c.args.t c.args.a (Ok tt) c.args.self.now
 own-done g c =
-    let old : Picture = record { chart = chart (g.B.Board.state c.self.inside.board); parts = c.self.inside.parts; owned = c.self.inside.owned; limit = c.self.inside.limit; mark = c.self.inside.mark } in
+    let old : Picture = record { chart = chart (g.B.Board.state c.self.inside.board); parts = c.self.inside.parts; owned = c.self.inside.owned; limit = c.self.inside.limit; mark = c.self.inside.mark; sram = (g.B.Board.state c.self.inside.board).sram } in
     let pages = ap (λ (sh : Shape). sh.pages) c.shape.ensures in subst (λ (p : Picture). Refuses c.args.t c.args.a (Ok tt) p) c.self.view_is (taken-own c.args.t c.args.a (Ok tt) old tt (inside-of c.args.a c.shape.result.pages old.chart.shape.pages pages c.if-page-shape.false) (c.in_ok-is_open.ensures.yes c.if-not-branch.false) (sym c.in-Some.ensures.value ∙ ap (λ (x : _). Some x) c.if-slot-t.false))
 
 first-ended : (g : Over) (c : goal.After-from_residual-in_err-put_first g) → Refuses c.args.t c.args.a c.from_residual-in_err-put_first.result c.args.self.now
 first-ended g c =
-    let old : Picture = record { chart = chart (g.B.Board.state c.self.inside.board); parts = c.self.inside.parts; owned = c.self.inside.owned; limit = c.self.inside.limit; mark = c.self.inside.mark } in
+    let old : Picture = record { chart = chart (g.B.Board.state c.self.inside.board); parts = c.self.inside.parts; owned = c.self.inside.owned; limit = c.self.inside.limit; mark = c.self.inside.mark; sram = (g.B.Board.state c.self.inside.board).sram } in
     let pages = ap (λ (sh : Shape). sh.pages) c.shape.ensures in let room : length old.owned.pairs < old.chart.shape.shadows = subst (λ (n : _). length old.owned.pairs < n) c.self.invariant.0.shadows (c.room.ensures.value.0 c.if-not-room.false) in
     subst (λ (p : Picture). Refuses c.args.t c.args.a c.from_residual-in_err-put_first.result p) c.self.view_is (taken-first c.args.t c.args.a c.from_residual-in_err-put_first.result old (let p = err_from_is_err_and c.from_residual-in_err-put_first.result c.from_residual-in_err-put_first.ensures.1 in rw (p.1, p.2) (no-refusal c.in_err-put_first.field-0.0)) (inside-of c.args.a c.shape.result.pages old.chart.shape.pages pages c.if-page-shape.false) (c.in_ok-is_open.ensures.yes c.if-not-branch.false) (sym c.in_default.ensures.value) room)
 
 first-done : (g : Over) (c : goal.In_ok-put_first g) → Refuses c.args.t c.args.a (Ok tt) c.args.self.now
 first-done g c =
-    let old : Picture = record { chart = chart (g.B.Board.state c.self.inside.board); parts = c.self.inside.parts; owned = c.self.inside.owned; limit = c.self.inside.limit; mark = c.self.inside.mark } in
+    let old : Picture = record { chart = chart (g.B.Board.state c.self.inside.board); parts = c.self.inside.parts; owned = c.self.inside.owned; limit = c.self.inside.limit; mark = c.self.inside.mark; sram = (g.B.Board.state c.self.inside.board).sram } in
     let pages = ap (λ (sh : Shape). sh.pages) c.shape.ensures in let room : length old.owned.pairs < old.chart.shape.shadows = subst (λ (n : _). length old.owned.pairs < n) c.self.invariant.0.shadows (c.room.ensures.value.0 c.if-not-room.false) in
     subst (λ (p : Picture). Refuses c.args.t c.args.a (Ok tt) p) c.self.view_is (taken-first c.args.t c.args.a (Ok tt) old tt (inside-of c.args.a c.shape.result.pages old.chart.shape.pages pages c.if-page-shape.false) (c.in_ok-is_open.ensures.yes c.if-not-branch.false) (sym c.in_default.ensures.value) room)
 

@@ -47,7 +47,7 @@ kept g c =
       λ on. IsQuiet-counted old new c.self.inside.parts c.store_word.new.parts c.self.inside.limit c.self.inside.quiet (Framed.shape (Leaves.framed l)) (Leaves.worn l) e.counting on (c.self.invariant.1 (sym c.if-not-powered.ensures)),
     )
 
-worked : (g : Over) (c : After-store_word g) → Worked (c.args.a / 32) (record { chart = chart (g.B.Board.state c.self.inside.board); parts = c.self.inside.parts; owned = c.self.inside.owned; limit = c.self.inside.limit; mark = c.self.inside.mark }) (chart (g.B.Board.state c.store_word.new.board)) c.store_word.new.parts
+worked : (g : Over) (c : After-store_word g) → Worked (c.args.a / 32) (record { chart = chart (g.B.Board.state c.self.inside.board); parts = c.self.inside.parts; owned = c.self.inside.owned; limit = c.self.inside.limit; mark = c.self.inside.mark; sram = (g.B.Board.state c.self.inside.board).sram }) (chart (g.B.Board.state c.store_word.new.board)) c.store_word.new.parts
 worked g c =
     let e = c.store_word.ensures in
     record { on = sym c.if-not-powered.ensures; works = Works-left _ 6 _ 6 _ _ (omega arith) (omega arith) (sym c.if-not-powered.ensures) (leaves g c); counts = e.counting; visits = e.accesses }
@@ -101,7 +101,7 @@ returns-clause-step g c m stood =
 
 pub returns-in_err-store_word-clause-below : goal.returns-in_err-store_word-clause-below
 returns-in_err-store_word-clause-below g c =
-    let new : Picture = record { chart = chart (g.B.Board.state c.store_word.new.board); parts = c.store_word.new.parts; owned = c.self.inside.owned; limit = c.self.inside.limit; mark = c.self.inside.mark } in
+    let new : Picture = record { chart = chart (g.B.Board.state c.store_word.new.board); parts = c.store_word.new.parts; owned = c.self.inside.owned; limit = c.self.inside.limit; mark = c.self.inside.mark; sram = (g.B.Board.state c.store_word.new.board).sram } in
     let p = err_from_is_err_and c.from_residual.result c.from_residual.ensures.1 in
     let fault = c.in_err-store_word.field-0.0 in
     rw (p.1, p.2) (subst (λ (p : Picture). StoresBelow c.args.a (Err (store_fault fault)) p new) c.self.view_is
@@ -109,6 +109,6 @@ returns-in_err-store_word-clause-below g c =
 
 pub returns-clause-below : goal.returns-clause-below
 returns-clause-below g c =
-    let new : Picture = record { chart = chart (g.B.Board.state c.store_word.new.board); parts = c.store_word.new.parts; owned = c.self.inside.owned; limit = c.self.inside.limit; mark = c.self.inside.mark } in
+    let new : Picture = record { chart = chart (g.B.Board.state c.store_word.new.board); parts = c.store_word.new.parts; owned = c.self.inside.owned; limit = c.self.inside.limit; mark = c.self.inside.mark; sram = (g.B.Board.state c.store_word.new.board).sram } in
     subst (λ (p : Picture). StoresBelow c.args.a (Ok tt) p new) c.self.view_is
     (below-stored c.args.a _ new.chart new.parts (worked g (goal.at.returns-clause-below g c).After-store_word) c.self.invariant.0.fits c.in_ok-store_word.ensures.stores)

@@ -42,8 +42,8 @@ pub returns-clause-below : goal.returns-clause-below
 returns-clause-below g c =
     let old = chart (g.B.Board.state c.self.inside.board) in
     let new = chart (g.B.Board.state c.tick_ruled.new.board) in
-    let was : Picture = record { chart = old; parts = c.self.inside.parts; owned = c.self.inside.owned; limit = c.self.inside.limit; mark = c.self.inside.mark } in
+    let was : Picture = record { chart = old; parts = c.self.inside.parts; owned = c.self.inside.owned; limit = c.self.inside.limit; mark = c.self.inside.mark; sram = (g.B.Board.state c.self.inside.board).sram } in
     let e = c.tick_ruled.ensures in
     let ticked : Ticked c.tick_ruled.result was new c.tick_ruled.new.parts = record { on = sym c.if-not-powered.ensures; step = e.step; does = e.does; idle = e.idle; stops = λ is. (e.stops is).0; counts = e.counts; rests = e.rests } in
-    subst (λ (p : Picture). TicksBelow c.tick_ruled.result p (record { chart = new; parts = c.tick_ruled.new.parts; owned = c.self.inside.owned; limit = c.self.inside.limit; mark = c.self.inside.mark })) c.self.view_is
+    subst (λ (p : Picture). TicksBelow c.tick_ruled.result p (record { chart = new; parts = c.tick_ruled.new.parts; owned = c.self.inside.owned; limit = c.self.inside.limit; mark = c.self.inside.mark; sram = (g.B.Board.state c.tick_ruled.new.board).sram })) c.self.view_is
     (below-ticked c.tick_ruled.result was new c.tick_ruled.new.parts ticked)

@@ -9,20 +9,20 @@ pub invariant_of-self : goal.invariant_of-self
 invariant_of-self g c =
     let k = c.args.self.now in
     let j = k.journal in
-    let new = c.program.new.self in
+    let new = c.program.new.journal in
     let seen = g.D.Device.seen in
     let a = g.B.Board.state j.board in
     let b = g.B.Board.state new.board in
     let was = g.met.B.Steady.steady j.board in
     let now = g.met.B.Steady.steady new.board in
     let e = c.program.ensures in
-    record { kept = went seen g.D.Device.moment g.D.Device.left_since j.dead a j.log new.log k.synced.value.log k.before.value.log (journal_state new.dead b) was.on k.kept (programs_go (kept seen new.log ≡ kept seen j.log) j.dead new.dead a b was now c.args.row c.args.page.now c.program.result e.state e.kept) e.any_moment e.still }
+    record { kept = went seen g.D.Device.moment g.D.Device.left_since j.dead a j.log new.log k.synced.value.log k.before.value.log (journal_state new.dead b) was.on k.kept (programs_go (kept seen new.log ≡ kept seen j.log) j.dead new.dead a b was now c.args.row c.args.page.now c.program.result e.state e.kept) e.any_moment e.still; light = e.light }
 
 pub returns : goal.returns
 returns g c =
     let k = c.args.self.now in
     let j = k.journal in
-    let new = c.program.new.self in
+    let new = c.program.new.journal in
     let seen = g.D.Device.seen in
     let moment = g.D.Device.moment in
     let s = journal_state j.dead (g.B.Board.state j.board) in

@@ -1,3 +1,5 @@
+use Rattle.std.proofs.Common.{sym}
+use Rattle.std.proofs.lemmas.Bool.{false≢true}
 use Rattle.std.proofs.Common.{◌≡◌, ◌≤◌, ◌∙◌, length, sym, ℕ, Bool, true, List, refl, ap, subst}
 use Rattle.envy_journal.specs.declared.operation.Operation.{Operation}
 use Rattle.envy_journal.specs.Content.{content_of, holds}
@@ -6,6 +8,8 @@ use Rattle.envy_journal.specs.Journal.{journal_state, kept}
 use Rattle.envy_journal.specs.Log.{kept_bytes}
 use Rattle.envy_disk.specs.declared.on_disk.Compaction.{Compaction}
 use Rattle.envy_journal.specs.Snapshot.{most_of}
+use Rattle.envy_journal.specs.Snapshot.{limit_of}
+use Rattle.envy_journal.proofs.Condensed.{none_spilled}
 use Rattle.envy_map.specs.Fields.{chart}
 use Rattle.envy_synced.specs.Disk.{IsCompact, IsKept, IsSynced, disk_state}
 use Rattle.envy_synced.specs.Number.{number}
@@ -29,7 +33,8 @@ invariant_of-self g c =
     subst (λ (x : g.row.B.Denot). StandsFor (g.B.Board.state x).shape (kept seen new.log) file) e.board
     (stands_now seen g.D.Device.may_leave moment left g.D.Device.synced new.log (g.B.Board.state new.board) (g.met.D.Device.only_now new.log.device) (new.logged e.ok.still_alive) file after) in
     let fresh : IsKept seen moment left new.log new.log was a = synced seen moment left j.log was k.before.value.log a is (g.met.B.Steady.steady j.board).on new.log e.any_moment_ok stands in
-    record { kept = rw (c.replace-last.ensures.value, c.replace-last.ensures.after, c.of.ensures, e.ok.still_alive, e.board) fresh }
+    let D = g.D.Device in
+    record { kept = rw (c.replace-last.ensures.value, c.replace-last.ensures.after, c.of.ensures, e.ok.still_alive, e.board) fresh; light = λ alive. none_spilled D.seen D.may_leave D.left_since D.synced D.bytewise new.log (new.logged alive).sound (new.counted alive) e.ok.none_held (limit_of (g.B.Board.state new.board).shape) }
 
 pub invariant_of-self-in-Err : goal.invariant_of-self-in-Err
 invariant_of-self-in-Err g c =
@@ -42,7 +47,7 @@ invariant_of-self-in-Err g c =
     let dead : new.dead ≡ true = e.dead in
     let ended : IsKept seen g.D.Device.moment g.D.Device.left_since new.log k.synced.value.log k.before.value.log (journal_state true a) =
     failed seen g.D.Device.moment g.D.Device.left_since j.dead a j.log new.log k.synced.value.log k.before.value.log (g.met.B.Steady.steady j.board).on k.kept e.any_moment e.still in
-    record { kept = rw (dead, e.board) ended }
+    record { kept = rw (dead, e.board) ended; light = λ alive. absurd (false≢true (sym alive ∙ dead)) }
 
 pub returns-in-Ok-clause-answer : goal.returns-in-Ok-clause-answer
 returns-in-Ok-clause-answer g c =
