@@ -1,6 +1,6 @@
 -- A memory with one transaction: what its calls do to the words.
 use Rattle.std.proofs.Common.{◌≡◌, ◌≢◌, ◌⊎◌, inl, inr, ℕ, zero, suc, ◌+◌, ◌*◌, ◌-◌, ◌<◌, ◌≤◌, Bool, true, false, List, [], ◌∷◌, ◌++◌, map, length, get_or, Option, None, Some, refl, sym, ◌∙◌, ap, subst, arith}
-use Rattle.std.specs.Prelude.{◌&&◌, ◌==◌, IsTrue, Result, Ok, Err, replicate, slice_index, slice_set, position}
+use Rattle.std.specs.Prelude.{◌&&◌, ◌==◌, IsTrue, Result, Ok, Err, replicate, slice_index, slice_set, position, sum}
 use Rattle.std.proofs.Math.Logic.{∥∥₁_elim, ∥∥₁_map}
 use Rattle.std.proofs.Props.{props}
 use Rattle.std.proofs.lemmas.Bool.{cases_eq, eq-eqb, ne_eqb, or_cases, or_left, or_right}
@@ -119,6 +119,14 @@ sheet-spends n k j p q b d programs erases w =
       programs = omega arith;
       erases = omega arith;
     }
+
+-- and where the board is as before
+pub load-spends : (p q : Picture) (b : Bool) → q.chart ≡ p.chart → Spends 0 (sheet_of p b) (sheet_of q b)
+load-spends p q b same = record {
+  price = ap (λ (c : Chart). put_price c.shape) same;
+  programs = let e = ap (λ (c : Chart). c.begun) same in omega arith;
+  erases = let e = ap (λ (c : Chart). sum c.erases) same in omega arith;
+}
 
 -- it has begun, and power is on
 pub begun-on : (on b : Bool) → IsTrue (on && b) → IsTrue on × (b ≡ true)

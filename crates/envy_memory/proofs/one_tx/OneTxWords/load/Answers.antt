@@ -4,7 +4,7 @@ use Rattle.envy_map.specs.Fields.{Chart}
 use Rattle.envy_memory.specs.Picture.{Picture}
 use Rattle.std.specs.Prelude.{Err}
 use Rattle.envy_memory.proofs.Ended.{few-as, same-held, in-range, lit-ok}
-use Rattle.envy_memory.proofs.Transacting.{sheet-same, load-word}
+use Rattle.envy_memory.proofs.Transacting.{sheet-same, load-spends, load-word}
 use Rattle.envy_memory.proofs.one_tx.OneTxWords.load.Goals as goal
 
 pub invariant_of-self : goal.invariant_of-self
@@ -29,3 +29,9 @@ returns-in-Ok-clause-answer g c =
     let whole = sheet-same p q b same (ap (λ (x : Picture). x.owned) c.load.ensures.below.kept) in
     let on = sym (ap (λ (x : Chart). x.on) same) ∙ lit in
     (lit, load-word p b q.chart c.args.a c.in-Ok.word on c.args.self.now.held c.in-Ok.ensures.step, ap (λ (s : Sheet). s.words) whole, ap (λ (s : Sheet). s.pages) whole)
+
+pub returns-in-Ok-clause-spends : goal.returns-in-Ok-clause-spends
+returns-in-Ok-clause-spends g c = load-spends c.args.self.now.memory c.load.new.self c.args.self.now.begun (ap (λ (p : Picture). p.chart) c.load.ensures.below.kept)
+
+pub returns-in-Err-Off-clause-spends : goal.returns-in-Err-Off-clause-spends
+returns-in-Err-Off-clause-spends g c = load-spends c.args.self.now.memory c.load.new.self c.args.self.now.begun (ap (λ (p : Picture). p.chart) c.load.ensures.below.kept)
