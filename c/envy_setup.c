@@ -6,7 +6,7 @@
 #include "envy_mapped.h"
 #endif
 
-enum { PAGE_WORDS = 32, MOST_ROWS = 16777216 };
+enum { PAGE_WORDS = 32, MOST_ROWS = 16777216, MOST_SEGMENT = 65536 };
 
 static uint32_t between(uint64_t least, uint64_t wanted, uint64_t most) {
     return (uint32_t)(wanted < least ? least : wanted > most ? most : wanted);
@@ -28,12 +28,12 @@ uint32_t envy_setup_for(uint64_t words, uint32_t owned_pages, envy_setup *setup)
     /* each page has a row, and each owned page a second one, its shadow; these are 80 of 100 rows */
     uint64_t rows = ((pages + owned_pages) * 5 + 3) / 4;
     if (rows > MOST_ROWS) return ENVY_SETUP_TOTAL;
-    /* A segment is what is erased and cleaned at once: 16 rows, or so many that about 64 segments do. Under ten of them
-       the two that hold no pages would be more than 20 of 100. */
+    /* A segment is what is erased and cleaned at once: 16 rows, or so many that about 64 segments do, unless it would be
+       larger than one may be. Under ten of them the two that hold no pages would be more than 20 of 100. */
     uint32_t segment = 16;
-    while (rows > 64 * (uint64_t)segment) segment *= 2;
+    while (rows > 64 * (uint64_t)segment && segment < MOST_SEGMENT) segment *= 2;
     envy_setup chosen = {
-        .segments = between(10, (rows + segment - 1) / segment, 64),
+        .segments = between(10, (rows + segment - 1) / segment, MOST_ROWS / MOST_SEGMENT),
         .rows = segment,
         .pages = (uint32_t)pages,
         .shadows = owned_pages,

@@ -75,4 +75,24 @@ for number in range(2000):
     else:
         envy(["resume"], image + b"load 5\n", 10)
 print("images: 2000 changed images, each with its verdict:", ", ".join(f"{n} {it}" for it, n in sorted(verdicts.items())))
+
+def head(segments, rows):
+    """Returns what an image of a board of these sizes begins with."""
+    return b"eNVyIMG1" + b"".join(n.to_bytes(4, "little") for n in (segments, rows, 64, 16, 8, 4))
+
+
+# A board of more rows than the words allow is refused by its head alone; any other image of a head alone ends early.
+EARLY, SHAPED = b"envy: image ends early\n", b"envy: image has a bad shape\n"
+for word in ("audit", "map", "resume"):
+    for segments, rows, large, text in (
+        (16, 65536, [], EARLY),
+        (17, 61681, [], SHAPED),
+        (17, 61681, ["--large", "0"], SHAPED),
+        (257, 65281, ["--large", "1"], SHAPED),
+    ):
+        ran = subprocess.run([PROGRAM, word, *large], input=head(segments, rows), stdout=subprocess.PIPE, stderr=subprocess.PIPE)
+        if (ran.returncode, ran.stdout, ran.stderr) != (10, b"", text):
+            sys.exit(f"images: {word} of {segments} x {rows} {large}: {ran.returncode} {ran.stderr.decode()}")
+print("images: a board of too many rows is refused by its head")
+
 TEXT

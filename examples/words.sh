@@ -77,7 +77,7 @@ run rows 3|rows is no option (is it --rows?)
 run --polcy fifo|--polcy is no option (is it --policy?)
 run --ROWS 3|--ROWS is no option (is it --rows?)
 run 16|16 is no option
-audit 16|16 is no option (audit takes none)
+audit 16|16 is no option
 map --rows 16|map takes no --rows
 gen --hott 5|--hott is no option (is it --hot?)
 run --pages ten|--pages: ten is no number

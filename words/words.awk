@@ -122,7 +122,6 @@ function no_option(text, word,    bare, found) {
     sub(/^-+/, "", bare)
     found = nearest(bare, options, option_count, word)
     if (text !~ /^-/ && is_file(text)) mistake(text " is no option, but a file (< " text ")", 1)
-    if (takes[word] !~ /[a-z]/) mistake(text " is no option (" word " takes none)", 1)
     mistake(text " is no option" (text ~ /^-./ || near <= 4 ? " (is it --" found "?)" : ""), 1)
 }
 

@@ -36,14 +36,14 @@ static void refused(uint64_t words, uint32_t owned, uint32_t wanted) {
 
 int main(int words, char **word) {
     if (words != 2) return 2;
-    for (uint64_t n = 1; n <= 26843545; n += 1 + n / 7)
+    for (uint64_t n = 1; n <= 429496704; n += 1 + n / 7)
         for (uint32_t owned = 0; owned <= 2; owned++)
-            if ((n + 31) / 32 + owned <= 838860) fits(n, owned);
-    /* 838,860 pages are 80 of 100 of the most rows, 1,048,576 */
-    fits(838860 * 32ull, 0);
-    fits(32, 838859);
-    refused(838860 * 32ull + 1, 0, ENVY_SETUP_TOTAL);
-    refused(838860 * 32ull, 1, ENVY_SETUP_TOTAL);
+            if ((n + 31) / 32 + owned <= 13421772) fits(n, owned);
+    /* 13,421,772 pages are 80 of 100 of the most rows, 16,777,216 */
+    fits(13421772 * 32ull, 0);
+    fits(32, 13421771);
+    refused(13421772 * 32ull + 1, 0, ENVY_SETUP_TOTAL);
+    refused(13421772 * 32ull, 1, ENVY_SETUP_TOTAL);
     refused(32, UINT32_MAX, ENVY_SETUP_TOTAL);
     refused(UINT64_MAX, 0, ENVY_SETUP_TOTAL);
     refused(0, 1, ENVY_SETUP_PAGES);
