@@ -29,8 +29,8 @@
 
    Every call may answer, before all that is named beside it: ENVY_EMPTY, the place holds no memory; ENVY_MAP_SETUP, the
    setup has fewer than 20 pages or 32 shadows, or more than 1,048,576 pages; ENVY_SLOT_OPEN, a transaction is open, which
-   is to be committed or aborted first. Nothing changes then. If a call answers anything but ENVY_DONE, what its last pointer points to is as before,
-   and the map has its old pairs. */
+   is to be committed or aborted first. Nothing changes then. If a call answers anything but ENVY_DONE, what its last
+   pointer points to is as before, and the map has its old pairs. */
 #ifndef ENVY_INDEX_H
 #define ENVY_INDEX_H
 
