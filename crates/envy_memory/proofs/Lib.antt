@@ -10,6 +10,7 @@ pub mod Facts
 pub mod FormatLemmas
 pub mod HitsLemmas
 pub mod Owning
+pub mod Pricing
 pub mod PutAnswers
 pub mod PutLemmas
 pub mod Standing

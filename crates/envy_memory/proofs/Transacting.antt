@@ -1,30 +1,29 @@
 -- A memory with one transaction: what its calls do to the words.
 use Rattle.std.proofs.Common.{◌≡◌, ◌≢◌, ◌⊎◌, inl, inr, ℕ, zero, suc, ◌+◌, ◌*◌, ◌-◌, ◌<◌, ◌≤◌, Bool, true, false, List, [], ◌∷◌, ◌++◌, map, length, get_or, Option, None, Some, refl, sym, ◌∙◌, ap, subst, arith}
-use Rattle.std.specs.Prelude.{◌&&◌, ◌==◌, IsTrue, Result, Ok, Err, replicate, slice_index, slice_set, position, sum}
+use Rattle.std.specs.Prelude.{◌&&◌, ◌==◌, IsTrue, Result, Ok, Err, replicate, slice_index, slice_set, position}
 use Rattle.std.proofs.Math.Logic.{∥∥₁_elim, ∥∥₁_map}
 use Rattle.std.proofs.Props.{props}
 use Rattle.std.proofs.lemmas.Bool.{cases_eq, eq-eqb, ne_eqb, or_cases, or_left, or_right}
 use Rattle.envy_base.specs.Array.{Array, Saved, slot_of, undone, undo_all, owns, owner, put, put_back, saving, is_closed, page_of}
 use Rattle.envy_base.specs.Step.{Answer, Step, Lost, Begin, Put, Done, Started, Range, Held, Closed, Full, Busy}
-use Rattle.envy_base.specs.Words.{Works as SheetWorks, Spends, OnPage, Keeps, has}
+use Rattle.envy_base.specs.Words.{Works as SheetWorks, OnPage, Keeps, has}
 use Rattle.envy_base.specs.declared.fields.Slot.TheVariants.{Active, Vacant}
 use Rattle.envy_base.specs.declared.shape.Shape.{Shape}
 use Rattle.envy_base.proofs.Owning.{owner-Some}
 use Rattle.envy_base.proofs.Undoing.{undo_all-closed, undone-begun, undone-put}
 use Rattle.envy_base.proofs.Undoing.{has as has-address}
 use Rattle.envy_map.specs.Fields.{Chart, slot}
-use Rattle.envy_layout.specs.Same.{Counted, Grows}
+use Rattle.envy_layout.specs.Same.{Counted}
 use Rattle.envy_layout.specs.Stands.{Holds, Stands, Steps, IsLost, slot_word}
 use Rattle.envy_layout.specs.Words.{live, durable}
 use Rattle.envy_txn.specs.Owners.{Ownership, owner_of}
 use Rattle.envy_txn.specs.declared.pair.Pair.{Pair}
 use Rattle.envy_memory.proofs.Facts.{none-open, on-from}
-use Rattle.envy_memory.specs.Below.{flush_programs, flush_erases}
 use Rattle.envy_memory.specs.Calls.{Loads, Begins, Puts, Works, IsCut}
 use Rattle.envy_memory.specs.Effects.{PutEffect}
 use Rattle.envy_memory.specs.Lawful.{words_long}
 use Rattle.envy_memory.specs.Picture.{Picture}
-use Rattle.envy_memory.specs.Sheets.{words_read, fixed_of, put_price, sheet_of, IsHeld}
+use Rattle.envy_memory.specs.Sheets.{words_read, fixed_of, sheet_of, IsHeld}
 use Rattle.envy_memory.specs.declared.faults.BeginFault.TheVariants.{Off as BeginOff}
 use Rattle.envy_memory.specs.declared.faults.PutFault.{PutFault}
 use Rattle.envy_memory.specs.declared.faults.PutFault.TheVariants.{Off as PutOff, Range as PutRange, Closed as PutClosed, Held as PutHeld, Full as PutFull, Bad as PutBad}
@@ -107,25 +106,6 @@ sheet-keeps i j p q b d w cut = record {
   bads = Counted.bads w.counted;
   dark = dark-works i j p.chart q.chart w;
   cut = cut;
-}
-
--- what a call of the memory began, in puts
-pub sheet-spends : (n k j : ℕ) (p q : Picture) (b d : Bool) → k ≤ n * flush_programs p.chart.shape.rows → j ≤ n * flush_erases → Works k j p.chart q.chart → Spends n (sheet_of p b) (sheet_of q d)
-sheet-spends n k j p q b d programs erases w =
-    let few = Counted.few w.counted in
-    let most = Grows.few (Counted.erases w.counted) in
-    record {
-      price = ap put_price w.shape;
-      programs = omega arith;
-      erases = omega arith;
-    }
-
--- and where the board is as before
-pub load-spends : (p q : Picture) (b : Bool) → q.chart ≡ p.chart → Spends 0 (sheet_of p b) (sheet_of q b)
-load-spends p q b same = record {
-  price = ap (λ (c : Chart). put_price c.shape) same;
-  programs = let e = ap (λ (c : Chart). c.begun) same in omega arith;
-  erases = let e = ap (λ (c : Chart). sum c.erases) same in omega arith;
 }
 
 -- it has begun, and power is on

@@ -6,7 +6,8 @@ use Rattle.envy_layout.specs.Words.{durable}
 use Rattle.envy_memory.specs.Calls.{Commits, Works}
 use Rattle.envy_memory.specs.declared.faults.EndFault.{EndFault}
 use Rattle.envy_memory.proofs.Ended.{few-as, lit-ok, and-false, finish-all, finish-kept, finish-lost, words-as}
-use Rattle.envy_memory.proofs.Transacting.{flag-is, begun-on, is-active, sheet-keeps, sheet-spends}
+use Rattle.envy_memory.proofs.Pricing.{sheet-spends}
+use Rattle.envy_memory.proofs.Transacting.{flag-is, begun-on, is-active, sheet-keeps}
 use Rattle.envy_memory.proofs.one_tx.OneTxWords.finish.Goals as goal
 
 pub invariant_of-self : goal.invariant_of-self

@@ -4,7 +4,8 @@ use Rattle.envy_map.specs.Fields.{Chart}
 use Rattle.envy_memory.specs.Picture.{Picture}
 use Rattle.std.specs.Prelude.{Err}
 use Rattle.envy_memory.proofs.Ended.{few-as, same-held, in-range, lit-ok}
-use Rattle.envy_memory.proofs.Transacting.{sheet-same, load-spends, load-word}
+use Rattle.envy_memory.proofs.Pricing.{load-spends}
+use Rattle.envy_memory.proofs.Transacting.{sheet-same, load-word}
 use Rattle.envy_memory.proofs.one_tx.OneTxWords.load.Goals as goal
 
 pub invariant_of-self : goal.invariant_of-self

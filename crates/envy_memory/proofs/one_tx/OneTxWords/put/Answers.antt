@@ -6,7 +6,8 @@ use Rattle.envy_memory.specs.Below.{flush_erases, flush_programs}
 use Rattle.envy_memory.specs.Calls.{Works}
 use Rattle.envy_memory.specs.Sheets.{sheet_of}
 use Rattle.envy_memory.proofs.Ended.{PutMeets, few-as, put-keeps, never-refused, put-works, put-answer}
-use Rattle.envy_memory.proofs.Transacting.{begun-on, sheet-spends}
+use Rattle.envy_memory.proofs.Pricing.{sheet-spends}
+use Rattle.envy_memory.proofs.Transacting.{begun-on}
 use Rattle.envy_memory.proofs.one_tx.OneTxWords.put.Goals as goal
 
 pub invariant_of-self : goal.invariant_of-self

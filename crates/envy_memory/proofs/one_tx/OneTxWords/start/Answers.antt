@@ -7,7 +7,8 @@ use Rattle.envy_memory.specs.Picture.{Picture}
 use Rattle.envy_memory.specs.declared.faults.BeginFault.{BeginFault}
 use Rattle.envy_txn.specs.Owners.{Ownership}
 use Rattle.envy_memory.proofs.Ended.{few-as, lit-ok, start-gone, words-as, start-any, and-true}
-use Rattle.envy_memory.proofs.Transacting.{flag-is, never-busy, pages_of, sheet-keeps, sheet-spends, shut-on, start-pages, started-kept, started-words, was-on}
+use Rattle.envy_memory.proofs.Pricing.{sheet-spends}
+use Rattle.envy_memory.proofs.Transacting.{flag-is, never-busy, pages_of, sheet-keeps, shut-on, start-pages, started-kept, started-words, was-on}
 use Rattle.envy_memory.proofs.one_tx.OneTxWords.start.Goals as goal
 
 pub invariant_of-self : goal.invariant_of-self

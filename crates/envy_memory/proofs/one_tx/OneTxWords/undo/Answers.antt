@@ -5,7 +5,8 @@ use Rattle.envy_layout.specs.Stands.{Stands}
 use Rattle.envy_memory.specs.Calls.{Aborts, Works}
 use Rattle.envy_memory.specs.declared.faults.EndFault.{EndFault}
 use Rattle.envy_memory.proofs.Ended.{few-as, lit-ok, and-false, undo-all, undo-kept, undo-lost}
-use Rattle.envy_memory.proofs.Transacting.{flag-is, begun-on, is-active, sheet-keeps, sheet-spends}
+use Rattle.envy_memory.proofs.Pricing.{sheet-spends}
+use Rattle.envy_memory.proofs.Transacting.{flag-is, begun-on, is-active, sheet-keeps}
 use Rattle.envy_memory.proofs.one_tx.OneTxWords.undo.Goals as goal
 
 pub invariant_of-self : goal.invariant_of-self
