@@ -291,7 +291,7 @@ static void never_synced(void) {
 static void another_kind(void) {
     envy_kept_file f = ENVY_KEPT_FILE_INIT;
     make("foreign", "a text of another kind", 0644);
-    WANT(truncate("foreign", (off_t)3 << 30), 0);
+    WANT(truncate("foreign", (off_t)1 << 40), 0);
     WANT(envy_kept_open_file(&f, "foreign", &setup), ENVY_NO_JOURNAL);
     WANT(access("foreign.envy-cut", F_OK), (uint64_t)-1);
     WANT(unlink("foreign"), 0);
