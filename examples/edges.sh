@@ -103,6 +103,44 @@ else
 fi
 cmp -s "$work/names" "$work/bare/memory" || fail "a refused file was changed"
 
+# A trace without a sync leaves a short file: what isn't synced is written anew once the file has more than 1 MiB of it.
+awk 'BEGIN { for (i = 0; i < 200000; i++) print "store", i * 7919 % 500, i }' </dev/null >"$work/lines"
+keeps "$work/unsynced" <"$work/lines"
+[ $status = 0 ] || fail "a trace without a sync: status $status: $(cat "$work/err")"
+timeout 60 "$program" keep --file "$work/killed" <"$work/lines" >/dev/null 2>&1 &
+pid=$!
+longest=0
+while kill -0 $pid 2>/dev/null; do
+    size=$(stat -c %s "$work/killed" 2>/dev/null || echo 0)
+    [ "$size" -gt $longest ] && longest=$size
+    sleep 0.02
+done
+wait $pid || fail "a trace without a sync: status $?"
+[ $longest -gt 0 ] && [ $longest -lt $((4 << 20)) ] || fail "a trace without a sync: a file of $longest bytes"
+keeps "$work/unsynced" < <(printf 'load %d\n' $((199999 * 7919 % 500)))
+ends "the end of a trace without a sync" 0 '199999\n' ''
+
+# Of a long file of another kind only the head is read, and nothing is made beside it.
+mkdir "$work/foreign"
+printf 'a text of another kind' >"$work/foreign/file"
+# (so long that no memory holds it)
+truncate -s 1T "$work/foreign/file"
+keeps "$work/foreign/file" < <(echo 'load 5')
+ends "a long file of another kind" 10 '' 'envy: no journal'
+[ "$(ls -A "$work/foreign")" = file ] || fail "beside a long file of another kind: $(ls -A "$work/foreign")"
+
+# A file that is refused isn't copied, though what an opening would cut off looks like a sync.
+mkdir "$work/refused"
+printf 'store 5 7\nsync\nstore 6 8\nsync\n' | timeout 60 "$program" keep --file "$work/refused/file" >/dev/null
+printf '\0' | dd of="$work/refused/file" bs=1 seek=33 conv=notrunc 2>/dev/null
+cp "$work/refused/file" "$work/turned"
+keeps "$work/refused/file" --rows 17 < <(echo 'load 5')
+ends "other sizes over a turned gate" 10 '' 'envy: the journal has other sizes'
+[ "$(ls -A "$work/refused")" = file ] && cmp -s "$work/refused/file" "$work/turned" ||
+    fail "a refused file: $(ls -A "$work/refused")"
+keeps "$work/refused/file" < <(echo 'load 5')
+[ $status = 0 ] && [ -s "$work/refused/file.envy-cut" ] || fail "a turned gate: status $status, no copy"
+
 # A file that is moved while it is open goes on where it is, and another one at its old path stays as it is.
 coproc MOVED { exec timeout 240 "$program" keep --file "$work/moved" 2>"$work/err"; }
 pid=$MOVED_PID

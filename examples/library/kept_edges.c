@@ -268,6 +268,53 @@ static void too_many(void) {
     WANT(envy_kept_close_file(&files[ENVY_DISKS]), ENVY_DONE);
 }
 
+/* Stores without a sync: what isn't synced is written anew, so that the file stays short. */
+static void never_synced(void) {
+    envy_kept_file f = ENVY_KEPT_FILE_INIT;
+    WANT(envy_kept_open_file(&f, "unsynced", &setup), ENVY_DONE);
+    struct stat found;
+    off_t longest = 0;
+    for (uint32_t i = 0; i < 200000; i++) {
+        store(&f, i * 7919u % 384, i);
+        if (i % 1000) continue;
+        WANT(stat("unsynced", &found), 0);
+        if (found.st_size > longest) longest = found.st_size;
+    }
+    WANT(longest < 4 << 20, 1);
+    WANT(envy_kept_close_file(&f), ENVY_DONE);
+    WANT(envy_kept_open_file(&f, "unsynced", &setup), ENVY_DONE);
+    WANT(word_at(&f, 199999u * 7919u % 384), 199999);
+    WANT(envy_kept_close_file(&f), ENVY_DONE);
+}
+
+/* Of a long file of another kind the head is read, and nothing is made beside it. */
+static void another_kind(void) {
+    envy_kept_file f = ENVY_KEPT_FILE_INIT;
+    make("foreign", "a text of another kind", 0644);
+    WANT(truncate("foreign", (off_t)1 << 40), 0);
+    WANT(envy_kept_open_file(&f, "foreign", &setup), ENVY_NO_JOURNAL);
+    WANT(access("foreign.envy-cut", F_OK), (uint64_t)-1);
+    WANT(unlink("foreign"), 0);
+}
+
+/* Turns the first gate of a journal: what follows looks like a sync that is cut off. A file that is refused isn't copied. */
+static void refused(void) {
+    envy_kept_file f = ENVY_KEPT_FILE_INIT;
+    envy_setup other = setup;
+    other.rows = 9;
+    WANT(envy_kept_open_file(&f, "turned", &setup), ENVY_DONE);
+    store(&f, 5, 7);
+    WANT(envy_kept_close_file(&f), ENVY_DONE);
+    int descriptor = open("turned", O_WRONLY);
+    WANT(pwrite(descriptor, "", 1, 33), 1);
+    WANT(close(descriptor), 0);
+    WANT(envy_kept_open_file(&f, "turned", &other) != ENVY_DONE, 1);
+    WANT(access("turned.envy-cut", F_OK), (uint64_t)-1);
+    WANT(envy_kept_open_file(&f, "turned", &setup), ENVY_DONE);
+    WANT(access("turned.envy-cut", F_OK), 0);
+    WANT(envy_kept_close_file(&f), ENVY_DONE);
+}
+
 int main(int words, char **word) {
     if (words != 2 || chdir(word[1])) return 2;
     alarm(300);
@@ -278,6 +325,10 @@ int main(int words, char **word) {
     names();
     no_second();
     too_many();
-    puts("kept files: closed streams, forked processes, a moved file, names that others have and too many files do no harm");
+    never_synced();
+    another_kind();
+    refused();
+    puts("kept files: closed streams, forked processes, a moved file, names that others have, too many files, stores without a sync "
+         "and files of another kind do no harm");
     return 0;
 }
