@@ -32,22 +32,22 @@ const JOBS: [(u64, Option<Job>); 6] = [
 const SLOTS: [(u64, Option<Slot>); 2] = [(2, Some(Slot::Committed)), (3, None)];
 
 const PLACES: [(u64, Option<Place>); 4] = [
-    (4_194_301, Some(Place::Row(1_048_575))),
-    (4_194_305, None),
+    (67_108_861, Some(Place::Row(16_777_215))),
+    (67_108_865, None),
     (262_142, Some(Place::Frame(65_535))),
     (262_146, None),
 ];
 
 const LAST_SHADOW: Undo = Undo::Shadow {
     slot: 63,
-    row: 1_048_575,
+    row: 16_777_215,
 };
 
 const UNDOS: [(u64, Option<Undo>); 4] = [
     (253, Some(Undo::Blank { slot: 63 })),
     (257, None),
-    (268_435_454, Some(LAST_SHADOW)),
-    (268_435_458, None),
+    (4_294_967_294, Some(LAST_SHADOW)),
+    (4_294_967_298, None),
 ];
 
 #[test]

@@ -26,7 +26,7 @@ const EDGES: [Row; 22] = [
     ([4097, 16, 64, 16, 8, 4], Err(ShapeFault::Segments)),
     ([8, 1, 1, 0, 8, 4], Err(ShapeFault::Rows)),
     ([8, 2, 12, 0, 8, 4], Ok(())),
-    ([16, 65536, 64, 16, 8, 4], Ok(())),
+    ([256, 65536, 64, 16, 8, 4], Ok(())),
     ([8, 65537, 64, 16, 8, 4], Err(ShapeFault::Rows)),
     ([8, 16, 0, 16, 8, 4], Err(ShapeFault::Pages)),
     ([8, 16, 1, 16, 8, 4], Ok(())),
@@ -40,7 +40,7 @@ const EDGES: [Row; 22] = [
     ([8, 16, 64, 16, 8, 65537], Err(ShapeFault::Entries)),
     ([8, 16, 80, 16, 8, 4], Ok(())),
     ([8, 16, 81, 16, 8, 4], Err(ShapeFault::Share)),
-    ([17, 65536, 64, 16, 8, 4], Err(ShapeFault::Total)),
+    ([257, 65281, 64, 16, 8, 4], Err(ShapeFault::Total)),
 ];
 
 #[test]
