@@ -69,16 +69,22 @@ under : (breaks : Bool) (fault : ShapeFault) (low high : Result Unit ShapeFault)
 under true fault low high more e = absurd (let never = e in cc)
 under false fault low high more e = more e
 
-last-under : (most rows : ℕ) → most ≤ 16777216 → (if nat_lt most rows then Err Total else Ok tt) ≡ Ok tt → ◌≡◌ {A = Result Unit ShapeFault} (if nat_lt 16777216 rows then Err Total else Ok tt) (Ok tt)
-last-under most rows low e =
-    let fits = not-below most rows (passed (nat_lt most rows) Total _ e).0 in
-    let none : nat_lt 16777216 rows ≡ false = grind (arith, nat_tests) in
-    rw none refl
+passing : (breaks : Bool) (fault : ShapeFault) (others : Result Unit ShapeFault) → breaks ≡ false → others ≡ Ok tt → (if breaks then Err fault else others) ≡ Ok tt
+passing true fault others holds well = absurd (let never = holds in cc)
+passing false fault others holds well = well
+
+none-above : (most rows : ℕ) → most ≤ 16777216 → rows ≤ most → nat_lt 16777216 rows ≡ false
+none-above most rows low fits = grind (arith, nat_tests)
+
+last-under : (most rows : ℕ) (others : Result Unit ShapeFault) → most ≤ 16777216 → (if nat_lt most rows then Err Total else others) ≡ Ok tt → (if nat_lt 16777216 rows then Err Total else others) ≡ Ok tt
+last-under most rows others low e =
+    let p = passed (nat_lt most rows) Total others e in
+    passing (nat_lt 16777216 rows) Total others (none-above most rows low (not-below most rows p.0)) p.1
 
 shape-more : (most : ℕ) (sh : Shape) → most ≤ 16777216 → checked_within most sh ≡ Ok tt → shape_checked sh ≡ Ok tt
 unfolding checked_within
 shape-more most sh low =
-    under _ Segments _ _ (under _ Rows _ _ (under _ Pages _ _ (under _ Frames _ _ (under _ Entries _ _ (under _ Share _ _ (last-under most (sh.segments * sh.rows) low))))))
+    under _ Segments _ _ (under _ Rows _ _ (under _ Pages _ _ (under _ Frames _ _ (under _ Entries _ _ (under _ Share _ _ (last-under most (sh.segments * sh.rows) _ low))))))
 
 shape-first-is : (r : Result Unit ShapeFault) (others : Result Unit SetupFault) → shape_first r others ≡ Ok tt → r ≡ Ok tt
 shape-first-is (Ok tt) others e = refl

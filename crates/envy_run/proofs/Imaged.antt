@@ -3,7 +3,7 @@ use Rattle.std.proofs.Common.{◌≡◌, inl, inr, ℕ, ◌+◌, ◌*◌, ◌-�
 use Rattle.std.specs.Prelude.{Option, None, Some, Ok, Err, nat_lt, ◌||◌, ◌==◌}
 use Rattle.std.proofs.lemmas.Bool.Decides.{nat_tests}
 use Rattle.std.proofs.lemmas.List.{append_assoc}
-use Rattle.envy_base.specs.Shape.{IsShape, checked}
+use Rattle.envy_base.specs.Shape.{IsShape, checked, checked_within}
 use Rattle.envy_base.specs.State.{State, IsBoard}
 use Rattle.envy_base.specs.declared.shape.Shape.{Shape}
 use Rattle.envy_image.specs.Image.{mark, numbers_bytes, numbers_of, head_of, body_of, image_of, FitNumbers}
@@ -16,7 +16,7 @@ use Rattle.envy_run.specs.Loading.{StopsWithin}
 
 -- a shape that has its sizes checks
 pub shape-checks : (sh : Shape) → IsShape sh → checked sh ≡ Ok tt
-unfolding checked
+unfolding checked_within
 shape-checks sh s =
     let a = s.segments in
     let b = s.few_segments in

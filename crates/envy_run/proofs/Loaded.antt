@@ -1,6 +1,6 @@
 -- Images that are taken from a source, and boards that hold them.
-use Rattle.std.proofs.Common.{◌≡◌, ◌≢◌, inl, inr, ℕ, ◌+◌, ◌*◌, ◌<◌, ◌≤◌, List, [], ◌++◌, length, refl, sym, ◌∙◌, ap, subst, arith, length-append}
-use Rattle.std.specs.Prelude.{IsTrue, Ok, Err, Option, None, Some, slice_index, IfSome}
+use Rattle.std.proofs.Common.{◌≡◌, ◌≢◌, inl, inr, ℕ, Bool, true, false, ◌+◌, ◌*◌, ◌<◌, ◌≤◌, List, [], ◌++◌, length, refl, sym, ◌∙◌, ap, subst, arith, length-append}
+use Rattle.std.specs.Prelude.{MatchBool, IsTrue, Ok, Err, Option, None, Some, slice_index, IfSome}
 use Rattle.std.specs.Option.{option_map}
 use Rattle.std.proofs.lemmas.List.{append-nil}
 use Rattle.envy_base.specs.Counting.{up}
@@ -232,6 +232,15 @@ pub refused-within : {B : Type 0} {ending : Ending} {taken : ℕ} (e : Finished 
     → taken ≡ now.taken → now.taken ≤ now.cap → now.cap ≡ most_bytes → e.taken ≤ most_bytes
 refused-within {B} {ending} {taken} e board now is same below cap =
     let told : e.taken ≡ taken = ap (λ (x : Finished B). x.taken) is in omega (arith, told, same, below, cap)
+
+-- what a look at the rows of a board says
+pub is-small : (b : Bool) (most rows : ℕ) → MatchBool b (most < rows) (rows ≤ most) → b ≡ false → rows ≤ most
+is-small false most rows says e = says
+is-small true most rows says e = absurd (let never = e in cc)
+
+pub is-large : (b : Bool) (most rows : ℕ) → MatchBool b (most < rows) (rows ≤ most) → b ≡ true → most < rows
+is-large true most rows says e = says
+is-large false most rows says e = absurd (let never = e in cc)
 
 -- bytes that begin with a head of so many rows
 pub within-head : (most : ℕ) (sh : Shape) (bytes rest : List ℕ) → bytes ≡ head_of sh ++ rest → checked sh ≡ Ok tt → sh.segments * sh.rows ≤ most → IsWithin most bytes

@@ -71,7 +71,7 @@ made-of setup returns (Some now) (new, unharmed) = (record { shape = IsNew.shape
 pub as-made : (setup : Setup) (returns : ℕ) (s : State) → IsMade setup.shape returns s → IsAsMade setup returns (chart s)
 as-made setup returns s m = (
   record { shape = m.shape; flawless = record { on = m.on; cuts = m.cuts; bads = m.bads }; begun = m.begun; erases = m.erases },
-  record { given = m.given; lives = m.lives; pulled = m.pulled; plans = m.plans },
+  record { given = m.given; lives = m.lives; pulled = m.pulled; plans = m.plans; last_plan = m.last_plan },
 )
 
 licences-alone : (setup : Setup) (returns : ℕ) (o : Outcome) → IfSome o.board (IsAsMade setup returns) → o.second ≡ None → MirrorLicences setup returns o []

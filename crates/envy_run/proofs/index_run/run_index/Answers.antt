@@ -42,7 +42,7 @@ returns-clause-runs g c =
       version = c.into_memory.ensures.version;
       stands = c.into_memory.ensures.stands;
     } in
-    index-ended g.M.Made.Board.state c.args.setup c.args.lives first.chart w.memory w.begun now c.serve-served.result.end c.serve-served.result.lines c.serve-served.result.taken c.new-3.result.taken c.into_board.result c.finished_with.result (record { from = g.S.Source.feed c.args.source.now; feed = g.S.Source.feed c.serve-served.new.source; to = g.K.Sink.drain c.args.sink.now; sink = g.K.Sink.drain c.serve-served.new.sink }) c.finished_with.ensures c.into_board.ensures.same (ap (λ (t : Taking). t.taken) c.new-3.ensures) (let few = c.serve-served.ensures.few in let read = c.serve-served.ensures.read in omega arith) back (index-began c.args.setup c.args.lives b.made first.chart c.ranges.lives.fits b.new (IsReady.prepared ready)) (c.serve-served.ensures.serves first.chart (index-none c.args.setup c.args.lives b.made first c.new.result.begun sizes c.requires.room c.requires.size b.new ready c.new.ensures.shut))
+    index-ended g.M.Made.Board.state c.args.setup c.args.lives first.chart w.memory w.begun now c.serve-served.result.end c.serve-served.result.lines c.serve-served.result.taken c.new-3.result.taken c.into_board.result c.finished_with.result (record { from = g.S.Source.feed c.args.source.now; feed = g.S.Source.feed c.serve-served.new.source; to = g.K.Sink.drain c.args.sink.now; sink = g.K.Sink.drain c.serve-served.new.sink }) c.finished_with.ensures c.into_board.ensures.same (ap (λ (t : Taking). t.taken) c.new-3.ensures) (let few = c.serve-served.ensures.few in let read = c.serve-served.ensures.read in omega arith) back (index-began c.args.setup c.args.lives b.made first.chart c.ranges.lives.fits b.new (IsReady.prepared ready)) (c.serve-served.ensures.serves first.chart (index-none c.args.setup c.args.lives b.made first c.new.result.begun sizes c.requires.room c.requires.size c.requires.few b.new ready c.new.ensures.shut))
 
 pub returns-in-Err-clause-few : goal.returns-in-Err-clause-few
 returns-in-Err-clause-few g c = let lines = c.in-Err.ensures.lines in let taken = c.in-Err.ensures.taken in omega arith

@@ -1,4 +1,4 @@
-use Rattle.std.proofs.Common.{sym, ◌∙◌, ap}
+use Rattle.std.proofs.Common.{◌*◌, sym, ◌∙◌, ap}
 use Rattle.std.specs.Prelude.{None, Some}
 use Rattle.envy_map.specs.Fields.{chart}
 use Rattle.envy_policy.specs.Setup.{checked}
@@ -8,6 +8,7 @@ use Rattle.envy_run.specs.Outcome.{outcome_of}
 use Rattle.envy_run.specs.Resumes.{setup_found}
 use Rattle.envy_run.specs.declared.ending.Ending.TheVariants.{ImageRefused}
 use Rattle.envy_run.specs.declared.ending.ImageFault.TheVariants.{Unruly, Unsound}
+use Rattle.envy_run.proofs.Loaded.{is-large, is-small}
 use Rattle.envy_run.proofs.Resumed.{checks-err, checks-ok, installed-given, judged-sound, resume-declined, resume-headless, resume-large, resume-sound, resume-unruly, resume-unsound, stopped-ends}
 use Rattle.envy_run.proofs.resume_run.run_resume.Goals as goal
 
@@ -28,12 +29,12 @@ serve_image-requires-clause-taken g c =
 
 pub returns-then-is_err-clause-resumes : goal.returns-then-is_err-clause-resumes
 returns-then-is_err-clause-resumes g c =
-    resume-unruly g.M.Made.Board.state c.args.words.now.most (setup_found c.args.words.now.policy c.args.words.now.limit c.args.words.now.mark) c.setup_over-setup.result c.in-Ok.shape c.args.words.now.lives c.taken-then-is_err.result c.stopped_at.result (g.S.Source.feed c.args.source.now) (g.S.Source.feed c.take_head.new.source) (g.K.Sink.drain c.args.sink.now) c.take_head.new.lines c.stopped_at.ensures c.taken-then-is_err.ensures c.setup_over-setup.ensures (checks-err c.check.result (checked c.setup_over-setup.result) c.check.ensures.table (sym c.if-is_err.ensures.value)) c.in-Ok.ensures.1 c.if-is_too_large.false c.in-Ok.ensures.0
+    resume-unruly g.M.Made.Board.state c.args.words.now.most (setup_found c.args.words.now.policy c.args.words.now.limit c.args.words.now.mark) c.setup_over-setup.result c.in-Ok.shape c.args.words.now.lives c.taken-then-is_err.result c.stopped_at.result (g.S.Source.feed c.args.source.now) (g.S.Source.feed c.take_head.new.source) (g.K.Sink.drain c.args.sink.now) c.take_head.new.lines c.stopped_at.ensures c.taken-then-is_err.ensures c.setup_over-setup.ensures (checks-err c.check.result (checked c.setup_over-setup.result) c.check.ensures.table (sym c.if-is_err.ensures.value)) c.in-Ok.ensures.1 (is-small c.is_too_large.result c.args.words.now.most (c.in-Ok.shape.segments * c.in-Ok.shape.rows) c.is_too_large.ensures c.if-is_too_large.false) c.in-Ok.ensures.0
 
 pub returns-in-Sound-clause-resumes : goal.returns-in-Sound-clause-resumes
 returns-in-Sound-clause-resumes g c =
     let from = g.S.Source.feed c.args.source.now in
-    resume-sound c.args.words.now.most (setup_found c.args.words.now.policy c.args.words.now.limit c.args.words.now.mark) c.setup_over-setup.result c.args.words.now.lives c.in-Ok.shape c.in-Ok-take_image.verdict (g.M.Made.Board.state c.in-Ok-take_image.board) (outcome_of g.M.Made.Board.state c.serve_image.result) from (g.S.Source.feed c.take_image.new.source) (g.S.Source.feed c.serve_image.new.source) (g.K.Sink.drain c.args.sink.now) (g.K.Sink.drain c.serve_image.new.sink) c.take_image.new.lines c.setup_over-setup.ensures c.if-is_too_large.false (sym c.check.ensures.table ∙ checks-ok c.check.result (sym c.if-is_err.ensures.value)) c.in-Sound.is (c.in-Ok-take_image.ensures from c.in-Ok.ensures.0) c.serve_image.ensures.does
+    resume-sound c.args.words.now.most (setup_found c.args.words.now.policy c.args.words.now.limit c.args.words.now.mark) c.setup_over-setup.result c.args.words.now.lives c.in-Ok.shape c.in-Ok-take_image.verdict (g.M.Made.Board.state c.in-Ok-take_image.board) (outcome_of g.M.Made.Board.state c.serve_image.result) from (g.S.Source.feed c.take_image.new.source) (g.S.Source.feed c.serve_image.new.source) (g.K.Sink.drain c.args.sink.now) (g.K.Sink.drain c.serve_image.new.sink) c.take_image.new.lines c.setup_over-setup.ensures (is-small c.is_too_large.result c.args.words.now.most (c.in-Ok.shape.segments * c.in-Ok.shape.rows) c.is_too_large.ensures c.if-is_too_large.false) (sym c.check.ensures.table ∙ checks-ok c.check.result (sym c.if-is_err.ensures.value)) c.in-Sound.is (c.in-Ok-take_image.ensures from c.in-Ok.ensures.0) c.serve_image.ensures.does
 
 pub returns-in_default : goal.returns-in_default
 returns-in_default g c =
@@ -41,7 +42,7 @@ returns-in_default g c =
     let l = c.in-Ok-take_image.ensures from c.in-Ok.ensures.0 in
     let (few, read, second) = stopped-ends (ImageRefused Unsound) c.taken-in_default.result (Some c.in-Ok-take_image.board) c.stopped_at-in_default.result c.take_image.new.lines _ from (g.S.Source.feed c.take_image.new.source) c.stopped_at-in_default.ensures c.taken-in_default.ensures (Loaded.taken l) in
     record {
-      resumes = resume-unsound g.M.Made.Board.state c.args.words.now.most (setup_found c.args.words.now.policy c.args.words.now.limit c.args.words.now.mark) c.setup_over-setup.result c.in-Ok.shape c.in-Ok-take_image.verdict c.args.words.now.lives c.taken-in_default.result c.in-Ok-take_image.board c.stopped_at-in_default.result from (g.S.Source.feed c.take_image.new.source) (g.K.Sink.drain c.args.sink.now) c.take_image.new.lines c.stopped_at-in_default.ensures c.taken-in_default.ensures c.setup_over-setup.ensures c.if-is_too_large.false (sym c.check.ensures.table ∙ checks-ok c.check.result (sym c.if-is_err.ensures.value)) c.in_default.not-Sound l;
+      resumes = resume-unsound g.M.Made.Board.state c.args.words.now.most (setup_found c.args.words.now.policy c.args.words.now.limit c.args.words.now.mark) c.setup_over-setup.result c.in-Ok.shape c.in-Ok-take_image.verdict c.args.words.now.lives c.taken-in_default.result c.in-Ok-take_image.board c.stopped_at-in_default.result from (g.S.Source.feed c.take_image.new.source) (g.K.Sink.drain c.args.sink.now) c.take_image.new.lines c.stopped_at-in_default.ensures c.taken-in_default.ensures c.setup_over-setup.ensures (is-small c.is_too_large.result c.args.words.now.most (c.in-Ok.shape.segments * c.in-Ok.shape.rows) c.is_too_large.ensures c.if-is_too_large.false) (sym c.check.ensures.table ∙ checks-ok c.check.result (sym c.if-is_err.ensures.value)) c.in_default.not-Sound l;
       few = few;
       read = read;
       second = second;
@@ -50,7 +51,7 @@ returns-in_default g c =
 pub returns-in-Err-take_image-clause-resumes : goal.returns-in-Err-take_image-clause-resumes
 returns-in-Err-take_image-clause-resumes g c =
     let from = g.S.Source.feed c.args.source.now in
-    resume-declined g.M.Made.Board.state c.args.words.now.most (setup_found c.args.words.now.policy c.args.words.now.limit c.args.words.now.mark) c.in-Ok.shape c.in-Err-take_image.refusal c.args.words.now.lives c.taken-in-Err-take_image.result c.in-Err-take_image.board c.refused-in-Err-take_image.result from (g.S.Source.feed c.take_image.new.source) (g.K.Sink.drain c.args.sink.now) c.take_image.new.lines c.refused-in-Err-take_image.ensures c.taken-in-Err-take_image.ensures c.in-Ok.ensures.1 c.if-is_too_large.false (ap checked (sym c.setup_over-setup.ensures) ∙ (sym c.check.ensures.table ∙ checks-ok c.check.result (sym c.if-is_err.ensures.value))) (c.in-Err-take_image.ensures from c.in-Ok.ensures.0)
+    resume-declined g.M.Made.Board.state c.args.words.now.most (setup_found c.args.words.now.policy c.args.words.now.limit c.args.words.now.mark) c.in-Ok.shape c.in-Err-take_image.refusal c.args.words.now.lives c.taken-in-Err-take_image.result c.in-Err-take_image.board c.refused-in-Err-take_image.result from (g.S.Source.feed c.take_image.new.source) (g.K.Sink.drain c.args.sink.now) c.take_image.new.lines c.refused-in-Err-take_image.ensures c.taken-in-Err-take_image.ensures c.in-Ok.ensures.1 (is-small c.is_too_large.result c.args.words.now.most (c.in-Ok.shape.segments * c.in-Ok.shape.rows) c.is_too_large.ensures c.if-is_too_large.false) (ap checked (sym c.setup_over-setup.ensures) ∙ (sym c.check.ensures.table ∙ checks-ok c.check.result (sym c.if-is_err.ensures.value))) (c.in-Err-take_image.ensures from c.in-Ok.ensures.0)
 
 pub returns-in-Err-clause-resumes : goal.returns-in-Err-clause-resumes
 returns-in-Err-clause-resumes g c =
@@ -119,4 +120,4 @@ returns-in-Sound-clause-second g c = c.serve_image.ensures.second
 -- its board is too large
 pub returns-then-is_too_large-clause-resumes : goal.returns-then-is_too_large-clause-resumes
 returns-then-is_too_large-clause-resumes g c =
-    resume-large g.M.Made.Board.state c.args.words.now.most (setup_found c.args.words.now.policy c.args.words.now.limit c.args.words.now.mark) c.in-Ok.shape c.args.words.now.lives c.taken-then-is_too_large.result c.refused-then-is_too_large.result (g.S.Source.feed c.args.source.now) (g.S.Source.feed c.take_head.new.source) (g.K.Sink.drain c.args.sink.now) c.take_head.new.lines c.refused-then-is_too_large.ensures c.taken-then-is_too_large.ensures c.in-Ok.ensures.1 c.if-is_too_large.true c.in-Ok.ensures.0
+    resume-large g.M.Made.Board.state c.args.words.now.most (setup_found c.args.words.now.policy c.args.words.now.limit c.args.words.now.mark) c.in-Ok.shape c.args.words.now.lives c.taken-then-is_too_large.result c.refused-then-is_too_large.result (g.S.Source.feed c.args.source.now) (g.S.Source.feed c.take_head.new.source) (g.K.Sink.drain c.args.sink.now) c.take_head.new.lines c.refused-then-is_too_large.ensures c.taken-then-is_too_large.ensures c.in-Ok.ensures.1 (is-large c.is_too_large.result c.args.words.now.most (c.in-Ok.shape.segments * c.in-Ok.shape.rows) c.is_too_large.ensures c.if-is_too_large.true) c.in-Ok.ensures.0
