@@ -40,7 +40,7 @@ use Rattle.envy_run.proofs.Noting.{notes-empty}
 use Rattle.envy_run.proofs.Obeying.{answered}
 use Rattle.envy_run.specs.declared.answering.Beside.{Beside}
 use Rattle.envy_run.specs.declared.answering.Beside.TheVariants.{Nothing, Power as OfPower, Plan as OfPlan}
-use Rattle.envy_run.specs.declared.answering.Plan.TheVariants.{Cut as PlanCut, Bad as PlanBad}
+use Rattle.envy_base.specs.declared.faults.PlannedFault.TheVariants.{Cut as PlanCut, Bad as PlanBad}
 use Rattle.envy_keep.specs.Answers.{AnswersKeep, SyncsTo, TraceAnswers}
 use Rattle.envy_keep.specs.Playing.{ShowsMemory}
 use Rattle.envy_keep.specs.Since.{IsSaved, KeptSince, LostSince, Start}
