@@ -149,6 +149,7 @@ tpca --shadows 4|--shadows: 4 (5 and more under tpca)
 index --shadows 31|--shadows: 31 (32 and more under index)
 index --pages 19|--pages: 19 (20 and more under index)
 TEXT
+rm -f never
 # and the largest numbers that it takes
 while read -r -a given; do
     told check "${given[@]}" || fail "${given[*]}: refused"
