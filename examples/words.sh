@@ -24,7 +24,7 @@ understood() {
 }
 
 # value OPTION: one that is in every range
-value() { case $1 in policy) echo fifo ;; file) echo "$work/kept" ;; segments) echo 40 ;; rows) echo 40 ;; mark | branches | bytewise | compact) echo 1 ;; *) echo 32 ;; esac; }
+value() { case $1 in policy) echo fifo ;; file) echo "$work/kept" ;; segments) echo 40 ;; rows) echo 40 ;; mark | branches | bytewise | compact | large) echo 1 ;; *) echo 32 ;; esac; }
 
 pairs=0
 options=$(sed -n 's/^option | \([a-z]*\) .*/\1/p' words/table)
