@@ -239,7 +239,7 @@ fn faulty(setup: Setup, fault: Fault) -> Setup {
         Fault::Limit => setup.limit = 0,
         Fault::Policy => setup.policy = Policy::Hybrid(8),
         Fault::Segments => {
-            setup.shape.segments = 17;
+            setup.shape.segments = 257;
             setup.shape.rows = 65536;
         }
         Fault::Shadows => setup.shape.shadows = 4294967295,
