@@ -92,7 +92,7 @@ static void heads(void) {
         WANT(memcmp(&read, &setup, sizeof setup), 0);
         REFUSES(bad[i][2]);
     }
-    set_head(0, 17), set_head(1, 65536);
+    set_head(0, 257), set_head(1, 65536);
     REFUSES(ENVY_IMAGE_TOTAL);
     set_head(3, 15);
     REFUSES(ENVY_IMAGE_OTHER);
