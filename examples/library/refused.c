@@ -165,7 +165,7 @@ static void setups(void) {
     bad[4].frames = 1;
     bad[5].entries = 0;
     bad[6].pages = 81;
-    bad[7].segments = 17, bad[7].rows = 65536;
+    bad[7].segments = 257, bad[7].rows = 65536;
     bad[8].policy = bad[9].policy = ENVY_HYBRID;
     bad[8].part = 0, bad[9].part = SEGMENTS;
     bad[10].limit = 0;
