@@ -51,14 +51,14 @@ lane_doubled w n xs lane = record {
         one : (k : ℕ) → k ≡ 1 * k
         one k = omega arith
 
+-- one lane, and what is above it
+split : (k n b : ℕ) (t : List ℕ) → IsLane k (k + n) t → (x : ℕ) → bit_xor (get_or t (x / 2 ^ b % 2 ^ k) 0) (after_zeros n (x / 2 ^ (b + k))) ≡ after_zeros (k + n) (x / 2 ^ b)
+split k n b t lane x =
+    ap₂ bit_xor (lane.each (x / 2 ^ b % 2 ^ k) (mod_below (x / 2 ^ b) (2 ^ k) (pow_pos k))) (ap (after_zeros n) (sym (shr-shr x b k)))
+    ∙ sym (after_zeros-split k n (x / 2 ^ b))
+
 -- the six lanes of a word
 module _ (t0 t8 t16 t28 t40 t52 : List ℕ) (l0 : IsLane 8 64 t0) (l8 : IsLane 8 56 t8) (l16 : IsLane 12 48 t16) (l28 : IsLane 12 36 t28) (l40 : IsLane 12 24 t40) (l52 : IsLane 12 12 t52) where
-  -- one lane, and what is above it
-  split : (k n b : ℕ) (t : List ℕ) → IsLane k (k + n) t → (x : ℕ) → bit_xor (get_or t (x / 2 ^ b % 2 ^ k) 0) (after_zeros n (x / 2 ^ (b + k))) ≡ after_zeros (k + n) (x / 2 ^ b)
-  split k n b t lane x =
-      ap₂ bit_xor (lane.each (x / 2 ^ b % 2 ^ k) (mod_below (x / 2 ^ b) (2 ^ k) (pow_pos k))) (ap (after_zeros n) (sym (shr-shr x b k)))
-      ∙ sym (after_zeros-split k n (x / 2 ^ b))
-
   pub lanes_take_in : (r w : ℕ) → r < 2 ^ 32 → w < 2 ^ 64
       → bit_xor (get_or t0 (bit_xor r w % 256) 0) (bit_xor (get_or t8 (bit_xor r w / 2 ^ 8 % 256) 0) (bit_xor (get_or t16 (bit_xor r w / 2 ^ 16 % 4096) 0) (bit_xor (get_or t28 (bit_xor r w / 2 ^ 28 % 4096) 0) (bit_xor (get_or t40 (bit_xor r w / 2 ^ 40 % 4096) 0) (get_or t52 (bit_xor r w / 2 ^ 52) 0)))))
       ≡ register_after r (bit_at w) 64

@@ -21,8 +21,8 @@ const WIDE: u32 = 12;
 /// and kept by whoever asks for sums.
 #[derive(Drop)]
 pub struct Sums {
-    // The lanes of a word, each named after the lowest of its bits. What follows that bit in the word is
-    // what each of its entries has gone through.
+    // The lanes of a word, each named after the lowest of its bits. Its entries are the registers after all
+    // bits from that one to the end of the word.
     at_0: Vec<u32>,
     at_8: Vec<u32>,
     at_16: Vec<u32>,
