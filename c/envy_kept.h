@@ -147,8 +147,9 @@ uint32_t envy_kept_load(envy_kept *m, uint32_t address, uint64_t *word);
 /* Writes the committed word at an address. ENVY_DONE, ENVY_EMPTY, ENVY_RANGE, ENVY_OFF. */
 uint32_t envy_kept_look(envy_kept *m, uint32_t address, uint64_t *word);
 
-/* Writes the n words from an address on, also if open transactions put them: as n loads. ENVY_DONE, ENVY_EMPTY,
-   ENVY_OFF, or ENVY_RANGE if one of the addresses lies past the last page, and then none is written. */
+/* Writes the n words from an address on, also if open transactions put them: those that n loads write. It counts one
+   access for each of their pages. ENVY_DONE, ENVY_EMPTY, ENVY_OFF, or ENVY_RANGE if one of the addresses lies past the
+   last page, and then none is written. */
 uint32_t envy_kept_read(envy_kept *m, uint32_t address, uint64_t *words, size_t n);
 
 /* Makes the word at an address this. ENVY_DONE, ENVY_EMPTY, ENVY_OFF, ENVY_RANGE, or ENVY_HELD with the slot that owns
