@@ -1,0 +1,4 @@
+pub mod Paged
+pub mod Parts
+pub mod Staying
+pub mod Viewing

@@ -1,0 +1,120 @@
+-- What a view of a range keeps of the laws of the words below.
+use Rattle.std.proofs.Common.{◌≡◌, ◌⊎◌, ℕ, ◌+◌, ◌/◌, ◌%◌, Fits, w32, ◌<◌, ◌≤◌, IsTrue, List, ◌∷◌, ◌++◌, length, map, ap, sym, subst, ◌∙◌, inl, inr, Result, Ok, Err, arith}
+use Rattle.std.proofs.lemmas.List.{length-map}
+use Rattle.envy_base.specs.declared.board.Off.{Off}
+use Rattle.envy_base.specs.declared.board.Trouble.{Trouble}
+use Rattle.envy_base.specs.declared.board.Trouble.TheVariants.{Off as TroubleOff, Bad}
+use Rattle.envy_base.specs.Words.{Sheet, IsSheet, Works, Spends, OnPage, Keeps, Loads, Puts, Starts, Finishes, Undoes, has}
+use Rattle.envy_range.specs.Ranges.{inside, outside, page_in, within, IsCalm}
+use Rattle.envy_range.proofs.Paged.{own-put, page-fits, page-of, put-own, still-there}
+use Rattle.envy_range.specs.Lawful.{inside-long}
+use Rattle.envy_range.proofs.Parts.{inside-at, inside-set, outside-set}
+
+-- the further numbers stay with the number of words, what is kept outside, and the further numbers below
+pub fixed-view : (first count : ℕ) (s t : Sheet) → length t.words ≡ length s.words → outside first count t.kept ≡ outside first count s.kept → t.fixed ≡ s.fixed → (within first count t).fixed ≡ (within first count s).fixed
+fixed-view first count s t long kept fixed =
+    ap (λ (n : ℕ). first ∷ count ∷ n ∷ (outside first count t.kept ++ t.fixed)) long
+    ∙ ap (λ (ws : List ℕ). first ∷ count ∷ length s.words ∷ (ws ++ t.fixed)) kept
+    ∙ ap (λ (ns : List ℕ). first ∷ count ∷ length s.words ∷ (outside first count s.kept ++ ns)) fixed
+
+size-view : (first count : ℕ) (s t : Sheet) → first + count ≤ length s.words → length t.words ≡ length s.words → length (inside first count t.words) ≡ length (inside first count s.words)
+size-view first count s t fits long = inside-long first count t.words (omega (arith, fits, long)) ∙ sym (inside-long first count s.words fits)
+
+pub works-view : (k first count : ℕ) (s t : Sheet) → first + count ≤ length s.words → Works k s t → Works k (within first count s) (within first count t)
+works-view k first count s t fits w = record {
+  long = size-view first count s t fits w.long;
+  kept = ap (inside first count) w.kept;
+  room = w.room;
+  fixed = fixed-view first count s t w.long (ap (outside first count) w.kept) w.fixed;
+  cuts = w.cuts;
+  bads = w.bads;
+  dark = w.dark;
+  cut = w.cut;
+  still = w.still;
+  few = λ on. omega (arith, w.few on, length-map s.pages (page_in first count), length-map t.pages (page_in first count));
+  seen = λ on. still-there (page_in first count) s.pages t.pages (w.seen on);
+}
+
+pub keeps-view : (first count : ℕ) (s t : Sheet) → first + count ≤ length s.words → outside first count t.kept ≡ outside first count s.kept → Keeps s t → Keeps (within first count s) (within first count t)
+keeps-view first count s t fits kept k = record {
+  long = size-view first count s t fits k.long;
+  room = k.room;
+  fixed = fixed-view first count s t k.long kept k.fixed;
+  cuts = k.cuts;
+  bads = k.bads;
+  dark = k.dark;
+  cut = k.cut;
+}
+
+pub spends-view : (n first count : ℕ) (s t : Sheet) → Spends n s t → Spends n (within first count s) (within first count t)
+spends-view n first count s t e = record { price = e.price; programs = e.programs; erases = e.erases }
+
+pub loads-view : (first count a : ℕ) (r : Result ℕ Off) (s t : Sheet) → a < count → Loads s (first + a) r t → Loads (within first count s) a r (within first count t)
+loads-view first count a (Ok v) s t lt l = (l.0, l.1 ∙ sym (inside-at first count a s.words lt), ap (inside first count) l.2, ap (map (page_in first count)) l.3)
+loads-view first count a (Err off) s t lt l = l
+
+pub page-view : (first count a : ℕ) (s t : Sheet) → first % 32 ≡ 0 → count % 32 ≡ 0 → first + count ≤ length s.words → a < count → OnPage ((first + a) / 32) s t → OnPage (a / 32) (within first count s) (within first count t)
+page-view first count a s t starts whole fits lt o = record {
+  works = works-view 1 first count s t fits o.works;
+  again = λ h. works-view 0 first count s t fits (o.again (at_below (own-put first count (a / 32) s.pages (page-fits count a whole lt) h)));
+  put = λ on. elim (o.put on) [ inl h ↦ inl (put-own first count (a / 32) t.pages (from_below h)) | inr e ↦ inr (ap (map (page_in first count)) e) ];
+}
+  where
+    at_below : IsTrue (has s.pages (first / 32 + a / 32)) → IsTrue (has s.pages ((first + a) / 32))
+    at_below h = subst (λ (p : ℕ). IsTrue (has s.pages p)) (sym (page-of first a starts)) h
+
+    from_below : IsTrue (has t.pages ((first + a) / 32)) → IsTrue (has t.pages (first / 32 + a / 32))
+    from_below h = subst (λ (p : ℕ). IsTrue (has t.pages p)) (page-of first a starts) h
+
+pub puts-view : (first count a w : ℕ) (r : Result Unit Trouble) (s t : Sheet) → first % 32 ≡ 0 → a < count → Puts s (first + a) w r t → Puts (within first count s) a w r (within first count t)
+puts-view first count a w (Ok done) s t starts lt p = (
+  p.0,
+  ap (inside first count) p.1 ∙ inside-set first count a w s.words lt,
+  put-own first count (a / 32) t.pages (subst (λ (n : ℕ). IsTrue (has t.pages n)) (page-of first a starts) p.2),
+)
+puts-view first count a w (Err TroubleOff) s t starts lt p = p
+puts-view first count a w (Err Bad) s t starts lt p = (p.0, ap (inside first count) p.1, ap (map (page_in first count)) p.2, p.3)
+
+-- room for a put through the view is room for it below
+pub room-view : (first count a : ℕ) (s : Sheet) → first % 32 ≡ 0 → count % 32 ≡ 0 → a < count → IsTrue (has (within first count s).pages (a / 32)) ⊎ (length (within first count s).pages < s.room) → IsTrue (has s.pages ((first + a) / 32)) ⊎ (length s.pages < s.room)
+room-view first count a s starts whole lt (inl h) = inl (subst (λ (p : ℕ). IsTrue (has s.pages p)) (sym (page-of first a starts)) (own-put first count (a / 32) s.pages (page-fits count a whole lt) h))
+room-view first count a s starts whole lt (inr few) = inr (omega (arith, few, length-map s.pages (page_in first count)))
+
+pub starts-view : (first count : ℕ) (r : Result Unit Off) (s t : Sheet) → Starts s r t → Starts (within first count s) r (within first count t)
+starts-view first count (Ok done) s t e = (e.0, e.1, ap (inside first count) e.2, ap (inside first count) e.3, ap (map (page_in first count)) e.4)
+starts-view first count (Err off) s t e = (e.0, ap (inside first count) e.1)
+
+pub finishes-view : (first count : ℕ) (r : Result Unit Off) (s t : Sheet) → Finishes s r t → Finishes (within first count s) r (within first count t)
+finishes-view first count (Ok done) s t e = (e.0, e.1, ap (inside first count) e.2)
+finishes-view first count (Err off) s t e = (e.0, elim e.1 [ inl k ↦ inl (ap (inside first count) k) | inr k ↦ inr (ap (inside first count) k) ])
+
+pub undoes-view : (first count : ℕ) (r : Result Unit Off) (s t : Sheet) → Undoes s r t → Undoes (within first count s) r (within first count t)
+undoes-view first count (Ok done) s t e = (e.0, e.1, ap (inside first count) e.2)
+undoes-view first count (Err off) s t e = (e.0, ap (inside first count) e.1)
+
+-- addresses of the range are addresses below
+pub own-address : (first count a : ℕ) (s : Sheet) → first + count ≤ length s.words → a < length (within first count s).words → a < count
+own-address first count a s fits lt = omega (arith, lt, inside-long first count s.words fits)
+
+pub address-below : (first count a : ℕ) (s : Sheet) → first + count ≤ length s.words → a < length (within first count s).words → first + a < length s.words
+address-below first count a s fits lt = omega (arith, fits, own-address first count a s fits lt)
+
+pub sum-fits : (first count a : ℕ) (s : Sheet) → first + count ≤ length s.words → IsSheet s → a < length (within first count s).words → Fits w32 (first + a)
+sum-fits first count a s fits law lt = omega (arith, address-below first count a s fits lt, law.few)
+
+pub size-below : (first count : ℕ) (s t : Sheet) → first + count ≤ length s.words → length t.words ≡ length s.words → first + count ≤ length t.words
+size-below first count s t fits long = omega (arith, fits, long)
+
+-- what is outside stays as it is kept: after a put, and after the end of a transaction
+pub calm-put : (first count a w : ℕ) (r : Result Unit Trouble) (s t : Sheet) → a < count → IsCalm first count s → IsSheet t → t.kept ≡ s.kept → Puts s (first + a) w r t → IsCalm first count t
+calm-put first count a w (Ok done) s t lt calm law kept p = ap (outside first count) p.1 ∙ outside-set first count a w s.words lt ∙ calm ∙ ap (outside first count) (sym kept)
+calm-put first count a w (Err TroubleOff) s t lt calm law kept p = ap (outside first count) (law.shut (law.off p))
+calm-put first count a w (Err Bad) s t lt calm law kept p = ap (outside first count) p.1 ∙ calm ∙ ap (outside first count) (sym kept)
+
+pub finish-keeps : (first count : ℕ) (r : Result Unit Off) (s t : Sheet) → IsCalm first count s → Finishes s r t → outside first count t.kept ≡ outside first count s.kept
+finish-keeps first count (Ok done) s t calm e = ap (outside first count) e.2 ∙ calm
+finish-keeps first count (Err off) s t calm e = elim e.1 [ inl k ↦ ap (outside first count) k | inr k ↦ ap (outside first count) k ∙ calm ]
+
+pub undo-keeps : (first count : ℕ) (r : Result Unit Off) (s t : Sheet) → Undoes s r t → outside first count t.kept ≡ outside first count s.kept
+undo-keeps first count (Ok done) s t e = ap (outside first count) e.2
+undo-keeps first count (Err off) s t e = ap (outside first count) e.1

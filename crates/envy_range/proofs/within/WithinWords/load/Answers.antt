@@ -1,0 +1,23 @@
+use Rattle.envy_range.proofs.Viewing.{address-below, loads-view, own-address, sum-fits, works-view}
+use Rattle.envy_range.proofs.within.WithinWords.load.Goals as goal
+
+pub overflow_add-self : goal.overflow_add-self
+overflow_add-self g c =
+    let v = c.args.self.now in
+    sum-fits v.first v.count c.args.a (g.W.Words.sheet v.words) v.fits (g.met.W.Words.lawful v.words) c.requires
+
+pub load-requires : goal.load-requires
+load-requires g c =
+    let v = c.args.self.now in
+    address-below v.first v.count c.args.a (g.W.Words.sheet v.words) v.fits c.requires
+
+pub returns-clause-works : goal.returns-clause-works
+returns-clause-works g c =
+    let v = c.args.self.now in
+    works-view 0 v.first v.count (g.W.Words.sheet v.words) (g.W.Words.sheet c.load.new.self) v.fits c.load.ensures.works
+
+pub returns-clause-answer : goal.returns-clause-answer
+returns-clause-answer g c =
+    let v = c.args.self.now in
+    let s = g.W.Words.sheet v.words in
+    loads-view v.first v.count c.args.a c.load.result s (g.W.Words.sheet c.load.new.self) (own-address v.first v.count c.args.a s v.fits c.requires) c.load.ensures.answer
