@@ -95,6 +95,8 @@ sheet-works k i j p q b w cut kept few seen = record {
   still = still-on p.chart.on q.chart.on b (dark-works i j p.chart q.chart w);
   few = few;
   seen = seen;
+  beside = λ _. refl;
+  kept_beside = refl;
 }
 
 pub sheet-keeps : (i j : ℕ) (p q : Picture) (b d : Bool) → Works i j p.chart q.chart → IsCut p.chart q.chart → Keeps (sheet_of p b) (sheet_of q d)

@@ -1,8 +1,8 @@
 -- What stays outside a range, by the further numbers of its view.
 use Rattle.std.proofs.Common.{◌≡◌, ℕ, ◌+◌, ◌-◌, List, ◌++◌, length, take, drop, get_or, min, refl, ap, sym, ◌∙◌}
 use Rattle.std.proofs.lemmas.List.{length-append, length-drop, length-take, take_at, drop_at}
-use Rattle.envy_base.specs.Words.{Sheet, IsSheet}
-use Rattle.envy_range.specs.Ranges.{outside, within, IsCalm, Stays}
+use Rattle.envy_base.specs.Words.{Sheet, IsSheet, Works}
+use Rattle.envy_range.specs.Ranges.{outside, within, Stays}
 
 -- how many words are outside is told by how many there are
 outside-long : (first count : ℕ) (ws : List ℕ) → length (outside first count ws) ≡ min first (length ws) + (length ws - (first + count))
@@ -19,18 +19,28 @@ fronts xs ys us vs long same = (
   sym (drop_at xs ys (length us) long) ∙ ap (drop (length us)) same ∙ drop_at us vs (length us) refl,
 )
 
-same-place : (first count : ℕ) (old new : Sheet) → IsSheet old → IsSheet new → IsCalm first count old → IsCalm first count new → length new.words ≡ length old.words → outside first count new.kept ++ new.fixed ≡ outside first count old.kept ++ old.fixed → Stays first count old new
-same-place first count old new law then calm still long same =
-    let both = fronts (outside first count new.kept) new.fixed (outside first count old.kept) old.fixed (outside-size first count new.kept old.kept (then.long ∙ long ∙ sym law.long)) same in
-    record { long = long; words = still ∙ both.0 ∙ sym calm; kept = both.0; fixed = both.1 }
+-- lists in one after another, the first of which are of one length
+apart-sizes : (first count : ℕ) (xs ys us vs : List ℕ) → length xs ≡ length us → outside first count xs ++ ys ≡ outside first count us ++ vs → (outside first count xs ≡ outside first count us) × (ys ≡ vs)
+apart-sizes first count xs ys us vs long same = fronts (outside first count xs) ys (outside first count us) vs (outside-size first count xs us long) same
 
-pub stays : (first count other size : ℕ) (old new : Sheet) → IsSheet old → IsSheet new → IsCalm first count old → IsCalm other size new → (within other size new).fixed ≡ (within first count old).fixed → (other ≡ first) × (size ≡ count) × Stays first count old new
-stays first count other size old new law then calm still same =
-    let begins : other ≡ first = ap (λ (ns : List ℕ). get_or ns 0 0) same in
-    let counts : size ≡ count = ap (λ (ns : List ℕ). get_or ns 1 0) same in
-    let long : length new.words ≡ length old.words = ap (λ (ns : List ℕ). get_or ns 2 0) same in
-    let rest : outside other size new.kept ++ new.fixed ≡ outside first count old.kept ++ old.fixed = ap (λ (ns : List ℕ). drop 3 ns) same in (
+same-place : (first count k : ℕ) (old new : Sheet) → IsSheet old → IsSheet new → Works k (within first count old) (within first count new) → Stays first count old new
+same-place first count k old new law then w =
+    let long : length new.words ≡ length old.words = ap (λ (ns : List ℕ). get_or ns 2 0) w.fixed in
+    let kept = apart-sizes first count new.kept new.kept_beside old.kept old.kept_beside (then.long ∙ long ∙ sym law.long) w.kept_beside in
+    record {
+      long = long;
+      kept = kept.0;
+      kept_beside = kept.1;
+      words = λ on. (apart-sizes first count new.words new.beside old.words old.beside long (w.beside on)).0;
+      beside = λ on. (apart-sizes first count new.words new.beside old.words old.beside long (w.beside on)).1;
+      fixed = ap (λ (ns : List ℕ). drop 3 ns) w.fixed;
+    }
+
+pub stays : (first count other size k : ℕ) (old new : Sheet) → IsSheet old → IsSheet new → Works k (within first count old) (within other size new) → (other ≡ first) × (size ≡ count) × Stays first count old new
+stays first count other size k old new law then w =
+    let begins : other ≡ first = ap (λ (ns : List ℕ). get_or ns 0 0) w.fixed in
+    let counts : size ≡ count = ap (λ (ns : List ℕ). get_or ns 1 0) w.fixed in (
       begins,
       counts,
-      same-place first count old new law then calm (rw begins at rw counts at still) long (rw begins at rw counts at rest),
+      same-place first count k old new law then (rw begins at rw counts at w),
     )

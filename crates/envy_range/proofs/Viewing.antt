@@ -1,31 +1,31 @@
 -- What a view of a range keeps of the laws of the words below.
-use Rattle.std.proofs.Common.{◌≡◌, ◌⊎◌, ℕ, ◌+◌, ◌/◌, ◌%◌, Fits, w32, ◌<◌, ◌≤◌, IsTrue, List, ◌∷◌, ◌++◌, length, map, ap, sym, subst, ◌∙◌, inl, inr, Result, Ok, Err, arith}
+use Rattle.std.proofs.Common.{◌≡◌, ◌⊎◌, ℕ, ◌+◌, ◌/◌, ◌%◌, Fits, w32, ◌<◌, ◌≤◌, true, false, IsTrue, List, ◌∷◌, ◌++◌, length, map, ap, sym, subst, ◌∙◌, inl, inr, Result, Ok, Err, arith}
 use Rattle.std.proofs.lemmas.List.{length-map}
 use Rattle.envy_base.specs.declared.board.Off.{Off}
 use Rattle.envy_base.specs.declared.board.Trouble.{Trouble}
 use Rattle.envy_base.specs.declared.board.Trouble.TheVariants.{Off as TroubleOff, Bad}
 use Rattle.envy_base.specs.Words.{Sheet, IsSheet, Works, Spends, OnPage, Keeps, Loads, Puts, Starts, Finishes, Undoes, has}
-use Rattle.envy_range.specs.Ranges.{inside, outside, page_in, within, IsCalm}
+use Rattle.envy_range.specs.Ranges.{inside, outside, page_in, within}
 use Rattle.envy_range.proofs.Paged.{own-put, page-fits, page-of, put-own, still-there}
 use Rattle.envy_range.specs.Lawful.{inside-long}
 use Rattle.envy_range.proofs.Parts.{inside-at, inside-set, outside-set}
 
--- the further numbers stay with the number of words, what is kept outside, and the further numbers below
-pub fixed-view : (first count : ℕ) (s t : Sheet) → length t.words ≡ length s.words → outside first count t.kept ≡ outside first count s.kept → t.fixed ≡ s.fixed → (within first count t).fixed ≡ (within first count s).fixed
-fixed-view first count s t long kept fixed =
-    ap (λ (n : ℕ). first ∷ count ∷ n ∷ (outside first count t.kept ++ t.fixed)) long
-    ∙ ap (λ (ws : List ℕ). first ∷ count ∷ length s.words ∷ (ws ++ t.fixed)) kept
-    ∙ ap (λ (ns : List ℕ). first ∷ count ∷ length s.words ∷ (outside first count s.kept ++ ns)) fixed
+-- the further numbers stay with the number of words, and the further numbers below
+pub fixed-view : (first count : ℕ) (s t : Sheet) → length t.words ≡ length s.words → t.fixed ≡ s.fixed → (within first count t).fixed ≡ (within first count s).fixed
+fixed-view first count s t long fixed =
+    ap (λ (n : ℕ). first ∷ count ∷ n ∷ t.fixed) long
+    ∙ ap (λ (ns : List ℕ). first ∷ count ∷ length s.words ∷ ns) fixed
 
 size-view : (first count : ℕ) (s t : Sheet) → first + count ≤ length s.words → length t.words ≡ length s.words → length (inside first count t.words) ≡ length (inside first count s.words)
 size-view first count s t fits long = inside-long first count t.words (omega (arith, fits, long)) ∙ sym (inside-long first count s.words fits)
 
-pub works-view : (k first count : ℕ) (s t : Sheet) → first + count ≤ length s.words → Works k s t → Works k (within first count s) (within first count t)
-works-view k first count s t fits w = record {
+-- the words outside stay, as a call of the words below says for the words that it changes
+pub works-view : (k first count : ℕ) (s t : Sheet) → first + count ≤ length s.words → (IsTrue t.on → outside first count t.words ≡ outside first count s.words) → Works k s t → Works k (within first count s) (within first count t)
+works-view k first count s t fits stay w = record {
   long = size-view first count s t fits w.long;
   kept = ap (inside first count) w.kept;
   room = w.room;
-  fixed = fixed-view first count s t w.long (ap (outside first count) w.kept) w.fixed;
+  fixed = fixed-view first count s t w.long w.fixed;
   cuts = w.cuts;
   bads = w.bads;
   dark = w.dark;
@@ -33,13 +33,15 @@ works-view k first count s t fits w = record {
   still = w.still;
   few = λ on. omega (arith, w.few on, length-map s.pages (page_in first count), length-map t.pages (page_in first count));
   seen = λ on. still-there (page_in first count) s.pages t.pages (w.seen on);
+  beside = λ on. ap (λ (ws : List ℕ). ws ++ t.beside) (stay on) ∙ ap (λ (ws : List ℕ). outside first count s.words ++ ws) (w.beside on);
+  kept_beside = ap (λ (ws : List ℕ). outside first count ws ++ t.kept_beside) w.kept ∙ ap (λ (ws : List ℕ). outside first count s.kept ++ ws) w.kept_beside;
 }
 
-pub keeps-view : (first count : ℕ) (s t : Sheet) → first + count ≤ length s.words → outside first count t.kept ≡ outside first count s.kept → Keeps s t → Keeps (within first count s) (within first count t)
-keeps-view first count s t fits kept k = record {
+pub keeps-view : (first count : ℕ) (s t : Sheet) → first + count ≤ length s.words → Keeps s t → Keeps (within first count s) (within first count t)
+keeps-view first count s t fits k = record {
   long = size-view first count s t fits k.long;
   room = k.room;
-  fixed = fixed-view first count s t k.long kept k.fixed;
+  fixed = fixed-view first count s t k.long k.fixed;
   cuts = k.cuts;
   bads = k.bads;
   dark = k.dark;
@@ -53,10 +55,20 @@ pub loads-view : (first count a : ℕ) (r : Result ℕ Off) (s t : Sheet) → a 
 loads-view first count a (Ok v) s t lt l = (l.0, l.1 ∙ sym (inside-at first count a s.words lt), ap (inside first count) l.2, ap (map (page_in first count)) l.3)
 loads-view first count a (Err off) s t lt l = l
 
-pub page-view : (first count a : ℕ) (s t : Sheet) → first % 32 ≡ 0 → count % 32 ≡ 0 → first + count ≤ length s.words → a < count → OnPage ((first + a) / 32) s t → OnPage (a / 32) (within first count s) (within first count t)
-page-view first count a s t starts whole fits lt o = record {
-  works = works-view 1 first count s t fits o.works;
-  again = λ h. works-view 0 first count s t fits (o.again (at_below (own-put first count (a / 32) s.pages (page-fits count a whole lt) h)));
+-- what a call leaves outside, if its answer tells which words it changed
+pub load-outside : (first count a : ℕ) (r : Result ℕ Off) (s t : Sheet) → Loads s a r t → IsTrue t.on → outside first count t.words ≡ outside first count s.words
+load-outside first count a (Ok v) s t l on = ap (outside first count) l.2
+load-outside first count a (Err off) s t l on = absurd (let clash : true ≡ false = sym on ∙ l in cc)
+
+pub put-outside : (first count a w : ℕ) (r : Result Unit Trouble) (s t : Sheet) → a < count → Puts s (first + a) w r t → IsTrue t.on → outside first count t.words ≡ outside first count s.words
+put-outside first count a w (Ok done) s t lt p on = ap (outside first count) p.1 ∙ outside-set first count a w s.words lt
+put-outside first count a w (Err TroubleOff) s t lt p on = absurd (let clash : true ≡ false = sym on ∙ p in cc)
+put-outside first count a w (Err Bad) s t lt p on = ap (outside first count) p.1
+
+pub page-view : (first count a : ℕ) (s t : Sheet) → first % 32 ≡ 0 → count % 32 ≡ 0 → first + count ≤ length s.words → a < count → (IsTrue t.on → outside first count t.words ≡ outside first count s.words) → OnPage ((first + a) / 32) s t → OnPage (a / 32) (within first count s) (within first count t)
+page-view first count a s t starts whole fits lt stay o = record {
+  works = works-view 1 first count s t fits stay o.works;
+  again = λ h. works-view 0 first count s t fits stay (o.again (at_below (own-put first count (a / 32) s.pages (page-fits count a whole lt) h)));
   put = λ on. elim (o.put on) [ inl h ↦ inl (put-own first count (a / 32) t.pages (from_below h)) | inr e ↦ inr (ap (map (page_in first count)) e) ];
 }
   where
@@ -104,17 +116,3 @@ sum-fits first count a s fits law lt = omega (arith, address-below first count a
 
 pub size-below : (first count : ℕ) (s t : Sheet) → first + count ≤ length s.words → length t.words ≡ length s.words → first + count ≤ length t.words
 size-below first count s t fits long = omega (arith, fits, long)
-
--- what is outside stays as it is kept: after a put, and after the end of a transaction
-pub calm-put : (first count a w : ℕ) (r : Result Unit Trouble) (s t : Sheet) → a < count → IsCalm first count s → IsSheet t → t.kept ≡ s.kept → Puts s (first + a) w r t → IsCalm first count t
-calm-put first count a w (Ok done) s t lt calm law kept p = ap (outside first count) p.1 ∙ outside-set first count a w s.words lt ∙ calm ∙ ap (outside first count) (sym kept)
-calm-put first count a w (Err TroubleOff) s t lt calm law kept p = ap (outside first count) (law.shut (law.off p))
-calm-put first count a w (Err Bad) s t lt calm law kept p = ap (outside first count) p.1 ∙ calm ∙ ap (outside first count) (sym kept)
-
-pub finish-keeps : (first count : ℕ) (r : Result Unit Off) (s t : Sheet) → IsCalm first count s → Finishes s r t → outside first count t.kept ≡ outside first count s.kept
-finish-keeps first count (Ok done) s t calm e = ap (outside first count) e.2 ∙ calm
-finish-keeps first count (Err off) s t calm e = elim e.1 [ inl k ↦ ap (outside first count) k | inr k ↦ ap (outside first count) k ∙ calm ]
-
-pub undo-keeps : (first count : ℕ) (r : Result Unit Off) (s t : Sheet) → Undoes s r t → outside first count t.kept ≡ outside first count s.kept
-undo-keeps first count (Ok done) s t e = ap (outside first count) e.2
-undo-keeps first count (Err off) s t e = ap (outside first count) e.1

@@ -1,5 +1,5 @@
 -- The words of a range of a memory, as a memory of their own.
-use Rattle.std.specs.Prelude.{◌≡◌, ◌⊎◌, ℕ, ◌+◌, ◌-◌, ◌/◌, ◌≤◌, nat_lt, List, ◌∷◌, ◌++◌, length, map, take, drop, if◌then◌else◌}
+use Rattle.std.specs.Prelude.{◌≡◌, ◌⊎◌, ℕ, ◌+◌, ◌-◌, ◌/◌, ◌≤◌, nat_lt, IsTrue, List, ◌∷◌, ◌++◌, length, map, take, drop, if◌then◌else◌}
 use Rattle.envy_base.specs.Words.{Sheet}
 use Rattle.envy_base.specs.declared.page.TheConstants.{PAGE_WORDS}
 
@@ -15,8 +15,8 @@ outside first count ws = take first ws ++ drop (first + count) ws
 unfoldable pub page_in : ℕ → ℕ → ℕ → ℕ
 page_in first count p = if nat_lt p (first / PAGE_WORDS) then count / PAGE_WORDS + p else p - first / PAGE_WORDS
 
--- What a view of a range tells of the words below. Its further numbers are those that no call through it changes: where
--- the range lies, how many words there are below, and the kept words outside.
+-- What a view of a range tells of the words below: those outside are the words beside it. Its further numbers tell where the
+-- range lies, and how many words there are below.
 abbrev pub within : ℕ → ℕ → Sheet → Sheet
 within first count s = record {
   words = inside first count s.words;
@@ -29,20 +29,21 @@ within first count s = record {
   bads = s.bads;
   work = s.work;
   price = s.price;
-  fixed = first ∷ count ∷ length s.words ∷ (outside first count s.kept ++ s.fixed);
+  fixed = first ∷ count ∷ length s.words ∷ s.fixed;
+  beside = outside first count s.words ++ s.beside;
+  kept_beside = outside first count s.kept ++ s.kept_beside;
 }
-
--- No word outside the range differs from what is kept, as where no transaction is open.
-abbrev pub IsCalm : ℕ → ℕ → Sheet → Type 0
-IsCalm first count s = outside first count s.words ≡ outside first count s.kept
 
 -- no word is in both ranges
 abbrev pub IsApart : ℕ → ℕ → ℕ → ℕ → Type 0
 IsApart first count other size = (first + count ≤ other) ⊎ (other + size ≤ first)
 
--- What stays outside a range between two moments, and how many words there are.
+-- What stays outside a range in work within a transaction: how many words there are, what is kept of them, and while power
+-- is on the words themselves.
 pub record Stays (first count : ℕ) (old new : Sheet) : Type 0 where
   pub long : length new.words ≡ length old.words
-  pub words : outside first count new.words ≡ outside first count old.words
   pub kept : outside first count new.kept ≡ outside first count old.kept
+  pub kept_beside : new.kept_beside ≡ old.kept_beside
+  pub words : IsTrue new.on → outside first count new.words ≡ outside first count old.words
+  pub beside : IsTrue new.on → new.beside ≡ old.beside
   pub fixed : new.fixed ≡ old.fixed

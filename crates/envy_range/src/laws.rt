@@ -1,6 +1,6 @@
 ghost use Rattle.std.specs.Prelude.{◌≡◌, ◌≤◌, ◌+◌, ℕ, List, length};
-ghost use Rattle.envy_base.specs.Words.{IsSheet, Sheet};
-ghost use Rattle.envy_range.specs.Ranges.{inside, outside, within, IsApart, IsCalm, Stays};
+ghost use Rattle.envy_base.specs.Words.{IsSheet, Sheet, Works};
+ghost use Rattle.envy_range.specs.Ranges.{inside, outside, within, IsApart, Stays};
 
 /// If the words outside a range stay, those of each range that doesn't overlap it do.
 pub fn ranges_apart_never_touch()
@@ -9,11 +9,10 @@ pub fn ranges_apart_never_touch()
         → inside other size new ≡ inside other size old }
 {}
 
-/// If the further numbers of a view are as they were, so are all words outside the range, and what is
-/// kept of them. No call of `Words` changes these numbers.
+/// Work within a transaction through a view leaves all words outside the range, and what is kept of
+/// them.
 pub fn what_is_outside_stays()
-    ensures { (first count other size : ℕ) (old new : Sheet) → IsSheet old → IsSheet new
-        → IsCalm first count old → IsCalm other size new
-        → (within other size new).fixed ≡ (within first count old).fixed
+    ensures { (first count other size k : ℕ) (old new : Sheet) → IsSheet old → IsSheet new
+        → Works k (within first count old) (within other size new)
         → (other ≡ first) × (size ≡ count) × Stays first count old new }
 {}

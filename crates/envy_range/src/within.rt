@@ -1,7 +1,6 @@
 ghost use Rattle.std.specs.Prelude.{◌≡◌, ◌≤◌, ◌+◌, ◌%◌, length};
-ghost use Rattle.std.proofs.Props.{props};
 ghost use Rattle.envy_base.specs.declared.page.TheConstants.{PAGE_WORDS};
-ghost use Rattle.envy_range.specs.Ranges.{within, IsCalm};
+ghost use Rattle.envy_range.specs.Ranges.{within};
 
 use envy_base::{Off, Trouble, Words};
 
@@ -15,17 +14,14 @@ pub struct Within<W: Words> {
     ghost starts: { first % PAGE_WORDS ≡ 0 },
     ghost whole: { count % PAGE_WORDS ≡ 0 },
     ghost fits: { first + count ≤ length (W.sheet words).words },
-    ghost calm: { IsCalm first count (W.sheet words) } by { Prim.hlevel props },
 }
 
 impl<W: Words> Within<W> {
-    /// The `count` words from `first` on. Outside them nothing may differ from what is kept, as it is
-    /// where no transaction is open.
+    /// The `count` words from `first` on, whether a transaction is open or not.
     pub fn of(words: W, first: u32, count: u32) -> Within<W>
         requires starts { first % PAGE_WORDS ≡ 0 }
         requires whole { count % PAGE_WORDS ≡ 0 }
         requires fits { first + count ≤ length (W.sheet words).words }
-        requires calm { IsCalm first count (W.sheet words) }
         ensures { ⟦<Within<W> as Words>⟧.sheet result ≡ within first count (W.sheet words) }
     {
         Within {
@@ -37,8 +33,7 @@ impl<W: Words> Within<W> {
 
     /// Gives the words back. Those of the range are the view's.
     pub fn into_words(self) -> W
-        ensures sheet { ⟦<Within<W> as Words>⟧.sheet self ≡ within self.first self.count (W.sheet result) }
-        ensures calm { IsCalm self.first self.count (W.sheet result) }
+        ensures { ⟦<Within<W> as Words>⟧.sheet self ≡ within self.first self.count (W.sheet result) }
     {
         let Within {
             words,

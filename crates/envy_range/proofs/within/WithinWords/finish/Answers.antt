@@ -1,12 +1,10 @@
-use Rattle.envy_range.proofs.Viewing.{finish-keeps, finishes-view, keeps-view}
+use Rattle.envy_range.proofs.Viewing.{finishes-view, keeps-view}
 use Rattle.envy_range.proofs.within.WithinWords.finish.Goals as goal
 
 pub returns-clause-keeps : goal.returns-clause-keeps
 returns-clause-keeps g c =
     let v = c.args.self.now in
-    let s = g.W.Words.sheet v.words in
-    let t = g.W.Words.sheet c.finish.new.self in
-    keeps-view v.first v.count s t v.fits (finish-keeps v.first v.count c.finish.result s t v.calm c.finish.ensures.answer) c.finish.ensures.keeps
+    keeps-view v.first v.count (g.W.Words.sheet v.words) (g.W.Words.sheet c.finish.new.self) v.fits c.finish.ensures.keeps
 
 pub returns-clause-answer : goal.returns-clause-answer
 returns-clause-answer g c =

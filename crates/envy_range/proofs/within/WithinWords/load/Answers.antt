@@ -1,4 +1,5 @@
-use Rattle.envy_range.proofs.Viewing.{address-below, loads-view, own-address, sum-fits, works-view}
+use Rattle.std.proofs.Common.{◌+◌}
+use Rattle.envy_range.proofs.Viewing.{address-below, load-outside, loads-view, own-address, sum-fits, works-view}
 use Rattle.envy_range.proofs.within.WithinWords.load.Goals as goal
 
 pub overflow_add-self : goal.overflow_add-self
@@ -14,7 +15,9 @@ load-requires g c =
 pub returns-clause-works : goal.returns-clause-works
 returns-clause-works g c =
     let v = c.args.self.now in
-    works-view 0 v.first v.count (g.W.Words.sheet v.words) (g.W.Words.sheet c.load.new.self) v.fits c.load.ensures.works
+    let s = g.W.Words.sheet v.words in
+    let t = g.W.Words.sheet c.load.new.self in
+    works-view 0 v.first v.count s t v.fits (load-outside v.first v.count (v.first + c.args.a) c.load.result s t c.load.ensures.answer) c.load.ensures.works
 
 pub returns-clause-answer : goal.returns-clause-answer
 returns-clause-answer g c =

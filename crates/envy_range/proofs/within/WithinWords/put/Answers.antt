@@ -1,4 +1,4 @@
-use Rattle.envy_range.proofs.Viewing.{address-below, calm-put, own-address, page-view, puts-view, room-view, size-below, sum-fits}
+use Rattle.envy_range.proofs.Viewing.{address-below, own-address, page-view, put-outside, puts-view, room-view, size-below, sum-fits}
 use Rattle.envy_range.proofs.within.WithinWords.put.Goals as goal
 
 pub overflow_add-self : goal.overflow_add-self
@@ -20,21 +20,19 @@ put-requires-clause-room g c =
 pub invariant_of-self : goal.invariant_of-self
 invariant_of-self g c =
     let v = c.args.self.now in
-    let s = g.W.Words.sheet v.words in
-    let t = g.W.Words.sheet c.put.new.self in
-    let e = c.put.ensures in
     record {
       starts = v.starts;
       whole = v.whole;
-      fits = size-below v.first v.count s t v.fits e.works.works.long;
-      calm = calm-put v.first v.count c.args.a c.args.w c.put.result s t (own-address v.first v.count c.args.a s v.fits c.requires.address) v.calm (g.met.W.Words.lawful c.put.new.self) e.works.works.kept e.answer;
+      fits = size-below v.first v.count (g.W.Words.sheet v.words) (g.W.Words.sheet c.put.new.self) v.fits c.put.ensures.works.works.long;
     }
 
 pub returns-clause-works : goal.returns-clause-works
 returns-clause-works g c =
     let v = c.args.self.now in
     let s = g.W.Words.sheet v.words in
-    page-view v.first v.count c.args.a s (g.W.Words.sheet c.put.new.self) v.starts v.whole v.fits (own-address v.first v.count c.args.a s v.fits c.requires.address) c.put.ensures.works
+    let t = g.W.Words.sheet c.put.new.self in
+    let lt = own-address v.first v.count c.args.a s v.fits c.requires.address in
+    page-view v.first v.count c.args.a s t v.starts v.whole v.fits lt (put-outside v.first v.count c.args.a c.args.w c.put.result s t lt c.put.ensures.answer) c.put.ensures.works
 
 pub returns-clause-answer : goal.returns-clause-answer
 returns-clause-answer g c =
