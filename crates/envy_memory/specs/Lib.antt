@@ -7,6 +7,7 @@ pub mod Formats
 pub mod Hits
 pub mod Lawful
 pub mod Making
+pub mod Opened
 pub mod Picture
 pub mod Restarts
 pub mod Rises

@@ -22,7 +22,9 @@ impl<W: Words> Within<W> {
         requires starts { first % PAGE_WORDS ≡ 0 }
         requires whole { count % PAGE_WORDS ≡ 0 }
         requires fits { first + count ≤ length (W.sheet words).words }
-        ensures { ⟦<Within<W> as Words>⟧.sheet result ≡ within first count (W.sheet words) }
+        ensures words { result.words ≡ words }
+        ensures first { result.first ≡ first }
+        ensures count { result.count ≡ count }
     {
         Within {
             words,
@@ -31,9 +33,10 @@ impl<W: Words> Within<W> {
         }
     }
 
-    /// Gives the words back. Those of the range are the view's.
+    /// Gives the words back.
     pub fn into_words(self) -> W
-        ensures { ⟦<Within<W> as Words>⟧.sheet self ≡ within self.first self.count (W.sheet result) }
+        ensures same { result ≡ self.words }
+        ensures fits { self.first + self.count ≤ length (W.sheet result).words }
     {
         let Within {
             words,
