@@ -95,7 +95,7 @@ sheet-works k i j p q b w cut kept few seen = record {
   still = still-on p.chart.on q.chart.on b (dark-works i j p.chart q.chart w);
   few = few;
   seen = seen;
-  beside = λ _. refl;
+  beside = inl refl;
   kept_beside = refl;
 }
 
@@ -108,6 +108,7 @@ sheet-keeps i j p q b d w cut = record {
   bads = Counted.bads w.counted;
   dark = dark-works i j p.chart q.chart w;
   cut = cut;
+  beside = λ _. (refl, refl);
 }
 
 -- it has begun, and power is on

@@ -1,5 +1,5 @@
 -- The words of a range of a memory, as a memory of their own.
-use Rattle.std.specs.Prelude.{◌≡◌, ◌⊎◌, ℕ, ◌+◌, ◌-◌, ◌/◌, ◌≤◌, nat_lt, IsTrue, List, ◌∷◌, ◌++◌, length, map, take, drop, if◌then◌else◌}
+use Rattle.std.specs.Prelude.{◌≡◌, ◌⊎◌, ℕ, ◌+◌, ◌-◌, ◌/◌, ◌≤◌, nat_lt, false, List, ◌∷◌, ◌++◌, length, map, take, drop, if◌then◌else◌}
 use Rattle.envy_base.specs.Words.{Sheet}
 use Rattle.envy_base.specs.declared.page.TheConstants.{PAGE_WORDS}
 
@@ -38,12 +38,9 @@ within first count s = record {
 abbrev pub IsApart : ℕ → ℕ → ℕ → ℕ → Type 0
 IsApart first count other size = (first + count ≤ other) ⊎ (other + size ≤ first)
 
--- What stays outside a range in work within a transaction: how many words there are, what is kept of them, and while power
--- is on the words themselves.
+-- What stays outside a range: how many words there are, what is kept of them, and the words themselves, of which the kept ones
+-- are left without power.
 pub record Stays (first count : ℕ) (old new : Sheet) : Type 0 where
   pub long : length new.words ≡ length old.words
   pub kept : outside first count new.kept ≡ outside first count old.kept
-  pub kept_beside : new.kept_beside ≡ old.kept_beside
-  pub words : IsTrue new.on → outside first count new.words ≡ outside first count old.words
-  pub beside : IsTrue new.on → new.beside ≡ old.beside
-  pub fixed : new.fixed ≡ old.fixed
+  pub words : (outside first count new.words ≡ outside first count old.words) ⊎ ((new.on ≡ false) × (outside first count new.words ≡ outside first count old.kept))

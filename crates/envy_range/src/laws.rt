@@ -1,5 +1,5 @@
-ghost use Rattle.std.specs.Prelude.{◌≡◌, ◌≤◌, ◌+◌, ℕ, List, length};
-ghost use Rattle.envy_base.specs.Words.{IsSheet, Sheet, Works};
+ghost use Rattle.std.specs.Prelude.{◌≡◌, ◌≤◌, ◌+◌, ℕ, List, false, length};
+ghost use Rattle.envy_base.specs.Words.{IsSheet, Keeps, Sheet, Works};
 ghost use Rattle.envy_range.specs.Ranges.{inside, outside, within, IsApart, Stays};
 
 /// If the words outside a range stay, those of each range that doesn't overlap it do.
@@ -9,10 +9,19 @@ pub fn ranges_apart_never_touch()
         → inside other size new ≡ inside other size old }
 {}
 
-/// Work within a transaction through a view leaves all words outside the range, and what is kept of
-/// them.
-pub fn what_is_outside_stays()
+/// Work within a transaction through a view leaves the words outside its range, whatever the transaction
+/// did to them, and what is kept of them.
+pub fn work_leaves_what_is_outside()
     ensures { (first count other size k : ℕ) (old new : Sheet) → IsSheet old → IsSheet new
         → Works k (within first count old) (within other size new)
         → (other ≡ first) × (size ≡ count) × Stays first count old new }
+{}
+
+/// A call through a view that begins and ends transactions of its own leaves the words outside its
+/// range, if no transaction was open.
+pub fn calls_leave_what_is_outside()
+    ensures { (first count other size : ℕ) (old new : Sheet) → IsSheet old → IsSheet new → old.started ≡ false
+        → Keeps (within first count old) (within other size new)
+        → (other ≡ first) × (size ≡ count) × Stays first count old new
+        × (outside first count new.words ≡ outside first count old.words) }
 {}

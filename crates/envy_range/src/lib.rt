@@ -9,5 +9,7 @@
 mod laws;
 mod within;
 
-pub use laws::{ranges_apart_never_touch, what_is_outside_stays};
+pub use laws::{
+    calls_leave_what_is_outside, ranges_apart_never_touch, work_leaves_what_is_outside,
+};
 pub use within::Within;

@@ -2,17 +2,17 @@
 use Rattle.std.proofs.Common.{◌≡◌, ℕ, ◌+◌, ◌-◌, ◌^◌, ◌<◌, ◌≤◌, true, false, IsTrue, List, [], length, replicate, take, ◌%◌, ap, sym, subst, ◌∙◌, inl, inr, Result, Ok, Err, IfOk, Option, arith}
 use Rattle.std.proofs.lemmas.List.{drop-replicate, length-replicate, take-replicate}
 use Rattle.envy_base.specs.declared.board.Off.{Off}
-use Rattle.envy_base.specs.Words.{Sheet, IsSheet, Finishes}
+use Rattle.envy_base.specs.Words.{Sheet, IsSheet, Finishes, Keeps}
 use Rattle.envy_btree.specs.Answers.{Inserts, Removes, Gets}
 use Rattle.envy_btree.specs.Index.{IsIndex}
 use Rattle.envy_btree.specs.Pairs.{with_pair, without}
 use Rattle.envy_btree.specs.declared.fault.TreeFault.{TreeFault}
 use Rattle.envy_btree.specs.declared.fault.TreeFault.TheVariants.{Off as FaultOff, Full, Bad}
 use Rattle.envy_btree.proofs.Readiness.{zeros-index}
-use Rattle.envy_range.specs.Ranges.{inside, outside, within, IsApart, IsCalm, Stays}
+use Rattle.envy_range.specs.Ranges.{inside, outside, within, IsApart, Stays}
 use Rattle.envy_range.specs.Lawful.{inside-long}
 use Rattle.envy_range.proofs.Parts.{apart}
-use Rattle.envy_range.proofs.Staying.{stays}
+use Rattle.envy_range.proofs.Staying.{stays-shut}
 use Rattle.envy_trees.specs.Beside.{HasBoth, HasMap, IsMap}
 
 inside-zeros : (first size : ℕ) → first + 640 ≤ size → inside first 640 (replicate size 0) ≡ replicate 640 0
@@ -41,9 +41,6 @@ pub fits-map : (first : ℕ) (s : Sheet) → IsMap first → HasBoth s → first
 fits-map first s (inl e) b = omega (arith, e, b.long)
 fits-map first s (inr e) b = omega (arith, e, b.long)
 
-pub calm-both : (first count : ℕ) (s : Sheet) → IsSheet s → HasBoth s → IsCalm first count s
-calm-both first count s law b = ap (outside first count) (law.shut b.shut)
-
 pub map-seen : (first count : ℕ) (s : Sheet) → IsMap first → count ≡ 640 → HasBoth s → (es : List (ℕ × ℕ)) × IsIndex (within first count s).words es
 map-seen first count s (inl e) size b = rw e (rw size b.front)
 map-seen first count s (inr e) size b = rw e (rw size b.rear)
@@ -51,47 +48,51 @@ map-seen first count s (inr e) size b = rw e (rw size b.rear)
 pub size-seen : (first count : ℕ) (s : Sheet) → first + count ≤ length s.words → count ≡ 640 → length (within first count s).words ≤ 2 ^ 25
 size-seen first count s fits size = omega (arith, inside-long first count s.words fits, size)
 
+-- what is outside a range is as it was
+abbrev StaysWhole : ℕ → ℕ → Sheet → Sheet → Type 0
+StaysWhole first count s t = Stays first count s t × (outside first count t.words ≡ outside first count s.words)
+
 -- a map that a change of another range leaves
-beside : (first count other : ℕ) (s t : Sheet) → Stays first count s t → IsApart first count other 640 → first + count ≤ length s.words → HasMap other s → HasMap other t
-beside first count other s t same off fits (es, map) = (es, subst (λ (ws : List ℕ). IsIndex ws es) (sym (apart first count other 640 s.words t.words off fits same.long same.words)) map)
+beside : (first count other : ℕ) (s t : Sheet) → StaysWhole first count s t → IsApart first count other 640 → first + count ≤ length s.words → HasMap other s → HasMap other t
+beside first count other s t same off fits (es, map) = (es, subst (λ (ws : List ℕ). IsIndex ws es) (sym (apart first count other 640 s.words t.words off fits (Stays.long same.0) same.1)) map)
 
 -- one map is changed: both are maps again
-still-front : (first count : ℕ) (s t : Sheet) → first ≡ 64 → count ≡ 640 → HasBoth s → Stays first count s t → t.room ≡ s.room → t.started ≡ false → (es : List (ℕ × ℕ)) × IsIndex (within first count t).words es → HasBoth t
+still-front : (first count : ℕ) (s t : Sheet) → first ≡ 64 → count ≡ 640 → HasBoth s → StaysWhole first count s t → t.room ≡ s.room → t.started ≡ false → (es : List (ℕ × ℕ)) × IsIndex (within first count t).words es → HasBoth t
 still-front first count s t e size b kept room shut map = record {
   shut = shut;
-  long = Stays.long kept ∙ b.long;
+  long = Stays.long kept.0 ∙ b.long;
   room = omega (arith, room, b.room);
   front = rw e at rw size at map;
   rear = beside first count 704 s t kept (inl (omega (arith, e, size))) (omega (arith, e, size, b.long)) b.rear;
 }
 
-still-rear : (first count : ℕ) (s t : Sheet) → first ≡ 704 → count ≡ 640 → HasBoth s → Stays first count s t → t.room ≡ s.room → t.started ≡ false → (es : List (ℕ × ℕ)) × IsIndex (within first count t).words es → HasBoth t
+still-rear : (first count : ℕ) (s t : Sheet) → first ≡ 704 → count ≡ 640 → HasBoth s → StaysWhole first count s t → t.room ≡ s.room → t.started ≡ false → (es : List (ℕ × ℕ)) × IsIndex (within first count t).words es → HasBoth t
 still-rear first count s t e size b kept room shut map = record {
   shut = shut;
-  long = Stays.long kept ∙ b.long;
+  long = Stays.long kept.0 ∙ b.long;
   room = omega (arith, room, b.room);
   front = beside first count 64 s t kept (inr (omega (arith, e))) (omega (arith, e, size, b.long)) b.front;
   rear = rw e at rw size at map;
 }
 
-pub both-still : (first count begins size : ℕ) (s t : Sheet) → IsMap first → count ≡ 640 → IsSheet s → IsSheet t → HasBoth s → IsCalm begins size t → t.room ≡ s.room → (within begins size t).fixed ≡ (within first count s).fixed → t.started ≡ false → (es : List (ℕ × ℕ)) × IsIndex (within begins size t).words es → HasBoth t
-both-still first count begins size s t (inl e) is law then b calm room fixed shut map =
-    let kept = stays first count begins size s t law then (calm-both first count s law b) calm fixed in
-    still-front first count s t e is b kept.2 room shut (rw kept.0 at rw kept.1 at map)
-both-still first count begins size s t (inr e) is law then b calm room fixed shut map =
-    let kept = stays first count begins size s t law then (calm-both first count s law b) calm fixed in
-    still-rear first count s t e is b kept.2 room shut (rw kept.0 at rw kept.1 at map)
+pub both-still : (first count begins size : ℕ) (s t : Sheet) → IsMap first → count ≡ 640 → IsSheet s → IsSheet t → HasBoth s → t.room ≡ s.room → Keeps (within first count s) (within begins size t) → t.started ≡ false → (es : List (ℕ × ℕ)) × IsIndex (within begins size t).words es → HasBoth t
+both-still first count begins size s t (inl e) is law then b room keeps shut map =
+    let kept = stays-shut first count begins size s t law then b.shut keeps in
+    still-front first count s t e is b (kept.2, kept.3) room shut (rw kept.0 at rw kept.1 at map)
+both-still first count begins size s t (inr e) is law then b room keeps shut map =
+    let kept = stays-shut first count begins size s t law then b.shut keeps in
+    still-rear first count s t e is b (kept.2, kept.3) room shut (rw kept.0 at rw kept.1 at map)
 
 -- plain words before them are changed
-pub both-beside : (first count begins size : ℕ) (s t : Sheet) → first ≡ 0 → count ≡ 64 → IsSheet s → IsSheet t → HasBoth s → IsCalm begins size t → t.room ≡ s.room → (within begins size t).fixed ≡ (within first count s).fixed → t.started ≡ false → HasBoth t
-both-beside first count begins size s t is whole law then b calm room fixed shut =
-    let kept = stays first count begins size s t law then (calm-both first count s law b) calm fixed in
+pub both-beside : (first count begins size : ℕ) (s t : Sheet) → first ≡ 0 → count ≡ 64 → IsSheet s → IsSheet t → HasBoth s → t.room ≡ s.room → Keeps (within first count s) (within begins size t) → t.started ≡ false → HasBoth t
+both-beside first count begins size s t is whole law then b room keeps shut =
+    let kept = stays-shut first count begins size s t law then b.shut keeps in
     record {
       shut = shut;
       long = Stays.long kept.2 ∙ b.long;
       room = omega (arith, room, b.room);
-      front = beside first count 64 s t kept.2 (inl (omega (arith, is, whole))) (omega (arith, is, whole, b.long)) b.front;
-      rear = beside first count 704 s t kept.2 (inl (omega (arith, is, whole))) (omega (arith, is, whole, b.long)) b.rear;
+      front = beside first count 64 s t (kept.2, kept.3) (inl (omega (arith, is, whole))) (omega (arith, is, whole, b.long)) b.front;
+      rear = beside first count 704 s t (kept.2, kept.3) (inl (omega (arith, is, whole))) (omega (arith, is, whole, b.long)) b.rear;
     }
 
 -- some map is left by each answer of a memory that has power

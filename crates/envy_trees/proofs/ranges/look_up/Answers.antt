@@ -1,4 +1,5 @@
 use Rattle.std.proofs.Common.{refl, sym, subst}
+use Rattle.envy_btree.proofs.Keeping.{keeps-works}
 use Rattle.envy_heap.specs.Vectors.{vec_sheet}
 use Rattle.envy_heap.specs.declared.vec_words.VecWords.{VecWords}
 use Rattle.envy_range.specs.Ranges.{within}
@@ -22,5 +23,5 @@ returns g c =
     let both = subst (λ (w : VecWords). HasBoth (vec_sheet w)) (sym c.of-view.ensures.words) c.requires in
     let seen = map-seen v.first v.count s map c.of-view.ensures.count both in
     let left = looked c.args.key c.get-answer.result (within v.first v.count s) (within n.first n.count t) refl e.gets seen in
-    let all = both-still v.first v.count n.first n.count s t map c.of-view.ensures.count v.words.sound n.words.sound both n.calm e.works.room e.works.fixed e.shut left in
+    let all = both-still v.first v.count n.first n.count s t map c.of-view.ensures.count v.words.sound n.words.sound both e.works.room (keeps-works 0 (within v.first v.count s) (within n.first n.count t) e.works) e.shut left in
     subst (λ (w : VecWords). HasBoth (vec_sheet w)) (sym c.into_words.ensures.same) all

@@ -1,4 +1,5 @@
 use Rattle.std.proofs.Common.{◌∙◌, refl, sym, subst}
+use Rattle.envy_btree.proofs.Keeping.{keeps-through}
 use Rattle.envy_heap.specs.Vectors.{vec_sheet}
 use Rattle.envy_heap.specs.declared.vec_words.VecWords.{VecWords}
 use Rattle.envy_range.specs.Ranges.{within}
@@ -23,6 +24,8 @@ returns g c =
     let two = c.put.ensures.works.works in
     let three = c.finish.ensures.keeps in
     let m = c.put.new.self in
+    let k = c.start.new.self in
+    let all = keeps-through 1 (within v.first v.count s) (within k.first k.count (vec_sheet k.words)) (within m.first m.count (vec_sheet m.words)) (within n.first n.count t) one two three in
     let shut = finished c.finish.result (within m.first m.count (vec_sheet m.words)) (within n.first n.count t) refl c.finish.ensures.answer in
-    let all = both-beside v.first v.count n.first n.count s t c.of-view.ensures.first c.of-view.ensures.count v.words.sound n.words.sound both n.calm (three.room ∙ two.room ∙ one.room) (three.fixed ∙ two.fixed ∙ one.fixed) shut in
-    subst (λ (w : VecWords). HasBoth (vec_sheet w)) (sym c.into_words.ensures.same) all
+    let left = both-beside v.first v.count n.first n.count s t c.of-view.ensures.first c.of-view.ensures.count v.words.sound n.words.sound both (three.room ∙ two.room ∙ one.room) all shut in
+    subst (λ (w : VecWords). HasBoth (vec_sheet w)) (sym c.into_words.ensures.same) left

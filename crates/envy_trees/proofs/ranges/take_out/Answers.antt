@@ -22,5 +22,5 @@ returns g c =
     let both = subst (λ (w : VecWords). HasBoth (vec_sheet w)) (sym c.of-view.ensures.words) c.requires in
     let seen = map-seen v.first v.count s map c.of-view.ensures.count both in
     let left = removed c.args.key c.remove-answer.result (within v.first v.count s) (within n.first n.count t) refl e.removes seen in
-    let all = both-still v.first v.count n.first n.count s t map c.of-view.ensures.count v.words.sound n.words.sound both n.calm e.keeps.room e.keeps.fixed e.shut left in
+    let all = both-still v.first v.count n.first n.count s t map c.of-view.ensures.count v.words.sound n.words.sound both e.keeps.room e.keeps e.shut left in
     subst (λ (w : VecWords). HasBoth (vec_sheet w)) (sym c.into_words.ensures.same) all

@@ -17,7 +17,7 @@ returns-clause-works g c =
     let v = c.args.self.now in
     let s = g.W.Words.sheet v.words in
     let t = g.W.Words.sheet c.load.new.self in
-    works-view 0 v.first v.count s t v.fits (load-outside v.first v.count (v.first + c.args.a) c.load.result s t c.load.ensures.answer) c.load.ensures.works
+    works-view 0 v.first v.count s t v.fits (g.met.W.Words.lawful c.load.new.self) (load-outside v.first v.count (v.first + c.args.a) c.load.result s t c.load.ensures.answer) c.load.ensures.works
 
 pub returns-clause-answer : goal.returns-clause-answer
 returns-clause-answer g c =

@@ -32,7 +32,7 @@ returns-clause-works g c =
     let s = g.W.Words.sheet v.words in
     let t = g.W.Words.sheet c.put.new.self in
     let lt = own-address v.first v.count c.args.a s v.fits c.requires.address in
-    page-view v.first v.count c.args.a s t v.starts v.whole v.fits lt (put-outside v.first v.count c.args.a c.args.w c.put.result s t lt c.put.ensures.answer) c.put.ensures.works
+    page-view v.first v.count c.args.a s t v.starts v.whole v.fits lt (g.met.W.Words.lawful c.put.new.self) (put-outside v.first v.count c.args.a c.args.w c.put.result s t lt c.put.ensures.answer) c.put.ensures.works
 
 pub returns-clause-answer : goal.returns-clause-answer
 returns-clause-answer g c =
