@@ -8,6 +8,7 @@ pub mod Hits
 pub mod Lawful
 pub mod LoadRuns
 pub mod Making
+pub mod Opened
 pub mod Picture
 pub mod Restarts
 pub mod Rises
