@@ -1,5 +1,5 @@
 #!/usr/bin/env bash
-# The tables that pages have from other files: in docs/ARCHITECTURE.md the crates, from crates.txt and what each crate's own
+# The tables that pages have from other files: in docs/ARCHITECTURE.md the list of crates, from crates.txt and what each crate's own
 # text begins with; in docs/COMMANDS.md the commands and the options, from words/table. Prints them; with --write they
 # are put into the pages, with --compare they are compared with what the pages have.
 set -eu
@@ -24,10 +24,10 @@ crates() {
             name=${line%%:*}
             name=${name%% *}
             if [ -n "$heading" ]; then
-                printf '\n**%s**\n\n| | |\n|---|---|\n' "$heading"
+                printf '\n**%s**\n\n' "$heading"
                 heading=
             fi
-            printf '| `%s` | %s |\n' "$name" "$(first_sentence "$name")"
+            printf -- '- `%s`: %s\n' "$name" "$(first_sentence "$name")"
             ;;
         esac
     done <crates.txt
