@@ -14,7 +14,7 @@ MOST_WORDS = 45000
 LONG = 150
 
 pages = ["README.md"] + sorted(glob.glob("docs/*.md"))
-others = ["c/LINKING.md", "attacks/README.md"]
+others = ["c/LINKING.md", "attacks/README.md", "examples/machine/README.md"]
 text = {page: open(page, encoding="utf-8").read() for page in pages + others}
 failures = 0
 
