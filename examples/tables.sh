@@ -6,12 +6,13 @@ set -eu
 cd "$(dirname "$0")/.."
 how=${1-}
 
-# what a crate's text begins with: up to a stop, or up to a colon after five words or more
+# what a crate's text begins with: up to a stop, a colon after five words or more, or a clause that says more of it
 first_sentence() { # NAME
     local root=crates/$1/src/lib.rt
     [ -f "$root" ] || root=crates/$1/src/main.rt
     awk '/^\/\/! ?$/ || !/^\/\/!/ { exit } { sub(/^\/\/! ?/, ""); printf "%s%s", between, $0; between = " " }' "$root" |
-        sed -E 's/[.;] .*//; s/[.]$//; s/^(([^ :]+ ){4,}[^ :]+): .*/\1/'
+        sed -E 's/[.;] .*//; s/[.]$//; s/^(([^ :]+ ){4,}[^ :]+): .*/\1/
+            s/^(([^ ]+ ){2,}[^ ,]+), (so that|which|whose|where|whatever|driven|handed|failures|each one|one of each|as a?by|with the|for callers|for those|those that) .*/\1/'
 }
 
 crates() {
