@@ -1,14 +1,16 @@
 #!/usr/bin/env bash
 # What can be checked of README and docs/ without the program: that each link leads somewhere, that long pages begin with a
 # list of contents, that the versions agree, that each table of figures in docs/PERFORMANCE.md has its command, that sentences
-# are short and plain, that the pages together stay short, and that tables are those of the files that they are made from.
+# are short and plain on average and each, that the pages together stay short, and that tables are those of the files that
+# they are made from.
 set -u
 cd "$(dirname "$0")/.."
 failures=0
 python3 - <<'PY' || failures=1
 import glob, os, re, sys
 
-MOST_WORDS_A_SENTENCE = 22
+MOST_WORDS_A_SENTENCE = 22      # their mean on a page
+LONGEST_SENTENCE = 35           # except a list, which has four commas or more
 MOST_ODD_WORDS = 12
 MOST_WORDS = 45000
 LONG = 150
@@ -80,10 +82,20 @@ for page in pages:
     if odd > MOST_ODD_WORDS:
         fail(f"{page}: {odd} times behind, of before, so many, taken up, but for, or where for if; {MOST_ODD_WORDS} at most")
 
-words = sum(len(re.findall(r"\S*\w\S*", without_code(text[page]))) for page in pages)
+    # the same without links' targets, item by item
+    prose = re.sub(r"(?s:```.*?```)|^ {4}(?! *(?:- |\d+\. )).*$|^\|.*$|^#.*$|^<!--.*$", "\n\n", text[page], flags=re.M)
+    prose = re.sub(r"\[([^\]]*)\]\([^)]*\)", r"\1", re.sub(r"`[^`]*`", "x", prose))
+    for item in re.split(r"\n\s*\n|\n(?=- |\d+\. )", prose):
+        for sentence in re.split(r"(?<=[.!?:;])\)?\*{0,2}\s", " ".join(item.split())):
+            length = len(re.findall(r"\S*\w\S*", sentence))
+            if length > LONGEST_SENTENCE and sentence.count(",") < 4 and " · " not in sentence:
+                fail(f"{page}: a sentence of {length} words: {sentence[:90]} ..")
+
+# as wc -w counts them, code and tables too
+words = sum(len(text[page].split()) for page in pages)
 if words > MOST_WORDS:
-    fail(f"README and docs/ have {words} words outside code, {MOST_WORDS} at most")
-print(f"page text: {len(pages)} pages of {words} words outside code")
+    fail(f"README and docs/ have {words} words, {MOST_WORDS} at most")
+print(f"page text: {len(pages)} pages of {words} words")
 sys.exit(failures > 0)
 PY
 examples/tables.sh --compare || failures=1
