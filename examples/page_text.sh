@@ -1,8 +1,8 @@
 #!/usr/bin/env bash
 # What can be checked of README and docs/ without the program: that each link leads somewhere, that long pages begin with a
 # list of contents, that the versions agree, that each table of figures in docs/PERFORMANCE.md has its command, that sentences
-# are short and plain on average and each, that the pages together stay short, and that tables are those of the files that
-# they are made from.
+# are short and plain on average and each, that --help has the same lines and statuses, that the pages together stay short,
+# and that tables are those of the files that they are made from.
 set -u
 cd "$(dirname "$0")/.."
 failures=0
@@ -90,6 +90,18 @@ for page in pages:
             length = len(re.findall(r"\S*\w\S*", sentence))
             if length > LONGEST_SENTENCE and sentence.count(",") < 4 and " · " not in sentence:
                 fail(f"{page}: a sentence of {length} words: {sentence[:90]} ..")
+
+# --help and docs/COMMANDS.md have the same lines of a trace and the same statuses
+help, commands = open("words/page").read(), text["docs/COMMANDS.md"]
+lines = set(re.findall(r"^  ([a-z]+(?: [A-Z])*)  ", help, re.M))
+shown = set(re.findall(r"^\| `([a-z]+(?: [A-Z])*)` \| ", commands.split("## The lines of a trace")[1].split("## What `tpca`")[0], re.M))
+shown -= set(re.findall(r"^\| `([a-z]+)` \| [^|]*\|$", commands, re.M))      # the counters of stat
+if lines != shown:
+    fail(f"lines of a trace in --help or docs/COMMANDS.md alone: {sorted(lines ^ shown)}")
+statuses = set(re.findall(r"(?:^|  )(\d+)  ?(?=[a-z])", help.split("Exit status:")[1], re.M)) - {"70"}
+rows = re.findall(r"^\| ([\d, ]+) \|", commands.split("## Exit statuses")[1], re.M)
+if statuses != set(", ".join(rows).split(", ")):
+    fail(f"statuses of --help {sorted(statuses)}, of docs/COMMANDS.md {rows}")
 
 # as wc -w counts them, code and tables too
 words = sum(len(text[page].split()) for page in pages)
