@@ -1,6 +1,6 @@
 #!/usr/bin/env bash
 # The tables that pages have from other files: in docs/ARCHITECTURE.md the list of crates, from crates.txt and what each crate's own
-# text begins with; in docs/COMMANDS.md the commands and the options, from words/table. Prints them; with --write they
+# text begins with (those of tests by name alone); in docs/COMMANDS.md the commands and the options, from words/table. Prints them; with --write they
 # are put into the pages, with --compare they are compared with what the pages have.
 set -eu
 cd "$(dirname "$0")/.."
@@ -16,7 +16,7 @@ first_sentence() { # NAME
 }
 
 crates() {
-    local line name heading=
+    local line name heading= printed= between=
     while IFS= read -r line; do
         case $line in
         '# A line for each crate'*) ;;
@@ -24,14 +24,16 @@ crates() {
         *:*)
             name=${line%%:*}
             name=${name%% *}
-            if [ -n "$heading" ]; then
-                printf '\n**%s**\n\n' "$heading"
-                heading=
-            fi
-            printf -- '- `%s`: %s\n' "$name" "$(first_sentence "$name")"
+            [ "$heading" = "$printed" ] || printf '\n**%s**\n\n' "$heading"
+            printed=$heading
+            case $heading in
+            Tests*) printf '%s`%s`' "$between" "$name" && between=', ' ;;
+            *) printf -- '- `%s`: %s\n' "$name" "$(first_sentence "$name")" ;;
+            esac
             ;;
         esac
     done <crates.txt
+    printf '%s\n' "${between:+.}"
     echo
 }
 
