@@ -1,6 +1,6 @@
 #!/usr/bin/env bash
 # What can be checked of README and docs/ without the program: that each link leads somewhere, that long pages begin with a
-# list of contents, that the versions agree, that each table of figures in docs/PERFORMANCE.md has its command, that sentences
+# list of contents, that the versions agree, that each table of figures has its command, that sentences
 # are short and plain on average and each, that --help has the same lines and statuses, that the pages together stay short,
 # and that tables are those of the files that they are made from.
 set -u
@@ -63,12 +63,13 @@ for file, pattern in (("rust/Cargo.toml", r'^version = "(.*)"'), ("c/envy_text.h
     if found and found.group(1) != version:
         fail(f"{file} has the version {found.group(1)}, and VERSION {version}")
 
-# a table of figures has a command in its section
-command = r"examples/[a-z_/.-]+\.sh|\./envy [a-z]+|\.ci/run|make -C"
-for section in re.split(r"(?m)^## ", text["docs/PERFORMANCE.md"])[1:]:
-    figures = [line for line in section.split("\n") if line.startswith("|") and re.search(r"\|\s*[\d,.]+", line)]
-    if figures and not re.search(command, section):
-        fail("docs/PERFORMANCE.md: no command for the figures of \"" + section.split("\n")[0] + "\"")
+# a table of figures has a command in its section, or a link to the page that has it
+source = r"examples/[a-z_/.-]+\.sh|\./envy [a-z]+|\.ci/run|make -C|\]\(PERFORMANCE\.md#"
+for page in ("docs/PERFORMANCE.md", "docs/RESEARCH.md", "docs/PAPER.md", "docs/CHANGING.md"):
+    for section in re.split(r"(?m)^## ", text.get(page, ""))[1:]:
+        figures = [line for line in section.split("\n") if line.startswith("|") and re.search(r"\|\s*[\d,.]+", line)]
+        if figures and not re.search(source, section):
+            fail(f"{page}: no command for the figures of \"" + section.split("\n")[0] + "\"")
 
 # sentences: their mean, and words that an engineer reads twice
 for page in pages:
