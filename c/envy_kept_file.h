@@ -27,12 +27,13 @@ typedef struct envy_kept_file {
 } envy_kept_file;
 #define ENVY_KEPT_FILE_INIT {ENVY_KEPT_INIT, {0, 0, 0, 0, 0, 0, 0}, -1, -1, -1, 0, 0, 0, 0, 0, 0, 0}
 
-/* Opens the file at a path, or makes an empty one, locks it, brings it and its folder to the disk, has the system drop
-   what it holds of the file, reads it whole (of one that doesn't begin as a journal does only the head), and has envy_kept_open make or open the memory in it. Beside it a second file
-   may come to be, at the path and ".envy-new", or with a number of 1 to 7 after that if something else has the name. One is
-   made and removed at once, so that a folder in which none can be made, or a name that is too long, is ENVY_SYSTEM here;
-   those that a crash left are removed. No descriptor of the file is one of a standard stream, and a standard stream that is
-   closed is opened on /dev/null, and its use fails there as before.
+/* Opens the file at a path, or makes an empty one, and locks it. It brings the file and its folder to the disk, has the
+   system drop what it holds of the file, and reads it whole (only the head, if it doesn't begin as a journal does). Then
+   envy_kept_open makes or opens the memory in it.
+   Beside it a second file may come to be, at the path and ".envy-new", or with a number of 1 to 7 after that if something
+   else has the name. One is made and removed at once: so a folder in which none can be made, or a name that is too long,
+   is ENVY_SYSTEM here. Those that a crash left are removed. No descriptor of the file is one of a standard stream: a
+   standard stream that is closed is opened on /dev/null, and its use fails there as before.
    ENVY_DONE, ENVY_SYSTEM, ENVY_LOCKED, ENVY_TOO_MANY, or what envy_kept_new and envy_kept_open answer. Refused, the place
    holds none; an empty file that was made stays, unless no second file can be made. At ENVY_SYSTEM and ENVY_OFF errno says
    why. */

@@ -1,7 +1,7 @@
 /* A map in the array of a memory in a file, as envy_index.h has it over regions: what is said there of pairs, of what an
-   array must hold, of sizes and of refusals holds here too. Each call is one transaction, so from a call of envy_kept_sync
-   that answered ENVY_DONE on, whatever a stop of the process or of the machine leaves opens as the map of that sync or
-   of a later one, with no call half done. Several calls may share one sync.
+   array must hold, of sizes and of refusals holds here too. Each call is one transaction. So after a call of
+   envy_kept_sync that answered ENVY_DONE, whatever a stop of the process or of the machine leaves opens as the map of that
+   sync or of a later one, with no call half done. Several calls may share one sync.
 
    Each call may answer ENVY_OFF as well, if the file failed: close the memory and open the file again. It may have been
    done then, or not. */
