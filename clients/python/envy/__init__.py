@@ -36,7 +36,7 @@ from .library import MissingLibraryError
 from .library import version as library_version
 from .mapping import Map
 from .memory import Counts, Did, Memory, open
-from .setup import Setup, setup_for, shape
+from .sizes import Setup, setup_for, shape
 from .transaction import Transaction
 
 __version__ = "0.4.0"

@@ -119,6 +119,8 @@ def file_error(code: int, errno: int, path: str) -> FileError:
     """Returns the error of a code that the system caused."""
     if code == library.LOCKED:
         return LockedError(code, numbers.EWOULDBLOCK, path)
+    if code == library.TOO_MANY:
+        return FileError(code, numbers.EMFILE, path)
     return FILE_CLASSES.get(errno, FileError)(code, errno, path)
 
 

@@ -14,7 +14,7 @@ NAME = "libenvy_kept.so.0"
 # The codes that the package asks for by name; c/envy_codes.h has all.
 EMPTY, OFF, RANGE, HELD, CLOSED, NO_MEMORY, OTHER_SHAPE = 1, 2, 3, 4, 7, 9, 20
 ABSENT, SLOT_OPEN, MAP_SETUP, NO_JOURNAL, APPENDED = 54, 56, 57, 72, 75
-SYSTEM, LOCKED = 1000, 1001
+SYSTEM, LOCKED, TOO_MANY = 1000, 1001, 1002
 
 # A word is less than this; a page has so many words.
 WORDS = 1 << 64
@@ -43,6 +43,7 @@ TAKES = {
     "envy_version": (),
     "envy_error_text": (ctypes.c_uint32,),
     "envy_setup_for": (ctypes.c_uint64, ctypes.c_uint32, _setup),
+    "envy_kept_size": (_setup, _a_word),
     "envy_kept_file_new": (),
     "envy_kept_file_shape": (_path, _setup),
     "envy_kept_file_error": (_place,),

@@ -13,7 +13,7 @@ from .errors import FormatError, MissingError
 from .library import NO_JOURNAL, OTHER_SHAPE, CountsStruct
 from .mapping import Map
 from .place import Place
-from .setup import Path, Setup, setup_for, shape, struct_of
+from .sizes import Path, Setup, setup_for, shape, struct_of
 from .transaction import Transaction, write
 from .words import Key, address_of, picked, range_of, word_of, words_of
 

@@ -41,11 +41,15 @@ def _of(struct: SetupStruct) -> Setup:
 
 
 def struct_of(setup: Setup) -> SetupStruct:
-    """Returns the library's form of a setup. The numbers are checked there, once they fit their fields."""
+    """Returns the library's form of a setup, or raises ValueError or SetupError."""
     for name, number in zip(Setup._fields, setup):
         if not 0 <= number < 1 << (64 if name == "limit" else 32):
             raise ValueError(f"{name}={number} is out of range")
-    return SetupStruct(*setup)
+    struct, size = SetupStruct(*setup), ctypes.c_uint64()
+    code = library.load().envy_kept_size(ctypes.byref(struct), size)
+    if code:
+        raise error(code, str(tuple(setup)))
+    return struct
 
 
 def setup_for(words: int, owned_pages: Optional[int] = None) -> Setup:
