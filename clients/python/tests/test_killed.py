@@ -21,8 +21,8 @@ class KilledTest(unittest.TestCase):
         words = [sys.executable, f"{HERE}/pieces.py", path, kind, str(seed), str(first)]
         env = {**os.environ, "PYTHONPATH": os.path.dirname(os.path.dirname(os.path.abspath(envy.__file__)))}
         process = subprocess.Popen(words, stdout=subprocess.PIPE, text=True, env=env)
-        head = process.stdout.readline()
-        time.sleep(chance.choice((0, 0.01, 0.1)) * chance.random())
+        head = "".join(process.stdout.readline() for _ in range(chance.choice((1, 2, 3, 10, 40))))
+        time.sleep(chance.choice((0, 0.001, 0.02)) * chance.random())
         process.kill()
         told = [line.split() for line in (head + process.stdout.read()).splitlines() if line.count(" ") == 1]
         process.stdout.close()
@@ -51,7 +51,7 @@ class KilledTest(unittest.TestCase):
                         work.follow(n)
                     first = begun + 1
                     self.assertEqual(found, work.state(), f"after piece {begun}")
-        self.assertGreater(syncs, 0)
+        self.assertGreaterEqual(syncs, ROUNDS // 5)
 
     def test_words(self):
         self.follow("words")
