@@ -114,6 +114,14 @@ def load() -> Any:
     raise MissingLibraryError(f"{NAME} isn't found; install it (make -C c install), or let ENVY_LIBRARY name it: {'; '.join(whys)}")
 
 
+def encoded(path: Any) -> bytes:
+    """Returns a path as the library takes it, or raises TypeError or ValueError."""
+    name = os.fsencode(path)
+    if b"\0" in name:
+        raise ValueError("embedded null byte")
+    return name
+
+
 def text(code: int) -> str:
     """Returns the library's text for a code."""
     return load().envy_error_text(code).decode()

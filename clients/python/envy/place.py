@@ -10,7 +10,7 @@ import threading
 from typing import Deque, List, Optional, Set
 
 from . import library
-from .errors import ClosedError, FileError, ForkedError, HeldError, NoMemoryError, error, file_error
+from .errors import ClosedError, EnvyError, FileError, ForkedError, HeldError, NoMemoryError, error, file_error
 from .library import SetupStruct
 
 # Handles of files that were closed. The library keeps a handle until the process ends, so the next file gets one of these.
@@ -33,16 +33,23 @@ class Place:
         # how often words were changed by other calls than those of a map, and how often when they were seen to be one
         self.writes = 0
         self.map_at: Optional[int] = None
-        handle = _unused.pop() if _unused else self.c.envy_kept_file_new()
-        if not handle:
-            raise NoMemoryError(library.NO_MEMORY)
+        name, handle = library.encoded(path), self._unused_handle()
         call = self.c.envy_kept_open_file_bytewise if bytewise else self.c.envy_kept_open_file
-        code = call(handle, os.fsencode(path), ctypes.byref(setup))
+        code = call(handle, name, ctypes.byref(setup))
         if code:
             why = ctypes.get_errno()
             _unused.append(handle)
-            raise self._file_error(code, why)
+            raise self._error(code, why, path)
         self.handle = handle
+
+    def _unused_handle(self) -> int:
+        try:
+            return _unused.pop()
+        except IndexError:
+            handle = self.c.envy_kept_file_new()
+            if not handle:
+                raise NoMemoryError(library.NO_MEMORY) from None
+            return handle
 
     def __enter__(self) -> int:
         # before the lock, which another thread may have had when the process was forked off
@@ -61,18 +68,16 @@ class Place:
     def __exit__(self, *_: object) -> None:
         self.lock.release()
 
-    def _file_error(self, code: int, why: int) -> Exception:
+    def _error(self, code: int, why: int, detail: str) -> EnvyError:
         is_of_file = code in (library.OFF, library.APPENDED) or code >= library.SYSTEM
-        return file_error(code, why, self.path) if is_of_file else error(code, self.path)
+        return file_error(code, why, self.path) if is_of_file else error(code, detail)
 
-    def refused(self, code: int, detail: str = "") -> Exception:
-        """Returns the error of a call that answered this, for the thread that has the lock."""
+    def refused(self, code: int, detail: str = "") -> EnvyError:
+        """Returns the error of a call that answered this, for the thread that has the lock and made it just now."""
+        why = ctypes.get_errno()
         if code == library.OFF:
-            why = self.c.envy_kept_file_error(self.handle) if self.handle is not None else 0
-            return file_error(code, why, self.path)
-        if code >= library.SYSTEM or code == library.APPENDED:
-            return file_error(code, ctypes.get_errno(), self.path)
-        return error(code, detail)
+            why = self.c.envy_kept_file_error(self.handle)
+        return self._error(code, why, detail)
 
     def check(self, code: int, detail: str = "") -> None:
         """Raises what a code stands for, unless it is ENVY_DONE."""

@@ -81,7 +81,7 @@ def shape(path: Path) -> Setup:
 
     FormatError: it holds none; MissingError (a FileNotFoundError): there is no such file; FileError: it can't be read."""
     struct = SetupStruct()
-    code = library.load().envy_kept_file_shape(os.fsencode(path), ctypes.byref(struct))
+    code = library.load().envy_kept_file_shape(library.encoded(path), ctypes.byref(struct))
     if code >= library.SYSTEM:
         raise file_error(code, ctypes.get_errno(), os.fsdecode(path))
     if code:

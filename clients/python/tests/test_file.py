@@ -6,6 +6,7 @@ import sys
 import tempfile
 import threading
 import unittest
+import warnings
 
 import envy
 from envy import place
@@ -39,6 +40,8 @@ class FileTest(unittest.TestCase):
         self.assertRaises(FileNotFoundError, envy.open, self.path + "/none/x", 10)
         self.assertFalse(os.path.exists(self.path))
         self.assertRaises(OSError, envy.open, self.folder.name, 10)
+        self.assertRaises(ValueError, envy.open, "a\0b", 10)
+        self.assertRaises(TypeError, envy.open, 5, 10)
 
     def test_an_old_file_keeps_its_sizes(self):
         self.make()
@@ -169,7 +172,9 @@ class ForkTest(unittest.TestCase):
         self.path = os.path.join(self.folder.name, "words.envy")
 
     def forked(self, work):
-        child = os.fork()
+        with warnings.catch_warnings():
+            warnings.simplefilter("ignore")  # (that a process with threads is forked)
+            child = os.fork()
         if not child:
             status = 1
             try:
