@@ -74,6 +74,12 @@ grep -q "^__version__ = \"$version\"" "$here/clients/python/envy/__init__.py" ||
 grep -q "ENVY_VERSION \"$version\"" "$here/include/envy_text.h" || fail "the header has another version"
 grep -q "^## $version" CHANGELOG.md || fail "CHANGELOG.md has nothing of $version"
 
+# the package for Python finds the library of the tar
+if [ "$(uname -m)" = x86_64 ] && python3 --version >/dev/null 2>&1; then
+    said=$(cd "$here" && PYTHONPATH=clients/python python3 -B -c 'import envy; print(envy.library_version())' 2>&1)
+    [ "$said" = "$version" ] || fail "Python: $said"
+fi
+
 # completed WORDS..: what is offered for the last word
 completed() {
     bash -c '. "$1"; shift; COMP_WORDS=("$@"); COMP_CWORD=$((${#COMP_WORDS[@]} - 1)); _envy; echo "${COMPREPLY[*]}"' - "$here/completions/envy" "$@"
