@@ -20,7 +20,7 @@
      other call that is given the handle answers ENVY_EMPTY. It neither copies nor changes a handle.
    - One call at a time uses a handle. It may use it from any thread if it orders the calls itself.
    - Every pointer is to memory that is there, aligned, of the size that is said, and in no two arguments at once. None
-     is NULL, also not that of no words, nor `holder` and `done`, even if the program doesn't ask for them.
+     is NULL, also not that of no words, except `holder` and `done`, if the program doesn't ask for them.
    - rattle_alloc, rattle_realloc and rattle_dealloc are those of heap.c, or do the same.
    - Of the file what is said below at envy_disk.
 

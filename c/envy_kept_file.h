@@ -10,7 +10,8 @@ extern "C" {
 #endif
 
 /* A place for a file. A program reads and changes `memory` alone, by the calls of envy_kept.h: envy_kept_sync(&f.memory)
-   brings what was done to the disk. It stays where it is while the file is open. */
+   brings what was done to the disk. It stays where it is while the file is open. `memory` is first, so that a language that
+   doesn't read this header has both at one address: that of envy_kept_file_new. */
 typedef struct envy_kept_file {
     envy_kept memory;
     envy_disk disk;
@@ -48,6 +49,16 @@ uint32_t envy_kept_open_file_bytewise(envy_kept_file *f, const char *path, const
    A process that was forked off while the file was open has no file: there each call that would write to it, and this one,
    is ENVY_OFF with EPERM, and nothing is done to the file or to the lock of the process that opened it. */
 uint32_t envy_kept_close_file(envy_kept_file *f);
+
+/* Writes the setup that the file at a path was made with, by its first bytes, and locks, reads and checks no more of it.
+   Policy, part, limit and mark aren't stored there: they become ENVY_GREEDY, 2, 100 and the number of frames.
+   ENVY_DONE; ENVY_SYSTEM, with errno; ENVY_NO_JOURNAL, also of an empty file; ENVY_OTHER_JOURNAL. Refused, the setup is as
+   before. */
+uint32_t envy_kept_file_shape(const char *path, envy_setup *setup);
+
+/* A place of its own, as of ENVY_KEPT_FILE_INIT, or NULL if the heap gives none. It stays until the process ends, and serves
+   for any number of files, one after another. */
+envy_kept_file *envy_kept_file_new(void);
 
 /* The errno of the call on the file after which calls answer ENVY_OFF: EFBIG also if the process may not make the file
    so long, EPERM in a process that was forked off. 0 if none failed since the file was opened. It stays after

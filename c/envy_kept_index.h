@@ -22,9 +22,9 @@ uint32_t envy_kept_index_create(envy_kept *m);
 /* Writes the value of a key. ENVY_DONE, or ENVY_ABSENT: the map doesn't have the key. */
 uint32_t envy_kept_index_get(envy_kept *m, uint64_t key, uint64_t *value);
 
-/* Sets the value of a key, and writes the one that it had before, if any. ENVY_DONE, or ENVY_MAP_FULL: the map doesn't
-   have the key, and has as many pairs as it may have. From the next envy_kept_sync that answers ENVY_DONE on the pair
-   outlives the machine. */
+/* Sets the value of a key, and writes the one that it had before, if any; `before` may be NULL. ENVY_DONE, or
+   ENVY_MAP_FULL: the map doesn't have the key, and has as many pairs as it may have. From the next envy_kept_sync that
+   answers ENVY_DONE on the pair outlives the machine. */
 uint32_t envy_kept_index_insert(envy_kept *m, uint64_t key, uint64_t value, envy_old *before);
 
 /* Takes a key out of the map, and writes its value. ENVY_DONE, or ENVY_ABSENT: the map doesn't have the key. */
