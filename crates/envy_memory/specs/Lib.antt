@@ -9,6 +9,7 @@ pub mod Lawful
 pub mod LoadRuns
 pub mod Making
 pub mod Picture
+pub mod PutRuns
 pub mod Restarts
 pub mod Rises
 pub mod Runs
