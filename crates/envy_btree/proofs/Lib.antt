@@ -31,4 +31,9 @@ pub mod Examples
 pub mod Walking
 pub mod Ruling
 pub mod Broken
+pub mod Gaps
+pub mod Gapped
+pub mod Spotting
+pub mod Leafing
+pub mod Stepping
 mod Keeping

@@ -11,5 +11,6 @@ pub mod Replies
 pub mod Rules
 pub mod Shrinking
 pub mod Spelling
+pub mod Spots
 pub mod Testing
 pub mod Tree

@@ -20,6 +20,8 @@ mod removing;
 mod reply;
 mod saving;
 mod scanning;
+mod seeking;
+mod shifting;
 mod shrinking;
 mod uprooting;
 
