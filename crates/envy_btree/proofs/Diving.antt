@@ -11,14 +11,14 @@ use Rattle.envy_base.proofs.Working.{Works-trans, Works-more}
 use Rattle.envy_heap.specs.Pieces.{IsHeap, handed, spare, one}
 use Rattle.envy_btree.specs.declared.node.Node.{Node}
 use Rattle.envy_btree.specs.Pairs.{without}
-use Rattle.envy_btree.specs.Tree.{Tree, Ordered, Rising, Sized, Holds, uses, piece_of, pairs_of, keys_of, values_of, fewest}
+use Rattle.envy_btree.specs.Tree.{Tree, Ordered, Rising, Sized, Holds, Shows, uses, piece_of, pairs_of, keys_of, values_of, fewest}
 use Rattle.envy_btree.specs.Nodes.{Ranks, IsRead, width, is_inner, kind_of, keys_in, slots_in, IsNode}
 use Rattle.envy_btree.specs.Index.{Stands}
 use Rattle.envy_btree.specs.Changes.{Rests, InHand, Pair, Beside, Mended, joined_keys}
 use Rattle.envy_btree.specs.Shrinking.{Back, MendedBack, Short, Shrinks}
 use Rattle.envy_btree.proofs.Trees.{low_of, high_of, Fans-long, Fans-at}
 use Rattle.envy_btree.proofs.Descent.{bare, read-shows, Rests-within}
-use Rattle.envy_btree.proofs.Framing.{sister, handed-le, pieces-same}
+use Rattle.envy_btree.proofs.Framing.{sister, parent, handed-le, pieces-same}
 use Rattle.envy_btree.proofs.Halving.{keys-long, slots-long, one-kind}
 use Rattle.envy_btree.proofs.Holding.{leaf-hand}
 use Rattle.envy_btree.proofs.Joining.{joined, joined-keys, joined-slots, Rising-without, without-long, without-short}
@@ -83,6 +83,7 @@ pub record Dives (ws : List ℕ) (p level key i : ℕ) (ks ss : List ℕ) (t : R
   pub place : i ≤ length ks
   pub child : Rests ws (get_or ss i 0) (level - 1)
   pub same : (new : List ℕ) → Shrinks ws new (get_or ss i 0) (level - 1) key child None → Shrinks ws new p level key t None
+  pub stays : (mid : List ℕ) (n : Node) → Shrinks ws mid (get_or ss i 0) (level - 1) key child (Some n) → Shows mid p 1 ks ss
   pub sizes : (mid : List ℕ) (n : Node) → Shrinks ws mid (get_or ss i 0) (level - 1) key child (Some n) → (length n.keys.items ≤ 14) × (length n.slots.items ≡ length n.keys.items + one n.inner)
   pub front : (mid : List ℕ) (n : Node) (j : ℕ) → i ≡ suc j → Shrinks ws mid (get_or ss i 0) (level - 1) key child (Some n) → Pair mid (get_or ss j 0) (get_or ss (j + 1) 0) × Beside mid (get_or ss j 0) n.inner
   pub rear : (mid : List ℕ) (n : Node) (j : ℕ) → i ≡ j → j < length ks → Shrinks ws mid (get_or ss i 0) (level - 1) key child (Some n) → Pair mid (get_or ss j 0) (get_or ss (j + 1) 0) × Beside mid (get_or ss (j + 1) 0) n.inner
@@ -145,6 +146,7 @@ dives-inner ws p level key i d t free root low high heap few is s rank =
       place = rank.within;
       child = child;
       same = λ new b. inner-became (without key) ws new free key i root low high d t (without-local key) heap s rank b;
+      stays = λ mid n h. subst (λ x. Shows mid x 1 t.keys (map (piece_of d) t.kids)) is (parent ws mid free root low high d i t heap s li h.hand.elsewhere);
       sizes = λ mid n h. (h.few, ap length h.hand.lists.back ∙ slots-long d h.hand.tree ∙ sym (keys-long (low_of low t.keys i) (high_of high t.keys i) d h.hand.tree h.hand.ordered) ∙ ap (λ x. length x + kind_of d) (sym h.hand.lists.front) ∙ ap (λ x. length n.keys.items + x) (sym (one-kind d) ∙ ap one (sym h.hand.lists.kind)));
       front = λ mid n j e h.
           let a = above-of ws mid key i d t free root low high n.inner n.keys.items n.slots.items heap s li h.hand h.few h.least in

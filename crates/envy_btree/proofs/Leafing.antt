@@ -1,5 +1,6 @@
 -- A pair that is set in a leaf where it stands, or taken out of it.
-use Rattle.std.proofs.Common.{◌≡◌, ◌≢◌, ◌⊎◌, ℕ, zero, suc, ◌+◌, ◌-◌, ◌*◌, ◌/◌, ◌%◌, ◌<◌, ◌≤◌, Bool, true, false, List, length, get_or, set, refl, ap, sym, subst, ◌∙◌, inl, inr, arith}
+use Rattle.envy_base.specs.declared.board.Trouble.{Trouble}
+use Rattle.std.proofs.Common.{◌≡◌, ◌≢◌, ◌⊎◌, ℕ, ◌+◌, ◌-◌, ◌*◌, ◌/◌, ◌%◌, ◌<◌, ◌≤◌, Bool, true, false, List, length, get_or, set, OnOk, Result, Ok, Err, refl, ap, sym, subst, ◌∙◌, inl, inr, arith}
 use Rattle.std.specs.List.{insert, remove}
 use Rattle.std.proofs.lemmas.Bool.{cases_eq}
 use Rattle.std.proofs.lemmas.List.{length-map, length-set, get_or-set_same, get_or-set_other}
@@ -72,3 +73,44 @@ leaf-widened ws mid new p n place key value low high es b within count few rank 
       subst (λ x. Shows new p 0 x (values_of (with_pair key value es))) (ap (λ w. insert (keys_at w p) place key) same ∙ ap (λ x. insert x place key) ke ∙ f.front) (subst (λ x. Shows new p 0 (insert (keys_at mid p) place key) x) (ap (λ w. insert (slots_at w p) place value) same ∙ ap (λ x. insert x place value) se ∙ f.back) shows),
       subst (λ w. OnlyPiece p w new) same only,
     )
+
+-- a leaf doesn't have the key, and stays
+pub leaf-same : (ws new : List ℕ) (p n place key low high : ℕ) (es : List (ℕ × ℕ)) (b : Bool) → at p 63 < length ws → get_or ws (head p) 0 ≡ 2 * n → 15 ≤ n → n ≤ 31 → Ranks key (keys_at ws p) place → EndsAt (keys_at ws p) place key b → b ≡ false → new ≡ ws
+    → Rising low high es → keys_at ws p ≡ keys_of es → slots_at ws p ≡ values_of es → (15 ≤ length (keys_of (without key es))) × Shows new p 0 (keys_of (without key es)) (values_of (without key es)) × OnlyPiece p ws new
+leaf-same ws new p n place key low high es b within count many few rank ends missing same rise ke se =
+    let e = subst (λ x. EndsAt (keys_at ws p) place key x) missing ends in
+    let half : get_or ws (head p) 0 / 2 ≡ n = omega arith in
+    let rest : get_or ws (head p) 0 / 2 + get_or ws (head p) 0 % 2 ≡ n = omega arith in
+    let long : length (keys_at ws p) ≡ n = window-long ws (at p 1) (get_or ws (head p) 0 / 2) (omega arith) ∙ half in
+    let slots_long : length (slots_at ws p) ≡ n = window-long ws (at p 32) (get_or ws (head p) 0 / 2 + get_or ws (head p) 0 % 2) (omega arith) ∙ rest in
+    let f = Dropped-missing low high key place es rise (subst (λ x. Ranks key x place) ke rank) (subst (λ x. (place ≡ 0) ⊎ (get_or x (place - 1) 0 ≢ key)) ke e) in
+    let shows : Shows ws p 0 (keys_at ws p) (slots_at ws p) = record {
+      count = count ∙ (let z : 2 * n ≡ 2 * length (keys_at ws p) + 0 = omega arith in z);
+      front = ap (window ws (at p 1)) (long ∙ sym half);
+      back = ap (window ws (at p 32)) (slots_long ∙ sym rest);
+    } in (
+      omega (arith, ap length (sym f.front), ap length (sym ke)),
+      subst (λ w. Shows w p 0 (keys_of (without key es)) (values_of (without key es))) (sym same) (subst (λ x. Shows ws p 0 x (values_of (without key es))) (ke ∙ f.front) (subst (λ x. Shows ws p 0 (keys_at ws p) x) (se ∙ f.back) shows)),
+      subst (λ w. OnlyPiece p ws w) (sym same) (record { long = refl; before = λ a lt. refl; after = λ a le. refl }),
+    )
+
+-- a leaf loses a pair
+pub leaf-narrowed : (ws mid new : List ℕ) (p n place key low high : ℕ) (es : List (ℕ × ℕ)) (b : Bool) → at p 63 < length ws → get_or ws (head p) 0 ≡ 2 * n → 16 ≤ n → n ≤ 31 → place ≤ length (keys_at ws p) → EndsAt (keys_at ws p) place key b → b ≡ true → mid ≡ ws
+    → Shows new p 0 (remove (keys_at mid p) (place - 1)) (remove (slots_at mid p) (place - 1)) → OnlyPiece p mid new
+    → Rising low high es → keys_at ws p ≡ keys_of es → slots_at ws p ≡ values_of es → (15 ≤ length (keys_of (without key es))) × Shows new p 0 (keys_of (without key es)) (values_of (without key es)) × OnlyPiece p ws new
+leaf-narrowed ws mid new p n place key low high es b within count many few rank ends found same shows only rise ke se =
+    let e = subst (λ x. EndsAt (keys_at ws p) place key x) found ends in
+    let half : get_or ws (head p) 0 / 2 ≡ n = omega arith in
+    let long : length (keys_at ws p) ≡ n = window-long ws (at p 1) (get_or ws (head p) 0 / 2) (omega arith) ∙ half in
+    let many_pairs : length es ≡ n = sym (length-map es (λ (x : ℕ × ℕ). x.0)) ∙ ap length (sym ke) ∙ long in
+    let f = Dropped-found low high key (place - 1) es (omega (arith, e.0)) rise (ap (λ x. get_or x (place - 1) 0) (sym ke) ∙ e.1) in (
+      omega (arith, ap length (sym f.front), length-remove (keys_of es) (place - 1) (omega (arith, e.0, length-map es (λ (x : ℕ × ℕ). x.0))), ap length (sym ke)),
+      subst (λ x. Shows new p 0 x (values_of (without key es))) (ap (λ w. remove (keys_at w p) (place - 1)) same ∙ ap (λ x. remove x (place - 1)) ke ∙ f.front) (subst (λ x. Shows new p 0 (remove (keys_at mid p) (place - 1)) x) (ap (λ w. remove (slots_at w p) (place - 1)) same ∙ ap (λ x. remove x (place - 1)) se ∙ f.back) shows),
+      subst (λ w. OnlyPiece p w new) same only,
+    )
+
+pub leaf-narrowed-ok : (ws mid new : List ℕ) (p n place key low high : ℕ) (es : List (ℕ × ℕ)) (b : Bool) (r : Result Unit Trouble) → at p 63 < length ws → get_or ws (head p) 0 ≡ 2 * n → 16 ≤ n → n ≤ 31 → place ≤ length (keys_at ws p) → EndsAt (keys_at ws p) place key b → b ≡ true → mid ≡ ws
+    → OnOk r (Shows new p 0 (remove (keys_at mid p) (place - 1)) (remove (slots_at mid p) (place - 1))) → OnOk r (OnlyPiece p mid new)
+    → Rising low high es → keys_at ws p ≡ keys_of es → slots_at ws p ≡ values_of es → OnOk r ((15 ≤ length (keys_of (without key es))) × Shows new p 0 (keys_of (without key es)) (values_of (without key es)) × OnlyPiece p ws new)
+leaf-narrowed-ok ws mid new p n place key low high es b (Ok x) within count many few rank ends found same shows only rise ke se = leaf-narrowed ws mid new p n place key low high es b within count many few rank ends found same shows only rise ke se
+leaf-narrowed-ok ws mid new p n place key low high es b (Err x) within count many few rank ends found same shows only rise ke se = tt

@@ -36,4 +36,5 @@ pub mod Gapped
 pub mod Spotting
 pub mod Leafing
 pub mod Stepping
+pub mod Dipping
 mod Keeping

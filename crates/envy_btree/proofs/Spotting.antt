@@ -1,14 +1,14 @@
 -- What is read of a node where it stands.
-use Rattle.std.proofs.Common.{◌≡◌, ℕ, zero, suc, ◌+◌, ◌-◌, ◌*◌, ◌/◌, ◌%◌, ◌==◌, ◌<◌, ◌≤◌, Bool, List, [], ◌∷◌, length, map, take, drop, get_or, refl, ap, sym, subst, ◌∙◌, arith}
+use Rattle.std.proofs.Common.{◌≡◌, ℕ, zero, suc, ◌+◌, ◌/◌, ◌%◌, ◌==◌, ◌<◌, ◌≤◌, Bool, List, [], ◌∷◌, length, map, drop, get_or, refl, sym, subst, arith}
 use Rattle.std.proofs.lemmas.List.{length-map, get_or-map, length-take}
 use Rattle.std.proofs.lemmas.List.Elements.{All-get_or}
 use Rattle.envy_heap.specs.Pieces.{head, at}
-use Rattle.envy_btree.specs.Tree.{Tree, Fans, Rising, Ordered, Sized, Holds, Shows, piece_of, window, keys_of, values_of}
+use Rattle.envy_btree.specs.Tree.{Tree, Fans, Rising, Ordered, Shows, piece_of, keys_of, values_of}
 use Rattle.envy_btree.specs.Nodes.{IsRead}
 use Rattle.envy_btree.specs.Index.{Stands}
 use Rattle.envy_btree.specs.Changes.{Rests}
 use Rattle.envy_btree.specs.Spots.{Climbs, IsSpot, keys_at, slots_at}
-use Rattle.envy_btree.proofs.Trees.{Rising-within, Fans-long}
+use Rattle.envy_btree.proofs.Trees.{Rising-within}
 use Rattle.envy_btree.proofs.Writing.{window-at}
 use Rattle.envy_btree.proofs.Descent.{read-shows}
 use Rattle.envy_btree.proofs.Gaps.{window-get}

@@ -1,10 +1,8 @@
 -- A step down to a child that is read where it stands, on the way of an insertion.
-use Rattle.std.proofs.Common.{◌≡◌, ℕ, ◌+◌, ◌-◌, ◌*◌, ◌/◌, ◌%◌, ◌^◌, ◌<◌, ◌≤◌, Bool, true, false, List, length, get_or, refl, ap, sym, subst, ◌∙◌, IfOk, Option, None, Some, Result, arith, Fits, w32}
+use Rattle.std.proofs.Common.{◌≡◌, ℕ, ◌+◌, ◌-◌, ◌*◌, ◌/◌, ◌^◌, ◌<◌, ◌≤◌, Bool, true, false, List, length, get_or, refl, ap, sym, subst, ◌∙◌, IfOk, Option, None, Some, Result, arith, Fits, w32}
 use Rattle.std.specs.List.{insert}
 use Rattle.envy_base.specs.declared.board.Trouble.{Trouble}
 use Rattle.envy_heap.specs.Pieces.{head, at}
-use Rattle.envy_btree.specs.Tree.{Shows}
-use Rattle.envy_btree.specs.Nodes.{Ranks}
 use Rattle.envy_btree.specs.Changes.{Rests, Saved, Way, Grows, Ready, SetsPair, GetsChild}
 use Rattle.envy_btree.specs.Spots.{IsSpot, keys_at, slots_at}
 use Rattle.envy_btree.proofs.Descent.{Rests-within, Rests-few}

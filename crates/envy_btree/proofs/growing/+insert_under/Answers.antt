@@ -1,9 +1,8 @@
-use Rattle.std.proofs.Common.{◌≡◌, List, ℕ, Option, ◌+◌, ◌-◌, ◌*◌, arith, sym, subst, ◌∙◌, refl}
+use Rattle.std.proofs.Common.{◌+◌, ◌-◌, ◌*◌, arith, ◌∙◌}
 use Rattle.envy_base.proofs.Working.{Works-trans, Works-more, Spends-trans, Spends-then}
-use Rattle.envy_btree.specs.Changes.{Way}
 use Rattle.envy_btree.proofs.Descent.{Rests-within, Rests-few}
 use Rattle.envy_btree.proofs.Spotting.{Rests-climbs}
-use Rattle.envy_btree.proofs.Stepping.{Step, Stop, place-few, step-made, step-same, step-parts, step-grows, stop-made, stop-grows, slot-fits32}
+use Rattle.envy_btree.proofs.Stepping.{place-few, step-made, step-same, step-parts, step-grows, stop-made, stop-grows, slot-fits32}
 use Rattle.envy_btree.proofs.growing.+insert_under.Goals as goal
 
 pub seek-requires-clause-within : goal.seek-requires-clause-within

@@ -1,4 +1,4 @@
-use Rattle.std.proofs.Common.{◌∙◌, arith}
+use Rattle.std.proofs.Common.{arith}
 use Rattle.envy_btree.proofs.Leafing.{leaf-replaced, leaf-widened}
 use Rattle.envy_btree.proofs.growing.grow_leaf.Goals as goal
 

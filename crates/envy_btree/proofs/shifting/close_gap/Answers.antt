@@ -1,4 +1,4 @@
-use Rattle.std.proofs.Common.{◌∙◌, ◌+◌, ◌-◌, arith, ap, sym, subst, length, List, ℕ}
+use Rattle.std.proofs.Common.{◌∙◌}
 use Rattle.std.proofs.lemmas.Result.{on_ok_weaker}
 use Rattle.envy_btree.proofs.Gaps.{closed}
 use Rattle.envy_base.proofs.Working.{Works-trans}

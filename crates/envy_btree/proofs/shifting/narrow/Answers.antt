@@ -1,7 +1,6 @@
-use Rattle.std.proofs.Common.{◌+◌, ◌-◌, ◌*◌, ◌∙◌, subst, arith, refl}
+use Rattle.std.proofs.Common.{◌+◌, ◌-◌, ◌*◌, subst, arith}
 use Rattle.std.specs.List.{remove}
 use Rattle.std.proofs.lemmas.Result.{on_ok_weaker}
-use Rattle.envy_heap.specs.Pieces.{one}
 use Rattle.envy_heap.proofs.Heaps.{one-le}
 use Rattle.envy_btree.specs.Tree.{Shows}
 use Rattle.envy_btree.specs.Spots.{keys_at, slots_at}
