@@ -37,4 +37,6 @@ pub mod Spotting
 pub mod Leafing
 pub mod Stepping
 pub mod Dipping
+pub mod Looking
+pub mod Withins
 mod Keeping

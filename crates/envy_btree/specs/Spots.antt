@@ -1,5 +1,5 @@
 -- Nodes that are read and changed where they stand.
-use Rattle.std.specs.Prelude.{◌≡◌, ◌≢◌, ◌⊎◌, ℕ, ◌+◌, ◌-◌, ◌<◌, ◌≤◌, ◌==◌, ◌/◌, ◌%◌, Bool, true, false, List, length, slice_index}
+use Rattle.std.specs.Prelude.{◌≡◌, ◌≢◌, ◌⊎◌, ℕ, ◌+◌, ◌-◌, ◌<◌, ◌≤◌, ◌==◌, ◌/◌, ◌%◌, Bool, true, false, List, length, slice_index, Option, None, Some}
 use Rattle.envy_heap.specs.Pieces.{head, at}
 use Rattle.envy_btree.specs.Tree.{window}
 use Rattle.envy_btree.specs.Nodes.{Ranks}
@@ -25,6 +25,11 @@ pub record IsSpot (ws : List ℕ) (p key : ℕ) (inner : Bool) (n i : ℕ) : Typ
 abbrev pub EndsAt : List ℕ → ℕ → ℕ → Bool → Type 0
 EndsAt ks i key true = (1 ≤ i) × (slice_index ks (i - 1) ≡ key)
 EndsAt ks i key false = (i ≡ 0) ⊎ (slice_index ks (i - 1) ≢ key)
+
+-- the value of the last of the first i keys, where it is this one
+abbrev pub ValueAt : List ℕ → List ℕ → ℕ → ℕ → Option ℕ → Type 0
+ValueAt ks ss i key None = EndsAt ks i key false
+ValueAt ks ss i key (Some value) = EndsAt ks i key true × (value ≡ slice_index ss (i - 1))
 
 -- of n words from a on, those from place i on stand one further, and the word at i
 pub record Opens (old new : List ℕ) (a n i word : ℕ) : Type 0 where
