@@ -1,5 +1,5 @@
 -- Changes within an open transaction, of what the functions have at hand.
-use Rattle.std.proofs.Common.{◌≡◌, ℕ, ◌+◌, ◌-◌, ◌*◌, ◌/◌, ◌^◌, ◌<◌, ◌≤◌, List, length, get_or, Option, None, Some, MatchOption, refl, ap, sym, subst, ◌∙◌, arith}
+use Rattle.std.proofs.Common.{◌≡◌, ℕ, ◌+◌, ◌-◌, ◌*◌, ◌/◌, ◌^◌, ◌<◌, ◌≤◌, List, length, get_or, Option, None, Some, MatchOption, IsTrue, refl, ap, sym, subst, ◌∙◌, arith}
 use Rattle.envy_base.specs.Words.{Sheet, Rose, Works}
 use Rattle.envy_btree.specs.Answers.{IsFull}
 use Rattle.envy_btree.specs.Pairs.{assoc, with_pair, without}
@@ -50,3 +50,7 @@ removed-none ws two key es was x same found none = subst (λ e. IsIndex two e) (
 
 pub rose-after : (a b c : Sheet) → Works 0 a b → b.bads ≤ c.bads → Rose b.bads c.bads → Rose a.bads c.bads
 rose-after a b c w le r = rose-high a.bads b.bads c.bads w.bads le r
+
+-- what a look-up found, and left
+pub looked : (key : ℕ) (es : List (ℕ × ℕ)) (v : Option ℕ) (old one : Sheet) → IsTrue one.on → v ≡ assoc key es → one.words ≡ old.words → IsIndex old.words es → IsTrue one.on × (v ≡ assoc key es) × IsIndex one.words es
+looked key es v old one on found same x = (on, found, index-same old.words one.words es same x)

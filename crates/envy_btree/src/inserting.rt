@@ -8,7 +8,7 @@ ghost use Rattle.envy_btree.specs.Answers.{insert_puts, Inserts, Settles};
 use crate::closing::close;
 use crate::crowning::insert_at_root;
 use crate::fault::TreeFault;
-use crate::getting::get;
+use crate::locating::look_up;
 use envy_base::{Trouble, Words};
 
 /// Sets the value of a key, and answers the old one. A new key is refused as `Full` where the map has
@@ -25,14 +25,14 @@ pub fn insert<W: Words>(words: &mut W, key: u64, value: u64) -> Result<Option<u6
     ensures inserts { (es : List (ℕ × ℕ)) → IsIndex (W.sheet words.old).words es
         → Inserts key value es (W.sheet words.old) result (W.sheet words.new) }
 {
-    let was = get(words, key)?;
+    let was = look_up(words, key)?;
     let before = words.load(3)?;
-    let pairs = count_with(was, before);
+    let pairs = count_with(was.value, before);
     if pairs > most_pairs(words.size()) {
         return Err(TreeFault::Full);
     }
     match insert_alone(words, key, value, pairs) {
-        Ok(()) => Ok(was),
+        Ok(()) => Ok(was.value),
         Err(fault) => Err(fault),
     }
 }

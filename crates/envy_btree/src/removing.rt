@@ -7,7 +7,7 @@ ghost use Rattle.envy_btree.specs.Answers.{removal_puts, Removes, Settles};
 
 use crate::closing::close;
 use crate::fault::TreeFault;
-use crate::getting::get;
+use crate::locating::look_up;
 use crate::uprooting::remove_at_root;
 use envy_base::{Trouble, Words};
 
@@ -25,8 +25,8 @@ pub fn remove<W: Words>(words: &mut W, key: u64) -> Result<Option<u64>, TreeFaul
     ensures removes { (es : List (ℕ × ℕ)) → IsIndex (W.sheet words.old).words es
         → Removes key es (W.sheet words.old) result (W.sheet words.new) }
 {
-    let was = get(words, key)?;
-    let Some(value) = was else {
+    let was = look_up(words, key)?;
+    let Some(value) = was.value else {
         return Ok(None);
     };
     let pairs = words.load(3)?;
