@@ -31,4 +31,10 @@ pub mod Examples
 pub mod Walking
 pub mod Ruling
 pub mod Broken
+pub mod Viewing
+pub mod Placing
+pub mod Leafing
+pub mod Passing
+pub mod Rows
+pub mod Heading
 mod Keeping

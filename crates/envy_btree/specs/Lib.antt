@@ -4,6 +4,7 @@ pub mod Commands
 pub mod Examples
 pub mod Grammar
 pub mod Index
+pub mod Looking
 pub mod Nearest
 pub mod Nodes
 pub mod Pairs

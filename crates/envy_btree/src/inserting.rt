@@ -7,7 +7,7 @@ ghost use Rattle.envy_btree.specs.Answers.{insert_puts, Inserts, Settles};
 use crate::closing::close;
 use crate::crowning::insert_at_root;
 use crate::fault::TreeFault;
-use crate::getting::get;
+use crate::known::get;
 use envy_base::{Trouble, Words};
 
 /// Sets the value of a key, and answers the old one. A new key is refused as `Full` where the map has

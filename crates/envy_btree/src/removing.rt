@@ -6,7 +6,7 @@ ghost use Rattle.envy_btree.specs.Answers.{removal_puts, Removes, Settles};
 
 use crate::closing::close;
 use crate::fault::TreeFault;
-use crate::getting::get;
+use crate::known::get;
 use crate::uprooting::remove_at_root;
 use envy_base::{Trouble, Words};
 
