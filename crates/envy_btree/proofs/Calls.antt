@@ -1,9 +1,8 @@
 -- The calls at the root, as one relation by cases.
-use Rattle.std.proofs.Common.{◌≡◌, ℕ, zero, suc, ◌+◌, ◌-◌, ◌*◌, ◌/◌, ◌^◌, ◌<◌, ◌≤◌, false, IsTrue, List, [], ◌∷◌, length, get_or, set, Option, None, Some, Result, Ok, Err, IfOk, OnOk, IsErrAnd, MatchResult, MatchOption, ap, sym, subst, ◌∙◌, inl, inr, arith}
+use Rattle.std.proofs.Common.{◌≡◌, ℕ, zero, suc, ◌+◌, ◌-◌, ◌*◌, ◌/◌, ◌^◌, ◌<◌, ◌≤◌, false, List, [], ◌∷◌, length, get_or, set, Option, None, Some, Result, Ok, Err, OnOk, IsErrAnd, MatchOption, ap, sym, subst, ◌∙◌, inl, inr, arith}
 use Rattle.std.specs.List.{flat_map}
 use Rattle.std.proofs.lemmas.Bool.{cases_lt, cases_eq}
 use Rattle.std.proofs.lemmas.List.{append-nil, get_or-set_same}
-use Rattle.envy_base.specs.declared.board.Off.{Off}
 use Rattle.envy_base.specs.declared.board.Trouble.{Trouble}
 use Rattle.envy_base.specs.Words.{Sheet, IsSheet, Fails, Rose}
 use Rattle.envy_btree.specs.declared.fault.TreeFault.{TreeFault}
@@ -11,15 +10,10 @@ use Rattle.envy_btree.specs.declared.fault.TreeFault.TheVariants.{Off as FaultOf
 use Rattle.envy_btree.specs.Pairs.{assoc, with_pair, without}
 use Rattle.envy_btree.specs.Tree.{Tree, Fans, Rising, Ordered, pairs_of}
 use Rattle.envy_btree.specs.Index.{IsIndex, IsPlanted, Rooted, most_pairs}
-use Rattle.envy_btree.specs.Answers.{Gets, Inserts, Removes, IsFull, Ends, Settles}
+use Rattle.envy_btree.specs.Answers.{Inserts, Removes, IsFull, Ends, Settles}
 use Rattle.envy_btree.proofs.Maps.{assoc-none, eqb-same, eqb-gt, eqb-lt, ltb-lt, ltb-ge}
 use Rattle.envy_btree.proofs.Trees.{Rising-join, Rising-within, Above-from}
 use Rattle.envy_btree.proofs.Planting.{planted-aside}
-
-pub gets-of : (key : ℕ) (es : List (ℕ × ℕ)) (old new : Sheet) (r : Result (Option ℕ) Off) → old.words ≡ old.kept → new.kept ≡ old.kept → IsIndex old.words es
-    → IfOk r (λ x. x ≡ assoc key es) → OnOk r (new.words ≡ old.words) → MatchResult r (λ _. IsTrue new.on) (λ _. new.on ≡ false) → Gets key es old r new
-gets-of key es old new (Ok x) shut kept i answer same on = (on, answer, subst (λ w. IsIndex w es) (sym same) i)
-gets-of key es old new (Err e) shut kept i answer same off = (off, subst (λ w. IsIndex w es) (shut ∙ sym kept) i)
 
 -- the pairs of a map rise
 Fans-rising : {C : Type 0} (P : ℕ → ℕ → C → Type 0) (F : C → List (ℕ × ℕ)) → ((l h : ℕ) (c : C) → P l h c → Rising l h (F c)) → (low high : ℕ) (ks : List ℕ) (cs : List C) → Fans P low high ks cs → Rising low high (flat_map F cs)

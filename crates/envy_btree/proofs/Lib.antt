@@ -39,4 +39,10 @@ pub mod Stepping
 pub mod Dipping
 pub mod Looking
 pub mod Withins
+pub mod Viewing
+pub mod Placing
+pub mod LeafLooks
+pub mod Passing
+pub mod Rows
+pub mod Heading
 mod Keeping

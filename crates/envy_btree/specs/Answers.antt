@@ -1,9 +1,11 @@
 -- What the calls of the index tree answer, and what they leave.
-use Rattle.std.specs.Prelude.{◌≡◌, ◌⊎◌, ℕ, false, IsTrue, List, length, Option, None, Result, Ok, Err}
+use Rattle.std.specs.Prelude.{◌≡◌, ◌⊎◌, ℕ, false, IsTrue, List, ◌++◌, length, take, drop, Option, None, Result, Ok, Err}
 use Rattle.envy_base.specs.declared.board.Off.{Off}
 use Rattle.envy_base.specs.declared.board.Trouble.{Trouble}
 use Rattle.envy_base.specs.declared.board.Trouble.TheVariants.{Off as TroubleOff, Bad as TroubleBad}
 use Rattle.envy_base.specs.Words.{Sheet, Rose}
+use Rattle.envy_btree.specs.declared.fault.LookFault.{LookFault}
+use Rattle.envy_btree.specs.declared.fault.LookFault.TheVariants.{Off as LookOff, Broken}
 use Rattle.envy_btree.specs.declared.fault.TreeFault.{TreeFault}
 use Rattle.envy_btree.specs.declared.fault.TreeFault.TheVariants.{Off as FaultOff, Full, Bad}
 use Rattle.envy_btree.specs.Pairs.{assoc, with_pair, without}
@@ -20,20 +22,33 @@ removal_puts = 1090
 abbrev pub IsFull : List ℕ → ℕ → List (ℕ × ℕ) → Type 0
 IsFull words key es = (assoc key es ≡ None) × (length es ≡ most_pairs words)
 
--- the value of the key, in a map that stays
-abbrev pub Gets : ℕ → List (ℕ × ℕ) → Sheet → Result (Option ℕ) Off → Sheet → Type 0
-Gets key es old (Ok value) new = IsTrue new.on × (value ≡ assoc key es) × IsIndex new.words es
-Gets key es old (Err off) new = (new.on ≡ false) × IsIndex new.kept es
+-- What a look at a map answers, which stays, as P says. After `Off` the kept words stand for it if no transaction
+-- was open.
+abbrev pub Answers : {T : Type 0} → (T → Type 0) → List (ℕ × ℕ) → Sheet → Result T LookFault → Sheet → Type 0
+Answers P es old (Ok x) new = IsTrue new.on × P x × IsIndex new.words es
+Answers P es old (Err LookOff) new = (new.on ≡ false) × (old.started ≡ false → IsIndex new.kept es)
+Answers P es old (Err Broken) new = ⊥
 
--- how many pairs a map has that stays
-abbrev pub Counts : List (ℕ × ℕ) → Result ℕ Off → Sheet → Type 0
-Counts es (Ok n) new = IsTrue new.on × (n ≡ length es) × IsIndex new.words es
-Counts es (Err off) new = (new.on ≡ false) × IsIndex new.kept es
+-- the value of the key
+abbrev pub Gets : ℕ → List (ℕ × ℕ) → Sheet → Result (Option ℕ) LookFault → Sheet → Type 0
+Gets key es old r new = Answers (λ value. value ≡ assoc key es) es old r new
 
--- a pair of a map that stays, or none: which of its pairs, P says
-abbrev pub Finds : (Option (ℕ × ℕ) → Type 0) → List (ℕ × ℕ) → Result (Option (ℕ × ℕ)) Off → Sheet → Type 0
-Finds P es (Ok found) new = IsTrue new.on × P found × IsIndex new.words es
-Finds P es (Err off) new = (new.on ≡ false) × IsIndex new.kept es
+-- the same of a call that needs a map, with no transaction open
+abbrev pub GetsKnown : ℕ → List (ℕ × ℕ) → Sheet → Result (Option ℕ) Off → Sheet → Type 0
+GetsKnown key es old (Ok value) new = IsTrue new.on × (value ≡ assoc key es) × IsIndex new.words es
+GetsKnown key es old (Err off) new = (new.on ≡ false) × IsIndex new.kept es
+
+-- how many pairs there are
+abbrev pub Counts : List (ℕ × ℕ) → Sheet → Result ℕ LookFault → Sheet → Type 0
+Counts es old r new = Answers (λ n. n ≡ length es) es old r new
+
+-- a pair, or none: which of the pairs, P says
+abbrev pub Finds : (Option (ℕ × ℕ) → Type 0) → List (ℕ × ℕ) → Sheet → Result (Option (ℕ × ℕ)) LookFault → Sheet → Type 0
+Finds P es old r new = Answers P es old r new
+
+-- n pairs are written over the first of these: the first of the list, or all of it
+abbrev pub IsWritten : List (ℕ × ℕ) → List (ℕ × ℕ) → List (ℕ × ℕ) → ℕ → Type 0
+IsWritten all was now n = let shown = take (length was) all in (n ≡ length shown) × (now ≡ shown ++ drop n was)
 
 -- The old value of the key, which has the new one from then on. Where power fails it has either.
 abbrev pub Inserts : ℕ → ℕ → List (ℕ × ℕ) → Sheet → Result (Option ℕ) TreeFault → Sheet → Type 0

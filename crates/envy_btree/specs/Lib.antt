@@ -5,6 +5,7 @@ pub mod Depths
 pub mod Examples
 pub mod Grammar
 pub mod Index
+pub mod Looking
 pub mod Nearest
 pub mod Nodes
 pub mod Pairs

@@ -1,5 +1,5 @@
 -- The pair of a map that is nearest to a number, above it or below.
-use Rattle.std.specs.Prelude.{◌≡◌, ℕ, ◌+◌, ◌≤◌, nat_lt, List, [], ◌∷◌, Option, None, Some, if◌then◌else◌}
+use Rattle.std.specs.Prelude.{◌≡◌, ℕ, ◌+◌, ◌≤◌, nat_lt, List, [], ◌∷◌, ◌++◌, Option, None, Some, if◌then◌else◌}
 use Rattle.std.specs.List.{All}
 use Rattle.envy_btree.specs.Pairs.{assoc, Below, Above}
 
@@ -21,10 +21,19 @@ abbrev pub Scans : ℕ → List (ℕ × ℕ) → List (ℕ × ℕ) → Type 0
 Scans key es [] = IsLeastFrom key es None
 Scans key es (e ∷ seen) = IsLeastFrom key es (Some e) × Scans (e.0 + 1) es seen
 
+-- all keys are at least this one
+abbrev pub From : ℕ → List (ℕ × ℕ) → Type 0
+From key es = All (λ e. key ≤ e.0) es
+
 -- the pairs from a key on, of a list by rising key
 abbrev pub pairs_from : ℕ → List (ℕ × ℕ) → List (ℕ × ℕ)
 pairs_from key [] = []
 pairs_from key (e ∷ es) = if nat_lt e.0 key then pairs_from key es else e ∷ es
+
+-- the pairs up to a key, by falling key, of a list by rising key
+abbrev pub pairs_to : ℕ → List (ℕ × ℕ) → List (ℕ × ℕ)
+pairs_to key [] = []
+pairs_to key (e ∷ es) = if nat_lt key e.0 then [] else pairs_to key es ++ e ∷ []
 
 -- the first pair from a key on, of a list by rising key
 abbrev pub first_from : ℕ → List (ℕ × ℕ) → Option (ℕ × ℕ)

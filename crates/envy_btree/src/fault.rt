@@ -2,6 +2,25 @@ ghost use Rattle.std.specs.Prelude.{◌≡◌};
 
 use envy_base::Off;
 
+/// Why a call that reads a map didn't succeed.
+#[derive(Clone, Copy, Debug, PartialEq, Eq)]
+pub enum LookFault {
+    /// Power failed in the call, or was off at entry.
+    Off,
+    /// The words stand for no map: a node that the call met can't be one.
+    Broken,
+}
+
+impl From<Off> for LookFault {
+    ghost use Rattle.envy_btree.specs.declared.fault.LookFault.TheVariants.{Off as LookOff};
+
+    ghost from_gives = { λ _ e. e ≡ LookOff };
+
+    fn from(_: Off) -> Self {
+        LookFault::Off
+    }
+}
+
 /// Why a call of the index tree didn't succeed.
 #[derive(Clone, Copy, Debug, PartialEq, Eq)]
 pub enum TreeFault {

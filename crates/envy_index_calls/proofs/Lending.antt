@@ -5,13 +5,14 @@ use Rattle.std.specs.Option.{ForSome}
 use Rattle.std.proofs.lemmas.List.{ext_get_or, length-replicate, get_or-replicate}
 use Rattle.envy_base.specs.Array.{Array, Saved, IsArray, slot_of}
 use Rattle.envy_base.specs.Words.{Works as SheetWorks, Spends, Keeps, Rose}
-use Rattle.envy_base.specs.declared.board.Off.{Off as OffBoard}
 use Rattle.envy_base.specs.declared.board.Trouble.{Trouble}
 use Rattle.envy_base.specs.declared.board.Trouble.TheVariants.{Off as TroubleOff, Bad as TroubleBad}
 use Rattle.envy_base.specs.declared.shape.Shape.{Shape}
 use Rattle.envy_btree.specs.Answers.{IsFull, Gets as TreeGets, Counts as TreeCounts, Finds as TreeFinds, Inserts as TreeInserts, Removes as TreeRemoves}
 use Rattle.envy_btree.specs.Index.{IsIndex}
 use Rattle.envy_btree.specs.Pairs.{with_pair, without}
+use Rattle.envy_btree.specs.declared.fault.LookFault.{LookFault}
+use Rattle.envy_btree.specs.declared.fault.LookFault.TheVariants.{Off as LookOff, Broken}
 use Rattle.envy_btree.specs.declared.fault.TreeFault.{TreeFault}
 use Rattle.envy_btree.specs.declared.fault.TreeFault.TheVariants.{Off as FaultOff, Full as FaultFull, Bad as FaultBad}
 use Rattle.envy_btree.proofs.Felling.{without-missing}
@@ -59,6 +60,10 @@ some-map old p b l some = some p (Lent.is l)
 -- the map is in the words that are lent
 pub map-in : (old : Option Picture) (p : Picture) (b : Bool) (es : Pairs) → Lent old p b → HoldsMap p es → IsIndex (sheet_of p b).words es
 map-in old p b es l h = subst (λ (ws : List ℕ). IsIndex ws es) (sym (words-shut p b (Lent.shut l))) (HoldsMap.map h)
+
+-- none of a memory that is lent is open
+pub started-in : (old : Option Picture) (p : Picture) (b : Bool) → Lent old p b → (sheet_of p b).started ≡ false
+started-in old p b l = and-shut p.chart.on b (Lent.shut l)
 
 -- they are few enough
 pub size-in : (old : Option Picture) (p : Picture) (b : Bool) → Lent old p b → length (sheet_of p b).words ≤ 2 ^ 25
@@ -153,43 +158,46 @@ creates old new p q b code l is works done = subst (λ (o : Option Picture). Doe
 
 -- ---- calls that change no pair
 
-pub gets : (key : ℕ) (es : Pairs) (p q : Picture) (b d : Bool) (x : Result (Option ℕ) OffBoard) (code : Code) (before after : ℕ) → SheetWorks 0 (sheet_of p b) (sheet_of q d) → Back q d → TellsValue x code before after → TreeGets key es (sheet_of p b) x (sheet_of q d) → Gets key after es p q code
+pub gets : (key : ℕ) (es : Pairs) (p q : Picture) (b d : Bool) (x : Result (Option ℕ) LookFault) (code : Code) (before after : ℕ) → SheetWorks 0 (sheet_of p b) (sheet_of q d) → Back q d → TellsValue x code before after → TreeGets key es (sheet_of p b) x (sheet_of q d) → Gets key after es p q code
 gets key es p q b d (Ok (Some v)) code before after w back (is, value) (on, found, map) =
     subst (λ (k : Code). Gets key after es p q k) (sym is) (sym found ∙ ap Some (sym value), rests-back p q b d w back on)
 gets key es p q b d (Ok None) code before after w back (is, value) (on, found, map) =
     subst (λ (k : Code). Gets key after es p q k) (sym is) (sym found, rests-back p q b d w back on)
-gets key es p q b d (Err off) code before after w back (is, value) (dark, map) =
+gets key es p q b d (Err LookOff) code before after w back (is, value) (dark, map) =
     subst (λ (k : Code). Gets key after es p q k) (sym is) (dark, w.kept)
+gets key es p q b d (Err Broken) code before after w back told never = absurd never
 
-pub counts : (es : Pairs) (p q : Picture) (b d : Bool) (x : Result ℕ OffBoard) (code : Code) (before after : ℕ) → SheetWorks 0 (sheet_of p b) (sheet_of q d) → Back q d → TellsCount x code before after → TreeCounts es x (sheet_of q d) → Counts after es p q code
+pub counts : (es : Pairs) (p q : Picture) (b d : Bool) (x : Result ℕ LookFault) (code : Code) (before after : ℕ) → SheetWorks 0 (sheet_of p b) (sheet_of q d) → Back q d → TellsCount x code before after → TreeCounts es (sheet_of p b) x (sheet_of q d) → Counts after es p q code
 counts es p q b d (Ok n) code before after w back (is, value) (on, found, map) =
     subst (λ (k : Code). Counts after es p q k) (sym is) (value ∙ found, rests-back p q b d w back on)
-counts es p q b d (Err off) code before after w back (is, value) (dark, map) =
+counts es p q b d (Err LookOff) code before after w back (is, value) (dark, map) =
     subst (λ (k : Code). Counts after es p q k) (sym is) (dark, w.kept)
+counts es p q b d (Err Broken) code before after w back told never = absurd never
 
-pub finds : (Is : Pairs → Option (ℕ × ℕ) → Type 0) (es : Pairs) (p q : Picture) (b d : Bool) (x : Result (Option (ℕ × ℕ)) OffBoard) (code : Code) (before after : EnvyPair) → SheetWorks 0 (sheet_of p b) (sheet_of q d) → Back q d → TellsPair x code before after → TreeFinds (Is es) es x (sheet_of q d) → Finds Is after es p q code
+pub finds : (Is : Pairs → Option (ℕ × ℕ) → Type 0) (es : Pairs) (p q : Picture) (b d : Bool) (x : Result (Option (ℕ × ℕ)) LookFault) (code : Code) (before after : EnvyPair) → SheetWorks 0 (sheet_of p b) (sheet_of q d) → Back q d → TellsPair x code before after → TreeFinds (Is es) es (sheet_of p b) x (sheet_of q d) → Finds Is after es p q code
 finds Is es p q b d (Ok (Some e)) code before after w back (is, pair) (on, says, map) =
     subst (λ (k : Code). Finds Is after es p q k) (sym is) (subst (λ (a : EnvyPair). Is es (Some (a.key, a.value))) (sym pair) says, rests-back p q b d w back on)
 finds Is es p q b d (Ok None) code before after w back (is, pair) (on, says, map) =
     subst (λ (k : Code). Finds Is after es p q k) (sym is) (says, rests-back p q b d w back on)
-finds Is es p q b d (Err off) code before after w back (is, pair) (dark, map) =
+finds Is es p q b d (Err LookOff) code before after w back (is, pair) (dark, map) =
     subst (λ (k : Code). Finds Is after es p q k) (sym is) (dark, w.kept)
+finds Is es p q b d (Err Broken) code before after w back told never = absurd never
 
 -- what isn't done isn't written
 
 -- an answer that isn't Done leaves the place of a value,
-pub value-stays : (x : Result (Option ℕ) OffBoard) (code : Code) (before after : ℕ) → TellsValue x code before after → code ≢ Done → after ≡ before
+pub value-stays : (x : Result (Option ℕ) LookFault) (code : Code) (before after : ℕ) → TellsValue x code before after → code ≢ Done → after ≡ before
 value-stays (Ok (Some v)) code before after tells other = absurd (other tells.0)
 value-stays (Ok None) code before after tells other = tells.1
 value-stays (Err off) code before after tells other = tells.1
 
 -- of a count,
-pub count-stays : (x : Result ℕ OffBoard) (code : Code) (before after : ℕ) → TellsCount x code before after → code ≢ Done → after ≡ before
+pub count-stays : (x : Result ℕ LookFault) (code : Code) (before after : ℕ) → TellsCount x code before after → code ≢ Done → after ≡ before
 count-stays (Ok n) code before after tells other = absurd (other tells.0)
 count-stays (Err off) code before after tells other = tells.1
 
 -- of a pair,
-pub pair-stays : (x : Result (Option (ℕ × ℕ)) OffBoard) (code : Code) (before after : EnvyPair) → TellsPair x code before after → code ≢ Done → after ≡ before
+pub pair-stays : (x : Result (Option (ℕ × ℕ)) LookFault) (code : Code) (before after : EnvyPair) → TellsPair x code before after → code ≢ Done → after ≡ before
 pair-stays (Ok (Some e)) code before after tells other = absurd (other tells.0)
 pair-stays (Ok None) code before after tells other = tells.1
 pair-stays (Err off) code before after tells other = tells.1

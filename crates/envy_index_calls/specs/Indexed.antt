@@ -1,9 +1,8 @@
 -- What the calls of a map answer by a code, and what they leave. The map is the whole array's: it is what the committed
 -- words of the memory stand for, as an index tree.
-use Rattle.std.specs.Prelude.{◌≡◌, ◌≢◌, ◌⊎◌, ℕ, zero, suc, ◌+◌, ◌*◌, ◌^◌, ◌<◌, ◌≤◌, Bool, true, false, IsTrue, List, [], length, replicate, slice_set, sum, Option, None, Some, Result, Ok, Err}
+use Rattle.std.specs.Prelude.{◌≡◌, ◌≢◌, ◌⊎◌, ℕ, zero, suc, ◌+◌, ◌*◌, ◌<◌, ◌≤◌, Bool, true, false, IsTrue, List, [], length, replicate, slice_set, sum, Option, None, Some, Result, Ok, Err}
 use Rattle.envy_base.specs.Array.{Array}
 use Rattle.envy_base.specs.Words.{Sheet, Rose}
-use Rattle.envy_base.specs.declared.board.Off.{Off as OffBoard}
 use Rattle.envy_base.specs.declared.board.Trouble.{Trouble}
 use Rattle.envy_base.specs.declared.board.Trouble.TheVariants.{Off as TroubleOff, Bad as TroubleBad}
 use Rattle.envy_base.specs.declared.fields.Slot.TheVariants.{Active}
@@ -16,6 +15,7 @@ use Rattle.envy_memory.specs.Picture.{Picture}
 use Rattle.envy_btree.specs.Answers.{IsFull}
 use Rattle.envy_btree.specs.Index.{IsIndex}
 use Rattle.envy_btree.specs.Pairs.{assoc, with_pair, without}
+use Rattle.envy_btree.specs.declared.fault.LookFault.{LookFault}
 use Rattle.envy_btree.specs.declared.fault.TreeFault.{TreeFault}
 use Rattle.envy_btree.specs.declared.fault.TreeFault.TheVariants.{Off as FaultOff, Full as FaultFull, Bad as FaultBad}
 use Rattle.envy_calls.specs.Codes.{number_of}
@@ -113,16 +113,16 @@ Loses p q = (q.chart.on ≡ false) × (durable q.chart ≡ durable p.chart)
 
 -- The codes of the tree's answers, and what stands at the caller's pointer then.
 
-abbrev pub TellsValue : Result (Option ℕ) OffBoard → Code → ℕ → ℕ → Type 0
+abbrev pub TellsValue : Result (Option ℕ) LookFault → Code → ℕ → ℕ → Type 0
 TellsValue (Ok (Some value)) code before after = (code ≡ Done) × (after ≡ value)
 TellsValue (Ok None) code before after = (code ≡ Absent) × (after ≡ before)
 TellsValue (Err off) code before after = (code ≡ Off) × (after ≡ before)
 
-abbrev pub TellsCount : Result ℕ OffBoard → Code → ℕ → ℕ → Type 0
+abbrev pub TellsCount : Result ℕ LookFault → Code → ℕ → ℕ → Type 0
 TellsCount (Ok n) code before after = (code ≡ Done) × (after ≡ n)
 TellsCount (Err off) code before after = (code ≡ Off) × (after ≡ before)
 
-abbrev pub TellsPair : Result (Option (ℕ × ℕ)) OffBoard → Code → EnvyPair → EnvyPair → Type 0
+abbrev pub TellsPair : Result (Option (ℕ × ℕ)) LookFault → Code → EnvyPair → EnvyPair → Type 0
 TellsPair (Ok (Some e)) code before after = (code ≡ Done) × (after ≡ record { key = e.0; value = e.1 })
 TellsPair (Ok None) code before after = (code ≡ Absent) × (after ≡ before)
 TellsPair (Err off) code before after = (code ≡ Off) × (after ≡ before)

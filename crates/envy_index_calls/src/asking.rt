@@ -1,4 +1,4 @@
-// The calls of a map that change no pair.
+// The calls of a map that change no pair. Where the words stand for a map a look fails only by power.
 ghost use Rattle.std.specs.Prelude.{◌≡◌, ◌≢◌, ◌+◌};
 ghost use Rattle.std.specs.Option.{ForSome};
 ghost use Rattle.envy_btree.specs.Nearest.{IsLeastFrom, IsGreatestTo};
@@ -8,12 +8,13 @@ ghost use Rattle.envy_index_calls.specs.Indexed.{Asks, Counts, Finds, Gets, Hold
 
 use crate::pairs::EnvyPair;
 use crate::words::{return_words, words_of};
-use envy_base::{Board, Off};
+use envy_base::Board;
+use envy_btree::LookFault;
 use envy_calls::Code;
 use envy_memory::Memory;
 
 // The code of a value that was looked for, which is written where it was found.
-fn told_value(found: Result<Option<u64>, Off>, value: &mut u64) -> Code
+fn told_value(found: Result<Option<u64>, LookFault>, value: &mut u64) -> Code
     ensures { TellsValue found result value.old value.new }
 {
     match found {
@@ -22,12 +23,12 @@ fn told_value(found: Result<Option<u64>, Off>, value: &mut u64) -> Code
             Code::Done
         }
         Ok(None) => Code::Absent,
-        Err(Off) => Code::Off,
+        Err(_) => Code::Off,
     }
 }
 
 // The code of a number of pairs, which is written.
-fn told_count(counted: Result<u64, Off>, number: &mut u64) -> Code
+fn told_count(counted: Result<u64, LookFault>, number: &mut u64) -> Code
     ensures { TellsCount counted result number.old number.new }
 {
     match counted {
@@ -35,12 +36,12 @@ fn told_count(counted: Result<u64, Off>, number: &mut u64) -> Code
             *number = n;
             Code::Done
         }
-        Err(Off) => Code::Off,
+        Err(_) => Code::Off,
     }
 }
 
 // The code of a pair that was looked for, which is written where it was found.
-fn told_pair(found: Result<Option<(u64, u64)>, Off>, pair: &mut EnvyPair) -> Code
+fn told_pair(found: Result<Option<(u64, u64)>, LookFault>, pair: &mut EnvyPair) -> Code
     ensures { TellsPair found result pair.old pair.new }
 {
     match found {
@@ -49,7 +50,7 @@ fn told_pair(found: Result<Option<(u64, u64)>, Off>, pair: &mut EnvyPair) -> Cod
             Code::Done
         }
         Ok(None) => Code::Absent,
-        Err(Off) => Code::Off,
+        Err(_) => Code::Off,
     }
 }
 

@@ -2,7 +2,8 @@
 use Rattle.std.proofs.Common.{◌≡◌, ◌⊎◌, inl, inr, ℕ, ◌+◌, ◌-◌, ◌*◌, ◌/◌, ◌^◌, ◌<◌, ◌≤◌, Bool, false, List, [], ◌∷◌, length, refl, sym, ◌∙◌, ap, subst, arith}
 use Rattle.std.specs.Prelude.{◌&&◌, IsTrue, Option, None, Some, Ok, Err}
 use Rattle.envy_base.specs.Words.{Works, Keeps, Rose}
-use Rattle.envy_base.specs.declared.board.Off.{Off}
+use Rattle.envy_btree.specs.declared.fault.LookFault.{LookFault}
+use Rattle.envy_btree.specs.declared.fault.LookFault.TheVariants.{Off as LookOff, Broken}
 use Rattle.envy_base.specs.declared.faults.PlannedFault.{PlannedFault}
 use Rattle.envy_base.specs.declared.faults.PlannedFault.TheVariants.{Cut as PlanCut, Bad as PlanBad}
 use Rattle.envy_base.specs.declared.shape.Shape.{Shape}
@@ -148,8 +149,14 @@ ask-told p q b d key es value reply s k g is =
     (told-answers (most_of p.chart.shape.pages) es es (Get key) q d value (ap told g.1, refl) (next p q b d es es s k g.0 g.2))
 
 -- power failed as it was looked for
-pub ask-lost : (p q : Picture) (b d : Bool) (key : ℕ) (es : Pairs) (off : Off) → Gets key es (sheet_of p b) (Err off) (sheet_of q d) → AnswersIndex (most_of p.chart.shape.pages) es (Get key) Lost q d
-ask-lost p q b d key es off g = record { off = g.0; left = es; loses = record { command = refl; either = inl refl }; map = g.1 }
+pub ask-lost : (p q : Picture) (b d : Bool) (key : ℕ) (es : Pairs) (fault : LookFault) → (sheet_of p b).started ≡ false → Gets key es (sheet_of p b) (Err fault) (sheet_of q d) → AnswersIndex (most_of p.chart.shape.pages) es (Get key) Lost q d
+ask-lost p q b d key es LookOff shut g = record { off = g.0; left = es; loses = record { command = refl; either = inl refl }; map = g.1 shut }
+ask-lost p q b d key es Broken shut g = absurd g
+
+-- and that was it
+pub ask-off : (key : ℕ) (es : Pairs) (old new : Sheet) (fault : LookFault) → Gets key es old (Err fault) new → new.on ≡ false
+ask-off key es old new LookOff g = g.0
+ask-off key es old new Broken g = absurd g
 
 -- ---- insert
 

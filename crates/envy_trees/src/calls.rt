@@ -4,8 +4,8 @@ ghost use Rattle.envy_heap.specs.Vectors.{vec_sheet};
 ghost use Rattle.envy_btree.specs.Testing.{IsReady};
 
 use crate::told::same_at;
-use envy_base::{NoMemory, Off};
-use envy_btree::{TreeFault, count, get, insert, last, next, next_above, remove};
+use envy_base::NoMemory;
+use envy_btree::{LookFault, TreeFault, count, get, insert, last, next, next_above, remove};
 use envy_heap::VecWords;
 use std::alloc::Global;
 use std::process::Abort;
@@ -21,7 +21,7 @@ pub(crate) fn empty_index(alloc: Global, size: u32) -> Result<VecWords, NoMemory
 pub(crate) type Pair = Option<(u64, u64)>;
 
 // The pairs that are nearest to a key: from it on, above it, and up to it.
-pub(crate) type Nearest = [Result<Pair, Off>; 3];
+pub(crate) type Nearest = [Result<Pair, LookFault>; 3];
 
 pub(crate) fn nearest(words: &mut VecWords, key: u64) -> Nearest
     requires { IsReady (vec_sheet words.old) }

@@ -6,8 +6,8 @@ use crate::calls::{
     Pair, check_get, check_near, check_pairs, check_set, check_take_out, empty_index, nearest,
 };
 use crate::told::{same, same_at};
-use envy_base::{Off, Words};
-use envy_btree::TreeFault;
+use envy_base::Words;
+use envy_btree::{LookFault, TreeFault};
 use envy_heap::VecWords;
 use rand_core::{Rng, SeedableRng};
 use rand_pcg::Lcg64Xsh32;
@@ -188,10 +188,10 @@ fn agrees(
 fn check_pair(
     rt: &impl Abort,
     words: &mut VecWords,
-    seen: Result<Pair, Off>,
+    seen: Result<Pair, LookFault>,
     key: u64,
     value: u64,
-) -> Result<Pair, Off>
+) -> Result<Pair, LookFault>
     requires { IsReady (vec_sheet words.old) }
     ensures { IsReady (vec_sheet words.new) }
 {

@@ -5,7 +5,7 @@ ghost use Rattle.envy_btree.specs.Testing.{IsReady};
 
 use crate::told::same_at;
 use envy_base::{NoMemory, Off, Trouble, Words};
-use envy_btree::{TreeFault, get, insert, remove};
+use envy_btree::{LookFault, TreeFault, get, insert, remove};
 use envy_heap::VecWords;
 use std::alloc::Global;
 use std::process::Abort;
@@ -112,7 +112,7 @@ fn watched_index(alloc: Global, size: u32) -> Result<Watched, NoMemory>
     })
 }
 
-fn value_of(words: &mut Watched, key: u64) -> Result<Option<u64>, Off>
+fn value_of(words: &mut Watched, key: u64) -> Result<Option<u64>, LookFault>
     requires { IsReady (vec_sheet words.old.words) }
     ensures { IsReady (vec_sheet words.new.words) }
 {

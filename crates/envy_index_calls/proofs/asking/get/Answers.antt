@@ -1,21 +1,13 @@
 use Rattle.envy_index_calls.specs.Indexed.{Gets}
-use Rattle.envy_index_calls.proofs.Lending.{Back, lent, some-map, map-in, asks, works-back, gets, value-stays, size-in}
+use Rattle.envy_index_calls.proofs.Lending.{Back, lent, map-in, asks, started-in, works-back, gets, value-stays, size-in}
 use Rattle.envy_index_calls.proofs.asking.get.Goals as goal
 
-pub get-found-requires-clause-size : goal.get-found-requires-clause-size
-get-found-requires-clause-size g c =
+pub get-found-requires : goal.get-found-requires
+get-found-requires g c =
     let p = c.in-Ok.words.memory in
     let b = c.in-Ok.words.begun in
     let l = lent c.args.slot.now c.words_of.new.slot p b c.in-Ok.ensures.lends in
-    size-in c.args.slot.now p b l
-
-pub get-found-requires-clause-map : goal.get-found-requires-clause-map
-get-found-requires-clause-map g c =
-    let p = c.in-Ok.words.memory in
-    let b = c.in-Ok.words.begun in
-    let l = lent c.args.slot.now c.words_of.new.slot p b c.in-Ok.ensures.lends in
-    let m = some-map c.args.slot.now p b l c.requires in
-    (m.0, map-in c.args.slot.now p b m.0 l m.1)
+    record { size = size-in c.args.slot.now p b l }
 
 pub returns-clause-gets : goal.returns-clause-gets
 returns-clause-gets g c =
@@ -24,7 +16,7 @@ returns-clause-gets g c =
     let l = lent c.args.slot.now c.words_of.new.slot p b c.in-Ok.ensures.lends in
     let q = c.get-found.new.words.memory in
     let d = c.get-found.new.words.begun in
-    let back : Back q d = record { shut = c.get-found.ensures.shut; stands = c.return_words.ensures.shut } in
+    let back : Back q d = record { shut = c.get-found.ensures.shut (started-in c.args.slot.now p b l); stands = c.return_words.ensures.shut } in
     asks 0 (Gets c.args.key c.told_value.new.value) c.args.slot.now c.return_words.new.slot p q b c.told_value.result l c.return_words.ensures.back (works-back p q b d c.get-found.ensures.works c.get-found.ensures.spends) (λ es h. gets c.args.key es p q b d c.get-found.result c.told_value.result c.args.value.now c.told_value.new.value c.get-found.ensures.works back c.told_value.ensures (c.get-found.ensures.gets es (map-in c.args.slot.now p b es l h)))
 
 pub returns-clause-unwritten : goal.returns-clause-unwritten

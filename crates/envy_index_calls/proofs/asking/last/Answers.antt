@@ -1,22 +1,14 @@
 use Rattle.envy_btree.specs.Nearest.{IsGreatestTo}
 use Rattle.envy_index_calls.specs.Indexed.{Finds}
-use Rattle.envy_index_calls.proofs.Lending.{Back, lent, some-map, map-in, asks, works-back, finds, pair-stays, size-in}
+use Rattle.envy_index_calls.proofs.Lending.{Back, lent, map-in, asks, started-in, works-back, finds, pair-stays, size-in}
 use Rattle.envy_index_calls.proofs.asking.last.Goals as goal
 
-pub last-found-requires-clause-size : goal.last-found-requires-clause-size
-last-found-requires-clause-size g c =
+pub last-found-requires : goal.last-found-requires
+last-found-requires g c =
     let p = c.in-Ok.words.memory in
     let b = c.in-Ok.words.begun in
     let l = lent c.args.slot.now c.words_of.new.slot p b c.in-Ok.ensures.lends in
-    size-in c.args.slot.now p b l
-
-pub last-found-requires-clause-map : goal.last-found-requires-clause-map
-last-found-requires-clause-map g c =
-    let p = c.in-Ok.words.memory in
-    let b = c.in-Ok.words.begun in
-    let l = lent c.args.slot.now c.words_of.new.slot p b c.in-Ok.ensures.lends in
-    let m = some-map c.args.slot.now p b l c.requires in
-    (m.0, map-in c.args.slot.now p b m.0 l m.1)
+    record { size = size-in c.args.slot.now p b l }
 
 pub returns-clause-finds : goal.returns-clause-finds
 returns-clause-finds g c =
@@ -25,7 +17,7 @@ returns-clause-finds g c =
     let l = lent c.args.slot.now c.words_of.new.slot p b c.in-Ok.ensures.lends in
     let q = c.last-found.new.words.memory in
     let d = c.last-found.new.words.begun in
-    let back : Back q d = record { shut = c.last-found.ensures.shut; stands = c.return_words.ensures.shut } in
+    let back : Back q d = record { shut = c.last-found.ensures.shut (started-in c.args.slot.now p b l); stands = c.return_words.ensures.shut } in
     asks 0 (Finds (IsGreatestTo c.args.key) c.told_pair.new.pair) c.args.slot.now c.return_words.new.slot p q b c.told_pair.result l c.return_words.ensures.back (works-back p q b d c.last-found.ensures.works c.last-found.ensures.spends) (λ es h. finds (IsGreatestTo c.args.key) es p q b d c.last-found.result c.told_pair.result c.args.pair.now c.told_pair.new.pair c.last-found.ensures.works back c.told_pair.ensures (c.last-found.ensures.finds es (map-in c.args.slot.now p b es l h)))
 
 pub returns-clause-unwritten : goal.returns-clause-unwritten

@@ -1,4 +1,0 @@
-use Rattle.envy_btree.proofs.nearing.+find_from.Given as goal
-
-abbrev pub decreases-find_from : goal.decreases-find_from
-decreases-find_from g l = l.level

@@ -1,0 +1,19 @@
+// The numbers of the head, of pieces and of nodes.
+
+/// The fewest words that may stand for a map.
+pub(crate) const LEAST_WORDS: u32 = 640;
+
+/// How many words the head has, and each piece after it.
+pub(crate) const PIECE_WORDS: u32 = 64;
+
+/// Where a node's keys begin among its words.
+pub(crate) const KEYS: u32 = 1;
+
+/// Where its values or children begin.
+pub(crate) const SLOTS: u32 = 32;
+
+/// A node's first word, `2 * n` or `2 * n + 1` of at most 31 keys, is below this.
+pub(crate) const HEAD_LIMIT: u64 = 64;
+
+/// The most levels of nodes in `2^25` words.
+pub(crate) const LEVELS: u32 = 6;

@@ -1,0 +1,8 @@
+/// Which way pairs are gone through.
+#[derive(Clone, Copy)]
+pub(crate) enum Way {
+    /// By rising key.
+    Up,
+    /// By falling key.
+    Down,
+}
