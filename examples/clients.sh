@@ -28,13 +28,14 @@ trap 'rm -rf "$work"' EXIT
 
 if has "the VFS" out/envyvfs.so sqlite3 python3; then
     $tests/sqlite.sh "$work"
-    durable="file:$work/durable.envy?vfs=envy&size=8M"
+    # (a ledger begins with each of the next lines, so each has a database of its own)
+    durable() { echo "file:$work/$1.envy?vfs=envy&size=8M"; }
     mapped="file:$work/mapped.envy?vfs=envy-mapped&size=8M"
     files="file:$work/files.envy?vfs=envy&size=8M&journal=file"
     export EXTENSION=$PWD/out/envyvfs.so
-    $tests/rounds.py kill 10 "$durable"
-    $tests/rounds.py machine 20 "$durable"
-    $tests/rounds.py failing 10 "$durable"
+    $tests/rounds.py kill 10 "$(durable kill)"
+    $tests/rounds.py machine 20 "$(durable machine)"
+    $tests/rounds.py failing 10 "$(durable failing)"
     $tests/rounds.py bytewise 15 "file:$work/bytewise.envy?vfs=envy&size=8M&bytewise=1" --pragma page_size=1024
     $tests/rounds.py machine 8 "$files"
     if has "the VFS over mapped files" out/envyvfs_mapped.so; then

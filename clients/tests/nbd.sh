@@ -59,7 +59,7 @@ refuses() {
     grep -q -- "$text" <<<"$found" || fail "$*: wanted '$text', found '$found'"
 }
 
-refuses "has room for 1 to" file=big size=1G
+refuses "has room for 1 to" file=big size=4G
 refuses "no parameter is called shape" file=big shape=round
 refuses "file=PATH says" size=1M
 echo "no device" >other

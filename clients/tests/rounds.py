@@ -9,6 +9,7 @@ new one), failing (calls on files fail from one on: the process must end by itse
 import argparse
 import os
 import random
+import re
 import subprocess
 import sys
 import tempfile
@@ -84,8 +85,8 @@ def main():
             if ran.returncode or wrong:
                 bad += 1
                 print(f"round {i}: {wrong} {found}", file=sys.stderr)
-            if "last " in found:
-                done = int(found.split("last ")[1].split()[0])
+            last = re.search(r"last (\d+)", found)
+            done = int(last.group(1)) if last else done
             if bad > 5:
                 break
     print(f"{given.how}: {i + 1} rounds, {bad} bad, {done} transactions; {given.uri.split('?')[-1]} {' '.join(given.pragma)}")

@@ -52,7 +52,7 @@ ok" "file:page.512?vfs=envy&bytewise=1&journal=file" "select count(*) from t;" "
 
 # wrong parameters and wrong files are refused by name, and left as they are
 tells "size=8Q: it is a number" "file:none?vfs=envy&size=8Q" "select 1;"
-tells "size=1G: it is a number of 1 to" "file:none?vfs=envy&size=1G" "select 1;"
+tells "size=4G: it is a number of 1 to" "file:none?vfs=envy&size=4G" "select 1;"
 tells "bytewse=1: no parameter has this name" "file:none?vfs=envy&bytewse=1" "select 1;"
 tells "bytewise=2: it is 0 or 1" "file:none?vfs=envy&bytewise=2" "select 1;"
 tells "journal=disk: it is memory or file" "file:none?vfs=envy&journal=disk" "select 1;"

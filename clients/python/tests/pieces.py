@@ -89,7 +89,7 @@ def main(path, kind, seed, first):
     import envy
 
     work, seed = KINDS[kind](int(seed)), int(seed)
-    with envy.open(path, WORDS, bytewise=seed % 2 == 0) as m:
+    with envy.open(path, WORDS, bytewise=int(first) % 2 == 0) as m:
         for n in range(int(first), 10**9):
             work.do(m, n)
             if is_synced(seed, n):

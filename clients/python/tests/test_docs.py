@@ -2,6 +2,7 @@
 
 import doctest
 import importlib
+import inspect
 import os
 import pkgutil
 import tempfile
@@ -20,6 +21,18 @@ class DocsTest(unittest.TestCase):
             self.assertEqual(found.failed, 0, it.name)
             tried += found.attempted
         self.assertGreater(tried + doctest.testmod(envy).attempted, 10)
+
+    def test_hints_and_texts(self):
+        calls = [envy.open, envy.setup_for, envy.shape, envy.library_version]
+        for kind in (envy.Memory, envy.Transaction, envy.Map):
+            self.assertTrue(kind.__doc__)
+            calls += [it for name, it in vars(kind).items() if inspect.isfunction(it) and not name.startswith("_")]
+        for call in calls:
+            signature = inspect.signature(call)
+            hints = [it.annotation for name, it in signature.parameters.items() if name != "self"]
+            self.assertNotIn(inspect.Signature.empty, [*hints, signature.return_annotation], call)
+            self.assertTrue(call.__doc__, call)
+        self.assertTrue(os.path.exists(os.path.join(os.path.dirname(envy.__file__), "py.typed")))
 
     @unittest.skipUnless(os.path.exists(PAGE), "docs/CLIENTS.md isn't here")
     def test_the_page(self):

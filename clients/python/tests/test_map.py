@@ -126,11 +126,13 @@ class MapTest(unittest.TestCase):
         a = self.m.map()
         a.update((key, key) for key in range(500))
         words = self.m[:]
-        for address, word in ((0, 0), (0, 10**9), (1, 3), (2, 10**9), (3, 7), (64, 200), (64, 1), (70, MOST), (128, 9), (96, 10**12)):
+        root = 64 * self.m[0]  # (where the root is, which isn't a leaf)
+        self.assertEqual(words[root] % 2, 1)
+        changes = [(0, 0), (0, 10**9), (1, 3), (2, 10**9), (3, 7), (root, 200), (root, 1), (root + 2, 1), (root + 32, 10**12)]
+        for address, word in [*changes, (root + 33, 0), (64, 200), (70, MOST)]:
             before = self.m[address]
             self.m[address] = word
-            if word == before:
-                continue
+            self.assertNotEqual(word, before, address)
             for call in (lambda: a[1], lambda: a.__setitem__(1, 1), lambda: len(a), self.m.map, a.clear):
                 with self.assertRaises(envy.MapError, msg=f"{address} {word}") as found:
                     call()
