@@ -1,10 +1,10 @@
 #!/usr/bin/env bash
 # How the cost of a call grows with the board, its frames and what other transactions own: instructions by valgrind's
 # callgrind, which don't depend on how busy the machine is. Takes the program, or else the proved one or a trial's, and
-# writes tables; half an hour, most of it for the largest board, which needs 5 GB of memory and is left out with less. On
-# that board a store and a transfer may take at most 1.1 times the instructions on one of a sixteenth of its rows, and an
-# empty trace a second and 700 MiB: else the status is 1. With --to FOLDER the first table is drawn too, if gnuplot is
-# there (growth.png, growth.svg), and its numbers stand in growth.txt. SHAPES names other boards.
+# writes tables. It takes half an hour, most of it for the largest board, which needs 5 GB of memory and is left out with
+# less. On that board a store and a transfer may take at most 1.1 times the instructions on one of a sixteenth of its rows,
+# and an empty trace a second of the processor and 700 MiB: else the status is 1. With --to FOLDER the first table is drawn
+# too, if gnuplot is there (growth.png, growth.svg), and its numbers are in growth.txt. SHAPES names other boards.
 set -eu
 cd "$(dirname "$0")/.."
 to=
@@ -25,8 +25,8 @@ await() {
     done
 }
 
-# counted_between KIND CALLS PAGES OWNED WORDS..: the instructions of so many calls: those between the replies to two lines
-# `stat`, behind what fills the board and behind the calls
+# counted_between KIND CALLS PAGES OWNED WORDS..: the instructions of that many calls: those between the replies to two
+# lines `stat`, one after what fills the board and one after the calls
 counted_between() {
     local kind=$1 calls=$2 pages=$3 owned=$4 pid
     shift 4
@@ -65,7 +65,7 @@ filling() {
     }'
 }
 
-# calling KIND CALLS PAGES OWNED: so many calls of the kind, on drawn pages
+# calling KIND CALLS PAGES OWNED: that many calls of the kind, on drawn pages
 calling() {
     awk -v kind="$1" -v calls="$2" -v pages="$3" -v owned="$4" '
         function drawn(most) { x = (x * 1103515245 + 12345) % 2147483648; return int(x / 8) % most }
@@ -137,8 +137,8 @@ for shape in $shapes; do
     echo "$((segments * rows))$cells" >>"$work/growth.txt"
 done
 
-# the bounds of the largest board: stores and transfers beside those of the smaller one, and an empty trace, of which the
-# quickest run counts
+# the bounds of the largest board: stores and transfers beside those of the smaller one, and an empty trace: processor time,
+# the system's too, of the quickest of three runs
 failures=0
 at_most() {
     [ "$2" -le "$3" ] || { echo "growth: $1: $2, and $3 at most" >&2; failures=1; }
@@ -152,16 +152,19 @@ if grep -q '^16777216 ' "$work/growth.txt" && grep -q '^1048576 ' "$work/growth.
 fi
 # shellcheck disable=SC2046
 set -- $(python3 - "$program" run --large 1 --segments 4096 --rows 4096 --pages "$(pages_of 4096 4096 16)" <<'PY'
-import resource, subprocess, sys, time
+import resource, subprocess, sys
+def used():
+    it = resource.getrusage(resource.RUSAGE_CHILDREN)
+    return it.ru_utime + it.ru_stime
 def seconds():
-    began = time.monotonic()
+    began = used()
     subprocess.run(sys.argv[1:], stdin=subprocess.DEVNULL, check=True)
-    return time.monotonic() - began
+    return used() - began
 print(int(1000 * min(seconds() for _ in range(3))), resource.getrusage(resource.RUSAGE_CHILDREN).ru_maxrss)
 PY
 )
 echo
-echo "An empty trace on $largest: $1 ms, $2 KiB"
+echo "An empty trace on $largest: $1 ms of the processor, $2 KiB"
 at_most "$largest, an empty trace, ms" "$1" $((1000 * most_seconds))
 at_most "$largest, an empty trace, KiB" "$2" $most_kib
 
