@@ -1,11 +1,11 @@
 #!/usr/bin/env bash
 # Makes a release for somebody without the kit: out/envy-VERSION.tar.gz, and out/envy_VERSION_amd64.deb if dpkg-deb is on
-# the path. Both have the program, the headers, the archives for x86-64 and 64-bit ARM, the Rust package, the clients if
-# they are here, a man page, completions for bash, the licence and the changes.
+# the path. Both have the program, the headers, the archives and shared objects for x86-64 and 64-bit ARM, the Rust package,
+# the clients if they are here, a man page, completions for bash, the licence and the changes.
 #
 #   ./release.sh                 proves and builds what goes in, over the crates below as they are (./envy --prove, .ci/run)
 #   ./release.sh --from FOLDER   takes FOLDER/program and FOLDER/x86_64, FOLDER/aarch64 with the archives of `rt lib`
-#   ./release.sh --version       writes VERSION into the Rust package and the header, and makes nothing
+#   ./release.sh --version       writes VERSION into the Rust and Python packages and the header, and makes nothing
 #
 # It needs gcc, aarch64-linux-gnu-gcc and, without --from, the kit.
 set -eu
@@ -19,6 +19,7 @@ case ${1-} in
 --version)
     sed -i "s/^version = \"[^\"]*\"/version = \"$version\"/" rust/Cargo.toml
     sed -i "s/^#define ENVY_VERSION \"[^\"]*\"/#define ENVY_VERSION \"$version\"/" c/envy_text.h
+    sed -i "s/^__version__ = \"[^\"]*\"/__version__ = \"$version\"/" clients/python/envy/__init__.py
     exit
     ;;
 *) sed -n '2,10s/^# \{0,1\}//p' "$0" >&2 && exit 2 ;;
@@ -59,7 +60,7 @@ archives() {
     mkdir -p "$root/lib/$processor"
     make -s -C c OUT="$made" MAPPED="$at/libenvy_mapped.a" MEMORY="$at/libenvy_sim.a" KEPT="$at/libenvy_kept.a" \
         PARTED="$at/libenvy_parted.a" "$@" all
-    cp "$made"/*.a "$root/lib/$processor"
+    cp -P "$made"/*.a "$made"/*.so* "$root/lib/$processor"
 }
 
 # pages: what is read and typed
@@ -85,6 +86,9 @@ package() {
     ln -s ../lib/envy/envy "$deb/usr/bin/envy"
     cp -r "$root/lib/aarch64" "$root/rust" "$deb/usr/share/envy"
     [ ! -d "$root/clients" ] || cp -r "$root/clients" "$deb/usr/share/envy"
+    mkdir -p "$deb/usr/lib/python3/dist-packages"
+    [ ! -d "$root/clients/python" ] || cp -r "$root/clients/python/envy" "$deb/usr/lib/python3/dist-packages"
+    echo 'activate-noawait ldconfig' >"$deb/DEBIAN/triggers"
     cp -r "$root/docs" "$root/README.md" "$doc"
     gzip -9n <"$root/man/man1/envy.1" >"$deb/usr/share/man/man1/envy.1.gz"
     gzip -9n <CHANGELOG.md >"$doc/changelog.gz"
@@ -96,6 +100,7 @@ Version: $version
 Architecture: amd64
 Maintainer: Gusperru maintainers <maintainers@users.noreply.gusperru.example>
 Depends: libc6, bash, mawk | gawk
+Suggests: python3
 Section: devel
 Priority: optional
 Installed-Size: $(du -k -s "$deb/usr" | cut -f 1)

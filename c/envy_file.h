@@ -22,10 +22,10 @@ typedef struct envy_file {
 #define ENVY_NO_FILE ENVY_FILE_INIT
 
 /* Opens the file at a path, or makes one of zeros if there is none: it is there formatted, or not at all.
-   How much of each region it has is read off its length, so a file that was cut short or grew is refused by the code of
-   the region that is too short, or of the counts of erases that are too long. A new file has the access rights that the
-   process's umask leaves. No descriptor of the file is one of a standard stream, and a standard stream that is closed is
-   opened on /dev/null, if its use fails as before.
+   How much of each region it has is read off its length. So a file that was cut short is refused by the code of the
+   region that is too short, and one that grew by ENVY_ERASES_SIZE. A new file has the access rights that the
+   process's umask leaves. No descriptor of the file is one of a standard stream: a standard stream that is closed is
+   opened on /dev/null, and its use fails there as before.
    ENVY_DONE, ENVY_SYSTEM, ENVY_LOCKED, or what envy_mapped_new, envy_mapped_format or envy_mapped_attach answer.
    Refused, the file is as before, and the place holds none. */
 uint32_t envy_file_open(envy_file *f, const char *path, const envy_setup *setup);

@@ -1,11 +1,11 @@
 /* A memory in a file that the program serves: a plain array of 64-bit words, with transactions, that outlives the
    process and the machine.
 
-   The memory lies in the heap, and each operation of its board is logged to the file. From a call of envy_kept_sync that
-   answered ENVY_DONE on, whatever a stop of the process or of the machine leaves at any moment, inside calls too, opens
-   as the array of that sync or of a later one; transactions that were open then are undone. What was done since the last
-   sync may be lost, all of it, also if the process alone dies: so a program syncs when it has promised something to
-   somebody. Several commits may share one sync.
+   The memory is in the heap, and each operation of its board is logged to the file. After a call of envy_kept_sync that
+   answered ENVY_DONE the process or the machine may stop at any moment, inside calls too: what it leaves opens as the
+   array of that sync or of a later one. Transactions that were open then are undone. All that was done since the last
+   sync may be lost, also if the process alone dies: so a program syncs when it has promised something to somebody.
+   Several commits may share one sync.
 
    Isolation is that of envy_mapped.h. envy_kept_file.h opens a file by its path and serves it, which is what most
    programs want; what follows here is for those that serve files themselves.
@@ -20,7 +20,7 @@
      other call that is given the handle answers ENVY_EMPTY. It neither copies nor changes a handle.
    - One call at a time uses a handle. It may use it from any thread if it orders the calls itself.
    - Every pointer is to memory that is there, aligned, of the size that is said, and in no two arguments at once. None
-     is NULL, also not that of no words, nor `holder` and `done`, even if the program doesn't ask for them.
+     is NULL, also not that of no words, except `holder` and `done`, if the program doesn't ask for them.
    - rattle_alloc, rattle_realloc and rattle_dealloc are those of heap.c, or do the same.
    - Of the file what is said below at envy_disk.
 
@@ -115,19 +115,19 @@ uint32_t envy_kept_open(envy_kept *m, const envy_setup *setup, const uint8_t *fi
    How a file was opened stays for as long as the memory is open; the next call may open the same file either way. */
 uint32_t envy_kept_open_bytewise(envy_kept *m, const envy_setup *setup, const uint8_t *file, size_t n, int32_t port);
 
-/* How many of the n bytes of a file opening it cuts off, if they hold what reads as a whole batch with an open gate: a stop
-   of the machine may leave such bytes, and so does damage to an earlier gate, with which syncs are lost. So copy the file
-   before it is opened, as envy_kept_open_file does. Else 0. */
+/* How many of the n bytes of a file opening it cuts off, if they hold what reads as a whole batch with an open gate; else
+   0. A stop of the machine may leave such bytes. So may damage to an earlier gate, and then syncs are lost: copy the file
+   before it is opened, as envy_kept_open_file does. */
 uint64_t envy_kept_cut(const uint8_t *file, size_t n);
 
 /* Ends the memory and frees what it took from the heap. It makes no call of the disk: what was done since the last sync
    is lost, unless the program syncs before. The file may be opened again. On an empty place it does nothing. */
 void envy_kept_close(envy_kept *m);
 
-/* Brings all that the memory holds to the disk, with what open transactions put, by two writes and two syncs of the
-   file, or by three writes and one sync if it was opened as written byte by byte; if the file would be longer then
-   than 1 MiB and than twice what the whole board takes (36 bytes, 13 for each word of SRAM and 261 for each row), by
-   envy_kept_compact.
+/* Brings all that the memory holds to the disk, with what open transactions put. It makes two writes and two syncs of the
+   file, or three writes and one sync if the file was opened as written byte by byte. If the file would be longer then
+   than 1 MiB and than twice what the whole board takes (36 bytes, 13 for each word of SRAM and 261 for each row), it does
+   as envy_kept_compact.
    ENVY_DONE: it is on the disk. ENVY_EMPTY. ENVY_OFF: it may be there or not; close the memory and open the file again,
    which gives the array of this sync or of the last one that was done. */
 uint32_t envy_kept_sync(envy_kept *m);
@@ -147,8 +147,9 @@ uint32_t envy_kept_load(envy_kept *m, uint32_t address, uint64_t *word);
 /* Writes the committed word at an address. ENVY_DONE, ENVY_EMPTY, ENVY_RANGE, ENVY_OFF. */
 uint32_t envy_kept_look(envy_kept *m, uint32_t address, uint64_t *word);
 
-/* Writes the n words from an address on, also if open transactions put them: as n loads. ENVY_DONE, ENVY_EMPTY,
-   ENVY_OFF, or ENVY_RANGE if one of the addresses lies past the last page, and then none is written. */
+/* Writes the n words from an address on, also if open transactions put them: those that n loads write. It counts one
+   access for each of their pages. ENVY_DONE, ENVY_EMPTY, ENVY_OFF, or ENVY_RANGE if one of the addresses lies past the
+   last page, and then none is written. */
 uint32_t envy_kept_read(envy_kept *m, uint32_t address, uint64_t *words, size_t n);
 
 /* Makes the word at an address this. ENVY_DONE, ENVY_EMPTY, ENVY_OFF, ENVY_RANGE, or ENVY_HELD with the slot that owns

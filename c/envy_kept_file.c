@@ -1,5 +1,6 @@
 #define _GNU_SOURCE
 #include "envy_kept_file.h"
+#include "envy_head.h"
 #include "envy_open.h"
 #include <errno.h>
 #include <fcntl.h>
@@ -15,9 +16,6 @@
    name. */
 static const char BESIDE[] = ".envy-new";
 enum { NAMES = 8, NUMBER = 1 };
-
-/* How many bytes the head of a journal has. */
-enum { HEAD = 33 };
 
 /* The bits of a mode that are access rights; and one that isn't, which only a second file has: what a crash leaves of one
    is known by it. */
@@ -305,14 +303,13 @@ static int read_front(int descriptor, uint8_t *bytes, size_t n) {
 /* The bytes of the file, in memory of their own: a mapping would show what the memory writes while it is opened. The head
    is read first: of a file that doesn't begin as a journal does no more is read. */
 static uint8_t *read_whole(int descriptor, size_t *n) {
-    static const uint8_t name[] = {1, 'e', 'N', 'V', 'y', 'J', 'N', 'L'};
     struct stat found;
     if (fstat(descriptor, &found)) return NULL;
     *n = (size_t)found.st_size;
     uint8_t head[HEAD];
     if (*n >= HEAD) {
         if (read_front(descriptor, head, HEAD)) return NULL;
-        if (memcmp(head, name, sizeof name)) *n = HEAD;
+        if (memcmp(head, JOURNAL_MARK, MARK_BYTES)) *n = HEAD;
     }
     uint8_t *bytes = malloc(*n + 1);
     if (bytes && read_front(descriptor, bytes, *n)) {

@@ -10,7 +10,8 @@ extern "C" {
 #endif
 
 /* A place for a file. A program reads and changes `memory` alone, by the calls of envy_kept.h: envy_kept_sync(&f.memory)
-   brings what was done to the disk. It stays where it is while the file is open. */
+   brings what was done to the disk. It stays where it is while the file is open. `memory` is first, so that a language that
+   doesn't read this header has both at one address: that of envy_kept_file_new. */
 typedef struct envy_kept_file {
     envy_kept memory;
     envy_disk disk;
@@ -27,12 +28,13 @@ typedef struct envy_kept_file {
 } envy_kept_file;
 #define ENVY_KEPT_FILE_INIT {ENVY_KEPT_INIT, {0, 0, 0, 0, 0, 0, 0}, -1, -1, -1, 0, 0, 0, 0, 0, 0, 0}
 
-/* Opens the file at a path, or makes an empty one, locks it, brings it and its folder to the disk, has the system drop
-   what it holds of the file, reads it whole (of one that doesn't begin as a journal does only the head), and has envy_kept_open make or open the memory in it. Beside it a second file
-   may come to be, at the path and ".envy-new", or with a number of 1 to 7 after that if something else has the name. One is
-   made and removed at once, so that a folder in which none can be made, or a name that is too long, is ENVY_SYSTEM here;
-   those that a crash left are removed. No descriptor of the file is one of a standard stream, and a standard stream that is
-   closed is opened on /dev/null, and its use fails there as before.
+/* Opens the file at a path, or makes an empty one, and locks it. It brings the file and its folder to the disk, has the
+   system drop what it holds of the file, and reads it whole (only the head, if it doesn't begin as a journal does). Then
+   envy_kept_open makes or opens the memory in it.
+   Beside it a second file may come to be, at the path and ".envy-new", or with a number of 1 to 7 after that if something
+   else has the name. One is made and removed at once: so a folder in which none can be made, or a name that is too long,
+   is ENVY_SYSTEM here. Those that a crash left are removed. No descriptor of the file is one of a standard stream: a
+   standard stream that is closed is opened on /dev/null, and its use fails there as before.
    ENVY_DONE, ENVY_SYSTEM, ENVY_LOCKED, ENVY_TOO_MANY, or what envy_kept_new and envy_kept_open answer. Refused, the place
    holds none; an empty file that was made stays, unless no second file can be made. At ENVY_SYSTEM and ENVY_OFF errno says
    why. */
@@ -47,6 +49,16 @@ uint32_t envy_kept_open_file_bytewise(envy_kept_file *f, const char *path, const
    A process that was forked off while the file was open has no file: there each call that would write to it, and this one,
    is ENVY_OFF with EPERM, and nothing is done to the file or to the lock of the process that opened it. */
 uint32_t envy_kept_close_file(envy_kept_file *f);
+
+/* Writes the setup that the file at a path was made with, by its first bytes, and locks, reads and checks no more of it.
+   Policy, part, limit and mark aren't stored there: they become ENVY_GREEDY, 2, 100 and the number of frames.
+   ENVY_DONE; ENVY_SYSTEM, with errno; ENVY_NO_JOURNAL, also of an empty file; ENVY_OTHER_JOURNAL. Refused, the setup is as
+   before. */
+uint32_t envy_kept_file_shape(const char *path, envy_setup *setup);
+
+/* A place of its own, as of ENVY_KEPT_FILE_INIT, or NULL if the heap gives none. It stays until the process ends, and serves
+   for any number of files, one after another. */
+envy_kept_file *envy_kept_file_new(void);
 
 /* The errno of the call on the file after which calls answer ENVY_OFF: EFBIG also if the process may not make the file
    so long, EPERM in a process that was forked off. 0 if none failed since the file was opened. It stays after

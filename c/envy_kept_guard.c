@@ -1,9 +1,13 @@
 /* The calls of a memory on a handle that was never made, which has no place: they are answered here, and the proved calls,
-   which ask for a place, aren't called. In the archive these have other names:
+   which ask for a place, aren't called. What a program doesn't ask for gets a place here, since the proved calls take no
+   NULL. In the archive these have other names:
 
        objcopy --redefine-sym envy_kept_NAME=envy_proved_NAME LIBRARY.a */
 #include "envy_kept.h"
 #include "envy_kept_index.h"
+
+/* A place that lasts as long as the call, for what isn't asked for. */
+#define OR_PLACE(at, type) ((at) ? (at) : &(type){0})
 
 #define CALL(name, parameters, arguments)                                                                              \
     uint32_t envy_proved_##name parameters;                                                                            \
@@ -18,9 +22,10 @@ CALL(powered, (envy_kept *m), (m))
 CALL(load, (envy_kept *m, uint32_t address, uint64_t *word), (m, address, word))
 CALL(look, (envy_kept *m, uint32_t address, uint64_t *word), (m, address, word))
 CALL(read, (envy_kept *m, uint32_t address, uint64_t *words, size_t n), (m, address, words, n))
-CALL(store, (envy_kept *m, uint32_t address, uint64_t word, uint32_t *holder), (m, address, word, holder))
+CALL(store, (envy_kept *m, uint32_t address, uint64_t word, uint32_t *holder), (m, address, word, OR_PLACE(holder, uint32_t)))
 CALL(begin, (envy_kept *m, uint32_t *slot), (m, slot))
-CALL(put, (envy_kept *m, uint32_t slot, uint32_t address, uint64_t word, uint32_t *holder), (m, slot, address, word, holder))
+CALL(put, (envy_kept *m, uint32_t slot, uint32_t address, uint64_t word, uint32_t *holder),
+     (m, slot, address, word, OR_PLACE(holder, uint32_t)))
 CALL(view, (envy_kept *m, uint32_t slot, uint32_t address, uint64_t *word), (m, slot, address, word))
 CALL(commit, (envy_kept *m, uint32_t slot), (m, slot))
 CALL(abort, (envy_kept *m, uint32_t slot), (m, slot))
@@ -28,7 +33,7 @@ CALL(tick, (envy_kept *m, uint32_t *did), (m, did))
 CALL(counts, (envy_kept *m, envy_counts *counts), (m, counts))
 CALL(index_create, (envy_kept *m), (m))
 CALL(index_get, (envy_kept *m, uint64_t key, uint64_t *value), (m, key, value))
-CALL(index_insert, (envy_kept *m, uint64_t key, uint64_t value, envy_old *before), (m, key, value, before))
+CALL(index_insert, (envy_kept *m, uint64_t key, uint64_t value, envy_old *before), (m, key, value, OR_PLACE(before, envy_old)))
 CALL(index_remove, (envy_kept *m, uint64_t key, uint64_t *value), (m, key, value))
 CALL(index_count, (envy_kept *m, uint64_t *count), (m, count))
 CALL(index_next, (envy_kept *m, uint64_t key, envy_pair *pair), (m, key, pair))
@@ -45,7 +50,8 @@ uint32_t envy_proved_write(envy_kept *m, uint32_t slot, uint32_t address, const 
                            uint32_t *holder);
 uint32_t envy_kept_write(envy_kept *m, uint32_t slot, uint32_t address, const uint64_t *words, size_t n, size_t *done,
                          uint32_t *holder) {
-    if (m->at) return envy_proved_write(m, slot, address, words, n, done, holder);
+    done = OR_PLACE(done, size_t);
+    if (m->at) return envy_proved_write(m, slot, address, words, n, done, OR_PLACE(holder, uint32_t));
     *done = 0;
     return ENVY_EMPTY;
 }

@@ -1,7 +1,7 @@
 /* A map in the array of a memory in a file, as envy_index.h has it over regions: what is said there of pairs, of what an
-   array must hold, of sizes and of refusals holds here too. Each call is one transaction, so from a call of envy_kept_sync
-   that answered ENVY_DONE on, whatever a stop of the process or of the machine leaves opens as the map of that sync or
-   of a later one, with no call half done. Several calls may share one sync.
+   array must hold, of sizes and of refusals holds here too. Each call is one transaction. So after a call of
+   envy_kept_sync that answered ENVY_DONE, whatever a stop of the process or of the machine leaves opens as the map of that
+   sync or of a later one, with no call half done. Several calls may share one sync.
 
    Each call may answer ENVY_OFF as well, if the file failed: close the memory and open the file again. It may have been
    done then, or not. */
@@ -22,9 +22,9 @@ uint32_t envy_kept_index_create(envy_kept *m);
 /* Writes the value of a key. ENVY_DONE, or ENVY_ABSENT: the map doesn't have the key. */
 uint32_t envy_kept_index_get(envy_kept *m, uint64_t key, uint64_t *value);
 
-/* Sets the value of a key, and writes the one that it had before, if any. ENVY_DONE, or ENVY_MAP_FULL: the map doesn't
-   have the key, and has as many pairs as it may have. From the next envy_kept_sync that answers ENVY_DONE on the pair
-   outlives the machine. */
+/* Sets the value of a key, and writes the one that it had before, if any; `before` may be NULL. ENVY_DONE, or
+   ENVY_MAP_FULL: the map doesn't have the key, and has as many pairs as it may have. From the next envy_kept_sync that
+   answers ENVY_DONE on the pair outlives the machine. */
 uint32_t envy_kept_index_insert(envy_kept *m, uint64_t key, uint64_t value, envy_old *before);
 
 /* Takes a key out of the map, and writes its value. ENVY_DONE, or ENVY_ABSENT: the map doesn't have the key. */

@@ -96,8 +96,9 @@ uint32_t envy_mapped_load(envy_mapped *m, uint32_t address, uint64_t *word);
 /* Writes the committed word at an address: what a restart would leave. ENVY_DONE, ENVY_EMPTY, ENVY_RANGE. */
 uint32_t envy_mapped_look(envy_mapped *m, uint32_t address, uint64_t *word);
 
-/* Writes the n words from an address on, also if open transactions put them: as n loads. ENVY_DONE, ENVY_EMPTY, or
-   ENVY_RANGE if one of the addresses lies past the last page, and then none is written. */
+/* Writes the n words from an address on, also if open transactions put them: those that n loads write. It counts one
+   access for each of their pages. ENVY_DONE, ENVY_EMPTY, or ENVY_RANGE if one of the addresses lies past the last page,
+   and then none is written. */
 uint32_t envy_mapped_read(envy_mapped *m, uint32_t address, uint64_t *words, size_t n);
 
 /* Makes the word at an address this. From then on it outlives the process. ENVY_DONE, ENVY_EMPTY, ENVY_RANGE, or

@@ -22,8 +22,8 @@
 
    When power fails inside a callback, the row or the segment that it is handed may hold anything, and nothing else.
 
-   What the memory does over a part, as flash with error-correcting words and NAND ask for: between two erases of a
-   segment each of its rows is ordered once at most, a later one lies higher than an earlier one, and a row is ordered
+   What the memory does over a part, as flash with error-correcting words and NAND ask for. Between two erases of a
+   segment each of its rows is ordered once at most, and a later one lies higher than an earlier one. A row is ordered
    only if it reads as all ones, so that the AND is the page. (Once and rising is proved of the pool of rows, also
    over failures of power; all of it is tested over failures of power and of flash.) Each order is made once: one call of
    `program` for the program of a row, one of `erase` for the erase of a segment, and a read of the part or a store to

@@ -37,10 +37,10 @@
    other call 3 KB.
    32-bit processors have no library. The counts of erases aren't asked for: the memory keeps wear in SRAM.
 
-   What is ordered of the part. Between two erases of a segment each of its rows is ordered once at most, a later one lies
-   higher than an earlier one, and a row is ordered only if it reads as all ones, as error-correcting words and NAND ask
-   (tested by drawn sessions with orders that go wrong, in examples/machine/failing.c; a clause says it of the pool of
-   rows alone). load, look, begin, commit, abort, counts, attach and close order nothing. store and put begin at most
+   What is ordered of the part. Between two erases of a segment each of its rows is ordered once at most, and a later one
+   lies higher than an earlier one. A row is ordered only if it reads as all ones, as error-correcting words and NAND ask.
+   (Tested by drawn sessions with orders that go wrong, in examples/machine/failing.c; a clause says it of the pool of
+   rows alone.) load, look, begin, commit, abort, counts, attach and close order nothing. store and put begin at most
    4 * rows + 16 programs and six erases, a tick one of either, format one erase of each segment (proved of the memory over
    any board).
 

@@ -16,8 +16,9 @@
      that of an envy_bytes, which isn't NULL even without bytes.
    - rattle_alloc, rattle_realloc and rattle_dealloc are those of heap.c, or do the same.
 
-   If power is off, or fails in the call, a call that reads or changes words, opens or closes slots, does work in
-   the background or writes an image answers ENVY_OFF, and so does each later one until envy_sim_revive answers ENVY_DONE.
+   If power is off, or fails in a call, that call answers ENVY_OFF, and so does each later one until envy_sim_revive answers
+   ENVY_DONE. That holds for each call that reads or changes words, opens or closes slots, does work in the background or
+   writes an image.
    If power failed in a call, it was done or not. ENVY_BAD says that a flash operation failed in the call, and no
    word changed. If a call answers anything but ENVY_DONE, what its pointers point to is as before, except for
    ENVY_HELD. If several answers would be right, it is the first of them in the order in which the call names them,

@@ -1,7 +1,7 @@
 #!/usr/bin/env bash
 # The long tests of the clients: hundreds of kills and of crashes of the machine, and SQLite's own programs.
 #
-#   clients/test.sh [WHAT..]      rounds, device, speedtest1, sqlite, memory; all of them if none is named
+#   clients/test.sh [WHAT..]      rounds, device, python, speedtest1, sqlite, memory; all of them if none is named
 #
 # The archives are made first, by `rt lib` in crates/envy_kept and crates/envy_mapped. speedtest1 and sqlite need SQLite's source
 # (Debian: apt-get source sqlite3), whose folder SQLITE_SOURCE names; sqlite needs tcl-dev too. ROUNDS (200) is how many rounds of
@@ -10,7 +10,7 @@ set -eu
 cd "$(dirname "$0")"
 rounds=${ROUNDS:-200}
 source=${SQLITE_SOURCE:-}
-make -s all tests
+make -s all tests python
 work=$(mktemp -d "${TMPDIR:-/tmp}/envy-clients.XXXXXX")
 trap 'rm -rf "$work"' EXIT
 export EXTENSION=$PWD/out/envyvfs.so
@@ -34,6 +34,8 @@ device() {
     tests/nbd_rounds.py kill "$((rounds / 4))" --seed 4 --mapped
     tests/fs_rounds.py "$((rounds / 2))" || [ $? = 77 ]
 }
+
+python() { ENVY_KILLS=$rounds tests/python.sh "$work"; }
 
 has_source() {
     [ -n "$source" ] && [ -e "$source/test/speedtest1.c" ] && return
@@ -64,6 +66,6 @@ memory() {
     SHIM_DELAY=0 LD_PRELOAD=$PWD/out/tests/shim.so valgrind -q --error-exitcode=9 out/tests/speed insert100 30 5 "$(uri speed "")" synchronous=full
 }
 
-for what in "${@:-rounds device speedtest1 sqlite memory}"; do
+for what in "${@:-rounds device python speedtest1 sqlite memory}"; do
     for it in $what; do $it; done
 done

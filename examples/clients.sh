@@ -1,6 +1,7 @@
 #!/usr/bin/env bash
-# The clients in C, a VFS of SQLite and a plugin of nbdkit, as their users meet them and as they are stopped: some rounds of
-# each, in a few minutes. clients/test.sh makes many. It needs gcc and the programs below, and skips what isn't here.
+# The clients, a VFS of SQLite, a plugin of nbdkit and a package for Python, as their users meet them and as they are
+# stopped: some rounds of each, in a few minutes. clients/test.sh makes many. It needs gcc and the programs below, and skips
+# what isn't here.
 set -eu
 cd "$(dirname "$0")"
 if ! gcc --version >/dev/null 2>&1; then
@@ -9,7 +10,7 @@ if ! gcc --version >/dev/null 2>&1; then
 fi
 library/build.py envy_mapped envy_kept
 cd ../clients
-make -s all tests
+make -s all tests python
 tests=tests
 # has TEXT PROGRAM-OR-FILE..: whether they are here; else TEXT wasn't tried
 has() {
@@ -50,4 +51,7 @@ if has "the device" out/envy.so nbdkit nbdinfo nbdcopy python3; then
         $tests/nbd_rounds.py kill 5 --mapped
     fi
     $tests/fs_rounds.py 3 || [ $? = 77 ]
+fi
+if has "the package for Python" python3 ../c/out/libenvy_kept.so.0; then
+    $tests/python.sh "$work"
 fi

@@ -1,6 +1,6 @@
 #!/usr/bin/env bash
 # The largest board: 4,096 segments of 4,096 rows, 4 GiB of flash, filled to four fifths. Each page is stored once, and
-# then others are until the last row of the flash is programmed. The board is saved, audited, mapped, and taken up again
+# then others are until the last row of the flash is programmed. The board is saved, audited, mapped, and resumed
 # with the words that were stored: each time through a pipe, since the image has 4.5 GB.
 #
 #   examples/large.sh [--rows N] [--alone 1]
@@ -22,12 +22,10 @@ done
 segments=4096 frames=64
 pages=$((segments * rows * 4 / 5))
 # a row has 256 bytes, and SRAM and the program's own lists some 32 more
-needed=$((segments * rows * 288 / 1024 * (2 - alone)))
+needed=$((segments * rows * 288 * (2 - alone) / 1024))
 available=$(awk '$1 == "MemAvailable:" { print $2 }' /proc/meminfo)
-if [ "$available" -lt "$needed" ]; then
-    echo "large: skipped: it needs $((needed / 1024)) MiB of memory, and $((available / 1024)) are available" >&2
-    exit 0
-fi
+echo "large: it needs $((needed / 1024)) MiB of memory, and $((available / 1024)) are available"
+[ "$available" -ge "$needed" ] || { echo "large: skipped"; exit 0; }
 program=${ENVY-}
 [ -n "$program" ] || program=$("$top/envy" --program counted)
 shape="--segments $segments --rows $rows --pages $pages --shadows 16 --frames $frames --entries $frames"

@@ -67,6 +67,21 @@ gcc -Wall -Wextra $($config --cflags) -o "$work/runs" "$work/counter.c" $($confi
 [ "$(cat "$work/told")" = "$(printf 'run 1: done\nrun 2: done')" ]
 echo "library: what is installed links and runs"
 
+# the shared object shows each function of its headers and nothing else, and a program that is linked with it runs
+printf '#include "%s"\n' envy_kept.h envy_kept_file.h envy_kept_index.h envy_setup.h envy_text.h >"$work/all.c"
+# shellcheck disable=SC2046
+gcc $($config --cflags) -fsyntax-only -aux-info "$work/functions" "$work/all.c"
+grep -o 'envy_[a-z0-9_]* (' "$work/functions" | tr -d ' (' | sort -u >"$work/wanted"
+nm -D --defined-only "$work/installed/lib/libenvy_kept.so.0" | sed 's/.* //' | sort >"$work/shown"
+cmp "$work/wanted" "$work/shown"
+# shellcheck disable=SC2046
+gcc -Wall -Wextra $($config --cflags) -o "$work/loads" "$work/runs.c" $($config --libs-kept-shared)
+mkdir "$work/loaded"
+(cd "$work/loaded" && export LD_LIBRARY_PATH="$work/installed/lib" && ../loads && ../loads) >"$work/told"
+[ "$(cat "$work/told")" = "$(printf 'run 1: done\nrun 2: done')" ]
+if (cd "$work/loaded" && ../loads) >/dev/null 2>&1; then exit 1; fi # (it does need it)
+echo "library: the shared object shows the $(wc -l <"$work/shown") functions of its headers, and runs"
+
 # 10,000 commands that are drawn, some loads made looks, and a failure of power before every thousandth
 ../envy gen --start 20 --lines 10000 |
     awk 'NR % 1000 == 0 { print "power" } NR % 7 == 0 { sub(/^load/, "look") } { print }' >"$work/trace"

@@ -7,7 +7,7 @@
 #   examples/opening.sh [--rows N] [FOLDER]
 #
 # --rows: rows of a segment (1024). The folder (that of temporary files) needs three times the file's room, and the program
-# 1.3 GB of memory. Takes some minutes. Without a proof the times are those of a trial's program, which checks as it runs;
+# 2.3 GB of memory. Takes some minutes. Without a proof the times are those of a trial's program, which checks as it runs;
 # ENVY names another program.
 set -eu
 top=$(cd "$(dirname "$0")/.." && pwd)
@@ -35,7 +35,7 @@ milliseconds() {
 }
 
 awk -v pages=$pages 'BEGIN { for (p = 0; p < pages; p++) print "store", 32 * p, p + 1 }' | keep >/dev/null
-best_open= best_copy=
+best_open="" best_copy=""
 for _ in 1 2 3; do
     opened=$(milliseconds keep)
     copied=$(milliseconds copy)

@@ -26,8 +26,10 @@ git clone -q . "$work/clone" || exit 1
 cp release.sh envy VERSION "$work/clone" && cp words/* "$work/clone/words" && cp c/Makefile "$work/clone/c"
 mkdir -p "$work/from/x86_64" "$work/from/aarch64"
 echo 'int envy_stand_in;' >"$work/stand_in.c"
-gcc -c -o "$work/x86_64.o" "$work/stand_in.c"
-aarch64-linux-gnu-gcc -c -o "$work/aarch64.o" "$work/stand_in.c"
+# (what the C beside the archive of kept files calls has to be there for the shared object)
+sed -n 's/^[a-z].*[ *]\(envy_kept_[a-z_]*\)(.*/int \1;/p' c/envy_kept.h c/envy_kept_index.h >>"$work/stand_in.c"
+gcc -fPIC -c -o "$work/x86_64.o" "$work/stand_in.c"
+aarch64-linux-gnu-gcc -fPIC -c -o "$work/aarch64.o" "$work/stand_in.c"
 for name in mapped sim kept parted; do
     ar rcs "$work/from/x86_64/libenvy_$name.a" "$work/x86_64.o"
     aarch64-linux-gnu-ar rcs "$work/from/aarch64/libenvy_$name.a" "$work/aarch64.o"
@@ -56,18 +58,27 @@ if command -v dpkg-deb >/dev/null; then
     dpkg-deb -x "$work/clone/out/envy_${version}_amd64.deb" "$work/installed" || fail "the package isn't one"
     answers "the package" "$work/installed/usr/bin/envy"
     for file in usr/lib/libenvy_parted.a usr/include/envy_kept.h usr/share/envy/aarch64/libenvy_kept.a usr/share/doc/envy/copyright \
+        usr/lib/libenvy_kept.so usr/share/envy/aarch64/libenvy_kept.so.0 usr/lib/python3/dist-packages/envy/memory.py \
         usr/share/doc/envy/changelog.gz usr/share/man/man1/envy.1.gz usr/share/bash-completion/completions/envy; do
         [ -s "$work/installed/$file" ] || fail "the package has no $file"
     done
 else
     echo "released: no package was tried: dpkg-deb is not on the path" >&2
 fi
-for file in LICENSE NOTICE CHANGELOG.md rust/Cargo.toml lib/x86_64/libenvy_parted.a lib/aarch64/libenvy_parted.a include/envy_parted.h; do
+for file in LICENSE NOTICE CHANGELOG.md rust/Cargo.toml lib/x86_64/libenvy_parted.a lib/aarch64/libenvy_parted.a include/envy_parted.h \
+    lib/x86_64/libenvy_kept.so.0 lib/aarch64/libenvy_kept.so; do
     [ -s "$here/$file" ] || fail "the tar has no $file"
 done
 grep -q "^version = \"$version\"" "$here/rust/Cargo.toml" || fail "the Rust package has another version"
+grep -q "^__version__ = \"$version\"" "$here/clients/python/envy/__init__.py" || fail "the Python package has another version"
 grep -q "ENVY_VERSION \"$version\"" "$here/include/envy_text.h" || fail "the header has another version"
 grep -q "^## $version" CHANGELOG.md || fail "CHANGELOG.md has nothing of $version"
+
+# the package for Python finds the library of the tar
+if [ "$(uname -m)" = x86_64 ] && python3 --version >/dev/null 2>&1; then
+    said=$(cd "$here" && PYTHONPATH=clients/python python3 -B -c 'import envy; print(envy.library_version())' 2>&1)
+    [ "$said" = "$version" ] || fail "Python: $said"
+fi
 
 # completed WORDS..: what is offered for the last word
 completed() {
@@ -89,7 +100,7 @@ make -s -C "$work/clone/c" MAPPED="$work/from/x86_64/libenvy_mapped.a" MEMORY="$
     KEPT="$work/from/x86_64/libenvy_kept.a" PARTED="$work/from/x86_64/libenvy_parted.a" PREFIX="$work/prefix" install || fail "nothing was installed"
 [ "$(find "$work/prefix" -type f | wc -l)" -ge 18 ] || fail "too little was installed"
 make -s -C "$work/clone/c" PREFIX="$work/prefix" uninstall
-[ -z "$(find "$work/prefix" -type f)" ] || fail "uninstall left $(find "$work/prefix" -type f | head -n 3)"
+[ -z "$(find "$work/prefix" ! -type d)" ] || fail "uninstall left $(find "$work/prefix" ! -type d | head -n 3)"
 
 [ "$failures" = 0 ] && echo "released: all is as it must be"
 [ "$failures" = 0 ]

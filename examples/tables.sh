@@ -1,21 +1,22 @@
 #!/usr/bin/env bash
-# The tables that pages have from other files: in docs/ARCHITECTURE.md the crates, from crates.txt and what each crate's own
-# text begins with; in docs/COMMANDS.md the commands and the options, from words/table. Prints them; with --write they
+# The tables that pages have from other files: in docs/ARCHITECTURE.md the list of crates, from crates.txt and what each crate's own
+# text begins with (those of tests by name alone); in docs/COMMANDS.md the commands and the options, from words/table. Prints them; with --write they
 # are put into the pages, with --compare they are compared with what the pages have.
 set -eu
 cd "$(dirname "$0")/.."
 how=${1-}
 
-# what a crate's text begins with: up to a stop, or up to a colon after five words or more
+# what a crate's text begins with: up to a stop, a colon after five words or more, or a clause that says more of it
 first_sentence() { # NAME
     local root=crates/$1/src/lib.rt
     [ -f "$root" ] || root=crates/$1/src/main.rt
     awk '/^\/\/! ?$/ || !/^\/\/!/ { exit } { sub(/^\/\/! ?/, ""); printf "%s%s", between, $0; between = " " }' "$root" |
-        sed -E 's/[.;] .*//; s/[.]$//; s/^(([^ :]+ ){4,}[^ :]+): .*/\1/'
+        sed -E 's/[.;] .*//; s/[.]$//; s/^(([^ :]+ ){4,}[^ :]+): .*/\1/
+            s/^(([^ ]+ ){2,}[^ ,]+), (so that|which|whose|where|whatever|driven|handed|failures|each one|one of each|as a?by|with the|for callers|for those|those that) .*/\1/'
 }
 
 crates() {
-    local line name heading=
+    local line name heading= printed= between=
     while IFS= read -r line; do
         case $line in
         '# A line for each crate'*) ;;
@@ -23,14 +24,16 @@ crates() {
         *:*)
             name=${line%%:*}
             name=${name%% *}
-            if [ -n "$heading" ]; then
-                printf '\n**%s**\n\n| | |\n|---|---|\n' "$heading"
-                heading=
-            fi
-            printf '| `%s` | %s |\n' "$name" "$(first_sentence "$name")"
+            [ "$heading" = "$printed" ] || printf '\n**%s**\n\n' "$heading"
+            printed=$heading
+            case $heading in
+            Tests*) printf '%s`%s`' "$between" "$name" && between=', ' ;;
+            *) printf -- '- `%s`: %s\n' "$name" "$(first_sentence "$name")" ;;
+            esac
             ;;
         esac
     done <crates.txt
+    printf '%s\n' "${between:+.}"
     echo
 }
 

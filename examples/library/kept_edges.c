@@ -315,6 +315,91 @@ static void refused(void) {
     WANT(envy_kept_close_file(&f), ENVY_DONE);
 }
 
+/* The setup that a file was made with, before it is opened. What is no such file is told by its code. */
+static void shapes(void) {
+    envy_kept_file *f = envy_kept_file_new();
+    envy_setup found = {.segments = 1};
+    WANT(envy_kept_file_shape("shaped", &found), ENVY_SYSTEM);
+    WANT(errno, ENOENT);
+    WANT(envy_kept_file_shape(".", &found), ENVY_SYSTEM);
+    make("shaped", "", 0644);
+    WANT(envy_kept_file_shape("shaped", &found), ENVY_NO_JOURNAL);
+    WANT(unlink("shaped"), 0);
+    WANT(envy_kept_open_file(f, "shaped", &setup), ENVY_DONE);
+    WANT(found.segments, 1);
+    WANT(envy_kept_file_shape("shaped", &found), ENVY_DONE);
+    WANT(found.segments, setup.segments);
+    WANT(found.rows, setup.rows);
+    WANT(found.pages, setup.pages);
+    WANT(found.shadows, setup.shadows);
+    WANT(found.frames, setup.frames);
+    WANT(found.entries, setup.entries);
+    WANT(found.policy, ENVY_GREEDY);
+    WANT(found.limit, 100);
+    WANT(found.mark, setup.frames);
+    /* (the handle of the memory is at the address of the place) */
+    WANT(envy_kept_powered((envy_kept *)f), ENVY_DONE);
+    WANT(envy_kept_close_file(f), ENVY_DONE);
+    WANT(envy_kept_open_file(f, "shaped", &found), ENVY_DONE);
+    WANT(envy_kept_close_file(f), ENVY_DONE);
+    int descriptor = open("shaped", O_WRONLY);
+    WANT(pwrite(descriptor, "\t", 1, 8), 1);
+    WANT(envy_kept_file_shape("shaped", &found), ENVY_OTHER_JOURNAL);
+    WANT(pwrite(descriptor, "\2\0", 2, 8), 2);
+    WANT(envy_kept_file_shape("shaped", &found), ENVY_NO_JOURNAL);
+    WANT(ftruncate(descriptor, 32), 0);
+    WANT(envy_kept_file_shape("shaped", &found), ENVY_NO_JOURNAL);
+    WANT(close(descriptor), 0);
+    make("shaped", "a text of another kind that is longer than a head", 0644);
+    WANT(envy_kept_file_shape("shaped", &found), ENVY_NO_JOURNAL);
+}
+
+/* What isn't asked for needs no place. */
+static void not_asked(void) {
+    static const envy_setup for_a_map = {
+        .segments = 8, .rows = 16, .pages = 40, .shadows = 32, .frames = 8, .entries = 4,
+        .policy = ENVY_GREEDY, .part = 2, .limit = 100, .mark = 6,
+    };
+    envy_kept_file f = ENVY_KEPT_FILE_INIT;
+    envy_kept *m = &f.memory;
+    uint64_t words[] = {1, 2, 3}, word;
+    uint32_t slot, other;
+    WANT(envy_kept_open_file(&f, "unasked", &for_a_map), ENVY_DONE);
+    WANT(envy_kept_begin(m, &slot), ENVY_DONE);
+    WANT(envy_kept_begin(m, &other), ENVY_DONE);
+    WANT(envy_kept_put(m, slot, 5, 7, NULL), ENVY_DONE);
+    WANT(envy_kept_put(m, other, 6, 7, NULL), ENVY_HELD);
+    WANT(envy_kept_store(m, 6, 7, NULL), ENVY_HELD);
+    WANT(envy_kept_store(m, 40, 7, NULL), ENVY_DONE);
+    WANT(envy_kept_write(m, slot, 6, words, 3, NULL, NULL), ENVY_DONE);
+    WANT(envy_kept_write(m, other, 6, words, 3, NULL, NULL), ENVY_HELD);
+    WANT(word_at(&f, 8), 3);
+    WANT(envy_kept_abort(m, slot), ENVY_DONE);
+    WANT(envy_kept_abort(m, other), ENVY_DONE);
+    WANT(envy_kept_index_create(m), ENVY_DONE);
+    WANT(envy_kept_index_insert(m, 9, 90, NULL), ENVY_DONE);
+    WANT(envy_kept_index_insert(m, 9, 91, NULL), ENVY_DONE);
+    WANT(envy_kept_index_get(m, 9, &word), ENVY_DONE);
+    WANT(word, 91);
+    WANT(envy_kept_close_file(&f), ENVY_DONE);
+}
+
+/* A new file has the access rights that the umask leaves, and keeps them as it is compacted. */
+static void rights(void) {
+    envy_kept_file f = ENVY_KEPT_FILE_INIT;
+    struct stat found;
+    mode_t before = umask(027);
+    WANT(envy_kept_open_file(&f, "rights", &setup), ENVY_DONE);
+    store(&f, 5, 7);
+    for (int i = 0; i < 2; i++) {
+        WANT(stat("rights", &found), 0);
+        WANT(found.st_mode & 07777, 0640);
+        WANT(envy_kept_compact(&f.memory), ENVY_DONE);
+    }
+    WANT(envy_kept_close_file(&f), ENVY_DONE);
+    umask(before);
+}
+
 int main(int words, char **word) {
     if (words != 2 || chdir(word[1])) return 2;
     alarm(300);
@@ -328,7 +413,10 @@ int main(int words, char **word) {
     never_synced();
     another_kind();
     refused();
+    shapes();
+    not_asked();
+    rights();
     puts("kept files: closed streams, forked processes, a moved file, names that others have, too many files, stores without a sync "
-         "and files of another kind do no harm");
+         "and files of another kind do no harm; shapes, rights and what isn't asked for");
     return 0;
 }

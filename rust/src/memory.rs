@@ -137,7 +137,8 @@ impl Memory {
         Ok(word)
     }
 
-    /// Fills `words` with those from an address on, as so many loads.
+    /// Fills `words` with those from an address on, which so many loads would give. It counts one access for each of
+    /// their pages.
     ///
     /// # Errors
     ///

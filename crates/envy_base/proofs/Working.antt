@@ -17,7 +17,7 @@ pub was_on : (k : ℕ) (a b : Sheet) → Works k a b → IsTrue b.on → IsTrue 
 was_on k a b w on = elim (on_or_off a.on) [ inl y ↦ y | inr n ↦ no_both b.on on (w.dark n) ]
 
 pub Works-refl : (s : Sheet) → Works 0 s s
-Works-refl s = record { long = refl; kept = refl; room = refl; fixed = refl; cuts = omega arith; bads = omega arith; dark = λ e. e; cut = λ t f. no_both s.on t f; still = λ _. refl; few = λ _. omega arith; seen = λ _ p h. h }
+Works-refl s = record { long = refl; kept = refl; room = refl; fixed = refl; cuts = omega arith; bads = omega arith; dark = λ e. e; cut = λ t f. no_both s.on t f; still = λ _. refl; few = λ _. omega arith; seen = λ _ p h. h; beside = inl refl; kept_beside = refl }
 
 rose-low : (a b c : ℕ) → Rose a b → b ≤ c → Rose a c
 rose-low a b c r le lt = let h = r lt in omega arith
@@ -35,14 +35,21 @@ Works-trans j k a b c v w = record {
   still = λ on. w.still on ∙ v.still (was_on k b c w on);
   few = λ on. omega (arith, w.few on, v.few (was_on k b c w on));
   seen = λ on p h. w.seen on p (v.seen (was_on k b c w on) p h);
+  beside = stay v.beside w.beside;
+  kept_beside = w.kept_beside ∙ v.kept_beside;
 }
   where
+    stay : (b.beside ≡ a.beside) ⊎ ((b.on ≡ false) × (b.beside ≡ a.kept_beside)) → (c.beside ≡ b.beside) ⊎ ((c.on ≡ false) × (c.beside ≡ b.kept_beside)) → (c.beside ≡ a.beside) ⊎ ((c.on ≡ false) × (c.beside ≡ a.kept_beside))
+    stay (inl s) (inl t) = inl (t ∙ s)
+    stay (inr s) (inl t) = inr (w.dark s.0, t ∙ s.1)
+    stay s (inr t) = inr (t.0, t.1 ∙ v.kept_beside)
+
     rise_high : Rose b.cuts c.cuts → Rose a.cuts c.cuts
     rise_high r lt = elim (cases_lt b.cuts (2 ^ 64 - 1)) [ inl l ↦ (let h : b.cuts < c.cuts = r l in omega (arith, v.cuts)) | inr g ↦ omega (arith, v.cuts, w.cuts, g) ]
 
 -- another count of pages
 pub Works-few : (j k : ℕ) (a b : Sheet) → Works j a b → (IsTrue b.on → length b.pages ≤ length a.pages + k) → Works k a b
-Works-few j k a b w few = record { long = w.long; kept = w.kept; room = w.room; fixed = w.fixed; cuts = w.cuts; bads = w.bads; dark = w.dark; cut = w.cut; still = w.still; few = few; seen = w.seen }
+Works-few j k a b w few = record { long = w.long; kept = w.kept; room = w.room; fixed = w.fixed; cuts = w.cuts; bads = w.bads; dark = w.dark; cut = w.cut; still = w.still; few = few; seen = w.seen; beside = w.beside; kept_beside = w.kept_beside }
 
 pub Works-more : (j k : ℕ) (a b : Sheet) → j ≤ k → Works j a b → Works k a b
 Works-more j k a b le w = Works-few j k a b w (λ on. omega (arith, w.few on))

@@ -28,6 +28,9 @@ pub record Sheet : Type 0 where
   pub price : Work
   -- further numbers of the memory, which no call of the trait changes
   pub fixed : List ℕ
+  -- words beside these, if this memory is a part of another one, and what is kept of them
+  pub beside : List ℕ
+  pub kept_beside : List ℕ
 
 -- Without an open transaction the words are the kept words, and none is open without power.
 pub record IsSheet (s : Sheet) : Type 0 where
@@ -35,6 +38,7 @@ pub record IsSheet (s : Sheet) : Type 0 where
   pub few : length s.words < 2 ^ 32
   pub shut : s.started ≡ false → s.words ≡ s.kept
   pub off : s.on ≡ false → s.started ≡ false
+  pub shut_beside : s.started ≡ false → s.beside ≡ s.kept_beside
 
 -- a count that stops at the top rose
 abbrev pub Rose : ℕ → ℕ → Type 0
@@ -50,8 +54,8 @@ pub record Spends (n : ℕ) (old new : Sheet) : Type 0 where
   pub programs : new.work.programs ≤ old.work.programs + n * old.price.programs
   pub erases : new.work.erases ≤ old.work.erases + n * old.price.erases
 
--- Work within a transaction, at every exit: it leaves the kept words, and puts at most k pages more.
--- Power goes only where cuts rose, and doesn't return.
+-- Work within a transaction, at every exit: it leaves the kept words, and puts at most k pages more. The words beside stay, or
+-- are the kept ones without power. Power goes only where cuts rose, and doesn't return.
 pub record Works (k : ℕ) (old new : Sheet) : Type 0 where
   pub long : length new.words ≡ length old.words
   pub kept : new.kept ≡ old.kept
@@ -64,6 +68,8 @@ pub record Works (k : ℕ) (old new : Sheet) : Type 0 where
   pub still : IsTrue new.on → new.started ≡ old.started
   pub few : IsTrue new.on → length new.pages ≤ length old.pages + k
   pub seen : IsTrue new.on → (p : ℕ) → IsTrue (has old.pages p) → IsTrue (has new.pages p)
+  pub beside : (new.beside ≡ old.beside) ⊎ ((new.on ≡ false) × (new.beside ≡ old.kept_beside))
+  pub kept_beside : new.kept_beside ≡ old.kept_beside
 
 -- Work that puts no page but p, at every exit.
 pub record OnPage (p : ℕ) (old new : Sheet) : Type 0 where
@@ -80,7 +86,7 @@ Puts old a w (Ok done) new = IsTrue new.on × (new.words ≡ slice_set old.words
 Puts old a w (Err TroubleOff) new = new.on ≡ false
 Puts old a w (Err Bad) new = IsTrue new.on × (new.words ≡ old.words) × (new.pages ≡ old.pages) × Rose old.bads new.bads
 
--- What start, finish and undo keep at every exit.
+-- What start, finish and undo keep at every exit. Words beside stay if all of them are kept.
 pub record Keeps (old new : Sheet) : Type 0 where
   pub long : length new.words ≡ length old.words
   pub room : new.room ≡ old.room
@@ -89,6 +95,7 @@ pub record Keeps (old new : Sheet) : Type 0 where
   pub bads : old.bads ≤ new.bads
   pub dark : old.on ≡ false → new.on ≡ false
   pub cut : IsTrue old.on → new.on ≡ false → Rose old.cuts new.cuts
+  pub beside : old.beside ≡ old.kept_beside → (new.beside ≡ old.beside) × (new.kept_beside ≡ old.kept_beside)
 
 abbrev pub Starts : Sheet → Result Unit Off → Sheet → Type 0
 Starts old (Ok done) new = IsTrue new.on × IsTrue new.started × (new.words ≡ old.words) × (new.kept ≡ old.kept) × (new.pages ≡ [])

@@ -1,22 +1,18 @@
--- What reading and putting several words answer by a number, and what they leave in the place for a memory: so many
--- loads or puts of one word each, at an address and behind it.
-use Rattle.std.specs.Prelude.{◌≡◌, ◌≢◌, ◌↔◌, ◌⊎◌, ◌+◌, ◌*◌, ◌<◌, ℕ, zero, suc, false, IsTrue, OnOk, OnErr, length, slice_index, List, Option, None, Some, Result, Ok, Err}
+-- What reading and putting several words answer by a number, and what they leave in the place for a memory.
+use Rattle.std.specs.Prelude.{◌≡◌, ◌≢◌, ◌↔◌, ◌⊎◌, ◌+◌, ◌/◌, ◌<◌, ℕ, zero, suc, false, OnOk, OnErr, length, slice_index, List, Option, None, Some, Result, Ok, Err}
 use Rattle.envy_base.specs.Array.{Array}
 use Rattle.envy_base.specs.Step.{Step, Put, Done as DoneOf}
 use Rattle.envy_layout.specs.Stands.{Stands}
+use Rattle.envy_memory.specs.LoadRuns.{AreLive, Crosses, LoadsRun}
 use Rattle.envy_memory.specs.Picture.{Picture}
+use Rattle.envy_memory.specs.Runs.{RunsPast, pages_met}
 use Rattle.envy_memory.specs.declared.faults.LoadFault.{LoadFault}
 use Rattle.envy_memory.specs.declared.faults.LoadFault.TheVariants.{Off as LoadOff, Range as LoadRange}
-use Rattle.envy_calls.specs.Answers.{LoadsTo, PutsTo, slot_named}
+use Rattle.envy_calls.specs.Answers.{PutsTo, slot_named}
 use Rattle.envy_calls.specs.Codes.{number_of}
 use Rattle.envy_calls.specs.declared.code.Code.{Code}
 use Rattle.envy_calls.specs.declared.code.Code.TheVariants.{Done, Empty, Off, Range}
 use Rattle.envy_base.specs.declared.page.TheConstants.{PAGE_WORDS}
-
--- the first k of these words were loaded, one after another
-abbrev pub Loaded : ℕ → List ℕ → ℕ → Picture → Picture → Type 0
-Loaded zero words a p q = q ≡ p
-Loaded (suc k) words a p q = (r : Picture) × Loaded k words a p r × LoadsTo r q (a + k) (number_of Done) 0 (slice_index words k)
 
 -- slot t put the first k of these words, one after another
 abbrev pub Wrote : ℕ → List ℕ → ℕ → ℕ → ℕ → Picture → Picture → Type 0
@@ -33,19 +29,16 @@ read_code (Ok done) = Done
 read_code (Err LoadOff) = Off
 read_code (Err LoadRange) = Range
 
--- there are words, and the last one's address lies past the last page
-abbrev pub GoesPast : Picture → ℕ → ℕ → Type 0
-GoesPast p a n = (0 < n) × (PAGE_WORDS * p.chart.shape.pages < a + n)
-
--- Each word is the array's at its address. Refused, nothing was read.
+-- what a run of loads answers by a number
 pub record ReadsTo (p q : Picture) (a code : ℕ) (before after : List ℕ) : Type 0 where
   pub answer : Result Unit LoadFault
   pub coded : code ≡ number_of (read_code answer)
   pub long : length after ≡ length before
-  pub words : OnOk answer ((m : Array) → Stands p.chart m → (i : ℕ) → i < length after → (a + i < length m.words) × (slice_index after i ≡ slice_index m.words (a + i)))
-  pub loads : OnOk answer (Loaded (length after) after a p q)
-  pub off : (answer ≡ Err LoadOff) ↔ (p.chart.on ≡ false)
-  pub range : (answer ≡ Err LoadRange) ↔ (IsTrue p.chart.on × GoesPast p a (length before))
+  pub step : (m : Array) → Stands p.chart m → LoadsRun m a after answer q.chart
+  pub words : OnOk answer (AreLive p.chart a after)
+  pub off : (answer ≡ Err LoadOff) ↔ (q.chart.on ≡ false)
+  pub range : (answer ≡ Err LoadRange) ↔ RunsPast a (length before) p
+  pub visits : OnOk answer (Crosses (pages_met a (length before)) (a / PAGE_WORDS) p.parts.cache q.parts.cache)
   pub kept : q ≡ record p { parts = record p.parts { cache = q.parts.cache } }
   pub refused : OnErr answer ((q ≡ p) × (after ≡ before))
 

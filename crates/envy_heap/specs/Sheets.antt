@@ -16,4 +16,6 @@ sheet_of words kept started pages used = record {
   work = record { programs = 0; erases = 0 };
   price = record { programs = 0; erases = 0 };
   fixed = [];
+  beside = [];
+  kept_beside = [];
 }

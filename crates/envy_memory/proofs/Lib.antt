@@ -9,6 +9,7 @@ pub mod Ended
 pub mod Facts
 pub mod FormatLemmas
 pub mod HitsLemmas
+pub mod LoadRuns
 pub mod Owning
 pub mod Pricing
 pub mod PutAnswers

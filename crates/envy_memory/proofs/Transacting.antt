@@ -95,6 +95,8 @@ sheet-works k i j p q b w cut kept few seen = record {
   still = still-on p.chart.on q.chart.on b (dark-works i j p.chart q.chart w);
   few = few;
   seen = seen;
+  beside = inl refl;
+  kept_beside = refl;
 }
 
 pub sheet-keeps : (i j : ℕ) (p q : Picture) (b d : Bool) → Works i j p.chart q.chart → IsCut p.chart q.chart → Keeps (sheet_of p b) (sheet_of q d)
@@ -106,6 +108,7 @@ sheet-keeps i j p q b d w cut = record {
   bads = Counted.bads w.counted;
   dark = dark-works i j p.chart q.chart w;
   cut = cut;
+  beside = λ _. (refl, refl);
 }
 
 -- it has begun, and power is on

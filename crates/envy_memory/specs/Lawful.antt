@@ -1,6 +1,6 @@
 -- The words of a memory with one transaction are as those of any memory of words.
 use Rattle.std.specs.Prelude.{◌≡◌, ℕ, ◌*◌, ◌^◌, ◌<◌, ◌&&◌, Bool, true, false, length}
-use Rattle.std.proofs.Common.{sym, ◌∙◌, ap, subst}
+use Rattle.std.proofs.Common.{sym, ◌∙◌, ap, refl, subst}
 use Rattle.envy_base.specs.Words.{IsSheet}
 use Rattle.envy_layout.proofs.WordLists.{length-live, length-durable}
 use Rattle.envy_map.specs.Fields.{Chart}
@@ -19,4 +19,5 @@ lawful_sheet p begun few = record {
   few = subst (λ (n : ℕ). n < 2 ^ 32) (sym (words_long (p.chart.on && begun) p.chart)) few;
   shut = λ shut. ap (λ (b : Bool). words_read b p.chart) shut;
   off = λ off. ap (λ (b : Bool). b && begun) off;
+  shut_beside = λ _. refl;
 }

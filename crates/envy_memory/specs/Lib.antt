@@ -6,8 +6,11 @@ pub mod Faults
 pub mod Formats
 pub mod Hits
 pub mod Lawful
+pub mod LoadRuns
 pub mod Making
+pub mod Opened
 pub mod Picture
 pub mod Restarts
 pub mod Rises
+pub mod Runs
 pub mod Sheets

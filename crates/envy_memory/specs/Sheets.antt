@@ -46,6 +46,8 @@ sheet_of p begun = record {
   work = record { programs = p.chart.begun; erases = sum p.chart.erases };
   price = put_price p.chart.shape;
   fixed = fixed_of p.chart;
+  beside = [];
+  kept_beside = [];
 }
 
 -- no slot is open, or the first alone

@@ -1,15 +1,24 @@
-ghost use Rattle.std.specs.Prelude.{◌≡◌, ◌≢◌, ◌↔◌, false, Ok, Err};
+ghost use Rattle.std.specs.Prelude.{◌≡◌, ◌≢◌, ◌↔◌, false, MatchResult, Ok, Err};
 ghost use Rattle.envy_base.specs.Array.{Array};
 ghost use Rattle.envy_layout.specs.Stands.{Stands};
 ghost use Rattle.envy_memory.specs.Below.{BeginsBelow, CommitsBelow, AbortsBelow, IsBusy, IsShut};
 ghost use Rattle.envy_memory.specs.Calls.{Begins, Commits, Aborts, IsCut, Undisturbed};
+ghost use Rattle.envy_memory.specs.Opened.{IsFirstOpen};
 
 use crate::faults::{BeginFault, EndFault};
+use crate::looking::lowest_open;
 use crate::memory::Memory;
-use envy_base::Board;
+use envy_base::{Board, Off};
 use envy_flush::{abort_pages, commit_pages, first_vacant, is_open, open_slot};
 
 impl<B: Board> Memory<B> {
+    /// The lowest slot that is open, if one is. No slot above it is read, so it is found at once if it is the first.
+    pub fn first_open(&self) -> Result<Option<u8>, Off>
+        ensures { MatchResult result (IsFirstOpen self.now.chart) (λ _. self.now.chart.on ≡ false) }
+    {
+        lowest_open(&self.board)
+    }
+
     /// Opens the lowest slot that isn't open.
     ///
     /// # Errors

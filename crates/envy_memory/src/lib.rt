@@ -10,6 +10,7 @@ mod ending;
 mod faults;
 mod format;
 mod laws;
+mod load_runs;
 mod looking;
 mod making;
 mod memory;

@@ -1,8 +1,9 @@
-ghost use Rattle.std.specs.Prelude.{◌≡◌, ◌<◌, false, Some, OnErr, IfOk};
+ghost use Rattle.std.specs.Prelude.{◌≡◌, ◌<◌, false, Some, MatchResult, OnErr, IfOk};
 ghost use Rattle.envy_map.specs.Fields.{chart};
 ghost use Rattle.envy_layout.specs.Sound.{IsSound};
 ghost use Rattle.envy_layout.specs.Words.{kept};
 ghost use Rattle.envy_flush.specs.Pages.{InRange};
+ghost use Rattle.envy_memory.specs.Opened.{IsFirstOpen};
 
 use envy_base::{Board, Off, Place, Slot, Undo};
 use envy_map::{place, slot, undo};
@@ -26,4 +27,18 @@ pub fn kept_place<B: Board>(board: &B, page: u32) -> Result<Place, Off>
             _ => place(board, page),
         },
     }
+}
+
+/// The lowest slot that is open, if one is. No slot above it is read.
+pub fn lowest_open<B: Board>(board: &B) -> Result<Option<u8>, Off>
+    requires sound { IsSound (chart (B.state board.now)) }
+    requires version { (chart (B.state board.now)).fields.version ≡ 2 }
+    ensures { MatchResult result (IsFirstOpen (chart (B.state board.now))) (λ _. (B.state board.now).on ≡ false) }
+{
+    for t in 0..64 {
+        if slot(board, t)? == Slot::Active {
+            return Ok(Some(t));
+        }
+    }
+    Ok(None)
 }

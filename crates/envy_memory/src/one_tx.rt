@@ -1,4 +1,4 @@
-ghost use Rattle.std.specs.Prelude.{◌≡◌, ◌↔◌, ◌⊎◌, ◌*◌, ◌-◌, ◌^◌, ◌<◌, ◌≤◌, false, IsTrue, OnOk, MatchResult, [], replicate, None, Ok, Err};
+ghost use Rattle.std.specs.Prelude.{◌≡◌, ◌↔◌, ◌⊎◌, ◌*◌, ◌-◌, ◌^◌, ◌<◌, ◌≤◌, false, true, IsTrue, OnOk, MatchResult, [], replicate, None, Ok, Err};
 ghost use Rattle.envy_base.specs.Array.{Array};
 ghost use Rattle.envy_base.specs.Shape.{IsShape};
 ghost use Rattle.envy_base.specs.declared.page.TheConstants.{PAGE_WORDS};
@@ -38,14 +38,30 @@ impl<B: Board> OneTx<B> {
         }
     }
 
+    /// A memory whose first slot is open, and no other: its transaction goes on. Where power failed meanwhile, none is
+    /// open.
+    pub fn resume(memory: Memory<B>) -> OneTx<B>
+        requires { ∥ (IsTrue memory.chart.on → IsHeld memory.chart true) ∥₁ }
+        ensures same { result.memory ≡ memory }
+        ensures begun { IsTrue result.begun }
+    {
+        memory.known();
+        OneTx {
+            memory,
+            begun: true,
+        }
+    }
+
     /// Gives the memory back. Its board is formatted; where power is on and no transaction is open, it stands for the
-    /// kept words with no slot open.
+    /// kept words with no slot open; where one is, the memory can be taken up again.
     pub fn into_memory(self) -> Memory<B>
         ensures same { result ≡ self.memory }
         ensures magic { result.chart.fields.magic ≡ the_magic }
         ensures version { result.chart.fields.version ≡ 2 }
         ensures stands { IsTrue self.memory.chart.on → (sheet_of self.memory self.begun).started ≡ false
             → Stands result.chart (fresh result.chart.shape.shadows (durable result.chart)) }
+        ensures resumes { IsTrue (sheet_of self.memory self.begun).started
+            → ∥ (IsTrue result.chart.on → IsHeld result.chart true) ∥₁ }
     {
         self.memory.known();
         let OneTx { memory, begun: _ } = self;

@@ -13,10 +13,11 @@ use Rattle.envy_memory.specs.Formats.{Refuses, CountsFormat}
 use Rattle.envy_memory.specs.declared.faults.FormatFault.{FormatFault}
 use Rattle.envy_memory.specs.declared.faults.FormatFault.TheVariants.{Off, Setup, OtherShape, Memory, Bad}
 use Rattle.envy_calls.specs.Codes.{format_code}
+use Rattle.envy_calls.specs.declared.code.Code.TheVariants.{NoMemory, Bad as BadCode}
 use Rattle.envy_calls.specs.Setups.{setup_of}
 use Rattle.envy_memory.specs.Formats.{Makes}
 use Rattle.envy_memory.specs.Picture.{Picture}
-use Rattle.envy_parted.specs.Opening.{Given, Formatted, NoBoard, RefusesFormat, board_of}
+use Rattle.envy_parted.specs.Opening.{Given, Formatted, LeavesPart, NoBoard, RefusesFormat, board_of}
 use Rattle.envy_parted.specs.declared.code.PartCode.{PartCode}
 use Rattle.envy_parted.specs.declared.code.PartCode.TheVariants.{Of}
 
@@ -26,17 +27,17 @@ has_sizes sh flash sram board is same =
     let made : IsBoard (new_part sh flash sram) = subst IsBoard same is in
     record { flash = sym (length-map flash row_from) ∙ made.rows; sram = made.sram }
 
--- a format that is refused has its cause
+-- what formatting left of a board has its cause
 pub format_refused : (given : Given) (setup : OfSetup) (fault : FormatFault) (old left : State) → setup_of given.setup ≡ Some setup → checked setup ≡ Ok tt → ArePlaced setup.shape given.places
-    → HasSizes setup.shape given.flash given.sram → old ≡ board_of setup.shape given → IsTrue left.on → Refuses old setup fault left → CountsFormat (chart old) (chart left) → RefusesFormat given (Of (format_code fault))
-unfolding RefusesFormat
+    → HasSizes setup.shape given.flash given.sram → old ≡ board_of setup.shape given → IsTrue left.on → Refuses old setup fault left → CountsFormat (chart old) (chart left) → LeavesPart given left (Of (format_code fault))
 format_refused given setup Off old left is checks placed sizes same on refuses counts = absurd (let clash : true ≡ false = sym on ∙ refuses.0 in cc)
 format_refused given setup (Setup fault) old left is checks placed sizes same on refuses counts = absurd (let clash : Ok tt ≡ Err fault = sym checks ∙ refuses.1 in cc)
 format_refused given setup OtherShape old left is checks placed sizes same on refuses counts = absurd (refuses.2 (ap (λ (s : State). s.shape) same))
-format_refused given setup Memory old left is checks placed sizes same on refuses counts = inr (inl (refl, (setup, is, checks, (placed, (sizes, tt)))))
+format_refused given setup Memory old left is checks placed sizes same on refuses counts = (NoMemory, refl, (setup, is, checks, (placed, (sizes, inl (refl, refuses.1 ∙ same)))))
 format_refused given setup Bad old left is checks placed sizes same on refuses counts =
     let none : old.bads ≡ 0 = ap (λ (s : State). s.bads) same in
-    inr (inr (
+    (
+      BadCode,
       refl,
       (
         setup,
@@ -46,22 +47,28 @@ format_refused given setup Bad old left is checks placed sizes same on refuses c
           placed,
           (
             sizes,
-            record {
-              left = left;
-              failed = (let more = refuses.3 (omega (none, arith)) in omega (none, more, arith));
-              unformatted = refuses.2;
-              on = on;
-              counts = subst (λ (s : State). CountsFormat (chart s) (chart left)) same counts;
-            },
+            inr (
+              refl,
+              record {
+                failed = (let more = refuses.3 (omega (none, arith)) in omega (none, more, arith));
+                unformatted = refuses.2;
+                on = on;
+                counts = subst (λ (s : State). CountsFormat (chart s) (chart left)) same counts;
+              },
+            ),
           ),
         ),
       ),
-    ))
+    )
 
--- where there is no board nothing is formatted
+-- why no memory was made, for a caller to whom the board isn't given back
 pub format_without_board : (given : Given) (code : PartCode) → NoBoard given code → RefusesFormat given code
 unfolding RefusesFormat
 format_without_board given code none = inl none
+
+pub format_left : (given : Given) (code : PartCode) (left : State) → LeavesPart given left code → RefusesFormat given code
+unfolding RefusesFormat
+format_left given code left ends = inr (left, ends)
 
 -- what is formatted is a memory over the part
 pub formatted_part : (given : Given) (setup : OfSetup) (old : State) (p : Picture) → setup_of given.setup ≡ Some setup → ArePlaced setup.shape given.places → HasSizes setup.shape given.flash given.sram

@@ -57,19 +57,26 @@ NoBoard given code =
     ⊎ ((fault : PartFault) × (code ≡ code_of_part fault) × ForPlaces given (λ setup. Misfits setup.shape given.flash given.sram fault))
 
 -- Formatting stopped, since an order wasn't carried out: the board that is left isn't formatted.
-pub record StopsFormat (old : State) : Type 0 where
-  pub left : State
+pub record StopsFormat (old left : State) : Type 0 where
   pub failed : 1 ≤ left.bads
   pub unformatted : slice_index left.sram 0 ≡ 0
   pub on : IsTrue left.on
   pub counts : CountsFormat (chart old) (chart left)
 
+-- Why formatting ended without a memory, and the board that it left: no memory is left and nothing was ordered, or an order
+-- wasn't carried out.
+abbrev pub EndsFormat : State → Code → State → Type 0
+EndsFormat old code left = ((code ≡ NoMemory) × (left ≡ old)) ⊎ ((code ≡ Bad) × StopsFormat old left)
+
+-- formatting a part that is a board ended without a memory, and left this board
+abbrev pub LeavesPart : Given → State → PartCode → Type 0
+LeavesPart given left code = (cause : Code) × (code ≡ Of cause) × ForPart given (λ setup. EndsFormat (board_of setup.shape given) cause left)
+
 -- Why no memory was made over a part: there is no board, no memory is left, or an order wasn't carried out.
 unfoldable pub RefusesFormat : Given → PartCode → Type 0
 RefusesFormat given code =
     NoBoard given code
-    ⊎ (((code ≡ Of NoMemory) × ForPart given (λ setup. ⊤))
-    ⊎ ((code ≡ Of Bad) × ForPart given (λ setup. StopsFormat (board_of setup.shape given))))
+    ⊎ ((left : State) × LeavesPart given left code)
 
 -- Why a part wasn't taken up: there is no board, or of what it holds. Nothing is ordered, so nothing is bad.
 unfoldable pub RefusesAttach : Given → PartCode → Type 0

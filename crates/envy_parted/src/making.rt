@@ -1,4 +1,4 @@
-ghost use Rattle.std.specs.Prelude.{◌≡◌, Some, Ok, MatchResult};
+ghost use Rattle.std.specs.Prelude.{◌≡◌, Some, Ok, MatchOption, MatchResult};
 ghost use Rattle.envy_calls.specs.Setups.{setup_of};
 ghost use Rattle.envy_base.specs.Shape.{IsShape};
 ghost use Rattle.envy_part.specs.Making.{HasSizes, Misfits, new_part};
@@ -6,7 +6,7 @@ ghost use Rattle.envy_part.specs.Part.{part_state};
 ghost use Rattle.envy_part.specs.Placing.{ArePlaced};
 ghost use Rattle.envy_part.specs.declared.fault.PartFault.{PartFault};
 ghost use Rattle.envy_parted.specs.Codes.{code_of_part};
-ghost use Rattle.envy_parted.specs.Opening.{Attached, Formatted, Given, NoPlaces, Opens, RefusesAttach, RefusesFormat};
+ghost use Rattle.envy_parted.specs.Opening.{Attached, Formatted, Given, LeavesPart, NoBoard, NoPlaces, Opens, RefusesAttach, RefusesFormat};
 ghost use Rattle.envy_parted.specs.Regions.{AreWhole};
 ghost use Rattle.envy_policy.specs.Setup.{IsSetup, checked};
 
@@ -57,8 +57,7 @@ fn board_over(
     }
 }
 
-// A memory of zeros over a part.
-#[tactic(auto, using(crate::proofs::Boards::format_without_board))]
+// A memory of zeros over a part. The board comes back if there is one and formatting stopped.
 fn formatted(
     alloc: Global,
     given: &EnvySetup,
@@ -66,7 +65,7 @@ fn formatted(
     flash: &'static mut [[u8; 256]],
     sram: &'static mut [u64],
     port: i32,
-) -> Result<Memory<PartBoard<'static, IoPort>>, PartCode>
+) -> Result<Memory<PartBoard<'static, IoPort>>, (Option<PartBoard<'static, IoPort>>, PartCode)>
     requires { AreWhole flash.now sram.now }
     ensures { let all : Given = record {
       setup = given.now;
@@ -75,13 +74,21 @@ fn formatted(
       sram =
           sram.entry.now;
     } in
-        MatchResult result (Formatted all) (RefusesFormat all) }
+        MatchResult result (Formatted all) (λ refused. MatchOption refused.0 (NoBoard all refused.1)
+        (λ board. LeavesPart all (part_state board.shape board.flash.now board.sram.now board.erases.items board.begun
+        board.bads) refused.1)) }
 {
-    let setup = setup_for(given, places)?;
-    let board = board_over(alloc, setup.shape, flash, sram, port)?;
+    let setup = match setup_for(given, places) {
+        Ok(setup) => setup,
+        Err(code) => return Err((None, code)),
+    };
+    let board = match board_over(alloc, setup.shape, flash, sram, port) {
+        Ok(board) => board,
+        Err(code) => return Err((None, code)),
+    };
     match Memory::format(alloc, board, setup) {
         Ok(memory) => Ok(memory),
-        Err(refused) => Err(PartCode::Of(format_answer(refused.1))),
+        Err((left, fault)) => Err((Some(left), PartCode::Of(format_answer(fault)))),
     }
 }
 
@@ -141,7 +148,7 @@ pub fn format_place(
             drop(slot.replace(memory));
             PartCode::Of(Code::Done)
         }
-        Err(code) => code,
+        Err(refused) => refused.1,
     }
 }
 

@@ -1,0 +1,5 @@
+pub mod Paged
+pub mod Lengths
+pub mod Parts
+pub mod Staying
+pub mod Viewing

@@ -1,0 +1,57 @@
+-- The words of a range, and those outside it.
+use Rattle.std.proofs.Common.{◌≡◌, ℕ, ◌+◌, ◌-◌, ◌<◌, ◌≤◌, List, ◌++◌, length, take, drop, get_or, set, ap, sym, ◌∙◌, inl, inr, arith}
+use Rattle.std.proofs.lemmas.List.{drop-drop, drop-set-add, drop-set-lt, drop-take, drop_at, get_or-drop, get_or-take, length-take-le, take-set-le, take-take, take_at}
+use Rattle.std.proofs.Math.Seq.{take-set-lt}
+use Rattle.envy_range.specs.Ranges.{inside, outside, IsApart}
+
+pub inside-at : (first count a : ℕ) (ws : List ℕ) → a < count → get_or (inside first count ws) a 0 ≡ get_or ws (first + a) 0
+unfolding inside
+inside-at first count a ws lt = get_or-take count (drop first ws) a 0 lt ∙ get_or-drop first ws a 0
+
+pub inside-set : (first count a w : ℕ) (ws : List ℕ) → a < count → inside first count (set ws (first + a) w) ≡ set (inside first count ws) a w
+unfolding inside
+inside-set first count a w ws lt = ap (take count) (drop-set-add first ws a w) ∙ take-set-lt count (drop first ws) a w lt
+
+pub outside-set : (first count a w : ℕ) (ws : List ℕ) → a < count → outside first count (set ws (first + a) w) ≡ outside first count ws
+unfolding outside
+outside-set first count a w ws lt =
+    ap (λ (front : List ℕ). front ++ drop (first + count) (set ws (first + a) w)) (take-set-le first ws (first + a) w (omega arith))
+    ∙ ap (λ (rear : List ℕ). take first ws ++ rear) (drop-set-lt (first + count) ws (first + a) w (omega (arith, lt)))
+
+-- what is outside is before the range and after it
+pub front-same : (first count : ℕ) (xs ys : List ℕ) → first ≤ length xs → first ≤ length ys → outside first count xs ≡ outside first count ys → take first xs ≡ take first ys
+unfolding outside
+front-same first count xs ys long size same =
+    sym (take_at (take first xs) (drop (first + count) xs) first (length-take-le first xs long))
+    ∙ ap (take first) same
+    ∙ take_at (take first ys) (drop (first + count) ys) first (length-take-le first ys size)
+
+pub rear-same : (first count : ℕ) (xs ys : List ℕ) → first ≤ length xs → first ≤ length ys → outside first count xs ≡ outside first count ys → drop (first + count) xs ≡ drop (first + count) ys
+unfolding outside
+rear-same first count xs ys long size same =
+    sym (drop_at (take first xs) (drop (first + count) xs) first (length-take-le first xs long))
+    ∙ ap (drop first) same
+    ∙ drop_at (take first ys) (drop (first + count) ys) first (length-take-le first ys size)
+
+-- a range after another, and one before it
+after : (past other size : ℕ) (xs ys : List ℕ) → past ≤ other → drop past xs ≡ drop past ys → take size (drop other xs) ≡ take size (drop other ys)
+after past other size xs ys le same =
+    ap (λ (n : ℕ). take size (drop n xs)) sum
+    ∙ ap (take size) (sym (drop-drop (other - past) past xs))
+    ∙ ap (λ (rest : List ℕ). take size (drop (other - past) rest)) same
+    ∙ ap (take size) (drop-drop (other - past) past ys)
+    ∙ ap (λ (n : ℕ). take size (drop n ys)) (sym sum)
+  where
+    sum : other ≡ past + (other - past)
+    sum = omega (arith, le)
+
+before : (first other size : ℕ) (xs ys : List ℕ) → other + size ≤ first → take first xs ≡ take first ys → take size (drop other xs) ≡ take size (drop other ys)
+before first other size xs ys le same =
+    sym (drop-take other size xs)
+    ∙ ap (drop other) (sym (take-take (other + size) first xs le) ∙ ap (take (other + size)) same ∙ take-take (other + size) first ys le)
+    ∙ drop-take other size ys
+
+pub apart : (first count other size : ℕ) (old new : List ℕ) → IsApart first count other size → first + count ≤ length old → length new ≡ length old → outside first count new ≡ outside first count old → inside other size new ≡ inside other size old
+unfolding inside
+apart first count other size old new (inl le) fits long same = after (first + count) other size new old le (rear-same first count new old (omega (arith, fits, long)) (omega (arith, fits)) same)
+apart first count other size old new (inr le) fits long same = before first other size new old le (front-same first count new old (omega (arith, fits, long)) (omega (arith, fits)) same)

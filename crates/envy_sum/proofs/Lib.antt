@@ -1,0 +1,5 @@
+pub mod Steps
+pub mod Words
+pub mod Tables
+pub mod Bursts
+pub mod Bytes
