@@ -166,8 +166,9 @@ uint32_t envy_kept_begin(envy_kept *m, uint32_t *slot);
 uint32_t envy_kept_put(envy_kept *m, uint32_t slot, uint32_t address, uint64_t word, uint32_t *holder);
 
 /* Makes the n words from an address on these within the transaction of a slot: puts word after word. The first put that
-   is refused ends it and is answered, and the earlier words stay put: *done says how many, n if all are.
-   ENVY_DONE, ENVY_EMPTY (*done is 0), or what envy_kept_put answers. Of no words it is done at once. */
+   is refused ends it and is answered, and the earlier words stay put: *done says how many, n if all are. It counts one
+   access for each page that it puts to. ENVY_DONE, ENVY_EMPTY (*done is 0), or what envy_kept_put answers. Of no words
+   it is done at once. */
 uint32_t envy_kept_write(envy_kept *m, uint32_t slot, uint32_t address, const uint64_t *words, size_t n, size_t *done,
                          uint32_t *holder);
 

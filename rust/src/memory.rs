@@ -264,7 +264,8 @@ impl Transaction<'_> {
         }
     }
 
-    /// Puts word after word from an address on. The first that is refused ends it; those before it stay put.
+    /// Puts word after word from an address on. The first that is refused ends it; those before it stay put. It counts
+    /// one access for each page that it puts to.
     ///
     /// # Errors
     ///

@@ -1,7 +1,7 @@
 -- A removal at an inner node: what goes on at the child and comes back.
 use Rattle.std.proofs.Common.{◌≡◌, ◌≢◌, ◌⊎◌, ℕ, zero, suc, ◌+◌, ◌-◌, ◌^◌, ◌<◌, ◌≤◌, Bool, true, false, List, ◌++◌, length, map, take, drop, get_or, set, refl, ap, sym, subst, ◌∙◌, inl, inr, IfOk, IfSome, Option, None, Some, Result, Ok, Err, arith}
 use Rattle.std.specs.List.{flat_map}
-use Rattle.std.proofs.lemmas.List.{length-map, length-set, get_or-map, get_or-set_same, get_or-set_other}
+use Rattle.std.proofs.lemmas.List.{length-map, length-set, set-get_or, get_or-map, get_or-set_same, get_or-set_other}
 use Rattle.std.proofs.lemmas.List.Edits.{length-remove}
 use Rattle.std.proofs.lemmas.List.Sums.{get_or-le-sum_by}
 use Rattle.std.proofs.lemmas.List.Elements.{All-get_or}
@@ -10,15 +10,15 @@ use Rattle.envy_base.specs.Words.{Sheet, Works}
 use Rattle.envy_base.proofs.Working.{Works-trans, Works-more}
 use Rattle.envy_heap.specs.Pieces.{IsHeap, handed, spare, one}
 use Rattle.envy_btree.specs.declared.node.Node.{Node}
-use Rattle.envy_btree.specs.Pairs.{without}
-use Rattle.envy_btree.specs.Tree.{Tree, Ordered, Rising, Sized, Holds, uses, piece_of, pairs_of, keys_of, values_of, fewest}
+use Rattle.envy_btree.specs.Pairs.{assoc, without}
+use Rattle.envy_btree.specs.Tree.{Tree, Ordered, Rising, Sized, Holds, Shows, uses, piece_of, pairs_of, keys_of, values_of, fewest}
 use Rattle.envy_btree.specs.Nodes.{Ranks, IsRead, width, is_inner, kind_of, keys_in, slots_in, IsNode}
 use Rattle.envy_btree.specs.Index.{Stands}
 use Rattle.envy_btree.specs.Changes.{Rests, InHand, Pair, Beside, Mended, joined_keys}
 use Rattle.envy_btree.specs.Shrinking.{Back, MendedBack, Short, Shrinks}
-use Rattle.envy_btree.proofs.Trees.{low_of, high_of, Fans-long, Fans-at}
-use Rattle.envy_btree.proofs.Descent.{bare, read-shows, Rests-within}
-use Rattle.envy_btree.proofs.Framing.{sister, handed-le, pieces-same}
+use Rattle.envy_btree.proofs.Trees.{low_of, high_of, Fans-long, Fans-at, Fans-before, Fans-after, Ordered-within}
+use Rattle.envy_btree.proofs.Descent.{bare, read-shows, around, assoc-mid, Rests-within}
+use Rattle.envy_btree.proofs.Framing.{sister, parent, handed-le, pieces-same}
 use Rattle.envy_btree.proofs.Halving.{keys-long, slots-long, one-kind}
 use Rattle.envy_btree.proofs.Holding.{leaf-hand}
 use Rattle.envy_btree.proofs.Joining.{joined, joined-keys, joined-slots, Rising-without, without-long, without-short}
@@ -82,7 +82,10 @@ pub record Dives (ws : List ℕ) (p level key i : ℕ) (ks ss : List ℕ) (t : R
   pub long : length ss ≡ length ks + 1
   pub place : i ≤ length ks
   pub child : Rests ws (get_or ss i 0) (level - 1)
+  pub deeper : t.depth ≡ child.depth + 1
+  pub looks : assoc key (pairs_of t.depth t.tree) ≡ assoc key (pairs_of child.depth child.tree)
   pub same : (new : List ℕ) → Shrinks ws new (get_or ss i 0) (level - 1) key child None → Shrinks ws new p level key t None
+  pub stays : (mid : List ℕ) (n : Node) → Shrinks ws mid (get_or ss i 0) (level - 1) key child (Some n) → Shows mid p 1 ks ss
   pub sizes : (mid : List ℕ) (n : Node) → Shrinks ws mid (get_or ss i 0) (level - 1) key child (Some n) → (length n.keys.items ≤ 14) × (length n.slots.items ≡ length n.keys.items + one n.inner)
   pub front : (mid : List ℕ) (n : Node) (j : ℕ) → i ≡ suc j → Shrinks ws mid (get_or ss i 0) (level - 1) key child (Some n) → Pair mid (get_or ss j 0) (get_or ss (j + 1) 0) × Beside mid (get_or ss j 0) n.inner
   pub rear : (mid : List ℕ) (n : Node) (j : ℕ) → i ≡ j → j < length ks → Shrinks ws mid (get_or ss i 0) (level - 1) key child (Some n) → Pair mid (get_or ss j 0) (get_or ss (j + 1) 0) × Beside mid (get_or ss (j + 1) 0) n.inner
@@ -108,6 +111,17 @@ above-of ws mid key i d t free root low high inner keys slots heap s li h few le
   least = least;
   most = omega (arith, keys-long (low_of low t.keys i) (high_of high t.keys i) d h.tree h.ordered, ap length h.lists.front);
 }
+
+-- a key is under the child where it belongs
+kid-looks : (key i low high d : ℕ) (t : Tree (suc d)) → Ordered (suc d) low high t → Ranks key t.keys i → assoc key (pairs_of (suc d) t) ≡ assoc key (pairs_of d (get_or t.kids i (bare d)))
+kid-looks key i low high d t o r =
+    let long = Fans-long (Ordered d) low high t.keys t.kids o in
+    let lt : i < length t.kids = omega (arith, r.within) in
+    let c = get_or t.kids i (bare d) in
+    let split = sym (ap (flat_map (pairs_of d)) (set-get_or t.kids i (bare d))) ∙ around (pairs_of d) t.kids i c lt in
+    let before = Fans-before (Ordered d) (pairs_of d) (Ordered-within d) key low high t.keys t.kids i r o in
+    let after = Fans-after (Ordered d) (pairs_of d) (Ordered-within d) key low high t.keys t.kids i r o in
+    ap (assoc key) split ∙ assoc-mid key (flat_map (pairs_of d) (take i t.kids)) (pairs_of d c) (flat_map (pairs_of d) (drop (suc i) t.kids)) before after
 
 dives-inner : (ws : List ℕ) (p level key i d : ℕ) (t : Tree (suc d)) (free : List ℕ) (root : Bool) (low high : ℕ) (heap : IsHeap ws free) (few : suc d ≤ level) (is : t.piece ≡ p) (s : Stands ws free root low high (suc d) t) → Ranks key t.keys i
     → Dives ws p level key i t.keys (map (piece_of d) t.kids) (record { free = free; heap = heap; root = root; low = low; high = high; depth = suc d; tree = t; few = few; is = is; stands = s })
@@ -144,7 +158,10 @@ dives-inner ws p level key i d t free root low high heap few is s rank =
       long = omega arith;
       place = rank.within;
       child = child;
+      deeper = omega arith;
+      looks = kid-looks key i low high d t s.ordered rank;
       same = λ new b. inner-became (without key) ws new free key i root low high d t (without-local key) heap s rank b;
+      stays = λ mid n h. subst (λ x. Shows mid x 1 t.keys (map (piece_of d) t.kids)) is (parent ws mid free root low high d i t heap s li h.hand.elsewhere);
       sizes = λ mid n h. (h.few, ap length h.hand.lists.back ∙ slots-long d h.hand.tree ∙ sym (keys-long (low_of low t.keys i) (high_of high t.keys i) d h.hand.tree h.hand.ordered) ∙ ap (λ x. length x + kind_of d) (sym h.hand.lists.front) ∙ ap (λ x. length n.keys.items + x) (sym (one-kind d) ∙ ap one (sym h.hand.lists.kind)));
       front = λ mid n j e h.
           let a = above-of ws mid key i d t free root low high n.inner n.keys.items n.slots.items heap s li h.hand h.few h.least in
@@ -203,6 +220,7 @@ Rests-dives ws p level key i ks xs ss inner t read yes_inner e r =
 
 -- the way's end
 pub record Lands (ws : List ℕ) (p level key : ℕ) (ks ss : List ℕ) (t : Rests ws p level) : Type 0 where
+  pub flat : t.depth ≡ 0
   pub few : length ks ≤ 31
   pub long : length ss ≡ length ks
   pub done : (new : List ℕ) (r : Option Node) → ((low high : ℕ) (es : List (ℕ × ℕ)) → Rising low high es → ks ≡ keys_of es → ss ≡ values_of es → Back ws new p false (keys_of (without key es)) (values_of (without key es)) r) → Shrinks ws new p level key t r
@@ -216,6 +234,7 @@ lands-at ws p level key zero t free root low high ks ss heap few is s read =
     let h = leaf-hand ws free es root low high t (keys_of es) (values_of es) heap s (Rising-without low high key t.pairs s.ordered) refl refl in
     let wider : width 0 h.tree ≡ length es = sym (slots-long 0 h.tree) ∙ sym (ap length h.lists.back) ∙ length-map es (λ (e : ℕ × ℕ). e.1) in
     record {
+      flat = refl;
       few = omega (arith, ap length e.0, length-map t.pairs (λ (e : ℕ × ℕ). e.0), s.sized.1);
       long = omega (arith, ap length e.0, ap length e.1, length-map t.pairs (λ (e : ℕ × ℕ). e.0), length-map t.pairs (λ (e : ℕ × ℕ). e.1));
       done = λ new r w. back-shrinks ws ws new p level key rests false (keys_of es) (values_of es) r h (omega (arith, length-map es (λ (e : ℕ × ℕ). e.0), without-short key t.pairs, s.sized.1)) (omega (arith, wider, without-long key t.pairs, s.sized.0)) (w low high t.pairs s.ordered e.0 e.1);

@@ -13,11 +13,11 @@ use Rattle.envy_btree.specs.declared.node.Node.{Node}
 use Rattle.envy_btree.specs.Pairs.{assoc, without}
 use Rattle.envy_btree.specs.Tree.{Tree, Fans, Ordered, Sized, Holds, Shows, uses, piece_of, pairs_of, fewest}
 use Rattle.envy_btree.specs.Nodes.{OnlyPiece, kind_of, is_inner, keys_in}
+use Rattle.envy_btree.specs.Depths.{IsShallow}
 use Rattle.envy_btree.specs.Index.{IsTree, Rooted, IsPlanted}
 use Rattle.envy_btree.specs.Changes.{Rests, InHand}
 use Rattle.envy_btree.specs.Shrinking.{Shrinks, next_root}
 use Rattle.envy_btree.proofs.Maps.{eqb-same}
-use Rattle.envy_btree.proofs.Counting.{depth-few}
 use Rattle.envy_btree.proofs.Descent.{uses-root, owned-within, Rests-within}
 use Rattle.envy_btree.proofs.Framing.{Holds-same, handed-le, handed-within}
 use Rattle.envy_btree.proofs.Halving.{keys-long, slots-long, kind-le}
@@ -96,15 +96,15 @@ felled-inner ws mid mid2 new free es p d t inner keys slots tree is h none freed
     )
 
 -- what a removal at the root comes to
-pub record Uproots (ws : List ℕ) (es : List (ℕ × ℕ)) (p key : ℕ) : Type 0 where
-  pub rests : Rests ws p 5
-  pub same : (new : List ℕ) → Shrinks ws new p 5 key rests None → IsPlanted new (without key es) × (get_or new 3 0 ≡ get_or ws 3 0)
-  pub few : (mid : List ℕ) (n : Node) → Shrinks ws mid p 5 key rests (Some n) → (length n.keys.items ≤ 14) × (length n.slots.items ≤ 15)
-  pub ready : (mid : List ℕ) (n : Node) → Shrinks ws mid p 5 key rests (Some n) → (free : List ℕ) × IsHeap mid free × (handed mid free p ≡ 1)
-  pub child : (mid : List ℕ) (n : Node) → Shrinks ws mid p 5 key rests (Some n) → n.inner ≡ true → 1 ≤ length n.slots.items
-  pub fits : (mid : List ℕ) (n : Node) → Shrinks ws mid p 5 key rests (Some n) → length n.keys.items ≡ 0 → length mid < 2 ^ 32 → get_or n.slots.items 0 0 < 2 ^ 32
-  pub kept : (mid new : List ℕ) (n : Node) → Shrinks ws mid p 5 key rests (Some n) → 1 ≤ length n.keys.items → Shows new p (one n.inner) n.keys.items n.slots.items → OnlyPiece p mid new → IsPlanted new (without key es) × (get_or new 3 0 ≡ get_or ws 3 0)
-  pub gone : (mid new : List ℕ) (n : Node) → Shrinks ws mid p 5 key rests (Some n) → length n.keys.items ≡ 0 → ((free : List ℕ) → IsHeap mid free → handed mid free p ≡ 1 → (mid2 : List ℕ) × Freed p mid mid2 free × (new ≡ set mid2 0 (next_root n.inner n.slots.items))) → IsPlanted new (without key es) × (get_or new 3 0 ≡ get_or ws 3 0)
+pub record Uproots (ws : List ℕ) (es : List (ℕ × ℕ)) (p level key : ℕ) : Type 0 where
+  pub rests : Rests ws p level
+  pub same : (new : List ℕ) → Shrinks ws new p level key rests None → IsPlanted new (without key es) × (get_or new 3 0 ≡ get_or ws 3 0)
+  pub few : (mid : List ℕ) (n : Node) → Shrinks ws mid p level key rests (Some n) → (length n.keys.items ≤ 14) × (length n.slots.items ≤ 15)
+  pub ready : (mid : List ℕ) (n : Node) → Shrinks ws mid p level key rests (Some n) → (free : List ℕ) × IsHeap mid free × (handed mid free p ≡ 1)
+  pub child : (mid : List ℕ) (n : Node) → Shrinks ws mid p level key rests (Some n) → n.inner ≡ true → 1 ≤ length n.slots.items
+  pub fits : (mid : List ℕ) (n : Node) → Shrinks ws mid p level key rests (Some n) → length n.keys.items ≡ 0 → length mid < 2 ^ 32 → get_or n.slots.items 0 0 < 2 ^ 32
+  pub kept : (mid new : List ℕ) (n : Node) → Shrinks ws mid p level key rests (Some n) → 1 ≤ length n.keys.items → Shows new p (one n.inner) n.keys.items n.slots.items → OnlyPiece p mid new → IsPlanted new (without key es) × (get_or new 3 0 ≡ get_or ws 3 0)
+  pub gone : (mid new : List ℕ) (n : Node) → Shrinks ws mid p level key rests (Some n) → length n.keys.items ≡ 0 → ((free : List ℕ) → IsHeap mid free → handed mid free p ≡ 1 → (mid2 : List ℕ) × Freed p mid mid2 free × (new ≡ set mid2 0 (next_root n.inner n.slots.items))) → IsPlanted new (without key es) × (get_or new 3 0 ≡ get_or ws 3 0)
 
 felled : (ws mid mid2 new free : List ℕ) (es : List (ℕ × ℕ)) (p d : ℕ) (t : Tree d) (inner : Bool) (keys slots : List ℕ) → IsTree ws free d t → piece_of d t ≡ p → (h : InHand ws mid free es 0 (2 ^ 64) d t inner keys slots) → length keys ≡ 0 → Freed p mid mid2 h.next → new ≡ set mid2 0 (next_root inner slots)
     → IsPlanted new es × (get_or new 3 0 ≡ get_or ws 3 0)
@@ -128,11 +128,11 @@ fewest-one : (d n : ℕ) → 1 ≤ n → fewest true d ≤ n + kind_of d
 fewest-one zero n le = omega arith
 fewest-one (suc d) n le = omega arith
 
-uproots-of : (ws : List ℕ) (es : List (ℕ × ℕ)) (p key : ℕ) (x : IsPlanted ws es) → length ws ≤ 33554432 → p ≡ get_or ws 0 0 - 1 → get_or ws 0 0 ≢ 0 → Rooted ws x.free es → Uproots ws es p key
-uproots-of ws es p key x small is some (inl e) = absurd (some e.0)
-uproots-of ws es p key x small is some (inr t) =
+uproots-of : (ws : List ℕ) (es : List (ℕ × ℕ)) (p level key : ℕ) (x : IsPlanted ws es) → IsShallow ws level → p ≡ get_or ws 0 0 - 1 → get_or ws 0 0 ≢ 0 → Rooted ws x.free es → Uproots ws es p level key
+uproots-of ws es p level key x small is some (inl e) = absurd (some e.0)
+uproots-of ws es p level key x small is some (inr t) =
     let here : piece_of t.0 t.1 ≡ p = omega (arith, t.2.root) in
-    let levels : t.0 ≤ 5 = depth-few ws x.free t.0 t.1 x.heap t.2.stands.sized t.2.all small in
+    let levels : t.0 ≤ level = small x.free t.0 t.1 x.heap t.2 in
     let after = without key (pairs_of t.0 t.1) in
     let back : (new : List ℕ) → IsPlanted new after × (get_or new 3 0 ≡ get_or ws 3 0) → IsPlanted new (without key es) × (get_or new 3 0 ≡ get_or ws 3 0) = λ new y. subst (λ e. IsPlanted new (without key e) × (get_or new 3 0 ≡ get_or ws 3 0)) (sym t.3) y in
     record {
@@ -154,8 +154,8 @@ uproots-of ws es p key x small is some (inr t) =
     some-slot m k zero e f = absurd (cc)
     some-slot m k (suc d) e f = omega arith
 
-pub planted-uproots : (ws : List ℕ) (es : List (ℕ × ℕ)) (p key : ℕ) → IsPlanted ws es → length ws ≤ 33554432 → p ≡ get_or ws 0 0 - 1 → get_or ws 0 0 ≢ 0 → Uproots ws es p key
-planted-uproots ws es p key x small is some = uproots-of ws es p key x small is some x.tree
+pub planted-uproots : (ws : List ℕ) (es : List (ℕ × ℕ)) (p level key : ℕ) → IsPlanted ws es → IsShallow ws level → p ≡ get_or ws 0 0 - 1 → get_or ws 0 0 ≢ 0 → Uproots ws es p level key
+planted-uproots ws es p level key x small is some = uproots-of ws es p level key x small is some x.tree
 
 none-of : (ws : List ℕ) (es : List (ℕ × ℕ)) (key : ℕ) (x : IsPlanted ws es) → get_or ws 0 0 ≡ 0 → Rooted ws x.free es → without key es ≡ es
 none-of ws es key x e (inl n) = ap (without key) n.1 ∙ sym n.1
@@ -166,15 +166,15 @@ pub planted-none : (ws : List ℕ) (es : List (ℕ × ℕ)) (key : ℕ) → IsPl
 planted-none ws es key x e = subst (λ y. IsPlanted ws y) (sym (none-of ws es key x e x.tree)) x
 
 -- the same, of what the functions have at hand
-pub gone-ok : (ws mid new : List ℕ) (es : List (ℕ × ℕ)) (p key : ℕ) (n : Node) (r : Result Unit Trouble) → (u : Uproots ws es p key) → Shrinks ws mid p 5 key u.rests (Some n) → length n.keys.items ≡ 0
+pub gone-ok : (ws mid new : List ℕ) (es : List (ℕ × ℕ)) (p level key : ℕ) (n : Node) (r : Result Unit Trouble) → (u : Uproots ws es p level key) → Shrinks ws mid p level key u.rests (Some n) → length n.keys.items ≡ 0
     → ((free : List ℕ) → IsHeap mid free → handed mid free p ≡ 1 → OnOk r ((mid2 : List ℕ) × Freed p mid mid2 free × (new ≡ set mid2 0 (next_root n.inner n.slots.items)))) → OnOk r (IsPlanted new (without key es) × (get_or new 3 0 ≡ get_or ws 3 0))
-gone-ok ws mid new es p key n (Ok done) u h none made = u.gone mid new n h none made
-gone-ok ws mid new es p key n (Err e) u h none made = tt
+gone-ok ws mid new es p level key n (Ok done) u h none made = u.gone mid new n h none made
+gone-ok ws mid new es p level key n (Err e) u h none made = tt
 
-pub kept-ok : (ws mid new : List ℕ) (es : List (ℕ × ℕ)) (p key : ℕ) (n : Node) (r : Result Unit Trouble) → (u : Uproots ws es p key) → Shrinks ws mid p 5 key u.rests (Some n) → 1 ≤ length n.keys.items
+pub kept-ok : (ws mid new : List ℕ) (es : List (ℕ × ℕ)) (p level key : ℕ) (n : Node) (r : Result Unit Trouble) → (u : Uproots ws es p level key) → Shrinks ws mid p level key u.rests (Some n) → 1 ≤ length n.keys.items
     → OnOk r (Shows new p (one n.inner) n.keys.items n.slots.items) → OnOk r (OnlyPiece p mid new) → OnOk r (IsPlanted new (without key es) × (get_or new 3 0 ≡ get_or ws 3 0))
-kept-ok ws mid new es p key n (Ok done) u h le shows only = u.kept mid new n h le shows only
-kept-ok ws mid new es p key n (Err e) u h le shows only = tt
+kept-ok ws mid new es p level key n (Ok done) u h le shows only = u.kept mid new n h le shows only
+kept-ok ws mid new es p level key n (Err e) u h le shows only = tt
 
 pub rests-fits : (ws : List ℕ) (p level : ℕ) → length ws < 2 ^ 32 → Rests ws p level → p < 2 ^ 32
 rests-fits ws p level few r = omega (arith, (Rests-within ws p level r).0)

@@ -8,14 +8,14 @@ use Rattle.std.proofs.lemmas.List.Elements.{All-get_or}
 use Rattle.envy_base.specs.declared.board.Trouble.{Trouble}
 use Rattle.envy_heap.specs.Pieces.{IsHeap, handed, spare}
 use Rattle.envy_btree.specs.Pairs.{with_pair}
-use Rattle.envy_btree.specs.Tree.{Tree, Ordered, Rising, Sized, Holds, uses, piece_of, pairs_of, keys_of, values_of}
+use Rattle.envy_btree.specs.Tree.{Tree, Ordered, Rising, Sized, Holds, Shows, uses, piece_of, pairs_of, keys_of, values_of}
 use Rattle.envy_btree.specs.Nodes.{Ranks, IsRead, width}
 use Rattle.envy_btree.specs.Index.{Stands}
 use Rattle.envy_btree.specs.Changes.{Rests, Way, Grows, Saved, InHand, Ready}
 use Rattle.envy_btree.proofs.Trees.{low_of, high_of, Fans-long, Fans-at}
 use Rattle.envy_btree.proofs.Descent.{bare, read-shows, Rests-within, uses-root}
 use Rattle.envy_btree.proofs.Setting.{Rising-with_pair, with_pair-long, with_pair-few}
-use Rattle.envy_btree.proofs.Framing.{handed-le}
+use Rattle.envy_btree.proofs.Framing.{handed-le, parent}
 use Rattle.envy_btree.proofs.Halving.{slots-long}
 use Rattle.envy_btree.proofs.Holding.{leaf-hand, hand-out, saved-outcome}
 use Rattle.envy_btree.proofs.Spreading.{with_pair-local, inner-became, grown-hand}
@@ -40,6 +40,7 @@ pub record Goes (ws : List ℕ) (p level key value i : ℕ) (ks ss : List ℕ) (
   pub child : Way ws (get_or ss i 0) (level - 1) key
   pub same : (new : List ℕ) → Grows ws new (get_or ss i 0) (level - 1) key value child.rests None → Grows ws new p level key value t None
   pub ready : (mid : List ℕ) (s : ℕ × ℕ) → Grows ws mid (get_or ss i 0) (level - 1) key value child.rests (Some s) → Ready mid p
+  pub stays : (mid : List ℕ) (s : ℕ × ℕ) → Grows ws mid (get_or ss i 0) (level - 1) key value child.rests (Some s) → Shows mid p 1 ks ss
   pub grown : (mid new : List ℕ) (s : ℕ × ℕ) (r : Option (ℕ × ℕ)) → Grows ws mid (get_or ss i 0) (level - 1) key value child.rests (Some s)
       → ((free : List ℕ) → IsHeap mid free → handed mid free p ≡ 1 → Saved mid free p true (insert ks i s.0) (insert ss (i + 1) s.1) (Ok r) new) → Grows ws new p level key value t r
 
@@ -88,6 +89,7 @@ goes-inner ws p level key value i d t free root low high heap few is s r le lt m
       ready = λ mid m b.
           let h = grown-hand F ws mid free key i root low high d t (with_pair-local key value) heap s r b.0 in
           hand-ready ws mid free (F (pairs_of (suc d) t)) low high (suc d) p t true (insert t.keys i b.0.key) (insert (map (piece_of d) t.kids) (suc i) (piece_of d b.0.right)) h is many;
+      stays = λ mid m b. subst (λ x. Shows mid x 1 t.keys (map (piece_of d) t.kids)) is (parent ws mid free root low high d i t heap s li b.0.elsewhere);
       grown = λ mid new m x b saved.
           let h = grown-hand F ws mid free key i root low high d t (with_pair-local key value) heap s r b.0 in
           let keys = insert t.keys i b.0.key in

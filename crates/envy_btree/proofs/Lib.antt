@@ -31,4 +31,12 @@ pub mod Examples
 pub mod Walking
 pub mod Ruling
 pub mod Broken
+pub mod Gaps
+pub mod Gapped
+pub mod Spotting
+pub mod Leafing
+pub mod Stepping
+pub mod Dipping
+pub mod Looking
+pub mod Withins
 mod Keeping

@@ -1,6 +1,6 @@
 -- The tree of the whole after a change.
 use Rattle.std.proofs.Common.{◌≡◌, ◌≢◌, ℕ, zero, suc, ◌+◌, ◌-◌, ◌^◌, ◌<◌, ◌≤◌, Bool, true, false, List, [], ◌∷◌, ◌++◌, length, get_or, set, refl, ap, sym, subst, ◌∙◌, inl, inr, Some, None, Result, Ok, Err, OnOk, ltb, arith}
-use Rattle.std.proofs.lemmas.List.{get_or-set_same, get_or-set_other, length-set, append-nil}
+use Rattle.std.proofs.lemmas.List.{set-set, set-get_or, get_or-set_same, get_or-set_other, length-set, append-nil}
 use Rattle.std.proofs.lemmas.List.Elements.{All-cons, All-nil}
 use Rattle.envy_base.specs.declared.board.Trouble.{Trouble}
 use Rattle.envy_base.specs.Words.{Sheet, Puts}
@@ -9,9 +9,10 @@ use Rattle.envy_heap.proofs.Heaps.{Chain-same, one-same}
 use Rattle.envy_btree.specs.Pairs.{with_pair}
 use Rattle.envy_btree.specs.Tree.{Tree, Sized, Holds, Shows, uses, piece_of, pairs_of}
 use Rattle.envy_btree.specs.Nodes.{OnlyPiece}
+use Rattle.envy_btree.specs.Depths.{IsShallow}
 use Rattle.envy_btree.specs.Index.{Stands, IsTree, Rooted, IsPlanted, most_pairs}
 use Rattle.envy_btree.specs.Changes.{Way, Grows, Became, Parted, Crowned}
-use Rattle.envy_btree.proofs.Counting.{depth-few, spare-enough, spare-all}
+use Rattle.envy_btree.proofs.Counting.{spare-enough, spare-all}
 use Rattle.envy_btree.proofs.Descent.{owned-within, Rests-within}
 use Rattle.envy_btree.proofs.Framing.{Shows-same, Holds-same, handed-within, other-piece}
 use Rattle.envy_btree.proofs.Setting.{heap-kept}
@@ -36,25 +37,23 @@ heap-aside ws free a v lt n1 n2 h =
       λ q. ap (λ u. one (ltb q u) - times free q) used,
     )
 
+istree-aside : (ws free : List ℕ) (d : ℕ) (t : Tree d) (v : ℕ) → IsHeap ws free → ((q : ℕ) → handed (set ws 3 v) free q ≡ handed ws free q) → IsTree ws free d t → IsTree (set ws 3 v) free d t
+istree-aside ws free d t v h same tree =
+    let new : List ℕ = set ws 3 v in
+    record {
+      root = get_or-set_other ws 3 0 v 0 (omega arith) ∙ tree.root;
+      stands = record {
+        holds = Holds-kept ws new free true 0 (2 ^ 64) d t h (length-set ws 3 v) (λ q i lt some. get_or-set_other ws 3 (at q i) v 0 (let ne : at q i ≢ 3 = omega arith in ne)) tree.stands;
+        ordered = tree.stands.ordered;
+        sized = tree.stands.sized;
+        owned = λ q. omega (arith, tree.stands.owned q, same q);
+      };
+      all = λ q. tree.all q ∙ sym (same q);
+    }
+
 tree-aside : (ws free : List ℕ) (es : List (ℕ × ℕ)) (v : ℕ) → IsHeap ws free → ((q : ℕ) → handed (set ws 3 v) free q ≡ handed ws free q) → Rooted ws free es → Rooted (set ws 3 v) free es
 tree-aside ws free es v h same (inl n) = inl (get_or-set_other ws 3 0 v 0 (omega arith) ∙ n.0, n.1, λ q. same q ∙ n.2 q)
-tree-aside ws free es v h same (inr t) =
-    let new : List ℕ = set ws 3 v in
-    inr (
-      t.0,
-      t.1,
-      record {
-        root = get_or-set_other ws 3 0 v 0 (omega arith) ∙ t.2.root;
-        stands = record {
-          holds = Holds-kept ws new free true 0 (2 ^ 64) t.0 t.1 h (length-set ws 3 v) (λ q i lt some. get_or-set_other ws 3 (at q i) v 0 (let ne : at q i ≢ 3 = omega arith in ne)) t.2.stands;
-          ordered = t.2.stands.ordered;
-          sized = t.2.stands.sized;
-          owned = λ q. omega (arith, t.2.stands.owned q, same q);
-        };
-        all = λ q. t.2.all q ∙ sym (same q);
-      },
-      t.3,
-    )
+tree-aside ws free es v h same (inr t) = inr (t.0, t.1, istree-aside ws free t.0 t.1 v h same t.2, t.3)
 
 pub planted-aside : (ws : List ℕ) (es : List (ℕ × ℕ)) (v : ℕ) → IsPlanted ws es → IsPlanted (set ws 3 v) es
 planted-aside ws es v x =
@@ -150,17 +149,17 @@ crowned-planted old mid new free es d t tree b c =
     )
 
 -- what an insertion at the root comes to
-pub record Enters (ws : List ℕ) (es : List (ℕ × ℕ)) (p key value : ℕ) : Type 0 where
-  pub way : Way ws p 5 key
-  pub same : (new : List ℕ) → Grows ws new p 5 key value way.rests None → IsPlanted new (with_pair key value es) × (get_or new 3 0 ≡ get_or ws 3 0)
-  pub ready : (mid : List ℕ) (s : ℕ × ℕ) → Grows ws mid p 5 key value way.rests (Some s) → (free : List ℕ) × IsHeap mid free × (1 ≤ spare mid free)
-  pub crowned : (mid new : List ℕ) (s : ℕ × ℕ) → Grows ws mid p 5 key value way.rests (Some s) → ((free : List ℕ) → IsHeap mid free → Crowned mid new free 1 (s.0 ∷ []) (p ∷ s.1 ∷ [])) → IsPlanted new (with_pair key value es) × (get_or new 3 0 ≡ get_or ws 3 0)
+pub record Enters (ws : List ℕ) (es : List (ℕ × ℕ)) (p level key value : ℕ) : Type 0 where
+  pub way : Way ws p level key
+  pub same : (new : List ℕ) → Grows ws new p level key value way.rests None → IsPlanted new (with_pair key value es) × (get_or new 3 0 ≡ get_or ws 3 0)
+  pub ready : (mid : List ℕ) (s : ℕ × ℕ) → Grows ws mid p level key value way.rests (Some s) → (free : List ℕ) × IsHeap mid free × (1 ≤ spare mid free)
+  pub crowned : (mid new : List ℕ) (s : ℕ × ℕ) → Grows ws mid p level key value way.rests (Some s) → ((free : List ℕ) → IsHeap mid free → Crowned mid new free 1 (s.0 ∷ []) (p ∷ s.1 ∷ [])) → IsPlanted new (with_pair key value es) × (get_or new 3 0 ≡ get_or ws 3 0)
 
-enters-of : (ws : List ℕ) (es : List (ℕ × ℕ)) (p key value : ℕ) (x : IsPlanted ws es) → length ws ≤ 33554432 → length es ≤ most_pairs ws → key < 2 ^ 64 → p ≡ get_or ws 0 0 - 1 → get_or ws 0 0 ≢ 0 → Rooted ws x.free es → Enters ws es p key value
-enters-of ws es p key value x small few lt is some (inl e) = absurd (some e.0)
-enters-of ws es p key value x small few lt is some (inr t) =
+enters-of : (ws : List ℕ) (es : List (ℕ × ℕ)) (p level key value : ℕ) (x : IsPlanted ws es) → IsShallow ws level → level ≤ 5 → length es ≤ most_pairs ws → key < 2 ^ 64 → p ≡ get_or ws 0 0 - 1 → get_or ws 0 0 ≢ 0 → Rooted ws x.free es → Enters ws es p level key value
+enters-of ws es p level key value x small low few lt is some (inl e) = absurd (some e.0)
+enters-of ws es p level key value x small low few lt is some (inr t) =
     let here : piece_of t.0 t.1 ≡ p = omega (arith, t.2.root) in
-    let levels : t.0 ≤ 5 = depth-few ws x.free t.0 t.1 x.heap t.2.stands.sized t.2.all small in
+    let levels : t.0 ≤ level = small x.free t.0 t.1 x.heap t.2 in
     let many : 8 ≤ spare ws x.free = spare-of ws es x few (inr t) in
     record {
       way = record {
@@ -177,8 +176,8 @@ enters-of ws es p key value x small few lt is some (inr t) =
           subst (λ e. IsPlanted new (with_pair key value e) × (get_or new 3 0 ≡ get_or ws 3 0)) (sym t.3) (crowned-planted ws mid new x.free (with_pair key value (pairs_of t.0 t.1)) t.0 t.1 t.2 b.0 d);
     }
 
-pub planted-enters : (ws : List ℕ) (es : List (ℕ × ℕ)) (p key value : ℕ) → IsPlanted ws es → length ws ≤ 33554432 → length es ≤ most_pairs ws → key < 2 ^ 64 → p ≡ get_or ws 0 0 - 1 → get_or ws 0 0 ≢ 0 → Enters ws es p key value
-planted-enters ws es p key value x small few lt is some = enters-of ws es p key value x small few lt is some x.tree
+pub planted-enters : (ws : List ℕ) (es : List (ℕ × ℕ)) (p level key value : ℕ) → IsPlanted ws es → IsShallow ws level → level ≤ 5 → length es ≤ most_pairs ws → key < 2 ^ 64 → p ≡ get_or ws 0 0 - 1 → get_or ws 0 0 ≢ 0 → Enters ws es p level key value
+planted-enters ws es p level key value x small low few lt is some = enters-of ws es p level key value x small low few lt is some x.tree
 
 -- a node written into a piece just taken, and word 0
 pub crown-made : (old first mid free rest : List ℕ) (p kind : ℕ) (keys slots : List ℕ) → IsHeap old free → Takes p old first free rest → Shows mid p kind keys slots → OnlyPiece p first mid → length keys ≤ 31 → length slots ≤ 32 → Crowned old (set mid 0 (p + 1)) free kind keys slots
@@ -214,9 +213,9 @@ pub first-ok : (ws new : List ℕ) (es : List (ℕ × ℕ)) (key value : ℕ) (r
 first-ok ws new es key value (Ok done) x lt none made = planted-first ws new es key value x lt none made
 first-ok ws new es key value (Err e) x lt none made = tt
 
-pub crowned-ok : (ws mid new : List ℕ) (es : List (ℕ × ℕ)) (p key value : ℕ) (s : ℕ × ℕ) (r : Result Unit Trouble) → (n : Enters ws es p key value) → Grows ws mid p 5 key value n.way.rests (Some s) → ((free : List ℕ) → IsHeap mid free → OnOk r (Crowned mid new free 1 (s.0 ∷ []) (p ∷ s.1 ∷ []))) → OnOk r (IsPlanted new (with_pair key value es) × (get_or new 3 0 ≡ get_or ws 3 0))
-crowned-ok ws mid new es p key value s (Ok done) n b made = n.crowned mid new s b made
-crowned-ok ws mid new es p key value s (Err e) n b made = tt
+pub crowned-ok : (ws mid new : List ℕ) (es : List (ℕ × ℕ)) (p level key value : ℕ) (s : ℕ × ℕ) (r : Result Unit Trouble) → (n : Enters ws es p level key value) → Grows ws mid p level key value n.way.rests (Some s) → ((free : List ℕ) → IsHeap mid free → OnOk r (Crowned mid new free 1 (s.0 ∷ []) (p ∷ s.1 ∷ []))) → OnOk r (IsPlanted new (with_pair key value es) × (get_or new 3 0 ≡ get_or ws 3 0))
+crowned-ok ws mid new es p level key value s (Ok done) n b made = n.crowned mid new s b made
+crowned-ok ws mid new es p level key value s (Err e) n b made = tt
 
 pub way-fits : (ws : List ℕ) (p level key : ℕ) → length ws < 2 ^ 32 → Way ws p level key → p < 2 ^ 32
 way-fits ws p level key few w = omega (arith, (Rests-within ws p level w.rests).0)
@@ -224,3 +223,12 @@ way-fits ws p level key few w = omega (arith, (Rests-within ws p level w.rests).
 -- a piece that was taken lies within the words
 pub taken-within : (old new : List ℕ) (p : ℕ) (free rest : List ℕ) → IsHeap old free → Takes p old new free rest → at p 63 < length new
 taken-within old new p free rest heap t = omega (arith, t.below, t.touches.long, heap.size)
+
+-- the levels stay, where the number of pairs is put
+pub shallow-aside : (ws : List ℕ) (level v : ℕ) → IsShallow ws level → IsShallow (set ws 3 v) level
+shallow-aside ws level v few free d t heap tree =
+    let new : List ℕ = set ws 3 v in
+    let was : ℕ = get_or ws 3 0 in
+    let back : set new 3 was ≡ ws = set-set ws 3 v was ∙ set-get_or ws 3 0 in
+    let h = heap-aside new free 3 was (omega arith) (omega arith) (omega arith) heap in
+    few free d t (subst (λ w. IsHeap w free) back h.0) (subst (λ w. IsTree w free d t) back (istree-aside new free d t was heap h.1 tree))

@@ -1,12 +1,13 @@
 -- What a change makes of a tree.
 use Rattle.std.specs.Prelude.{◌≡◌, ◌⊎◌, ◌∷◌, slice_set, ℕ, ◌+◌, ◌<◌, ◌≤◌, ◌≢◌, ◌==◌, Result, Ok, Err, Some, None, true, false, Bool, Option, List, ◌++◌, length, slice_index}
-use Rattle.std.specs.List.{remove}
+use Rattle.std.specs.List.{insert, remove}
 use Rattle.envy_heap.specs.Pieces.{IsHeap, Takes, Freed, handed, spare, at, one}
 use Rattle.envy_base.specs.declared.board.Trouble.{Trouble}
 use Rattle.envy_btree.specs.Pairs.{with_pair}
-use Rattle.envy_btree.specs.Tree.{Tree, piece_of, pairs_of, uses, Ordered, Shows}
+use Rattle.envy_btree.specs.Tree.{Tree, Rising, keys_of, values_of, piece_of, pairs_of, uses, Ordered, Shows}
 use Rattle.envy_btree.specs.Nodes.{OnlyPiece, Halves, Loose, KidsSized, IsNode}
 use Rattle.envy_btree.specs.Index.{Stands}
+use Rattle.envy_btree.specs.Spots.{keys_at, slots_at}
 
 -- the piece is the root of a tree with at most this many levels of inner nodes
 pub record Rests (ws : List ℕ) (piece level : ℕ) : Type 0 where
@@ -77,6 +78,16 @@ abbrev pub Saved : List ℕ → List ℕ → ℕ → Bool → List ℕ → List 
 Saved old free p inner keys slots (Ok None) new = (length keys ≤ 31) × Shows new p (one inner) keys slots × OnlyPiece p old new
 Saved old free p inner keys slots (Ok (Some s)) new = (first : List ℕ) × (rest : List ℕ) × (32 ≤ length keys) × Takes s.1 old first free rest × Halves first new p s.1 (one inner) s.0 keys slots
 Saved old free p inner keys slots (Err e) new = Unit {0}
+
+-- a leaf gets the pair, whatever pairs it has
+abbrev pub SetsPair : List ℕ → ℕ → ℕ → ℕ → Result (Option (ℕ × ℕ)) Trouble → List ℕ → Type 0
+SetsPair old p key value r new = (low high : ℕ) (es : List (ℕ × ℕ)) (free : List ℕ) → Rising low high es → keys_at old p ≡ keys_of es → slots_at old p ≡ values_of es
+    → IsHeap old free → handed old free p ≡ 1 → Saved old free p false (keys_of (with_pair key value es)) (values_of (with_pair key value es)) r new
+
+-- an inner node gets a key at place i, and a child after the one there
+abbrev pub GetsChild : List ℕ → ℕ → ℕ → ℕ → ℕ → Result (Option (ℕ × ℕ)) Trouble → List ℕ → Type 0
+GetsChild old p i middle second r new = (free : List ℕ) → IsHeap old free → handed old free p ≡ 1
+    → Saved old free p true (insert (keys_at old p) i middle) (insert (slots_at old p) (i + 1) second) r new
 
 -- a key belongs under this piece, and there are pieces for each level and one more
 pub record Way (ws : List ℕ) (piece level key : ℕ) : Type 0 where

@@ -1,6 +1,7 @@
 pub mod Answers
 pub mod Changes
 pub mod Commands
+pub mod Depths
 pub mod Examples
 pub mod Grammar
 pub mod Index
@@ -11,5 +12,7 @@ pub mod Replies
 pub mod Rules
 pub mod Shrinking
 pub mod Spelling
+pub mod Spots
 pub mod Testing
 pub mod Tree
+pub mod Within

@@ -3,14 +3,19 @@ use Rattle.std.specs.Prelude.{◌≡◌, ℕ, ◌+◌, ◌≤◌, Bool, true, fa
 use Rattle.envy_heap.specs.Pieces.{one}
 use Rattle.envy_btree.specs.declared.node.Node.{Node}
 use Rattle.envy_btree.specs.Pairs.{without}
-use Rattle.envy_btree.specs.Tree.{pairs_of, fewest, Shows}
+use Rattle.envy_btree.specs.Tree.{Rising, keys_of, values_of, pairs_of, fewest, Shows}
 use Rattle.envy_btree.specs.Nodes.{OnlyPiece, width}
+use Rattle.envy_btree.specs.Spots.{keys_at, slots_at}
 use Rattle.envy_btree.specs.Changes.{Rests, Became, InHand, Mended}
 
 -- a node is written, or stays in hand where it has too few keys
 abbrev pub Back : (old new : List ℕ) (piece : ℕ) (inner : Bool) (keys slots : List ℕ) → Option Node → Type 0
 Back old new piece inner keys slots None = (15 ≤ length keys) × Shows new piece (one inner) keys slots × OnlyPiece piece old new
 Back old new piece inner keys slots (Some n) = (n.inner ≡ inner) × (n.keys.items ≡ keys) × (n.slots.items ≡ slots) × (length keys ≤ 14) × (new ≡ old)
+
+-- whatever pairs a leaf has, P holds of its keys and values without this key
+abbrev pub LosesPair : (old : List ℕ) (piece key : ℕ) → (List ℕ → List ℕ → Type 0) → Type 0
+LosesPair old piece key P = (low high : ℕ) (es : List (ℕ × ℕ)) → Rising low high es → keys_at old piece ≡ keys_of es → slots_at old piece ≡ values_of es → P (keys_of (without key es)) (values_of (without key es))
 
 -- two of its children are settled first
 pub record MendedBack (old new free : List ℕ) (piece j : ℕ) (keys slots : List ℕ) (inner : Bool) (joined joined_slots : List ℕ) (r : Option Node) : Type 0 where

@@ -4,6 +4,7 @@ ghost use Rattle.envy_heap.specs.Pieces.{IsHeap, spare, one};
 ghost use Rattle.envy_btree.specs.Pairs.{with_pair};
 ghost use Rattle.envy_btree.specs.Index.{IsPlanted, most_pairs};
 ghost use Rattle.envy_btree.specs.Changes.{Crowned};
+ghost use Rattle.envy_btree.specs.Depths.{IsShallow};
 
 use crate::growing::insert_under;
 use crate::node::write_node;
@@ -33,16 +34,23 @@ fn crown<W: Words>(words: &mut W, inner: bool, keys: &[u64], slots: &[u64]) -> R
     words.put(0, piece as u64 + 1)
 }
 
-/// Sets the value of a key in the tree of the whole, which may get a new root.
-pub(crate) fn insert_at_root<W: Words>(words: &mut W, key: u64, value: u64) -> Result<(), Trouble>
+/// Sets the value of a key in the tree of the whole, which may get a new root. It has at most so many levels of inner
+/// nodes.
+pub(crate) fn insert_at_root<W: Words>(
+    words: &mut W,
+    level: u32,
+    key: u64,
+    value: u64,
+) -> Result<(), Trouble>
     requires begun { IsTrue (W.sheet words.old).started }
     requires head { IsTrue (has (W.sheet words.old).pages 0) }
-    requires room { length (W.sheet words.old).pages + 26 ≤ (W.sheet words.old).room }
-    requires size { length (W.sheet words.old).words ≤ 2 ^ 25 }
+    requires room { length (W.sheet words.old).pages + (4 * level + 6) ≤ (W.sheet words.old).room }
+    requires levels { IsShallow (W.sheet words.old).words level }
+    requires few { level ≤ 5 }
     requires map { (es : List (ℕ × ℕ)) × IsPlanted (W.sheet words.old).words es
         × (length es ≤ most_pairs (W.sheet words.old).words) }
-    ensures works { Works 26 (W.sheet words.old) (W.sheet words.new) }
-    ensures spends { Spends 840 (W.sheet words.old) (W.sheet words.new) }
+    ensures works { Works (4 * level + 6) (W.sheet words.old) (W.sheet words.new) }
+    ensures spends { Spends (129 * level + 195) (W.sheet words.old) (W.sheet words.new) }
     ensures fails { Fails (W.sheet words.old) result (W.sheet words.new) }
     ensures planted { (es : List (ℕ × ℕ)) → IsPlanted (W.sheet words.old).words es
         → length es ≤ most_pairs (W.sheet words.old).words
@@ -54,7 +62,7 @@ pub(crate) fn insert_at_root<W: Words>(words: &mut W, key: u64, value: u64) -> R
         return crown(words, false, &[key], &[value]);
     }
     let piece = (root - 1) as u32;
-    let Some((middle, second)) = insert_under(words, piece, 5, key, value)? else {
+    let Some((middle, second)) = insert_under(words, piece, level, key, value)? else {
         return Ok(());
     };
     crown(words, true, &[middle], &[piece as u64, second as u64])

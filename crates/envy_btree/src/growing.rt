@@ -1,23 +1,21 @@
-ghost use Rattle.std.specs.Prelude.{◌≡◌, ℕ, List, Bool, ◌+◌, ◌*◌, ◌<◌, ◌≤◌, length, IfOk, IsTrue, true, false};
-ghost use Rattle.std.specs.List.{insert};
+ghost use Rattle.std.specs.Prelude.{◌≡◌, ◌+◌, ◌*◌, ◌<◌, ◌≤◌, length, slice_index, IfOk, IsTrue};
 ghost use Rattle.envy_base.specs.Words.{Spends, Works, Fails, has};
-ghost use Rattle.envy_heap.specs.Pieces.{IsHeap, handed, spare, at};
-ghost use Rattle.envy_btree.specs.Pairs.{with_pair};
-ghost use Rattle.envy_btree.specs.Tree.{Rising, keys_of, values_of};
+ghost use Rattle.envy_heap.specs.Pieces.{head, at};
 ghost use Rattle.envy_btree.specs.Nodes.{Ranks};
-ghost use Rattle.envy_btree.specs.Changes.{Saved, Way, Grows};
+ghost use Rattle.envy_btree.specs.Changes.{Ready, Way, Grows, SetsPair, GetsChild};
+ghost use Rattle.envy_btree.specs.Spots.{keys_at};
 
-use crate::node::{Node, read_node, set_pair};
-use crate::ranks::rank;
+use crate::node::{read_node, set_pair};
 use crate::saving::save;
+use crate::seeking::{ends_at, seek};
+use crate::shifting::widen;
 use envy_base::{Trouble, Words};
 
-// Sets the value of a key in a leaf that was read, and writes it back.
-fn grow_leaf<W: Words>(
+// Sets the value of a key in a full leaf, which may part in two.
+fn grow_full_leaf<W: Words>(
     words: &mut W,
     piece: u32,
-    node: &mut Node,
-    i: usize,
+    place: u32,
     key: u64,
     value: u64,
 ) -> Result<Option<(u64, u32)>, Trouble>
@@ -25,31 +23,57 @@ fn grow_leaf<W: Words>(
     requires within { at piece 63 < length (W.sheet words.old).words }
     requires head { IsTrue (has (W.sheet words.old).pages 0) }
     requires room { length (W.sheet words.old).pages + 4 ≤ (W.sheet words.old).room }
-    requires heap { (free : List ℕ) × IsHeap (W.sheet words.old).words free
-        × (handed (W.sheet words.old).words free piece ≡ 1) × (1 ≤ spare (W.sheet words.old).words free) }
-    requires leaf { node.old.inner ≡ false }
-    requires few { length node.old.keys.items ≤ 31 }
-    requires long { length node.old.slots.items ≡ length node.old.keys.items }
-    requires place { Ranks key node.old.keys.items i }
+    requires heap { Ready (W.sheet words.old).words piece }
+    requires full { slice_index (W.sheet words.old).words (head piece) ≡ 62 }
+    requires place { Ranks key (keys_at (W.sheet words.old).words piece) place }
     ensures works { Works 4 (W.sheet words.old) (W.sheet words.new) }
     ensures spends { Spends 129 (W.sheet words.old) (W.sheet words.new) }
     ensures fails { Fails (W.sheet words.old) result (W.sheet words.new) }
-    ensures saved { (low high : ℕ) (es : List (ℕ × ℕ)) (free : List ℕ) → Rising low high es
-        → node.old.keys.items ≡ keys_of es → node.old.slots.items ≡ values_of es → IsHeap (W.sheet words.old).words free
-        → handed (W.sheet words.old).words free piece ≡ 1
-        → Saved (W.sheet words.old).words free piece false (keys_of (with_pair key value es))
-        (values_of (with_pair key value es)) result (W.sheet words.new).words }
+    ensures saved { SetsPair (W.sheet words.old).words piece key value result (W.sheet words.new).words }
 {
-    set_pair(node, i, key, value);
-    save(words, piece, node)
+    let mut node = read_node(words, piece)?;
+    set_pair(&mut node, place as usize, key, value);
+    save(words, piece, &node)
 }
 
-// Gives an inner node that was read a child more, and writes it back.
-fn grow_node<W: Words>(
+// Sets the value of a key at its place in a leaf of so many keys.
+fn grow_leaf<W: Words>(
     words: &mut W,
     piece: u32,
-    node: &mut Node,
-    i: usize,
+    keys: u32,
+    place: u32,
+    key: u64,
+    value: u64,
+) -> Result<Option<(u64, u32)>, Trouble>
+    requires begun { IsTrue (W.sheet words.old).started }
+    requires within { at piece 63 < length (W.sheet words.old).words }
+    requires head { IsTrue (has (W.sheet words.old).pages 0) }
+    requires room { length (W.sheet words.old).pages + 4 ≤ (W.sheet words.old).room }
+    requires heap { Ready (W.sheet words.old).words piece }
+    requires leaf { slice_index (W.sheet words.old).words (head piece) ≡ 2 * keys }
+    requires few { keys ≤ 31 }
+    requires place { Ranks key (keys_at (W.sheet words.old).words piece) place }
+    ensures works { Works 4 (W.sheet words.old) (W.sheet words.new) }
+    ensures spends { Spends 129 (W.sheet words.old) (W.sheet words.new) }
+    ensures fails { Fails (W.sheet words.old) result (W.sheet words.new) }
+    ensures saved { SetsPair (W.sheet words.old).words piece key value result (W.sheet words.new).words }
+{
+    if ends_at(words, piece, place, key)? {
+        words.put(64 + 64 * piece + 31 + place, value)?;
+        return Ok(None);
+    }
+    if keys == 31 {
+        return grow_full_leaf(words, piece, place, key, value);
+    }
+    widen(words, piece, false, keys, place, key, place, value)?;
+    Ok(None)
+}
+
+// Gives a full inner node a child more, so that it parts in two.
+fn grow_full_node<W: Words>(
+    words: &mut W,
+    piece: u32,
+    place: u32,
     middle: u64,
     second: u32,
 ) -> Result<Option<(u64, u32)>, Trouble>
@@ -57,23 +81,56 @@ fn grow_node<W: Words>(
     requires within { at piece 63 < length (W.sheet words.old).words }
     requires head { IsTrue (has (W.sheet words.old).pages 0) }
     requires room { length (W.sheet words.old).pages + 4 ≤ (W.sheet words.old).room }
-    requires heap { (free : List ℕ) × IsHeap (W.sheet words.old).words free
-        × (handed (W.sheet words.old).words free piece ≡ 1) × (1 ≤ spare (W.sheet words.old).words free) }
-    requires inner { node.old.inner ≡ true }
-    requires few { length node.old.keys.items ≤ 31 }
-    requires long { length node.old.slots.items ≡ length node.old.keys.items + 1 }
-    requires place { i ≤ length node.old.keys.items }
+    requires heap { Ready (W.sheet words.old).words piece }
+    requires full { slice_index (W.sheet words.old).words (head piece) ≡ 63 }
+    requires place { place ≤ 31 }
     ensures works { Works 4 (W.sheet words.old) (W.sheet words.new) }
     ensures spends { Spends 129 (W.sheet words.old) (W.sheet words.new) }
     ensures fails { Fails (W.sheet words.old) result (W.sheet words.new) }
-    ensures saved { (free : List ℕ) → IsHeap (W.sheet words.old).words free
-        → handed (W.sheet words.old).words free piece ≡ 1
-        → Saved (W.sheet words.old).words free piece true (insert node.old.keys.items i middle)
-        (insert node.old.slots.items (i + 1) second) result (W.sheet words.new).words }
+    ensures saved { GetsChild (W.sheet words.old).words piece place middle second result (W.sheet words.new).words }
 {
-    node.keys.insert(i, middle);
-    node.slots.insert(i + 1, second as u64);
-    save(words, piece, node)
+    let mut node = read_node(words, piece)?;
+    node.keys.insert(place as usize, middle);
+    node.slots.insert(place as usize + 1, second as u64);
+    save(words, piece, &node)
+}
+
+// Gives an inner node of so many keys a child more, after the one at this place.
+fn grow_node<W: Words>(
+    words: &mut W,
+    piece: u32,
+    keys: u32,
+    place: u32,
+    middle: u64,
+    second: u32,
+) -> Result<Option<(u64, u32)>, Trouble>
+    requires begun { IsTrue (W.sheet words.old).started }
+    requires within { at piece 63 < length (W.sheet words.old).words }
+    requires head { IsTrue (has (W.sheet words.old).pages 0) }
+    requires room { length (W.sheet words.old).pages + 4 ≤ (W.sheet words.old).room }
+    requires heap { Ready (W.sheet words.old).words piece }
+    requires inner { slice_index (W.sheet words.old).words (head piece) ≡ 2 * keys + 1 }
+    requires few { keys ≤ 31 }
+    requires place { place ≤ keys }
+    ensures works { Works 4 (W.sheet words.old) (W.sheet words.new) }
+    ensures spends { Spends 129 (W.sheet words.old) (W.sheet words.new) }
+    ensures fails { Fails (W.sheet words.old) result (W.sheet words.new) }
+    ensures saved { GetsChild (W.sheet words.old).words piece place middle second result (W.sheet words.new).words }
+{
+    if keys == 31 {
+        return grow_full_node(words, piece, place, middle, second);
+    }
+    widen(
+        words,
+        piece,
+        true,
+        keys,
+        place,
+        middle,
+        place + 1,
+        u64::from(second),
+    )?;
+    Ok(None)
 }
 
 /// Sets the value of a key in the tree under this piece. Where it parts in two, the answer is the key
@@ -96,14 +153,13 @@ pub(crate) fn insert_under<W: Words>(
         → IfOk result (λ r.
         Grows (W.sheet words.old).words (W.sheet words.new).words piece level key value way.rests r) }
 {
-    let mut node = read_node(words, piece)?;
-    let i = rank(&node.keys, key);
-    if !node.inner {
-        return grow_leaf(words, piece, &mut node, i, key, value);
+    let spot = seek(words, piece, key)?;
+    if !spot.inner {
+        return grow_leaf(words, piece, spot.keys, spot.place, key, value);
     }
-    let child = node.slot(i) as u32;
+    let child = words.load(64 + 64 * piece + 32 + spot.place)? as u32;
     let Some((middle, second)) = insert_under(words, child, level - 1, key, value)? else {
         return Ok(None);
     };
-    grow_node(words, piece, &mut node, i, middle, second)
+    grow_node(words, piece, spot.keys, spot.place, middle, second)
 }

@@ -1,6 +1,7 @@
 //! An index tree on pieces of words.
 #![tactic(auto)]
 
+mod changing;
 mod closing;
 mod command;
 mod crowning;
@@ -11,6 +12,7 @@ mod growing;
 mod inserting;
 mod laws;
 mod line;
+mod locating;
 mod mending;
 mod nearing;
 mod node;
@@ -20,10 +22,13 @@ mod removing;
 mod reply;
 mod saving;
 mod scanning;
+mod seeking;
+mod shifting;
 mod shrinking;
 mod uprooting;
 
-pub use fault::TreeFault;
+pub use changing::{insert_within, remove_within};
+pub use fault::{ChangeFault, TreeFault};
 pub use getting::get;
 pub use inserting::insert;
 pub use laws::{

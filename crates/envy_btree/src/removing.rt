@@ -1,12 +1,13 @@
-ghost use Rattle.std.specs.Prelude.{◌≡◌, ℕ, List, ◌+◌, ◌^◌, ◌<◌, ◌≤◌, length, slice_index, false, OnOk, IsTrue};
+ghost use Rattle.std.specs.Prelude.{◌≡◌, ℕ, List, ◌+◌, ◌*◌, ◌^◌, ◌<◌, ◌≤◌, length, slice_index, false, OnOk, IsTrue};
 ghost use Rattle.envy_base.specs.Words.{Spends, Works, Keeps, Fails};
 ghost use Rattle.envy_btree.specs.Pairs.{without};
 ghost use Rattle.envy_btree.specs.Index.{IsPlanted, IsIndex, most_pairs};
+ghost use Rattle.envy_btree.specs.Depths.{IsShallow, removal_pages};
 ghost use Rattle.envy_btree.specs.Answers.{removal_puts, Removes, Settles};
 
 use crate::closing::close;
 use crate::fault::TreeFault;
-use crate::getting::get;
+use crate::locating::look_up;
 use crate::uprooting::remove_at_root;
 use envy_base::{Trouble, Words};
 
@@ -24,8 +25,8 @@ pub fn remove<W: Words>(words: &mut W, key: u64) -> Result<Option<u64>, TreeFaul
     ensures removes { (es : List (ℕ × ℕ)) → IsIndex (W.sheet words.old).words es
         → Removes key es (W.sheet words.old) result (W.sheet words.new) }
 {
-    let was = get(words, key)?;
-    let Some(value) = was else {
+    let was = look_up(words, key)?;
+    let Some(value) = was.value else {
         return Ok(None);
     };
     let pairs = words.load(3)?;
@@ -49,23 +50,28 @@ fn remove_alone<W: Words>(words: &mut W, key: u64, pairs: u64) -> Result<(), Tre
         → Settles es (without key es) (W.sheet words.old) result (W.sheet words.new) }
 {
     words.start()?;
-    let done = remove_inside(words, key, pairs);
+    let done = remove_inside(words, 5, key, pairs);
     close(words, done)
 }
 
-// The same within an open transaction.
-fn remove_inside<W: Words>(words: &mut W, key: u64, pairs: u64) -> Result<(), Trouble>
+// The same within an open transaction, under at most so many levels of inner nodes.
+pub(crate) fn remove_inside<W: Words>(
+    words: &mut W,
+    level: u32,
+    key: u64,
+    pairs: u64,
+) -> Result<(), Trouble>
     requires begun { IsTrue (W.sheet words.old).started }
-    requires room { length (W.sheet words.old).pages + 24 ≤ (W.sheet words.old).room }
-    requires size { length (W.sheet words.old).words ≤ 2 ^ 25 }
+    requires room { length (W.sheet words.old).pages + removal_pages level ≤ (W.sheet words.old).room }
+    requires levels { IsShallow (W.sheet words.old).words level }
     requires map { (es : List (ℕ × ℕ)) × IsPlanted (W.sheet words.old).words es }
-    ensures works { Works 24 (W.sheet words.old) (W.sheet words.new) }
-    ensures spends { Spends 1089 (W.sheet words.old) (W.sheet words.new) }
+    ensures works { Works (removal_pages level) (W.sheet words.old) (W.sheet words.new) }
+    ensures spends { Spends (192 * level + 129) (W.sheet words.old) (W.sheet words.new) }
     ensures fails { Fails (W.sheet words.old) result (W.sheet words.new) }
     ensures planted { (es : List (ℕ × ℕ)) → IsPlanted (W.sheet words.old).words es
         → OnOk result (IsPlanted (W.sheet words.new).words (without key es)
         × (slice_index (W.sheet words.new).words 3 ≡ pairs)) }
 {
     words.put(3, pairs)?;
-    remove_at_root(words, key)
+    remove_at_root(words, level, key)
 }

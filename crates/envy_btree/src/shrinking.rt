@@ -1,15 +1,15 @@
-ghost use Rattle.std.specs.Prelude.{◌≡◌, ℕ, List, ◌+◌, ◌-◌, ◌*◌, ◌<◌, ◌≤◌, ◌++◌, length, slice_index, IfOk, IfSome, IsTrue, true, false};
+ghost use Rattle.std.specs.Prelude.{◌≡◌, ℕ, List, ◌+◌, ◌-◌, ◌*◌, ◌<◌, ◌≤◌, ◌++◌, length, slice_index, IfOk, IfSome, OnOk, None, IsTrue, true, false};
 ghost use Rattle.envy_base.specs.Words.{Spends, Works, Fails};
-ghost use Rattle.envy_heap.specs.Pieces.{IsHeap, at, one};
-ghost use Rattle.envy_btree.specs.Pairs.{without};
-ghost use Rattle.envy_btree.specs.Tree.{Rising, keys_of, values_of};
+ghost use Rattle.envy_heap.specs.Pieces.{IsHeap, head, at, one};
 ghost use Rattle.envy_btree.specs.Nodes.{Ranks};
 ghost use Rattle.envy_btree.specs.Changes.{Rests, Beside, HasPair, IsShort, joined_keys};
-ghost use Rattle.envy_btree.specs.Shrinking.{Back, MendedBack, Shrinks};
+ghost use Rattle.envy_btree.specs.Shrinking.{Back, LosesPair, MendedBack, Shrinks};
+ghost use Rattle.envy_btree.specs.Spots.{keys_at};
 
 use crate::mending::{mend_with_front, mend_with_rear};
 use crate::node::{Node, drop_pair, read_node, write_node};
-use crate::ranks::rank;
+use crate::seeking::{ends_at, seek};
+use crate::shifting::narrow;
 use envy_base::{Trouble, Words};
 
 // Writes a node back, or leaves it in hand where it is short.
@@ -33,32 +33,61 @@ fn put_back<W: Words>(words: &mut W, piece: u32, node: Node) -> Result<Option<No
     Ok(None)
 }
 
-// Takes a key out of a leaf that was read.
+// Takes a key out of a leaf that isn't short then.
+fn thin_leaf<W: Words>(
+    words: &mut W,
+    piece: u32,
+    keys: u32,
+    place: u32,
+    key: u64,
+) -> Result<(), Trouble>
+    requires begun { IsTrue (W.sheet words.old).started }
+    requires within { at piece 63 < length (W.sheet words.old).words }
+    requires room { length (W.sheet words.old).pages + 2 ≤ (W.sheet words.old).room }
+    requires leaf { slice_index (W.sheet words.old).words (head piece) ≡ 2 * keys }
+    requires many { 16 ≤ keys }
+    requires few { keys ≤ 31 }
+    requires place { Ranks key (keys_at (W.sheet words.old).words piece) place }
+    ensures works { Works 2 (W.sheet words.old) (W.sheet words.new) }
+    ensures spends { Spends 64 (W.sheet words.old) (W.sheet words.new) }
+    ensures fails { Fails (W.sheet words.old) result (W.sheet words.new) }
+    ensures back { LosesPair (W.sheet words.old).words piece key
+        (λ keys slots. OnOk result (Back (W.sheet words.old).words (W.sheet words.new).words piece false keys slots None)) }
+{
+    if !ends_at(words, piece, place, key)? {
+        return Ok(());
+    }
+    narrow(words, piece, false, keys, place - 1, place - 1)
+}
+
+// Takes a key out of a leaf of so many keys.
 fn shrink_leaf<W: Words>(
     words: &mut W,
     piece: u32,
-    mut node: Node,
-    i: usize,
+    keys: u32,
+    place: u32,
     key: u64,
 ) -> Result<Option<Node>, Trouble>
     requires begun { IsTrue (W.sheet words.old).started }
     requires within { at piece 63 < length (W.sheet words.old).words }
     requires room { length (W.sheet words.old).pages + 2 ≤ (W.sheet words.old).room }
-    requires leaf { node.inner ≡ false }
-    requires few { length node.keys.items ≤ 31 }
-    requires long { length node.slots.items ≡ length node.keys.items }
-    requires place { Ranks key node.keys.items i }
+    requires leaf { slice_index (W.sheet words.old).words (head piece) ≡ 2 * keys }
+    requires few { keys ≤ 31 }
+    requires place { Ranks key (keys_at (W.sheet words.old).words piece) place }
     ensures works { Works 2 (W.sheet words.old) (W.sheet words.new) }
     ensures spends { Spends 64 (W.sheet words.old) (W.sheet words.new) }
     ensures fails { Fails (W.sheet words.old) result (W.sheet words.new) }
     ensures hand { IfOk result (λ r. IfSome r (λ _. Works 0 (W.sheet words.old) (W.sheet words.new))) }
-    ensures back { (low high : ℕ) (es : List (ℕ × ℕ)) → Rising low high es → node.keys.items ≡ keys_of es
-        → node.slots.items ≡ values_of es
-        → IfOk result (λ r.
-        Back (W.sheet words.old).words (W.sheet words.new).words piece false (keys_of (without key es))
-        (values_of (without key es)) r) }
+    ensures back { LosesPair (W.sheet words.old).words piece key
+        (λ keys slots. IfOk result (λ r.
+        Back (W.sheet words.old).words (W.sheet words.new).words piece false keys slots r)) }
 {
-    drop_pair(&mut node, i, key);
+    if keys > 15 {
+        thin_leaf(words, piece, keys, place, key)?;
+        return Ok(None);
+    }
+    let mut node = read_node(words, piece)?;
+    drop_pair(&mut node, place as usize, key);
     put_back(words, piece, node)
 }
 
@@ -142,17 +171,17 @@ pub(crate) fn remove_under<W: Words>(
     ensures shrinks { (t : Rests (W.sheet words.old).words piece level)
         → IfOk result (λ r. Shrinks (W.sheet words.old).words (W.sheet words.new).words piece level key t r) }
 {
-    let node = read_node(words, piece)?;
-    let i = rank(&node.keys, key);
-    if !node.inner {
-        return shrink_leaf(words, piece, node, i, key);
+    let spot = seek(words, piece, key)?;
+    if !spot.inner {
+        return shrink_leaf(words, piece, spot.keys, spot.place, key);
     }
-    let child = node.slot(i) as u32;
+    let child = words.load(64 + 64 * piece + 32 + spot.place)? as u32;
     let Some(short) = remove_under(words, child, level - 1, key)? else {
         return Ok(None);
     };
-    if i > 0 {
-        return shrink_with_front(words, piece, node, i - 1, short);
+    let node = read_node(words, piece)?;
+    if spot.place > 0 {
+        return shrink_with_front(words, piece, node, spot.place as usize - 1, short);
     }
     shrink_with_rear(words, piece, node, 0, short)
 }

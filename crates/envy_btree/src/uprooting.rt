@@ -1,7 +1,8 @@
-ghost use Rattle.std.specs.Prelude.{◌≡◌, ℕ, List, ◌+◌, ◌^◌, ◌<◌, ◌≤◌, length, slice_index, slice_set, true, OnOk, IsTrue};
+ghost use Rattle.std.specs.Prelude.{◌≡◌, ℕ, List, ◌+◌, ◌*◌, ◌^◌, ◌<◌, ◌≤◌, length, slice_index, slice_set, true, OnOk, IsTrue};
 ghost use Rattle.envy_base.specs.Words.{Spends, Works, Fails};
 ghost use Rattle.envy_heap.specs.Pieces.{IsHeap, Freed, handed};
 ghost use Rattle.envy_btree.specs.Pairs.{without};
+ghost use Rattle.envy_btree.specs.Depths.{IsShallow};
 ghost use Rattle.envy_btree.specs.Index.{IsPlanted};
 ghost use Rattle.envy_btree.specs.Shrinking.{next_root};
 
@@ -40,14 +41,14 @@ fn root_after(node: &Node) -> u64
     if node.inner { node.slot(0) + 1 } else { 0 }
 }
 
-/// Takes a key out of the tree of the whole, which may lose its root.
-pub(crate) fn remove_at_root<W: Words>(words: &mut W, key: u64) -> Result<(), Trouble>
+/// Takes a key out of the tree of the whole, which may lose its root. It has at most so many levels of inner nodes.
+pub(crate) fn remove_at_root<W: Words>(words: &mut W, level: u32, key: u64) -> Result<(), Trouble>
     requires begun { IsTrue (W.sheet words.old).started }
-    requires room { length (W.sheet words.old).pages + 23 ≤ (W.sheet words.old).room }
-    requires size { length (W.sheet words.old).words ≤ 2 ^ 25 }
+    requires room { length (W.sheet words.old).pages + (4 * level + 3) ≤ (W.sheet words.old).room }
+    requires levels { IsShallow (W.sheet words.old).words level }
     requires map { (es : List (ℕ × ℕ)) × IsPlanted (W.sheet words.old).words es }
-    ensures works { Works 23 (W.sheet words.old) (W.sheet words.new) }
-    ensures spends { Spends 1088 (W.sheet words.old) (W.sheet words.new) }
+    ensures works { Works (4 * level + 3) (W.sheet words.old) (W.sheet words.new) }
+    ensures spends { Spends (192 * level + 128) (W.sheet words.old) (W.sheet words.new) }
     ensures fails { Fails (W.sheet words.old) result (W.sheet words.new) }
     ensures planted { (es : List (ℕ × ℕ)) → IsPlanted (W.sheet words.old).words es
         → OnOk result (IsPlanted (W.sheet words.new).words (without key es)
@@ -58,7 +59,7 @@ pub(crate) fn remove_at_root<W: Words>(words: &mut W, key: u64) -> Result<(), Tr
         return Ok(());
     }
     let piece = (root - 1) as u32;
-    let Some(node) = remove_under(words, piece, 5, key)? else {
+    let Some(node) = remove_under(words, piece, level, key)? else {
         return Ok(());
     };
     if node.keys.len() > 0 {

@@ -1,25 +1,22 @@
 -- What reading and putting several words answer by a number, and what they leave in the place for a memory.
-use Rattle.std.specs.Prelude.{◌≡◌, ◌≢◌, ◌↔◌, ◌⊎◌, ◌+◌, ◌/◌, ◌<◌, ℕ, zero, suc, false, OnOk, OnErr, length, slice_index, List, Option, None, Some, Result, Ok, Err}
+use Rattle.std.specs.Prelude.{◌≡◌, ◌↔◌, ◌+◌, ◌/◌, ℕ, zero, suc, false, OnOk, OnErr, length, slice_index, List, Option, None, Some, Result, Ok, Err}
 use Rattle.envy_base.specs.Array.{Array}
 use Rattle.envy_base.specs.Step.{Step, Put, Done as DoneOf}
 use Rattle.envy_layout.specs.Stands.{Stands}
 use Rattle.envy_memory.specs.LoadRuns.{AreLive, Crosses, LoadsRun}
 use Rattle.envy_memory.specs.Picture.{Picture}
+use Rattle.envy_memory.specs.PutRuns.{EndsRun, PutsRun}
 use Rattle.envy_memory.specs.Runs.{RunsPast, pages_met}
 use Rattle.envy_memory.specs.declared.faults.LoadFault.{LoadFault}
 use Rattle.envy_memory.specs.declared.faults.LoadFault.TheVariants.{Off as LoadOff, Range as LoadRange}
-use Rattle.envy_calls.specs.Answers.{PutsTo, slot_named}
-use Rattle.envy_calls.specs.Codes.{number_of}
+use Rattle.envy_memory.specs.declared.faults.PutFault.{PutFault}
+use Rattle.envy_calls.specs.Answers.{slot_named}
+use Rattle.envy_calls.specs.Codes.{number_of, put_code, put_holder}
 use Rattle.envy_calls.specs.declared.code.Code.{Code}
 use Rattle.envy_calls.specs.declared.code.Code.TheVariants.{Done, Empty, Off, Range}
 use Rattle.envy_base.specs.declared.page.TheConstants.{PAGE_WORDS}
 
--- slot t put the first k of these words, one after another
-abbrev pub Wrote : ℕ → List ℕ → ℕ → ℕ → ℕ → Picture → Picture → Type 0
-Wrote zero words t a holder p q = q ≡ p
-Wrote (suc k) words t a holder p q = (r : Picture) × Wrote k words t a holder p r × PutsTo r q t (a + k) (slice_index words k) (number_of Done) holder holder
-
--- the same of a plain array
+-- slot t put the first k of these words, one after another, in a plain array
 abbrev pub Written : ℕ → List ℕ → ℕ → ℕ → Array → Array → Type 0
 Written zero words t a m n = n ≡ m
 Written (suc k) words t a m n = (l : Array) × Written k words t a m l × Step l (Put t (a + k) (slice_index words k)) DoneOf n
@@ -42,18 +39,15 @@ pub record ReadsTo (p q : Picture) (a code : ℕ) (before after : List ℕ) : Ty
   pub kept : q ≡ record p { parts = record p.parts { cache = q.parts.cache } }
   pub refused : OnErr answer ((q ≡ p) × (after ≡ before))
 
--- All words were put, or the next one was refused, which ended it.
-abbrev pub EndsWith : Picture → Picture → ℕ → ℕ → List ℕ → ℕ → ℕ → ℕ → ℕ → Type 0
-EndsWith r q t a words done code before after =
-    ((done ≡ length words) × (q ≡ r) × (code ≡ number_of Done) × (after ≡ before))
-    ⊎ ((done < length words) × (code ≢ number_of Done) × PutsTo r q t (a + done) (slice_index words done) code before after)
-
 -- so many were put, and what ended it
 pub record WritesTo (p q : Picture) (t a : ℕ) (words : List ℕ) (code done before after : ℕ) : Type 0 where
+  pub answer : Result Unit PutFault
+  pub coded : code ≡ number_of (put_code answer)
+  pub written : after ≡ put_holder before answer
   pub between : Picture
-  pub puts : Wrote done words t a before p between
+  pub puts : PutsRun done words t a p between
   pub array : (m : Array) → Stands p.chart m → (n : Array) × Written done words t a m n × Stands between.chart n
-  pub ends : EndsWith between q t a words done code before after
+  pub ends : EndsRun between q t a words done answer
 
 -- In a place: the calls of the memory that it holds.
 

@@ -1,23 +1,12 @@
 // Several words in one call.
-ghost use Rattle.std.specs.Prelude.{◌≡◌, ◌*◌, ◌^◌, ◌<◌};
-ghost use Rattle.envy_calls.specs.Answers.{PutsTo};
-ghost use Rattle.envy_calls.specs.Bulk.{DoesRead, DoesWrite, EndsWith, Wrote, read_code};
-ghost use Rattle.envy_calls.specs.Codes.{number_of};
-ghost use Rattle.envy_memory.specs.Picture.{Picture};
+ghost use Rattle.std.specs.Prelude.{◌≡◌};
+ghost use Rattle.envy_calls.specs.Bulk.{DoesRead, DoesWrite, read_code};
 
 use crate::code::Code;
 use crate::ending::slot_named;
 use crate::faults::put_answer;
-use envy_base::{Board, PAGE_WORDS};
+use envy_base::Board;
 use envy_memory::{LoadFault, Memory};
-
-// The addresses of a memory are far from the end of their type.
-fn addresses_fit<B: Board>(memory: &Memory<B>)
-    ensures { PAGE_WORDS * memory.now.chart.shape.pages < 2 ^ 32 }
-{
-    let board = memory.board();
-    let _shape = board.shape();
-}
 
 fn read_answer(answer: Result<(), LoadFault>) -> Code
     ensures { result ≡ read_code answer }
@@ -40,36 +29,6 @@ pub fn read<B: Board>(slot: &mut Option<Memory<B>>, a: u32, into: &mut [u64]) ->
     read_answer(memory.load_run(a, into)).number()
 }
 
-// One of several puts.
-fn put_word<B: Board>(memory: &mut Memory<B>, t: u8, a: u32, word: u64, holder: &mut u32) -> Code
-    ensures { PutsTo memory.old memory.new t a word (number_of result) holder.old holder.new }
-{
-    put_answer(memory.put(t, a, word), holder)
-}
-
-// Puts one word after another, until one is refused. `done` is how many were put.
-fn put_words<B: Board>(
-    memory: &mut Memory<B>,
-    t: u8,
-    a: u32,
-    words: &[u64],
-    done: &mut usize,
-    holder: &mut u32,
-) -> Code
-    ensures { (between : Picture) × Wrote done.new words.now t a holder.old memory.old between
-        × EndsWith between memory.new t a words.now done.new (number_of result) holder.old holder.new }
-{
-    addresses_fit(memory);
-    *done = 0;
-    for i in 0..words.len() {
-        match put_word(memory, t, a + i as u32, words[i], holder) {
-            Code::Done => *done = i + 1,
-            refused => return refused,
-        }
-    }
-    Code::Done
-}
-
 /// Makes the words at an address and behind it these within the transaction of slot `t`, one after another. The first
 /// that is refused ends it, and is the answer. `done` becomes how many were put, and where another transaction owns a
 /// page, `holder` becomes its slot.
@@ -87,5 +46,7 @@ pub fn write<B: Board>(
     let Some(memory) = slot else {
         return Code::Empty.number();
     };
-    put_words(memory, slot_named(t), a, words, done, holder).number()
+    let (count, answer) = memory.put_run(slot_named(t), a, words);
+    *done = count;
+    put_answer(answer, holder).number()
 }

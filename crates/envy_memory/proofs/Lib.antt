@@ -14,6 +14,7 @@ pub mod Owning
 pub mod Pricing
 pub mod PutAnswers
 pub mod PutLemmas
+pub mod PutRuns
 pub mod Standing
 pub mod Stepped
 pub mod SyncLemmas

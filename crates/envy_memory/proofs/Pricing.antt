@@ -1,5 +1,5 @@
 -- A memory with one transaction: the flash work of its calls, in puts.
-use Rattle.std.proofs.Common.{◌≡◌, ℕ, ◌+◌, ◌*◌, ◌≤◌, Bool, ap, arith}
+use Rattle.std.proofs.Common.{◌≡◌, ℕ, ◌*◌, ◌≤◌, Bool, ap, arith}
 use Rattle.std.specs.Prelude.{sum}
 use Rattle.envy_base.specs.Words.{Spends}
 use Rattle.envy_layout.specs.Same.{Counted, Grows}

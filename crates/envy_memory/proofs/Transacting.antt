@@ -1,5 +1,5 @@
 -- A memory with one transaction: what its calls do to the words.
-use Rattle.std.proofs.Common.{◌≡◌, ◌≢◌, ◌⊎◌, inl, inr, ℕ, zero, suc, ◌+◌, ◌*◌, ◌-◌, ◌<◌, ◌≤◌, Bool, true, false, List, [], ◌∷◌, ◌++◌, map, length, get_or, Option, None, Some, refl, sym, ◌∙◌, ap, subst, arith}
+use Rattle.std.proofs.Common.{◌≡◌, ◌≢◌, ◌⊎◌, inl, inr, ℕ, zero, suc, ◌+◌, ◌*◌, ◌<◌, ◌≤◌, Bool, true, false, List, [], ◌∷◌, ◌++◌, map, length, get_or, Option, None, Some, refl, sym, ◌∙◌, ap, subst, arith}
 use Rattle.std.specs.Prelude.{◌&&◌, ◌==◌, IsTrue, Result, Ok, Err, replicate, slice_index, slice_set, position}
 use Rattle.std.proofs.Math.Logic.{∥∥₁_elim, ∥∥₁_map}
 use Rattle.std.proofs.Props.{props}
@@ -15,7 +15,7 @@ use Rattle.envy_base.proofs.Undoing.{has as has-address}
 use Rattle.envy_map.specs.Fields.{Chart, slot}
 use Rattle.envy_layout.specs.Same.{Counted}
 use Rattle.envy_layout.specs.Stands.{Holds, Stands, Steps, IsLost, slot_word}
-use Rattle.envy_layout.specs.Words.{live, durable}
+use Rattle.envy_layout.specs.Words.{durable}
 use Rattle.envy_txn.specs.Owners.{Ownership, owner_of}
 use Rattle.envy_txn.specs.declared.pair.Pair.{Pair}
 use Rattle.envy_memory.proofs.Facts.{none-open, on-from}

@@ -10,6 +10,7 @@ pub mod LoadRuns
 pub mod Making
 pub mod Opened
 pub mod Picture
+pub mod PutRuns
 pub mod Restarts
 pub mod Rises
 pub mod Runs

@@ -15,6 +15,7 @@ mod looking;
 mod making;
 mod memory;
 mod one_tx;
+mod put_runs;
 mod putting;
 mod storing;
 mod syncing;

@@ -1,5 +1,5 @@
 -- A board over a part has the sizes of its shape, and why one that is formatted or taken up isn't.
-use Rattle.std.proofs.Common.{◌≡◌, ◌∙◌, ℕ, List, true, false, IsTrue, Some, Ok, Err, inl, inr, refl, sym, ap, subst, arith}
+use Rattle.std.proofs.Common.{◌≡◌, ◌∙◌, ℕ, List, true, false, IsTrue, Option, None, Some, Ok, Err, MatchOption, inl, inr, refl, sym, ap, subst, arith}
 use Rattle.std.proofs.lemmas.List.{length-map}
 use Rattle.envy_bank.specs.Lanes.{row_from}
 use Rattle.envy_base.specs.State.{State, IsBoard}
@@ -35,8 +35,7 @@ format_refused given setup (Setup fault) old left is checks placed sizes same on
 format_refused given setup OtherShape old left is checks placed sizes same on refuses counts = absurd (refuses.2 (ap (λ (s : State). s.shape) same))
 format_refused given setup Memory old left is checks placed sizes same on refuses counts = (NoMemory, refl, (setup, is, checks, (placed, (sizes, inl (refl, refuses.1 ∙ same)))))
 format_refused given setup Bad old left is checks placed sizes same on refuses counts =
-    let none : old.bads ≡ 0 = ap (λ (s : State). s.bads) same in
-    (
+    let none : old.bads ≡ 0 = ap (λ (s : State). s.bads) same in (
       BadCode,
       refl,
       (
@@ -69,6 +68,10 @@ format_without_board given code none = inl none
 pub format_left : (given : Given) (code : PartCode) (left : State) → LeavesPart given left code → RefusesFormat given code
 unfolding RefusesFormat
 format_left given code left ends = inr (left, ends)
+
+pub format_answered : {B : Type 0} {P : B → Type 0} (given : Given) (code : PartCode) (left : Option B) → MatchOption left (NoBoard given code) P → ((board : B) → P board → RefusesFormat given code) → RefusesFormat given code
+format_answered given code None none ends = format_without_board given code none
+format_answered given code (Some board) left ends = ends board left
 
 -- what is formatted is a memory over the part
 pub formatted_part : (given : Given) (setup : OfSetup) (old : State) (p : Picture) → setup_of given.setup ≡ Some setup → ArePlaced setup.shape given.places → HasSizes setup.shape given.flash given.sram

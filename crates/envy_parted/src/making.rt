@@ -87,8 +87,11 @@ fn formatted(
         Err(code) => return Err((None, code)),
     };
     match Memory::format(alloc, board, setup) {
-        Ok(memory) => Ok(memory),
-        Err((left, fault)) => Err((Some(left), PartCode::Of(format_answer(fault)))),
+        Ok(fresh) => Ok(fresh),
+        Err(refused) => {
+            let (left, fault) = refused;
+            Err((Some(left), PartCode::Of(format_answer(fault))))
+        }
     }
 }
 

@@ -1,9 +1,10 @@
-use Rattle.std.proofs.Common.{◌^◌, ◌≤◌, ◌∙◌, length, sym, subst}
+use Rattle.std.proofs.Common.{◌+◌, ◌*◌, arith, inr, ◌∙◌, length, sym, subst}
 use Rattle.envy_btree.specs.Index.{IsPlanted}
-use Rattle.envy_btree.proofs.Planting.{planted-aside}
+use Rattle.envy_btree.proofs.Planting.{planted-aside, shallow-aside}
 use Rattle.envy_btree.proofs.Felling.{removed-inside-ok}
-use Rattle.envy_base.proofs.Working.{Works-trans}
-use Rattle.envy_btree.proofs.Exits.{none-if, put-fails, fails-after, room-left, page-works, put-room, third-in}
+use Rattle.envy_base.proofs.Working.{Works-trans, Works-more}
+use Rattle.envy_btree.specs.Depths.{IsShallow}
+use Rattle.envy_btree.proofs.Exits.{none-if, put-fails, fails-after, third-in}
 use Rattle.envy_btree.proofs.removing.remove_inside.Goals as goal
 
 pub remove_at_root-requires-clause-map : goal.remove_at_root-requires-clause-map
@@ -26,10 +27,10 @@ pub put-requires-clause-begun : goal.put-requires-clause-begun
 put-requires-clause-begun g c = c.requires.begun
 
 pub put-requires-clause-room : goal.put-requires-clause-room
-put-requires-clause-room g c = put-room 0 23 (g.W.Words.sheet c.args.words.now) c.requires.room
+put-requires-clause-room g c = inr (omega (arith, c.requires.room))
 
 pub returns-in_err-put-clause-works : goal.returns-in_err-put-clause-works
-returns-in_err-put-clause-works g c = page-works 23 0 (g.W.Words.sheet c.args.words.now) (g.W.Words.sheet c.put.new.self) c.put.ensures.works
+returns-in_err-put-clause-works g c = Works-more 1 (4 * c.args.level + 4) (g.W.Words.sheet c.args.words.now) (g.W.Words.sheet c.put.new.self) (omega arith) c.put.ensures.works.works
 
 pub returns-in_err-put-clause-fails : goal.returns-in_err-put-clause-fails
 returns-in_err-put-clause-fails g c = put-fails 3 c.args.pairs (g.W.Words.sheet c.args.words.now) (g.W.Words.sheet c.put.new.self) c.from_residual.result _ c.in_err-put.ensures.answer c.from_residual.ensures.1
@@ -41,13 +42,13 @@ pub remove_at_root-requires-clause-begun : goal.remove_at_root-requires-clause-b
 remove_at_root-requires-clause-begun g c = c.put.ensures.works.works.still c.in_ok-put.ensures.answer.0 ∙ c.requires.begun
 
 pub remove_at_root-requires-clause-room : goal.remove_at_root-requires-clause-room
-remove_at_root-requires-clause-room g c = room-left 1 23 (g.W.Words.sheet c.args.words.now) (g.W.Words.sheet c.put.new.self) c.put.ensures.works.works c.in_ok-put.ensures.answer.0 c.requires.room
+remove_at_root-requires-clause-room g c = omega (arith, c.requires.room, c.put.ensures.works.works.few c.in_ok-put.ensures.answer.0, c.put.ensures.works.works.room)
 
-pub remove_at_root-requires-clause-size : goal.remove_at_root-requires-clause-size
-remove_at_root-requires-clause-size g c = subst (λ n. n ≤ 2 ^ 25) (sym c.put.ensures.works.works.long) c.requires.size
+pub remove_at_root-requires-clause-levels : goal.remove_at_root-requires-clause-levels
+remove_at_root-requires-clause-levels g c = subst (λ w. IsShallow w c.args.level) (sym c.in_ok-put.ensures.answer.1) (shallow-aside (g.W.Words.sheet c.args.words.now).words c.args.level c.args.pairs c.requires.levels)
 
 pub returns-clause-works : goal.returns-clause-works
-returns-clause-works g c = Works-trans 1 23 (g.W.Words.sheet c.args.words.now) (g.W.Words.sheet c.put.new.self) (g.W.Words.sheet c.remove_at_root.new.words) c.put.ensures.works.works c.remove_at_root.ensures.works
+returns-clause-works g c = Works-more (1 + (4 * c.args.level + 3)) (4 * c.args.level + 4) _ _ (omega arith) (Works-trans 1 (4 * c.args.level + 3) (g.W.Words.sheet c.args.words.now) (g.W.Words.sheet c.put.new.self) (g.W.Words.sheet c.remove_at_root.new.words) c.put.ensures.works.works c.remove_at_root.ensures.works)
 
 pub returns-clause-fails : goal.returns-clause-fails
-returns-clause-fails g c = fails-after 1 23 (g.W.Words.sheet c.args.words.now) (g.W.Words.sheet c.put.new.self) (g.W.Words.sheet c.remove_at_root.new.words) c.remove_at_root.result c.put.ensures.works.works c.remove_at_root.ensures.works c.remove_at_root.ensures.fails
+returns-clause-fails g c = fails-after 1 (4 * c.args.level + 3) (g.W.Words.sheet c.args.words.now) (g.W.Words.sheet c.put.new.self) (g.W.Words.sheet c.remove_at_root.new.words) c.remove_at_root.result c.put.ensures.works.works c.remove_at_root.ensures.works c.remove_at_root.ensures.fails

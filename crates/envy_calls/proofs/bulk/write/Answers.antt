@@ -1,23 +1,28 @@
-use Rattle.std.proofs.Common.{◌≡◌, refl, sym, subst, ℕ, List, Option, Some}
+use Rattle.std.proofs.Common.{◌≡◌, ◌∙◌, refl, sym, ap, subst, ℕ, List, Option, Some}
 use Rattle.envy_memory.specs.Picture.{Picture}
 use Rattle.envy_calls.specs.Answers.{slot_named}
-use Rattle.envy_calls.specs.Bulk.{DoesWrite, EndsWith, WritesTo, Wrote}
-use Rattle.envy_calls.proofs.Several.{Wrote-written}
+use Rattle.envy_calls.specs.Bulk.{DoesWrite, WritesTo}
+use Rattle.envy_calls.specs.Codes.{number_of}
+use Rattle.envy_calls.proofs.Several.{PutsRun-written}
 use Rattle.envy_calls.proofs.bulk.write.Goals as goal
-
-abbrev Put : Picture → Picture → ℕ → ℕ → List ℕ → ℕ → ℕ → ℕ → ℕ → Type 0
-Put p q t a words code done before after = (between : Picture) × Wrote done words t a before p between × EndsWith between q t a words done code before after
 
 -- a write in a place that holds a memory
 in_place : (old : Option Picture) (p q : Picture) (t s a code done before after : ℕ) (words : List ℕ) → old ≡ Some p → s ≡ slot_named t
-    → Put p q s a words code done before after → DoesWrite old (Some q) t a words code done before after
-in_place old p q t s a code done before after words is same (between, puts, ends) =
-    let wrote : WritesTo p q s a words code done before after = record { between = between; puts = puts; array = λ m stands. Wrote-written done s a before words p between puts m stands; ends = ends } in
+    → WritesTo p q s a words code done before after → DoesWrite old (Some q) t a words code done before after
+in_place old p q t s a code done before after words is same writes =
     subst (λ (o : Option Picture). DoesWrite o (Some q) t a words code done before after) (sym is)
-    (q, refl, subst (λ (n : ℕ). WritesTo p q n a words code done before after) same wrote)
+    (q, refl, subst (λ (n : ℕ). WritesTo p q n a words code done before after) same writes)
 
 pub returns : goal.returns
 returns g c =
-    in_place c.args.slot.now c.in-Some.memory c.put_words.new.memory c.args.t c.slot_named.result c.args.a c.number-2.result c.put_words.new.done c.args.holder.now c.put_words.new.holder c.args.words.now
-    c.in-Some.is c.slot_named.ensures
-    (subst (λ (n : ℕ). Put c.in-Some.memory c.put_words.new.memory c.slot_named.result c.args.a c.args.words.now n c.put_words.new.done c.args.holder.now c.put_words.new.holder) (sym c.number-2.ensures) c.put_words.ensures)
+    let run = c.put_run-count.ensures in
+    in_place c.args.slot.now c.in-Some.memory c.put_run-count.new.self c.args.t c.slot_named.result c.args.a c.number-2.result c.put_run-count.result.0 c.args.holder.now c.put_answer.new.holder c.args.words.now
+    c.in-Some.is c.slot_named.ensures (record {
+      answer = c.put_run-count.result.1;
+      coded = c.number-2.ensures ∙ ap number_of c.put_answer.ensures.code;
+      written = c.put_answer.ensures.holder;
+      between = run.0;
+      puts = run.1;
+      array = λ m stands. PutsRun-written c.put_run-count.result.0 c.slot_named.result c.args.a c.args.words.now c.in-Some.memory run.0 run.1 m stands;
+      ends = run.2;
+    })

@@ -1,4 +1,4 @@
-use Rattle.std.proofs.Common.{◌≡◌, ℕ, ◌+◌, ◌<◌, length, slice_index, Some}
+use Rattle.std.proofs.Common.{◌≡◌, ℕ, ◌+◌, ◌<◌, slice_index, Some}
 use Rattle.envy_map.specs.Fields.{chart}
 use Rattle.envy_layout.specs.Words.{word_at}
 use Rattle.envy_memory.proofs.load_runs.page_words.Given as goal

@@ -1,31 +1,14 @@
-use Rattle.std.proofs.Common.{inl, inr, refl, sym, subst}
+use Rattle.std.proofs.Common.{refl, sym, subst}
+use Rattle.envy_part.specs.Part.{part_state}
 use Rattle.envy_calls.specs.declared.code.Code.{Code}
-use Rattle.envy_parted.specs.Opening.{Given, RefusesFormat}
+use Rattle.envy_parted.specs.Opening.{Given, LeavesPart}
 use Rattle.envy_parted.specs.declared.code.PartCode.TheVariants.{Of}
-use Rattle.std.proofs.lemmas.Result.{err_from_is_err_and}
-use Rattle.envy_parted.proofs.Boards.{format_without_board, format_refused, formatted_part}
+use Rattle.envy_parted.proofs.Boards.{format_refused}
 use Rattle.envy_parted.proofs.making.formatted.Goals as goal
 
-pub returns-in-Ok : goal.returns-in-Ok
-returns-in-Ok c =
+pub returns-in-Err-format : goal.returns-in-Err-format
+returns-in-Err-format c =
     let given : Given = record { setup = c.args.given.now; places = c.args.places.now; flash = c.args.flash.now; sram = c.args.sram.now } in
-    formatted_part given c.in_ok-setup.setup _ c.in-Ok.memory c.in_ok-setup.ensures.0 c.in_ok-setup.ensures.3 c.in_ok-board.ensures.1 c.in_ok-board.ensures.0 c.in-Ok.ensures.made c.in-Ok.ensures.counts
-
-pub returns-in-Err : goal.returns-in-Err
-returns-in-Err c =
-    let given : Given = record { setup = c.args.given.now; places = c.args.places.now; flash = c.args.flash.now; sram = c.args.sram.now } in
-    subst (λ (code : Code). RefusesFormat given (Of code)) (sym c.format_answer.ensures)
-    (format_refused given c.in_ok-setup.setup c.in-Err.refused.1 _ _ c.in_ok-setup.ensures.0 c.in_ok-setup.ensures.1 c.in_ok-setup.ensures.3 c.in_ok-board.ensures.1 c.in_ok-board.ensures.0 refl c.in-Err.ensures.made c.in-Err.ensures.counts)
-
-pub returns-in_err-setup : goal.returns-in_err-setup
-returns-in_err-setup c =
-    let given : Given = record { setup = c.args.given.now; places = c.args.places.now; flash = c.args.flash.now; sram = c.args.sram.now } in
-    let p = err_from_is_err_and c.from_residual.result c.from_residual.ensures.1 in
-    rw (p.1, p.2) (format_without_board given c.in_err-setup.field-0.0 (inl c.in_err-setup.ensures))
-
-pub returns-in_err-board : goal.returns-in_err-board
-returns-in_err-board c =
-    let given : Given = record { setup = c.args.given.now; places = c.args.places.now; flash = c.args.flash.now; sram = c.args.sram.now } in
-    let e = c.in_err-board.ensures in
-    let p = err_from_is_err_and c.from_residual-in_err-board.result c.from_residual-in_err-board.ensures.1 in
-    rw (p.1, p.2) (format_without_board given c.in_err-board.field-0.0 (inr (e.0, e.1, (c.in_ok-setup.setup, c.in_ok-setup.ensures.0, c.in_ok-setup.ensures.1, (c.in_ok-setup.ensures.3, e.2)))))
+    let left = c.in-Err-format.refused.0 in
+    subst (λ (code : Code). LeavesPart given (part_state left.shape left.flash.now left.sram.now left.erases.items left.begun left.bads) (Of code)) (sym c.format_answer.ensures)
+    (format_refused given c.in-Ok.setup c.in-Err-format.refused.1 _ _ c.in-Ok.ensures.0 c.in-Ok.ensures.1 c.in-Ok.ensures.3 c.in-Ok-board_over.ensures.1 c.in-Ok-board_over.ensures.0 refl c.in-Err-format.ensures.made c.in-Err-format.ensures.counts)
