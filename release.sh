@@ -70,7 +70,7 @@ pages() {
     awk -f $words -- words/table manual "$version" "$(date -u -d "@$SOURCE_DATE_EPOCH" +%F)" >"$root/man/man1/envy.1"
     awk -f $words -- words/table bash >"$root/completions/envy"
     cp LICENSE NOTICE CHANGELOG.md VERSION "$root"
-    cp docs/*.md "$root/docs" && mkdir "$root/docs/pictures" && cp docs/pictures/*.svg "$root/docs/pictures"
+    cp docs/*.md "$root/docs" && mkdir "$root/docs/pictures" && cp docs/pictures/*.svg docs/pictures/*.csv "$root/docs/pictures"
     { cat c/LINKING.md && printf '\nThis release was proved with `%s`.\n' "$(grep -m 1 -o 'rattle-kit-[^`]*' README.md)"; } >"$root/README.md"
 }
 
