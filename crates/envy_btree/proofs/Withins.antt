@@ -1,9 +1,11 @@
 -- Changes within an open transaction, of what the functions have at hand.
-use Rattle.std.proofs.Common.{◌≡◌, ℕ, ◌+◌, ◌-◌, ◌*◌, ◌/◌, ◌^◌, ◌<◌, ◌≤◌, List, length, get_or, Option, None, Some, MatchOption, IsTrue, refl, ap, sym, subst, ◌∙◌, arith}
+use Rattle.std.proofs.Common.{◌≡◌, ℕ, ◌+◌, ◌-◌, ◌*◌, ◌/◌, ◌^◌, ◌<◌, ◌≤◌, List, length, get_or, Option, None, Some, MatchOption, IsTrue, refl, ap, sym, subst, ◌∙◌, inl, inr, arith}
 use Rattle.envy_base.specs.Words.{Sheet, Rose, Works}
 use Rattle.envy_btree.specs.Answers.{IsFull}
 use Rattle.envy_btree.specs.Pairs.{assoc, with_pair, without}
-use Rattle.envy_btree.specs.Index.{IsPlanted, IsIndex, most_pairs}
+use Rattle.envy_btree.specs.Index.{IsPlanted, IsIndex, Rooted, most_pairs}
+use Rattle.envy_btree.specs.Depths.{IsDeep}
+use Rattle.envy_base.proofs.Working.{Works-trans, Works-more}
 use Rattle.envy_btree.proofs.Calls.{count-of, is-full, has-room, count-fits}
 use Rattle.envy_btree.proofs.Felling.{without-missing, without-present}
 use Rattle.envy_btree.proofs.Keeping.{rose-high}
@@ -54,3 +56,13 @@ rose-after a b c w le r = rose-high a.bads b.bads c.bads w.bads le r
 -- what a look-up found, and left
 pub looked : (key : ℕ) (es : List (ℕ × ℕ)) (v : Option ℕ) (old one : Sheet) → IsTrue one.on → v ≡ assoc key es → one.words ≡ old.words → IsIndex old.words es → IsTrue one.on × (v ≡ assoc key es) × IsIndex one.words es
 looked key es v old one on found same x = (on, found, index-same old.words one.words es same x)
+
+-- the words have one depth
+deep-of : (ws : List ℕ) (es : List (ℕ × ℕ)) (m n : ℕ) (x : IsPlanted ws es) → IsDeep ws m → IsDeep ws n → Rooted ws x.free es → m ≡ n
+deep-of ws es m n x a b (inl e) = a.none e.0 ∙ sym (b.none e.0)
+deep-of ws es m n x a b (inr t) = sym (a.levels x.free t.0 t.1 x.heap t.2) ∙ b.levels x.free t.0 t.1 x.heap t.2
+
+pub pages-in : (ws : List ℕ) (es : List (ℕ × ℕ)) (m n k : ℕ) (a b c d : Sheet) → IsIndex ws es → IsDeep ws m → IsDeep ws n → Works 0 a b → Works 0 b c → Works (4 * m + k) c d → Works (4 * n + k) a d
+pages-in ws es m n k a b c d x deep other u v w =
+    let same : m ≡ n = deep-of ws es m n x.planted deep other x.planted.tree in
+    Works-more (0 + 0 + (4 * m + k)) (4 * n + k) a d (omega arith) (Works-trans (0 + 0) (4 * m + k) a c d (Works-trans 0 0 a b c u v) w)

@@ -1,6 +1,6 @@
 ghost use Rattle.std.specs.Prelude.{◌≡◌, ℕ, List, ◌+◌, ◌^◌, ◌≤◌, length, IsTrue};
 ghost use Rattle.envy_base.specs.Words.{Spends, Works};
-ghost use Rattle.envy_btree.specs.Depths.{insertion_pages, removal_pages};
+ghost use Rattle.envy_btree.specs.Depths.{IsDeep, insertion_pages, removal_pages};
 ghost use Rattle.envy_btree.specs.Index.{IsIndex};
 ghost use Rattle.envy_btree.specs.Within.{InsertsWithin, RemovesWithin};
 
@@ -25,6 +25,8 @@ pub fn insert_within<W: Words>(
     requires size { length (W.sheet words.old).words ≤ 2 ^ 25 }
     requires map { (es : List (ℕ × ℕ)) × IsIndex (W.sheet words.old).words es }
     ensures works { Works left (W.sheet words.old) (W.sheet words.new) }
+    ensures pages { (depth : ℕ) → IsDeep (W.sheet words.old).words depth
+        → Works (insertion_pages depth) (W.sheet words.old) (W.sheet words.new) }
     ensures spends { Spends 841 (W.sheet words.old) (W.sheet words.new) }
     ensures inserts { (es : List (ℕ × ℕ)) → IsIndex (W.sheet words.old).words es
         → InsertsWithin key value es insertion_pages left (W.sheet words.old) result (W.sheet words.new) }
@@ -57,6 +59,8 @@ pub fn remove_within<W: Words>(
     requires size { length (W.sheet words.old).words ≤ 2 ^ 25 }
     requires map { (es : List (ℕ × ℕ)) × IsIndex (W.sheet words.old).words es }
     ensures works { Works left (W.sheet words.old) (W.sheet words.new) }
+    ensures pages { (depth : ℕ) → IsDeep (W.sheet words.old).words depth
+        → Works (removal_pages depth) (W.sheet words.old) (W.sheet words.new) }
     ensures spends { Spends 1089 (W.sheet words.old) (W.sheet words.new) }
     ensures removes { (es : List (ℕ × ℕ)) → IsIndex (W.sheet words.old).words es
         → RemovesWithin key es removal_pages left (W.sheet words.old) result (W.sheet words.new) }

@@ -1,7 +1,7 @@
 use Rattle.std.proofs.Common.{◌+◌, ◌*◌, ◌∙◌, sym, arith}
 use Rattle.envy_base.proofs.Working.{Spends-then, Spends-trans}
 use Rattle.envy_btree.specs.Pairs.{without}
-use Rattle.envy_btree.proofs.Withins.{within-index, within-planted, removed-count, removed-none}
+use Rattle.envy_btree.proofs.Withins.{within-index, within-planted, removed-count, removed-none, pages-in}
 use Rattle.envy_btree.proofs.changing.remove_within.Goals as goal
 
 pub returns-in_default-clause-removes : goal.returns-in_default-clause-removes
@@ -25,3 +25,12 @@ returns-in-Err-Off-clause-spends g c = Spends-then (0 + 0) (192 * c.in_ok-was.wa
 
 pub returns-in-Err-Bad-clause-spends : goal.returns-in-Err-Bad-clause-spends
 returns-in-Err-Bad-clause-spends g c = Spends-then (0 + 0) (192 * c.in_ok-was.was'.depth + 129) 1089 _ _ _ (omega (arith, c.in_ok-was.ensures.few)) (Spends-trans 0 0 _ _ _ c.look_up.ensures.spends c.load.ensures.spends) c.remove_inside.ensures.spends
+
+pub returns-in-Ok-clause-pages : goal.returns-in-Ok-clause-pages
+returns-in-Ok-clause-pages g c depth deep = pages-in _ c.requires.map.0 c.in_ok-was.was'.depth depth 4 _ _ _ _ c.requires.map.1 c.in_ok-was.ensures.depth deep c.in_ok-was.ensures.works c.in_ok-pairs.ensures.works c.remove_inside.ensures.works
+
+pub returns-in-Err-Off-clause-pages : goal.returns-in-Err-Off-clause-pages
+returns-in-Err-Off-clause-pages g c depth deep = pages-in _ c.requires.map.0 c.in_ok-was.was'.depth depth 4 _ _ _ _ c.requires.map.1 c.in_ok-was.ensures.depth deep c.in_ok-was.ensures.works c.in_ok-pairs.ensures.works c.remove_inside.ensures.works
+
+pub returns-in-Err-Bad-clause-pages : goal.returns-in-Err-Bad-clause-pages
+returns-in-Err-Bad-clause-pages g c depth deep = pages-in _ c.requires.map.0 c.in_ok-was.was'.depth depth 4 _ _ _ _ c.requires.map.1 c.in_ok-was.ensures.depth deep c.in_ok-was.ensures.works c.in_ok-pairs.ensures.works c.remove_inside.ensures.works
