@@ -14,3 +14,5 @@ mod told;
 mod vectors;
 #[cfg(test)]
 mod watched;
+#[cfg(test)]
+mod within;
