@@ -34,7 +34,7 @@ pub mod Broken
 pub mod Gaps
 pub mod Gapped
 pub mod Spotting
-pub mod Leafing
+pub mod Replacing
 pub mod Stepping
 pub mod Dipping
 pub mod Looking

@@ -74,8 +74,8 @@ fn insert_alone<W: Words>(words: &mut W, key: u64, value: u64, pairs: u64) -> Re
     close(words, done)
 }
 
-// The same within an open transaction, under at most so many levels of inner nodes. The number of pairs is put first: the page of the head is then
-// among those put, whoever changes it later.
+/// Sets the value of a key within an open transaction, in a tree with at most so many levels of inner nodes. The number
+/// of pairs is put first: the page of the head is then among those put, whoever changes it later.
 pub(crate) fn insert_inside<W: Words>(
     words: &mut W,
     level: u32,

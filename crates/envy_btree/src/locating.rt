@@ -38,7 +38,7 @@ fn value_at<W: Words>(words: &mut W, piece: u32, place: u32, key: u64) -> Result
     Ok(Some(value))
 }
 
-/// The same in the tree under this piece.
+/// The value of a key in the tree whose root is this piece, and how many levels of inner nodes it has.
 fn locate<W: Words>(words: &mut W, piece: u32, level: u32, key: u64) -> Result<Found, Off>
     requires rests { Rests (W.sheet words.old).words piece level }
     ensures works { Works 0 (W.sheet words.old) (W.sheet words.new) }
@@ -62,7 +62,8 @@ fn locate<W: Words>(words: &mut W, piece: u32, level: u32, key: u64) -> Result<F
     })
 }
 
-/// The same in the map.
+/// The value of a key in the map, and how many levels of inner nodes its tree has. On each level the keys of one node
+/// are searched where they stand.
 pub(crate) fn look_up<W: Words>(words: &mut W, key: u64) -> Result<Found, Off>
     requires size { length (W.sheet words.old).words ≤ 2 ^ 25 }
     requires map { (es : List (ℕ × ℕ)) × IsIndex (W.sheet words.old).words es }

@@ -54,7 +54,7 @@ fn remove_alone<W: Words>(words: &mut W, key: u64, pairs: u64) -> Result<(), Tre
     close(words, done)
 }
 
-// The same within an open transaction, under at most so many levels of inner nodes.
+/// Takes a key out of the map within an open transaction, in a tree with at most so many levels of inner nodes.
 pub(crate) fn remove_inside<W: Words>(
     words: &mut W,
     level: u32,

@@ -17,3 +17,5 @@ mod told;
 mod vectors;
 #[cfg(test)]
 mod watched;
+#[cfg(test)]
+mod within;

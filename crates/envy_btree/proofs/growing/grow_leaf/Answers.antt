@@ -1,5 +1,5 @@
 use Rattle.std.proofs.Common.{arith}
-use Rattle.envy_btree.proofs.Leafing.{leaf-replaced, leaf-widened}
+use Rattle.envy_btree.proofs.Replacing.{leaf-replaced, leaf-widened}
 use Rattle.envy_btree.proofs.growing.grow_leaf.Goals as goal
 
 pub returns-then-branch-clause-saved : goal.returns-then-branch-clause-saved

@@ -1,5 +1,5 @@
 use Rattle.std.proofs.Common.{arith}
-use Rattle.envy_btree.proofs.Leafing.{leaf-same, leaf-narrowed-ok}
+use Rattle.envy_btree.proofs.Replacing.{leaf-same, leaf-narrowed-ok}
 use Rattle.envy_btree.proofs.shrinking.thin_leaf.Goals as goal
 
 pub returns-then-not-branch-clause-back : goal.returns-then-not-branch-clause-back
