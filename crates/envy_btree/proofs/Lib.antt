@@ -4,7 +4,6 @@ pub mod Descent
 pub mod Writing
 pub mod Exits
 pub mod Nearest
-pub mod Beside
 pub mod Seeing
 pub mod Setting
 pub mod Framing

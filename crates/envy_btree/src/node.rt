@@ -33,15 +33,6 @@ impl Node {
         self.slots[i]
     }
 
-    /// A pair of a leaf.
-    pub(crate) fn pair(&self, i: usize) -> (u64, u64)
-        requires key { i < length self.now.keys.items }
-        requires slot { i < length self.now.slots.items }
-        ensures { result ≡ (slice_index self.now.keys.items i, slice_index self.now.slots.items i) }
-    {
-        (self.keys[i], self.slots[i])
-    }
-
     /// Another key.
     pub(crate) fn set_key(&mut self, i: usize, key: u64)
         requires { i < length self.old.keys.items }
