@@ -1,6 +1,5 @@
 -- What the calls of the index tree answer, and what they leave.
 use Rattle.std.specs.Prelude.{◌≡◌, ◌⊎◌, ℕ, false, IsTrue, List, ◌++◌, length, take, drop, Option, None, Result, Ok, Err}
-use Rattle.envy_base.specs.declared.board.Off.{Off}
 use Rattle.envy_base.specs.declared.board.Trouble.{Trouble}
 use Rattle.envy_base.specs.declared.board.Trouble.TheVariants.{Off as TroubleOff, Bad as TroubleBad}
 use Rattle.envy_base.specs.Words.{Sheet, Rose}
@@ -32,11 +31,6 @@ Answers P es old (Err Broken) new = ⊥
 -- the value of the key
 abbrev pub Gets : ℕ → List (ℕ × ℕ) → Sheet → Result (Option ℕ) LookFault → Sheet → Type 0
 Gets key es old r new = Answers (λ value. value ≡ assoc key es) es old r new
-
--- the same of a call that needs a map, with no transaction open
-abbrev pub GetsKnown : ℕ → List (ℕ × ℕ) → Sheet → Result (Option ℕ) Off → Sheet → Type 0
-GetsKnown key es old (Ok value) new = IsTrue new.on × (value ≡ assoc key es) × IsIndex new.words es
-GetsKnown key es old (Err off) new = (new.on ≡ false) × IsIndex new.kept es
 
 -- how many pairs there are
 abbrev pub Counts : List (ℕ × ℕ) → Sheet → Result ℕ LookFault → Sheet → Type 0

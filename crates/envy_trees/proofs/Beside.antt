@@ -6,6 +6,8 @@ use Rattle.envy_base.specs.Words.{Sheet, IsSheet, Finishes, Keeps}
 use Rattle.envy_btree.specs.Answers.{Inserts, Removes, Gets}
 use Rattle.envy_btree.specs.Index.{IsIndex}
 use Rattle.envy_btree.specs.Pairs.{with_pair, without}
+use Rattle.envy_btree.specs.declared.fault.LookFault.{LookFault}
+use Rattle.envy_btree.specs.declared.fault.LookFault.TheVariants.{Off as LookOff, Broken}
 use Rattle.envy_btree.specs.declared.fault.TreeFault.{TreeFault}
 use Rattle.envy_btree.specs.declared.fault.TreeFault.TheVariants.{Off as FaultOff, Full, Bad}
 use Rattle.envy_btree.proofs.Readiness.{zeros-index}
@@ -108,9 +110,10 @@ removed key (Err FaultOff) s t on says (es, map) = absurd (let e : true ≡ fals
 removed key (Err Full) s t on says (es, map) = absurd (says es map)
 removed key (Err Bad) s t on says (es, map) = (es, (says es map).2)
 
-pub looked : (key : ℕ) (r : Result (Option ℕ) Off) (s t : Sheet) → IsTrue t.on → ((es : List (ℕ × ℕ)) → IsIndex s.words es → Gets key es s r t) → (es : List (ℕ × ℕ)) × IsIndex s.words es → (es : List (ℕ × ℕ)) × IsIndex t.words es
+pub looked : (key : ℕ) (r : Result (Option ℕ) LookFault) (s t : Sheet) → IsTrue t.on → ((es : List (ℕ × ℕ)) → IsIndex s.words es → Gets key es s r t) → (es : List (ℕ × ℕ)) × IsIndex s.words es → (es : List (ℕ × ℕ)) × IsIndex t.words es
 looked key (Ok is) s t on says (es, map) = (es, (says es map).2)
-looked key (Err off) s t on says (es, map) = absurd (let e : true ≡ false = sym on ∙ (says es map).0 in cc)
+looked key (Err Broken) s t on says (es, map) = absurd (says es map)
+looked key (Err LookOff) s t on says (es, map) = absurd (let e : true ≡ false = sym on ∙ (says es map).0 in cc)
 
 pub finished : (r : Result Unit Off) (s t : Sheet) → IsTrue t.on → Finishes s r t → t.started ≡ false
 finished (Ok done) s t on f = f.1

@@ -23,5 +23,5 @@ returns g c =
     let both = subst (λ (w : VecWords). HasBoth (vec_sheet w)) (sym c.of-view.ensures.words) c.requires in
     let seen = map-seen v.first v.count s map c.of-view.ensures.count both in
     let left = looked c.args.key c.get-answer.result (within v.first v.count s) (within n.first n.count t) refl e.gets seen in
-    let all = both-still v.first v.count n.first n.count s t map c.of-view.ensures.count v.words.sound n.words.sound both e.works.room (keeps-works 0 (within v.first v.count s) (within n.first n.count t) e.works) e.shut left in
+    let all = both-still v.first v.count n.first n.count s t map c.of-view.ensures.count v.words.sound n.words.sound both e.works.room (keeps-works 0 (within v.first v.count s) (within n.first n.count t) e.works) (e.shut both.shut) left in
     subst (λ (w : VecWords). HasBoth (vec_sheet w)) (sym c.into_words.ensures.same) all
