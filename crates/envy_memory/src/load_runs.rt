@@ -10,7 +10,7 @@ ghost use Rattle.envy_memory.specs.Runs.{RunsPast, pages_met};
 
 use crate::faults::LoadFault;
 use crate::memory::Memory;
-use envy_base::{Board, Off, PAGE_WORDS, Place};
+use envy_base::{Board, Off, PAGE_LENGTH, PAGE_WORDS, Place};
 use envy_flush::word;
 
 // The words of a page that is there, from its word `first` on.
@@ -24,9 +24,12 @@ fn page_words<B: Board>(board: &B, from: Place, first: u32, into: &mut [u64]) ->
         (Some from) (first + i)) }
     ensures off { OnErr result ((B.state board.now).on ≡ false) }
 {
+    // They are read aside, where no word of the board's can lie: so the compiler sees that they lie side by side.
+    let mut words = [0; PAGE_LENGTH];
     for i in 0..into.len() {
-        into[i] = word(board, from, first + i as u32)?;
+        words[i] = word(board, from, first + i as u32)?;
     }
+    into.copy_from_slice(&words[..into.len()]);
     Ok(())
 }
 
