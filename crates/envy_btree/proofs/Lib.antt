@@ -44,4 +44,4 @@ pub mod LeafLooks
 pub mod Passing
 pub mod Rows
 pub mod Heading
-mod Keeping
+pub mod Keeping
