@@ -7,8 +7,8 @@ use Rattle.envy_trees.specs.Beside.{HasBoth, IsMap}
 use Rattle.envy_trees.proofs.Beside.{both-still, looked, map-seen, size-seen}
 use Rattle.envy_trees.proofs.ranges.look_up.Goals as goal
 
-pub get-answer-requires-clause-size : goal.get-answer-requires-clause-size
-get-answer-requires-clause-size g c =
+pub get-answer-requires : goal.get-answer-requires
+get-answer-requires g c =
     let v = c.of-view.result in
     size-seen v.first v.count (vec_sheet v.words) v.fits c.of-view.ensures.count
 
