@@ -10,7 +10,7 @@ use Rattle.envy_trees.proofs.ranges.look_up.Goals as goal
 pub get-answer-requires : goal.get-answer-requires
 get-answer-requires g c =
     let v = c.of-view.result in
-    size-seen v.first v.count (vec_sheet v.words) v.fits c.of-view.ensures.count
+    record { size = size-seen v.first v.count (vec_sheet v.words) v.fits c.of-view.ensures.count }
 
 pub returns : goal.returns
 returns g c =
