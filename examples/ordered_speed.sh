@@ -8,7 +8,7 @@ cd "$(dirname "$0")"
 pairs=${1-100000}
 work=$(mktemp -d "${2-${TMPDIR:-/tmp}}/envy-ordered.XXXXXX")
 trap 'rm -rf "$work"' EXIT
-gcc -O2 -g -std=gnu11 -o "$work/speed" library/ordered_speed.c ../c/heap.c ../crates/envy_mapped/out/libenvy_mapped.a -llmdb -lsqlite3
+gcc -O2 -g -std=gnu11 -o "$work/speed" library/ordered_speed.c ../c/heap.c ../c/envy_file.c ../c/envy_setup.c ../c/envy_text.c ../crates/envy_mapped/out/libenvy_mapped.a -llmdb -lsqlite3
 engines='envy lmdb sqlite'
 
 for engine in $engines; do

@@ -5,11 +5,15 @@
 
    Phases, in this order: 1 inserts the pairs, 2 looks each up, 3 goes over all by rising key, 4 takes each out. It writes a line for
    each, with its microseconds for each pair. */
+#include "../../c/envy_file.h"
 #include "../../c/envy_index.h"
-#include "../book.h"
 #include <lmdb.h>
 #include <sqlite3.h>
+#include <stdio.h>
+#include <stdlib.h>
+#include <string.h>
 #include <time.h>
+#include <unistd.h>
 
 static void must(int holds, const char *what) {
     if (holds) return;
@@ -31,7 +35,7 @@ typedef struct engine {
 
 /* ---- this library */
 
-static mapping map;
+static envy_file map = ENVY_FILE_INIT;
 
 static void envy_open(const char *path, uint64_t pairs) {
     uint32_t pages = (uint32_t)(2 * (pairs / 14 + 16) + 2), rows = 256;
@@ -40,7 +44,7 @@ static void envy_open(const char *path, uint64_t pairs) {
         .segments = 2 * pages / rows + 4, .rows = rows, .pages = pages, .shadows = 32, .frames = 256, .entries = 4096,
         .policy = ENVY_GREEDY, .part = 2, .limit = 100, .mark = 256,
     };
-    must(open_book(&map, path, &setup, 1) == ENVY_DONE, "format");
+    must(envy_file_open(&map, path, &setup) == ENVY_DONE, "format");
 }
 
 static void map_insert(uint64_t key, uint64_t value) {
