@@ -15,7 +15,6 @@ pub mod Loaded
 pub mod IndexLines
 pub mod IndexSpent
 pub mod IndexTold
-pub mod IndexLicensed
 pub mod MirrorWell
 pub mod Mirrored
 pub mod Noting
