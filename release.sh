@@ -1,7 +1,8 @@
 #!/usr/bin/env bash
 # Makes a release for somebody without the kit: out/envy-VERSION.tar.gz, and out/envy_VERSION_amd64.deb if dpkg-deb is on
 # the path. Both have the program, the headers, the archives and shared objects for x86-64 and 64-bit ARM, the Rust package,
-# the clients if they are here, a man page, completions for bash, the licence and the changes.
+# the clients, built for x86-64 if SQLite's and nbdkit's headers are here, a man page, completions for bash, the licence
+# and the changes.
 #
 #   ./release.sh                 proves and builds what goes in, over the crates below as they are (./envy --prove, .ci/run)
 #   ./release.sh --from FOLDER   takes FOLDER/program and FOLDER/x86_64, FOLDER/aarch64 with the archives of `rt lib`
@@ -22,7 +23,7 @@ case ${1-} in
     sed -i "s/^__version__ = \"[^\"]*\"/__version__ = \"$version\"/" clients/python/envy/__init__.py
     exit
     ;;
-*) sed -n '2,10s/^# \{0,1\}//p' "$0" >&2 && exit 2 ;;
+*) sed -n '2,11s/^# \{0,1\}//p' "$0" >&2 && exit 2 ;;
 esac
 for tool in gcc aarch64-linux-gnu-gcc aarch64-linux-gnu-ar aarch64-linux-gnu-objcopy; do
     if ! $tool --version >/dev/null 2>&1; then
@@ -63,6 +64,11 @@ archives() {
     cp -P "$made"/*.a "$made"/*.so* "$root/lib/$processor"
 }
 
+# clients WORD..: a VFS of SQLite and a plugin of nbdkit for x86-64, made by make's words over the archives of here
+clients() {
+    make -s -C clients OUT="$work/clients" C=../c ARCHIVES="$work/x86_64" CFLAGS='-O2 -std=gnu11 -Wall -Wextra -fPIC' "$@"
+}
+
 # pages: what is read and typed
 pages() {
     local words=words/words.awk
@@ -82,6 +88,7 @@ package() {
         "$deb/usr/share/bash-completion/completions" "$deb/usr/share/envy"
     make -s -C c OUT="$work/x86_64" MAPPED="$from/x86_64/libenvy_mapped.a" MEMORY="$from/x86_64/libenvy_sim.a" \
         KEPT="$from/x86_64/libenvy_kept.a" PARTED="$from/x86_64/libenvy_parted.a" DESTDIR="$deb" PREFIX=/usr install
+    clients DESTDIR="$deb" PREFIX=/usr NBDKIT_PLUGINS=/usr/lib/x86_64-linux-gnu/nbdkit/plugins install
     cp -r "$root/envy" "$root/program" "$root/words" "$root/VERSION" "$root/README.md" "$root/examples" "$deb/usr/lib/envy"
     ln -s ../lib/envy/envy "$deb/usr/bin/envy"
     cp -r "$root/lib/aarch64" "$root/rust" "$deb/usr/share/envy"
@@ -100,7 +107,7 @@ Version: $version
 Architecture: amd64
 Maintainer: Gusperru maintainers <maintainers@users.noreply.gusperru.example>
 Depends: libc6, bash, mawk | gawk
-Suggests: python3
+Suggests: sqlite3, nbdkit, python3
 Section: devel
 Priority: optional
 Installed-Size: $(du -k -s "$deb/usr" | cut -f 1)
@@ -115,6 +122,12 @@ CONTROL
 
 [ -n "$from" ] || built
 archives x86_64
+clients all
+for file in envyvfs.so envyvfs_mapped.so libenvyvfs.a envy.so envy_mapped.so; do
+    [ ! -e "$work/clients/$file" ] || cp "$work/clients/$file" "$root/lib/x86_64"
+done
+[ -e "$root/lib/x86_64/envyvfs.so" ] || echo "release: no VFS of SQLite: libsqlite3-dev isn't here" >&2
+[ -e "$root/lib/x86_64/envy.so" ] || echo "release: no plugin of nbdkit: nbdkit-plugin-dev isn't here" >&2
 archives aarch64 CC=aarch64-linux-gnu-gcc AR=aarch64-linux-gnu-ar OBJCOPY=aarch64-linux-gnu-objcopy
 mkdir "$root/include" "$root/ports" "$root/words" "$root/examples"
 make -s -C c headers PARTED="$from/x86_64/libenvy_parted.a" INTO="$root/include"

@@ -39,11 +39,13 @@ enum envy_code {
     ENVY_SETUP_PAGES = 23,    /* at least one page */
     ENVY_SETUP_FRAMES = 24,   /* 2 to 65,536 frames */
     ENVY_SETUP_ENTRIES = 25,  /* 1 to 65,536 entries */
-    ENVY_SETUP_SHARE = 26,    /* pages and shadows: at most the rows of all segments but two */
+    ENVY_SETUP_SHARE = 26,    /* pages and shadows: at most the rows of all segments but two and those in reserve */
     ENVY_SETUP_TOTAL = 27,    /* at most 16,777,216 rows */
     ENVY_SETUP_PART = 28,     /* a hybrid partition of 1 to all but one segment */
     ENVY_SETUP_LIMIT = 29,    /* a limit of at least 1 */
     ENVY_SETUP_MARK = 30,     /* a mark of 1 to the number of frames */
+    ENVY_SETUP_RESERVES = 58, /* reserves: at most the segments less four; of a kept file 0 */
+    ENVY_SETUP_SUMS = 59,     /* sums: 0, since no board keeps them yet; asked after the reserves */
 
     /* what was found is damaged: the first point of soundness that fails. The audit for these looks at the map, at
        the rows that are free and at copies of the cleaner's. A byte of a page's data that was changed it can't see: the
@@ -60,6 +62,7 @@ enum envy_code {
     ENVY_BROKEN_COPIES = 40,     /* of a row and its copy both are kept */
     ENVY_BROKEN_OWNED = 41,      /* more pages are owned than may be */
     ENVY_BROKEN_UNDOS = 42,      /* an undo names a slot that isn't in use */
+    ENVY_BROKEN_RESERVES = 63,   /* a kept row lies in a segment in reserve */
 
     /* images; never over regions */
     ENVY_SMALL = 43,       /* the bytes have no room for the image */
@@ -75,12 +78,16 @@ enum envy_code {
     ENVY_IMAGE_ENTRIES = 51,
     ENVY_IMAGE_SHARE = 52,
     ENVY_IMAGE_TOTAL = 53,
+    ENVY_IMAGE_RESERVES = 60,
+    ENVY_IMAGE_SUMS = 61,
 
     /* maps */
     ENVY_ABSENT = 54,    /* the map has no such pair */
     ENVY_MAP_FULL = 55,  /* the map has as many pairs as it may have */
     ENVY_SLOT_OPEN = 56, /* a transaction is open, which is to be committed or aborted first */
     ENVY_MAP_SETUP = 57, /* no map fits: fewer than 20 pages or 32 shadows, or more than 1,048,576 pages */
+    ENVY_BROKEN_MAP = 62, /* the words of the array stand for no map */
+    ENVY_BAD_ABORTED = 80, /* a flash operation failed, and the transaction of maps was aborted */
 
     /* where a flash part and SRAM lie; over a part alone */
     ENVY_FLASH_ADDRESS = 64, /* the part's map begins at 0, or at no multiple of 256 */
@@ -129,6 +136,8 @@ typedef struct envy_setup {
     uint32_t part;     /* positions of a partition, if the policy is ENVY_HYBRID */
     uint64_t limit;    /* how far wear may differ before two segments are swapped: at least 1 */
     uint32_t mark;     /* held frames from which on a background step writes pages back */
+    uint32_t reserves; /* segments in reserve, which stand in for those that wear out: 0 to segments - 4; of a kept file 0 */
+    uint32_t sums;     /* whether each row has a sum: 0, since no board keeps them yet */
 } envy_setup;
 
 /* A region of words. */

@@ -8,22 +8,26 @@
        for (code = envy_index_next(&m, 0, &pair); code == ENVY_DONE; code = envy_index_above(&m, pair.key, &pair))
            printf("%llu %llu\n", (unsigned long long)pair.key, (unsigned long long)pair.value);
 
-   The map is the whole array's, which its words don't show: nothing marks an array that holds a map, and no call can
-   see that one doesn't. An array of zeros is the map without pairs, so a memory that envy_mapped_format made holds one.
+   Many pairs are read fastest by envy_index_scan, which looks at each node once.
 
-   What the program promises beside what envy_mapped.h says, and nothing checks: of the array that it gives to any call
-   but envy_index_create,
+   The map is the whole array's, which its words don't show: nothing marks an array that holds a map. An array of zeros is
+   the map without pairs, so a memory that envy_mapped_format made holds one. A call that only reads takes any words. If
+   it meets a node that can't be one, it answers ENVY_BROKEN_MAP: the words stand for no map. By words that stand for none
+   it may also answer anything else that it answers by a map.
+
+   What the program promises beside what envy_mapped.h says, and nothing checks: of the array that it gives to
+   envy_index_insert or envy_index_remove,
    - it is one of zeros, or envy_index_create answered ENVY_DONE for it once, and
    - since then no call but those of this file wrote words that lasted: by a store or a commit. To open the memory
      again after a close or a kill changes no word. A transaction that was aborted wrote none.
-   An array that holds no map may lead a call anywhere.
+   An array that holds no map may lead these two anywhere.
 
    A map of p pages has at most 14 * (q - 8) pairs, with q = (32 * p - 64) / 64, rounded down: at worst nodes are half
    full. Its setup has 20 to 1,048,576 pages, and at least 32 shadows.
 
    No call takes memory from the heap, so a loop as the one above takes none. Calls that only read change no word of the
    array, and look at one node on each level of the tree, of which there are at most six; `next`, `above` and `last` at a
-   second one on some.
+   second one on some, a scan at as many as have its pairs.
 
    Calls that only read begin no flash work. An insert makes at most 841 puts, a removal 1,089, `create` four.
 
@@ -66,6 +70,13 @@ uint32_t envy_index_above(envy_mapped *m, uint64_t key, envy_pair *pair);
 
 /* Writes the pair with the greatest key that is at most this one. ENVY_DONE, or ENVY_ABSENT: all keys are greater. */
 uint32_t envy_index_last(envy_mapped *m, uint64_t key, envy_pair *pair);
+
+/* Writes the pairs from this key on, by rising key, and how many there are: n, or all if there are fewer. The rest of
+   the n stays. ENVY_DONE. After another answer nothing is said of the n pairs. */
+uint32_t envy_index_scan(envy_mapped *m, uint64_t key, envy_pair *pairs, size_t n, size_t *count);
+
+/* The same of the pairs up to this key, by falling key. */
+uint32_t envy_index_scan_down(envy_mapped *m, uint64_t key, envy_pair *pairs, size_t n, size_t *count);
 
 #ifdef __cplusplus
 }

@@ -25,8 +25,8 @@
    - Of the file what is said below at envy_disk.
 
    If a call answers anything but ENVY_DONE, what its pointers point to is as before, except for ENVY_HELD and *done of
-   envy_kept_write. If several answers would be right, it is the first of them in the order in which the call names
-   them, except that ENVY_OFF goes before all but ENVY_EMPTY. */
+   envy_kept_write and envy_kept_store_run. If several answers would be right, it is the first of them in the order in
+   which the call names them, except that ENVY_OFF goes before all but ENVY_EMPTY. */
 #ifndef ENVY_KEPT_H
 #define ENVY_KEPT_H
 
@@ -156,6 +156,12 @@ uint32_t envy_kept_read(envy_kept *m, uint32_t address, uint64_t *words, size_t 
    the page at *holder. Refused for anything but ENVY_OFF, it changes no word. */
 uint32_t envy_kept_store(envy_kept *m, uint32_t address, uint64_t word, uint32_t *holder);
 
+/* Makes the n words from an address on these, outside any transaction: stores word after word. The first store that is
+   refused ends it and is answered, and the earlier words stay stored: *done says how many, n if all are. It counts one
+   access for each page that it stores to. ENVY_DONE, ENVY_EMPTY (*done is 0), or what envy_kept_store answers. Of no
+   words it is done at once. */
+uint32_t envy_kept_store_run(envy_kept *m, uint32_t address, const uint64_t *words, size_t n, size_t *done, uint32_t *holder);
+
 /* Opens a transaction in the lowest slot that isn't open, and writes its number, 0 to 63, at *slot.
    ENVY_DONE, ENVY_EMPTY, ENVY_OFF, ENVY_BUSY. */
 uint32_t envy_kept_begin(envy_kept *m, uint32_t *slot);
@@ -165,10 +171,11 @@ uint32_t envy_kept_begin(envy_kept *m, uint32_t *slot);
    with the slot that owns the page at *holder. */
 uint32_t envy_kept_put(envy_kept *m, uint32_t slot, uint32_t address, uint64_t word, uint32_t *holder);
 
-/* Makes the n words from an address on these within the transaction of a slot: puts word after word. The first put that
-   is refused ends it and is answered, and the earlier words stay put: *done says how many, n if all are. It counts one
-   access for each page that it puts to. ENVY_DONE, ENVY_EMPTY (*done is 0), or what envy_kept_put answers. Of no words
-   it is done at once. */
+/* Makes the n words from an address on these within the transaction of a slot: puts word after word. If the slot is open
+   and they meet more pages without an owner than may yet be owned, that is ENVY_FULL before the first put, whatever the
+   words would be answered: none is put, and *done is 0. Else the first put that is refused ends it and is answered, and
+   the earlier words stay put: *done says how many, n if all are. It counts one access for each page that it puts to.
+   ENVY_DONE, ENVY_EMPTY (*done is 0), or what envy_kept_put answers. Of no words it is done at once. */
 uint32_t envy_kept_write(envy_kept *m, uint32_t slot, uint32_t address, const uint64_t *words, size_t n, size_t *done,
                          uint32_t *holder);
 

@@ -95,14 +95,25 @@ static void copy_what_is_cut(envy_kept_file *f) {
     free(name);
 }
 
+/* Of a file that is open for reading alone nothing is written: what the opening cuts off stays there, and each later call
+   fails. */
+enum { NOT_READING, READING_BEGINS, READING };
+static int unwritten(envy_kept_file *f) {
+    if (f->reading == READING_BEGINS) return 0;
+    errno = EROFS;
+    return failed(f);
+}
+
 static int write_file(void *context, uint64_t at, const void *bytes, size_t n) {
     envy_kept_file *f = context;
+    if (f->reading) return unwritten(f);
     copy_what_is_cut(f);
     return is_forked(f) || written(f->descriptor, at, bytes, n) ? failed(f) : 0;
 }
 
 static int cut_file(void *context, uint64_t size) {
     envy_kept_file *f = context;
+    if (f->reading) return unwritten(f);
     copy_what_is_cut(f);
     int why = is_forked(f);
     if (!why) do why = ftruncate(f->descriptor, (off_t)size);
@@ -113,6 +124,7 @@ static int cut_file(void *context, uint64_t size) {
 /* A sync that failed isn't made again: the system may have let go of what it couldn't write, and tells so once. */
 static int sync_file(void *context) {
     envy_kept_file *f = context;
+    if (f->reading) return unwritten(f);
     return is_forked(f) || fdatasync(f->descriptor) ? failed(f) : 0;
 }
 
@@ -165,6 +177,7 @@ static int make_second(envy_kept_file *f) {
 
 static int begin_second(void *context) {
     envy_kept_file *f = context;
+    if (f->reading) return unwritten(f);
     if (is_forked(f)) return 1;
     remove_second(f);
     return make_second(f);
@@ -250,10 +263,10 @@ static int named(envy_kept_file *f, const char *path) {
     return f->beside != NULL;
 }
 
-/* Opens the file, or makes an empty one. */
+/* Opens the file, or makes an empty one, unless it is opened for reading alone. */
 static int open_or_make(envy_kept_file *f, const char *path, int *is_made) {
-    f->descriptor = above_standard_streams(open(path, O_RDWR | O_CLOEXEC));
-    if (f->descriptor < 0 && errno == ENOENT) {
+    f->descriptor = above_standard_streams(open(path, (f->reading ? O_RDONLY : O_RDWR) | O_CLOEXEC));
+    if (f->descriptor < 0 && errno == ENOENT && !f->reading) {
         f->descriptor = above_standard_streams(open(path, O_RDWR | O_CREAT | O_CLOEXEC, 0666));
         *is_made = f->descriptor >= 0;
     }
@@ -269,7 +282,9 @@ static uint32_t locked(envy_kept_file *f, const char *path, int *is_made) {
         errno = EINVAL;
         return ENVY_SYSTEM;
     }
-    if (flock(f->descriptor, LOCK_EX | LOCK_NB)) return errno == EWOULDBLOCK ? ENVY_LOCKED : ENVY_SYSTEM;
+    if (flock(f->descriptor, (f->reading ? LOCK_SH : LOCK_EX) | LOCK_NB))
+        return errno == EWOULDBLOCK ? ENVY_LOCKED : ENVY_SYSTEM;
+    if (f->reading && !found.st_size) return ENVY_NO_JOURNAL;
     if (!named(f, path)) return errno == ENOMEM ? ENVY_NO_MEMORY : ENVY_SYSTEM;
     return is_named(f->path, f->descriptor) ? ENVY_DONE : ENVY_LOCKED;
 }
@@ -367,7 +382,7 @@ static void let_go(envy_kept_file *f) {
     errno = why;
 }
 
-static uint32_t opened(envy_kept_file *f, const char *path, const envy_setup *setup, opening *open_it) {
+static uint32_t opened(envy_kept_file *f, const char *path, const envy_setup *setup, opening *open_it, int reading) {
     if (f->descriptor >= 0) return ENVY_OPEN;
     int is_made = 0;
     uint32_t code = ENVY_DONE;
@@ -375,26 +390,38 @@ static uint32_t opened(envy_kept_file *f, const char *path, const envy_setup *se
     hold_standard_streams();
     f->process = getpid();
     f->why = 0;
+    f->reading = reading;
     f->disk = (envy_disk){f, write_file, cut_file, sync_file, begin_second, append_second, replace_file};
     if ((f->port = envy_disk_open(&f->disk)) < 0) code = ENVY_TOO_MANY;
     if (code == ENVY_DONE) code = locked(f, path, &is_made);
-    if (code == ENVY_DONE) code = placed(f, is_made);
+    if (code == ENVY_DONE && !reading) code = placed(f, is_made);
     if (code == ENVY_DONE) code = taken(f, setup, open_it);
+    if (reading) f->reading = READING;
     if (code == ENVY_OFF) errno = f->why;
     if (code != ENVY_DONE) let_go(f);
     return code;
 }
 
 uint32_t envy_kept_open_file(envy_kept_file *f, const char *path, const envy_setup *setup) {
-    return opened(f, path, setup, envy_kept_open);
+    return opened(f, path, setup, envy_kept_open, NOT_READING);
 }
 
 uint32_t envy_kept_open_file_bytewise(envy_kept_file *f, const char *path, const envy_setup *setup) {
-    return opened(f, path, setup, envy_kept_open_bytewise);
+    return opened(f, path, setup, envy_kept_open_bytewise, NOT_READING);
+}
+
+/* (either way of opening serves, since nothing is written) */
+uint32_t envy_kept_open_file_reading(envy_kept_file *f, const char *path, const envy_setup *setup) {
+    return opened(f, path, setup, envy_kept_open, READING_BEGINS);
+}
+
+uint32_t envy_kept_leave_file(envy_kept_file *f) {
+    if (f->descriptor >= 0) let_go(f);
+    return ENVY_DONE;
 }
 
 uint32_t envy_kept_close_file(envy_kept_file *f) {
-    if (f->descriptor < 0) return ENVY_DONE;
+    if (f->descriptor < 0 || f->reading) return envy_kept_leave_file(f);
     uint32_t code = is_forked(f) && failed(f) ? ENVY_OFF : envy_kept_sync(&f->memory);
     let_go(f);
     if (code == ENVY_OFF) errno = f->why;

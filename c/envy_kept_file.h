@@ -25,8 +25,9 @@ typedef struct envy_kept_file {
     int why;      /* errno of the call on the file that failed, else 0 */
     const uint8_t *found; /* its bytes, while it is opened and what the opening cuts off may hold a sync; else NULL */
     size_t found_n;
+    int reading; /* 0, or it is open for reading alone: 1 while it is opened, and 2 after that */
 } envy_kept_file;
-#define ENVY_KEPT_FILE_INIT {ENVY_KEPT_INIT, {0, 0, 0, 0, 0, 0, 0}, -1, -1, -1, 0, 0, 0, 0, 0, 0, 0}
+#define ENVY_KEPT_FILE_INIT {ENVY_KEPT_INIT, {0, 0, 0, 0, 0, 0, 0}, -1, -1, -1, 0, 0, 0, 0, 0, 0, 0, 0}
 
 /* Opens the file at a path, or makes an empty one, and locks it. It brings the file and its folder to the disk, has the
    system drop what it holds of the file, and reads it whole (only the head, if it doesn't begin as a journal does). Then
@@ -43,6 +44,20 @@ uint32_t envy_kept_open_file(envy_kept_file *f, const char *path, const envy_set
 /* The same by envy_kept_open_bytewise: the program states that the file system and the disk under it write the file byte by
    byte. */
 uint32_t envy_kept_open_file_bytewise(envy_kept_file *f, const char *path, const envy_setup *setup);
+
+/* The same for reading alone: any number of processes may have the file open so at once, while none has it open by the two
+   calls above. Nothing is written, made or removed, the file need not be writable, and loads and looks answer as of the last
+   sync: what a stop left in the file behind that sync is read over, and stays there.
+   What is stored is seen until the file is closed, and doesn't reach it. The first call that would write to the file is
+   refused: ENVY_OFF, with EROFS at envy_kept_file_error. This is envy_kept_sync, envy_kept_compact, or a call that changes
+   words once 64 KiB of operations wait. The file stays as it is. The memory answers ENVY_OFF from then on: close the file,
+   which makes no sync then, and open it again.
+   ENVY_SYSTEM also if there is no file (ENOENT); ENVY_NO_JOURNAL if it is empty; ENVY_LOCKED if it is open for writing. */
+uint32_t envy_kept_open_file_reading(envy_kept_file *f, const char *path, const envy_setup *setup);
+
+/* Ends the memory without a sync, and gives up the file and its lock: the file opens as of the last sync. ENVY_DONE, also
+   on a place without a file. */
+uint32_t envy_kept_leave_file(envy_kept_file *f);
 
 /* Syncs, ends the memory, and gives up the file and its lock. The place may be opened again. ENVY_DONE, also on a place
    without a file; ENVY_OFF, with errno, if the last sync failed: then the file opens as of that sync or of the previous one.

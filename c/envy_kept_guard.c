@@ -5,6 +5,7 @@
        objcopy --redefine-sym envy_kept_NAME=envy_proved_NAME LIBRARY.a */
 #include "envy_kept.h"
 #include "envy_kept_index.h"
+#include "envy_kept_map.h"
 
 /* A place that lasts as long as the call, for what isn't asked for. */
 #define OR_PLACE(at, type) ((at) ? (at) : &(type){0})
@@ -39,13 +40,36 @@ CALL(index_count, (envy_kept *m, uint64_t *count), (m, count))
 CALL(index_next, (envy_kept *m, uint64_t key, envy_pair *pair), (m, key, pair))
 CALL(index_above, (envy_kept *m, uint64_t key, envy_pair *pair), (m, key, pair))
 CALL(index_last, (envy_kept *m, uint64_t key, envy_pair *pair), (m, key, pair))
+CALL(index_scan, (envy_kept *m, uint64_t key, envy_pair *pairs, size_t n, size_t *count), (m, key, pairs, n, count))
+CALL(index_scan_down, (envy_kept *m, uint64_t key, envy_pair *pairs, size_t n, size_t *count), (m, key, pairs, n, count))
+CALL(map_begin, (envy_kept *m, uint32_t *slot), (m, slot))
+CALL(map_create, (envy_kept *m, uint32_t slot, const envy_map *map), (m, slot, map))
+CALL(map_insert, (envy_kept *m, uint32_t slot, const envy_map *map, uint64_t key, uint64_t value, envy_old *before),
+     (m, slot, map, key, value, OR_PLACE(before, envy_old)))
+CALL(map_remove, (envy_kept *m, uint32_t slot, const envy_map *map, uint64_t key, uint64_t *value), (m, slot, map, key, value))
+CALL(map_commit, (envy_kept *m, uint32_t slot), (m, slot))
+CALL(map_abort, (envy_kept *m, uint32_t slot), (m, slot))
+CALL(map_get, (envy_kept *m, const envy_map *map, uint64_t key, uint64_t *value), (m, map, key, value))
+CALL(map_count, (envy_kept *m, const envy_map *map, uint64_t *count), (m, map, count))
+CALL(map_scan, (envy_kept *m, const envy_map *map, uint64_t key, envy_pair *pairs, size_t n, size_t *count),
+     (m, map, key, pairs, n, count))
+CALL(map_scan_down, (envy_kept *m, const envy_map *map, uint64_t key, envy_pair *pairs, size_t n, size_t *count),
+     (m, map, key, pairs, n, count))
 
 void envy_proved_close(envy_kept *m);
 void envy_kept_close(envy_kept *m) {
     if (m->at) envy_proved_close(m);
 }
 
-/* (of no place, none of the words is put) */
+/* (of no place, none of the words is stored or put) */
+uint32_t envy_proved_store_run(envy_kept *m, uint32_t address, const uint64_t *words, size_t n, size_t *done, uint32_t *holder);
+uint32_t envy_kept_store_run(envy_kept *m, uint32_t address, const uint64_t *words, size_t n, size_t *done, uint32_t *holder) {
+    done = OR_PLACE(done, size_t);
+    if (m->at) return envy_proved_store_run(m, address, words, n, done, OR_PLACE(holder, uint32_t));
+    *done = 0;
+    return ENVY_EMPTY;
+}
+
 uint32_t envy_proved_write(envy_kept *m, uint32_t slot, uint32_t address, const uint64_t *words, size_t n, size_t *done,
                            uint32_t *holder);
 uint32_t envy_kept_write(envy_kept *m, uint32_t slot, uint32_t address, const uint64_t *words, size_t n, size_t *done,

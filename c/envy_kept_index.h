@@ -42,6 +42,13 @@ uint32_t envy_kept_index_above(envy_kept *m, uint64_t key, envy_pair *pair);
 /* Writes the pair with the greatest key that is at most this one. ENVY_DONE, or ENVY_ABSENT: all keys are greater. */
 uint32_t envy_kept_index_last(envy_kept *m, uint64_t key, envy_pair *pair);
 
+/* Writes the pairs from this key on, by rising key, and how many there are: n, or all if there are fewer. The rest of
+   the n stays. ENVY_DONE. After another answer nothing is said of the n pairs. */
+uint32_t envy_kept_index_scan(envy_kept *m, uint64_t key, envy_pair *pairs, size_t n, size_t *count);
+
+/* The same of the pairs up to this key, by falling key. */
+uint32_t envy_kept_index_scan_down(envy_kept *m, uint64_t key, envy_pair *pairs, size_t n, size_t *count);
+
 #ifdef __cplusplus
 }
 #endif

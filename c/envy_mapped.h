@@ -23,8 +23,8 @@
    - rattle_alloc, rattle_realloc and rattle_dealloc are those of heap.c, or do the same.
 
    If a call answers anything but ENVY_DONE, what its pointers point to is as before, except for ENVY_HELD and *done of
-   envy_mapped_write. If several answers would be right, it is the first of them in the order in which the call
-   names them, except that ENVY_NO_MEMORY may come in place of an ENVY_BROKEN_*. */
+   envy_mapped_write and envy_mapped_store_run. If several answers would be right, it is the first of them in the order
+   in which the call names them, except that ENVY_NO_MEMORY may come in place of an ENVY_BROKEN_*. */
 #ifndef ENVY_MAPPED_H
 #define ENVY_MAPPED_H
 
@@ -105,6 +105,14 @@ uint32_t envy_mapped_read(envy_mapped *m, uint32_t address, uint64_t *words, siz
    ENVY_HELD with the slot that owns the page at *holder. Refused, it changes no word. */
 uint32_t envy_mapped_store(envy_mapped *m, uint32_t address, uint64_t word, uint32_t *holder);
 
+/* Makes the n words from an address on these, outside any transaction: stores word after word. From then on they outlive
+   the process; if it ends within the call, the first of them do, as many as were stored. The first store that is refused
+   ends it and is answered, and the earlier words stay stored: *done says how many, n if all are. It counts one access for
+   each page that it stores to. ENVY_DONE, ENVY_EMPTY (*done is 0), or what envy_mapped_store answers. Of no words it is
+   done at once. */
+uint32_t envy_mapped_store_run(envy_mapped *m, uint32_t address, const uint64_t *words, size_t n, size_t *done,
+                               uint32_t *holder);
+
 /* Opens a transaction in the lowest slot that isn't open, and writes its number, 0 to 63, at *slot.
    ENVY_DONE, ENVY_EMPTY, ENVY_BUSY. */
 uint32_t envy_mapped_begin(envy_mapped *m, uint32_t *slot);
@@ -114,10 +122,11 @@ uint32_t envy_mapped_begin(envy_mapped *m, uint32_t *slot);
    slot that owns the page at *holder. Refused, it changes no word. */
 uint32_t envy_mapped_put(envy_mapped *m, uint32_t slot, uint32_t address, uint64_t word, uint32_t *holder);
 
-/* Makes the n words from an address on these within the transaction of a slot: puts word after word. The first put that
-   is refused ends it and is answered, and the earlier words stay put: *done says how many, n if all are. It counts one
-   access for each page that it puts to. ENVY_DONE, ENVY_EMPTY (*done is 0), or what envy_mapped_put answers. Of no words
-   it is done at once. */
+/* Makes the n words from an address on these within the transaction of a slot: puts word after word. If the slot is open
+   and they meet more pages without an owner than may yet be owned, that is ENVY_FULL before the first put, whatever the
+   words would be answered: none is put, and *done is 0. Else the first put that is refused ends it and is answered, and
+   the earlier words stay put: *done says how many, n if all are. It counts one access for each page that it puts to.
+   ENVY_DONE, ENVY_EMPTY (*done is 0), or what envy_mapped_put answers. Of no words it is done at once. */
 uint32_t envy_mapped_write(envy_mapped *m, uint32_t slot, uint32_t address, const uint64_t *words, size_t n,
                            size_t *done, uint32_t *holder);
 
@@ -136,6 +145,10 @@ uint32_t envy_mapped_tick(envy_mapped *m, uint32_t *did);
 
 /* Writes the counters. ENVY_DONE, ENVY_EMPTY. */
 uint32_t envy_mapped_counts(envy_mapped *m, envy_counts *counts);
+
+/* Writes how many segments in reserve are retired, and how many are left; together they are the setup's reserves. If none
+   is left, the next erase of the spare that the part reports as bad is answered by ENVY_BAD. ENVY_DONE, ENVY_EMPTY. */
+uint32_t envy_mapped_worn(envy_mapped *m, uint32_t *retired, uint32_t *left);
 
 #ifdef __cplusplus
 }

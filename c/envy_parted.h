@@ -92,7 +92,7 @@ uint32_t envy_parted_new(envy_parted *m);
    ENVY_DONE; ENVY_OPEN; ENVY_POLICY, ENVY_SETUP_*; ENVY_FLASH_ADDRESS, ENVY_SRAM_ADDRESS; ENVY_FLASH_SIZE,
    ENVY_SRAM_SIZE; ENVY_PAST, ENVY_OVERLAP; ENVY_NO_MEMORY; ENVY_BAD.
    If it is refused the place is as before, nothing was ordered and the SRAM is as before, except for ENVY_BAD: then
-   some erase wasn't carried out, and nothing that is formatted is there. */
+   more erases weren't carried out than the setup has reserves, and nothing that is formatted is there. */
 static inline uint32_t envy_parted_format(envy_parted *m, const envy_setup *setup, envy_part_map flash, envy_words sram,
                                           int32_t port);
 
@@ -147,6 +147,10 @@ uint32_t envy_parted_tick(envy_parted *m, uint32_t *did);
 
 /* Writes the counters. ENVY_DONE, ENVY_EMPTY. */
 uint32_t envy_parted_counts(envy_parted *m, envy_counts *counts);
+
+/* Writes how many segments in reserve are retired, and how many are left; together they are the setup's reserves. If none
+   is left, the next erase of the spare that the part reports as bad is answered by ENVY_BAD. ENVY_DONE, ENVY_EMPTY. */
+uint32_t envy_parted_worn(envy_parted *m, uint32_t *retired, uint32_t *left);
 
 /* Where map and SRAM lie, as numbers, which the library looks at before it takes them. */
 typedef struct envy_places {

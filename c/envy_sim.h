@@ -44,6 +44,39 @@ typedef struct envy_bytes {
     size_t len;
 } envy_bytes;
 
+/* What a row of flash is. */
+enum envy_row_kind {
+    ENVY_ROW_FREE = 0,   /* not claimed since its segment was erased */
+    ENVY_ROW_KEPT = 1,   /* loads of its page read it */
+    ENVY_ROW_SHADOW = 2, /* a transaction owns its page, whose earlier words are here */
+    ENVY_ROW_DEAD = 3    /* claimed, and no page names it */
+};
+typedef struct envy_row {
+    uint32_t kind; /* an envy_row_kind */
+    uint32_t page; /* of a row that is kept or a shadow; else 0 */
+    uint32_t slot; /* of a shadow, the slot whose transaction owns the page; else 0 */
+} envy_row;
+
+/* Where a page is. */
+typedef struct envy_page {
+    uint32_t place;  /* 0: absent, which is zeros; 1: in a row; 2: in a frame */
+    uint32_t at;     /* the row or the frame */
+    uint32_t undo;   /* 0: no transaction owns it; what it goes back to is 1: zeros, or 2: a shadow */
+    uint32_t slot;   /* the slot whose transaction owns it */
+    uint32_t shadow; /* the row of the shadow */
+} envy_page;
+
+typedef struct envy_segment {
+    uint64_t wear; /* how often it was erased */
+    uint32_t fill; /* how many of its rows were claimed since */
+} envy_segment;
+
+/* The cleaner's job. */
+typedef struct envy_job {
+    uint32_t kind;    /* 0: none, 1: kept rows are copied to the spare, 2: references go to the copies, 3: the spare is erased */
+    uint32_t segment; /* whose kept rows, or references; else 0 */
+} envy_job;
+
 /* Makes a place that holds no memory. ENVY_DONE or ENVY_NO_MEMORY. The place, a few hundred bytes, stays until the
    process ends, and serves for any number of memories, one after another. */
 uint32_t envy_sim_new(envy_sim *m);
@@ -52,17 +85,19 @@ uint32_t envy_sim_new(envy_sim *m);
    ENVY_SETUP_*; ENVY_NO_MEMORY. If it is refused the place is as before. */
 uint32_t envy_sim_format(envy_sim *m, const envy_setup *setup, uint32_t lives);
 
-/* Writes how many bytes the image of a board of this setup has: 32 of its head, 256 for each row of flash and 8 for
-   each word of SRAM. ENVY_DONE, ENVY_POLICY or an ENVY_SETUP_*. */
+/* Writes how many bytes the image of a board of this setup has: those of its head, which are 32, or 40 if the board has
+   segments in reserve; 256 for each row of flash; and 8 for each word of SRAM. ENVY_DONE, ENVY_POLICY or an
+   ENVY_SETUP_*. */
 uint32_t envy_sim_image_size(const envy_setup *setup, uint64_t *size);
 
-/* Writes the image of the memory's board over the first bytes: the mark "eNVyIMG1", the six numbers of the shape as 4
-   bytes each, the words of the rows of flash, and those of SRAM, 8 bytes to a word, the lowest byte of each number
-   first. The program `envy` writes and reads the same. What follows the image stays. It takes as many bytes of
-   the heap as the image has, and frees them. ENVY_DONE, ENVY_EMPTY, ENVY_OFF, ENVY_SMALL, ENVY_NO_MEMORY. */
+/* Writes the image of the memory's board over the first bytes: the mark "eNVyIMG1" and the first six numbers of the
+   shape as 4 bytes each, or, if the board has segments in reserve, the mark "eNVyIMG2" and all eight; then the words of
+   the rows of flash, and those of SRAM, 8 bytes to a word, the lowest byte of each number first. The program `envy`
+   writes and reads the same. What follows the image stays. It takes as many bytes of the heap as the image has, and
+   frees them. ENVY_DONE, ENVY_EMPTY, ENVY_OFF, ENVY_SMALL, ENVY_NO_MEMORY. */
 uint32_t envy_sim_save(envy_sim *m, envy_bytes *image);
 
-/* Writes the shape that an image names into the first six numbers of a setup. It reads the head alone.
+/* Writes the shape that an image names into that of a setup. It reads the head alone.
    ENVY_DONE; ENVY_IMAGE_MARK, if 8 bytes are there and aren't the mark; ENVY_IMAGE_SHORT, if the bytes end within
    the head; or an ENVY_IMAGE_SEGMENTS to ENVY_IMAGE_TOTAL. The bytes stay as they are, and if it is refused the
    setup does. */
@@ -112,6 +147,11 @@ uint32_t envy_sim_tick(envy_sim *m, uint32_t *did);
 /* Writes the counters. ENVY_DONE, ENVY_EMPTY. */
 uint32_t envy_sim_counts(envy_sim *m, envy_counts *counts);
 
+/* Writes how many segments in reserve are retired, and how many are left; together they are the setup's reserves. If none
+   is left, the next erase of the spare that the part reports as bad is answered by ENVY_BAD. ENVY_DONE,
+   ENVY_EMPTY, ENVY_OFF. */
+uint32_t envy_sim_worn(envy_sim *m, uint32_t *retired, uint32_t *left);
+
 /* Plans a failure of power in the k-th device operation from now (a program or erase of flash, or a write of a word of
    SRAM), in place of an earlier such plan. What the operation leaves is drawn from g. ENVY_DONE, ENVY_EMPTY, or
    ENVY_ZERO if k is 0. */
@@ -131,6 +171,24 @@ uint32_t envy_sim_revive(envy_sim *m);
 
 /* Writes how often power can still return. ENVY_DONE, ENVY_EMPTY. */
 uint32_t envy_sim_lives(envy_sim *m, uint32_t *left);
+
+/* What the board holds, for programs that draw it. None of these is an access to a page, and nothing changes.
+   ENVY_DONE, ENVY_EMPTY, ENVY_OFF, or ENVY_RANGE if there is no such row, page, position or segment. */
+
+/* Writes what a row of flash is. Row i of a segment s is number s * rows + i. */
+uint32_t envy_sim_row(envy_sim *m, uint32_t row, envy_row *found);
+
+/* Writes where a page is, and what it goes back to. A frame holds the page that is in it. */
+uint32_t envy_sim_page(envy_sim *m, uint32_t page, envy_page *found);
+
+/* Writes which segment is at a position: first those in use, then those in reserve. The spare is at none. */
+uint32_t envy_sim_position(envy_sim *m, uint32_t position, uint32_t *segment);
+
+/* Writes a segment's wear and fill. */
+uint32_t envy_sim_segment(envy_sim *m, uint32_t segment, envy_segment *found);
+
+/* Writes the cleaner's job. */
+uint32_t envy_sim_job(envy_sim *m, envy_job *found);
 
 #ifdef __cplusplus
 }

@@ -36,6 +36,8 @@ const char *envy_error_text(uint32_t code) {
     case ENVY_SETUP_PART: return "the part must be 1 to all segments but one";
     case ENVY_SETUP_LIMIT: return "the limit must be at least 1";
     case ENVY_SETUP_MARK: return "the mark must be 1 to the number of frames";
+    case ENVY_SETUP_RESERVES: return "reserves must be at most segments - 4";
+    case ENVY_SETUP_SUMS: return "sums must be 0";
     case ENVY_BROKEN_FIELDS: return "damaged: a field of the map is out of its range";
     case ENVY_BROKEN_POSITIONS: return "damaged: two positions name one segment";
     case ENVY_BROKEN_FRAMES: return "damaged: two places name one frame";
@@ -48,6 +50,7 @@ const char *envy_error_text(uint32_t code) {
     case ENVY_BROKEN_COPIES: return "damaged: a row and its copy are both kept";
     case ENVY_BROKEN_OWNED: return "damaged: more pages are owned than may be";
     case ENVY_BROKEN_UNDOS: return "damaged: an undo names a slot that isn't in use";
+    case ENVY_BROKEN_RESERVES: return "damaged: a kept row lies in a segment in reserve";
     case ENVY_SMALL: return "there is no room for the image";
     case ENVY_IMAGE_SHORT: return "the bytes end within the image";
     case ENVY_IMAGE_MARK: return "the bytes are no image";
@@ -59,10 +62,14 @@ const char *envy_error_text(uint32_t code) {
     case ENVY_IMAGE_ENTRIES: return "the image's entries must be 1 to 65536";
     case ENVY_IMAGE_SHARE: return "the image's pages and shadows must be at most the rows of all segments but two";
     case ENVY_IMAGE_TOTAL: return "the image's rows must be at most 16777216 in all";
+    case ENVY_IMAGE_RESERVES: return "the image's reserves must be 1 to segments - 4";
+    case ENVY_IMAGE_SUMS: return "the image's sums must be 0";
     case ENVY_ABSENT: return "the map has no such pair";
     case ENVY_MAP_FULL: return "the map has no room for more pairs";
     case ENVY_SLOT_OPEN: return "a transaction is open";
     case ENVY_MAP_SETUP: return "a map needs 20 to 1048576 pages and at least 32 shadows";
+    case ENVY_BROKEN_MAP: return "the words of the array stand for no map";
+    case ENVY_BAD_ABORTED: return "a flash operation failed, and the transaction was aborted";
     case ENVY_FLASH_ADDRESS: return "the part's map doesn't begin at a multiple of 256 bytes";
     case ENVY_SRAM_ADDRESS: return "the SRAM doesn't begin at a multiple of 8 bytes";
     case ENVY_PAST: return "a region reaches past the last address";

@@ -39,10 +39,9 @@ static uint32_t put_in_batch(bytes *b, uint32_t address, const uint64_t *words, 
 #endif
 
 static uint32_t put_alone(bytes *b, uint32_t address, const uint64_t *words, size_t n) {
-    uint32_t code = ENVY_DONE, holder;
-    for (size_t i = 0; i < n && !code; i++)
-        code = MEMORY_CALL(store)(&b->file->memory, address + (uint32_t)i, words[i], &holder);
-    return code;
+    size_t done;
+    uint32_t holder;
+    return MEMORY_CALL(store_run)(&b->file->memory, address, words, n, &done, &holder);
 }
 
 #ifndef ENVY_CLIENT_MAPPED

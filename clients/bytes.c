@@ -15,7 +15,7 @@
 #endif
 
 enum { KIND_WORD = 0, LENGTH_WORD = 1, LINE_BYTES = LINE_WORDS * WORD_BYTES, PIECE_WORDS = 512 };
-static const uint64_t PAGE_BYTES = HEADER_WORDS * WORD_BYTES;
+enum { PAGE_BYTES = HEADER_WORDS * WORD_BYTES }; /* of the array */
 
 const char *bytes_text(uint32_t code) {
     return code == BYTES_OTHER_KIND ? "the array is another program's" : envy_error_text(code);
@@ -24,12 +24,24 @@ const char *bytes_text(uint32_t code) {
 /* A background step writes pages back from three quarters of the frames on. */
 static uint32_t mark_of(uint32_t frames) { return frames - frames / 4; }
 
+/* Pages of SRAM, if none are asked for. Those of a durable file are the process's own memory, and a page that stays in one
+   is neither brought in nor programmed: one page in eight of the array, 8 MiB at most. */
+static uint32_t frames_for(const envy_setup *setup) {
+#ifdef ENVY_CLIENT_MAPPED
+    return setup->frames;
+#else
+    enum { MOST_FRAMES = 32768 };
+    uint32_t eighth = setup->pages / 8;
+    return eighth > MOST_FRAMES ? (uint32_t)MOST_FRAMES : eighth > setup->frames ? eighth : setup->frames;
+#endif
+}
+
 static uint32_t setup_for(const bytes_options *options, envy_setup *setup) {
     uint64_t words = options->size / WORD_BYTES + (options->size % WORD_BYTES != 0);
     uint32_t code = envy_setup_for(HEADER_WORDS + words, options->shadows, setup);
-    if (code || !options->frames) return code;
-    setup->frames = options->frames;
-    setup->mark = mark_of(options->frames);
+    if (code) return code;
+    setup->frames = options->frames ? options->frames : frames_for(setup);
+    setup->mark = mark_of(setup->frames);
     return ENVY_DONE;
 }
 
@@ -164,10 +176,7 @@ uint32_t bytes_close(bytes *b, int is_kept) {
     (void)is_kept;
     uint32_t code = envy_file_close(b->file);
 #else
-    /* a memory that has ended isn't synced when its file is closed */
-    if (!is_kept) envy_kept_close(&b->file->memory);
-    uint32_t code = envy_kept_close_file(b->file);
-    if (!is_kept && code == ENVY_EMPTY) code = ENVY_DONE;
+    uint32_t code = (is_kept ? envy_kept_close_file : envy_kept_leave_file)(b->file);
 #endif
     give_place(b->file);
     if (!code) errno = why;
@@ -205,39 +214,49 @@ uint32_t bytes_read(bytes *b, uint64_t at, void *to, size_t n) {
     return ENVY_DONE;
 }
 
-/* Stores the words of a line that differ, from one to another. */
+/* Stores words of a line, from one to another, and knows them then. */
+static uint32_t store_run(bytes *b, uint64_t number, known_line *line, const uint64_t *words, size_t from, size_t to) {
+    uint32_t address = HEADER_WORDS + (uint32_t)(number * LINE_WORDS + from);
+    uint32_t code = bytes_put(b, address, words + from, line->words + from, to - from);
+    if (code) {
+        known_forget(line);
+        return code;
+    }
+    memcpy(line->words + from, words + from, (to - from) * WORD_BYTES);
+    b->counts.words_stored += to - from;
+    return ENVY_DONE;
+}
+
+/* Stores the words that differ, of those from one to another, which lie in one page of the array. */
 static uint32_t store_changed(bytes *b, uint64_t number, known_line *line, const uint64_t *words, size_t from, size_t to) {
-    for (size_t i = from; i < to;) {
-        size_t end = i;
+    while (from < to) {
+        while (from < to && line->words[from] == words[from]) from++;
+        size_t end = from;
         while (end < to && line->words[end] != words[end]) end++;
-        if (end == i) {
-            i++;
-            continue;
-        }
-        uint32_t address = HEADER_WORDS + (uint32_t)(number * LINE_WORDS + i);
-        uint32_t code = bytes_put(b, address, words + i, line->words + i, end - i);
-        if (code) {
-            known_forget(line);
-            return code;
-        }
-        memcpy(line->words + i, words + i, (end - i) * WORD_BYTES);
-        b->counts.words_stored += end - i;
-        i = end;
+        uint32_t code = end == from ? (uint32_t)ENVY_DONE : store_run(b, number, line, words, from, end);
+        if (code) return code;
+        from = end;
     }
     return ENVY_DONE;
 }
 
+/* Most pages of the array that SQLite writes stay as they are, so pages are compared before words. */
 static uint32_t write_in_line(bytes *b, uint64_t number, size_t skip, const uint8_t *bytes_, size_t n) {
     uint64_t words[LINE_WORDS];
     known_line *line;
     uint32_t code = known_find(b, number, &line);
-    if (code) return code;
-    size_t from = skip / WORD_BYTES, to = (skip + n + WORD_BYTES - 1) / WORD_BYTES;
-    b->counts.words_given += to - from;
-    if (!memcmp((uint8_t *)line->words + skip, bytes_, n)) return ENVY_DONE;
-    memcpy(words + from, line->words + from, (to - from) * WORD_BYTES);
-    memcpy((uint8_t *)words + skip, bytes_, n);
-    return store_changed(b, number, line, words, from, to);
+    b->counts.words_given += (skip % WORD_BYTES + n + WORD_BYTES - 1) / WORD_BYTES;
+    for (size_t part; n && !code; skip += part, bytes_ += part, n -= part) {
+        part = PAGE_BYTES - skip % PAGE_BYTES;
+        if (part > n) part = n;
+        if (!memcmp((uint8_t *)line->words + skip, bytes_, part)) continue;
+        size_t from = skip / WORD_BYTES, to = (skip + part + WORD_BYTES - 1) / WORD_BYTES;
+        words[from] = line->words[from];
+        words[to - 1] = line->words[to - 1];
+        memcpy((uint8_t *)words + skip, bytes_, part);
+        code = store_changed(b, number, line, words, from, to);
+    }
+    return code;
 }
 
 uint32_t bytes_write(bytes *b, uint64_t at, const void *from, size_t n) {

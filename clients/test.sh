@@ -1,11 +1,11 @@
 #!/usr/bin/env bash
 # The long tests of the clients: hundreds of kills and of crashes of the machine, and SQLite's own programs.
 #
-#   clients/test.sh [WHAT..]      rounds, device, python, speedtest1, sqlite, memory; all of them if none is named
+#   clients/test.sh [WHAT..]      rounds, device, python, speedtest1, mptest, sqlite, memory; all of them if none is named
 #
-# The archives are made first, by `rt lib` in crates/envy_kept and crates/envy_mapped. speedtest1 and sqlite need SQLite's source
-# (Debian: apt-get source sqlite3), whose folder SQLITE_SOURCE names; sqlite needs tcl-dev too. ROUNDS (200) is how many rounds of
-# each kind are made.
+# The archives are made first, by `rt lib` in crates/envy_kept and crates/envy_mapped. speedtest1, mptest and sqlite need SQLite's
+# source (Debian: apt-get source sqlite3), whose folder SQLITE_SOURCE names; sqlite needs a testfixture made of it too, with
+# tcl-dev. ROUNDS (200) is how many rounds of each kind are made, JOBS (1) how many test files run at a time.
 set -eu
 cd "$(dirname "$0")"
 rounds=${ROUNDS:-200}
@@ -53,10 +53,20 @@ speedtest1() {
     tail -2 "$work/wanted" "$work/found"
 }
 
-# SQLite's own test files: tests/sqlite_tests.py has the list, and what each is to end with
+# mptest's clients as threads. (Its other scripts end clients in the middle, and no client but all would end.)
+mptest() {
+    has_source mptest || return 0
+    gcc -O2 -w -rdynamic -o "$work/one_process" tests/one_process.c -lsqlite3 -lpthread -ldl
+    gcc -O2 -w -shared -fPIC -Dmain=mptest_main -Dsystem=mptest_system -Dexit=mptest_exit -o "$work/mptest.so" "$source/mptest/mptest.c" -lsqlite3
+    ENVYVFS="size=32M" "$work/one_process" "$work" "$work/mptest.so" "$work/mptest.envy" --vfs envy --sync --repeat 2 \
+        "$source/mptest/multiwrite01.test" >"$work/told" 2>&1 || { tail -5 "$work/told" >&2; return 1; }
+    grep 'Summary: 0 errors' "$work/told"
+}
+
+# SQLite's own test files: tests/sqlite_tests.py has the list, and tests/sqlite_differences what ends otherwise, and why
 sqlite() {
     has_source "SQLite's tests" || return 0
-    tests/sqlite_tests.py "$source"
+    tests/sqlite_tests.py --jobs "${JOBS:-1}" "$source"
 }
 
 # accesses of memory, by valgrind
@@ -66,6 +76,6 @@ memory() {
     SHIM_DELAY=0 LD_PRELOAD=$PWD/out/tests/shim.so valgrind -q --error-exitcode=9 out/tests/speed insert100 30 5 "$(uri speed "")" synchronous=full
 }
 
-for what in "${@:-rounds device python speedtest1 sqlite memory}"; do
+for what in "${@:-rounds device python speedtest1 mptest sqlite memory}"; do
     for it in $what; do $it; done
 done

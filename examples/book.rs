@@ -16,6 +16,8 @@ const SETUP: Setup = Setup {
     policy: Policy::Greedy,
     limit: 100,
     mark: 12,
+    reserves: 0,
+    sums: 0,
 };
 
 const USAGE: &str = "FILE new|move A B AMOUNT|show A|sum";

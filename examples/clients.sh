@@ -4,24 +4,36 @@
 # what isn't here.
 set -eu
 cd "$(dirname "$0")"
+# (where a system keeps tools that a user's path may lack)
+export PATH=$PATH:/usr/local/sbin:/usr/sbin:/sbin
 if ! gcc --version >/dev/null 2>&1; then
-    echo "clients: gcc doesn't run here, so nothing was tried" >&2
+    echo "clients: SKIPPED: nothing was tried, for want of gcc" >&2
     exit 0
 fi
 library/build.py envy_mapped envy_kept
 cd ../clients
 make -s all tests python
 tests=tests
+# package PROGRAM-OR-FILE: what gives it, of Debian's packages
+package() {
+    case $1 in
+    *_mapped.so) echo "rt lib in crates/envy_mapped" ;;
+    *envyvfs.so) echo "libsqlite3-dev" ;;
+    *envy.so) echo "nbdkit-plugin-dev" ;;
+    nbdinfo | nbdcopy) echo "libnbd-bin" ;;
+    *) echo "${1##*/}" ;;
+    esac
+}
 # has TEXT PROGRAM-OR-FILE..: whether they are here; else TEXT wasn't tried
 has() {
-    local what=$1 it
+    local what=$1 missing='' it
     shift
     for it in "$@"; do
-        if ! command -v "$it" >/dev/null 2>&1 && [ ! -e "$it" ]; then
-            echo "clients: $it isn't here, so $what wasn't tried" >&2
-            return 1
-        fi
+        command -v "$it" >/dev/null 2>&1 || [ -e "$it" ] || missing+=", $it ($(package "$it"))"
     done
+    [ -n "$missing" ] || return 0
+    echo "clients: SKIPPED: $what wasn't tried, for want of ${missing#, }" >&2
+    return 1
 }
 work=$(mktemp -d "${TMPDIR:-/tmp}/envy-clients.XXXXXX")
 trap 'rm -rf "$work"' EXIT
@@ -42,6 +54,21 @@ if has "the VFS" out/envyvfs.so sqlite3 python3; then
         EXTENSION=$PWD/out/envyvfs_mapped.so $tests/rounds.py kill 8 "$mapped"
     fi
 fi
+if has "an installed VFS" out/envyvfs.so sqlite3; then
+    make -s DESTDIR="$work/installed" PREFIX=/usr install
+    { echo ".load $work/installed/usr/lib/envy/envyvfs" && echo ".open 'file:$work/installed.envy?vfs=envy'" &&
+        echo "create table t(a); insert into t values(7); select a from t;"; } | sqlite3 | grep -qx 7
+    make -s DESTDIR="$work/installed" PREFIX=/usr uninstall
+    [ -z "$(find "$work/installed" ! -type d)" ]
+    echo "clients: what is installed works, and goes again"
+fi
+# SQLite's own tests, if its source is here: SQLITE_SOURCE names its folder
+if [ -n "${SQLITE_SOURCE:-}" ]; then
+    ./test.sh mptest
+    $tests/sqlite_tests.py --quick "$SQLITE_SOURCE"
+else
+    echo "clients: SKIPPED: SQLite's own tests weren't run: SQLITE_SOURCE names no source" >&2
+fi
 if has "the device" out/envy.so nbdkit nbdinfo nbdcopy python3; then
     $tests/nbd.sh "$work"
     $tests/nbd_rounds.py kill 6
@@ -55,4 +82,6 @@ if has "the device" out/envy.so nbdkit nbdinfo nbdcopy python3; then
 fi
 if has "the package for Python" python3 ../c/out/libenvy_kept.so.0; then
     $tests/python.sh "$work"
+    # (it says itself what it lacks)
+    ../examples/failing_disk.sh "$PWD/$tests/kept_lines.py" 6
 fi

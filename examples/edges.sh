@@ -39,6 +39,12 @@ ends() {
     [ "$(cat "$work/err")" = "$4" ] || fail "$1: another text: $(cat "$work/err")"
 }
 
+# grows NAME: the text of a file that couldn't be compacted, once
+grows() {
+    [ "$(cat "$work/err")" = "envy: no second file took the place of $(realpath "$work")/$1, so it is appended to and grows" ] ||
+        fail "$1: another text: $(cat "$work/err")"
+}
+
 # Each combination of closed standard streams: no reply and no text comes into the file, and a stream that is closed fails
 # as ever.
 printf 'store 5 7\nsync\n' >"$work/trace"
@@ -103,6 +109,23 @@ else
 fi
 cmp -s "$work/names" "$work/bare/memory" || fail "a refused file was changed"
 
+# A file whose name no second file can take, as that of a bind mount, goes on by appending, and says so once.
+printf 'store 5 7\nsync\n' | timeout 60 "$program" keep --file "$work/mounted" >/dev/null
+"$program" gen --start 3 --lines 20000 --pages 64 | awk '/^store/ { print } NR % 500 == 0 { print "sync" }' >"$work/lines"
+if unshare -m true 2>/dev/null; then
+    unshare -m sh -c 'mount --bind "$1/mounted" "$1/mounted" && timeout 240 "$2" keep --file "$1/mounted" <"$1/lines"' \
+        - "$work" "$program" >"$work/out" 2>"$work/err"
+    status=$?
+    [ $status = 0 ] && [ "$(wc -l <"$work/out")" = "$(wc -l <"$work/lines")" ] || fail "a bind mount: status $status"
+    grows mounted
+    [ "$(stat -c %s "$work/mounted")" -gt $((2 << 20)) ] || fail "a bind mount: $(stat -c %s "$work/mounted") bytes"
+    last=$(awk '/^store/ { a = $2; w = $3 } END { print a, w }' "$work/lines")
+    keeps "$work/mounted" < <(echo "load ${last% *}")
+    ends "a file that was a bind mount" 0 "${last#* }\n" ''
+else
+    skip "a file that is a bind mount: unshare doesn't run here"
+fi
+
 # A trace without a sync leaves a short file: what isn't synced is written anew once the file has more than 1 MiB of it.
 awk 'BEGIN { for (i = 0; i < 200000; i++) print "store", i * 7919 % 500, i }' </dev/null >"$work/lines"
 keeps "$work/unsynced" <"$work/lines"
@@ -166,6 +189,7 @@ says 'store 5 9' ok
 says sync synced
 exec {to}>&-
 wait "$pid" || fail "a moved file: status $?: $(cat "$work/err")"
+grows moved
 [ "$(cat "$work/moved")" = "another file" ] || fail "another file at the path of a moved one was changed"
 keeps "$work/away" < <(echo 'load 5')
 ends "a file that was moved" 0 '9\n' ''
@@ -235,6 +259,23 @@ if gcc --version >/dev/null 2>&1; then
         [ $status = 11 ] || [ "$(cat "$work/out")" = 7 ] || fail "read $read ends early: status $status: $(cat "$work/out" "$work/err")"
         cmp -s "$file" "$work/whole" || [ $status = 0 ] || fail "read $read ends early, and the file is changed"
     done
+    # A sync waits for the disk twice, or once if the file is written byte by byte, and changes no length: zeros are there
+    # already. Where nothing is held a sync makes no call, and so does the end of the input.
+    # called NUMBER: a number that file_calls.c counted (1: calls; 4: bytes; 5: syncs)
+    called() { od -A n -t u8 -w64 "$work/counts" | awk -v n="$1" '{ print $n }'; }
+    for options in '--bytewise 0' '--bytewise 1'; do
+        waits=$((2 - ${options#* }))
+        shimmed none 0 $options < <(printf 'store 5 8\nsync\n')
+        syncs=$(called 5) calls=$(called 1) size=$(stat -c %s "$file")
+        shimmed none 0 $options < <(printf 'store 5 8\n')
+        [ "$(called 1)" = "$calls" ] || fail "$options: the end of the input makes $(called 1) calls, and a sync before it $calls"
+        shimmed none 0 $options < <(printf 'store 5 8\nsync\nload 5\nsync\nsync\n')
+        [ "$(called 1)" = "$calls" ] || fail "$options: idle syncs make $(called 1) calls, and none $calls"
+        shimmed none 0 $options < <(for ((n = 1; n <= 201; n++)); do printf 'store 5 %d\nsync\n' $n; done)
+        [ $(($(called 5) - syncs)) = $((200 * waits)) ] || fail "$options: 200 syncs wait for the disk $(($(called 5) - syncs)) times"
+        [ "$(stat -c %s "$file")" = "$size" ] || fail "$options: 200 syncs make a file of $size bytes one of $(stat -c %s "$file")"
+        cp "$work/whole" "$file"
+    done
     # Each call fails in turn, and what wasn't synced isn't on the disk, while the system gives it to whoever reads. The next
     # process syncs a word; then the machine stops, and what is on the disk is what is found.
     for options in '--bytewise 0' '--bytewise 1'; do
@@ -292,6 +333,9 @@ if [ "$(id -u)" = 0 ] && thin; then
 else
     skip "a disk that fails: it takes root, loop devices, tmpfs and mkfs.ext4"
 fi
+
+# A real device that fails for a while, again and again, and works between.
+examples/failing_disk.sh "$program" 6 || fail "a disk that fails for a while"
 
 [ "$failures" = 0 ] && echo "edges: all is as it must be"
 [ "$failures" = 0 ]

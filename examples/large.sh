@@ -5,9 +5,9 @@
 #
 #   examples/large.sh [--rows N] [--alone 1]
 #
-# --rows: rows of a segment (4096); with --alone 1 no image is made, and `run` loads the words. It needs 4.9 GB of memory
-# for each of two processes, or for one with --alone; with less it is skipped. No file is written. It takes some minutes
-# for each image. Without a proof the answers are those of a trial's program; ENVY names another program.
+# --rows: rows of a segment (4096, which makes 16,777,216); with --alone 1 no image is made, and `run` loads the words. It
+# needs 4.9 GB of memory for each of two processes, or for one with --alone; with less it is skipped. No file is written. It
+# takes some minutes for each image. Without a proof the answers are those of a trial's program; ENVY names another program.
 set -eu
 top=$(cd "$(dirname "$0")/.." && pwd)
 rows=4096 alone=0
@@ -52,14 +52,20 @@ words() {
 }
 
 failures=0
+# said TEXT: says it, with the seconds since the last one
+said() {
+    echo "large: $1 ($((SECONDS - before)) s)"
+    before=$SECONDS
+}
+before=$SECONDS
 # compared NAME: whether what is read are the answers
 compared() {
-    if cmp -s - <(answers); then echo "large: $1: the words are there"; else echo "large: $1: other words" >&2 && failures=1; fi
+    if cmp -s - <(answers); then said "$1: the words are there"; else echo "large: $1: other words" >&2 && return 1; fi
 }
 
 if [ "$alone" = 1 ]; then
     # shellcheck disable=SC2086
-    (trace && loads) | "$program" run --large 1 $shape | grep '^[0-9]' | compared run
+    (trace && loads) | "$program" run --large 1 $shape | grep '^[0-9]' | compared run || failures=1
     exit $failures
 fi
 
@@ -67,10 +73,10 @@ fi
 saved() { trace | "$program" save --large 1 $shape; }
 
 verdict=$(saved | "$program" audit --large 1)
-echo "large: audit: $verdict"
+said "audit: $verdict"
 [ "$verdict" = sound ] || failures=1
 full=$(saved | "$program" map --large 1 | awk -F, -v last=$((segments - 1)) '$1 == last { print $4 }')
-echo "large: map: $full of $rows rows of the last segment are programmed"
+said "map: $full of $rows rows of the last segment are programmed"
 [ "$full" = "$rows" ] || failures=1
-(saved && loads) | "$program" resume --large 1 | compared resume
+(saved && loads) | "$program" resume --large 1 | compared resume || failures=1
 exit $failures

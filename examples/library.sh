@@ -68,7 +68,7 @@ gcc -Wall -Wextra $($config --cflags) -o "$work/runs" "$work/counter.c" $($confi
 echo "library: what is installed links and runs"
 
 # the shared object shows each function of its headers and nothing else, and a program that is linked with it runs
-printf '#include "%s"\n' envy_kept.h envy_kept_file.h envy_kept_index.h envy_setup.h envy_text.h >"$work/all.c"
+printf '#include "%s"\n' envy_kept.h envy_kept_file.h envy_kept_index.h envy_kept_map.h envy_setup.h envy_text.h >"$work/all.c"
 # shellcheck disable=SC2046
 gcc $($config --cflags) -fsyntax-only -aux-info "$work/functions" "$work/all.c"
 grep -o 'envy_[a-z0-9_]* (' "$work/functions" | tr -d ' (' | sort -u >"$work/wanted"
@@ -109,6 +109,9 @@ cmp "$work/wanted" "$work/words"
 [ "$(../envy audit <"$work/second.image")" = sound ]
 echo "library: the $(wc -l <"$work/words") words of an image are those of envy run"
 
+# segments in reserve stand in for those of which an erase is bad
+out/worn
+
 # kept files: kills, failures, and the words of 10,000 drawn commands, which `envy keep` and the library find in one file
 out/kept_killed "$work/kept.file" 200 "${1-1}"
 ASAN_OPTIONS=detect_leaks=0 out/kept_failing-asan "${1-1}" # a handle lasts as long as the process
@@ -130,6 +133,8 @@ out/sized "$work/sized.file"
 out/killed "$work/killed.file" 200 "${1-1}"
 ASAN_OPTIONS=detect_leaks=0 out/ordered-asan "$work/ordered-asan.file" 50000 "${1-1}" # a handle lasts as long as the process
 out/ordered "$work/ordered.file" 1000000 "${1-1}"
+ASAN_OPTIONS=detect_leaks=0 out/maps-asan "$work/maps-asan.file" 50000 "${1-1}"
+out/maps "$work/maps.file" 1000000 "${1-1}"
 out/kept_ordered "$work/kept-ordered.file" 32000 "${1-1}"
 ASAN_OPTIONS=detect_leaks=0 out/files-asan "$work/files.file" # a handle lasts as long as the process
 TMPDIR=$work out/rust-tests --quiet
@@ -147,6 +152,18 @@ done
 # each opens what the other wrote
 [ "$(out/book "$work/book-rust.book" sum)" = "$(out/book-rust "$work/book.book" sum)" ]
 echo "library: the account book is the same in C and in Rust"
+
+for program in prices prices-asan prices-rust; do
+    prices() { ASAN_OPTIONS=detect_leaks=0 out/$program "$work/$program.prices" "$@"; }
+    for i in 1 2 3 4 5 6 7 8 9; do prices set "$i" "$((i * 7 % 10))"; done
+    prices set 3 7 && prices drop 5
+    if prices drop 5 2>"$work/errors"; then exit 1; fi
+    [ "$(prices show 3)" = 7 ]
+    [ "$(prices from 5 8 | tr '\n' ,)" = "8 6,1 7,3 7,4 8," ]
+    [ "$(prices count)" = "8 articles, 8 prices, 11 changes" ]
+done
+[ "$(out/prices "$work/prices-rust.prices" from 0 9)" = "$(out/prices-rust "$work/prices.prices" from 0 9)" ]
+echo "library: an index of prices is kept in step with its table in C and in Rust"
 
 if [ -z "$arm" ]; then
     echo "library: for 64-bit ARM nothing was tried: aarch64-linux-gnu-gcc or qemu-aarch64 doesn't run here"

@@ -23,11 +23,11 @@ fail() {
 
 # in a clone of its own, so that out/ here stays as it is
 git clone -q . "$work/clone" || exit 1
-cp release.sh envy VERSION "$work/clone" && cp words/* "$work/clone/words" && cp c/Makefile "$work/clone/c"
+cp release.sh envy VERSION "$work/clone" && cp words/* "$work/clone/words" && cp c/Makefile "$work/clone/c" && cp clients/Makefile "$work/clone/clients"
 mkdir -p "$work/from/x86_64" "$work/from/aarch64"
 echo 'int envy_stand_in;' >"$work/stand_in.c"
 # (what the C beside the archive of kept files calls has to be there for the shared object)
-sed -n 's/^[a-z].*[ *]\(envy_kept_[a-z_]*\)(.*/int \1;/p' c/envy_kept.h c/envy_kept_index.h >>"$work/stand_in.c"
+sed -n 's/^[a-z].*[ *]\(envy_kept_[a-z_]*\)(.*/int \1;/p' c/envy_kept.h c/envy_kept_index.h c/envy_kept_map.h >>"$work/stand_in.c"
 gcc -fPIC -c -o "$work/x86_64.o" "$work/stand_in.c"
 aarch64-linux-gnu-gcc -fPIC -c -o "$work/aarch64.o" "$work/stand_in.c"
 for name in mapped sim kept parted; do
@@ -54,12 +54,14 @@ here=$work/envy-$version
 answers "the tar" "$here/envy"
 ln -s "$here/envy" "$work/linked"
 answers "a link to it" "$work/linked"
+headers=$(printf '#include <sqlite3ext.h>\n#include <nbdkit-plugin.h>\n' | gcc -DNBDKIT_API_VERSION=2 -E - >/dev/null 2>&1 && echo here)
 if command -v dpkg-deb >/dev/null; then
     dpkg-deb -x "$work/clone/out/envy_${version}_amd64.deb" "$work/installed" || fail "the package isn't one"
     answers "the package" "$work/installed/usr/bin/envy"
     for file in usr/lib/libenvy_parted.a usr/include/envy_kept.h usr/share/envy/aarch64/libenvy_kept.a usr/share/doc/envy/copyright \
         usr/lib/libenvy_kept.so usr/share/envy/aarch64/libenvy_kept.so.0 usr/lib/python3/dist-packages/envy/memory.py \
-        usr/share/doc/envy/changelog.gz usr/share/man/man1/envy.1.gz usr/share/bash-completion/completions/envy; do
+        usr/share/doc/envy/changelog.gz usr/share/man/man1/envy.1.gz usr/share/bash-completion/completions/envy \
+        ${headers:+usr/lib/envy/envyvfs.so usr/lib/x86_64-linux-gnu/nbdkit/plugins/nbdkit-envy-plugin.so}; do
         [ -s "$work/installed/$file" ] || fail "the package has no $file"
     done
 else
@@ -69,6 +71,18 @@ for file in LICENSE NOTICE CHANGELOG.md rust/Cargo.toml lib/x86_64/libenvy_parte
     lib/x86_64/libenvy_kept.so.0 lib/aarch64/libenvy_kept.so; do
     [ -s "$here/$file" ] || fail "the tar has no $file"
 done
+# the clients, built if the headers of SQLite and nbdkit are here, and once more by the user of the tar
+if [ -n "$headers" ]; then
+    for file in envyvfs.so envyvfs_mapped.so libenvyvfs.a envy.so envy_mapped.so; do
+        [ -s "$here/lib/x86_64/$file" ] || fail "the tar has no $file"
+    done
+    make -s -C "$here/clients" PREFIX="$work/prefix" install >"$work/said" 2>&1 || fail "no clients are made of the tar: $(tail -n 3 "$work/said")"
+    for file in lib/envy/envyvfs.so lib/libenvyvfs.a include/envyvfs.h lib/nbdkit/plugins/nbdkit-envy-plugin.so; do
+        [ -s "$work/prefix/$file" ] || fail "no $file was installed"
+    done
+    make -s -C "$here/clients" PREFIX="$work/prefix" uninstall
+    [ -z "$(find "$work/prefix" ! -type d)" ] || fail "uninstall left $(find "$work/prefix" ! -type d | head -n 3)"
+fi
 grep -q "^version = \"$version\"" "$here/rust/Cargo.toml" || fail "the Rust package has another version"
 grep -q "^__version__ = \"$version\"" "$here/clients/python/envy/__init__.py" || fail "the Python package has another version"
 grep -q "ENVY_VERSION \"$version\"" "$here/include/envy_text.h" || fail "the header has another version"

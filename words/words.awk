@@ -157,13 +157,15 @@ function check_value(option, value,    bound) {
 function number(option, word) { return option in value ? value[option] + 0 : usual_number(option, word) }
 
 # The rules that numbers break together: each names the numbers that it compares, in the order of the program.
-function check_board(word,    segments, rows, pages, shadows, most, rows_at_most, part, mark) {
+function check_board(word,    segments, rows, reserves, pages, shadows, most, rows_at_most, part, mark) {
     segments = number("segments", word); rows = number("rows", word)
+    reserves = "reserves" in value ? value["reserves"] + 0 : 0
+    if (reserves > segments - 4) mistake(sprintf("--reserves: %.0f (0 to %.0f, the segments less four)", reserves, segments - 4), 2)
     pages = number("pages", word); shadows = number("shadows", word)
-    most = (segments - 2) * rows
+    most = (segments - 2 - reserves) * rows
     if (pages + shadows > most)
-        mistake(sprintf("--pages %.0f and --shadows %.0f are %.0f rows, above %.0f, those of %.0f segments of %.0f less two segments",
-            pages, shadows, pages + shadows, most, segments, rows), 2)
+        mistake(sprintf("--pages %.0f and --shadows %.0f are %.0f rows, above %.0f, those of %.0f segments of %.0f less two segments%s",
+            pages, shadows, pages + shadows, most, segments, rows, reserves ? sprintf(" and --reserves %.0f", reserves) : ""), 2)
     rows_at_most = word == "keep" || value["large"] == 1 ? 16777216 : 1048576
     if (segments * rows > rows_at_most)
         mistake(sprintf("--segments %.0f of --rows %.0f are %.0f rows, above %.0f%s", segments, rows, segments * rows, rows_at_most,

@@ -87,8 +87,10 @@ def write_files(folder, first, noted):
                 it.flush()
                 os.fsync(it.fileno())
             noted.append(i)
-            if i >= 200:
+            # (one that a kill cut short wasn't noted, and may not be there)
+            if i - 200 in noted:
                 noted.remove(i - 200)
+            with contextlib.suppress(FileNotFoundError):
                 os.unlink(f"{folder}/f{i - 200}")
 
 

@@ -20,7 +20,7 @@ BOARD = ["--segments=4", "--rows=3", "--pages=4", "--shadows=2", "--frames=2", "
 WORDS = 128
 LOOKS = [f"look {a}" for a in range(WORDS)]
 FILE_FAILED, UNOPENED = 6, 11
-UNOPENED_TEXTS = ["envy: the journal can't be read\n", "envy: no file can be made beside the journal\n"]
+UNOPENED_TEXTS = ("envy: the journal can't be read\n", "envy: no file can be made beside the journal\n")
 # What a call does before it fails, and the error that it tells.
 FAILURES = [("none", errno.EIO), ("half", errno.ENOSPC), ("done", errno.EIO), ("lost", errno.EIO)]
 # A call that is interrupted, or writes a part, is no failure.
@@ -66,7 +66,7 @@ class Ran:
             is_right = self.status == 0 and len(good) == len(session.lines)
             return None if is_right else f"status {self.status} behind {len(good)} replies: {self.errors}"
         if self.status == UNOPENED:
-            is_right = not told and self.errors in UNOPENED_TEXTS
+            is_right = not told and self.errors.endswith(UNOPENED_TEXTS)
             return None if is_right else f"status {self.status} behind {len(told)} replies: {self.errors}"
         if self.status != FILE_FAILED or self.is_beside:
             return f"status {self.status}: {self.errors}"

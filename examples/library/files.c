@@ -161,6 +161,8 @@ int main(int words, char **word) {
     printf("no such folder: %s\n", envy_error_text(ENVY_SYSTEM));
     for (uint32_t a = 0; a <= ENVY_MAP_SETUP; a++)
         for (uint32_t b = 0; b < a; b++) must(strcmp(envy_error_text(a), envy_error_text(b)), "two codes share a text");
+    for (uint32_t a = 0; a <= ENVY_MAP_SETUP; a++)
+        must(strcmp(envy_error_text(a), envy_error_text(ENVY_BROKEN_MAP)), "two codes share a text");
     printf("version %s\n", envy_version());
     return 0;
 }

@@ -1,6 +1,6 @@
 /* Kept files at the edge of the process: a handle that was never made, standard streams that are closed, processes that
-   are forked off, a file that is moved while it is open, names that others have, folders in which nothing may be made, and
-   more files than can be open.
+   are forked off, a file that is moved while it is open, names that others have, folders in which nothing may be made, more
+   files than can be open, and a limit of length.
 
      kept_edges FOLDER */
 #include "../../c/envy_kept_file.h"
@@ -11,6 +11,7 @@
 #include <stdio.h>
 #include <stdlib.h>
 #include <string.h>
+#include <sys/resource.h>
 #include <sys/stat.h>
 #include <sys/wait.h>
 #include <unistd.h>
@@ -79,6 +80,9 @@ static void never_made(void) {
     WANT(envy_kept_begin(&m, &number), ENVY_EMPTY);
     WANT(envy_kept_put(&m, 0, 0, 1, &number), ENVY_EMPTY);
     WANT(envy_kept_write(&m, 0, 0, &word, 1, &done, &number), ENVY_EMPTY);
+    WANT(done, 0);
+    done = 7;
+    WANT(envy_kept_store_run(&m, 0, &word, 1, &done, &number), ENVY_EMPTY);
     WANT(envy_kept_commit(&m, 0), ENVY_EMPTY);
     WANT(envy_kept_abort(&m, 0), ENVY_EMPTY);
     WANT(envy_kept_tick(&m, &number), ENVY_EMPTY);
@@ -371,6 +375,9 @@ static void not_asked(void) {
     WANT(envy_kept_put(m, other, 6, 7, NULL), ENVY_HELD);
     WANT(envy_kept_store(m, 6, 7, NULL), ENVY_HELD);
     WANT(envy_kept_store(m, 40, 7, NULL), ENVY_DONE);
+    WANT(envy_kept_store_run(m, 62, words, 3, NULL, NULL), ENVY_DONE);
+    WANT(word_at(&f, 64), 3);
+    WANT(envy_kept_store_run(m, 6, words, 3, NULL, NULL), ENVY_HELD);
     WANT(envy_kept_write(m, slot, 6, words, 3, NULL, NULL), ENVY_DONE);
     WANT(envy_kept_write(m, other, 6, words, 3, NULL, NULL), ENVY_HELD);
     WANT(word_at(&f, 8), 3);
@@ -400,6 +407,32 @@ static void rights(void) {
     umask(before);
 }
 
+/* A file that may not grow so long fails with an error, and no signal ends the process. */
+static void limited(void) {
+    envy_kept_file f = ENVY_KEPT_FILE_INIT;
+    WANT(envy_kept_open_file(&f, "limited", &setup), ENVY_DONE);
+    store(&f, 5, 7);
+    WANT(envy_kept_close_file(&f), ENVY_DONE);
+    pid_t child = fork();
+    if (!child) {
+        const struct rlimit limit = {1 << 16, 1 << 16};
+        WANT(setrlimit(RLIMIT_FSIZE, &limit), 0);
+        WANT(envy_kept_open_file(&f, "limited", &setup), ENVY_DONE);
+        uint32_t code = ENVY_DONE;
+        for (uint64_t n = 8; n < 100000 && code == ENVY_DONE; n++) {
+            store(&f, 5, n);
+            code = envy_kept_sync(&f.memory);
+        }
+        WANT(code, ENVY_OFF);
+        WANT(errno, EFBIG);
+        WANT(envy_kept_close_file(&f), ENVY_OFF);
+        WANT(envy_kept_file_error(&f), EFBIG);
+        _exit(0);
+    }
+    PASSED(child);
+    WANT(kept_in("limited") > 7, 1);
+}
+
 int main(int words, char **word) {
     if (words != 2 || chdir(word[1])) return 2;
     alarm(300);
@@ -416,7 +449,8 @@ int main(int words, char **word) {
     shapes();
     not_asked();
     rights();
-    puts("kept files: closed streams, forked processes, a moved file, names that others have, too many files, stores without a sync "
-         "and files of another kind do no harm; shapes, rights and what isn't asked for");
+    limited();
+    puts("kept files: closed streams, forked processes, a moved file, names that others have, too many files, stores without a sync, "
+         "files of another kind and a limit of length do no harm; shapes, rights and what isn't asked for");
     return 0;
 }

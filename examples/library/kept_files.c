@@ -1,5 +1,5 @@
-/* Kept files of the host: locked, compacted under a link, with a second file that a process left or that is in use, and
-   with writes that the system refuses.
+/* Kept files of the host: locked, compacted under a link, with a second file that a process left or that is in use, with
+   writes that the system refuses, open for reading alone, and closed without a sync.
 
      kept_files FOLDER */
 #include "../../c/envy_kept_file.h"
@@ -133,11 +133,142 @@ static void other_paths(void) {
     WANT(envy_kept_open_file(&f, "pipe", &setup), ENVY_SYSTEM);
 }
 
+/* A copy of a file's bytes, and how many they are. */
+static char *bytes_of(const char *path, size_t *n) {
+    struct stat about;
+    FILE *it = fopen(path, "rb");
+    WANT(it && !fstat(fileno(it), &about), 1);
+    char *bytes = malloc((size_t)about.st_size + 1);
+    *n = (size_t)about.st_size;
+    WANT(fread(bytes, 1, *n, it), *n);
+    fclose(it);
+    return bytes;
+}
+
+/* Whether a file has these bytes, and nothing came to be beside it. */
+static int is_as_before(const char *path, const char *bytes, size_t n) {
+    char beside[64];
+    size_t found_n;
+    char *found = bytes_of(path, &found_n);
+    int is_same = found_n == n && !memcmp(bytes, found, n);
+    free(found);
+    snprintf(beside, sizeof beside, "%s.envy-new", path);
+    if (!access(beside, F_OK)) return 0;
+    snprintf(beside, sizeof beside, "%s.envy-cut", path);
+    return is_same && access(beside, F_OK);
+}
+
+/* Files that aren't read: one that isn't there, and one that is empty. */
+static void not_read(void) {
+    envy_kept_file f = ENVY_KEPT_FILE_INIT;
+    size_t n;
+    WANT(envy_kept_open_file_reading(&f, "read", &setup), ENVY_SYSTEM);
+    WANT(errno, ENOENT);
+    WANT(access("read", F_OK), (uint64_t)-1);
+    fclose(fopen("read", "wb"));
+    WANT(envy_kept_open_file_reading(&f, "read", &setup), ENVY_NO_JOURNAL);
+    free(bytes_of("read", &n));
+    WANT(n, 0);
+    WANT(envy_kept_open_file(&f, "read", &setup), ENVY_DONE);
+    store(&f, 5, 7);
+    WANT(envy_kept_open_file_reading(&f, "read", &setup), ENVY_OPEN);
+    envy_kept_file g = ENVY_KEPT_FILE_INIT;
+    WANT(envy_kept_open_file_reading(&g, "read", &setup), ENVY_LOCKED);
+    WANT(envy_kept_close_file(&f), ENVY_DONE);
+}
+
+/* Several have the file open for reading. The first call that would write is refused, that memory ends, and the file and the
+   others are as before. */
+static void read_alone(void) {
+    envy_kept_file f = ENVY_KEPT_FILE_INIT, g = ENVY_KEPT_FILE_INIT, h = ENVY_KEPT_FILE_INIT;
+    size_t n;
+    uint32_t holder, code = ENVY_DONE;
+    uint64_t word, stored = 0;
+    char *before = bytes_of("read", &n);
+    WANT(chmod("read", 0400), 0);
+    WANT(envy_kept_open_file_reading(&f, "read", &setup), ENVY_DONE);
+    WANT(envy_kept_open_file_reading(&g, "read", &setup), ENVY_DONE);
+    WANT(envy_kept_open_file(&h, "read", &setup), ENVY_LOCKED);
+    WANT(envy_kept_open_file_reading(&h, "read", &setup), ENVY_DONE);
+    for (uint32_t i = 0; i < 200000; i++) WANT(word_at(&h, 5), 7);
+    while (code == ENVY_DONE && stored < 1000000) {
+        code = envy_kept_store(&f.memory, (uint32_t)(stored * 33 % 2048), stored + 100, &holder);
+        stored += code == ENVY_DONE;
+    }
+    WANT(code, ENVY_OFF);
+    WANT(stored > 10, 1);
+    WANT(envy_kept_file_error(&f), EROFS);
+    WANT(envy_kept_load(&f.memory, 5, &word), ENVY_OFF);
+    WANT(envy_kept_close_file(&f), ENVY_DONE);
+    store(&g, 6, 8);
+    WANT(word_at(&g, 6), 8);
+    WANT(envy_kept_sync(&g.memory), ENVY_OFF);
+    WANT(envy_kept_file_error(&g), EROFS);
+    WANT(envy_kept_powered(&g.memory), ENVY_OFF);
+    WANT(envy_kept_close_file(&g), ENVY_DONE);
+    WANT(word_at(&h, 5), 7);
+    WANT(envy_kept_compact(&h.memory), ENVY_OFF);
+    WANT(envy_kept_file_error(&h), EROFS);
+    WANT(envy_kept_close_file(&h), ENVY_DONE);
+    WANT(is_as_before("read", before, n), 1);
+    WANT(chmod("read", 0600), 0);
+    free(before);
+}
+
+/* Writes a file's bytes anew. */
+static void write_bytes(const char *path, const char *bytes, size_t n) {
+    FILE *it = fopen(path, "wb");
+    WANT(it && fwrite(bytes, 1, n, it) == n && !fclose(it), 1);
+}
+
+/* A file closed without a sync has none of what was done since the last one. */
+static void left(void) {
+    envy_kept_file f = ENVY_KEPT_FILE_INIT;
+    WANT(envy_kept_open_file(&f, "read", &setup), ENVY_DONE);
+    store(&f, 5, 8);
+    WANT(envy_kept_leave_file(&f), ENVY_DONE);
+    WANT(envy_kept_leave_file(&f), ENVY_DONE);
+    WANT(envy_kept_open_file(&f, "read", &setup), ENVY_DONE);
+    WANT(word_at(&f, 5), 7);
+    WANT(envy_kept_close_file(&f), ENVY_DONE);
+}
+
+/* What a stop left of a sync is read over, and stays in the file: of the bytes that the sync wrote, those from some place on.
+   (Those before are written last, behind a sync of the file.) */
+static void torn(void) {
+    envy_kept_file f = ENVY_KEPT_FILE_INIT;
+    size_t n, last_n, opened = 0;
+    char *first = bytes_of("read", &n);
+    WANT(envy_kept_open_file(&f, "read", &setup), ENVY_DONE);
+    for (uint32_t i = 0; i < 20; i++) store(&f, 5 + 3 * i, 8);
+    WANT(envy_kept_close_file(&f), ENVY_DONE);
+    char *last = bytes_of("read", &last_n);
+    WANT(last_n, n);
+    for (size_t cut = n; cut <= n; cut--) {
+        if (cut < n && cut > 0 && last[cut] == first[cut]) continue;
+        memcpy(first + cut, last + cut, n - cut);
+        write_bytes("read", first, n);
+        WANT(envy_kept_open_file_reading(&f, "read", &setup), ENVY_DONE);
+        uint64_t word = word_at(&f, 5);
+        WANT(word, memcmp(first, last, n) ? 7 : 8);
+        WANT(envy_kept_close_file(&f), ENVY_DONE);
+        WANT(is_as_before("read", first, n), 1);
+        opened++;
+    }
+    WANT(opened > 10, 1);
+    free(first);
+    free(last);
+}
+
 int main(int words, char **word) {
     if (words != 2 || chdir(word[1])) return 2;
     locked_and_compacted();
     full();
     other_paths();
-    puts("kept files: locked, compacted under a link, and refused writes leave the last sync");
+    not_read();
+    read_alone();
+    left();
+    torn();
+    puts("kept files: locked, compacted under a link, refused writes leave the last sync, and a reader changes nothing");
     return 0;
 }

@@ -1,7 +1,7 @@
 /* A million drawn operations on a map in a mapped file, whose process is killed at drawn moments. Each answer is compared
    with that of a sorted array, and after each kill the whole map, upward and downward: it is just what was answered, or
    that and the one operation that was in flight. Over a kept file (OF_KEPT) every sixteen operations are synced: it is
-   just what was synced last, or what was being synced.
+   just what was synced last, or what was being synced. Calls that only read are also made of drawn words.
 
      ordered FILE OPERATIONS SEED */
 #ifdef OF_KEPT
@@ -23,6 +23,7 @@ typedef envy_file file;
 #define CALL(name) envy_mapped_##name
 #define MAP(name) envy_index_##name
 #endif
+#include "sorted.h"
 #include <signal.h>
 #include <stdio.h>
 #include <stdlib.h>
@@ -31,7 +32,7 @@ typedef envy_file file;
 #include <unistd.h>
 
 /* A map of 400 pages has at most 2,674 pairs; keys are drawn from 4,096. */
-enum { PAGES = 400, KEYS = 4096, MOST = 14 * ((32 * PAGES - 64) / 64 - 8), SWING = 40000 };
+enum { PAGES = 400, KEYS = SORTED, MOST = 14 * ((32 * PAGES - 64) / 64 - 8), SWING = 40000 };
 
 static envy_setup setup = {
     .segments = 16, .rows = 64, .pages = PAGES, .shadows = 32, .frames = 16, .entries = 64,
@@ -52,45 +53,6 @@ static uint64_t draw(uint64_t *state) {
     z = (z ^ (z >> 30)) * 0xBF58476D1CE4E5B9;
     z = (z ^ (z >> 27)) * 0x94D049BB133111EB;
     return z ^ (z >> 31);
-}
-
-/* ---- the sorted array */
-
-typedef struct model {
-    int count;
-    envy_pair pair[KEYS];
-} model;
-
-/* The place of the first pair whose key is at least this one. */
-static int place_of(const model *m, uint64_t key) {
-    int low = 0, high = m->count;
-    while (low < high) {
-        int middle = (low + high) / 2;
-        if (m->pair[middle].key < key) low = middle + 1;
-        else high = middle;
-    }
-    return low;
-}
-
-static int has(const model *m, uint64_t key) {
-    int i = place_of(m, key);
-    return i < m->count && m->pair[i].key == key;
-}
-
-static void set(model *m, uint64_t key, uint64_t value) {
-    int i = place_of(m, key);
-    if (!has(m, key)) {
-        memmove(m->pair + i + 1, m->pair + i, (size_t)(m->count - i) * sizeof *m->pair);
-        m->count++;
-    }
-    m->pair[i] = (envy_pair){key, value};
-}
-
-static void take_out(model *m, uint64_t key) {
-    int i = place_of(m, key);
-    if (!has(m, key)) return;
-    m->count--;
-    memmove(m->pair + i, m->pair + i + 1, (size_t)(m->count - i) * sizeof *m->pair);
 }
 
 /* ---- operations */
@@ -176,6 +138,27 @@ static void do_operation(const model *m, const operation *o) {
     }
 }
 
+/* Whether scans of n pairs at a time write just the pairs of the array, and no pair past n, upward or downward. */
+static int scans(const model *m, int down, size_t n) {
+    static envy_pair pair[KEYS + 1];
+    uint64_t key = down ? UINT64_MAX : 0;
+    int seen = 0, ended;
+    do {
+        size_t count = 77;
+        for (size_t i = 0; i <= n; i++) pair[i] = (envy_pair){77, 78};
+        must((down ? MAP(scan_down) : MAP(scan))(&map.memory, key, pair, n, &count) == ENVY_DONE, "a scan is done");
+        must(count <= n, "a scan goes on past n");
+        for (size_t i = count; i <= n; i++) must(pair[i].key == 77 && pair[i].value == 78, "a scan writes past its pairs");
+        for (size_t i = 0; i < count; i++, seen++) {
+            if (seen == m->count) return 0;
+            if (memcmp(&pair[i], &m->pair[down ? m->count - 1 - seen : seen], sizeof *pair)) return 0;
+        }
+        ended = count < n || n == 0 || pair[count - 1].key == (down ? 0 : UINT64_MAX);
+        if (!ended) key = pair[count - 1].key + (down ? UINT64_MAX : 1);
+    } while (!ended);
+    return seen == (n ? m->count : 0);
+}
+
 /* Whether the map has just the pairs of the array, upward and downward. */
 static int holds(const model *m) {
     envy_pair pair = {0, 0};
@@ -193,6 +176,8 @@ static int holds(const model *m) {
         code = MAP(last)(&map.memory, pair.key - 1, &pair);
     }
     must(code == ENVY_DONE || code == ENVY_ABSENT, "a scan downward");
+    for (int down = 0; down < 2; down++)
+        if (!scans(m, down, 64) || !scans(m, down, 100) || !scans(m, down, KEYS)) return 0;
     return i == 0;
 }
 
@@ -261,6 +246,7 @@ static void all_answer(uint32_t code) {
     uint64_t word = 77;
     envy_old before = {77, 78};
     envy_pair pair = {77, 78};
+    size_t pairs = 77;
     must(MAP(create)(&map.memory) == code, "create is refused");
     must(MAP(get)(&map.memory, 5, &word) == code, "get is refused");
     must(MAP(insert)(&map.memory, 5, 50, &before) == code, "insert is refused");
@@ -269,10 +255,54 @@ static void all_answer(uint32_t code) {
     must(MAP(next)(&map.memory, 5, &pair) == code, "next is refused");
     must(MAP(above)(&map.memory, 5, &pair) == code, "above is refused");
     must(MAP(last)(&map.memory, 5, &pair) == code, "last is refused");
-    must(word == 77 && before.value == 77 && before.had == 78 && pair.key == 77 && pair.value == 78, "a refusal writes");
+    must(MAP(scan)(&map.memory, 5, &pair, 1, &pairs) == code, "scan is refused");
+    must(MAP(scan_down)(&map.memory, 5, &pair, 1, &pairs) == code, "scan_down is refused");
+    must(pairs == 77 && word == 77 && before.value == 77 && before.had == 78 && pair.key == 77 && pair.value == 78, "a refusal writes");
+}
+
+/* Answers of the calls that only read, for words that stand for a map or not: how many are that they don't. */
+static int broken_answers(uint64_t key) {
+    static envy_pair pair[101];
+    uint64_t word;
+    size_t count = 0;
+    uint32_t code[] = {MAP(get)(&map.memory, key, &word), MAP(next)(&map.memory, key, pair), MAP(above)(&map.memory, key, pair),
+        MAP(last)(&map.memory, key, pair), MAP(count)(&map.memory, &word), ENVY_DONE, ENVY_DONE};
+    int broken = 0;
+    pair[100].key = 77;
+    code[5] = MAP(scan)(&map.memory, key, pair, 100, &count);
+    must(count <= 100, "a scan of any words");
+    code[6] = MAP(scan_down)(&map.memory, key, pair, 100, &count);
+    must(count <= 100 && pair[100].key == 77, "a scan downward of any words");
+    for (int i = 0; i < 7; i++) {
+        must(code[i] == ENVY_DONE || code[i] == ENVY_BROKEN_MAP || (i < 4 && code[i] == ENVY_ABSENT), "an answer of any words");
+        broken += code[i] == ENVY_BROKEN_MAP;
+    }
+    return broken;
+}
+
+/* A map of 1,000 pairs of which one word is drawn anew, 2,000 times. */
+static void any_words(uint64_t seed) {
+    uint32_t holder;
+    uint64_t word, state = seed;
+    envy_old before;
+    int broken = 0;
+    for (uint64_t key = 0; key < 1000; key++)
+        must(MAP(insert)(&map.memory, 7 * key, key, &before) == ENVY_DONE, "insert");
+    must(broken_answers(3500) == 0, "a map isn't broken");
+    for (int i = 0; i < 2000; i++) {
+        uint32_t a = i < 4 ? (uint32_t)i : (uint32_t)(draw(&state) % (64 * 100));
+        uint64_t drawn = draw(&state), other;
+        must(CALL(look)(&map.memory, a, &word) == ENVY_DONE, "look");
+        other = i % 2 ? drawn : word ^ (1ull << drawn % 64);
+        must(CALL(store)(&map.memory, a, other, &holder) == ENVY_DONE, "store");
+        broken += broken_answers(drawn % 7000) > 0;
+        must(CALL(store)(&map.memory, a, word, &holder) == ENVY_DONE, "store");
+    }
+    must(broken > 0 && broken_answers(3500) == 0, "some words are no map");
 }
 
 static void refusals(const char *path) {
+    static const model none;
     uint32_t slot, holder;
     uint64_t word;
     envy_old before;
@@ -304,6 +334,10 @@ static void refusals(const char *path) {
         must(word == (a < 4 ? 0 : a * 0x0123456789ABCDEFull), "create leaves other words");
     }
     must(MAP(count)(&map.memory, &word) == ENVY_DONE && word == 0, "no pairs");
+    must(scans(&none, 0, 100) && scans(&none, 1, 100) && scans(&none, 0, 0), "scans of no pairs");
+    any_words(20);
+    /* the operations begin with no pairs */
+    must(MAP(create)(&map.memory) == ENVY_DONE, "create");
     CLOSE(&map);
 }
 

@@ -1,12 +1,13 @@
-/* Pairs of words in a map of this library, in LMDB and in SQLite, each in a file, each change a transaction of its own.
+/* Pairs of words in a map of this library, in LMDB and in SQLite, each in a file, with so many changes in a transaction.
    None of the three waits for the disk: a process that is killed loses nothing, a machine that stops may.
 
-     ordered_speed ENGINE FILE PAIRS PHASES
+     ordered_speed ENGINE FILE PAIRS PHASES TOGETHER
 
    Phases, in this order: 1 inserts the pairs, 2 looks each up, 3 goes over all by rising key, 4 takes each out. It writes a line for
    each, with its microseconds for each pair. */
 #include "../../c/envy_file.h"
 #include "../../c/envy_index.h"
+#include "../../c/envy_map.h"
 #include <lmdb.h>
 #include <sqlite3.h>
 #include <stdio.h>
@@ -31,25 +32,35 @@ typedef struct engine {
     uint64_t (*get)(uint64_t key);
     uint64_t (*scan)(uint64_t *sum);
     void (*take_out)(uint64_t key);
+    void (*begin)(void);
+    void (*commit)(void);
 } engine;
+
+/* how many changes a transaction has */
+static uint64_t together = 1;
 
 /* ---- this library */
 
 static envy_file map = ENVY_FILE_INIT;
+/* the whole array, and the open transaction of it; a change alone is a call of envy_index.h */
+static envy_map whole;
+static uint32_t slot;
 
 static void envy_open(const char *path, uint64_t pairs) {
     uint32_t pages = (uint32_t)(2 * (pairs / 14 + 16) + 2), rows = 256;
     /* half of the rows are in use */
     envy_setup setup = {
-        .segments = 2 * pages / rows + 4, .rows = rows, .pages = pages, .shadows = 32, .frames = 256, .entries = 4096,
+        .segments = 2 * pages / rows + 4, .rows = rows, .pages = pages, .shadows = together > 1 ? 384 : 32, .frames = together > 1 ? 512 : 256, .entries = 4096,
         .policy = ENVY_GREEDY, .part = 2, .limit = 100, .mark = 256,
     };
+    whole = (envy_map){0, 32 * pages};
     must(envy_file_open(&map, path, &setup) == ENVY_DONE, "format");
 }
 
 static void map_insert(uint64_t key, uint64_t value) {
     envy_old before;
-    must(envy_index_insert(&map.memory, key, value, &before) == ENVY_DONE, "insert");
+    must((together > 1 ? envy_map_insert(&map.memory, slot, &whole, key, value, &before)
+                       : envy_index_insert(&map.memory, key, value, &before)) == ENVY_DONE, "insert");
 }
 
 static uint64_t map_get(uint64_t key) {
@@ -58,24 +69,41 @@ static uint64_t map_get(uint64_t key) {
     return value;
 }
 
+/* Pairs that a scan is asked for at a time. */
+enum { AT_ONCE = 64 };
+
 static uint64_t map_scan(uint64_t *sum) {
-    envy_pair pair;
-    uint64_t n = 0;
-    uint32_t code = envy_index_next(&map.memory, 0, &pair);
-    for (; code == ENVY_DONE; code = envy_index_above(&map.memory, pair.key, &pair), n++) *sum += pair.value;
+    envy_pair pair[AT_ONCE];
+    uint64_t n = 0, key = 0;
+    size_t count;
+    do {
+        must(envy_index_scan(&map.memory, key, pair, AT_ONCE, &count) == ENVY_DONE, "scan");
+        for (size_t i = 0; i < count; i++) *sum += pair[i].value;
+        if (count) key = pair[count - 1].key + 1; /* no key of this program is the last of all */
+        n += count;
+    } while (count == AT_ONCE);
     return n;
 }
 
 static void map_remove(uint64_t key) {
     uint64_t value;
-    must(envy_index_remove(&map.memory, key, &value) == ENVY_DONE, "remove");
+    must((together > 1 ? envy_map_remove(&map.memory, slot, &whole, key, &value)
+                       : envy_index_remove(&map.memory, key, &value)) == ENVY_DONE, "remove");
+}
+
+static void map_begin(void) {
+    if (together > 1) must(envy_map_begin(&map.memory, &slot) == ENVY_DONE, "begin");
+}
+
+static void map_commit(void) {
+    if (together > 1) must(envy_map_commit(&map.memory, slot) == ENVY_DONE, "commit");
 }
 
 /* ---- LMDB */
 
 static MDB_env *environment;
 static MDB_dbi table;
-static MDB_txn *reading;
+static MDB_txn *reading, *writing;
 
 static void lmdb_open(const char *path, uint64_t pairs) {
     MDB_txn *txn;
@@ -88,10 +116,13 @@ static void lmdb_open(const char *path, uint64_t pairs) {
 }
 
 static void lmdb_insert(uint64_t key, uint64_t value) {
-    MDB_txn *txn;
     MDB_val k = {sizeof key, &key}, v = {sizeof value, &value};
-    must(!mdb_txn_begin(environment, NULL, 0, &txn) && !mdb_put(txn, table, &k, &v, 0) && !mdb_txn_commit(txn), "put");
+    must(!mdb_put(writing, table, &k, &v, 0), "put");
 }
+
+static void lmdb_begin(void) { must(!mdb_txn_begin(environment, NULL, 0, &writing), "begin"); }
+
+static void lmdb_commit(void) { must(!mdb_txn_commit(writing), "commit"); }
 
 static uint64_t lmdb_get(uint64_t key) {
     MDB_val k = {sizeof key, &key}, v;
@@ -117,9 +148,8 @@ static uint64_t lmdb_scan(uint64_t *sum) {
 }
 
 static void lmdb_remove(uint64_t key) {
-    MDB_txn *txn;
     MDB_val k = {sizeof key, &key};
-    must(!mdb_txn_begin(environment, NULL, 0, &txn) && !mdb_del(txn, table, &k, NULL) && !mdb_txn_commit(txn), "del");
+    must(!mdb_del(writing, table, &k, NULL), "del");
 }
 
 /* ---- SQLite */
@@ -170,12 +200,20 @@ static void sqlite_remove(uint64_t key) {
     must(sqlite3_step(take_one) == SQLITE_DONE && sqlite3_reset(take_one) == SQLITE_OK, "delete");
 }
 
+static void sqlite_do(const char *text) {
+    if (together > 1) must(sqlite3_exec(base, text, NULL, NULL, NULL) == SQLITE_OK, text);
+}
+
+static void sqlite_begin(void) { sqlite_do("begin"); }
+
+static void sqlite_commit(void) { sqlite_do("commit"); }
+
 /* ---- phases */
 
 static const engine engines[] = {
-    {"envy", envy_open, map_insert, map_get, map_scan, map_remove},
-    {"lmdb", lmdb_open, lmdb_insert, lmdb_get, lmdb_scan, lmdb_remove},
-    {"sqlite", sqlite_open, sqlite_insert, sqlite_get, sqlite_scan, sqlite_remove},
+    {"envy", envy_open, map_insert, map_get, map_scan, map_remove, map_begin, map_commit},
+    {"lmdb", lmdb_open, lmdb_insert, lmdb_get, lmdb_scan, lmdb_remove, lmdb_begin, lmdb_commit},
+    {"sqlite", sqlite_open, sqlite_insert, sqlite_get, sqlite_scan, sqlite_remove, sqlite_begin, sqlite_commit},
 };
 
 static double seconds(void) {
@@ -184,11 +222,20 @@ static double seconds(void) {
     return (double)now.tv_sec + 1e-9 * (double)now.tv_nsec;
 }
 
+/* Change i of so many begins a transaction, or ends one. */
+static void before(const engine *e, uint64_t i) {
+    if (i % together == 0) e->begin();
+}
+
+static void after(const engine *e, uint64_t i, uint64_t pairs) {
+    if (i % together == together - 1 || i == pairs - 1) e->commit();
+}
+
 static void run(const engine *e, uint64_t pairs, int phase) {
     uint64_t sum = 0;
     switch (phase) {
     case 1:
-        for (uint64_t i = 0; i < pairs; i++) e->insert(key_of(i), i);
+        for (uint64_t i = 0; i < pairs; i++) before(e, i), e->insert(key_of(i), i), after(e, i, pairs);
         break;
     case 2:
         for (uint64_t i = 0; i < pairs; i++) must(e->get(key_of(i * 7919 % pairs)) == i * 7919 % pairs, "a wrong value");
@@ -197,15 +244,16 @@ static void run(const engine *e, uint64_t pairs, int phase) {
         must(e->scan(&sum) == pairs && sum == pairs * (pairs - 1) / 2, "a scan misses pairs");
         break;
     case 4:
-        for (uint64_t i = 0; i < pairs; i++) e->take_out(key_of(i * 7919 % pairs));
+        for (uint64_t i = 0; i < pairs; i++) before(e, i), e->take_out(key_of(i * 7919 % pairs)), after(e, i, pairs);
         break;
     }
 }
 
 int main(int words, char **word) {
     static const char *const names[] = {"", "insert", "get", "scan", "remove"};
-    if (words != 5) return 2;
+    if (words != 6) return 2;
     uint64_t pairs = strtoull(word[3], NULL, 10);
+    together = strtoull(word[5], NULL, 10);
     for (size_t i = 0; i < sizeof engines / sizeof *engines; i++) {
         if (strcmp(engines[i].name, word[1])) continue;
         engines[i].open(word[2], pairs);

@@ -232,6 +232,75 @@ static void calls(void) {
     WANT(envy_mapped_tick(m, &holder), ENVY_DONE);
 }
 
+/* The words of a run outside transactions: over three pages, and up to one that a transaction owns, or past the last. */
+static void stored_in_a_row(void) {
+    enum { LAST = 32 * PAGES - 1 };
+    envy_mapped *m = &map.memory;
+    uint64_t words[80], found[80], word;
+    uint32_t slot, holder = 99;
+    size_t done = 99;
+    envy_counts before, after;
+    for (int i = 0; i < 80; i++) words[i] = 3000 + i;
+    WANT(envy_mapped_counts(m, &before), ENVY_DONE);
+    WANT(envy_mapped_store_run(m, 180, words, 80, &done, &holder), ENVY_DONE);
+    WANT(done == 80 && holder == 99, 1);
+    WANT(envy_mapped_counts(m, &after), ENVY_DONE);
+    WANT(after.hits + after.misses, before.hits + before.misses + 4);
+    WANT(envy_mapped_read(m, 180, found, 80), ENVY_DONE);
+    WANT(memcmp(words, found, sizeof words), 0);
+    WANT(envy_mapped_look(m, 259, &word), ENVY_DONE);
+    WANT(word, 3079);
+    for (int i = 0; i < 80; i++) words[i] = 180 + i;
+    WANT(envy_mapped_begin(m, &slot), ENVY_DONE);
+    WANT(envy_mapped_put(m, slot, 224, 5, &holder), ENVY_DONE);
+    WANT(envy_mapped_store_run(m, 180, words, 80, &done, &holder), ENVY_HELD);
+    WANT(done == 44 && holder == slot, 1);
+    WANT(envy_mapped_look(m, 223, &word), ENVY_DONE);
+    WANT(word, 223);
+    WANT(envy_mapped_look(m, 224, &word), ENVY_DONE);
+    WANT(word, 3044);
+    WANT(envy_mapped_store_run(m, 225, words, 1, &done, &holder), ENVY_HELD);
+    WANT(done, 0);
+    WANT(envy_mapped_abort(m, slot), ENVY_DONE);
+    WANT(envy_mapped_store_run(m, 180, words, 80, &done, &holder), ENVY_DONE);
+    words[0] = LAST;
+    WANT(envy_mapped_store_run(m, LAST, words, 3, &done, &holder), ENVY_RANGE);
+    WANT(done, 1);
+    WANT(envy_mapped_store_run(m, UINT32_MAX, words, 3, &done, &holder), ENVY_RANGE);
+    WANT(done, 0);
+    WANT(envy_mapped_store_run(m, UINT32_MAX, words, 0, &done, &holder), ENVY_DONE);
+}
+
+/* A run that meets more pages without an owner than may yet be owned is refused before its first word. */
+static void no_room(void) {
+    envy_mapped *m = &map.memory;
+    uint64_t words[32 * SHADOWS], word;
+    uint32_t slot, other, holder = 99;
+    size_t done = 99;
+    for (int i = 0; i < 32 * SHADOWS; i++) words[i] = 9000 + i;
+    WANT(envy_mapped_begin(m, &slot), ENVY_DONE);
+    WANT(envy_mapped_begin(m, &other), ENVY_DONE);
+    WANT(envy_mapped_write(m, slot, 1, words, 32 * SHADOWS, &done, &holder), ENVY_FULL);
+    WANT(done == 0 && holder == 99, 1);
+    WANT(envy_mapped_load(m, 1, &word), ENVY_DONE);
+    WANT(word, 1);
+    WANT(envy_mapped_store(m, 1, 1, &holder), ENVY_DONE); /* no page came to be owned */
+    /* pages that a transaction owns count no more, and neither do those past the last */
+    WANT(envy_mapped_put(m, other, 32 * 2, 5, &holder), ENVY_DONE);
+    WANT(envy_mapped_write(m, slot, 1, words, 32 * (SHADOWS - 1), &done, &holder), ENVY_HELD);
+    WANT(done == 63 && holder == other, 1);
+    WANT(envy_mapped_abort(m, slot), ENVY_DONE);
+    WANT(envy_mapped_begin(m, &slot), ENVY_DONE);
+    WANT(envy_mapped_write(m, slot, 32 * (PAGES - SHADOWS + 1), words, 32 * SHADOWS, &done, &holder), ENVY_RANGE);
+    WANT(done, 32 * (SHADOWS - 1));
+    WANT(envy_mapped_write(m, slot, 1, words, 31, &done, &holder), ENVY_FULL);
+    WANT(done, 0);
+    WANT(envy_mapped_write(m, 64, 1, words, 31, &done, &holder), ENVY_CLOSED);
+    WANT(envy_mapped_abort(m, other), ENVY_DONE);
+    WANT(envy_mapped_write(m, slot, 1, words, 31, &done, &holder), ENVY_DONE);
+    WANT(envy_mapped_abort(m, slot), ENVY_DONE);
+}
+
 /* Several words in one call, and what each transaction sees. */
 static void several(void) {
     enum { LAST = 32 * PAGES - 1 };
@@ -279,6 +348,8 @@ static void several(void) {
     WANT(envy_mapped_write(m, 64, UINT32_MAX, words, 0, &done, &holder), ENVY_DONE);
     WANT(envy_mapped_abort(m, other), ENVY_DONE);
     WANT(envy_mapped_abort(m, slot), ENVY_DONE);
+    stored_in_a_row();
+    no_room();
     /* a read is whole or not at all */
     memset(found, 0, sizeof found);
     WANT(envy_mapped_read(m, LAST - 78, found, 80), ENVY_RANGE);
@@ -345,6 +416,7 @@ static void open_and_empty(void) {
     WANT(envy_mapped_view(m, 0, 0, &word), ENVY_EMPTY);
     size_t done = 99;
     WANT(envy_mapped_write(m, 0, 0, &word, 1, &done, &number), ENVY_EMPTY);
+    WANT(envy_mapped_store_run(m, 0, &word, 1, &done, &number), ENVY_EMPTY);
     WANT(done, 0);
     WANT(word == 5 && number == 99, 1);
 }

@@ -44,6 +44,10 @@ pub enum Error {
     SlotOpen,
     /// The setup has fewer than 20 pages or 32 shadows, or more than 1,048,576 pages, so no map fits.
     MapSetup,
+    /// The words of the memory stand for no map.
+    BrokenMap,
+    /// A flash operation failed, and the transaction of maps was aborted.
+    BadAborted,
     /// The file failed, for this reason: open it again. Of kept files alone.
     Off(io::Error),
     /// The file holds no memory. Of kept files alone.
@@ -78,6 +82,10 @@ pub enum Rule {
     Part,
     Limit,
     Mark,
+    /// Asked after `Segments`.
+    Reserves,
+    /// Asked after `Reserves`.
+    Sums,
 }
 
 /// A point of soundness, in the order in which an audit asks them.
@@ -95,9 +103,30 @@ pub enum Point {
     Copies,
     Owned,
     Undos,
+    Reserves,
 }
 
-const RULES: [Rule; 10] = [
+impl Rule {
+    // the rules that came later have numbers after those of all other answers
+    fn code(self) -> u32 {
+        match self {
+            Rule::Reserves => sys::RULE_OF_RESERVES,
+            Rule::Sums => sys::RULE_OF_SUMS,
+            rule => sys::FIRST_RULE + rule as u32,
+        }
+    }
+}
+
+impl Point {
+    fn code(self) -> u32 {
+        match self {
+            Point::Reserves => sys::POINT_OF_RESERVES,
+            point => sys::FIRST_POINT + point as u32,
+        }
+    }
+}
+
+const RULES: [Rule; 12] = [
     Rule::Segments,
     Rule::Rows,
     Rule::Pages,
@@ -108,9 +137,11 @@ const RULES: [Rule; 10] = [
     Rule::Part,
     Rule::Limit,
     Rule::Mark,
+    Rule::Reserves,
+    Rule::Sums,
 ];
 
-const POINTS: [Point; 12] = [
+const POINTS: [Point; 13] = [
     Point::Fields,
     Point::Positions,
     Point::Frames,
@@ -123,9 +154,10 @@ const POINTS: [Point; 12] = [
     Point::Copies,
     Point::Owned,
     Point::Undos,
+    Point::Reserves,
 ];
 
-/// A write of several words that was ended: the words before the one that was refused are put.
+/// A call of several words that was ended: the words before the one that was refused are put or stored.
 #[derive(Debug)]
 pub struct Stopped {
     pub done: usize,
@@ -149,11 +181,13 @@ impl Error {
             Error::Unformatted => sys::UNFORMATTED,
             Error::Older => sys::OLDER,
             Error::OtherShape => sys::OTHER_SHAPE,
-            Error::Setup(rule) => sys::FIRST_RULE + *rule as u32,
-            Error::Damaged(point) => sys::FIRST_POINT + *point as u32,
+            Error::Setup(rule) => rule.code(),
+            Error::Damaged(point) => point.code(),
             Error::MapFull => sys::MAP_FULL,
             Error::SlotOpen => sys::SLOT_OPEN,
             Error::MapSetup => sys::MAP_SETUP,
+            Error::BrokenMap => sys::BROKEN_MAP,
+            Error::BadAborted => sys::BAD_ABORTED,
             Error::Off(_) => sys::OFF,
             Error::NoJournal => sys::NO_JOURNAL,
             Error::OtherJournal => sys::OTHER_JOURNAL,
@@ -185,6 +219,8 @@ impl Error {
             sys::MAP_FULL => Error::MapFull,
             sys::SLOT_OPEN => Error::SlotOpen,
             sys::MAP_SETUP => Error::MapSetup,
+            sys::BROKEN_MAP => Error::BrokenMap,
+            sys::BAD_ABORTED => Error::BadAborted,
             sys::OFF => Error::Off(io::Error::last_os_error()),
             sys::NO_JOURNAL => Error::NoJournal,
             sys::OTHER_JOURNAL => Error::OtherJournal,
@@ -198,8 +234,8 @@ impl Error {
     }
 
     fn of_list(code: u32) -> Error {
-        let rule = code.checked_sub(sys::FIRST_RULE).and_then(|at| RULES.get(at as usize));
-        let point = code.checked_sub(sys::FIRST_POINT).and_then(|at| POINTS.get(at as usize));
+        let rule = RULES.iter().find(|rule| rule.code() == code);
+        let point = POINTS.iter().find(|point| point.code() == code);
         match (rule, point) {
             (Some(rule), _) => Error::Setup(*rule),
             (None, Some(point)) => Error::Damaged(*point),

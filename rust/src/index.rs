@@ -3,6 +3,7 @@
 use crate::error::Error;
 use crate::memory::{Did, Memory};
 use crate::sys;
+pub use crate::sys::Pair;
 use std::ops::{Bound, RangeBounds};
 
 /// What a map asks of its memory.
@@ -24,11 +25,14 @@ pub(crate) mod calls {
         fn next(&self, key: u64, pair: &mut sys::Pair) -> u32;
         fn above(&self, key: u64, pair: &mut sys::Pair) -> u32;
         fn last(&self, key: u64, pair: &mut sys::Pair) -> u32;
+        fn scan(&self, key: u64, pairs: &mut [sys::Pair], count: &mut usize) -> u32;
+        fn scan_down(&self, key: u64, pairs: &mut [sys::Pair], count: &mut usize) -> u32;
     }
 
     /// Writes the calls of a kind of memory, each of which is open while it is there and whose handle is its own.
     macro_rules! calls {
-        ($memory:ty: $create:ident $get:ident $insert:ident $remove:ident $count:ident $next:ident $above:ident $last:ident) => {
+        ($memory:ty: $create:ident $get:ident $insert:ident $remove:ident $count:ident $next:ident $above:ident $last:ident
+            $scan:ident $scan_down:ident) => {
             impl $crate::index::calls::Calls for $memory {
                 fn tick(&self) -> Result<$crate::Did, $crate::Error> {
                     <$memory>::tick(self)
@@ -64,6 +68,12 @@ pub(crate) mod calls {
                 fn last(&self, key: u64, pair: &mut sys::Pair) -> u32 {
                     unsafe { sys::$last(self.handle(), key, pair) }
                 }
+                fn scan(&self, key: u64, pairs: &mut [sys::Pair], count: &mut usize) -> u32 {
+                    unsafe { sys::$scan(self.handle(), key, pairs.as_mut_ptr(), pairs.len(), count) }
+                }
+                fn scan_down(&self, key: u64, pairs: &mut [sys::Pair], count: &mut usize) -> u32 {
+                    unsafe { sys::$scan_down(self.handle(), key, pairs.as_mut_ptr(), pairs.len(), count) }
+                }
             }
         };
     }
@@ -76,7 +86,7 @@ pub trait Holder: calls::Calls {}
 impl Holder for Memory {}
 
 calls::calls!(Memory: envy_index_create envy_index_get envy_index_insert envy_index_remove envy_index_count
-    envy_index_next envy_index_above envy_index_last);
+    envy_index_next envy_index_above envy_index_last envy_index_scan envy_index_scan_down);
 
 /// An ordered map from words to words, which has the array of its memory to itself. Each call is one transaction: a process
 /// that is killed in it leaves the map as before the call, or as the call leaves it. Over a `KeptMemory` the map outlives
@@ -147,7 +157,7 @@ impl<M: Holder> Index<M> {
     ///
     /// # Errors
     ///
-    /// `MapSetup` or `SlotOpen`, as for each call below.
+    /// `MapSetup` or `SlotOpen`, as for each call below. `BrokenMap`, as for each that only reads: the words stand for no map.
     pub fn get(&self, key: u64) -> Result<Option<u64>, Error> {
         let mut value = 0;
         Ok(self.found(self.memory.get(key, &mut value))?.then_some(value))
@@ -210,6 +220,29 @@ impl<M: Holder> Index<M> {
     /// As [`get`](Index::get).
     pub fn last(&self, key: u64) -> Result<Option<(u64, u64)>, Error> {
         self.nearest(|pair| self.memory.last(key, pair))
+    }
+
+    /// Writes the pairs from a key on, by rising key, and answers how many there are: as many as there is room for, or all.
+    /// The rest of `pairs` stays. After an error nothing is said of `pairs`.
+    ///
+    /// # Errors
+    ///
+    /// As [`get`](Index::get).
+    pub fn scan(&self, key: u64, pairs: &mut [Pair]) -> Result<usize, Error> {
+        let mut count = 0;
+        self.check(self.memory.scan(key, pairs, &mut count))?;
+        Ok(count)
+    }
+
+    /// The same of the pairs up to a key, by falling key.
+    ///
+    /// # Errors
+    ///
+    /// As [`get`](Index::get).
+    pub fn scan_down(&self, key: u64, pairs: &mut [Pair]) -> Result<usize, Error> {
+        let mut count = 0;
+        self.check(self.memory.scan_down(key, pairs, &mut count))?;
+        Ok(count)
     }
 
     /// The pairs whose keys lie in a range, by rising key. A pair is looked for when it is asked for, so what is inserted

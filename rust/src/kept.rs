@@ -2,6 +2,7 @@
 
 use crate::error::{Error, Stopped};
 use crate::index::{calls, Holder};
+use crate::maps::{self, Place};
 use crate::memory::{counts_of, did_of, Counts, Did};
 use crate::setup::{c_path, Setup};
 use crate::sys;
@@ -71,6 +72,7 @@ impl KeptMemory {
                 why: 0,
                 found: ptr::null(),
                 found_n: 0,
+                reading: 0,
             })),
         };
         // SAFETY: the pointers are to this memory's file, which stays where it is, and to a string and a setup of this
@@ -153,6 +155,21 @@ impl KeptMemory {
         }
     }
 
+    /// Stores word after word from an address on. The first that is refused ends it; those before it stay stored.
+    ///
+    /// # Errors
+    ///
+    /// As [`store`](KeptMemory::store), and how many were stored.
+    pub fn store_run(&self, address: u32, words: &[u64]) -> Result<(), Stopped> {
+        let (mut done, mut holder) = (0, 0);
+        let m = self.handle();
+        // SAFETY: the memory is open, the slice has so many words, and the two numbers are this call's.
+        match unsafe { sys::envy_kept_store_run(m, address, words.as_ptr(), words.len(), &mut done, &mut holder) } {
+            sys::DONE => Ok(()),
+            code => Err(Stopped { done, error: self.error(code, holder) }),
+        }
+    }
+
     /// Begins a transaction. Up to 64 may be open.
     ///
     /// # Errors
@@ -219,8 +236,15 @@ impl KeptMemory {
 
 impl Holder for KeptMemory {}
 
+impl Place for KeptMemory {}
+
+maps::calls::map_calls!(KeptMemory: envy_kept_put envy_kept_load envy_kept_map_begin envy_kept_map_create
+    envy_kept_map_insert envy_kept_map_remove envy_kept_map_commit envy_kept_map_abort envy_kept_map_get envy_kept_map_count
+    envy_kept_map_scan envy_kept_map_scan_down);
+
 calls::calls!(KeptMemory: envy_kept_index_create envy_kept_index_get envy_kept_index_insert envy_kept_index_remove
-    envy_kept_index_count envy_kept_index_next envy_kept_index_above envy_kept_index_last);
+    envy_kept_index_count envy_kept_index_next envy_kept_index_above envy_kept_index_last envy_kept_index_scan
+    envy_kept_index_scan_down);
 
 impl Drop for KeptMemory {
     fn drop(&mut self) {
@@ -271,7 +295,8 @@ impl KeptTransaction<'_> {
         }
     }
 
-    /// Puts word after word from an address on. The first that is refused ends it; those before it stay put.
+    /// Puts word after word from an address on. Words that meet more pages without an owner than may yet be owned are
+    /// refused before the first. Else the first that is refused ends it; those before it stay put.
     ///
     /// # Errors
     ///

@@ -14,7 +14,8 @@
 //!
 //! With the feature `kept` a `KeptMemory` is a file whose words outlive the machine, from a sync on.
 //!
-//! An [`Index`] is an ordered map in the array of a memory, each of whose calls is one transaction.
+//! An [`Index`] is an ordered map in the array of a memory, each of whose calls is one transaction. [`Maps`] are several in
+//! one array, changed together in one transaction.
 //!
 //! ```no_run
 //! # fn main() -> Result<(), envy::Error> {
@@ -30,13 +31,15 @@ mod error;
 mod index;
 #[cfg(feature = "kept")]
 mod kept;
+mod maps;
 mod memory;
 mod setup;
 mod sys;
 
 pub use error::{Error, Point, Rule, Stopped};
-pub use index::{Holder, Index, Range};
+pub use index::{Holder, Index, Pair, Range};
 #[cfg(feature = "kept")]
 pub use kept::{KeptMemory, KeptTransaction};
-pub use memory::{Counts, Did, Memory, Transaction, version};
+pub use maps::{Changes, Map, Maps, Pairs, Place};
+pub use memory::{Counts, Did, Memory, Transaction, Worn, version};
 pub use setup::{Policy, Setup};

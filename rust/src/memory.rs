@@ -10,6 +10,13 @@ use std::path::Path;
 use std::ptr;
 use std::sync::Mutex;
 
+/// How many segments in reserve are retired, and how many are left: together those of the setup.
+#[derive(Clone, Copy, Debug, Default, PartialEq, Eq)]
+pub struct Worn {
+    pub retired: u32,
+    pub left: u32,
+}
+
 /// What a memory has done since it was opened. Each counter stops at `u64::MAX`.
 #[derive(Clone, Copy, Debug, Default, PartialEq, Eq)]
 pub struct Counts {
@@ -162,6 +169,22 @@ impl Memory {
         }
     }
 
+    /// Stores word after word from an address on. The first that is refused ends it; those before it stay stored. It
+    /// counts one access for each page that it stores to.
+    ///
+    /// # Errors
+    ///
+    /// As [`store`](Memory::store), and how many were stored.
+    pub fn store_run(&self, address: u32, words: &[u64]) -> Result<(), Stopped> {
+        let (mut done, mut holder) = (0, 0);
+        let m = self.handle();
+        // SAFETY: the memory is open, the slice has so many words, and the two numbers are this call's.
+        match unsafe { sys::envy_mapped_store_run(m, address, words.as_ptr(), words.len(), &mut done, &mut holder) } {
+            sys::DONE => Ok(()),
+            code => Err(Stopped { done, error: Error::of(code, holder) }),
+        }
+    }
+
     /// Begins a transaction. Up to 64 may be open.
     ///
     /// # Errors
@@ -192,6 +215,14 @@ impl Memory {
         // SAFETY: the memory is open, and the counts are this call's. Of an open memory it is always done.
         unsafe { sys::envy_mapped_counts(self.handle(), &mut found) };
         counts_of(found)
+    }
+
+    /// The segments in reserve: those that were retired, since an erase failed, and those that are left.
+    pub fn worn(&self) -> Worn {
+        let mut worn = Worn::default();
+        // SAFETY: the memory is open, and the numbers are this call's. Of an open memory it is always done.
+        unsafe { sys::envy_mapped_worn(self.handle(), &mut worn.retired, &mut worn.left) };
+        worn
     }
 
     /// Writes all that was changed through to the disk.
@@ -264,8 +295,9 @@ impl Transaction<'_> {
         }
     }
 
-    /// Puts word after word from an address on. The first that is refused ends it; those before it stay put. It counts
-    /// one access for each page that it puts to.
+    /// Puts word after word from an address on. Words that meet more pages without an owner than may yet be owned are
+    /// refused before the first. Else the first that is refused ends it; those before it stay put. It counts one access
+    /// for each page that it puts to.
     ///
     /// # Errors
     ///

@@ -30,6 +30,8 @@ pub struct Setup {
     pub policy: Policy,
     pub limit: u64,
     pub mark: u32,
+    pub reserves: u32,
+    pub sums: u32,
 }
 
 impl Setup {
@@ -81,6 +83,8 @@ impl Setup {
             },
             limit: found.limit,
             mark: found.mark,
+            reserves: found.reserves,
+            sums: found.sums,
         }
     }
 
@@ -103,6 +107,8 @@ impl Setup {
             part,
             limit: self.limit,
             mark: self.mark,
+            reserves: self.reserves,
+            sums: self.sums,
         }
     }
 }

@@ -1,5 +1,5 @@
-//! The calls of envy_mapped.h, envy_index.h, envy_file.h, envy_setup.h, envy_text.h, envy_kept_file.h and envy_kept_index.h, and
-//! what crosses by them.
+//! The calls of envy_mapped.h, envy_index.h, envy_map.h, envy_file.h, envy_setup.h, envy_text.h, envy_kept_file.h,
+//! envy_kept_index.h and envy_kept_map.h, and what crosses by them.
 
 use std::ffi::{c_char, c_int, c_void};
 
@@ -16,6 +16,8 @@ pub struct Setup {
     pub part: u32,
     pub limit: u64,
     pub mark: u32,
+    pub reserves: u32,
+    pub sums: u32,
 }
 
 #[repr(C)]
@@ -32,7 +34,7 @@ pub struct Counts {
 
 /// A pair of a map.
 #[repr(C)]
-#[derive(Clone, Copy, Default)]
+#[derive(Clone, Copy, Debug, Default, PartialEq, Eq)]
 pub struct Pair {
     pub key: u64,
     pub value: u64,
@@ -44,6 +46,14 @@ pub struct Pair {
 pub struct Old {
     pub value: u64,
     pub had: u32,
+}
+
+/// A range of the array, in which a map lies.
+#[repr(C)]
+#[derive(Clone, Copy)]
+pub struct Range {
+    pub first: u32,
+    pub words: u32,
 }
 
 /// A place for a memory.
@@ -79,6 +89,7 @@ pub struct KeptFile {
     pub why: c_int,
     pub found: *const u8,
     pub found_n: usize,
+    pub reading: c_int,
 }
 
 pub const DONE: u32 = 0;
@@ -98,10 +109,15 @@ pub const OLDER: u32 = 19;
 pub const OTHER_SHAPE: u32 = 20;
 pub const FIRST_RULE: u32 = 21;
 pub const FIRST_POINT: u32 = 31;
+pub const RULE_OF_RESERVES: u32 = 58;
+pub const RULE_OF_SUMS: u32 = 59;
+pub const POINT_OF_RESERVES: u32 = 63;
 pub const ABSENT: u32 = 54;
 pub const MAP_FULL: u32 = 55;
 pub const SLOT_OPEN: u32 = 56;
 pub const MAP_SETUP: u32 = 57;
+pub const BROKEN_MAP: u32 = 62;
+pub const BAD_ABORTED: u32 = 80;
 pub const NO_JOURNAL: u32 = 72;
 pub const OTHER_JOURNAL: u32 = 73;
 pub const DAMAGED: u32 = 74;
@@ -122,6 +138,14 @@ extern "C" {
     pub fn envy_mapped_look(m: *mut Handle, address: u32, word: *mut u64) -> u32;
     pub fn envy_mapped_read(m: *mut Handle, address: u32, words: *mut u64, n: usize) -> u32;
     pub fn envy_mapped_store(m: *mut Handle, address: u32, word: u64, holder: *mut u32) -> u32;
+    pub fn envy_mapped_store_run(
+        m: *mut Handle,
+        address: u32,
+        words: *const u64,
+        n: usize,
+        done: *mut usize,
+        holder: *mut u32,
+    ) -> u32;
     pub fn envy_mapped_begin(m: *mut Handle, slot: *mut u32) -> u32;
     pub fn envy_mapped_put(m: *mut Handle, slot: u32, address: u32, word: u64, holder: *mut u32) -> u32;
     pub fn envy_mapped_write(
@@ -138,6 +162,7 @@ extern "C" {
     pub fn envy_mapped_abort(m: *mut Handle, slot: u32) -> u32;
     pub fn envy_mapped_tick(m: *mut Handle, did: *mut u32) -> u32;
     pub fn envy_mapped_counts(m: *mut Handle, counts: *mut Counts) -> u32;
+    pub fn envy_mapped_worn(m: *mut Handle, retired: *mut u32, left: *mut u32) -> u32;
     pub fn envy_index_create(m: *mut Handle) -> u32;
     pub fn envy_index_get(m: *mut Handle, key: u64, value: *mut u64) -> u32;
     pub fn envy_index_insert(m: *mut Handle, key: u64, value: u64, before: *mut Old) -> u32;
@@ -146,6 +171,32 @@ extern "C" {
     pub fn envy_index_next(m: *mut Handle, key: u64, pair: *mut Pair) -> u32;
     pub fn envy_index_above(m: *mut Handle, key: u64, pair: *mut Pair) -> u32;
     pub fn envy_index_last(m: *mut Handle, key: u64, pair: *mut Pair) -> u32;
+    pub fn envy_index_scan(m: *mut Handle, key: u64, pairs: *mut Pair, n: usize, count: *mut usize) -> u32;
+    pub fn envy_index_scan_down(m: *mut Handle, key: u64, pairs: *mut Pair, n: usize, count: *mut usize) -> u32;
+    pub fn envy_map_begin(m: *mut Handle, slot: *mut u32) -> u32;
+    pub fn envy_map_create(m: *mut Handle, slot: u32, map: *const Range) -> u32;
+    pub fn envy_map_insert(m: *mut Handle, slot: u32, map: *const Range, key: u64, value: u64, before: *mut Old) -> u32;
+    pub fn envy_map_remove(m: *mut Handle, slot: u32, map: *const Range, key: u64, value: *mut u64) -> u32;
+    pub fn envy_map_commit(m: *mut Handle, slot: u32) -> u32;
+    pub fn envy_map_abort(m: *mut Handle, slot: u32) -> u32;
+    pub fn envy_map_get(m: *mut Handle, map: *const Range, key: u64, value: *mut u64) -> u32;
+    pub fn envy_map_count(m: *mut Handle, map: *const Range, count: *mut u64) -> u32;
+    pub fn envy_map_scan(
+        m: *mut Handle,
+        map: *const Range,
+        key: u64,
+        pairs: *mut Pair,
+        n: usize,
+        count: *mut usize,
+    ) -> u32;
+    pub fn envy_map_scan_down(
+        m: *mut Handle,
+        map: *const Range,
+        key: u64,
+        pairs: *mut Pair,
+        n: usize,
+        count: *mut usize,
+    ) -> u32;
 }
 
 #[cfg(feature = "kept")]
@@ -160,6 +211,14 @@ extern "C" {
     pub fn envy_kept_look(m: *mut Handle, address: u32, word: *mut u64) -> u32;
     pub fn envy_kept_read(m: *mut Handle, address: u32, words: *mut u64, n: usize) -> u32;
     pub fn envy_kept_store(m: *mut Handle, address: u32, word: u64, holder: *mut u32) -> u32;
+    pub fn envy_kept_store_run(
+        m: *mut Handle,
+        address: u32,
+        words: *const u64,
+        n: usize,
+        done: *mut usize,
+        holder: *mut u32,
+    ) -> u32;
     pub fn envy_kept_begin(m: *mut Handle, slot: *mut u32) -> u32;
     pub fn envy_kept_put(m: *mut Handle, slot: u32, address: u32, word: u64, holder: *mut u32) -> u32;
     pub fn envy_kept_write(
@@ -184,4 +243,37 @@ extern "C" {
     pub fn envy_kept_index_next(m: *mut Handle, key: u64, pair: *mut Pair) -> u32;
     pub fn envy_kept_index_above(m: *mut Handle, key: u64, pair: *mut Pair) -> u32;
     pub fn envy_kept_index_last(m: *mut Handle, key: u64, pair: *mut Pair) -> u32;
+    pub fn envy_kept_index_scan(m: *mut Handle, key: u64, pairs: *mut Pair, n: usize, count: *mut usize) -> u32;
+    pub fn envy_kept_index_scan_down(m: *mut Handle, key: u64, pairs: *mut Pair, n: usize, count: *mut usize) -> u32;
+    pub fn envy_kept_map_begin(m: *mut Handle, slot: *mut u32) -> u32;
+    pub fn envy_kept_map_create(m: *mut Handle, slot: u32, map: *const Range) -> u32;
+    pub fn envy_kept_map_insert(
+        m: *mut Handle,
+        slot: u32,
+        map: *const Range,
+        key: u64,
+        value: u64,
+        before: *mut Old,
+    ) -> u32;
+    pub fn envy_kept_map_remove(m: *mut Handle, slot: u32, map: *const Range, key: u64, value: *mut u64) -> u32;
+    pub fn envy_kept_map_commit(m: *mut Handle, slot: u32) -> u32;
+    pub fn envy_kept_map_abort(m: *mut Handle, slot: u32) -> u32;
+    pub fn envy_kept_map_get(m: *mut Handle, map: *const Range, key: u64, value: *mut u64) -> u32;
+    pub fn envy_kept_map_count(m: *mut Handle, map: *const Range, count: *mut u64) -> u32;
+    pub fn envy_kept_map_scan(
+        m: *mut Handle,
+        map: *const Range,
+        key: u64,
+        pairs: *mut Pair,
+        n: usize,
+        count: *mut usize,
+    ) -> u32;
+    pub fn envy_kept_map_scan_down(
+        m: *mut Handle,
+        map: *const Range,
+        key: u64,
+        pairs: *mut Pair,
+        n: usize,
+        count: *mut usize,
+    ) -> u32;
 }

@@ -1,5 +1,5 @@
 //! The package over the library: what a program sees of files, words and transactions.
-use envy::{Did, Error, Index, Memory, Policy, Rule, Setup};
+use envy::{Did, Error, Index, Map, Maps, Memory, Pair, Policy, Rule, Setup};
 use std::fs;
 use std::path::PathBuf;
 
@@ -30,6 +30,8 @@ const SETUP: Setup = Setup {
     policy: Policy::Hybrid(2),
     limit: 100,
     mark: 6,
+    reserves: 0,
+    sums: 0,
 };
 
 #[test]
@@ -85,6 +87,12 @@ fn transactions_are_kept_apart_by_page() {
     assert_eq!(held.to_string(), "another transaction owns the page: that of slot 0");
     assert!(matches!(memory.store(1, 1), Err(Error::Held { slot: 0 })));
     assert!(matches!(first.put(64, 1), Err(Error::Full)));
+    let stopped = first.write(60, &[4, 5, 6, 7, 8]).unwrap_err();
+    assert_eq!((stopped.done, first.view(60).unwrap()), (0, 0));
+    assert!(matches!(Error::from(stopped), Error::Full));
+    let stopped = memory.store_run(100, &[1; 40]).and(memory.store_run(62, &[1, 2, 3])).unwrap_err();
+    assert_eq!((stopped.done, memory.load(139).unwrap()), (0, 1));
+    assert!(matches!(Error::from(stopped), Error::Held { slot: 0 }));
     first.commit().unwrap();
     let stopped = second.write(2047, &[5, 6]).unwrap_err();
     assert_eq!(stopped.done, 1);
@@ -171,6 +179,26 @@ fn a_map_is_found_again_and_ranges_are_by_rising_key() {
     assert_eq!(keys, [6, 9, 15]);
     assert_eq!(index.range(..0).count(), 0);
     assert_eq!(index.range(..).count(), 199);
+    let mut pairs = [Pair { key: 1, value: 2 }; 200];
+    assert_eq!(index.scan(10, &mut pairs[..2]).unwrap(), 2);
+    assert_eq!(pairs[..3], [Pair { key: 15, value: 5 }, Pair { key: 18, value: 6 }, Pair { key: 1, value: 2 }]);
+    assert_eq!(index.scan_down(10, &mut pairs).unwrap(), 4);
+    assert_eq!(pairs[..4].iter().map(|pair| pair.key).collect::<Vec<_>>(), [9, 6, 3, 0]);
+    assert_eq!(index.scan(0, &mut pairs).unwrap(), 199);
+    assert_eq!(index.scan(598, &mut pairs).unwrap(), 0);
+}
+
+#[test]
+fn words_that_are_no_map_are_told() {
+    let place = Place::new("broken-map");
+    let index = Index::create(Memory::open(&place.0, &OF_A_MAP).unwrap()).unwrap();
+    assert_eq!(index.insert(5, 50).unwrap(), None);
+    let memory = index.into_memory();
+    memory.store(0, u64::MAX).unwrap();
+    // SAFETY: no pair is changed.
+    let index = unsafe { Index::over(memory) };
+    assert!(matches!(index.get(5), Err(Error::BrokenMap)));
+    assert!(matches!(index.scan(0, &mut [Pair::default()]), Err(Error::BrokenMap)));
 }
 
 #[test]
@@ -190,4 +218,85 @@ fn a_map_is_refused_where_it_has_no_room() {
     assert!(matches!(refused, Error::MapFull));
     assert_eq!(index.count().unwrap(), n);
     assert_eq!(index.get(n).unwrap(), None);
+}
+
+/// Two maps of at most 14 * (15 - 8) pairs, and a page after them.
+const OF_MAPS: Setup = Setup {
+    rows: 32,
+    pages: 65,
+    shadows: 40,
+    ..OF_A_MAP
+};
+
+fn two_maps(place: &Place) -> (Maps, Map, Map) {
+    let maps = Maps::over(Memory::open(&place.0, &OF_MAPS).unwrap());
+    let (one, two) = (maps.create(0..1024).unwrap(), maps.create(1024..2048).unwrap());
+    (maps, one, two)
+}
+
+#[test]
+fn maps_change_together_or_not_at_all() {
+    let place = Place::new("maps");
+    let (maps, one, two) = two_maps(&place);
+    maps.transaction(|t| {
+        assert_eq!(t.insert(one, 5, 50)?, None);
+        assert_eq!(t.insert(one, 5, 51)?, Some(50));
+        assert_eq!(maps.get(one, 5)?, Some(51));
+        t.insert(two, 51, 5)?;
+        t.put(2048, 7)
+    })
+    .unwrap();
+    let failed: Result<(), Error> = maps.transaction(|t| {
+        t.remove(one, 5)?;
+        t.put(2048, 8)?;
+        t.put(1024, 9)
+    });
+    assert!(matches!(failed, Err(Error::Range)));
+    let panics = std::panic::catch_unwind(std::panic::AssertUnwindSafe(|| {
+        maps.transaction(|t| -> Result<(), Error> {
+            t.insert(two, 6, 6)?;
+            panic!("a closure that panics")
+        })
+    }));
+    assert!(panics.is_err());
+    assert_eq!((maps.get(one, 5).unwrap(), maps.get(two, 51).unwrap(), maps.load(2048).unwrap()), (Some(51), Some(5), 7));
+    assert_eq!((maps.len(one).unwrap(), maps.len(two).unwrap(), maps.is_empty(two).unwrap()), (1, 1, false));
+    assert!(matches!(maps.transaction(|_| maps.transaction(|_| Ok(()))), Err(Error::SlotOpen)));
+    drop(maps);
+    let maps = Maps::over(Memory::open(&place.0, &OF_MAPS).unwrap());
+    // SAFETY: the file holds the maps that were left just now.
+    let two = unsafe { maps.open(1024..2048) }.unwrap();
+    assert_eq!(maps.get(two, 51).unwrap(), Some(5));
+    assert!(matches!(maps.create(2016..2656), Err(Error::Range)));
+}
+
+#[test]
+fn pairs_of_a_map_come_from_both_ends() {
+    let place = Place::new("both-ends");
+    let (maps, one, two) = two_maps(&place);
+    let mut n = 0;
+    let full = loop {
+        match maps.transaction(|t| t.insert(one, 3 * n, n)) {
+            Ok(before) => assert_eq!(before, None),
+            Err(error) => break error,
+        }
+        n += 1;
+    };
+    assert!(matches!(full, Error::MapFull));
+    assert_eq!(maps.len(one).unwrap(), n);
+    let keys = |pairs: envy::Pairs| pairs.map(|pair| pair.unwrap().0).collect::<Vec<_>>();
+    assert_eq!(keys(maps.range(one, ..)), (0..n).map(|i| 3 * i).collect::<Vec<_>>());
+    assert_eq!(maps.range(one, 7..=15).rev().map(|pair| pair.unwrap().0).collect::<Vec<_>>(), [15, 12, 9]);
+    let mut pairs = maps.range(one, ..);
+    let (mut low, mut high) = (0, n);
+    while low < high {
+        assert_eq!(pairs.next().unwrap().unwrap(), (3 * low, low));
+        low += 1;
+        if low < high {
+            high -= 1;
+            assert_eq!(pairs.next_back().unwrap().unwrap(), (3 * high, high));
+        }
+    }
+    assert!(pairs.next().is_none() && pairs.next_back().is_none());
+    assert_eq!(maps.range(two, ..).count() + maps.range(one, 5..5).count(), 0);
 }

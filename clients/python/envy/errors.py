@@ -104,9 +104,9 @@ class ForkedError(DeniedError):
 CLASSES: Dict[int, Type[EnvyError]] = {
     1: ClosedError, 3: AddressError, 4: HeldError, 5: FullError, 6: TransactionError, 7: ClosedError, 9: NoMemoryError,
     17: SetupError, 18: FormatError, 19: FormatError, 20: FormatError, 54: AbsentError, 55: MapError,
-    56: TransactionError, 57: SetupError, 72: FormatError, 73: FormatError, 74: FormatError,
-    **{code: SetupError for code in range(21, 31)},
-    **{code: FormatError for code in range(31, 43)},
+    56: TransactionError, 57: SetupError, 62: MapError, 80: MapError, 72: FormatError, 73: FormatError, 74: FormatError,
+    **{code: SetupError for code in (*range(21, 31), 58, 59)},
+    **{code: FormatError for code in (*range(31, 43), 63)},
 }  # fmt: skip
 FILE_CLASSES: Dict[int, Type[FileError]] = {
     numbers.ENOENT: MissingError,

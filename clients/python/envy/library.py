@@ -23,7 +23,7 @@ PAGE_WORDS = 32
 
 class SetupStruct(ctypes.Structure):
     _fields_ = [(name, ctypes.c_uint32) for name in "segments rows pages shadows frames entries policy part".split()]
-    _fields_ += [("limit", ctypes.c_uint64), ("mark", ctypes.c_uint32)]
+    _fields_ += [("limit", ctypes.c_uint64)] + [(name, ctypes.c_uint32) for name in "mark reserves sums".split()]
 
 
 class CountsStruct(ctypes.Structure):
@@ -49,6 +49,8 @@ TAKES = {
     "envy_kept_file_error": (_place,),
     "envy_kept_open_file": (_place, _path, _setup),
     "envy_kept_open_file_bytewise": (_place, _path, _setup),
+    "envy_kept_open_file_reading": (_place, _path, _setup),
+    "envy_kept_leave_file": (_place,),
     "envy_kept_close_file": (_place,),
     "envy_kept_sync": (_place,),
     "envy_kept_compact": (_place,),
@@ -56,6 +58,7 @@ TAKES = {
     "envy_kept_look": (_place, _address, _a_word),
     "envy_kept_read": (_place, _address, _pointer, _n),
     "envy_kept_store": (_place, _address, _word, _number),
+    "envy_kept_store_run": (_place, _address, _pointer, _n, ctypes.POINTER(_n), _number),
     "envy_kept_begin": (_place, _number),
     "envy_kept_put": (_place, _slot, _address, _word, _number),
     "envy_kept_write": (_place, _slot, _address, _pointer, _n, ctypes.POINTER(_n), _number),
@@ -72,6 +75,8 @@ TAKES = {
     "envy_kept_index_next": (_place, _word, _pair),
     "envy_kept_index_above": (_place, _word, _pair),
     "envy_kept_index_last": (_place, _word, _pair),
+    "envy_kept_index_scan": (_place, _word, _pointer, _n, ctypes.POINTER(_n)),
+    "envy_kept_index_scan_down": (_place, _word, _pointer, _n, ctypes.POINTER(_n)),
 }
 RESULTS = {
     "envy_version": ctypes.c_char_p,

@@ -14,8 +14,8 @@ from .library import NO_JOURNAL, OTHER_SHAPE, CountsStruct
 from .mapping import Map
 from .place import Place
 from .sizes import Path, Setup, setup_for, shape, struct_of
-from .transaction import Transaction, write
-from .words import Key, address_of, picked, range_of, word_of, words_of
+from .transaction import Transaction, store, write
+from .words import Key, address_of, is_in_page, picked, range_of, word_of, words_of
 
 # So many words are read at a time by an iteration.
 _READ = 4096
@@ -65,7 +65,7 @@ class Memory(Sequence[int]):
     After `m.sync()`, whatever a stop of the process or of the machine leaves opens as the array of that sync or of a later
     one; what was done since may be lost. `m.close()`, and the end of a `with` block, sync too.
 
-    Threads may share a memory: each call is one at a time, and a slice is assigned as one transaction."""
+    Threads may share a memory: each call is one at a time, and a slice is assigned whole or not at all."""
 
     def __init__(
         self,
@@ -75,13 +75,17 @@ class Memory(Sequence[int]):
         bytewise: bool = False,
         owned_pages: Optional[int] = None,
         setup: Optional[Setup] = None,
+        readonly: bool = False,
     ) -> None:
         """As `envy.open`."""
         name = os.fsdecode(path)
-        self._setup = _chosen(name, words, owned_pages, setup)
+        if readonly and bytewise:
+            raise TypeError("a file that is only read is opened as it is, not bytewise")
+        self._setup = _chosen(name, words, owned_pages, setup, readonly)
         self._bytewise = bytewise
+        self._readonly = readonly
         self._n = self._setup.words
-        self._place = place = Place(name, struct_of(self._setup), bytewise)
+        self._place = place = Place(name, struct_of(self._setup), bytewise, readonly)
         self._dropped = weakref.finalize(self, _drop, place)
 
     @property
@@ -98,6 +102,11 @@ class Memory(Sequence[int]):
     def bytewise(self) -> bool:
         """Whether it was opened as a file that is written byte by byte."""
         return self._bytewise
+
+    @property
+    def readonly(self) -> bool:
+        """Whether it was opened for reading alone."""
+        return self._readonly
 
     @property
     def closed(self) -> bool:
@@ -126,7 +135,7 @@ class Memory(Sequence[int]):
     @overload
     def __setitem__(self, key: slice, value: Iterable[SupportsIndex]) -> None: ...
     def __setitem__(self, key: Key, value: Any) -> None:
-        """Stores a word, or the words of a slice as one transaction: all of them or, at an exception, none."""
+        """Stores a word, or the words of a slice: all of them or, at an exception, none."""
         if isinstance(key, slice):
             addresses = range_of(key, self._n)
             self._write(addresses, words_of(value, len(addresses)))
@@ -186,13 +195,13 @@ class Memory(Sequence[int]):
             self._place.check(self._place.c.envy_kept_counts(handle, counts))
         return Counts(*(getattr(counts, name) for name in Counts._fields))
 
-    def close(self) -> None:
+    def close(self, sync: bool = True) -> None:
         """Syncs and gives up the file and its lock. Open transactions are undone. Closed once more it does nothing, and in a
-        process that was forked off it gives up the copy alone.
+        process that was forked off it gives up the copy alone. Without `sync` the file opens as of the last sync.
 
         FileError: the last sync failed; the file opens as of that sync or of the previous one."""
         self._dropped.detach()
-        self._place.close()
+        self._place.close(sync)
 
     def __enter__(self) -> "Memory":
         return self
@@ -217,11 +226,15 @@ class Memory(Sequence[int]):
         return picked(words[:], addresses)
 
     def _write(self, addresses: range, words: Any) -> None:
-        with self._place as handle, Transaction(self) as t:
-            write(self._place, handle, t.slot, addresses, words)
+        with self._place as handle:
+            if is_in_page(addresses):  # all of it is refused or nothing, so it needs no transaction
+                store(self._place, handle, addresses, words)
+                return
+            with Transaction(self) as t:
+                write(self._place, handle, t.slot, addresses, words)
 
 
-def _chosen(path: str, words: Optional[int], owned_pages: Optional[int], setup: Optional[Setup]) -> Setup:
+def _chosen(path: str, words: Optional[int], owned_pages: Optional[int], setup: Optional[Setup], readonly: bool) -> Setup:
     """Returns the sizes of the file, or of a new one if it is missing or empty."""
     if setup is not None:
         if words is not None or owned_pages is not None:
@@ -231,7 +244,7 @@ def _chosen(path: str, words: Optional[int], owned_pages: Optional[int], setup: 
         found = shape(path)
     except (MissingError, FormatError) as error:
         is_new = isinstance(error, MissingError) or error.code == NO_JOURNAL and os.path.getsize(path) == 0
-        if not is_new or words is None:
+        if not is_new or words is None or readonly:
             raise
         return setup_for(words, owned_pages)
     if words is not None and words > found.words:
@@ -257,6 +270,7 @@ def open(
     bytewise: bool = False,
     owned_pages: Optional[int] = None,
     setup: Optional[Setup] = None,
+    readonly: bool = False,
 ) -> Memory:
     """Opens the memory in a file, or makes one of zeros if there is none: then `words` says how many words it shall have at
     least. An old file keeps its sizes; it is refused if `words` asks for more.
@@ -265,7 +279,11 @@ def open(
     `setup` all sizes in place of these two. `bytewise` states that the file system and the disk write the file byte by byte,
     so that a sync waits for the disk once and not twice: docs/LIBRARY.md says when that holds.
 
+    With `readonly` nothing is written to the file, and any number of processes may have it open so at once, while none has it
+    open otherwise. What is stored is seen until it is closed; a call that would write to the file, as a sync, is a FileError
+    with EROFS, and ends the memory.
+
     MissingError (a FileNotFoundError): there is no file, and no `words`. LockedError (a BlockingIOError): it is open already,
     here or in another process. FormatError (a ValueError): it holds something else, or has other sizes, or is damaged.
     SetupError (a ValueError): no memory has such sizes. FileError (an OSError): the system refused a call."""
-    return Memory(path, words, bytewise=bytewise, owned_pages=owned_pages, setup=setup)
+    return Memory(path, words, bytewise=bytewise, owned_pages=owned_pages, setup=setup, readonly=readonly)

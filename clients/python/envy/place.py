@@ -20,7 +20,7 @@ _unused: List[int] = []
 class Place:
     """`with place as handle:` gives the handle of the open file to one thread at a time."""
 
-    def __init__(self, path: str, setup: SetupStruct, bytewise: bool) -> None:
+    def __init__(self, path: str, setup: SetupStruct, bytewise: bool, readonly: bool = False) -> None:
         self.c = library.load()
         self.path = path
         self.process = os.getpid()
@@ -34,7 +34,10 @@ class Place:
         self.writes = 0
         self.map_at: Optional[int] = None
         name, handle = library.encoded(path), self._unused_handle()
-        call = self.c.envy_kept_open_file_bytewise if bytewise else self.c.envy_kept_open_file
+        if readonly:
+            call = self.c.envy_kept_open_file_reading
+        else:
+            call = self.c.envy_kept_open_file_bytewise if bytewise else self.c.envy_kept_open_file
         code = call(handle, name, ctypes.byref(setup))
         if code:
             why = ctypes.get_errno()
@@ -90,8 +93,9 @@ class Place:
             raise HeldError(code, holder)
         self.check(code, detail)
 
-    def close(self) -> None:
-        """Syncs and gives the file up. In a process that was forked off it gives up the copy alone."""
+    def close(self, sync: bool = True) -> None:
+        """Syncs, unless that isn't asked for, and gives the file up. In a process that was forked off it gives up the copy
+        alone."""
         if self.process != os.getpid():
             self._forget()
             return
@@ -99,7 +103,7 @@ class Place:
             handle, self.handle = self.handle, None
             if handle is None:
                 return
-            code = self.c.envy_kept_close_file(handle)
+            code = (self.c.envy_kept_close_file if sync else self.c.envy_kept_leave_file)(handle)
             why = self.c.envy_kept_file_error(handle)
             _unused.append(handle)
         if code:

@@ -17,7 +17,8 @@ _LEAST_SHADOWS = 32
 
 
 class Setup(NamedTuple):
-    """What a memory is made with: docs/LIBRARY.md says how to choose. A file keeps the first six."""
+    """What a memory is made with: docs/LIBRARY.md says how to choose. A file keeps the first six
+    and the last two."""
 
     segments: int
     rows: int
@@ -29,6 +30,8 @@ class Setup(NamedTuple):
     part: int = 2
     limit: int = 100
     mark: int = 1
+    reserves: int = 0
+    sums: int = 0
 
     @property
     def words(self) -> int:

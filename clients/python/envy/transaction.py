@@ -134,8 +134,17 @@ class Transaction:
             self._dropped.detach()
 
 
+def store(place: Place, handle: int, addresses: range, words: Any) -> None:
+    """Stores words to addresses in a row, outside transactions. The first that is refused ends it."""
+    holder, done = ctypes.c_uint32(), ctypes.c_size_t()
+    code = place.c.envy_kept_store_run(handle, addresses[0], buffer_of(words), len(words), done, holder)
+    place.check_held(code, holder.value, f"address {addresses[0] + done.value}")
+    place.writes += 1
+
+
 def write(place: Place, handle: int, slot: int, addresses: range, words: Any) -> None:
-    """Puts words to such addresses in a slot. The first that is refused ends it; the earlier ones stay put."""
+    """Puts words to such addresses in a slot. Words in a row that meet more pages than may yet be owned are refused before the
+    first. Else the first that is refused ends it; the earlier ones stay put."""
     if not addresses:
         return
     if addresses.step < 0:

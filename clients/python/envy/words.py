@@ -50,6 +50,11 @@ def range_of(key: slice, n: int) -> range:
     return range(*key.indices(n))
 
 
+def is_in_page(addresses: range) -> bool:
+    """Returns whether these are some words in a row of one page."""
+    return len(addresses) > 0 and addresses.step == 1 and addresses[0] // library.PAGE_WORDS == addresses[-1] // library.PAGE_WORDS
+
+
 def picked(words: List[int], addresses: range) -> List[int]:
     """Returns those of the words from the lowest of these addresses on that stand at them, in their order."""
     low = min(addresses[0], addresses[-1])

@@ -1,5 +1,6 @@
 """Files: what is there, what isn't, who has it, and what fails."""
 
+import errno
 import os
 import subprocess
 import sys
@@ -42,6 +43,66 @@ class FileTest(unittest.TestCase):
         self.assertRaises(OSError, envy.open, self.folder.name, 10)
         self.assertRaises(ValueError, envy.open, "a\0b", 10)
         self.assertRaises(TypeError, envy.open, 5, 10)
+
+    def test_many_read_while_none_writes(self):
+        for options in ({}, {"words": 10}):
+            self.refused(envy.MissingError, 1000, readonly=True, **options)
+        open(self.path, "w").close()
+        self.refused(envy.FormatError, 72, words=10, readonly=True)
+        self.assertEqual(os.path.getsize(self.path), 0)
+        os.remove(self.path)
+        self.make()
+        self.refused(envy.FormatError, 20, 1025, readonly=True)
+        self.assertRaises(TypeError, envy.open, self.path, readonly=True, bytewise=True)
+        os.chmod(self.path, 0o400)
+        with open(self.path, "rb") as it:
+            before = it.read()
+        with envy.open(self.path, readonly=True) as m, envy.open(self.path, readonly=True) as other:
+            self.assertEqual((m[5], other[5], m.readonly, len(m)), (7, 7, True, 1024))
+            self.refused(envy.LockedError, 1001)
+            m[0:64] = range(64)
+            self.assertEqual((m[0:64], other[0:6]), (list(range(64)), [0, 0, 0, 0, 0, 7]))
+            self.assertEqual(sorted(os.listdir(self.folder.name)), ["words.envy"])
+            with self.assertRaises(envy.FileError) as found:
+                m.sync()
+            self.assertEqual(found.exception.errno, errno.EROFS)
+            self.assertRaises(envy.FileError, m.__getitem__, 0)
+            self.assertEqual(other[5], 7)
+            with self.assertRaises(envy.FileError) as found:
+                other.compact()
+            self.assertEqual(found.exception.errno, errno.EROFS)
+        with open(self.path, "rb") as it:
+            self.assertEqual(it.read(), before)
+        os.chmod(self.path, 0o600)
+        with envy.open(self.path) as m:
+            self.refused(envy.LockedError, 1001, readonly=True)
+            self.assertEqual((m[5], m.readonly), (7, False))
+
+    def test_a_torn_end_is_read_over(self):
+        self.make()
+        with open(self.path, "ab") as it:
+            it.write(b"\1" * 500)
+        with open(self.path, "rb") as it:
+            before = it.read()
+        with envy.open(self.path, readonly=True) as m:
+            self.assertEqual(m[5], 7)
+        with open(self.path, "rb") as it:
+            self.assertEqual(it.read(), before)
+        self.assertEqual(sorted(os.listdir(self.folder.name)), ["words.envy"])
+
+    def test_closed_without_a_sync(self):
+        self.make()
+        m = envy.open(self.path)
+        m[5] = 8
+        m.sync()
+        m[5] = 9
+        t = m.transaction()
+        t[100] = 1
+        m.close(sync=False)
+        self.assertRaises(envy.ClosedError, m.__getitem__, 5)
+        m.close()
+        with envy.open(self.path) as m:
+            self.assertEqual((m[5], m[100]), (8, 0))
 
     def test_an_old_file_keeps_its_sizes(self):
         self.make()

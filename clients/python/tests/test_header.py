@@ -42,11 +42,12 @@ class HeaderTest(unittest.TestCase):
         for name, code in codes.items():
             if name.startswith("SETUP_"):
                 self.assertIs(errors.CLASSES[code], envy.SetupError, name)
-            if name.startswith("BROKEN_"):
+            if name.startswith("BROKEN_") and name != "BROKEN_MAP":
                 self.assertIs(errors.CLASSES[code], envy.FormatError, name)
         kinds = {"MAP_FULL": envy.MapError, "MAP_SETUP": envy.SetupError, "SLOT_OPEN": envy.TransactionError, "DAMAGED": envy.FormatError}
         kinds.update(FULL=envy.FullError, BUSY=envy.TransactionError, NO_MEMORY=envy.NoMemoryError, NO_JOURNAL=envy.FormatError)
         kinds.update(OTHER_JOURNAL=envy.FormatError, POLICY=envy.SetupError, RANGE=envy.AddressError, ABSENT=envy.AbsentError)
+        kinds.update(BROKEN_MAP=envy.MapError)
         for name, kind in kinds.items():
             self.assertIs(errors.CLASSES[codes[name]], kind, name)
         did = re.search(r"enum envy_did \{(.*?)\};", header("envy_codes.h"), re.S).group(1)

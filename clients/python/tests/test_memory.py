@@ -90,6 +90,22 @@ class MemoryTest(unittest.TestCase):
             m[0:320] = range(320)
             self.assertEqual(m[0:320], list(range(320)))
 
+    def test_a_slice_within_a_page_needs_no_transaction(self):
+        open_ones = [self.m.transaction() for _ in range(64)]
+        before = self.m.counts()
+        self.m[33:64] = range(31)
+        after = self.m.counts()
+        self.assertEqual(after.hits + after.misses, before.hits + before.misses + 1)
+        self.assertEqual(self.m[32:65], [0] + list(range(31)) + [0])
+        with self.assertRaises(envy.TransactionError):
+            self.m[33:65] = range(32)
+        open_ones[5][40] = 1
+        with self.assertRaises(envy.HeldError) as found:
+            self.m[33:64] = range(100, 131)
+        self.assertEqual(found.exception.holder, open_ones[5].slot)
+        open_ones[5].abort()
+        self.assertEqual(self.m[32:65], [0] + list(range(31)) + [0])
+
     def test_counts_ticks_and_compactions(self):
         before = self.m.counts()
         for i in range(100):

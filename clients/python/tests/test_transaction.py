@@ -77,6 +77,17 @@ class TransactionTest(unittest.TestCase):
             other[64] = 5
         self.assertEqual((self.m[32], self.m[64]), (1, 5))
 
+    def test_words_that_have_no_room_are_refused_before_the_first(self):
+        with envy.open(self.m.path + "2", words=3200, owned_pages=10) as m:
+            with m.transaction() as t:
+                t[0:64] = range(64)
+                with self.assertRaises(envy.FullError) as found:
+                    t[32:352] = range(320)  # its first page is owned, and of the next nine one is too many
+                self.assertEqual(found.exception.code, 5)
+                self.assertEqual(m[0:352], list(range(64)) + [0] * 288)
+                t[32:320] = range(288)
+            self.assertEqual(m[0:352], list(range(32)) + list(range(288)) + [0] * 32)
+
     def test_sixty_four_and_no_more(self):
         open_ones = [self.m.transaction() for _ in range(64)]
         with self.assertRaises(envy.TransactionError) as found:

@@ -5,10 +5,10 @@ use Rattle.envy_args.specs.declared.command.Command.TheVariants.{Index}
 use Rattle.envy_args.specs.declared.command.WordsFault.{WordsFault}
 use Rattle.envy_args.specs.declared.read.TheConstants.{USUAL_ROWS}
 use Rattle.envy_args.specs.declared.command.WordsFault.TheVariants.{Form, Setup as Rule}
-use Rattle.envy_args.specs.Words.{Options, after_check, index_of, index_options, lives_of, rules_within, setup_of, tree_of, usual_of_index}
+use Rattle.envy_args.specs.Words.{Options, after_check, index_of, index_options, lives_of, reserved, rules_within, setup_of, tree_of, usual_of_index}
 use Rattle.envy_args.specs.Reading.{are_readable, made}
 
-module _ (o : Options) (all : are_readable index_options o ≡ true) (setup : Setup) (read : setup ≡ setup_of usual_of_index o) where
+module _ (o : Options) (all : are_readable index_options o ≡ true) (setup : Setup) (read : setup ≡ setup_of (reserved usual_of_index o) o) where
   made-index : made index_options index_of o ≡ after_check (rules_within USUAL_ROWS setup) (tree_of setup o)
   made-index = ap (λ b. if b then index_of o else Err Form) all ∙ ap (λ (s : Setup). after_check (rules_within USUAL_ROWS s) (tree_of s o)) (sym read)
 

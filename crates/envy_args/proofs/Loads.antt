@@ -7,7 +7,7 @@ use Rattle.envy_policy.specs.declared.setup.Setup.{Setup}
 use Rattle.envy_args.specs.declared.command.Command.TheVariants.{Tpca}
 use Rattle.envy_args.specs.declared.command.WordsFault.{WordsFault}
 use Rattle.envy_args.specs.declared.command.WordsFault.TheVariants.{Form, Setup as Rule}
-use Rattle.envy_args.specs.Words.{Options, after_check, area_of, fits, lives_of, load_of, most_rows, number_of, rules_within, setup_of, start_of, tpca_of, tpca_options, usual_of_load}
+use Rattle.envy_args.specs.Words.{Options, after_check, area_of, fits, lives_of, load_of, most_rows, number_of, reserved, rules_within, setup_of, start_of, tpca_of, tpca_options, usual_of_load}
 use Rattle.envy_args.specs.Reading.{are_readable, made}
 
 pub fits-Fits : (area : Area) (pages : ℕ) → IsTrue (fits area pages) ↔ Fits area pages
@@ -19,7 +19,7 @@ fits-Fits area pages = (
   λ fit. and_from (nat_le 1 area.branches) _ (le-leb _ _ fit.branches) (and_from (nat_le 1 area.accounts) _ (le-leb _ _ fit.accounts) (le-leb _ _ fit.room)),
 )
 
-module _ (o : Options) (all : are_readable tpca_options o ≡ true) (setup : Setup) (read : setup ≡ setup_of usual_of_load o) (most : ℕ) (limit : most ≡ most_rows o) where
+module _ (o : Options) (all : are_readable tpca_options o ≡ true) (setup : Setup) (read : setup ≡ setup_of (reserved usual_of_load o) o) (most : ℕ) (limit : most ≡ most_rows o) where
   made-load : made tpca_options tpca_of o ≡ after_check (rules_within most setup) (load_of setup o)
   made-load = ap (λ b. if b then tpca_of o else Err Form) all ∙ ap (λ (s : Setup). after_check (rules_within (most_rows o) s) (load_of s o)) (sym read) ∙ ap (λ (m : ℕ). after_check (rules_within m setup) (load_of setup o)) (sym limit)
 

@@ -69,13 +69,16 @@ module _ (o : Options) where
   -- ---- a run
 
   pub index-setup : are_readable plain_options o ≡ false → are_readable index_options o ≡ false
-  index-setup = first plain_options (codes "lives" ∷ [])
+  index-setup e = and_right (is_readable o (codes "reserves")) _ (first plain_options (codes "lives" ∷ []) e)
+
+  pub index-reserves : is_readable o (codes "reserves") ≡ false → are_readable index_options o ≡ false
+  index-reserves e = and_left _ _ e
 
   pub index-lives : is_readable o (codes "lives") ≡ false → are_readable index_options o ≡ false
-  index-lives e = second plain_options (codes "lives" ∷ []) (and_left _ _ e)
+  index-lives e = and_right (is_readable o (codes "reserves")) _ (second plain_options (codes "lives" ∷ []) (and_left _ _ e))
 
-  pub index-all : are_readable plain_options o ≡ true → is_readable o (codes "lives") ≡ true → are_readable index_options o ≡ true
-  index-all e d = both plain_options (codes "lives" ∷ []) e (and_from _ _ d refl)
+  pub index-all : is_readable o (codes "reserves") ≡ true → are_readable plain_options o ≡ true → is_readable o (codes "lives") ≡ true → are_readable index_options o ≡ true
+  index-all r e d = and_from _ _ r (both plain_options (codes "lives" ∷ []) e (and_from _ _ d refl))
 
   pub run-powered : are_readable index_options o ≡ false → are_readable run_options o ≡ false
   run-powered = first index_options (codes "large" ∷ [])

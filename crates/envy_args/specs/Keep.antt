@@ -61,6 +61,8 @@ shape_named sizes sh = record {
   shadows = unwrap_or sizes.shadows sh.shadows;
   frames = unwrap_or sizes.frames sh.frames;
   entries = unwrap_or sizes.entries sh.entries;
+  reserves = sh.reserves;
+  sums = sh.sums;
 }
 
 -- the setup of a memory of these sizes

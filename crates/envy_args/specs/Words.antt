@@ -135,10 +135,10 @@ policy_of options =
 -- Setups
 
 abbrev pub usual : Shape
-usual = record { segments = 8; rows = 16; pages = 64; shadows = 16; frames = 8; entries = 4 }
+usual = record { segments = 8; rows = 16; pages = 64; shadows = 16; frames = 8; entries = 4; reserves = 0; sums = 0 }
 
 abbrev pub usual_of_load : Shape
-usual_of_load = record { segments = 16; rows = 32; pages = 384; shadows = 16; frames = 16; entries = 16 }
+usual_of_load = record { segments = 16; rows = 32; pages = 384; shadows = 16; frames = 16; entries = 16; reserves = 0; sums = 0 }
 
 -- the shape of an index: that of a load, with shadows for all pages that one operation puts
 abbrev pub usual_of_index : Shape
@@ -152,7 +152,13 @@ shape_of default options = record {
   shadows = number_of options (codes "shadows") default.shadows;
   frames = number_of options (codes "frames") default.frames;
   entries = number_of options (codes "entries") default.entries;
+  reserves = default.reserves;
+  sums = default.sums;
 }
+
+-- a shape with the positions in reserve that the options name
+abbrev pub reserved : Shape → Options → Shape
+reserved sh options = record sh { reserves = number_of options (codes "reserves") 0 }
 
 -- writing back begins, by default, where every frame is held
 abbrev pub setup_of : Shape → Options → Setup
@@ -210,7 +216,7 @@ fits area pages = nat_le 1 area.branches && (nat_le 1 area.accounts
 -- Commands
 
 abbrev pub run_of : Options → Result Command WordsFault
-run_of options = let setup = setup_of usual options in
+run_of options = let setup = setup_of (reserved usual options) options in
     of_setup (most_rows options) setup (Ok (Run setup (lives_of options)))
 
 abbrev pub plain_of : Options → Result Command WordsFault
@@ -224,7 +230,7 @@ load_of setup options =
     else Ok (Tpca setup (lives_of options) (start_of options) (area_of options) (number_of options (codes "every") 0)))
 
 abbrev pub tpca_of : Options → Result Command WordsFault
-tpca_of options = let setup = setup_of usual_of_load options in
+tpca_of options = let setup = setup_of (reserved usual_of_load options) options in
     of_setup (most_rows options) setup (load_of setup options)
 
 -- a number of per cent, where it is given
@@ -261,7 +267,7 @@ gen_of options = generating (start_of options) (number_of options (codes "lines"
     (given_number options (codes "stores")))
 
 abbrev pub save_of : Options → Result Command WordsFault
-save_of options = let setup = setup_of usual options in
+save_of options = let setup = setup_of (reserved usual options) options in
     of_setup (most_rows options) setup (Ok (Save setup (lives_of options)))
 
 -- a mark that isn't given stands open; no rule is asked before the image is read
@@ -282,11 +288,11 @@ tree_of setup options =
     else Ok (Index setup (lives_of options)))
 
 abbrev pub index_of : Options → Result Command WordsFault
-index_of options = let setup = setup_of usual_of_index options in
+index_of options = let setup = setup_of (reserved usual_of_index options) options in
     of_setup USUAL_ROWS setup (tree_of setup options)
 
 abbrev pub mirror_of : Options → Result Command WordsFault
-mirror_of options = let setup = setup_of usual options in
+mirror_of options = let setup = setup_of (reserved usual options) options in
     of_setup (most_rows options) setup (Ok (Mirror setup (lives_of options)))
 
 -- an entry of the table: a command word, its options, and what they make of it
@@ -299,9 +305,9 @@ abbrev pub plain_options : List Text
 plain_options = codes "segments" ∷ codes "rows" ∷ codes "pages" ∷ codes "shadows" ∷ codes "frames" ∷ codes "entries"
     ∷ codes "part" ∷ codes "policy" ∷ codes "limit" ∷ codes "mark" ∷ []
 
--- a tree has no large board
+-- a board may have reserves; that of a tree isn't large
 abbrev pub index_options : List Text
-index_options = plain_options ++ codes "lives" ∷ []
+index_options = codes "reserves" ∷ plain_options ++ codes "lives" ∷ []
 
 abbrev pub run_options : List Text
 run_options = index_options ++ codes "large" ∷ []

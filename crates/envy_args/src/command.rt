@@ -70,7 +70,8 @@ pub enum WordsFault {
     /// They are, but break a rule. This is the number of the first: 1 to 10 those of a setup, 11 that
     /// the records of the load fit, 12 that it has shadows enough, 13 that an index has shadows enough, 14
     /// that it has pages enough, 15 that a number of per cent is 1 to 99, 16 that hot pages and their share are
-    /// given together, 17 that a board that may be large has no more rows than any may have.
+    /// given together, 17 that a board that may be large has no more rows than any may have, 18 that reserves leave
+    /// at least 4 segments, 19 that sums are 0 or 1.
     Setup(u8),
     /// Out of memory.
     Memory,

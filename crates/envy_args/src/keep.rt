@@ -63,6 +63,8 @@ impl Sizes {
             shadows: self.shadows.unwrap_or(shape.shadows),
             frames: self.frames.unwrap_or(shape.frames),
             entries: self.entries.unwrap_or(shape.entries),
+            reserves: shape.reserves,
+            sums: shape.sums,
         }
     }
 }

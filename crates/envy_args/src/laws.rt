@@ -21,6 +21,11 @@ pub fn words_name_commands()
     ensures twice { command_of (codes "run" ∷ codes "--rows" ∷ codes "16" ∷ codes "--rows" ∷ codes "16" ∷ [])
         ≡ Err Form }
     ensures share { command_of (codes "run" ∷ codes "--pages" ∷ codes "81" ∷ []) ≡ Err (Rule 6) }
+    ensures reserved { (command_of (codes "run" ∷ codes "--reserves" ∷ codes "2" ∷ []) ≡ Err (Rule 6))
+        × (command_of (codes "run" ∷ codes "--segments=12" ∷ codes "--reserves=2" ∷ [])
+        ≡ Ok (Run (record { shape = record usual { segments = 12; reserves = 2 }; policy = Greedy; limit = 100; mark = 8 }) 4294967295)) }
+    ensures reserves { command_of (codes "run" ∷ codes "--reserves" ∷ codes "5" ∷ codes "--rows=1" ∷ []) ≡ Err (Rule 18) }
+    ensures unreserved { command_of (codes "plain" ∷ codes "--reserves" ∷ codes "0" ∷ []) ≡ Err Form }
     ensures pages { command_of (codes "run" ∷ codes "--pages=0" ∷ codes "--" ∷ []) ≡ Err (Rule 3) }
     ensures total { command_of (codes "run" ∷ codes "--segments" ∷ codes "17" ∷ codes "--rows=65536" ∷ [])
         ≡ Err (Rule 7) }

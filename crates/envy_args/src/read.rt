@@ -1,6 +1,6 @@
 ghost use Rattle.std.specs.Prelude.{◌≡◌, ◌⊎◌, ◌≤◌, map, codes, Err};
 ghost use Rattle.std.specs.String.{string_bytes};
-ghost use Rattle.envy_args.specs.Words.{command_of, run_of, plain_of, tpca_of, gen_of, mix_of, skew_of, is_per_cent, save_of, resume_of, audit_of, segments_of, index_of, mirror_of, lives_of, setup_of, shape_of, area_of, run_options, index_options, plain_options, tpca_options, gen_options, resume_options, audit_options, most_rows, rule_within, rules_within};
+ghost use Rattle.envy_args.specs.Words.{command_of, run_of, plain_of, tpca_of, gen_of, mix_of, skew_of, is_per_cent, save_of, resume_of, audit_of, segments_of, index_of, mirror_of, lives_of, reserved, setup_of, shape_of, area_of, run_options, index_options, plain_options, tpca_options, gen_options, resume_options, audit_options, most_rows, rule_within, rules_within};
 ghost use Rattle.envy_args.specs.Reading.{GivesIf, has_number, are_readable, shape_options, area_options, made, make_of, options_of};
 
 use crate::command::{Command, WordsFault};
@@ -31,6 +31,8 @@ pub(crate) const USUAL: Shape = Shape {
     shadows: 16,
     frames: 8,
     entries: 4,
+    reserves: 0,
+    sums: 0,
 };
 
 /// The board of a load.
@@ -41,6 +43,8 @@ const USUAL_OF_LOAD: Shape = Shape {
     shadows: 16,
     frames: 16,
     entries: 16,
+    reserves: 0,
+    sums: 0,
 };
 
 /// The board of an index.
@@ -51,6 +55,8 @@ const USUAL_OF_INDEX: Shape = Shape {
     shadows: 32,
     frames: 16,
     entries: 16,
+    reserves: 0,
+    sums: 0,
 };
 
 /// How often power returns, where the words don't say otherwise.
@@ -270,10 +276,17 @@ fn skew(hot: Option<u32>, share: Option<u32>) -> Result<Option<Skew>, WordsFault
 
 /// A setup over a board whose power can fail, with how often it returns.
 fn powered(options: &Options, default: &Shape) -> Result<(Setup, u32), WordsFault>
-    ensures { GivesIf (are_readable index_options options.now) (setup_of default.now options.now, lives_of options.now)
-        result }
+    ensures { GivesIf (are_readable index_options options.now)
+        (setup_of (reserved default.now options.now) options.now, lives_of options.now) result }
 {
-    let setup = setup(options, default)?;
+    let reserves = options.number("reserves", 0)?;
+    let setup = setup(
+        options,
+        &Shape {
+            reserves,
+            ..*default
+        },
+    )?;
     let lives = options.number("lives", MOST_LIVES)?;
     Ok((setup, lives))
 }
@@ -281,7 +294,7 @@ fn powered(options: &Options, default: &Shape) -> Result<(Setup, u32), WordsFaul
 /// The same, over a board that may be large, with the most rows that it may have.
 fn maybe_large(options: &Options, default: &Shape) -> Result<((Setup, u32), u32), WordsFault>
     ensures { GivesIf (are_readable run_options options.now)
-        ((setup_of default.now options.now, lives_of options.now), most_rows options.now) result }
+        ((setup_of (reserved default.now options.now) options.now, lives_of options.now), most_rows options.now) result }
 {
     let powered = powered(options, default)?;
     let most = most_rows(options)?;
@@ -346,6 +359,8 @@ fn shape(options: &Options, default: &Shape) -> Result<Shape, WordsFault>
         shadows: options.number("shadows", default.shadows)?,
         frames: options.number("frames", default.frames)?,
         entries: options.number("entries", default.entries)?,
+        reserves: default.reserves,
+        sums: default.sums,
     })
 }
 

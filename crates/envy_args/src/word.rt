@@ -15,10 +15,11 @@ pub(crate) enum Word {
     Mirror,
 }
 
-/// The options of the load. The first twelve are those of a run, the first eleven those of a tree, the first ten those of the plain
-/// machine. Those of a resumed run are the seventh to the twelfth, and
-/// that of an audit is the twelfth.
-const OPTIONS: [&str; 17] = [
+/// The options of the load. The first thirteen are those of a run, the first twelve those of a tree, the second to the eleventh
+/// those of the plain machine. Those of a resumed run are the eighth to the thirteenth, and
+/// that of an audit is the thirteenth.
+const OPTIONS: [&str; 18] = [
+    "reserves",
     "segments",
     "rows",
     "pages",
@@ -85,13 +86,13 @@ impl Word {
         ensures { map (λ name. name.now) result.now ≡ options_of self }
     {
         match self {
-            Word::Run | Word::Save | Word::Mirror => &OPTIONS[..12],
-            Word::Index => &OPTIONS[..11],
-            Word::Plain => &OPTIONS[..10],
+            Word::Run | Word::Save | Word::Mirror => &OPTIONS[..13],
+            Word::Index => &OPTIONS[..12],
+            Word::Plain => &OPTIONS[1..11],
             Word::Tpca => &OPTIONS,
             Word::Gen => &["start", "lines", "pages", "hot", "share", "stores"],
-            Word::Resume => &OPTIONS[6..12],
-            Word::Audit | Word::Segments => &OPTIONS[11..12],
+            Word::Resume => &OPTIONS[7..13],
+            Word::Audit | Word::Segments => &OPTIONS[12..13],
         }
     }
 }

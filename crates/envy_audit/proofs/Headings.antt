@@ -28,10 +28,10 @@ differ-first xs x y z a b c is other same = absurd (other (ap (λ (ys : List ℕ
 pub differ-second : {P : Type 0} (xs : List ℕ) (x y z a b c : ℕ) → xs ≡ x ∷ y ∷ z ∷ [] → y ≢ b → xs ≡ a ∷ b ∷ c ∷ [] → P
 differ-second xs x y z a b c is other same = absurd (other (ap (λ (ys : List ℕ). get_or ys 1 0) (sym is ∙ same)))
 
-eq-true : (z c : ℕ) → z ≡ c → IsTrue (z == c)
+pub eq-true : (z c : ℕ) → z ≡ c → IsTrue (z == c)
 eq-true z c is = grind (arith, nat_tests)
 
-true-eq : (z c : ℕ) → IsTrue (z == c) → z ≡ c
+pub true-eq : (z c : ℕ) → IsTrue (z == c) → z ≡ c
 true-eq z c is = grind (arith, nat_tests)
 
 -- three sizes that differ in the third alone

@@ -4,7 +4,7 @@ use Rattle.std.proofs.lemmas.Bool.{cases_lt}
 use Rattle.envy_map.specs.Fields.{Chart}
 use Rattle.envy_audit.proofs.Turning.{not-so}
 use Rattle.envy_audit.specs.declared.verdict.Rule.{Rule}
-use Rattle.envy_audit.specs.declared.verdict.Rule.TheVariants.{A, B, C, D, E, F, G, H, I, J, K, L}
+use Rattle.envy_audit.specs.declared.verdict.Rule.TheVariants.{A, B, C, D, E, F, G, H, I, J, K, L, M}
 use Rattle.envy_audit.specs.Judging.{Before, Holds, FindsFirst, BreaksFirst, number_of}
 
 abbrev rule_at : ℕ → Rule
@@ -20,7 +20,8 @@ rule_at n =
     else (if n == 8 then I
     else (if n == 9 then J
     else (if n == 10 then K
-    else L))))))))))
+    else (if n == 11 then L
+    else M)))))))))))
 
 rule_at-number_of : (x : Rule) → rule_at (number_of x) ≡ x
 rule_at-number_of A = refl
@@ -35,6 +36,7 @@ rule_at-number_of I = refl
 rule_at-number_of J = refl
 rule_at-number_of K = refl
 rule_at-number_of L = refl
+rule_at-number_of M = refl
 
 pub same_number : (x y : Rule) → number_of x ≡ number_of y → x ≡ y
 same_number x y is = sym (rule_at-number_of x) ∙ (ap rule_at is ∙ rule_at-number_of y)
@@ -52,10 +54,10 @@ pub before-first : (c : Chart) → Before A c
 before-first c y below = absurd (omega (arith, below))
 
 -- after the last point there is no other
-pub all-hold : (c : Chart) → Before L c → Holds L c → (x : Rule) → Holds x c
-all-hold c before last x = either (cases_lt (number_of x) 11)
+pub all-hold : (c : Chart) → Before M c → Holds M c → (x : Rule) → Holds x c
+all-hold c before last x = either (cases_lt (number_of x) 12)
   where
-    least : (y : Rule) → number_of y ≤ 11
+    least : (y : Rule) → number_of y ≤ 12
     least A = lit≤ tt
     least B = lit≤ tt
     least C = lit≤ tt
@@ -68,10 +70,11 @@ all-hold c before last x = either (cases_lt (number_of x) 11)
     least J = lit≤ tt
     least K = lit≤ tt
     least L = lit≤ tt
+    least M = lit≤ tt
 
-    either : (number_of x < 11) ⊎ (11 ≤ number_of x) → Holds x c
+    either : (number_of x < 12) ⊎ (12 ≤ number_of x) → Holds x c
     either (inl less) = before x less
-    either (inr more) = subst (λ (r : Rule). Holds r c) (same_number L x (omega (arith, more, least x))) last
+    either (inr more) = subst (λ (r : Rule). Holds r c) (same_number M x (omega (arith, more, least x))) last
 
 -- a point that doesn't hold is the first broken one
 pub fails : (x : Rule) (c : Chart) (b : Bool) → Before x c → IsTrue b ↔ Holds x c → b ≡ false → FindsFirst c (Some x)

@@ -1,5 +1,5 @@
 -- All points together are soundness.
-use Rattle.std.proofs.Common.{◌≡◌, ◌≢◌, ◌⊎◌, ℕ, ◌+◌, ◌*◌, ◌%◌, ◌<◌, ◌≤◌, List, length, refl, sym, ap, subst, inl, inr, arith, Option, Some, None}
+use Rattle.std.proofs.Common.{◌≡◌, ◌≢◌, ◌⊎◌, ℕ, ◌+◌, ◌*◌, ◌/◌, ◌%◌, ◌<◌, ◌≤◌, List, length, refl, sym, ◌∙◌, ap, subst, inl, inr, arith, Option, Some, None}
 use Rattle.std.specs.Prelude.{slice_index}
 use Rattle.std.proofs.lemmas.Bool.{cases_lt}
 use Rattle.std.proofs.lemmas.List.{get_or_past}
@@ -15,10 +15,11 @@ use Rattle.envy_base.specs.declared.fields.Undo.TheVariants.{Clear, Blank, Shado
 use Rattle.envy_base.specs.State.{State, IsBoard}
 use Rattle.envy_map.specs.Fields.{chart, place, undo}
 use Rattle.envy_map.proofs.Sizes.{length-slots, length-undos, length-places, length-wears, length-fills, length-positions, length-backs, length-origins, length-frames}
-use Rattle.envy_layout.specs.Sound.{IsSound, IsPlaced, IsSpare, slots_of, slot_named, Names}
+use Rattle.envy_base.specs.Shape.{all_positions_of, positions_of}
+use Rattle.envy_layout.specs.Sound.{IsSound, IsPlaced, IsReserved, IsSpare, slots_of, slot_named, Names}
 use Rattle.envy_audit.specs.declared.verdict.Rule.{Rule}
-use Rattle.envy_audit.specs.declared.verdict.Rule.TheVariants.{A, B, C, D, E, F, G, H, I, J, K, L}
-use Rattle.envy_audit.specs.Points.{Decodes, IsJobOf, IsPlaceOf, IsUndoOf, rows_of, JobStands}
+use Rattle.envy_audit.specs.declared.verdict.Rule.TheVariants.{A, B, C, D, E, F, G, H, I, J, K, L, M}
+use Rattle.envy_audit.specs.Points.{Decodes, IsJobOf, IsPlaceOf, IsUndoOf, rows_of, JobStands, Stands}
 use Rattle.envy_audit.specs.Judging.{Holds}
 use Rattle.envy_audit.proofs.Looking.{place-within, undo-within, named-within}
 
@@ -66,10 +67,25 @@ module _ (s : State) (board : IsBoard s) where
     stands : JobStands (chart s)
     stands = all I
 
+    -- a segment at a position that isn't in reserve is at one in use
+    in-use : (e : ℕ) → Stands s.shape (chart s).fields.positions e ⊎ ((v : ℕ) × ((chart s).fields.job ≡ Some (Switch v)) × Stands s.shape (chart s).fields.positions v × IsSpare s.shape (chart s).fields.positions e)
+        → (IsReserved s.shape (chart s).fields.positions e → ⊥)
+        → IsPlaced s.shape (chart s).fields.positions e ⊎ ((v : ℕ) × ((chart s).fields.job ≡ Some (Switch v)) × IsPlaced s.shape (chart s).fields.positions v × IsSpare s.shape (chart s).fields.positions e)
+    in-use e (inl (k, below, is)) free = either (cases_lt k (positions_of s.shape))
+      where
+        either : (k < positions_of s.shape) ⊎ (positions_of s.shape ≤ k) → IsPlaced s.shape (chart s).fields.positions e ⊎ ((v : ℕ) × ((chart s).fields.job ≡ Some (Switch v)) × IsPlaced s.shape (chart s).fields.positions v × IsSpare s.shape (chart s).fields.positions e)
+        either (inl less) = inl (k, less, is)
+        either (inr more) = absurd (free (k, more, below, is))
+    in-use e (inr (v, job, (k, below, is), spare)) free = either (stands.switched v job)
+      where
+        either : IsPlaced s.shape (chart s).fields.positions v ⊎ IsSpare s.shape (chart s).fields.positions v → IsPlaced s.shape (chart s).fields.positions e ⊎ ((w : ℕ) × ((chart s).fields.job ≡ Some (Switch w)) × IsPlaced s.shape (chart s).fields.positions w × IsSpare s.shape (chart s).fields.positions e)
+        either (inl placed) = inr (v, job, placed, spare)
+        either (inr itself) = absurd (itself.nowhere k below is)
+
     -- a map on which all points hold is sound
     pub points-sound : IsSound (chart s)
     points-sound = record {
-      head = record { versions = d.version; kept = d.sizes };
+      head = record { versions = d.version; kept = d.sizes; reserves = d.reserves; sums = d.sums };
       slots = record {
         long = length-slots s board;
         decode = d.slots;
@@ -102,7 +118,7 @@ module _ (s : State) (board : IsBoard s) where
         frames_long = length-frames s board;
       };
       blanks = record { above = all F; idle = all G };
-      homes = record { kept = all H };
+      homes = record { kept = λ p q named. in-use (q / s.shape.rows) (all H p q named) (all M p q named) };
       job = record {
         decodes = job-some s.shape _ d.job;
         copying = stands.copied;
@@ -122,7 +138,7 @@ module _ (s : State) (board : IsBoard s) where
 
   module _ (sound : IsSound (chart s)) where
     placed-fits : (v : ℕ) → IsPlaced s.shape (chart s).fields.positions v → v < s.shape.segments
-    placed-fits v (k, below, is) = subst (λ (x : ℕ). x < s.shape.segments) is (sound.numbers.positions_fit k below)
+    placed-fits v (k, below, is) = subst (λ (x : ℕ). x < s.shape.segments) is (sound.numbers.positions_fit k (omega (arith, below)))
 
     job-fits : (j : Option Job) → (chart s).fields.job ≡ j → IsJobOf s.shape j
     job-fits None is = sound.job.decodes is
@@ -151,6 +167,8 @@ module _ (s : State) (board : IsBoard s) where
     sound-decodes = record {
       sizes = sound.head.kept;
       version = sound.head.versions;
+      reserves = sound.head.reserves;
+      sums = sound.head.sums;
       job = job-fits (chart s).fields.job refl;
       slots = sound.slots.decode;
       undos = λ p within. undo-fits p _ within refl;
@@ -180,6 +198,22 @@ module _ (s : State) (board : IsBoard s) where
         subst (λ (k : ℕ). k < slice_index (chart s).fields.fills e) (mod-mul-add e s.shape.rows i within)
         (subst (λ (k : ℕ). (e * s.shape.rows + i) % s.shape.rows < slice_index (chart s).fields.fills k) (div-mul-add e s.shape.rows i within) (sound.rows.filled p _ named))
 
+    stands-at : (e : ℕ) → IsPlaced s.shape (chart s).fields.positions e → Stands s.shape (chart s).fields.positions e
+    stands-at e (k, less, is) = (k, omega (arith, less), is)
+
+    abbrev Home : ℕ → Type 0
+    Home e = IsPlaced s.shape (chart s).fields.positions e ⊎ ((v : ℕ) × ((chart s).fields.job ≡ Some (Switch v)) × IsPlaced s.shape (chart s).fields.positions v × IsSpare s.shape (chart s).fields.positions e)
+
+    placed-stands : (e : ℕ) → Home e → Stands s.shape (chart s).fields.positions e ⊎ ((v : ℕ) × ((chart s).fields.job ≡ Some (Switch v)) × Stands s.shape (chart s).fields.positions v × IsSpare s.shape (chart s).fields.positions e)
+    placed-stands e (inl placed) = inl (stands-at e placed)
+    placed-stands e (inr (v, job, placed, spare)) = inr (v, job, stands-at v placed, spare)
+
+    not-reserved : (e : ℕ) → Home e → IsReserved s.shape (chart s).fields.positions e → ⊥
+    not-reserved e (inl (j, less, at)) (k, more, below, is) =
+        let same : j ≡ k = sound.numbers.apart j k (omega (arith, less)) below (at ∙ sym is) in
+        omega (arith, less, more, same)
+    not-reserved e (inr (v, job, placed, spare)) (k, more, below, is) = spare.nowhere k below is
+
     -- on a sound map every point holds
     pub sound-points : (x : Rule) → Holds x (chart s)
     sound-points A = sound-decodes
@@ -189,8 +223,9 @@ module _ (s : State) (board : IsBoard s) where
     sound-points E = λ p q named. (sound.rows.filled p q named, sound.rows.claimed p q named)
     sound-points F = sound.blanks.above
     sound-points G = sound.blanks.idle
-    sound-points H = sound.homes.kept
+    sound-points H = λ p q named. placed-stands (q / s.shape.rows) (sound.homes.kept p q named)
     sound-points I = sound-stands
     sound-points J = λ v e i (job, placed) spare within (p, kept) (r, origin). (sound.job.copies v e job placed spare).once p r i (kept-low p e i within kept) kept origin
     sound-points K = sound.slots.few
     sound-points L = sound.slots.in_use
+    sound-points M = λ p q named there. not-reserved (q / s.shape.rows) (sound.homes.kept p q named) there

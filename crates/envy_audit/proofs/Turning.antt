@@ -1,7 +1,7 @@
 -- What a turn of a loop finds.
 use Rattle.std.proofs.Common.{◌≡◌, ◌⊎◌, ◌↔◌, ℕ, suc, ◌+◌, ◌-◌, ◌*◌, ◌/◌, ◌%◌, ◌^◌, ◌<◌, ◌≤◌, Bool, true, false, IsTrue, List, [], length, get_or, refl, sym, ◌∙◌, ap, subst, inl, inr, arith, Option, Some, None, is_some, not, Result, Ok, Err}
 use Rattle.std.specs.Prelude.{slice_index, slice_index_or}
-use Rattle.std.proofs.lemmas.Bool.{false≢true}
+use Rattle.std.proofs.lemmas.Bool.{cases_lt, false≢true}
 use Rattle.std.proofs.lemmas.Nat.{mul-add-lt, div-mul-add, div-add-mod'}
 use Rattle.std.proofs.lemmas.List.{ext_get_or, get_or-replicate, length-replicate}
 use Rattle.std.proofs.Math.Nat.{div-lt_iff_lt-mul, mod-lt}
@@ -12,11 +12,12 @@ use Rattle.envy_base.specs.declared.fields.Job.{Job}
 use Rattle.envy_base.specs.declared.fields.Job.TheVariants.{Copy, Switch}
 use Rattle.envy_base.specs.State.{ones}
 use Rattle.envy_map.specs.Fields.{Chart}
-use Rattle.envy_layout.specs.Sound.{IsPlaced, IsSpare}
-use Rattle.envy_audit.specs.Finding.{FindsSwitch, Tells}
+use Rattle.envy_base.specs.Shape.{all_positions_of, positions_of}
+use Rattle.envy_layout.specs.Sound.{IsPlaced, IsReserved, IsSpare}
+use Rattle.envy_audit.specs.Finding.{FindsSwitch, IsSwitching, Tells}
 use Rattle.envy_audit.specs.Copying.{OriginsStand, KeptAreCopied, CopiesAreSame}
-use Rattle.envy_audit.specs.Points.{rows_of, Switches, CopiesOf, JobStands, Decodes, IsJobOf}
-use Rattle.envy_audit.specs.Tables.{MarksPlaced}
+use Rattle.envy_audit.specs.Points.{rows_of, Stands, Switches, CopiesOf, JobStands, PositionsDiffer, Decodes, IsJobOf}
+use Rattle.envy_audit.specs.Tables.{MarksPlaced, MarksUsed}
 
 pub not-so : {P : Type 0} (b : Bool) → IsTrue b ↔ P → b ≡ false → P → ⊥
 not-so b tells is fact = false≢true (sym is ∙ tells.1 fact)
@@ -37,18 +38,22 @@ module _ (c : Chart) (placed : List Bool) (marks : MarksPlaced c placed) (s : �
   pub is-spare : slice_index_or placed s false ≡ false → IsSpare c.shape c.fields.positions s
   is-spare none = record { segment = within; nowhere = λ k below is. false≢true (sym none ∙ (marks.marks s within).1 (k, below, is)) }
 
-  pub is-placed : slice_index_or placed s false ≡ true → IsPlaced c.shape c.fields.positions s
+  pub not-spare : {P : Type 0} → slice_index_or placed s false ≡ true → IsSpare c.shape c.fields.positions s → P
+  not-spare there spare = let (k, below, is) = (marks.marks s within).0 there in absurd (spare.nowhere k below is)
+
+  pub spare-unmarked : IsSpare c.shape c.fields.positions s → slice_index_or placed s false ≡ false
+  spare-unmarked spare = by_mark (slice_index_or placed s false) refl
+    where
+      by_mark : (b : Bool) → slice_index_or placed s false ≡ b → slice_index_or placed s false ≡ false
+      by_mark true e = not-spare e spare
+      by_mark false e = e
+
+module _ (c : Chart) (used : List Bool) (marks : MarksUsed c used) (s : ℕ) (within : s < c.shape.segments) where
+  pub is-placed : slice_index_or used s false ≡ true → IsPlaced c.shape c.fields.positions s
   is-placed there = (marks.marks s within).0 there
 
-  pub placed-or-spare : IsPlaced c.shape c.fields.positions s ⊎ IsSpare c.shape c.fields.positions s
-  placed-or-spare = by_mark (slice_index_or placed s false) refl
-    where
-      by_mark : (b : Bool) → slice_index_or placed s false ≡ b → IsPlaced c.shape c.fields.positions s ⊎ IsSpare c.shape c.fields.positions s
-      by_mark true e = inl (is-placed e)
-      by_mark false e = inr (is-spare e)
-
-pub placed-not-spare : {P : Type 0} (c : Chart) (s : ℕ) → IsPlaced c.shape c.fields.positions s → IsSpare c.shape c.fields.positions s → P
-placed-not-spare c s (k, below, is) spare = absurd (spare.nowhere k below is)
+  pub not-placed : {P : Type 0} → slice_index_or used s false ≡ false → IsPlaced c.shape c.fields.positions s → P
+  not-placed none placed = absurd (false≢true (sym none ∙ (marks.marks s within).1 placed))
 
 pub in-rows : (sh told : Shape) (q row : ℕ) → told ≡ sh → told.segments * told.rows ≤ row → q < rows_of sh → q < row
 in-rows sh told q row is past within = omega (arith, ap (λ (x : Shape). x.segments * x.rows) is)
@@ -68,21 +73,68 @@ not-ones xs k w below read other is = other (read ∙ (ap (λ (ys : List ℕ). g
 pub same-words : (xs ys : List ℕ) → length xs ≡ 32 → length ys ≡ 32 → ((k : ℕ) → k < 32 → get_or xs k 0 ≡ get_or ys k 0) → xs ≡ ys
 same-words xs ys long long' each = ext_get_or 0 xs ys (long ∙ sym long') (λ k below. each k (omega (arith, below, long)))
 
--- a switch that was found
-pub found : (c : Chart) (o : Option ℕ) (b : Bool) → FindsSwitch c (Ok o) → b ≡ is_some o → b ≡ true → (v : ℕ) × Switches c v
-found c None b finds is sure = absurd (false≢true (sym is ∙ sure))
-found c (Some v) b finds is sure = (v, finds)
+-- where a kept row may lie
+module _ (c : Chart) (placed : List Bool) (marks : MarksPlaced c placed) (switching : Bool) (switches : IsTrue switching ↔ IsSwitching c)
+    (s : ℕ) (within : s < c.shape.segments) (home : Bool) (tells : IsTrue home ↔ (IsTrue (slice_index_or placed s false) ⊎ IsTrue switching)) where
+  abbrev IsHome : Type 0
+  IsHome = Stands c.shape c.fields.positions s ⊎ ((v : ℕ) × (c.fields.job ≡ Some (Switch v)) × Stands c.shape c.fields.positions v × IsSpare c.shape c.fields.positions s)
 
--- where no switch is found there is none
-pub not-found : {P : Type 0} (c : Chart) (o : Option ℕ) (b : Bool) → FindsSwitch c (Ok o) → b ≡ is_some o → b ≡ false → (v : ℕ) → Switches c v → P
-not-found c None b finds is nothing v switches = absurd (finds v switches)
-not-found c (Some w) b finds is nothing v switches = absurd (false≢true (sym nothing ∙ is))
+  pub is-home : home ≡ true → IsHome
+  is-home sure = elim (tells.0 sure) [
+    | inl there ↦ inl ((marks.marks s within).0 there)
+    | inr goes ↦ by_mark goes (slice_index_or placed s false) refl
+  ]
+    where
+      by_mark : IsTrue switching → (b : Bool) → slice_index_or placed s false ≡ b → IsHome
+      by_mark goes true there = inl ((marks.marks s within).0 there)
+      by_mark goes false none = let (v, job, stands) = switches.0 goes in inr (v, job, stands, is-spare c placed marks s within none)
+
+  pub no-home : {P : Type 0} → home ≡ false → IsHome → P
+  no-home none (inl here) = absurd (false≢true (sym none ∙ tells.1 (inl ((marks.marks s within).1 here))))
+  no-home none (inr (v, job, stands, spare)) = absurd (false≢true (sym none ∙ tells.1 (inr (switches.1 (v, job, stands)))))
+
+-- whether a segment is at a position in reserve
+module _ (c : Chart) (placed used : List Bool) (marks : MarksPlaced c placed) (in_use : MarksUsed c used) (apart : PositionsDiffer c) (s : ℕ) (within : s < c.shape.segments) (reserved : Bool)
+    (tells : IsTrue reserved ↔ (IsTrue (slice_index_or placed s false) × (slice_index_or used s false ≡ false))) where
+  pub is-reserved : reserved ≡ true → IsReserved c.shape c.fields.positions s
+  is-reserved sure =
+      let (there, unused) = tells.0 sure in
+      let (k, below, is) = (marks.marks s within).0 there in
+      by_place unused k below is (cases_lt k (positions_of c.shape))
+    where
+      by_place : slice_index_or used s false ≡ false → (k : ℕ) → k < all_positions_of c.shape → slice_index c.fields.positions k ≡ s → (k < positions_of c.shape) ⊎ (positions_of c.shape ≤ k) → IsReserved c.shape c.fields.positions s
+      by_place unused k below is (inl less) = not-placed c used in_use s within unused (k, less, is)
+      by_place unused k below is (inr more) = (k, more, below, is)
+
+  pub not-reserved : {P : Type 0} → reserved ≡ false → IsReserved c.shape c.fields.positions s → P
+  not-reserved none (k, more, below, is) = by_mark (slice_index_or used s false) refl
+    where
+      by_mark : {P : Type 0} → (b : Bool) → slice_index_or used s false ≡ b → P
+      by_mark true there =
+          let (j, less, at) = is-placed c used in_use s within there in
+          let same : j ≡ k = apart j k (omega (arith, less)) below (at ∙ sym is) in
+          absurd (omega (arith, less, more, same))
+      by_mark false unused = absurd (false≢true (sym none ∙ tells.1 ((marks.marks s within).1 (k, below, is), unused)))
 
 pub of-rows : (sh told : Shape) (row : ℕ) → told ≡ sh → row < told.segments * told.rows → row < rows_of sh
 of-rows sh told row is within = omega (arith, ap (λ (x : Shape). x.segments * x.rows) is)
 
 pub at-rows : (xs : List Bool) (sh told : Shape) (row : ℕ) (b : Bool) → told ≡ sh → slice_index_or xs (row / told.rows) false ≡ b → slice_index_or xs (row / sh.rows) false ≡ b
 at-rows xs sh told row b is at = ap (λ (x : Shape). slice_index_or xs (row / x.rows) false) (sym is) ∙ at
+
+-- whether it is one where a kept row may lie, by the board's own numbers
+pub home-at : (placed : List Bool) (sh told : Shape) (row : ℕ) (switching home : Bool) → told ≡ sh
+    → IsTrue home ↔ (IsTrue (slice_index_or placed (row / told.rows) false) ⊎ IsTrue switching)
+    → IsTrue home ↔ (IsTrue (slice_index_or placed (row / sh.rows) false) ⊎ IsTrue switching)
+home-at placed sh told row switching home is tells =
+    subst (λ (x : Shape). IsTrue home ↔ (IsTrue (slice_index_or placed (row / x.rows) false) ⊎ IsTrue switching)) is tells
+
+-- and whether it is one in reserve
+pub reserved-at : (placed used : List Bool) (sh told : Shape) (row : ℕ) (reserved : Bool) → told ≡ sh
+    → IsTrue reserved ↔ (IsTrue (slice_index_or placed (row / told.rows) false) × (slice_index_or used (row / told.rows) false ≡ false))
+    → IsTrue reserved ↔ (IsTrue (slice_index_or placed (row / sh.rows) false) × (slice_index_or used (row / sh.rows) false ≡ false))
+reserved-at placed used sh told row reserved is tells =
+    subst (λ (x : Shape). IsTrue reserved ↔ (IsTrue (slice_index_or placed (row / x.rows) false) × (slice_index_or used (row / x.rows) false ≡ false))) is tells
 
 -- row i of a segment
 pub row-in : (sh : Shape) (v i : ℕ) → v < sh.segments → i < sh.rows → v * sh.rows + i < rows_of sh

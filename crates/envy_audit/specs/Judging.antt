@@ -1,12 +1,14 @@
 -- What a verdict says of a board.
-use Rattle.std.specs.Prelude.{ℕ, ◌<◌, Option, Some, None}
-use Rattle.envy_map.specs.Fields.{Chart, IsFormatted}
+use Rattle.std.specs.Prelude.{◌≡◌, ℕ, ◌<◌, Option, Some, None}
+use Rattle.envy_base.specs.Shape.{IsVersionOf}
+use Rattle.envy_map.specs.Codes.{the_magic}
+use Rattle.envy_map.specs.Fields.{Chart}
 use Rattle.envy_layout.specs.Sound.{IsSound}
 use Rattle.envy_audit.specs.declared.verdict.Rule.{Rule}
-use Rattle.envy_audit.specs.declared.verdict.Rule.TheVariants.{A, B, C, D, E, F, G, H, I, J, K, L}
+use Rattle.envy_audit.specs.declared.verdict.Rule.TheVariants.{A, B, C, D, E, F, G, H, I, J, K, L, M}
 use Rattle.envy_audit.specs.declared.verdict.Verdict.{Verdict}
 use Rattle.envy_audit.specs.declared.verdict.Verdict.TheVariants.{Sound, Unformatted, Broken}
-use Rattle.envy_audit.specs.Points.{Decodes, PositionsDiffer, FramesDiffer, RowsDiffer, KeptAreClaimed, FreeAreOnes, IdleSpareIsEmpty, KeptArePlaced, JobStands, KeptOnce, FewAreOwned, UndosAreInUse}
+use Rattle.envy_audit.specs.Points.{Decodes, PositionsDiffer, FramesDiffer, RowsDiffer, KeptAreClaimed, FreeAreOnes, IdleSpareIsEmpty, KeptArePlaced, JobStands, KeptOnce, FewAreOwned, UndosAreInUse, ReservesAreUnkept}
 
 -- the point of this letter
 abbrev pub Holds : Rule → Chart → Type 0
@@ -22,6 +24,7 @@ Holds I c = JobStands c
 Holds J c = KeptOnce c
 Holds K c = FewAreOwned c
 Holds L c = UndosAreInUse c
+Holds M c = ReservesAreUnkept c
 
 -- the place of a letter in the order
 abbrev pub number_of : Rule → ℕ
@@ -37,21 +40,26 @@ number_of I = 8
 number_of J = 9
 number_of K = 10
 number_of L = 11
+number_of M = 12
 
 -- every point that stands before this one
 abbrev pub Before : Rule → Chart → Type 0
 Before x c = (y : Rule) → number_of y < number_of x → Holds y c
 
+-- the map of a formatted board, of a version of the board's own shape
+abbrev pub IsFormattedAs : Chart → Type 0
+IsFormattedAs c = (c.fields.magic ≡ the_magic) × IsVersionOf c.shape c.fields.version
+
 -- the board is formatted, and this is the first point that fails
 pub record BreaksFirst (x : Rule) (c : Chart) : Type 0 where
-  pub formatted : IsFormatted c.fields
+  pub formatted : IsFormattedAs c
   pub before : Before x c
   pub fails : Holds x c → ⊥
 
 -- when a verdict is right
 abbrev pub Judges : Verdict → Chart → Type 0
-Judges Sound c = IsFormatted c.fields × IsSound c
-Judges Unformatted c = IsFormatted c.fields → ⊥
+Judges Sound c = IsFormattedAs c × IsSound c
+Judges Unformatted c = IsFormattedAs c → ⊥
 Judges (Broken x) c = BreaksFirst x c
 
 -- the first point that fails, or none where all hold

@@ -1,5 +1,5 @@
 -- The points of soundness one by one, in the order in which an audit asks them.
-use Rattle.std.specs.Prelude.{◌≡◌, ◌≢◌, ◌⊎◌, ℕ, ◌+◌, ◌-◌, ◌*◌, ◌/◌, ◌%◌, ◌<◌, ◌≤◌, ⊤, [], Option, None, Some, slice_index, slice_index_or, count_by}
+use Rattle.std.specs.Prelude.{◌≡◌, ◌≢◌, ◌⊎◌, ℕ, ◌+◌, ◌-◌, ◌*◌, ◌/◌, ◌%◌, ◌<◌, ◌≤◌, ⊤, List, [], Option, None, Some, slice_index, slice_index_or, count_by}
 use Rattle.envy_base.specs.declared.shape.Shape.{Shape}
 use Rattle.envy_base.specs.declared.fields.Job.{Job}
 use Rattle.envy_base.specs.declared.fields.Job.TheVariants.{Idle, Copy, Switch, Erase}
@@ -10,8 +10,8 @@ use Rattle.envy_base.specs.declared.fields.Undo.{Undo}
 use Rattle.envy_base.specs.declared.fields.Undo.TheVariants.{Clear, Blank, Shadow}
 use Rattle.envy_base.specs.State.{ones}
 use Rattle.envy_map.specs.Fields.{Chart, sizes_of, place, undo, slot}
-use Rattle.envy_layout.specs.Sound.{Names, IsKept, IsPlaced, IsSpare, slots_of, slot_named, owned_by}
-use Rattle.envy_base.specs.Shape.{positions_of}
+use Rattle.envy_layout.specs.Sound.{Names, IsKept, IsPlaced, IsReserved, IsSpare, slots_of, slot_named, owned_by}
+use Rattle.envy_base.specs.Shape.{all_positions_of, IsVersionOf}
 
 -- the number of rows of a board
 abbrev pub rows_of : Shape → ℕ
@@ -39,24 +39,26 @@ IsUndoOf sh slots (Some Clear) = ⊤
 IsUndoOf sh slots (Some (Blank t)) = t < slots
 IsUndoOf sh slots (Some (Shadow t q)) = (t < slots) × (q < rows_of sh)
 
--- (a) The board's own shape is kept, in version 1 or 2. Every field decodes, every number in it is in its
--- range, and an undo that isn't clear names one of the version's slots.
+-- (a) The board's own shape is kept, in a version of it; version 3 keeps reserves and sums too. Every field decodes,
+-- every number in it is in its range, and an undo that isn't clear names one of the version's slots.
 pub record Decodes (c : Chart) : Type 0 where
   pub sizes : c.fields.sizes ≡ sizes_of c.shape
-  pub version : (c.fields.version ≡ 1) ⊎ (c.fields.version ≡ 2)
+  pub version : IsVersionOf c.shape c.fields.version
+  pub reserves : c.fields.version ≡ 3 → c.fields.reserves ≡ c.shape.reserves
+  pub sums : c.fields.version ≡ 3 → c.fields.sums ≡ c.shape.sums
   pub job : IsJobOf c.shape c.fields.job
   pub slots : (t : ℕ) → t < slots_of c.fields.version → slot c.fields t ≢ None
   pub undos : (p : ℕ) → p < c.shape.pages → IsUndoOf c.shape (slots_of c.fields.version) (undo c.fields p)
   pub places : (p : ℕ) → p < c.shape.pages → IsPlaceOf c.shape (place c.fields p)
   pub fills : (s : ℕ) → s < c.shape.segments → slice_index c.fields.fills s ≤ c.shape.rows
-  pub positions : (k : ℕ) → k < positions_of c.shape → slice_index c.fields.positions k < c.shape.segments
+  pub positions : (k : ℕ) → k < all_positions_of c.shape → slice_index c.fields.positions k < c.shape.segments
   pub backs : (q : ℕ) → q < rows_of c.shape → slice_index c.fields.backs q < c.shape.pages
   pub origins : (i : ℕ) → i < c.shape.rows → slice_index c.fields.origins i < rows_of c.shape
 
 -- (b) No two positions name one segment.
 abbrev pub PositionsDiffer : Chart → Type 0
 PositionsDiffer c =
-    (i j : ℕ) → i < positions_of c.shape → j < positions_of c.shape → slice_index c.fields.positions i ≡ slice_index c.fields.positions j → i ≡ j
+    (i j : ℕ) → i < all_positions_of c.shape → j < all_positions_of c.shape → slice_index c.fields.positions i ≡ slice_index c.fields.positions j → i ≡ j
 
 -- (c) No two places name one frame.
 abbrev pub FramesDiffer : Chart → Type 0
@@ -82,16 +84,20 @@ abbrev pub IdleSpareIsEmpty : Chart → Type 0
 IdleSpareIsEmpty c =
     (e : ℕ) → c.fields.job ≡ Some Idle → IsSpare c.shape c.fields.positions e → slice_index c.fields.fills e ≡ 0
 
--- a switch from a segment at a position is going on
+-- a switch from a segment at a position in use is going on
 abbrev pub Switches : Chart → ℕ → Type 0
 Switches c v = (c.fields.job ≡ Some (Switch v)) × IsPlaced c.shape c.fields.positions v
 
--- (h) Kept rows lie in segments at positions, or in the spare while a segment at a position is switched.
+-- a segment is at a position, in use or in reserve
+abbrev pub Stands : Shape → List ℕ → ℕ → Type 0
+Stands sh positions s = (k : ℕ) × (k < all_positions_of sh) × (slice_index positions k ≡ s)
+
+-- (h) Kept rows lie in segments at positions, or in the spare while a segment at one is switched.
 abbrev pub KeptArePlaced : Chart → Type 0
 KeptArePlaced c =
     (p q : ℕ) → Names c.fields p q
-    → IsPlaced c.shape c.fields.positions (q / c.shape.rows)
-    ⊎ ((v : ℕ) × (c.fields.job ≡ Some (Switch v)) × IsPlaced c.shape c.fields.positions v × IsSpare c.shape c.fields.positions (q / c.shape.rows))
+    → Stands c.shape c.fields.positions (q / c.shape.rows)
+    ⊎ ((v : ℕ) × (c.fields.job ≡ Some (Switch v)) × Stands c.shape c.fields.positions v × IsSpare c.shape c.fields.positions (q / c.shape.rows))
 
 -- What the spare e holds while segment v is switched: copies of rows of v that differ from each other, among
 -- them every kept row of v. A copy of a kept row equals it and was claimed for the same page.
@@ -101,14 +107,14 @@ pub record CopiesOf (c : Chart) (v e : ℕ) : Type 0 where
   pub all : (p q : ℕ) → Names c.fields p q → q / c.shape.rows ≡ v → (i : ℕ) × (i < slice_index c.fields.fills e) × (slice_index c.fields.origins i ≡ q)
   pub same : (i : ℕ) → i < slice_index c.fields.fills e → IsKept c.fields (slice_index c.fields.origins i) → (slice_index_or c.flash (e * c.shape.rows + i) [] ≡ slice_index_or c.flash (slice_index c.fields.origins i) []) × (slice_index c.fields.backs (e * c.shape.rows + i) ≡ slice_index c.fields.backs (slice_index c.fields.origins i))
 
--- (i) A segment that is copied stands at a position. One that is switched stands at a position or is the spare,
--- and where it stands at a position the spare holds its copies.
+-- (i) A segment that is copied stands at a position in use. One that is switched stands at one or is the spare,
+-- and where it stands at one the spare holds its copies.
 pub record JobStands (c : Chart) : Type 0 where
   pub copied : (v : ℕ) → c.fields.job ≡ Some (Copy v) → IsPlaced c.shape c.fields.positions v
   pub switched : (v : ℕ) → c.fields.job ≡ Some (Switch v) → IsPlaced c.shape c.fields.positions v ⊎ IsSpare c.shape c.fields.positions v
   pub copies : (v e : ℕ) → Switches c v → IsSpare c.shape c.fields.positions e → CopiesOf c v e
 
--- (j) While a segment at a position is switched, a kept row of the spare is no copy of a kept row.
+-- (j) While a segment at a position in use is switched, a kept row of the spare is no copy of a kept row.
 abbrev pub KeptOnce : Chart → Type 0
 KeptOnce c =
     (v e i : ℕ) → Switches c v → IsSpare c.shape c.fields.positions e → i < c.shape.rows
@@ -121,3 +127,7 @@ FewAreOwned c = count_by (owned_by c.fields.slots) c.fields.undos ≤ c.shape.sh
 -- (l) An undo that isn't clear names a slot that isn't vacant.
 abbrev pub UndosAreInUse : Chart → Type 0
 UndosAreInUse c = (p t : ℕ) → slot_named (undo c.fields p) ≡ Some t → slot c.fields t ≢ Some Vacant
+
+-- (m) No kept row lies in a segment at a position in reserve.
+abbrev pub ReservesAreUnkept : Chart → Type 0
+ReservesAreUnkept c = (p q : ℕ) → Names c.fields p q → IsReserved c.shape c.fields.positions (q / c.shape.rows) → ⊥

@@ -1,16 +1,22 @@
 -- The tables that an audit fills from the map.
 use Rattle.std.specs.Prelude.{◌≡◌, ◌≢◌, ◌↔◌, ◌⊎◌, ℕ, suc, ◌<◌, Bool, true, false, IsTrue, List, length, slice_index, slice_index_or, slice_set, ⊤, Result, Ok, Err}
 use Rattle.envy_base.specs.declared.board.Off.{Off}
+use Rattle.envy_base.specs.declared.shape.Shape.{Shape}
 use Rattle.envy_base.specs.declared.fields.Place.{Place}
 use Rattle.envy_base.specs.declared.fields.Place.TheVariants.{Absent, Row, Frame}
 use Rattle.envy_map.specs.Fields.{Chart}
 use Rattle.envy_layout.specs.Sound.{Names, IsPlaced}
-use Rattle.envy_audit.specs.Points.{rows_of}
+use Rattle.envy_audit.specs.Points.{rows_of, Stands}
 
 -- which segments stand at positions
 pub record MarksPlaced (c : Chart) (placed : List Bool) : Type 0 where
   pub long : length placed ≡ c.shape.segments
-  pub marks : (s : ℕ) → s < c.shape.segments → IsTrue (slice_index_or placed s false) ↔ IsPlaced c.shape c.fields.positions s
+  pub marks : (s : ℕ) → s < c.shape.segments → IsTrue (slice_index_or placed s false) ↔ Stands c.shape c.fields.positions s
+
+-- which of them stand at positions in use
+pub record MarksUsed (c : Chart) (used : List Bool) : Type 0 where
+  pub long : length used ≡ c.shape.segments
+  pub marks : (s : ℕ) → s < c.shape.segments → IsTrue (slice_index_or used s false) ↔ IsPlaced c.shape c.fields.positions s
 
 -- which page keeps a row: its number and 1, or 0 where none does
 pub record NotesOwners (c : Chart) (owners : List ℕ) : Type 0 where

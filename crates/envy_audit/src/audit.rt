@@ -1,14 +1,13 @@
 ghost use Rattle.std.specs.Prelude.{◌≡◌, false, IfOk, IsTrue, MatchResult};
 ghost use Rattle.envy_base.specs.Shape.{IsShape};
-ghost use Rattle.envy_map.specs.Fields.{chart, IsFormatted};
-ghost use Rattle.envy_audit.specs.Judging.{FindsFirst, Judges};
+ghost use Rattle.envy_map.specs.Fields.{chart};
+ghost use Rattle.envy_audit.specs.Judging.{FindsFirst, IsFormattedAs, Judges};
 
-use crate::decoding::decodes;
+use crate::decoding::{decodes, is_formatted_as_its_shape};
 use crate::sequence::first_of_kept;
-use crate::tables::{mark_frames, mark_placed, note_owners};
+use crate::tables::{mark_frames, mark_placed, mark_used, note_owners};
 use crate::{Rule, Verdict};
 use envy_base::{Board, Off, Shape};
-use envy_map::is_formatted;
 use std::alloc::{AllocError, Global};
 use std::marker::Model;
 
@@ -20,6 +19,8 @@ pub type NoMemory = AllocError;
 pub struct Audit {
     // The segments that stand at positions.
     placed: Vec<bool>,
+    // Those of them that stand at positions in use.
+    used: Vec<bool>,
     // The frames that places name.
     named: Vec<bool>,
     // For each row the page that keeps it and 1, or 0.
@@ -37,7 +38,7 @@ impl Model for Audit {
 
     ghost view = { λ a. a.shape };
 
-    ghost invariant = { λ a. (vec_len a.placed ≡ a.shape.segments) × (vec_len a.named ≡ a.shape.frames)
+    ghost invariant = { λ a. (vec_len a.placed ≡ a.shape.segments) × (vec_len a.used ≡ a.shape.segments) × (vec_len a.named ≡ a.shape.frames)
         × (vec_len a.owners ≡ a.shape.segments * a.shape.rows) × (vec_len a.copied ≡ a.shape.segments * a.shape.rows) };
 }
 
@@ -54,6 +55,7 @@ impl Audit {
         let rows = (shape.segments * shape.rows) as usize;
         Ok(Audit {
             placed: vec![in alloc; false; shape.segments as usize]?,
+            used: vec![in alloc; false; shape.segments as usize]?,
             named: vec![in alloc; false; shape.frames as usize]?,
             owners: vec![in alloc; 0; rows]?,
             copied: vec![in alloc; false; rows]?,
@@ -72,7 +74,7 @@ impl Audit {
             MatchResult result (λ verdict. IsTrue c.on × Judges verdict c) (λ _. c.on ≡ false) }
         ensures kept { self.new ≡ self.old }
     {
-        let formatted = is_formatted(board)?;
+        let formatted = is_formatted_as_its_shape(board)?;
         if !formatted {
             return Ok(Verdict::Unformatted);
         }
@@ -86,7 +88,7 @@ impl Audit {
     // The first point that fails.
     fn first_broken<B: Board>(&mut self, board: &B) -> Result<Option<Rule>, Off>
         requires shape { (B.state board.now).shape ≡ self.old }
-        requires formatted { IsFormatted (chart (B.state board.now)).fields }
+        requires formatted { IsFormattedAs (chart (B.state board.now)) }
         ensures finds { let c = chart (B.state board.now) in MatchResult result (FindsFirst c) (λ _. c.on ≡ false) }
         ensures kept { self.new ≡ self.old }
     {
@@ -99,6 +101,7 @@ impl Audit {
         if !positions {
             return Ok(Some(Rule::B));
         }
+        mark_used(board, &mut self.used)?;
         let frames = mark_frames(board, &mut self.named)?;
         if !frames {
             return Ok(Some(Rule::C));
@@ -107,6 +110,12 @@ impl Audit {
         if !rows {
             return Ok(Some(Rule::D));
         }
-        first_of_kept(board, &self.placed, &self.owners, &mut self.copied)
+        first_of_kept(
+            board,
+            &self.placed,
+            &self.used,
+            &self.owners,
+            &mut self.copied,
+        )
     }
 }

@@ -1,13 +1,34 @@
-ghost use Rattle.std.specs.Prelude.{◌≡◌, ◌≢◌, ◌↔◌, ℕ, ◌-◌, ◌*◌, ◌<◌, ◌≤◌, false, IsTrue, Some, None, IfOk, OnErr, slice_index};
-ghost use Rattle.envy_map.specs.Fields.{chart, sizes_of, place, undo, slot, IsFormatted};
+ghost use Rattle.std.specs.Prelude.{◌≡◌, ◌≢◌, ◌↔◌, ℕ, ◌-◌, ◌*◌, ◌<◌, ◌≤◌, false, IsTrue, Some, None, IfOk, OnErr, MatchResult, slice_index};
+ghost use Rattle.envy_map.specs.Fields.{chart, sizes_of, place, undo, slot};
 ghost use Rattle.envy_layout.specs.Sound.{slots_of};
 ghost use Rattle.envy_audit.specs.Finding.{Tells};
 ghost use Rattle.envy_audit.specs.Points.{Decodes, IsJobOf, IsPlaceOf, IsUndoOf, rows_of};
-ghost use Rattle.envy_audit.specs.Finding.{PagesDecode, NumbersFit};
-ghost use Rattle.envy_base.specs.Shape.{positions_of};
+ghost use Rattle.envy_audit.specs.Finding.{KeepsExtras, PagesDecode, NumbersFit};
+ghost use Rattle.envy_audit.specs.Judging.{IsFormattedAs};
+ghost use Rattle.envy_base.specs.Shape.{all_positions_of, IsVersionOf};
 
-use envy_base::{Board, Job, Off, Place, Shape, Undo, positions_of};
-use envy_map::{probe, version};
+use envy_base::{Board, Job, Off, Place, Shape, Undo, all_positions_of, version_of};
+use envy_map::{MAGIC, probe, version};
+
+// Whether a board of this shape may have the version.
+fn is_version_of(shape: &Shape, version: u64) -> bool
+    ensures { IsTrue result ↔ IsVersionOf shape.now version }
+{
+    let own = version_of(shape);
+    version == own || version == 1 && own == 2
+}
+
+/// Whether the first word is the magic one, and the version is one of the board's shape.
+pub(crate) fn is_formatted_as_its_shape<B: Board>(board: &B) -> Result<bool, Off>
+    ensures { MatchResult result
+        (λ formatted. IsTrue (B.state board.now).on
+        × (IsTrue formatted ↔ IsFormattedAs (chart (B.state board.now))))
+        (λ _. (B.state board.now).on ≡ false) }
+{
+    let magic = board.get(0)?;
+    let version = version(board)?;
+    Ok(magic == MAGIC && is_version_of(&board.shape(), version))
+}
 
 fn is_job_of(shape: &Shape, job: Option<Job>) -> bool
     ensures { IsTrue result ↔ IsJobOf shape.now job }
@@ -58,6 +79,20 @@ fn keeps_shape<B: Board>(board: &B) -> Result<bool, Off>
         return Ok(false);
     }
     Ok(pools == shape.frames as u64 * 0x1_0000_0000 + shape.entries as u64)
+}
+
+// Whether the map keeps the board's reserves and sums, if its version has words for them.
+fn keeps_extras<B: Board>(board: &B) -> Result<bool, Off>
+    ensures { let c = chart (B.state board.now) in Tells c.on (KeepsExtras c) result }
+{
+    let version = version(board)?;
+    if version != 3 {
+        return Ok(true);
+    }
+    let shape = board.shape();
+    let reserves = board.get(6)?;
+    let sums = board.get(7)?;
+    Ok(reserves == shape.reserves as u64 && sums == shape.sums as u64)
 }
 
 // How many slots the board's version has.
@@ -123,10 +158,10 @@ fn fills_fit<B: Board>(board: &B) -> Result<bool, Off>
 
 fn positions_fit<B: Board>(board: &B) -> Result<bool, Off>
     ensures { let c = chart (B.state board.now) in
-        Tells c.on ((k : ℕ) → k < positions_of c.shape → slice_index c.fields.positions k < c.shape.segments) result }
+        Tells c.on ((k : ℕ) → k < all_positions_of c.shape → slice_index c.fields.positions k < c.shape.segments) result }
 {
     let shape = board.shape();
-    for position in 0..positions_of(&shape) {
+    for position in 0..all_positions_of(&shape) {
         if probe::segment_at(board, position)? >= shape.segments as u64 {
             return Ok(false);
         }
@@ -177,12 +212,13 @@ fn numbers_fit<B: Board>(board: &B) -> Result<bool, Off>
 
 /// Whether every field of a formatted board decodes within its range.
 pub(crate) fn decodes<B: Board>(board: &B) -> Result<bool, Off>
-    requires { IsFormatted (chart (B.state board.now)).fields }
+    requires { IsFormattedAs (chart (B.state board.now)) }
     ensures { let c = chart (B.state board.now) in Tells c.on (Decodes c) result }
 {
     let shape = board.shape();
     Ok(
         keeps_shape(board)?
+            && keeps_extras(board)?
             && is_job_of(&shape, probe::job(board)?)
             && pages_decode(board)?
             && numbers_fit(board)?,

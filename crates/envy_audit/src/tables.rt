@@ -1,12 +1,12 @@
-ghost use Rattle.std.specs.Prelude.{◌≡◌, ◌<◌, Some, IfOk, length};
+ghost use Rattle.std.specs.Prelude.{◌≡◌, ◌<◌, Some, false, IfOk, MatchResult, length};
 ghost use Rattle.envy_map.specs.Fields.{chart, place as place_of_page};
 ghost use Rattle.envy_map.specs.Writes.{Gives};
 ghost use Rattle.envy_layout.specs.Words.{kept};
 ghost use Rattle.envy_audit.specs.Finding.{Tells};
 ghost use Rattle.envy_audit.specs.Points.{Decodes, PositionsDiffer, FramesDiffer, RowsDiffer, rows_of};
-ghost use Rattle.envy_audit.specs.Tables.{MarksPlaced, NotesOwners, Notes, IsWithin, Fills};
+ghost use Rattle.envy_audit.specs.Tables.{MarksPlaced, MarksUsed, NotesOwners, Notes, IsWithin, Fills};
 
-use envy_base::{Board, MOST_ROWS, Off, Place, Slot, Undo, positions_of};
+use envy_base::{Board, MOST_ROWS, Off, Place, Slot, Undo, all_positions_of, positions_of};
 use envy_map::{place, segment_at, slot, undo};
 
 /// Notes which segments stand at positions, and answers whether no two positions name one.
@@ -17,7 +17,7 @@ pub(crate) fn mark_placed<B: Board>(board: &B, placed: &mut [bool]) -> Result<bo
     ensures marks { Fills result (MarksPlaced (chart (B.state board.now)) placed.new) }
 {
     placed.fill(false);
-    for position in 0..positions_of(&board.shape()) {
+    for position in 0..all_positions_of(&board.shape()) {
         let segment = segment_at(board, position)? as usize;
         if placed[segment] {
             return Ok(false);
@@ -25,6 +25,21 @@ pub(crate) fn mark_placed<B: Board>(board: &B, placed: &mut [bool]) -> Result<bo
         placed[segment] = true;
     }
     Ok(true)
+}
+
+/// Notes which segments stand at positions in use.
+pub(crate) fn mark_used<B: Board>(board: &B, used: &mut [bool]) -> Result<(), Off>
+    requires decodes { Decodes (chart (B.state board.now)) }
+    requires long { length used.old ≡ (B.state board.now).shape.segments }
+    ensures { let c = chart (B.state board.now) in
+        MatchResult result (λ _. MarksUsed c used.new) (λ _. c.on ≡ false) }
+{
+    used.fill(false);
+    for position in 0..positions_of(&board.shape()) {
+        let segment = segment_at(board, position)? as usize;
+        used[segment] = true;
+    }
+    Ok(())
 }
 
 /// Notes which frames places name, and answers whether no two name one.

@@ -25,6 +25,8 @@ pub enum Rule {
     K,
     /// An undo names a slot in use.
     L,
+    /// No kept row lies in a segment at a position in reserve.
+    M,
 }
 
 /// What an audit finds.
@@ -32,7 +34,7 @@ pub enum Rule {
 pub enum Verdict {
     /// The board is formatted and sound.
     Sound,
-    /// The board isn't formatted.
+    /// The board isn't formatted, or its map has a version that isn't of the board's shape.
     Unformatted,
     /// The board is formatted, and this is the first point that fails.
     Broken(Rule),

@@ -5,3 +5,4 @@ pub mod Rows
 pub mod Total
 pub mod Undoing
 pub mod Working
+pub mod Versions

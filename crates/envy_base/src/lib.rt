@@ -27,5 +27,7 @@ pub use laws::{
     restart_keeps_the_array, step_gives_one_answer, step_keeps_the_array, zeros_are_an_array,
 };
 pub use page::{PAGE_BYTES, PAGE_LENGTH, PAGE_WORDS, Page};
-pub use shape::{MOST_ROWS, MOST_WORDS, Shape, ShapeFault, positions_of};
+pub use shape::{
+    MOST_ROWS, MOST_WORDS, Shape, ShapeFault, all_positions_of, positions_of, version_of,
+};
 pub use words::Words;

@@ -1,5 +1,5 @@
-ghost use Rattle.std.specs.Prelude.{◌≡◌, ◌≤◌, OnOk};
-ghost use Rattle.envy_base.specs.Shape.{IsShape, checked, checked_within, positions_of};
+ghost use Rattle.std.specs.Prelude.{◌≡◌, ◌⊎◌, ◌↔◌, ◌+◌, ◌≤◌, OnOk};
+ghost use Rattle.envy_base.specs.Shape.{IsShape, all_positions_of, checked, checked_within, positions_of, version_of};
 
 use crate::PAGE_WORDS;
 
@@ -24,6 +24,10 @@ pub struct Shape {
     pub frames: u32,
     /// Entries of the translation cache: 1 to 65,536.
     pub entries: u32,
+    /// Positions in reserve, whose segments stand in for those that wear out: at most `segments` - 4.
+    pub reserves: u32,
+    /// Whether each row has a sum: 0, since no board keeps them yet.
+    pub sums: u32,
 }
 
 /// The first rule that a shape breaks.
@@ -31,6 +35,10 @@ pub struct Shape {
 pub enum ShapeFault {
     /// Fewer than 4 segments, or more than 4,096.
     Segments,
+    /// More reserves than `segments` - 4.
+    Reserves,
+    /// Rows with sums, which no board keeps yet.
+    Sums,
     /// Fewer than 2 rows to a segment, or more than 65,536.
     Rows,
     /// No pages.
@@ -39,7 +47,7 @@ pub enum ShapeFault {
     Frames,
     /// No cache entries, or more than 65,536.
     Entries,
-    /// Pages and shadows exceed the rows of all segments but two.
+    /// Pages and shadows exceed the rows of all segments but two and those in reserve.
     Share,
     /// More rows than may be: 16,777,216, or fewer where the caller says so.
     Total,
@@ -65,6 +73,12 @@ impl Shape {
         if shape.segments < 4 || shape.segments > 4096 {
             return Err(ShapeFault::Segments);
         }
+        if shape.reserves > shape.segments - 4 {
+            return Err(ShapeFault::Reserves);
+        }
+        if shape.sums != 0 {
+            return Err(ShapeFault::Sums);
+        }
         if shape.rows < 2 || shape.rows > 65536 {
             return Err(ShapeFault::Rows);
         }
@@ -78,7 +92,7 @@ impl Shape {
             return Err(ShapeFault::Entries);
         }
         if shape.pages as u64 + shape.shadows as u64
-            > (shape.segments - 2) as u64 * shape.rows as u64
+            > (shape.segments - 2 - shape.reserves) as u64 * shape.rows as u64
         {
             return Err(ShapeFault::Share);
         }
@@ -90,9 +104,31 @@ impl Shape {
 }
 
 /// How many positions a board of this shape has: one for each segment but the spare.
-pub fn positions_of(shape: &Shape) -> u32
+pub fn all_positions_of(shape: &Shape) -> u32
     requires some { 1 ≤ shape.now.segments }
-    ensures { result ≡ positions_of shape.now }
+    ensures { result ≡ all_positions_of shape.now }
 {
     shape.segments - 1
+}
+
+/// How many positions are in use: all but the last ones, which are in reserve.
+pub fn positions_of(shape: &Shape) -> u32
+    requires some { 1 + shape.now.reserves ≤ shape.now.segments }
+    ensures { result ≡ positions_of shape.now }
+{
+    all_positions_of(shape) - shape.reserves
+}
+
+/// The version of the map that formatting gives a board of this shape: 2 without reserves and sums, else 3.
+#[tactic(auto, unfolding(crate::specs::Shape::version_of))]
+pub fn version_of(shape: &Shape) -> u64
+    ensures value { result ≡ version_of shape.now }
+    ensures two { result ≡ 2 ↔ (shape.now.reserves ≡ 0) × (shape.now.sums ≡ 0) }
+    ensures known { (result ≡ 2) ⊎ (result ≡ 3) }
+{
+    if shape.reserves == 0 && shape.sums == 0 {
+        2
+    } else {
+        3
+    }
 }

@@ -4,7 +4,9 @@ use Rattle.std.specs.Prelude.{IsTrue, IfOk, IfErr, Result, Ok, Err}
 use Rattle.std.proofs.lemmas.Bool.{false≢true}
 use Rattle.envy_audit.specs.Judging.{BreaksFirst}
 use Rattle.envy_audit.proofs.Sounding.{sound-points}
+use Rattle.envy_base.specs.Shape.{version_of}
 use Rattle.envy_base.specs.State.{IsBoard, State}
+use Rattle.envy_base.proofs.Versions.{version-known}
 use Rattle.envy_base.specs.declared.shape.Shape.{Shape}
 use Rattle.envy_base.proofs.Undoing.{undo_all-closed}
 use Rattle.envy_begun.specs.Beginning.{HasBegun, HasOperationsOf, HasStopped, IsStopped}
@@ -34,7 +36,7 @@ use Rattle.envy_layout.specs.Stands.{Stands}
 use Rattle.envy_layout.specs.Words.{durable}
 use Rattle.envy_map.specs.Codes.{the_magic}
 use Rattle.envy_map.specs.Fields.{Chart, chart, map_fields, shape_of}
-use Rattle.envy_map.proofs.Sizes.{shape_of-sizes_of}
+use Rattle.envy_memory.proofs.AttachLemmas.{formatted-sound, kept-shape}
 use Rattle.envy_memory.specs.Attaching.{Attaches, Declines as AttachDeclines}
 use Rattle.envy_memory.specs.declared.faults.AttachFault.{AttachFault}
 use Rattle.envy_memory.specs.declared.faults.AttachFault.TheVariants.{Off as AttachOff, Setup as AttachSetup, NotFormatted, OtherShape as AttachShape, Memory as AttachMemory}
@@ -60,8 +62,9 @@ still-same file was now given has = record { bytes = has.bytes; coded = given �
 pub has-operations : (file : List ℕ) (c : Chart) (synced : IsSynced c) → operations synced.bytes ≡ operations file → HasOperationsOf file c
 has-operations file c synced same = record { bytes = synced.bytes; coded = synced.coded; same = same }
 
-one-two : (n : ℕ) → n ≡ 1 → n ≡ 2 → ⊥
-one-two n one two = absurd (omega (arith, one, two))
+-- no shape has version 1
+never-first : (sh : Shape) → version_of sh ≡ 1 → ⊥
+never-first sh one = elim (version-known sh) [ inl two ↦ absurd (let no : 1 ≡ 2 = sym one ∙ two in omega (arith, no)) | inr three ↦ absurd (let no : 1 ≡ 3 = sym one ∙ three in omega (arith, no)) ]
 
 module _ (sh : Shape) (file : List ℕ) (s : State) (o : IsOpened sh file s) where
   here : content_of s ≡ holds s.shape (operations file)
@@ -96,7 +99,7 @@ module _ (sh : Shape) (file : List ℕ) (s : State) (o : IsOpened sh file s) whe
     taken-up p synced whole a =
         let words = durable (chart s) in
         let kept : Kept (chart s) p.chart = Attaches.kept a in
-        let good : IsGood (chart s) = record { magic = IsWhole.magic whole; version = IsWhole.version whole; sound = IsWhole.sound whole } in (
+        let good : IsGood (chart s) = record { magic = IsWhole.magic whole; version = IsWhole.version whole ∙ ap version_of (sym over); sound = IsWhole.sound whole } in (
           words,
           subst (λ (x : Shape). OpensAs x words file) over (opens-as (chart s) file good reopens),
           record {
@@ -104,7 +107,7 @@ module _ (sh : Shape) (file : List ℕ) (s : State) (o : IsOpened sh file s) whe
             synced = synced;
             last = record { shape = sym kept.shape; moment = kept.counted.plans; bytes = kept.counted.given };
             magic = IsWhole.magic whole;
-            version = IsWhole.version whole;
+            version = IsGood.version good;
             sound = IsWhole.sound whole;
             words = sym (undo_all-closed 64 words);
             stands = subst (λ (x : Shape). Stands p.chart (fresh x.shadows words)) over (Attaches.stands a);
@@ -118,19 +121,22 @@ module _ (sh : Shape) (file : List ℕ) (s : State) (o : IsOpened sh file s) whe
       magic : (chart s).fields.magic ≡ the_magic
       magic = OpensAs.magic opens s over here
 
-      version : (chart s).fields.version ≡ 2
+      version : (chart s).fields.version ≡ version_of setup.shape
       version = OpensAs.version opens s over here
 
       sound : IsSound (chart s)
       sound = OpensAs.sound opens s over here
 
-      shape : shape_of (chart s).fields.sizes ≡ setup.shape
-      shape = ap shape_of (Head.kept (Sound.head sound)) ∙ shape_of-sizes_of s.shape (IsBoard.shape board) ∙ over
+      own : (chart s).fields.version ≡ version_of s.shape
+      own = version ∙ ap version_of (sym over)
+
+      shape : shape_of (chart s).fields ≡ setup.shape
+      shape = sym (kept-shape (chart s) (shape_of (chart s).fields) (IsBoard.shape board) sound refl) ∙ over
 
       pub not-forbidden : (code : Code) → (code ≡ NoMemory → ⊥) → Forbids code (chart s) setup → ⊥
       not-forbidden NoMemory b alike = b refl
-      not-forbidden Unformatted b never = never (magic, inr version)
-      not-forbidden Older b (m, one) = one-two (chart s).fields.version one version
+      not-forbidden Unformatted b never = never (formatted-sound (chart s) magic sound, (magic, inl own))
+      not-forbidden Older b (m, one) = never-first s.shape (sym own ∙ one)
       not-forbidden OtherShape b (m, v, other) = other shape
       not-forbidden (Broken rule) b (alike, breaks) = BreaksFirst.fails breaks (sound-points s board sound rule)
       not-forbidden (OfSetup fault) b (whole, bad) = absurd (let never = sym checks ∙ bad in cc)
@@ -143,7 +149,7 @@ module _ (sh : Shape) (file : List ℕ) (s : State) (o : IsOpened sh file s) whe
 -- a board that was audited opens as words
 pub opens-whole : (sh : Shape) (file : List ℕ) (s : State) (o : IsOpened sh file s) (setup : Setup) → sh ≡ setup.shape → IsWhole (chart s) setup → (words : List ℕ) × OpensAs setup.shape words file
 opens-whole sh file s o setup is whole =
-    let good : IsGood (chart s) = record { magic = IsWhole.magic whole; version = IsWhole.version whole; sound = IsWhole.sound whole } in
+    let good : IsGood (chart s) = record { magic = IsWhole.magic whole; version = IsWhole.version whole ∙ ap version_of (sym (o.shape ∙ is)); sound = IsWhole.sound whole } in
     (durable (chart s), subst (λ (x : Shape). OpensAs x (durable (chart s)) file) (o.shape ∙ is) (opens-as (chart s) file good (reopens sh file s o)))
 
 -- what an audit refused

@@ -2,6 +2,7 @@
 use Rattle.std.proofs.Common.{◌≡◌, inl, inr, ℕ, false, refl, sym, ◌∙◌, List, ap, subst}
 use Rattle.std.specs.Prelude.{Ok, Err}
 use Rattle.envy_base.specs.Array.{Array, zeros}
+use Rattle.envy_base.specs.Shape.{version_of}
 use Rattle.envy_base.specs.declared.board.Off.{Off}
 use Rattle.envy_begun.specs.Beginning.{HasBegun}
 use Rattle.envy_begun.specs.Plans.{BeginsOn, ComesFrom}
@@ -29,8 +30,8 @@ module _ (c : Chart) (plans given pulled lives : ℕ) where
   pub told-stands : (m : Array) → Stands c m → Stands told m
   told-stands m s = record { on = s.on; holds = told-holds m s.holds }
 
-  told-empty : IsEmpty 2 c → IsEmpty 2 told
-  told-empty e = record { magic = e.magic; version_is = e.version_is; sound = e.sound; live_zeros = e.live_zeros; durable_zeros = e.durable_zeros; job = e.job; slots = e.slots; places = e.places; undos = e.undos; wears = e.wears; fills = e.fills; positions = e.positions }
+  told-empty : IsEmpty (version_of c.shape) c → IsEmpty (version_of c.shape) told
+  told-empty e = record { magic = e.magic; version_is = e.version_is; sound = e.sound; live_zeros = e.live_zeros; durable_zeros = e.durable_zeros; job = e.job; slots = e.slots; places = e.places; undos = e.undos; wears = e.wears; fills = e.fills; few = e.few; positions = e.positions }
 
   pub told-fresh : IsFresh c → IsFresh told
   told-fresh f = record { stands = told-stands (zeros c.shape.pages c.shape.shadows) f.stands; empty = told-empty f.empty }

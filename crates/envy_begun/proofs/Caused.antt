@@ -39,7 +39,7 @@ module _ {D : Type 0} (seen : D → List ℕ) (has_failed : D → Bool) (options
   stopped-causes (Failed held) s = s
 
   refrained-causes : (setup : OfSetup) (unbegun : Unbegun) → IsFound options file setup → Refrains (HasNoMemory setup.shape file) file unbegun → new ≡ old → Causes seen has_failed options file old new unbegun
-  refrained-causes setup NoJournal f r same = ((IsFound.made f, inr (setup.shape, IsOver.head (IsFound.over f), inr r)), same)
+  refrained-causes setup NoJournal f r same = ((IsFound.made f, inr (setup.shape, IsOver.head (IsFound.over f), IsOver.six (IsFound.over f), inr r)), same)
   refrained-causes setup (Damaged place) f r same = ((IsFound.made f, setup.shape, IsFound.over f, r), same)
   refrained-causes setup Memory f r same = inl same
   refrained-causes setup NotMade f r same = absurd r

@@ -1,5 +1,6 @@
 -- What a file opens as that was a board behind a sync.
 use Rattle.std.proofs.Common.{◌≡◌, ◌∙◌, ◌≤◌, ℕ, List, length, take, ap, arith, length-take}
+use Rattle.envy_base.specs.Shape.{version_of}
 use Rattle.envy_base.specs.declared.shape.Shape.{Shape}
 use Rattle.envy_journal.specs.Head.{head_bytes}
 use Rattle.envy_journal.specs.Log.{Begins}
@@ -11,10 +12,10 @@ use Rattle.envy_map.specs.Codes.{the_magic}
 use Rattle.envy_map.specs.Fields.{Chart, Fields}
 use Rattle.envy_saved.proofs.Reopened.{same_fields, same_sound, same_words}
 
--- formatted in the second version, and sound
+-- formatted in the newest version of its shape, and sound
 pub record IsGood (c : Chart) : Type 0 where
   pub magic : c.fields.magic ≡ the_magic
-  pub version : c.fields.version ≡ 2
+  pub version : c.fields.version ≡ version_of c.shape
   pub sound : IsSound c
 
 pub opens-as : (was : Chart) (file : List ℕ) → IsGood was → Reopens was file → OpensAs was.shape (durable was) file

@@ -1,5 +1,6 @@
 -- A memory that is kept in a file, before its first line.
 use Rattle.std.specs.Prelude.{◌≡◌, ℕ, ◌+◌, ◌^◌, ◌<◌, ◌≤◌, IsTrue, Bool, false, List, length}
+use Rattle.envy_base.specs.Shape.{version_of}
 use Rattle.envy_base.specs.Array.{Array, undone}
 use Rattle.envy_begun.specs.declared.unbegun.Unbegun.{Unbegun}
 use Rattle.envy_begun.specs.declared.unbegun.Unbegun.TheVariants.{Failed, Memory, NotMade}
@@ -23,7 +24,7 @@ pub record HasBegun (setup : Setup) (array : Array) (p : Picture) : Type 0 where
   pub synced : IsSynced was
   pub last : IsLast was p.chart
   pub magic : was.fields.magic ≡ the_magic
-  pub version : was.fields.version ≡ 2
+  pub version : was.fields.version ≡ version_of was.shape
   pub sound : IsSound was
   pub words : durable was ≡ undone array
   pub stands : Stands p.chart array

@@ -31,7 +31,7 @@ pub record OpensAlike (sh : Shape) (was file : List ℕ) : Type 0 where
   pub ends : IsUnbroken file
 
 -- A journal of a board of these sizes. A board on which its operations are done anew is formatted and sound, and a restart
--- finds these words on it: `OpensAs`, in one of the two versions.
+-- finds these words on it: `OpensAs`, in any version of the sizes.
 pub record HasWords (sh : Shape) (words file : List ℕ) : Type 0 where
   pub head : Begins (head_bytes sh) file
   pub finds : (s : State) → s.shape ≡ sh → content_of s ≡ holds s.shape (operations file) → durable (chart s) ≡ words

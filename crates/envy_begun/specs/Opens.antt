@@ -1,5 +1,6 @@
 -- What a file opens as.
 use Rattle.std.specs.Prelude.{◌≡◌, ℕ, List}
+use Rattle.envy_base.specs.Shape.{version_of}
 use Rattle.envy_base.specs.State.{State}
 use Rattle.envy_base.specs.declared.shape.Shape.{Shape}
 use Rattle.envy_journal.specs.Content.{content_of, holds}
@@ -17,6 +18,6 @@ pub record OpensAs (sh : Shape) (words : List ℕ) (file : List ℕ) : Type 0 wh
   pub head : Begins (head_bytes sh) file
   pub finds : (s : State) → s.shape ≡ sh → content_of s ≡ holds s.shape (operations file) → durable (chart s) ≡ words
   pub magic : (s : State) → s.shape ≡ sh → content_of s ≡ holds s.shape (operations file) → (chart s).fields.magic ≡ the_magic
-  pub version : (s : State) → s.shape ≡ sh → content_of s ≡ holds s.shape (operations file) → (chart s).fields.version ≡ 2
+  pub version : (s : State) → s.shape ≡ sh → content_of s ≡ holds s.shape (operations file) → (chart s).fields.version ≡ version_of sh
   pub sound : (s : State) → s.shape ≡ sh → content_of s ≡ holds s.shape (operations file) → IsSound (chart s)
   pub ends : IsUnbroken file

@@ -7,7 +7,7 @@ use Rattle.envy_base.specs.declared.shape.ShapeFault.{ShapeFault}
 use Rattle.envy_base.specs.Shape.{checked as shape_checked}
 use Rattle.envy_journal.specs.Content.{HasMisfit}
 use Rattle.envy_journal.specs.Found.{IsDamaged}
-use Rattle.envy_journal.specs.Head.{HasNoJournal, IsOtherVersion, IsUnmade, head_bytes}
+use Rattle.envy_journal.specs.Head.{HasNoJournal, HasSixSizes, IsOtherVersion, IsUnmade, head_bytes}
 use Rattle.envy_journal.specs.Log.{Begins}
 use Rattle.envy_journal.specs.Reading.{operations}
 use Rattle.envy_policy.specs.Setup.{checked}
@@ -60,11 +60,12 @@ HasNoMemory sh file = (operations file ≢ []) × HasNoWords sh file
 
 -- no journal, or one of sizes that break a rule, or one that holds no memory
 abbrev pub IsNone : List ℕ → Type 0
-IsNone file = HasNoJournal file ⊎ ((sh : Shape) × Begins (head_bytes sh) file × (((fault : ShapeFault) × (shape_checked sh ≡ Err fault)) ⊎ HasNoMemory sh file))
+IsNone file = HasNoJournal file ⊎ ((sh : Shape) × Begins (head_bytes sh) file × HasSixSizes sh × (((fault : ShapeFault) × (shape_checked sh ≡ Err fault)) ⊎ HasNoMemory sh file))
 
 -- a journal whose sizes the options leave
 pub record IsOver (options : KeepOptions) (sh : Shape) (file : List ℕ) : Type 0 where
   pub head : Begins (head_bytes sh) file
+  pub six : HasSixSizes sh
   pub named : shape_named options.sizes sh ≡ sh
 
 -- what the bytes of a file say of a refusal: the options are no reason where its sizes break a rule

@@ -5,7 +5,7 @@ ghost use Rattle.envy_args.specs.declared.keep.KeepOptions.{KeepOptions as Optio
 ghost use Rattle.envy_policy.specs.declared.setup.SetupFault.{SetupFault};
 ghost use Rattle.envy_begun.specs.declared.unbegun.Unbegun.TheVariants.{Setup as OfSetup};
 ghost use Rattle.envy_base.specs.Shape.{IsShape, checked as shape_checked};
-ghost use Rattle.envy_journal.specs.Head.{IsUnmade, head_bytes};
+ghost use Rattle.envy_journal.specs.Head.{HasSixSizes, IsUnmade, head_bytes};
 ghost use Rattle.envy_journal.specs.Log.{Begins};
 ghost use Rattle.envy_journal.specs.Reading.{operations};
 ghost use Rattle.envy_begun.specs.Plans.{IsFound, Plans};
@@ -46,6 +46,7 @@ fn holding_of(bytes: &[u8]) -> Holding
 fn sizes(bytes: &[u8]) -> Result<Shape, Unbegun>
     requires made { IsUnmade bytes.now → ⊥ }
     ensures head { IfOk result (λ shape. Begins (head_bytes shape) bytes.now) }
+    ensures six { IfOk result (λ shape. HasSixSizes shape) }
     ensures long { IfOk result (λ _. 33 ≤ length bytes.now) }
     ensures checks { IfOk result (λ shape. shape_checked shape ≡ Ok tt) }
     ensures refused { IfErr result (λ unbegun. (options : Options) → Refuses options bytes.now unbegun) }

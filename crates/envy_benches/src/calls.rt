@@ -32,6 +32,8 @@ const SHAPE: Shape = Shape {
     shadows: 16,
     frames: 8,
     entries: 4,
+    reserves: 0,
+    sums: 0,
 };
 
 // Six segments, so that two of the four banks have a block that is no segment's.
@@ -42,6 +44,8 @@ const SIX: Shape = Shape {
     shadows: 3,
     frames: 2,
     entries: 1,
+    reserves: 0,
+    sums: 0,
 };
 
 const CALLS: [Calls; 7] = [

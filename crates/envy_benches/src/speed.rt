@@ -75,6 +75,8 @@ fn time_rows(rt: &(impl Abort + Clock + Eprint + AllocGlobal), segments: u32, ro
         shadows: 16,
         frames: 8,
         entries: 4,
+        reserves: 0,
+        sums: 0,
     };
     shape.check().expect(rt, "the shape");
     let mut board = MemBoard::new(rt.alloc(), &shape, 0).expect(rt, "no room for a board");

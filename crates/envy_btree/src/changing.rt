@@ -1,4 +1,4 @@
-ghost use Rattle.std.specs.Prelude.{◌≡◌, ℕ, List, ◌+◌, ◌^◌, ◌≤◌, length, IsTrue};
+ghost use Rattle.std.specs.Prelude.{◌≡◌, ℕ, List, ◌+◌, ◌^◌, ◌≤◌, length, IsTrue, None, Ok};
 ghost use Rattle.envy_base.specs.Words.{Spends, Works};
 ghost use Rattle.envy_btree.specs.Depths.{IsDeep, insertion_pages, removal_pages};
 ghost use Rattle.envy_btree.specs.Index.{IsIndex};
@@ -62,6 +62,7 @@ pub fn remove_within<W: Words>(
     ensures pages { (depth : ℕ) → IsDeep (W.sheet words.old).words depth
         → Works (removal_pages depth) (W.sheet words.old) (W.sheet words.new) }
     ensures spends { Spends 1089 (W.sheet words.old) (W.sheet words.new) }
+    ensures absent { result ≡ Ok None → (W.sheet words.new).words ≡ (W.sheet words.old).words }
     ensures removes { (es : List (ℕ × ℕ)) → IsIndex (W.sheet words.old).words es
         → RemovesWithin key es removal_pages left (W.sheet words.old) result (W.sheet words.new) }
 {

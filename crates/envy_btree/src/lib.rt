@@ -43,4 +43,5 @@ pub use line::IndexLine;
 pub use reading::read_index_line;
 pub use removing::remove;
 pub use reply::{IndexReply, index_text};
-pub use scanning::{count, last, next, next_above, scan, scan_down};
+pub use scanning::{count, last, next, next_above, scan, scan_down, walk};
+pub use way::Way;

@@ -50,8 +50,8 @@ pub fn scan_down<W: Words>(
     walk(words, Way::Down, key, out)
 }
 
-// Goes through the map on one way, leaf by leaf, until there is no more room or no more pair.
-fn walk<W: Words>(
+/// A [`scan`] on one way or the other: it goes leaf by leaf, until there is no more room or no more pair.
+pub fn walk<W: Words>(
     words: &mut W,
     way: Way,
     key: u64,

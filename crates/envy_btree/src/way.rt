@@ -1,6 +1,6 @@
 /// Which way pairs are gone through.
 #[derive(Clone, Copy)]
-pub(crate) enum Way {
+pub enum Way {
     /// By rising key.
     Up,
     /// By falling key.

@@ -1,11 +1,11 @@
 -- A number tells its answer.
-use Rattle.std.proofs.Common.{◌≡◌, ◌<◌, ℕ, ◌==◌, if◌then◌else◌, refl, sym, ◌∙◌, ap, arith}
-use Rattle.envy_base.specs.declared.shape.ShapeFault.TheVariants.{Segments, Rows, Pages, Frames, Entries, Share, Total}
-use Rattle.envy_audit.specs.declared.verdict.Rule.TheVariants.{A, B, C, D, E, F, G, H, I, J, K, L}
+use Rattle.std.proofs.Common.{◌≡◌, ◌⊎◌, inl, inr, ◌<◌, ◌≤◌, ℕ, ◌==◌, if◌then◌else◌, refl, sym, ◌∙◌, ap, arith}
+use Rattle.envy_base.specs.declared.shape.ShapeFault.TheVariants.{Segments, Reserves, Sums, Rows, Pages, Frames, Entries, Share, Total}
+use Rattle.envy_audit.specs.declared.verdict.Rule.TheVariants.{A, B, C, D, E, F, G, H, I, J, K, L, M}
 use Rattle.envy_policy.specs.declared.setup.SetupFault.TheVariants.{Shape as OfShape, Part, Limit, Mark}
 use Rattle.envy_calls.specs.Codes.{number_of}
 use Rattle.envy_calls.specs.declared.code.Code.{Code}
-use Rattle.envy_calls.specs.declared.code.Code.TheVariants.{Done, Empty, Off, Range, Held, Full, Busy, Closed, Bad, NoMemory, Open, Zero, Dead, Powered, FlashSize, SramSize, ErasesSize, Policy, Unformatted, Older, OtherShape, Setup, Broken, Small, ImageShort, ImageMark, ImageOther, ImageShape, Absent, MapFull, SlotOpen, MapSetup}
+use Rattle.envy_calls.specs.declared.code.Code.TheVariants.{Done, Empty, Off, Range, Held, Full, Busy, Closed, Bad, NoMemory, Open, Zero, Dead, Powered, FlashSize, SramSize, ErasesSize, Policy, Unformatted, Older, OtherShape, Setup, Broken, Small, ImageShort, ImageMark, ImageOther, ImageShape, Absent, MapFull, SlotOpen, MapSetup, BrokenMap, BadAborted}
 
 abbrev code_at : ℕ → Code
 code_at n =
@@ -66,7 +66,14 @@ code_at n =
     else (if n == 54 then Absent
     else (if n == 55 then MapFull
     else (if n == 56 then SlotOpen
-    else MapSetup))))))))))))))))))))))))))))))))))))))))))))))))))))))))
+    else (if n == 57 then MapSetup
+    else (if n == 58 then Setup (OfShape Reserves)
+    else (if n == 59 then Setup (OfShape Sums)
+    else (if n == 60 then ImageShape Reserves
+    else (if n == 61 then ImageShape Sums
+    else (if n == 62 then BrokenMap
+    else (if n == 63 then Broken M
+    else BadAborted)))))))))))))))))))))))))))))))))))))))))))))))))))))))))))))))
 
 code_at-number_of : (x : Code) → code_at (number_of x) ≡ x
 code_at-number_of Done = refl
@@ -112,6 +119,7 @@ code_at-number_of (Broken I) = refl
 code_at-number_of (Broken J) = refl
 code_at-number_of (Broken K) = refl
 code_at-number_of (Broken L) = refl
+code_at-number_of (Broken M) = refl
 code_at-number_of Small = refl
 code_at-number_of ImageShort = refl
 code_at-number_of ImageMark = refl
@@ -127,67 +135,80 @@ code_at-number_of Absent = refl
 code_at-number_of MapFull = refl
 code_at-number_of SlotOpen = refl
 code_at-number_of MapSetup = refl
+code_at-number_of (Setup (OfShape Reserves)) = refl
+code_at-number_of (Setup (OfShape Sums)) = refl
+code_at-number_of (ImageShape Reserves) = refl
+code_at-number_of (ImageShape Sums) = refl
+code_at-number_of BrokenMap = refl
+code_at-number_of BadAborted = refl
 
 pub same_number : (x y : Code) → number_of x ≡ number_of y → x ≡ y
 same_number x y is = sym (code_at-number_of x) ∙ (ap code_at is ∙ code_at-number_of y)
 
--- further answers, as of a library of its own, have numbers from 64 on
-pub below : (x : Code) → number_of x < 64
-below Done = omega arith
-below Empty = omega arith
-below Off = omega arith
-below Range = omega arith
-below Held = omega arith
-below Full = omega arith
-below Busy = omega arith
-below Closed = omega arith
-below Bad = omega arith
-below NoMemory = omega arith
-below Open = omega arith
-below Zero = omega arith
-below Dead = omega arith
-below Powered = omega arith
-below FlashSize = omega arith
-below SramSize = omega arith
-below ErasesSize = omega arith
-below Policy = omega arith
-below Unformatted = omega arith
-below Older = omega arith
-below OtherShape = omega arith
-below (Setup (OfShape Segments)) = omega arith
-below (Setup (OfShape Rows)) = omega arith
-below (Setup (OfShape Pages)) = omega arith
-below (Setup (OfShape Frames)) = omega arith
-below (Setup (OfShape Entries)) = omega arith
-below (Setup (OfShape Share)) = omega arith
-below (Setup (OfShape Total)) = omega arith
-below (Setup Part) = omega arith
-below (Setup Limit) = omega arith
-below (Setup Mark) = omega arith
-below (Broken A) = omega arith
-below (Broken B) = omega arith
-below (Broken C) = omega arith
-below (Broken D) = omega arith
-below (Broken E) = omega arith
-below (Broken F) = omega arith
-below (Broken G) = omega arith
-below (Broken H) = omega arith
-below (Broken I) = omega arith
-below (Broken J) = omega arith
-below (Broken K) = omega arith
-below (Broken L) = omega arith
-below Small = omega arith
-below ImageShort = omega arith
-below ImageMark = omega arith
-below ImageOther = omega arith
-below (ImageShape Segments) = omega arith
-below (ImageShape Rows) = omega arith
-below (ImageShape Pages) = omega arith
-below (ImageShape Frames) = omega arith
-below (ImageShape Entries) = omega arith
-below (ImageShape Share) = omega arith
-below (ImageShape Total) = omega arith
-below Absent = omega arith
-below MapFull = omega arith
-below SlotOpen = omega arith
-below MapSetup = omega arith
+-- further answers, as of a library of its own, have numbers from 64 to 79
+pub below : (x : Code) → (number_of x < 64) ⊎ (80 ≤ number_of x)
+below Done = inl (omega arith)
+below Empty = inl (omega arith)
+below Off = inl (omega arith)
+below Range = inl (omega arith)
+below Held = inl (omega arith)
+below Full = inl (omega arith)
+below Busy = inl (omega arith)
+below Closed = inl (omega arith)
+below Bad = inl (omega arith)
+below NoMemory = inl (omega arith)
+below Open = inl (omega arith)
+below Zero = inl (omega arith)
+below Dead = inl (omega arith)
+below Powered = inl (omega arith)
+below FlashSize = inl (omega arith)
+below SramSize = inl (omega arith)
+below ErasesSize = inl (omega arith)
+below Policy = inl (omega arith)
+below Unformatted = inl (omega arith)
+below Older = inl (omega arith)
+below OtherShape = inl (omega arith)
+below (Setup (OfShape Segments)) = inl (omega arith)
+below (Setup (OfShape Rows)) = inl (omega arith)
+below (Setup (OfShape Pages)) = inl (omega arith)
+below (Setup (OfShape Frames)) = inl (omega arith)
+below (Setup (OfShape Entries)) = inl (omega arith)
+below (Setup (OfShape Share)) = inl (omega arith)
+below (Setup (OfShape Total)) = inl (omega arith)
+below (Setup Part) = inl (omega arith)
+below (Setup Limit) = inl (omega arith)
+below (Setup Mark) = inl (omega arith)
+below (Broken A) = inl (omega arith)
+below (Broken B) = inl (omega arith)
+below (Broken C) = inl (omega arith)
+below (Broken D) = inl (omega arith)
+below (Broken E) = inl (omega arith)
+below (Broken F) = inl (omega arith)
+below (Broken G) = inl (omega arith)
+below (Broken H) = inl (omega arith)
+below (Broken I) = inl (omega arith)
+below (Broken J) = inl (omega arith)
+below (Broken K) = inl (omega arith)
+below (Broken L) = inl (omega arith)
+below (Broken M) = inl (omega arith)
+below Small = inl (omega arith)
+below ImageShort = inl (omega arith)
+below ImageMark = inl (omega arith)
+below ImageOther = inl (omega arith)
+below (ImageShape Segments) = inl (omega arith)
+below (ImageShape Rows) = inl (omega arith)
+below (ImageShape Pages) = inl (omega arith)
+below (ImageShape Frames) = inl (omega arith)
+below (ImageShape Entries) = inl (omega arith)
+below (ImageShape Share) = inl (omega arith)
+below (ImageShape Total) = inl (omega arith)
+below Absent = inl (omega arith)
+below MapFull = inl (omega arith)
+below SlotOpen = inl (omega arith)
+below MapSetup = inl (omega arith)
+below (Setup (OfShape Reserves)) = inl (omega arith)
+below (Setup (OfShape Sums)) = inl (omega arith)
+below (ImageShape Reserves) = inl (omega arith)
+below (ImageShape Sums) = inl (omega arith)
+below BrokenMap = inl (omega arith)
+below BadAborted = inr (omega arith)

@@ -1,5 +1,5 @@
 -- The number of each answer. No two answers share one.
-use Rattle.std.specs.Prelude.{ℕ, ◌+◌, Result, Ok, Err}
+use Rattle.std.specs.Prelude.{ℕ, ◌+◌, nat_lt, if◌then◌else◌, Result, Ok, Err}
 use Rattle.envy_base.specs.declared.board.Trouble.{Trouble}
 use Rattle.envy_base.specs.declared.board.Trouble.TheVariants.{Off as TroubleOff, Bad as TroubleBad}
 use Rattle.envy_audit.specs.declared.verdict.Rule.{Rule}
@@ -20,11 +20,24 @@ use Rattle.envy_memory.specs.declared.faults.EndFault.TheVariants.{Off as EndOff
 use Rattle.envy_memory.specs.declared.faults.FormatFault.{FormatFault}
 use Rattle.envy_memory.specs.declared.faults.FormatFault.TheVariants.{Off as FormatOff, Setup as FormatSetup, OtherShape as FormatShape, Memory as FormatMemory, Bad as FormatBad}
 use Rattle.envy_calls.specs.declared.code.Code.{Code}
-use Rattle.envy_calls.specs.declared.code.Code.TheVariants.{Done, Empty, Off, Range, Held, Full, Busy, Closed, Bad, NoMemory, Open, Zero, Dead, Powered, FlashSize, SramSize, ErasesSize, Policy, Unformatted, Older, OtherShape, Setup, Broken, Small, ImageShort, ImageMark, ImageOther, ImageShape, Absent, MapFull, SlotOpen, MapSetup}
+use Rattle.envy_calls.specs.declared.code.Code.TheVariants.{Done, Empty, Off, Range, Held, Full, Busy, Closed, Bad, NoMemory, Open, Zero, Dead, Powered, FlashSize, SramSize, ErasesSize, Policy, Unformatted, Older, OtherShape, Setup, Broken, Small, ImageShort, ImageMark, ImageOther, ImageShape, Absent, MapFull, SlotOpen, MapSetup, BrokenMap, BadAborted}
 
 -- the place of a point of soundness in the order of the audit
 abbrev pub number_of_rule : Rule → ℕ
 number_of_rule = rule_place
+
+-- the number of the answer that a setup breaks a rule, and of the one that the shape of an image does; for rules after 17
+-- they come after all others
+
+abbrev pub answer_of_setup : ℕ → ℕ
+answer_of_setup rule = if nat_lt 17 rule then 40 + rule else 20 + rule
+
+abbrev pub answer_of_image : ℕ → ℕ
+answer_of_image rule = if nat_lt 17 rule then 42 + rule else 46 + rule
+
+-- the number of the answer that a point of soundness fails
+abbrev pub answer_of_rule : ℕ → ℕ
+answer_of_rule place = if nat_lt 11 place then 51 + place else 31 + place
 
 abbrev pub number_of : Code → ℕ
 number_of Done = 0
@@ -48,17 +61,19 @@ number_of Policy = 17
 number_of Unformatted = 18
 number_of Older = 19
 number_of OtherShape = 20
-number_of (Setup fault) = 20 + rule_of fault
-number_of (Broken rule) = 31 + number_of_rule rule
+number_of (Setup fault) = answer_of_setup (rule_of fault)
+number_of (Broken rule) = answer_of_rule (number_of_rule rule)
 number_of Small = 43
 number_of ImageShort = 44
 number_of ImageMark = 45
 number_of ImageOther = 46
-number_of (ImageShape fault) = 46 + shape_rule fault
+number_of (ImageShape fault) = answer_of_image (shape_rule fault)
 number_of Absent = 54
 number_of MapFull = 55
 number_of SlotOpen = 56
 number_of MapSetup = 57
+number_of BrokenMap = 62
+number_of BadAborted = 80
 
 -- the code of what a call of the memory answers
 

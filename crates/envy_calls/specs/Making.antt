@@ -2,10 +2,11 @@
 use Rattle.std.specs.Prelude.{◌≡◌, ◌≢◌, ◌⊎◌, ◌-◌, ◌^◌, ◌<◌, false, None, Some, Ok, Err}
 use Rattle.envy_base.specs.State.{State}
 use Rattle.envy_map.specs.Codes.{the_magic}
+use Rattle.envy_base.specs.Shape.{version_of}
 use Rattle.envy_map.specs.Fields.{Chart, chart, IsFormatted, shape_of}
 use Rattle.envy_layout.specs.Same.{Kept}
 use Rattle.envy_layout.specs.Sound.{IsSound}
-use Rattle.envy_audit.specs.Judging.{BreaksFirst}
+use Rattle.envy_audit.specs.Judging.{BreaksFirst, IsFormattedAs}
 use Rattle.envy_policy.specs.Setup.{checked}
 use Rattle.envy_policy.specs.declared.setup.Setup.{Setup as OfSetup}
 use Rattle.envy_memory.specs.Attaching.{MayAttach}
@@ -24,25 +25,25 @@ IsNoSetup given other = ⊥
 abbrev pub ForSetup : EnvySetup → (OfSetup → Type 0) → Type 0
 ForSetup given Of = (setup : OfSetup) × (setup_of given ≡ Some setup) × (checked setup ≡ Ok tt) × Of setup
 
--- a board that may be taken up: formatted in the second version, in the setup's shape, and sound
+-- a board that may be opened: formatted in the setup's shape and its newest version, and sound
 pub record IsWhole (c : Chart) (setup : OfSetup) : Type 0 where
   pub magic : c.fields.magic ≡ the_magic
-  pub version : c.fields.version ≡ 2
-  pub shape : shape_of c.fields.sizes ≡ setup.shape
+  pub version : c.fields.version ≡ version_of setup.shape
+  pub shape : shape_of c.fields ≡ setup.shape
   pub sound : IsSound c
 
--- a board of the second version, in the setup's shape
+-- a board in the setup's shape and its newest version
 pub record IsAlike (c : Chart) (setup : OfSetup) : Type 0 where
   pub magic : c.fields.magic ≡ the_magic
-  pub version : c.fields.version ≡ 2
-  pub shape : shape_of c.fields.sizes ≡ setup.shape
+  pub version : c.fields.version ≡ version_of setup.shape
+  pub shape : shape_of c.fields ≡ setup.shape
 
 -- What was found of a board that isn't taken up: the first of these, in this order, that holds. Want of memory comes
 -- only where the first three don't.
 abbrev pub Forbids : Code → Chart → OfSetup → Type 0
-Forbids Unformatted c setup = IsFormatted c.fields → ⊥
+Forbids Unformatted c setup = IsFormatted c.fields × IsFormattedAs c → ⊥
 Forbids Older c setup = (c.fields.magic ≡ the_magic) × (c.fields.version ≡ 1)
-Forbids OtherShape c setup = (c.fields.magic ≡ the_magic) × (c.fields.version ≡ 2) × (shape_of c.fields.sizes ≢ setup.shape)
+Forbids OtherShape c setup = IsFormatted c.fields × (c.fields.version ≢ 1) × (shape_of c.fields ≢ setup.shape)
 Forbids (Broken rule) c setup = IsAlike c setup × BreaksFirst rule c
 Forbids (Setup fault) c setup = IsWhole c setup × (checked setup ≡ Err fault)
 Forbids NoMemory c setup = IsAlike c setup

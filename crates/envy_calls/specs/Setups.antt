@@ -23,6 +23,8 @@ shape_given s = record {
   shadows = s.shadows;
   frames = s.frames;
   entries = s.entries;
+  reserves = s.reserves;
+  sums = s.sums;
 }
 
 abbrev pub with_policy : EnvySetup → Option Policy → Option Setup

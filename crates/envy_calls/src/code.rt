@@ -1,6 +1,6 @@
-ghost use Rattle.std.specs.Prelude.{◌≡◌};
+ghost use Rattle.std.specs.Prelude.{◌≡◌, ◌≤◌};
 ghost use Rattle.envy_policy.specs.Setup.{shape_rule};
-ghost use Rattle.envy_calls.specs.Codes.{number_of_rule, number_of};
+ghost use Rattle.envy_calls.specs.Codes.{answer_of_image, answer_of_rule, answer_of_setup, number_of_rule, number_of};
 
 use envy_audit::Rule;
 use envy_base::ShapeFault;
@@ -73,11 +73,16 @@ pub enum Code {
     SlotOpen,
     /// The memory has too few pages or shadows for a map.
     MapSetup,
+    /// The words stand for no map.
+    BrokenMap,
+    /// A flash operation failed in a transaction of maps, which is aborted.
+    BadAborted,
 }
 
 // The place of a point in the order of the audit.
 fn rule_number(rule: Rule) -> u32
-    ensures { result ≡ number_of_rule rule }
+    ensures place { result ≡ number_of_rule rule }
+    ensures last { result ≤ 12 }
 {
     match rule {
         Rule::A => 0,
@@ -92,12 +97,22 @@ fn rule_number(rule: Rule) -> u32
         Rule::J => 9,
         Rule::K => 10,
         Rule::L => 11,
+        Rule::M => 12,
     }
 }
 
-// The place of a rule in the order in which shapes are checked.
+// The number of the answer that a point of soundness fails. For points after the twelfth it comes after others.
+fn broken_answer(place: u32) -> u32
+    requires { place ≤ 12 }
+    ensures { result ≡ answer_of_rule place }
+{
+    if place > 11 { 51 + place } else { 31 + place }
+}
+
+// The number of a rule of shapes.
 fn shape_number(fault: ShapeFault) -> u32
-    ensures { result ≡ shape_rule fault }
+    ensures number { result ≡ shape_rule fault }
+    ensures last { result ≤ 19 }
 {
     match fault {
         ShapeFault::Segments => 1,
@@ -107,7 +122,25 @@ fn shape_number(fault: ShapeFault) -> u32
         ShapeFault::Entries => 5,
         ShapeFault::Share => 6,
         ShapeFault::Total => 7,
+        ShapeFault::Reserves => 18,
+        ShapeFault::Sums => 19,
     }
+}
+
+// The number of the answer that a setup breaks a rule. For rules after 17 it comes after all others.
+fn setup_answer(rule: u32) -> u32
+    requires { rule ≤ 19 }
+    ensures { result ≡ answer_of_setup rule }
+{
+    if rule > 17 { 40 + rule } else { 20 + rule }
+}
+
+// The number of the answer that the shape of an image breaks a rule.
+fn image_answer(rule: u32) -> u32
+    requires { rule ≤ 19 }
+    ensures { result ≡ answer_of_image rule }
+{
+    if rule > 17 { 42 + rule } else { 46 + rule }
 }
 
 impl Code {
@@ -137,17 +170,19 @@ impl Code {
             Code::Unformatted => 18,
             Code::Older => 19,
             Code::OtherShape => 20,
-            Code::Setup(fault) => 20 + fault.rule() as u32,
-            Code::Broken(rule) => 31 + rule_number(rule),
+            Code::Setup(fault) => setup_answer(fault.rule() as u32),
+            Code::Broken(rule) => broken_answer(rule_number(rule)),
             Code::Small => 43,
             Code::ImageShort => 44,
             Code::ImageMark => 45,
             Code::ImageOther => 46,
-            Code::ImageShape(fault) => 46 + shape_number(fault),
+            Code::ImageShape(fault) => image_answer(shape_number(fault)),
             Code::Absent => 54,
             Code::MapFull => 55,
             Code::SlotOpen => 56,
             Code::MapSetup => 57,
+            Code::BrokenMap => 62,
+            Code::BadAborted => 80,
         }
     }
 }

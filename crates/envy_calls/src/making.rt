@@ -38,7 +38,7 @@ pub fn refusal<B: Board>(alloc: Global, board: &B, setup: &Setup) -> Result<Opti
     })
 }
 
-/// A memory over a board that holds one of the second version in the setup's shape, and is sound. It trusts nothing
+/// A memory over a board that holds one in the setup's shape and its newest version, and is sound. It trusts nothing
 /// that the board holds.
 ///
 /// # Errors

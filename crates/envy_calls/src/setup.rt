@@ -31,6 +31,10 @@ pub struct EnvySetup {
     pub limit: u64,
     /// Held frames from which on a background step writes pages back: 1 to the number of frames.
     pub mark: u32,
+    /// Positions in reserve, whose segments stand in for those that wear out: at most `segments` - 4.
+    pub reserves: u32,
+    /// Whether each row has a sum: 0, since no board keeps them yet.
+    pub sums: u32,
 }
 
 // The policy of a number.
@@ -68,6 +72,8 @@ pub fn checked_setup(given: &EnvySetup) -> Result<Setup, Code>
             shadows: given.shadows,
             frames: given.frames,
             entries: given.entries,
+            reserves: given.reserves,
+            sums: given.sums,
         },
         policy,
         limit: given.limit,

@@ -50,6 +50,8 @@ fn unnoted(rt: &impl Abort, alloc: Global) -> Lifetime
         shadows: 0,
         frames: 8,
         entries: 4,
+        reserves: 0,
+        sums: 0,
     };
     shape.check().expect(rt, "the shape");
     Lifetime::new(alloc, &shape).expect(rt, "no room for lives")

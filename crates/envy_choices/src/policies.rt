@@ -15,6 +15,8 @@ fn setup(policy: Policy) -> Setup {
         shadows: 16,
         frames: 8,
         entries: 4,
+        reserves: 0,
+        sums: 0,
     };
     Setup {
         shape,

@@ -1,8 +1,9 @@
-ghost use Rattle.std.specs.Prelude.{◌≡◌, ◌+◌, ◌-◌, ◌<◌, ◌≤◌, ℕ};
+ghost use Rattle.std.specs.Prelude.{◌≡◌, ◌+◌, ◌<◌, ◌≤◌, ℕ};
+ghost use Rattle.envy_base.specs.Shape.{positions_of};
 ghost use Rattle.envy_space.specs.Pool.{free_at, dead_at};
 
 use crate::told::same_of;
-use envy_base::Shape;
+use envy_base::{Shape, positions_of};
 use envy_choosing::choose_row;
 use envy_policy::{Choice, Chooser, Policy, Setup};
 use envy_space::Space;
@@ -30,6 +31,7 @@ impl Draws {
 /// A board of 4 to 20 segments of 4 rows.
 fn shape(draws: &mut Draws) -> Shape
     ensures rows { result.rows ≡ 4 }
+    ensures reserves { result.reserves ≡ 0 }
     ensures some { 4 ≤ result.segments }
     ensures few { result.segments ≤ 20 }
     ensures pages { result.pages ≡ 4 }
@@ -41,6 +43,8 @@ fn shape(draws: &mut Draws) -> Shape
         shadows: 1,
         frames: 2,
         entries: 1,
+        reserves: 0,
+        sums: 0,
     }
 }
 
@@ -58,7 +62,7 @@ fn policy(draws: &mut Draws, positions: u32) -> Policy
 
 /// An empty pool, and a chooser over its positions.
 fn made(rt: &impl Abort, alloc: Global, setup: &Setup) -> (Space, Chooser)
-    ensures { (result.0.shape ≡ setup.now.shape) × (result.1.positions ≡ setup.now.shape.segments - 1)
+    ensures { (result.0.shape ≡ setup.now.shape) × (result.1.positions ≡ positions_of setup.now.shape)
         × (result.1.pages ≡ setup.now.shape.pages) }
 {
     setup.check().expect(rt, "the setup");
@@ -108,9 +112,9 @@ fn choose_by_lists(
     chooser: &Chooser,
     home: u32,
 ) -> Result<Choice, AllocError>
-    requires positions { chooser.now.positions ≡ space.now.shape.segments - 1 }
-    requires home { home < space.now.shape.segments - 1 }
-    requires some { (k : ℕ) × (k < space.now.shape.segments - 1) × (0 < free_at space.now k + dead_at space.now k) }
+    requires positions { chooser.now.positions ≡ positions_of space.now.shape }
+    requires home { home < positions_of space.now.shape }
+    requires some { (k : ℕ) × (k < positions_of space.now.shape) × (0 < free_at space.now k + dead_at space.now k) }
 {
     let mut free = Vec::new(alloc);
     let mut dead = Vec::new(alloc);
@@ -124,7 +128,7 @@ fn choose_by_lists(
 
 /// Whether pool and lists make the same choice for each home, where there is one.
 fn agree(rt: &impl Abort, alloc: Global, space: &Space, chooser: &Chooser) -> bool
-    requires positions { chooser.now.positions ≡ space.now.shape.segments - 1 }
+    requires positions { chooser.now.positions ≡ positions_of space.now.shape }
     requires pages { chooser.now.pages ≡ 4 }
 {
     let positions = space.positions();
@@ -144,7 +148,7 @@ fn agree(rt: &impl Abort, alloc: Global, space: &Space, chooser: &Chooser) -> bo
 /// costs what it costs to make them, and more in a loop.
 fn drawn_agree(rt: &impl Abort, alloc: Global, draws: &mut Draws) -> bool {
     let shape = shape(draws);
-    let policy = policy(draws, shape.segments - 1);
+    let policy = policy(draws, positions_of(&shape));
     let setup = Setup {
         shape,
         policy,
@@ -155,7 +159,7 @@ fn drawn_agree(rt: &impl Abort, alloc: Global, draws: &mut Draws) -> bool {
     for segment in 0..shape.segments {
         change(&mut space, draws, segment);
     }
-    warm(&mut chooser, draws, shape.segments - 1);
+    warm(&mut chooser, draws, positions_of(&shape));
     agree(rt, alloc, &space, &chooser)
 }
 

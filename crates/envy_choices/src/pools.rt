@@ -14,6 +14,8 @@ const SHAPE: Shape = Shape {
     shadows: 4,
     frames: 8,
     entries: 4,
+    reserves: 0,
+    sums: 0,
 };
 
 fn made(rt: &impl Abort, alloc: Global) -> Space

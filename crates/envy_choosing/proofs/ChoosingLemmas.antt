@@ -18,6 +18,7 @@ use Rattle.envy_policy.proofs.Partitions.{run-holds}
 use Rattle.envy_space.specs.Pool.{Pool, IsPool, free_at, dead_at, usable_at}
 use Rattle.envy_space.specs.Winners.{Highest, IsLowest, Lowest, Wins}
 use Rattle.envy_choosing.specs.Choosing.{IsAbove, IsBelow, IsFreeBeside, IsUsableIn, deads, frees}
+use Rattle.envy_base.specs.Shape.{positions_of}
 
 -- the rows at n positions
 abbrev pub rows_of : (ℕ → ℕ) → ℕ → List ℕ
@@ -29,11 +30,11 @@ long f n = length-map-range_with_len f 0 n
 at : (f : ℕ → ℕ) (n k : ℕ) → k < n → get_or (rows_of f n) k 0 ≡ f k
 at f n k lt = get_or-map-range_with_len f 0 n k k 0 lt (omega arith)
 
-pub frees-long : (pool : Pool) → length (frees pool) ≡ pool.shape.segments - 1
-frees-long pool = long (free_at pool) (pool.shape.segments - 1)
+pub frees-long : (pool : Pool) → length (frees pool) ≡ positions_of pool.shape
+frees-long pool = long (free_at pool) (positions_of pool.shape)
 
-pub deads-long : (pool : Pool) → length (deads pool) ≡ pool.shape.segments - 1
-deads-long pool = long (dead_at pool) (pool.shape.segments - 1)
+pub deads-long : (pool : Pool) → length (deads pool) ≡ positions_of pool.shape
+deads-long pool = long (dead_at pool) (positions_of pool.shape)
 
 -- the lowest position with a row is the first of the list with one
 pub first-with : (f : ℕ → ℕ) (n first end : ℕ) (found : Option ℕ) → end ≤ n → Lowest f first end found → FirstWith (rows_of f n) first end found
@@ -45,27 +46,27 @@ first-with f n first end (Some p) within lowest =
     (lowest.above, below, omega arith, λ k low high. at f n k (omega arith) ∙ lowest.none k low high)
 
 -- a partition is usable where one of its positions has a free or a dead row
-pub usable-at : (h : History) (pool : Pool) (g : ℕ) → IsUsableIn h pool g → (k : ℕ) × (k < pool.shape.segments - 1) × (partition_of h k ≡ g) × (0 < usable_at pool k)
+pub usable-at : (h : History) (pool : Pool) (g : ℕ) → IsUsableIn h pool g → (k : ℕ) × (k < positions_of pool.shape) × (partition_of h k ≡ g) × (0 < usable_at pool k)
 usable-at h pool g (k, inl has) =
-    let below = rows-below (frees pool) (pool.shape.segments - 1) k (frees-long pool) has.1 in
-    let here = at (free_at pool) (pool.shape.segments - 1) k below in
+    let below = rows-below (frees pool) (positions_of pool.shape) k (frees-long pool) has.1 in
+    let here = at (free_at pool) (positions_of pool.shape) k below in
     let some = has.1 in
     (k, below, has.0, omega arith)
 usable-at h pool g (k, inr has) =
-    let below = rows-below (deads pool) (pool.shape.segments - 1) k (deads-long pool) has.1 in
-    let here = at (dead_at pool) (pool.shape.segments - 1) k below in
+    let below = rows-below (deads pool) (positions_of pool.shape) k (deads-long pool) has.1 in
+    let here = at (dead_at pool) (positions_of pool.shape) k below in
     let some = has.1 in
     (k, below, has.0, omega arith)
 
 -- a position with a row makes its partition usable
-pub at-usable : (h : History) (pool : Pool) (g k : ℕ) → k < pool.shape.segments - 1 → partition_of h k ≡ g → 0 < usable_at pool k → IsUsableIn h pool g
+pub at-usable : (h : History) (pool : Pool) (g k : ℕ) → k < positions_of pool.shape → partition_of h k ≡ g → 0 < usable_at pool k → IsUsableIn h pool g
 at-usable h pool g k below is some = elim (cases_lt 0 (free_at pool k)) [
-  | inl has ↦ let here = at (free_at pool) (pool.shape.segments - 1) k below in (k, inl (is, omega arith))
-  | inr none ↦ let here = at (dead_at pool) (pool.shape.segments - 1) k below in (k, inr (is, omega arith))
+  | inl has ↦ let here = at (free_at pool) (positions_of pool.shape) k below in (k, inl (is, omega arith))
+  | inr none ↦ let here = at (dead_at pool) (positions_of pool.shape) k below in (k, inr (is, omega arith))
 ]
 
 -- the run of a partition tells whether it is usable
-pub usable-found : (h : History) (pool : Pool) (g first end : ℕ) (found : Option ℕ) → IsHistory h → h.positions ≡ pool.shape.segments - 1 → first ≡ first_of h g → end ≡ end_of h g → Lowest (usable_at pool) first end found → IsTrue (is_some found) ↔ IsUsableIn h pool g
+pub usable-found : (h : History) (pool : Pool) (g first end : ℕ) (found : Option ℕ) → IsHistory h → h.positions ≡ positions_of pool.shape → first ≡ first_of h g → end ≡ end_of h g → Lowest (usable_at pool) first end found → IsTrue (is_some found) ↔ IsUsableIn h pool g
 usable-found h pool g first end None whole same low high lowest = (
   λ is. let no : false ≡ true = is in cc,
   λ usable.
@@ -115,7 +116,7 @@ below-none h pool own first whole low highest y less usable =
     omega arith
 
 -- the highest position below it with a row is in the nearest usable partition below
-pub below-some : (h : History) (pool : Pool) (own first k g : ℕ) → IsHistory h → h.positions ≡ pool.shape.segments - 1 → first ≡ first_of h own → first < h.positions → Highest (usable_at pool) 0 first (Some k) → g ≡ partition_of h k → IsBelow h pool own g
+pub below-some : (h : History) (pool : Pool) (own first k g : ℕ) → IsHistory h → h.positions ≡ positions_of pool.shape → first ≡ first_of h own → first < h.positions → Highest (usable_at pool) 0 first (Some k) → g ≡ partition_of h k → IsBelow h pool own g
 below-some h pool own first k g whole same low within highest is =
     let below = highest.below in
     let less = lower-partition h own k whole (omega arith) in
@@ -135,7 +136,7 @@ below-some h pool own first k g whole same low within highest is =
         ]
 
 -- without a row above it none above it is usable
-pub above-none : (h : History) (pool : Pool) (own end : ℕ) → IsHistory h → end ≡ end_of h own → Lowest (usable_at pool) end (pool.shape.segments - 1) None → (y : ℕ) → own < y → IsUsableIn h pool y → ⊥
+pub above-none : (h : History) (pool : Pool) (own end : ℕ) → IsHistory h → end ≡ end_of h own → Lowest (usable_at pool) end (positions_of pool.shape) None → (y : ℕ) → own < y → IsUsableIn h pool y → ⊥
 above-none h pool own end whole high lowest y more usable =
     let (k, below, is, some) = usable-at h pool y usable in
     let after = from-end h own k whole (omega arith) in
@@ -143,7 +144,7 @@ above-none h pool own end whole high lowest y more usable =
     omega arith
 
 -- the lowest position above it with a row is in the nearest above
-pub above-some : (h : History) (pool : Pool) (own end k g : ℕ) → IsHistory h → h.positions ≡ pool.shape.segments - 1 → end ≡ end_of h own → Lowest (usable_at pool) end (pool.shape.segments - 1) (Some k) → g ≡ partition_of h k → IsAbove h pool own g
+pub above-some : (h : History) (pool : Pool) (own end k g : ℕ) → IsHistory h → h.positions ≡ positions_of pool.shape → end ≡ end_of h own → Lowest (usable_at pool) end (positions_of pool.shape) (Some k) → g ≡ partition_of h k → IsAbove h pool own g
 above-some h pool own end k g whole same high lowest is =
     let above = lowest.above in
     let below = lowest.below in
@@ -226,7 +227,7 @@ nearest-beside h pool home own g below above own_is unusable under over nearer =
     holds below above under over (inr e) = of_above above over e
 
 -- some partition is usable, so one is found
-pub nearer-some : (h : History) (pool : Pool) (own : ℕ) (below above found : Option ℕ) → (IsUsableIn h pool own → ⊥) → Below h pool own below → Above h pool own above → Nearer own below above found → (k : ℕ) × (k < pool.shape.segments - 1) × (0 < usable_at pool k) → IsSome found
+pub nearer-some : (h : History) (pool : Pool) (own : ℕ) (below above found : Option ℕ) → (IsUsableIn h pool own → ⊥) → Below h pool own below → Above h pool own above → Nearer own below above found → (k : ℕ) × (k < positions_of pool.shape) × (0 < usable_at pool k) → IsSome found
 nearer-some h pool own below above (Some g) unusable under over nearer some = refl
 nearer-some h pool own below above None unusable under over nearer (k, lt, some) =
     let usable = at-usable h pool (partition_of h k) k lt refl some in
@@ -239,20 +240,20 @@ nearer-some h pool own below above None unusable under over nearer (k, lt, some)
     ])
 
 -- the most dead rows
-pub most-dead : (h : History) (pool : Pool) (g first end : ℕ) (found : Option ℕ) → IsHistory h → h.positions ≡ pool.shape.segments - 1 → first ≡ first_of h g → end ≡ end_of h g → first < end → Wins (dead_at pool) first (end - 1) found → MatchOption found ((k : ℕ) → HasRows h (deads pool) g k → ⊥) (IsMost (HasRows h (deads pool) g) (slice_index (deads pool)))
+pub most-dead : (h : History) (pool : Pool) (g first end : ℕ) (found : Option ℕ) → IsHistory h → h.positions ≡ positions_of pool.shape → first ≡ first_of h g → end ≡ end_of h g → first < end → Wins (dead_at pool) first (end - 1) found → MatchOption found ((k : ℕ) → HasRows h (deads pool) g k → ⊥) (IsMost (HasRows h (deads pool) g) (slice_index (deads pool)))
 most-dead h pool g first end None whole same low high order wins = λ k has.
-    let below = rows-below (deads pool) (pool.shape.segments - 1) k (deads-long pool) has.1 in
+    let below = rows-below (deads pool) (positions_of pool.shape) k (deads-long pool) has.1 in
     let low_k = within-first h g k whole has.0 in
     let high_k = within-end h g k whole (omega arith) has.0 in
     let none = wins k (omega arith) (omega arith) in
-    let here = at (dead_at pool) (pool.shape.segments - 1) k below in
+    let here = at (dead_at pool) (positions_of pool.shape) k below in
     let some = has.1 in
     absurd (omega arith)
 most-dead h pool g first end (Some p) whole same low high order wins =
     let above = wins.above in
     let below = wins.below in
     let some = wins.some in
-    let here = at (dead_at pool) (pool.shape.segments - 1) p (omega arith) in
+    let here = at (dead_at pool) (positions_of pool.shape) p (omega arith) in
     record {
       holds = (within-is h g p whole (omega arith) (omega arith), omega arith);
       most = λ y has. (step y has).0;
@@ -261,12 +262,12 @@ most-dead h pool g first end (Some p) whole same low high order wins =
   where
     step : (y : ℕ) → HasRows h (deads pool) g y → (slice_index (deads pool) y ≤ slice_index (deads pool) p) × (slice_index (deads pool) y ≡ slice_index (deads pool) p → p ≤ y)
     step y has =
-        let inside = rows-below (deads pool) (pool.shape.segments - 1) y (deads-long pool) has.1 in
+        let inside = rows-below (deads pool) (positions_of pool.shape) y (deads-long pool) has.1 in
         let low_y = within-first h g y whole has.0 in
         let high_y = within-end h g y whole (omega arith) has.0 in
-        let at_y = at (dead_at pool) (pool.shape.segments - 1) y inside in
+        let at_y = at (dead_at pool) (positions_of pool.shape) y inside in
         let below = wins.below in
-        let at_p = at (dead_at pool) (pool.shape.segments - 1) p (omega arith) in
+        let at_p = at (dead_at pool) (positions_of pool.shape) p (omega arith) in
         let most = wins.most y (omega arith) (omega arith) in (
           omega arith,
           λ e. elim (cases_lt y p) [
@@ -293,7 +294,7 @@ turn-inside h g turn whole counted is =
     (omega arith, omega arith)
 
 -- no row of the partition is free
-pub beside-none : (h : History) (pool : Pool) (g first end : ℕ) (avoided : Option ℕ) → IsHistory h → h.positions ≡ pool.shape.segments - 1 → first ≡ first_of h g → end ≡ end_of h g → Lowest (free_at pool) first end None → (k : ℕ) → IsFreeBeside h pool g avoided k → ⊥
+pub beside-none : (h : History) (pool : Pool) (g first end : ℕ) (avoided : Option ℕ) → IsHistory h → h.positions ≡ positions_of pool.shape → first ≡ first_of h g → end ≡ end_of h g → Lowest (free_at pool) first end None → (k : ℕ) → IsFreeBeside h pool g avoided k → ⊥
 beside-none h pool g first end avoided whole same low high lowest k is =
     let position = is.position in
     let low_k = within-first h g k whole is.near in
@@ -303,7 +304,7 @@ beside-none h pool g first end avoided whole same low high lowest k is =
     omega arith
 
 -- another segment stands at the lowest position with a free row than the avoided one
-pub beside-first : (h : History) (pool : Pool) (g first end k : ℕ) (avoided : Option ℕ) → IsHistory h → h.positions ≡ pool.shape.segments - 1 → first ≡ first_of h g → end ≡ end_of h g → IsLowest (free_at pool) first end k → avoided ≢ Some (slice_index pool.positions k) → IsLeast (IsFreeBeside h pool g avoided) (λ x. x) k
+pub beside-first : (h : History) (pool : Pool) (g first end k : ℕ) (avoided : Option ℕ) → IsHistory h → h.positions ≡ positions_of pool.shape → first ≡ first_of h g → end ≡ end_of h g → IsLowest (free_at pool) first end k → avoided ≢ Some (slice_index pool.positions k) → IsLeast (IsFreeBeside h pool g avoided) (λ x. x) k
 beside-first h pool g first end k avoided whole same low high lowest other =
     let below = lowest.below in
     let above = lowest.above in
@@ -318,7 +319,7 @@ beside-first h pool g first end k avoided whole same low high lowest other =
     least y is (inr at_least) = at_least
 
 -- it is the avoided one's, so that it is another's at each position above
-pub beside-next : (h : History) (pool : Pool) (g first end k : ℕ) (avoided found : Option ℕ) → IsHistory h → IsPool pool → h.positions ≡ pool.shape.segments - 1 → first ≡ first_of h g → end ≡ end_of h g → IsLowest (free_at pool) first end k → avoided ≡ Some (slice_index pool.positions k) → Lowest (free_at pool) (k + 1) end found → MatchOption found ((y : ℕ) → IsFreeBeside h pool g avoided y → ⊥) (IsLeast (IsFreeBeside h pool g avoided) (λ x. x))
+pub beside-next : (h : History) (pool : Pool) (g first end k : ℕ) (avoided found : Option ℕ) → IsHistory h → IsPool pool → h.positions ≡ positions_of pool.shape → first ≡ first_of h g → end ≡ end_of h g → IsLowest (free_at pool) first end k → avoided ≡ Some (slice_index pool.positions k) → Lowest (free_at pool) (k + 1) end found → MatchOption found ((y : ℕ) → IsFreeBeside h pool g avoided y → ⊥) (IsLeast (IsFreeBeside h pool g avoided) (λ x. x))
 beside-next h pool g first end k avoided None whole are same low high lowest it none = λ y is. past y is (cases_lt y k) (cases_eq y k)
   where
     past : (y : ℕ) → IsFreeBeside h pool g avoided y → (y < k) ⊎ (k ≤ y) → (y ≡ k) ⊎ (y ≡ k → ⊥) → ⊥
@@ -335,11 +336,11 @@ beside-next h pool g first end k avoided (Some p) whole are same low high lowest
       lowest = λ y is e. least y is (cases_lt y p);
     }
   where
-    other : k < pool.shape.segments - 1 → p < pool.shape.segments - 1 → avoided ≢ Some (slice_index pool.positions p)
+    other : k < positions_of pool.shape → p < positions_of pool.shape → avoided ≢ Some (slice_index pool.positions p)
     other lt_k lt_p is =
         let both : Some (slice_index pool.positions k) ≡ Some (slice_index pool.positions p) = sym it ∙ is in
         let one : slice_index pool.positions k ≡ slice_index pool.positions p = cc in
-        let met = are.apart k p lt_k lt_p one in
+        let met = are.apart k p (omega (arith, lt_k)) (omega (arith, lt_p)) one in
         let above = next.above in
         omega arith
 
@@ -375,7 +376,7 @@ above-over h pool own None none = tt
 above-over h pool own (Some g) is = is.over
 
 -- a usable partition is one of those there are
-pub in-count : (h : History) (pool : Pool) (g : ℕ) → IsHistory h → h.positions ≡ pool.shape.segments - 1 → IsUsableIn h pool g → g < length h.heats
+pub in-count : (h : History) (pool : Pool) (g : ℕ) → IsHistory h → h.positions ≡ positions_of pool.shape → IsUsableIn h pool g → g < length h.heats
 in-count h pool g whole same usable = usable-counted h (frees pool) (deads pool) g whole (frees-long pool ∙ sym same) (deads-long pool ∙ sym same) usable
 
 -- the segments were compared

@@ -13,6 +13,8 @@ pub(crate) const SHAPE: Shape = Shape {
     shadows: 1,
     frames: 2,
     entries: 1,
+    reserves: 0,
+    sums: 0,
 };
 
 // How many operations a session has, and after how many it syncs. Every fourth sync compacts.

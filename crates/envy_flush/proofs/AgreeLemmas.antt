@@ -30,6 +30,7 @@ use Rattle.envy_flush.specs.declared.parts.Parts.{Parts}
 use Rattle.envy_flush.proofs.JobLemmas.{IsPlanOf-claimed, IsPlanOf-programmed, IsPlanOf-rowed, AreParted-rowed}
 use Rattle.envy_space.specs.Noting.{Rowed}
 use Rattle.envy_space.proofs.PlaceLemmas.{PoolAgrees-rowed}
+use Rattle.envy_base.specs.Shape.{positions_of}
 
 -- the pages and positions of a chooser
 abbrev pub sizes_of : History → ℕ × ℕ
@@ -58,7 +59,7 @@ Fits-staged sh x y fits stages space frames cache chooser = record {
 }
 
 -- one stage fewer is left
-pub Fits-next : (sh sh2 : Shape) (x y : Parts) → sh2 ≡ sh → Fits sh x → y.stages ≡ drop 1 x.stages → All (λ k. k < sh.segments - 1) y.stages → y.space.shape ≡ x.space.shape → y.frames.count ≡ x.frames.count → length y.cache.entries ≡ length x.cache.entries → sizes_of y.chooser ≡ sizes_of x.chooser → Fits sh2 y
+pub Fits-next : (sh sh2 : Shape) (x y : Parts) → sh2 ≡ sh → Fits sh x → y.stages ≡ drop 1 x.stages → All (λ k. k < positions_of sh) y.stages → y.space.shape ≡ x.space.shape → y.frames.count ≡ x.frames.count → length y.cache.entries ≡ length x.cache.entries → sizes_of y.chooser ≡ sizes_of x.chooser → Fits sh2 y
 Fits-next sh sh2 x y shape fits rest within space frames cache chooser =
     let few = AreStages.few (Fits.stages fits) in
     let less = length-drop 1 x.stages in
@@ -66,7 +67,7 @@ Fits-next sh sh2 x y shape fits rest within space frames cache chooser =
     rw shape (Fits-staged sh x y fits (record { within = within; few = omega arith }) space frames cache chooser)
 
 pub no-stages : (sh : Shape) (stages : List ℕ) → stages ≡ [] → AreStages sh stages
-no-stages sh stages none = rw none (record { within = All-nil (λ k. k < sh.segments - 1); few = omega arith })
+no-stages sh stages none = rw none (record { within = All-nil (λ k. k < positions_of sh); few = omega arith })
 
 pub claimed-sizes : (h : History) (k page : ℕ) → sizes_of (claimed h k page) ≡ sizes_of h
 claimed-sizes h k page = at ((warmed h k).flushes == 1024)
@@ -92,13 +93,13 @@ Agrees-claimed c new x y s q p sound a placed free claims claimed pool frames ca
     subst (λ (z : Chart). PartsAgree z y) (sym claims.fields) made
 
 -- it is the last at its position
-pub IsLastAt-claimed : (c new : Chart) (pool : Pool) (k q p : ℕ) → IsSound c → PoolAgrees c.shape c.fields pool → k < c.shape.segments - 1 → get_or c.fields.fills (get_or pool.positions k 0) 0 < c.shape.rows → Claims c (get_or pool.positions k 0) p q new → IsLastAt new k q
+pub IsLastAt-claimed : (c new : Chart) (pool : Pool) (k q p : ℕ) → IsSound c → PoolAgrees c.shape c.fields pool → k < positions_of c.shape → get_or c.fields.fills (get_or pool.positions k 0) 0 < c.shape.rows → Claims c (get_or pool.positions k 0) p q new → IsLastAt new k q
 IsLastAt-claimed c new pool k q p sound agrees low room claims =
     let s = get_or pool.positions k 0 in
     let n = get_or c.fields.fills s 0 in
     let order : get_or c.fields.positions k 0 ≡ s = ap (λ (xs : List ℕ). get_or xs k 0) (sym agrees.positions) in
     let at = row-of c.shape.rows s n room in
-    let fits : s < c.shape.segments = rw (← order) (Numbers.positions_fit (Sound.numbers sound) k low) in
+    let fits : s < c.shape.segments = rw (← order) (Numbers.positions_fit (Sound.numbers sound) k (omega (arith, low))) in
     let long = Numbers.fills_long (Sound.numbers sound) in
     subst (λ (z : Chart). IsLastAt z k q) (sym claims.fields) (record {
       segment = ap (λ (x : ℕ). x / c.shape.rows) claims.row ∙ at.0 ∙ sym order;

@@ -16,6 +16,7 @@ use Rattle.envy_choosing.proofs.ChoosingLemmas.{long}
 use Rattle.envy_flush.specs.Agreement.{PartsAgree}
 use Rattle.envy_flush.specs.declared.parts.Parts.{Parts}
 use Rattle.envy_flush.specs.Flushing.{IsAvailable, IsNoneNear, IsLowestNear, GoesBeside, IsEmptied, IsNoneAvailable, IsLowestAvailable}
+use Rattle.envy_base.specs.Shape.{positions_of}
 
 -- what the job leaves free is where another segment stands than the one that it relocates
 abbrev pub Spares : Chart → Option ℕ → Type 0
@@ -29,6 +30,7 @@ available h home c pool avoided k agrees spares is =
     let at : get_or pool.positions k 0 ≡ get_or c.fields.positions k 0 = ap (λ (xs : List ℕ). get_or xs k 0) agrees.positions in
     let fill : get_or pool.fills (get_or pool.positions k 0) 0 ≡ get_or c.fields.fills (get_or c.fields.positions k 0) 0 = ap (λ (xs : List ℕ). get_or xs (get_or pool.positions k 0) 0) agrees.fills ∙ ap (λ (s : ℕ). get_or c.fields.fills s 0) at in
     let segments = ap (λ (sh : Shape). sh.segments) agrees.shape in
+    let reserves = ap (λ (sh : Shape). sh.reserves) agrees.shape in
     let rows = ap (λ (sh : Shape). sh.rows) agrees.shape in
     record {
       position = let low = is.position in omega arith;
@@ -42,6 +44,7 @@ beside h home c pool avoided k agrees takes is =
     let at : get_or pool.positions k 0 ≡ get_or c.fields.positions k 0 = ap (λ (xs : List ℕ). get_or xs k 0) agrees.positions in
     let fill : get_or pool.fills (get_or pool.positions k 0) 0 ≡ get_or c.fields.fills (get_or c.fields.positions k 0) 0 = ap (λ (xs : List ℕ). get_or xs (get_or pool.positions k 0) 0) agrees.fills ∙ ap (λ (s : ℕ). get_or c.fields.fills s 0) at in
     let segments = ap (λ (sh : Shape). sh.segments) agrees.shape in
+    let reserves = ap (λ (sh : Shape). sh.reserves) agrees.shape in
     let rows = ap (λ (sh : Shape). sh.rows) agrees.shape in
     record {
       position = let low = is.position in omega arith;
@@ -60,7 +63,7 @@ found-available h home c pool avoided (Some k) agrees spares takes least = recor
 
 -- what a job relocates stands at a position
 pub relocated-placed : (c : Chart) (x : Parts) (s : ℕ) → IsSound c → PartsAgree c x → (c.fields.job ≡ Some (Copy s)) ⊎ (c.fields.job ≡ Some (Switch s)) → IsPlaced x.space.shape x.space.positions s
-relocated-placed c x s sound agrees is = (here.0, subst (λ (sh : Shape). here.0 < sh.segments - 1) (sym agrees.pool.shape) here.1, ap (λ (xs : List ℕ). get_or xs here.0 0) agrees.pool.positions ∙ here.2)
+relocated-placed c x s sound agrees is = (here.0, subst (λ (sh : Shape). here.0 < positions_of sh) (sym agrees.pool.shape) here.1, ap (λ (xs : List ℕ). get_or xs here.0 0) agrees.pool.positions ∙ here.2)
   where
     placed : (c.fields.job ≡ Some (Copy s)) ⊎ (c.fields.job ≡ Some (Switch s)) → IsPlaced c.shape c.fields.positions s
     placed (inl e) = Jobs.copying (Sound.job sound) s e
@@ -69,37 +72,37 @@ relocated-placed c x s sound agrees is = (here.0, subst (λ (sh : Shape). here.0
     here : IsPlaced c.shape c.fields.positions s
     here = placed is
 
-pub emptied-some : (c : Chart) (pool : Pool) (s k : ℕ) → PoolAgrees c.shape c.fields pool → Takes c (Some s) → k < pool.shape.segments - 1 → get_or pool.positions k 0 ≡ s → IsEmptied c (Some k)
+pub emptied-some : (c : Chart) (pool : Pool) (s k : ℕ) → PoolAgrees c.shape c.fields pool → Takes c (Some s) → k < positions_of pool.shape → get_or pool.positions k 0 ≡ s → IsEmptied c (Some k)
 emptied-some c pool s k agrees takes below is =
     let at : get_or pool.positions k 0 ≡ get_or c.fields.positions k 0 = ap (λ (xs : List ℕ). get_or xs k 0) agrees.positions in
-    (subst (λ (sh : Shape). k < sh.segments - 1) agrees.shape below, λ free. takes s refl (subst (λ (n : ℕ). IsFreeOf c.fields.job n) (sym at ∙ is) free))
+    (subst (λ (sh : Shape). k < positions_of sh) agrees.shape below, λ free. takes s refl (subst (λ (n : ℕ). IsFreeOf c.fields.job n) (sym at ∙ is) free))
 
 pub emptied-none : (c : Chart) → Spares c None → IsEmptied c None
 emptied-none c spares = λ k below. spares (get_or c.fields.positions k 0) (λ e. cc)
 
 -- another position is left free
-pub others-some : (c : Chart) (pool : Pool) (s k : ℕ) → PoolAgrees c.shape c.fields pool → IsPool pool → Spares c (Some s) → k < pool.shape.segments - 1 → get_or pool.positions k 0 ≡ s → (j : ℕ) → j < c.shape.segments - 1 → Some k ≢ Some j → IsFreeOf c.fields.job (get_or pool.positions j 0)
+pub others-some : (c : Chart) (pool : Pool) (s k : ℕ) → PoolAgrees c.shape c.fields pool → IsPool pool → Spares c (Some s) → k < positions_of pool.shape → get_or pool.positions k 0 ≡ s → (j : ℕ) → j < positions_of c.shape → Some k ≢ Some j → IsFreeOf c.fields.job (get_or pool.positions j 0)
 others-some c pool s k agrees whole spares below is j inside other = spares (get_or pool.positions j 0) (λ e.
     let same : s ≡ get_or pool.positions j 0 = cc in
-    let met = whole.apart k j below (subst (λ (sh : Shape). j < sh.segments - 1) (sym agrees.shape) inside) (is ∙ same) in
+    let met = whole.apart k j (omega (arith, below)) (omega (arith, subst (λ (sh : Shape). j < positions_of sh) (sym agrees.shape) inside)) (is ∙ same) in
     other (ap (λ (n : ℕ). Some n) met))
 
-pub others-none : (c : Chart) (pool : Pool) → Spares c None → (j : ℕ) → j < c.shape.segments - 1 → None ≢ Some j → IsFreeOf c.fields.job (get_or pool.positions j 0)
+pub others-none : (c : Chart) (pool : Pool) → Spares c None → (j : ℕ) → j < positions_of c.shape → None ≢ Some j → IsFreeOf c.fields.job (get_or pool.positions j 0)
 others-none c pool spares j inside other = spares (get_or pool.positions j 0) (λ e. cc)
 
 -- the position for a page has room, and is left free
-pub beside-room : (pool : Pool) (rows : ℕ) (emptied found : Option ℕ) → pool.shape.rows ≡ rows → IfSome found (λ k. k < pool.shape.segments - 1) → IfSome found (λ k. HasRoom (counts_in pool) emptied k) → IfSome found (λ k. get_or pool.fills (get_or pool.positions k 0) 0 < rows)
+pub beside-room : (pool : Pool) (rows : ℕ) (emptied found : Option ℕ) → pool.shape.rows ≡ rows → IfSome found (λ k. k < positions_of pool.shape) → IfSome found (λ k. HasRoom (counts_in pool) emptied k) → IfSome found (λ k. get_or pool.fills (get_or pool.positions k 0) 0 < rows)
 beside-room pool rows emptied None same below room = tt
 beside-room pool rows emptied (Some k) same below room =
-    let is = at (free_at pool) (pool.shape.segments - 1) k (omega (arith, below, long (free_at pool) (pool.shape.segments - 1))) in
+    let is = at (free_at pool) (positions_of pool.shape) k (omega (arith, below, long (free_at pool) (positions_of pool.shape))) in
     omega (arith, is, room.0, same)
 
-pub beside-free : (c : Chart) (pool : Pool) (emptied found : Option ℕ) → PoolAgrees c.shape c.fields pool → ((j : ℕ) → j < c.shape.segments - 1 → emptied ≢ Some j → IsFreeOf c.fields.job (get_or pool.positions j 0)) → IfSome found (λ k. k < pool.shape.segments - 1) → IfSome found (λ k. HasRoom (counts_in pool) emptied k) → IfSome found (λ k. IsFreeOf c.fields.job (get_or pool.positions k 0))
+pub beside-free : (c : Chart) (pool : Pool) (emptied found : Option ℕ) → PoolAgrees c.shape c.fields pool → ((j : ℕ) → j < positions_of c.shape → emptied ≢ Some j → IsFreeOf c.fields.job (get_or pool.positions j 0)) → IfSome found (λ k. k < positions_of pool.shape) → IfSome found (λ k. HasRoom (counts_in pool) emptied k) → IfSome found (λ k. IsFreeOf c.fields.job (get_or pool.positions k 0))
 beside-free c pool emptied None agrees others below room = tt
-beside-free c pool emptied (Some k) agrees others below room = others k (subst (λ (sh : Shape). k < sh.segments - 1) agrees.shape below) room.1
+beside-free c pool emptied (Some k) agrees others below room = others k (subst (λ (sh : Shape). k < positions_of sh) agrees.shape below) room.1
 
-pub beside-within : (sh sh2 : Shape) (found : Option ℕ) → sh ≡ sh2 → IfSome found (λ k. k < sh.segments - 1) → IfSome found (λ k. k < sh2.segments - 1)
-beside-within sh sh2 found same below = subst (λ (z : Shape). IfSome found (λ k. k < z.segments - 1)) same below
+pub beside-within : (sh sh2 : Shape) (found : Option ℕ) → sh ≡ sh2 → IfSome found (λ k. k < positions_of sh) → IfSome found (λ k. k < positions_of sh2)
+beside-within sh sh2 found same below = subst (λ (z : Shape). IfSome found (λ k. k < positions_of z)) same below
 
 -- by the home, or by the lives
 pub available-near : (x : Parts) (home page : ℕ) (c : Chart) (found : Option ℕ) → x.chooser.lives ≡ None → MatchOption found (IsNoneNear x.chooser home c) (IsLowestNear x.chooser home c) → MatchOption found (IsNoneAvailable x home page c) (λ k. IsLowestAvailable x home page c k)

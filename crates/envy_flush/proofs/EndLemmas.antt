@@ -2,6 +2,7 @@
 use Rattle.std.proofs.Common.{◌≡◌, ◌≢◌, ◌⊎◌, inl, inr, ℕ, ◌<◌, List, get_or, set, Option, None, Some, refl, sym, ◌∙◌, ap, subst}
 use Rattle.std.specs.Prelude.{IsTrue, if◌then◌else◌}
 use Rattle.std.proofs.lemmas.List.{get_or-set_same, get_or-set_other, set-set, set-get_or}
+use Rattle.envy_base.specs.Shape.{version_of}
 use Rattle.envy_base.specs.declared.fields.Place.{Place}
 use Rattle.envy_base.specs.declared.fields.Slot.{Slot}
 use Rattle.envy_base.specs.declared.fields.Slot.TheVariants.{Active, Committed, Vacant}
@@ -146,13 +147,13 @@ Rows-restored c e new t res last = let is = restored-is c e new t res last in re
 alike : (ss : List (Option Slot)) (t : ℕ) → get_or ss t None ≡ Some Active → set (set ss t (Some Committed)) t (Some Active) ≡ ss
 alike ss t active = set-set ss t (Some Committed) (Some Active) ∙ ap (λ (s : Option Slot). set ss t s) (sym active) ∙ set-get_or ss t None
 
-pub IsReleasing-start : (c d : Chart) (x : Parts) (o : Ownership) (t : ℕ) → Ready c x → AreOwned c.fields.slots c.fields.undos o.pairs → c.fields.version ≡ 2 → t < 64 → slot c.fields t ≡ Some Active → IsTrue d.on → IsSound d → d ≡ with_fields c (with_slot t (Some Committed) c.fields) → IsReleasing t d x o
+pub IsReleasing-start : (c d : Chart) (x : Parts) (o : Ownership) (t : ℕ) → Ready c x → AreOwned c.fields.slots c.fields.undos o.pairs → c.fields.version ≡ version_of c.shape → t < 64 → slot c.fields t ≡ Some Active → IsTrue d.on → IsSound d → d ≡ with_fields c (with_slot t (Some Committed) c.fields) → IsReleasing t d x o
 IsReleasing-start c d x o t r owned version low active on sound is =
     let same = alike c.fields.slots t active in
     record {
       on = on;
       sound = sound;
-      version = ap (λ (z : Chart). z.fields.version) is ∙ version;
+      version = subst (λ (z : Chart). z.fields.version ≡ version_of z.shape) (sym is) version;
       low = low;
       committed = ap (λ (z : Chart). get_or z.fields.slots t None) is ∙ get_or-set_same c.fields.slots t (Some Committed) None (rw (Slots.long (Sound.slots (Ready.sound r))) low);
       fits = subst (λ (sh : Shape). Fits sh x) (sym (ap (λ (z : Chart). z.shape) is)) (Ready.fits r);

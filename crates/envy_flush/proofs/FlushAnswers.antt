@@ -2,7 +2,7 @@
 use Rattle.std.proofs.Common.{◌≡◌, ◌≢◌, ◌∙◌, inr, ℕ, ◌+◌, ◌-◌, ◌*◌, ◌/◌, ◌<◌, List, [], get_or, Option, None, Some, false, refl, sym, ap, subst, arith, Bool, true}
 use Rattle.std.specs.Prelude.{IsTrue, Any, Result, Ok, Err, IfOk, IsErrAnd}
 use Rattle.envy_base.specs.Counting.{up}
-use Rattle.envy_base.specs.Shape.{IsShape}
+use Rattle.envy_base.specs.Shape.{IsShape, positions_of}
 use Rattle.envy_base.specs.State.{IsBoard, State}
 use Rattle.envy_base.specs.declared.shape.Shape.{Shape}
 use Rattle.envy_base.specs.declared.fields.Job.{Job}
@@ -39,8 +39,8 @@ ready-left k j c d x y on same leaves = record { on = on; sound = Stays.sound (S
 pub page-left : (k j p : ℕ) (c d : Chart) → Same k j c d → p < c.shape.pages → p < d.shape.pages
 page-left k j p c d same page = subst (λ (sh : Shape). p < sh.pages) (sym (Framed.shape (Stays.framed (Same.stays same)))) page
 
-pub position-left : (k j n : ℕ) (c d : Chart) → Same k j c d → n < c.shape.segments - 1 → n < d.shape.segments - 1
-position-left k j n c d same position = subst (λ (sh : Shape). n < sh.segments - 1) (sym (Framed.shape (Stays.framed (Same.stays same)))) position
+pub position-left : (k j n : ℕ) (c d : Chart) → Same k j c d → n < positions_of c.shape → n < positions_of d.shape
+position-left k j n c d same position = subst (λ (sh : Shape). n < positions_of sh) (sym (Framed.shape (Stays.framed (Same.stays same)))) position
 
 -- nothing changed at all
 pub same-none : (k j : ℕ) (c : Chart) (x : Parts) → Ready c x → Same k j c c

@@ -1,5 +1,5 @@
 -- What a flush says once its row is programmed.
-use Rattle.std.proofs.Common.{◌≡◌, ◌≢◌, ◌⊎◌, inl, inr, ℕ, ◌-◌, ◌^◌, ◌<◌, ◌≤◌, Bool, true, false, List, [], length, Option, None, Some, refl, sym, ◌∙◌, ap, subst, arith}
+use Rattle.std.proofs.Common.{◌≡◌, ◌≢◌, ◌⊎◌, inl, inr, ℕ, ◌-◌, ◌^◌, ◌<◌, ◌≤◌, Bool, true, false, List, [], length, Option, None, Some, refl, sym, ◌∙◌, ap, subst, arith, get_or}
 use Rattle.std.specs.Prelude.{Result, Ok, Err, OnOk, OnErr, IfOk, IsErrOf, IsTrue, MatchOption, MatchResult}
 use Rattle.envy_base.specs.Counting.{up}
 use Rattle.envy_base.specs.declared.board.Off.{Off}
@@ -45,7 +45,7 @@ pub Follows-after : (choice : Choice) (page q : ℕ) (old : Chart) (was : Parts)
 Follows-after (Free k) page q old was mid y new z shape fills positions erases chooser counted claims = Claims-after k page q old was mid y new z shape fills positions erases chooser claims
 Follows-after (Clean k aside) page q old was mid y new z shape fills positions erases chooser counted (at, s, b, d, whole) = (
   IsLastAt-after k q mid new shape fills positions at,
-  record { spare = s.spare; is_spare = s.is_spare; positions = positions ∙ s.positions },
+  record { spare = s.spare; is_spare = s.is_spare; positions = λ j low. ap (λ (xs : List ℕ). get_or xs j 0) positions ∙ s.positions j low },
   counted ∙ b,
   chooser ∙ d,
   record { mid = whole.mid; between = whole.between; cleans = whole.cleans; claims = Claims-after k page q whole.mid whole.between mid y new z shape fills positions erases chooser whole.claims },

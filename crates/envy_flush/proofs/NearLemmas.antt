@@ -27,6 +27,7 @@ use Rattle.envy_flush.proofs.AgreeLemmas.{Fits-moved, sizes_of}
 use Rattle.envy_flush.proofs.JobLemmas.{IsPlanOf-framed, IsPlanOf-words, AreParted-framed}
 use Rattle.envy_space.specs.Noting.{Leaving}
 use Rattle.envy_space.proofs.PlaceLemmas.{PoolAgrees-left, PoolAgrees-absent}
+use Rattle.envy_base.specs.Shape.{positions_of}
 
 pub room-near : (c : Chart) (x : Parts) (p k : ℕ) (from : Place) → Near c x p k from → p < length c.fields.places
 room-near c x p k from n = rw (Places.long (Sound.places n.sound)) n.page
@@ -76,7 +77,7 @@ Fits-near c new x y p k from n is space entries frames chooser stages =
     Fits-moved c.shape new.shape x y (ap (λ (z : Chart). z.shape) is) n.fits (ap (λ (z : Pool). z.shape) space ∙ left-shape from x.space) (ap (λ (o : Order). o.count) frames) entries (ap sizes_of chooser) stages
 
 -- a frame was taken for the page and filled
-pub Near-filled : (c new : Chart) (x y : Parts) (p k home : ℕ) (from : Place) (ws : List ℕ) → Ready c x → IsTrue new.on → IsSound new → new ≡ with_fields c (with_frame k ws 32 c.fields) → p < c.shape.pages → k < c.shape.frames → home < c.shape.segments - 1 → place c.fields p ≡ Some from → IsElsewhere (Some from) → IsUnnamed new.fields k → IsUnheld x.frames.held k → y.frames.held ≡ x.frames.held ++ (record { frame = k; page = p; home = home }) ∷ [] → y.frames.count ≡ x.frames.count → y ≡ record x { frames = y.frames } → Near new y p k from
+pub Near-filled : (c new : Chart) (x y : Parts) (p k home : ℕ) (from : Place) (ws : List ℕ) → Ready c x → IsTrue new.on → IsSound new → new ≡ with_fields c (with_frame k ws 32 c.fields) → p < c.shape.pages → k < c.shape.frames → home < positions_of c.shape → place c.fields p ≡ Some from → IsElsewhere (Some from) → IsUnnamed new.fields k → IsUnheld x.frames.held k → y.frames.held ≡ x.frames.held ++ (record { frame = k; page = p; home = home }) ∷ [] → y.frames.count ≡ x.frames.count → y ≡ record x { frames = y.frames } → Near new y p k from
 Near-filled c new x y p k home from ws r on sound is page frame position here elsewhere unnamed unheld held count parts =
     let shape : new.shape ≡ c.shape = ap (λ (z : Chart). z.shape) is in
     let space : y.space ≡ x.space = ap (λ (z : Parts). z.space) parts in

@@ -5,7 +5,7 @@ use Rattle.std.specs.List.{range_with_len}
 use Rattle.std.proofs.lemmas.Bool.{cases_lt, cases_eq, eq-eqb, ne_eqb}
 use Rattle.std.proofs.lemmas.List.{get_or_past, get_or-set_same, get_or-set_other}
 use Rattle.std.proofs.lemmas.List.FromFn.{get_or-map-range_with_len, length-map-range_with_len}
-use Rattle.envy_base.specs.Shape.{IsShape}
+use Rattle.envy_base.specs.Shape.{IsShape, positions_of}
 use Rattle.envy_base.specs.declared.shape.Shape.{Shape}
 use Rattle.envy_base.specs.declared.fields.Job.TheVariants.{Switch}
 use Rattle.envy_base.specs.declared.fields.Place.{Place}
@@ -71,14 +71,14 @@ some-sum f (suc n) some = at (cases_lt 0 (f n)) (λ less. some-sum f n less)
     at (inr none) rest = let found = rest (let whole : 0 < sum_by f (range_with_len 0 (n + 1)) = subst (λ (k : ℕ). 0 < sum_by f (range_with_len 0 k)) (sym (add-one n)) some in omega (arith, whole, more)) in (found.0, (let lt = found.1 in omega arith), found.2)
 
 -- some position has a free or a dead row
-pub some-rows : (sh : Shape) (f : Fields) (flash : List (List ℕ)) (pool : Pool) → IsShape sh → Sound sh f flash → PoolAgrees sh f pool → (k : ℕ) × (k < pool.shape.segments - 1) × (0 < free_at pool k + dead_at pool k)
+pub some-rows : (sh : Shape) (f : Fields) (flash : List (List ℕ)) (pool : Pool) → IsShape sh → Sound sh f flash → PoolAgrees sh f pool → (k : ℕ) × (k < positions_of pool.shape) × (0 < free_at pool k + dead_at pool k)
 some-rows sh f flash pool shape sound agrees =
     let left = rows-left sh f.slots f.undos f.places f.wears f.fills f.positions f.backs f.origins f.frames f.version shape (Sound.slots sound) (Sound.rows sound) (Sound.numbers sound) in
     let least = shape.rows in
-    let found = some-sum (λ k. free_in sh f.fills (get_or f.positions k 0) + dead_in sh f.slots f.undos f.places f.fills (get_or f.positions k 0)) (sh.segments - 1) (omega arith) in
+    let found = some-sum (λ k. free_in sh f.fills (get_or f.positions k 0) + dead_in sh f.slots f.undos f.places f.fills (get_or f.positions k 0)) (positions_of sh) (omega arith) in
     let k = found.0 in
     let lt = found.1 in
-    let fits = Numbers.positions_fit (Sound.numbers sound) k lt in
+    let fits = Numbers.positions_fit (Sound.numbers sound) k (omega (arith, lt)) in
     let kept = agrees.kept (get_or f.positions k 0) fits in
     (k, rw agrees.shape lt, rw (agrees.fills, agrees.positions, agrees.shape, kept) found.2)
 
@@ -89,14 +89,14 @@ free-some (Some n) h pool home page k (inl (inl own)) = own.1.0
 free-some (Some n) h pool home page k (inl (inr fresh)) = (IsLeast.holds fresh.1).0
 free-some (Some n) h pool home page k (inr last) = IsLeast.holds last.2
 
-pub free-room : (h : History) (pool : Pool) (home page k : ℕ) → ChoiceFor h pool home page (Free k) → (k < pool.shape.segments - 1) × (get_or pool.fills (get_or pool.positions k 0) 0 < pool.shape.rows)
-free-room h pool home page k choice = at (cases_lt k (pool.shape.segments - 1))
+pub free-room : (h : History) (pool : Pool) (home page k : ℕ) → ChoiceFor h pool home page (Free k) → (k < positions_of pool.shape) × (get_or pool.fills (get_or pool.positions k 0) 0 < pool.shape.rows)
+free-room h pool home page k choice = at (cases_lt k (positions_of pool.shape))
   where
     some : 0 < get_or (frees pool) k 0
     some = free-some h.lives h pool home page k choice
 
-    at : (k < pool.shape.segments - 1) ⊎ (pool.shape.segments - 1 ≤ k) → (k < pool.shape.segments - 1) × (get_or pool.fills (get_or pool.positions k 0) 0 < pool.shape.rows)
-    at (inl lt) = let is = get_or-map-range_with_len (free_at pool) 0 (pool.shape.segments - 1) k k 0 lt (omega arith) in (lt, omega (arith, some))
+    at : (k < positions_of pool.shape) ⊎ (positions_of pool.shape ≤ k) → (k < positions_of pool.shape) × (get_or pool.fills (get_or pool.positions k 0) 0 < pool.shape.rows)
+    at (inl lt) = let is = get_or-map-range_with_len (free_at pool) 0 (positions_of pool.shape) k k 0 lt (omega arith) in (lt, omega (arith, some))
     at (inr past) = absurd (let none : get_or (frees pool) k 0 ≡ 0 = get_or_past (frees pool) k 0 (rw length-map-range_with_len past) in omega (arith, some))
 
 -- a position that is cleaned has dead rows
@@ -108,10 +108,10 @@ dead-some : (lives : Option Notes) (h : History) (pool : Pool) (home page k : �
 dead-some None h pool home page k aside choice = victim-some (victims_of h.policy) h pool k choice.2
 dead-some (Some n) h pool home page k aside choice = (IsGreatest.holds choice.1).0
 
-pub clean-room : (h : History) (pool : Pool) (home page k : ℕ) (aside : Option ℕ) → ChoiceFor h pool home page (Clean k aside) → k < pool.shape.segments - 1
-clean-room h pool home page k aside choice = at (cases_lt k (pool.shape.segments - 1))
+pub clean-room : (h : History) (pool : Pool) (home page k : ℕ) (aside : Option ℕ) → ChoiceFor h pool home page (Clean k aside) → k < positions_of pool.shape
+clean-room h pool home page k aside choice = at (cases_lt k (positions_of pool.shape))
   where
-    at : (k < pool.shape.segments - 1) ⊎ (pool.shape.segments - 1 ≤ k) → k < pool.shape.segments - 1
+    at : (k < positions_of pool.shape) ⊎ (positions_of pool.shape ≤ k) → k < positions_of pool.shape
     at (inl lt) = lt
     at (inr past) = absurd (let none : get_or (deads pool) k 0 ≡ 0 = get_or_past (deads pool) k 0 (rw length-map-range_with_len past) in let more = dead-some h.lives h pool home page k aside choice in omega arith)
 
@@ -128,10 +128,10 @@ aside-in h pool home page k aside choice = aside-some h.lives h pool home page k
 pub dead-cleaned : (sh : Shape) (f : Fields) (flash : List (List ℕ)) (h : History) (pool : Pool) (home page k : ℕ) (aside : Option ℕ) → Sound sh f flash → PoolAgrees sh f pool → ChoiceFor h pool home page (Clean k aside) → (d : ℕ) × (d / sh.rows ≡ get_or f.positions k 0) × ((p : ℕ) → Names f p d → ⊥)
 dead-cleaned sh f flash h pool home page k aside sound agrees choice =
     let low = clean-room h pool home page k aside choice in
-    let is = get_or-map-range_with_len (dead_at pool) 0 (pool.shape.segments - 1) k k 0 low (omega arith) in
+    let is = get_or-map-range_with_len (dead_at pool) 0 (positions_of pool.shape) k k 0 low (omega arith) in
     let more = dead-some h.lives h pool home page k aside choice in
-    let low2 : k < sh.segments - 1 = subst (λ (z : Shape). k < z.segments - 1) agrees.shape low in
-    let kept = agrees.kept (get_or f.positions k 0) (Numbers.positions_fit (Sound.numbers sound) k low2) in
+    let low2 : k < positions_of sh = subst (λ (z : Shape). k < positions_of z) agrees.shape low in
+    let kept = agrees.kept (get_or f.positions k 0) (Numbers.positions_fit (Sound.numbers sound) k (omega (arith, low2))) in
     let dead : 0 < dead_at pool k = subst (λ (x : ℕ). 0 < x) is more in
     let there : 0 < get_or f.fills (get_or f.positions k 0) 0 - kept_in sh f.slots f.undos f.places (get_or f.positions k 0) = rw (← kept, ← agrees.fills, ← agrees.positions) dead in
     dead-row sh f flash (get_or f.positions k 0) sound (omega arith)

@@ -1,10 +1,11 @@
 -- What two settles leave, one after another, and what parts that are read anew say.
 use Rattle.std.proofs.Common.{◌≡◌, ◌∙◌, ◌⊎◌, ℕ, ◌<◌, [], None, Some, refl, sym, ap, subst}
+use Rattle.envy_base.specs.Shape.{version_of}
 use Rattle.envy_base.specs.declared.fields.Job.TheVariants.{Idle, Erase}
 use Rattle.envy_base.specs.declared.shape.Shape.{Shape}
 use Rattle.envy_map.specs.Fields.{Fields, Chart, undo, slot}
 use Rattle.envy_layout.specs.Same.{Same, SameDurable}
-use Rattle.envy_layout.specs.Sound.{slots_of}
+use Rattle.envy_layout.proofs.Formed.{slots-all}
 use Rattle.envy_layout.proofs.Composition.{SameDurable-same, SameDurable-trans}
 use Rattle.envy_reloc.specs.Plan.{Plan}
 use Rattle.envy_reloc.specs.Settling.{KeepsOthers, Settles as SettlesJob}
@@ -16,10 +17,10 @@ use Rattle.envy_flush.specs.declared.parts.Parts.{Parts}
 pub durable-both : (old mid new : Chart) → SameDurable 0 0 old mid → Same 0 0 mid new → SameDurable 0 0 old new
 durable-both old mid new first same = SameDurable-trans 0 0 0 0 old mid new first (SameDurable-same 0 0 mid new same)
 
-pub settled-both : (old mid new : Chart) → old.fields.version ≡ 2 → SettlesOwners old mid → KeepsOthers mid.fields new.fields → new.shape ≡ old.shape → (new.fields.job ≡ Some Idle) ⊎ (new.fields.job ≡ Some Erase) → IsSettled new
+pub settled-both : (old mid new : Chart) → old.fields.version ≡ version_of old.shape → SettlesOwners old mid → KeepsOthers mid.fields new.fields → new.shape ≡ old.shape → (new.fields.job ≡ Some Idle) ⊎ (new.fields.job ≡ Some Erase) → IsSettled new
 settled-both old mid new version owners others shape job = record {
   undos = λ p lt. ap (λ (f : Fields). undo f p) others ∙ owners.undos p (subst (λ (sh : Shape). p < sh.pages) shape lt);
-  slots = λ t lt. ap (λ (f : Fields). slot f t) others ∙ owners.slots t (subst (λ (v : ℕ). t < slots_of v) (sym version) lt);
+  slots = λ t lt. ap (λ (f : Fields). slot f t) others ∙ owners.slots t (subst (λ (n : ℕ). t < n) (slots-all old.shape old.fields.version version) lt);
   job = job;
 }
 

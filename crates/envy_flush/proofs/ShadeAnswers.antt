@@ -5,7 +5,7 @@ use Rattle.envy_base.specs.declared.board.Trouble.{Trouble}
 use Rattle.envy_base.specs.declared.board.Trouble.TheVariants.{Off as TroubleOff, Bad}
 use Rattle.envy_base.specs.declared.fields.Place.{Place}
 use Rattle.envy_base.specs.declared.fields.Place.TheVariants.{Frame}
-use Rattle.envy_base.specs.Shape.{IsShape}
+use Rattle.envy_base.specs.Shape.{IsShape, positions_of}
 use Rattle.envy_base.specs.declared.shape.Shape.{Shape}
 use Rattle.envy_frames.specs.declared.held.Held.{Held}
 use Rattle.envy_frames.specs.Agreement.{AreHeld, IsHeld}
@@ -30,9 +30,9 @@ held-frame sh places held p k a here = at (a.named p k here)
     at (i, h, lt, is, both) = (i, h, lt, is, both.1)
 
 -- and its home is a position
-pub held-home : (sh : Shape) (places : List (Option Place)) (held : List Held) (k home : ℕ) → AreHeld sh places held → Any (λ h. (h.frame ≡ k) × (h.home ≡ home)) held → home < sh.segments - 1
+pub held-home : (sh : Shape) (places : List (Option Place)) (held : List Held) (k home : ℕ) → AreHeld sh places held → Any (λ h. (h.frame ≡ k) × (h.home ≡ home)) held → home < positions_of sh
 held-home sh places held k home a (i, h, lt, is, both) =
-    subst (λ (n : ℕ). n < sh.segments - 1) both.1 (IsHeld.home (subst (IsHeld sh places) is (a.each i h lt)))
+    subst (λ (n : ℕ). n < positions_of sh) both.1 (IsHeld.home (subst (IsHeld sh places) is (a.each i h lt)))
 
 -- a first put ended before it changed a word
 pub PutFirst-ended : (A : Type 0) (i l k j t p : ℕ) (old new : Chart) (a w : ℕ) (r : Result Unit Trouble) (fault : Trouble) → i ≤ k → l ≤ j → Same i l old new → new.on ≡ power_after {A = A} (Err fault) → IsErrAnd r (λ e. e ≡ fault) → PutFirst k j t p old a w r new

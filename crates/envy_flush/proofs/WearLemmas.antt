@@ -12,7 +12,7 @@ use Rattle.envy_map.specs.Fields.{Fields, Chart}
 use Rattle.envy_layout.specs.Naming.{with_named}
 use Rattle.envy_layout.specs.Same.{Worn, Wears}
 use Rattle.envy_layout.specs.Sound.{Sound, IsSound, Numbers, IsSpare}
-use Rattle.envy_reloc.specs.Phases.{Does, Spoils, MovesRow, CopiesLeft, SpoilsTarget, SpoilsRow}
+use Rattle.envy_reloc.specs.Phases.{Does, Spoils, Empties, Retires, MovesRow, CopiesLeft, SpoilsTarget, SpoilsRow}
 use Rattle.envy_reloc.specs.Plan.{Plan}
 use Rattle.envy_reloc.specs.Switching.{SwitchesAll}
 use Rattle.envy_reloc.specs.declared.step.Phase.{Phase}
@@ -58,12 +58,17 @@ named-wears : (p q : ℕ) (u : Option ℕ) (f : Fields) → (with_named p q u f)
 named-wears p q None f = refl
 named-wears p q (Some t) f = refl
 
+-- an erase and a retirement wear the spare once
+ended-wears : (c d : Chart) (e : ℕ) → Empties c e d ⊎ Retires c e d → d.fields.wears ≡ set c.fields.wears e (up (get_or c.fields.wears e 0))
+ended-wears c d e (inl m) = ap (λ (f : Fields). f.wears) m.fields
+ended-wears c d e (inr m) = ap (λ (f : Fields). f.wears) m.fields
+
 does-wears : (c d : Chart) (x y : Plan) (phase : Phase) → IsSound c → Does c x phase d y → WearsTo c x d y
 does-wears c d x y Moved sound m = kept-wears c d x y (ap (λ (f : Fields). f.wears) (MovesRow.fields m.moved) ∙ named-wears _ _ _ _) (ap (λ (z : Plan). z.since) m.plan_is)
 does-wears c d x y Copied sound m = kept-wears c d x y (ap (λ (f : Fields). f.wears) (CopiesLeft.fields m.copied)) (ap (λ (z : Plan). z.since) m.plan_is)
 does-wears c d x y Switched sound m = kept-wears c d x y (ap (λ (f : Fields). f.wears) (SwitchesAll.fields m.switches)) (ap (λ (z : Plan). z.since) m.plan_is)
 does-wears c d x y Placed sound m = kept-wears c d x y (ap (λ (z : Chart). z.fields.wears) m.is) (ap (λ (z : Plan). z.since) m.plan_is)
-does-wears c d x y Erased sound m = worn-once c d x y m.e sound m.spare (ap (λ (f : Fields). f.wears) m.fields) (ap (λ (z : Plan). z.since) m.plan_is)
+does-wears c d x y Erased sound m = worn-once c d x y m.e sound m.spare (ended-wears c d m.e m.ends) (ap (λ (z : Plan). z.since) m.plan_is)
 
 spoils-wears : (c d : Chart) (x y : Plan) → IsSound c → Spoils c x d y → WearsTo c x d y
 spoils-wears c d x y sound (inl m) = kept-wears c d x y (ap (λ (f : Fields). f.wears) (SpoilsTarget.fields m.spoilt)) (ap (λ (z : Plan). z.since) m.plan_is)

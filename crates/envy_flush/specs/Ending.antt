@@ -1,6 +1,7 @@
 -- The end of a transaction.
 use Rattle.std.specs.Prelude.{◌≡◌, ℕ, ◌<◌, not, IsTrue, Some}
 use Rattle.std.specs.List.{filter}
+use Rattle.envy_base.specs.Shape.{version_of}
 use Rattle.envy_base.specs.declared.fields.Slot.TheVariants.{Active, Committed}
 use Rattle.envy_map.specs.Fields.{Chart, slot, undo}
 use Rattle.envy_map.specs.Writes.{with_slot}
@@ -15,7 +16,7 @@ use Rattle.envy_flush.specs.declared.parts.Parts.{Parts}
 pub record IsReleasing (t : ℕ) (c : Chart) (x : Parts) (o : Ownership) : Type 0 where
   pub on : IsTrue c.on
   pub sound : IsSound c
-  pub version : c.fields.version ≡ 2
+  pub version : c.fields.version ≡ version_of c.shape
   pub low : t < 64
   pub committed : slot c.fields t ≡ Some Committed
   pub fits : Fits c.shape x

@@ -17,6 +17,7 @@ use Rattle.envy_policy.specs.History.{History, claimed, cleaned, partition_of}
 use Rattle.envy_policy.specs.Lifetime.{IsBeside}
 use Rattle.envy_policy.specs.Notes.{Notes}
 use Rattle.envy_layout.specs.Sound.{Names, IsPlaced, IsSpare}
+use Rattle.envy_reloc.specs.Cleaning.{UsesSame}
 use Rattle.envy_reloc.specs.Plan.{IsFreeOf}
 use Rattle.envy_space.specs.Pool.{Pool, PoolAgrees, Claims as ClaimsIn}
 use Rattle.envy_choosing.specs.Choosing.{ChoiceFor, counts_in}
@@ -51,11 +52,11 @@ pub record IsLastAt (c : Chart) (k q : ℕ) : Type 0 where
   pub segment : q / c.shape.rows ≡ slice_index c.fields.positions k
   pub last : q % c.shape.rows + 1 ≡ slice_index c.fields.fills (slice_index c.fields.positions k)
 
--- position k has the spare of before, and each other position what it had
+-- position k has the spare of before, and each other position in use what it had
 pub record HasSpare (old : Chart) (k : ℕ) (new : Chart) : Type 0 where
   pub spare : ℕ
   pub is_spare : IsSpare old.shape old.fields.positions spare
-  pub positions : new.fields.positions ≡ slice_set old.fields.positions k spare
+  pub positions : UsesSame old.shape new.fields.positions (slice_set old.fields.positions k spare)
 
 -- Row q is claimed at position k for a page, which heats, turns and lives note, and nothing else is done.
 abbrev pub Claims : ℕ → ℕ → ℕ → Chart → Parts → Chart → Parts → Type 0

@@ -1,4 +1,5 @@
 ghost use Rattle.std.specs.Prelude.{◌≡◌, ◌≢◌, ◌⊎◌, ◌<◌, ℕ, true, false, Some, None, OnOk, OnErr, IfOk, MatchResult};
+ghost use Rattle.envy_base.specs.Shape.{version_of};
 ghost use Rattle.envy_base.specs.declared.fields.Slot.TheVariants.{Vacant, Active};
 ghost use Rattle.envy_map.specs.Fields.{chart, with_fields, slot as slot_of};
 ghost use Rattle.envy_map.specs.Writes.{with_slot};
@@ -19,7 +20,7 @@ use envy_txn::Owned;
 /// Whether a slot is open.
 pub fn is_open<B: Board>(board: &B, t: u8) -> Result<bool, Off>
     requires sound { IsSound (chart (B.state board.now)) }
-    requires version { (chart (B.state board.now)).fields.version ≡ 2 }
+    requires version { (chart (B.state board.now)).fields.version ≡ version_of (B.state board.now).shape }
     requires slot { t < 64 }
     ensures yes { IfOk result (λ yes. yes ≡ true → slot_of (chart (B.state board.now)).fields t ≡ Some Active) }
     ensures never { IfOk result (λ yes. yes ≡ false → slot_of (chart (B.state board.now)).fields t ≢ Some Active) }
@@ -31,7 +32,7 @@ pub fn is_open<B: Board>(board: &B, t: u8) -> Result<bool, Off>
 /// The lowest slot that is vacant.
 pub fn first_vacant<B: Board>(board: &B) -> Result<Option<u8>, Off>
     requires sound { IsSound (chart (B.state board.now)) }
-    requires version { (chart (B.state board.now)).fields.version ≡ 2 }
+    requires version { (chart (B.state board.now)).fields.version ≡ version_of (B.state board.now).shape }
     ensures low { IfOk result (λ x. (t : ℕ) → x ≡ Some t → (t < 64)
         × (slot_of (chart (B.state board.now)).fields t ≡ Some Vacant)) }
     ensures lowest { IfOk result (λ x. (t : ℕ) → x ≡ Some t → (u : ℕ) → u < t
@@ -52,7 +53,7 @@ pub fn first_vacant<B: Board>(board: &B) -> Result<Option<u8>, Off>
 pub fn open_slot<B: Board>(board: &mut B, parts: &Parts, owned: &Owned, t: u8) -> Result<(), Off>
     requires ready { Ready (chart (B.state board.old)) parts.now }
     requires owners { OwnersAgree (chart (B.state board.old)) owned.now }
-    requires version { (chart (B.state board.old)).fields.version ≡ 2 }
+    requires version { (chart (B.state board.old)).fields.version ≡ version_of (B.state board.old).shape }
     requires slot { t < 64 }
     requires vacant { slot_of (chart (B.state board.old)).fields t ≡ Some Vacant }
 
@@ -96,7 +97,7 @@ pub fn commit_pages<B: Board>(
 ) -> Result<(), Off>
     requires ready { Ready (chart (B.state board.old)) parts.old }
     requires owners { OwnersAgree (chart (B.state board.old)) owned.old }
-    requires version { (chart (B.state board.old)).fields.version ≡ 2 }
+    requires version { (chart (B.state board.old)).fields.version ≡ version_of (B.state board.old).shape }
     requires slot { t < 64 }
     requires active { slot_of (chart (B.state board.old)).fields t ≡ Some Active }
 
@@ -123,7 +124,7 @@ pub fn abort_pages<B: Board>(
 ) -> Result<(), Off>
     requires ready { Ready (chart (B.state board.old)) parts.old }
     requires owners { OwnersAgree (chart (B.state board.old)) owned.old }
-    requires version { (chart (B.state board.old)).fields.version ≡ 2 }
+    requires version { (chart (B.state board.old)).fields.version ≡ version_of (B.state board.old).shape }
     requires slot { t < 64 }
     requires active { slot_of (chart (B.state board.old)).fields t ≡ Some Active }
 

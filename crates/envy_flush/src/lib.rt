@@ -27,6 +27,6 @@ pub use ending::{abort_pages, commit_pages, first_vacant, is_open, open_slot};
 pub use page::word;
 pub use parts::Parts;
 pub use putting::put_first;
-pub use restarting::restart;
+pub use restarting::{rebuild, restart};
 pub use storing::store_word;
 pub use ticking::tick_ruled;

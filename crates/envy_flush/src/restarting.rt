@@ -1,4 +1,5 @@
 ghost use Rattle.std.specs.Prelude.{◌≡◌, false, IsTrue, OnOk, OnErr};
+ghost use Rattle.envy_base.specs.Shape.{version_of};
 ghost use Rattle.envy_map.specs.Fields.{chart};
 ghost use Rattle.envy_layout.specs.Same.{SameDurable};
 ghost use Rattle.envy_layout.specs.Sound.{IsSound};
@@ -49,7 +50,7 @@ pub fn rebuild<B: Board>(board: &B, parts: &mut Parts) -> Result<(), Off>
 /// Settles transactions and the job.
 fn settle_all<B: Board>(board: &mut B) -> Result<(), Off>
     requires sound { IsSound (chart (B.state board.old)) }
-    requires version { (chart (B.state board.old)).fields.version ≡ 2 }
+    requires version { (chart (B.state board.old)).fields.version ≡ version_of (B.state board.old).shape }
     ensures durable { SameDurable 0 0 (chart (B.state board.old)) (chart (B.state board.new)) }
     ensures settled { OnOk result (IsSettled (chart (B.state board.new))) }
     ensures restarted { OnOk result (IsRestarted (chart (B.state board.old)) (chart (B.state board.new))) }
@@ -64,7 +65,7 @@ fn settle_all<B: Board>(board: &mut B) -> Result<(), Off>
 /// power in it does the same.
 pub fn restart<B: Board>(board: &mut B, parts: &mut Parts) -> Result<(), Off>
     requires sound { IsSound (chart (B.state board.old)) }
-    requires version { (chart (B.state board.old)).fields.version ≡ 2 }
+    requires version { (chart (B.state board.old)).fields.version ≡ version_of (B.state board.old).shape }
     requires fits { Fits (B.state board.old).shape parts.old }
 
     ensures durable { SameDurable 0 0 (chart (B.state board.old)) (chart (B.state board.new)) }

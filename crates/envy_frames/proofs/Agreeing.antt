@@ -16,6 +16,7 @@ use Rattle.envy_frames.specs.Order.{IsApart, IsUnheld, is_other}
 use Rattle.envy_frames.specs.Agreement.{IsHeld, AreHeld, IsElsewhere}
 use Rattle.envy_frames.proofs.Lists.{Any-filter, Any-left, same-one}
 use Rattle.envy_frames.proofs.Stacks.{other-frame}
+use Rattle.envy_base.specs.Shape.{positions_of}
 
 -- a place that names a frame is one of the list
 pub place-in : (places : List (Option Place)) (p k : ℕ) → get_or places p None ≡ Some (Frame k) → p < length places
@@ -62,7 +63,7 @@ AreHeld-given sh places held p k x a is elsewhere = record {
         Any-filter (is_other k) (λ h. (h.page ≡ r) × (h.frame ≡ j)) held (λ h both. ap not (ne_eqb h.frame k (λ e. other (same-page sh places held r p k a (there ∙ ap (λ (n : ℕ). Some (Frame n)) (sym both.1 ∙ e)) is)))) (a.named r j there)
 
 -- a frame taken for a page that lay elsewhere
-pub AreHeld-taken : (sh : Shape) (places : List (Option Place)) (held : List Held) (p k home : ℕ) → AreHeld sh places held → length places ≡ sh.pages → p < sh.pages → home < sh.segments - 1 → IsElsewhere (get_or places p None) → IsUnheld held k → AreHeld sh (set places p (Some (Frame k))) (held ++ (record { frame = k; page = p; home = home }) ∷ [])
+pub AreHeld-taken : (sh : Shape) (places : List (Option Place)) (held : List Held) (p k home : ℕ) → AreHeld sh places held → length places ≡ sh.pages → p < sh.pages → home < positions_of sh → IsElsewhere (get_or places p None) → IsUnheld held k → AreHeld sh (set places p (Some (Frame k))) (held ++ (record { frame = k; page = p; home = home }) ∷ [])
 AreHeld-taken sh places held p k home a long lt position elsewhere unheld = record {
   each = All-push (IsHeld sh (set places p (Some (Frame k)))) held new
       (λ i d less. let h = get_or held i d in let mine : IsHeld sh places h = a.each i d less in IsHeld-other sh places h p (Some (Frame k)) (λ same. elsewhere h.frame (ap (λ (n : ℕ). get_or places n None) (sym same) ∙ mine.here)) mine)

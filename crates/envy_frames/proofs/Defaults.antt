@@ -9,7 +9,7 @@ use Rattle.std.proofs.lemmas.Nat.{div_below, mul-add-lt}
 use Rattle.envy_base.specs.declared.shape.Shape.{Shape}
 use Rattle.envy_base.specs.declared.fields.Place.{Place}
 use Rattle.envy_base.specs.declared.fields.Place.TheVariants.{Absent, Row, Frame}
-use Rattle.envy_base.specs.Shape.{IsShape}
+use Rattle.envy_base.specs.Shape.{IsShape, positions_of}
 use Rattle.envy_layout.specs.Sound.{Places}
 use Rattle.envy_frames.specs.declared.held.Held.{Held}
 use Rattle.envy_frames.specs.Order.{IsApart, IsOrder}
@@ -46,9 +46,9 @@ length-le_apart-frames held n below apart =
         apart i j some less (omega arith) (sym left ∙ same ∙ right)
 
 -- the home that a page has by default is a position
-pub default_home-fits : (sh : Shape) (p : ℕ) → IsShape sh → p < sh.pages → default_home sh p < sh.segments - 1
+pub default_home-fits : (sh : Shape) (p : ℕ) → IsShape sh → p < sh.pages → default_home sh p < positions_of sh
 default_home-fits sh p shape lt =
-    let n = sh.segments - 1 in
+    let n = positions_of sh in
     let some = shape.segments in
     let pages = shape.pages in
     let below : p * n + 0 < n * sh.pages = mul-add-lt p n 0 sh.pages lt (omega arith) in

@@ -34,6 +34,9 @@ pub trait Folder<F> {
 
     /// Copies the first file, since so many bytes of it that look like a sync are cut off, and says so.
     fn copy_aside(&self, first: &F, cut: usize);
+
+    /// Says that no second file was put in the place of the first, which grows from then on.
+    fn tell_hindered(&self);
 }
 
 /// A file's name, that of the second file, and the folder of both. The second file's name is that of the first with
@@ -170,5 +173,12 @@ impl<'a> Folder<File> for Names<'a> {
 
     fn copy_aside(&self, first: &File, cut: usize) {
         self.copy_what_is_cut(first, cut);
+    }
+
+    fn tell_hindered(&self) {
+        let path = self.path.as_str();
+        let _ = self.rt.eprintln(format_args!(
+            "envy: no second file took the place of {path}, so it is appended to and grows"
+        ));
     }
 }

@@ -30,6 +30,10 @@ pub struct HostCalls<F, P> {
     /// How many bytes the opening cuts off that look like a sync. Unless there are none the file is copied before the first
     /// call that changes it.
     pub cut: usize,
+    // whether a call on the second file failed, and that is still to be said
+    hindered: bool,
+    /// Whether such a failure is said, once: with the next sync, since the file is appended to then.
+    pub tells: bool,
     /// The calls that were made, with their answers.
     pub record: Record,
     ghost noted: { failed ≡ have_failed record.calls },
@@ -57,6 +61,8 @@ impl<F: FileExt + OpenFile + Drop, P: Folder<F>> HostCalls<F, P> {
             failed: false,
             is_believed: true,
             cut: 0,
+            hindered: false,
+            tells: false,
             record: Record::new().and(&Made::Found { bytes }),
         };
         Recorded::found(calls, bytes, bytewise)
@@ -94,6 +100,18 @@ impl<F: FileExt + OpenFile + Drop, P: Folder<F>> HostCalls<F, P> {
         if self.cut > 0 {
             self.folder.copy_aside(&self.file, self.cut);
             self.cut = 0;
+        }
+    }
+
+    // Says once that a call on the second file failed.
+    fn tell_hindered(&mut self)
+        ensures calls { self.new.record ≡ self.old.record }
+        ensures failed { self.new.failed ≡ self.old.failed }
+    {
+        if self.hindered {
+            self.folder.tell_hindered();
+            self.hindered = false;
+            self.tells = false;
         }
     }
 
@@ -183,6 +201,9 @@ impl<F: FileExt + OpenFile + Drop, P: Folder<F>> RawFile for HostCalls<F, P> {
 
     fn sync(&mut self) -> Result<(), DeviceFailed> {
         let answer = self.file.sync_data();
+        if answer.is_ok() {
+            self.tell_hindered();
+        }
         self.note(answer, &Made::Synced, &Made::SyncFailed)
     }
 
@@ -193,6 +214,7 @@ impl<F: FileExt + OpenFile + Drop, P: Folder<F>> RawFile for HostCalls<F, P> {
                 Ok(())
             }
             Err(_) => {
+                self.hindered = self.tells;
                 self.record = self.record.and(&Made::BeginFailed);
                 Err(SecondFailed)
             }
@@ -209,6 +231,7 @@ impl<F: FileExt + OpenFile + Drop, P: Folder<F>> RawFile for HostCalls<F, P> {
             }
             Err(_) => {
                 self.remove_second();
+                self.hindered = self.tells;
                 self.record = self.record.and(&Made::AppendFailed { size });
                 Err(SecondFailed)
             }
@@ -223,6 +246,7 @@ impl<F: FileExt + OpenFile + Drop, P: Folder<F>> RawFile for HostCalls<F, P> {
                 Ok(())
             }
             Err(ReplaceError::Second) => {
+                self.hindered = self.tells;
                 self.record = self.record.and(&Made::SecondNotReplaced);
                 Err(ReplaceError::Second)
             }

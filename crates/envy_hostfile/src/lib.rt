@@ -29,6 +29,8 @@ mod folder;
 mod host;
 mod opening;
 #[cfg(test)]
+mod pieces;
+#[cfg(test)]
 mod tests;
 
 pub use folder::{Folder, Names};

@@ -286,6 +286,8 @@ impl<'a> Folder<&'a Slow> for &'a Slow {
     }
 
     fn copy_aside(&self, _first: &&'a Slow, _cut: usize) {}
+
+    fn tell_hindered(&self) {}
 }
 
 // A file that fails at one call.

@@ -1,7 +1,12 @@
 -- Bytes that are read one piece after another.
-use Rattle.std.proofs.Common.{◌≡◌, ℕ, ◌+◌, ◌<◌, ◌≤◌, List, [], ◌++◌, length, take, drop, Err, Option, None, Some, refl, sym, ◌∙◌, ap, inr, arith, length-append}
+use Rattle.std.proofs.Common.{◌≡◌, ℕ, ◌+◌, ◌<◌, ◌≤◌, Bool, true, false, List, [], ◌++◌, length, take, drop, Err, Option, None, Some, Ok, refl, sym, ◌∙◌, ap, subst, inl, inr, ◌⊎◌, ◌^◌, ◌==◌, true≢false, arith, length-append}
 use Rattle.std.proofs.lemmas.List.{append_assoc, append-nil, take-append-drop, drop-drop, nil_from_length, length-drop}
 use Rattle.envy_base.specs.declared.shape.Shape.{Shape}
+use Rattle.envy_base.specs.declared.shape.ShapeFault.{ShapeFault}
+use Rattle.envy_base.specs.declared.shape.ShapeFault.TheVariants.{Reserves}
+use Rattle.envy_base.specs.Shape.{checked, version_of}
+use Rattle.envy_base.proofs.Versions.{version-known, version-plain}
+use Rattle.envy_image.specs.declared.reading.HeadFault.TheVariants.{Shape as BadShape}
 use Rattle.envy_io.specs.Streams.{Feed, with_front}
 use Rattle.envy_io.specs.Taking.{Taking}
 use Rattle.envy_io.specs.Fetching.{Draws}
@@ -10,9 +15,9 @@ use Rattle.envy_io.proofs.TakesLemmas.{with_front-with_front}
 use Rattle.envy_image.specs.declared.reading.Stop.{Stop}
 use Rattle.envy_image.specs.declared.reading.Stop.TheVariants.{Short, Failed, Spent}
 use Rattle.envy_image.specs.Faults.{head_fault}
-use Rattle.envy_image.specs.Image.{mark, head_of, number_bytes, numbers_bytes, numbers_of}
+use Rattle.envy_image.specs.Image.{mark_of, head_of, head_with, is_extended, number_bytes, numbers_bytes, numbers_of, numbers_size, FitNumbers}
 use Rattle.envy_image.specs.Installing.{IsWithin}
-use Rattle.envy_image.specs.Reading.{Consumes, Ends, Stops, ReadsHead, EndsInHead}
+use Rattle.envy_image.specs.Reading.{Consumes, Ends, Stops, ReadsHead, ReadsShape, EndsInHead}
 
 -- what is drawn twice is drawn as one
 pub draws-both : (old mid new : Taking) (from feed to : Feed) (a b : List ℕ) → Draws old from a mid feed → Draws mid feed b new to → Draws old from (a ++ b) new to
@@ -85,25 +90,67 @@ head-ends Short old new from to ends = ends
 head-ends Failed old new from to ends = ends
 head-ends Spent old new from to ends = ends
 
-module _ (old mid new : Taking) (from feed to : Feed) (first : Consumes old from mark mid feed) where
-  -- one that ends within the sizes
-  pub shape-ends : (stop : Stop) (bytes : List ℕ) → length bytes < 24 → Ends mid feed bytes new to → Stops stop new feed to → ReadsHead old from (Err (head_fault stop)) new to
+module _ (extended : Bool) (old mid new : Taking) (from feed to : Feed) (first : Consumes old from (mark_of extended) mid feed) where
+  -- one that ends within the numbers
+  pub shape-ends : (stop : Stop) (bytes : List ℕ) → length bytes < numbers_size extended → Ends mid feed bytes new to → Stops stop new feed to → ReadsHead old from (Err (head_fault stop)) new to
   shape-ends stop bytes few ends stops =
-      head-ends stop old new from to (mark ++ bytes, ends-later old mid new from feed to mark bytes first ends, stops-later stop new from feed to first.draws.faults stops, inr (bytes, refl, few))
+      head-ends stop old new from to (mark_of extended ++ bytes, ends-later old mid new from feed to (mark_of extended) bytes first ends, stops-later stop new from feed to first.draws.faults stops, inr (extended, bytes, refl, few))
 
-  -- mark and sizes are the head
-  pub head-read : (sh : Shape) → Consumes mid feed (numbers_bytes (numbers_of sh)) new to → Consumes old from (head_of sh) new to
-  unfolding head_of
-  head-read sh second = consumes-both old mid new from feed to mark (numbers_bytes (numbers_of sh)) first second
+  -- mark and numbers are the head
+  pub head-read : (sh : Shape) → Consumes mid feed (numbers_bytes (numbers_of extended sh)) new to → Consumes old from (head_with extended sh) new to
+  unfolding head_with
+  head-read sh second = consumes-both old mid new from feed to (mark_of extended) (numbers_bytes (numbers_of extended sh)) first second
 
 -- four bytes of many
 four : (bs : List ℕ) (n at next : ℕ) → next ≡ at + 4 → number_bytes n ≡ take 4 (drop at bs) → drop at bs ≡ number_bytes n ++ drop next bs
 four bs n at next is taken =
     sym (take-append-drop 4 (drop at bs)) ∙ (ap (λ (xs : List ℕ). xs ++ drop 4 (drop at bs)) (sym taken) ∙ ap (λ (xs : List ℕ). number_bytes n ++ xs) (drop-drop 4 at bs ∙ ap (λ (k : ℕ). drop k bs) (omega (arith, is))))
 
+-- sizes that are read before the two numbers of an extended image
+module _ (old mid new : Taking) (from feed to : Feed) (sh : Shape) (first : Consumes old from (numbers_bytes (numbers_of false sh)) mid feed) where
+  pub extras-end : (extended : Bool) → extended ≡ true → (stop : Stop) (bytes : List ℕ) → length bytes < 8 → Ends mid feed bytes new to → Stops stop new feed to → ReadsShape extended old from (Err stop) new to
+  extras-end extended is stop bytes few ends stops = subst (λ (b : Bool). ReadsShape b old from (Err stop) new to) (sym is)
+      (numbers_bytes (numbers_of false sh) ++ bytes, omega (arith, length-append (numbers_bytes (numbers_of false sh)) bytes), ends-later old mid new from feed to (numbers_bytes (numbers_of false sh)) bytes first ends, stops-later stop new from feed to first.draws.faults stops)
+
+  pub extras-read : (extended : Bool) → extended ≡ true → FitNumbers sh → (reserves sums : ℕ) → reserves < 2 ^ 32 → sums < 2 ^ 32 → (bytes : List ℕ) → length bytes ≡ 8 → number_bytes reserves ≡ take 4 (drop 0 bytes) → number_bytes sums ≡ take 4 (drop 4 bytes) → Consumes mid feed bytes new to
+      → ReadsShape extended old from (Ok (record sh { reserves = reserves; sums = sums })) new to
+  extras-read extended is fit reserves sums few-reserves few-sums bytes long a b second =
+      let rest : drop 8 bytes ≡ [] = nil_from_length (drop 8 bytes) (omega (arith, long, length-drop 8 bytes)) in
+      let two : bytes ≡ number_bytes reserves ++ (number_bytes sums ++ []) =
+      four bytes reserves 0 4 refl a ∙ ap (λ (xs : List ℕ). number_bytes reserves ++ xs) (four bytes sums 4 8 refl b ∙ ap (λ (xs : List ℕ). number_bytes sums ++ xs) rest) in
+      subst (λ (b : Bool). ReadsShape b old from (Ok (record sh { reserves = reserves; sums = sums })) new to) (sym is) (
+        consumes-both old mid new from feed to (numbers_bytes (numbers_of false sh)) (number_bytes reserves ++ (number_bytes sums ++ [])) first (subst (λ (bs : List ℕ). Consumes mid feed bs new to) two second),
+        record { segments = fit.segments; rows = fit.rows; pages = fit.pages; shadows = fit.shadows; frames = fit.frames; entries = fit.entries; reserves = few-reserves; sums = few-sums },
+        (λ (none : true ≡ false). absurd (true≢false none)),
+      )
+
+-- a head that was read, of an image that is extended if its shape has reserves or sums
+module _ (extended : Bool) (old new : Taking) (from to : Feed) (sh : Shape) (fit : FitNumbers sh) (plain : extended ≡ false → (sh.reserves ≡ 0) × (sh.sums ≡ 0))
+    (head : Consumes old from (head_with extended sh) new to) where
+  -- without them in an extended one
+  pub head-bare : extended ≡ true → version_of sh ≡ 2 → ReadsHead old from (Err (BadShape Reserves)) new to
+  head-bare is two = (head_with extended sh, head, (sh, fit, inr (ap (λ (b : Bool). head_with b sh) is, two, refl)))
+
+  extended-so : (extended ≡ true → version_of sh ≡ 2 → ⊥) → extended ≡ is_extended sh
+  extended-so not_bare = by_mark extended refl
+    where
+      by_mark : (b : Bool) → extended ≡ b → extended ≡ is_extended sh
+      by_mark false is = is ∙ sym (ap (λ (v : ℕ). v == 3) (version-plain sh (plain is).0 (plain is).1))
+      by_mark true is = is ∙ sym (either (version-known sh))
+        where
+          either : (version_of sh ≡ 2) ⊎ (version_of sh ≡ 3) → is_extended sh ≡ true
+          either (inl two) = absurd (not_bare is two)
+          either (inr three) = ap (λ (v : ℕ). v == 3) three
+
+  pub head-is : (extended ≡ true → version_of sh ≡ 2 → ⊥) → Consumes old from (head_of sh) new to
+  head-is not_bare = subst (λ (b : Bool). Consumes old from (head_with b sh) new to) (extended-so not_bare) head
+
+  pub head-misshapen : (fault : ShapeFault) → (extended ≡ true → version_of sh ≡ 2 → ⊥) → checked sh ≡ Err fault → ReadsHead old from (Err (BadShape fault)) new to
+  head-misshapen fault not_bare fails = (head_of sh, head-is not_bare, (sh, fit, inl (refl, fails)))
+
 -- six numbers are what the sizes are
 pub six : (bs : List ℕ) (sh : Shape) → length bs ≡ 24 → number_bytes sh.segments ≡ take 4 (drop 0 bs) → number_bytes sh.rows ≡ take 4 (drop 4 bs) → number_bytes sh.pages ≡ take 4 (drop 8 bs)
-    → number_bytes sh.shadows ≡ take 4 (drop 12 bs) → number_bytes sh.frames ≡ take 4 (drop 16 bs) → number_bytes sh.entries ≡ take 4 (drop 20 bs) → bs ≡ numbers_bytes (numbers_of sh)
+    → number_bytes sh.shadows ≡ take 4 (drop 12 bs) → number_bytes sh.frames ≡ take 4 (drop 16 bs) → number_bytes sh.entries ≡ take 4 (drop 20 bs) → bs ≡ numbers_bytes (numbers_of false sh)
 six bs sh long a b c d e f =
     let rest : drop 24 bs ≡ [] = nil_from_length (drop 24 bs) (omega (arith, long, length-drop 24 bs)) in
     four bs sh.segments 0 4 refl a ∙ ap (λ (xs : List ℕ). number_bytes sh.segments ++ xs) (

@@ -1,7 +1,9 @@
 -- What reading bytes of an image does.
-use Rattle.std.specs.Prelude.{◌≡◌, ◌≢◌, ◌⊎◌, ℕ, ◌<◌, false, IsTrue, List, [], ◌++◌, length, Result, Ok, Err}
+use Rattle.std.specs.Prelude.{◌≡◌, ◌≢◌, ◌⊎◌, ℕ, ◌<◌, Bool, true, false, IsTrue, List, [], ◌++◌, length, Result, Ok, Err}
 use Rattle.envy_base.specs.declared.shape.Shape.{Shape}
-use Rattle.envy_base.specs.Shape.{checked}
+use Rattle.envy_base.specs.declared.shape.ShapeFault.{ShapeFault}
+use Rattle.envy_base.specs.declared.shape.ShapeFault.TheVariants.{Reserves}
+use Rattle.envy_base.specs.Shape.{checked, version_of}
 use Rattle.envy_io.specs.Streams.{Feed, Rises}
 use Rattle.envy_io.specs.Taking.{Taking}
 use Rattle.envy_io.specs.Fetching.{Draws}
@@ -9,7 +11,7 @@ use Rattle.envy_image.specs.declared.reading.HeadFault.{HeadFault}
 use Rattle.envy_image.specs.declared.reading.HeadFault.TheVariants.{Short, Mark, Shape as BadShape, Failed, Spent}
 use Rattle.envy_image.specs.declared.reading.Stop.{Stop}
 use Rattle.envy_image.specs.declared.reading.Stop.TheVariants.{Short as StopShort, Failed as StopFailed, Spent as StopSpent}
-use Rattle.envy_image.specs.Image.{mark, head_of, word_bytes, numbers_bytes, numbers_of, FitNumbers}
+use Rattle.envy_image.specs.Image.{mark_of, head_of, head_with, word_bytes, numbers_bytes, numbers_of, numbers_size, FitNumbers}
 
 -- These bytes came next. Nothing was taken beyond them where nothing was held before.
 pub record Consumes (old : Taking) (from : Feed) (bytes : List ℕ) (new : Taking) (to : Feed) : Type 0 where
@@ -43,25 +45,38 @@ ReadsWord old from (Ok w) new to = Consumes old from (word_bytes w) new to
 ReadsWord old from (Err stop) new to =
     (bytes : List ℕ) × (length bytes < 8) × Ends old from bytes new to × Stops stop new from to
 
--- a shape's numbers are read, or the bytes stop before their end
-abbrev pub ReadsShape : Taking → Feed → Result Shape Stop → Taking → Feed → Type 0
-ReadsShape old from (Ok sh) new to = Consumes old from (numbers_bytes (numbers_of sh)) new to × FitNumbers sh
-ReadsShape old from (Err stop) new to =
-    (bytes : List ℕ) × (length bytes < 24) × Ends old from bytes new to × Stops stop new from to
+-- a shape's numbers are read, and those that aren't named are 0; or the bytes stop before their end
+abbrev pub ReadsShape : Bool → Taking → Feed → Result Shape Stop → Taking → Feed → Type 0
+ReadsShape extended old from (Ok sh) new to =
+    Consumes old from (numbers_bytes (numbers_of extended sh)) new to × FitNumbers sh
+    × (extended ≡ false → (sh.reserves ≡ 0) × (sh.sums ≡ 0))
+ReadsShape extended old from (Err stop) new to =
+    (bytes : List ℕ) × (length bytes < numbers_size extended) × Ends old from bytes new to × Stops stop new from to
 
 -- the bytes stop within the head of an image
 abbrev pub EndsInHead : Stop → Taking → Feed → Taking → Feed → Type 0
 EndsInHead stop old from new to =
     (bytes : List ℕ) × Ends old from bytes new to × Stops stop new from to
-    × ((length bytes < 8) ⊎ ((rest : List ℕ) × (bytes ≡ mark ++ rest) × (length rest < 24)))
+    × ((length bytes < 8) ⊎ ((extended : Bool) × (rest : List ℕ) × (bytes ≡ mark_of extended ++ rest) × (length rest < numbers_size extended)))
 
--- The head of an image is read: 8 bytes that are the mark, and 24 that are a shape which checks.
+-- the head of no board's image: its shape doesn't check, or it is extended without reserves and sums
+abbrev pub IsMisshapen : List ℕ → ShapeFault → Type 0
+IsMisshapen bytes fault =
+    (sh : Shape) × FitNumbers sh
+    × (((bytes ≡ head_of sh) × (checked sh ≡ Err fault)) ⊎ ((bytes ≡ head_with true sh) × (version_of sh ≡ 2) × (fault ≡ Reserves)))
+
+-- The head of an image is read: 8 bytes that are a mark, and the numbers behind it, of a shape which checks.
 abbrev pub ReadsHead : Taking → Feed → Result Shape HeadFault → Taking → Feed → Type 0
 ReadsHead old from (Ok sh) new to = Consumes old from (head_of sh) new to × (checked sh ≡ Ok tt) × FitNumbers sh
 ReadsHead old from (Err Mark) new to =
-    (first : List ℕ) × (length first ≡ 8) × (first ≢ mark) × Consumes old from first new to
+    (first : List ℕ) × (length first ≡ 8) × ((extended : Bool) → first ≢ mark_of extended) × Consumes old from first new to
 ReadsHead old from (Err (BadShape fault)) new to =
-    (sh : Shape) × Consumes old from (head_of sh) new to × (checked sh ≡ Err fault) × FitNumbers sh
+    (bytes : List ℕ) × Consumes old from bytes new to × IsMisshapen bytes fault
 ReadsHead old from (Err Short) new to = EndsInHead StopShort old from new to
 ReadsHead old from (Err Failed) new to = EndsInHead StopFailed old from new to
 ReadsHead old from (Err Spent) new to = EndsInHead StopSpent old from new to
+
+-- its mark is read, or the head isn't
+abbrev pub ReadsMark : Taking → Feed → Result Bool HeadFault → Taking → Feed → Type 0
+ReadsMark old from (Ok extended) new to = Consumes old from (mark_of extended) new to
+ReadsMark old from (Err fault) new to = ReadsHead old from (Err fault) new to

@@ -10,4 +10,4 @@ pub use envy_audit::{Audit, NoMemory, Rule, Verdict};
 pub use installing::{InFault, install};
 pub use laws::bytes_begin_with_one_image;
 pub use reading::{HeadFault, read_head};
-pub use writing::{OutFault, write_image};
+pub use writing::{OutFault, head_size, write_image};

@@ -1,9 +1,10 @@
-ghost use Rattle.std.specs.Prelude.{◌≡◌, ◌↔◌, ◌+◌, ◌<◌, ◌≤◌, IsTrue, length, take, drop};
-ghost use Rattle.envy_image.specs.Image.{mark, number_bytes, word_bytes};
-ghost use Rattle.envy_image.specs.Reading.{ReadsBytes, ReadsWord, ReadsHead, ReadsShape};
+ghost use Rattle.std.specs.Prelude.{◌≡◌, ◌≢◌, ◌↔◌, IsTrue, ◌+◌, ◌<◌, ◌≤◌, Bool, false, MatchOption, length, take, drop};
+ghost use Rattle.envy_base.specs.Shape.{version_of};
+ghost use Rattle.envy_image.specs.Image.{mark_of, number_bytes, word_bytes};
+ghost use Rattle.envy_image.specs.Reading.{ReadsBytes, ReadsWord, ReadsHead, ReadsMark, ReadsShape};
 
-use crate::writing::MARK;
-use envy_base::{Shape, ShapeFault};
+use crate::writing::mark_of;
+use envy_base::{Shape, ShapeFault, version_of};
 use envy_io::{Got, Lines, Source};
 
 /// Why the head of an image wasn't read.
@@ -11,9 +12,9 @@ use envy_io::{Got, Lines, Source};
 pub enum HeadFault {
     /// The source's end was met first.
     Short,
-    /// The first 8 bytes aren't the mark.
+    /// The first 8 bytes aren't a mark.
     Mark,
-    /// The shape doesn't check.
+    /// The shape doesn't check, or has neither reserves nor sums behind the second mark.
     Shape(ShapeFault),
     /// The source failed, which it counts.
     Failed,
@@ -55,11 +56,18 @@ impl From<ShapeFault> for HeadFault {
     }
 }
 
-// Whether bytes are the mark.
-fn is_mark(bytes: &[u8]) -> bool
-    ensures { IsTrue result ↔ (bytes.now ≡ mark) }
+// Of which image bytes are the mark: whether it is extended.
+fn mark_in(bytes: &[u8]) -> Option<bool>
+    ensures { MatchOption result ((extended : Bool) → bytes.now ≢ mark_of extended)
+        (λ extended. bytes.now ≡ mark_of extended) }
 {
-    bytes == MARK.as_slice()
+    if bytes == mark_of(false).as_slice() {
+        return Some(false);
+    }
+    if bytes == mark_of(true).as_slice() {
+        return Some(true);
+    }
+    None
 }
 
 /// The word of 8 bytes.
@@ -106,9 +114,9 @@ fn number_at(bytes: &[u8], at: usize) -> u32
     u32::from_le_bytes([bytes[at], bytes[at + 1], bytes[at + 2], bytes[at + 3]])
 }
 
-// Reads the six numbers of a shape.
-fn read_shape<S: Source>(lines: &mut Lines, source: &mut S) -> Result<Shape, Stop>
-    ensures { ReadsShape lines.old (S.feed source.old) result lines.new (S.feed source.new) }
+// Reads the six sizes of a shape.
+fn read_sizes<S: Source>(lines: &mut Lines, source: &mut S) -> Result<Shape, Stop>
+    ensures { ReadsShape false lines.old (S.feed source.old) result lines.new (S.feed source.new) }
 {
     let mut bytes = [0; 24];
     read_bytes(lines, source, &mut bytes)?;
@@ -119,25 +127,64 @@ fn read_shape<S: Source>(lines: &mut Lines, source: &mut S) -> Result<Shape, Sto
         shadows: number_at(&bytes, 12),
         frames: number_at(&bytes, 16),
         entries: number_at(&bytes, 20),
+        reserves: 0,
+        sums: 0,
     })
+}
+
+// Reads the numbers of a shape, with reserves and sums behind the sizes in an extended image.
+fn read_shape<S: Source>(lines: &mut Lines, source: &mut S, extended: bool) -> Result<Shape, Stop>
+    ensures { ReadsShape extended lines.old (S.feed source.old) result lines.new (S.feed source.new) }
+{
+    let sizes = read_sizes(lines, source)?;
+    if !extended {
+        return Ok(sizes);
+    }
+    let mut bytes = [0; 8];
+    read_bytes(lines, source, &mut bytes)?;
+    Ok(Shape {
+        reserves: number_at(&bytes, 0),
+        sums: number_at(&bytes, 4),
+        ..sizes
+    })
+}
+
+// Reads the mark of an image, which says whether it is extended.
+fn read_mark<S: Source>(lines: &mut Lines, source: &mut S) -> Result<bool, HeadFault>
+    ensures { ReadsMark lines.old (S.feed source.old) result lines.new (S.feed source.new) }
+{
+    let mut bytes = [0; 8];
+    read_bytes(lines, source, &mut bytes)?;
+    match mark_in(&bytes) {
+        Some(extended) => Ok(extended),
+        None => Err(HeadFault::Mark),
+    }
+}
+
+// Whether an image is extended without reserves and sums.
+fn is_bare(shape: &Shape, extended: bool) -> bool
+    ensures { IsTrue result ↔ (IsTrue extended × (version_of shape.now ≡ 2)) }
+{
+    extended && version_of(shape) == 2
 }
 
 /// Reads the head of an image: the mark, and the shape of its board.
 ///
 /// # Errors
 ///
-/// `Mark` exactly where the first 8 bytes aren't the mark, and `Shape` exactly where the shape doesn't check.
+/// `Mark` exactly where the first 8 bytes aren't a mark. `Shape` exactly where the shape doesn't check, or where an
+/// extended image has neither reserves nor sums, which is `Reserves`.
 /// The others as of `Lines::next_bytes`: `Short` where the source's end was met within the head, `Failed`
 /// where the source failed, and `Spent` where no more may be taken.
 pub fn read_head<S: Source>(lines: &mut Lines, source: &mut S) -> Result<Shape, HeadFault>
     ensures { ReadsHead lines.old (S.feed source.old) result lines.new (S.feed source.new) }
 {
-    let mut first = [0; 8];
-    read_bytes(lines, source, &mut first)?;
-    if !is_mark(&first) {
-        return Err(HeadFault::Mark);
+    let extended = read_mark(lines, source)?;
+    let shape = read_shape(lines, source, extended)?;
+    let bare = is_bare(&shape, extended);
+    if bare {
+        return Err(HeadFault::Shape(ShapeFault::Reserves));
     }
-    let shape = read_shape(lines, source)?;
     shape.check()?;
     Ok(shape)
 }

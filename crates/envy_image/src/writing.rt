@@ -1,13 +1,17 @@
 ghost use Rattle.std.specs.Prelude.{◌≡◌, ◌+◌, ◌*◌, ◌<◌, ◌≤◌, [], IsTrue, IsOk, IfOk, length, take, drop, slice_index_or, Ok};
 ghost use Rattle.envy_io.specs.Streams.{Drain, WritesAll};
-ghost use Rattle.envy_image.specs.Image.{image_of, head_of, body_of, rows_bytes, words_bytes, word_bytes, numbers_bytes, number_bytes};
+ghost use Rattle.envy_image.specs.Image.{image_of, is_extended, mark_of, head_of, head_size, body_of, rows_bytes, words_bytes, word_bytes, numbers_bytes, numbers_of, number_bytes};
 ghost use Rattle.envy_image.specs.Writing.{WritesOut, WritesFirst};
 
-use envy_base::{Board, Off, PAGE_WORDS, Shape};
+use envy_base::{Board, Off, PAGE_WORDS, Shape, version_of};
 use envy_io::{Failed, Sink, write_all};
 
-/// The bytes that an image begins with.
-pub(crate) const MARK: [u8; 8] = *b"eNVyIMG1";
+/// The bytes that an image begins with: an extended one names reserves and sums too.
+pub(crate) fn mark_of(extended: bool) -> [u8; 8]
+    ensures { result ≡ mark_of extended }
+{
+    if extended { *b"eNVyIMG2" } else { *b"eNVyIMG1" }
+}
 
 /// Why an image wasn't written whole.
 #[derive(Clone, Copy, Debug, PartialEq, Eq)]
@@ -64,9 +68,9 @@ fn write_numbers<K: Sink>(numbers: &[u32], sink: &mut K) -> Result<(), Failed>
     Ok(())
 }
 
-// Writes the mark and the shape.
-fn write_head<K: Sink>(shape: &Shape, sink: &mut K) -> Result<(), Failed>
-    ensures { WritesAll (K.drain sink.old) (head_of shape.now) result (K.drain sink.new) }
+// Writes the numbers of a shape, with reserves and sums behind the sizes in an extended image.
+fn write_shape<K: Sink>(shape: &Shape, extended: bool, sink: &mut K) -> Result<(), Failed>
+    ensures { WritesAll (K.drain sink.old) (numbers_bytes (numbers_of extended shape.now)) result (K.drain sink.new) }
 {
     let numbers = [
         shape.segments,
@@ -75,9 +79,37 @@ fn write_head<K: Sink>(shape: &Shape, sink: &mut K) -> Result<(), Failed>
         shape.shadows,
         shape.frames,
         shape.entries,
+        shape.reserves,
+        shape.sums,
     ];
-    write_all(sink, &MARK)?;
-    write_numbers(&numbers, sink)
+    if extended {
+        write_numbers(&numbers, sink)
+    } else {
+        write_numbers(&numbers[..6], sink)
+    }
+}
+
+// Whether the image of a board is extended.
+fn is_extended(shape: &Shape) -> bool
+    ensures { result ≡ is_extended shape.now }
+{
+    version_of(shape) == 3
+}
+
+/// How many bytes the head of a board's image takes.
+pub fn head_size(shape: &Shape) -> u64
+    ensures { result ≡ head_size shape.now }
+{
+    if is_extended(shape) { 40 } else { 32 }
+}
+
+// Writes the mark and the shape.
+fn write_head<K: Sink>(shape: &Shape, sink: &mut K) -> Result<(), Failed>
+    ensures { WritesAll (K.drain sink.old) (head_of shape.now) result (K.drain sink.new) }
+{
+    let extended = is_extended(shape);
+    write_all(sink, &mark_of(extended))?;
+    write_shape(shape, extended, sink)
 }
 
 // The bytes of a row.

@@ -12,18 +12,20 @@ use Rattle.envy_layout.specs.Words.{durable}
 use Rattle.envy_memory.specs.Below.{flush_programs, flush_erases}
 use Rattle.envy_memory.specs.Calls.{fresh}
 use Rattle.envy_memory.specs.Picture.{Picture}
-use Rattle.envy_btree.specs.Answers.{IsFull}
+use Rattle.envy_btree.specs.Answers.{IsFull, IsWritten}
 use Rattle.envy_btree.specs.Index.{IsIndex}
 use Rattle.envy_btree.specs.Pairs.{assoc, with_pair, without}
 use Rattle.envy_btree.specs.declared.fault.LookFault.{LookFault}
+use Rattle.envy_btree.specs.declared.fault.LookFault.TheVariants.{Off as LookOff, Broken as LookBroken}
 use Rattle.envy_btree.specs.declared.fault.TreeFault.{TreeFault}
 use Rattle.envy_btree.specs.declared.fault.TreeFault.TheVariants.{Off as FaultOff, Full as FaultFull, Bad as FaultBad}
 use Rattle.envy_calls.specs.Codes.{number_of}
 use Rattle.envy_calls.specs.declared.code.Code.{Code}
-use Rattle.envy_calls.specs.declared.code.Code.TheVariants.{Done, Empty, Off, Bad, Absent, MapFull, SlotOpen, MapSetup}
+use Rattle.envy_calls.specs.declared.code.Code.TheVariants.{Done, Empty, Off, Bad, Absent, MapFull, SlotOpen, MapSetup, BrokenMap}
 use Rattle.envy_index_calls.specs.declared.words.TheConstants.{MOST_MAP_PAGES}
 use Rattle.envy_index_calls.specs.declared.pairs.EnvyPair.{EnvyPair}
 use Rattle.envy_index_calls.specs.declared.pairs.EnvyOld.{EnvyOld}
+use Rattle.envy_index_calls.specs.Scanned.{pairs_in}
 
 -- pairs of a key and a value, by rising key
 abbrev pub Pairs : Type 0
@@ -35,7 +37,7 @@ pub record HoldsMap (p : Picture) (es : Pairs) : Type 0 where
   pub stands : Stands p.chart array
   pub map : IsIndex (durable p.chart) es
 
--- what a program promises of a memory that it asks for pairs, and of one in which it makes a map
+-- what a program promises of a memory in which it changes a map, and of one that it asks for pairs or in which it makes a map
 abbrev pub HoldsSomeMap : Picture → Type 0
 HoldsSomeMap p = (es : Pairs) × HoldsMap p es
 
@@ -56,10 +58,10 @@ pub record Rests (p q : Picture) : Type 0 where
   pub shut : IsShut q
   pub same : durable q.chart ≡ durable p.chart
 
--- whether a slot is open
-abbrev pub HasOpen : Chart → Bool → Type 0
-HasOpen c true = (t : ℕ) × (t < 64) × (slot_of c.fields t ≡ Some Active)
-HasOpen c false = (t : ℕ) → t < 64 → slot_of c.fields t ≢ Some Active
+-- whether a slot is open, of those from one on
+abbrev pub HasOpenFrom : ℕ → Chart → Bool → Type 0
+HasOpenFrom first c true = (t : ℕ) × (first ≤ t) × (t < 64) × (slot_of c.fields t ≡ Some Active)
+HasOpenFrom first c false = (t : ℕ) → first ≤ t → t < 64 → slot_of c.fields t ≢ Some Active
 
 -- A call is made: a map fits, and no slot is open.
 pub record MayServe (p : Picture) : Type 0 where
@@ -73,7 +75,7 @@ pub record MayServe (p : Picture) : Type 0 where
 -- Why a call isn't made: nothing changes then. A map needs 20 pages and 32 shadows, and has no more pages than its most.
 abbrev pub Declines : Picture → Code → Type 0
 Declines p MapSetup = (p.chart.shape.pages < 20) ⊎ (MOST_MAP_PAGES < p.chart.shape.pages) ⊎ (p.chart.shape.shadows < 32)
-Declines p SlotOpen = HasOpen p.chart true × (20 ≤ p.chart.shape.pages) × (p.chart.shape.pages ≤ MOST_MAP_PAGES) × (32 ≤ p.chart.shape.shadows)
+Declines p SlotOpen = HasOpenFrom 0 p.chart true × (20 ≤ p.chart.shape.pages) × (p.chart.shape.pages ≤ MOST_MAP_PAGES) × (32 ≤ p.chart.shape.shadows)
 Declines p code = ⊥
 
 -- What every call does: sizes stay, and the numbers that a board over a file tells of its disk by; power that was on and is
@@ -101,8 +103,8 @@ Lends (Some p) new (Ok x) = (x.0 ≡ p) × (x.1 ≡ false) × MayServe p
 Lends None new (Err code) = (new ≡ None) × (code ≡ Empty)
 Lends (Some p) new (Err code) = (new ≡ Some p) × Declines p code
 
--- In a place: its memory's call, which tells this of each map that the memory holds, and is worth so many puts at most;
--- without a memory that is the answer.
+-- In a place: its memory's change of a map, which tells this of each map that the memory holds, and is worth so many puts at
+-- most; without a memory that is the answer.
 abbrev pub Asks : ℕ → Option Picture → Option Picture → ℕ → (Pairs → Picture → Picture → Code → Type 0) → Type 0
 Asks puts None new number Tells = (new ≡ None) × (number ≡ number_of Empty)
 Asks puts (Some p) new number Tells = (q : Picture) × (code : Code) × (new ≡ Some q) × (number ≡ number_of code) × Works puts p q × ((es : Pairs) → HoldsMap p es → Tells es p q code)
@@ -111,21 +113,44 @@ Asks puts (Some p) new number Tells = (q : Picture) × (code : Code) × (new ≡
 abbrev pub Loses : Picture → Picture → Type 0
 Loses p q = (q.chart.on ≡ false) × (durable q.chart ≡ durable p.chart)
 
+-- What a look-up leaves, whatever the words are, and why it answers so: no word changes. After `BrokenMap` the words stand
+-- for no map.
+abbrev pub Leaves : Picture → Picture → Code → Type 0
+Leaves p q Done = Rests p q
+Leaves p q BrokenMap = Rests p q × (HoldsSomeMap p → ⊥)
+Leaves p q Off = Loses p q
+Leaves p q code = (q ≡ p) × Declines p code
+
+-- the same of a look-up that may find nothing
+abbrev pub LeavesOrMisses : Picture → Picture → Code → Type 0
+LeavesOrMisses p q Absent = Rests p q
+LeavesOrMisses p q code = Leaves p q code
+
+-- In a place: what its memory's look-up leaves, and what it tells of each map that the memory holds; without a memory that is
+-- the answer.
+abbrev pub Looks : (Picture → Picture → Code → Type 0) → Option Picture → Option Picture → ℕ → (Pairs → Code → Type 0) → Type 0
+Looks Left None new number Tells = (new ≡ None) × (number ≡ number_of Empty)
+Looks Left (Some p) new number Tells = (q : Picture) × (code : Code) × (new ≡ Some q) × (number ≡ number_of code) × Works 0 p q × Left p q code × ((es : Pairs) → HoldsMap p es → Tells es code)
+
 -- The codes of the tree's answers, and what stands at the caller's pointer then.
+
+abbrev pub look_code : LookFault → Code
+look_code LookOff = Off
+look_code LookBroken = BrokenMap
 
 abbrev pub TellsValue : Result (Option ℕ) LookFault → Code → ℕ → ℕ → Type 0
 TellsValue (Ok (Some value)) code before after = (code ≡ Done) × (after ≡ value)
 TellsValue (Ok None) code before after = (code ≡ Absent) × (after ≡ before)
-TellsValue (Err off) code before after = (code ≡ Off) × (after ≡ before)
+TellsValue (Err fault) code before after = (code ≡ look_code fault) × (after ≡ before)
 
 abbrev pub TellsCount : Result ℕ LookFault → Code → ℕ → ℕ → Type 0
 TellsCount (Ok n) code before after = (code ≡ Done) × (after ≡ n)
-TellsCount (Err off) code before after = (code ≡ Off) × (after ≡ before)
+TellsCount (Err fault) code before after = (code ≡ look_code fault) × (after ≡ before)
 
 abbrev pub TellsPair : Result (Option (ℕ × ℕ)) LookFault → Code → EnvyPair → EnvyPair → Type 0
 TellsPair (Ok (Some e)) code before after = (code ≡ Done) × (after ≡ record { key = e.0; value = e.1 })
 TellsPair (Ok None) code before after = (code ≡ Absent) × (after ≡ before)
-TellsPair (Err off) code before after = (code ≡ Off) × (after ≡ before)
+TellsPair (Err fault) code before after = (code ≡ look_code fault) × (after ≡ before)
 
 abbrev pub fault_code : TreeFault → Code
 fault_code FaultOff = Off
@@ -152,24 +177,26 @@ made_code (Err TroubleOff) = Off
 made_code (Err TroubleBad) = Bad
 
 -- the value of the key
-abbrev pub Gets : ℕ → ℕ → Pairs → Picture → Picture → Code → Type 0
-Gets key value es p q Done = (assoc key es ≡ Some value) × Rests p q
-Gets key value es p q Absent = (assoc key es ≡ None) × Rests p q
-Gets key value es p q Off = Loses p q
-Gets key value es p q code = (q ≡ p) × Declines p code
+abbrev pub Gets : ℕ → ℕ → Pairs → Code → Type 0
+Gets key value es Done = assoc key es ≡ Some value
+Gets key value es Absent = assoc key es ≡ None
+Gets key value es code = Unit {0}
 
 -- how many pairs there are
-abbrev pub Counts : ℕ → Pairs → Picture → Picture → Code → Type 0
-Counts n es p q Done = (n ≡ length es) × Rests p q
-Counts n es p q Off = Loses p q
-Counts n es p q code = (q ≡ p) × Declines p code
+abbrev pub Counts : ℕ → Pairs → Code → Type 0
+Counts n es Done = n ≡ length es
+Counts n es code = Unit {0}
 
 -- one of the pairs, or none: which of them, Is says
-abbrev pub Finds : (Pairs → Option (ℕ × ℕ) → Type 0) → EnvyPair → Pairs → Picture → Picture → Code → Type 0
-Finds Is pair es p q Done = Is es (Some (pair.key, pair.value)) × Rests p q
-Finds Is pair es p q Absent = Is es None × Rests p q
-Finds Is pair es p q Off = Loses p q
-Finds Is pair es p q code = (q ≡ p) × Declines p code
+abbrev pub Finds : (Pairs → Option (ℕ × ℕ) → Type 0) → EnvyPair → Pairs → Code → Type 0
+Finds Is pair es Done = Is es (Some (pair.key, pair.value))
+Finds Is pair es Absent = Is es None
+Finds Is pair es code = Unit {0}
+
+-- These of the pairs, in order: as many as the array has room for, or all. The rest of the array stays.
+abbrev pub Scans : (Pairs → Pairs) → List EnvyPair → List EnvyPair → ℕ → Pairs → Code → Type 0
+Scans which was now n es Done = IsWritten (which es) (pairs_in was) (pairs_in now) n
+Scans which was now n es code = Unit {0}
 
 -- the key has this value from then on; where power failed it has either
 abbrev pub Inserts : ℕ → ℕ → EnvyOld → Pairs → Picture → Picture → Code → Type 0

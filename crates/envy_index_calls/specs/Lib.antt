@@ -1,1 +1,5 @@
+pub mod Attempts
 pub mod Indexed
+pub mod Ranged
+pub mod Ranges
+pub mod Scanned

@@ -14,7 +14,7 @@ use envy_calls::Code;
 use envy_memory::Memory;
 
 // The old value of a key.
-fn old(was: Option<u64>) -> EnvyOld
+pub(crate) fn old(was: Option<u64>) -> EnvyOld
     ensures { result ≡ old_of was }
 {
     match was {

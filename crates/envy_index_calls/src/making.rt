@@ -1,8 +1,9 @@
 // How a map begins.
 ghost use Rattle.std.specs.Prelude.{◌≡◌, ◌+◌, ◌≤◌, length, false, IsTrue, OnOk};
 ghost use Rattle.std.specs.Option.{ForSome};
-ghost use Rattle.envy_base.specs.Words.{Fails, Keeps, Spends, Works};
+ghost use Rattle.envy_base.specs.Words.{Fails, Keeps, OnPage, Spends, Works};
 ghost use Rattle.envy_calls.specs.Codes.{number_of};
+ghost use Rattle.envy_index_calls.specs.Ranged.{marked};
 ghost use Rattle.envy_index_calls.specs.Indexed.{Blanks, DoesCreate, EndsTry, HoldsArray, IsTried, blanked, creation_puts, made_code};
 
 use crate::words::{return_words, words_of};
@@ -13,12 +14,15 @@ use envy_memory::Memory;
 // So many words at the front are 0 where a map has no pairs.
 const FRONT: u32 = 4;
 
+/// The word after them marks a map that was made in a range: `envy map` in bytes, the lowest first.
+pub const MAP_MARK: u64 = 0x7061_6d20_7976_6e65;
+
 // Makes the words at the front 0, in the open transaction. They lie in one page.
 fn blank<W: Words>(words: &mut W) -> Result<(), Trouble>
     requires begun { IsTrue (W.sheet words.old).started }
     requires room { length (W.sheet words.old).pages + 1 ≤ (W.sheet words.old).room }
     requires size { 4 ≤ length (W.sheet words.old).words }
-    ensures works { Works 1 (W.sheet words.old) (W.sheet words.new) }
+    ensures page { OnPage 0 (W.sheet words.old) (W.sheet words.new) }
     ensures spends { Spends 4 (W.sheet words.old) (W.sheet words.new) }
     ensures fails { Fails (W.sheet words.old) result (W.sheet words.new) }
     ensures blanks { OnOk result ((W.sheet words.new).words ≡ blanked (W.sheet words.old).words) }
@@ -27,6 +31,20 @@ fn blank<W: Words>(words: &mut W) -> Result<(), Trouble>
         words.put(a, 0)?;
     }
     Ok(())
+}
+
+/// The same, and marks the map.
+pub(crate) fn mark_blank<W: Words>(words: &mut W) -> Result<(), Trouble>
+    requires begun { IsTrue (W.sheet words.old).started }
+    requires room { length (W.sheet words.old).pages + 1 ≤ (W.sheet words.old).room }
+    requires size { 5 ≤ length (W.sheet words.old).words }
+    ensures works { Works 1 (W.sheet words.old) (W.sheet words.new) }
+    ensures spends { Spends 5 (W.sheet words.old) (W.sheet words.new) }
+    ensures fails { Fails (W.sheet words.old) result (W.sheet words.new) }
+    ensures marks { OnOk result ((W.sheet words.new).words ≡ marked (W.sheet words.old).words) }
+{
+    blank(words)?;
+    words.put(FRONT, MAP_MARK)
 }
 
 // Ends the transaction in which that was tried: keeps it where it is done, and undoes it else.

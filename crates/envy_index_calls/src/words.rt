@@ -1,9 +1,10 @@
 // A memory as the words of a map.
 ghost use Rattle.std.specs.Prelude.{◌≡◌, ◌≢◌, Some, None, Ok, Err, IsTrue, false, MatchOption, MatchResult};
 ghost use Rattle.std.specs.Option.{ForSome};
+ghost use Rattle.envy_base.specs.Shape.{version_of};
 ghost use Rattle.envy_layout.specs.Sound.{IsSound};
 ghost use Rattle.envy_map.specs.Fields.{chart};
-ghost use Rattle.envy_index_calls.specs.Indexed.{Declines, HasOpen, HoldsArray, IsShut, Lends, MayServe};
+ghost use Rattle.envy_index_calls.specs.Indexed.{Declines, HasOpenFrom, HoldsArray, IsShut, Lends, MayServe};
 ghost use Rattle.envy_memory.specs.Sheets.{sheet_of};
 
 use envy_base::{Board, Off, Slot};
@@ -19,13 +20,13 @@ const LEAST_SHADOWS: u32 = 32;
 /// The most pages of an array that holds a map: no key is more than six nodes deep in it.
 pub const MOST_MAP_PAGES: u32 = 1 << 20;
 
-// Whether one of the 64 slots is open.
-fn has_open_slot<B: Board>(board: &B) -> Result<bool, Off>
+/// Whether one of the 64 slots is open, of those from one on.
+pub fn has_open_slot<B: Board>(board: &B, first: u8) -> Result<bool, Off>
     requires sound { IsSound (chart (B.state board.now)) }
-    requires version { (chart (B.state board.now)).fields.version ≡ 2 }
-    ensures { MatchResult result (HasOpen (chart (B.state board.now))) (λ _. (B.state board.now).on ≡ false) }
+    requires version { (chart (B.state board.now)).fields.version ≡ version_of (B.state board.now).shape }
+    ensures { MatchResult result (HasOpenFrom first (chart (B.state board.now))) (λ _. (B.state board.now).on ≡ false) }
 {
-    for t in 0..64 {
+    for t in first..64 {
         if slot(board, t)? == Slot::Active {
             return Ok(true);
         }
@@ -42,7 +43,7 @@ fn refusal<B: Board>(memory: &Memory<B>) -> Option<Code>
     if shape.pages < LEAST_PAGES || shape.pages > MOST_MAP_PAGES || shape.shadows < LEAST_SHADOWS {
         return Some(Code::MapSetup);
     }
-    match has_open_slot(memory.board()) {
+    match has_open_slot(memory.board(), 0) {
         Ok(false) => None,
         Ok(true) => Some(Code::SlotOpen),
         Err(Off) => unreachable!(),

@@ -19,6 +19,10 @@ head_bytes sh =
     mark ++ version ∷ number_bytes sh.segments ++ number_bytes sh.rows ++ number_bytes sh.pages
     ++ number_bytes sh.shadows ++ number_bytes sh.frames ++ number_bytes sh.entries
 
+-- a head has six sizes: the other two are 0
+abbrev pub HasSixSizes : Shape → Type 0
+HasSixSizes sh = (sh.reserves ≡ 0) × (sh.sums ≡ 0)
+
 -- a journal of a board of this shape, with these operations
 pub record StandsFor (sh : Shape) (done : List Operation) (file : List ℕ) : Type 0 where
   pub head : Begins (head_bytes sh) file

@@ -1,5 +1,5 @@
 -- A snapshot: a journal of what a board holds, and of no more.
-use Rattle.std.specs.Prelude.{◌≡◌, ℕ, ◌+◌, ◌*◌, ◌^◌, ◌≤◌, max, Bool, true, false, List, ◌++◌, length, take, drop}
+use Rattle.std.specs.Prelude.{◌≡◌, ℕ, ◌+◌, ◌*◌, ◌^◌, ◌<◌, ◌≤◌, max, Bool, true, false, Result, Ok, Err, List, ◌++◌, length, take, drop}
 use Rattle.envy_base.specs.Map.{words_of}
 use Rattle.envy_base.specs.State.{State}
 use Rattle.envy_base.specs.declared.shape.Shape.{Shape}
@@ -59,6 +59,11 @@ pub record IsUntouched {D : Type 0} (seen : D → List ℕ) (may_leave : D → L
   pub trusted : bytewise new ≡ bytewise old
   pub fewer : (c : List ℕ) → may_leave new c → may_leave old c
   pub moments : LeavesOnly moment left_since old new (may_leave old)
+
+-- A call on a second file of which `before` held: it went on, and `after` holds, or it failed, and is one more that did.
+abbrev pub Hinders : {D T E : Type 0} → (D → Type 0) → (D → Type 0) → (D → ℕ) → D → Result T E → D → Type 0
+Hinders before after hindered old (Ok done) new = before old → after new × (hindered new ≡ hindered old)
+Hinders before after hindered old (Err error) new = before old → hindered old < hindered new
 
 -- what a log tells of its file stays, while its buffer carries other bytes
 pub record IsAside {D : Type 0} (old new : Log D) : Type 0 where

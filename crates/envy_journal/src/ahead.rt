@@ -29,6 +29,7 @@ impl<D: Device> Log<D> {
         ensures counted { OnOk result (IsCounted D.seen D.may_leave D.bytewise self.new) }
         ensures size { OnOk result (self.new.size ≡ self.old.size + 16384) }
         ensures longer { IsLonger D.seen D.moment D.left_since D.synced D.bytewise D.syncs self.old self.new }
+        ensures hindered { D.hindered self.new.device ≡ D.hindered self.old.device }
         ensures failed { OnErr result (IsTrue (D.has_failed self.new.device)) }
     {
         self.device.write_at(self.size, &[0; PIECE])?;
@@ -45,6 +46,7 @@ impl<D: Device> Log<D> {
         ensures counted { OnOk result (IsCounted D.seen D.may_leave D.bytewise self.new) }
         ensures size { OnOk result (self.new.size ≡ self.old.size + 16384 * pieces) }
         ensures longer { IsLonger D.seen D.moment D.left_since D.synced D.bytewise D.syncs self.old self.new }
+        ensures hindered { D.hindered self.new.device ≡ D.hindered self.old.device }
         ensures failed { OnErr result (IsTrue (D.has_failed self.new.device)) }
     {
         for _turn in 0..pieces {
@@ -64,6 +66,7 @@ impl<D: Device> Log<D> {
         ensures size { OnOk result
             (self.new.size ≤ max self.old.size (size_of self.old + batch_more + step)) }
         ensures longer { IsLonger D.seen D.moment D.left_since D.synced D.bytewise D.syncs self.old self.new }
+        ensures hindered { D.hindered self.new.device ≡ D.hindered self.old.device }
         ensures cause { HasCause D.seen D.has_failed false self.new result }
     {
         if self.end >= MOST || self.used >= MOST - self.end {

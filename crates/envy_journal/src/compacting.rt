@@ -10,7 +10,7 @@ ghost use Rattle.envy_journal.specs.Head.{head_bytes};
 ghost use Rattle.envy_journal.specs.Journal.{IsAtRest, IsFileOf};
 ghost use Rattle.envy_journal.specs.Log.{Begins};
 ghost use Rattle.envy_journal.specs.Reading.{operations, Leads};
-ghost use Rattle.envy_journal.specs.Snapshot.{Gathers, IsAside, IsUntouched, Makes, gathered, limit_of, most_of, with_rows, with_words};
+ghost use Rattle.envy_journal.specs.Snapshot.{Gathers, Hinders, IsAside, IsUntouched, Makes, gathered, limit_of, most_of, with_rows, with_words};
 
 use crate::head::HEAD;
 use crate::log::Log;
@@ -90,6 +90,7 @@ fn copy_word<B: Steady, D: Place>(board: &B, log: &mut Log<D>, w: u32) -> Result
     ensures aside { IsAside log.old log.new }
     ensures untouched { IsUntouched D.seen D.may_leave D.moment D.left_since D.synced D.bytewise
         log.old.device log.new.device }
+    ensures hindered { Hinders D.goes_on D.goes_on D.hindered log.old.device result log.new.device }
 {
     let v = word_of(board, w);
     if v == 0 {
@@ -108,6 +109,7 @@ fn copy_words<B: Steady, D: Place>(board: &B, log: &mut Log<D>) -> Result<(), Se
     ensures aside { IsAside log.old log.new }
     ensures untouched { IsUntouched D.seen D.may_leave D.moment D.left_since D.synced D.bytewise
         log.old.device log.new.device }
+    ensures hindered { Hinders D.goes_on D.goes_on D.hindered log.old.device result log.new.device }
 {
     for w in 0..words(&board.shape()) {
         copy_word(board, log, w)?;
@@ -127,6 +129,7 @@ fn copy_row<B: Steady, D: Place>(board: &B, log: &mut Log<D>, row: u32) -> Resul
     ensures aside { IsAside log.old log.new }
     ensures untouched { IsUntouched D.seen D.may_leave D.moment D.left_since D.synced D.bytewise
         log.old.device log.new.device }
+    ensures hindered { Hinders D.goes_on D.goes_on D.hindered log.old.device result log.new.device }
 {
     let page = page_in(board, row);
     if page == ERASED {
@@ -147,6 +150,7 @@ fn copy_rows<B: Steady, D: Place>(board: &B, log: &mut Log<D>) -> Result<(), Sec
     ensures aside { IsAside log.old log.new }
     ensures untouched { IsUntouched D.seen D.may_leave D.moment D.left_since D.synced D.bytewise
         log.old.device log.new.device }
+    ensures hindered { Hinders D.goes_on D.goes_on D.hindered log.old.device result log.new.device }
 {
     let shape = board.shape();
     for row in 0..shape.segments * shape.rows {
@@ -166,6 +170,7 @@ fn copy_board<B: Steady, D: Place>(board: &B, log: &mut Log<D>) -> Result<(), Se
     ensures aside { IsAside log.old log.new }
     ensures untouched { IsUntouched D.seen D.may_leave D.moment D.left_since D.synced D.bytewise
         log.old.device log.new.device }
+    ensures hindered { Hinders D.goes_on D.goes_on D.hindered log.old.device result log.new.device }
 {
     copy_words(board, log)?;
     copy_rows(board, log)
@@ -181,6 +186,8 @@ fn gather<B: Steady, D: Place>(board: &B, log: &mut Log<D>) -> Result<(), Second
     ensures aside { IsAside log.old log.new }
     ensures untouched { IsUntouched D.seen D.may_leave D.moment D.left_since D.synced D.bytewise
         log.old.device log.new.device }
+    ensures hindered { Hinders (λ d. D.has_failed d ≡ false) D.goes_on D.hindered log.old.device result
+        log.new.device }
 {
     log.begin_second(&board.shape())?;
     copy_board(board, log)
@@ -203,6 +210,8 @@ fn replaced<B: Steady, D: Place>(board: &B, log: &mut Log<D>) -> Result<(), Repl
     ensures untouched { IsErrOf result Second
         → IsUntouched D.seen D.may_leave D.moment D.left_since D.synced D.bytewise log.old.device log.new.device }
     ensures failed { IsErrOf result Failed → IsTrue (D.has_failed log.new.device) }
+    ensures hindered { D.has_failed log.old.device ≡ false → IsErrOf result Second
+        → D.hindered log.old.device < D.hindered log.new.device }
     ensures any_moment { LeavesOnly D.moment D.left_since log.old.device log.new.device
         (λ c. D.may_leave log.old.device c ⊎ IsFileOf (B.state board.now) c) }
     ensures any_moment_ok { OnOk result (LeavesOnly D.moment D.left_since log.old.device log.new.device
@@ -230,6 +239,8 @@ pub(crate) fn rewrite<B: Steady, D: Place>(board: &B, log: &mut Log<D>) -> Resul
     ensures untouched { IsErrOf result Second
         → IsUntouched D.seen D.may_leave D.moment D.left_since D.synced D.bytewise log.old.device log.new.device }
     ensures failed { IsErrOf result Failed → IsTrue (D.has_failed log.new.device) }
+    ensures hindered { D.has_failed log.old.device ≡ false → IsErrOf result Second
+        → D.hindered log.old.device < D.hindered log.new.device }
     ensures any_moment { LeavesOnly D.moment D.left_since log.old.device log.new.device
         (λ c. D.may_leave log.old.device c ⊎ IsFileOf (B.state board.now) c) }
     ensures any_moment_ok { OnOk result (LeavesOnly D.moment D.left_since log.old.device log.new.device

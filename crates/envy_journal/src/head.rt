@@ -1,6 +1,6 @@
 // The head of a journal: a mark, a version and the sizes of the board.
 ghost use Rattle.std.specs.Prelude.{◌≡◌, ◌+◌, ◌≤◌, ◌++◌, ◌∷◌, [], length, take, IfOk, IsErrOf};
-ghost use Rattle.envy_journal.specs.Head.{head_bytes, HasNoJournal, IsOtherVersion};
+ghost use Rattle.envy_journal.specs.Head.{head_bytes, HasNoJournal, HasSixSizes, IsOtherVersion};
 ghost use Rattle.envy_journal.specs.Log.{Begins};
 ghost use Rattle.envy_journal.specs.declared.head.HeadError.TheVariants.{NoJournal, OtherVersion};
 
@@ -29,6 +29,7 @@ pub enum HeadError {
 /// without operations: opening one, cut short, may leave that.
 pub fn read_head(bytes: &[u8]) -> Result<Shape, HeadError>
     ensures sizes { IfOk result (λ shape. Begins (head_bytes shape) bytes.now) }
+    ensures six { IfOk result (λ shape. HasSixSizes shape) }
     ensures long { IfOk result (λ shape. 33 ≤ length bytes.now) }
     ensures no_journal { IsErrOf result NoJournal → HasNoJournal bytes.now }
     ensures other_version { IsErrOf result OtherVersion → IsOtherVersion bytes.now }
@@ -46,6 +47,8 @@ pub fn read_head(bytes: &[u8]) -> Result<Shape, HeadError>
         shadows: number_at(bytes, 21),
         frames: number_at(bytes, 25),
         entries: number_at(bytes, 29),
+        reserves: 0,
+        sums: 0,
     })
 }
 

@@ -1,9 +1,9 @@
 // The bytes of a second file, on their way through the log's buffer.
-ghost use Rattle.std.specs.Prelude.{◌≡◌, ◌⊎◌, ◌+◌, ◌<◌, ◌≤◌, ◌^◌, ◌++◌, ◌∷◌, [], List, ℕ, IsTrue, length, OnOk, OnErr, IsErrOf};
+ghost use Rattle.std.specs.Prelude.{◌≡◌, ◌⊎◌, ◌+◌, ◌<◌, ◌≤◌, ◌^◌, ◌++◌, ◌∷◌, [], false, List, ℕ, IsTrue, length, OnOk, OnErr, IsErrOf};
 ghost use Rattle.envy_device.specs.Device.{Only, LeavesOnly};
 ghost use Rattle.envy_device.specs.declared.device.ReplaceError.TheVariants.{Second, Failed};
 ghost use Rattle.envy_journal.specs.Content.{blank};
-ghost use Rattle.envy_journal.specs.Snapshot.{Gathers, IsAside, IsUntouched, Makes, gathered};
+ghost use Rattle.envy_journal.specs.Snapshot.{Gathers, Hinders, IsAside, IsUntouched, Makes, gathered};
 
 use crate::head::with_gate;
 use crate::log::Log;
@@ -22,6 +22,7 @@ impl<D: Place> Log<D> {
         ensures aside { IsAside self.old self.new }
         ensures untouched { IsUntouched D.seen D.may_leave D.moment D.left_since D.synced D.bytewise
             self.old.device self.new.device }
+        ensures hindered { Hinders D.goes_on D.goes_on D.hindered self.old.device result self.new.device }
     {
         self.device.write_second(&self.buffer[..self.used])?;
         self.second += self.used;
@@ -52,6 +53,7 @@ impl<D: Place> Log<D> {
         ensures aside { IsAside self.old self.new }
         ensures untouched { IsUntouched D.seen D.may_leave D.moment D.left_since D.synced D.bytewise
             self.old.device self.new.device }
+        ensures hindered { Hinders D.goes_on D.goes_on D.hindered self.old.device result self.new.device }
     {
         if bytes.len() > self.buffer.len() - self.used {
             self.spill_second()?;
@@ -69,6 +71,8 @@ impl<D: Place> Log<D> {
         ensures aside { IsAside self.old self.new }
         ensures untouched { IsUntouched D.seen D.may_leave D.moment D.left_since D.synced D.bytewise
             self.old.device self.new.device }
+        ensures hindered { Hinders (λ d. D.has_failed d ≡ false) D.goes_on D.hindered self.old.device result
+            self.new.device }
     {
         self.device.begin_second()?;
         self.second = 0;
@@ -85,6 +89,8 @@ impl<D: Place> Log<D> {
         ensures aside { IsAside self.old self.new }
         ensures untouched { IsUntouched D.seen D.may_leave D.moment D.left_since D.synced D.bytewise
             self.old.device self.new.device }
+        ensures hindered { Hinders (λ d. D.has_failed d ≡ false) D.goes_on D.hindered self.old.device result
+            self.new.device }
     {
         self.begin_with(&with_gate(shape, OPEN))
     }
@@ -105,6 +111,8 @@ impl<D: Place> Log<D> {
             → IsUntouched D.seen D.may_leave D.moment D.left_since D.synced D.bytewise
             self.old.device self.new.device }
         ensures failed { IsErrOf result Failed → IsTrue (D.has_failed self.new.device) }
+        ensures hindered { D.goes_on self.old.device → IsErrOf result Second
+            → D.hindered self.old.device < D.hindered self.new.device }
         ensures any_moment { LeavesOnly D.moment D.left_since self.old.device self.new.device
             (λ c. D.may_leave self.old.device c ⊎ c ≡ gathered D.second self.old ++ 5 ∷ 0 ∷ []) }
     {

@@ -36,6 +36,7 @@ impl<B: Steady, D: Device> Journaled<B, D> {
             (Runs D.seen D.moment D.left_since (B.state self.old.board).shape self.old.log self.new.log) }
         ensures dead { OnErr result (IsTrue self.new.dead) }
         ensures cause { HasCause D.seen D.has_failed self.old.dead self.new.log result }
+        ensures hindered { D.hindered self.new.log.device ≡ D.hindered self.old.log.device }
         ensures once { IsTrue (D.bytewise self.old.log.device)
             → D.syncs self.new.log.device ≤ D.syncs self.old.log.device + 1 }
         ensures any_moment { self.old.dead ≡ false
@@ -89,6 +90,8 @@ impl<B: Steady, D: Place> Journaled<B, D> {
         ensures board { self.new.board ≡ self.old.board }
         ensures dead { OnErr result (IsTrue self.new.dead) }
         ensures cause { HasCause D.seen D.has_failed self.old.dead self.new.log result }
+        ensures works { OnOk result (D.has_failed self.new.log.device ≡ false) }
+        ensures hindered { D.hindered self.new.log.device ≡ D.hindered self.old.log.device }
         ensures any_moment { self.old.dead ≡ false
             → LeavesOnly D.moment D.left_since self.old.log.device self.new.log.device
             (StandsFor (B.state self.old.board).shape (kept D.seen self.old.log)) }
@@ -129,6 +132,8 @@ impl<B: Steady, D: Place> Journaled<B, D> {
         ensures board { self.new.board ≡ self.old.board }
         ensures dead { IsErrOf result DeviceFailed → IsTrue self.new.dead }
         ensures failed { IsErrOf result DeviceFailed → IsTrue (D.has_failed self.new.log.device) }
+        ensures hindered { D.has_failed self.old.log.device ≡ false → IsErrOf result Second
+            → D.hindered self.old.log.device < D.hindered self.new.log.device }
         ensures any_moment { LeavesOnly D.moment D.left_since self.old.log.device self.new.log.device
             (λ c. StandsFor (B.state self.old.board).shape (kept D.seen self.old.log) c
             ⊎ IsFileOf (B.state self.old.board) c) }
@@ -153,6 +158,7 @@ impl<B: Steady, D: Place> Journaled<B, D> {
         ensures board { self.new.board ≡ self.old.board }
         ensures dead { OnErr result (IsTrue self.new.dead) }
         ensures cause { HasCause D.seen D.has_failed self.old.dead self.new.log result }
+        ensures hindered { D.hindered self.new.log.device ≡ D.hindered self.old.log.device }
         ensures any_moment { self.old.dead ≡ false
             → LeavesOnly D.moment D.left_since self.old.log.device self.new.log.device
             (λ c. StandsFor (B.state self.old.board).shape (kept D.seen self.old.log) c
@@ -182,6 +188,9 @@ impl<B: Steady, D: Place> Journaled<B, D> {
             (Runs D.seen D.moment D.left_since (B.state self.old.board).shape self.old.log self.new.log) }
         ensures dead { OnErr result (IsTrue self.new.dead) }
         ensures cause { HasCause D.seen D.has_failed self.old.dead self.new.log result }
+        // it is appended only if a call on the second file failed meanwhile
+        ensures hindered { IsOk result → 0 < self.new.next
+            → D.hindered self.old.log.device < D.hindered self.new.log.device }
         // A crash at any moment of the call leaves the operations before the last sync, or a file of what the board holds;
         // if it returned Ok, of these the operations that are kept now.
         ensures any_moment { self.old.dead ≡ false

@@ -1,6 +1,7 @@
 -- What a kept memory did since a trace began, and which array a crash of the machine leaves of it.
 use Rattle.std.specs.Prelude.{◌≡◌, ◌<◌, false, true, IsTrue, ℕ, List, [], ◌∷◌, length, nat_lt, refl, Err}
 use Rattle.std.proofs.lemmas.Bool.{lt-ltb}
+use Rattle.envy_base.specs.Shape.{version_of}
 use Rattle.envy_base.specs.Array.{Array, undone}
 use Rattle.envy_synced.specs.Disk.{IsLast, IsSynced}
 use Rattle.envy_layout.specs.Sound.{IsSound}
@@ -30,7 +31,7 @@ pub record IsSaved (start : Start) (now : Chart) (turns : List KeepTurn) : Type 
   pub synced : IsSynced was
   pub last : IsLast was now
   pub magic : was.fields.magic ≡ the_magic
-  pub version : was.fields.version ≡ 2
+  pub version : was.fields.version ≡ version_of was.shape
   pub sound : IsSound was
   pub array : Array
   pub run : KeepRun now.shape.entries start.array (synced_turns turns) array
@@ -55,7 +56,7 @@ pub record LostIn (start : Start) (p : Picture) (turn : KeepTurn) (earlier : Lis
   pub replies : turn.replies ≡ TraceReply Lost ∷ []
   pub found : (left : Array) × LosesKeep array turn.line left × (durable p.chart ≡ left.words)
   pub magic : p.chart.fields.magic ≡ the_magic
-  pub version : p.chart.fields.version ≡ 2
+  pub version : p.chart.fields.version ≡ version_of p.chart.shape
   pub sound : IsSound p.chart
   pub off : p.chart.on ≡ false
   pub before : Picture

@@ -9,6 +9,7 @@ use Rattle.envy_begun.specs.declared.planning.Holding.{Holding}
 use Rattle.envy_begun.specs.declared.planning.Holding.TheVariants.{Unmade, Blank, Written}
 use Rattle.envy_begun.specs.declared.unbegun.Unbegun.{Unbegun}
 use Rattle.envy_begun.specs.declared.unbegun.Unbegun.TheVariants.{Setup, NoJournal, OtherVersion, OtherSizes, Options, Damaged, Memory, NotMade, Failed}
+use Rattle.envy_journal.specs.Head.{HasSixSizes}
 use Rattle.envy_journal.specs.Journal.{journal_state}
 use Rattle.envy_policy.specs.declared.setup.Setup.{Setup as OfSetup}
 use Rattle.envy_portfile.specs.declared.port.FilePort.{FilePort}
@@ -16,13 +17,33 @@ use Rattle.envy_record.specs.Calls.{have_failed, seen_after}
 use Rattle.envy_record.specs.declared.recorded.Recorded.{Recorded}
 use Rattle.envy_kept.specs.Opening.{RefusesFile, options_of}
 
-same_found : (s t : OfSetup) (file : List ℕ) → IsFound (options_of s) file t → t ≡ s
-same_found s t file found = found.is ∙ ap (λ (sh : Shape). record s { shape = sh }) (sym found.over.named)
+-- a setup of these numbers of segments kept back and of sums
+abbrev of_last : OfSetup → ℕ → ℕ → OfSetup
+of_last s reserves sums = record s {
+  shape = record {
+    segments = s.shape.segments;
+    rows = s.shape.rows;
+    pages = s.shape.pages;
+    shadows = s.shape.shadows;
+    frames = s.shape.frames;
+    entries = s.shape.entries;
+    reserves = reserves;
+    sums = sums;
+  };
+}
 
-pub same_setup : (holding : Holding) (s t : OfSetup) (file : List ℕ) → Plans holding (options_of s) file t → t ≡ s
-same_setup Unmade s t file plans = plans.1
-same_setup Blank s t file plans = same_found s t file plans.0
-same_setup Written s t file plans = same_found s t file plans.0
+of_zeros : (s : OfSetup) → HasSixSizes s.shape → of_last s 0 0 ≡ s
+of_zeros s six = ap (λ (n : ℕ). of_last s n 0) (sym six.0) ∙ ap (λ (n : ℕ). of_last s s.shape.reserves n) (sym six.1)
+
+same_found : (s t : OfSetup) (file : List ℕ) → HasSixSizes s.shape → IsFound (options_of s) file t → t ≡ s
+same_found s t file six found =
+    found.is ∙ ap (λ (sh : Shape). record s { shape = sh }) (sym found.over.named)
+    ∙ ap (λ (n : ℕ). of_last s n t.shape.sums) found.over.six.0 ∙ ap (λ (n : ℕ). of_last s 0 n) found.over.six.1 ∙ of_zeros s six
+
+pub same_setup : (holding : Holding) (s t : OfSetup) (file : List ℕ) → HasSixSizes s.shape → Plans holding (options_of s) file t → t ≡ s
+same_setup Unmade s t file six plans = plans.1 ∙ of_zeros s six
+same_setup Blank s t file six plans = same_found s t file six plans.0
+same_setup Written s t file six plans = same_found s t file six plans.0
 
 pub refused : (s : OfSetup) (file : List ℕ) (why : Unbegun) → Refuses (options_of s) file why → RefusesFile (options_of s) file why
 refused s file (Setup fault) refuses = refuses

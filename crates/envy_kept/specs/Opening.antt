@@ -4,6 +4,7 @@ use Rattle.envy_args.specs.declared.keep.KeepOptions.{KeepOptions}
 use Rattle.envy_base.specs.Array.{Array}
 use Rattle.envy_base.specs.Map.{words_of}
 use Rattle.envy_base.specs.declared.shape.Shape.{Shape}
+use Rattle.envy_base.specs.declared.shape.ShapeFault.TheVariants.{Reserves}
 use Rattle.envy_begun.specs.Beginning.{HasBegun, HasOperationsOf}
 use Rattle.envy_begun.specs.Plans.{BeginsAs, BeginsOn, IsPlanned, Plans}
 use Rattle.envy_begun.specs.Unserved.{Refuses}
@@ -14,11 +15,12 @@ use Rattle.envy_begun.specs.declared.unbegun.Unbegun.TheVariants as unbegun
 use Rattle.envy_calls.specs.Making.{ForSetup, IsNoSetup}
 use Rattle.envy_calls.specs.Setups.{setup_of}
 use Rattle.envy_calls.specs.declared.code.Code.{Code}
-use Rattle.envy_calls.specs.declared.code.Code.TheVariants.{Done, Open}
+use Rattle.envy_calls.specs.declared.code.Code.TheVariants.{Done, Open, Setup}
 use Rattle.envy_calls.specs.declared.setup.EnvySetup.{EnvySetup}
 use Rattle.envy_memory.specs.Picture.{Picture}
 use Rattle.envy_policy.specs.Setup.{checked}
 use Rattle.envy_policy.specs.declared.setup.Setup.{Setup as OfSetup}
+use Rattle.envy_policy.specs.declared.setup.SetupFault.TheVariants.{Shape as OfShape}
 use Rattle.envy_kept.specs.Codes.{code_of_unbegun, number_of_kept}
 use Rattle.envy_kept.specs.declared.code.KeptCode.{KeptCode}
 use Rattle.envy_kept.specs.declared.code.KeptCode.TheVariants.{Of}
@@ -64,11 +66,13 @@ RefusesFile options file unbegun.NotMade = IsPlanned options file
 RefusesFile options file (unbegun.Failed held) = IsPlanned options file
 RefusesFile options file why = Refuses options file why
 
--- Why none was opened: there is no setup; or with the setup, no memory began in the file.
+-- Why none was opened: there is no setup; or it has reserves, for which a file has no room yet; or with the setup, no
+-- memory began in the file.
 abbrev pub RefusesOpen : EnvySetup → List ℕ → KeptCode → Type 0
 RefusesOpen given file code =
     ((why : Code) × (code ≡ Of why) × IsNoSetup given why)
-    ⊎ ((why : Unbegun) × (code ≡ code_of_unbegun why) × ForSetup given (λ setup. RefusesFile (options_of setup) file why))
+    ⊎ (((code ≡ Of (Setup (OfShape Reserves))) × ForSetup given (λ setup. setup.shape.reserves ≢ 0))
+    ⊎ ((why : Unbegun) × (code ≡ code_of_unbegun why) × ForSetup given (λ setup. RefusesFile (options_of setup) file why)))
 
 -- In a place: it held no memory and holds one now; or it stays as it was, since it held one, or since the call was
 -- refused.

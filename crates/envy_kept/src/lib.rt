@@ -11,6 +11,7 @@ mod handle;
 mod index_calls;
 mod laws;
 mod making;
+mod map_calls;
 mod opening;
 mod sizing;
 mod syncing;

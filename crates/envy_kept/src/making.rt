@@ -4,17 +4,19 @@ ghost use Rattle.envy_begun.specs.Beginning.{HasBegun, HasOperationsOf};
 ghost use Rattle.envy_begun.specs.Plans.{BeginsAs, BeginsOn, Plans};
 ghost use Rattle.envy_begun.specs.declared.planning.Holding.{Holding as OfHolding};
 ghost use Rattle.envy_begun.specs.declared.planning.Holding.TheVariants.{Written};
+ghost use Rattle.envy_journal.specs.Head.{HasSixSizes};
 ghost use Rattle.envy_kept.specs.Opening.{Opened, Opens, RefusesFile, RefusesOpen, options_of};
 ghost use Rattle.envy_policy.specs.Setup.{checked};
 
 use crate::code::{KeptCode, unbegun_code};
 use crate::handle::Slot;
 use envy_args::{KeepOptions, Sizes};
+use envy_base::ShapeFault;
 use envy_begun::{Unbegun, begin, plan};
 use envy_calls::{Code, EnvySetup, checked_setup};
 use envy_cells::CellBoard;
 use envy_memory::Memory;
-use envy_policy::Setup;
+use envy_policy::{Setup, SetupFault};
 use envy_portfile::{FilePort, PortFile};
 use envy_synced::Kept;
 use std::alloc::Global;
@@ -48,7 +50,8 @@ fn begun(
     port: i32,
     bytewise: bool,
 ) -> Result<Memory<Kept<CellBoard, PortFile>>, Unbegun>
-    requires { checked setup.now ≡ Ok tt }
+    requires checks { checked setup.now ≡ Ok tt }
+    requires six { HasSixSizes setup.now.shape }
     ensures begun { IfOk result (λ memory. (holding : OfHolding) × (array : Array)
         × Plans holding (options_of setup.now) file.now setup.now × BeginsAs holding file.now setup.now array
         × HasBegun setup.now array memory × BeginsOn holding file.now memory.chart
@@ -81,6 +84,10 @@ fn opened(
         Ok(setup) => setup,
         Err(code) => return Err(KeptCode::Of(code)),
     };
+    if setup.shape.reserves != 0 {
+        let fault = SetupFault::Shape(ShapeFault::Reserves);
+        return Err(KeptCode::Of(Code::Setup(fault)));
+    }
     match begun(alloc, &setup, file, port, bytewise) {
         Ok(memory) => Ok(memory),
         Err(unbegun) => Err(unbegun_code(unbegun)),

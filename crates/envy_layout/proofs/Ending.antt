@@ -3,6 +3,7 @@ use Rattle.std.proofs.Common.{◌≡◌, ◌≢◌, ◌⊎◌, inl, inr, Bool, f
 use Rattle.std.specs.Prelude.{IsTrue, position}
 use Rattle.std.proofs.lemmas.Bool.{cases_eq, cases_lt, false_from_ne_true}
 use Rattle.std.proofs.lemmas.List.{get_or-set_same, get_or-set_other, get_or_past, ext_get_or}
+use Rattle.envy_base.specs.Shape.{version_of}
 use Rattle.envy_base.specs.Array.{Array, Saved, IsArray, slot_of, owner, owns, is_closed, with_slot as array_with, put_back, undone, aborted, restarted}
 use Rattle.envy_base.specs.Step.{Begin, Commit, Abort, Started, Done, Accepts}
 use Rattle.envy_base.specs.declared.fields.Slot.{Slot}
@@ -76,7 +77,7 @@ none-closed c m h all = position-nowhere is_closed m.slots None (λ k lt. let lo
 pub Holds-begun : (k j : ℕ) (c new : Chart) (m : Array) (t : ℕ) → Holds c m → t < 64 → slot_of m t ≡ None → SameWords k j c new → new ≡ with_fields c (with_slot t (Some Active) c.fields) → Holds new (array_with m t (Some []))
 Holds-begun k j c new m t h low closed same is = record {
   magic = same.magic ∙ h.magic;
-  version = same.version ∙ h.version;
+  version = same.version ∙ h.version ∙ ap version_of (sym same.shape);
   sound = same.sound;
   array = IsArray-begun m t (size-slots c m t h low) closed h.array;
   shadows = h.shadows ∙ ap (λ (sh : Shape). sh.shadows) (sym same.shape);
@@ -150,7 +151,7 @@ durable-committed k j c new m t h low done = ext_get_or 0 (durable new) (undone 
 pub Holds-committed : (k j : ℕ) (c new : Chart) (m : Array) (t : ℕ) → Holds c m → t < 64 → Commits k j t c new → Closes t c new → Holds new (array_with m t None)
 Holds-committed k j c new m t h low done closes = record {
   magic = done.magic ∙ h.magic;
-  version = done.version ∙ h.version;
+  version = done.version ∙ h.version ∙ ap version_of (sym done.shape);
   sound = done.sound;
   array = IsArray-closed m t m.words (size-slots c m t h low) refl h.array;
   shadows = h.shadows ∙ ap (λ (sh : Shape). sh.shadows) (sym done.shape);
@@ -177,7 +178,7 @@ IsLost-commit k j c new m t s low active either off = at either
     at (inr done) = record {
       off = off;
       magic = done.magic ∙ Holds.magic s.holds;
-      version = done.version ∙ Holds.version s.holds;
+      version = done.version ∙ Holds.version s.holds ∙ ap version_of (sym done.shape);
       sound = done.sound;
       words = (restarted (array_with m t None), (array_with m t None, accepts, inr refl), durable-committed k j c new m t s.holds low done);
     }
@@ -205,7 +206,7 @@ live-aborted c new m t saved h low is shape back = ext_get_or 0 (live new) (put_
 pub Holds-aborted : (k j : ℕ) (c new : Chart) (m : Array) (t : ℕ) (saved : Saved) → Holds c m → t < 64 → slot_of m t ≡ Some saved → SameDurable k j c new → TakesBack t c new → Closes t c new → Holds new (aborted m t saved)
 Holds-aborted k j c new m t saved h low is same back closes = record {
   magic = same.magic ∙ h.magic;
-  version = same.version ∙ h.version;
+  version = same.version ∙ h.version ∙ ap version_of (sym same.shape);
   sound = same.sound;
   array = IsArray-closed m t (put_back saved m.words) (size-slots c m t h low) (length-put_back saved m.words) h.array;
   shadows = h.shadows ∙ ap (λ (sh : Shape). sh.shadows) (sym same.shape);

@@ -34,7 +34,7 @@ not-spare : (c : Chart) (e p q : ℕ) → Erasing c e → Names c.fields p q →
 not-spare c e p q can names same = at (Homes.kept (Sound.homes can.sound) p q names)
   where
     at : IsPlaced c.shape c.fields.positions (q / c.shape.rows) ⊎ ((v : ℕ) × (c.fields.job ≡ Some (Switch v)) × IsPlaced c.shape c.fields.positions v × IsSpare c.shape c.fields.positions (q / c.shape.rows)) → ⊥
-    at (inl (i, lt, is)) = IsSpare.nowhere can.spare i lt (is ∙ same)
+    at (inl (i, lt, is)) = IsSpare.nowhere can.spare i (omega (arith, lt)) (is ∙ same)
     at (inr (v, switch, placed, spare)) = let erase = can.job in cc
 
 no-switch : (c : Chart) (e v : ℕ) → Erasing c e → c.fields.job ≢ Some (Switch v)
@@ -222,11 +222,11 @@ Same-raised c a b e r all =
       worn = Wears-both c (chart b) e (wears-room c e (Erasing.sound all.can) lt) (let long = raised-long c a b e r all in omega arith) (ap (λ (f : Fields). f.wears) done.fields) done.erases done.cuts;
     }
 
--- the fill of the spare becomes 0, whatever its rows hold
-Keeps-emptied : (c : Chart) (e : ℕ) → Erasing c e → Keeps c (with_fill e 0 c.fields)
-Keeps-emptied c e can =
+-- the fill of the spare changes, whatever its rows hold
+Keeps-refilled : (c : Chart) (e n : ℕ) → Erasing c e → n ≤ c.shape.rows → Keeps c (with_fill e n c.fields)
+Keeps-refilled c e n can fit =
     let s = can.sound in
-    let n = s.numbers in
+    let m = s.numbers in
     let j = s.job in
     record {
       framed = record { shape = refl; magic = refl; version = refl; slots = refl; owners = λ p. refl };
@@ -236,21 +236,21 @@ Keeps-emptied c e can =
         places = s.places;
         rows = record {
           apart = Rows.apart s.rows;
-          filled = λ p q names. rw (get_or-set_other c.fields.fills e (q / c.shape.rows) 0 0 (not-spare c e p q can names)) (Rows.filled s.rows p q names);
+          filled = λ p q names. rw (get_or-set_other c.fields.fills e (q / c.shape.rows) n 0 (not-spare c e p q can names)) (Rows.filled s.rows p q names);
           claimed = Rows.claimed s.rows;
         };
         numbers = record {
-          wears_long = n.wears_long;
-          fills_long = length-set c.fields.fills e 0 ∙ n.fills_long;
+          wears_long = m.wears_long;
+          fills_long = length-set c.fields.fills e n ∙ m.fills_long;
           fills_fit = λ t. fits t (cases_eq t e);
-          positions_long = n.positions_long;
-          positions_fit = n.positions_fit;
-          apart = n.apart;
-          backs_long = n.backs_long;
-          backs_fit = n.backs_fit;
-          origins_long = n.origins_long;
-          origins_fit = n.origins_fit;
-          frames_long = n.frames_long;
+          positions_long = m.positions_long;
+          positions_fit = m.positions_fit;
+          apart = m.apart;
+          backs_long = m.backs_long;
+          backs_fit = m.backs_fit;
+          origins_long = m.origins_long;
+          origins_fit = m.origins_fit;
+          frames_long = m.frames_long;
         };
         blanks = record {
           above = λ q lt high. blank q lt high (cases_eq (q / c.shape.rows) e);
@@ -266,16 +266,16 @@ Keeps-emptied c e can =
     room : e < length c.fields.fills
     room = rw (Numbers.fills_long (Sound.numbers can.sound)) (IsSpare.segment can.spare)
 
-    fits : (t : ℕ) → (t ≡ e) ⊎ (t ≡ e → ⊥) → get_or (set c.fields.fills e 0) t 0 ≤ c.shape.rows
-    fits t (inl same) = rw (same, get_or-set_same c.fields.fills e 0 0 room) (omega arith)
-    fits t (inr other) = rw (get_or-set_other c.fields.fills e t 0 0 other) (Numbers.fills_fit (Sound.numbers can.sound) t)
+    fits : (t : ℕ) → (t ≡ e) ⊎ (t ≡ e → ⊥) → get_or (set c.fields.fills e n) t 0 ≤ c.shape.rows
+    fits t (inl same) = rw (same, get_or-set_same c.fields.fills e n 0 room) fit
+    fits t (inr other) = rw (get_or-set_other c.fields.fills e t n 0 other) (Numbers.fills_fit (Sound.numbers can.sound) t)
 
-    blank : (q : ℕ) → q < c.shape.segments * c.shape.rows → get_or (set c.fields.fills e 0) (q / c.shape.rows) 0 ≤ q % c.shape.rows → (q / c.shape.rows ≡ e) ⊎ (q / c.shape.rows ≡ e → ⊥) → (get_or c.flash q [] ≡ ones) ⊎ ((c.fields.job ≡ Some Erase) × IsSpare c.shape c.fields.positions (q / c.shape.rows))
+    blank : (q : ℕ) → q < c.shape.segments * c.shape.rows → get_or (set c.fields.fills e n) (q / c.shape.rows) 0 ≤ q % c.shape.rows → (q / c.shape.rows ≡ e) ⊎ (q / c.shape.rows ≡ e → ⊥) → (get_or c.flash q [] ≡ ones) ⊎ ((c.fields.job ≡ Some Erase) × IsSpare c.shape c.fields.positions (q / c.shape.rows))
     blank q lt high (inl same) = inr (can.job, subst (λ (t : ℕ). IsSpare c.shape c.fields.positions t) (sym same) can.spare)
-    blank q lt high (inr other) = Blanks.above (Sound.blanks can.sound) q lt (rw (get_or-set_other c.fields.fills e (q / c.shape.rows) 0 0 other) at high)
+    blank q lt high (inr other) = Blanks.above (Sound.blanks can.sound) q lt (rw (get_or-set_other c.fields.fills e (q / c.shape.rows) n 0 other) at high)
 
-pub Same-emptied : (c new : Chart) (e : ℕ) (r : Result Unit Off) → IsSound c → (IsTrue c.on → c.fields.job ≡ Some Erase) → (IsTrue c.on → IsSpare c.shape c.fields.positions e) → Writes (with_fill e 0) c r new → Same 0 0 c new
-Same-emptied c new e r sound job spare writes = Same-put c new (with_fill e 0) r sound (λ on. Keeps-emptied c e (record { sound = sound; job = job on; spare = spare on })) refl writes
+pub Same-refilled : (c new : Chart) (e n : ℕ) (r : Result Unit Off) → IsSound c → n ≤ c.shape.rows → (IsTrue c.on → c.fields.job ≡ Some Erase) → (IsTrue c.on → IsSpare c.shape c.fields.positions e) → Writes (with_fill e n) c r new → Same 0 0 c new
+Same-refilled c new e n r sound fit job spare writes = Same-put c new (with_fill e n) r sound (λ on. Keeps-refilled c e n (record { sound = sound; job = job on; spare = spare on }) fit) refl writes
 
 -- what ends the job: an erased spare, emptied
 pub IsBlankSpare-emptied : (sh : Shape) (f : Fields) (old flash : List (List ℕ)) (e : ℕ) → IsSpare sh f.positions e → e < length f.fills → length old ≡ sh.segments * sh.rows → Only sh.rows e IsOnes old flash → IsBlankSpare sh (with_fill e 0 f) flash e

@@ -11,7 +11,7 @@ use Rattle.envy_base.specs.declared.fields.Place.TheVariants.{Absent, Row, Frame
 use Rattle.envy_base.specs.declared.fields.Slot.{Slot}
 use Rattle.envy_base.specs.declared.fields.Undo.{Undo}
 use Rattle.envy_layout.specs.Words.{kept_by}
-use Rattle.envy_base.specs.Shape.{IsShape}
+use Rattle.envy_base.specs.Shape.{IsShape, positions_of}
 use Rattle.envy_layout.specs.Sound.{Slots, Rows, Numbers, Refers, owned_by, slot_named}
 use Rattle.envy_layout.specs.PageRows.{page_kept_in}
 use Rattle.envy_layout.specs.RowKinds.{is_row, is_in, is_shadow_in, kept_in, free_in, dead_in}
@@ -272,10 +272,10 @@ shadow-in rows s now (Some (Row q)) e = (and_parts (eqb (q / rows) s) (not (is_r
 shadow-in rows s now (Some (Frame k)) e = cc
 
 -- a page's kept rows over the positions: one where it is, and one more where it is owned
-page-placed : (sh : Shape) (slots : List (Option Slot)) (positions : List ℕ) (u : Option Undo) (now : Option Place) → ((i j : ℕ) → i < sh.segments - 1 → j < sh.segments - 1 → get_or positions i 0 ≡ get_or positions j 0 → i ≡ j) → sum_by (λ k. page_kept_in sh slots u now (get_or positions k 0)) (range_with_len 0 (sh.segments - 1)) ≤ 1 + cond (owned_by slots u) 1 0
+page-placed : (sh : Shape) (slots : List (Option Slot)) (positions : List ℕ) (u : Option Undo) (now : Option Place) → ((i j : ℕ) → i < positions_of sh → j < positions_of sh → get_or positions i 0 ≡ get_or positions j 0 → i ≡ j) → sum_by (λ k. page_kept_in sh slots u now (get_or positions k 0)) (range_with_len 0 (positions_of sh)) ≤ 1 + cond (owned_by slots u) 1 0
 page-placed sh slots positions u now apart =
-    let both = range-sum (λ k. cond (is_in sh.rows (get_or positions k 0) now) 1 0) (λ k. cond (is_shadow_in sh.rows (get_or positions k 0) now back) 1 0) (sh.segments - 1) in
-    let one = range_lone (λ k. cond (is_in sh.rows (get_or positions k 0) now) 1 0) (sh.segments - 1) (λ k lt. one-at-most (is_in sh.rows (get_or positions k 0) now))
+    let both = range-sum (λ k. cond (is_in sh.rows (get_or positions k 0) now) 1 0) (λ k. cond (is_shadow_in sh.rows (get_or positions k 0) now back) 1 0) (positions_of sh) in
+    let one = range_lone (λ k. cond (is_in sh.rows (get_or positions k 0) now) 1 0) (positions_of sh) (λ k lt. one-at-most (is_in sh.rows (get_or positions k 0) now))
     (λ j k low lt e f. apart j k low lt (is_in-one sh.rows (get_or positions j 0) (get_or positions k 0) now (one-true (is_in sh.rows (get_or positions j 0) now) e) (one-true (is_in sh.rows (get_or positions k 0) now) f))) in
     let two = second (cases_Bool (owned_by slots u)) in
     omega arith
@@ -283,25 +283,25 @@ page-placed sh slots positions u now apart =
     back : Option Place
     back = kept_by slots u now
 
-    second : (owned_by slots u ≡ true) ⊎ (owned_by slots u ≡ false) → sum_by (λ k. cond (is_shadow_in sh.rows (get_or positions k 0) now back) 1 0) (range_with_len 0 (sh.segments - 1)) ≤ cond (owned_by slots u) 1 0
+    second : (owned_by slots u ≡ true) ⊎ (owned_by slots u ≡ false) → sum_by (λ k. cond (is_shadow_in sh.rows (get_or positions k 0) now back) 1 0) (range_with_len 0 (positions_of sh)) ≤ cond (owned_by slots u) 1 0
     second (inl owned) =
-        let most = range_lone (λ k. cond (is_shadow_in sh.rows (get_or positions k 0) now back) 1 0) (sh.segments - 1) (λ k lt. one-at-most (is_shadow_in sh.rows (get_or positions k 0) now back))
+        let most = range_lone (λ k. cond (is_shadow_in sh.rows (get_or positions k 0) now back) 1 0) (positions_of sh) (λ k lt. one-at-most (is_shadow_in sh.rows (get_or positions k 0) now back))
         (λ j k low lt e f. apart j k low lt (is_in-one sh.rows (get_or positions j 0) (get_or positions k 0) back
         (shadow-in sh.rows (get_or positions j 0) now back (one-true (is_shadow_in sh.rows (get_or positions j 0) now back) e))
         (shadow-in sh.rows (get_or positions k 0) now back (one-true (is_shadow_in sh.rows (get_or positions k 0) now back) f)))) in
         let yes_one = one-yes (owned_by slots u) owned in
         omega arith
     second (inr free) =
-        let none = range-le (λ k. cond (is_shadow_in sh.rows (get_or positions k 0) now back) 1 0) (λ k. 0) (sh.segments - 1) (λ k lt. none-false (is_shadow_in sh.rows (get_or positions k 0) now back) (shadow-free sh.rows (get_or positions k 0) slots u now free)) in
-        let zeros = range-constant 0 (sh.segments - 1) in
+        let none = range-le (λ k. cond (is_shadow_in sh.rows (get_or positions k 0) now back) 1 0) (λ k. 0) (positions_of sh) (λ k lt. none-false (is_shadow_in sh.rows (get_or positions k 0) now back) (shadow-free sh.rows (get_or positions k 0) slots u now free)) in
+        let zeros = range-constant 0 (positions_of sh) in
         omega arith
 
 -- the kept rows of all positions
-pub kept-placed : (sh : Shape) (slots : List (Option Slot)) (undos : List (Option Undo)) (places : List (Option Place)) (positions : List ℕ) → ((i j : ℕ) → i < sh.segments - 1 → j < sh.segments - 1 → get_or positions i 0 ≡ get_or positions j 0 → i ≡ j) → length undos ≡ sh.pages → count_by (owned_by slots) undos ≤ sh.shadows → sum_by (λ k. kept_in sh slots undos places (get_or positions k 0)) (range_with_len 0 (sh.segments - 1)) ≤ sh.pages + sh.shadows
+pub kept-placed : (sh : Shape) (slots : List (Option Slot)) (undos : List (Option Undo)) (places : List (Option Place)) (positions : List ℕ) → ((i j : ℕ) → i < positions_of sh → j < positions_of sh → get_or positions i 0 ≡ get_or positions j 0 → i ≡ j) → length undos ≡ sh.pages → count_by (owned_by slots) undos ≤ sh.shadows → sum_by (λ k. kept_in sh slots undos places (get_or positions k 0)) (range_with_len 0 (positions_of sh)) ≤ sh.pages + sh.shadows
 kept-placed sh slots undos places positions apart long few =
-    let pages = range-same (λ k. kept_in sh slots undos places (get_or positions k 0)) (λ k. sum_by (λ p. share p k) (range_with_len 0 sh.pages)) (sh.segments - 1) (λ k lt. sym (kept_in-pages sh slots undos places (get_or positions k 0))) in
-    let swapped = range-swap share sh.pages (sh.segments - 1) in
-    let each = range-le (λ p. sum_by (λ k. share p k) (range_with_len 0 (sh.segments - 1))) (λ p. 1 + owned p) sh.pages (λ p lt. page-placed sh slots positions (get_or undos p None) (get_or places p None) apart) in
+    let pages = range-same (λ k. kept_in sh slots undos places (get_or positions k 0)) (λ k. sum_by (λ p. share p k) (range_with_len 0 sh.pages)) (positions_of sh) (λ k lt. sym (kept_in-pages sh slots undos places (get_or positions k 0))) in
+    let swapped = range-swap share sh.pages (positions_of sh) in
+    let each = range-le (λ p. sum_by (λ k. share p k) (range_with_len 0 (positions_of sh))) (λ p. 1 + owned p) sh.pages (λ p lt. page-placed sh slots positions (get_or undos p None) (get_or places p None) apart) in
     let split = range-sum (λ p. 1) owned sh.pages in
     let ones = range-constant 1 sh.pages in
     let counted = sum_by-indexed (λ (u : Option Undo). cond (owned_by slots u) 1 0) None undos in
@@ -318,15 +318,16 @@ more-rows : (a b r : ℕ) → b ≡ a + 1 → b * r ≡ a * r + r
 more-rows a b r e = rw e (omega arith)
 
 -- enough rows are free or dead at the positions
-pub rows-left : (sh : Shape) (slots : List (Option Slot)) (undos : List (Option Undo)) (places : List (Option Place)) (wears fills positions backs origins frames : List ℕ) (version : ℕ) → IsShape sh → Slots sh version slots undos → Rows sh slots undos places fills backs → Numbers sh wears fills positions backs origins frames → sh.rows ≤ sum_by (λ k. free_in sh fills (get_or positions k 0) + dead_in sh slots undos places fills (get_or positions k 0)) (range_with_len 0 (sh.segments - 1))
+pub rows-left : (sh : Shape) (slots : List (Option Slot)) (undos : List (Option Undo)) (places : List (Option Place)) (wears fills positions backs origins frames : List ℕ) (version : ℕ) → IsShape sh → Slots sh version slots undos → Rows sh slots undos places fills backs → Numbers sh wears fills positions backs origins frames → sh.rows ≤ sum_by (λ k. free_in sh fills (get_or positions k 0) + dead_in sh slots undos places fills (get_or positions k 0)) (range_with_len 0 (positions_of sh))
 rows-left sh slots undos places wears fills positions backs origins frames version shape groups rows numbers =
-    let whole = range-sum left kept (sh.segments - 1) in
-    let each = range-same (λ k. left k + kept k) (λ k. sh.rows) (sh.segments - 1) (λ k lt. one k) in
-    let all = range-constant sh.rows (sh.segments - 1) in
-    let few = kept-placed sh slots undos places positions numbers.apart groups.undos_long groups.few in
+    let whole = range-sum left kept (positions_of sh) in
+    let each = range-same (λ k. left k + kept k) (λ k. sh.rows) (positions_of sh) (λ k lt. one k) in
+    let all = range-constant sh.rows (positions_of sh) in
+    let few = kept-placed sh slots undos places positions (λ i j low lower. numbers.apart i j (omega (arith, low)) (omega (arith, lower))) groups.undos_long groups.few in
     let share = shape.share in
     let segments = shape.segments in
-    let more = more-rows (sh.segments - 2) (sh.segments - 1) sh.rows (omega arith) in
+    let reserves = shape.reserves in
+    let more = more-rows (sh.segments - 2 - sh.reserves) (positions_of sh) sh.rows (omega arith) in
     omega arith
   where
     left : ℕ → ℕ

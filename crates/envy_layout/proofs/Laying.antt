@@ -1,13 +1,12 @@
 -- Lists whose first numbers are written one after another, and boards that a part of formatting left.
-use Rattle.std.proofs.Common.{◌≡◌, ◌⊎◌, inl, inr, ℕ, zero, suc, ◌+◌, ◌-◌, ◌*◌, ◌^◌, ◌<◌, ◌≤◌, List, [], ◌∷◌, length, get_or, set, refl, sym, ◌∙◌, ap, subst, arith, add-one, add-zero}
-use Rattle.std.specs.Prelude.{IsTrue, Result, Ok, Err, OnErr, Some}
-use Rattle.std.proofs.lemmas.Bool.{cases_lt}
+use Rattle.std.proofs.Common.{◌≡◌, ◌⊎◌, inl, inr, ℕ, zero, suc, ◌+◌, ◌-◌, ◌*◌, ◌^◌, ◌<◌, ◌≤◌, List, [], ◌∷◌, length, get_or, set, refl, sym, ◌∙◌, ap, subst, arith, add-one}
+use Rattle.std.specs.Prelude.{IsTrue, Result, Ok, Err, OnErr, ◌==◌, false}
+use Rattle.std.proofs.lemmas.Bool.{cases_lt, ne_eqb}
 use Rattle.envy_base.specs.declared.board.Off.{Off}
 use Rattle.envy_base.specs.declared.shape.Shape.{Shape}
-use Rattle.envy_base.specs.declared.fields.Job.TheVariants.{Idle}
 use Rattle.envy_map.specs.Fields.{Fields, Chart, failed, with_fields}
-use Rattle.envy_map.specs.Writes.{Writes, with_size, with_version, with_job}
-use Rattle.envy_layout.specs.Formatting.{filled, numbered, with_head, IsStopped, IsSpoilt, Reached}
+use Rattle.envy_map.specs.Writes.{Writes, with_size, with_reserves, with_sums}
+use Rattle.envy_layout.specs.Formatting.{filled, with_sizes, with_extras, IsStopped, IsSpoilt, Reached}
 use Rattle.envy_layout.specs.Same.{Counted}
 use Rattle.envy_layout.proofs.Composition.{Counted-refl, Counted-trans, Counted-more, Counted-fields, Counted-failed}
 
@@ -47,31 +46,6 @@ filled-past (y ∷ ys) x zero m le less = absurd (omega arith)
 filled-past (y ∷ ys) x (suc n) zero le less = absurd (omega arith)
 filled-past (y ∷ ys) x (suc n) (suc m) le less = ap (λ (r : List _). x ∷ r) (filled-past ys x n m (omega arith) (omega arith))
 
-pub numbered-zero : (xs : List ℕ) (k : ℕ) → numbered xs k 0 ≡ xs
-numbered-zero [] k = refl
-numbered-zero (y ∷ ys) k = refl
-
-numbered-suc : (xs : List ℕ) (k n : ℕ) → set (numbered xs k n) n (k + n) ≡ numbered xs k (suc n)
-numbered-suc [] k n = refl
-numbered-suc (y ∷ ys) k zero = rw add-zero (ap (λ (r : List ℕ). k ∷ r) (sym (numbered-zero ys (k + 1))))
-numbered-suc (y ∷ ys) k (suc n) =
-    let e : k + suc n ≡ (k + 1) + n = omega arith in
-    rw e (ap (λ (r : List ℕ). k ∷ r) (numbered-suc ys (k + 1) n))
-
-pub numbered-step : (xs : List ℕ) (n : ℕ) → set (numbered xs 0 n) n n ≡ numbered xs 0 (n + 1)
-numbered-step xs n = let e : 0 + n ≡ n = omega arith in rw add-one (subst (λ (v : ℕ). set (numbered xs 0 n) n v ≡ numbered xs 0 (suc n)) e (numbered-suc xs 0 n))
-
-pub length-numbered : (xs : List ℕ) (k n : ℕ) → length (numbered xs k n) ≡ length xs
-length-numbered [] k n = refl
-length-numbered (y ∷ ys) k zero = refl
-length-numbered (y ∷ ys) k (suc n) = ap suc (length-numbered ys (k + 1) n)
-
-pub get_or-numbered : (xs : List ℕ) (k n i : ℕ) → i < n → i < length xs → get_or (numbered xs k n) i 0 ≡ k + i
-get_or-numbered [] k n i lt room = absurd (omega arith)
-get_or-numbered (y ∷ ys) k zero i lt room = absurd (omega arith)
-get_or-numbered (y ∷ ys) k (suc n) zero lt room = omega arith
-get_or-numbered (y ∷ ys) k (suc n) (suc i) lt room = get_or-numbered ys (k + 1) n i (omega arith) (omega arith) ∙ omega arith
-
 -- one more put of a part of formatting
 pub Lays-more : (old mid new : Chart) (f g : Fields) (change : Fields → Fields) → mid ≡ with_fields old f → change f ≡ g → Writes change mid (Ok tt) new → new ≡ with_fields old g
 Lays-more old mid new f g change was is (on, put) =
@@ -97,8 +71,15 @@ OnErr-any (Ok x) p = tt
 OnErr-any (Err e) p = p
 
 -- set_size for each of the three words that keep a shape
-pub head-same : (f : Fields) (sh : Shape) (version a b c : ℕ) → a ≡ sh.segments * 2 ^ 32 + sh.rows → b ≡ sh.pages * 2 ^ 32 + sh.shadows → c ≡ sh.frames * 2 ^ 32 + sh.entries → with_job (Some Idle) (with_version version (with_size 2 c (with_size 1 b (with_size 0 a f)))) ≡ with_head sh version f
-head-same f sh version a b c ea eb ec = rw (ea, eb, ec) refl
+pub sizes-same : (f : Fields) (sh : Shape) (a b c : ℕ) → a ≡ sh.segments * 2 ^ 32 + sh.rows → b ≡ sh.pages * 2 ^ 32 + sh.shadows → c ≡ sh.frames * 2 ^ 32 + sh.entries → with_size 2 c (with_size 1 b (with_size 0 a f)) ≡ with_sizes sh f
+sizes-same f sh a b c ea eb ec = rw (ea, eb, ec) refl
+
+-- set_reserves and set_sums, under version 3 alone
+pub extras-same : (f : Fields) (sh : Shape) (version a b : ℕ) → version ≡ 3 → a ≡ sh.reserves → b ≡ sh.sums → with_sums b (with_reserves a f) ≡ with_extras sh version f
+extras-same f sh version a b three ea eb = rw (three, ea, eb) refl
+
+pub extras-none : (f : Fields) (sh : Shape) (version : ℕ) → (version ≡ 3 → ⊥) → f ≡ with_extras sh version f
+extras-none f sh version other = let differ : (version == 3) ≡ false = ne_eqb version 3 other in rw differ refl
 
 pub Stops-put : (c new : Chart) (change : Fields → Fields) (off : Off) → IsTrue c.on → (change c.fields).magic ≡ c.fields.magic → Writes change c (Err off) new → IsStopped 0 c new
 Stops-put c new change off on magic writes = Lays-stops c c new c.fields change off on refl refl magic writes
@@ -120,21 +101,18 @@ Reached-fields n old c new f magic is r = subst (λ (x : Chart). Reached n old x
 pub Reached-stops : (n k : ℕ) (old c new : Chart) → Reached n old c → IsStopped k c new → IsStopped (n + k) old new
 Reached-stops n k old c new r s = record { off = s.off; shape = s.shape ∙ r.shape; magic = s.magic ∙ r.magic; counted = Counted-trans 0 n 0 k old c new r.counted s.counted }
 
-pub Reached-spoils : (n k : ℕ) (old c new : Chart) → Reached n old c → IsSpoilt k c new → IsSpoilt (n + k) old new
-Reached-spoils n k old c new r s = record { on = s.on; shape = s.shape ∙ r.shape; magic = s.magic ∙ r.magic; counted = Counted-trans 0 n 0 k old c new r.counted s.counted; bads = λ low. let up = Counted.bads r.counted in let x = s.bads in by_top low }
+pub Reached-spoils : (n k : ℕ) (old c new : Chart) → Reached n old c → IsSpoilt k 0 c new → IsSpoilt (n + k) 0 old new
+Reached-spoils n k old c new r s = record { on = s.on; shape = s.shape ∙ r.shape; magic = s.magic ∙ r.magic; counted = Counted-trans 0 n 0 k old c new r.counted s.counted; bads = by_top (cases_lt c.bads (2 ^ 64 - 1)) }
   where
-    by_top : old.bads < 2 ^ 64 - 1 → old.bads < new.bads
-    by_top low = at (cases_lt c.bads (2 ^ 64 - 1))
-      where
-        at : (c.bads < 2 ^ 64 - 1) ⊎ (2 ^ 64 - 1 ≤ c.bads) → old.bads < new.bads
-        at (inl below) = let a = Counted.bads r.counted in let b = s.bads below in omega arith
-        at (inr top) = let b = Counted.bads s.counted in omega arith
+    by_top : (c.bads < 2 ^ 64 - 1) ⊎ (2 ^ 64 - 1 ≤ c.bads) → old.bads + 0 < 2 ^ 64 - 1 → old.bads + 0 < new.bads
+    by_top (inl below) low = let a = Counted.bads r.counted in let b = s.bads (omega arith) in omega arith
+    by_top (inr top) low = let b = Counted.bads s.counted in omega arith
 
 pub Stopped-more : (n k : ℕ) (old new : Chart) → n ≤ k → IsStopped n old new → IsStopped k old new
 Stopped-more n k old new le s = record { off = s.off; shape = s.shape; magic = s.magic; counted = Counted-more 0 n 0 k old new (omega arith) le s.counted }
 
-pub Spoilt-more : (n k : ℕ) (old new : Chart) → n ≤ k → IsSpoilt n old new → IsSpoilt k old new
-Spoilt-more n k old new le s = record { on = s.on; shape = s.shape; magic = s.magic; counted = Counted-more 0 n 0 k old new (omega arith) le s.counted; bads = s.bads }
+pub Spoilt-more : (n k m : ℕ) (old new : Chart) → n ≤ k → IsSpoilt n m old new → IsSpoilt k m old new
+Spoilt-more n k m old new le s = record { on = s.on; shape = s.shape; magic = s.magic; counted = Counted-more 0 n 0 k old new (omega arith) le s.counted; bads = s.bads }
 
 pub Reached-trans : (n k : ℕ) (old c new : Chart) → Reached n old c → Reached k c new → Reached (n + k) old new
 Reached-trans n k old c new r s = record { on = s.on; shape = s.shape ∙ r.shape; magic = s.magic ∙ r.magic; counted = Counted-trans 0 n 0 k old c new r.counted s.counted }

@@ -1,3 +1,4 @@
+pub mod Arranged
 pub mod ClaimLaw
 pub mod Claimed
 pub mod Clearing
@@ -23,9 +24,11 @@ pub mod PositionLaw
 pub mod ProgramLaw
 pub mod Putting
 pub mod RangeSums
+pub mod Ranks
 pub mod References
 pub mod Regions
 pub mod RestoreLaw
+pub mod RetireLaw
 pub mod Sames
 pub mod SlotLaw
 pub mod SpareLemmas

@@ -1,5 +1,5 @@
 -- Writes of a position.
-use Rattle.std.proofs.Common.{◌≡◌, ◌≢◌, ◌⊎◌, inl, inr, ℕ, ◌-◌, ◌/◌, ◌<◌, List, [], length, get_or, set, Some, refl, sym, ◌∙◌, ap, subst}
+use Rattle.std.proofs.Common.{◌≡◌, ◌≢◌, ◌⊎◌, inl, inr, ℕ, ◌/◌, ◌<◌, List, [], length, get_or, set, Some, refl, sym, ◌∙◌, ap, subst, arith}
 use Rattle.std.specs.Prelude.{IsTrue, Result}
 use Rattle.std.proofs.lemmas.List.{get_or-set_same, get_or-set_other, length-set}
 use Rattle.std.proofs.lemmas.Bool.{cases_eq}
@@ -14,6 +14,7 @@ use Rattle.envy_layout.specs.Jobs.{FitsJob, FitsPositions, IsClear}
 use Rattle.envy_layout.specs.Same.{Same}
 use Rattle.envy_layout.proofs.Composition.{Keeps, Same-put}
 use Rattle.envy_layout.proofs.SpareLemmas.{one-spare}
+use Rattle.envy_base.specs.Shape.{all_positions_of, positions_of}
 
 Keeps-positioned : (c : Chart) (k s : ℕ) → IsSound c → FitsPositions c.shape (with_position k s c.fields) c.flash → Keeps c (with_position k s c.fields)
 Keeps-positioned c k s sound fits = record {
@@ -38,7 +39,7 @@ Same-positioned c new k s r sound fits writes = Same-put c new (with_position k 
 -- position k names a segment that is being switched to the spare e, and holds no kept row
 pub record Replaces (sh : Shape) (f : Fields) (flash : List (List ℕ)) (k e : ℕ) : Type 0 where
   pub sound : Sound sh f flash
-  pub position : k < sh.segments - 1
+  pub position : k < positions_of sh
   pub spare : IsSpare sh f.positions e
   pub switching : f.job ≡ Some (Switch (get_or f.positions k 0))
   pub clear : IsClear sh f (get_or f.positions k 0)
@@ -51,7 +52,7 @@ position-cases : (sh : Shape) (f : Fields) (flash : List (List ℕ)) (k e i : �
 position-cases sh f flash k e i r = at (cases_eq i k)
   where
     room : k < length f.positions
-    room = rw (Numbers.positions_long (Sound.numbers r.sound)) r.position
+    room = rw (Numbers.positions_long (Sound.numbers r.sound)) (omega (arith, r.position))
 
     at : (i ≡ k) ⊎ (i ≡ k → ⊥) → PositionCases f k e i
     at (inl same) = inl (same, rw same (get_or-set_same f.positions k e 0 room))
@@ -59,11 +60,11 @@ position-cases sh f flash k e i r = at (cases_eq i k)
 
 -- the segment that leaves the position is the spare then
 pub freed : (sh : Shape) (f : Fields) (flash : List (List ℕ)) (k e : ℕ) → Replaces sh f flash k e → IsSpare sh (set f.positions k e) (get_or f.positions k 0)
-freed sh f flash k e r = record { segment = Numbers.positions_fit (Sound.numbers r.sound) k r.position; nowhere = λ i lt. at i lt (position-cases sh f flash k e i r) }
+freed sh f flash k e r = record { segment = Numbers.positions_fit (Sound.numbers r.sound) k (omega (arith, r.position)); nowhere = λ i lt. at i lt (position-cases sh f flash k e i r) }
   where
-    at : (i : ℕ) → i < sh.segments - 1 → PositionCases f k e i → get_or (set f.positions k e) i 0 ≢ get_or f.positions k 0
-    at i lt (inl (same, is)) e_is = IsSpare.nowhere r.spare k r.position (sym e_is ∙ is)
-    at i lt (inr (other, is)) e_is = other (Numbers.apart (Sound.numbers r.sound) i k lt r.position (sym is ∙ e_is))
+    at : (i : ℕ) → i < all_positions_of sh → PositionCases f k e i → get_or (set f.positions k e) i 0 ≢ get_or f.positions k 0
+    at i lt (inl (same, is)) e_is = IsSpare.nowhere r.spare k (omega (arith, r.position)) (sym e_is ∙ is)
+    at i lt (inr (other, is)) e_is = other (Numbers.apart (Sound.numbers r.sound) i k lt (omega (arith, r.position)) (sym is ∙ e_is))
 
 -- the other segments stay where they are, and the spare is at the position
 placed-still : (sh : Shape) (f : Fields) (flash : List (List ℕ)) (k e s : ℕ) → Replaces sh f flash k e → IsPlaced sh f.positions s → s ≢ get_or f.positions k 0 → IsPlaced sh (set f.positions k e) s
@@ -97,11 +98,11 @@ Numbers-replaced sh f flash k e r =
       frames_long = n.frames_long;
     }
   where
-    fit : (i : ℕ) → i < sh.segments - 1 → PositionCases f k e i → get_or (set f.positions k e) i 0 < sh.segments
+    fit : (i : ℕ) → i < all_positions_of sh → PositionCases f k e i → get_or (set f.positions k e) i 0 < sh.segments
     fit i lt (inl (same, is)) = rw is (IsSpare.segment r.spare)
     fit i lt (inr (other, is)) = rw is (Numbers.positions_fit (Sound.numbers r.sound) i lt)
 
-    one : (i j : ℕ) → i < sh.segments - 1 → j < sh.segments - 1 → PositionCases f k e i → PositionCases f k e j → get_or (set f.positions k e) i 0 ≡ get_or (set f.positions k e) j 0 → i ≡ j
+    one : (i j : ℕ) → i < all_positions_of sh → j < all_positions_of sh → PositionCases f k e i → PositionCases f k e j → get_or (set f.positions k e) i 0 ≡ get_or (set f.positions k e) j 0 → i ≡ j
     one i j li lj (inl (ei, ii)) (inl (ej, ij)) same = ei ∙ sym ej
     one i j li lj (inl (ei, ii)) (inr (nj, ij)) same = absurd (IsSpare.nowhere r.spare j lj (sym ij ∙ sym same ∙ ii))
     one i j li lj (inr (ni, ii)) (inl (ej, ij)) same = absurd (IsSpare.nowhere r.spare i li (sym ii ∙ same ∙ ij))
@@ -126,7 +127,7 @@ FitsJob-replaced sh f flash k e r = record {
     same v switch = let was = r.switching in let both : Some (Switch (get_or f.positions k 0)) ≡ Some (Switch v) = sym was ∙ switch in cc
 
     gone : (v : ℕ) → f.job ≡ Some (Switch v) → IsPlaced sh (set f.positions k e) v → ⊥
-    gone v switch (i, lt, is) = IsSpare.nowhere (freed sh f flash k e r) i lt (is ∙ sym (same v switch))
+    gone v switch (i, lt, is) = IsSpare.nowhere (freed sh f flash k e r) i (omega (arith, lt)) (is ∙ sym (same v switch))
 
     blank : (q : ℕ) → (get_or flash q [] ≡ ones) ⊎ ((f.job ≡ Some Erase) × IsSpare sh f.positions (q / sh.rows)) → (get_or flash q [] ≡ ones) ⊎ ((f.job ≡ Some Erase) × IsSpare sh (set f.positions k e) (q / sh.rows))
     blank q (inl is) = inl is

@@ -2,6 +2,7 @@
 use Rattle.std.proofs.Common.{◌≡◌, ◌≢◌, ◌⊎◌, inl, inr, ℕ, false, ◌+◌, ◌<◌, ◌≤◌, List, length, get_or, set, Option, None, Some, refl, sym, ◌∙◌, ap, arith}
 use Rattle.std.proofs.lemmas.Bool.{cases_eq}
 use Rattle.std.proofs.lemmas.List.{get_or-set_same, get_or-set_other}
+use Rattle.envy_base.specs.Shape.{version_of}
 use Rattle.envy_base.specs.Array.{Array, Saved, IsArray, page_of, owner, owned, slot_of, saving, put}
 use Rattle.envy_base.specs.Step.{Put, Done, MayOwn}
 use Rattle.envy_base.specs.declared.fields.Slot.{Slot}
@@ -68,7 +69,7 @@ Holds-put k j t c new m a w saved h lt is free room done =
     let owns = done.owns in
     record {
       magic = owns.magic ∙ h.magic;
-      version = owns.version ∙ h.version;
+      version = owns.version ∙ h.version ∙ ap version_of (sym owns.shape);
       sound = done.sound;
       array = IsArray-put m t a w saved lt may is h.array;
       shadows = rw owns.shape h.shadows;
@@ -91,7 +92,7 @@ Holds-put_again k j t c new m a w saved h lt is own done =
     let framed = done.framed in
     record {
       magic = framed.magic ∙ h.magic;
-      version = framed.version ∙ h.version;
+      version = framed.version ∙ h.version ∙ ap version_of (sym framed.shape);
       sound = done.sound;
       array = IsArray-put m t a w saved lt (inl own) is h.array;
       shadows = rw framed.shape h.shadows;

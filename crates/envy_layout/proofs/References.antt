@@ -22,7 +22,7 @@ Referring f slots undos places = record f { slots = slots; undos = undos; places
 
 -- a spare is no position
 pub apart-spare : (sh : Shape) (positions : List ℕ) (s : ℕ) → IsPlaced sh positions s → IsSpare sh positions s → ⊥
-apart-spare sh positions s (k, lt, is) spare = spare.nowhere k lt is
+apart-spare sh positions s (k, lt, is) spare = spare.nowhere k (omega (arith, lt)) is
 
 -- row i of a segment
 pub row-of : (rows e i : ℕ) → i < rows → ((e * rows + i) / rows ≡ e) × ((e * rows + i) % rows ≡ i)

@@ -5,21 +5,15 @@ use Rattle.envy_base.specs.declared.fields.Place.TheVariants.{Absent}
 use Rattle.envy_base.specs.declared.fields.Slot.TheVariants.{Vacant}
 use Rattle.envy_base.specs.declared.fields.Undo.TheVariants.{Clear}
 use Rattle.envy_map.specs.Fields.{Fields}
-use Rattle.envy_map.specs.Writes.{with_slot, with_position, with_places_clear, with_undos_clear, with_back, with_origin}
-use Rattle.envy_layout.specs.Formatting.{filled, with_slots_laid, with_positions_laid, with_places_laid, with_undos_laid, with_backs_laid, with_origins_laid}
-use Rattle.envy_layout.proofs.Laying.{filled-zero, filled-step, filled-steps, numbered-zero, numbered-step}
+use Rattle.envy_map.specs.Writes.{with_slot, with_places_clear, with_undos_clear, with_back, with_origin}
+use Rattle.envy_layout.specs.Formatting.{filled, with_slots_laid, with_places_laid, with_undos_laid, with_backs_laid, with_origins_laid}
+use Rattle.envy_layout.proofs.Laying.{filled-zero, filled-step, filled-steps}
 
 pub slots-none : (f : Fields) → f ≡ with_slots_laid 0 f
 slots-none f = ap (λ xs. record f { slots = xs }) (sym (filled-zero f.slots (Some Vacant)))
 
 pub slots-next : (f : Fields) (t : ℕ) → with_slot t (Some Vacant) (with_slots_laid t f) ≡ with_slots_laid (t + 1) f
 slots-next f t = ap (λ xs. record f { slots = xs }) (filled-step f.slots (Some Vacant) t)
-
-pub positions-none : (f : Fields) → f ≡ with_positions_laid 0 f
-positions-none f = ap (λ xs. record f { positions = xs }) (sym (numbered-zero f.positions 0))
-
-pub positions-next : (f : Fields) (k : ℕ) → with_position k k (with_positions_laid k f) ≡ with_positions_laid (k + 1) f
-positions-next f k = ap (λ xs. record f { positions = xs }) (numbered-step f.positions k)
 
 pub places-none : (f : Fields) → f ≡ with_places_laid 0 f
 places-none f = ap (λ xs. record f { places = xs }) (sym (filled-zero f.places (Some Absent)))

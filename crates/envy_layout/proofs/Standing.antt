@@ -2,6 +2,7 @@
 use Rattle.std.proofs.Common.{◌≡◌, ◌⊎◌, inl, inr, ℕ, ◌*◌, ◌/◌, ◌<◌, List, length, set, None, Some, refl, sym, ◌∙◌, ap, arith}
 use Rattle.std.specs.Prelude.{IsTrue, true, false, Option}
 use Rattle.std.proofs.lemmas.List.Quantifiers.{position-Some}
+use Rattle.envy_base.specs.Shape.{version_of}
 use Rattle.envy_base.specs.Array.{Array, Saved, IsArray, owner, owns, slot_of, stored, restarted}
 use Rattle.envy_base.specs.Step.{Command, Store, Done, Accepts, Lost}
 use Rattle.envy_base.specs.declared.fields.Slot.TheVariants.{Active}
@@ -21,7 +22,7 @@ Holds-stays k j c new m h s =
     let framed = s.framed in
     record {
       magic = framed.magic ∙ h.magic;
-      version = framed.version ∙ h.version;
+      version = framed.version ∙ h.version ∙ ap version_of (sym framed.shape);
       sound = s.sound;
       array = h.array;
       shadows = rw framed.shape h.shadows;
@@ -46,7 +47,7 @@ Holds-stored k j c new m a w h free done =
     let framed = done.framed in
     record {
       magic = framed.magic ∙ h.magic;
-      version = framed.version ∙ h.version;
+      version = framed.version ∙ h.version ∙ ap version_of (sym framed.shape);
       sound = done.sound;
       array = IsArray-stored m a w h.array;
       shadows = rw framed.shape h.shadows;
@@ -80,7 +81,7 @@ IsLost-durable k j c new m command n s accepts same off =
     record {
       off = off;
       magic = same.magic ∙ h.magic;
-      version = same.version ∙ h.version;
+      version = same.version ∙ h.version ∙ ap version_of (sym same.shape);
       sound = same.sound;
       words = (restarted m, (n, accepts, inl refl), same.durable ∙ h.durable);
     }
@@ -102,7 +103,7 @@ IsLost-interrupted k j c new m a w s lt free cut =
     record {
       off = cut.off;
       magic = framed.magic ∙ h.magic;
-      version = framed.version ∙ h.version;
+      version = framed.version ∙ h.version ∙ ap version_of (sym framed.shape);
       sound = cut.sound;
       words = either cut.durable;
     }

@@ -1,8 +1,10 @@
 -- The writes that turn a board of version 1 into one of version 2.
-use Rattle.std.proofs.Common.{◌≡◌, ◌≢◌, ◌⊎◌, inl, inr, ℕ, zero, suc, ◌+◌, ◌-◌, ◌<◌, ◌≤◌, List, [], ◌∷◌, ◌++◌, length, take, drop, Option, None, Some, refl, ◌∙◌, ap, subst, arith}
+use Rattle.std.proofs.Common.{◌≡◌, ◌≢◌, ◌⊎◌, inl, inr, ℕ, zero, suc, ◌+◌, ◌-◌, ◌<◌, ◌≤◌, List, [], ◌∷◌, ◌++◌, length, take, drop, Option, None, Some, refl, sym, ◌∙◌, ap, subst, arith}
 use Rattle.std.specs.Prelude.{IsTrue, Result, Ok, Err, OnOk, replicate}
 use Rattle.std.proofs.lemmas.Bool.{cases_lt}
 use Rattle.std.proofs.lemmas.List.{set-append_right, length-take, length-drop, take-append-drop, get_or-append_right}
+use Rattle.envy_base.specs.Shape.{IsVersionOf, version_of}
+use Rattle.envy_base.proofs.Versions.{version-known}
 use Rattle.envy_base.specs.declared.board.Off.{Off}
 use Rattle.envy_base.specs.declared.shape.Shape.{Shape}
 use Rattle.envy_base.specs.declared.fields.Slot.{Slot}
@@ -51,7 +53,7 @@ vacated-all f long =
 -- the new slots are vacant, so all 64 decode
 pub Sound-versioned : (sh : Shape) (f : Fields) (flash : List (List ℕ)) → Sound sh f flash → f.version ≡ 1 → ((t : ℕ) → 16 ≤ t → t < 64 → slot f t ≡ Some Vacant) → Sound sh (with_version 2 f) flash
 Sound-versioned sh f flash s one vacant = record {
-  head = record { versions = inr refl; kept = Head.kept s.head };
+  head = record { versions = inl (sym (known (Head.versions s.head))); kept = Head.kept s.head; reserves = λ three. absurd (omega arith); sums = λ three. absurd (omega arith) };
   slots = record {
     long = Slots.long s.slots;
     decode = λ t lt. decode t lt (cases_lt t 16);
@@ -70,6 +72,10 @@ Sound-versioned sh f flash s one vacant = record {
   job = s.job;
 }
   where
+    known : IsVersionOf sh f.version → version_of sh ≡ 2
+    known (inl is) = elim (version-known sh) [ inl two ↦ two | inr three ↦ absurd (omega arith) ]
+    known (inr (first, two)) = two
+
     decode : (t : ℕ) → t < 64 → (t < 16) ⊎ (16 ≤ t) → slot f t ≢ None
     decode t lt (inl low) none = Slots.decode s.slots t (rw one low) none
     decode t lt (inr high) none = let is = vacant t high lt in cc

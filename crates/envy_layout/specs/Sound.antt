@@ -1,6 +1,6 @@
 -- What holds of a board after each device operation of a formatted memory, in groups, each over the
 -- parts of the map that it reads.
-use Rattle.std.specs.Prelude.{◌≡◌, ◌≢◌, ◌⊎◌, ℕ, ◌+◌, ◌-◌, ◌*◌, ◌/◌, ◌%◌, ◌<◌, ◌≤◌, ◌==◌, Bool, true, false, List, [], length, Option, None, Some, slice_index, slice_index_or, count_by, if◌then◌else◌}
+use Rattle.std.specs.Prelude.{◌≡◌, ◌≢◌, ◌⊎◌, ℕ, ◌+◌, ◌*◌, ◌/◌, ◌%◌, ◌<◌, ◌≤◌, ◌==◌, Bool, true, false, List, [], length, Option, None, Some, slice_index, slice_index_or, count_by, if◌then◌else◌}
 use Rattle.envy_base.specs.declared.shape.Shape.{Shape}
 use Rattle.envy_base.specs.declared.fields.Job.{Job}
 use Rattle.envy_base.specs.declared.fields.Job.TheVariants.{Idle, Copy, Switch, Erase}
@@ -14,7 +14,7 @@ use Rattle.envy_base.specs.State.{ones}
 use Rattle.envy_map.specs.Fields.{Fields, Chart, sizes_of}
 use Rattle.envy_layout.specs.Words.{kept_by}
 use Rattle.envy_base.specs.declared.page.TheConstants.{PAGE_WORDS}
-use Rattle.envy_base.specs.Shape.{positions_of}
+use Rattle.envy_base.specs.Shape.{all_positions_of, positions_of, IsVersionOf}
 
 -- a reference: the page's place names the row, or its undo does and the slot is active
 abbrev pub Refers : List (Option Slot) → List (Option Undo) → List (Option Place) → ℕ → ℕ → Type 0
@@ -45,23 +45,29 @@ owned_by slots (Some Clear) = false
 owned_by slots (Some (Blank t)) = is_active (slice_index_or slots t None)
 owned_by slots (Some (Shadow t q)) = is_active (slice_index_or slots t None)
 
--- a segment stands at a position
+-- a segment stands at a position in use
 abbrev pub IsPlaced : Shape → List ℕ → ℕ → Type 0
 IsPlaced sh positions s = (k : ℕ) × (k < positions_of sh) × (slice_index positions k ≡ s)
+
+-- a segment stands at a position in reserve
+abbrev pub IsReserved : Shape → List ℕ → ℕ → Type 0
+IsReserved sh positions s = (k : ℕ) × (positions_of sh ≤ k) × (k < all_positions_of sh) × (slice_index positions k ≡ s)
 
 -- the spare: the segment that no position names
 pub record IsSpare (sh : Shape) (positions : List ℕ) (e : ℕ) : Type 0 where
   pub segment : e < sh.segments
-  pub nowhere : (k : ℕ) → k < positions_of sh → slice_index positions k ≢ e
+  pub nowhere : (k : ℕ) → k < all_positions_of sh → slice_index positions k ≢ e
 
 -- how many slots a board of this version has
 abbrev pub slots_of : ℕ → ℕ
 slots_of version = if version == 1 then 16 else 64
 
--- the board's own shape is kept, in version 1 or 2
-pub record Head (sh : Shape) (version : ℕ) (sizes : List ℕ) : Type 0 where
-  pub versions : (version ≡ 1) ⊎ (version ≡ 2)
+-- the board's own shape is kept, in its version, which may be 1 in place of 2; version 3 keeps reserves and sums too
+pub record Head (sh : Shape) (version : ℕ) (sizes : List ℕ) (reserves_word sums_word : ℕ) : Type 0 where
+  pub versions : IsVersionOf sh version
   pub kept : sizes ≡ sizes_of sh
+  pub reserves : version ≡ 3 → reserves_word ≡ sh.reserves
+  pub sums : version ≡ 3 → sums_word ≡ sh.sums
 
 -- slots and undos decode; an undo names a slot that isn't vacant; few pages have an active one
 pub record Slots (sh : Shape) (version : ℕ) (slots : List (Option Slot)) (undos : List (Option Undo)) : Type 0 where
@@ -93,9 +99,9 @@ pub record Numbers (sh : Shape) (wears fills positions backs origins frames : Li
   pub wears_long : length wears ≡ sh.segments
   pub fills_long : length fills ≡ sh.segments
   pub fills_fit : (s : ℕ) → slice_index fills s ≤ sh.rows
-  pub positions_long : length positions ≡ positions_of sh
-  pub positions_fit : (k : ℕ) → k < positions_of sh → slice_index positions k < sh.segments
-  pub apart : (i j : ℕ) → i < positions_of sh → j < positions_of sh → slice_index positions i ≡ slice_index positions j → i ≡ j
+  pub positions_long : length positions ≡ all_positions_of sh
+  pub positions_fit : (k : ℕ) → k < all_positions_of sh → slice_index positions k < sh.segments
+  pub apart : (i j : ℕ) → i < all_positions_of sh → j < all_positions_of sh → slice_index positions i ≡ slice_index positions j → i ≡ j
   pub backs_long : length backs ≡ sh.segments * sh.rows
   pub backs_fit : (q : ℕ) → q < sh.segments * sh.rows → slice_index backs q < sh.pages
   pub origins_long : length origins ≡ sh.rows
@@ -107,7 +113,7 @@ pub record Blanks (sh : Shape) (job : Option Job) (fills positions : List ℕ) (
   pub above : (q : ℕ) → q < sh.segments * sh.rows → slice_index fills (q / sh.rows) ≤ q % sh.rows → (slice_index_or flash q [] ≡ ones) ⊎ ((job ≡ Some Erase) × IsSpare sh positions (q / sh.rows))
   pub idle : (e : ℕ) → job ≡ Some Idle → IsSpare sh positions e → slice_index fills e ≡ 0
 
--- kept rows lie at positions, or in the spare that a position is being switched to
+-- kept rows lie at positions in use, or in the spare that a position is being switched to
 pub record Homes (sh : Shape) (job : Option Job) (positions : List ℕ) (slots : List (Option Slot)) (undos : List (Option Undo)) (places : List (Option Place)) : Type 0 where
   pub kept : (p q : ℕ) → Refers slots undos places p q → IsPlaced sh positions (q / sh.rows) ⊎ ((v : ℕ) × (job ≡ Some (Switch v)) × IsPlaced sh positions v × IsSpare sh positions (q / sh.rows))
 
@@ -129,7 +135,7 @@ pub record Jobs (sh : Shape) (job : Option Job) (positions : List ℕ) (slots : 
   pub copies : (v e : ℕ) → job ≡ Some (Switch v) → IsPlaced sh positions v → IsSpare sh positions e → Copies sh slots undos places fills backs origins flash v e
 
 pub record Sound (sh : Shape) (f : Fields) (flash : List (List ℕ)) : Type 0 where
-  pub head : Head sh f.version f.sizes
+  pub head : Head sh f.version f.sizes f.reserves f.sums
   pub slots : Slots sh f.version f.slots f.undos
   pub places : Places sh f.places
   pub rows : Rows sh f.slots f.undos f.places f.fills f.backs

@@ -2,6 +2,7 @@
 use Rattle.std.specs.Prelude.{◌≡◌, ℕ, ◌<◌, false, IsTrue, Option, None, Some}
 use Rattle.envy_base.specs.declared.fields.Slot.{Slot}
 use Rattle.envy_base.specs.declared.fields.Slot.TheVariants.{Vacant, Active}
+use Rattle.envy_base.specs.Shape.{version_of}
 use Rattle.envy_base.specs.Array.{Array, Saved, IsArray, slot_of, owner, undone}
 use Rattle.envy_base.specs.Step.{Command, Answer, Step, Accepts, Lost}
 use Rattle.envy_map.specs.Codes.{the_magic}
@@ -17,7 +18,7 @@ slot_word (Some saved) = Active
 -- everything but power
 pub record Holds (c : Chart) (m : Array) : Type 0 where
   pub magic : c.fields.magic ≡ the_magic
-  pub version : c.fields.version ≡ 2
+  pub version : c.fields.version ≡ version_of c.shape
   pub sound : IsSound c
   pub array : IsArray m
   pub shadows : m.shadows ≡ c.shape.shadows
@@ -38,7 +39,7 @@ Steps m command answer c = (n : Array) × Step m command answer n × Stands c n
 pub record IsLost (m : Array) (command : Command) (c : Chart) : Type 0 where
   pub off : c.on ≡ false
   pub magic : c.fields.magic ≡ the_magic
-  pub version : c.fields.version ≡ 2
+  pub version : c.fields.version ≡ version_of c.shape
   pub sound : IsSound c
   pub words : (n : Array) × Lost m command n × (durable c ≡ n.words)
 

@@ -8,6 +8,7 @@
 //! where there is power.
 #![tactic(auto)]
 
+mod arrangement;
 mod claiming;
 mod erasing;
 mod format;
@@ -20,6 +21,7 @@ mod page_undo;
 mod parting;
 mod position;
 mod programming;
+mod retiring;
 mod rows;
 mod slots;
 mod transactions;
@@ -39,6 +41,7 @@ pub use page_undo::{clear_settled_undo, move_undo, own_page, switch_undo};
 pub use parting::place_and_undo_stay_parted;
 pub use position::{a_board_has_one_spare, change_position, replace_segment};
 pub use programming::program_row;
+pub use retiring::{close_spare, retire_spare};
 pub use rows::{Kept, keeper, program_counted, words_of_row};
 pub use slots::{commit_slot, set_unused_slot};
 pub use transactions::{

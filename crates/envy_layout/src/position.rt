@@ -1,9 +1,9 @@
 ghost use Rattle.std.specs.Prelude.{◌≡◌, ◌⊎◌, ◌-◌, ◌<◌, ℕ, IsTrue, Some, OnOk, slice_index};
-ghost use Rattle.envy_base.specs.Shape.{IsShape, positions_of};
+ghost use Rattle.envy_base.specs.Shape.{IsShape, all_positions_of, positions_of};
 ghost use Rattle.envy_base.specs.declared.fields.Job.TheVariants.{Switch};
 ghost use Rattle.envy_map.specs.Fields.{Chart, chart, with_fields};
 ghost use Rattle.envy_map.specs.Writes.{Writes, with_position};
-ghost use Rattle.envy_layout.specs.Sound.{IsSound, IsPlaced, IsSpare};
+ghost use Rattle.envy_layout.specs.Sound.{IsSound, IsPlaced, IsReserved, IsSpare};
 ghost use Rattle.envy_layout.specs.Jobs.{FitsPositions, IsClear};
 ghost use Rattle.envy_layout.specs.Power.{power_of};
 ghost use Rattle.envy_layout.specs.Same.{Same};
@@ -15,7 +15,7 @@ use envy_map::set_segment_at;
 /// array stays.
 pub fn change_position<B: Board>(board: &mut B, position: u32, segment: u32) -> Result<(), Off>
     requires sound { IsSound (chart (B.state board.old)) }
-    requires position { position < positions_of (B.state board.old).shape }
+    requires position { position < all_positions_of (B.state board.old).shape }
     requires segment { segment < (B.state board.old).shape.segments }
     requires fits { IsTrue (B.state board.old).on
         → FitsPositions (B.state board.old).shape (with_position position segment (chart (B.state board.old)).fields)
@@ -56,11 +56,11 @@ pub fn replace_segment<B: Board>(board: &mut B, position: u32, spare: u32) -> Re
     change_position(board, position, spare)
 }
 
-/// Of the segments of a sound board one is the spare, and each other stands at a position.
+/// Of the segments of a sound board one is the spare, and each other stands at a position, in use or in reserve.
 pub fn a_board_has_one_spare()
     ensures some { (c : Chart) → IsShape c.shape → IsSound c → (e : ℕ) × IsSpare c.shape c.fields.positions e }
     ensures one { (c : Chart) (d e : ℕ) → IsSound c → IsSpare c.shape c.fields.positions d
         → IsSpare c.shape c.fields.positions e → d ≡ e }
     ensures others { (c : Chart) (s : ℕ) → IsSound c → s < c.shape.segments → IsPlaced c.shape c.fields.positions s
-        ⊎ IsSpare c.shape c.fields.positions s }
+        ⊎ (IsReserved c.shape c.fields.positions s ⊎ IsSpare c.shape c.fields.positions s) }
 {}

@@ -11,9 +11,10 @@ use Rattle.envy_base.specs.Map.{slots_at, wear_at, fill_at, position_at, table_a
 use Rattle.envy_base.specs.State.{State, Puts, IsBoard}
 use Rattle.envy_map.specs.Codes.{job_of, job_code, IsJob, slot_of, slot_code, place_of, place_code, IsPlace, undo_of, undo_code, IsUndo, with_half}
 use Rattle.envy_map.specs.Fields.{Fields, chart, failed, with_fields, map_fields}
-use Rattle.envy_map.specs.Writes.{Writes, with_magic, with_version, with_size, with_job, with_slot, with_wear, with_fill, with_position, with_place, with_undo, with_places_clear, with_undos_clear, with_back, with_origin, with_frame_word}
+use Rattle.envy_map.specs.Writes.{Writes, with_magic, with_version, with_size, with_reserves, with_sums, with_job, with_slot, with_wear, with_fill, with_position, with_place, with_undo, with_places_clear, with_undos_clear, with_back, with_origin, with_frame_word}
 use Rattle.envy_map.proofs.CodeLemmas.{job_of-job_code, slot_of-slot_code, place_of-place_code, place_code-fits, undo_of-undo_code, undo_code-fits}
-use Rattle.envy_map.proofs.Changes.{fields-magic, fields-version, fields-size, fields-job, fields-slot, fields-wear, fields-fill, fields-position, fields-place, fields-places_clear, fields-undo, fields-undos_clear, fields-back, fields-origin, fields-frame_word}
+use Rattle.envy_map.proofs.Changes.{fields-magic, fields-version, fields-size, fields-reserves, fields-sums, fields-job, fields-slot, fields-wear, fields-fill, fields-position, fields-place, fields-places_clear, fields-undo, fields-undos_clear, fields-back, fields-origin, fields-frame_word}
+use Rattle.envy_base.specs.Shape.{all_positions_of}
 
 pub Writes-puts : (s : State) (w v : ℕ) (change : Fields → Fields) (r : Result Unit Off) (new : State) → map_fields s.shape (set s.sram w v) ≡ change (map_fields s.shape s.sram) → Puts s w v r new → Writes change (chart s) r (chart new)
 Writes-puts s w v change (Ok done) new is (on, same) = (on, ap chart same ∙ ap (with_fields (chart s)) is)
@@ -45,6 +46,12 @@ Writes-magic s w v r new board at puts = Writes-puts s (0) v (with_magic v) r ne
 pub Writes-version : (s : State) (w : ℕ) (v : ℕ) (r : Result Unit Off) (new : State) → IsBoard s → w ≡ 1 → Puts s w v r new → Writes (with_version v) (chart s) r (chart new)
 Writes-version s w v r new board at puts = Writes-puts s (1) v (with_version v) r new (fields-version s.shape s.sram v board.shape board.sram) (Puts-at s w (1) v r new at puts)
 
+pub Writes-reserves : (s : State) (w : ℕ) (v : ℕ) (r : Result Unit Off) (new : State) → IsBoard s → w ≡ 6 → Puts s w v r new → Writes (with_reserves v) (chart s) r (chart new)
+Writes-reserves s w v r new board at puts = Writes-puts s (6) v (with_reserves v) r new (fields-reserves s.shape s.sram v board.shape board.sram) (Puts-at s w (6) v r new at puts)
+
+pub Writes-sums : (s : State) (w : ℕ) (v : ℕ) (r : Result Unit Off) (new : State) → IsBoard s → w ≡ 7 → Puts s w v r new → Writes (with_sums v) (chart s) r (chart new)
+Writes-sums s w v r new board at puts = Writes-puts s (7) v (with_sums v) r new (fields-sums s.shape s.sram v board.shape board.sram) (Puts-at s w (7) v r new at puts)
+
 pub Writes-size : (s : State) (w : ℕ) (i v : ℕ) (r : Result Unit Off) (new : State) → IsBoard s → i < 3 → w ≡ 2 + i → Puts s w v r new → Writes (with_size i v) (chart s) r (chart new)
 Writes-size s w i v r new board lt at puts = Writes-puts s (2 + i) v (with_size i v) r new (fields-size s.shape s.sram i v board.shape board.sram lt) (Puts-at s w (2 + i) v r new at puts)
 
@@ -54,7 +61,7 @@ Writes-wear s w k v r new board lt at puts = Writes-puts s (wear_at + k) v (with
 pub Writes-fill : (s : State) (w : ℕ) (k v : ℕ) (r : Result Unit Off) (new : State) → IsBoard s → k < s.shape.segments → w ≡ fill_at s.shape + k → Puts s w v r new → Writes (with_fill k v) (chart s) r (chart new)
 Writes-fill s w k v r new board lt at puts = Writes-puts s (fill_at s.shape + k) v (with_fill k v) r new (fields-fill s.shape s.sram k v board.shape board.sram lt) (Puts-at s w (fill_at s.shape + k) v r new at puts)
 
-pub Writes-position : (s : State) (w : ℕ) (k v : ℕ) (r : Result Unit Off) (new : State) → IsBoard s → k < s.shape.segments - 1 → w ≡ position_at s.shape + k → Puts s w v r new → Writes (with_position k v) (chart s) r (chart new)
+pub Writes-position : (s : State) (w : ℕ) (k v : ℕ) (r : Result Unit Off) (new : State) → IsBoard s → k < all_positions_of s.shape → w ≡ position_at s.shape + k → Puts s w v r new → Writes (with_position k v) (chart s) r (chart new)
 Writes-position s w k v r new board lt at puts = Writes-puts s (position_at s.shape + k) v (with_position k v) r new (fields-position s.shape s.sram k v board.shape board.sram lt) (Puts-at s w (position_at s.shape + k) v r new at puts)
 
 pub Writes-back : (s : State) (w : ℕ) (k v : ℕ) (r : Result Unit Off) (new : State) → IsBoard s → k < s.shape.segments * s.shape.rows → w ≡ back_at s.shape + k → Puts s w v r new → Writes (with_back k v) (chart s) r (chart new)

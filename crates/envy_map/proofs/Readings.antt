@@ -8,6 +8,7 @@ use Rattle.envy_base.specs.State.{State, Reads, IsBoard}
 use Rattle.envy_map.specs.Codes.{job_of, slot_of, place_of, undo_of, half_of}
 use Rattle.envy_map.specs.Fields.{map_fields, region, packed}
 use Rattle.envy_map.proofs.Regions.{get_or-region, get_or-packed, length-region, length-packed}
+use Rattle.envy_base.specs.Shape.{all_positions_of}
 
 pub Reads-at : (s : State) (x y : ℕ) (r : Result ℕ Off) → x ≡ y → Reads s x r → Reads s y r
 Reads-at s x y r e reads = subst (λ (z : ℕ). Reads s z r) e reads
@@ -24,9 +25,9 @@ pub fill-is : (s : State) (w k : ℕ) → k < s.shape.segments → w ≡ fill_at
 unfolding map_fields
 fill-is s w k lt at = rw at (sym (get_or-region s.sram (fill_at s.shape) s.shape.segments k lt))
 
-pub position-is : (s : State) (w k : ℕ) → k < s.shape.segments - 1 → w ≡ position_at s.shape + k → slice_index s.sram w ≡ slice_index (map_fields s.shape s.sram).positions k
+pub position-is : (s : State) (w k : ℕ) → k < all_positions_of s.shape → w ≡ position_at s.shape + k → slice_index s.sram w ≡ slice_index (map_fields s.shape s.sram).positions k
 unfolding map_fields
-position-is s w k lt at = rw at (sym (get_or-region s.sram (position_at s.shape) (s.shape.segments - 1) k lt))
+position-is s w k lt at = rw at (sym (get_or-region s.sram (position_at s.shape) (all_positions_of s.shape) k lt))
 
 pub back-is : (s : State) (w k : ℕ) → k < s.shape.segments * s.shape.rows → w ≡ back_at s.shape + k → slice_index s.sram w ≡ slice_index (map_fields s.shape s.sram).backs k
 unfolding map_fields

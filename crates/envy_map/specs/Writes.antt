@@ -33,6 +33,12 @@ with_version n f = record f { version = n }
 abbrev pub with_size : ℕ → ℕ → Fields → Fields
 with_size i w f = record f { sizes = slice_set f.sizes i w }
 
+abbrev pub with_reserves : ℕ → Fields → Fields
+with_reserves n f = record f { reserves = n }
+
+abbrev pub with_sums : ℕ → Fields → Fields
+with_sums n f = record f { sums = n }
+
 abbrev pub with_job : Option Job → Fields → Fields
 with_job j f = record f { job = j }
 

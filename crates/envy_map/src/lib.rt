@@ -18,7 +18,9 @@ mod segment;
 mod slots;
 
 pub use code::{decode_job, decode_place, decode_slot, decode_undo};
-pub use formatting::{clear_places, clear_undos, set_magic, set_size, set_version};
+pub use formatting::{
+    clear_places, clear_undos, set_magic, set_reserves, set_size, set_sums, set_version,
+};
 pub use frame::{frame_word, set_frame_word, write_frame};
 pub use header::{MAGIC, is_formatted, kept_shape, version};
 pub use jobs::{job, set_job};

@@ -2,7 +2,7 @@ ghost use Rattle.std.specs.Prelude.{◌-◌, ◌*◌, ◌<◌, slice_index, IfOk
 ghost use Rattle.envy_base.specs.State.{Reads};
 ghost use Rattle.envy_map.specs.Codes.{IsJob, IsPlace, IsUndo};
 ghost use Rattle.envy_map.specs.Fields.{chart, place as place_of_page, undo as undo_of_page, slot as slot_of_fields};
-ghost use Rattle.envy_base.specs.Shape.{positions_of};
+ghost use Rattle.envy_base.specs.Shape.{all_positions_of};
 
 // Readers of fields that may hold any words.
 
@@ -62,7 +62,7 @@ pub fn fill<B: Board>(board: &B, segment: u32) -> Result<u64, Off>
 
 /// The word that is the segment at a position.
 pub fn segment_at<B: Board>(board: &B, position: u32) -> Result<u64, Off>
-    requires { position < positions_of (B.state board.now).shape }
+    requires { position < all_positions_of (B.state board.now).shape }
     ensures { Reads (B.state board.now) (slice_index (chart (B.state board.now)).fields.positions position) result }
 {
     board.get(position_start(&board.shape()) + position)

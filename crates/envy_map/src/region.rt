@@ -2,7 +2,7 @@ ghost use Rattle.std.specs.Prelude.{◌≡◌};
 ghost use Rattle.envy_base.specs.Map.{fill_at, position_at, table_at, undo_at, back_at, origin_at, frames_at, words_of};
 ghost use Rattle.envy_base.specs.Shape.{IsShape};
 
-use envy_base::{PAGE_WORDS, Shape, positions_of};
+use envy_base::{PAGE_WORDS, Shape, all_positions_of};
 
 /// The word by which a formatted board is known.
 pub const MAGIC_AT: u32 = 0;
@@ -15,6 +15,12 @@ pub const SIZES_START: u32 = 2;
 
 /// The word of the cleaner's job.
 pub const JOB_AT: u32 = 5;
+
+/// The word of the number of positions in reserve, under version 3.
+pub const RESERVES_AT: u32 = 6;
+
+/// The word that is 1 if rows have sums, under version 3.
+pub const SUMS_AT: u32 = 7;
 
 /// The first word of the slots.
 pub const SLOTS_START: u32 = 8;
@@ -43,7 +49,7 @@ pub fn table_start(shape: &Shape) -> u32
     requires { IsShape shape.now }
     ensures { result ≡ table_at shape.now }
 {
-    position_start(shape) + positions_of(shape)
+    position_start(shape) + all_positions_of(shape)
 }
 
 /// The first word of the undos of pages.

@@ -3,7 +3,7 @@ ghost use Rattle.envy_base.specs.Map.{wear_at, fill_at, position_at};
 ghost use Rattle.envy_base.specs.State.{Puts, Reads};
 ghost use Rattle.envy_map.specs.Fields.{chart};
 ghost use Rattle.envy_map.specs.Writes.{Writes, with_wear, with_fill, with_position};
-ghost use Rattle.envy_base.specs.Shape.{positions_of};
+ghost use Rattle.envy_base.specs.Shape.{all_positions_of};
 
 use crate::probe;
 use crate::region::{WEAR_START, fill_start, position_start};
@@ -50,7 +50,7 @@ pub fn set_fill<B: Board>(board: &mut B, segment: u32, fill: u32) -> Result<(), 
 
 /// The segment at a position.
 pub fn segment_at<B: Board>(board: &B, position: u32) -> Result<u32, Off>
-    requires position { position < positions_of (B.state board.now).shape }
+    requires position { position < all_positions_of (B.state board.now).shape }
     requires range { slice_index (chart (B.state board.now)).fields.positions position
         < (B.state board.now).shape.segments }
     ensures { Reads (B.state board.now) (slice_index (chart (B.state board.now)).fields.positions position) result }
@@ -61,7 +61,7 @@ pub fn segment_at<B: Board>(board: &B, position: u32) -> Result<u32, Off>
 
 /// Writes the segment at a position.
 pub fn set_segment_at<B: Board>(board: &mut B, position: u32, segment: u32) -> Result<(), Off>
-    requires position { position < positions_of (B.state board.old).shape }
+    requires position { position < all_positions_of (B.state board.old).shape }
     requires segment { segment < (B.state board.old).shape.segments }
     ensures writes { Writes (with_position position segment) (chart (B.state board.old)) result
         (chart (B.state board.new)) }

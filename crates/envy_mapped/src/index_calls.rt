@@ -1,16 +1,19 @@
-// A map in the array of a memory, by numbers. Each call is one transaction.
-ghost use Rattle.std.specs.Prelude.{◌≡◌, ◌≢◌, ◌+◌};
+// A map in the array of a memory, by numbers. Each call is one transaction; those that change no pair take any words.
+ghost use Rattle.std.specs.Prelude.{◌≡◌, ◌≢◌, ◌+◌, ◌≤◌, length, drop};
 ghost use Rattle.std.specs.Option.{ForSome};
-ghost use Rattle.envy_btree.specs.Nearest.{IsLeastFrom, IsGreatestTo};
+ghost use Rattle.envy_btree.specs.Nearest.{IsLeastFrom, IsGreatestTo, pairs_from, pairs_to};
 ghost use Rattle.envy_calls.specs.Codes.{number_of};
 ghost use Rattle.envy_calls.specs.declared.code.Code.TheVariants.{Done};
 ghost use Rattle.envy_btree.specs.Answers.{insert_puts, removal_puts};
-ghost use Rattle.envy_index_calls.specs.Indexed.{Asks, Counts, DoesCreate, Finds, Gets, HoldsArray, HoldsSomeMap, Inserts, Removes};
+ghost use Rattle.envy_index_calls.specs.Indexed.{Asks, Counts, DoesCreate, Finds, Gets, HoldsArray, HoldsSomeMap, Inserts, Leaves, LeavesOrMisses, Looks, Removes, Scans};
+ghost use Rattle.envy_index_calls.specs.Scanned.{pairs_in};
 ghost use Rattle.envy_mapped.specs.Steady.{AreSteady};
 ghost use denote.RawPtr.{InBlock};
 
 use crate::handle::{EnvyMapped, give_back, lend};
-use envy_index_calls::{EnvyOld, EnvyPair, above, count, create, get, insert, last, next, remove};
+use envy_index_calls::{
+    EnvyOld, EnvyPair, above, count, create, get, insert, last, next, remove, scan, scan_down,
+};
 
 /// Makes a map of no pairs, whatever the array holds.
 #[unsafe(no_mangle)]
@@ -31,10 +34,10 @@ pub extern "C" fn envy_index_create(m: &mut EnvyMapped) -> u32
 #[unsafe(no_mangle)]
 pub extern "C" fn envy_index_get(m: &mut EnvyMapped, key: u64, value: &mut u64) -> u32
     requires place { InBlock m.old.at }
-    requires map { ForSome m.old.slot.now HoldsSomeMap }
+    requires array { ForSome m.old.slot.now HoldsArray }
     ensures live { InBlock m.new.at }
     ensures steady { AreSteady m.old.slot.now m.new.slot.now }
-    ensures gets { Asks 0 m.old.slot.now m.new.slot.now result (Gets key value.new) }
+    ensures gets { Looks LeavesOrMisses m.old.slot.now m.new.slot.now result (Gets key value.new) }
     ensures unwritten { result ≢ number_of Done → value.new ≡ value.old }
 {
     let slot = lend(m);
@@ -84,10 +87,10 @@ pub extern "C" fn envy_index_remove(m: &mut EnvyMapped, key: u64, value: &mut u6
 #[unsafe(no_mangle)]
 pub extern "C" fn envy_index_count(m: &mut EnvyMapped, number: &mut u64) -> u32
     requires place { InBlock m.old.at }
-    requires map { ForSome m.old.slot.now HoldsSomeMap }
+    requires array { ForSome m.old.slot.now HoldsArray }
     ensures live { InBlock m.new.at }
     ensures steady { AreSteady m.old.slot.now m.new.slot.now }
-    ensures counts { Asks 0 m.old.slot.now m.new.slot.now result (Counts number.new) }
+    ensures counts { Looks Leaves m.old.slot.now m.new.slot.now result (Counts number.new) }
     ensures unwritten { result ≢ number_of Done → number.new ≡ number.old }
 {
     let slot = lend(m);
@@ -100,10 +103,10 @@ pub extern "C" fn envy_index_count(m: &mut EnvyMapped, number: &mut u64) -> u32
 #[unsafe(no_mangle)]
 pub extern "C" fn envy_index_next(m: &mut EnvyMapped, key: u64, pair: &mut EnvyPair) -> u32
     requires place { InBlock m.old.at }
-    requires map { ForSome m.old.slot.now HoldsSomeMap }
+    requires array { ForSome m.old.slot.now HoldsArray }
     ensures live { InBlock m.new.at }
     ensures steady { AreSteady m.old.slot.now m.new.slot.now }
-    ensures finds { Asks 0 m.old.slot.now m.new.slot.now result (Finds (IsLeastFrom key) pair.new) }
+    ensures finds { Looks LeavesOrMisses m.old.slot.now m.new.slot.now result (Finds (IsLeastFrom key) pair.new) }
     ensures unwritten { result ≢ number_of Done → pair.new ≡ pair.old }
 {
     let slot = lend(m);
@@ -116,10 +119,10 @@ pub extern "C" fn envy_index_next(m: &mut EnvyMapped, key: u64, pair: &mut EnvyP
 #[unsafe(no_mangle)]
 pub extern "C" fn envy_index_above(m: &mut EnvyMapped, key: u64, pair: &mut EnvyPair) -> u32
     requires place { InBlock m.old.at }
-    requires map { ForSome m.old.slot.now HoldsSomeMap }
+    requires array { ForSome m.old.slot.now HoldsArray }
     ensures live { InBlock m.new.at }
     ensures steady { AreSteady m.old.slot.now m.new.slot.now }
-    ensures finds { Asks 0 m.old.slot.now m.new.slot.now result (Finds (IsLeastFrom (key + 1)) pair.new) }
+    ensures finds { Looks LeavesOrMisses m.old.slot.now m.new.slot.now result (Finds (IsLeastFrom (key + 1)) pair.new) }
     ensures unwritten { result ≢ number_of Done → pair.new ≡ pair.old }
 {
     let slot = lend(m);
@@ -132,14 +135,61 @@ pub extern "C" fn envy_index_above(m: &mut EnvyMapped, key: u64, pair: &mut Envy
 #[unsafe(no_mangle)]
 pub extern "C" fn envy_index_last(m: &mut EnvyMapped, key: u64, pair: &mut EnvyPair) -> u32
     requires place { InBlock m.old.at }
-    requires map { ForSome m.old.slot.now HoldsSomeMap }
+    requires array { ForSome m.old.slot.now HoldsArray }
     ensures live { InBlock m.new.at }
     ensures steady { AreSteady m.old.slot.now m.new.slot.now }
-    ensures finds { Asks 0 m.old.slot.now m.new.slot.now result (Finds (IsGreatestTo key) pair.new) }
+    ensures finds { Looks LeavesOrMisses m.old.slot.now m.new.slot.now result (Finds (IsGreatestTo key) pair.new) }
     ensures unwritten { result ≢ number_of Done → pair.new ≡ pair.old }
 {
     let slot = lend(m);
     let code = last(slot, key, pair);
+    give_back(m, slot);
+    code.number()
+}
+
+/// Writes the pairs from a key on, by rising key, into `pairs`, and how many there are: as many as there is room for, or
+/// all.
+#[unsafe(no_mangle)]
+pub extern "C" fn envy_index_scan(
+    m: &mut EnvyMapped,
+    key: u64,
+    pairs: &mut [EnvyPair],
+    count: &mut usize,
+) -> u32
+    requires place { InBlock m.old.at }
+    requires array { ForSome m.old.slot.now HoldsArray }
+    ensures live { InBlock m.new.at }
+    ensures steady { AreSteady m.old.slot.now m.new.slot.now }
+    ensures scans { Looks Leaves m.old.slot.now m.new.slot.now result (Scans (pairs_from key) pairs.old pairs.new count.new) }
+    ensures few { result ≡ number_of Done → count.new ≤ length pairs.old }
+    ensures rest { result ≡ number_of Done → drop count.new (pairs_in pairs.new) ≡ drop count.new (pairs_in pairs.old) }
+    ensures unwritten { result ≢ number_of Done → count.new ≡ count.old }
+{
+    let slot = lend(m);
+    let code = scan(slot, key, pairs, count);
+    give_back(m, slot);
+    code.number()
+}
+
+/// The same of the pairs up to a key, by falling key.
+#[unsafe(no_mangle)]
+pub extern "C" fn envy_index_scan_down(
+    m: &mut EnvyMapped,
+    key: u64,
+    pairs: &mut [EnvyPair],
+    count: &mut usize,
+) -> u32
+    requires place { InBlock m.old.at }
+    requires array { ForSome m.old.slot.now HoldsArray }
+    ensures live { InBlock m.new.at }
+    ensures steady { AreSteady m.old.slot.now m.new.slot.now }
+    ensures scans { Looks Leaves m.old.slot.now m.new.slot.now result (Scans (pairs_to key) pairs.old pairs.new count.new) }
+    ensures few { result ≡ number_of Done → count.new ≤ length pairs.old }
+    ensures rest { result ≡ number_of Done → drop count.new (pairs_in pairs.new) ≡ drop count.new (pairs_in pairs.old) }
+    ensures unwritten { result ≢ number_of Done → count.new ≡ count.old }
+{
+    let slot = lend(m);
+    let code = scan_down(slot, key, pairs, count);
     give_back(m, slot);
     code.number()
 }

@@ -9,6 +9,7 @@ mod calls;
 mod handle;
 mod index_calls;
 mod making;
+mod map_calls;
 mod opening;
 mod regions;
 mod sizing;

@@ -1,5 +1,5 @@
 -- What a memory stands for whose board was settled after power came.
-use Rattle.std.proofs.Common.{◌≡◌, ◌≢◌, ◌⊎◌, inl, inr, ℕ, ◌-◌, ◌*◌, ◌<◌, ◌≤◌, List, [], length, get_or, Option, None, Some, refl, sym, ◌∙◌, ap, arith}
+use Rattle.std.proofs.Common.{◌≡◌, ◌≢◌, ◌⊎◌, inl, inr, ℕ, ◌*◌, ◌<◌, ◌≤◌, List, [], length, get_or, Option, None, Some, refl, sym, ◌∙◌, ap, arith}
 use Rattle.std.specs.Prelude.{IsTrue, replicate}
 use Rattle.std.proofs.lemmas.Bool.{cases_lt}
 use Rattle.std.proofs.lemmas.List.Elements.{All-nil}
@@ -8,14 +8,16 @@ use Rattle.envy_base.specs.Array.{Saved, IsArray, owns, zeros}
 use Rattle.envy_base.proofs.Keeping.{IsArray-closed, IsArray-zeros}
 use Rattle.envy_base.proofs.Owning.{owner-nobody}
 use Rattle.envy_base.proofs.Undoing.{undo_all-closed}
-use Rattle.envy_base.specs.Shape.{IsShape}
+use Rattle.envy_base.specs.Shape.{IsShape, IsVersionOf, positions_of, version_of}
+use Rattle.envy_base.proofs.Versions.{version-known, version-plain}
 use Rattle.envy_base.specs.declared.fields.Slot.TheVariants.{Committed, Vacant}
 use Rattle.envy_base.specs.declared.shape.Shape.{Shape}
 use Rattle.envy_map.specs.Codes.{the_magic}
-use Rattle.envy_map.specs.Fields.{Chart, slot, undo, shape_of}
-use Rattle.envy_map.proofs.Sizes.{shape_of-sizes_of}
+use Rattle.envy_map.specs.Fields.{Chart, IsFormatted, IsVersion, slot, undo, shape_in, shape_of, with_fields}
+use Rattle.envy_map.proofs.Sizes.{shape_in-kept}
 use Rattle.envy_layout.specs.Sound.{Sound, IsSound, Head, Slots, slot_named}
 use Rattle.envy_layout.specs.Stands.{Stands, slot_word}
+use Rattle.envy_layout.specs.Upgrading.{upgraded}
 use Rattle.envy_layout.specs.Words.{live, durable}
 use Rattle.envy_layout.proofs.WordLists.{length-durable}
 use Rattle.envy_policy.specs.declared.setup.Setup.{Setup}
@@ -47,7 +49,7 @@ closed t = at (cases_lt t 64)
     at (inr le) = get_or_past (replicate 64 None) t None (rw length-replicate le)
 
 -- it stands for the words that power left
-pub Stands-settled : (old new : Chart) → IsTrue new.on → new.fields.magic ≡ the_magic → new.fields.version ≡ 2 → IsSound new → IsSettled new → new.shape ≡ old.shape → durable new ≡ durable old → live new ≡ durable old → Stands new (fresh old.shape.shadows (durable old))
+pub Stands-settled : (old new : Chart) → IsTrue new.on → new.fields.magic ≡ the_magic → new.fields.version ≡ version_of new.shape → IsSound new → IsSettled new → new.shape ≡ old.shape → durable new ≡ durable old → live new ≡ durable old → Stands new (fresh old.shape.shadows (durable old))
 Stands-settled old new on magic version sound s shape kept words = record {
   on = on;
   holds = record {
@@ -81,7 +83,7 @@ unowned c sound s p = at (cases_lt p c.shape.pages)
     at (inl lt) = ap (owner_in c.fields.slots) (sym (s.undos p lt))
     at (inr past) = ap (owner_in c.fields.slots) (sym (get_or_past c.fields.undos p None (rw (Slots.undos_long (Sound.slots sound)) past)))
 
-pub IsMemory-settled : (c : Chart) (x : Parts) (o : Ownership) (limit mark : ℕ) → c.fields.magic ≡ the_magic → c.fields.version ≡ 2 → Ready c x → IsSettled c → o.pairs ≡ [] → o.limit ≡ c.shape.shadows → 1 ≤ limit → 1 ≤ mark → IsMemory c x o limit mark
+pub IsMemory-settled : (c : Chart) (x : Parts) (o : Ownership) (limit mark : ℕ) → c.fields.magic ≡ the_magic → c.fields.version ≡ version_of c.shape → Ready c x → IsSettled c → o.pairs ≡ [] → o.limit ≡ c.shape.shadows → 1 ≤ limit → 1 ≤ mark → IsMemory c x o limit mark
 IsMemory-settled c x o limit mark magic version ready s none shadows some_limit some = record {
   magic = magic;
   version = version;
@@ -104,12 +106,15 @@ Fits-new setup = record {
   entries = length-replicate setup.shape.entries None;
   positions = refl;
   pages = refl;
-  stages = record { within = All-nil (λ k. k < setup.shape.segments - 1); few = omega arith };
+  stages = record { within = All-nil (λ k. k < positions_of setup.shape); few = omega arith };
 }
 
 -- the shape that a sound board keeps is its own
-pub kept-shape : (c : Chart) (sh : Shape) → IsShape c.shape → IsSound c → shape_of c.fields.sizes ≡ sh → c.shape ≡ sh
-kept-shape c sh shape sound is = sym (shape_of-sizes_of c.shape shape) ∙ ap shape_of (sym (Head.kept (Sound.head sound))) ∙ is
+pub kept-shape : (c : Chart) (sh : Shape) → IsShape c.shape → IsSound c → shape_of c.fields ≡ sh → c.shape ≡ sh
+kept-shape c sh shape sound is =
+    let h = Sound.head sound in
+    sym (shape_in-kept c.shape c.fields.version c.fields.reserves c.fields.sums shape h.versions h.reserves h.sums)
+    ∙ ap (λ (sizes : List ℕ). shape_in c.fields.version sizes c.fields.reserves c.fields.sums) (sym h.kept) ∙ is
 
 pub Fits-attached : (c : Chart) (setup : Setup) → IsShape c.shape → IsSound c → MayAttach c setup → Fits c.shape (started_parts setup)
 Fits-attached c setup shape sound may = rw (kept-shape c setup.shape shape sound may.shape) (Fits-new setup)
@@ -139,3 +144,39 @@ IsStarted-anew {sram} setup c x o s none = record {
   limit = refl;
   mark = refl;
 }
+
+-- ---- the version
+
+-- a board of version 1 is one whose shape has version 2
+pub version-raised : (c : Chart) → IsSound c → c.fields.version ≡ 1 → version_of c.shape ≡ 2
+version-raised c sound one = at (Head.versions (Sound.head sound))
+  where
+    at : IsVersionOf c.shape c.fields.version → version_of c.shape ≡ 2
+    at (inl is) = elim (version-known c.shape) [ inl two ↦ two | inr three ↦ absurd (let no : 1 ≡ 3 = sym one ∙ is ∙ three in omega (arith, no)) ]
+    at (inr (first, two)) = two
+
+-- and any other has its shape's version
+pub version-own : (c : Chart) → IsSound c → (c.fields.version ≡ 1 → ⊥) → c.fields.version ≡ version_of c.shape
+version-own c sound other = at (Head.versions (Sound.head sound))
+  where
+    at : IsVersionOf c.shape c.fields.version → c.fields.version ≡ version_of c.shape
+    at (inl is) = is
+    at (inr (first, two)) = absurd (other first)
+
+-- a sound board with the first word of a map is formatted
+pub formatted-sound : (c : Chart) → c.fields.magic ≡ the_magic → IsSound c → IsFormatted c.fields
+formatted-sound c magic sound = (magic, at h.versions)
+  where
+    h : Head c.shape c.fields.version c.fields.sizes c.fields.reserves c.fields.sums
+    h = Sound.head sound
+
+    some : version_of c.shape ≡ 3 → c.fields.version ≡ 3 → (c.fields.reserves ≡ 0) × (c.fields.sums ≡ 0) → ⊥
+    some three is (none, unsummed) = let two = version-plain c.shape (sym (h.reserves is) ∙ none) (sym (h.sums is) ∙ unsummed) in absurd (omega (arith, two, three))
+
+    at : IsVersionOf c.shape c.fields.version → IsVersion c.fields.version c.fields.reserves c.fields.sums
+    at (inl is) = elim (version-known c.shape) [ inl two ↦ inr (inl (is ∙ two)) | inr three ↦ inr (inr (is ∙ three, some three (is ∙ three))) ]
+    at (inr (one, two)) = inl one
+
+-- an upgrade gives it its shape's version
+pub version-up : (old new : Chart) → IsSound old → old.fields.version ≡ 1 → new ≡ with_fields old (upgraded old.fields) → new.fields.version ≡ version_of new.shape
+version-up old new sound one is = ap (λ (c : Chart). c.fields.version) is ∙ sym (version-raised old sound one) ∙ ap (λ (c : Chart). version_of c.shape) (sym is)

@@ -3,6 +3,7 @@ use Rattle.std.proofs.Common.{Bool, ◌≡◌, ◌≢◌, ◌⊎◌, inl, inr, f
 use Rattle.std.specs.Prelude.{IsTrue, Result, ◌↔◌}
 use Rattle.std.proofs.lemmas.Bool.{cases_eq}
 use Rattle.std.proofs.lemmas.List.{get_or-set_same, get_or-set_other}
+use Rattle.envy_base.specs.Shape.{version_of}
 use Rattle.envy_base.specs.declared.fields.Slot.{Slot}
 use Rattle.envy_base.specs.declared.fields.Slot.TheVariants.{Active, Committed, Vacant}
 use Rattle.envy_base.specs.declared.shape.Shape.{Shape}
@@ -96,7 +97,7 @@ pub IsMemory-headed : (limit mark : ℕ) (c new : Chart) (x y : Parts) (o now : 
     → (IsTrue new.on → (u : ℕ) → slot new.fields u ≢ Some Committed) → IsMemory new y now limit mark
 IsMemory-headed limit mark c new x y o now m h steady owners settled = record {
   magic = h.magic ∙ m.magic;
-  version = h.version ∙ m.version;
+  version = h.version ∙ m.version ∙ ap version_of (sym h.shape);
   sound = h.sound;
   fits = steady.fits;
   shadows = owners.limit ∙ m.shadows ∙ ap (λ (sh : Shape). sh.shadows) (sym h.shape);

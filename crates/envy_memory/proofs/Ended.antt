@@ -9,6 +9,7 @@ use Rattle.envy_base.specs.declared.faults.PlannedFault.{PlannedFault}
 use Rattle.envy_base.specs.Array.{Array, Saved, slot_of, undone, owns, owner, put_back, aborted}
 use Rattle.envy_base.specs.Step.{Answer, Step, Lost, Commit, Abort, Done, Closed}
 use Rattle.envy_base.specs.Words.{OnPage, Puts as SheetPuts, has}
+use Rattle.envy_base.specs.Shape.{version_of}
 use Rattle.envy_base.specs.declared.fields.Slot.{Slot}
 use Rattle.envy_base.specs.declared.fields.Slot.TheVariants.{Active, Committed, Vacant}
 use Rattle.envy_base.specs.declared.shape.Shape.{Shape}
@@ -182,7 +183,7 @@ is-vacant (Some Active) = inr (λ e. cc)
 is-vacant (Some Committed) = inr (λ e. cc)
 
 -- it stands for the words that a restart would find
-pub shut-stands : (c : Chart) → IsTrue c.on → c.fields.magic ≡ the_magic → c.fields.version ≡ 2 → IsSound c → ∥ (IsTrue c.on → IsHeld c false) ∥₁ → Stands c (fresh c.shape.shadows (durable c))
+pub shut-stands : (c : Chart) → IsTrue c.on → c.fields.magic ≡ the_magic → c.fields.version ≡ version_of c.shape → IsSound c → ∥ (IsTrue c.on → IsHeld c false) ∥₁ → Stands c (fresh c.shape.shadows (durable c))
 shut-stands c on magic version sound held = record {
   on = on;
   holds = record {

@@ -15,8 +15,12 @@ pub mod Pricing
 pub mod PutAnswers
 pub mod PutLemmas
 pub mod PutRuns
+pub mod ReserveLemmas
+pub mod RoomLemmas
+pub mod Slots
 pub mod Standing
 pub mod Stepped
+pub mod StoreRunLemmas
 pub mod SyncLemmas
 pub mod TickLemmas
 pub mod Transacting

@@ -3,6 +3,7 @@ use Rattle.std.proofs.Common.{◌≡◌, false, ℕ, ◌+◌, ◌*◌, ◌/◌, 
 use Rattle.std.specs.Prelude.{IsTrue, Err}
 use Rattle.envy_base.specs.Array.{Array, owner, stored}
 use Rattle.envy_base.specs.Step.{Store, Done, Accepts}
+use Rattle.envy_base.specs.Shape.{version_of}
 use Rattle.envy_base.specs.declared.board.Trouble.{Trouble}
 use Rattle.envy_base.specs.declared.board.Trouble.TheVariants.{Off as TroubleOff, Bad as TroubleBad}
 use Rattle.envy_base.specs.declared.fields.Slot.{Slot}
@@ -39,7 +40,7 @@ IsMemory-left k j limit mark c new x y o on m l steady =
     let framed = l.framed in
     record {
       magic = framed.magic ∙ m.magic;
-      version = framed.version ∙ m.version;
+      version = framed.version ∙ m.version ∙ ap version_of (sym framed.shape);
       sound = l.sound;
       fits = steady.fits;
       shadows = m.shadows ∙ ap (λ (sh : Shape). sh.shadows) (sym framed.shape);

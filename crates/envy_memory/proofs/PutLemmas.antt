@@ -4,6 +4,7 @@ use Rattle.std.specs.Prelude.{IsTrue, Result, Ok, Err, ◌↔◌}
 use Rattle.std.proofs.lemmas.Bool.{cases_lt}
 use Rattle.envy_base.specs.Array.{Array, Saved, owner, owned, slot_of, put}
 use Rattle.envy_base.specs.Step.{Put, Done}
+use Rattle.envy_base.specs.Shape.{version_of}
 use Rattle.envy_base.specs.declared.board.Trouble.{Trouble}
 use Rattle.envy_base.specs.declared.board.Trouble.TheVariants.{Off as TroubleOff, Bad as TroubleBad}
 use Rattle.envy_base.specs.declared.fields.Slot.{Slot}
@@ -149,7 +150,7 @@ IsMemory-first k j limit mark t p c new x y o q a w (Ok done) on m put steady ag
     let owns = PutDone.owns put in
     record {
       magic = owns.magic ∙ m.magic;
-      version = owns.version ∙ m.version;
+      version = owns.version ∙ m.version ∙ ap version_of (sym owns.shape);
       sound = PutDone.sound put;
       fits = steady.fits;
       shadows = same ∙ m.shadows ∙ ap (λ (sh : Shape). sh.shadows) (sym owns.shape);
@@ -163,7 +164,7 @@ IsMemory-first k j limit mark t p c new x y o q a w (Err TroubleOff) on m put st
     let s = put.0 in
     record {
       magic = s.magic ∙ m.magic;
-      version = s.version ∙ m.version;
+      version = s.version ∙ m.version ∙ ap version_of (sym s.shape);
       sound = s.sound;
       fits = steady.fits;
       shadows = same ∙ m.shadows ∙ ap (λ (sh : Shape). sh.shadows) (sym s.shape);
@@ -178,7 +179,7 @@ IsMemory-first k j limit mark t p c new x y o q a w (Err TroubleBad) on m put st
     let f = s.framed in
     record {
       magic = f.magic ∙ m.magic;
-      version = f.version ∙ m.version;
+      version = f.version ∙ m.version ∙ ap version_of (sym f.shape);
       sound = s.sound;
       fits = steady.fits;
       shadows = same ∙ m.shadows ∙ ap (λ (sh : Shape). sh.shadows) (sym f.shape);

@@ -13,10 +13,11 @@ use Rattle.envy_base.specs.declared.fields.Undo.TheVariants.{Clear, Blank, Shado
 use Rattle.envy_map.specs.Fields.{Chart, undo, place, with_fields}
 use Rattle.envy_map.specs.Writes.{with_frame_word}
 use Rattle.envy_layout.specs.Same.{Framed, Shadowed, Dropped, Counted, Wears}
-use Rattle.envy_layout.specs.Sound.{Sound, Slots, is_active, owned_by, slot_named, slots_of}
+use Rattle.envy_layout.specs.Sound.{Sound, Slots, is_active, owned_by, slot_named}
 use Rattle.envy_layout.specs.Stands.{Stands}
 use Rattle.envy_layout.proofs.Composition.{cause}
 use Rattle.envy_layout.proofs.Owners.{owner_in-false}
+use Rattle.envy_memory.proofs.Slots.{slot-within}
 use Rattle.envy_txn.specs.Owners.{Ownership, owner_of, owner_in}
 use Rattle.envy_flush.specs.Storing.{StaysFramed, Fetches, Brings}
 use Rattle.envy_flush.specs.Putting.{ShadesFramed, ShadesElsewhere}
@@ -67,12 +68,12 @@ meets-owned t a frame p m memory s stands =
     record {
       stands = stands;
       owned = owned;
-      low = subst (λ (v : ℕ). t < slots_of v) memory.version (Slots.named (Sound.slots memory.sound) (a / 32) t opened.0);
+      low = slot-within p.chart.shape p.chart.fields.version t memory.version (Slots.named (Sound.slots memory.sound) (a / 32) t opened.0);
       active = opened.1;
       page = s.within;
     }
 
-works-none : (c new : Chart) → IsTrue c.on → Framed c new → Counted 0 0 c new → Wears c new → Works 0 0 c new
+pub works-none : (c new : Chart) → IsTrue c.on → Framed c new → Counted 0 0 c new → Wears c new → Works 0 0 c new
 works-none c new on framed counted worn = record { shape = framed.shape; counted = counted; worn = worn; idle = λ off. absurd (let clash : IsTrue false = subst IsTrue off on in cc) }
 
 -- the word is in the frame
@@ -134,11 +135,11 @@ pub first-by : (b : Bool) (t a w : ℕ) (r : Result Unit PutFault) (p q : Pictur
 first-by b t a w r p q is puts = subst (λ (x : Bool). PutsBy x t a w r p q) is puts
 
 -- power is on after a put that was done
-lit-done : (on : Bool) → (◌≡◌ {A = Answer} (Ok tt) (Err Off)) ↔ (on ≡ false) → IsTrue on
+pub lit-done : (on : Bool) → (◌≡◌ {A = Answer} (Ok tt) (Err Off)) ↔ (on ≡ false) → IsTrue on
 lit-done true off = refl
 lit-done false off = absurd (let no : ◌≡◌ {A = Answer} (Ok tt) (Err Off) = off.1 refl in cc)
 
-on-before : (p q : Picture) → (p.chart.on ≡ false → q ≡ p) → IsTrue q.chart.on → IsTrue p.chart.on
+pub on-before : (p q : Picture) → (p.chart.on ≡ false → q ≡ p) → IsTrue q.chart.on → IsTrue p.chart.on
 on-before p q idle on = on-from p.chart.on (λ off. dark q (ap (λ (x : Picture). x.chart.on) (idle off) ∙ off) on)
 
 within-done : (p q : Picture) (a : ℕ) → IsTrue p.chart.on → (◌≡◌ {A = Answer} (Ok tt) (Err Range)) ↔ IsPast a p → q.chart.shape ≡ p.chart.shape → a / 32 < q.chart.shape.pages

@@ -1,5 +1,6 @@
 -- What attaching to a board may answer, and what it leaves.
 use Rattle.std.specs.Prelude.{◌≡◌, ◌≢◌, ◌⊎◌, ◌-◌, ◌^◌, ◌<◌, false, IsTrue, Ok, Err}
+use Rattle.envy_base.specs.Shape.{version_of}
 use Rattle.envy_base.specs.State.{State}
 use Rattle.envy_map.specs.Fields.{Chart, chart, with_fields, IsFormatted, shape_of}
 use Rattle.envy_layout.specs.Same.{Kept}
@@ -25,13 +26,13 @@ pub record MayAttach (old : Chart) (setup : Setup) : Type 0 where
   pub on : IsTrue old.on
   pub checks : checked setup ≡ Ok tt
   pub formatted : IsFormatted old.fields
-  pub shape : shape_of old.fields.sizes ≡ setup.shape
+  pub shape : shape_of old.fields ≡ setup.shape
 
--- the board is of version 2, or was upgraded from version 1, and nothing else of it changed
+-- the board is of its shape's version, or was upgraded from version 1 to 2, and nothing else of it changed
 abbrev pub Raises : Chart → Chart → Type 0
-Raises old new = ((old.fields.version ≡ 2) × (new ≡ old)) ⊎ ((old.fields.version ≡ 1) × (new ≡ with_fields old (upgraded old.fields)))
+Raises old new = ((old.fields.version ≡ version_of old.shape) × (new ≡ old)) ⊎ ((old.fields.version ≡ 1) × (new ≡ with_fields old (upgraded old.fields)))
 
--- the board was raised to version 2, and then it was restarted
+-- the board was raised to its version, and then it was restarted
 pub record IsTakenUp (old new : Chart) : Type 0 where
   pub raised : Chart
   pub raises : Raises old raised
@@ -49,5 +50,5 @@ abbrev pub Declines : State → Setup → AttachFault → State → Type 0
 Declines old setup Off new = (new.on ≡ false) × (((old.on ≡ false) × (new ≡ old)) ⊎ (MayAttach (chart old) setup × Kept (chart old) (chart new) × (old.cuts < 2 ^ 64 - 1 → old.cuts < new.cuts)))
 Declines old setup (OfSetup fault) new = IsTrue old.on × (checked setup ≡ Err fault) × (new ≡ old)
 Declines old setup NotFormatted new = IsTrue old.on × (checked setup ≡ Ok tt) × (IsFormatted (chart old).fields → ⊥) × (new ≡ old)
-Declines old setup (OtherShape kept) new = IsTrue old.on × (checked setup ≡ Ok tt) × IsFormatted (chart old).fields × (kept ≡ shape_of (chart old).fields.sizes) × (kept ≢ setup.shape) × (new ≡ old)
+Declines old setup (OtherShape kept) new = IsTrue old.on × (checked setup ≡ Ok tt) × IsFormatted (chart old).fields × (kept ≡ shape_of (chart old).fields) × (kept ≢ setup.shape) × (new ≡ old)
 Declines old setup Memory new = MayAttach (chart old) setup × (new ≡ old)

@@ -1,11 +1,11 @@
 -- What formatting may answer, and what it leaves.
-use Rattle.std.specs.Prelude.{◌≡◌, ◌≢◌, ◌⊎◌, ℕ, ◌-◌, ◌^◌, ◌<◌, false, IsTrue, [], slice_index, Ok, Err}
+use Rattle.std.specs.Prelude.{◌≡◌, ◌≢◌, ◌⊎◌, ℕ, ◌+◌, ◌-◌, ◌^◌, ◌<◌, false, IsTrue, [], length, slice_index, Ok, Err}
 use Rattle.envy_base.specs.Array.{zeros}
 use Rattle.envy_base.specs.Counting.{up}
 use Rattle.envy_base.specs.State.{State}
 use Rattle.envy_base.specs.declared.counts.Counts.{Counts}
 use Rattle.envy_map.specs.Fields.{Chart, chart}
-use Rattle.envy_layout.specs.Formatting.{IsEmpty}
+use Rattle.envy_layout.specs.Formatting.{IsEmpty, Spoils, aside}
 use Rattle.envy_layout.specs.Same.{Counted}
 use Rattle.envy_layout.specs.Stands.{Holds, Stands}
 use Rattle.envy_frames.specs.Agreement.{held_by_default}
@@ -16,7 +16,7 @@ use Rattle.envy_table.specs.Entries.{vacant}
 use Rattle.envy_memory.specs.Picture.{Picture, counts_of}
 use Rattle.envy_memory.specs.declared.faults.FormatFault.{FormatFault}
 use Rattle.envy_memory.specs.declared.faults.FormatFault.TheVariants.{Off, Setup as OfSetup, OtherShape, Memory, Bad}
-use Rattle.envy_base.specs.Shape.{positions_of}
+use Rattle.envy_base.specs.Shape.{positions_of, version_of}
 
 abbrev pub no_counts : Counts
 no_counts = record { hits = 0; misses = 0; flushes = 0; copies = 0; moves = 0; erases = 0; swaps = 0 }
@@ -36,11 +36,11 @@ pub record IsStarted (setup : Setup) (p : Picture) : Type 0 where
   pub limit : p.limit ≡ setup.limit
   pub mark : p.mark ≡ setup.mark
 
--- The board stands for zeros: each page is absent, no job runs, each segment is worn once and empty, and position k
--- names segment k.
+-- The board stands for zeros: each page is absent, no job runs, and each segment is worn once. The good ones are empty,
+-- and are the spare and stand at the first positions. Those set aside stand at the last positions in reserve.
 pub record IsFresh (c : Chart) : Type 0 where
   pub stands : Stands c (zeros c.shape.pages c.shape.shadows)
-  pub empty : IsEmpty 2 c
+  pub empty : IsEmpty (version_of c.shape) c
 
 -- formatting was begun: power is on, the setup checks and is that of the board
 pub record MayFormat (old : State) (setup : Setup) : Type 0 where
@@ -61,16 +61,17 @@ pub record CountsFormat (old new : Chart) : Type 0 where
 abbrev pub ErasesEach : Chart → Chart → Type 0
 ErasesEach old new = (s : ℕ) → s < old.shape.segments → slice_index new.erases s ≡ up (slice_index old.erases s)
 
--- a memory was made
+-- A memory was made. Each segment that was set aside had a bad erase.
 pub record Makes (old : State) (setup : Setup) (p : Picture) : Type 0 where
   pub may : MayFormat old setup
   pub fresh : IsFresh p.chart
   pub begins : IsStarted setup p
   pub once : ErasesEach (chart old) p.chart
+  pub aside : Spoils (length (aside p.chart.shape p.chart.fields.fills)) old.bads p.chart.bads
 
 abbrev pub Refuses : State → Setup → FormatFault → State → Type 0
 Refuses old setup Off new = (new.on ≡ false) × (((old.on ≡ false) × (new ≡ old)) ⊎ (MayFormat old setup × IsBetween old new × (old.cuts < 2 ^ 64 - 1 → old.cuts < new.cuts)))
 Refuses old setup (OfSetup fault) new = IsTrue old.on × (checked setup ≡ Err fault) × (new ≡ old)
 Refuses old setup OtherShape new = IsTrue old.on × (checked setup ≡ Ok tt) × (old.shape ≢ setup.shape) × (new ≡ old)
 Refuses old setup Memory new = MayFormat old setup × (new ≡ old)
-Refuses old setup Bad new = MayFormat old setup × IsTrue new.on × (slice_index new.sram 0 ≡ 0) × (old.bads < 2 ^ 64 - 1 → old.bads < new.bads)
+Refuses old setup Bad new = MayFormat old setup × IsTrue new.on × (slice_index new.sram 0 ≡ 0) × (old.bads + old.shape.reserves < 2 ^ 64 - 1 → old.bads + old.shape.reserves < new.bads)

@@ -11,7 +11,10 @@ pub mod Making
 pub mod Opened
 pub mod Picture
 pub mod PutRuns
+pub mod Reserves
 pub mod Restarts
 pub mod Rises
+pub mod Rooms
 pub mod Runs
 pub mod Sheets
+pub mod StoreRuns

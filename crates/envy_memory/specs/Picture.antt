@@ -1,5 +1,6 @@
 -- What a client sees of a memory, and what holds of each.
 use Rattle.std.specs.Prelude.{◌≡◌, ◌≢◌, ℕ, ◌≤◌, IsTrue, List, Some}
+use Rattle.envy_base.specs.Shape.{version_of}
 use Rattle.envy_base.specs.declared.counts.Counts.{Counts}
 use Rattle.envy_base.specs.declared.fields.Slot.TheVariants.{Committed}
 use Rattle.envy_base.specs.State.{State}
@@ -54,7 +55,7 @@ counts_of x = record {
 -- Each memory's board is formatted and sound, and the parts have its sizes. Where power is on, they agree with it.
 pub record IsMemory (c : Chart) (x : Parts) (o : Ownership) (limit mark : ℕ) : Type 0 where
   pub magic : c.fields.magic ≡ the_magic
-  pub version : c.fields.version ≡ 2
+  pub version : c.fields.version ≡ version_of c.shape
   pub sound : IsSound c
   pub fits : Fits c.shape x
   pub shadows : o.limit ≡ c.shape.shadows

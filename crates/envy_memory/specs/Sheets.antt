@@ -26,7 +26,7 @@ numbers_of (Some (Bad k g)) = 1 ∷ k ∷ g ∷ []
 -- the numbers of a board that no call of `Words` changes: its sizes, the cuts by hand and the plans that were made, the
 -- returns of power that it was given and has left, and the last plan
 abbrev pub fixed_of : Chart → List ℕ
-fixed_of c = c.shape.segments ∷ c.shape.rows ∷ c.shape.pages ∷ c.shape.shadows ∷ c.shape.frames ∷ c.shape.entries ∷ c.pulled ∷ c.plans ∷ c.given ∷ c.lives ∷ numbers_of c.last_plan
+fixed_of c = c.shape.segments ∷ c.shape.rows ∷ c.shape.pages ∷ c.shape.shadows ∷ c.shape.frames ∷ c.shape.entries ∷ c.shape.reserves ∷ c.shape.sums ∷ c.pulled ∷ c.plans ∷ c.given ∷ c.lives ∷ numbers_of c.last_plan
 
 -- the most flash work that a put may begin: that of one flush
 abbrev pub put_price : Shape → Work

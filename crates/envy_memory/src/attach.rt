@@ -1,4 +1,5 @@
 ghost use Rattle.std.specs.Prelude.{◌≡◌, false, IsTrue, IsNone, OnOk, OnErr, MatchOption, MatchResult};
+ghost use Rattle.envy_base.specs.Shape.{version_of};
 ghost use Rattle.envy_map.specs.Fields.{chart, IsFormatted};
 ghost use Rattle.envy_layout.specs.Same.{Kept};
 ghost use Rattle.envy_layout.specs.Sound.{IsSound};
@@ -46,31 +47,33 @@ fn refusal<B: Board>(board: &B, setup: &Setup) -> Option<AttachFault>
     None
 }
 
-/// Makes the map of a formatted board one of version 2.
+/// Makes the map of a formatted board one of its shape's version.
 fn raise_version<B: Board>(board: &mut B) -> Result<(), Off>
     requires sound { IsSound (chart (B.state board.old)) }
     requires formatted { IsFormatted (chart (B.state board.old)).fields }
     ensures kept { Kept (chart (B.state board.old)) (chart (B.state board.new)) }
-    ensures version { OnOk result ((chart (B.state board.new)).fields.version ≡ 2) }
+    ensures version { OnOk result ((chart (B.state board.new)).fields.version
+        ≡ version_of (B.state board.new).shape) }
     ensures raises { OnOk result (Raises (chart (B.state board.old)) (chart (B.state board.new))) }
     ensures on { OnOk result (IsTrue (B.state board.new).on) }
     ensures off { OnErr result ((B.state board.new).on ≡ false) }
 {
-    if version(board)? == 1 {
-        upgrade(board)?;
+    if version(board)? != 1 {
+        return Ok(());
     }
-    Ok(())
+    upgrade(board)
 }
 
-/// Takes a formatted board up after power came: it gets version 2, what transactions and a job left open is
-/// settled, and the parts are read.
+/// Takes a formatted board up after power came: one of version 1 gets version 2, what transactions and a job left open
+/// is settled, and the parts are read.
 fn take_up<B: Board>(board: &mut B, parts: &mut Parts) -> Result<(), Off>
     requires sound { IsSound (chart (B.state board.old)) }
     requires formatted { IsFormatted (chart (B.state board.old)).fields }
     requires fits { Fits (B.state board.old).shape parts.old }
     ensures kept { Kept (chart (B.state board.old)) (chart (B.state board.new)) }
     ensures live { OnOk result (live (chart (B.state board.new)) ≡ durable (chart (B.state board.old))) }
-    ensures version { OnOk result ((chart (B.state board.new)).fields.version ≡ 2) }
+    ensures version { OnOk result ((chart (B.state board.new)).fields.version
+        ≡ version_of (B.state board.new).shape) }
     ensures settled { OnOk result (IsSettled (chart (B.state board.new))) }
     ensures taken { OnOk result (IsTakenUp (chart (B.state board.old)) (chart (B.state board.new))) }
     ensures ready { OnOk result (Ready (chart (B.state board.new)) parts.new) }
@@ -82,7 +85,7 @@ fn take_up<B: Board>(board: &mut B, parts: &mut Parts) -> Result<(), Off>
 }
 
 impl<B: Board> Memory<B> {
-    /// A memory over a board that was formatted before, of either version. Transactions that were open are put
+    /// A memory over a board that was formatted before, in any version. Transactions that were open are put
     /// back.
     ///
     /// # Errors

@@ -21,7 +21,7 @@ pub enum FormatFault {
     OtherShape,
     /// Memory ran out. The board is untouched.
     Memory,
-    /// An erase failed. The board isn't formatted.
+    /// More erases failed than there are positions in reserve. The board isn't formatted.
     Bad,
 }
 
@@ -111,6 +111,14 @@ impl From<Off> for LoadFault {
 
     fn from(_: Off) -> Self {
         LoadFault::Off
+    }
+}
+
+impl From<Off> for StoreFault {
+    ghost from_gives = { λ _ e. e ≡ StoreOff };
+
+    fn from(_: Off) -> Self {
+        StoreFault::Off
     }
 }
 

@@ -1,12 +1,18 @@
-ghost use Rattle.std.specs.Prelude.{◌≡◌, IsNone, MatchOption, MatchResult};
+ghost use Rattle.std.specs.Prelude.{◌≡◌, IsNone, OnOk, MatchOption, MatchResult};
+ghost use Rattle.envy_base.specs.Shape.{version_of};
 ghost use Rattle.envy_map.specs.Fields.{chart};
+ghost use Rattle.envy_layout.specs.Formatting.{AreErasedOnce, Formats};
+ghost use Rattle.envy_layout.specs.Same.{Counted};
 ghost use Rattle.envy_policy.specs.Setup.{IsSetup};
+ghost use Rattle.envy_flush.specs.Agreement.{Fits, Ready};
 ghost use Rattle.envy_memory.specs.Formats.{MayFormat, Makes, CountsFormat, Refuses};
+ghost use Rattle.envy_memory.specs.Making.{StartsAnew};
 
 use crate::faults::FormatFault;
 use crate::making::make_parts;
 use crate::memory::Memory;
 use envy_base::{Board, Trouble};
+use envy_flush::{Parts, rebuild};
 use envy_layout::format_board;
 use envy_policy::Setup;
 use std::alloc::Global;
@@ -29,8 +35,29 @@ fn refusal<B: Board>(board: &B, setup: &Setup) -> Option<FormatFault>
     None
 }
 
+/// Formats a board, and reads the parts from it: which segments were set aside is known by the board alone.
+fn lay_out<B: Board>(board: &mut B, parts: &mut Parts) -> Result<(), Trouble>
+    requires fits { Fits (B.state board.old).shape parts.old }
+    ensures formats { Formats (version_of (B.state board.old).shape) (B.state board.old) result (B.state board.new) }
+    ensures shape { (B.state board.new).shape ≡ (B.state board.old).shape }
+    ensures erases { OnOk result (AreErasedOnce (B.state board.old).shape.segments (B.state board.old).erases
+        (B.state board.new).erases) }
+    ensures counts { Counted 0 (B.state board.old).shape.segments (chart (B.state board.old))
+        (chart (B.state board.new)) }
+    ensures ready { OnOk result (Ready (chart (B.state board.new)) parts.new) }
+    ensures starts { OnOk result (StartsAnew parts.old (chart (B.state board.new)) parts.new) }
+{
+    match format_board(board) {
+        Ok(()) => {}
+        Err(trouble) => return Err(trouble),
+    }
+    rebuild(board, parts)?;
+    Ok(())
+}
+
 impl<B: Board> Memory<B> {
-    /// A memory of zeros over a board, which is formatted.
+    /// A memory of zeros over a board, which is formatted. Segments whose erase is bad are set aside, as many as there
+    /// are positions in reserve.
     ///
     /// # Errors
     ///
@@ -44,10 +71,10 @@ impl<B: Board> Memory<B> {
         if let Some(fault) = refusal(&board, &setup) {
             return Err((board, fault));
         }
-        let Ok((parts, owned)) = make_parts(alloc, &setup) else {
+        let Ok((mut parts, owned)) = make_parts(alloc, &setup) else {
             return Err((board, FormatFault::Memory));
         };
-        match format_board(&mut board) {
+        match lay_out(&mut board, &mut parts) {
             Ok(()) => Ok(Memory {
                 board,
                 parts,

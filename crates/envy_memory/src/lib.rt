@@ -17,6 +17,9 @@ mod memory;
 mod one_tx;
 mod put_runs;
 mod putting;
+mod reserves;
+mod rooms;
+mod store_runs;
 mod storing;
 mod syncing;
 mod ticking;
@@ -28,3 +31,4 @@ pub use faults::{
 pub use laws::hits_are_those_of_the_accesses;
 pub use memory::Memory;
 pub use one_tx::OneTx;
+pub use reserves::Worn;

@@ -1,4 +1,5 @@
 ghost use Rattle.std.specs.Prelude.{◌≡◌, ◌<◌, false, Some, MatchResult, OnErr, IfOk};
+ghost use Rattle.envy_base.specs.Shape.{version_of};
 ghost use Rattle.envy_map.specs.Fields.{chart};
 ghost use Rattle.envy_layout.specs.Sound.{IsSound};
 ghost use Rattle.envy_layout.specs.Words.{kept};
@@ -32,7 +33,7 @@ pub fn kept_place<B: Board>(board: &B, page: u32) -> Result<Place, Off>
 /// The lowest slot that is open, if one is. No slot above it is read.
 pub fn lowest_open<B: Board>(board: &B) -> Result<Option<u8>, Off>
     requires sound { IsSound (chart (B.state board.now)) }
-    requires version { (chart (B.state board.now)).fields.version ≡ 2 }
+    requires version { (chart (B.state board.now)).fields.version ≡ version_of (B.state board.now).shape }
     ensures { MatchResult result (IsFirstOpen (chart (B.state board.now))) (λ _. (B.state board.now).on ≡ false) }
 {
     for t in 0..64 {

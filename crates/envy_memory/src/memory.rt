@@ -1,6 +1,6 @@
 ghost use Rattle.std.specs.Prelude.{◌≡◌, ◌↔◌, ◌*◌, ◌≤◌, ◌<◌, ◌/◌, false, IsTrue, OnOk, MatchResult, slice_index, [], replicate, None};
 ghost use Rattle.envy_base.specs.Array.{Array};
-ghost use Rattle.envy_base.specs.Shape.{IsShape};
+ghost use Rattle.envy_base.specs.Shape.{IsShape, version_of};
 ghost use Rattle.envy_map.specs.Codes.{the_magic};
 ghost use Rattle.envy_map.specs.Fields.{chart};
 ghost use Rattle.envy_layout.specs.Sound.{IsSound};
@@ -112,7 +112,7 @@ impl<B: Board> Memory<B> {
         ensures state { B.state result.now ≡ state_in self.now }
         ensures same { chart (B.state result.now) ≡ self.now.chart }
         ensures sound { IsSound (chart (B.state result.now)) }
-        ensures version { (chart (B.state result.now)).fields.version ≡ 2 }
+        ensures version { (chart (B.state result.now)).fields.version ≡ version_of (B.state result.now).shape }
     {
         &self.board
     }
@@ -123,7 +123,7 @@ impl<B: Board> Memory<B> {
         ensures memory { IsMemory self.now.chart self.now.parts self.now.owned self.now.limit self.now.mark }
         ensures shape { IsShape self.now.chart.shape }
         ensures magic { self.now.chart.fields.magic ≡ the_magic }
-        ensures version { self.now.chart.fields.version ≡ 2 }
+        ensures version { self.now.chart.fields.version ≡ version_of self.now.chart.shape }
         ensures sound { IsSound self.now.chart }
         ensures unowned { (m : Array) → Stands self.now.chart m → m.slots ≡ replicate 64 None
             → self.now.owned.pairs ≡ [] }

@@ -1,6 +1,6 @@
-ghost use Rattle.std.specs.Prelude.{◌≡◌, ◌↔◌, ◌⊎◌, ◌*◌, ◌-◌, ◌^◌, ◌<◌, ◌≤◌, false, true, IsTrue, OnOk, MatchResult, [], replicate, None, Ok, Err};
+ghost use Rattle.std.specs.Prelude.{◌≡◌, ◌↔◌, ◌⊎◌, ◌+◌, ◌*◌, ◌-◌, ◌^◌, ◌<◌, ◌≤◌, false, true, length, IsTrue, OnOk, MatchResult, [], replicate, None, Ok, Err};
 ghost use Rattle.envy_base.specs.Array.{Array};
-ghost use Rattle.envy_base.specs.Shape.{IsShape};
+ghost use Rattle.envy_base.specs.Shape.{IsShape, version_of};
 ghost use Rattle.envy_base.specs.declared.page.TheConstants.{PAGE_WORDS};
 ghost use Rattle.envy_layout.specs.Same.{Kept};
 ghost use Rattle.envy_layout.specs.Stands.{Stands};
@@ -52,12 +52,19 @@ impl<B: Board> OneTx<B> {
         }
     }
 
+    /// How many pages more the transaction may put words in.
+    pub fn left(&self) -> u32
+        ensures { length self.now.memory.owned.pairs + result ≡ self.now.memory.chart.shape.shadows }
+    {
+        self.memory.left()
+    }
+
     /// Gives the memory back. Its board is formatted; where power is on and no transaction is open, it stands for the
     /// kept words with no slot open; where one is, the memory can be taken up again.
     pub fn into_memory(self) -> Memory<B>
         ensures same { result ≡ self.memory }
         ensures magic { result.chart.fields.magic ≡ the_magic }
-        ensures version { result.chart.fields.version ≡ 2 }
+        ensures version { result.chart.fields.version ≡ version_of result.chart.shape }
         ensures stands { IsTrue self.memory.chart.on → (sheet_of self.memory self.begun).started ≡ false
             → Stands result.chart (fresh result.chart.shape.shadows (durable result.chart)) }
         ensures resumes { IsTrue (sheet_of self.memory self.begun).started

@@ -1,7 +1,8 @@
-ghost use Rattle.std.specs.Prelude.{◌≡◌, ◌+◌, ◌/◌, ◌^◌, ◌<◌, ℕ, false, IsTrue, Some, OnOk};
+ghost use Rattle.std.specs.Prelude.{◌≡◌, ◌≢◌, ◌↔◌, ◌+◌, ◌/◌, ◌^◌, ◌<◌, ℕ, false, IsTrue, length, Some, Err, OnOk};
 ghost use Rattle.envy_map.specs.Fields.{place as place_of};
 ghost use Rattle.envy_memory.specs.Picture.{Picture};
 ghost use Rattle.envy_memory.specs.PutRuns.{EndsRun, PutsBy, PutsMore, PutsRun};
+ghost use Rattle.envy_memory.specs.Rooms.{LacksRoom};
 ghost use Rattle.envy_memory.specs.Runs.{StandsFor, is_more};
 
 use crate::faults::PutFault;
@@ -26,8 +27,23 @@ impl<B: Board> Memory<B> {
     ///
     /// # Errors
     ///
-    /// Those of `put`. The words before are put. Where power fails in the call, a restart takes all of them back.
+    /// `Full` comes before the first word: the pages that it meets and that no slot owns are more than may yet be
+    /// owned. Nothing changes then. The others are those of `put`, and the words before are put. Where power fails in
+    /// the call, a restart takes all of them back.
     pub fn put_run(&mut self, t: u8, a: u32, words: &[u64]) -> (usize, Result<(), PutFault>)
+        ensures puts { (between : Picture) × PutsRun result.0 words.now t a self.old between
+            × (result.1 ≢ Err PutFault.Full → EndsRun between self.new t a words.now result.0 result.1) }
+        ensures full { (result.1 ≡ Err PutFault.Full) ↔ LacksRoom t a (length words.now) self.old }
+        ensures refused { (result.1 ≡ Err PutFault.Full) → (result.0 ≡ 0) × (self.new ≡ self.old) }
+    {
+        if self.lacks_room(t, a, words.len()) {
+            return (0, Err(PutFault::Full));
+        }
+        self.put_words(t, a, words)
+    }
+
+    // The words of a run, one after another, as far as they go.
+    fn put_words(&mut self, t: u8, a: u32, words: &[u64]) -> (usize, Result<(), PutFault>)
         ensures { (between : Picture) × PutsRun result.0 words.now t a self.old between
             × EndsRun between self.new t a words.now result.0 result.1 }
     {

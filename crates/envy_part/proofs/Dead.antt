@@ -3,7 +3,7 @@ use Rattle.std.proofs.Common.{◌≡◌, ◌∙◌, ◌⊎◌, inl, inr, ℕ, �
 use Rattle.envy_audit.specs.Judging.{Judges, Holds, Before, BreaksFirst}
 use Rattle.envy_audit.specs.Points.{Decodes, JobStands, Switches}
 use Rattle.envy_audit.specs.declared.verdict.Rule.{Rule}
-use Rattle.envy_audit.specs.declared.verdict.Rule.TheVariants.{A, B, C, D, E, F, G, H, I, J, K, L}
+use Rattle.envy_audit.specs.declared.verdict.Rule.TheVariants.{A, B, C, D, E, F, G, H, I, J, K, L, M}
 use Rattle.envy_audit.specs.declared.verdict.Verdict.{Verdict}
 use Rattle.envy_audit.specs.declared.verdict.Verdict.TheVariants.{Sound as IsFoundSound, Unformatted, Broken}
 use Rattle.envy_base.specs.State.{ones}
@@ -64,6 +64,8 @@ decodes_same : (c : Chart) (old new : List (List ℕ)) → Decodes (with_flash o
 decodes_same c old new h = record {
   sizes = h.sizes;
   version = h.version;
+  reserves = h.reserves;
+  sums = h.sums;
   job = h.job;
   slots = h.slots;
   undos = h.undos;
@@ -106,6 +108,7 @@ point_same c old new only I decodes h = job_same c old new only decodes h
 point_same c old new only J decodes h = h
 point_same c old new only K decodes h = h
 point_same c old new only L decodes h = h
+point_same c old new only M decodes h = h
 
 -- each point comes after the first one, or is it
 decodes_first : (x : Rule) (c : Chart) → Before x c → Holds x c → Decodes c
@@ -121,6 +124,7 @@ decodes_first I c before h = before A (omega arith)
 decodes_first J c before h = before A (omega arith)
 decodes_first K c before h = before A (omega arith)
 decodes_first L c before h = before A (omega arith)
+decodes_first M c before h = before A (omega arith)
 
 before_same : (c : Chart) (old new : List (List ℕ)) → Differ c old new → (x : Rule) → Before x (with_flash old c) → Before x (with_flash new c)
 before_same c old new only x before y lt =

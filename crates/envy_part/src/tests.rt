@@ -11,6 +11,8 @@ const SHAPE: Shape = Shape {
     shadows: 0,
     frames: 2,
     entries: 1,
+    reserves: 0,
+    sums: 0,
 };
 
 /// How a port carries out an order.

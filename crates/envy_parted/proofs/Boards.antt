@@ -1,7 +1,8 @@
 -- A board over a part has the sizes of its shape, and why one that is formatted or taken up isn't.
-use Rattle.std.proofs.Common.{◌≡◌, ◌∙◌, ℕ, List, true, false, IsTrue, Option, None, Some, Ok, Err, MatchOption, inl, inr, refl, sym, ap, subst, arith}
+use Rattle.std.proofs.Common.{◌≡◌, ◌∙◌, ◌<◌, ◌+◌, ◌-◌, ◌^◌, ℕ, List, true, false, IsTrue, Option, None, Some, Ok, Err, MatchOption, inl, inr, refl, sym, ap, subst, arith}
 use Rattle.std.proofs.lemmas.List.{length-map}
 use Rattle.envy_bank.specs.Lanes.{row_from}
+use Rattle.envy_base.specs.Shape.{IsShape}
 use Rattle.envy_base.specs.State.{State, IsBoard}
 use Rattle.envy_base.specs.declared.shape.Shape.{Shape}
 use Rattle.envy_map.specs.Fields.{chart}
@@ -28,14 +29,19 @@ has_sizes sh flash sram board is same =
     record { flash = sym (length-map flash row_from) ∙ made.rows; sram = made.sram }
 
 -- what formatting left of a board has its cause
-pub format_refused : (given : Given) (setup : OfSetup) (fault : FormatFault) (old left : State) → setup_of given.setup ≡ Some setup → checked setup ≡ Ok tt → ArePlaced setup.shape given.places
+pub format_refused : (given : Given) (setup : OfSetup) (fault : FormatFault) (old left : State) → setup_of given.setup ≡ Some setup → checked setup ≡ Ok tt → IsShape setup.shape → ArePlaced setup.shape given.places
     → HasSizes setup.shape given.flash given.sram → old ≡ board_of setup.shape given → IsTrue left.on → Refuses old setup fault left → CountsFormat (chart old) (chart left) → LeavesPart given left (Of (format_code fault))
-format_refused given setup Off old left is checks placed sizes same on refuses counts = absurd (let clash : true ≡ false = sym on ∙ refuses.0 in cc)
-format_refused given setup (Setup fault) old left is checks placed sizes same on refuses counts = absurd (let clash : Ok tt ≡ Err fault = sym checks ∙ refuses.1 in cc)
-format_refused given setup OtherShape old left is checks placed sizes same on refuses counts = absurd (refuses.2 (ap (λ (s : State). s.shape) same))
-format_refused given setup Memory old left is checks placed sizes same on refuses counts = (NoMemory, refl, (setup, is, checks, (placed, (sizes, inl (refl, refuses.1 ∙ same)))))
-format_refused given setup Bad old left is checks placed sizes same on refuses counts =
-    let none : old.bads ≡ 0 = ap (λ (s : State). s.bads) same in (
+format_refused given setup Off old left is checks shape placed sizes same on refuses counts = absurd (let clash : true ≡ false = sym on ∙ refuses.0 in cc)
+format_refused given setup (Setup fault) old left is checks shape placed sizes same on refuses counts = absurd (let clash : Ok tt ≡ Err fault = sym checks ∙ refuses.1 in cc)
+format_refused given setup OtherShape old left is checks shape placed sizes same on refuses counts = absurd (refuses.2 (ap (λ (s : State). s.shape) same))
+format_refused given setup Memory old left is checks shape placed sizes same on refuses counts = (NoMemory, refl, (setup, is, checks, (placed, (sizes, inl (refl, refuses.1 ∙ same)))))
+format_refused given setup Bad old left is checks shape placed sizes same on refuses counts =
+    let none : old.bads ≡ 0 = ap (λ (s : State). s.bads) same in
+    let reserves : old.shape.reserves ≡ setup.shape.reserves = ap (λ (s : State). s.shape.reserves) same in
+    let room = shape.reserves in
+    let sized = shape.few_segments in
+    let few : old.bads + old.shape.reserves < 2 ^ 64 - 1 = omega (none, reserves, room, sized, arith) in
+    let more : old.bads + old.shape.reserves < left.bads = refuses.3 few in (
       BadCode,
       refl,
       (
@@ -49,7 +55,7 @@ format_refused given setup Bad old left is checks placed sizes same on refuses c
             inr (
               refl,
               record {
-                failed = (let more = refuses.3 (omega (none, arith)) in omega (none, more, arith));
+                failed = subst (λ (s : State). s.shape.reserves < left.bads) same (omega (none, more, arith));
                 unformatted = refuses.2;
                 on = on;
                 counts = subst (λ (s : State). CountsFormat (chart s) (chart left)) same counts;

@@ -11,7 +11,7 @@ use Rattle.envy_memory.specs.Picture.{Picture}
 use Rattle.envy_calls.specs.Making.{Declined, Forbids, IsWhole}
 use Rattle.envy_calls.specs.Setups.{setup_of}
 use Rattle.envy_calls.specs.declared.code.Code.{Code}
-use Rattle.envy_calls.specs.declared.code.Code.TheVariants.{Done, Empty, Off, Range, Held, Full, Busy, Closed, Bad, NoMemory, Open, Zero, Dead, Powered, FlashSize, SramSize, ErasesSize, Policy, Unformatted, Older, OtherShape, Setup, Broken, Small, ImageShort, ImageMark, ImageOther, ImageShape, Absent, MapFull, SlotOpen, MapSetup}
+use Rattle.envy_calls.specs.declared.code.Code.TheVariants.{Done, Empty, Off, Range, Held, Full, Busy, Closed, Bad, NoMemory, Open, Zero, Dead, Powered, FlashSize, SramSize, ErasesSize, Policy, Unformatted, Older, OtherShape, Setup, Broken, Small, ImageShort, ImageMark, ImageOther, ImageShape, Absent, MapFull, SlotOpen, MapSetup, BrokenMap, BadAborted}
 use Rattle.envy_parted.specs.Opening.{Attached, Given, NoBoard, RefusesAttach, board_of}
 use Rattle.envy_parted.specs.declared.code.PartCode.{PartCode}
 use Rattle.envy_parted.specs.declared.code.PartCode.TheVariants.{Of}
@@ -57,6 +57,8 @@ attach_refused given setup Absent old left is checks placed sizes same on declin
 attach_refused given setup MapFull old left is checks placed sizes same on declined = forbidden given setup MapFull old is checks placed sizes same declined.1
 attach_refused given setup SlotOpen old left is checks placed sizes same on declined = forbidden given setup SlotOpen old is checks placed sizes same declined.1
 attach_refused given setup MapSetup old left is checks placed sizes same on declined = forbidden given setup MapSetup old is checks placed sizes same declined.1
+attach_refused given setup BrokenMap old left is checks placed sizes same on declined = forbidden given setup BrokenMap old is checks placed sizes same declined.1
+attach_refused given setup BadAborted old left is checks placed sizes same on declined = forbidden given setup BadAborted old is checks placed sizes same declined.1
 
 -- where there is no board nothing is attached
 pub attach_without_board : (given : Given) (code : PartCode) → NoBoard given code → RefusesAttach given code

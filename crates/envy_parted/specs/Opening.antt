@@ -1,5 +1,5 @@
 -- What opening answers over a part that holds these rows, and SRAM that holds these words.
-use Rattle.std.specs.Prelude.{◌≡◌, ◌≢◌, ◌⊎◌, ⊤, ℕ, ◌*◌, ◌≤◌, IsTrue, List, slice_index, Option, None, Some, Ok}
+use Rattle.std.specs.Prelude.{◌≡◌, ◌≢◌, ◌⊎◌, ℕ, ◌*◌, ◌<◌, IsTrue, List, slice_index, Option, None, Some, Ok}
 use Rattle.envy_base.specs.Map.{words_of}
 use Rattle.envy_base.specs.State.{State}
 use Rattle.envy_base.specs.declared.shape.Shape.{Shape}
@@ -56,15 +56,15 @@ NoBoard given code =
     NoPlaces given.setup given.places code
     ⊎ ((fault : PartFault) × (code ≡ code_of_part fault) × ForPlaces given (λ setup. Misfits setup.shape given.flash given.sram fault))
 
--- Formatting stopped, since an order wasn't carried out: the board that is left isn't formatted.
+-- Formatting stopped, since more erases were bad than positions are in reserve: the board that is left isn't formatted.
 pub record StopsFormat (old left : State) : Type 0 where
-  pub failed : 1 ≤ left.bads
+  pub failed : old.shape.reserves < left.bads
   pub unformatted : slice_index left.sram 0 ≡ 0
   pub on : IsTrue left.on
   pub counts : CountsFormat (chart old) (chart left)
 
--- Why formatting ended without a memory, and the board that it left: no memory is left and nothing was ordered, or an order
--- wasn't carried out.
+-- Why formatting ended without a memory, and the board that it left: no memory is left and nothing was ordered, or more
+-- erases were bad than positions are in reserve.
 abbrev pub EndsFormat : State → Code → State → Type 0
 EndsFormat old code left = ((code ≡ NoMemory) × (left ≡ old)) ⊎ ((code ≡ Bad) × StopsFormat old left)
 
@@ -72,7 +72,8 @@ EndsFormat old code left = ((code ≡ NoMemory) × (left ≡ old)) ⊎ ((code �
 abbrev pub LeavesPart : Given → State → PartCode → Type 0
 LeavesPart given left code = (cause : Code) × (code ≡ Of cause) × ForPart given (λ setup. EndsFormat (board_of setup.shape given) cause left)
 
--- Why no memory was made over a part: there is no board, no memory is left, or an order wasn't carried out.
+-- Why no memory was made over a part: there is no board, no memory is left, or more erases were bad than positions are in
+-- reserve.
 unfoldable pub RefusesFormat : Given → PartCode → Type 0
 RefusesFormat given code =
     NoBoard given code

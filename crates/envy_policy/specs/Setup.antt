@@ -1,8 +1,8 @@
 -- The rules of a setup.
-use Rattle.std.specs.Prelude.{ℕ, ◌-◌, ◌≤◌, ◌==◌, ◌||◌, nat_lt, Bool, false, Result, Ok, Err, if◌then◌else◌}
+use Rattle.std.specs.Prelude.{ℕ, ◌-◌, ◌≤◌, ◌==◌, ◌||◌, nat_lt, min, Bool, false, Result, Ok, Err, if◌then◌else◌}
 use Rattle.envy_base.specs.declared.shape.ShapeFault.{ShapeFault}
-use Rattle.envy_base.specs.declared.shape.ShapeFault.TheVariants.{Segments, Rows, Pages, Frames, Entries, Share, Total}
-use Rattle.envy_base.specs.Shape.{IsShape, checked_within as shape_within, positions_of}
+use Rattle.envy_base.specs.declared.shape.ShapeFault.TheVariants.{Segments, Reserves, Sums, Rows, Pages, Frames, Entries, Share, Total}
+use Rattle.envy_base.specs.Shape.{IsShape, checked_within as shape_within, all_positions_of, positions_of}
 use Rattle.envy_base.specs.declared.shape.TheConstants.{MOST_ROWS}
 use Rattle.envy_policy.specs.declared.setup.Policy.{Policy}
 use Rattle.envy_policy.specs.declared.setup.Policy.TheVariants.{Greedy, Fifo, Locality, Hybrid, Lifetime}
@@ -17,7 +17,7 @@ abbrev pub run_of : Policy → ℕ → ℕ
 run_of Greedy n = n
 run_of Fifo n = n
 run_of Locality n = 1
-run_of (Hybrid part) n = part
+run_of (Hybrid part) n = min part n
 run_of Lifetime n = n
 
 -- which position of a partition is cleaned
@@ -44,7 +44,7 @@ shape_first (Ok done) others = others
 -- the first rule that fails, of a board of so many rows at most: those of the shape, and then part, limit and mark
 unfoldable pub checked_within : ℕ → Setup → Result Unit SetupFault
 checked_within most setup = shape_first (shape_within most setup.shape)
-    (if fails_part setup.policy (positions_of setup.shape) then Err Part
+    (if fails_part setup.policy (all_positions_of setup.shape) then Err Part
     else (if setup.limit == 0 then Err Limit
     else (if setup.mark == 0 || nat_lt setup.shape.frames setup.mark then Err Mark
     else Ok tt)))
@@ -61,6 +61,8 @@ shape_rule Frames = 4
 shape_rule Entries = 5
 shape_rule Share = 6
 shape_rule Total = 7
+shape_rule Reserves = 18
+shape_rule Sums = 19
 
 abbrev pub rule_of : SetupFault → ℕ
 rule_of (OfShape fault) = shape_rule fault

@@ -9,7 +9,7 @@ use crate::class::OpenPositions;
 use crate::counted::Listed;
 use crate::fraction::{Fraction, Weighed};
 use crate::{Choice, Class, Rows};
-use envy_base::{NoMemory, Shape};
+use envy_base::{NoMemory, Shape, positions_of};
 use std::alloc::Global;
 use std::marker::Model;
 
@@ -52,7 +52,7 @@ impl Lifetime {
         ensures { IfOk result (λ lifetime. lifetime ≡ unnoted shape.now.pages (positions_of shape.now)) }
     {
         let born = vec![in alloc; 0; shape.pages as usize]?;
-        let cleaned = vec![in alloc; 0; shape.segments as usize - 1]?;
+        let cleaned = vec![in alloc; 0; positions_of(shape) as usize]?;
         Ok(Lifetime {
             clock: 0,
             born,

@@ -1,7 +1,7 @@
 ghost use Rattle.std.specs.Prelude.{◌≡◌, ◌≤◌, OnOk};
 ghost use Rattle.envy_policy.specs.Setup.{IsSetup, checked, checked_within, rule_of, run_of, victims_of};
 
-use envy_base::{MOST_ROWS, Shape, ShapeFault, positions_of};
+use envy_base::{MOST_ROWS, Shape, ShapeFault, all_positions_of};
 
 /// How the cleaner chooses a position to write to. The positions are split into partitions of
 /// consecutive positions, and each page is written back into its own partition where that has room.
@@ -15,7 +15,7 @@ pub enum Policy {
     Fifo,
     /// Locality gathering: each position is a partition.
     Locality,
-    /// Partitions of so many positions, each cleaned in turn.
+    /// Partitions of so many positions, each cleaned in turn. A number above the positions in use makes one partition.
     Hybrid(u32),
     /// One partition; pages whose copies live about as long lie together.
     Lifetime,
@@ -76,7 +76,7 @@ impl Policy {
         match self {
             Policy::Greedy | Policy::Fifo | Policy::Lifetime => positions,
             Policy::Locality => 1,
-            Policy::Hybrid(part) => *part,
+            Policy::Hybrid(part) => (*part).min(positions),
         }
     }
 
@@ -110,7 +110,7 @@ impl Setup {
         let setup = *self;
         setup.shape.check_within(most)?;
         if let Policy::Hybrid(part) = setup.policy {
-            if part == 0 || part > positions_of(&setup.shape) {
+            if part == 0 || part > all_positions_of(&setup.shape) {
                 return Err(SetupFault::Part);
             }
         }
@@ -125,11 +125,11 @@ impl Setup {
 }
 
 impl SetupFault {
-    /// The number of the rule in the order in which a setup is checked: 1 to 10.
+    /// The number of the rule in the order in which a setup is checked: 1 to 10, and 18 and 19, which are asked after 1.
     pub fn rule(&self) -> u8
         ensures number { result ≡ rule_of self.now }
         ensures first { 1 ≤ result }
-        ensures last { result ≤ 10 }
+        ensures last { result ≤ 19 }
     {
         match self {
             SetupFault::Shape(ShapeFault::Segments) => 1,
@@ -139,6 +139,8 @@ impl SetupFault {
             SetupFault::Shape(ShapeFault::Entries) => 5,
             SetupFault::Shape(ShapeFault::Share) => 6,
             SetupFault::Shape(ShapeFault::Total) => 7,
+            SetupFault::Shape(ShapeFault::Reserves) => 18,
+            SetupFault::Shape(ShapeFault::Sums) => 19,
             SetupFault::Part => 8,
             SetupFault::Limit => 9,
             SetupFault::Mark => 10,

@@ -69,6 +69,18 @@ abbrev pub have_failed : List Call → Bool
 have_failed [] = false
 have_failed (call ∷ past) = if is_failure call then true else have_failed past
 
+-- a call that failed on the second file alone
+abbrev pub is_hindrance : Call → Bool
+is_hindrance BeginFailed = true
+is_hindrance (AppendFailed size) = true
+is_hindrance SecondNotReplaced = true
+is_hindrance other = false
+
+-- how many of these calls did
+abbrev pub hindrances : List Call → ℕ
+hindrances [] = 0
+hindrances (call ∷ past) = if is_hindrance call then suc (hindrances past) else hindrances past
+
 -- A sync that succeeded leaves what the file holds. Behind a call that failed it leaves what there was: the system may have
 -- let go of what it couldn't write, and tells so once.
 abbrev pub SyncLeaves : Bool → List ℕ → List ℕ → List ℕ → Type 0

@@ -39,7 +39,7 @@ impl<F: RawFile> Recorded<F> {
 
 impl<F: RawFile> Device for Recorded<F> {
     ghost use Rattle.std.specs.Prelude.{length};
-    ghost use Rattle.envy_record.specs.Calls.{LeftSince, syncs_in};
+    ghost use Rattle.envy_record.specs.Calls.{LeftSince, hindrances, syncs_in};
     ghost use Rattle.envy_record.specs.Recorded.{before, counts, only};
 
     ghost seen = { λ f. seen_after (F.calls f.file) };
@@ -55,6 +55,8 @@ impl<F: RawFile> Device for Recorded<F> {
     ghost syncs = { λ f. syncs_in (F.calls f.file) };
 
     ghost has_failed = { λ f. have_failed (F.calls f.file) };
+
+    ghost hindered = { λ f. hindrances (F.calls f.file) };
 
     ghost bytewise = { λ f. f.bytewise };
 
@@ -91,9 +93,12 @@ impl<F: RawFile> Device for Recorded<F> {
 }
 
 impl<F: RawFile> Place for Recorded<F> {
+    ghost use Rattle.std.specs.Prelude.{IsTrue};
     ghost use Rattle.envy_record.specs.Calls.{second_after};
 
     ghost second = { λ f. second_after (F.calls f.file) };
+
+    ghost goes_on = { λ f. IsTrue f.begun × (have_failed (F.calls f.file) ≡ false) };
 
     fn begin_second(&mut self) -> Result<(), SecondFailed> {
         if self.file.has_failed() {

@@ -1,9 +1,9 @@
 -- A relocation of a segment with a dead row, step by step.
-use Rattle.std.proofs.Common.{◌≡◌, ◌≢◌, ◌⊎◌, inl, inr, ℕ, ◌+◌, ◌-◌, ◌*◌, ◌/◌, ◌<◌, List, length, get_or, set, Option, Some, refl, sym, ◌∙◌, ap, subst, arith}
+use Rattle.std.proofs.Common.{◌≡◌, ◌≢◌, ◌⊎◌, inl, inr, ℕ, ◌+◌, ◌*◌, ◌/◌, ◌<◌, List, length, get_or, set, Option, Some, refl, sym, ◌∙◌, ap, subst, arith}
 use Rattle.std.proofs.lemmas.Bool.{cases_eq}
 use Rattle.std.proofs.lemmas.List.{get_or-set_same, get_or-set_other}
 use Rattle.envy_base.specs.Counting.{up}
-use Rattle.envy_base.specs.Shape.{IsShape}
+use Rattle.envy_base.specs.Shape.{IsShape, positions_of}
 use Rattle.envy_base.specs.declared.fields.Job.{Job}
 use Rattle.envy_base.specs.declared.fields.Job.TheVariants.{Idle, Copy, Switch, Erase}
 use Rattle.envy_base.specs.declared.shape.Shape.{Shape}
@@ -14,10 +14,11 @@ use Rattle.envy_layout.proofs.NamingLemmas.{Names-into, named-page, job-named, f
 use Rattle.envy_layout.proofs.References.{apart-spare, row-of}
 use Rattle.envy_layout.proofs.SpareLemmas.{one-spare, some-spare}
 use Rattle.envy_space.specs.Pool.{Pool, PoolAgrees, IsPoolOf}
+use Rattle.envy_space.specs.Retiring.{IsFresh}
 use Rattle.envy_reloc.specs.declared.step.Phase.{Phase}
 use Rattle.envy_reloc.specs.declared.step.Phase.TheVariants.{Moved, Copied, Switched, Placed, Erased}
-use Rattle.envy_reloc.specs.Cleaning.{IsSkipped, CleansBy, Cleans}
-use Rattle.envy_reloc.specs.Phases.{Does, MovesOne, MovesRow, CopiesOne, CopiesLeft, SwitchesSegment, PlacesSpare, ErasesSpare, moved_to, copied_to}
+use Rattle.envy_reloc.specs.Cleaning.{IsSkipped, UsesSame, CleansBy, Cleans}
+use Rattle.envy_reloc.specs.Phases.{Does, MovesOne, MovesRow, CopiesOne, CopiesLeft, SwitchesSegment, PlacesSpare, ErasesSpare, Empties, Retires, moved_to, copied_to}
 use Rattle.envy_reloc.specs.Plan.{Plan, IsPlanOf}
 use Rattle.envy_reloc.specs.Rows.{HasRoom, IsLowestRoom, IsLowestLeft, IsLeft}
 use Rattle.envy_reloc.specs.Switching.{SwitchesAll}
@@ -169,14 +170,13 @@ cleans-placed old new p q sh ps k n same sound m a =
     one = one-spare old.shape old.fields old.flash m.e a.e sound m.spare spare
 
     here : m.k ≡ k
-    here = Numbers.apart (Sound.numbers sound) m.k k m.position (subst (λ (z : Shape). k < z.segments - 1) same a.low) (m.here ∙ was.0 ∙ sym a.here ∙ ap (λ (xs : List ℕ). get_or xs k 0) (sym was.1))
+    here = Numbers.apart (Sound.numbers sound) m.k k (omega (arith, m.position)) (omega (arith, subst (λ (z : Shape). k < positions_of z) same a.low)) (m.here ∙ was.0 ∙ sym a.here ∙ ap (λ (xs : List ℕ). get_or xs k 0) (sym was.1))
 
     order : new.fields.positions ≡ set ps k a.e
     order = ap (λ (c : Chart). c.fields.positions) m.is ∙ ap (λ (x : ℕ). set old.fields.positions x m.e) here ∙ ap (λ (x : ℕ). set old.fields.positions k x) one ∙ ap (λ (xs : List ℕ). set xs k a.e) was.1
 
 cleans-erased : (old new : Chart) (p q : Plan) (sh : Shape) (ps : List ℕ) (k n : ℕ) → sh ≡ old.shape → IsSound old → ErasesSpare old p new q → Cleans sh ps k n old.fields p.erased → Cleans sh ps k n new.fields q.erased
-cleans-erased old new p q sh ps k n same sound m a =
-    with-at sh ps k n old.fields new.fields p.erased q.erased a (to-job sh k a.e a.v a.d ps n Idle new.fields q.erased (ap (λ (g : Fields). g.job) m.fields) (ap (λ (g : Fields). g.positions) m.fields ∙ was.0, ap (λ (y : Plan). y.erased) m.plan_is ∙ ap up was.1, rw level was.2))
+cleans-erased old new p q sh ps k n same sound m a = at m.ends
   where
     was : (old.fields.positions ≡ set ps k a.e) × (p.erased ≡ n) × (get_or old.fields.fills a.e 0 < sh.rows)
     was = by-job sh k a.e a.v a.d ps n Erase old.fields p.erased m.erasing a.at
@@ -185,10 +185,20 @@ cleans-erased old new p q sh ps k n same sound m a =
     at_k = ap (λ (xs : List ℕ). get_or xs k 0) was.0 ∙ get_or-set_same ps k a.e 0 (let l = a.long in let low = a.low in omega arith)
 
     other : a.e ≢ m.e
-    other is = IsSpare.nowhere m.spare k (subst (λ (z : Shape). k < z.segments - 1) same a.low) (at_k ∙ is)
+    other is = IsSpare.nowhere m.spare k (omega (arith, subst (λ (z : Shape). k < positions_of z) same a.low)) (at_k ∙ is)
 
-    level : get_or new.fields.fills a.e 0 ≡ get_or old.fields.fills a.e 0
-    level = ap (λ (g : Fields). get_or g.fills a.e 0) m.fields ∙ get_or-set_other old.fields.fills m.e a.e 0 0 other
+    ended : new.fields.job ≡ Some Idle → UsesSame sh new.fields.positions old.fields.positions → get_or new.fields.fills a.e 0 ≡ get_or old.fields.fills a.e 0 → Cleans sh ps k n new.fields q.erased
+    ended idle uses level =
+        with-at sh ps k n old.fields new.fields p.erased q.erased a (to-job sh k a.e a.v a.d ps n Idle new.fields q.erased idle (λ j low. uses j low ∙ ap (λ (xs : List ℕ). get_or xs j 0) was.0, ap (λ (y : Plan). y.erased) m.plan_is ∙ ap up was.1, rw level was.2))
+
+    at : Empties old m.e new ⊎ Retires old m.e new → Cleans sh ps k n new.fields q.erased
+    at (inl x) =
+        ended (ap (λ (g : Fields). g.job) x.fields) (λ j low. ap (λ (g : Fields). get_or g.positions j 0) x.fields)
+        (ap (λ (g : Fields). get_or g.fills a.e 0) x.fields ∙ get_or-set_other old.fields.fills m.e a.e 0 0 other)
+    at (inr x) =
+        ended (ap (λ (g : Fields). g.job) x.fields)
+        (λ j low. ap (λ (g : Fields). get_or g.positions j 0) x.fields ∙ get_or-set_other old.fields.positions x.k j m.e 0 (λ is. absurd (let high = IsFresh.reserved x.fresh.0 in let used = subst (λ (z : Shape). j < positions_of z) same low in omega arith)))
+        (ap (λ (g : Fields). get_or g.fills a.e 0) x.fields ∙ get_or-set_other old.fields.fills m.e a.e old.shape.rows 0 other)
 
 pub cleans-next : (old new : Chart) (p q : Plan) (phase : Phase) (sh : Shape) (ps : List ℕ) (k n : ℕ) → sh ≡ old.shape → IsSound old → 0 < old.shape.rows → IsPlanOf old.shape old.fields old.flash p → Does old p phase new q → Cleans sh ps k n old.fields p.erased → Cleans sh ps k n new.fields q.erased
 cleans-next old new p q Moved sh ps k n same sound some agrees does a = cleans-moved old new p q sh ps k n same sound agrees does a
@@ -198,7 +208,7 @@ cleans-next old new p q Placed sh ps k n same sound some agrees does a = cleans-
 cleans-next old new p q Erased sh ps k n same sound some agrees does a = cleans-erased old new p q sh ps k n same sound does a
 
 -- a cleaning begins where a row of the position is dead
-pub cleans-begun : (old new : Chart) (k n : ℕ) → IsSound old → IsShape old.shape → old.fields.job ≡ Some Idle → k < old.shape.segments - 1 → (dead : (d : ℕ) × (d / old.shape.rows ≡ get_or old.fields.positions k 0) × ((p : ℕ) → Names old.fields p d → ⊥)) → new ≡ with_fields old (with_job (Some (Copy (get_or old.fields.positions k 0))) old.fields) → Cleans old.shape old.fields.positions k n new.fields n
+pub cleans-begun : (old new : Chart) (k n : ℕ) → IsSound old → IsShape old.shape → old.fields.job ≡ Some Idle → k < positions_of old.shape → (dead : (d : ℕ) × (d / old.shape.rows ≡ get_or old.fields.positions k 0) × ((p : ℕ) → Names old.fields p d → ⊥)) → new ≡ with_fields old (with_job (Some (Copy (get_or old.fields.positions k 0))) old.fields) → Cleans old.shape old.fields.positions k n new.fields n
 cleans-begun old new k n sound shape idle low (d, row, dead) is =
     let spare = some-spare old.shape old.fields old.flash sound shape in
     let empty : get_or old.fields.fills spare.0 0 ≡ 0 = Blanks.idle (Sound.blanks sound) spare.0 idle spare.1 in
@@ -215,10 +225,10 @@ cleans-begun old new k n sound shape idle low (d, row, dead) is =
     })
 
 -- what is known once it has ended
-pub cleans-ended : (sh : Shape) (ps : List ℕ) (k n : ℕ) (f : Fields) (m : ℕ) → f.job ≡ Some Idle → (a : Cleans sh ps k n f m) → (f.positions ≡ set ps k a.e) × (m ≡ up n) × (get_or f.fills a.e 0 < sh.rows) × (get_or f.positions k 0 ≡ a.e)
+pub cleans-ended : (sh : Shape) (ps : List ℕ) (k n : ℕ) (f : Fields) (m : ℕ) → f.job ≡ Some Idle → (a : Cleans sh ps k n f m) → UsesSame sh f.positions (set ps k a.e) × (m ≡ up n) × (get_or f.fills a.e 0 < sh.rows) × (get_or f.positions k 0 ≡ a.e)
 cleans-ended sh ps k n f m idle a =
     let at = by-job sh k a.e a.v a.d ps n Idle f m idle a.at in
-    (at.0, at.1, at.2, ap (λ (xs : List ℕ). get_or xs k 0) at.0 ∙ get_or-set_same ps k a.e 0 (let l = a.long in let low = a.low in omega arith))
+    (at.0, at.1, at.2, at.0 k a.low ∙ get_or-set_same ps k a.e 0 (let l = a.long in let low = a.low in omega arith))
 
 -- so the position has a free row
 pub room-cleaned : (sh : Shape) (ps : List ℕ) (k n : ℕ) (f : Fields) (m : ℕ) (pool : Pool) → f.job ≡ Some Idle → Cleans sh ps k n f m → PoolAgrees sh f pool → get_or pool.fills (get_or pool.positions k 0) 0 < sh.rows
@@ -227,7 +237,7 @@ room-cleaned sh ps k n f m pool idle a agrees =
     rw (IsPoolOf.fills agrees, IsPoolOf.positions agrees, at.3) at.2
 
 -- the same, with the position's segment and the count by other names
-pub cleans-begun-at : (old new : Chart) (k n m d v : ℕ) → IsSound old → IsShape old.shape → old.fields.job ≡ Some Idle → (sh : Shape) → sh ≡ old.shape → k < sh.segments - 1 → v ≡ get_or old.fields.positions k 0 → d / old.shape.rows ≡ get_or old.fields.positions k 0 → ((p : ℕ) → Names old.fields p d → ⊥) → new ≡ with_fields old (with_job (Some (Copy v)) old.fields) → m ≡ n → Cleans old.shape old.fields.positions k n new.fields m
+pub cleans-begun-at : (old new : Chart) (k n m d v : ℕ) → IsSound old → IsShape old.shape → old.fields.job ≡ Some Idle → (sh : Shape) → sh ≡ old.shape → k < positions_of sh → v ≡ get_or old.fields.positions k 0 → d / old.shape.rows ≡ get_or old.fields.positions k 0 → ((p : ℕ) → Names old.fields p d → ⊥) → new ≡ with_fields old (with_job (Some (Copy v)) old.fields) → m ≡ n → Cleans old.shape old.fields.positions k n new.fields m
 cleans-begun-at old new k n m d v sound shape idle sh same low here row dead is count =
     subst (λ (x : ℕ). Cleans old.shape old.fields.positions k n new.fields x) (sym count)
-    (cleans-begun old new k n sound shape idle (subst (λ (z : Shape). k < z.segments - 1) same low) (d, row, dead) (is ∙ ap (λ (x : ℕ). with_fields old (with_job (Some (Copy x)) old.fields)) here))
+    (cleans-begun old new k n sound shape idle (subst (λ (z : Shape). k < positions_of z) same low) (d, row, dead) (is ∙ ap (λ (x : ℕ). with_fields old (with_job (Some (Copy x)) old.fields)) here))

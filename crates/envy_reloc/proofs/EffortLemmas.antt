@@ -1,5 +1,5 @@
 -- What each phase leaves to be done.
-use Rattle.std.proofs.Common.{◌≡◌, ◌≢◌, ℕ, ◌+◌, ◌-◌, ◌*◌, ◌<◌, List, [], ◌∷◌, length, get_or, set, Option, Some, None, refl, sym, ◌∙◌, ap, subst, arith}
+use Rattle.std.proofs.Common.{◌≡◌, ◌≢◌, ◌⊎◌, inl, inr, ℕ, ◌+◌, ◌-◌, ◌*◌, ◌<◌, List, [], ◌∷◌, length, get_or, set, Option, Some, None, refl, sym, ◌∙◌, ap, subst, arith}
 use Rattle.std.specs.Prelude.{IfOk, Result, Ok, Err}
 use Rattle.std.proofs.lemmas.List.{get_or-set_same, get_or-set_other, length-append}
 use Rattle.envy_base.specs.Shape.{IsShape}
@@ -21,7 +21,7 @@ use Rattle.envy_reloc.specs.declared.moving.Move.{Move}
 use Rattle.envy_reloc.specs.declared.step.Phase.{Phase}
 use Rattle.envy_reloc.specs.declared.step.Phase.TheVariants.{Moved, Copied, Switched, Placed, Erased}
 use Rattle.envy_reloc.specs.Effort.{LeftOf, Leaves, Spent, programs_of, erases_of}
-use Rattle.envy_reloc.specs.Phases.{Does, MovesOne, MovesRow, CopiesOne, CopiesLeft, SwitchesSegment, IsFirstMove, moved_to}
+use Rattle.envy_reloc.specs.Phases.{Does, MovesOne, MovesRow, CopiesOne, CopiesLeft, SwitchesSegment, Empties, Retires, IsFirstMove, moved_to}
 use Rattle.envy_reloc.specs.Plan.{Plan, IsPlanOf}
 use Rattle.envy_reloc.specs.Rows.{IsLowestLeft, IsLeft}
 use Rattle.envy_reloc.specs.Switching.{SwitchesAll}
@@ -161,13 +161,18 @@ Spent-erased old new plan then_plan n e s erasing ends same left = at (Leaves-at
       fewer = omega arith;
     }
 
+-- an erase and a retirement end the job
+pub ended-idle : (old new : Chart) (e : ℕ) → Empties old e new ⊎ Retires old e new → new.fields.job ≡ Some Idle
+ended-idle old new e (inl x) = ap (λ (g : Fields). g.job) x.fields
+ended-idle old new e (inr x) = ap (λ (g : Fields). g.job) x.fields
+
 -- what a step leaves, by its phase
 pub Spent-done : (old new : Chart) (plan then_plan : Plan) (phase : Phase) → IsSound old → 0 < old.shape.rows → IsPlanOf old.shape old.fields old.flash plan → Does old plan phase new then_plan → Same (programs_of phase) (erases_of phase) old new → (n e s : ℕ) → Leaves old plan n e s → Spent old new then_plan n e s
 Spent-done old new plan then_plan Moved sound some agrees does same n e s left = Spent-moved old new plan then_plan n e s sound agrees does same left
 Spent-done old new plan then_plan Copied sound some agrees does same n e s left = Spent-copied old new plan then_plan n e s sound some agrees does same left
 Spent-done old new plan then_plan Switched sound some agrees does same n e s left = Spent-switched old new plan then_plan n e s does same left
 Spent-done old new plan then_plan Placed sound some agrees does same n e s left = Spent-placed old new plan then_plan n e s does.v does.switching (ap (λ (c : Chart). c.fields.job) does.is) same left
-Spent-done old new plan then_plan Erased sound some agrees does same n e s left = Spent-erased old new plan then_plan n e s does.erasing (ap (λ (g : Fields). g.job) does.fields) same left
+Spent-done old new plan then_plan Erased sound some agrees does same n e s left = Spent-erased old new plan then_plan n e s does.erasing (ended-idle old new does.e does.ends) same left
 
 -- a page that moves from a row to another leaves each frame as it is
 pub FramesStay-moved : (old new : Chart) (s : ℕ) (next : Move) → IsSound old → MovesRow old s next new → FramesStay old.fields.places new.fields.places

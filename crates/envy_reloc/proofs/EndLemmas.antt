@@ -22,6 +22,14 @@ none-kept sh f flash e pool sound erasing spare agrees =
     home : AreHome sh f
     home = AreHome-unless sh f flash sound (λ w switch placed. let clash : Some Erase ≡ Some (Switch w) = sym erasing ∙ switch in cc)
 
+-- the pool after the spare e was emptied, and the job ended
+pub PoolAgrees-emptied : (old mid new : Chart) (e : ℕ) (pool then_pool : Pool) → PoolAgrees old.shape old.fields pool → mid ≡ with_fields old (with_fill e 0 old.fields) → new ≡ with_fields mid (with_job (Some Idle) mid.fields) → then_pool ≡ with_filled e 0 pool → PoolAgrees new.shape new.fields then_pool
+PoolAgrees-emptied old mid new e pool then_pool agrees emptied ended is =
+    subst (λ (p : Pool). PoolAgrees new.shape new.fields p) (sym is)
+    (subst (λ (c : Chart). PoolAgrees c.shape c.fields (with_filled e 0 pool)) (sym ended)
+    (subst (λ (c : Chart). PoolAgrees c.shape (with_job (Some Idle) c.fields) (with_filled e 0 pool)) (sym emptied)
+    (record { shape = agrees.shape; fills = ap (λ (xs : List ℕ). set xs e 0) agrees.fills; positions = agrees.positions; long = agrees.long; kept = agrees.kept })))
+
 -- the spare is erased and empty
 pub BlankSpare-made : (old mid new : Chart) (e w : ℕ) → IsSound old → IsSpare old.shape old.fields.positions e → length old.flash ≡ old.shape.segments * old.shape.rows → mid.shape ≡ old.shape → mid.fields ≡ with_wear e w old.fields → Only old.shape.rows e IsOnes old.flash mid.flash → new ≡ with_fields mid (with_fill e 0 mid.fields) → IsBlankSpare new.shape new.fields new.flash e
 BlankSpare-made old mid new e w sound spare long shape fields only is =
@@ -32,10 +40,3 @@ BlankSpare-made old mid new e w sound spare long shape fields only is =
       fill = get_or-set_same old.fields.fills e 0 0 (rw (Numbers.fills_long (Sound.numbers sound)) spare.segment);
       rows = λ q lt at. Only.inside only q (rw long lt) at;
     })))
-
-pub PoolAgrees-erased : (old new : Chart) (e w : ℕ) (pool then_pool : Pool) → PoolAgrees old.shape old.fields pool → new.shape ≡ old.shape → new.fields ≡ with_job (Some Idle) (with_fill e 0 (with_wear e w old.fields)) → then_pool ≡ with_filled e 0 pool → PoolAgrees new.shape new.fields then_pool
-PoolAgrees-erased old new e w pool then_pool agrees shape fields is =
-    subst (λ (p : Pool). PoolAgrees new.shape new.fields p) (sym is)
-    (subst (λ (f : Fields). PoolAgrees new.shape f (with_filled e 0 pool)) (sym fields)
-    (subst (λ (sh : Shape). PoolAgrees sh (with_job (Some Idle) (with_fill e 0 (with_wear e w old.fields))) (with_filled e 0 pool)) (sym shape)
-    (record { shape = agrees.shape; fills = ap (λ (xs : List ℕ). set xs e 0) agrees.fills; positions = agrees.positions; long = agrees.long; kept = agrees.kept })))

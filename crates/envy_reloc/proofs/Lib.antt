@@ -7,6 +7,7 @@ pub mod Exits
 pub mod KeepLemmas
 pub mod MoveLemmas
 pub mod PlanLemmas
+pub mod RetireLemmas
 pub mod SettleLemmas
 pub mod StepLemmas
 pub mod StepWays

@@ -1,5 +1,5 @@
 -- Plans that agree with the map after each phase.
-use Rattle.std.proofs.Common.{◌≡◌, ◌≢◌, ◌⊎◌, inl, inr, ℕ, ◌-◌, ◌/◌, ◌<◌, ◌≤◌, List, Option, Some, get_or, sym, ◌∙◌, ap, subst, arith}
+use Rattle.std.proofs.Common.{◌≡◌, ◌≢◌, ◌⊎◌, inl, inr, ℕ, ◌/◌, ◌<◌, ◌≤◌, List, Option, Some, get_or, sym, ◌∙◌, ap, subst, arith}
 use Rattle.std.specs.Prelude.{All}
 use Rattle.envy_base.specs.declared.shape.Shape.{Shape}
 use Rattle.envy_base.specs.declared.fields.Job.{Job}
@@ -9,6 +9,7 @@ use Rattle.envy_map.specs.Writes.{with_job}
 use Rattle.envy_layout.specs.Sound.{Sound, Blanks, Jobs, IsPlaced, IsSpare}
 use Rattle.envy_reloc.specs.Switching.{SwitchesAll}
 use Rattle.envy_reloc.specs.Plan.{Plan, IsMarked, IsPlanOf}
+use Rattle.envy_base.specs.Shape.{positions_of}
 
 -- the spare is to be erased, or nothing runs
 pub IsPlanOf-ended : (sh : Shape) (f : Fields) (flash : List (List ℕ)) (plan : Plan) → (f.job ≡ Some Idle) ⊎ (f.job ≡ Some Erase) → IsPlanOf sh f flash plan
@@ -79,7 +80,7 @@ Plan-switched sh f g flash v e plan sound copying switches = record {
     no_copy w is = let clash : Some (Switch v) ≡ Some (Copy w) = sym job ∙ is in cc
 
 -- a copy has begun
-pub Plan-begun : (sh : Shape) (f : Fields) (flash : List (List ℕ)) (v : ℕ) (plan : Plan) → Sound sh f flash → f.job ≡ Some Idle → All (λ (q : ℕ). q / sh.rows ≡ v) plan.moves → ((first last : ℕ) → plan.aside ≡ Some (first, last) → (first ≤ last) × (last < sh.segments - 1)) → plan.mark ≡ 0 → IsPlanOf sh (with_job (Some (Copy v)) f) flash plan
+pub Plan-begun : (sh : Shape) (f : Fields) (flash : List (List ℕ)) (v : ℕ) (plan : Plan) → Sound sh f flash → f.job ≡ Some Idle → All (λ (q : ℕ). q / sh.rows ≡ v) plan.moves → ((first last : ℕ) → plan.aside ≡ Some (first, last) → (first ≤ last) × (last < positions_of sh)) → plan.mark ≡ 0 → IsPlanOf sh (with_job (Some (Copy v)) f) flash plan
 Plan-begun sh f flash v plan sound idle moves aside mark = record {
   prepared = record {
     moves = λ w is. subst (λ (x : ℕ). All (λ (q : ℕ). q / sh.rows ≡ x) plan.moves) (same w is) moves;

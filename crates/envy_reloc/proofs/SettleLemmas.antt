@@ -1,5 +1,5 @@
 -- How a relocation that power stopped is ended.
-use Rattle.std.proofs.Common.{◌≡◌, ◌⊎◌, inl, inr, ℕ, ◌-◌, ◌<◌, ◌≤◌, List, length, get_or, set, replicate, Option, Some, None, sym, ◌∙◌, ap, subst, arith}
+use Rattle.std.proofs.Common.{◌≡◌, ◌⊎◌, inl, inr, ℕ, ◌<◌, ◌≤◌, List, length, get_or, set, replicate, Option, Some, None, sym, ◌∙◌, ap, subst, arith}
 use Rattle.std.specs.Prelude.{false, IsTrue, OnOk, Result, Ok, Err}
 use Rattle.std.proofs.lemmas.Bool.{cases_lt}
 use Rattle.std.proofs.lemmas.List.{get_or_past, get_or-replicate, length-replicate}
@@ -18,6 +18,7 @@ use Rattle.envy_layout.proofs.References.{copy-segment}
 use Rattle.envy_reloc.specs.Settling.{KeepsOthers, Finishes}
 use Rattle.envy_reloc.specs.Switching.{SwitchesPlace, SwitchesRows}
 use Rattle.envy_reloc.proofs.SwitchLemmas.{IsClear-rows}
+use Rattle.envy_base.specs.Shape.{positions_of}
 
 -- what holds of a map, and of the map that a put makes of it, holds wherever the put is cut
 pub fields-written : (old new : Chart) (change : Fields → Fields) (r : Result Unit Off) (P : Fields → Type 0) → P old.fields → P (change old.fields) → Writes change old r new → P new.fields
@@ -31,6 +32,14 @@ KeepsOthers-trans f g h a b = b ∙ ap (λ (x : Fields). record x { job = Fields
 
 pub keeps-written : (f : Fields) (old new : Chart) (change : Fields → Fields) (r : Result Unit Off) → KeepsOthers f old.fields → KeepsOthers old.fields (change old.fields) → Writes change old r new → KeepsOthers f new.fields
 keeps-written f old new change r before step writes = fields-written old new change r (KeepsOthers f) before (KeepsOthers-trans f old.fields (change old.fields) before step) writes
+
+-- a segment that is being switched and stands at no position in use is the spare
+pub freed-spare : (c : Chart) (v : ℕ) → IsSound c → c.fields.job ≡ Some (Switch v) → (IsPlaced c.shape c.fields.positions v → ⊥) → IsSpare c.shape c.fields.positions v
+freed-spare c v sound switching none = at (Jobs.switching (Sound.job sound) v switching)
+  where
+    at : IsPlaced c.shape c.fields.positions v ⊎ IsSpare c.shape c.fields.positions v → IsSpare c.shape c.fields.positions v
+    at (inl placed) = absurd (none placed)
+    at (inr spare) = spare
 
 -- where each undo is clear, none names a row
 pub parted-clear : (sh : Shape) (f : Fields) → length f.undos ≡ sh.pages → ((p : ℕ) → p < sh.pages → undo f p ≡ Some Clear) → AreParted f.slots f.undos f.places
@@ -49,7 +58,7 @@ IsClear-kept old now v e n sound switching placed spare shape rows filled =
     (subst (λ (sh : Shape). SwitchesRows sh e n old.fields now.fields) shape rows))
 
 -- the switch is finished: the spare stands at the position, and the job is to erase
-pub Finishes-made : (old now new : Chart) (v k e n : ℕ) → k < old.shape.segments - 1 → get_or old.fields.positions k 0 ≡ v → IsSpare old.shape old.fields.positions e → now.shape ≡ old.shape → SwitchesRows now.shape e n old.fields now.fields → now.fields.undos ≡ old.fields.undos → get_or old.fields.fills e 0 ≡ n → new.fields ≡ with_job (Some Erase) (with_position k e now.fields) → Finishes old.shape v old.fields new.fields
+pub Finishes-made : (old now new : Chart) (v k e n : ℕ) → k < positions_of old.shape → get_or old.fields.positions k 0 ≡ v → IsSpare old.shape old.fields.positions e → now.shape ≡ old.shape → SwitchesRows now.shape e n old.fields now.fields → now.fields.undos ≡ old.fields.undos → get_or old.fields.fills e 0 ≡ n → new.fields ≡ with_job (Some Erase) (with_position k e now.fields) → Finishes old.shape v old.fields new.fields
 Finishes-made old now new v k e n low here spare shape rows undos filled is = record {
   k = k;
   e = e;

@@ -1,5 +1,5 @@
 -- What stands at the ways out of a step that isn't a copy's.
-use Rattle.std.proofs.Common.{◌≡◌, ◌⊎◌, ℕ, false, IsTrue, Option, Some, sym, subst}
+use Rattle.std.proofs.Common.{◌≡◌, ◌⊎◌, inl, inr, ℕ, false, IsTrue, Option, Some, refl, sym, subst}
 use Rattle.envy_base.specs.declared.fields.Job.{Job}
 use Rattle.envy_base.specs.declared.fields.Job.TheVariants.{Idle, Erase}
 use Rattle.envy_base.specs.declared.shape.Shape.{Shape}
@@ -13,6 +13,7 @@ use Rattle.envy_table.specs.Entries.{Translations}
 use Rattle.envy_table.proofs.HitLemmas.{Rests-refl}
 use Rattle.envy_reloc.specs.Effort.{Leaves, LeftOf}
 use Rattle.envy_reloc.specs.Keeping.{AllFollow}
+use Rattle.envy_reloc.specs.Phases.{Empties, Retires}
 use Rattle.envy_reloc.specs.Plan.{Plan}
 use Rattle.envy_reloc.proofs.Exits.{unpowered}
 use Rattle.envy_reloc.proofs.PlanLemmas.{IsPlanOf-ended}
@@ -35,6 +36,10 @@ pub record IsEnded (f g : Fields) : Type 0 where
   pub slots : g.slots ≡ f.slots
   pub undos : g.undos ≡ f.undos
   pub job : (g.job ≡ Some Idle) ⊎ (g.job ≡ Some Erase)
+
+pub IsEnded-erased : (old new : Chart) (e : ℕ) → Empties old e new ⊎ Retires old e new → IsEnded old.fields new.fields
+IsEnded-erased old new e (inl x) = subst (λ (f : Fields). IsEnded old.fields f) (sym x.fields) (record { places = refl; slots = refl; undos = refl; job = inl refl })
+IsEnded-erased old new e (inr x) = subst (λ (f : Fields). IsEnded old.fields f) (sym x.fields) (record { places = refl; slots = refl; undos = refl; job = inl refl })
 
 pub AllFollow-ended : (old new : Chart) (x y : Pool) (w : Plan) (u : Translations) → new.shape ≡ old.shape → (IsTrue new.on → IsEnded old.fields new.fields) → (IsTrue new.on → PoolAgrees new.shape new.fields y) → y.shape ≡ x.shape
     → AreParted old.fields.slots old.fields.undos old.fields.places → AreCurrent old.shape.pages old.fields.places u.entries → AllFollow old new x y w u u

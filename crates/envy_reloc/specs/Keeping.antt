@@ -1,5 +1,5 @@
 -- What the workers of a relocation need, and what each leaves however it ends.
-use Rattle.std.specs.Prelude.{◌≡◌, ◌≢◌, ℕ, ◌+◌, ◌-◌, ◌*◌, ◌/◌, ◌<◌, List, [], Some, IsTrue, slice_index, slice_index_or}
+use Rattle.std.specs.Prelude.{◌≡◌, ◌≢◌, ℕ, ◌+◌, ◌*◌, ◌/◌, ◌<◌, List, [], Some, IsTrue, slice_index, slice_index_or}
 use Rattle.envy_base.specs.Counting.{up, Tally}
 use Rattle.envy_base.specs.declared.fields.Job.TheVariants.{Idle, Copy, Erase}
 use Rattle.envy_map.specs.Fields.{Chart, with_fields}

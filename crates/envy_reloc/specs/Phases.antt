@@ -16,6 +16,7 @@ use Rattle.envy_reloc.specs.declared.moving.Move.{Move}
 use Rattle.envy_reloc.specs.declared.step.Phase.{Phase}
 use Rattle.envy_reloc.specs.declared.step.Phase.TheVariants.{Moved, Copied, Switched, Placed, Erased}
 use Rattle.envy_base.specs.Shape.{positions_of}
+use Rattle.envy_space.specs.Retiring.{LowestFresh}
 
 -- one program or one erase at most has begun
 abbrev pub SameOnce : Chart → Chart → Type 0
@@ -115,13 +116,26 @@ pub record PlacesSpare (old : Chart) (plan : Plan) (new : Chart) (then_plan : Pl
   pub is : new ≡ with_fields old (with_job (Some Erase) (with_position k e old.fields))
   pub plan_is : then_plan ≡ plan
 
--- the spare is erased, empty and worn once more, and nothing runs
+-- the spare e, worn once more, is erased and empty, and nothing runs
+pub record Empties (old : Chart) (e : ℕ) (new : Chart) : Type 0 where
+  pub fields : new.fields ≡ with_job (Some Idle) (with_fill e 0 (with_wear e (up (slice_index old.fields.wears e)) old.fields))
+  pub erased_rows : Only old.shape.rows e IsOnes old.flash new.flash
+
+-- The erase of the spare e was bad: worn once more and with no free row, it is retired to the lowest fresh position in
+-- reserve. The segment that stood there is the spare, and nothing runs.
+pub record Retires (old : Chart) (e : ℕ) (new : Chart) : Type 0 where
+  pub k : ℕ
+  pub fresh : LowestFresh old.shape old.fields.fills old.fields.positions (Some k)
+  pub fields : new.fields ≡ with_job (Some Idle) (with_position k e (with_fill e old.shape.rows (with_wear e (up (slice_index old.fields.wears e)) old.fields)))
+  pub others : (r : ℕ) → r / old.shape.rows ≢ e → slice_index_or new.flash r [] ≡ slice_index_or old.flash r []
+  pub bad : new.bads ≡ up old.bads
+
+-- the spare is erased, or retired where it can't be
 pub record ErasesSpare (old : Chart) (plan : Plan) (new : Chart) (then_plan : Plan) : Type 0 where
   pub erasing : old.fields.job ≡ Some Erase
   pub e : ℕ
   pub spare : IsSpare old.shape old.fields.positions e
-  pub fields : new.fields ≡ with_job (Some Idle) (with_fill e 0 (with_wear e (up (slice_index old.fields.wears e)) old.fields))
-  pub erased_rows : Only old.shape.rows e IsOnes old.flash new.flash
+  pub ends : Empties old e new ⊎ Retires old e new
   pub plan_is : then_plan ≡ record plan { erased = up plan.erased; since = up plan.since }
 
 -- what a step does, by the phase that it answers
@@ -167,11 +181,13 @@ pub record SpoilsCopy (old : Chart) (plan : Plan) (new : Chart) (then_plan : Pla
   pub spoilt : SpoilsRow old e q new
   pub plan_is : then_plan ≡ record plan { moves = []; copied = up plan.copied }
 
--- the erase was bad: the spare is worn once more, its rows hold anything, and it is still to be erased
+-- the erase was bad, and no position in reserve is fresh: the spare is worn once more, its rows hold anything, and it is
+-- still to be erased
 pub record SpoilsErase (old : Chart) (plan : Plan) (new : Chart) (then_plan : Plan) : Type 0 where
   pub erasing : old.fields.job ≡ Some Erase
   pub e : ℕ
   pub spare : IsSpare old.shape old.fields.positions e
+  pub none : LowestFresh old.shape old.fields.fills old.fields.positions None
   pub fields : new.fields ≡ with_wear e (up (slice_index old.fields.wears e)) old.fields
   pub others : (r : ℕ) → r / old.shape.rows ≢ e → slice_index_or new.flash r [] ≡ slice_index_or old.flash r []
   pub plan_is : then_plan ≡ record plan { erased = up plan.erased; since = up plan.since }

@@ -1,18 +1,18 @@
 -- How a restart ends a relocation that power stopped.
-use Rattle.std.specs.Prelude.{◌≡◌, ◌⊎◌, ℕ, ◌-◌, ◌<◌, List, Option, None, Some, slice_index, slice_set}
+use Rattle.std.specs.Prelude.{◌≡◌, ◌⊎◌, ℕ, ◌<◌, List, Option, None, Some, slice_index, slice_set}
 use Rattle.envy_base.specs.declared.shape.Shape.{Shape}
 use Rattle.envy_base.specs.declared.fields.Job.{Job}
 use Rattle.envy_base.specs.declared.fields.Job.TheVariants.{Idle, Copy, Switch, Erase}
 use Rattle.envy_map.specs.Fields.{Fields}
 use Rattle.envy_map.specs.Writes.{with_job}
-use Rattle.envy_layout.specs.Sound.{IsSpare}
+use Rattle.envy_layout.specs.Sound.{IsPlaced, IsSpare}
 use Rattle.envy_reloc.specs.Switching.{SwitchesPlace}
 use Rattle.envy_base.specs.Shape.{positions_of}
 
--- the position of segment s, or none where it is the spare
+-- the position in use of segment s, or none
 abbrev pub Finds : Shape → List ℕ → ℕ → Option ℕ → Type 0
 Finds sh positions s (Some k) = (k < positions_of sh) × (slice_index positions k ≡ s)
-Finds sh positions s None = IsSpare sh positions s
+Finds sh positions s None = IsPlaced sh positions s → ⊥
 
 -- nothing but the job, positions and places has changed
 abbrev pub KeepsOthers : Fields → Fields → Type 0

@@ -1,6 +1,6 @@
-ghost use Rattle.std.specs.Prelude.{◌≡◌, ◌≢◌, ◌/◌, ◌<◌, ◌-◌, ℕ, IsTrue, Some, OnOk, IsErrOf, slice_index, sum};
+ghost use Rattle.std.specs.Prelude.{◌≡◌, ◌≢◌, ◌⊎◌, ◌/◌, ◌<◌, ◌-◌, ℕ, IsTrue, None, Some, OnOk, IsErrOf, length, slice_index, sum};
 ghost use Rattle.envy_base.specs.Counting.{up, Tally};
-ghost use Rattle.envy_base.specs.State.{row_of, Only, IsOnes};
+ghost use Rattle.envy_base.specs.State.{row_of, IsOnes};
 ghost use Rattle.envy_base.specs.declared.fields.Job.TheVariants.{Idle, Switch, Erase};
 ghost use Rattle.envy_map.specs.Fields.{chart, with_fields};
 ghost use Rattle.envy_map.specs.Writes.{with_fill, with_job, with_position, with_wear};
@@ -9,7 +9,9 @@ ghost use Rattle.envy_layout.specs.Power.{power_of, power_after};
 ghost use Rattle.envy_layout.specs.Same.{Same};
 ghost use Rattle.envy_layout.specs.Sound.{IsSound, IsPlaced, IsSpare};
 ghost use Rattle.envy_space.specs.Pool.{PoolAgrees};
+ghost use Rattle.envy_space.specs.Retiring.{LowestFresh};
 ghost use Rattle.envy_reloc.specs.Keeping.{PoolFollows};
+ghost use Rattle.envy_reloc.specs.Phases.{Empties, Retires};
 ghost use Rattle.envy_base.specs.Shape.{positions_of};
 
 use envy_base::{Board, Off, Trouble};
@@ -45,7 +47,58 @@ pub(crate) fn place_spare<B: Board>(
     begin_erase(board)
 }
 
-/// Erases the spare, which ends the job.
+/// Empties the spare, which was erased, and ends the job.
+fn empty<B: Board>(board: &mut B, space: &mut Space, spare: u32) -> Result<(), Off>
+    requires sound { IsSound (chart (B.state board.old)) }
+    requires on { IsTrue (B.state board.old).on }
+    requires pool { PoolAgrees (B.state board.old).shape (chart (B.state board.old)).fields space.old }
+    requires erasing { (chart (B.state board.old)).fields.job ≡ Some Erase }
+    requires spare { IsSpare (B.state board.old).shape (chart (B.state board.old)).fields.positions spare }
+    requires erased { (q : ℕ) → q < length (B.state board.old).flash → q / (B.state board.old).shape.rows ≡ spare
+        → IsOnes (row_of (B.state board.old) q) }
+
+    ensures same { Same 0 0 (chart (B.state board.old)) (chart (B.state board.new)) }
+    ensures follow { PoolFollows (chart (B.state board.new)) space.old space.new }
+    ensures power { (B.state board.new).on ≡ power_of result }
+    ensures empties { OnOk result (chart (B.state board.new) ≡ with_fields (chart (B.state board.old))
+        (with_job (Some Idle) (with_fill spare 0 (chart (B.state board.old)).fields))) }
+{
+    empty_spare(board, spare)?;
+    space.note_erased(spare);
+    end_job(board)?;
+    Ok(())
+}
+
+/// Retires the spare, whose erase was bad, to the lowest position in reserve that is fresh, and ends the job. Where
+/// none is fresh nothing changes.
+fn retire<B: Board>(board: &mut B, space: &mut Space) -> Result<(), Trouble>
+    requires sound { IsSound (chart (B.state board.old)) }
+    requires on { IsTrue (B.state board.old).on }
+    requires pool { PoolAgrees (B.state board.old).shape (chart (B.state board.old)).fields space.old }
+    requires erasing { (chart (B.state board.old)).fields.job ≡ Some Erase }
+
+    ensures same { Same 0 0 (chart (B.state board.old)) (chart (B.state board.new)) }
+    ensures follow { PoolFollows (chart (B.state board.new)) space.old space.new }
+    ensures power { (B.state board.new).on ≡ power_after result }
+    ensures retires { OnOk result ((k e : ℕ)
+        × IsSpare (B.state board.old).shape (chart (B.state board.old)).fields.positions e
+        × LowestFresh (B.state board.old).shape (chart (B.state board.old)).fields.fills
+        (chart (B.state board.old)).fields.positions (Some k)
+        × (chart (B.state board.new) ≡ with_fields (chart (B.state board.old)) (with_job (Some Idle)
+        (with_position k e (with_fill e (B.state board.old).shape.rows (chart (B.state board.old)).fields))))) }
+    ensures none { IsErrOf result Trouble.Bad → (B.state board.new ≡ B.state board.old)
+        × LowestFresh (B.state board.old).shape (chart (B.state board.old)).fields.fills
+        (chart (B.state board.old)).fields.positions None }
+{
+    let Some(position) = space.fresh_reserve() else {
+        return Err(Trouble::Bad);
+    };
+    space.retire(board, position)?;
+    end_job(board)?;
+    Ok(())
+}
+
+/// Erases the spare, or retires it where its erase is bad and a position in reserve is fresh. Either ends the job.
 pub(crate) fn erase<B: Board>(
     board: &mut B,
     space: &mut Space,
@@ -64,15 +117,14 @@ pub(crate) fn erase<B: Board>(
     ensures counted { IsTrue (B.state board.new).on → (erased.new ≡ up erased.old) × (since.new ≡ up since.old) }
     ensures counts { Tally (sum (B.state board.old).erases) erased.old (sum (B.state board.new).erases) erased.new
         × Tally (sum (B.state board.old).erases) since.old (sum (B.state board.new).erases) since.new }
-    ensures erases { OnOk result ((e : ℕ)
+    ensures ends { OnOk result ((e : ℕ)
         × IsSpare (B.state board.old).shape (chart (B.state board.old)).fields.positions e
-        × ((chart (B.state board.new)).fields
-        ≡ with_job (Some Idle)
-        (with_fill e 0 (with_wear e (up (slice_index (chart (B.state board.old)).fields.wears e))
-        (chart (B.state board.old)).fields)))
-        × Only (B.state board.old).shape.rows e IsOnes (B.state board.old).flash (B.state board.new).flash) }
+        × (Empties (chart (B.state board.old)) e (chart (B.state board.new))
+        ⊎ Retires (chart (B.state board.old)) e (chart (B.state board.new)))) }
     ensures spoilt { IsErrOf result Trouble.Bad → (e : ℕ)
         × IsSpare (B.state board.old).shape (chart (B.state board.old)).fields.positions e
+        × LowestFresh (B.state board.old).shape (chart (B.state board.old)).fields.fills
+        (chart (B.state board.old)).fields.positions None
         × ((chart (B.state board.new)).fields
         ≡ with_wear e (up (slice_index (chart (B.state board.old)).fields.wears e)) (chart (B.state board.old)).fields)
         × ((r : ℕ) → r / (B.state board.old).shape.rows ≢ e
@@ -80,9 +132,12 @@ pub(crate) fn erase<B: Board>(
     ensures bad { IsErrOf result Trouble.Bad → (B.state board.new).bads ≡ up (B.state board.old).bads }
 {
     let spare = space.spare();
-    erase_counted(board, spare, erased, since)?;
-    empty_spare(board, spare)?;
-    space.note_erased(spare);
-    end_job(board)?;
-    Ok(())
+    match erase_counted(board, spare, erased, since) {
+        Ok(()) => {
+            empty(board, space, spare)?;
+            Ok(())
+        }
+        Err(Trouble::Bad) => retire(board, space),
+        Err(Trouble::Off) => Err(Trouble::Off),
+    }
 }

@@ -6,15 +6,15 @@ ghost use Rattle.envy_layout.specs.Power.{power_of};
 ghost use Rattle.envy_layout.specs.Same.{Same};
 ghost use Rattle.envy_layout.specs.Sound.{IsSound, IsPlaced, IsSpare};
 ghost use Rattle.envy_reloc.specs.Settling.{Finds, KeepsOthers, Finishes, Settles};
-ghost use Rattle.envy_base.specs.Shape.{positions_of};
+ghost use Rattle.envy_base.specs.Shape.{all_positions_of, positions_of};
 
 use crate::Reloc;
 use crate::switching::switch_row;
-use envy_base::{Board, Job, Off, positions_of};
+use envy_base::{Board, Job, Off, all_positions_of, positions_of};
 use envy_layout::{begin_erase, replace_segment};
 use envy_map::{fill, job, segment_at};
 
-/// The position of a segment, if it stands at one.
+/// The position in use of a segment, if it stands at one.
 fn find_position<B: Board>(board: &B, segment: u32) -> Result<Option<u32>, Off>
     requires sound { IsSound (chart (B.state board.now)) }
     requires segment { segment < (B.state board.now).shape.segments }
@@ -35,13 +35,14 @@ fn placed_segments<B: Board>(board: &B) -> Result<[bool; 4096], Off>
     requires sound { IsSound (chart (B.state board.now)) }
     ensures long { IfOk result (λ placed. length placed ≡ 4096) }
     ensures placed { IfOk result (λ placed. (s : ℕ) → IsTrue (slice_index_or placed s false)
-        → IsPlaced (B.state board.now).shape (chart (B.state board.now)).fields.positions s) }
-    ensures all { IfOk result (λ placed. (k : ℕ) → k < positions_of (B.state board.now).shape
+        → (k : ℕ) × (k < all_positions_of (B.state board.now).shape)
+        × (slice_index (chart (B.state board.now)).fields.positions k ≡ s)) }
+    ensures all { IfOk result (λ placed. (k : ℕ) → k < all_positions_of (B.state board.now).shape
         → IsTrue (slice_index_or placed (slice_index (chart (B.state board.now)).fields.positions k) false)) }
     ensures off { OnErr result ((B.state board.now).on ≡ false) }
 {
     let mut placed = [false; 4096];
-    for position in 0..positions_of(&board.shape()) {
+    for position in 0..all_positions_of(&board.shape()) {
         placed[segment_at(board, position)? as usize] = true;
     }
     Ok(placed)

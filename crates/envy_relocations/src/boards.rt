@@ -23,6 +23,8 @@ pub(crate) const SHAPE: Shape = Shape {
     shadows: 2,
     frames: 2,
     entries: 2,
+    reserves: 0,
+    sums: 0,
 };
 
 /// What a test writes on a board.

@@ -60,6 +60,8 @@ const SHAPE: Shape = Shape {
     shadows: 0,
     frames: 2,
     entries: 1,
+    reserves: 0,
+    sums: 0,
 };
 
 /// Formats a board, and wears the segments at its three positions so often more.

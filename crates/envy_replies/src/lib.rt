@@ -25,6 +25,8 @@ mod playing;
 #[cfg(test)]
 mod refused;
 #[cfg(test)]
+mod reserves;
+#[cfg(test)]
 mod rows;
 #[cfg(test)]
 mod streams;

@@ -1,19 +1,24 @@
 -- A board to which a memory is attached until it is.
 use Rattle.std.proofs.Common.{◌≡◌, inl, inr, ℕ, zero, suc, ◌<◌, false, refl, sym, ap, ◌∙◌, subst, arith}
-use Rattle.std.specs.Prelude.{IsTrue}
+use Rattle.std.specs.Prelude.{IsTrue, Ok, Err}
 use Rattle.envy_base.specs.Array.{Array}
+use Rattle.envy_base.specs.Shape.{IsShape}
 use Rattle.envy_base.specs.State.{State, lit}
 use Rattle.envy_base.specs.declared.shape.Shape.{Shape}
 use Rattle.envy_layout.specs.Same.{Counted, Grows, Kept}
-use Rattle.envy_layout.specs.Sound.{Head, IsSound, Sound}
+use Rattle.envy_layout.specs.Sound.{IsSound}
 use Rattle.envy_layout.specs.Stands.{Stands}
 use Rattle.envy_layout.specs.Words.{durable}
-use Rattle.envy_map.specs.Fields.{Chart, chart, IsFormatted}
+use Rattle.envy_map.specs.Fields.{Chart, chart, IsFormatted, shape_of}
 use Rattle.envy_memory.specs.Attaching.{Attaches, Declines}
 use Rattle.envy_memory.specs.Calls.{fresh}
 use Rattle.envy_memory.specs.Picture.{Picture}
-use Rattle.envy_memory.specs.declared.faults.AttachFault.TheVariants.{Off}
+use Rattle.envy_memory.specs.declared.faults.AttachFault.{AttachFault}
+use Rattle.envy_memory.specs.declared.faults.AttachFault.TheVariants.{Off, Setup as OfSetup, NotFormatted, OtherShape, Memory}
+use Rattle.envy_memory.proofs.AttachLemmas.{formatted-sound, kept-shape}
+use Rattle.envy_policy.specs.Setup.{checked}
 use Rattle.envy_policy.specs.declared.setup.Setup.{Setup}
+use Rattle.envy_run.proofs.Checked.{shape-of-checked}
 use Rattle.envy_run.specs.Attached.{HoldsStill, IsAttached, IsUntouched, KeepsImage}
 
 untouched-kept : (old s t : Chart) → IsUntouched old s → Kept s t → IsUntouched old t
@@ -46,7 +51,7 @@ untouched-kept old s t u k =
 
 -- what a restart keeps is formatted still
 formatted-kept : (s t : Chart) → IsFormatted s.fields → Kept s t → IsFormatted t.fields
-formatted-kept s t (magic, version) k = (k.magic ∙ magic, Head.versions (Sound.head k.sound))
+formatted-kept s t (magic, version) k = formatted-sound t (k.magic ∙ magic) k.sound
 
 keeps-kept : (old s t : Chart) → KeepsImage old s → Kept s t → (t.cuts ≡ 0 → ⊥) → KeepsImage old t
 keeps-kept old s t k kept cut = record {
@@ -93,6 +98,16 @@ keeps-off old s t setup k (off, inr (may, kept, rose)) = keeps-kept old (chart s
   where
     cut : t.cuts ≡ 0 → ⊥
     cut none = let low = Counted.cuts (Kept.counted kept) in let more = rose (omega arith) in absurd (omega arith)
+
+-- attaching to a formatted and sound board of the setup's shape is refused for want of power or memory alone
+pub never-declined : (s t : State) (setup : Setup) (fault : AttachFault) → checked setup ≡ Ok tt → s.shape ≡ setup.shape → IsFormatted (chart s).fields → IsSound (chart s) → (fault ≡ Off → ⊥) → (fault ≡ Memory → ⊥) → Declines s setup fault t → ⊥
+never-declined s t setup Off checks shape formatted sound on room d = on refl
+never-declined s t setup Memory checks shape formatted sound on room d = room refl
+never-declined s t setup (OfSetup fault) checks shape formatted sound on room (power, fails, same) = let clash : Ok tt ≡ Err fault = sym checks ∙ fails in cc
+never-declined s t setup NotFormatted checks shape formatted sound on room (power, ok, never, same) = never formatted
+never-declined s t setup (OtherShape kept) checks shape formatted sound on room (power, ok, was, is, other, same) =
+    let sized : IsShape s.shape = subst IsShape (sym shape) (shape-of-checked setup checks) in
+    other (is ∙ (sym (kept-shape (chart s) (shape_of (chart s).fields) sized sound refl) ∙ shape))
 
 -- without a return of power left none is left
 pub no-lives : (n : ℕ) → (0 < n → IsTrue false) → n ≡ 0

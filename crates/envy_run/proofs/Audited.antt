@@ -30,8 +30,8 @@ image-taken Unmarked bytes o io holds calm r =
     let (none, eight, other) = r.cause in
     absurd (never-unmarked holds.image holds.rest holds.whole bytes io.feed (sym holds.told ∙ TookOnly.source r.took) eight other)
 image-taken Misshapen bytes o io holds calm r =
-    let (none, sh, fault, is, fails, fit) = r.cause in
-    absurd (never-misshapen holds.image holds.rest holds.whole bytes io.feed (sym holds.told ∙ TookOnly.source r.took) sh fault is fails fit)
+    let (none, fault, misshapen) = r.cause in
+    absurd (never-misshapen holds.image holds.rest holds.whole bytes io.feed (sym holds.told ∙ TookOnly.source r.took) fault misshapen)
 image-taken Upset bytes o io holds calm r =
     let (now, is, reach, either) = r.cause in
     absurd (at now (calm r.ending now is) either)

@@ -44,14 +44,16 @@ map-in p b es s = subst (λ (ws : List ℕ). IsIndex ws es) (sym (words-shut p b
 pub size-in : (p : Picture) (b : Bool) (es : Pairs) → Serving p b es → length (sheet_of p b).words ≤ 2 ^ 25
 size-in p b es s = let n = words_long (p.chart.on && b) p.chart in let few = s.size in omega arith
 
-shape-same : (s t : Shape) → s.segments ≡ t.segments → s.rows ≡ t.rows → s.pages ≡ t.pages → s.shadows ≡ t.shadows → s.frames ≡ t.frames → s.entries ≡ t.entries → s ≡ t
-shape-same s t e1 e2 e3 e4 e5 e6 =
+shape-same : (s t : Shape) → s.segments ≡ t.segments → s.rows ≡ t.rows → s.pages ≡ t.pages → s.shadows ≡ t.shadows → s.frames ≡ t.frames → s.entries ≡ t.entries → s.reserves ≡ t.reserves → s.sums ≡ t.sums → s ≡ t
+shape-same s t e1 e2 e3 e4 e5 e6 e7 e8 =
     ap (λ (n : ℕ). record s { segments = n }) e1
     ∙ ap (λ (n : ℕ). record s { segments = t.segments; rows = n }) e2
     ∙ ap (λ (n : ℕ). record s { segments = t.segments; rows = t.rows; pages = n }) e3
-    ∙ ap (λ (n : ℕ). record t { shadows = n; frames = s.frames; entries = s.entries }) e4
-    ∙ ap (λ (n : ℕ). record t { frames = n; entries = s.entries }) e5
-    ∙ ap (λ (n : ℕ). record t { entries = n }) e6
+    ∙ ap (λ (n : ℕ). record s { segments = t.segments; rows = t.rows; pages = t.pages; shadows = n }) e4
+    ∙ ap (λ (n : ℕ). record t { frames = n; entries = s.entries; reserves = s.reserves; sums = s.sums }) e5
+    ∙ ap (λ (n : ℕ). record t { entries = n; reserves = s.reserves; sums = s.sums }) e6
+    ∙ ap (λ (n : ℕ). record t { reserves = n; sums = s.sums }) e7
+    ∙ ap (λ (n : ℕ). record t { sums = n }) e8
 
 -- what the fixed numbers say
 pub record Fixed (c d : Chart) : Type 0 where
@@ -75,7 +77,7 @@ numbers-tell (Some (PlanBad k g)) (Some (PlanCut l h)) e = absurd (let never : �
 
 pub fixed-says : (c d : Chart) → fixed_of d ≡ fixed_of c → Fixed c d
 fixed-says c d same = record {
-  shape = shape-same d.shape c.shape (cc) (cc) (cc) (cc) (cc) (cc);
+  shape = shape-same d.shape c.shape (cc) (cc) (cc) (cc) (cc) (cc) (cc) (cc);
   pulled = cc;
   plans = cc;
   given = cc;

@@ -1,5 +1,5 @@
 -- The flash work of lines of an index, from that of the tree's calls.
-use Rattle.std.proofs.Common.{◌≡◌, ℕ, ◌+◌, ◌*◌, ◌≤◌, Bool, List, [], refl, sym, ap, subst, arith}
+use Rattle.std.proofs.Common.{◌≡◌, ℕ, ◌+◌, ◌*◌, ◌≤◌, Bool, List, refl, sym, ap, subst, arith}
 use Rattle.std.proofs.Math.Nat.{mul-le-mul_left}
 use Rattle.std.specs.Prelude.{sum}
 use Rattle.envy_base.specs.Words.{Spends as SheetSpends}
@@ -8,14 +8,13 @@ use Rattle.envy_base.specs.declared.shape.Shape.{Shape}
 use Rattle.envy_layout.specs.Same.{Counted, Grows, Kept}
 use Rattle.envy_map.specs.Fields.{Chart}
 use Rattle.envy_memory.specs.Below.{flush_programs, flush_erases}
-use Rattle.envy_base.specs.declared.faults.PlannedFault.{PlannedFault}
 use Rattle.envy_memory.specs.Calls.{lit, planned}
 use Rattle.envy_memory.specs.Picture.{Picture}
 use Rattle.envy_memory.specs.Sheets.{sheet_of}
 use Rattle.envy_run.specs.IndexSpending.{SpendsPuts, IsThriftyIndex, puts_in}
 use Rattle.envy_run.specs.IndexTurns.{IndexTurn}
 use Rattle.envy_run.specs.Spending.{Spends}
-use Rattle.envy_run.proofs.Spent.{spends-none, spends-trans}
+use Rattle.envy_run.proofs.Spent.{spends-none}
 
 pub puts-none : (c : Chart) → SpendsPuts 0 c c
 puts-none c = spends-none (0 * flush_programs c.shape.rows) (0 * flush_erases) c c refl refl

@@ -1,9 +1,9 @@
 -- What an index did in a line and in a trace, from what its calls say.
-use Rattle.std.proofs.Common.{◌≡◌, ◌⊎◌, inl, inr, ℕ, ◌+◌, ◌*◌, ◌^◌, ◌<◌, ◌≤◌, Bool, true, false, List, [], ◌∷◌, ◌++◌, length, take, refl, sym, ◌∙◌, ap, subst, arith}
-use Rattle.std.specs.Prelude.{IsTrue, Option, None, Some, IfSome, Result, Ok, Err, replicate, sum, ◌↔◌, ◌&&◌}
+use Rattle.std.proofs.Common.{◌≡◌, ◌⊎◌, inl, inr, ℕ, ◌+◌, ◌*◌, ◌^◌, ◌<◌, ◌≤◌, Bool, true, false, List, [], ◌∷◌, ◌++◌, take, refl, sym, ◌∙◌, ap, subst, arith}
+use Rattle.std.specs.Prelude.{IsTrue, Option, None, Some, IfSome, Result, Ok, Err, replicate, ◌↔◌, ◌&&◌}
 use Rattle.std.proofs.lemmas.List.{append-nil}
 use Rattle.envy_base.specs.declared.faults.PlannedFault.{PlannedFault}
-use Rattle.envy_base.specs.Shape.{IsShape}
+use Rattle.envy_base.specs.Shape.{IsShape, version_of}
 use Rattle.envy_base.specs.State.{State, IsMade}
 use Rattle.envy_base.proofs.Counting.{up-least, up-below}
 use Rattle.envy_base.proofs.Undoing.{undo_all-closed}
@@ -27,15 +27,13 @@ use Rattle.envy_layout.specs.Stands.{Stands, Holds}
 use Rattle.envy_layout.specs.Words.{durable}
 use Rattle.envy_map.specs.Codes.{the_magic}
 use Rattle.envy_map.specs.Fields.{Chart, chart}
-use Rattle.envy_memory.proofs.Counted.{below-top, up-low}
+use Rattle.envy_memory.proofs.Counted.{up-low}
 use Rattle.envy_memory.specs.Below.{flush_programs, flush_erases}
 use Rattle.envy_memory.specs.Calls.{fresh, lit, pulled}
 use Rattle.envy_memory.specs.Formats.{IsFresh}
 use Rattle.envy_memory.specs.Picture.{Picture}
-use Rattle.envy_memory.specs.Rises.{RoseOver}
 use Rattle.envy_memory.specs.Sheets.{sheet_of}
 use Rattle.envy_policy.specs.declared.setup.Setup.{Setup}
-use Rattle.envy_serve.proofs.Counts.{count-lines, count-of}
 use Rattle.envy_serve.specs.declared.service.Obeyed.{Obeyed}
 use Rattle.envy_serve.specs.declared.service.Obeyed.TheVariants.{Done, WriteFault, Dead}
 use Rattle.envy_serve.specs.declared.serving.End.{End}
@@ -47,21 +45,22 @@ use Rattle.envy_serve.proofs.Advancing.{Serves-as, served-either}
 use Rattle.envy_run.specs.Done.{OnBoard}
 use Rattle.envy_run.specs.Headline.{index_task}
 use Rattle.envy_run.specs.IndexDone.{HoldsIndex, HoldsIndexOff, IndexDies, IndexLicences}
-use Rattle.envy_run.specs.IndexServing.{Serving, LostAt, AnswersIndex, ReplyLicence, LineLicence, IndexOff, IndexBack, RecoversIndex, IndexLineDone, IndexLineDead, ObeysIndex, IndexLicensed, IndexedSince, FellIn, FellSince}
-use Rattle.envy_run.specs.IndexSpending.{SpendsPuts, puts_of, puts_in, tries_before}
-use Rattle.envy_run.specs.IndexTurns.{Pairs, IndexTurn, IndexRun, Says, Faults, Loses, DoesIndex, is_command, FailsIn, index_grammar, most_of, before_restart, is_power, is_plan, plan_of, is_lost, is_fault}
-use Rattle.envy_run.specs.Licence.{Licence, plans_in, newest}
+use Rattle.envy_run.specs.IndexServing.{Serving, LostAt, AnswersIndex, ReplyLicence, LineLicence, IndexOff, IndexBack, RecoversIndex, IndexLineDone, IndexLineDead, ObeysIndex, IndexedSince, FellIn, FellSince}
+use Rattle.envy_run.specs.IndexSpending.{SpendsPuts, puts_of, puts_in}
+use Rattle.envy_run.specs.IndexTurns.{Pairs, IndexTurn, IndexRun, Says, Faults, Loses, is_command, FailsIn, index_grammar, most_of, before_restart, is_power, plan_of, is_lost, is_fault}
+use Rattle.envy_run.specs.Licence.{Licence, plans_in}
 use Rattle.envy_run.specs.Outcome.{Outcome, ending_of, outcome_of}
 use Rattle.envy_run.specs.Prepares.{IsPrepared, IsReady, NoneBegun, WasMade}
 use Rattle.envy_run.specs.Task.{DoesTask}
 use Rattle.envy_run.specs.declared.ending.Finished.{Finished}
 use Rattle.envy_run.proofs.Accounts.{account_of, served_outcome, unread}
-use Rattle.envy_run.proofs.IndexSpent.{puts-none, puts-then, puts-more, spends-lit, thrifty-index}
+use Rattle.envy_run.proofs.IndexSpent.{puts-none, puts-then, puts-more, spends-lit}
 use Rattle.envy_run.proofs.Obeying.{Licence-as, front-after, front-before, one-more}
-use Rattle.envy_run.proofs.Recovering.{Licence-trans, Licence-revived, plans-count}
+use Rattle.envy_run.proofs.Recovering.{Licence-trans, Licence-revived}
 use Rattle.envy_run.proofs.Replying.{Licence-refl}
 use Rattle.envy_run.proofs.Spent.{spends-none}
-use Rattle.envy_run.proofs.Traced.{IsTriedOn, tried-on, times-few}
+use Rattle.envy_run.proofs.Traced.{tried-on}
+use Rattle.envy_run.proofs.IndexLicensed.{IndexBegan, licences-none, licences-since}
 
 texts-one : (reply : IndexReply) → texts index_grammar (reply ∷ []) ≡ index_bytes reply ++ newline ∷ []
 texts-one reply = append-nil (index_bytes reply ++ newline ∷ [])
@@ -280,112 +279,6 @@ index-obeys first p q b d turns line Dead sink then_sink t (dead, told) = (
   told,
 )
 
--- ---- licences
-
--- each line that plans a failure plans one
-length-plan : (line : IndexLine) → length (plan_of line) ≡ one_if (is_plan line)
-length-plan Empty = refl
-length-plan (Get key) = refl
-length-plan (Insert key value) = refl
-length-plan (Remove key) = refl
-length-plan Power = refl
-length-plan (Cut k g) = refl
-length-plan (Bad k g) = refl
-
-length-plans : (turns : List IndexTurn) → length (plans_in plan_of turns) ≡ count_lines is_plan turns
-length-plans turns = plans-count plan_of is_plan length-plan turns
-
--- a line has two replies at most
-does-few : (most : ℕ) (es : Pairs) (line : IndexLine) (replies : List IndexReply) (n : Pairs) → DoesIndex most es line replies n → length replies ≤ 2
-does-few most es line replies n (inl (empty, none, same)) = let e = ap length none in omega arith
-does-few most es line replies n (inr (inl (reply, one, says))) = let e = ap length one in omega arith
-does-few most es line replies n (inr (inr (inl (two, loses)))) = let e = ap length two in omega arith
-does-few most es line replies n (inr (inr (inr (power, one, is)))) = let e = ap length one in omega arith
-
-run-few : (test : IndexReply → Bool) (most : ℕ) (turns : List IndexTurn) (n : Pairs) → IndexRun most turns n → count_replies test turns ≤ 2 * length turns
-run-few test most [] n run = omega arith
-run-few test most (turn ∷ earlier) n (mid, before, does) =
-    let rest = run-few test most earlier mid before in
-    let here = count-of test turn.replies in
-    let few = does-few most mid turn.line turn.replies n does in
-    omega arith
-
-before-few : (line : IndexLine) → length (before_restart line) ≤ 1
-before-few Empty = omega arith
-before-few (Get key) = omega arith
-before-few (Insert key value) = omega arith
-before-few (Remove key) = omega arith
-before-few Power = omega arith
-before-few (Cut k g) = omega arith
-before-few (Bad k g) = omega arith
-
-since-few : (test : IndexReply → Bool) (first : Chart) (p : Picture) (b : Bool) (turns : List IndexTurn) → IndexedSince first p b turns ⊎ FellSince first p.chart turns → count_replies test turns ≤ 2 * length turns
-since-few test first p b turns (inl t) = run-few test (most_of p.chart.shape.pages) turns (IndexedSince.pairs t) (IndexedSince.run t)
-since-few test first p b [] (inr d) = omega arith
-since-few test first p b (turn ∷ earlier) (inr d) =
-    let rest = run-few test (most_of p.chart.shape.pages) earlier (FellIn.pairs (FellSince.fell d)) (FellIn.run (FellSince.fell d)) in
-    let here = count-of test turn.replies in
-    let few = before-few turn.line in
-    let same = ap length (FellIn.replies (FellSince.fell d)) in
-    omega arith
-
-licensed-either : (first : Chart) (p : Picture) (b : Bool) (turns : List IndexTurn) → IndexedSince first p b turns ⊎ FellSince first p.chart turns → IndexLicensed turns first p.chart
-licensed-either first p b turns (inl t) = IndexedSince.licensed t
-licensed-either first p b turns (inr d) = FellSince.licensed d
-
-spent-either : (first : Chart) (p : Picture) (b : Bool) (turns : List IndexTurn) → IndexedSince first p b turns ⊎ FellSince first p.chart turns → SpendsPuts (puts_in turns) first p.chart
-spent-either first p b turns (inl t) = IndexedSince.spent t
-spent-either first p b turns (inr d) = FellSince.spent d
-
--- what a board was when its trace began
-pub record IndexBegan (setup : Setup) (returns : ℕ) (first : Chart) : Type 0 where
-  pub shape : first.shape ≡ setup.shape
-  pub given : first.given ≡ returns
-  pub pulled : first.pulled ≡ 0
-  pub plans : first.plans ≡ 0
-  pub last_plan : first.last_plan ≡ None
-  pub begun : first.begun ≡ 0
-  pub tried : IsTriedOn setup first
-
-tried-erases : (setup : Setup) (returns : ℕ) (c : Chart) (b : IndexBegan setup returns c) → sum c.erases ≤ c.shape.segments * IsTriedOn.times (IndexBegan.tried b)
-tried-erases setup returns c b = subst (λ (sh : Shape). sum c.erases ≤ sh.segments * IsTriedOn.times (IndexBegan.tried b)) (sym b.shape) (IsTriedOn.erases b.tried)
-
--- before the first line there is nothing to license
-licences-none : (setup : Setup) (returns : ℕ) (c : Chart) → IndexBegan setup returns c → IndexLicences setup returns [] c
-licences-none setup returns c b = record {
-  shape = b.shape;
-  given = b.given;
-  pulled = b.pulled;
-  plans = b.plans;
-  last_plan = b.last_plan;
-  losts = omega arith;
-  faults = omega arith;
-  thrifty = thrifty-index (IsTriedOn.times b.tried) (tries_before [] c) [] c c refl (let paid = IsTriedOn.paid b.tried in omega arith) b.begun (tried-erases setup returns c b) (puts-none c);
-}
-
--- what the board's counts say of the turns since it was formatted
-licences-since : (setup : Setup) (returns : ℕ) (first : Chart) (p : Picture) (d : Bool) (turns : List IndexTurn) → IndexBegan setup returns first → length turns ≤ most_bytes → IndexedSince first p d turns ⊎ FellSince first p.chart turns → IndexLicences setup returns turns p.chart
-licences-since setup returns first p d turns b few since =
-    let l = licensed-either first p d turns since in
-    let powers = count-lines is_power turns in
-    let planned = count-lines is_plan turns in
-    let lost = since-few is_lost first p d turns since in
-    let fault = since-few is_fault first p d turns since in
-    let pulled_none = b.pulled in
-    let plans_none = b.plans in
-    let times = IsTriedOn.times b.tried in
-    let enough = times-few times (count_lines is_power turns + count_replies is_lost turns) first.cuts p.chart.cuts (IsTriedOn.paid b.tried) (IsTriedOn.low b.tried) (omega arith) (λ lt. RoseOver.rise (Licence.cuts l) lt) in
-    record {
-      shape = Licence.shape l ∙ b.shape;
-      given = Licence.given l ∙ b.given;
-      pulled = let e = Licence.pulled l (omega arith) in omega arith;
-      plans = let long = length-plans turns in let e = Licence.plans_made l (omega arith) in omega arith;
-      last_plan = Licence.last_plan l ∙ ap (newest (plans_in plan_of turns)) b.last_plan;
-      losts = below-top (count_lines is_power turns + count_replies is_lost turns) p.chart.cuts (omega arith) (λ lt. let rise = RoseOver.rise (Licence.cuts l) lt in omega arith);
-      faults = below-top (count_replies is_fault turns) p.chart.bads (omega arith) (λ lt. let rise = RoseOver.rise (Licence.bads l) lt in omega arith);
-      thrifty = thrifty-index times (tries_before turns p.chart) turns first p.chart (Licence.shape l) enough b.begun (tried-erases setup returns first b) (spent-either first p d turns since);
-    }
-
 -- ---- the whole trace
 
 -- before the first line: the words are zeros, and no transaction is open
@@ -415,7 +308,7 @@ pub record Back (p : Picture) (b : Bool) (now : Chart) : Type 0 where
   pub same : now ≡ p.chart
   pub sound : IsSound now
   pub magic : now.fields.magic ≡ the_magic
-  pub version : now.fields.version ≡ 2
+  pub version : now.fields.version ≡ version_of now.shape
   pub stands : IsTrue p.chart.on → (sheet_of p b).started ≡ false → Stands now (fresh now.shape.shadows (durable now))
 
 -- a map that stands for the turns is on the board

@@ -15,6 +15,7 @@ pub mod Loaded
 pub mod IndexLines
 pub mod IndexSpent
 pub mod IndexTold
+pub mod IndexLicensed
 pub mod MirrorWell
 pub mod Mirrored
 pub mod Noting

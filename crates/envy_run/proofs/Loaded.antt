@@ -9,11 +9,11 @@ use Rattle.envy_base.specs.State.{State, IsBoard, IsMade}
 use Rattle.envy_base.specs.declared.shape.Shape.{Shape}
 use Rattle.envy_audit.specs.Judging.{Judges}
 use Rattle.envy_audit.specs.declared.verdict.Verdict.{Verdict}
-use Rattle.envy_image.specs.Image.{mark, head_of, body_of, image_of}
+use Rattle.envy_image.specs.Image.{head_of, head_size, head_with, is_extended, numbers_size, body_of, image_of}
 use Rattle.envy_image.specs.Reading.{Consumes, Ends}
 use Rattle.envy_image.specs.Installing.{Goes, Upsets, IsUpset, Installed, StopsAs, FailsInBody, body_size, count_after}
 use Rattle.envy_image.specs.declared.installing.InFault.TheVariants.{Short as InShort, Failed as InFailed, Spent as InSpent}
-use Rattle.envy_image.proofs.Backwards.{fit-numbers, length-head, same-head}
+use Rattle.envy_image.proofs.Backwards.{fit-numbers, head-whole, length-head, never-bare, same-head, some-numbers}
 use Rattle.envy_io.specs.Streams.{Feed, Drain, with_front}
 use Rattle.envy_io.specs.Taking.{Taking}
 use Rattle.envy_io.proofs.Counts.{Rises-after}
@@ -64,14 +64,24 @@ taken-ends a b from feed to was now t e =
     }
 
 -- an image is shorter than what may be taken
-pub body-short : (sh : Shape) → IsShape sh → 32 + body_size sh < 1099511627776
-body-short sh s =
-    let a = s.few_segments in
-    let b = s.few_rows in
-    let c = s.few_pages in
-    let d = s.few_frames in
-    let e = s.few in
-    omega arith
+pub body-short : (sh : Shape) → IsShape sh → head_size sh + body_size sh < 1099511627776
+body-short sh s = short (is_extended sh)
+  where
+    short : (b : Bool) → 8 + numbers_size b + body_size sh < 1099511627776
+    short false =
+        let a = s.few_segments in
+        let b = s.few_rows in
+        let c = s.few_pages in
+        let d = s.few_frames in
+        let e = s.few in
+        omega arith
+    short true =
+        let a = s.few_segments in
+        let b = s.few_rows in
+        let c = s.few_pages in
+        let d = s.few_frames in
+        let e = s.few in
+        omega arith
 
 -- memory ran out before a byte behind the head was taken
 pub memory-unmade : (sh : Shape) (returns : ℕ) (from feed : Feed) (was : Taking) → checked sh ≡ Ok tt → HasTaken (head_of sh) from was feed → Unloaded sh returns from None Memory was feed
@@ -203,7 +213,7 @@ installed-itself sh returns s i = subst (λ (x : Shape). IsInstalled x returns s
 
 no-stop : (bytes : List ℕ) → StopsInHead bytes → (sh : Shape) (rest : List ℕ) → bytes ≡ head_of sh ++ rest → ⊥
 no-stop bytes (inl short) sh rest is = omega (arith, ap length is, length-append (head_of sh) rest, length-head sh)
-no-stop bytes (inr (behind, marked, short)) sh rest is = omega (arith, ap length is, ap length marked, length-append mark behind, length-append (head_of sh) rest, length-head sh)
+no-stop bytes (inr (extended, behind, marked, short)) sh rest is = head-whole extended sh bytes behind [] rest marked short (append-nil bytes ∙ is) (omega (arith, ap length is, length-append (head_of sh) rest))
 
 -- no image was taken up
 pub image-refused : {B : Type 0} (state : B → State) (sh : Shape) (refusal : Refusal) (returns taken : ℕ) (board : Option B) (from feed : Feed) (sink : Drain) (now : Taking) → taken ≡ now.taken → (u : Unloaded sh returns from (option_map state board) refusal now feed) → RefusesImage refusal (Unloaded.bytes u) (outcome_of state (record { ending = ending_for refusal; lines = 0; taken = taken; board = board; second = None })) (record { from = from; feed = feed; to = sink; sink = sink })
@@ -220,8 +230,10 @@ pub no-head : (refusal : Refusal) (bytes : List ℕ) (from feed : Feed) → refu
 no-head Failed bytes from feed other (rose, stops) sh rest is ok = no-stop bytes stops sh rest is
 no-head Memory bytes from feed other cause sh rest is ok = other refl
 no-head Early bytes from feed other (dry, stops) sh rest is ok = no-stop bytes stops sh rest is
-no-head Unmarked bytes from feed other (none, eight, unmarked) sh rest is ok = omega (arith, ap length is, length-append (head_of sh) rest, length-head sh)
-no-head Misshapen bytes from feed other (none, bad, fault, told, fails, fit) sh rest is ok =
+no-head Unmarked bytes from feed other (none, eight, unmarked) sh rest is ok = omega (arith, eight, ap length is, length-append (head_of sh) rest, length-head sh, some-numbers (is_extended sh))
+no-head Misshapen bytes from feed other (none, fault, (bad, fit, inr (told, two, bare))) sh rest is ok =
+    never-bare sh bad rest [] (fit-numbers sh (shape-is sh ok)) fit two (sym is ∙ (told ∙ sym (append-nil (head_with true bad))))
+no-head Misshapen bytes from feed other (none, fault, (bad, fit, inl (told, fails))) sh rest is ok =
     let same : bad ≡ sh = same-head bad sh [] rest fit (fit-numbers sh (shape-is sh ok)) (append-nil (head_of bad) ∙ (sym told ∙ is)) in
     let clash : Ok tt ≡ Err fault = sym ok ∙ (ap checked (sym same) ∙ fails) in
     cc

@@ -3,9 +3,11 @@ use Rattle.std.proofs.Common.{◌≡◌, ◌⊎◌, inl, inr, ℕ, ◌<◌, ◌�
 use Rattle.std.specs.Prelude.{IfSome, Option, None, Some, unwrap_or, IsTrue}
 use Rattle.std.specs.Option.{option_map}
 use Rattle.envy_base.specs.Array.{zeros}
+use Rattle.envy_base.specs.Shape.{IsShape}
 use Rattle.envy_base.specs.State.{State, IsMade}
 use Rattle.envy_base.specs.declared.shape.Shape.{Shape}
 use Rattle.envy_io.specs.Streams.{Feed, Drain}
+use Rattle.envy_io.specs.Taking.{Taking}
 use Rattle.envy_layout.specs.Stands.{Stands}
 use Rattle.envy_map.specs.Fields.{Chart, chart}
 use Rattle.envy_memory.specs.Formats.{IsFresh, IsStarted}
@@ -20,7 +22,7 @@ use Rattle.envy_pair.proofs.Beginning.{begins}
 use Rattle.envy_pair.proofs.Finishing.{IsUnused, AreUnused, boards_of, licences-either, mirrored, fallen, bill-either}
 use Rattle.envy_policy.specs.declared.setup.Setup.{Setup}
 use Rattle.envy_serve.specs.declared.serving.End.{End}
-use Rattle.envy_serve.specs.Ends.{Serves, Ends, most_bytes}
+use Rattle.envy_serve.specs.Ends.{Serves, Ends, IsAtStart, most_bytes}
 use Rattle.envy_serve.specs.Streams.{Streams}
 use Rattle.envy_serve.proofs.Advancing.{Serves-as, served-either}
 use Rattle.envy_run.specs.declared.ending.Ending.{Ending}
@@ -28,7 +30,7 @@ use Rattle.envy_run.specs.declared.ending.Ending.TheVariants.{FlashFailed, OutOf
 use Rattle.envy_run.specs.declared.ending.Finished.{Finished}
 use Rattle.envy_run.specs.declared.prepare.Unready.{Unready}
 use Rattle.envy_run.specs.declared.prepare.Unready.TheVariants.{Memory, Bad, Dead}
-use Rattle.envy_run.specs.Loading.{IsFlawless, IsNew, IsUnharmed}
+use Rattle.envy_run.specs.Loading.{IsFlawless, IsNew, IsUnharmed, untouched}
 use Rattle.envy_run.specs.MirrorTask.{AreHandedBack, IsAsMade, IsEitherDark, IsEitherSpoilt, IsMadeFor, IsPairOutOfMemory, MirrorLicences, IsMirrorUnready, mirror_task}
 use Rattle.envy_run.specs.Outcome.{Outcome, IsQuiet, ending_of, outcome_of}
 use Rattle.envy_run.specs.Prepares.{IsPrepared, IsReady, Unprepared, ending_of_unready}
@@ -114,10 +116,10 @@ pub record Stopped (unready : Unready) (now : Chart) : Type 0 where
   pub dead : unready ≡ Dead → (now.on ≡ false) × (now.lives ≡ 0)
   pub on : unready ≡ Memory → IsTrue now.on
 
-pub stopped-by : (unready : Unready) (old now : Chart) → old.bads ≡ 0 → Unprepared unready old now → IsPrepared old now × Stopped unready now
-stopped-by Memory old now none u = (u.0, record { bad = λ e. cc; dead = λ e. cc; on = λ e. u.2 })
-stopped-by Bad old now none u = (u.0, record { bad = λ e. (let rise = u.1 (omega arith) in omega arith); dead = λ e. cc; on = λ e. cc })
-stopped-by Dead old now none u = (u.0, record { bad = λ e. cc; dead = λ e. (u.1, u.2); on = λ e. cc })
+pub stopped-by : (unready : Unready) (old now : Chart) → IsShape old.shape → old.bads ≡ 0 → Unprepared unready old now → IsPrepared old now × Stopped unready now
+stopped-by Memory old now sizes none u = (u.0, record { bad = λ e. cc; dead = λ e. cc; on = λ e. u.2 })
+stopped-by Bad old now sizes none u = (u.0, record { bad = λ e. (let few = sizes.reserves in let most = sizes.few_segments in let rise = u.1 (omega (arith, none, few, most)) in omega (arith, rise)); dead = λ e. cc; on = λ e. cc })
+stopped-by Dead old now sizes none u = (u.0, record { bad = λ e. cc; dead = λ e. (u.1, u.2); on = λ e. cc })
 
 -- one of two boards couldn't be prepared
 pub mirror-unready : {B : Type 0} (state : B → State) (setup : Setup) (returns : ℕ) (unready : Unready) (one two : B) (e : Finished B) (feed : Feed) (sink : Drain) → e ≡ two_boards (ending_of_unready unready) one two → Stopped unready (chart (state one)) ⊎ Stopped unready (chart (state two)) → (unready ≡ Memory → IsTrue (state one).on × IsTrue (state two).on) → IsBlank setup returns (chart (state one)) → IsBlank setup returns (chart (state two)) → DoesTask (mirror_task setup returns) (outcome_of state e) (record { from = feed; feed = feed; to = sink; sink = sink })
@@ -229,3 +231,7 @@ lit-board s setup p c ready same = subst (λ (x : Chart). IsTrue x.on) (sym same
 
 pub not-stopped : (c : Chart) → IsTrue c.on → Stopped Memory c
 not-stopped c on = record { bad = λ e. cc; dead = λ e. cc; on = λ e. on }
+
+-- the lines of a source of which none is taken yet
+pub at-start : (lines : Taking) (feed : Feed) → lines ≡ untouched → IsAtStart lines feed
+at-start lines feed is = subst (λ (t : Taking). IsAtStart t feed) (sym is) (record { cap = refl; within = omega arith; held = refl; dry = λ ended. absurd (let never = ended in cc) })

@@ -5,6 +5,7 @@ use Rattle.std.proofs.lemmas.Bool.{cases_lt}
 use Rattle.std.proofs.Math.Seq.{take-append-add}
 use Rattle.std.proofs.lemmas.List.{take-append-le}
 use Rattle.envy_base.specs.Array.{Array, undone, restarted}
+use Rattle.envy_base.specs.Shape.{version_of}
 use Rattle.envy_base.proofs.Counting.{up-least, up-below}
 use Rattle.envy_base.specs.declared.faults.PlannedFault.{PlannedFault}
 use Rattle.envy_base.specs.Step.{Command, Lost as LostAs}
@@ -262,7 +263,7 @@ call-recovers May m line reply old c new sink mid_sink then_sink wrote obeyed st
         record {
           off = still.off;
           magic = still.magic ∙ LostIn.magic loses.lost;
-          version = still.version ∙ LostIn.version loses.lost;
+          version = still.version ∙ LostIn.version loses.lost ∙ ap version_of (sym still.shape);
           sound = still.sound (LostIn.sound loses.lost);
           dead = dead;
           found = (left, inl (record { command = loses.command; is = loses.is; lost = lost }), still.durable ∙ words);
@@ -323,7 +324,7 @@ power-recovers May m old c new sink then_sink obeyed stood is (sound, words) rec
     at WriteFault (back, inl (err, same)) = absurd (let never = err in cc)
     at WriteFault (back, inr (ok, part)) = (Restarted ∷ [], restarted m, done-so_power back, part)
     at Dead (still, dead, same) = (
-      record { off = still.off; magic = still.magic ∙ ap (λ (x : Picture). x.chart.fields.magic) is ∙ Holds.magic stood.holds; version = still.version ∙ ap (λ (x : Picture). x.chart.fields.version) is ∙ Holds.version stood.holds; sound = still.sound sound; dead = dead; found = (restarted m, inr (refl, refl), still.durable ∙ words); licensed = Licence-trans 1 [] 0 0 0 [] 0 0 old.chart c.chart new.chart cut still.licence; spent = spent-so still.counts },
+      record { off = still.off; magic = still.magic ∙ ap (λ (x : Picture). x.chart.fields.magic) is ∙ Holds.magic stood.holds; version = still.version ∙ ap (λ (x : Picture). x.chart.fields.version) is ∙ Holds.version stood.holds ∙ ap (λ (x : Picture). version_of x.chart.shape) (sym is) ∙ ap version_of (sym still.shape); sound = still.sound sound; dead = dead; found = (restarted m, inr (refl, refl), still.durable ∙ words); licensed = Licence-trans 1 [] 0 0 0 [] 0 0 old.chart c.chart new.chart cut still.licence; spent = spent-so still.counts },
       inl (subst (λ (d : Drain). Written [] sink d) (sym same) (record { whole = sym (with_end-nil sink.written); faults = omega arith })),
     )
 

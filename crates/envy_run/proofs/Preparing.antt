@@ -4,6 +4,7 @@ use Rattle.std.specs.Prelude.{IsTrue, Option, None, Some, slice_index}
 use Rattle.std.specs.Option.{option_map}
 use Rattle.std.proofs.lemmas.Bool.{cases_lt}
 use Rattle.envy_base.specs.Counting.{up}
+use Rattle.envy_base.specs.Shape.{IsShape}
 use Rattle.envy_base.specs.State.{IsMade, State, lit}
 use Rattle.envy_base.specs.declared.shape.Shape.{Shape}
 use Rattle.envy_layout.specs.Same.{Counted, Grows}
@@ -11,11 +12,11 @@ use Rattle.envy_map.specs.Fields.{Chart, chart}
 use Rattle.envy_memory.specs.Formats.{CountsFormat, ErasesEach, Makes, Refuses}
 use Rattle.envy_memory.specs.Picture.{Picture}
 use Rattle.envy_memory.specs.Rises.{RoseOver}
-use Rattle.envy_memory.specs.declared.faults.FormatFault.TheVariants.{Off}
+use Rattle.envy_memory.specs.declared.faults.FormatFault.TheVariants.{Off, Bad as OfBad}
 use Rattle.envy_policy.specs.declared.setup.Setup.{Setup}
 use Rattle.envy_serve.specs.Ends.{most_bytes}
 use Rattle.envy_run.specs.Outcome.{outcome_of}
-use Rattle.envy_run.specs.Prepares.{HasTried, IsPrepared, IsReady, IsUnspent, NoneBegun, Unprepared, ending_of_unready}
+use Rattle.envy_run.specs.Prepares.{HasSpentReserves, HasTried, IsPrepared, IsReady, IsUnspent, NoneBegun, Unprepared, ending_of_unready}
 use Rattle.envy_run.specs.declared.ending.Ending.{Ending}
 use Rattle.envy_run.specs.declared.ending.Ending.TheVariants.{OutOfMemory}
 use Rattle.envy_run.specs.declared.ending.Finished.{Finished}
@@ -129,6 +130,26 @@ prepared-again old s t u setup on some (p, spent) f refuses is =
       },
     )
 
+-- more erases were bad than there are positions in reserve
+pub prepared-bad : (old : Chart) (s t : State) (setup : Setup) → IsPrepared old (chart s) × IsUnspent old (chart s) → CountsFormat (chart s) (chart t) → Refuses s setup OfBad t → Unprepared Bad old (chart t)
+prepared-bad old s t setup (p, spent) f (may, on, unmarked, rose) = (prepared-more old (chart s) (chart t) (p, spent) f, spends)
+  where
+    spends : HasSpentReserves old (chart t)
+    spends low = at (cases_lt (s.bads + s.shape.reserves) (2 ^ 64 - 1))
+      where
+        same : s.shape.reserves ≡ old.shape.reserves
+        same = ap (λ (sh : Shape). sh.reserves) p.shape
+
+        from : old.bads ≤ s.bads
+        from = p.bads
+
+        more : s.bads ≤ t.bads
+        more = Counted.bads (CountsFormat.counted f)
+
+        at : (s.bads + s.shape.reserves < 2 ^ 64 - 1) ⊎ (2 ^ 64 - 1 ≤ s.bads + s.shape.reserves) → old.bads + old.shape.reserves < t.bads
+        at (inl lt) = let past = rose lt in omega (arith, same, from, past)
+        at (inr top) = omega (arith, same, from, more, low, top)
+
 -- a memory was made
 pub prepared-ready : (old : Chart) (s : State) (setup : Setup) (m : Picture) → IsPrepared old (chart s) × IsUnspent old (chart s) → CountsFormat (chart s) m.chart → Makes s setup m → IsReady old setup m
 prepared-ready old s setup m (p, spent) f makes = record {
@@ -185,22 +206,22 @@ none-made {B} state setup returns e is = subst (λ (x : Finished B). NoneBegun s
 })
 
 -- the board that was made isn't formatted
-pub none-begun : {B : Type 0} (state : B → State) (setup : Setup) (returns : ℕ) (unready : Unready) (made : State) (board : B) (e : Finished B) → IsMade setup.shape returns made → Unprepared unready (chart made) (chart (state board)) → e ≡ record { ending = ending_of_unready unready; lines = 0; taken = 0; board = Some board; second = None } → NoneBegun setup returns (outcome_of state e)
-none-begun {B} state setup returns Memory made board e new (prepared, unspent, on) is = subst (λ (x : Finished B). NoneBegun setup returns (outcome_of state x)) (sym is) (record {
+pub none-begun : {B : Type 0} (state : B → State) (setup : Setup) (returns : ℕ) (unready : Unready) (made : State) (board : B) (e : Finished B) → IsShape setup.shape → IsMade setup.shape returns made → Unprepared unready (chart made) (chart (state board)) → e ≡ record { ending = ending_of_unready unready; lines = 0; taken = 0; board = Some board; second = None } → NoneBegun setup returns (outcome_of state e)
+none-begun {B} state setup returns Memory made board e sizes new (prepared, unspent, on) is = subst (λ (x : Finished B). NoneBegun setup returns (outcome_of state x)) (sym is) (record {
   lines = refl;
   taken = refl;
   second = refl;
   cause = inl (record { ending = record { status = refl; why = refl }; board = record { on = on; bads = λ none. IsUnspent.bads unspent none ∙ new.bads } });
   board = record { made = made; new = new; prepared = prepared };
 })
-none-begun {B} state setup returns Bad made board e new (prepared, rose) is = subst (λ (x : Finished B). NoneBegun setup returns (outcome_of state x)) (sym is) (record {
+none-begun {B} state setup returns Bad made board e sizes new (prepared, rose) is = subst (λ (x : Finished B). NoneBegun setup returns (outcome_of state x)) (sym is) (record {
   lines = refl;
   taken = refl;
   second = refl;
-  cause = inr (inl (record { ending = record { status = refl; why = refl }; cause = (chart (state board), refl, let none = new.bads in let more = rose (omega arith) in omega arith) }));
+  cause = inr (inl (record { ending = record { status = refl; why = refl }; cause = (chart (state board), refl, let none = new.bads in let few = sizes.reserves in let most = sizes.few_segments in let same = ap (λ (sh : Shape). sh.reserves) new.shape in let more = rose (omega (arith, none, few, most, same)) in omega (arith, more)) }));
   board = record { made = made; new = new; prepared = prepared };
 })
-none-begun {B} state setup returns Dead made board e new (prepared, off, lives) is = subst (λ (x : Finished B). NoneBegun setup returns (outcome_of state x)) (sym is) (record {
+none-begun {B} state setup returns Dead made board e sizes new (prepared, off, lives) is = subst (λ (x : Finished B). NoneBegun setup returns (outcome_of state x)) (sym is) (record {
   lines = refl;
   taken = refl;
   second = refl;

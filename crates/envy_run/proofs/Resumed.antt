@@ -9,16 +9,17 @@ use Rattle.envy_audit.specs.declared.verdict.Verdict.{Verdict}
 use Rattle.envy_audit.specs.declared.verdict.Verdict.TheVariants.{Sound, Unformatted, Broken}
 use Rattle.envy_audit.proofs.Sounding.{sound-points}
 use Rattle.envy_base.specs.Array.{Array}
-use Rattle.envy_base.specs.Shape.{checked as shape_checked}
+use Rattle.envy_base.specs.Shape.{IsVersionOf, checked as shape_checked}
 use Rattle.envy_base.specs.State.{State, IsBoard}
 use Rattle.envy_base.specs.declared.shape.Shape.{Shape}
 use Rattle.envy_image.specs.Backwards.{HoldTheSame}
-use Rattle.envy_image.specs.Image.{head_of, body_of, image_of}
+use Rattle.envy_image.specs.Image.{head_of, head_size, body_of, image_of}
 use Rattle.envy_image.specs.Installing.{body_size}
 use Rattle.envy_image.proofs.Backwards.{fit-numbers, length-image, one-image, same-head}
 use Rattle.envy_io.specs.Streams.{Feed, Drain, with_front}
 use Rattle.envy_io.specs.Taking.{Taking}
-use Rattle.envy_map.specs.Fields.{Chart, chart, map_fields, IsFormatted}
+use Rattle.envy_map.specs.Codes.{the_magic}
+use Rattle.envy_map.specs.Fields.{Chart, chart, map_fields}
 use Rattle.envy_layout.specs.Sound.{Sound as SoundMap}
 use Rattle.envy_memory.specs.Formats.{IsStarted}
 use Rattle.envy_memory.specs.Picture.{Picture}
@@ -286,7 +287,7 @@ module _ (most : ℕ) (words : Shape → Setup) (returns : ℕ) (o : Outcome) (i
       (same, is ∙ ap Some rest)
 
   same-length : (found : State) → IsBoard found → HoldTheSame found holds.image → length (image_of holds.image) ≡ length (image_of found)
-  same-length found whole same = let a = length-image found whole in let b = length-image holds.image holds.whole in let c = ap body_size same.shape in omega arith
+  same-length found whole same = let a = length-image found whole in let b = length-image holds.image holds.whole in let c = ap body_size same.shape in let d = ap head_size same.shape in omega arith
 
   -- the trace behind it can be served
   pub good-behind : (found : State) (behind : Option (List ℕ)) → IsBoard found → io.from.left ≡ with_front (image_of found) behind → IsGoodTrace trace_grammar (length (image_of found)) (record io { from = record { left = behind; faults = io.from.faults } })
@@ -312,11 +313,15 @@ module _ (most : ℕ) (words : Shape → Setup) (returns : ℕ) (o : Outcome) (i
       let never = subst (λ (r : Result Unit SetupFault). IsErr r) good b.fails in
       cc
 
+  -- the map of a formatted board of this shape, which is sound
+  abbrev AreSound : Shape → List ℕ → List (List ℕ) → Type 0
+  AreSound sh sram flash = (((map_fields sh sram).magic ≡ the_magic) × IsVersionOf sh (map_fields sh sram).version) × SoundMap sh (map_fields sh sram) flash
+
   sound-alike : (s t : State) → HoldTheSame s t → Judges Sound (chart t) → Judges Sound (chart s)
   sound-alike s t same sound =
-      subst (λ (flash : List (List ℕ)). IsFormatted (map_fields s.shape s.sram) × SoundMap s.shape (map_fields s.shape s.sram) flash) (sym same.flash)
-      (subst (λ (sram : List ℕ). IsFormatted (map_fields s.shape sram) × SoundMap s.shape (map_fields s.shape sram) t.flash) (sym same.sram)
-      (subst (λ (sh : Shape). IsFormatted (map_fields sh t.sram) × SoundMap sh (map_fields sh t.sram) t.flash) (sym same.shape) sound))
+      subst (λ (flash : List (List ℕ)). AreSound s.shape s.sram flash) (sym same.flash)
+      (subst (λ (sram : List ℕ). AreSound s.shape sram t.flash) (sym same.sram)
+      (subst (λ (sh : Shape). AreSound sh t.sram t.flash) (sym same.shape) sound))
 
   pub never-unsound : (found : State) → IsLeftInstalled returns found o → IsUnsound most words found o io → ⊥
   never-unsound found left u =

@@ -2,7 +2,7 @@
 use Rattle.std.specs.Prelude.{◌≡◌, ℕ, ◌*◌, ◌≤◌, ⊤, List, [], ◌∷◌, ◌++◌, length, None, Some, IfSome, codes}
 use Rattle.envy_audit.specs.Judging.{Judges}
 use Rattle.envy_audit.specs.declared.verdict.Rule.{Rule}
-use Rattle.envy_audit.specs.declared.verdict.Rule.TheVariants.{A, B, C, D, E, F, G, H, I, J, K, L}
+use Rattle.envy_audit.specs.declared.verdict.Rule.TheVariants.{A, B, C, D, E, F, G, H, I, J, K, L, M}
 use Rattle.envy_audit.specs.declared.verdict.Verdict.{Verdict}
 use Rattle.envy_audit.specs.declared.verdict.Verdict.TheVariants.{Sound, Unformatted, Broken}
 use Rattle.envy_base.specs.State.{State}
@@ -32,6 +32,7 @@ letter_of I = codes "i"
 letter_of J = codes "j"
 letter_of K = codes "k"
 letter_of L = codes "l"
+letter_of M = codes "m"
 
 -- what is written of a verdict
 abbrev pub verdict_text : Verdict → List ℕ

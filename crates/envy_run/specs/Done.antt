@@ -1,5 +1,6 @@
 -- What the lines of a trace lead to, and when a board is left so.
 use Rattle.std.specs.Prelude.{◌≡◌, ℕ, false, List, [], ◌∷◌, Some}
+use Rattle.envy_base.specs.Shape.{version_of}
 use Rattle.envy_base.specs.Array.{Array}
 use Rattle.envy_map.specs.Codes.{the_magic}
 use Rattle.envy_map.specs.Fields.{Chart}
@@ -29,7 +30,7 @@ Dies entries first (turn ∷ earlier) left = DiesIn entries first turn earlier l
 pub record HoldsOff (words : List ℕ) (now : Chart) : Type 0 where
   pub found : durable now ≡ words
   pub magic : now.fields.magic ≡ the_magic
-  pub version : now.fields.version ≡ 2
+  pub version : now.fields.version ≡ version_of now.shape
   pub sound : IsSound now
   pub off : now.on ≡ false
   pub dead : now.lives ≡ 0

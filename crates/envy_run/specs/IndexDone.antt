@@ -1,5 +1,6 @@
 -- What the lines of a trace of an index lead to, and when a board is left so.
 use Rattle.std.specs.Prelude.{◌≡◌, ℕ, ◌+◌, ◌≤◌, false, List, [], ◌∷◌, None}
+use Rattle.envy_base.specs.Shape.{version_of}
 use Rattle.envy_btree.specs.Index.{IsIndex}
 use Rattle.envy_layout.specs.Sound.{IsSound}
 use Rattle.envy_layout.specs.Stands.{Stands}
@@ -33,7 +34,7 @@ IndexDies most (turn ∷ earlier) left = IndexDiesIn most turn earlier left
 pub record HoldsIndexOff (pairs : Pairs) (now : Chart) : Type 0 where
   pub map : IsIndex (durable now) pairs
   pub magic : now.fields.magic ≡ the_magic
-  pub version : now.fields.version ≡ 2
+  pub version : now.fields.version ≡ version_of now.shape
   pub sound : IsSound now
   pub off : now.on ≡ false
   pub dead : now.lives ≡ 0

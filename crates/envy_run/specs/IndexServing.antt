@@ -19,7 +19,7 @@ use Rattle.envy_serve.specs.Streams.{Written, FrontWritten}
 use Rattle.envy_serve.specs.Turns.{count_lines, count_replies, count_of, one_if, texts}
 use Rattle.envy_run.specs.IndexSpending.{SpendsPuts, puts_of, puts_in}
 use Rattle.envy_run.specs.Spending.{Spends}
-use Rattle.envy_run.specs.IndexTurns.{Pairs, IndexTurn, IndexRun, Says, Faults, Loses, DoesIndex, FailsIn, index_grammar, most_of, before_restart, is_power, is_plan, is_lost, is_fault, plan_of}
+use Rattle.envy_run.specs.IndexTurns.{Pairs, IndexTurn, IndexRun, Says, Faults, Loses, DoesIndex, FailsIn, index_grammar, most_of, before_restart, is_power, is_lost, is_fault, plan_of}
 use Rattle.envy_run.specs.Licence.{Licence, plans_in}
 use Rattle.envy_base.specs.declared.page.TheConstants.{PAGE_WORDS}
 

@@ -1,5 +1,5 @@
 -- Images that a source begins with: what was taken of one, and why there may be no board that holds it.
-use Rattle.std.specs.Prelude.{◌≡◌, ◌≢◌, ◌⊎◌, ℕ, ◌*◌, ◌<◌, ◌≤◌, false, IsTrue, List, [], ◌++◌, length, Option, None, Some, IfSome, Result, Ok, Err, slice_index}
+use Rattle.std.specs.Prelude.{◌≡◌, ◌≢◌, ◌⊎◌, ℕ, ◌*◌, ◌<◌, ◌≤◌, Bool, false, IsTrue, List, [], ◌++◌, length, Option, None, Some, IfSome, Result, Ok, Err, slice_index}
 use Rattle.std.specs.Option.{option_map}
 use Rattle.envy_base.specs.Shape.{IsShape, checked}
 use Rattle.envy_base.specs.State.{State, IsBoard}
@@ -7,7 +7,8 @@ use Rattle.envy_base.specs.declared.shape.Shape.{Shape}
 use Rattle.envy_base.specs.declared.shape.ShapeFault.{ShapeFault}
 use Rattle.envy_audit.specs.Judging.{Judges}
 use Rattle.envy_audit.specs.declared.verdict.Verdict.{Verdict}
-use Rattle.envy_image.specs.Image.{mark, head_of, image_of, FitNumbers}
+use Rattle.envy_image.specs.Image.{mark_of, head_of, image_of, numbers_size}
+use Rattle.envy_image.specs.Reading.{IsMisshapen}
 use Rattle.envy_image.specs.Installing.{HasReadHead, body_size}
 use Rattle.envy_io.specs.Streams.{Feed, Rises, IsDry, with_front}
 use Rattle.envy_io.specs.Taking.{Taking}
@@ -38,7 +39,8 @@ untouched = record { cap = most_bytes; taken = 0; held = []; ended = false }
 
 -- bytes that stop before the end of a head, or of an image behind a head of this shape
 abbrev pub StopsInHead : List ℕ → Type 0
-StopsInHead bytes = (length bytes < 8) ⊎ ((rest : List ℕ) × (bytes ≡ mark ++ rest) × (length rest < 24))
+StopsInHead bytes =
+    (length bytes < 8) ⊎ ((extended : Bool) × (rest : List ℕ) × (bytes ≡ mark_of extended ++ rest) × (length rest < numbers_size extended))
 
 abbrev pub StopsBehindHead : Shape → List ℕ → Type 0
 StopsBehindHead sh bytes = (rest : List ℕ) × (bytes ≡ head_of sh ++ rest) × (length rest < body_size sh)
@@ -76,8 +78,8 @@ abbrev pub Cause : Refusal → List ℕ → Option Chart → Feed → Feed → T
 Cause Failed bytes board from feed = Rises from.faults feed.faults × StopsWithin bytes board
 Cause Memory bytes board from feed = (sh : Shape) × (checked sh ≡ Ok tt) × (bytes ≡ head_of sh) × IfSome board (IsNew sh)
 Cause Early bytes board from feed = IsDry feed.left × StopsWithin bytes board
-Cause Unmarked bytes board from feed = (board ≡ None) × (length bytes ≡ 8) × (bytes ≢ mark)
-Cause Misshapen bytes board from feed = (board ≡ None) × (sh : Shape) × (fault : ShapeFault) × (bytes ≡ head_of sh) × (checked sh ≡ Err fault) × FitNumbers sh
+Cause Unmarked bytes board from feed = (board ≡ None) × (length bytes ≡ 8) × ((extended : Bool) → bytes ≢ mark_of extended)
+Cause Misshapen bytes board from feed = (board ≡ None) × (fault : ShapeFault) × IsMisshapen bytes fault
 Cause Upset bytes board from feed = (now : Chart) × (board ≡ Some now) × ReachesBehindHead now.shape bytes × HasFailed now
 
 -- no failure was planned on the board, power wasn't cut by hand, and nobody asked for its return

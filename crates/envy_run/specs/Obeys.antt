@@ -1,5 +1,6 @@
 -- What doing one line does to the board and to what is written, from a board that stood for the array m.
 use Rattle.std.specs.Prelude.{◌≡◌, ◌⊎◌, ◌↔◌, false, List, [], ◌∷◌}
+use Rattle.envy_base.specs.Shape.{version_of}
 use Rattle.envy_base.specs.Array.{Array}
 use Rattle.envy_map.specs.Codes.{the_magic}
 use Rattle.envy_map.specs.Fields.{Chart}
@@ -47,7 +48,7 @@ pub record LineDone (May : Counts → Type 0) (m : Array) (line : Line) (replies
 pub record LineDead (m : Array) (line : Line) (old new : Chart) : Type 0 where
   pub off : new.on ≡ false
   pub magic : new.fields.magic ≡ the_magic
-  pub version : new.fields.version ≡ 2
+  pub version : new.fields.version ≡ version_of new.shape
   pub sound : IsSound new
   pub dead : new.lives ≡ 0
   pub found : (left : Array) × FailsIn m line left × (durable new ≡ left.words)

@@ -33,10 +33,12 @@ pub fn attach<B: Bench>(alloc: Global, board: B, setup: Setup) -> Result<Memory<
     loop {
         match Memory::attach(alloc, board, setup) {
             Ok(memory) => return Ok(memory),
-            Err((back, AttachFault::Off)) => board = back,
-            Err((back, AttachFault::Memory)) => return Err((back, Unattached::Memory)),
-            // the board is formatted in the shape of the setup, which checks
-            Err(_) => unreachable!(),
+            Err((back, fault)) => match fault {
+                AttachFault::Off => board = back,
+                AttachFault::Memory => return Err((back, Unattached::Memory)),
+                // the board is formatted in the shape of the setup, which checks
+                _ => unreachable!(),
+            },
         }
         if !board.power_on() {
             return Err((board, Unattached::Dead));

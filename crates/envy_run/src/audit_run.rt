@@ -38,6 +38,7 @@ fn letter(rule: Rule) -> &'static [u8]
         Rule::J => b"j",
         Rule::K => b"k",
         Rule::L => b"l",
+        Rule::M => b"m",
     }
 }
 

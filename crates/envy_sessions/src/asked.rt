@@ -72,6 +72,8 @@ pub(crate) const fn setup_of(segments: u32, rows: u32, pages: u32, mark: u32) ->
             shadows: 200,
             frames: 4,
             entries: 4,
+            reserves: 0,
+            sums: 0,
         },
         policy: Policy::Fifo,
         limit: 100,

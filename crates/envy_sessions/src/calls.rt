@@ -14,6 +14,8 @@ pub(crate) const SMALL: Shape = Shape {
     shadows: 4,
     frames: 3,
     entries: 2,
+    reserves: 0,
+    sums: 0,
 };
 
 /// How many words these boards have.

@@ -143,6 +143,8 @@ const fn idle_setup(segments: u32) -> Setup {
             shadows: 0,
             frames: 2,
             entries: 1,
+            reserves: 0,
+            sums: 0,
         },
         policy: Policy::Locality,
         limit: 1,

@@ -1,5 +1,6 @@
 //! Formatting a board, attaching to it, and raising its version, with failures on the way.
 ghost use Rattle.std.specs.Prelude.{◌≡◌, ◌<◌, ◌≤◌, Err, OnOk};
+ghost use Rattle.envy_base.specs.Shape.{version_of};
 ghost use Rattle.envy_map.specs.Fields.{chart};
 ghost use Rattle.envy_layout.specs.Sound.{IsSound};
 ghost use Rattle.envy_bench.specs.Board.{board_state};
@@ -12,7 +13,7 @@ use crate::setups::{COMMON, THREE_GREEDY};
 use crate::steps::Step::{Attach, Begin, Load, Put, Store};
 use crate::steps::{Step, Tested};
 use crate::told::same_at;
-use envy_base::{Bench, Board, Shape, Slot, Trouble, Undo};
+use envy_base::{Bench, Board, Shape, Slot, Trouble, Undo, version_of};
 use envy_layout::{format_board_1, move_to_frame, own_page, set_unused_slot, write_free_frame};
 use envy_map::{is_formatted, words};
 use envy_memory::{AttachFault, FormatFault, Memory, StoreFault};
@@ -95,7 +96,7 @@ fn refused(
 }
 
 /// The board to which no memory was attached, and why.
-fn declined(
+pub(crate) fn declined(
     rt: &impl Abort,
     answer: Result<Tested, (OrderedBoard, AttachFault)>,
 ) -> (OrderedBoard, AttachFault)
@@ -167,7 +168,8 @@ fn formatting_that_fails_leaves_a_board_that_is_not_formatted(rt: HostRuntime) {
 
 /// Formats a board as version 1, and lets slot 0 put 2 into word 5, whose page was absent.
 fn put_on_version_1<B: Board>(board: &mut B) -> Result<(), Trouble>
-    requires { 0 < (B.state board.old).shape.shadows }
+    requires version { version_of (B.state board.old).shape ≡ 2 }
+    requires shadows { 0 < (B.state board.old).shape.shadows }
     ensures { OnOk result (IsSound (chart (B.state board.new))) }
 {
     format_board_1(board)?;
@@ -185,7 +187,7 @@ fn put<B: Board>(rt: &impl Abort, board: &mut B, w: u32, v: u64) {
     same_at(rt, &board.put(w, v), &Ok(()), "put of word", w as u64);
 }
 
-fn get<B: Board>(rt: &impl Abort, board: &B, w: u32) -> u64 {
+pub(crate) fn get<B: Board>(rt: &impl Abort, board: &B, w: u32) -> u64 {
     assert!(rt; w < words(&board.shape()));
     match board.get(w) {
         Ok(word) => word,
@@ -201,6 +203,7 @@ fn board_of_version_1(rt: &impl Abort, alloc: Global) -> OrderedBoard
     for w in 24..72 {
         put(rt, &mut board, w, 9);
     }
+    assert!(rt; version_of(&board.shape()) == 2);
     assert!(rt; board.shape().shadows > 0);
     put_on_version_1(&mut board).expect(rt, "version 1");
     board

@@ -26,6 +26,8 @@ mod ordered;
 #[cfg(test)]
 mod orders;
 #[cfg(test)]
+mod reserved;
+#[cfg(test)]
 mod rules;
 #[cfg(test)]
 mod session;
@@ -35,3 +37,5 @@ mod setups;
 mod steps;
 #[cfg(test)]
 mod told;
+#[cfg(test)]
+mod worn;

@@ -10,6 +10,8 @@ const SHAPE: Shape = Shape {
     shadows: 16,
     frames: 8,
     entries: 4,
+    reserves: 0,
+    sums: 0,
 };
 
 /// Seven positions of 16 rows for 64 pages.
@@ -27,6 +29,8 @@ const TWO_PAGES: Shape = Shape {
     shadows: 0,
     frames: 2,
     entries: 4,
+    reserves: 0,
+    sums: 0,
 };
 
 /// Three positions of two rows each, and swaps soon.
@@ -44,6 +48,8 @@ const THREE_PAGES: Shape = Shape {
     shadows: 1,
     frames: 2,
     entries: 4,
+    reserves: 0,
+    sums: 0,
 };
 
 /// Three positions of two rows each. Page p is at home at position p.
@@ -75,6 +81,8 @@ const SIX_PAGES: Shape = Shape {
     shadows: 2,
     frames: 2,
     entries: 4,
+    reserves: 0,
+    sums: 0,
 };
 
 /// Three positions of four rows each, under locality. Page 3 is at home at position 1.
@@ -92,6 +100,8 @@ const SEVEN_PAGES: Shape = Shape {
     shadows: 1,
     frames: 2,
     entries: 4,
+    reserves: 0,
+    sums: 0,
 };
 
 /// Three positions of four rows each. Pages 0, 1 and 2 are at home at position 0, pages 3 and 4 at position 1, and
@@ -101,4 +111,42 @@ pub(crate) const SEVEN_LOCALITY: Setup = Setup {
     policy: Policy::Locality,
     limit: 100,
     mark: 1,
+};
+
+const TEN_SEGMENTS: Shape = Shape {
+    segments: 10,
+    rows: 16,
+    pages: 64,
+    shadows: 16,
+    frames: 8,
+    entries: 4,
+    reserves: 0,
+    sums: 0,
+};
+
+const TEN_RESERVED: Shape = Shape {
+    segments: 10,
+    rows: 16,
+    pages: 64,
+    shadows: 16,
+    frames: 8,
+    entries: 4,
+    reserves: 2,
+    sums: 0,
+};
+
+/// Nine positions of 16 rows for 64 pages.
+pub(crate) const TEN_PLAIN: Setup = Setup {
+    shape: TEN_SEGMENTS,
+    policy: Policy::Greedy,
+    limit: 100,
+    mark: 8,
+};
+
+/// The same with two of them in reserve.
+pub(crate) const RESERVED: Setup = Setup {
+    shape: TEN_RESERVED,
+    policy: Policy::Greedy,
+    limit: 100,
+    mark: 8,
 };

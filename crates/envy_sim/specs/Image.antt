@@ -1,10 +1,11 @@
 -- What bytes of a caller say of a board whose image they begin with, and what writing an image does.
-use Rattle.std.specs.Prelude.{◌≡◌, ◌≢◌, ◌⊎◌, ⊤, ℕ, ◌+◌, ◌*◌, ◌<◌, ◌≤◌, false, IsTrue, List, ◌++◌, length, drop, slice_index, Option, None, Some, Ok, Err}
+use Rattle.std.specs.Prelude.{◌≡◌, ◌≢◌, ◌⊎◌, ⊤, ℕ, ◌+◌, ◌*◌, ◌<◌, ◌≤◌, Bool, false, IsTrue, List, ◌++◌, length, drop, slice_index, Option, None, Some, Ok}
 use Rattle.envy_base.specs.Counting.{up}
 use Rattle.envy_base.specs.Shape.{checked}
 use Rattle.envy_base.specs.State.{State}
 use Rattle.envy_base.specs.declared.shape.Shape.{Shape}
-use Rattle.envy_image.specs.Image.{mark, head_of, image_of, FitNumbers}
+use Rattle.envy_image.specs.Image.{mark_of, head_of, head_size, image_of, numbers_size, FitNumbers}
+use Rattle.envy_image.specs.Reading.{IsMisshapen}
 use Rattle.envy_image.specs.Installing.{Goes, body_size, count_after}
 use Rattle.envy_memory.specs.Picture.{Picture, state_in}
 use Rattle.envy_policy.specs.Setup.{checked as setup_checked}
@@ -16,9 +17,9 @@ use Rattle.envy_calls.specs.declared.code.Code.{Code}
 use Rattle.envy_calls.specs.declared.code.Code.TheVariants.{Done, Empty, Off, NoMemory, Small, ImageShort, ImageMark, ImageOther, ImageShape}
 use Rattle.envy_calls.specs.declared.setup.EnvySetup.{EnvySetup}
 
--- how many bytes the image of a board has: 32 of its head, 256 for each row, and 8 for each word of SRAM
+-- how many bytes the image of a board has: those of its head, 256 for each row, and 8 for each word of SRAM
 abbrev pub image_size : Shape → ℕ
-image_size sh = 32 + body_size sh
+image_size sh = head_size sh + body_size sh
 
 -- bytes begin with the head of an image, and these stand behind it
 pub record HasHead (bytes : List ℕ) (sh : Shape) (rest : List ℕ) : Type 0 where
@@ -27,13 +28,14 @@ pub record HasHead (bytes : List ℕ) (sh : Shape) (rest : List ℕ) : Type 0 wh
 
 -- bytes end before the head of an image does
 abbrev pub EndsInHead : List ℕ → Type 0
-EndsInHead bytes = (length bytes < 8) ⊎ ((rest : List ℕ) × (bytes ≡ mark ++ rest) × (length rest < 24))
+EndsInHead bytes =
+    (length bytes < 8) ⊎ ((extended : Bool) × (rest : List ℕ) × (bytes ≡ mark_of extended ++ rest) × (length rest < numbers_size extended))
 
 -- why bytes don't begin with the head of an image whose shape checks
 abbrev pub NoHead : List ℕ → Code → Type 0
 NoHead bytes ImageShort = EndsInHead bytes
-NoHead bytes ImageMark = (first rest : List ℕ) × (bytes ≡ first ++ rest) × (length first ≡ 8) × (first ≢ mark)
-NoHead bytes (ImageShape fault) = (sh : Shape) × (rest : List ℕ) × HasHead bytes sh rest × (checked sh ≡ Err fault)
+NoHead bytes ImageMark = (first rest : List ℕ) × (bytes ≡ first ++ rest) × (length first ≡ 8) × ((extended : Bool) → first ≢ mark_of extended)
+NoHead bytes (ImageShape fault) = (head rest : List ℕ) × (bytes ≡ head ++ rest) × IsMisshapen head fault
 NoHead bytes other = ⊥
 
 -- why bytes make no board of a shape
@@ -78,6 +80,8 @@ with_shape sh s = record s {
   shadows = sh.shadows;
   frames = sh.frames;
   entries = sh.entries;
+  reserves = sh.reserves;
+  sums = sh.sums;
 }
 
 -- the shape that the head of an image names goes into a setup

@@ -4,3 +4,4 @@ pub mod Image
 pub mod Making
 pub mod Power
 pub mod Reading
+pub mod Shown

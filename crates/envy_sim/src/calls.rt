@@ -1,9 +1,10 @@
 ghost use Rattle.std.specs.Prelude.{◌≡◌};
 ghost use Rattle.envy_calls.specs.Answers.{DoesLoad, DoesLook, DoesStore, DoesBegin, DoesPut, DoesCommit, DoesAbort, DoesTick, DoesCount};
+ghost use Rattle.envy_calls.specs.Reserves.{DoesWear};
 ghost use denote.RawPtr.{InBlock};
 
 use crate::handle::{EnvyMemory, lend};
-use envy_calls::{EnvyCounts, abort, begin, commit, counts, load, look, put, store, tick};
+use envy_calls::{EnvyCounts, abort, begin, commit, counts, load, look, put, store, tick, worn};
 
 /// The word at an address, also where a transaction that is still open put it.
 #[unsafe(no_mangle)]
@@ -125,6 +126,20 @@ pub extern "C" fn envy_sim_counts(m: &mut EnvyMemory, found: &mut EnvyCounts) ->
 {
     let slot = lend(m);
     let code = counts(slot, found);
+    *m = EnvyMemory::of(slot);
+    code
+}
+
+/// How many segments in reserve are retired, and how many are left: none exactly if the next bad erase of the spare is told.
+#[unsafe(no_mangle)]
+pub extern "C" fn envy_sim_worn(m: &mut EnvyMemory, retired: &mut u32, left: &mut u32) -> u32
+    requires { InBlock m.old.at }
+    ensures live { InBlock m.new.at }
+    ensures same { m.new.slot.now ≡ m.old.slot.now }
+    ensures wears { DoesWear m.old.slot.now retired.old left.old result retired.new left.new }
+{
+    let slot = lend(m);
+    let code = worn(slot, retired, left);
     *m = EnvyMemory::of(slot);
     code
 }

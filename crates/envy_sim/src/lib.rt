@@ -13,8 +13,11 @@ mod handle;
 mod images;
 mod making;
 mod opening;
+mod picture;
 mod restoring;
 mod saving;
+mod showing;
 
 pub use bytes::EnvyBytes;
 pub use handle::EnvyMemory;
+pub use showing::{EnvyJob, EnvyPage, EnvyRow, EnvySegment};

@@ -94,6 +94,8 @@ pub fn read_shape(image: &[u8], setup: &mut EnvySetup) -> Code
         part: setup.part,
         limit: setup.limit,
         mark: setup.mark,
+        reserves: shape.reserves,
+        sums: shape.sums,
     };
     Code::Done
 }

@@ -8,7 +8,7 @@ use crate::handle::Slot;
 use envy_base::{Board, Shape};
 use envy_bench::CalmBoard;
 use envy_calls::{Code, EnvySetup, checked_setup};
-use envy_image::{OutFault, write_image};
+use envy_image::{OutFault, head_size, write_image};
 use envy_io::MemSink;
 use std::alloc::Global;
 
@@ -19,7 +19,7 @@ fn size_of_image(shape: &Shape) -> u64
 {
     let rows = (shape.segments * shape.rows) as u64;
     let words = envy_map::words(shape) as u64;
-    32 + (256 * rows + 8 * words)
+    head_size(shape) + (256 * rows + 8 * words)
 }
 
 /// How many bytes the image of a setup's board has.

@@ -11,6 +11,8 @@ fn the_map_of_a_small_board_has_559_words(rt: HostRuntime) {
         shadows: 16,
         frames: 8,
         entries: 4,
+        reserves: 0,
+        sums: 0,
     };
     same(&rt, &words(&shape), &559, "words");
 }

@@ -21,6 +21,8 @@ const SHAPE: Shape = Shape {
     shadows: 16,
     frames: 8,
     entries: 4,
+    reserves: 0,
+    sums: 0,
 };
 
 /// How many bytes the image of such a board has: its head, 128 rows of 256 bytes and 559 words of 8.

@@ -12,6 +12,8 @@ const SHAPE: Shape = Shape {
     shadows: 16,
     frames: 8,
     entries: 4,
+    reserves: 0,
+    sums: 0,
 };
 
 #[derive(Clone, Copy)]

@@ -12,6 +12,8 @@ fn shape(sizes: &[u32; 6]) -> Shape {
         shadows: sizes[3],
         frames: sizes[4],
         entries: sizes[5],
+        reserves: 0,
+        sums: 0,
     }
 }
 
@@ -69,6 +71,25 @@ fn the_first_rule_that_fails_is_answered(rt: HostRuntime) {
     for (sizes, wanted) in FIRST.as_slice() {
         let shape = shape(sizes);
         same_of(&rt, &shape.check(), &Err(*wanted), &shape);
+    }
+}
+
+/// At most all positions but three may be in reserve, and no board keeps sums yet. Both rules are asked right after that of
+/// the segments.
+#[test]
+fn reserves_and_sums_are_asked_after_the_segments(rt: HostRuntime) {
+    let asked = |segments, reserves, sums| Shape {
+        reserves,
+        sums,
+        ..shape(&[segments, 0, 0, 0, 0, 0])
+    };
+    for (shape, wanted) in [
+        (asked(3, 1, 1), ShapeFault::Segments),
+        (asked(8, 5, 1), ShapeFault::Reserves),
+        (asked(8, 4, 1), ShapeFault::Sums),
+        (asked(8, 4, 0), ShapeFault::Rows),
+    ] {
+        same_of(&rt, &shape.check(), &Err(wanted), &shape);
     }
 }
 

@@ -1,5 +1,5 @@
 -- The pool of a board that was just formatted.
-use Rattle.std.proofs.Common.{◌≡◌, ◌≢◌, ◌⊎◌, inl, inr, ℕ, ◌-◌, ◌<◌, ◌≤◌, List, replicate, Option, None, Some, refl, sym, ◌∙◌, ap, subst, arith}
+use Rattle.std.proofs.Common.{◌≡◌, ◌≢◌, ◌⊎◌, inl, inr, ℕ, ◌<◌, ◌≤◌, List, [], length, get_or, replicate, Option, None, Some, refl, sym, ◌∙◌, ap, subst, arith}
 use Rattle.std.specs.List.{range_with_len}
 use Rattle.std.proofs.lemmas.Bool.{cases_lt}
 use Rattle.std.proofs.lemmas.List.{ext_get_or, get_or-replicate, get_or_past, length-replicate}
@@ -9,11 +9,13 @@ use Rattle.envy_base.specs.declared.fields.Undo.{Undo}
 use Rattle.envy_base.specs.declared.fields.Undo.TheVariants.{Clear}
 use Rattle.envy_base.specs.declared.shape.Shape.{Shape}
 use Rattle.envy_map.specs.Fields.{Fields, Chart, place, undo}
-use Rattle.envy_layout.specs.Formatting.{IsEmpty}
+use Rattle.envy_layout.specs.Formatting.{IsEmpty, aside}
 use Rattle.envy_layout.specs.Sound.{Sound, Places, Slots, Names}
 use Rattle.envy_layout.specs.Words.{kept_by}
+use Rattle.envy_layout.proofs.Arranged.{laid-plain, plain-fill}
 use Rattle.envy_layout.proofs.KeptCounts.{kept_in-none}
 use Rattle.envy_space.specs.Pool.{PoolAgrees, empty_pool}
+use Rattle.envy_base.specs.Shape.{all_positions_of}
 
 -- no page names a row
 nameless : (sh : Shape) (f : Fields) (flash : List (List ℕ)) → Sound sh f flash → ((p : ℕ) → p < sh.pages → place f p ≡ Some Absent) → ((p : ℕ) → p < sh.pages → undo f p ≡ Some Clear) → (p q : ℕ) → Names f p q → ⊥
@@ -37,20 +39,21 @@ nameless sh f flash sound places undos p q names = at names
     at (inl here) = past here
     at (inr back) = past (sym kept ∙ back)
 
-pub PoolAgrees-empty : (version : ℕ) (c : Chart) → IsEmpty version c → PoolAgrees c.shape c.fields (empty_pool c.shape)
-PoolAgrees-empty version c empty =
+pub PoolAgrees-empty : (version : ℕ) (c : Chart) → IsEmpty version c → aside c.shape c.fields.fills ≡ [] → PoolAgrees c.shape c.fields (empty_pool c.shape)
+PoolAgrees-empty version c empty plain =
     let numbers = Sound.numbers empty.sound in
+    let none : length (aside c.shape c.fields.fills) ≡ 0 = ap length plain in
     record {
       shape = refl;
       fills = ext_get_or 0 (replicate c.shape.segments 0) c.fields.fills (length-replicate c.shape.segments 0 ∙ sym numbers.fills_long)
-          (λ s low. let lt : s < c.shape.segments = omega (arith, length-replicate {A = ℕ} c.shape.segments 0) in get_or-replicate c.shape.segments s 0 0 lt ∙ sym (empty.fills s lt));
-      positions = ext_get_or 0 (range_with_len 0 (c.shape.segments - 1)) c.fields.positions (length-range_with_len 0 (c.shape.segments - 1) ∙ sym numbers.positions_long)
-          (λ k low. let lt : k < c.shape.segments - 1 = omega (arith, length-range_with_len 0 (c.shape.segments - 1)) in
-          let here = get_or-range_with_len 0 (c.shape.segments - 1) k 0 lt in let there = empty.positions k lt in omega arith);
+          (λ s low. let lt : s < c.shape.segments = omega (arith, length-replicate {A = ℕ} c.shape.segments 0) in get_or-replicate c.shape.segments s 0 0 lt ∙ sym (plain-fill c.shape c.fields.fills s none lt (empty.fills s lt)));
+      positions = ext_get_or 0 (range_with_len 0 (all_positions_of c.shape)) c.fields.positions (length-range_with_len 0 (all_positions_of c.shape) ∙ sym numbers.positions_long)
+          (λ k low. let lt : k < all_positions_of c.shape = omega (arith, length-range_with_len 0 (all_positions_of c.shape)) in
+          let here = get_or-range_with_len 0 (all_positions_of c.shape) k 0 lt in let there = ap (λ (xs : List ℕ). get_or xs k 0) empty.positions ∙ laid-plain c.shape c.fields.fills k none lt in omega arith);
       long = length-replicate c.shape.segments 0;
       kept = λ s lt. get_or-replicate c.shape.segments s 0 0 lt ∙ sym (kept_in-none c.shape c.fields.slots c.fields.undos c.fields.places s
           (λ p q names. absurd (nameless c.shape c.fields c.flash empty.sound empty.places empty.undos p q names)));
     }
 
-pub PoolAgrees-new : (sh : Shape) (version : ℕ) (c : Chart) → c.shape ≡ sh → IsEmpty version c → PoolAgrees c.shape c.fields (empty_pool sh)
-PoolAgrees-new sh version c shape empty = subst (λ (x : Shape). PoolAgrees c.shape c.fields (empty_pool x)) shape (PoolAgrees-empty version c empty)
+pub PoolAgrees-new : (sh : Shape) (version : ℕ) (c : Chart) → c.shape ≡ sh → IsEmpty version c → aside c.shape c.fields.fills ≡ [] → PoolAgrees c.shape c.fields (empty_pool sh)
+PoolAgrees-new sh version c shape empty plain = subst (λ (x : Shape). PoolAgrees c.shape c.fields (empty_pool x)) shape (PoolAgrees-empty version c empty plain)

@@ -9,6 +9,7 @@ pub mod OrderLemmas
 pub mod PlaceLemmas
 pub mod PoolLemmas
 pub mod ReadLemmas
+pub mod RetireLemmas
 pub mod RisingLemmas
 pub mod RunLemmas
 pub mod SpaceLemmas

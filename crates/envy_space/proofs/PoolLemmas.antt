@@ -1,5 +1,5 @@
 -- Pools that are a map's, when a row is claimed or a position changes.
-use Rattle.std.proofs.Common.{◌≡◌, ◌⊎◌, inl, inr, ℕ, ◌+◌, ◌-◌, ◌*◌, ◌/◌, ◌%◌, ◌<◌, ◌≤◌, List, [], get_or, set, Some, sym, ◌∙◌, ap, subst, arith}
+use Rattle.std.proofs.Common.{◌≡◌, ◌⊎◌, inl, inr, ℕ, ◌+◌, ◌*◌, ◌/◌, ◌%◌, ◌<◌, ◌≤◌, List, [], get_or, set, Some, sym, ◌∙◌, ap, subst, arith, length}
 use Rattle.std.proofs.lemmas.Bool.{cases_eq}
 use Rattle.std.proofs.lemmas.List.{get_or-set_same, get_or-set_other, length-set, ext_get_or}
 use Rattle.std.proofs.lemmas.Nat.{div-mul-add, mod-mul-add, mul-add-lt}
@@ -12,6 +12,7 @@ use Rattle.envy_layout.specs.Claims.{IsUsable}
 use Rattle.envy_layout.specs.Sound.{Sound, Rows, Numbers, Blanks, IsSound, IsSpare}
 use Rattle.envy_layout.proofs.References.{apart-spare}
 use Rattle.envy_space.specs.Pool.{Pool, IsPool, PoolAgrees, Claimed, StandsAt, with_filled, with_segment_at}
+use Rattle.envy_base.specs.Shape.{all_positions_of}
 
 -- the fill of a segment is another
 pub PoolAgrees-claimed : (c new : Chart) (old pool : Pool) (s q p n : ℕ) → PoolAgrees c.shape c.fields old → new ≡ with_fields c (with_fill s n (with_back q p c.fields)) → pool ≡ with_filled s n old → PoolAgrees new.shape new.fields pool
@@ -50,10 +51,9 @@ Claimed-made c new s p n q sound lt room is row usable new_is =
     })
 
 -- the spare stands at a position
-pub StandsAt-spare : (k e : ℕ) (old new : Pool) → k < old.shape.segments - 1 → IsPool old → IsSpare old.shape old.positions e → StandsAt k e old new → new ≡ with_segment_at k e old
-StandsAt-spare k e old new lt pool spare stands =
+pub StandsAt-spare : (k e : ℕ) (old new : Pool) → k < all_positions_of old.shape → length old.positions ≡ all_positions_of old.shape → IsSpare old.shape old.positions e → StandsAt k e old new → new ≡ with_segment_at k e old
+StandsAt-spare k e old new lt long spare stands =
     let count = ap (λ (sh : Shape). sh.segments) stands.shape in
-    let long = pool.positions_long in
     let new_long = IsPool.positions_long stands.is_pool in
     let set_long = length-set old.positions k e in
     let positions : new.positions ≡ set old.positions k e = ext_get_or 0 _ _ (omega arith) (λ j low. at j (omega arith) (cases_eq j k)) in
@@ -62,8 +62,8 @@ StandsAt-spare k e old new lt pool spare stands =
     ∙ ap (λ (x : List ℕ). record new { shape = old.shape; fills = old.fills; kept = x }) stands.kept
     ∙ ap (λ (x : List ℕ). record old { positions = x }) positions
   where
-    at : (j : ℕ) → j < old.shape.segments - 1 → (j ≡ k) ⊎ (j ≡ k → ⊥) → get_or new.positions j 0 ≡ get_or (set old.positions k e) j 0
-    at j low (inl same) = ap (λ (i : ℕ). get_or new.positions i 0) same ∙ stands.here ∙ sym (ap (λ (i : ℕ). get_or (set old.positions k e) i 0) same ∙ get_or-set_same old.positions k e 0 (rw pool.positions_long lt))
+    at : (j : ℕ) → j < all_positions_of old.shape → (j ≡ k) ⊎ (j ≡ k → ⊥) → get_or new.positions j 0 ≡ get_or (set old.positions k e) j 0
+    at j low (inl same) = ap (λ (i : ℕ). get_or new.positions i 0) same ∙ stands.here ∙ sym (ap (λ (i : ℕ). get_or (set old.positions k e) i 0) same ∙ get_or-set_same old.positions k e 0 (rw long lt))
     at j low (inr other) = stands.others j low other (spare.nowhere j low) ∙ sym (get_or-set_other old.positions k j e 0 other)
 
 pub PoolAgrees-replaced : (c new : Chart) (old pool : Pool) (k e : ℕ) → PoolAgrees c.shape c.fields old → new ≡ with_fields c (with_position k e c.fields) → pool ≡ with_segment_at k e old → PoolAgrees new.shape new.fields pool

@@ -1,11 +1,12 @@
 -- What a loop that reads numbers of the map has come to.
-use Rattle.std.proofs.Common.{◌≡◌, ◌⊎◌, inl, inr, ℕ, ◌+◌, ◌-◌, ◌<◌, ◌≤◌, List, length, get_or, set, replicate, sym, ◌∙◌, ap, subst, arith}
+use Rattle.std.proofs.Common.{◌≡◌, ◌⊎◌, inl, inr, ℕ, ◌+◌, ◌<◌, ◌≤◌, List, length, get_or, set, replicate, sym, ◌∙◌, ap, subst, arith}
 use Rattle.std.proofs.lemmas.Bool.{cases_eq}
 use Rattle.std.proofs.lemmas.List.{ext_get_or, get_or-set_other, get_or-set_same}
 use Rattle.envy_base.specs.declared.shape.Shape.{Shape}
 use Rattle.envy_map.specs.Fields.{Fields}
 use Rattle.envy_space.specs.Pool.{Pool, HasCounted, StandsAt}
 use Rattle.envy_space.proofs.SpaceLemmas.{zeros_at}
+use Rattle.envy_base.specs.Shape.{all_positions_of}
 
 pub none-read : (xs ys : List ℕ) (k : ℕ) → k < 0 → get_or xs k 0 ≡ get_or ys k 0
 none-read xs ys k lt = absurd (omega arith)
@@ -22,7 +23,7 @@ more-read xs ys k v within is before j lt = at (cases_eq j k)
     at (inr apart) = get_or-set_other xs k j v 0 apart ∙ before j (omega arith)
 
 -- one segment more stands where the map says
-pub more-stand : (sh : Shape) (pool new : Pool) (xs : List ℕ) (k s : ℕ) → pool.shape ≡ sh → k < sh.segments - 1 → ((i j : ℕ) → i < sh.segments - 1 → j < sh.segments - 1 → get_or xs i 0 ≡ get_or xs j 0 → i ≡ j) → s ≡ get_or xs k 0
+pub more-stand : (sh : Shape) (pool new : Pool) (xs : List ℕ) (k s : ℕ) → pool.shape ≡ sh → k < all_positions_of sh → ((i j : ℕ) → i < all_positions_of sh → j < all_positions_of sh → get_or xs i 0 ≡ get_or xs j 0 → i ≡ j) → s ≡ get_or xs k 0
     → StandsAt k s pool new → ((j : ℕ) → j < k → get_or pool.positions j 0 ≡ get_or xs j 0) → (j : ℕ) → j < k + 1 → get_or new.positions j 0 ≡ get_or xs j 0
 more-stand sh pool new xs k s shape low apart is stands before j lt = at (cases_eq j k)
   where

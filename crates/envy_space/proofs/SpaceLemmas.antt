@@ -8,7 +8,7 @@ use Rattle.std.proofs.lemmas.List.Edits.{length-swap}
 use Rattle.std.proofs.lemmas.Option.{get_or_from_slice_get, slice_get-get_or}
 use Rattle.std.proofs.lemmas.List.FromFn.{get_or-range_with_len, length-range_with_len, sum_by-map-range_with_len_more}
 use Rattle.envy_base.specs.declared.shape.Shape.{Shape}
-use Rattle.envy_base.specs.Shape.{IsShape}
+use Rattle.envy_base.specs.Shape.{IsShape, all_positions_of, positions_of}
 use Rattle.envy_layout.specs.Sound.{IsPlaced, IsSpare}
 use Rattle.envy_space.specs.Order.{IsOrder}
 use Rattle.envy_space.specs.Pool.{Pool, IsPool, IsSpace, StandsAt, empty_pool, free_at, dead_at}
@@ -39,7 +39,7 @@ take-range m n le =
     get_or-take m (range_with_len 0 n) k 0 low ∙ get_or-range_with_len 0 n k 0 (omega arith) ∙ sym (get_or-range_with_len 0 m k 0 low))
 
 abbrev pub pool_of : Shape → List ℕ → List ℕ → List ℕ → Pool
-pool_of sh fills kept order = record { shape = sh; fills = fills; kept = kept; positions = take (sh.segments - 1) order }
+pool_of sh fills kept order = record { shape = sh; fills = fills; kept = kept; positions = take (all_positions_of sh) order }
 
 pub IsSpace-empty : (sh : Shape) → IsShape sh → IsSpace sh (replicate sh.segments 0) (replicate sh.segments 0) (range_with_len 0 sh.segments) (replicate sh.segments 0) (replicate sh.segments (flag sh.rows)) (replicate sh.segments (flag 0))
 IsSpace-empty sh shape = record {
@@ -64,7 +64,7 @@ IsSpace-cleared sh fills kept order dead has_free has_dead shape fills_is kept_i
 
 pub pool-cleared : (sh : Shape) (fills kept order : List ℕ) → fills ≡ replicate sh.segments 0 → kept ≡ replicate sh.segments 0 → order ≡ range_with_len 0 sh.segments → pool_of sh fills kept order ≡ empty_pool sh
 pool-cleared sh fills kept order fills_is kept_is order_is =
-    let front : take (sh.segments - 1) order ≡ range_with_len 0 (sh.segments - 1) = ap (take (sh.segments - 1)) order_is ∙ take-range (sh.segments - 1) sh.segments (omega arith) in
+    let front : take (all_positions_of sh) order ≡ range_with_len 0 (all_positions_of sh) = ap (take (all_positions_of sh)) order_is ∙ take-range (all_positions_of sh) sh.segments (omega arith) in
     rw (fills_is, kept_is, front) refl
 
 -- two segments have changed places
@@ -104,15 +104,15 @@ IsPool-space sh fills kept order dead has_free has_dead are =
       shape = are.shape;
       fills_long = are.fills_long;
       kept_long = are.kept_long;
-      positions_long = let e = length-take (sh.segments - 1) order in omega arith;
+      positions_long = let e = length-take (all_positions_of sh) order in omega arith;
       fills_fit = are.fills_fit;
       kept_fit = are.kept_fit;
-      positions_fit = λ k lt. let e = get_or-take (sh.segments - 1) order k 0 lt in let fit = are.ordered.fit k (omega arith) in omega arith;
-      apart = λ i j low lower same. are.ordered.apart i j (omega arith) (omega arith) (sym (get_or-take (sh.segments - 1) order i 0 low) ∙ same ∙ get_or-take (sh.segments - 1) order j 0 lower);
+      positions_fit = λ k lt. let e = get_or-take (all_positions_of sh) order k 0 lt in let fit = are.ordered.fit k (omega arith) in omega arith;
+      apart = λ i j low lower same. are.ordered.apart i j (omega arith) (omega arith) (sym (get_or-take (all_positions_of sh) order i 0 low) ∙ same ∙ get_or-take (all_positions_of sh) order j 0 lower);
     }
 
 -- the segment of place j stands at position i
-pub StandsAt-swap : (sh : Shape) (fills kept order dead has_free has_dead then_order then_dead then_free then_has : List ℕ) (i j s : ℕ) → i < sh.segments - 1 → j < sh.segments → get_or order j 0 ≡ s → IsSpace sh fills kept order dead has_free has_dead → then_order ≡ swap order i j → IsOrder then_order → IsSpace sh fills kept then_order then_dead then_free then_has → StandsAt i s (pool_of sh fills kept order) (pool_of sh fills kept then_order)
+pub StandsAt-swap : (sh : Shape) (fills kept order dead has_free has_dead then_order then_dead then_free then_has : List ℕ) (i j s : ℕ) → i < all_positions_of sh → j < sh.segments → get_or order j 0 ≡ s → IsSpace sh fills kept order dead has_free has_dead → then_order ≡ swap order i j → IsOrder then_order → IsSpace sh fills kept then_order then_dead then_free then_has → StandsAt i s (pool_of sh fills kept order) (pool_of sh fills kept then_order)
 StandsAt-swap sh fills kept order dead has_free has_dead then_order then_dead then_free then_has i j s low lower here was order_is ordered now =
     let long = was.order_long in
     record {
@@ -120,25 +120,25 @@ StandsAt-swap sh fills kept order dead has_free has_dead then_order then_dead th
       shape = refl;
       fills = refl;
       kept = refl;
-      here = get_or-take (sh.segments - 1) then_order i 0 low ∙ ap (λ (xs : List ℕ). get_or xs i 0) order_is ∙ swapped_first order i j (omega arith) (omega arith) ∙ here;
+      here = get_or-take (all_positions_of sh) then_order i 0 low ∙ ap (λ (xs : List ℕ). get_or xs i 0) order_is ∙ swapped_first order i j (omega arith) (omega arith) ∙ here;
       others = λ k lt apart other.
-          get_or-take (sh.segments - 1) then_order k 0 lt ∙ ap (λ (xs : List ℕ). get_or xs k 0) order_is
-          ∙ swapped_other order i j k (omega arith) (omega arith) apart (λ same. other (get_or-take (sh.segments - 1) order k 0 lt ∙ ap (λ (p : ℕ). get_or order p 0) same ∙ here))
-          ∙ sym (get_or-take (sh.segments - 1) order k 0 lt);
+          get_or-take (all_positions_of sh) then_order k 0 lt ∙ ap (λ (xs : List ℕ). get_or xs k 0) order_is
+          ∙ swapped_other order i j k (omega arith) (omega arith) apart (λ same. other (get_or-take (all_positions_of sh) order k 0 lt ∙ ap (λ (p : ℕ). get_or order p 0) same ∙ here))
+          ∙ sym (get_or-take (all_positions_of sh) order k 0 lt);
       there = λ k lt stood.
-          let same : k ≡ j = was.ordered.apart k j (omega arith) (omega arith) (sym (get_or-take (sh.segments - 1) order k 0 lt) ∙ stood ∙ sym here) in
-          get_or-take (sh.segments - 1) then_order k 0 lt ∙ ap (λ (xs : List ℕ). get_or xs k 0) order_is
+          let same : k ≡ j = was.ordered.apart k j (omega arith) (omega arith) (sym (get_or-take (all_positions_of sh) order k 0 lt) ∙ stood ∙ sym here) in
+          get_or-take (all_positions_of sh) then_order k 0 lt ∙ ap (λ (xs : List ℕ). get_or xs k 0) order_is
           ∙ ap (λ (p : ℕ). get_or (swap order i j) p 0) same
           ∙ swapped_second order i j (omega arith) (omega arith)
-          ∙ sym (get_or-take (sh.segments - 1) order i 0 low);
+          ∙ sym (get_or-take (all_positions_of sh) order i 0 low);
     }
 
 -- what the flags say of a position
-pub free-flags : (sh : Shape) (fills kept order dead has_free has_dead : List ℕ) → IsSpace sh fills kept order dead has_free has_dead → (k : ℕ) → k < sh.segments - 1 → get_or has_free k 0 ≡ flag (free_at (pool_of sh fills kept order) k)
-free-flags sh fills kept order dead has_free has_dead are k lt = are.free_flags k (omega arith) ∙ ap (λ (s : ℕ). flag (sh.rows - get_or fills s 0)) (sym (get_or-take (sh.segments - 1) order k 0 lt))
+pub free-flags : (sh : Shape) (fills kept order dead has_free has_dead : List ℕ) → IsSpace sh fills kept order dead has_free has_dead → (k : ℕ) → k < all_positions_of sh → get_or has_free k 0 ≡ flag (free_at (pool_of sh fills kept order) k)
+free-flags sh fills kept order dead has_free has_dead are k lt = are.free_flags k (omega arith) ∙ ap (λ (s : ℕ). flag (sh.rows - get_or fills s 0)) (sym (get_or-take (all_positions_of sh) order k 0 lt))
 
-pub dead-flags : (sh : Shape) (fills kept order dead has_free has_dead : List ℕ) → IsSpace sh fills kept order dead has_free has_dead → (k : ℕ) → k < sh.segments - 1 → get_or has_dead k 0 ≡ flag (dead_at (pool_of sh fills kept order) k)
-dead-flags sh fills kept order dead has_free has_dead are k lt = are.dead_flags k (omega arith) ∙ ap (λ (s : ℕ). flag (get_or fills s 0 - get_or kept s 0)) (sym (get_or-take (sh.segments - 1) order k 0 lt))
+pub dead-flags : (sh : Shape) (fills kept order dead has_free has_dead : List ℕ) → IsSpace sh fills kept order dead has_free has_dead → (k : ℕ) → k < all_positions_of sh → get_or has_dead k 0 ≡ flag (dead_at (pool_of sh fills kept order) k)
+dead-flags sh fills kept order dead has_free has_dead are k lt = are.dead_flags k (omega arith) ∙ ap (λ (s : ℕ). flag (get_or fills s 0 - get_or kept s 0)) (sym (get_or-take (all_positions_of sh) order k 0 lt))
 
 -- and what they say of the place where a segment stands
 pub free-flag-here : (sh : Shape) (fills kept order dead has_free has_dead : List ℕ) (s n place : ℕ) → IsSpace sh fills kept order dead has_free has_dead → place < sh.segments → get_or order place 0 ≡ s → n ≡ get_or fills s 0 → get_or has_free place 0 ≡ flag (sh.rows - n)
@@ -238,27 +238,27 @@ IsSpace-kept sh fills kept order dead has_free has_dead then_dead then_has s n m
     below t (inr other) = let is = get_or-set_other kept s t n 0 other in let le = was.kept_fit t in omega arith
 
 -- what a look at an order says of the pool: where a segment stands, the segment at a position, and the spare
-pub placed-within : (sh : Shape) (fills kept order dead has_free has_dead : List ℕ) (s : ℕ) → IsSpace sh fills kept order dead has_free has_dead → IsPlaced sh (take (sh.segments - 1) order) s → s < length order
+pub placed-within : (sh : Shape) (fills kept order dead has_free has_dead : List ℕ) (s : ℕ) → IsSpace sh fills kept order dead has_free has_dead → IsPlaced sh (take (all_positions_of sh) order) s → s < length order
 placed-within sh fills kept order dead has_free has_dead s are (k, lt, is) =
     let long = are.order_long in
-    let at = get_or-take (sh.segments - 1) order k 0 lt in
+    let at = get_or-take (all_positions_of sh) order k 0 (omega (arith, lt)) in
     let fit = are.ordered.fit k (omega arith) in
     omega arith
 
-pub placed-low : (sh : Shape) (fills kept order dead has_free has_dead : List ℕ) (s q : ℕ) → IsSpace sh fills kept order dead has_free has_dead → IsPlaced sh (take (sh.segments - 1) order) s → q < length order → get_or order q 0 ≡ s → q < sh.segments - 1
+pub placed-low : (sh : Shape) (fills kept order dead has_free has_dead : List ℕ) (s q : ℕ) → IsSpace sh fills kept order dead has_free has_dead → IsPlaced sh (take (all_positions_of sh) order) s → q < length order → get_or order q 0 ≡ s → q < positions_of sh
 placed-low sh fills kept order dead has_free has_dead s q are (k, lt, is) within stands =
     let long = are.order_long in
-    let same : q ≡ k = are.ordered.apart q k within (omega arith) (stands ∙ sym is ∙ get_or-take (sh.segments - 1) order k 0 lt) in
+    let same : q ≡ k = are.ordered.apart q k within (omega arith) (stands ∙ sym is ∙ get_or-take (all_positions_of sh) order k 0 (omega (arith, lt))) in
     rw same lt
 
-pub spare-last : (sh : Shape) (fills kept order dead has_free has_dead : List ℕ) (e : ℕ) → IsSpace sh fills kept order dead has_free has_dead → e ≡ get_or order (sh.segments - 1) 0 → IsSpare sh (take (sh.segments - 1) order) e
+pub spare-last : (sh : Shape) (fills kept order dead has_free has_dead : List ℕ) (e : ℕ) → IsSpace sh fills kept order dead has_free has_dead → e ≡ get_or order (all_positions_of sh) 0 → IsSpare sh (take (all_positions_of sh) order) e
 spare-last sh fills kept order dead has_free has_dead e are is =
     let long = are.order_long in
     let some = are.shape.segments in
-    let fit = are.ordered.fit (sh.segments - 1) (omega arith) in
+    let fit = are.ordered.fit (all_positions_of sh) (omega arith) in
     record {
       segment = omega arith;
       nowhere = λ k lt stands.
-          let same : k ≡ sh.segments - 1 = are.ordered.apart k (sh.segments - 1) (omega arith) (omega arith) (sym (get_or-take (sh.segments - 1) order k 0 lt) ∙ stands ∙ is) in
+          let same : k ≡ all_positions_of sh = are.ordered.apart k (all_positions_of sh) (omega arith) (omega arith) (sym (get_or-take (all_positions_of sh) order k 0 lt) ∙ stands ∙ is) in
           absurd (omega arith);
     }

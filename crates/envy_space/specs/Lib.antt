@@ -4,6 +4,7 @@ pub mod Following
 pub mod Noting
 pub mod Order
 pub mod Pool
+pub mod Retiring
 pub mod Rising
 pub mod Winners
 pub use Rattle.envy_base.specs.Array

@@ -6,7 +6,7 @@ use Rattle.envy_base.specs.declared.fields.Place.{Place}
 use Rattle.envy_base.specs.declared.fields.Place.TheVariants.{Row}
 use Rattle.envy_base.specs.declared.fields.Slot.{Slot}
 use Rattle.envy_base.specs.declared.fields.Undo.{Undo}
-use Rattle.envy_base.specs.Shape.{IsShape, positions_of}
+use Rattle.envy_base.specs.Shape.{IsShape, all_positions_of}
 use Rattle.envy_base.specs.State.{ones}
 use Rattle.envy_map.specs.Fields.{Fields, Chart, with_fields, place, undo}
 use Rattle.envy_map.specs.Writes.{with_back, with_fill, with_position}
@@ -28,11 +28,11 @@ pub record IsPool (p : Pool) : Type 0 where
   pub shape : IsShape p.shape
   pub fills_long : length p.fills ≡ p.shape.segments
   pub kept_long : length p.kept ≡ p.shape.segments
-  pub positions_long : length p.positions ≡ positions_of p.shape
+  pub positions_long : length p.positions ≡ all_positions_of p.shape
   pub fills_fit : (s : ℕ) → slice_index p.fills s ≤ p.shape.rows
   pub kept_fit : (s : ℕ) → slice_index p.kept s ≤ slice_index p.fills s
-  pub positions_fit : (k : ℕ) → k < positions_of p.shape → slice_index p.positions k < p.shape.segments
-  pub apart : (i j : ℕ) → i < positions_of p.shape → j < positions_of p.shape → slice_index p.positions i ≡ slice_index p.positions j → i ≡ j
+  pub positions_fit : (k : ℕ) → k < all_positions_of p.shape → slice_index p.positions k < p.shape.segments
+  pub apart : (i j : ℕ) → i < all_positions_of p.shape → j < all_positions_of p.shape → slice_index p.positions i ≡ slice_index p.positions j → i ≡ j
 
 -- the free and the dead rows of segment s, and of the segment at position k
 abbrev pub free_rows : Pool → ℕ → ℕ
@@ -60,7 +60,7 @@ empty_pool sh = record {
   shape = sh;
   fills = replicate sh.segments 0;
   kept = replicate sh.segments 0;
-  positions = range_with_len 0 (positions_of sh);
+  positions = range_with_len 0 (all_positions_of sh);
 }
 
 abbrev pub with_filled : ℕ → ℕ → Pool → Pool
@@ -86,8 +86,8 @@ pub record StandsAt (k s : ℕ) (old new : Pool) : Type 0 where
   pub fills : new.fills ≡ old.fills
   pub kept : new.kept ≡ old.kept
   pub here : slice_index new.positions k ≡ s
-  pub others : (j : ℕ) → j < positions_of old.shape → j ≢ k → slice_index old.positions j ≢ s → slice_index new.positions j ≡ slice_index old.positions j
-  pub there : (j : ℕ) → j < positions_of old.shape → slice_index old.positions j ≡ s → slice_index new.positions j ≡ slice_index old.positions k
+  pub others : (j : ℕ) → j < all_positions_of old.shape → j ≢ k → slice_index old.positions j ≢ s → slice_index new.positions j ≡ slice_index old.positions j
+  pub there : (j : ℕ) → j < all_positions_of old.shape → slice_index old.positions j ≡ s → slice_index new.positions j ≡ slice_index old.positions k
 
 -- how many kept rows of segment s the first n pages name
 abbrev pub kept_in_first : Shape → Fields → ℕ → ℕ → ℕ

@@ -14,6 +14,7 @@ mod laws;
 mod nodes;
 mod order;
 mod rebuild;
+mod retiring;
 mod rising;
 mod scores;
 mod space;

@@ -6,7 +6,7 @@ ghost use Rattle.envy_layout.specs.Sound.{IsSound};
 ghost use Rattle.envy_space.specs.Pool.{PoolAgrees, HasCounted, IsShadow, kept_in_first};
 
 use crate::Space;
-use envy_base::{Board, Off, Place, Slot, Undo, positions_of};
+use envy_base::{Board, Off, Place, Slot, Undo, all_positions_of};
 use envy_map::{fill, place, segment_at, slot, undo};
 
 impl Space {
@@ -40,7 +40,7 @@ impl Space {
         ensures kept { self.new.kept ≡ self.old.kept }
         ensures off { OnErr result ((B.state board.now).on ≡ false) }
     {
-        for position in 0..positions_of(&self.shape) {
+        for position in 0..all_positions_of(&self.shape) {
             self.stand(position, segment_at(board, position)?);
         }
         Ok(())

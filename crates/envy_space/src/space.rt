@@ -1,7 +1,7 @@
-ghost use Rattle.std.specs.Prelude.{◌≡◌, ℕ, ◌+◌, ◌-◌, ◌*◌, ◌/◌, ◌<◌, ◌≤◌, IfOk, slice_index};
-ghost use Rattle.envy_base.specs.Shape.{IsShape, positions_of};
+ghost use Rattle.std.specs.Prelude.{◌≡◌, ℕ, ◌+◌, ◌-◌, ◌*◌, ◌/◌, ◌<◌, ◌≤◌, [], IfOk, slice_index};
+ghost use Rattle.envy_base.specs.Shape.{IsShape, all_positions_of, positions_of};
 ghost use Rattle.envy_map.specs.Fields.{Chart};
-ghost use Rattle.envy_layout.specs.Formatting.{IsEmpty};
+ghost use Rattle.envy_layout.specs.Formatting.{IsEmpty, aside};
 ghost use Rattle.envy_layout.specs.Sound.{IsPlaced, IsSpare};
 ghost use Rattle.envy_space.specs.Pool.{Pool, IsPool, PoolAgrees, empty_pool, free_rows, dead_rows, free_between, dead_at, with_filled, with_kept, noted_kept, noted_dead, StandsAt};
 ghost use Rattle.envy_space.specs.Winners.{Wins};
@@ -9,7 +9,7 @@ ghost use Rattle.envy_space.specs.Winners.{Wins};
 use crate::flags::Flags;
 use crate::order::Order;
 use crate::scores::Scores;
-use envy_base::{NoMemory, Shape, positions_of};
+use envy_base::{NoMemory, Shape, all_positions_of, positions_of};
 use std::alloc::Global;
 use std::marker::Model;
 
@@ -30,23 +30,24 @@ pub struct Space {
 
 impl Model for Space {
     ghost use Rattle.std.specs.Prelude.{take};
-    ghost use Rattle.envy_base.specs.Shape.{positions_of};
+    ghost use Rattle.envy_base.specs.Shape.{all_positions_of};
     ghost use Rattle.envy_space.specs.Pool.{Pool, IsSpace};
 
     ghost Value = { Pool };
 
-    ghost view = { λ a. record { shape = a.shape; fills = a.fills.items; kept = a.kept.items; positions = take (positions_of a.shape) a.order } };
+    ghost view = { λ a. record { shape = a.shape; fills = a.fills.items; kept = a.kept.items; positions = take (all_positions_of a.shape) a.order } };
 
     ghost invariant = { λ a. IsSpace a.shape a.fills.items a.kept.items a.order a.dead a.has_free a.has_dead };
 }
 
 impl Space {
-    /// The pool of an empty formatted board. It agrees with each board of the shape that was just formatted.
+    /// The pool of an empty board. It agrees with each board of the shape that was just formatted and of which no
+    /// segment was set aside.
     pub fn new(alloc: Global, shape: &Shape) -> Result<Space, NoMemory>
         requires { IsShape shape.now }
         ensures empty { IfOk result (λ space. space ≡ empty_pool shape.now) }
         ensures agrees { IfOk result (λ space. (version : ℕ) (c : Chart) → c.shape ≡ shape.now → IsEmpty version c
-            → PoolAgrees c.shape c.fields space) }
+            → aside c.shape c.fields.fills ≡ [] → PoolAgrees c.shape c.fields space) }
     {
         let shape = *shape;
         let fills = vec![in alloc; 0; shape.segments as usize]?;
@@ -114,7 +115,7 @@ impl Space {
         free
     }
 
-    /// How many positions there are.
+    /// How many positions are in use.
     pub fn positions(&self) -> u32
         ensures positions { result ≡ positions_of self.now.shape }
         ensures pool { IsPool self.now }
@@ -124,14 +125,14 @@ impl Space {
 
     /// The segment at a position.
     pub fn segment_at(&self, position: u32) -> u32
-        requires { position < positions_of self.now.shape }
+        requires { position < all_positions_of self.now.shape }
         ensures segment { result ≡ slice_index self.now.positions position }
         ensures pool { IsPool self.now }
     {
         self.order.segment_at(position)
     }
 
-    /// The position at which a segment stands.
+    /// The position in use at which a segment stands.
     pub fn position_of(&self, segment: u32) -> u32
         requires { IsPlaced self.now.shape self.now.positions segment }
         ensures within { result < positions_of self.now.shape }
@@ -146,7 +147,7 @@ impl Space {
         ensures spare { IsSpare self.now.shape self.now.positions result }
         ensures pool { IsPool self.now }
     {
-        self.order.segment_at(positions_of(&self.shape))
+        self.order.segment_at(all_positions_of(&self.shape))
     }
 
     /// The position from `first` to `last` with the most dead rows, the lowest of several, or `None`
@@ -204,7 +205,7 @@ impl Space {
 
     /// Lets a segment stand at a position. The segment of the position stands where that one stood.
     pub fn stand(&mut self, position: u32, segment: u32)
-        requires position { position < positions_of self.old.shape }
+        requires position { position < all_positions_of self.old.shape }
         requires segment { segment < self.old.shape.segments }
         ensures { StandsAt position segment self.old self.new }
     {

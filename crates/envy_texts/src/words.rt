@@ -49,6 +49,8 @@ const SHAPE: Shape = Shape {
     shadows: 16,
     frames: 8,
     entries: 4,
+    reserves: 0,
+    sums: 0,
 };
 
 const SETUP: Setup = Setup {
@@ -70,6 +72,8 @@ const LOAD_SHAPE: Shape = Shape {
     shadows: 16,
     frames: 16,
     entries: 16,
+    reserves: 0,
+    sums: 0,
 };
 
 const LOAD_SETUP: Setup = Setup {
@@ -173,6 +177,14 @@ const NINE_AND_NINE: Command = Command::Run {
     lives: LIVES,
 };
 
+const ONE_IN_RESERVE: Setup = Setup {
+    shape: Shape {
+        reserves: 1,
+        ..SHAPE
+    },
+    ..SETUP
+};
+
 const HYBRID_OF_SEVEN: Setup = Setup {
     policy: Policy::Hybrid(7),
     ..SETUP
@@ -199,7 +211,7 @@ const LOCALITY: Setup = Setup {
 };
 
 // Options stand in any order and in both forms.
-const OPTIONS: [Row; 18] = [
+const OPTIONS: [Row; 21] = [
     ("run --frames 9 --mark 3", Ok(NINE_AND_THREE)),
     ("run --mark=3 --frames=9", Ok(NINE_AND_THREE)),
     ("run --mark 3 --frames=9 --", Ok(NINE_AND_THREE)),
@@ -241,6 +253,21 @@ const OPTIONS: [Row; 18] = [
         }),
     ),
     ("run --part=0 --policy=greedy", Ok(RUN)),
+    ("run --reserves=0", Ok(RUN)),
+    (
+        "run --reserves 1",
+        Ok(Command::Run {
+            setup: ONE_IN_RESERVE,
+            lives: LIVES,
+        }),
+    ),
+    (
+        "mirror --reserves=1",
+        Ok(Command::Mirror {
+            setup: ONE_IN_RESERVE,
+            lives: LIVES,
+        }),
+    ),
     (
         "gen --pages=1048576 --lines 0 --start 18446744073709551615",
         Ok(Command::Gen {

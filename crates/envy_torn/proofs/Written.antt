@@ -38,10 +38,11 @@ noted_after call old mid new kept noted = record {
   first = noted.first ∙ kept.first;
   synced = noted.synced ∙ kept.synced;
   bytewise = noted.bytewise ∙ kept.bytewise;
+  hindrances = noted.hindrances ∙ kept.hindrances;
 }
 
 pub kept_after : (old mid new : TornFile) → Kept old mid → Kept mid new → Kept old new
-kept_after old mid new a b = record { calls = b.calls ∙ a.calls; first = b.first ∙ a.first; synced = b.synced ∙ a.synced; bytewise = b.bytewise ∙ a.bytewise }
+kept_after old mid new a b = record { calls = b.calls ∙ a.calls; first = b.first ∙ a.first; synced = b.synced ∙ a.synced; bytewise = b.bytewise ∙ a.bytewise; hindrances = b.hindrances ∙ a.hindrances }
 
 pub bytes_kept : (old new : TornFile) → Kept old new → file_bytes new ≡ file_bytes old
 bytes_kept old new kept =

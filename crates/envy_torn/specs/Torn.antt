@@ -4,6 +4,7 @@ use Rattle.std.specs.Global.{Vec}
 use Rattle.std.proofs.Common.{subst, sym, arith}
 use Rattle.std.proofs.lemmas.List.{take_all}
 use Rattle.envy_device.specs.declared.device.DeviceFailed.{DeviceFailed}
+use Rattle.envy_record.specs.Calls.{hindrances}
 use Rattle.envy_torn.specs.declared.torn.Call.{Call}
 use Rattle.envy_torn.specs.declared.torn.Call.TheVariants.{BadWrite}
 use Rattle.envy_torn.specs.declared.torn.TornFile.{TornFile}
@@ -27,6 +28,9 @@ file_syncs file = syncs_in file.calls.items
 abbrev pub file_failed : TornFile → Bool
 file_failed file = file.failed
 
+abbrev pub file_hindered : TornFile → ℕ
+file_hindered file = hindrances file.hindrances.calls
+
 abbrev pub file_bytewise : TornFile → Bool
 file_bytewise file = file.bytewise
 
@@ -42,6 +46,7 @@ pub record Kept (old new : TornFile) : Type 0 where
   pub first : new.first.items ≡ old.first.items
   pub synced : new.synced ≡ old.synced
   pub bytewise : new.bytewise ≡ old.bytewise
+  pub hindrances : new.hindrances ≡ old.hindrances
 
 -- this call was made
 pub record Noted (call : Call) (old new : TornFile) : Type 0 where
@@ -49,6 +54,7 @@ pub record Noted (call : Call) (old new : TornFile) : Type 0 where
   pub first : new.first.items ≡ old.first.items
   pub synced : new.synced ≡ old.synced
   pub bytewise : new.bytewise ≡ old.bytewise
+  pub hindrances : new.hindrances ≡ old.hindrances
 
 -- a call was made, or memory ran out and nothing was done
 abbrev pub Finished : Call → TornFile → Result Unit DeviceFailed → TornFile → Type 0

@@ -6,6 +6,7 @@ ghost use Rattle.envy_torn.specs.Calls.{seen_after, written};
 use crate::Dice;
 use crate::drawn::{cut_some, mix, tear, write_anew, write_over};
 use envy_device::{Device, DeviceFailed, Place, ReplaceError, SecondFailed};
+use envy_record::{Made, Record};
 use std::alloc::{AllocError, Global};
 use std::mem;
 
@@ -41,6 +42,8 @@ pub struct TornFile {
     second_left: usize,
     // whether it is trusted to be written byte by byte
     bytewise: bool,
+    // the calls on the second file that failed
+    hindrances: Record,
     ghost seen: { bytes.items ≡ seen_after calls.items first.items },
     ghost synced_before: { synced ≤ length calls.items },
 }
@@ -76,6 +79,7 @@ impl TornFile {
             left,
             second_left: usize::MAX,
             bytewise,
+            hindrances: Record::new(),
         })
     }
 
@@ -298,7 +302,7 @@ fn overwritten(
 }
 
 impl Device for TornFile {
-    ghost use Rattle.envy_torn.specs.Torn.{file_bytes, file_calls, file_outcome, file_left, file_synced, file_syncs, file_failed, file_bytewise, counts_now_lem, only_now_lem, synced_before_lem};
+    ghost use Rattle.envy_torn.specs.Torn.{file_bytes, file_calls, file_outcome, file_left, file_synced, file_syncs, file_failed, file_hindered, file_bytewise, counts_now_lem, only_now_lem, synced_before_lem};
 
     ghost seen = { file_bytes };
 
@@ -313,6 +317,8 @@ impl Device for TornFile {
     ghost syncs = { file_syncs };
 
     ghost has_failed = { file_failed };
+
+    ghost hindered = { file_hindered };
 
     ghost bytewise = { file_bytewise };
 
@@ -365,8 +371,12 @@ impl Place for TornFile {
 
     ghost second = { file_second };
 
+    // each call on the second file that fails is noted
+    ghost goes_on = { λ file. Unit };
+
     fn begin_second(&mut self) -> Result<(), SecondFailed> {
         if !self.second_may_pass() || !self.may_pass() {
+            self.hindrances = self.hindrances.and(&Made::BeginFailed);
             return Err(SecondFailed);
         }
         self.second = Vec::new(self.alloc);
@@ -374,10 +384,13 @@ impl Place for TornFile {
     }
 
     fn write_second(&mut self, bytes: &[u8]) -> Result<(), SecondFailed> {
+        let size = bytes.len();
         if !self.second_may_pass() || !self.may_pass() {
+            self.hindrances = self.hindrances.and(&Made::AppendFailed { size });
             return Err(SecondFailed);
         }
         if self.second.extend_from_slice(bytes).is_err() {
+            self.hindrances = self.hindrances.and(&Made::AppendFailed { size });
             return Err(SecondFailed);
         }
         Ok(())
@@ -385,6 +398,7 @@ impl Place for TornFile {
 
     fn replace(&mut self) -> Result<(), ReplaceError> {
         if !self.second_may_pass() {
+            self.hindrances = self.hindrances.and(&Made::SecondNotReplaced);
             return Err(ReplaceError::Second);
         }
         match self.planned_replace() {

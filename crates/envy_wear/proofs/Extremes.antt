@@ -1,7 +1,7 @@
 -- The most worn and the least worn of the first position alone, and the least and the most wear of the first segment.
 use Rattle.std.proofs.Common.{◌≡◌, inl, inr, ℕ, zero, suc, ◌+◌, ◌-◌, ◌<◌, ◌≤◌, ap, subst, arith}
 use Rattle.std.proofs.lemmas.Bool.{cases_lt}
-use Rattle.envy_base.specs.Shape.{IsShape}
+use Rattle.envy_base.specs.Shape.{IsShape, positions_of}
 use Rattle.envy_base.specs.declared.shape.Shape.{Shape}
 use Rattle.envy_wear.specs.Swaps.{IsMostWorn, IsLeastWorn}
 
@@ -43,10 +43,11 @@ most-more f n old new w before here more is s lt = elim (cases_lt s n) [
 ]
 
 -- a loop over the positions from 1 on, as its end was read, ends behind the last one
-pub at-end : (i : ℕ) (read sh : Shape) → read ≡ sh → IsShape sh → read.segments - 1 ≤ i → (1 ≤ read.segments - 1 → i ≤ read.segments - 1) → i ≡ sh.segments - 1
+pub at-end : (i : ℕ) (read sh : Shape) → read ≡ sh → IsShape sh → positions_of read ≤ i → (1 ≤ positions_of read → i ≤ positions_of read) → i ≡ positions_of sh
 at-end i read sh same shape last few =
     let some = shape.segments in
-    subst (λ (x : Shape). i ≡ x.segments - 1) same (let is : read.segments ≡ sh.segments = ap (λ (x : Shape). x.segments) same in let most = few (omega arith) in omega arith)
+    let kept = shape.reserves in
+    subst (λ (x : Shape). i ≡ positions_of x) same (let is : read.segments ≡ sh.segments = ap (λ (x : Shape). x.segments) same in let held : read.reserves ≡ sh.reserves = ap (λ (x : Shape). x.reserves) same in let most = few (omega (arith, kept)) in omega arith)
 
 pub past-end : (i : ℕ) (read sh : Shape) → read ≡ sh → IsShape sh → read.segments ≤ i → (1 ≤ read.segments → i ≤ read.segments) → i ≡ sh.segments
 past-end i read sh same shape last few =

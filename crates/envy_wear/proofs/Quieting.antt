@@ -4,6 +4,7 @@ use Rattle.envy_map.specs.Fields.{Chart}
 use Rattle.envy_layout.specs.Sound.{IsSound, Sound}
 use Rattle.envy_wear.specs.declared.swap.Swap.{Swap}
 use Rattle.envy_wear.specs.Swaps.{IsDue, IsQuiet, IsMostWorn, IsLeastWorn, wear_at}
+use Rattle.envy_base.specs.Shape.{positions_of}
 
 -- too few erases have begun
 pub due-early : (c : Chart) (limit since : ℕ) → since < limit → (s : Swap) → IsDue c.shape c.fields limit since s → ⊥
@@ -13,7 +14,7 @@ due-early c limit since few s due = let enough = due.enough in omega arith
 pub due-quiet : (c : Chart) (limit since quiet : ℕ) → IsSound c → IsQuiet c.shape c.fields limit since quiet → since < quiet → (s : Swap) → IsDue c.shape c.fields limit since s → ⊥
 due-quiet c limit since quiet sound is few s due =
     let n = Sound.numbers sound in
-    let near = is.near few (get_or c.fields.positions s.worn 0) (get_or c.fields.positions s.young 0) (n.positions_fit s.worn (IsMostWorn.below due.worn)) (n.positions_fit s.young (IsLeastWorn.below due.young)) in
+    let near = is.near few (get_or c.fields.positions s.worn 0) (get_or c.fields.positions s.young 0) (n.positions_fit s.worn (omega (arith, IsMostWorn.below due.worn))) (n.positions_fit s.young (omega (arith, IsLeastWorn.below due.young))) in
     let apart = due.apart in
     omega arith
 
@@ -28,12 +29,12 @@ most-same n wear k j a b = let up = IsMostWorn.most a j (IsMostWorn.below b) in 
 pub least-same : (n : ℕ) (wear : ℕ → ℕ) (k j : ℕ) → IsLeastWorn n wear k → IsLeastWorn n wear j → wear k ≡ wear j
 least-same n wear k j a b = let up = IsLeastWorn.least a j (IsLeastWorn.below b) in let down = IsLeastWorn.least b k (IsLeastWorn.below a) in omega arith
 
-pub due-near : (c : Chart) (limit since most least k j : ℕ) → IsMostWorn (c.shape.segments - 1) (wear_at c.fields) k → most ≡ wear_at c.fields k → IsLeastWorn (c.shape.segments - 1) (wear_at c.fields) j → least ≡ wear_at c.fields j → most - least ≤ limit → (s : Swap) → IsDue c.shape c.fields limit since s → ⊥
+pub due-near : (c : Chart) (limit since most least k j : ℕ) → IsMostWorn (positions_of c.shape) (wear_at c.fields) k → most ≡ wear_at c.fields k → IsLeastWorn (positions_of c.shape) (wear_at c.fields) j → least ≡ wear_at c.fields j → most - least ≤ limit → (s : Swap) → IsDue c.shape c.fields limit since s → ⊥
 due-near c limit since most least k j a is_most b is_least near s due =
-    let same = most-same (c.shape.segments - 1) (wear_at c.fields) k s.worn a due.worn in
-    let young = least-same (c.shape.segments - 1) (wear_at c.fields) j s.young b due.young in
+    let same = most-same (positions_of c.shape) (wear_at c.fields) k s.worn a due.worn in
+    let young = least-same (positions_of c.shape) (wear_at c.fields) j s.young b due.young in
     let apart = due.apart in
     omega arith
 
-pub due-far : (c : Chart) (limit since most least k j : ℕ) → IsMostWorn (c.shape.segments - 1) (wear_at c.fields) k → most ≡ wear_at c.fields k → IsLeastWorn (c.shape.segments - 1) (wear_at c.fields) j → least ≡ wear_at c.fields j → limit < most - least → limit ≤ since → IsDue c.shape c.fields limit since (record { worn = k; young = j })
+pub due-far : (c : Chart) (limit since most least k j : ℕ) → IsMostWorn (positions_of c.shape) (wear_at c.fields) k → most ≡ wear_at c.fields k → IsLeastWorn (positions_of c.shape) (wear_at c.fields) j → least ≡ wear_at c.fields j → limit < most - least → limit ≤ since → IsDue c.shape c.fields limit since (record { worn = k; young = j })
 due-far c limit since most least k j a is_most b is_least far enough = record { worn = a; young = b; apart = omega arith; enough = enough }

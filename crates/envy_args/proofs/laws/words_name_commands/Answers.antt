@@ -55,3 +55,15 @@ returns-clause-tree c = refl
 pub returns-clause-heap : goal.returns-clause-heap
 unfolding command_of options_in are_known checked_within shape_within
 returns-clause-heap c = refl
+
+pub returns-clause-reserved : goal.returns-clause-reserved
+unfolding command_of options_in are_known checked_within shape_within
+returns-clause-reserved c = (refl, refl)
+
+pub returns-clause-reserves : goal.returns-clause-reserves
+unfolding command_of options_in are_known checked_within shape_within
+returns-clause-reserves c = refl
+
+pub returns-clause-unreserved : goal.returns-clause-unreserved
+unfolding command_of options_in are_known checked_within shape_within
+returns-clause-unreserved c = refl

@@ -1,13 +1,13 @@
 use Rattle.std.proofs.Common.{below_more, ◌<◌, ap, arith}
 use Rattle.envy_base.specs.declared.shape.Shape.{Shape}
 use Rattle.envy_map.specs.Fields.{chart}
-use Rattle.envy_audit.proofs.Turning.{is-placed, is-spare, placed-not-spare, found-some, refuted, shown, not-so}
+use Rattle.envy_audit.proofs.Turning.{is-spare, not-spare, found-some, refuted, shown, not-so}
 use Rattle.envy_audit.proofs.jobs.kept_once.Goals as goal
 
 pub loop-spare-preserved-then-placed-spare : goal.loop-spare-preserved-then-placed-spare
 loop-spare-preserved-then-placed-spare g c =
     let below : c.loop-spare.spare < (g.B.Board.state c.args.board.now).shape.segments = omega (arith, ap (λ (sh : Shape). sh.segments) c.shape-spare-end.ensures) in
-    below_more _ _ c.loop-spare.invariant (λ spare. placed-not-spare (chart (g.B.Board.state c.args.board.now)) _ (is-placed (chart (g.B.Board.state c.args.board.now)) c.args.placed.now c.requires.marks _ below c.if-placed-spare.true) spare)
+    below_more _ _ c.loop-spare.invariant (λ spare. not-spare (chart (g.B.Board.state c.args.board.now)) c.args.placed.now c.requires.marks _ below c.if-placed-spare.true spare)
 
 pub returns-then-not-once : goal.returns-then-not-once
 returns-then-not-once g c =

@@ -1,7 +1,15 @@
-use Rattle.std.proofs.Common.{refl}
+use Rattle.std.proofs.Common.{◌∙◌, refl, subst}
+use Rattle.envy_base.specs.Array.{zeros}
+use Rattle.envy_base.specs.declared.shape.Shape.{Shape}
 use Rattle.envy_begun.proofs.Again.{unformatted-stopped}
 use Rattle.envy_begun.proofs.Fresh.{counts-last, format-leaves, off-refused}
+use Rattle.envy_layout.specs.Stands.{Stands}
+use Rattle.envy_memory.specs.Formats.{CountsFormat, IsFresh, Makes}
 use Rattle.envy_begun.proofs.beginning.make_memory.Goals as goal
+
+pub sync_first-requires-clause-stands : goal.sync_first-requires-clause-stands
+sync_first-requires-clause-stands g c =
+    subst (λ (sh : Shape). Stands c.in-Ok.memory.chart (zeros sh.pages sh.shadows)) (CountsFormat.shape c.in-Ok.ensures.counts ∙ c.requires.shape) (IsFresh.stands (Makes.fresh c.in-Ok.ensures.made))
 
 pub returns-in-Ok-clause-left : goal.returns-in-Ok-clause-left
 returns-in-Ok-clause-left g c synced before none = c.sync_first.ensures.left _ synced before (counts-last _ _ c.in-Ok.memory.chart c.in-Ok.ensures.counts (record { shape = refl; moment = refl; bytes = refl })) none

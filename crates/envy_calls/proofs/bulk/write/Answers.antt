@@ -15,12 +15,14 @@ in_place old p q t s a code done before after words is same writes =
 
 pub returns : goal.returns
 returns g c =
-    let run = c.put_run-count.ensures in
+    let run = c.put_run-count.ensures.puts in
     in_place c.args.slot.now c.in-Some.memory c.put_run-count.new.self c.args.t c.slot_named.result c.args.a c.number-2.result c.put_run-count.result.0 c.args.holder.now c.put_answer.new.holder c.args.words.now
     c.in-Some.is c.slot_named.ensures (record {
       answer = c.put_run-count.result.1;
       coded = c.number-2.ensures ∙ ap number_of c.put_answer.ensures.code;
       written = c.put_answer.ensures.holder;
+      full = c.put_run-count.ensures.full;
+      refused = c.put_run-count.ensures.refused;
       between = run.0;
       puts = run.1;
       array = λ m stands. PutsRun-written c.put_run-count.result.0 c.slot_named.result c.args.a c.args.words.now c.in-Some.memory run.0 run.1 m stands;

@@ -1,4 +1,5 @@
-use Rattle.std.proofs.Common.{◌∙◌, ◌<◌, ◌≤◌, ℕ, Option, Some, MatchOption, sym, ap, subst}
+use Rattle.std.proofs.Common.{◌∙◌, ◌<◌, ◌≤◌, ℕ, Option, Some, MatchOption, sym, ap, subst, arith}
+use Rattle.envy_base.specs.Shape.{positions_of}
 use Rattle.envy_policy.specs.Choice.{IsLeast}
 use Rattle.envy_policy.specs.History.{end_of, first_of, partition_of}
 use Rattle.envy_choosing.specs.Choosing.{IsFreeBeside}
@@ -28,7 +29,9 @@ returns-in_err-found c =
     (beside-none h pool (partition_of h c.args.home) c.bounds-first.result.0 c.bounds-first.result.1 c.args.avoided b.whole c.requires.positions (b.first ∙ ap (first_of h) own) (b.end ∙ ap (end_of h) own) c.in_err-found.ensures)
 
 pub segment_at-requires : goal.segment_at-requires
-segment_at-requires c = inside c.in_ok-found.found c.bounds-first.result.1 c.args.chooser.now.positions _ c.in_ok-found.ensures.below c.bounds-first.ensures.within c.requires.positions
+segment_at-requires c =
+    let low : c.in_ok-found.found < positions_of c.args.space.now.shape = inside c.in_ok-found.found c.bounds-first.result.1 c.args.chooser.now.positions _ c.in_ok-found.ensures.below c.bounds-first.ensures.within c.requires.positions in
+    omega (arith, low)
 
 pub returns-then-ne : goal.returns-then-ne
 returns-then-ne c =

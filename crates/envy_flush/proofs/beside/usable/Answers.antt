@@ -6,13 +6,14 @@ use Rattle.envy_choosing.proofs.PooledLemmas.{lives-long}
 use Rattle.envy_flush.proofs.AvailLemmas.{available-lives, available-near}
 use Rattle.envy_flush.proofs.FlushLemmas.{if-done}
 use Rattle.envy_flush.proofs.beside.usable.Goals as goal
+use Rattle.envy_base.specs.Shape.{positions_of}
 
 pub usable_by_lives-requires-clause-positions : goal.usable_by_lives-requires-clause-positions
 usable_by_lives-requires-clause-positions g c =
     let x = c.args.parts.now in
     let same : x.chooser.lives ≡ Some c.in-Some.lives.now = sym c.lives.ensures.lives ∙ ap option_copied c.in-Some.is in
     let long = lives-long x.chooser c.in-Some.lives.now c.lives.ensures.whole same in
-    long.1 ∙ c.requires.ready.fits.positions ∙ ap (λ (sh : Shape). sh.segments - 1) (sym c.requires.ready.fits.pool)
+    long.1 ∙ c.requires.ready.fits.positions ∙ ap (λ (sh : Shape). positions_of sh) (sym c.requires.ready.fits.pool)
 
 pub usable_by_lives-requires-clause-page : goal.usable_by_lives-requires-clause-page
 usable_by_lives-requires-clause-page g c =

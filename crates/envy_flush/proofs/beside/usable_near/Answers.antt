@@ -9,8 +9,9 @@ use Rattle.envy_choosing.specs.Choosing.{IsFreeBeside}
 use Rattle.envy_flush.specs.Flushing.{IsNoneNear, IsLowestNear}
 use Rattle.envy_flush.proofs.AvailLemmas.{Spares, found-available}
 use Rattle.envy_flush.proofs.beside.usable_near.Goals as goal
+use Rattle.envy_base.specs.Shape.{positions_of}
 
-within : (h : History) (home : ℕ) (c : Chart) (found : Option ℕ) → MatchOption found (IsNoneNear h home c) (IsLowestNear h home c) → IfSome found (λ k. k < c.shape.segments - 1)
+within : (h : History) (home : ℕ) (c : Chart) (found : Option ℕ) → MatchOption found (IsNoneNear h home c) (IsLowestNear h home c) → IfSome found (λ k. k < positions_of c.shape)
 within h home c None none = tt
 within h home c (Some k) is = is.is.position
 

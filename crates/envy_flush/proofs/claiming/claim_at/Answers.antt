@@ -1,4 +1,4 @@
-use Rattle.std.proofs.Common.{◌≡◌, ◌<◌, ◌+◌, inl, refl, sym, ap, subst, ◌∙◌, List, ℕ, get_or, set, ◌-◌}
+use Rattle.std.proofs.Common.{◌≡◌, ◌<◌, ◌+◌, inl, refl, sym, ap, subst, ◌∙◌, List, ℕ, get_or, set, ◌-◌, arith}
 use Rattle.envy_map.specs.Fields.{Chart, chart}
 use Rattle.envy_layout.specs.Same.{Same, Stays, Framed}
 use Rattle.envy_layout.specs.Sound.{IsPlaced}
@@ -11,6 +11,7 @@ use Rattle.envy_flush.proofs.AgreeLemmas.{Agrees-claimed, Granted-claimed, IsLas
 use Rattle.envy_base.specs.declared.shape.Shape.{Shape}
 use Rattle.envy_reloc.proofs.Exits.{none-if, none-power}
 use Rattle.envy_flush.proofs.claiming.claim_at.Goals as goal
+use Rattle.envy_base.specs.Shape.{positions_of}
 
 pub returns-clause-leaves : goal.returns-clause-leaves
 returns-clause-leaves g c =
@@ -74,13 +75,13 @@ claim-requires-clause-ready g c on =
     record { sound = r.sound; agrees = r.agrees.pool; usable = inl placed }
 
 pub segment_at-requires : goal.segment_at-requires
-segment_at-requires g c = subst (λ (sh : Shape). c.args.position < sh.segments - 1) (sym c.requires.ready.fits.pool) c.requires.position
+segment_at-requires g c = let low = subst (λ (sh : Shape). c.args.position < positions_of sh) (sym c.requires.ready.fits.pool) c.requires.position in omega (arith, low)
 
 pub claim-requires-clause-shape : goal.claim-requires-clause-shape
 claim-requires-clause-shape g c = c.requires.ready.fits.pool
 
 pub claim-requires-clause-segment : goal.claim-requires-clause-segment
-claim-requires-clause-segment g c = subst (λ (n : ℕ). n < c.args.parts.now.space.shape.segments) (sym c.segment_at.ensures.segment) (c.segment_at.ensures.pool.positions_fit c.args.position (subst (λ (sh : Shape). c.args.position < sh.segments - 1) (sym c.requires.ready.fits.pool) c.requires.position))
+claim-requires-clause-segment g c = subst (λ (n : ℕ). n < c.args.parts.now.space.shape.segments) (sym c.segment_at.ensures.segment) (c.segment_at.ensures.pool.positions_fit c.args.position (let low = subst (λ (sh : Shape). c.args.position < positions_of sh) (sym c.requires.ready.fits.pool) c.requires.position in omega (arith, low)))
 
 pub claim-requires-clause-page : goal.claim-requires-clause-page
 claim-requires-clause-page g c = subst (λ (sh : Shape). c.args.page < sh.pages) (sym c.requires.ready.fits.pool) c.requires.page

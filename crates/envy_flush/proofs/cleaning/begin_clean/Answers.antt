@@ -13,6 +13,7 @@ use Rattle.std.specs.Prelude.{All}
 use Rattle.envy_base.specs.declared.shape.Shape.{Shape}
 use Rattle.envy_reloc.proofs.Exits.{unpowered, none-if, none-power}
 use Rattle.envy_flush.proofs.cleaning.begin_clean.Goals as goal
+use Rattle.envy_base.specs.Shape.{positions_of}
 
 pub returns-clause-cleans : goal.returns-clause-cleans
 returns-clause-cleans g c =
@@ -81,7 +82,7 @@ pub begin-requires-clause-shape : goal.begin-requires-clause-shape
 begin-requires-clause-shape g c = c.requires.ready.fits.pool
 
 pub begin-requires-clause-position : goal.begin-requires-clause-position
-begin-requires-clause-position g c = subst (λ (sh : Shape). c.args.position < sh.segments - 1) (sym c.requires.ready.fits.pool) c.requires.position
+begin-requires-clause-position g c = subst (λ (sh : Shape). c.args.position < positions_of sh) (sym c.requires.ready.fits.pool) c.requires.position
 
 pub begin-requires-clause-moves : goal.begin-requires-clause-moves
 begin-requires-clause-moves g c = subst (λ (sh : Shape). All (λ q. q / sh.rows ≡ get_or c.args.parts.now.space.positions c.args.position 0) c.in_ok-plan.plan.moves.items) (sym c.requires.ready.fits.pool) c.in_ok-plan.ensures.rows
@@ -89,7 +90,7 @@ begin-requires-clause-moves g c = subst (λ (sh : Shape). All (λ q. q / sh.rows
 pub begin-requires-clause-aside : goal.begin-requires-clause-aside
 begin-requires-clause-aside g c first last is =
     let within = c.in_ok-plan.ensures.neighbour first last is in
-    (within.0, subst (λ (sh : Shape). last < sh.segments - 1) (sym c.requires.ready.fits.pool) within.1)
+    (within.0, subst (λ (sh : Shape). last < positions_of sh) (sym c.requires.ready.fits.pool) within.1)
 
 pub returns-in_err-begin-clause-same : goal.returns-in_err-begin-clause-same
 returns-in_err-begin-clause-same g c = c.begin.ensures.same c.requires.ready.sound

@@ -1,4 +1,4 @@
-use Rattle.std.proofs.Common.{◌≡◌, ◌∙◌, ◌+◌, inr, sym, ap, subst, arith, Err}
+use Rattle.std.proofs.Common.{◌≡◌, ◌∙◌, ◌+◌, inr, sym, ap, subst, arith, Err, get_or}
 use Rattle.envy_base.specs.declared.shape.Shape.{Shape}
 use Rattle.envy_map.specs.Fields.{Chart, chart}
 use Rattle.envy_layout.specs.Same.{Same, Stays, Framed}
@@ -69,7 +69,7 @@ returns-clause-gets g c =
       fresh = f.fresh;
       follows = (
         f.claims.0,
-        record { spare = Cleans.e w.cleans; is_spare = Cleans.spare w.cleans; positions = ap (λ (z : Chart). z.fields.positions) f.changes.fields ∙ end.0 },
+        record { spare = Cleans.e w.cleans; is_spare = Cleans.spare w.cleans; positions = λ j low. ap (λ (z : Chart). get_or z.fields.positions j 0) f.changes.fields ∙ end.0 j low },
         ap (λ (z : Parts). z.reloc.erased) parts ∙ end.1,
         f.claims.4 ∙ ap (λ (h : _). claimed h c.args.position c.args.page) w.chooser,
         record { mid = mid; between = c.run_clean.new.parts; cleans = w.whole; claims = f.claims },

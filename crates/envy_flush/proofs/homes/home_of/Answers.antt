@@ -8,7 +8,7 @@ use Rattle.envy_base.specs.declared.fields.Place.TheVariants.{Row}
 use Rattle.envy_map.specs.Fields.{chart, place}
 use Rattle.envy_layout.specs.Sound.{IsPlaced, IsSpare, Sound, Jobs}
 use Rattle.envy_flush.proofs.RowLemmas.{placed-row, placed-pool, switched-row}
-use Rattle.envy_base.specs.Shape.{IsShape}
+use Rattle.envy_base.specs.Shape.{IsShape, positions_of}
 use Rattle.envy_base.specs.State.{IsBoard}
 use Rattle.envy_frames.specs.Agreement.{default_home}
 use Rattle.envy_flush.specs.Storing.{IsHome}
@@ -54,7 +54,7 @@ returns-then-segment-spare-clause-home g c =
     subst (λ (x : Place). IsHome now.shape now.fields c.args.page x c.position_of.result) (sym c.in-Row.is) (inl (order ∙ c.position_of.ensures.stands ∙ ap (λ (sh : Shape). c.in-Row.row / sh.rows) c.shape-shape.ensures))
 
 pub returns-then-segment-spare-clause-within : goal.returns-then-segment-spare-clause-within
-returns-then-segment-spare-clause-within g c = subst (λ (sh : Shape). c.position_of.result < sh.segments - 1) c.requires.ready.fits.pool c.position_of.ensures.within
+returns-then-segment-spare-clause-within g c = subst (λ (sh : Shape). c.position_of.result < positions_of sh) c.requires.ready.fits.pool c.position_of.ensures.within
 
 pub returns-then-segment-spare-clause-off : goal.returns-then-segment-spare-clause-off
 returns-then-segment-spare-clause-off g c = tt
@@ -77,7 +77,7 @@ returns-in-Absent-clause-home g c =
     subst (λ (x : Place). IsHome now.shape now.fields c.args.page x c.default_home.result) (sym c.in-Absent.is) (c.default_home.ensures.value ∙ ap (λ (sh : Shape). default_home sh c.args.page) c.shape-shape.ensures)
 
 pub returns-in-Absent-clause-within : goal.returns-in-Absent-clause-within
-returns-in-Absent-clause-within g c = subst (λ (sh : Shape). c.default_home.result < sh.segments - 1) c.shape-shape.ensures c.default_home.ensures.position
+returns-in-Absent-clause-within g c = subst (λ (sh : Shape). c.default_home.result < positions_of sh) c.shape-shape.ensures c.default_home.ensures.position
 
 pub returns-in-Absent-clause-off : goal.returns-in-Absent-clause-off
 returns-in-Absent-clause-off g c = tt

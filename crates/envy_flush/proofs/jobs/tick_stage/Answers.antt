@@ -11,11 +11,12 @@ use Rattle.envy_reloc.proofs.Exits.{unpowered, off-if, off-after, off-bad, ok-ba
 use Rattle.std.proofs.lemmas.List.Elements.{All-nil}
 use Rattle.envy_flush.proofs.SwapAnswers.{TicksStage-began, StageBegins-began, none-pair}
 use Rattle.envy_flush.proofs.jobs.tick_stage.Goals as goal
+use Rattle.envy_base.specs.Shape.{positions_of}
 
 pub begin-requires-clause-position : goal.begin-requires-clause-position
 begin-requires-clause-position g c =
     let f = c.requires.ready.fits in
-    subst (λ (sh : Shape). c.in-Some.position < sh.segments - 1) (sym f.pool) (c.in-Some.ensures.below _ (AreStages.within f.stages)).0
+    subst (λ (sh : Shape). c.in-Some.position < positions_of sh) (sym f.pool) (c.in-Some.ensures.below _ (AreStages.within f.stages)).0
 
 pub returns-in_err-begin-clause-leaves : goal.returns-in_err-begin-clause-leaves
 returns-in_err-begin-clause-leaves g c =

@@ -15,6 +15,7 @@ use Rattle.envy_layout.proofs.Sames.{same_within, same_two as Same-two}
 use Rattle.envy_reloc.proofs.Exits.{unpowered, off-after, off-if, off-bad, err-after, err-if, ok-bad}
 use Rattle.envy_flush.proofs.FlushAnswers.{ready-left, page-left, position-left, keeps-off, keeps-places}
 use Rattle.envy_flush.proofs.rows.busy_row.Goals as goal
+use Rattle.envy_base.specs.Shape.{positions_of}
 
 pub returns-clause-same : goal.returns-clause-same
 returns-clause-same g c =
@@ -112,7 +113,7 @@ pub claim_at-requires-clause-ready : goal.claim_at-requires-clause-ready
 claim_at-requires-clause-ready g c = c.requires.ready
 
 pub claim_at-requires-clause-position : goal.claim_at-requires-clause-position
-claim_at-requires-clause-position g c = subst (λ (o : Option ℕ). IfSome o (λ k. k < (g.B.Board.state c.args.board.now).shape.segments - 1)) c.in-Some.is c.in_ok-position.ensures.within
+claim_at-requires-clause-position g c = subst (λ (o : Option ℕ). IfSome o (λ k. k < positions_of (g.B.Board.state c.args.board.now).shape)) c.in-Some.is c.in_ok-position.ensures.within
 
 pub claim_at-requires-clause-page : goal.claim_at-requires-clause-page
 claim_at-requires-clause-page g c = c.requires.page

@@ -12,6 +12,7 @@ use Rattle.envy_layout.proofs.Sames.{same_within}
 use Rattle.envy_reloc.proofs.Exits.{off-after, off-if, off-bad, ok-bad}
 use Rattle.envy_flush.proofs.FlushAnswers.{keeps-off, keeps-places, free-idle}
 use Rattle.envy_flush.proofs.rows.idle_row.Goals as goal
+use Rattle.envy_base.specs.Shape.{positions_of}
 
 pub choose_row-requires-clause-some : goal.choose_row-requires-clause-some
 choose_row-requires-clause-some g c =
@@ -24,7 +25,7 @@ claim_at-requires-clause-position g c =
     let r = c.requires.ready in
     let x = c.args.parts.now in
     let choice = subst (λ (y : Choice). ChoiceFor x.chooser x.space c.args.home c.args.page y) c.in-Free.is c.choose_row.ensures in
-    subst (λ (sh : Shape). c.in-Free.position < sh.segments - 1) r.fits.pool (free-room x.chooser x.space c.args.home c.args.page c.in-Free.position choice).0
+    subst (λ (sh : Shape). c.in-Free.position < positions_of sh) r.fits.pool (free-room x.chooser x.space c.args.home c.args.page c.in-Free.position choice).0
 
 pub claim_at-requires-clause-room : goal.claim_at-requires-clause-room
 claim_at-requires-clause-room g c =
@@ -38,7 +39,7 @@ clean-requires-clause-position g c =
     let r = c.requires.ready in
     let x = c.args.parts.now in
     let choice = subst (λ (y : Choice). ChoiceFor x.chooser x.space c.args.home c.args.page y) c.in-Clean.is c.choose_row.ensures in
-    subst (λ (sh : Shape). c.in-Clean.position < sh.segments - 1) r.fits.pool (clean-room x.chooser x.space c.args.home c.args.page c.in-Clean.position c.in-Clean.aside choice)
+    subst (λ (sh : Shape). c.in-Clean.position < positions_of sh) r.fits.pool (clean-room x.chooser x.space c.args.home c.args.page c.in-Clean.position c.in-Clean.aside choice)
 
 pub clean-requires-clause-aside : goal.clean-requires-clause-aside
 clean-requires-clause-aside g c =
@@ -97,10 +98,10 @@ returns-in_ok-claim_at-in-Free-clause-gets g c =
     }
 
 pub choose_row-requires-clause-positions : goal.choose_row-requires-clause-positions
-choose_row-requires-clause-positions g c = c.requires.ready.fits.positions ∙ ap (λ (sh : Shape). sh.segments - 1) (sym c.requires.ready.fits.pool)
+choose_row-requires-clause-positions g c = c.requires.ready.fits.positions ∙ ap (λ (sh : Shape). positions_of sh) (sym c.requires.ready.fits.pool)
 
 pub choose_row-requires-clause-home : goal.choose_row-requires-clause-home
-choose_row-requires-clause-home g c = subst (λ (sh : Shape). c.args.home < sh.segments - 1) (sym c.requires.ready.fits.pool) c.requires.home
+choose_row-requires-clause-home g c = subst (λ (sh : Shape). c.args.home < positions_of sh) (sym c.requires.ready.fits.pool) c.requires.home
 
 pub choose_row-requires-clause-page : goal.choose_row-requires-clause-page
 choose_row-requires-clause-page g c = subst (λ (n : ℕ). c.args.page < n) (sym c.requires.ready.fits.pages) c.requires.page

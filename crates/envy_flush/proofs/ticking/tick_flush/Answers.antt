@@ -13,6 +13,7 @@ use Rattle.envy_flush.specs.declared.parts.Parts.{Parts}
 use Rattle.envy_reloc.proofs.Exits.{err-if, err-after, err-bad, off-if, off-after, off-bad, ok-bad}
 use Rattle.envy_flush.proofs.RowLemmas.{some-rows, free-room, clean-room, aside-in}
 use Rattle.envy_flush.proofs.ticking.tick_flush.Goals as goal
+use Rattle.envy_base.specs.Shape.{positions_of}
 
 pub choose_row-requires-clause-some : goal.choose_row-requires-clause-some
 choose_row-requires-clause-some g c =
@@ -37,7 +38,7 @@ flush_at-requires-clause-position g c =
     let r = c.requires.ready in
     let x = c.args.parts.now in
     let choice = subst (λ (y : Choice). ChoiceFor x.chooser x.space c.in-Some.held.home c.in-Some.held.page y) c.in-Free.is c.choose_row.ensures in
-    subst (λ (sh : Shape). c.in-Free.position < sh.segments - 1) r.fits.pool (free-room x.chooser x.space c.in-Some.held.home c.in-Some.held.page c.in-Free.position choice).0
+    subst (λ (sh : Shape). c.in-Free.position < positions_of sh) r.fits.pool (free-room x.chooser x.space c.in-Some.held.home c.in-Some.held.page c.in-Free.position choice).0
 
 pub flush_at-requires-clause-room : goal.flush_at-requires-clause-room
 flush_at-requires-clause-room g c =
@@ -51,7 +52,7 @@ begin_clean-requires-clause-position g c =
     let r = c.requires.ready in
     let x = c.args.parts.now in
     let choice = subst (λ (y : Choice). ChoiceFor x.chooser x.space c.in-Some.held.home c.in-Some.held.page y) c.in-Clean.is c.choose_row.ensures in
-    subst (λ (sh : Shape). c.in-Clean.position < sh.segments - 1) r.fits.pool (clean-room x.chooser x.space c.in-Some.held.home c.in-Some.held.page c.in-Clean.position c.in-Clean.aside choice)
+    subst (λ (sh : Shape). c.in-Clean.position < positions_of sh) r.fits.pool (clean-room x.chooser x.space c.in-Some.held.home c.in-Some.held.page c.in-Clean.position c.in-Clean.aside choice)
 
 pub flush_at-requires-clause-chosen : goal.flush_at-requires-clause-chosen
 flush_at-requires-clause-chosen g c =

@@ -1,4 +1,5 @@
-use Rattle.std.proofs.Common.{◌*◌, [], length, arith}
+use Rattle.std.proofs.Common.{◌*◌, ◌<◌, [], length, arith}
+use Rattle.std.proofs.Math.Nat.{div-lt_iff_lt-mul}
 use Rattle.std.proofs.lemmas.Result.{err_from_is_err_and}
 use Rattle.envy_image.specs.Installing.{Blanked, body_size}
 use Rattle.envy_image.proofs.Backwards.{gives-back}
@@ -33,3 +34,12 @@ returns-clause-installs g c =
 pub returns-clause-back : goal.returns-clause-back
 returns-clause-back g c =
     gives-back (g.B.Board.state c.args.board.now) (g.B.Board.state c.fill_words.new.board) c.args.lines.now c.fill_words.new.lines (g.S.Source.feed c.args.source.now) (g.S.Source.feed c.fill_words.new.source) c.fill_words.result (g.met.B.Board.lawful c.fill_words.new.board) (installs-last (g.B.Board.state c.args.board.now) (g.B.Board.state c.erase_all.new.board) (g.B.Board.state c.program_rows.new.board) (g.B.Board.state c.fill_words.new.board) c.args.lines.now c.program_rows.new.lines c.fill_words.new.lines (g.S.Source.feed c.args.source.now) (g.S.Source.feed c.program_rows.new.source) (g.S.Source.feed c.fill_words.new.source) (g.met.B.Board.lawful c.args.board.now) c.in_ok-erase_all.ensures c.in_ok-program_rows.ensures c.fill_words.result c.fill_words.ensures)
+
+pub program_rows-requires-clause-blank : goal.program_rows-requires-clause-blank
+program_rows-requires-clause-blank g c = λ q below.
+    let s = g.B.Board.state c.args.board.now in
+    let law = g.met.B.Board.lawful c.args.board.now in
+    let blanked = c.in_ok-erase_all.ensures in
+    let inside : q < length s.flash = omega (arith, below, blanked.long) in
+    let row : q < s.shape.segments * s.shape.rows = omega (arith, inside, law.rows) in
+    blanked.blank q inside ((div-lt_iff_lt-mul (omega (arith, law.shape.rows))).1 row)

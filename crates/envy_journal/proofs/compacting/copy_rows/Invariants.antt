@@ -1,4 +1,4 @@
-use Rattle.std.proofs.Common.{◌+◌, ◌*◌}
+use Rattle.std.proofs.Common.{◌≡◌, ◌+◌, ◌*◌}
 use Rattle.envy_base.specs.Map.{words_of}
 use Rattle.envy_journal.specs.Snapshot.{Gathers, IsAside, IsUntouched, Makes, gathered, with_rows}
 use Rattle.envy_journal.proofs.compacting.copy_rows.Given as goal
@@ -9,4 +9,5 @@ invariant-loop-row g l = record {
   makes : Makes (g.B.Board.state l.board).shape (with_rows (g.B.Board.state l.board) l.row) (34 + 13 * words_of (g.B.Board.state l.board).shape + 261 * l.row) (gathered g.D.Place.second l.log);
   aside : IsAside l.initial.log l.log;
   untouched : IsUntouched g.D.Device.seen g.D.Device.may_leave g.D.Device.moment g.D.Device.left_since g.D.Device.synced g.D.Device.bytewise l.initial.log.device l.log.device;
+  hindered : g.D.Place.goes_on l.initial.log.device → g.D.Place.goes_on l.log.device × (g.D.Device.hindered l.log.device ≡ g.D.Device.hindered l.initial.log.device);
 }

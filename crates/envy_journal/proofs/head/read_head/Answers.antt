@@ -12,7 +12,7 @@ returns-clause-sizes c =
     let version : get_or bytes 8 0 ≡ 2 = c.if-bytes-ne-VERSION.false in
     let small : (i : ℕ) → get_or bytes i 0 < 256 = λ i. omega (arith, c.type_inv.bytes i) in
     let sh : Shape =
-    record { segments = c.number_at.result; rows = c.number_at-2.result; pages = c.number_at-3.result; shadows = c.number_at-4.result; frames = c.number_at-5.result; entries = c.number_at-6.result } in
+    record { segments = c.number_at.result; rows = c.number_at-2.result; pages = c.number_at-3.result; shadows = c.number_at-4.result; frames = c.number_at-5.result; entries = c.number_at-6.result; reserves = 0; sums = 0 } in
     pieces sh (take 8 bytes) (take 9 bytes) (take 13 bytes) (take 17 bytes) (take 21 bytes) (take 25 bytes) (take 29 bytes) (take 33 bytes)
     named
     (byte_back bytes 8 2 (omega (arith, long)) version)

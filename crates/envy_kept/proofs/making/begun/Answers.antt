@@ -12,7 +12,7 @@ returns-in-Ok-begin-clause-begun c =
     let holding = c.in_ok-setup.holding in
     let file = c.args.file.now in
     let plans = subst (λ (o : KeepOptions). Plans holding o file c.in_ok-setup.setup) c.options-options.ensures c.in_ok-setup.ensures.plans in
-    let same = same_setup holding c.args.setup.now c.in_ok-setup.setup file plans in
+    let same = same_setup holding c.args.setup.now c.in_ok-setup.setup file c.requires.six plans in
     let begun = c.in-Ok-begin.ensures.begun in
     let array = begun.0 in (
       holding,

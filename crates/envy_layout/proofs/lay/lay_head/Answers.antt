@@ -1,47 +1,28 @@
-use Rattle.std.proofs.Common.{◌≡◌, ◌+◌, ◌*◌, ◌^◌, ◌∙◌, refl, ap}
+use Rattle.std.proofs.Common.{◌≡◌, ◌∙◌, refl, ap}
 use Rattle.std.specs.Prelude.{Some}
 use Rattle.envy_base.specs.declared.fields.Job.TheVariants.{Idle}
-use Rattle.envy_base.specs.declared.shape.Shape.{Shape}
-use Rattle.envy_map.specs.Fields.{chart, with_fields}
-use Rattle.envy_map.specs.Writes.{with_size, with_version, with_job}
-use Rattle.envy_layout.proofs.Laying.{Lays-more, Lays-stops, OnErr-any, head-same}
+use Rattle.envy_map.specs.Fields.{Chart, chart, with_fields}
+use Rattle.envy_map.specs.Writes.{with_version, with_job}
+use Rattle.envy_layout.specs.Formatting.{with_sizes, with_extras, with_head}
+use Rattle.envy_layout.proofs.Laying.{Lays-more, Lays-stops, OnErr-any}
 use Rattle.envy_layout.proofs.lay.lay_head.Goals as goal
-
-pub returns-in_err-set_size-clause-stopped : goal.returns-in_err-set_size-clause-stopped
-returns-in_err-set_size-clause-stopped g c =
-    OnErr-any _ (Lays-stops (chart (g.B.Board.state c.args.board.now)) (chart (g.B.Board.state c.args.board.now)) (chart (g.B.Board.state c.set_size.new.board)) ((chart (g.B.Board.state c.args.board.now)).fields) (with_size 0 c.pair.result) _ c.requires refl refl refl c.in_err-set_size.ensures.writes)
-
-pub returns-in_err-set_size-2-clause-stopped : goal.returns-in_err-set_size-2-clause-stopped
-returns-in_err-set_size-2-clause-stopped g c =
-    let step0 : (chart (g.B.Board.state c.set_size.new.board)) ≡ with_fields (chart (g.B.Board.state c.args.board.now)) (with_size 0 c.pair.result ((chart (g.B.Board.state c.args.board.now)).fields)) = Lays-more (chart (g.B.Board.state c.args.board.now)) (chart (g.B.Board.state c.args.board.now)) (chart (g.B.Board.state c.set_size.new.board)) ((chart (g.B.Board.state c.args.board.now)).fields) (with_size 0 c.pair.result ((chart (g.B.Board.state c.args.board.now)).fields)) (with_size 0 c.pair.result) refl refl c.in_ok-set_size.ensures.writes in
-    OnErr-any _ (Lays-stops (chart (g.B.Board.state c.args.board.now)) (chart (g.B.Board.state c.set_size.new.board)) (chart (g.B.Board.state c.set_size-2.new.board)) (with_size 0 c.pair.result ((chart (g.B.Board.state c.args.board.now)).fields)) (with_size 1 c.pair-2.result) _ c.requires step0 refl refl c.in_err-set_size-2.ensures.writes)
-
-pub returns-in_err-set_size-3-clause-stopped : goal.returns-in_err-set_size-3-clause-stopped
-returns-in_err-set_size-3-clause-stopped g c =
-    let step0 : (chart (g.B.Board.state c.set_size.new.board)) ≡ with_fields (chart (g.B.Board.state c.args.board.now)) (with_size 0 c.pair.result ((chart (g.B.Board.state c.args.board.now)).fields)) = Lays-more (chart (g.B.Board.state c.args.board.now)) (chart (g.B.Board.state c.args.board.now)) (chart (g.B.Board.state c.set_size.new.board)) ((chart (g.B.Board.state c.args.board.now)).fields) (with_size 0 c.pair.result ((chart (g.B.Board.state c.args.board.now)).fields)) (with_size 0 c.pair.result) refl refl c.in_ok-set_size.ensures.writes in
-    let step1 : (chart (g.B.Board.state c.set_size-2.new.board)) ≡ with_fields (chart (g.B.Board.state c.args.board.now)) (with_size 1 c.pair-2.result (with_size 0 c.pair.result ((chart (g.B.Board.state c.args.board.now)).fields))) = Lays-more (chart (g.B.Board.state c.args.board.now)) (chart (g.B.Board.state c.set_size.new.board)) (chart (g.B.Board.state c.set_size-2.new.board)) (with_size 0 c.pair.result ((chart (g.B.Board.state c.args.board.now)).fields)) (with_size 1 c.pair-2.result (with_size 0 c.pair.result ((chart (g.B.Board.state c.args.board.now)).fields))) (with_size 1 c.pair-2.result) step0 refl c.in_ok-set_size-2.ensures.writes in
-    OnErr-any _ (Lays-stops (chart (g.B.Board.state c.args.board.now)) (chart (g.B.Board.state c.set_size-2.new.board)) (chart (g.B.Board.state c.set_size-3.new.board)) (with_size 1 c.pair-2.result (with_size 0 c.pair.result ((chart (g.B.Board.state c.args.board.now)).fields))) (with_size 2 c.pair-3.result) _ c.requires step1 refl refl c.in_err-set_size-3.ensures.writes)
 
 pub returns-in_err-set_version-clause-stopped : goal.returns-in_err-set_version-clause-stopped
 returns-in_err-set_version-clause-stopped g c =
-    let step0 : (chart (g.B.Board.state c.set_size.new.board)) ≡ with_fields (chart (g.B.Board.state c.args.board.now)) (with_size 0 c.pair.result ((chart (g.B.Board.state c.args.board.now)).fields)) = Lays-more (chart (g.B.Board.state c.args.board.now)) (chart (g.B.Board.state c.args.board.now)) (chart (g.B.Board.state c.set_size.new.board)) ((chart (g.B.Board.state c.args.board.now)).fields) (with_size 0 c.pair.result ((chart (g.B.Board.state c.args.board.now)).fields)) (with_size 0 c.pair.result) refl refl c.in_ok-set_size.ensures.writes in
-    let step1 : (chart (g.B.Board.state c.set_size-2.new.board)) ≡ with_fields (chart (g.B.Board.state c.args.board.now)) (with_size 1 c.pair-2.result (with_size 0 c.pair.result ((chart (g.B.Board.state c.args.board.now)).fields))) = Lays-more (chart (g.B.Board.state c.args.board.now)) (chart (g.B.Board.state c.set_size.new.board)) (chart (g.B.Board.state c.set_size-2.new.board)) (with_size 0 c.pair.result ((chart (g.B.Board.state c.args.board.now)).fields)) (with_size 1 c.pair-2.result (with_size 0 c.pair.result ((chart (g.B.Board.state c.args.board.now)).fields))) (with_size 1 c.pair-2.result) step0 refl c.in_ok-set_size-2.ensures.writes in
-    let step2 : (chart (g.B.Board.state c.set_size-3.new.board)) ≡ with_fields (chart (g.B.Board.state c.args.board.now)) (with_size 2 c.pair-3.result (with_size 1 c.pair-2.result (with_size 0 c.pair.result ((chart (g.B.Board.state c.args.board.now)).fields)))) = Lays-more (chart (g.B.Board.state c.args.board.now)) (chart (g.B.Board.state c.set_size-2.new.board)) (chart (g.B.Board.state c.set_size-3.new.board)) (with_size 1 c.pair-2.result (with_size 0 c.pair.result ((chart (g.B.Board.state c.args.board.now)).fields))) (with_size 2 c.pair-3.result (with_size 1 c.pair-2.result (with_size 0 c.pair.result ((chart (g.B.Board.state c.args.board.now)).fields)))) (with_size 2 c.pair-3.result) step1 refl c.in_ok-set_size-3.ensures.writes in
-    OnErr-any _ (Lays-stops (chart (g.B.Board.state c.args.board.now)) (chart (g.B.Board.state c.set_size-3.new.board)) (chart (g.B.Board.state c.set_version.new.board)) (with_size 2 c.pair-3.result (with_size 1 c.pair-2.result (with_size 0 c.pair.result ((chart (g.B.Board.state c.args.board.now)).fields)))) (with_version c.args.version) _ c.requires step2 refl refl c.in_err-set_version.ensures.writes)
+    let first = c.in_ok-lay_sizes.ensures.done in
+    let second : (chart (g.B.Board.state c.lay_extras.new.board)) ≡ with_fields (chart (g.B.Board.state c.args.board.now)) (with_extras (g.B.Board.state c.args.board.now).shape c.args.version (with_sizes (g.B.Board.state c.args.board.now).shape (chart (g.B.Board.state c.args.board.now)).fields)) = c.in_ok-lay_extras.ensures.done ∙ ap (λ (x : Chart). with_fields x (with_extras x.shape c.args.version x.fields)) first in
+    OnErr-any _ (Lays-stops (chart (g.B.Board.state c.args.board.now)) (chart (g.B.Board.state c.lay_extras.new.board)) (chart (g.B.Board.state c.set_version.new.board)) (with_extras (g.B.Board.state c.args.board.now).shape c.args.version (with_sizes (g.B.Board.state c.args.board.now).shape (chart (g.B.Board.state c.args.board.now)).fields)) (with_version c.args.version) _ c.requires second refl refl c.in_err-set_version.ensures.writes)
 
 pub returns-in_err-set_job-clause-stopped : goal.returns-in_err-set_job-clause-stopped
 returns-in_err-set_job-clause-stopped g c =
-    let step0 : (chart (g.B.Board.state c.set_size.new.board)) ≡ with_fields (chart (g.B.Board.state c.args.board.now)) (with_size 0 c.pair.result ((chart (g.B.Board.state c.args.board.now)).fields)) = Lays-more (chart (g.B.Board.state c.args.board.now)) (chart (g.B.Board.state c.args.board.now)) (chart (g.B.Board.state c.set_size.new.board)) ((chart (g.B.Board.state c.args.board.now)).fields) (with_size 0 c.pair.result ((chart (g.B.Board.state c.args.board.now)).fields)) (with_size 0 c.pair.result) refl refl c.in_ok-set_size.ensures.writes in
-    let step1 : (chart (g.B.Board.state c.set_size-2.new.board)) ≡ with_fields (chart (g.B.Board.state c.args.board.now)) (with_size 1 c.pair-2.result (with_size 0 c.pair.result ((chart (g.B.Board.state c.args.board.now)).fields))) = Lays-more (chart (g.B.Board.state c.args.board.now)) (chart (g.B.Board.state c.set_size.new.board)) (chart (g.B.Board.state c.set_size-2.new.board)) (with_size 0 c.pair.result ((chart (g.B.Board.state c.args.board.now)).fields)) (with_size 1 c.pair-2.result (with_size 0 c.pair.result ((chart (g.B.Board.state c.args.board.now)).fields))) (with_size 1 c.pair-2.result) step0 refl c.in_ok-set_size-2.ensures.writes in
-    let step2 : (chart (g.B.Board.state c.set_size-3.new.board)) ≡ with_fields (chart (g.B.Board.state c.args.board.now)) (with_size 2 c.pair-3.result (with_size 1 c.pair-2.result (with_size 0 c.pair.result ((chart (g.B.Board.state c.args.board.now)).fields)))) = Lays-more (chart (g.B.Board.state c.args.board.now)) (chart (g.B.Board.state c.set_size-2.new.board)) (chart (g.B.Board.state c.set_size-3.new.board)) (with_size 1 c.pair-2.result (with_size 0 c.pair.result ((chart (g.B.Board.state c.args.board.now)).fields))) (with_size 2 c.pair-3.result (with_size 1 c.pair-2.result (with_size 0 c.pair.result ((chart (g.B.Board.state c.args.board.now)).fields)))) (with_size 2 c.pair-3.result) step1 refl c.in_ok-set_size-3.ensures.writes in
-    let step3 : (chart (g.B.Board.state c.set_version.new.board)) ≡ with_fields (chart (g.B.Board.state c.args.board.now)) (with_version c.args.version (with_size 2 c.pair-3.result (with_size 1 c.pair-2.result (with_size 0 c.pair.result ((chart (g.B.Board.state c.args.board.now)).fields))))) = Lays-more (chart (g.B.Board.state c.args.board.now)) (chart (g.B.Board.state c.set_size-3.new.board)) (chart (g.B.Board.state c.set_version.new.board)) (with_size 2 c.pair-3.result (with_size 1 c.pair-2.result (with_size 0 c.pair.result ((chart (g.B.Board.state c.args.board.now)).fields)))) (with_version c.args.version (with_size 2 c.pair-3.result (with_size 1 c.pair-2.result (with_size 0 c.pair.result ((chart (g.B.Board.state c.args.board.now)).fields))))) (with_version c.args.version) step2 refl c.in_ok-set_version.ensures.writes in
-    OnErr-any _ (Lays-stops (chart (g.B.Board.state c.args.board.now)) (chart (g.B.Board.state c.set_version.new.board)) (chart (g.B.Board.state c.set_job.new.board)) (with_version c.args.version (with_size 2 c.pair-3.result (with_size 1 c.pair-2.result (with_size 0 c.pair.result ((chart (g.B.Board.state c.args.board.now)).fields))))) (with_job (Some Idle)) _ c.requires step3 refl refl c.in_err-set_job.ensures.writes)
+    let first = c.in_ok-lay_sizes.ensures.done in
+    let second : (chart (g.B.Board.state c.lay_extras.new.board)) ≡ with_fields (chart (g.B.Board.state c.args.board.now)) (with_extras (g.B.Board.state c.args.board.now).shape c.args.version (with_sizes (g.B.Board.state c.args.board.now).shape (chart (g.B.Board.state c.args.board.now)).fields)) = c.in_ok-lay_extras.ensures.done ∙ ap (λ (x : Chart). with_fields x (with_extras x.shape c.args.version x.fields)) first in
+    let third : (chart (g.B.Board.state c.set_version.new.board)) ≡ with_fields (chart (g.B.Board.state c.args.board.now)) (with_version c.args.version (with_extras (g.B.Board.state c.args.board.now).shape c.args.version (with_sizes (g.B.Board.state c.args.board.now).shape (chart (g.B.Board.state c.args.board.now)).fields))) = Lays-more (chart (g.B.Board.state c.args.board.now)) (chart (g.B.Board.state c.lay_extras.new.board)) (chart (g.B.Board.state c.set_version.new.board)) (with_extras (g.B.Board.state c.args.board.now).shape c.args.version (with_sizes (g.B.Board.state c.args.board.now).shape (chart (g.B.Board.state c.args.board.now)).fields)) (with_version c.args.version (with_extras (g.B.Board.state c.args.board.now).shape c.args.version (with_sizes (g.B.Board.state c.args.board.now).shape (chart (g.B.Board.state c.args.board.now)).fields))) (with_version c.args.version) second refl c.in_ok-set_version.ensures.writes in
+    OnErr-any _ (Lays-stops (chart (g.B.Board.state c.args.board.now)) (chart (g.B.Board.state c.set_version.new.board)) (chart (g.B.Board.state c.set_job.new.board)) (with_version c.args.version (with_extras (g.B.Board.state c.args.board.now).shape c.args.version (with_sizes (g.B.Board.state c.args.board.now).shape (chart (g.B.Board.state c.args.board.now)).fields))) (with_job (Some Idle)) _ c.requires third refl refl c.in_err-set_job.ensures.writes)
 
 pub returns-clause-done : goal.returns-clause-done
 returns-clause-done g c =
-    let step0 : (chart (g.B.Board.state c.set_size.new.board)) ≡ with_fields (chart (g.B.Board.state c.args.board.now)) (with_size 0 c.pair.result ((chart (g.B.Board.state c.args.board.now)).fields)) = Lays-more (chart (g.B.Board.state c.args.board.now)) (chart (g.B.Board.state c.args.board.now)) (chart (g.B.Board.state c.set_size.new.board)) ((chart (g.B.Board.state c.args.board.now)).fields) (with_size 0 c.pair.result ((chart (g.B.Board.state c.args.board.now)).fields)) (with_size 0 c.pair.result) refl refl c.in_ok-set_size.ensures.writes in
-    let step1 : (chart (g.B.Board.state c.set_size-2.new.board)) ≡ with_fields (chart (g.B.Board.state c.args.board.now)) (with_size 1 c.pair-2.result (with_size 0 c.pair.result ((chart (g.B.Board.state c.args.board.now)).fields))) = Lays-more (chart (g.B.Board.state c.args.board.now)) (chart (g.B.Board.state c.set_size.new.board)) (chart (g.B.Board.state c.set_size-2.new.board)) (with_size 0 c.pair.result ((chart (g.B.Board.state c.args.board.now)).fields)) (with_size 1 c.pair-2.result (with_size 0 c.pair.result ((chart (g.B.Board.state c.args.board.now)).fields))) (with_size 1 c.pair-2.result) step0 refl c.in_ok-set_size-2.ensures.writes in
-    let step2 : (chart (g.B.Board.state c.set_size-3.new.board)) ≡ with_fields (chart (g.B.Board.state c.args.board.now)) (with_size 2 c.pair-3.result (with_size 1 c.pair-2.result (with_size 0 c.pair.result ((chart (g.B.Board.state c.args.board.now)).fields)))) = Lays-more (chart (g.B.Board.state c.args.board.now)) (chart (g.B.Board.state c.set_size-2.new.board)) (chart (g.B.Board.state c.set_size-3.new.board)) (with_size 1 c.pair-2.result (with_size 0 c.pair.result ((chart (g.B.Board.state c.args.board.now)).fields))) (with_size 2 c.pair-3.result (with_size 1 c.pair-2.result (with_size 0 c.pair.result ((chart (g.B.Board.state c.args.board.now)).fields)))) (with_size 2 c.pair-3.result) step1 refl c.in_ok-set_size-3.ensures.writes in
-    let step3 : (chart (g.B.Board.state c.set_version.new.board)) ≡ with_fields (chart (g.B.Board.state c.args.board.now)) (with_version c.args.version (with_size 2 c.pair-3.result (with_size 1 c.pair-2.result (with_size 0 c.pair.result ((chart (g.B.Board.state c.args.board.now)).fields))))) = Lays-more (chart (g.B.Board.state c.args.board.now)) (chart (g.B.Board.state c.set_size-3.new.board)) (chart (g.B.Board.state c.set_version.new.board)) (with_size 2 c.pair-3.result (with_size 1 c.pair-2.result (with_size 0 c.pair.result ((chart (g.B.Board.state c.args.board.now)).fields)))) (with_version c.args.version (with_size 2 c.pair-3.result (with_size 1 c.pair-2.result (with_size 0 c.pair.result ((chart (g.B.Board.state c.args.board.now)).fields))))) (with_version c.args.version) step2 refl c.in_ok-set_version.ensures.writes in
-    let step4 : (chart (g.B.Board.state c.set_job.new.board)) ≡ with_fields (chart (g.B.Board.state c.args.board.now)) (with_job (Some Idle) (with_version c.args.version (with_size 2 c.pair-3.result (with_size 1 c.pair-2.result (with_size 0 c.pair.result ((chart (g.B.Board.state c.args.board.now)).fields)))))) = Lays-more (chart (g.B.Board.state c.args.board.now)) (chart (g.B.Board.state c.set_version.new.board)) (chart (g.B.Board.state c.set_job.new.board)) (with_version c.args.version (with_size 2 c.pair-3.result (with_size 1 c.pair-2.result (with_size 0 c.pair.result ((chart (g.B.Board.state c.args.board.now)).fields))))) (with_job (Some Idle) (with_version c.args.version (with_size 2 c.pair-3.result (with_size 1 c.pair-2.result (with_size 0 c.pair.result ((chart (g.B.Board.state c.args.board.now)).fields)))))) (with_job (Some Idle)) step3 refl c.in_ok-set_job.ensures.writes in
-    step4 ∙ ap (with_fields (chart (g.B.Board.state c.args.board.now))) (head-same (chart (g.B.Board.state c.args.board.now)).fields (g.B.Board.state c.args.board.now).shape c.args.version _ _ _ (c.pair.ensures ∙ ap (λ (sh : Shape). sh.segments * 2 ^ 32 + sh.rows) c.shape-shape.ensures) (c.pair-2.ensures ∙ ap (λ (sh : Shape). sh.pages * 2 ^ 32 + sh.shadows) c.shape-shape.ensures) (c.pair-3.ensures ∙ ap (λ (sh : Shape). sh.frames * 2 ^ 32 + sh.entries) c.shape-shape.ensures))
+    let first = c.in_ok-lay_sizes.ensures.done in
+    let second : (chart (g.B.Board.state c.lay_extras.new.board)) ≡ with_fields (chart (g.B.Board.state c.args.board.now)) (with_extras (g.B.Board.state c.args.board.now).shape c.args.version (with_sizes (g.B.Board.state c.args.board.now).shape (chart (g.B.Board.state c.args.board.now)).fields)) = c.in_ok-lay_extras.ensures.done ∙ ap (λ (x : Chart). with_fields x (with_extras x.shape c.args.version x.fields)) first in
+    let third : (chart (g.B.Board.state c.set_version.new.board)) ≡ with_fields (chart (g.B.Board.state c.args.board.now)) (with_version c.args.version (with_extras (g.B.Board.state c.args.board.now).shape c.args.version (with_sizes (g.B.Board.state c.args.board.now).shape (chart (g.B.Board.state c.args.board.now)).fields))) = Lays-more (chart (g.B.Board.state c.args.board.now)) (chart (g.B.Board.state c.lay_extras.new.board)) (chart (g.B.Board.state c.set_version.new.board)) (with_extras (g.B.Board.state c.args.board.now).shape c.args.version (with_sizes (g.B.Board.state c.args.board.now).shape (chart (g.B.Board.state c.args.board.now)).fields)) (with_version c.args.version (with_extras (g.B.Board.state c.args.board.now).shape c.args.version (with_sizes (g.B.Board.state c.args.board.now).shape (chart (g.B.Board.state c.args.board.now)).fields))) (with_version c.args.version) second refl c.in_ok-set_version.ensures.writes in
+    Lays-more (chart (g.B.Board.state c.args.board.now)) (chart (g.B.Board.state c.set_version.new.board)) (chart (g.B.Board.state c.set_job.new.board)) (with_version c.args.version (with_extras (g.B.Board.state c.args.board.now).shape c.args.version (with_sizes (g.B.Board.state c.args.board.now).shape (chart (g.B.Board.state c.args.board.now)).fields))) (with_head (g.B.Board.state c.args.board.now).shape c.args.version (chart (g.B.Board.state c.args.board.now)).fields) (with_job (Some Idle)) third refl c.in_ok-set_job.ensures.writes

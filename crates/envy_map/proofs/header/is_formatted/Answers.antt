@@ -1,25 +1,20 @@
-use Rattle.std.proofs.Common.{◌≡◌, ◌⊎◌, inl, inr, ℕ, sym, ◌∙◌}
-use Rattle.std.specs.Prelude.{IsTrue, ◌==◌}
-use Rattle.std.proofs.lemmas.Bool.{eq-eqb, eqb-true}
-use Rattle.envy_map.specs.Fields.{map_fields}
+use Rattle.std.proofs.Common.{◌≡◌, ℕ, sym, ◌∙◌, subst}
+use Rattle.std.proofs.lemmas.Bool.{eqb-true}
+use Rattle.envy_map.specs.Fields.{map_fields, IsVersion}
 use Rattle.envy_map.proofs.header.is_formatted.Goals as goal
 
-second : (v w : ℕ) → v ≡ w → (v ≡ 1 → ⊥) → (w ≡ 1) ⊎ (w ≡ 2) → IsTrue (v == 2)
-second v w is other (inl one) = absurd (other (is ∙ one))
-second v w is other (inr two) = eq-eqb v 2 (is ∙ two)
+version-at : (a b c x y z : ℕ) → a ≡ x → b ≡ y → c ≡ z → IsVersion a b c → IsVersion x y z
+version-at a b c x y z e f h is = subst (λ (n : ℕ). IsVersion n y z) e (subst (λ (n : ℕ). IsVersion a n z) f (subst (λ (n : ℕ). IsVersion a b n) h is))
 
-pub returns-then-version-eq1 : goal.returns-then-version-eq1
+pub returns-then-magic-eq-MAGIC : goal.returns-then-magic-eq-MAGIC
 unfolding map_fields
-returns-then-version-eq1 g c =
+returns-then-magic-eq-MAGIC g c =
     let magic = sym c.in_ok-magic.ensures.1 ∙ c.if-magic-eq-MAGIC.true in
-    let version = sym c.in_ok-version.ensures.1 ∙ c.if-version-eq1.true in
-    (c.in_ok-magic.ensures.0, (λ told. (magic, inl version), λ formatted. eq-eqb c.in_ok-version.version 1 c.if-version-eq1.true))
-
-pub returns-else-version-eq1 : goal.returns-else-version-eq1
-unfolding map_fields
-returns-else-version-eq1 g c =
-    let magic = sym c.in_ok-magic.ensures.1 ∙ c.if-magic-eq-MAGIC.true in
-    (c.in_ok-magic.ensures.0, (λ told. (magic, inr (sym c.in_ok-version.ensures.1 ∙ eqb-true c.in_ok-version.version 2 told)), λ formatted. second _ _ c.in_ok-version.ensures.1 c.if-version-eq1.false formatted.1))
+    let told = c.is_version.ensures in
+    let version = c.in_ok-version.ensures.1 in
+    let reserves = c.in_ok-reserves.ensures.1 in
+    let sums = c.in_ok-sums.ensures.1 in
+    (c.in_ok-magic.ensures.0, (λ yes_. (magic, version-at _ _ _ _ _ _ version reserves sums (told.0 yes_)), λ formatted. told.1 (version-at _ _ _ _ _ _ (sym version) (sym reserves) (sym sums) formatted.1)))
 
 pub returns-else-magic-eq-MAGIC : goal.returns-else-magic-eq-MAGIC
 unfolding map_fields

@@ -29,6 +29,7 @@ program_move-requires-clause-target g c =
     let next = c.requires.next in
     let here = c.segment_at-segment.ensures.segment in
     let segments : pool.shape.segments ≡ old.shape.segments = ap (λ (sh : Shape). sh.segments) (IsPoolOf.shape c.requires.agree.pool) in
+    let reserves : pool.shape.reserves ≡ old.shape.reserves = ap (λ (sh : Shape). sh.reserves) (IsPoolOf.shape c.requires.agree.pool) in
     let position = next.position in
     record {
       placed = (c.args.next.position, (omega arith), ap (λ (xs : List ℕ). get_or xs c.args.next.position 0) (sym (IsPoolOf.positions c.requires.agree.pool)) ∙ sym here);
@@ -98,9 +99,10 @@ rename-requires-clause-may g c =
     let here = c.segment_at-segment.ensures.segment in
     let rows : pool.shape.rows ≡ old.shape.rows = ap (λ (sh : Shape). sh.rows) (IsPoolOf.shape c.requires.agree.pool) in
     let segments : pool.shape.segments ≡ old.shape.segments = ap (λ (sh : Shape). sh.segments) (IsPoolOf.shape c.requires.agree.pool) in
+    let reserves : pool.shape.reserves ≡ old.shape.reserves = ap (λ (sh : Shape). sh.reserves) (IsPoolOf.shape c.requires.agree.pool) in
     let room = HasRoom.room c.requires.next.room in
     let fill : get_or pool.fills (get_or pool.positions c.args.next.position 0) 0 ≡ n = ap (λ (x : ℕ). get_or pool.fills x 0) (sym here) ∙ ap (λ (xs : List ℕ). get_or xs s 0) (IsPoolOf.fills c.requires.agree.pool) in
-    let bound = IsPool.positions_fit c.segment_at-segment.ensures.pool c.args.next.position c.requires.next.position in
+    let bound = IsPool.positions_fit c.segment_at-segment.ensures.pool c.args.next.position (omega (arith, c.requires.next.position)) in
     let position = c.requires.next.position in
     let may = MayName-claimed old.shape old.fields old.flash s n c.args.next.kept.page c.requires.sound (omega arith) refl (omega arith)
     (c.args.next.position, (omega arith), ap (λ (xs : List ℕ). get_or xs c.args.next.position 0) (sym (IsPoolOf.positions c.requires.agree.pool)) ∙ sym here) (unswitched-copying old.fields c.requires.next.v s c.requires.next.copying) in

@@ -1,4 +1,4 @@
-use Rattle.std.proofs.Common.{◌∙◌, ◌+◌, ◌*◌, ◌<◌, ℕ, [], inl, Err, get_or, sym, ap, subst}
+use Rattle.std.proofs.Common.{◌∙◌, ◌+◌, ◌*◌, ◌<◌, ℕ, [], inl, Err, get_or, sym, ap, subst, arith}
 use Rattle.envy_base.specs.declared.board.Trouble.{Trouble}
 use Rattle.envy_base.specs.declared.shape.Shape.{Shape}
 use Rattle.envy_map.specs.Fields.{Fields, Chart, chart}
@@ -183,7 +183,7 @@ pub claim-requires-clause-segment : goal.claim-requires-clause-segment
 claim-requires-clause-segment g c =
     let old = chart (g.B.Board.state c.args.board.now) in
     let placed = c.requires.target.placed in
-    let fits = Numbers.positions_fit (Sound.numbers c.requires.sound) placed.0 placed.1 in
+    let fits = Numbers.positions_fit (Sound.numbers c.requires.sound) placed.0 (omega (arith, placed.1)) in
     subst (λ (s : ℕ). s < c.args.space.now.shape.segments) placed.2 (subst (λ (sh : Shape). get_or old.fields.positions placed.0 0 < sh.segments) (sym c.requires.pool.shape) fits)
 
 pub returns-clause-power : goal.returns-clause-power

@@ -3,7 +3,6 @@ use Rattle.envy_base.specs.State.{IsBoard}
 use Rattle.envy_base.specs.declared.shape.Shape.{Shape}
 use Rattle.envy_map.specs.Fields.{chart}
 use Rattle.envy_layout.specs.Sound.{IsSpare}
-use Rattle.envy_layout.proofs.References.{apart-spare}
 use Rattle.envy_layout.proofs.SpareLemmas.{some-spare}
 use Rattle.envy_reloc.proofs.settle.find_spare.Goals as goal
 
@@ -14,4 +13,5 @@ unreachable-requires g c =
     let low = IsSpare.segment spare.1 in
     let size = ap (λ (sh : Shape). sh.segments) c.shape-segment-end.ensures in
     let end = c.loop-segment-test.false in
-    apart-spare now.shape now.fields.positions spare.0 (c.in_ok-placed.ensures.placed spare.0 (c.loop-segment.invariant spare.0 (omega arith))) spare.1
+    let placed = c.in_ok-placed.ensures.placed spare.0 (c.loop-segment.invariant spare.0 (omega arith)) in
+    IsSpare.nowhere spare.1 placed.0 placed.1 placed.2

@@ -1,4 +1,4 @@
-use Rattle.std.proofs.Common.{◌≡◌, ◌∙◌, ℕ, ◌+◌, ◌-◌, ◌<◌, List, Option, get_or, Some, None, refl, sym, ap, subst, arith}
+use Rattle.std.proofs.Common.{◌≡◌, ◌∙◌, ℕ, ◌+◌, ◌<◌, List, Option, get_or, Some, None, refl, sym, ap, subst, arith}
 use Rattle.envy_base.specs.declared.shape.Shape.{Shape}
 use Rattle.envy_base.specs.declared.fields.Job.TheVariants.{Switch, Erase}
 use Rattle.envy_base.specs.declared.fields.Undo.{Undo}
@@ -16,6 +16,7 @@ use Rattle.envy_reloc.proofs.SettleLemmas.{ok-map, KeepsOthers-trans, keeps-writ
 use Rattle.envy_reloc.proofs.Exits.{none-if, none-power}
 use Rattle.envy_reloc.proofs.SwitchLemmas.{IsCopied-kept, SwitchesRows-none, SwitchesRows-next, undos-switched}
 use Rattle.envy_reloc.proofs.settle.finish_switch.Goals as goal
+use Rattle.envy_base.specs.Shape.{positions_of}
 
 pub loop-i-preserved : goal.loop-i-preserved
 loop-i-preserved g c =
@@ -197,7 +198,7 @@ replace_segment-requires-clause-sound g c = Stays.sound (Same.stays c.loop-i.inv
 pub replace_segment-requires-clause-position : goal.replace_segment-requires-clause-position
 replace_segment-requires-clause-position g c =
     let going = Framed.shape (Stays.framed (Same.stays c.loop-i.invariant.same)) in
-    subst (λ (sh : Shape). c.args.position < sh.segments - 1) (sym going) c.requires.position
+    subst (λ (sh : Shape). c.args.position < positions_of sh) (sym going) c.requires.position
 
 pub replace_segment-requires-clause-segment : goal.replace_segment-requires-clause-segment
 replace_segment-requires-clause-segment g c =

@@ -1,5 +1,6 @@
-use Rattle.std.proofs.Common.{inl, inr, ap, refl, ◌∙◌, arith}
+use Rattle.std.proofs.Common.{inl, inr, ap, subst, sym, refl, ◌∙◌, arith}
 use Rattle.std.specs.Prelude.{None, Some}
+use Rattle.envy_base.specs.Shape.{IsShape}
 use Rattle.envy_base.specs.State.{IsMade}
 use Rattle.envy_io.specs.Taking.{Taking}
 use Rattle.envy_map.specs.Fields.{chart}
@@ -8,9 +9,12 @@ use Rattle.envy_run.proofs.Checked.{shape-of-checked}
 use Rattle.envy_run.specs.Prepares.{ending_of_unready}
 use Rattle.envy_run.specs.declared.ending.Ending.TheVariants.{OutOfMemory}
 use Rattle.envy_run.specs.declared.prepare.Unready.TheVariants.{Memory}
-use Rattle.envy_run.proofs.Mirrored.{as-made, blank-made, blank-prepared, blank-board, Stopped, stopped-by, lit-board, not-stopped, mirror-unmade, mirror-unready, are-ready, start_of, begins-as, ended-so, mirror-ended}
+use Rattle.envy_run.proofs.Mirrored.{as-made, at-start, blank-made, blank-prepared, blank-board, Stopped, stopped-by, lit-board, not-stopped, mirror-unmade, mirror-unready, are-ready, start_of, begins-as, ended-so, mirror-ended}
 use Rattle.envy_run.proofs.Preparing.{few-none, read-none}
 use Rattle.envy_run.proofs.mirror_run.run_mirror.Goals as goal
+
+pub serve-served-requires-clause-reader : goal.serve-served-requires-clause-reader
+serve-served-requires-clause-reader g c = at-start c.new-2.result (g.S.Source.feed c.args.source.now) c.new-2.ensures
 
 pub make-requires : goal.make-requires
 make-requires g c = shape-of-checked c.args.setup c.requires
@@ -27,7 +31,7 @@ pub returns-in-Err-clause-runs : goal.returns-in-Err-clause-runs
 returns-in-Err-clause-runs g c =
     let old = chart (g.M.Made.Board.state c.in-Ok.one) in
     let now = chart (g.M.Made.Board.state c.in-Err.one) in
-    let stopped = stopped-by c.in-Err.unready old now (IsMade.bads c.in-Ok.ensures) c.in-Err.ensures in
+    let stopped = stopped-by c.in-Err.unready old now (subst IsShape (sym (IsMade.shape c.in-Ok.ensures)) (shape-of-checked c.args.setup c.requires)) (IsMade.bads c.in-Ok.ensures) c.in-Err.ensures in
     mirror-unready g.M.Made.Board.state c.args.setup c.args.lives c.in-Err.unready c.in-Err.one c.in-Ok-make.two c.unmirrored.result (g.S.Source.feed c.args.source.now) (g.K.Sink.drain c.args.sink.now) c.unmirrored.ensures (inl stopped.1)
     (λ memory. (Stopped.on stopped.1 memory, IsMade.on c.in-Ok-make.ensures))
     (blank-prepared c.args.setup c.args.lives old now stopped.0 (blank-made c.args.setup c.args.lives (g.M.Made.Board.state c.in-Ok.one) c.in-Ok.ensures))
@@ -37,7 +41,7 @@ pub returns-in-Err-prepare-clause-runs : goal.returns-in-Err-prepare-clause-runs
 returns-in-Err-prepare-clause-runs g c =
     let old = chart (g.M.Made.Board.state c.in-Ok-make.two) in
     let now = chart (g.M.Made.Board.state c.in-Err-prepare.two) in
-    let stopped = stopped-by c.in-Err-prepare.unready old now (IsMade.bads c.in-Ok-make.ensures) c.in-Err-prepare.ensures in
+    let stopped = stopped-by c.in-Err-prepare.unready old now (subst IsShape (sym (IsMade.shape c.in-Ok-make.ensures)) (shape-of-checked c.args.setup c.requires)) (IsMade.bads c.in-Ok-make.ensures) c.in-Err-prepare.ensures in
     mirror-unready g.M.Made.Board.state c.args.setup c.args.lives c.in-Err-prepare.unready c.into_board.result c.in-Err-prepare.two c.unmirrored-in-Err-prepare.result (g.S.Source.feed c.args.source.now) (g.K.Sink.drain c.args.sink.now) c.unmirrored-in-Err-prepare.ensures (inr stopped.1)
     (λ memory. (lit-board (chart (g.M.Made.Board.state c.in-Ok.one)) c.args.setup c.in-Ok-prepare.memory (chart (g.M.Made.Board.state c.into_board.result)) c.in-Ok-prepare.ensures c.into_board.ensures.same, Stopped.on stopped.1 memory))
     (blank-board c.args.setup c.args.lives (g.M.Made.Board.state c.in-Ok.one) c.in-Ok-prepare.memory (chart (g.M.Made.Board.state c.into_board.result)) c.in-Ok.ensures c.in-Ok-prepare.ensures c.into_board.ensures.same)

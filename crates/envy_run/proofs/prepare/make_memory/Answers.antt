@@ -10,5 +10,5 @@ returns-in_default g c = none-made g.M.Made.Board.state c.args.setup c.args.live
 
 pub returns-in-Err : goal.returns-in-Err
 returns-in-Err g c =
-    none-begun g.M.Made.Board.state c.args.setup c.args.lives c.in-Err.unready (g.M.Made.Board.state c.in-Ok.board) c.in-Err.board c.unserved-in-Err.result c.in-Ok.ensures c.in-Err.ensures
+    none-begun g.M.Made.Board.state c.args.setup c.args.lives c.in-Err.unready (g.M.Made.Board.state c.in-Ok.board) c.in-Err.board c.unserved-in-Err.result (shape-of-checked c.args.setup c.requires) c.in-Ok.ensures c.in-Err.ensures
     (rw (← c.why_unready.ensures) c.unserved-in-Err.ensures)

@@ -1,10 +1,15 @@
 use Rattle.std.proofs.Common.{inl, inr, refl, ◌∙◌, arith}
 use Rattle.envy_base.specs.Shape.{IsShape}
+use Rattle.envy_map.specs.Fields.{chart}
+use Rattle.envy_memory.proofs.AttachLemmas.{formatted-sound}
 use Rattle.envy_run.specs.Loading.{HasTaken}
 use Rattle.envy_run.specs.declared.ending.Ending.TheVariants.{OutOfMemory, PowerLost}
 use Rattle.envy_run.proofs.Checked.{shape-of-checked}
 use Rattle.envy_run.proofs.Resumed.{image-ended, image-traced, image-unread}
 use Rattle.envy_run.proofs.resume_run.serve_image.Goals as goal
+
+pub attach-requires-clause-formatted : goal.attach-requires-clause-formatted
+attach-requires-clause-formatted g c = formatted-sound (chart (g.B.Board.state c.args.board)) c.requires.sound.0.0 c.requires.sound.1
 
 pub returns-in-Err-default-Memory-clause-does : goal.returns-in-Err-default-Memory-clause-does
 returns-in-Err-default-Memory-clause-does g c =

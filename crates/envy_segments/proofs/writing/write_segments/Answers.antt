@@ -1,9 +1,12 @@
-use Rattle.std.proofs.Common.{[], ◌∷◌, ◌++◌, codes, decimal, arith}
+use Rattle.std.proofs.Common.{[], ◌∷◌, ◌++◌, ap, arith}
 use Rattle.std.proofs.lemmas.Result.{err_from_is_err_and}
 use Rattle.envy_io.proofs.Pieces.{Written-nothing, Written-piece, Written-front, writes-last}
 use Rattle.envy_io.specs.Lines.{newline}
 use Rattle.envy_map.specs.Fields.{chart}
-use Rattle.envy_segments.specs.Segments.{heading, segment_line, segments_text}
+use Rattle.envy_base.specs.declared.shape.Shape.{Shape}
+use Rattle.envy_base.specs.Shape.{all_positions_of}
+use Rattle.envy_segments.specs.Segments.{heading, segment_line, segments_text, text_of}
+use Rattle.envy_segments.specs.declared.line.Standing.TheVariants.{Spare}
 use Rattle.envy_segments.proofs.Lines.{heading-first, line-next, spare-last, told}
 use Rattle.envy_segments.proofs.writing.write_segments.Goals as goal
 
@@ -34,16 +37,16 @@ returns-in_err-write_line g c =
       told now c.args.space.now c.spare-spare.result c.requires.counted c.spare-spare.ensures.spare,
       rw p.1
           (Written-front (g.K.Sink.drain c.args.sink.now) (g.K.Sink.drain c.loop-position.sink) (g.K.Sink.drain c.write_line.new.sink) _ _
-          (segment_line c.args.space.now now.fields.wears (decimal c.loop-position.position) c.segment_at-segment.result ++ newline ∷ []) _ _
-          (line-next c.args.space.now now.fields.wears c.spare-spare.result c.loop-position.position c.segment_at-segment.result (omega arith) c.segment_at-segment.ensures.segment) c.loop-position.invariant c.in_err-write_line.ensures),
+          (segment_line c.args.space.now now.fields.wears (text_of c.standing_at-standing.result) c.segment_at-segment.result ++ newline ∷ []) _ _
+          (line-next c.args.space.now now.fields.wears c.spare-spare.result c.loop-position.position c.segment_at-segment.result c.standing_at-standing.result (omega (arith, ap (λ (sh : Shape). all_positions_of sh) c.requires.counted.shape, ap (λ (sh : Shape). all_positions_of sh) c.shape.ensures)) c.segment_at-segment.ensures.segment c.standing_at-standing.ensures) c.loop-position.invariant c.in_err-write_line.ensures),
     )
 
 pub loop-position-preserved : goal.loop-position-preserved
 loop-position-preserved g c =
     let now = chart (g.B.Board.state c.args.board.now) in
     Written-piece (g.K.Sink.drain c.args.sink.now) (g.K.Sink.drain c.loop-position.sink) (g.K.Sink.drain c.write_line.new.sink) _ _
-    (segment_line c.args.space.now now.fields.wears (decimal c.loop-position.position) c.segment_at-segment.result ++ newline ∷ []) _ _
-    (line-next c.args.space.now now.fields.wears c.spare-spare.result c.loop-position.position c.segment_at-segment.result (omega arith) c.segment_at-segment.ensures.segment) c.loop-position.invariant c.in_ok-write_line.ensures
+    (segment_line c.args.space.now now.fields.wears (text_of c.standing_at-standing.result) c.segment_at-segment.result ++ newline ∷ []) _ _
+    (line-next c.args.space.now now.fields.wears c.spare-spare.result c.loop-position.position c.segment_at-segment.result c.standing_at-standing.result (omega (arith, ap (λ (sh : Shape). all_positions_of sh) c.requires.counted.shape, ap (λ (sh : Shape). all_positions_of sh) c.shape.ensures)) c.segment_at-segment.ensures.segment c.standing_at-standing.ensures) c.loop-position.invariant c.in_ok-write_line.ensures
 
 pub returns : goal.returns
 returns g c =
@@ -51,6 +54,6 @@ returns g c =
       segments_text c.args.space.now now.fields.wears c.spare-spare.result,
       told now c.args.space.now c.spare-spare.result c.requires.counted c.spare-spare.ensures.spare,
       writes-last (g.K.Sink.drain c.args.sink.now) (g.K.Sink.drain c.loop-position.sink) (g.K.Sink.drain c.write_line-2.new.sink) _ _
-          (segment_line c.args.space.now now.fields.wears (codes "spare") c.spare-spare.result ++ newline ∷ []) c.write_line-2.result
-          (spare-last c.args.space.now now.fields.wears c.spare-spare.result c.loop-position.position (omega arith)) c.loop-position.invariant c.write_line-2.ensures,
+          (segment_line c.args.space.now now.fields.wears (text_of Spare) c.spare-spare.result ++ newline ∷ []) c.write_line-2.result
+          (spare-last c.args.space.now now.fields.wears c.spare-spare.result c.loop-position.position (omega (arith, ap (λ (sh : Shape). all_positions_of sh) c.requires.counted.shape, ap (λ (sh : Shape). all_positions_of sh) c.shape.ensures))) c.loop-position.invariant c.write_line-2.ensures,
     )

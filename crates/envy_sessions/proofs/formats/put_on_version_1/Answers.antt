@@ -23,7 +23,7 @@ own_page-requires-clause-few g c on =
     let undos : opened.fields.undos ≡ empty.fields.undos = ap (λ (z : Chart). z.fields.undos) last ∙ ap (λ (z : Chart). z.fields.undos) first in
     let shape : opened.shape ≡ (g.B.Board.state c.args.board.now).shape = ap (λ (z : Chart). z.shape) last ∙ ap (λ (z : Chart). z.shape) first ∙ c.in_ok-format_board_1.ensures.shape in
     let zero : count_by (owned_by opened.fields.slots) opened.fields.undos ≡ 0 = ap (λ (us : List (Option Undo)). count_by (owned_by opened.fields.slots) us) undos ∙ none-owned empty opened.fields.slots c.in_ok-format_board_1.ensures.formats.1 in
-    let some : 0 < opened.shape.shadows = subst (λ (sh : Shape). 0 < sh.shadows) (sym shape) c.requires in
+    let some : 0 < opened.shape.shadows = subst (λ (sh : Shape). 0 < sh.shadows) (sym shape) c.requires.shadows in
     omega arith
 
 pub move_to_frame-requires-clause-copy : goal.move_to_frame-requires-clause-copy

@@ -5,6 +5,7 @@ use Rattle.envy_wear.specs.Swaps.{wear_at, IsMostWorn, IsLeastWorn}
 use Rattle.envy_wear.proofs.Exits.{none-if, on-err}
 use Rattle.envy_wear.proofs.Extremes.{most-first, least-first, at-end}
 use Rattle.envy_wear.proofs.overdue.extremes_of_all.Goals as goal
+use Rattle.envy_base.specs.Shape.{positions_of}
 
 pub returns-in_err-first-clause-most : goal.returns-in_err-first-clause-most
 returns-in_err-first-clause-most g c = none-if c.from_residual.result _ _ c.from_residual.ensures.1
@@ -29,7 +30,7 @@ loop-position-init g c =
 
 pub worn_at-requires-in-loop-position-clause-position : goal.worn_at-requires-in-loop-position-clause-position
 worn_at-requires-in-loop-position-clause-position g c =
-    subst (λ (sh : Shape). c.loop-position.position < sh.segments - 1) c.shape.ensures (subst (λ (n : ℕ). c.loop-position.position < n) c.positions_of-position-end.ensures c.loop-position-test.true)
+    subst (λ (sh : Shape). c.loop-position.position < positions_of sh) c.shape.ensures (subst (λ (n : ℕ). c.loop-position.position < n) c.positions_of-position-end.ensures c.loop-position-test.true)
 
 pub returns-in_err-worn_at-clause-most : goal.returns-in_err-worn_at-clause-most
 returns-in_err-worn_at-clause-most g c = none-if c.from_residual-in_err-worn_at.result _ _ c.from_residual-in_err-worn_at.ensures.1

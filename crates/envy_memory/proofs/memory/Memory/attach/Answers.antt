@@ -58,3 +58,6 @@ returns-in-Err g c =
     let may = c.in_default.ensures.reason in
     let e = c.in-Err.ensures in
     (e.off, inr (may, e.kept, cause 0 0 old new (Kept.counted e.kept) (MayAttach.on may) e.off))
+
+pub take_up-requires-clause-sound : goal.take_up-requires-clause-sound
+take_up-requires-clause-sound g c = let may = c.in_default.ensures.reason in c.requires (MayAttach.on may) (MayAttach.formatted may)

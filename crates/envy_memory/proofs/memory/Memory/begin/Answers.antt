@@ -2,15 +2,17 @@ use Rattle.std.proofs.Common.{Bool, ◌≡◌, ◌≢◌, ◌∙◌, ℕ, ◌<�
 use Rattle.std.specs.Prelude.{IsTrue, Result, ◌↔◌}
 use Rattle.std.proofs.lemmas.Bool.{false≢true}
 use Rattle.std.proofs.lemmas.Result.{err_from_is_err_and}
+use Rattle.envy_base.specs.Shape.{version_of}
 use Rattle.envy_base.specs.declared.fields.Slot.{Slot}
 use Rattle.envy_base.specs.declared.fields.Slot.TheVariants.{Active, Vacant, Committed}
 use Rattle.envy_map.specs.Fields.{Chart, chart, slot, with_fields}
 use Rattle.envy_map.specs.Writes.{with_slot}
 use Rattle.envy_layout.specs.Same.{SameWords}
-use Rattle.envy_layout.specs.Sound.{IsSound, Sound, Slots, slots_of}
+use Rattle.envy_layout.specs.Sound.{IsSound, Sound, Slots}
 use Rattle.envy_layout.specs.Stands.{Stands}
 use Rattle.envy_layout.proofs.Composition.{cause}
 use Rattle.envy_layout.proofs.Ending.{none-closed, IsLost-begin, Steps-begin}
+use Rattle.envy_memory.proofs.Slots.{slot-low}
 use Rattle.envy_memory.specs.Below.{BeginsBelow, IsBusy}
 use Rattle.envy_memory.specs.Calls.{IsCut, Undisturbed}
 use Rattle.envy_memory.specs.Picture.{Picture}
@@ -62,8 +64,8 @@ is-active (Some Vacant) some free settled = absurd (free refl)
 is-active (Some Committed) some free settled = absurd (settled refl)
 is-active (Some Active) some free settled = refl
 
-all-active : (c : Chart) (u : ℕ) → IsSound c → c.fields.version ≡ 2 → u < 64 → slot c.fields u ≢ Some Vacant → slot c.fields u ≢ Some Committed → slot c.fields u ≡ Some Active
-all-active c u sound version low = is-active (slot c.fields u) (Slots.decode (Sound.slots sound) u (subst (λ (v : ℕ). u < slots_of v) (sym version) low))
+all-active : (c : Chart) (u : ℕ) → IsSound c → c.fields.version ≡ version_of c.shape → u < 64 → slot c.fields u ≢ Some Vacant → slot c.fields u ≢ Some Committed → slot c.fields u ≡ Some Active
+all-active c u sound version low = is-active (slot c.fields u) (Slots.decode (Sound.slots sound) u (slot-low c.shape c.fields.version u version low))
 
 begins-refused : (f : BeginFault) (p : Picture) → BeginsBelow (Err f) p p
 begins-refused f p = record { unpowered = λ off. refl; works = works-still p.chart; slot = tt; kept = refl; refused = λ e. refl }

@@ -5,11 +5,11 @@ use Rattle.envy_base.specs.declared.shape.Shape.{Shape}
 use Rattle.envy_base.specs.Array.{Array}
 use Rattle.envy_map.specs.Fields.{chart, slot}
 use Rattle.std.specs.Prelude.{IsErrOf}
-use Rattle.envy_layout.specs.Sound.{slots_of}
 use Rattle.envy_layout.specs.Stands.{Stands}
 use Rattle.envy_layout.proofs.Composition.{cause}
 use Rattle.envy_txn.specs.Owners.{owner_of}
 use Rattle.envy_layout.proofs.Ending.{closed-inactive, closed-past}
+use Rattle.envy_memory.proofs.Slots.{slot-low}
 use Rattle.envy_flush.specs.Storing.{Leaves}
 use Rattle.envy_flush.proofs.StoreLemmas.{Leaves-wrote}
 use Rattle.envy_layout.specs.Same.{Framed}
@@ -379,7 +379,7 @@ put_first-requires-clause-may g c =
     let pages = ap (λ (sh : Shape). sh.pages) c.shape.ensures in record {
       page = subst (λ (n : ℕ). c.args.a / 32 < n) pages c.if-page-shape.false;
       low = c.if-t-ge64.false;
-      opened = (subst (λ (v : ℕ). c.args.t < slots_of v) (sym c.self.invariant.0.version) c.if-t-ge64.false, c.in_ok-is_open.ensures.yes c.if-not-branch.false);
+      opened = (slot-low old.shape old.fields.version c.args.t c.self.invariant.0.version c.if-t-ge64.false, c.in_ok-is_open.ensures.yes c.if-not-branch.false);
       owned = c.self.invariant.0.owned on;
       limit = subst (λ (n : ℕ). c.self.inside.owned.limit ≤ n) c.self.invariant.0.shadows (same-le c.self.inside.owned.limit);
       room = c.room.ensures.value.0 c.if-not-room.false;

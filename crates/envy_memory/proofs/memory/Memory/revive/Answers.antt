@@ -1,6 +1,7 @@
 use Rattle.std.proofs.Common.{◌≡◌, ◌∙◌, ◌-◌, ◌^◌, ◌<◌, refl, sym, subst, ap}
 use Rattle.std.specs.Prelude.{IsTrue}
 use Rattle.envy_base.specs.State.{State, lit as lit_state}
+use Rattle.envy_base.specs.Shape.{version_of}
 use Rattle.envy_base.specs.declared.shape.Shape.{Shape}
 use Rattle.envy_map.specs.Fields.{chart}
 use Rattle.envy_layout.specs.Same.{SameDurable}
@@ -35,7 +36,7 @@ invariant_of-self-2 g c =
     let o = c.in_ok-restart.ensures in
     let i = c.self.invariant.0 in
     let magic = SameDurable.magic o.durable ∙ ap (λ (s : State). (chart s).fields.magic) lights ∙ i.magic in
-    let version = SameDurable.version o.durable ∙ ap (λ (s : State). (chart s).fields.version) lights ∙ i.version in
+    let version = SameDurable.version o.durable ∙ ap (λ (s : State). (chart s).fields.version) lights ∙ i.version ∙ ap (λ (s : State). version_of s.shape) (sym lights) ∙ ap version_of (sym (SameDurable.shape o.durable)) in
     let shape = SameDurable.shape o.durable ∙ ap (λ (s : State). s.shape) lights in
     let none = ap (λ (z : Ownership). z.pairs) c.forget.ensures in
     let shadows = ap (λ (z : Ownership). z.limit) c.forget.ensures ∙ i.shadows ∙ ap (λ (sh : Shape). sh.shadows) (sym shape) in (
@@ -52,7 +53,7 @@ returns-clause-ok g c =
     let o = c.in_ok-restart.ensures in
     let i = c.self.invariant.0 in
     let magic = SameDurable.magic o.durable ∙ ap (λ (s : State). (chart s).fields.magic) lights ∙ i.magic in
-    let version = SameDurable.version o.durable ∙ ap (λ (s : State). (chart s).fields.version) lights ∙ i.version in
+    let version = SameDurable.version o.durable ∙ ap (λ (s : State). (chart s).fields.version) lights ∙ i.version ∙ ap (λ (s : State). version_of s.shape) (sym lights) ∙ ap version_of (sym (SameDurable.shape o.durable)) in
     let stands = Stands-settled (chart mid) new o.power magic version (SameDurable.sound o.durable) o.restarts.settled (SameDurable.shape o.durable) (SameDurable.durable o.durable) o.restarts.live in
     subst (λ (p : Picture). Stands new (fresh p.chart.shape.shadows (durable p.chart))) c.self.view_is
     (subst (λ (s : State). Stands new (fresh (chart s).shape.shadows (durable (chart s)))) lights stands)

@@ -1,4 +1,4 @@
-use Rattle.std.proofs.Common.{◌≡◌, ◌∙◌, ℕ, ◌+◌, ◌-◌, ◌/◌, ◌<◌, ◌≤◌, List, length, get_or, Some, refl, sym, ap, subst}
+use Rattle.std.proofs.Common.{◌≡◌, ◌∙◌, ℕ, ◌+◌, ◌/◌, ◌<◌, ◌≤◌, List, length, get_or, Some, refl, sym, ap, subst}
 use Rattle.std.specs.Prelude.{All, IsTrue, false}
 use Rattle.envy_base.specs.State.{IsBoard}
 use Rattle.envy_base.specs.declared.shape.Shape.{Shape}
@@ -12,6 +12,7 @@ use Rattle.envy_reloc.proofs.CleanLemmas.{cleans-begun-at}
 use Rattle.envy_reloc.proofs.PlanLemmas.{Plan-begun}
 use Rattle.envy_reloc.proofs.EffortLemmas.{Leaves-begun}
 use Rattle.envy_reloc.proofs.reloc.Reloc.begin.Goals as goal
+use Rattle.envy_base.specs.Shape.{positions_of}
 
 pub returns-clause-begins : goal.returns-clause-begins
 returns-clause-begins g c =
@@ -90,7 +91,7 @@ returns-clause-pool g c =
 pub begin_copy-requires-clause-placed : goal.begin_copy-requires-clause-placed
 begin_copy-requires-clause-placed g c = λ on.
     let ready = c.requires.ready on in
-    (c.args.position, subst (λ (sh : Shape). c.args.position < sh.segments - 1) c.requires.shape c.requires.position, ap (λ (xs : List ℕ). get_or xs c.args.position 0) (sym (IsPoolOf.positions ready.agrees)) ∙ sym c.segment_at.ensures.segment)
+    (c.args.position, subst (λ (sh : Shape). c.args.position < positions_of sh) c.requires.shape c.requires.position, ap (λ (xs : List ℕ). get_or xs c.args.position 0) (sym (IsPoolOf.positions ready.agrees)) ∙ sym c.segment_at.ensures.segment)
 
 pub returns-clause-agrees : goal.returns-clause-agrees
 returns-clause-agrees g c = λ lit.
@@ -102,5 +103,5 @@ returns-clause-agrees g c = λ lit.
     let plan : Plan = record { moves = c.args.moves.items; aside = c.args.aside; mark = 0; copied = inside.copied; moved = inside.moved; erased = inside.erased; since = inside.since } in
     let moves = subst (λ (s : ℕ). All (λ (q : ℕ). q / old.shape.rows ≡ s) c.args.moves.items) (sym here)
     (subst (λ (sh : Shape). All (λ (q : ℕ). q / sh.rows ≡ get_or c.args.space.now.positions c.args.position 0) c.args.moves.items) c.requires.shape c.requires.moves) in
-    let aside = subst (λ (sh : Shape). (first last : ℕ) → c.args.aside ≡ Some (first, last) → (first ≤ last) × (last < sh.segments - 1)) c.requires.shape c.requires.aside in
+    let aside = subst (λ (sh : Shape). (first last : ℕ) → c.args.aside ≡ Some (first, last) → (first ≤ last) × (last < positions_of sh)) c.requires.shape c.requires.aside in
     subst (λ (x : Chart). IsPlanOf x.shape x.fields x.flash plan) (sym c.in_ok-begin_copy.ensures.fields) (Plan-begun old.shape old.fields old.flash c.segment_at.result plan ready.sound ready.idle moves aside refl)

@@ -35,6 +35,7 @@ move_next-requires-clause-next g c =
     let last = bound.1 in
     let low = IsLowestRoom.below next.8 in
     let segments : pool.shape.segments ≡ old.shape.segments = ap (λ (sh : Shape). sh.segments) (IsPoolOf.shape c.requires.ready.pool) in
+    let reserves : pool.shape.reserves ≡ old.shape.reserves = ap (λ (sh : Shape). sh.reserves) (IsPoolOf.shape c.requires.ready.pool) in
     record {
       v = c.args.segment;
       copying = c.requires.copying;

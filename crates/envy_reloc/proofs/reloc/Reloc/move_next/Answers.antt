@@ -35,6 +35,7 @@ returns-in-Ok-clause-follow g c =
     let s = get_or pool.positions c.args.next.position 0 in
     let rows : pool.shape.rows ≡ old.shape.rows = ap (λ (sh : Shape). sh.rows) (IsPoolOf.shape agrees) in
     let segments : pool.shape.segments ≡ old.shape.segments = ap (λ (sh : Shape). sh.segments) (IsPoolOf.shape agrees) in
+    let reserves : pool.shape.reserves ≡ old.shape.reserves = ap (λ (sh : Shape). sh.reserves) (IsPoolOf.shape agrees) in
     let room = HasRoom.room next.room in
     let fill : get_or pool.fills s 0 ≡ get_or old.fields.fills s 0 = ap (λ (xs : List ℕ). get_or xs s 0) (IsPoolOf.fills agrees) in
     let position = next.position in

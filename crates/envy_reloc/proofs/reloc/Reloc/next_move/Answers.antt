@@ -1,4 +1,4 @@
-use Rattle.std.proofs.Common.{◌≡◌, inl, ◌∙◌, ℕ, ◌/◌, ◌-◌, ◌*◌, ◌%◌, ◌<◌, List, [], ◌∷◌, ◌++◌, length, get_or, Option, Some, None, inr, refl, sym, ap, subst, arith}
+use Rattle.std.proofs.Common.{◌≡◌, inl, ◌∙◌, ℕ, ◌/◌, ◌*◌, ◌%◌, ◌<◌, List, [], ◌∷◌, ◌++◌, length, get_or, Option, Some, None, inr, refl, sym, ap, subst, arith}
 use Rattle.std.specs.Prelude.{All}
 use Rattle.std.proofs.lemmas.List.Elements.{All-rest}
 use Rattle.envy_map.specs.Fields.{chart}
@@ -9,7 +9,7 @@ use Rattle.envy_reloc.specs.Rows.{Rooms, IsLowestRoom}
 use Rattle.envy_layout.specs.Naming.{Keeps}
 use Rattle.envy_reloc.proofs.CopyLemmas.{in-segment}
 use Rattle.envy_reloc.proofs.MoveLemmas.{first-taken, dropped-more, none-left}
-use Rattle.envy_base.specs.Shape.{IsShape}
+use Rattle.envy_base.specs.Shape.{IsShape, positions_of}
 use Rattle.envy_base.specs.State.{IsBoard}
 use Rattle.envy_base.specs.declared.shape.Shape.{Shape}
 use Rattle.envy_layout.proofs.Claimed.{row-range}
@@ -118,7 +118,7 @@ pub room_between-requires-clause-last : goal.room_between-requires-clause-last
 room_between-requires-clause-last g c =
     let aside : c.args.self.now.aside ≡ Some (c.in-Some.first, c.in-Some.last) = ap (λ (p : Plan). p.aside) (sym c.self.view_is) ∙ c.in-Some.is in
     let low = (c.requires.plan.prepared.aside c.args.segment c.in-Some.first c.in-Some.last c.requires.copying aside).1 in
-    subst (λ (sh : Shape). c.in-Some.last < sh.segments - 1) (sym c.requires.pool.shape) low
+    subst (λ (sh : Shape). c.in-Some.last < positions_of sh) (sym c.requires.pool.shape) low
 
 pub keeper-requires-clause-row : goal.keeper-requires-clause-row
 keeper-requires-clause-row g c =

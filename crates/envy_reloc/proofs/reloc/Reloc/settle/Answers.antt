@@ -8,7 +8,7 @@ use Rattle.envy_layout.proofs.JobLaw.{AreHome-freed}
 use Rattle.envy_reloc.specs.Settling.{Finds, Settles, Finishes}
 use Rattle.envy_layout.proofs.Claimed.{AreHome-copying}
 use Rattle.envy_reloc.proofs.Exits.{unpowered, none-off, none-power}
-use Rattle.envy_reloc.proofs.SettleLemmas.{keeps-written, ok-map}
+use Rattle.envy_reloc.proofs.SettleLemmas.{freed-spare, keeps-written, ok-map}
 use Rattle.envy_reloc.proofs.reloc.Reloc.settle.Goals as goal
 
 pub begin_erase-requires-clause-home : goal.begin_erase-requires-clause-home
@@ -20,7 +20,8 @@ pub begin_erase-requires-in-None-clause-home : goal.begin_erase-requires-in-None
 begin_erase-requires-in-None-clause-home g c on =
     let old = chart (g.B.Board.state c.args.board.now) in
     AreHome-freed old.shape old.fields old.flash c.in-Switch.segment (c.requires.sound on) (c.in_ok-job.ensures.value.1 ∙ ap (λ (j : Job). Some j) c.in-Switch.is)
-    (subst (λ (k : Option ℕ). Finds old.shape old.fields.positions c.in-Switch.segment k) c.in-None.is c.in_ok-position-in-Switch.ensures.finds)
+    (freed-spare old c.in-Switch.segment (c.requires.sound on) (c.in_ok-job.ensures.value.1 ∙ ap (λ (j : Job). Some j) c.in-Switch.is)
+    (subst (λ (k : Option ℕ). Finds old.shape old.fields.positions c.in-Switch.segment k) c.in-None.is c.in_ok-position-in-Switch.ensures.finds))
 
 pub returns-then-not-powered : goal.returns-then-not-powered
 returns-then-not-powered g c =
@@ -64,7 +65,7 @@ returns-in-None g c =
     let new = chart (g.B.Board.state c.begin_erase-in-None.new.board) in
     let here = c.in_ok-job.ensures.value.0 in
     let job : old.fields.job ≡ Some (Switch c.in-Switch.segment) = c.in_ok-job.ensures.value.1 ∙ ap (λ (j : Job). Some j) c.in-Switch.is in
-    let spare = subst (λ (k : Option ℕ). Finds old.shape old.fields.positions c.in-Switch.segment k) c.in-None.is c.in_ok-position-in-Switch.ensures.finds in
+    let spare = freed-spare old c.in-Switch.segment (c.requires.sound here) job (subst (λ (k : Option ℕ). Finds old.shape old.fields.positions c.in-Switch.segment k) c.in-None.is c.in_ok-position-in-Switch.ensures.finds) in
     let result = c.begin_erase-in-None.result in
     let e = c.begin_erase-in-None.ensures in
     record {

@@ -18,7 +18,7 @@ use Rattle.envy_reloc.proofs.EffortLemmas.{if-ok}
 use Rattle.envy_reloc.proofs.Exits.{unpowered, off-after, off-if, off-bad, err-after, err-if, err-bad, ok-bad}
 use Rattle.envy_reloc.proofs.KeepLemmas.{bad-of, counted-erase}
 use Rattle.envy_reloc.proofs.StepsLemma.{Steps-made}
-use Rattle.envy_reloc.proofs.StepWays.{IsEnded, AllFollow-off, AllFollow-ended, within-erased}
+use Rattle.envy_reloc.proofs.StepWays.{IsEnded, IsEnded-erased, AllFollow-off, AllFollow-ended, within-erased}
 use Rattle.envy_reloc.proofs.reloc.Reloc.step.Goals as goal
 
 pub go_on-requires-clause-ready : goal.go_on-requires-clause-ready
@@ -137,16 +137,16 @@ returns-in_ok-erase-in-Erase g c =
     let some : 0 < old.shape.rows = (let two = IsShape.rows (IsBoard.shape (g.met.B.Board.lawful c.args.board.now)) in omega arith) in
     let job : old.fields.job ≡ Some Erase = c.in_ok-job.ensures.value.1 ∙ ap (λ (j : Job). Some j) c.in-Erase.is in
     let e = c.in_ok-erase-in-Erase.ensures in
-    let p = e.erases in
+    let p = e.ends in
     let counted = e.counted e.power in
     let copied = ap (λ (w : Plan). w.copied) c.self.view_is in
     let moved = ap (λ (w : Plan). w.moved) c.self.view_is in
     record {
       same = λ _. inr e.same;
       idle = λ off. unpowered old.on off here;
-      follow = AllFollow-ended old new c.args.space.now c.erase.new.space _ c.args.cache.now (Framed.shape (Stays.framed (Same.stays e.same))) (λ _. subst (λ (f : Fields). IsEnded old.fields f) (sym p.2) (record { places = refl; slots = refl; undos = refl; job = inl refl })) e.follow.pool e.follow.shape ready.parted ready.cache;
+      follow = AllFollow-ended old new c.args.space.now c.erase.new.space _ c.args.cache.now (Framed.shape (Stays.framed (Same.stays e.same))) (λ _. IsEnded-erased old new p.0 p.2) e.follow.pool e.follow.shape ready.parted ready.cache;
       power = e.power;
-      steps = Steps-made old plan Erased new _ ready.sound some ready.plan (record { erasing = job; e = p.0; spare = p.1; fields = p.2; erased_rows = p.3; plan_is = counted-erase _ plan c.erase.new.erased c.erase.new.since c.self.view_is counted.0 counted.1 }) e.same;
+      steps = Steps-made old plan Erased new _ ready.sound some ready.plan (record { erasing = job; e = p.0; spare = p.1; ends = p.2; plan_is = counted-erase _ plan c.erase.new.erased c.erase.new.since c.self.view_is counted.0 counted.1 }) e.same;
       fails = λ bad. ok-bad _ bad;
       within = λ _ n m s. within-erased old new plan n m s job e.same;
       counts = counts_by_erase old new plan _ e.same
@@ -174,7 +174,7 @@ returns-in_err-erase-in-Erase g c =
     record {
       same = λ _. inr e.same;
       idle = λ off. unpowered old.on off here;
-      follow = AllFollow-ended old new c.args.space.now c.erase.new.space _ c.args.cache.now (Framed.shape (Stays.framed (Same.stays e.same))) (λ on. subst (λ (f : Fields). IsEnded old.fields f) (sym (spoilt on).2) (record { places = refl; slots = refl; undos = refl; job = inr job })) e.follow.pool e.follow.shape ready.parted ready.cache;
+      follow = AllFollow-ended old new c.args.space.now c.erase.new.space _ c.args.cache.now (Framed.shape (Stays.framed (Same.stays e.same))) (λ on. subst (λ (f : Fields). IsEnded old.fields f) (sym (spoilt on).3) (record { places = refl; slots = refl; undos = refl; job = inr job })) e.follow.pool e.follow.shape ready.parted ready.cache;
       power = err-after (Unit {0}) result new.on trouble c.in_err-erase-in-Erase.ensures.power left;
       steps = err-if result _ trouble left;
       fails = λ bad.
@@ -182,8 +182,8 @@ returns-in_err-erase-in-Erase g c =
           let s = e.spoilt is in
           let counted = e.counted (e.power ∙ ap power_after is) in
           record {
-            spoils = inr (inr (record { erasing = job; e = s.0; spare = s.1; fields = s.2; others = s.3; plan_is = counted-erase _ plan c.erase.new.erased c.erase.new.since c.self.view_is counted.0 counted.1 }));
-            job = ap (λ (f : Fields). f.job) s.2 ∙ job;
+            spoils = inr (inr (record { erasing = job; e = s.0; spare = s.1; none = s.2; fields = s.3; others = s.4; plan_is = counted-erase _ plan c.erase.new.erased c.erase.new.since c.self.view_is counted.0 counted.1 }));
+            job = ap (λ (f : Fields). f.job) s.3 ∙ job;
             dropped = λ other. absurd (other job);
             bad = e.bad is;
           };

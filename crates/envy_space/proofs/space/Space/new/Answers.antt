@@ -12,7 +12,7 @@ pub returns-clause-empty : goal.returns-clause-empty
 returns-clause-empty c = pool-cleared c.args.shape.now _ _ _ (c.in_ok-fills.ensures.items_if_clones_equal (λ y e. e)) (c.in_ok-kept.ensures.items_if_clones_equal (λ y e. e)) c.in_ok-order.ensures
 
 pub returns-clause-agrees : goal.returns-clause-agrees
-returns-clause-agrees c = λ version x shape empty.
+returns-clause-agrees c = λ version x shape empty plain.
     subst (λ (p : Pool). PoolAgrees x.shape x.fields p)
     (sym (pool-cleared c.args.shape.now _ _ _ (c.in_ok-fills.ensures.items_if_clones_equal (λ y e. e)) (c.in_ok-kept.ensures.items_if_clones_equal (λ y e. e)) c.in_ok-order.ensures))
-    (PoolAgrees-new c.args.shape.now version x shape empty)
+    (PoolAgrees-new c.args.shape.now version x shape empty plain)

@@ -1,9 +1,10 @@
-use Rattle.std.proofs.Common.{◌<◌, ◌-◌, sym, subst, get_or, ◌≡◌, ◌∙◌}
+use Rattle.std.proofs.Common.{◌<◌, sym, subst, get_or, ◌≡◌, ◌∙◌, arith}
 use Rattle.std.proofs.lemmas.List.{get_or-take}
 use Rattle.envy_layout.specs.Sound.{IsPlaced}
 use Rattle.envy_space.specs.Pool.{Pool, IsPool}
 use Rattle.envy_space.proofs.SpaceLemmas.{IsPool-space, placed-within, placed-low}
 use Rattle.envy_space.proofs.space.Space.position_of.Goals as goal
+use Rattle.envy_base.specs.Shape.{all_positions_of, positions_of}
 
 pub place_of-requires : goal.place_of-requires
 place_of-requires c =
@@ -14,7 +15,7 @@ place_of-requires c =
 pub returns-clause-within : goal.returns-clause-within
 returns-clause-within c =
     let s = c.self.inside in
-    subst (λ (p : Pool). c.place_of.result < p.shape.segments - 1) c.self.view_is
+    subst (λ (p : Pool). c.place_of.result < positions_of p.shape) c.self.view_is
     (placed-low s.shape s.fills.items s.kept.items s.order s.dead s.has_free s.has_dead c.args.segment c.place_of.result c.self.invariant
     (subst (λ (p : Pool). IsPlaced p.shape p.positions c.args.segment) (sym c.self.view_is) c.requires)
     c.place_of.ensures.fits c.place_of.ensures.stands)
@@ -26,7 +27,7 @@ returns-clause-stands c =
     (subst (λ (p : Pool). IsPlaced p.shape p.positions c.args.segment) (sym c.self.view_is) c.requires)
     c.place_of.ensures.fits c.place_of.ensures.stands in
     subst (λ (p : Pool). get_or p.positions c.place_of.result 0 ≡ c.args.segment) c.self.view_is
-    (get_or-take (s.shape.segments - 1) s.order c.place_of.result 0 low ∙ c.place_of.ensures.stands)
+    (get_or-take (all_positions_of s.shape) s.order c.place_of.result 0 (omega (arith, low)) ∙ c.place_of.ensures.stands)
 
 pub returns-clause-pool : goal.returns-clause-pool
 returns-clause-pool c =

@@ -1,0 +1,212 @@
+// What a memory's board holds, for those who draw it.
+ghost use Rattle.std.specs.Prelude.{◌≡◌};
+ghost use Rattle.envy_sim.specs.Shown.{ShowsJob, ShowsPage, ShowsPosition, ShowsRow, ShowsSegment, job_for_c, page_for_c, row_for_c};
+
+use crate::handle::Slot;
+use envy_base::{Board, Job, Place, Undo, all_positions_of};
+use envy_calls::Code;
+use envy_map::{fill, job, place, segment_at, undo, wear};
+use envy_picture::{RowKind, row_kind};
+
+/// What a row of flash is.
+#[repr(C)]
+#[derive(Clone, Copy)]
+pub struct EnvyRow {
+    /// 0: free, 1: kept, 2: a shadow, 3: dead.
+    pub kind: u32,
+    /// The page that names it, where one does.
+    pub page: u32,
+    /// The slot whose transaction owns that page, where the row is a shadow.
+    pub slot: u32,
+}
+
+/// Where a page is.
+#[repr(C)]
+#[derive(Clone, Copy)]
+pub struct EnvyPage {
+    /// 0: absent, 1: in a row, 2: in a frame.
+    pub place: u32,
+    /// The row or the frame.
+    pub at: u32,
+    /// What the page goes back to. 0: no transaction owns it, 1: zeros, 2: a shadow.
+    pub undo: u32,
+    /// The slot whose transaction owns it, where one does.
+    pub slot: u32,
+    /// The row of the shadow.
+    pub shadow: u32,
+}
+
+/// A segment of flash.
+#[repr(C)]
+#[derive(Clone, Copy)]
+pub struct EnvySegment {
+    /// How often it was erased.
+    pub wear: u64,
+    /// How many of its rows were claimed since.
+    pub fill: u32,
+}
+
+/// The cleaner's job.
+#[repr(C)]
+#[derive(Clone, Copy)]
+pub struct EnvyJob {
+    /// 0: none, 1: a segment's kept rows are copied, 2: its references are switched, 3: the spare is erased.
+    pub kind: u32,
+    /// That segment.
+    pub segment: u32,
+}
+
+// A row as C has it.
+fn row_for_c(kind: RowKind) -> EnvyRow
+    ensures { result ≡ row_for_c kind }
+{
+    let (kind, page, slot) = match kind {
+        RowKind::Free => (0, 0, 0),
+        RowKind::Kept { page } => (1, page, 0),
+        RowKind::Shadow { page, slot } => (2, page, u32::from(slot)),
+        RowKind::Dead => (3, 0, 0),
+    };
+    EnvyRow { kind, page, slot }
+}
+
+// A page as C has it.
+fn page_for_c(place: Place, undo: Undo) -> EnvyPage
+    ensures { result ≡ page_for_c place undo }
+{
+    let (place, at) = match place {
+        Place::Absent => (0, 0),
+        Place::Row(row) => (1, row),
+        Place::Frame(frame) => (2, frame),
+    };
+    let (undo, slot, shadow) = match undo {
+        Undo::Clear => (0, 0, 0),
+        Undo::Blank { slot } => (1, u32::from(slot), 0),
+        Undo::Shadow { slot, row } => (2, u32::from(slot), row),
+    };
+    EnvyPage {
+        place,
+        at,
+        undo,
+        slot,
+        shadow,
+    }
+}
+
+// A job as C has it.
+fn job_for_c(job: Job) -> EnvyJob
+    ensures { result ≡ job_for_c job }
+{
+    let (kind, segment) = match job {
+        Job::Idle => (0, 0),
+        Job::Copy(segment) => (1, segment),
+        Job::Switch(segment) => (2, segment),
+        Job::Erase => (3, 0),
+    };
+    EnvyJob { kind, segment }
+}
+
+/// What a row is.
+#[tactic(auto, using(crate::proofs::Rows::row_shown))]
+pub fn show_row(slot: &Slot, row: u32, found: &mut EnvyRow) -> u32
+    ensures { ShowsRow slot.now row result found.old found.new }
+{
+    let Some(memory) = slot else {
+        return Code::Empty.number();
+    };
+    let board = memory.board();
+    if !board.powered() {
+        return Code::Off.number();
+    }
+    let shape = board.shape();
+    if row >= shape.segments * shape.rows {
+        return Code::Range.number();
+    }
+    let Ok(kind) = row_kind(board, row) else {
+        unreachable!();
+    };
+    *found = row_for_c(kind);
+    Code::Done.number()
+}
+
+/// Where a page is, and what it goes back to.
+pub fn show_page(slot: &Slot, page: u32, found: &mut EnvyPage) -> u32
+    ensures { ShowsPage slot.now page result found.old found.new }
+{
+    let Some(memory) = slot else {
+        return Code::Empty.number();
+    };
+    let board = memory.board();
+    if !board.powered() {
+        return Code::Off.number();
+    }
+    if page >= board.shape().pages {
+        return Code::Range.number();
+    }
+    let Ok(place) = place(board, page) else {
+        unreachable!();
+    };
+    let Ok(undo) = undo(board, page) else {
+        unreachable!();
+    };
+    *found = page_for_c(place, undo);
+    Code::Done.number()
+}
+
+/// The segment at a position; those in use come first, then those in reserve.
+pub fn show_position(slot: &Slot, position: u32, found: &mut u32) -> u32
+    ensures { ShowsPosition slot.now position result found.old found.new }
+{
+    let Some(memory) = slot else {
+        return Code::Empty.number();
+    };
+    let board = memory.board();
+    if !board.powered() {
+        return Code::Off.number();
+    }
+    if position >= all_positions_of(&board.shape()) {
+        return Code::Range.number();
+    }
+    let Ok(segment) = segment_at(board, position) else {
+        unreachable!();
+    };
+    *found = segment;
+    Code::Done.number()
+}
+
+/// A segment's wear and fill.
+pub fn show_segment(slot: &Slot, segment: u32, found: &mut EnvySegment) -> u32
+    ensures { ShowsSegment slot.now segment result found.old found.new }
+{
+    let Some(memory) = slot else {
+        return Code::Empty.number();
+    };
+    let board = memory.board();
+    if !board.powered() {
+        return Code::Off.number();
+    }
+    if segment >= board.shape().segments {
+        return Code::Range.number();
+    }
+    let Ok(wear) = wear(board, segment) else {
+        unreachable!();
+    };
+    let Ok(fill) = fill(board, segment) else {
+        unreachable!();
+    };
+    *found = EnvySegment { wear, fill };
+    Code::Done.number()
+}
+
+/// The cleaner's job.
+pub fn show_job(slot: &Slot, found: &mut EnvyJob) -> u32
+    ensures { ShowsJob slot.now result found.old found.new }
+{
+    let Some(memory) = slot else {
+        return Code::Empty.number();
+    };
+    let Ok(job) = job(memory.board()) else {
+        return Code::Off.number();
+    };
+    *found = job_for_c(job);
+    Code::Done.number()
+}

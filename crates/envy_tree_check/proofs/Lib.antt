@@ -1,0 +1,13 @@
+pub mod Bounding
+pub mod Freeing
+pub mod Growing
+pub mod Apart
+pub mod Counted
+pub mod Refusing
+pub mod Wholes
+pub mod Descending
+pub mod Faulting
+pub mod Noding
+pub mod Totals
+pub mod Under
+pub mod Verdicts

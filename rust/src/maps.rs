@@ -1,0 +1,390 @@
+//! Ordered maps in ranges of the array of a memory, which are changed together in one transaction.
+
+use crate::error::Error;
+use crate::memory::Memory;
+use crate::sys;
+use crate::sys::Pair;
+use std::cell::RefCell;
+use std::ops::{Bound, Range, RangeBounds};
+
+/// What maps ask of their memory.
+pub(crate) mod calls {
+    use crate::error::Error;
+    use crate::sys;
+
+    /// The calls of maps in a memory of one kind. Each hands its arguments on.
+    pub trait Calls {
+        fn error(&self, code: u32, holder: u32) -> Error;
+        fn begin(&self, slot: &mut u32) -> u32;
+        fn put(&self, slot: u32, address: u32, word: u64, holder: &mut u32) -> u32;
+        fn load(&self, address: u32, word: &mut u64) -> u32;
+        fn create(&self, slot: u32, map: &sys::Range) -> u32;
+        fn insert(&self, slot: u32, map: &sys::Range, key: u64, value: u64, before: &mut sys::Old) -> u32;
+        fn remove(&self, slot: u32, map: &sys::Range, key: u64, value: &mut u64) -> u32;
+        fn commit(&self, slot: u32) -> u32;
+        fn abort(&self, slot: u32) -> u32;
+        fn get(&self, map: &sys::Range, key: u64, value: &mut u64) -> u32;
+        fn count(&self, map: &sys::Range, count: &mut u64) -> u32;
+        fn scan(&self, map: &sys::Range, key: u64, pairs: &mut [sys::Pair], count: &mut usize) -> u32;
+        fn scan_down(&self, map: &sys::Range, key: u64, pairs: &mut [sys::Pair], count: &mut usize) -> u32;
+    }
+
+    /// Writes the calls of a kind of memory, each of which is open while it is there and whose handle is its own.
+    macro_rules! map_calls {
+        ($memory:ty: $put:ident $load:ident $begin:ident $create:ident $insert:ident $remove:ident $commit:ident
+            $abort:ident $get:ident $count:ident $scan:ident $scan_down:ident) => {
+            impl $crate::maps::calls::Calls for $memory {
+                fn error(&self, code: u32, holder: u32) -> $crate::Error {
+                    <$memory>::error(self, code, holder)
+                }
+                fn begin(&self, slot: &mut u32) -> u32 {
+                    // SAFETY: the memory is open, here and below, and what is written is the caller's.
+                    unsafe { sys::$begin(self.handle(), slot) }
+                }
+                fn put(&self, slot: u32, address: u32, word: u64, holder: &mut u32) -> u32 {
+                    unsafe { sys::$put(self.handle(), slot, address, word, holder) }
+                }
+                fn load(&self, address: u32, word: &mut u64) -> u32 {
+                    unsafe { sys::$load(self.handle(), address, word) }
+                }
+                fn create(&self, slot: u32, map: &sys::Range) -> u32 {
+                    unsafe { sys::$create(self.handle(), slot, map) }
+                }
+                fn insert(&self, slot: u32, map: &sys::Range, key: u64, value: u64, before: &mut sys::Old) -> u32 {
+                    unsafe { sys::$insert(self.handle(), slot, map, key, value, before) }
+                }
+                fn remove(&self, slot: u32, map: &sys::Range, key: u64, value: &mut u64) -> u32 {
+                    unsafe { sys::$remove(self.handle(), slot, map, key, value) }
+                }
+                fn commit(&self, slot: u32) -> u32 {
+                    unsafe { sys::$commit(self.handle(), slot) }
+                }
+                fn abort(&self, slot: u32) -> u32 {
+                    unsafe { sys::$abort(self.handle(), slot) }
+                }
+                fn get(&self, map: &sys::Range, key: u64, value: &mut u64) -> u32 {
+                    unsafe { sys::$get(self.handle(), map, key, value) }
+                }
+                fn count(&self, map: &sys::Range, count: &mut u64) -> u32 {
+                    unsafe { sys::$count(self.handle(), map, count) }
+                }
+                fn scan(&self, map: &sys::Range, key: u64, pairs: &mut [sys::Pair], count: &mut usize) -> u32 {
+                    unsafe { sys::$scan(self.handle(), map, key, pairs.as_mut_ptr(), pairs.len(), count) }
+                }
+                fn scan_down(&self, map: &sys::Range, key: u64, pairs: &mut [sys::Pair], count: &mut usize) -> u32 {
+                    unsafe { sys::$scan_down(self.handle(), map, key, pairs.as_mut_ptr(), pairs.len(), count) }
+                }
+            }
+        };
+    }
+    pub(crate) use map_calls;
+}
+
+/// A memory in which maps may stand: a [`Memory`], or a `KeptMemory`.
+pub trait Place: calls::Calls {}
+
+impl Place for Memory {}
+
+calls::map_calls!(Memory: envy_mapped_put envy_mapped_load envy_map_begin envy_map_create envy_map_insert envy_map_remove
+    envy_map_commit envy_map_abort envy_map_get envy_map_count envy_map_scan envy_map_scan_down);
+
+/// How many pairs an iterator reads at once.
+const PART: usize = 64;
+
+/// A map of [`Maps`], which its number names.
+#[derive(Clone, Copy, Debug, PartialEq, Eq)]
+pub struct Map(usize);
+
+/// A memory whose array holds ordered maps from words to words, each in a range of its own, beside plain words. They are
+/// changed in transactions, each of several maps and words: a process that is killed keeps all of one or none. Over a
+/// `KeptMemory` one that was committed outlives the machine from the next sync on.
+pub struct Maps<M: Place = Memory> {
+    memory: M,
+    ranges: RefCell<Vec<sys::Range>>,
+}
+
+impl<M: Place> Maps<M> {
+    /// A memory of which no map is known yet.
+    pub fn over(memory: M) -> Maps<M> {
+        Maps { memory, ranges: RefCell::new(Vec::new()) }
+    }
+
+    /// The memory, whose words no longer need to be maps.
+    pub fn into_memory(self) -> M {
+        self.memory
+    }
+
+    /// The memory.
+    ///
+    /// # Safety
+    ///
+    /// Nothing that is done with it changes a word of a map's range.
+    pub unsafe fn memory(&self) -> &M {
+        &self.memory
+    }
+
+    /// Makes a map without pairs in a range of addresses, whatever its words are. They begin and end at multiples of 32,
+    /// and are 640 to 33,554,432.
+    ///
+    /// # Errors
+    ///
+    /// `Range`: no map may lie there, or another map lies there. `SlotOpen`. `Full`: the setup has no shadows.
+    pub fn create(&self, words: Range<u32>) -> Result<Map, Error> {
+        let range = self.apart(words)?;
+        self.transaction(|t| t.check(self.memory.create(t.slot, &range)))?;
+        Ok(self.added(range))
+    }
+
+    /// Takes up the map that a range holds.
+    ///
+    /// # Safety
+    ///
+    /// The words of the range are zeros, which are the map without pairs, or those that were left of a map in it: nothing
+    /// else was stored or committed there since.
+    ///
+    /// # Errors
+    ///
+    /// `Range`: another map lies there.
+    pub unsafe fn open(&self, words: Range<u32>) -> Result<Map, Error> {
+        let range = self.apart(words)?;
+        Ok(self.added(range))
+    }
+
+    /// Runs a transaction: commits it if the closure is `Ok`, and aborts it else, also if the closure panics.
+    ///
+    /// # Errors
+    ///
+    /// That of the closure; `SlotOpen`: a transaction is open.
+    pub fn transaction<T>(&self, work: impl FnOnce(&Changes<'_, M>) -> Result<T, Error>) -> Result<T, Error> {
+        let mut slot = 0;
+        self.check(self.memory.begin(&mut slot))?;
+        let changes = Changes { maps: self, slot };
+        let done = work(&changes)?;
+        std::mem::forget(changes);
+        self.check(self.memory.commit(slot))?;
+        Ok(done)
+    }
+
+    /// The value of a key, also if the open transaction put it.
+    ///
+    /// # Errors
+    ///
+    /// `BrokenMap`: the words of the range stand for no map. `SlotOpen`: another slot is open than that of a transaction.
+    pub fn get(&self, map: Map, key: u64) -> Result<Option<u64>, Error> {
+        let mut value = 0;
+        Ok(self.found(self.memory.get(&self.range_of(map), key, &mut value))?.then_some(value))
+    }
+
+    /// How many pairs a map has.
+    ///
+    /// # Errors
+    ///
+    /// As [`get`](Maps::get).
+    pub fn len(&self, map: Map) -> Result<u64, Error> {
+        let mut count = 0;
+        self.check(self.memory.count(&self.range_of(map), &mut count))?;
+        Ok(count)
+    }
+
+    /// Whether a map has no pair.
+    ///
+    /// # Errors
+    ///
+    /// As [`get`](Maps::get).
+    pub fn is_empty(&self, map: Map) -> Result<bool, Error> {
+        Ok(self.len(map)? == 0)
+    }
+
+    /// The word at an address, also if the open transaction put it.
+    ///
+    /// # Errors
+    ///
+    /// `Range`.
+    pub fn load(&self, address: u32) -> Result<u64, Error> {
+        let mut word = 0;
+        self.check(self.memory.load(address, &mut word))?;
+        Ok(word)
+    }
+
+    /// The pairs of a map whose keys lie in a range, from either end. Up to 64 are read at once.
+    pub fn range(&self, map: Map, keys: impl RangeBounds<u64>) -> Pairs<'_, M> {
+        let low = match keys.start_bound() {
+            Bound::Included(key) => Some(*key),
+            Bound::Excluded(key) => key.checked_add(1),
+            Bound::Unbounded => Some(0),
+        };
+        let high = match keys.end_bound() {
+            Bound::Included(key) => Some(*key),
+            Bound::Excluded(key) => key.checked_sub(1),
+            Bound::Unbounded => Some(u64::MAX),
+        };
+        let left = low.zip(high).filter(|(low, high)| low <= high);
+        Pairs { maps: self, map: self.range_of(map), left, front: Vec::new(), back: Vec::new() }
+    }
+
+    /// A range that touches no map.
+    fn apart(&self, words: Range<u32>) -> Result<sys::Range, Error> {
+        let range = sys::Range { first: words.start, words: words.end.saturating_sub(words.start) };
+        match self.ranges.borrow().iter().any(|other| touch(*other, range.first, range.words)) {
+            true => Err(Error::Range),
+            false => Ok(range),
+        }
+    }
+
+    fn added(&self, range: sys::Range) -> Map {
+        let mut ranges = self.ranges.borrow_mut();
+        ranges.push(range);
+        Map(ranges.len() - 1)
+    }
+
+    /// The range of a map; of a map of other `Maps` it may be one of no words, which is refused.
+    fn range_of(&self, map: Map) -> sys::Range {
+        self.ranges.borrow().get(map.0).copied().unwrap_or(sys::Range { first: 0, words: 0 })
+    }
+
+    fn found(&self, code: u32) -> Result<bool, Error> {
+        match code {
+            sys::ABSENT => Ok(false),
+            code => self.check(code).map(|()| true),
+        }
+    }
+
+    fn check(&self, code: u32) -> Result<(), Error> {
+        match code {
+            sys::DONE => Ok(()),
+            code => Err(self.memory.error(code, 0)),
+        }
+    }
+}
+
+/// Whether a range has one of so many words from an address on.
+fn touch(range: sys::Range, first: u32, words: u32) -> bool {
+    let ends = |first: u32, words: u32| u64::from(first) + u64::from(words);
+    u64::from(first) < ends(range.first, range.words) && u64::from(range.first) < ends(first, words)
+}
+
+/// An open transaction of maps. It is aborted if it is dropped before it is committed.
+pub struct Changes<'m, M: Place = Memory> {
+    maps: &'m Maps<M>,
+    slot: u32,
+}
+
+impl<M: Place> Changes<'_, M> {
+    /// Sets the value of a key, and answers the one that it had.
+    ///
+    /// # Errors
+    ///
+    /// `MapFull`: the map doesn't have the key, and has as many pairs as it may have. `Full`: the transaction may have too
+    /// few pages left. Nothing changed then.
+    pub fn insert(&self, map: Map, key: u64, value: u64) -> Result<Option<u64>, Error> {
+        let mut before = sys::Old::default();
+        let range = self.maps.range_of(map);
+        self.check(self.maps.memory.insert(self.slot, &range, key, value, &mut before))?;
+        Ok((before.had != 0).then_some(before.value))
+    }
+
+    /// Takes a key out of a map, and answers its value.
+    ///
+    /// # Errors
+    ///
+    /// `Full`, as of [`insert`](Changes::insert).
+    pub fn remove(&self, map: Map, key: u64) -> Result<Option<u64>, Error> {
+        let mut value = 0;
+        let range = self.maps.range_of(map);
+        Ok(self.maps.found(self.maps.memory.remove(self.slot, &range, key, &mut value))?.then_some(value))
+    }
+
+    /// Makes the word at an address outside the maps this.
+    ///
+    /// # Errors
+    ///
+    /// `Range`: it lies in a map, or past the last page. `Full`. No word changes.
+    pub fn put(&self, address: u32, word: u64) -> Result<(), Error> {
+        if self.maps.ranges.borrow().iter().any(|range| touch(*range, address, 1)) {
+            return Err(Error::Range);
+        }
+        let mut holder = 0;
+        match self.maps.memory.put(self.slot, address, word, &mut holder) {
+            sys::DONE => Ok(()),
+            code => Err(self.maps.memory.error(code, holder)),
+        }
+    }
+
+    fn check(&self, code: u32) -> Result<(), Error> {
+        self.maps.check(code)
+    }
+}
+
+impl<M: Place> Drop for Changes<'_, M> {
+    fn drop(&mut self) {
+        // (after `BadAborted` the slot is closed already)
+        self.maps.memory.abort(self.slot);
+    }
+}
+
+/// The pairs of a range of keys. After an error it has none.
+pub struct Pairs<'m, M: Place = Memory> {
+    maps: &'m Maps<M>,
+    map: sys::Range,
+    /// The least and the greatest key that may be left to read.
+    left: Option<(u64, u64)>,
+    /// What was read from each end and isn't handed out, the next one last.
+    front: Vec<Pair>,
+    back: Vec<Pair>,
+}
+
+impl<M: Place> Pairs<'_, M> {
+    /// Reads pairs from one end of those that are left.
+    fn read(&mut self, down: bool) -> Result<(), Error> {
+        let Some((low, high)) = self.left.take() else { return Ok(()) };
+        let (mut pairs, mut count) = ([Pair::default(); PART], 0);
+        let memory = &self.maps.memory;
+        self.maps.check(match down {
+            false => memory.scan(&self.map, low, &mut pairs, &mut count),
+            true => memory.scan_down(&self.map, high, &mut pairs, &mut count),
+        })?;
+        let found = pairs[..count].iter().filter(|pair| (low..=high).contains(&pair.key)).rev();
+        if count == PART {
+            let last = pairs[PART - 1].key;
+            self.left = match down {
+                false => last.checked_add(1).map(|low| (low, high)),
+                true => last.checked_sub(1).map(|high| (low, high)),
+            };
+            self.left = self.left.filter(|(low, high)| low <= high);
+        }
+        match down {
+            false => self.front.extend(found),
+            true => self.back.extend(found),
+        }
+        Ok(())
+    }
+
+    fn step(&mut self, down: bool) -> Option<Result<(u64, u64), Error>> {
+        let read = |it: &Self| if down { it.back.is_empty() } else { it.front.is_empty() };
+        if read(self) {
+            if let Err(error) = self.read(down) {
+                self.front.clear();
+                self.back.clear();
+                return Some(Err(error));
+            }
+        }
+        // what the other end has read is handed out last, from its far end
+        let (own, other) = if down { (&mut self.back, &mut self.front) } else { (&mut self.front, &mut self.back) };
+        let pair = own.pop().or_else(|| (!other.is_empty()).then(|| other.remove(0)))?;
+        Some(Ok((pair.key, pair.value)))
+    }
+}
+
+impl<M: Place> Iterator for Pairs<'_, M> {
+    type Item = Result<(u64, u64), Error>;
+
+    fn next(&mut self) -> Option<Self::Item> {
+        self.step(false)
+    }
+}
+
+impl<M: Place> DoubleEndedIterator for Pairs<'_, M> {
+    fn next_back(&mut self) -> Option<Self::Item> {
+        self.step(true)
+    }
+}
