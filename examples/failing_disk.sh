@@ -67,13 +67,12 @@ disk_has() {
     debugfs -R "dump /$1 $work/found" "$work/copy" 2>>"$work/fsck"
 }
 
-# session HOW: a process whose disk fails. Its replies are in the file `said`.
+# session HOW: a process whose disk fails, with lines until it ends. Its replies are in the file `said`.
 session() {
     [ "$1" = before ] && touch "$work/fails"
-    for ((n = 1; n <= 200; n++)); do
+    for ((n = 1; n <= 50000; n++)); do
         # (more than a page of the file: a page that is lost isn't written again because of what comes behind)
-        printf 'store %d %d\n' $(seq -f "%g $((1000 * round + n))" 6 705)
-        echo sync
+        { printf 'store %d %d\n' $(seq -f "%.0f $((100000 * round + n))" 6 705) && echo sync; } || break
         [ $n = 1 ] && [ "$1" = behind ] && sleep 0.5 && touch "$work/fails"
     done 2>/dev/null | timeout 60 "$program" keep --file "$work/disk/memory" --bytewise "$bytewise" >"$work/said" 2>"$work/err" &
     [ "$1" != between ] || { sleep 0.$((2 + RANDOM % 8)) && touch "$work/fails"; }
@@ -101,7 +100,7 @@ for ((round = 1; round <= rounds; round++)); do
     bytewise=$((round / 3 % 2))
     session "$(echo before behind between | cut -d ' ' -f $((round % 3 + 1)))"
     synced=$(grep -c synced "$work/said")
-    [ "$synced" = 0 ] || last=$((1000 * round + synced))
+    [ "$synced" = 0 ] || last=$((100000 * round + synced))
     case $status in
     6 | 11) lost=$((lost + 1)) ;;
     *) fail "round $round: status $status after $synced syncs: $(cat "$work/err")" ;;
@@ -110,7 +109,7 @@ for ((round = 1; round <= rounds; round++)); do
     disk_has memory
     { read -r next && read -r same; } <"$work/said"
     [ "$next" = "$same" ] || fail "round $round: $next and $same were stored together"
-    [ "$next" = $last ] || [ "$next" = $((last + 1)) ] || [ $synced = 0 -a "$next" = $((1000 * round + 1)) ] ||
+    [ "$next" = $last ] || [ "$next" = $((last + 1)) ] || [ $synced = 0 -a "$next" = $((100000 * round + 1)) ] ||
         fail "round $round: $next was read, and $last was synced"
     last=$next
     "$program" keep --file "$work/found" < <(printf 'load %d\n' 5 6 705 1500) >"$work/words" 2>&1
