@@ -1,5 +1,6 @@
 #include "envy_text.h"
 #include "envy_codes.h"
+#include "envy_pair.h"
 
 const char *envy_version(void) { return ENVY_VERSION; }
 
@@ -83,4 +84,23 @@ const char *envy_error_text(uint32_t code) {
     case ENVY_TOO_MANY: return "too many files are open";
     }
     return "no code of this library";
+}
+
+const char *envy_map_rule_text(uint32_t rule) {
+    switch (rule) {
+    case ENVY_MAP_SHORT: return "there are fewer than 640 words";
+    case ENVY_MAP_USED: return "more nodes were handed out than there is room for";
+    case ENVY_MAP_MANY: return "the number of pairs is above the most";
+    case ENVY_MAP_FREE_LIST: return "the list of free nodes has no end, or leads out of the map";
+    case ENVY_MAP_DEEP: return "the tree has too many levels";
+    case ENVY_MAP_NODE: return "the root or a child is no node";
+    case ENVY_MAP_HEAD: return "the first word of a node isn't one of a node";
+    case ENVY_MAP_LEVEL: return "a leaf is less deep than another one";
+    case ENVY_MAP_FEW: return "a node has too few keys";
+    case ENVY_MAP_KEYS: return "a key is out of order";
+    case ENVY_MAP_FREED: return "a node of the tree is free too";
+    case ENVY_MAP_LOST: return "a node is neither in the tree nor free";
+    case ENVY_MAP_COUNT: return "the number of pairs isn't that of the tree";
+    }
+    return "no rule of maps";
 }

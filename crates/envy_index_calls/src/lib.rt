@@ -9,6 +9,7 @@
 mod asking;
 mod attempts;
 mod changing;
+mod checks;
 mod edits;
 mod filling;
 mod making;
@@ -21,6 +22,7 @@ mod words;
 
 pub use asking::{above, count, get, last, next};
 pub use changing::{insert, remove};
+pub use checks::map_check;
 pub use edits::{map_create, map_insert, map_remove};
 pub use making::{MAP_MARK, create};
 pub use pairs::{EnvyOld, EnvyPair};

@@ -3,7 +3,8 @@ ghost use Rattle.std.specs.Prelude.{◌≡◌, ◌≢◌, ◌≤◌, length, dro
 ghost use Rattle.std.specs.Option.{ForSome};
 ghost use Rattle.envy_btree.specs.Nearest.{pairs_from, pairs_to};
 ghost use Rattle.envy_calls.specs.Codes.{number_of};
-ghost use Rattle.envy_calls.specs.declared.code.Code.TheVariants.{Done};
+ghost use Rattle.envy_calls.specs.declared.code.Code.TheVariants.{Done, BrokenMap};
+ghost use Rattle.envy_index_calls.specs.Checked.{Checks};
 ghost use Rattle.envy_index_calls.specs.Indexed.{Counts, Gets, Scans, creation_puts};
 ghost use Rattle.envy_index_calls.specs.Ranged.{Aborts, Calls, Changed, Commits, CreatesIn, Drops, HoldsMapIn, Kept, Sets, Starts, dropping_puts, insertion_puts};
 ghost use Rattle.envy_index_calls.specs.Ranges.{MayHold};
@@ -127,6 +128,21 @@ pub fn map_count<R: Board + Drop, F: Board + Drop, S: Board + Drop>(
     ensures alike { AreAlike place.old place.new }
 {
     on_each!(place, memory => envy_index_calls::map_count(memory, range, number))
+}
+
+/// Whether the words of a range stand for a map, whatever they are, in time linear in them. After `BrokenMap` the number
+/// of the first rule that they break is written.
+pub fn map_check<R: Board + Drop, F: Board + Drop, S: Board + Drop>(
+    place: &mut MemoryPlace<R, F, S>,
+    range: EnvyMap,
+    rule: &mut u32,
+) -> Code
+    requires { ForSome (held place.old) MayHold }
+    ensures checks { Calls 0 (Checks range rule.new) (held place.old) (held place.new) (number_of result) }
+    ensures unwritten { result ≢ BrokenMap → rule.new ≡ rule.old }
+    ensures alike { AreAlike place.old place.new }
+{
+    on_each!(place, memory => envy_index_calls::map_check(memory, range, rule))
 }
 
 /// Writes the pairs of the map in a range from a key on, by rising key, into `pairs`, and how many there are: as many as
