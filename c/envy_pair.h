@@ -23,7 +23,7 @@ typedef struct envy_old {
 /* A range of the array, in which a map lies: so many words from an address on. */
 typedef struct envy_map {
     uint32_t first; /* a multiple of 32 */
-    uint32_t words; /* a multiple of 32, from 640 to 33,554,432; the range ends within the array */
+    uint32_t words; /* a multiple of 32, from 640 to 536,870,912; the range ends within the array */
 } envy_map;
 
 /* The rules of maps, in the order in which envy_map_check asks them: words that break one stand for no map. */

@@ -68,7 +68,7 @@ const char *envy_error_text(uint32_t code) {
     case ENVY_ABSENT: return "the map has no such pair";
     case ENVY_MAP_FULL: return "the map has no room for more pairs";
     case ENVY_SLOT_OPEN: return "a transaction is open";
-    case ENVY_MAP_SETUP: return "a map needs 20 to 1048576 pages and at least 32 shadows";
+    case ENVY_MAP_SETUP: return "a map needs at least 20 pages and 32 shadows";
     case ENVY_BROKEN_MAP: return "the words of the array stand for no map";
     case ENVY_BAD_ABORTED: return "a flash operation failed, and the transaction was aborted";
     case ENVY_FLASH_ADDRESS: return "the part's map doesn't begin at a multiple of 256 bytes";

@@ -128,7 +128,7 @@ impl<M: Place> Maps<M> {
     }
 
     /// Makes a map without pairs in a range of addresses, whatever its words are. They begin and end at multiples of 32,
-    /// and are 640 to 33,554,432.
+    /// and are 640 to 536,870,912.
     ///
     /// # Errors
     ///

@@ -12,10 +12,10 @@ use Rattle.envy_btree.specs.Index.{IsIndex, most_pairs}
 
 -- The most puts that a change is worth, with the transaction that it opens as one of them.
 abbrev pub insert_puts : ℕ
-insert_puts = 842
+insert_puts = 971
 
 abbrev pub removal_puts : ℕ
-removal_puts = 1090
+removal_puts = 1282
 
 -- the map has no room for this key
 abbrev pub IsFull : List ℕ → ℕ → List (ℕ × ℕ) → Type 0

@@ -22,12 +22,12 @@ pub fn insert_within<W: Words>(
 ) -> Result<Option<u64>, ChangeFault>
     requires begun { IsTrue (W.sheet words.old).started }
     requires room { length (W.sheet words.old).pages + left ≤ (W.sheet words.old).room }
-    requires size { length (W.sheet words.old).words ≤ 2 ^ 25 }
+    requires size { length (W.sheet words.old).words ≤ 2 ^ 29 }
     requires map { (es : List (ℕ × ℕ)) × IsIndex (W.sheet words.old).words es }
     ensures works { Works left (W.sheet words.old) (W.sheet words.new) }
     ensures pages { (depth : ℕ) → IsDeep (W.sheet words.old).words depth
         → Works (insertion_pages depth) (W.sheet words.old) (W.sheet words.new) }
-    ensures spends { Spends 841 (W.sheet words.old) (W.sheet words.new) }
+    ensures spends { Spends 970 (W.sheet words.old) (W.sheet words.new) }
     ensures inserts { (es : List (ℕ × ℕ)) → IsIndex (W.sheet words.old).words es
         → InsertsWithin key value es insertion_pages left (W.sheet words.old) result (W.sheet words.new) }
 {
@@ -56,12 +56,12 @@ pub fn remove_within<W: Words>(
 ) -> Result<Option<u64>, ChangeFault>
     requires begun { IsTrue (W.sheet words.old).started }
     requires room { length (W.sheet words.old).pages + left ≤ (W.sheet words.old).room }
-    requires size { length (W.sheet words.old).words ≤ 2 ^ 25 }
+    requires size { length (W.sheet words.old).words ≤ 2 ^ 29 }
     requires map { (es : List (ℕ × ℕ)) × IsIndex (W.sheet words.old).words es }
     ensures works { Works left (W.sheet words.old) (W.sheet words.new) }
     ensures pages { (depth : ℕ) → IsDeep (W.sheet words.old).words depth
         → Works (removal_pages depth) (W.sheet words.old) (W.sheet words.new) }
-    ensures spends { Spends 1089 (W.sheet words.old) (W.sheet words.new) }
+    ensures spends { Spends 1281 (W.sheet words.old) (W.sheet words.new) }
     ensures absent { result ≡ Ok None → (W.sheet words.new).words ≡ (W.sheet words.old).words }
     ensures removes { (es : List (ℕ × ℕ)) → IsIndex (W.sheet words.old).words es
         → RemovesWithin key es removal_pages left (W.sheet words.old) result (W.sheet words.new) }
@@ -83,14 +83,14 @@ pub fn remove_within<W: Words>(
 
 // the most pages in which an insertion puts words, and a removal, under so many levels of inner nodes
 fn most_insertion_pages(depth: u32) -> u32
-    requires { depth ≤ 5 }
+    requires { depth ≤ 6 }
     ensures { result ≡ insertion_pages depth }
 {
     4 * depth + 7
 }
 
 fn most_removal_pages(depth: u32) -> u32
-    requires { depth ≤ 5 }
+    requires { depth ≤ 6 }
     ensures { result ≡ removal_pages depth }
 {
     4 * depth + 4

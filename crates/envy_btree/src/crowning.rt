@@ -46,7 +46,7 @@ pub(crate) fn insert_at_root<W: Words>(
     requires head { IsTrue (has (W.sheet words.old).pages 0) }
     requires room { length (W.sheet words.old).pages + (4 * level + 6) ≤ (W.sheet words.old).room }
     requires levels { IsShallow (W.sheet words.old).words level }
-    requires few { level ≤ 5 }
+    requires few { level ≤ 6 }
     requires map { (es : List (ℕ × ℕ)) × IsPlanted (W.sheet words.old).words es
         × (length es ≤ most_pairs (W.sheet words.old).words) }
     ensures works { Works (4 * level + 6) (W.sheet words.old) (W.sheet words.new) }

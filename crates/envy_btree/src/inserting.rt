@@ -12,12 +12,12 @@ use crate::locating::look_up;
 use envy_base::{Trouble, Words};
 
 /// Sets the value of a key, and answers the old one. A new key is refused as `Full` where the map has
-/// `14 * (q - 8)` pairs, with `q` pieces in all. It is one transaction, which makes at most 841 puts, in
+/// `14 * (q - 8)` pairs, with `q` pieces in all. It is one transaction, which makes at most 970 puts, in
 /// at most 27 pages: it needs no more room.
 pub fn insert<W: Words>(words: &mut W, key: u64, value: u64) -> Result<Option<u64>, TreeFault>
     requires shut { (W.sheet words.old).started ≡ false }
     requires room { 27 ≤ (W.sheet words.old).room }
-    requires size { length (W.sheet words.old).words ≤ 2 ^ 25 }
+    requires size { length (W.sheet words.old).words ≤ 2 ^ 29 }
     requires map { (es : List (ℕ × ℕ)) × IsIndex (W.sheet words.old).words es }
     ensures keeps { Keeps (W.sheet words.old) (W.sheet words.new) }
     ensures spends { Spends insert_puts (W.sheet words.old) (W.sheet words.new) }
@@ -60,7 +60,7 @@ pub(crate) fn count_with(was: Option<u64>, pairs: u64) -> u64
 fn insert_alone<W: Words>(words: &mut W, key: u64, value: u64, pairs: u64) -> Result<(), TreeFault>
     requires shut { (W.sheet words.old).started ≡ false }
     requires room { 27 ≤ (W.sheet words.old).room }
-    requires size { length (W.sheet words.old).words ≤ 2 ^ 25 }
+    requires size { length (W.sheet words.old).words ≤ 2 ^ 29 }
     requires map { (es : List (ℕ × ℕ)) × IsIndex (W.sheet words.old).words es }
     ensures keeps { Keeps (W.sheet words.old) (W.sheet words.new) }
     ensures spends { Spends insert_puts (W.sheet words.old) (W.sheet words.new) }
@@ -70,7 +70,7 @@ fn insert_alone<W: Words>(words: &mut W, key: u64, value: u64, pairs: u64) -> Re
         → Settles es (with_pair key value es) (W.sheet words.old) result (W.sheet words.new) }
 {
     words.start()?;
-    let done = insert_inside(words, 5, key, value, pairs);
+    let done = insert_inside(words, 6, key, value, pairs);
     close(words, done)
 }
 
@@ -86,7 +86,7 @@ pub(crate) fn insert_inside<W: Words>(
     requires begun { IsTrue (W.sheet words.old).started }
     requires room { length (W.sheet words.old).pages + insertion_pages level ≤ (W.sheet words.old).room }
     requires levels { IsShallow (W.sheet words.old).words level }
-    requires few { level ≤ 5 }
+    requires few { level ≤ 6 }
     requires map { (es : List (ℕ × ℕ)) × IsPlanted (W.sheet words.old).words es
         × (length es ≤ most_pairs (W.sheet words.old).words) }
     ensures works { Works (insertion_pages level) (W.sheet words.old) (W.sheet words.new) }

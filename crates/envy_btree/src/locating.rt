@@ -65,14 +65,14 @@ fn locate<W: Words>(words: &mut W, piece: u32, level: u32, key: u64) -> Result<F
 /// The value of a key in the map, and how many levels of inner nodes its tree has. On each level the keys of one node
 /// are searched where they stand.
 pub(crate) fn look_up<W: Words>(words: &mut W, key: u64) -> Result<Found, Off>
-    requires size { length (W.sheet words.old).words ≤ 2 ^ 25 }
+    requires size { length (W.sheet words.old).words ≤ 2 ^ 29 }
     requires map { (es : List (ℕ × ℕ)) × IsIndex (W.sheet words.old).words es }
     ensures works { Works 0 (W.sheet words.old) (W.sheet words.new) }
     ensures spends { Spends 0 (W.sheet words.old) (W.sheet words.new) }
     ensures value { (es : List (ℕ × ℕ)) → IsIndex (W.sheet words.old).words es
         → IfOk result (λ x. x.value ≡ assoc key es) }
     ensures depth { IfOk result (λ x. IsDeep (W.sheet words.old).words x.depth) }
-    ensures few { IfOk result (λ x. x.depth ≤ 5) }
+    ensures few { IfOk result (λ x. x.depth ≤ 6) }
     ensures same { OnOk result ((W.sheet words.new).words ≡ (W.sheet words.old).words) }
     ensures power { MatchResult result (λ _. IsTrue (W.sheet words.new).on) (λ _. (W.sheet words.new).on ≡ false) }
 {
@@ -84,5 +84,5 @@ pub(crate) fn look_up<W: Words>(words: &mut W, key: u64) -> Result<Found, Off>
         });
     }
     let piece = (root - 1) as u32;
-    locate(words, piece, 5, key)
+    locate(words, piece, 6, key)
 }

@@ -17,7 +17,7 @@ use envy_base::{Trouble, Words};
 pub fn remove<W: Words>(words: &mut W, key: u64) -> Result<Option<u64>, TreeFault>
     requires shut { (W.sheet words.old).started ≡ false }
     requires room { 24 ≤ (W.sheet words.old).room }
-    requires size { length (W.sheet words.old).words ≤ 2 ^ 25 }
+    requires size { length (W.sheet words.old).words ≤ 2 ^ 29 }
     requires map { (es : List (ℕ × ℕ)) × IsIndex (W.sheet words.old).words es }
     ensures keeps { Keeps (W.sheet words.old) (W.sheet words.new) }
     ensures spends { Spends removal_puts (W.sheet words.old) (W.sheet words.new) }
@@ -40,7 +40,7 @@ pub fn remove<W: Words>(words: &mut W, key: u64) -> Result<Option<u64>, TreeFaul
 fn remove_alone<W: Words>(words: &mut W, key: u64, pairs: u64) -> Result<(), TreeFault>
     requires shut { (W.sheet words.old).started ≡ false }
     requires room { 24 ≤ (W.sheet words.old).room }
-    requires size { length (W.sheet words.old).words ≤ 2 ^ 25 }
+    requires size { length (W.sheet words.old).words ≤ 2 ^ 29 }
     requires map { (es : List (ℕ × ℕ)) × IsIndex (W.sheet words.old).words es }
     ensures keeps { Keeps (W.sheet words.old) (W.sheet words.new) }
     ensures spends { Spends removal_puts (W.sheet words.old) (W.sheet words.new) }
@@ -50,7 +50,7 @@ fn remove_alone<W: Words>(words: &mut W, key: u64, pairs: u64) -> Result<(), Tre
         → Settles es (without key es) (W.sheet words.old) result (W.sheet words.new) }
 {
     words.start()?;
-    let done = remove_inside(words, 5, key, pairs);
+    let done = remove_inside(words, 6, key, pairs);
     close(words, done)
 }
 

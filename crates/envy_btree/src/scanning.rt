@@ -16,7 +16,7 @@ use envy_base::Words;
 /// After fewer than `out` has room for there are no more. The map is as the words stand: if a transaction is open,
 /// with what it put. `Broken` comes only if the words stand for no map.
 pub fn scan<W: Words>(words: &mut W, key: u64, out: &mut [(u64, u64)]) -> Result<usize, LookFault>
-    requires size { length (W.sheet words.old).words ≤ 2 ^ 25 }
+    requires size { length (W.sheet words.old).words ≤ 2 ^ 29 }
     ensures works { Works 0 (W.sheet words.old) (W.sheet words.new) }
     ensures spends { Spends 0 (W.sheet words.old) (W.sheet words.new) }
     ensures same { IsTrue (W.sheet words.new).on → (W.sheet words.new).words ≡ (W.sheet words.old).words }
@@ -36,7 +36,7 @@ pub fn scan_down<W: Words>(
     key: u64,
     out: &mut [(u64, u64)],
 ) -> Result<usize, LookFault>
-    requires size { length (W.sheet words.old).words ≤ 2 ^ 25 }
+    requires size { length (W.sheet words.old).words ≤ 2 ^ 29 }
     ensures works { Works 0 (W.sheet words.old) (W.sheet words.new) }
     ensures spends { Spends 0 (W.sheet words.old) (W.sheet words.new) }
     ensures same { IsTrue (W.sheet words.new).on → (W.sheet words.new).words ≡ (W.sheet words.old).words }
@@ -57,7 +57,7 @@ pub fn walk<W: Words>(
     key: u64,
     out: &mut [(u64, u64)],
 ) -> Result<usize, LookFault>
-    requires size { length (W.sheet words.old).words ≤ 2 ^ 25 }
+    requires size { length (W.sheet words.old).words ≤ 2 ^ 29 }
     ensures looks { Looks (W.sheet words.old) (W.sheet words.new) }
     ensures power { Powers result (W.sheet words.new) }
     ensures few { IfOk result (λ n. n ≤ length out.old) }
@@ -77,7 +77,7 @@ pub fn walk<W: Words>(
 
 /// The pair of the map with the least key that is at least `key`, or none. It is the first of a [`scan`].
 pub fn next<W: Words>(words: &mut W, key: u64) -> Result<Option<(u64, u64)>, LookFault>
-    requires size { length (W.sheet words.old).words ≤ 2 ^ 25 }
+    requires size { length (W.sheet words.old).words ≤ 2 ^ 29 }
     ensures works { Works 0 (W.sheet words.old) (W.sheet words.new) }
     ensures spends { Spends 0 (W.sheet words.old) (W.sheet words.new) }
     ensures same { IsTrue (W.sheet words.new).on → (W.sheet words.new).words ≡ (W.sheet words.old).words }
@@ -94,7 +94,7 @@ pub fn next<W: Words>(words: &mut W, key: u64) -> Result<Option<(u64, u64)>, Loo
 /// The pair of the map with the least key above `key`, or none. A loop that begins with [`next`] and goes on with
 /// this call at each key that it was answered sees every pair once, by rising key.
 pub fn next_above<W: Words>(words: &mut W, key: u64) -> Result<Option<(u64, u64)>, LookFault>
-    requires size { length (W.sheet words.old).words ≤ 2 ^ 25 }
+    requires size { length (W.sheet words.old).words ≤ 2 ^ 29 }
     ensures works { Works 0 (W.sheet words.old) (W.sheet words.new) }
     ensures spends { Spends 0 (W.sheet words.old) (W.sheet words.new) }
     ensures same { IsTrue (W.sheet words.new).on → (W.sheet words.new).words ≡ (W.sheet words.old).words }
@@ -125,7 +125,7 @@ fn nothing_above<W: Words>(words: &mut W) -> Result<Option<(u64, u64)>, LookFaul
 
 /// The pair of the map with the greatest key that is at most `key`, or none. It is the first of a [`scan_down`].
 pub fn last<W: Words>(words: &mut W, key: u64) -> Result<Option<(u64, u64)>, LookFault>
-    requires size { length (W.sheet words.old).words ≤ 2 ^ 25 }
+    requires size { length (W.sheet words.old).words ≤ 2 ^ 29 }
     ensures works { Works 0 (W.sheet words.old) (W.sheet words.new) }
     ensures spends { Spends 0 (W.sheet words.old) (W.sheet words.new) }
     ensures same { IsTrue (W.sheet words.new).on → (W.sheet words.new).words ≡ (W.sheet words.old).words }

@@ -15,5 +15,5 @@ pub(crate) const SLOTS: u32 = 32;
 /// A node's first word, `2 * n` or `2 * n + 1` of at most 31 keys, is below this.
 pub(crate) const HEAD_LIMIT: u64 = 64;
 
-/// The most levels of nodes in `2^25` words.
-pub(crate) const LEVELS: u32 = 6;
+/// The most levels of nodes in `2^29` words.
+pub(crate) const LEVELS: u32 = 7;

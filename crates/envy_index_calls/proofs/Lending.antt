@@ -68,7 +68,7 @@ pub started-in : (old : Option Picture) (p : Picture) (b : Bool) → Lent old p 
 started-in old p b l = and-shut p.chart.on b (Lent.shut l)
 
 -- they are few enough
-pub size-in : (old : Option Picture) (p : Picture) (b : Bool) → Lent old p b → length (sheet_of p b).words ≤ 2 ^ 25
+pub size-in : (old : Option Picture) (p : Picture) (b : Bool) → Lent old p b → length (sheet_of p b).words ≤ 2 ^ 29
 size-in old p b l = let n = words_long (p.chart.on && b) p.chart in let few = MayServe.few (Lent.may l) in omega arith
 
 -- and enough

@@ -61,10 +61,10 @@ Kept range Says p q code = KeepsIn range p q code × ((es : Pairs) → IsIndex (
 
 -- the most puts of an insert and of a removal, after which the transaction may be aborted
 abbrev pub insertion_puts : ℕ
-insertion_puts = 841
+insertion_puts = 970
 
 abbrev pub dropping_puts : ℕ
-dropping_puts = 1089
+dropping_puts = 1281
 
 -- A change that was made leaves the words outside its range. None is kept before the transaction is.
 pub record Changes (range : EnvyMap) (p q : Picture) : Type 0 where

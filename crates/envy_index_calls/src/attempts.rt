@@ -40,7 +40,7 @@ pub fn insert_in<W: Words>(
     requires range { IsRange range (length (W.sheet words).words) }
     requires map { (es : List (ℕ × ℕ)) × IsIndex (view_of range (W.sheet words)).words es }
     ensures steady { Steady (W.sheet words) (W.sheet result.0) }
-    ensures spends { Spends 841 (W.sheet words) (W.sheet result.0) }
+    ensures spends { Spends 970 (W.sheet words) (W.sheet result.0) }
     ensures attempts { Attempts range (W.sheet words) result.1 (W.sheet result.0) }
     ensures inserts { (es : List (ℕ × ℕ)) → IsIndex (view_of range (W.sheet words)).words es
         → InsertsWithin key value es insertion_pages left (view_of range (W.sheet words)) result.1 (view_of range (W.sheet result.0)) }
@@ -69,7 +69,7 @@ pub fn remove_in<W: Words>(
     requires range { IsRange range (length (W.sheet words).words) }
     requires map { (es : List (ℕ × ℕ)) × IsIndex (view_of range (W.sheet words)).words es }
     ensures steady { Steady (W.sheet words) (W.sheet result.0) }
-    ensures spends { Spends 1089 (W.sheet words) (W.sheet result.0) }
+    ensures spends { Spends 1281 (W.sheet words) (W.sheet result.0) }
     ensures absent { result.1 ≡ Ok None → (W.sheet result.0).words ≡ (W.sheet words).words }
     ensures attempts { Attempts range (W.sheet words) result.1 (W.sheet result.0) }
     ensures removes { (es : List (ℕ × ℕ)) → IsIndex (view_of range (W.sheet words)).words es

@@ -27,7 +27,7 @@ pub(crate) fn fill<W: Words>(
     key: u64,
     out: &mut [EnvyPair],
 ) -> Result<usize, LookFault>
-    requires size { length (W.sheet words.old).words ≤ 2 ^ 25 }
+    requires size { length (W.sheet words.old).words ≤ 2 ^ 29 }
     ensures looks { Looks (W.sheet words.old) (W.sheet words.new) }
     ensures power { Powers result (W.sheet words.new) }
     ensures few { IfOk result (λ n. n ≤ length out.old) }
@@ -53,7 +53,7 @@ fn fill_part<W: Words>(
     out: &mut [EnvyPair],
     filled: usize,
 ) -> Result<Turn, LookFault>
-    requires size { length (W.sheet words.old).words ≤ 2 ^ 25 }
+    requires size { length (W.sheet words.old).words ≤ 2 ^ 29 }
     requires room { filled ≤ length out.old }
     ensures looks { Looks (W.sheet words.old) (W.sheet words.new) }
     ensures power { Powers result (W.sheet words.new) }

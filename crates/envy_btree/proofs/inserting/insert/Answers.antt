@@ -94,7 +94,7 @@ returns-in_err-before-clause-inserts g c es x =
 pub count_with-pairs-requires : goal.count_with-pairs-requires
 count_with-pairs-requires g c =
     let one = g.W.Words.sheet c.look_up.new.words in
-    count-fits one.words c.requires.map.0 c.in_ok-before.before (index-same _ _ c.requires.map.0 c.in_ok-was.ensures.same c.requires.map.1) c.in_ok-before.ensures.answer.1 (subst (λ n. n ≤ 2 ^ 25) (sym c.look_up.ensures.works.long) c.requires.size)
+    count-fits one.words c.requires.map.0 c.in_ok-before.before (index-same _ _ c.requires.map.0 c.in_ok-was.ensures.same c.requires.map.1) c.in_ok-before.ensures.answer.1 (subst (λ n. n ≤ 2 ^ 29) (sym c.look_up.ensures.works.long) c.requires.size)
 
 pub most_pairs-requires : goal.most_pairs-requires
 most_pairs-requires g c =
@@ -122,7 +122,7 @@ pub insert_alone-requires-clause-room : goal.insert_alone-requires-clause-room
 insert_alone-requires-clause-room g c = subst (λ n. 27 ≤ n) (sym (c.load.ensures.works.room ∙ c.look_up.ensures.works.room)) c.requires.room
 
 pub insert_alone-requires-clause-size : goal.insert_alone-requires-clause-size
-insert_alone-requires-clause-size g c = subst (λ n. n ≤ 2 ^ 25) (sym (c.load.ensures.works.long ∙ c.look_up.ensures.works.long)) c.requires.size
+insert_alone-requires-clause-size g c = subst (λ n. n ≤ 2 ^ 29) (sym (c.load.ensures.works.long ∙ c.look_up.ensures.works.long)) c.requires.size
 
 pub insert_alone-requires-clause-map : goal.insert_alone-requires-clause-map
 insert_alone-requires-clause-map g c =

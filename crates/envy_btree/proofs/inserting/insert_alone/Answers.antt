@@ -2,7 +2,7 @@ use Rattle.std.proofs.Common.{◌≡◌, sym, ◌≤◌, ◌∙◌, subst, lengt
 use Rattle.envy_btree.specs.Pairs.{with_pair}
 use Rattle.envy_btree.specs.Index.{IsPlanted, most_pairs}
 use Rattle.envy_btree.specs.Depths.{IsShallow}
-use Rattle.envy_btree.proofs.Looking.{shallow-five}
+use Rattle.envy_btree.proofs.Looking.{shallow-six}
 use Rattle.envy_btree.proofs.Calls.{settles-of, index-of, settles-off, kept-index}
 use Rattle.envy_btree.proofs.Keeping.{keeps-through, tried-of, begun-room}
 use Rattle.envy_btree.proofs.inserting.insert_alone.Goals as goal
@@ -41,7 +41,7 @@ pub insert_inside-done-requires-clause-room : goal.insert_inside-done-requires-c
 insert_inside-done-requires-clause-room g c = begun-room 27 (g.W.Words.sheet c.args.words.now) (g.W.Words.sheet c.start.new.self) c.in_ok-start.ensures.answer.4 c.start.ensures.keeps.room c.requires.room
 
 pub insert_inside-done-requires-clause-levels : goal.insert_inside-done-requires-clause-levels
-insert_inside-done-requires-clause-levels g c = subst (λ w. IsShallow w 5) (sym c.in_ok-start.ensures.answer.2) (shallow-five (g.W.Words.sheet c.args.words.now).words c.requires.size)
+insert_inside-done-requires-clause-levels g c = subst (λ w. IsShallow w 6) (sym c.in_ok-start.ensures.answer.2) (shallow-six (g.W.Words.sheet c.args.words.now).words c.requires.size)
 
 pub insert_inside-done-requires-clause-map : goal.insert_inside-done-requires-clause-map
 insert_inside-done-requires-clause-map g c =

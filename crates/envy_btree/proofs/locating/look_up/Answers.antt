@@ -27,7 +27,7 @@ locate-requires g c =
     let old = (g.W.Words.sheet c.args.words.now).words in
     let root = c.in_ok-root.ensures.answer in
     let r = Root-rests old c.requires.map.0 (c.in_ok-root.root - 1) c.requires.map.1.planted c.requires.size (ap (λ x. x - 1) root.1) (λ e. c.if-root-eq0.false (root.1 ∙ e)) in
-    record { rests = subst (λ w. Rests w (c.in_ok-root.root - 1) 5) (sym root.2) r.rests }
+    record { rests = subst (λ w. Rests w (c.in_ok-root.root - 1) 6) (sym root.2) r.rests }
 
 pub returns-clause-value : goal.returns-clause-value
 returns-clause-value g c es x =

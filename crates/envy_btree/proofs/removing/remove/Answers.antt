@@ -111,7 +111,7 @@ pub remove_alone-requires-clause-room : goal.remove_alone-requires-clause-room
 remove_alone-requires-clause-room g c = subst (λ n. 24 ≤ n) (sym (c.load.ensures.works.room ∙ c.look_up.ensures.works.room)) c.requires.room
 
 pub remove_alone-requires-clause-size : goal.remove_alone-requires-clause-size
-remove_alone-requires-clause-size g c = subst (λ n. n ≤ 2 ^ 25) (sym (c.load.ensures.works.long ∙ c.look_up.ensures.works.long)) c.requires.size
+remove_alone-requires-clause-size g c = subst (λ n. n ≤ 2 ^ 29) (sym (c.load.ensures.works.long ∙ c.look_up.ensures.works.long)) c.requires.size
 
 pub remove_alone-requires-clause-map : goal.remove_alone-requires-clause-map
 remove_alone-requires-clause-map g c =

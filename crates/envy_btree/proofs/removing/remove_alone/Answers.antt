@@ -2,7 +2,7 @@ use Rattle.std.proofs.Common.{◌≡◌, sym, ◌∙◌, subst, get_or, List, �
 use Rattle.envy_btree.specs.Pairs.{without}
 use Rattle.envy_btree.specs.Index.{IsPlanted}
 use Rattle.envy_btree.specs.Depths.{IsShallow}
-use Rattle.envy_btree.proofs.Looking.{shallow-five}
+use Rattle.envy_btree.proofs.Looking.{shallow-six}
 use Rattle.envy_btree.proofs.Calls.{settles-of, index-of, settles-off, kept-index}
 use Rattle.envy_btree.proofs.Keeping.{keeps-through, tried-of, begun-room}
 use Rattle.envy_btree.proofs.removing.remove_alone.Goals as goal
@@ -41,7 +41,7 @@ pub remove_inside-done-requires-clause-room : goal.remove_inside-done-requires-c
 remove_inside-done-requires-clause-room g c = begun-room 24 (g.W.Words.sheet c.args.words.now) (g.W.Words.sheet c.start.new.self) c.in_ok-start.ensures.answer.4 c.start.ensures.keeps.room c.requires.room
 
 pub remove_inside-done-requires-clause-levels : goal.remove_inside-done-requires-clause-levels
-remove_inside-done-requires-clause-levels g c = subst (λ w. IsShallow w 5) (sym c.in_ok-start.ensures.answer.2) (shallow-five (g.W.Words.sheet c.args.words.now).words c.requires.size)
+remove_inside-done-requires-clause-levels g c = subst (λ w. IsShallow w 6) (sym c.in_ok-start.ensures.answer.2) (shallow-six (g.W.Words.sheet c.args.words.now).words c.requires.size)
 
 pub remove_inside-done-requires-clause-map : goal.remove_inside-done-requires-clause-map
 remove_inside-done-requires-clause-map g c =

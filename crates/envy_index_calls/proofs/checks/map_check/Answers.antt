@@ -39,7 +39,7 @@ check-checked-requires-clause-size g c =
     let lent : sheet_of v.words.memory v.words.begun ≡ old = rw c.of-view.ensures.words refl in
     let ahead = within v.first v.count (sheet_of v.words.memory v.words.begun) in
     let entry : ahead ≡ view_of c.args.range old = view-is c.args.range v.first v.count old (sheet_of v.words.memory v.words.begun) c.of-view.ensures.first c.of-view.ensures.count lent in
-    subst (λ (s : Sheet). length s.words ≤ 2 ^ 25) (sym entry) (size-in c.args.range old fits)
+    subst (λ (s : Sheet). length s.words ≤ 2 ^ 29) (sym entry) (size-in c.args.range old fits)
 
 pub returns-clause-checks : goal.returns-clause-checks
 returns-clause-checks g c =
