@@ -38,7 +38,7 @@ pub remove_inside-done-requires-clause-begun : goal.remove_inside-done-requires-
 remove_inside-done-requires-clause-begun g c = c.in_ok-start.ensures.answer.1
 
 pub remove_inside-done-requires-clause-room : goal.remove_inside-done-requires-clause-room
-remove_inside-done-requires-clause-room g c = begun-room 24 (g.W.Words.sheet c.args.words.now) (g.W.Words.sheet c.start.new.self) c.in_ok-start.ensures.answer.4 c.start.ensures.keeps.room c.requires.room
+remove_inside-done-requires-clause-room g c = begun-room 28 (g.W.Words.sheet c.args.words.now) (g.W.Words.sheet c.start.new.self) c.in_ok-start.ensures.answer.4 c.start.ensures.keeps.room c.requires.room
 
 pub remove_inside-done-requires-clause-levels : goal.remove_inside-done-requires-clause-levels
 remove_inside-done-requires-clause-levels g c = subst (λ w. IsShallow w 6) (sym c.in_ok-start.ensures.answer.2) (shallow-six (g.W.Words.sheet c.args.words.now).words c.requires.size)
@@ -49,10 +49,10 @@ remove_inside-done-requires-clause-map g c =
     (m.0, subst (λ w. IsPlanted w m.0) (sym c.in_ok-start.ensures.answer.2) m.1.planted)
 
 pub close-requires : goal.close-requires
-close-requires g c = record { tried = tried-of 24 (g.W.Words.sheet c.start.new.self) (g.W.Words.sheet c.remove_inside-done.new.words) c.remove_inside-done.result c.in_ok-start.ensures.answer.1 c.remove_inside-done.ensures.works c.remove_inside-done.ensures.fails }
+close-requires g c = record { tried = tried-of 28 (g.W.Words.sheet c.start.new.self) (g.W.Words.sheet c.remove_inside-done.new.words) c.remove_inside-done.result c.in_ok-start.ensures.answer.1 c.remove_inside-done.ensures.works c.remove_inside-done.ensures.fails }
 
 pub returns-clause-keeps : goal.returns-clause-keeps
-returns-clause-keeps g c = keeps-through 24 (g.W.Words.sheet c.args.words.now) (g.W.Words.sheet c.start.new.self) (g.W.Words.sheet c.remove_inside-done.new.words) (g.W.Words.sheet c.close.new.words) c.start.ensures.keeps c.remove_inside-done.ensures.works c.close.ensures.keeps
+returns-clause-keeps g c = keeps-through 28 (g.W.Words.sheet c.args.words.now) (g.W.Words.sheet c.start.new.self) (g.W.Words.sheet c.remove_inside-done.new.words) (g.W.Words.sheet c.close.new.words) c.start.ensures.keeps c.remove_inside-done.ensures.works c.close.ensures.keeps
 
 pub returns-clause-shut : goal.returns-clause-shut
 returns-clause-shut g c = c.close.ensures.shut
