@@ -1,7 +1,7 @@
 -- What a change knows before it puts a word.
 use Rattle.std.proofs.Common.{◌≡◌, ◌≢◌, ℕ, ◌+◌, ◌-◌, ◌^◌, ◌≤◌, Bool, true, false, List, length, get_or, Option, None, Some, refl, ap, sym, subst, ◌∙◌, inl, inr, IfOk, Result, Ok, Err, arith}
 use Rattle.envy_base.specs.declared.board.Off.{Off}
-use Rattle.envy_btree.specs.declared.locating.Found.{Found}
+use Rattle.envy_btree.specs.declared.search.Found.{Found}
 use Rattle.envy_btree.specs.Pairs.{assoc}
 use Rattle.envy_btree.specs.Tree.{pairs_of}
 use Rattle.envy_btree.specs.Index.{IsIndex}

@@ -17,7 +17,7 @@ use Rattle.envy_calls.specs.declared.code.Code.TheVariants.{Done, Empty, Off as 
 use Rattle.envy_index_calls.specs.Attempts.{change_code}
 use Rattle.envy_index_calls.specs.Indexed.{IsShut, Loses, Pairs, Works, blanked, old_of}
 use Rattle.envy_index_calls.specs.Ranges.{Denies, HasFirst, IsOpen, IsRange, MayHold, words_beside, words_in}
-use Rattle.envy_index_calls.specs.declared.making.TheConstants.{MAP_MARK}
+use Rattle.envy_index_calls.specs.declared.creation.TheConstants.{MAP_MARK}
 use Rattle.envy_index_calls.specs.declared.pairs.EnvyOld.{EnvyOld}
 use Rattle.envy_index_calls.specs.declared.ranges.EnvyMap.{EnvyMap}
 use Rattle.envy_index_calls.specs.declared.ranges.Whose.TheVariants.{New, Slot, Any}

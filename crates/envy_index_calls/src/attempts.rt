@@ -8,7 +8,7 @@ ghost use Rattle.envy_index_calls.specs.Attempts.{Attempts, HasFailed, IsRoomles
 ghost use Rattle.envy_index_calls.specs.Ranged.{marked};
 ghost use Rattle.envy_index_calls.specs.Ranges.{IsRange};
 
-use crate::making::mark_blank;
+use crate::creation::mark_blank;
 use crate::ranges::EnvyMap;
 use envy_base::{Trouble, Words};
 use envy_btree::{ChangeFault, insert_within, remove_within};

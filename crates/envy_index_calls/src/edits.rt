@@ -9,7 +9,7 @@ ghost use Rattle.envy_index_calls.specs.Ranged.{Calls, Changed, CreatesIn, Drops
 ghost use Rattle.envy_index_calls.specs.Ranges.{MayHold};
 
 use crate::attempts::{create_in, insert_in, remove_in};
-use crate::changing::old;
+use crate::changes::old;
 use crate::pairs::EnvyOld;
 use crate::ranges::{EnvyMap, Whose, give_back, lend};
 use envy_base::Board;

@@ -67,10 +67,10 @@ returns-clause-checks g c =
     let x = c.check-checked.result in
     let power = subst (λ (s : Sheet). Powers (view_of c.args.range old).words x s) then (subst (λ (s : Sheet). Powers s.words x view) entry c.check-checked.ensures.power) in
     called 0 (Checks c.args.range c.told_check.new.rule) Any (Some c.args.range) c.args.place.now c.give_back.new.place p q b c.told_check.result gv c.give_back.ensures.back done (
-      checked c.args.place.now c.args.range p q b d x c.told_check.result c.args.rule.now c.told_check.new.rule l (in-range c.args.range b p (words-live b p gv.held)) c.told_check.ensures power
-        (subst (λ (s : Sheet). OnOk x ((es : Pairs) × IsIndex s.words es)) entry c.check-checked.ensures.stands)
-        (subst (λ (s : Sheet). IfErr x (λ e. Causes s.words e)) entry c.check-checked.ensures.causes)
-        (subst (λ (s : Sheet). IfErr x (λ e. e ≢ MapOff → (es : Pairs) → IsIndex s.words es → ⊥)) entry c.check-checked.ensures.none)
+    checked c.args.place.now c.args.range p q b d x c.told_check.result c.args.rule.now c.told_check.new.rule l (in-range c.args.range b p (words-live b p gv.held)) c.told_check.ensures power
+    (subst (λ (s : Sheet). OnOk x ((es : Pairs) × IsIndex s.words es)) entry c.check-checked.ensures.stands)
+    (subst (λ (s : Sheet). IfErr x (λ e. Causes s.words e)) entry c.check-checked.ensures.causes)
+    (subst (λ (s : Sheet). IfErr x (λ e. e ≢ MapOff → (es : Pairs) → IsIndex s.words es → ⊥)) entry c.check-checked.ensures.none)
     )
 
 pub returns-clause-unwritten : goal.returns-clause-unwritten
