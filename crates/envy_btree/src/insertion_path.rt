@@ -5,7 +5,7 @@ ghost use Rattle.envy_btree.specs.Nodes.{Ranks};
 ghost use Rattle.envy_btree.specs.Changes.{Ready, Way, Grows, SetsPair, GetsChild};
 ghost use Rattle.envy_btree.specs.Spots.{keys_at};
 
-use crate::gaps::widen;
+use crate::gap::widen;
 use crate::halves::save;
 use crate::node::{read_node, set_pair};
 use crate::spot::{ends_at, seek};

@@ -6,7 +6,7 @@ mod command;
 mod drop_root;
 mod ends;
 mod fault;
-mod gaps;
+mod gap;
 mod halves;
 mod insertion;
 mod insertion_path;

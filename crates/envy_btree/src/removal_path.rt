@@ -6,7 +6,7 @@ ghost use Rattle.envy_btree.specs.Changes.{Rests, Beside, HasPair, IsShort, join
 ghost use Rattle.envy_btree.specs.Shrinking.{Back, LosesPair, MendedBack, Shrinks};
 ghost use Rattle.envy_btree.specs.Spots.{keys_at};
 
-use crate::gaps::narrow;
+use crate::gap::narrow;
 use crate::node::{Node, drop_pair, read_node, write_node};
 use crate::rebalance::{mend_with_front, mend_with_rear};
 use crate::spot::{ends_at, seek};

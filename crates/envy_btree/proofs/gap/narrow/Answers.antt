@@ -5,7 +5,7 @@ use Rattle.envy_heap.proofs.Heaps.{one-le}
 use Rattle.envy_btree.specs.Tree.{Shows}
 use Rattle.envy_btree.specs.Spots.{keys_at, slots_at}
 use Rattle.envy_btree.proofs.Gaps.{narrowed}
-use Rattle.envy_btree.proofs.gaps.narrow.Goals as goal
+use Rattle.envy_btree.proofs.gap.narrow.Goals as goal
 
 pub returns-clause-node : goal.returns-clause-node
 returns-clause-node g c =

@@ -3,7 +3,7 @@ use Rattle.std.proofs.lemmas.Result.{on_ok_weaker}
 use Rattle.envy_btree.proofs.Gaps.{opened, window-long}
 use Rattle.envy_btree.proofs.Gapped.{spends-list}
 use Rattle.envy_base.proofs.Working.{Works-trans}
-use Rattle.envy_btree.proofs.gaps.open_gap.Goals as goal
+use Rattle.envy_btree.proofs.gap.open_gap.Goals as goal
 
 pub returns-clause-gap : goal.returns-clause-gap
 returns-clause-gap g c = on_ok_weaker c.write_list.result (λ e. opened _ _ _ _ _ _ _ _ _ c.requires.within c.requires.place c.in_ok-rear.ensures.same c.in_ok-rear.ensures.list (c.deref.ensures.0 ∙ c.insert.ensures.items) e) c.write_list.ensures.list

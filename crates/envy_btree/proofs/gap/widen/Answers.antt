@@ -6,7 +6,7 @@ use Rattle.envy_heap.proofs.Heaps.{one-le}
 use Rattle.envy_btree.specs.Tree.{Shows}
 use Rattle.envy_btree.specs.Spots.{keys_at, slots_at}
 use Rattle.envy_btree.proofs.Gaps.{widened}
-use Rattle.envy_btree.proofs.gaps.widen.Goals as goal
+use Rattle.envy_btree.proofs.gap.widen.Goals as goal
 
 pub returns-clause-spends : goal.returns-clause-spends
 returns-clause-spends g c =
