@@ -6,7 +6,7 @@ use Rattle.envy_btree.specs.Pairs.{assoc}
 use Rattle.envy_btree.specs.Tree.{pairs_of}
 use Rattle.envy_btree.specs.Index.{IsIndex}
 use Rattle.envy_btree.specs.Changes.{Rests}
-use Rattle.envy_btree.specs.Depths.{IsDeep, IsShallow}
+use Rattle.envy_btree.specs.Depths.{IsDeep, IsShallow, most_levels}
 use Rattle.envy_btree.specs.Spots.{IsSpot, ValueAt, keys_at, slots_at}
 use Rattle.envy_btree.proofs.Counting.{depth-few}
 use Rattle.envy_btree.proofs.Descent.{Ends-made}
@@ -49,13 +49,13 @@ none-deep ws none = record { none = λ e. refl; levels = λ free d t heap tree. 
 pub root-deep : (ws : List ℕ) (p m : ℕ) → length ws ≤ 536870912 → p ≡ get_or ws 0 0 - 1 → get_or ws 0 0 ≢ 0 → ((h : Rests ws p 6) → m ≡ h.depth) → IsDeep ws m
 root-deep ws p m small is some f = record {
   none = λ e. absurd (some e);
-  levels = λ free d t heap tree. sym (f (record { free = free; heap = heap; root = true; low = 0; high = 2 ^ 64; depth = d; tree = t; few = depth-few ws free d t heap tree.stands.sized tree.all small; is = omega (arith, tree.root); stands = tree.stands }));
+  levels = λ free d t heap tree. sym (f (record { free = free; heap = heap; root = true; low = 0; high = 2 ^ 64; depth = d; tree = t; few = omega (arith, depth-few ws free d t heap tree.stands.sized tree.all small); is = omega (arith, tree.root); stands = tree.stands }));
 }
 
-pub root-few : (ws : List ℕ) (es : List (ℕ × ℕ)) (p m : ℕ) → IsIndex ws es → length ws ≤ 536870912 → p ≡ get_or ws 0 0 - 1 → get_or ws 0 0 ≢ 0 → ((h : Rests ws p 6) → m ≡ h.depth) → m ≤ 6
+pub root-few : (ws : List ℕ) (es : List (ℕ × ℕ)) (p m : ℕ) → IsIndex ws es → length ws ≤ 536870912 → p ≡ get_or ws 0 0 - 1 → get_or ws 0 0 ≢ 0 → ((h : Rests ws p 6) → m ≡ h.depth) → m ≤ most_levels (length ws)
 root-few ws es p m x small is some f =
     let r = Root-rests ws es p x.planted small is some in
-    omega (arith, f r.rests, r.rests.few)
+    omega (arith, f r.rests, r.levels)
 
 pub root-value : (ws : List ℕ) (es : List (ℕ × ℕ)) (p key : ℕ) (v : Option ℕ) → IsIndex ws es → length ws ≤ 536870912 → p ≡ get_or ws 0 0 - 1 → get_or ws 0 0 ≢ 0 → ((h : Rests ws p 6) → v ≡ assoc key (pairs_of h.depth h.tree)) → v ≡ assoc key es
 root-value ws es p key v x small is some f =
@@ -74,13 +74,13 @@ pub root-deep-ok : (ws mid : List ℕ) (p : ℕ) (r : Result Found Off) → leng
 root-deep-ok ws mid p (Ok x) small is some same f = root-deep ws p x.depth small is some (subst (λ w. (h : Rests w p 6) → x.depth ≡ h.depth) same f)
 root-deep-ok ws mid p (Err e) small is some same f = tt
 
-pub root-few-ok : (ws mid : List ℕ) (es : List (ℕ × ℕ)) (p : ℕ) (r : Result Found Off) → IsIndex ws es → length ws ≤ 536870912 → p ≡ get_or ws 0 0 - 1 → get_or ws 0 0 ≢ 0 → mid ≡ ws → ((h : Rests mid p 6) → IfOk r (λ x. x.depth ≡ h.depth)) → IfOk r (λ x. x.depth ≤ 6)
+pub root-few-ok : (ws mid : List ℕ) (es : List (ℕ × ℕ)) (p : ℕ) (r : Result Found Off) → IsIndex ws es → length ws ≤ 536870912 → p ≡ get_or ws 0 0 - 1 → get_or ws 0 0 ≢ 0 → mid ≡ ws → ((h : Rests mid p 6) → IfOk r (λ x. x.depth ≡ h.depth)) → IfOk r (λ x. x.depth ≤ most_levels (length ws))
 root-few-ok ws mid es p (Ok x) i small is some same f = root-few ws es p x.depth i small is some (subst (λ w. (h : Rests w p 6) → x.depth ≡ h.depth) same f)
 root-few-ok ws mid es p (Err e) i small is some same f = tt
 
 -- no tree in so many words is deeper
-pub shallow-six : (ws : List ℕ) → length ws ≤ 536870912 → IsShallow ws 6
-shallow-six ws small free d t heap tree = depth-few ws free d t heap tree.stands.sized tree.all small
+pub shallow-most : (ws : List ℕ) → length ws ≤ 536870912 → IsShallow ws (most_levels (length ws))
+shallow-most ws small free d t heap tree = depth-few ws free d t heap tree.stands.sized tree.all small
 
 pub deep-shallow : (ws : List ℕ) (depth : ℕ) → IsDeep ws depth → IsShallow ws depth
 deep-shallow ws depth deep free d t heap tree = omega (arith, deep.levels free d t heap tree)

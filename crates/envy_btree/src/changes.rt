@@ -1,6 +1,6 @@
 ghost use Rattle.std.specs.Prelude.{◌≡◌, ℕ, List, ◌+◌, ◌^◌, ◌≤◌, length, IsTrue, None, Ok};
 ghost use Rattle.envy_base.specs.Words.{Spends, Works};
-ghost use Rattle.envy_btree.specs.Depths.{IsDeep, insertion_pages, removal_pages};
+ghost use Rattle.envy_btree.specs.Depths.{IsDeep, dropping_puts, insertion_pages, insertion_puts, removal_pages};
 ghost use Rattle.envy_btree.specs.Index.{IsIndex};
 ghost use Rattle.envy_btree.specs.Within.{InsertsWithin, RemovesWithin};
 
@@ -27,7 +27,7 @@ pub fn insert_within<W: Words>(
     ensures works { Works left (W.sheet words.old) (W.sheet words.new) }
     ensures pages { (depth : ℕ) → IsDeep (W.sheet words.old).words depth
         → Works (insertion_pages depth) (W.sheet words.old) (W.sheet words.new) }
-    ensures spends { Spends 970 (W.sheet words.old) (W.sheet words.new) }
+    ensures spends { Spends (insertion_puts (length (W.sheet words.old).words)) (W.sheet words.old) (W.sheet words.new) }
     ensures inserts { (es : List (ℕ × ℕ)) → IsIndex (W.sheet words.old).words es
         → InsertsWithin key value es insertion_pages left (W.sheet words.old) result (W.sheet words.new) }
 {
@@ -61,7 +61,7 @@ pub fn remove_within<W: Words>(
     ensures works { Works left (W.sheet words.old) (W.sheet words.new) }
     ensures pages { (depth : ℕ) → IsDeep (W.sheet words.old).words depth
         → Works (removal_pages depth) (W.sheet words.old) (W.sheet words.new) }
-    ensures spends { Spends 1281 (W.sheet words.old) (W.sheet words.new) }
+    ensures spends { Spends (dropping_puts (length (W.sheet words.old).words)) (W.sheet words.old) (W.sheet words.new) }
     ensures absent { result ≡ Ok None → (W.sheet words.new).words ≡ (W.sheet words.old).words }
     ensures removes { (es : List (ℕ × ℕ)) → IsIndex (W.sheet words.old).words es
         → RemovesWithin key es removal_pages left (W.sheet words.old) result (W.sheet words.new) }

@@ -2,25 +2,26 @@ ghost use Rattle.std.specs.Prelude.{◌≡◌, ◌≢◌, ℕ, List, ◌+◌, �
 ghost use Rattle.envy_base.specs.Words.{Spends, Works, Keeps, Fails};
 ghost use Rattle.envy_btree.specs.Pairs.{with_pair};
 ghost use Rattle.envy_btree.specs.Index.{IsPlanted, IsIndex, most_pairs};
-ghost use Rattle.envy_btree.specs.Depths.{IsShallow, insertion_pages};
+ghost use Rattle.envy_btree.specs.Depths.{IsShallow, insertion_pages, most_levels};
 ghost use Rattle.envy_btree.specs.Answers.{insert_puts, Inserts, Settles};
 
 use crate::ends::close;
 use crate::fault::TreeFault;
 use crate::new_root::insert_at_root;
 use crate::search::look_up;
+use crate::sizes::most_levels;
 use envy_base::{Trouble, Words};
 
 /// Sets the value of a key, and answers the old one. A new key is refused as `Full` where the map has
-/// `14 * (q - 8)` pairs, with `q` pieces in all. It is one transaction, which makes at most 970 puts, in
-/// at most 27 pages: it needs no more room.
+/// `14 * (q - 8)` pairs, with `q` pieces in all. It is one transaction. In up to `2^25`
+/// words it makes at most 841 puts, in at most 27 pages, and else 970 in 31: it needs no more room.
 pub fn insert<W: Words>(words: &mut W, key: u64, value: u64) -> Result<Option<u64>, TreeFault>
     requires shut { (W.sheet words.old).started ≡ false }
-    requires room { 27 ≤ (W.sheet words.old).room }
+    requires room { insertion_pages (most_levels (length (W.sheet words.old).words)) ≤ (W.sheet words.old).room }
     requires size { length (W.sheet words.old).words ≤ 2 ^ 29 }
     requires map { (es : List (ℕ × ℕ)) × IsIndex (W.sheet words.old).words es }
     ensures keeps { Keeps (W.sheet words.old) (W.sheet words.new) }
-    ensures spends { Spends insert_puts (W.sheet words.old) (W.sheet words.new) }
+    ensures spends { Spends (insert_puts (length (W.sheet words.old).words)) (W.sheet words.old) (W.sheet words.new) }
     ensures shut { (W.sheet words.new).started ≡ false }
     ensures inserts { (es : List (ℕ × ℕ)) → IsIndex (W.sheet words.old).words es
         → Inserts key value es (W.sheet words.old) result (W.sheet words.new) }
@@ -59,18 +60,19 @@ pub(crate) fn count_with(was: Option<u64>, pairs: u64) -> u64
 // Sets the value of a key, as a transaction of its own. There are so many pairs from then on.
 fn insert_alone<W: Words>(words: &mut W, key: u64, value: u64, pairs: u64) -> Result<(), TreeFault>
     requires shut { (W.sheet words.old).started ≡ false }
-    requires room { 27 ≤ (W.sheet words.old).room }
+    requires room { insertion_pages (most_levels (length (W.sheet words.old).words)) ≤ (W.sheet words.old).room }
     requires size { length (W.sheet words.old).words ≤ 2 ^ 29 }
     requires map { (es : List (ℕ × ℕ)) × IsIndex (W.sheet words.old).words es }
     ensures keeps { Keeps (W.sheet words.old) (W.sheet words.new) }
-    ensures spends { Spends insert_puts (W.sheet words.old) (W.sheet words.new) }
+    ensures spends { Spends (insert_puts (length (W.sheet words.old).words)) (W.sheet words.old) (W.sheet words.new) }
     ensures shut { (W.sheet words.new).started ≡ false }
     ensures settles { (es : List (ℕ × ℕ)) → IsIndex (W.sheet words.old).words es
         → pairs ≡ length (with_pair key value es) → pairs ≤ most_pairs (W.sheet words.old).words
         → Settles es (with_pair key value es) (W.sheet words.old) result (W.sheet words.new) }
 {
+    let level = most_levels(words.size());
     words.start()?;
-    let done = insert_inside(words, 6, key, value, pairs);
+    let done = insert_inside(words, level, key, value, pairs);
     close(words, done)
 }
 

@@ -2,25 +2,26 @@ ghost use Rattle.std.specs.Prelude.{◌≡◌, ℕ, List, ◌+◌, ◌*◌, ◌^
 ghost use Rattle.envy_base.specs.Words.{Spends, Works, Keeps, Fails};
 ghost use Rattle.envy_btree.specs.Pairs.{without};
 ghost use Rattle.envy_btree.specs.Index.{IsPlanted, IsIndex, most_pairs};
-ghost use Rattle.envy_btree.specs.Depths.{IsShallow, removal_pages};
+ghost use Rattle.envy_btree.specs.Depths.{IsShallow, most_levels, removal_pages};
 ghost use Rattle.envy_btree.specs.Answers.{removal_puts, Removes, Settles};
 
 use crate::drop_root::remove_at_root;
 use crate::ends::close;
 use crate::fault::TreeFault;
 use crate::search::look_up;
+use crate::sizes::most_levels;
 use envy_base::{Trouble, Words};
 
-/// Takes a key out of the map, and answers its value. It is one transaction, which makes at most 1,089
-/// puts, in at most 24 pages, and needs no more room; where the map doesn't have the key there is none. It
-/// is never `Full`.
+/// Takes a key out of the map, and answers its value. It is one transaction. In up to `2^25`
+/// words it makes at most 1,089 puts, in at most 24 pages, and else 1,281 in 28; it needs no more room. If
+/// the map doesn't have the key there is none. It is never `Full`.
 pub fn remove<W: Words>(words: &mut W, key: u64) -> Result<Option<u64>, TreeFault>
     requires shut { (W.sheet words.old).started ≡ false }
-    requires room { 24 ≤ (W.sheet words.old).room }
+    requires room { removal_pages (most_levels (length (W.sheet words.old).words)) ≤ (W.sheet words.old).room }
     requires size { length (W.sheet words.old).words ≤ 2 ^ 29 }
     requires map { (es : List (ℕ × ℕ)) × IsIndex (W.sheet words.old).words es }
     ensures keeps { Keeps (W.sheet words.old) (W.sheet words.new) }
-    ensures spends { Spends removal_puts (W.sheet words.old) (W.sheet words.new) }
+    ensures spends { Spends (removal_puts (length (W.sheet words.old).words)) (W.sheet words.old) (W.sheet words.new) }
     ensures shut { (W.sheet words.new).started ≡ false }
     ensures removes { (es : List (ℕ × ℕ)) → IsIndex (W.sheet words.old).words es
         → Removes key es (W.sheet words.old) result (W.sheet words.new) }
@@ -39,18 +40,19 @@ pub fn remove<W: Words>(words: &mut W, key: u64) -> Result<Option<u64>, TreeFaul
 // Takes a key out of the map, as a transaction of its own. There are so many pairs from then on.
 fn remove_alone<W: Words>(words: &mut W, key: u64, pairs: u64) -> Result<(), TreeFault>
     requires shut { (W.sheet words.old).started ≡ false }
-    requires room { 24 ≤ (W.sheet words.old).room }
+    requires room { removal_pages (most_levels (length (W.sheet words.old).words)) ≤ (W.sheet words.old).room }
     requires size { length (W.sheet words.old).words ≤ 2 ^ 29 }
     requires map { (es : List (ℕ × ℕ)) × IsIndex (W.sheet words.old).words es }
     ensures keeps { Keeps (W.sheet words.old) (W.sheet words.new) }
-    ensures spends { Spends removal_puts (W.sheet words.old) (W.sheet words.new) }
+    ensures spends { Spends (removal_puts (length (W.sheet words.old).words)) (W.sheet words.old) (W.sheet words.new) }
     ensures shut { (W.sheet words.new).started ≡ false }
     ensures settles { (es : List (ℕ × ℕ)) → IsIndex (W.sheet words.old).words es → pairs ≡ length (without key es)
         → pairs ≤ most_pairs (W.sheet words.old).words
         → Settles es (without key es) (W.sheet words.old) result (W.sheet words.new) }
 {
+    let level = most_levels(words.size());
     words.start()?;
-    let done = remove_inside(words, 6, key, pairs);
+    let done = remove_inside(words, level, key, pairs);
     close(words, done)
 }
 

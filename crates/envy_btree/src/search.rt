@@ -5,7 +5,7 @@ ghost use Rattle.envy_btree.specs.Pairs.{assoc};
 ghost use Rattle.envy_btree.specs.Tree.{pairs_of};
 ghost use Rattle.envy_btree.specs.Index.{IsIndex};
 ghost use Rattle.envy_btree.specs.Changes.{Rests};
-ghost use Rattle.envy_btree.specs.Depths.{IsDeep};
+ghost use Rattle.envy_btree.specs.Depths.{IsDeep, most_levels};
 ghost use Rattle.envy_btree.specs.Spots.{ValueAt, keys_at, slots_at};
 
 use crate::spot::{ends_at, seek};
@@ -72,7 +72,7 @@ pub(crate) fn look_up<W: Words>(words: &mut W, key: u64) -> Result<Found, Off>
     ensures value { (es : List (ℕ × ℕ)) → IsIndex (W.sheet words.old).words es
         → IfOk result (λ x. x.value ≡ assoc key es) }
     ensures depth { IfOk result (λ x. IsDeep (W.sheet words.old).words x.depth) }
-    ensures few { IfOk result (λ x. x.depth ≤ 6) }
+    ensures few { IfOk result (λ x. x.depth ≤ most_levels (length (W.sheet words.old).words)) }
     ensures same { OnOk result ((W.sheet words.new).words ≡ (W.sheet words.old).words) }
     ensures power { MatchResult result (λ _. IsTrue (W.sheet words.new).on) (λ _. (W.sheet words.new).on ≡ false) }
 {

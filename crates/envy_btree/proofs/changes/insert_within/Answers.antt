@@ -1,5 +1,6 @@
-use Rattle.std.proofs.Common.{◌+◌, ◌*◌, ◌∙◌, arith}
+use Rattle.std.proofs.Common.{◌+◌, ◌*◌, ◌∙◌, arith, length}
 use Rattle.envy_base.proofs.Working.{Spends-then, Spends-trans}
+use Rattle.envy_btree.specs.Depths.{insertion_puts}
 use Rattle.envy_btree.specs.Pairs.{with_pair}
 use Rattle.envy_btree.proofs.Withins.{pairs-counted, within-few, within-room, within-index, within-planted, pages-in}
 use Rattle.envy_btree.proofs.changes.insert_within.Goals as goal
@@ -20,10 +21,10 @@ returns-in-Ok-clause-inserts g c es x =
     (c.in-Ok.ensures.fails, found, within-room old c.args.key c.args.value n es count few, within-index old new n (with_pair c.args.key c.args.value es) long count few made)
 
 pub returns-in-Err-Off-clause-spends : goal.returns-in-Err-Off-clause-spends
-returns-in-Err-Off-clause-spends g c = Spends-then (0 + 0) (129 * c.in_ok-was.was'.depth + 196) 970 _ _ _ (omega (arith, c.in_ok-was.ensures.few)) (Spends-trans 0 0 _ _ _ c.look_up.ensures.spends c.load.ensures.spends) c.insert_inside.ensures.spends
+returns-in-Err-Off-clause-spends g c = Spends-then (0 + 0) (129 * c.in_ok-was.was'.depth + 196) (insertion_puts (length (g.W.Words.sheet c.args.words.now).words)) _ _ _ (omega (arith, c.in_ok-was.ensures.few)) (Spends-trans 0 0 _ _ _ c.look_up.ensures.spends c.load.ensures.spends) c.insert_inside.ensures.spends
 
 pub returns-in-Err-Bad-clause-spends : goal.returns-in-Err-Bad-clause-spends
-returns-in-Err-Bad-clause-spends g c = Spends-then (0 + 0) (129 * c.in_ok-was.was'.depth + 196) 970 _ _ _ (omega (arith, c.in_ok-was.ensures.few)) (Spends-trans 0 0 _ _ _ c.look_up.ensures.spends c.load.ensures.spends) c.insert_inside.ensures.spends
+returns-in-Err-Bad-clause-spends g c = Spends-then (0 + 0) (129 * c.in_ok-was.was'.depth + 196) (insertion_puts (length (g.W.Words.sheet c.args.words.now).words)) _ _ _ (omega (arith, c.in_ok-was.ensures.few)) (Spends-trans 0 0 _ _ _ c.look_up.ensures.spends c.load.ensures.spends) c.insert_inside.ensures.spends
 
 pub returns-in-Ok-clause-pages : goal.returns-in-Ok-clause-pages
 returns-in-Ok-clause-pages g c depth deep = pages-in _ c.requires.map.0 c.in_ok-was.was'.depth depth 7 _ _ _ _ c.requires.map.1 c.in_ok-was.ensures.depth deep c.in_ok-was.ensures.works c.in_ok-before.ensures.works c.insert_inside.ensures.works

@@ -1,5 +1,6 @@
-use Rattle.std.proofs.Common.{◌+◌, ◌*◌, ◌∙◌, sym, arith}
+use Rattle.std.proofs.Common.{◌+◌, ◌*◌, ◌∙◌, sym, arith, length}
 use Rattle.envy_base.proofs.Working.{Spends-then, Spends-trans}
+use Rattle.envy_btree.specs.Depths.{dropping_puts}
 use Rattle.envy_btree.specs.Pairs.{without}
 use Rattle.envy_btree.proofs.Withins.{within-index, within-planted, removed-count, removed-none, pages-in}
 use Rattle.envy_btree.proofs.changes.remove_within.Goals as goal
@@ -21,10 +22,10 @@ returns-in-Ok-clause-removes g c es x =
     (c.in-Ok.ensures.fails, sym c.in-Some.is ∙ found, within-index old new _ (without c.args.key es) long count.0 count.2 made)
 
 pub returns-in-Err-Off-clause-spends : goal.returns-in-Err-Off-clause-spends
-returns-in-Err-Off-clause-spends g c = Spends-then (0 + 0) (192 * c.in_ok-was.was'.depth + 129) 1281 _ _ _ (omega (arith, c.in_ok-was.ensures.few)) (Spends-trans 0 0 _ _ _ c.look_up.ensures.spends c.load.ensures.spends) c.remove_inside.ensures.spends
+returns-in-Err-Off-clause-spends g c = Spends-then (0 + 0) (192 * c.in_ok-was.was'.depth + 129) (dropping_puts (length (g.W.Words.sheet c.args.words.now).words)) _ _ _ (omega (arith, c.in_ok-was.ensures.few)) (Spends-trans 0 0 _ _ _ c.look_up.ensures.spends c.load.ensures.spends) c.remove_inside.ensures.spends
 
 pub returns-in-Err-Bad-clause-spends : goal.returns-in-Err-Bad-clause-spends
-returns-in-Err-Bad-clause-spends g c = Spends-then (0 + 0) (192 * c.in_ok-was.was'.depth + 129) 1281 _ _ _ (omega (arith, c.in_ok-was.ensures.few)) (Spends-trans 0 0 _ _ _ c.look_up.ensures.spends c.load.ensures.spends) c.remove_inside.ensures.spends
+returns-in-Err-Bad-clause-spends g c = Spends-then (0 + 0) (192 * c.in_ok-was.was'.depth + 129) (dropping_puts (length (g.W.Words.sheet c.args.words.now).words)) _ _ _ (omega (arith, c.in_ok-was.ensures.few)) (Spends-trans 0 0 _ _ _ c.look_up.ensures.spends c.load.ensures.spends) c.remove_inside.ensures.spends
 
 pub returns-in-Ok-clause-pages : goal.returns-in-Ok-clause-pages
 returns-in-Ok-clause-pages g c depth deep = pages-in _ c.requires.map.0 c.in_ok-was.was'.depth depth 4 _ _ _ _ c.requires.map.1 c.in_ok-was.ensures.depth deep c.in_ok-was.ensures.works c.in_ok-pairs.ensures.works c.remove_inside.ensures.works

@@ -1,4 +1,5 @@
 use Rattle.std.proofs.Common.{◌≡◌, ◌+◌, ◌^◌, ◌≤◌, ◌∙◌, sym, subst, arith, length, MatchOption}
+use Rattle.envy_btree.specs.Depths.{insertion_pages, most_levels}
 use Rattle.envy_btree.specs.Index.{IsIndex, most_pairs}
 use Rattle.envy_btree.proofs.Withins.{index-same, looked}
 use Rattle.envy_btree.proofs.Keeping.{keeps-works, works-keep}
@@ -119,7 +120,7 @@ pub insert_alone-requires-clause-shut : goal.insert_alone-requires-clause-shut
 insert_alone-requires-clause-shut g c = c.load.ensures.works.still c.in_ok-before.ensures.answer.0 ∙ (c.look_up.ensures.works.still c.in_ok-was.ensures.power ∙ c.requires.shut)
 
 pub insert_alone-requires-clause-room : goal.insert_alone-requires-clause-room
-insert_alone-requires-clause-room g c = subst (λ n. 27 ≤ n) (sym (c.load.ensures.works.room ∙ c.look_up.ensures.works.room)) c.requires.room
+insert_alone-requires-clause-room g c = subst (λ n. insertion_pages (most_levels n) ≤ (g.W.Words.sheet c.load.new.self).room) (sym (c.load.ensures.works.long ∙ c.look_up.ensures.works.long)) (subst (λ n. insertion_pages (most_levels (length (g.W.Words.sheet c.args.words.now).words)) ≤ n) (sym (c.load.ensures.works.room ∙ c.look_up.ensures.works.room)) c.requires.room)
 
 pub insert_alone-requires-clause-size : goal.insert_alone-requires-clause-size
 insert_alone-requires-clause-size g c = subst (λ n. n ≤ 2 ^ 29) (sym (c.load.ensures.works.long ∙ c.look_up.ensures.works.long)) c.requires.size

@@ -1,8 +1,8 @@
-use Rattle.std.proofs.Common.{◌≡◌, sym, ◌≤◌, ◌∙◌, subst, length, get_or, List, ℕ, OnOk}
+use Rattle.std.proofs.Common.{◌≡◌, ap, ◌*◌, ◌+◌, sym, ◌≤◌, ◌∙◌, subst, length, get_or, List, ℕ, OnOk}
 use Rattle.envy_btree.specs.Pairs.{with_pair}
 use Rattle.envy_btree.specs.Index.{IsPlanted, most_pairs}
-use Rattle.envy_btree.specs.Depths.{IsShallow}
-use Rattle.envy_btree.proofs.Looking.{shallow-six}
+use Rattle.envy_btree.specs.Depths.{IsShallow, most_levels}
+use Rattle.envy_btree.proofs.Looking.{shallow-most}
 use Rattle.envy_btree.proofs.Calls.{settles-of, index-of, settles-off, kept-index}
 use Rattle.envy_btree.proofs.Keeping.{keeps-through, tried-of, begun-room}
 use Rattle.envy_btree.proofs.insertion.insert_alone.Goals as goal
@@ -38,10 +38,10 @@ pub insert_inside-done-requires-clause-begun : goal.insert_inside-done-requires-
 insert_inside-done-requires-clause-begun g c = c.in_ok-start.ensures.answer.1
 
 pub insert_inside-done-requires-clause-room : goal.insert_inside-done-requires-clause-room
-insert_inside-done-requires-clause-room g c = begun-room 31 (g.W.Words.sheet c.args.words.now) (g.W.Words.sheet c.start.new.self) c.in_ok-start.ensures.answer.4 c.start.ensures.keeps.room c.requires.room
+insert_inside-done-requires-clause-room g c = begun-room (4 * c.most_levels-level.result + 7) (g.W.Words.sheet c.args.words.now) (g.W.Words.sheet c.start.new.self) c.in_ok-start.ensures.answer.4 c.start.ensures.keeps.room c.requires.room
 
 pub insert_inside-done-requires-clause-levels : goal.insert_inside-done-requires-clause-levels
-insert_inside-done-requires-clause-levels g c = subst (λ w. IsShallow w 6) (sym c.in_ok-start.ensures.answer.2) (shallow-six (g.W.Words.sheet c.args.words.now).words c.requires.size)
+insert_inside-done-requires-clause-levels g c = subst (λ w. IsShallow w c.most_levels-level.result) (sym c.in_ok-start.ensures.answer.2) (subst (IsShallow (g.W.Words.sheet c.args.words.now).words) (sym (c.most_levels-level.ensures ∙ ap most_levels c.size.ensures)) (shallow-most (g.W.Words.sheet c.args.words.now).words c.requires.size))
 
 pub insert_inside-done-requires-clause-map : goal.insert_inside-done-requires-clause-map
 insert_inside-done-requires-clause-map g c =
@@ -50,10 +50,10 @@ insert_inside-done-requires-clause-map g c =
     (m.0, subst (λ w. IsPlanted w m.0) same m.1.planted, subst (λ w. length m.0 ≤ most_pairs w) same m.1.few)
 
 pub close-requires : goal.close-requires
-close-requires g c = record { tried = tried-of 31 (g.W.Words.sheet c.start.new.self) (g.W.Words.sheet c.insert_inside-done.new.words) c.insert_inside-done.result c.in_ok-start.ensures.answer.1 c.insert_inside-done.ensures.works c.insert_inside-done.ensures.fails }
+close-requires g c = record { tried = tried-of (4 * c.most_levels-level.result + 7) (g.W.Words.sheet c.start.new.self) (g.W.Words.sheet c.insert_inside-done.new.words) c.insert_inside-done.result c.in_ok-start.ensures.answer.1 c.insert_inside-done.ensures.works c.insert_inside-done.ensures.fails }
 
 pub returns-clause-keeps : goal.returns-clause-keeps
-returns-clause-keeps g c = keeps-through 31 (g.W.Words.sheet c.args.words.now) (g.W.Words.sheet c.start.new.self) (g.W.Words.sheet c.insert_inside-done.new.words) (g.W.Words.sheet c.close.new.words) c.start.ensures.keeps c.insert_inside-done.ensures.works c.close.ensures.keeps
+returns-clause-keeps g c = keeps-through (4 * c.most_levels-level.result + 7) (g.W.Words.sheet c.args.words.now) (g.W.Words.sheet c.start.new.self) (g.W.Words.sheet c.insert_inside-done.new.words) (g.W.Words.sheet c.close.new.words) c.start.ensures.keeps c.insert_inside-done.ensures.works c.close.ensures.keeps
 
 pub returns-clause-shut : goal.returns-clause-shut
 returns-clause-shut g c = c.close.ensures.shut

@@ -1,5 +1,6 @@
 use Rattle.std.proofs.Common.{◌≡◌, ◌-◌, ◌^◌, ◌≤◌, ◌∙◌, sym, subst, arith, length, None}
 use Rattle.envy_btree.specs.Pairs.{assoc, without}
+use Rattle.envy_btree.specs.Depths.{most_levels, removal_pages}
 use Rattle.envy_btree.specs.Index.{IsIndex, most_pairs}
 use Rattle.envy_btree.proofs.Withins.{index-same, looked}
 use Rattle.envy_btree.proofs.Keeping.{keeps-works, works-keep}
@@ -108,7 +109,7 @@ pub remove_alone-requires-clause-shut : goal.remove_alone-requires-clause-shut
 remove_alone-requires-clause-shut g c = c.load.ensures.works.still c.in_ok-pairs.ensures.answer.0 ∙ (c.look_up.ensures.works.still c.in_ok-was.ensures.power ∙ c.requires.shut)
 
 pub remove_alone-requires-clause-room : goal.remove_alone-requires-clause-room
-remove_alone-requires-clause-room g c = subst (λ n. 24 ≤ n) (sym (c.load.ensures.works.room ∙ c.look_up.ensures.works.room)) c.requires.room
+remove_alone-requires-clause-room g c = subst (λ n. removal_pages (most_levels n) ≤ (g.W.Words.sheet c.load.new.self).room) (sym (c.load.ensures.works.long ∙ c.look_up.ensures.works.long)) (subst (λ n. removal_pages (most_levels (length (g.W.Words.sheet c.args.words.now).words)) ≤ n) (sym (c.load.ensures.works.room ∙ c.look_up.ensures.works.room)) c.requires.room)
 
 pub remove_alone-requires-clause-size : goal.remove_alone-requires-clause-size
 remove_alone-requires-clause-size g c = subst (λ n. n ≤ 2 ^ 29) (sym (c.load.ensures.works.long ∙ c.look_up.ensures.works.long)) c.requires.size
