@@ -35,3 +35,6 @@ returns-in-Err-Off-clause-pages g c depth deep = pages-in _ c.requires.map.0 c.i
 
 pub returns-in-Err-Bad-clause-pages : goal.returns-in-Err-Bad-clause-pages
 returns-in-Err-Bad-clause-pages g c depth deep = pages-in _ c.requires.map.0 c.in_ok-was.was'.depth depth 4 _ _ _ _ c.requires.map.1 c.in_ok-was.ensures.depth deep c.in_ok-was.ensures.works c.in_ok-pairs.ensures.works c.remove_inside.ensures.works
+
+pub returns-in-Ok-clause-spends : goal.returns-in-Ok-clause-spends
+returns-in-Ok-clause-spends g c = Spends-then (0 + 0) (192 * c.in_ok-was.was'.depth + 129) (dropping_puts (length (g.W.Words.sheet c.args.words.now).words)) _ _ _ (omega (arith, c.in_ok-was.ensures.few)) (Spends-trans 0 0 _ _ _ c.look_up.ensures.spends c.load.ensures.spends) c.remove_inside.ensures.spends

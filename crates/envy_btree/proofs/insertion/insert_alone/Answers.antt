@@ -38,7 +38,7 @@ pub insert_inside-done-requires-clause-begun : goal.insert_inside-done-requires-
 insert_inside-done-requires-clause-begun g c = c.in_ok-start.ensures.answer.1
 
 pub insert_inside-done-requires-clause-room : goal.insert_inside-done-requires-clause-room
-insert_inside-done-requires-clause-room g c = begun-room (4 * c.most_levels-level.result + 7) (g.W.Words.sheet c.args.words.now) (g.W.Words.sheet c.start.new.self) c.in_ok-start.ensures.answer.4 c.start.ensures.keeps.room c.requires.room
+insert_inside-done-requires-clause-room g c = begun-room (4 * c.most_levels-level.result + 7) (g.W.Words.sheet c.args.words.now) (g.W.Words.sheet c.start.new.self) c.in_ok-start.ensures.answer.4 c.start.ensures.keeps.room (subst (λ n. 4 * n + 7 ≤ (g.W.Words.sheet c.args.words.now).room) (sym (c.most_levels-level.ensures ∙ ap most_levels c.size.ensures)) c.requires.room)
 
 pub insert_inside-done-requires-clause-levels : goal.insert_inside-done-requires-clause-levels
 insert_inside-done-requires-clause-levels g c = subst (λ w. IsShallow w c.most_levels-level.result) (sym c.in_ok-start.ensures.answer.2) (subst (IsShallow (g.W.Words.sheet c.args.words.now).words) (sym (c.most_levels-level.ensures ∙ ap most_levels c.size.ensures)) (shallow-most (g.W.Words.sheet c.args.words.now).words c.requires.size))
