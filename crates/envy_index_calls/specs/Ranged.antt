@@ -59,13 +59,6 @@ Kept range Says p q code = KeepsIn range p q code × ((es : Pairs) → IsIndex (
 
 -- ---- changes
 
--- the most puts of an insert and of a removal, after which the transaction may be aborted
-abbrev pub insertion_puts : ℕ
-insertion_puts = 970
-
-abbrev pub dropping_puts : ℕ
-dropping_puts = 1281
-
 -- A change that was made leaves the words outside its range. None is kept before the transaction is.
 pub record Changes (range : EnvyMap) (p q : Picture) : Type 0 where
   pub opened : IsOpen q

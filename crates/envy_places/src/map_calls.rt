@@ -1,12 +1,13 @@
 // Maps in ranges of the array of a memory, and transactions of several, whatever the memory stands over.
 ghost use Rattle.std.specs.Prelude.{◌≡◌, ◌≢◌, ◌≤◌, length, drop};
 ghost use Rattle.std.specs.Option.{ForSome};
+ghost use Rattle.envy_btree.specs.Depths.{dropping_puts, insertion_puts};
 ghost use Rattle.envy_btree.specs.Nearest.{pairs_from, pairs_to};
 ghost use Rattle.envy_calls.specs.Codes.{number_of};
 ghost use Rattle.envy_calls.specs.declared.code.Code.TheVariants.{Done, BrokenMap};
 ghost use Rattle.envy_index_calls.specs.Checked.{Checks};
 ghost use Rattle.envy_index_calls.specs.Indexed.{Counts, Gets, Scans, creation_puts};
-ghost use Rattle.envy_index_calls.specs.Ranged.{Aborts, Calls, Changed, Commits, CreatesIn, Drops, HoldsMapIn, Kept, Sets, Starts, dropping_puts, insertion_puts};
+ghost use Rattle.envy_index_calls.specs.Ranged.{Aborts, Calls, Changed, Commits, CreatesIn, Drops, HoldsMapIn, Kept, Sets, Starts};
 ghost use Rattle.envy_index_calls.specs.Ranges.{MayHold};
 ghost use Rattle.envy_index_calls.specs.Scanned.{pairs_in};
 ghost use Rattle.envy_places.specs.Places.{AreAlike, held};
@@ -54,7 +55,7 @@ pub fn map_insert<R: Board + Drop, F: Board + Drop, S: Board + Drop>(
     before: &mut EnvyOld,
 ) -> Code
     requires { ForSome (held place.old) (HoldsMapIn range) }
-    ensures inserts { Calls insertion_puts (Changed slot range (Sets key value before.new range)) (held place.old) (held place.new) (number_of result) }
+    ensures inserts { Calls (insertion_puts range.words) (Changed slot range (Sets key value before.new range)) (held place.old) (held place.new) (number_of result) }
     ensures unwritten { result ≢ Done → before.new ≡ before.old }
     ensures alike { AreAlike place.old place.new }
 {
@@ -70,7 +71,7 @@ pub fn map_remove<R: Board + Drop, F: Board + Drop, S: Board + Drop>(
     value: &mut u64,
 ) -> Code
     requires { ForSome (held place.old) (HoldsMapIn range) }
-    ensures removes { Calls dropping_puts (Changed slot range (Drops key value.new range)) (held place.old) (held place.new) (number_of result) }
+    ensures removes { Calls (dropping_puts range.words) (Changed slot range (Drops key value.new range)) (held place.old) (held place.new) (number_of result) }
     ensures unwritten { result ≢ Done → value.new ≡ value.old }
     ensures alike { AreAlike place.old place.new }
 {

@@ -1,4 +1,9 @@
-use Rattle.std.proofs.Common.{arith}
+use Rattle.std.proofs.Common.{ℕ, ◌*◌, subst, arith}
+use Rattle.std.specs.Prelude.{◌&&◌}
+use Rattle.envy_base.specs.Words.{Spends}
+use Rattle.envy_base.specs.declared.page.TheConstants.{PAGE_WORDS}
+use Rattle.envy_memory.specs.Lawful.{words_long}
+use Rattle.envy_memory.specs.Sheets.{sheet_of}
 use Rattle.envy_btree.specs.Answers.{insert_puts}
 use Rattle.envy_index_calls.specs.Indexed.{Inserts, MayServe}
 use Rattle.envy_index_calls.proofs.Lending.{Back, Lent, lent, some-map, map-in, asks, keeps-back, inserts, old-stays, size-in}
@@ -34,7 +39,7 @@ returns-clause-inserts g c =
     let q = c.insert-inserted.new.words.memory in
     let d = c.insert-inserted.new.words.begun in
     let back : Back q d = record { shut = c.insert-inserted.ensures.shut; stands = c.return_words.ensures.shut } in
-    asks insert_puts (Inserts c.args.key c.args.value c.told_insert.new.before) c.args.slot.now c.return_words.new.slot p q b c.told_insert.result l c.return_words.ensures.back (keeps-back insert_puts p q b d c.insert-inserted.ensures.keeps c.insert-inserted.ensures.spends) (λ es h. inserts c.args.key c.args.value es c.args.slot.now p q b d c.insert-inserted.result c.told_insert.result c.args.before.now c.told_insert.new.before l back c.told_insert.ensures (c.insert-inserted.ensures.inserts es (map-in c.args.slot.now p b es l h)))
+    asks insert_puts (Inserts c.args.key c.args.value c.told_insert.new.before) c.args.slot.now c.return_words.new.slot p q b c.told_insert.result l c.return_words.ensures.back (keeps-back (insert_puts (PAGE_WORDS * p.chart.shape.pages)) p q b d c.insert-inserted.ensures.keeps (subst (λ (n : ℕ). Spends (insert_puts n) (sheet_of p b) (sheet_of q d)) (words_long (p.chart.on && b) p.chart) c.insert-inserted.ensures.spends)) (λ es h. inserts c.args.key c.args.value es c.args.slot.now p q b d c.insert-inserted.result c.told_insert.result c.args.before.now c.told_insert.new.before l back c.told_insert.ensures (c.insert-inserted.ensures.inserts es (map-in c.args.slot.now p b es l h)))
 
 pub returns-clause-unwritten : goal.returns-clause-unwritten
 returns-clause-unwritten g c = old-stays c.insert-inserted.result c.told_insert.result c.args.before.now c.told_insert.new.before c.told_insert.ensures

@@ -1,4 +1,9 @@
-use Rattle.std.proofs.Common.{arith}
+use Rattle.std.proofs.Common.{ℕ, ◌*◌, subst, arith}
+use Rattle.std.specs.Prelude.{◌&&◌}
+use Rattle.envy_base.specs.Words.{Spends}
+use Rattle.envy_base.specs.declared.page.TheConstants.{PAGE_WORDS}
+use Rattle.envy_memory.specs.Lawful.{words_long}
+use Rattle.envy_memory.specs.Sheets.{sheet_of}
 use Rattle.envy_btree.specs.Answers.{removal_puts}
 use Rattle.envy_index_calls.specs.Indexed.{Removes, MayServe}
 use Rattle.envy_index_calls.proofs.Lending.{Back, Lent, lent, some-map, map-in, asks, keeps-back, removes, removed-stays, size-in}
@@ -34,7 +39,7 @@ returns-clause-removes g c =
     let q = c.remove-removed.new.words.memory in
     let d = c.remove-removed.new.words.begun in
     let back : Back q d = record { shut = c.remove-removed.ensures.shut; stands = c.return_words.ensures.shut } in
-    asks removal_puts (Removes c.args.key c.told_removal.new.value) c.args.slot.now c.return_words.new.slot p q b c.told_removal.result l c.return_words.ensures.back (keeps-back removal_puts p q b d c.remove-removed.ensures.keeps c.remove-removed.ensures.spends) (λ es h. removes c.args.key es p q b d c.remove-removed.result c.told_removal.result c.args.value.now c.told_removal.new.value back c.told_removal.ensures (c.remove-removed.ensures.removes es (map-in c.args.slot.now p b es l h)))
+    asks removal_puts (Removes c.args.key c.told_removal.new.value) c.args.slot.now c.return_words.new.slot p q b c.told_removal.result l c.return_words.ensures.back (keeps-back (removal_puts (PAGE_WORDS * p.chart.shape.pages)) p q b d c.remove-removed.ensures.keeps (subst (λ (n : ℕ). Spends (removal_puts n) (sheet_of p b) (sheet_of q d)) (words_long (p.chart.on && b) p.chart) c.remove-removed.ensures.spends)) (λ es h. removes c.args.key es p q b d c.remove-removed.result c.told_removal.result c.args.value.now c.told_removal.new.value back c.told_removal.ensures (c.remove-removed.ensures.removes es (map-in c.args.slot.now p b es l h)))
 
 pub returns-clause-unwritten : goal.returns-clause-unwritten
 returns-clause-unwritten g c = removed-stays c.remove-removed.result c.told_removal.result c.args.value.now c.told_removal.new.value c.told_removal.ensures

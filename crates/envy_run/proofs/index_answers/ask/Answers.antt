@@ -1,4 +1,4 @@
-use Rattle.std.proofs.Common.{refl}
+use Rattle.std.proofs.Common.{refl, arith}
 use Rattle.envy_run.proofs.IndexLines.{map-in, size-in, calls-works, ask-told, ask-lost, ask-off, told-licence, licence-calm, licence-lost}
 use Rattle.envy_run.proofs.IndexSpent.{puts-sheet}
 use Rattle.envy_memory.specs.Sheets.{sheet_of}
@@ -7,7 +7,7 @@ use Rattle.envy_btree.specs.declared.line.IndexLine.TheVariants.{Get}
 use Rattle.envy_run.proofs.index_answers.ask.Goals as goal
 
 pub get-requires : goal.get-requires
-get-requires g c = let w = c.args.words.now in record { size = size-in w.memory w.begun c.requires.0 c.requires.1 }
+get-requires g c = let w = c.args.words.now in record { size = omega (arith, size-in w.memory w.begun c.requires.0 c.requires.1) }
 
 pub returns-in-Ok-clause-step : goal.returns-in-Ok-clause-step
 returns-in-Ok-clause-step g c es s =

@@ -1,13 +1,12 @@
-use Rattle.std.proofs.Common.{refl}
+use Rattle.std.proofs.Common.{refl, arith}
 use Rattle.envy_run.proofs.IndexLines.{map-in, size-in, calls-keeps, set-told, set-full, set-bad, set-lost, told-licence, licence-calm, licence-fault, licence-lost}
-use Rattle.envy_run.proofs.IndexSpent.{puts-sheet}
+use Rattle.envy_run.proofs.IndexSpent.{puts-set}
 use Rattle.envy_run.specs.IndexServing.{Serving}
-use Rattle.envy_btree.specs.Answers.{insert_puts}
 use Rattle.envy_btree.specs.declared.line.IndexLine.TheVariants.{Insert}
 use Rattle.envy_run.proofs.index_answers.set.Goals as goal
 
 pub insert-requires-clause-size : goal.insert-requires-clause-size
-insert-requires-clause-size g c = let w = c.args.words.now in size-in w.memory w.begun c.requires.0 c.requires.1
+insert-requires-clause-size g c = let w = c.args.words.now in omega (arith, size-in w.memory w.begun c.requires.0 c.requires.1)
 
 pub insert-requires-clause-map : goal.insert-requires-clause-map
 insert-requires-clause-map g c = let w = c.args.words.now in (c.requires.0, map-in w.memory w.begun c.requires.0 c.requires.1)
@@ -75,13 +74,13 @@ returns-in-Err-Off-clause-licence g c =
     licence-lost w.memory.chart v.memory.chart k.fixed k.cuts k.bads (k.cut (Serving.on c.requires.1) (e.inserts c.requires.0 (map-in w.memory w.begun c.requires.0 c.requires.1)).0)
 
 pub returns-in-Ok-clause-spent : goal.returns-in-Ok-clause-spent
-returns-in-Ok-clause-spent g c = let w = c.args.words.now in let v = c.insert.new.words in puts-sheet insert_puts w.memory v.memory w.begun v.begun c.insert.ensures.spends
+returns-in-Ok-clause-spent g c = let w = c.args.words.now in let v = c.insert.new.words in puts-set w.memory v.memory w.begun v.begun (size-in w.memory w.begun c.requires.0 c.requires.1) c.insert.ensures.spends
 
 pub returns-in-Err-Full-clause-spent : goal.returns-in-Err-Full-clause-spent
-returns-in-Err-Full-clause-spent g c = let w = c.args.words.now in let v = c.insert.new.words in puts-sheet insert_puts w.memory v.memory w.begun v.begun c.insert.ensures.spends
+returns-in-Err-Full-clause-spent g c = let w = c.args.words.now in let v = c.insert.new.words in puts-set w.memory v.memory w.begun v.begun (size-in w.memory w.begun c.requires.0 c.requires.1) c.insert.ensures.spends
 
 pub returns-in-Err-Bad-clause-spent : goal.returns-in-Err-Bad-clause-spent
-returns-in-Err-Bad-clause-spent g c = let w = c.args.words.now in let v = c.insert.new.words in puts-sheet insert_puts w.memory v.memory w.begun v.begun c.insert.ensures.spends
+returns-in-Err-Bad-clause-spent g c = let w = c.args.words.now in let v = c.insert.new.words in puts-set w.memory v.memory w.begun v.begun (size-in w.memory w.begun c.requires.0 c.requires.1) c.insert.ensures.spends
 
 pub returns-in-Err-Off-clause-spent : goal.returns-in-Err-Off-clause-spent
-returns-in-Err-Off-clause-spent g c = let w = c.args.words.now in let v = c.insert.new.words in puts-sheet insert_puts w.memory v.memory w.begun v.begun c.insert.ensures.spends
+returns-in-Err-Off-clause-spent g c = let w = c.args.words.now in let v = c.insert.new.words in puts-set w.memory v.memory w.begun v.begun (size-in w.memory w.begun c.requires.0 c.requires.1) c.insert.ensures.spends

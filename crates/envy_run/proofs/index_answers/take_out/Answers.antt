@@ -1,13 +1,12 @@
-use Rattle.std.proofs.Common.{refl}
+use Rattle.std.proofs.Common.{refl, arith}
 use Rattle.envy_run.proofs.IndexLines.{map-in, size-in, calls-keeps, out-told, out-bad, out-lost, told-licence, licence-calm, licence-fault, licence-lost}
-use Rattle.envy_run.proofs.IndexSpent.{puts-sheet}
+use Rattle.envy_run.proofs.IndexSpent.{puts-removed}
 use Rattle.envy_run.specs.IndexServing.{Serving}
-use Rattle.envy_btree.specs.Answers.{removal_puts}
 use Rattle.envy_btree.specs.declared.line.IndexLine.TheVariants.{Remove}
 use Rattle.envy_run.proofs.index_answers.take_out.Goals as goal
 
 pub remove-requires-clause-size : goal.remove-requires-clause-size
-remove-requires-clause-size g c = let w = c.args.words.now in size-in w.memory w.begun c.requires.0 c.requires.1
+remove-requires-clause-size g c = let w = c.args.words.now in omega (arith, size-in w.memory w.begun c.requires.0 c.requires.1)
 
 pub remove-requires-clause-map : goal.remove-requires-clause-map
 remove-requires-clause-map g c = let w = c.args.words.now in (c.requires.0, map-in w.memory w.begun c.requires.0 c.requires.1)
@@ -65,10 +64,10 @@ unreachable-requires g c =
     e.removes c.requires.0 (map-in w.memory w.begun c.requires.0 c.requires.1)
 
 pub returns-in-Ok-clause-spent : goal.returns-in-Ok-clause-spent
-returns-in-Ok-clause-spent g c = let w = c.args.words.now in let v = c.remove.new.words in puts-sheet removal_puts w.memory v.memory w.begun v.begun c.remove.ensures.spends
+returns-in-Ok-clause-spent g c = let w = c.args.words.now in let v = c.remove.new.words in puts-removed w.memory v.memory w.begun v.begun (size-in w.memory w.begun c.requires.0 c.requires.1) c.remove.ensures.spends
 
 pub returns-in-Err-Bad-clause-spent : goal.returns-in-Err-Bad-clause-spent
-returns-in-Err-Bad-clause-spent g c = let w = c.args.words.now in let v = c.remove.new.words in puts-sheet removal_puts w.memory v.memory w.begun v.begun c.remove.ensures.spends
+returns-in-Err-Bad-clause-spent g c = let w = c.args.words.now in let v = c.remove.new.words in puts-removed w.memory v.memory w.begun v.begun (size-in w.memory w.begun c.requires.0 c.requires.1) c.remove.ensures.spends
 
 pub returns-in-Err-Off-clause-spent : goal.returns-in-Err-Off-clause-spent
-returns-in-Err-Off-clause-spent g c = let w = c.args.words.now in let v = c.remove.new.words in puts-sheet removal_puts w.memory v.memory w.begun v.begun c.remove.ensures.spends
+returns-in-Err-Off-clause-spent g c = let w = c.args.words.now in let v = c.remove.new.words in puts-removed w.memory v.memory w.begun v.begun (size-in w.memory w.begun c.requires.0 c.requires.1) c.remove.ensures.spends
