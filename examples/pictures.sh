@@ -18,7 +18,7 @@ cost_by_skew) plot="set ylabel 'programs by the cleaner for each flush'; set yra
     set style data histogram; set style histogram clustered gap 1; set style fill solid border rgb '#ffffff'
     plot for [i=2:7] '$numbers' using i:xtic(1) title word(series, i - 1)" ;;
 growth) plot="set logscale x 2; set xtics ('8 x 16' 128, '64 x 128' 8192, '512 x 256' 131072, '4,096 x 256' 1048576, '4,096 x 4,096' 16777216)
-    set xlabel 'segments x rows of the board'; set ylabel 'instructions'; set yrange [100:100000]
+    set xlabel 'segments x rows of the board'; set ylabel 'instructions'; set xrange [90:40000000]; set yrange [100:100000]
     plot for [i=2:8] '$numbers' using 1:i with linespoints linewidth (i == 2 ? 5 : 2) pointsize 1 title word(series, i - 1)" ;;
 esac
 series=$(sed -n '1s/.*: //p' "$numbers")
