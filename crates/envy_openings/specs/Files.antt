@@ -19,8 +19,12 @@ use Rattle.envy_memory.specs.Picture.{Picture}
 use Rattle.envy_policy.specs.Setup.{checked}
 use Rattle.envy_policy.specs.declared.setup.Setup.{Setup as OfSetup}
 use Rattle.envy_policy.specs.declared.setup.SetupFault.TheVariants.{Shape as OfShape}
+use Rattle.envy_places.specs.Codes.{number_of_place}
 use Rattle.envy_places.specs.declared.code.PlaceCode.{PlaceCode}
 use Rattle.envy_places.specs.declared.code.PlaceCode.TheVariants.{Of, NoJournal, OtherVersion, Damaged}
+use Rattle.envy_places.specs.declared.place.MemoryPlace.{MemoryPlace}
+use Rattle.envy_places.specs.declared.place.MemoryPlace.TheVariants.{File}
+use Rattle.envy_openings.specs.Opening.{Opens}
 
 -- a setup as options that name all sizes
 abbrev pub options_of : OfSetup → KeepOptions
@@ -82,3 +86,7 @@ RefusesOpen given file code =
     ((why : Code) × (code ≡ Of why) × IsNoSetup given why)
     ⊎ (((code ≡ Of (Setup (OfShape Reserves))) × ForSetup given (λ setup. setup.shape.reserves ≢ 0))
     ⊎ ((why : Unbegun) × (code ≡ code_of_unbegun why) × ForSetup given (λ setup. RefusesFile (options_of setup) file why)))
+
+-- by the number of the answer
+abbrev pub DoesOpen : {R F S : Type 0} → EnvySetup → List ℕ → MemoryPlace R F S → MemoryPlace R F S → ℕ → Type 0
+DoesOpen given file old new answer = (code : PlaceCode) × (answer ≡ number_of_place code) × Opens File Of (Opened given file) (RefusesOpen given file) old new code

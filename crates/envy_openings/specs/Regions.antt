@@ -8,11 +8,15 @@ use Rattle.envy_policy.specs.declared.setup.Setup.{Setup as OfSetup}
 use Rattle.envy_memory.specs.Attaching.{Attaches}
 use Rattle.envy_memory.specs.Formats.{Makes, CountsFormat}
 use Rattle.envy_memory.specs.Picture.{Picture}
+use Rattle.envy_calls.specs.Codes.{number_of}
 use Rattle.envy_calls.specs.Making.{Forbids, ForSetup, IsWhole, IsNoSetup}
 use Rattle.envy_calls.specs.Setups.{setup_of}
 use Rattle.envy_calls.specs.declared.code.Code.{Code}
 use Rattle.envy_calls.specs.declared.code.Code.TheVariants.{NoMemory, FlashSize, SramSize, ErasesSize, Policy, Unformatted, Older, OtherShape, Setup, Broken}
 use Rattle.envy_calls.specs.declared.setup.EnvySetup.{EnvySetup}
+use Rattle.envy_places.specs.declared.place.MemoryPlace.{MemoryPlace}
+use Rattle.envy_places.specs.declared.place.MemoryPlace.TheVariants.{Regions}
+use Rattle.envy_openings.specs.Opening.{Opens}
 use Rattle.envy_region.specs.Region.{region_state}
 
 -- Rows are of 32 words, and words of 64 bits. Of any memory this is so.
@@ -83,3 +87,10 @@ pub record Attached (given : Given) (p : Picture) : Type 0 where
   pub sizes : HasSizes setup.shape given.flash given.sram given.erases
   pub whole : IsWhole (chart (board_of setup.shape given)) setup
   pub attaches : Attaches (chart (board_of setup.shape given)) setup p
+
+-- by the number of the answer
+abbrev pub DoesFormat : {R F S : Type 0} → Given → MemoryPlace R F S → MemoryPlace R F S → ℕ → Type 0
+DoesFormat given old new answer = (code : Code) × (answer ≡ number_of code) × Opens Regions (λ c. c) (Formatted given) (RefusesFormat given) old new code
+
+abbrev pub DoesAttach : {R F S : Type 0} → Given → MemoryPlace R F S → MemoryPlace R F S → ℕ → Type 0
+DoesAttach given old new answer = (code : Code) × (answer ≡ number_of code) × Opens Regions (λ c. c) (Attached given) (RefusesAttach given) old new code

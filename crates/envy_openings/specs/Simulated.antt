@@ -7,11 +7,15 @@ use Rattle.envy_policy.specs.declared.setup.Setup.{Setup as OfSetup}
 use Rattle.envy_memory.specs.Attaching.{Attaches}
 use Rattle.envy_memory.specs.Formats.{Makes, CountsFormat}
 use Rattle.envy_memory.specs.Picture.{Picture}
+use Rattle.envy_calls.specs.Codes.{number_of}
 use Rattle.envy_calls.specs.Making.{Forbids, ForSetup, IsNoSetup, IsWhole}
 use Rattle.envy_calls.specs.Setups.{setup_of}
 use Rattle.envy_calls.specs.declared.code.Code.{Code}
 use Rattle.envy_calls.specs.declared.code.Code.TheVariants.{NoMemory, Unformatted, Older, OtherShape, Broken, ImageShort, ImageMark, ImageOther, ImageShape}
 use Rattle.envy_calls.specs.declared.setup.EnvySetup.{EnvySetup}
+use Rattle.envy_places.specs.declared.place.MemoryPlace.{MemoryPlace}
+use Rattle.envy_places.specs.declared.place.MemoryPlace.TheVariants.{Simulated}
+use Rattle.envy_openings.specs.Opening.{Opens}
 use Rattle.envy_openings.specs.Image.{HoldsImage, NoBoard}
 
 -- a memory of zeros over a new board, whose power can return so often
@@ -57,3 +61,10 @@ RefusesImage given lives bytes Older = GivesNoMemory given lives bytes Older
 RefusesImage given lives bytes OtherShape = GivesNoMemory given lives bytes OtherShape
 RefusesImage given lives bytes (Broken rule) = GivesNoMemory given lives bytes (Broken rule)
 RefusesImage given lives bytes code = IsNoSetup given code
+
+-- by the number of the answer
+abbrev pub DoesFormat : {R F S : Type 0} → EnvySetup → ℕ → MemoryPlace R F S → MemoryPlace R F S → ℕ → Type 0
+DoesFormat given lives old new answer = (code : Code) × (answer ≡ number_of code) × Opens Simulated (λ c. c) (Formatted given lives) (RefusesFormat given) old new code
+
+abbrev pub DoesRestore : {R F S : Type 0} → EnvySetup → ℕ → List ℕ → MemoryPlace R F S → MemoryPlace R F S → ℕ → Type 0
+DoesRestore given lives bytes old new answer = (code : Code) × (answer ≡ number_of code) × Opens Simulated (λ c. c) (Restored given lives bytes) (RefusesImage given lives bytes) old new code
