@@ -136,7 +136,6 @@ pub extern "C" fn envy_counts(m: &mut Envy, found: &mut EnvyCounts) -> u32
     requires { InBlock m.old.at }
     ensures live { InBlock m.new.at }
     ensures faultless { AreFaultless m.old.place.now m.new.place.now }
-    ensures alike { AreAlike m.old.place.now m.new.place.now }
     ensures same { m.new.place.now ≡ m.old.place.now }
     ensures counts { DoesCount (held m.old.place.now) result found.old found.new }
 {
@@ -152,7 +151,6 @@ pub extern "C" fn envy_worn(m: &mut Envy, retired: &mut u32, left: &mut u32) -> 
     requires { InBlock m.old.at }
     ensures live { InBlock m.new.at }
     ensures faultless { AreFaultless m.old.place.now m.new.place.now }
-    ensures alike { AreAlike m.old.place.now m.new.place.now }
     ensures same { m.new.place.now ≡ m.old.place.now }
     ensures wears { DoesWear (held m.old.place.now) retired.old left.old result retired.new left.new }
 {
