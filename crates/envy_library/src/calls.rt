@@ -132,7 +132,7 @@ pub extern "C" fn envy_tick(m: &mut Envy, did: &mut u32) -> u32
 
 /// What the memory has done since it was formatted or taken up.
 #[unsafe(no_mangle)]
-pub extern "C" fn envy_counts(m: &mut Envy, found: &mut EnvyCounts) -> u32
+pub extern "C" fn envy_counters(m: &mut Envy, found: &mut EnvyCounts) -> u32
     requires { InBlock m.old.at }
     ensures live { InBlock m.new.at }
     ensures faultless { AreFaultless m.old.place.now m.new.place.now }
