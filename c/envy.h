@@ -39,6 +39,7 @@
 #include "envy_codes.h"
 #include "envy_disk.h"
 #include "envy_pair.h"
+#include "envy_shown.h"
 
 #ifdef __cplusplus
 extern "C" {
@@ -209,6 +210,15 @@ uint32_t envy_counters(envy *m, envy_counts *counts);
 
 /* Writes how many segments in reserve are retired, and how many are left. ENVY_DONE, ENVY_EMPTY, ENVY_OFF. */
 uint32_t envy_worn(envy *m, uint32_t *retired, uint32_t *left);
+
+/* --- What the board holds, for programs that draw it. None of these is an access to a page, and nothing changes ---
+
+   ENVY_DONE, ENVY_EMPTY, ENVY_OFF; and ENVY_RANGE past the last row, page, position or segment. */
+uint32_t envy_show_row(envy *m, uint32_t row, envy_row *found);
+uint32_t envy_show_page(envy *m, uint32_t page, envy_page *found);
+uint32_t envy_show_position(envy *m, uint32_t position, uint32_t *segment);
+uint32_t envy_show_segment(envy *m, uint32_t segment, envy_segment *found);
+uint32_t envy_show_job(envy *m, envy_job *found);
 
 /* --- A map of the whole array. Each call is one transaction ---
 

@@ -14,6 +14,7 @@ mod images;
 mod index_calls;
 mod map_calls;
 mod opening;
+mod picture;
 mod regions;
 mod sizes;
 mod syncing;
