@@ -71,6 +71,25 @@ static void keep_pairs(const char *over, envy *m) {
     if (value != 30 || count != 2 || found != 2 || pairs[0].key != 1) is(over, 1, 0);
 }
 
+/* What the board holds, and how often things were done. */
+static void shows(const char *over, envy *m) {
+    envy_row row;
+    envy_page page = {0, 0, 0, 0, 0};
+    envy_segment segment;
+    envy_job job = {9, 9};
+    envy_counts counts = {0, 0, 0, 0, 0, 0, 0};
+    uint32_t position, retired, left = 9;
+    is(over, envy_show_row(m, 0, &row), ENVY_DONE);
+    is(over, envy_show_row(m, 8 * 32, &row), ENVY_RANGE);
+    is(over, envy_show_page(m, 0, &page), ENVY_DONE);
+    is(over, envy_show_position(m, 0, &position), ENVY_DONE);
+    is(over, envy_show_segment(m, 0, &segment), ENVY_DONE);
+    is(over, envy_show_job(m, &job), ENVY_DONE);
+    is(over, envy_counters(m, &counts), ENVY_DONE);
+    is(over, envy_worn(m, &retired, &left), ENVY_DONE);
+    if (!page.place || job.kind > 3 || !counts.hits || left) is(over, 1, 0);
+}
+
 /* A call that is for a board that can be made to fail alone. */
 static void refuses_failures(const char *over, envy *m) {
     uint32_t left = 0;
@@ -83,6 +102,7 @@ static void refuses_failures(const char *over, envy *m) {
 static void over_a_file(envy *m, const char *path) {
     is("a new file", envy_open_file(m, path, &setup, 0), ENVY_DONE);
     work("a file", m);
+    shows("a file", m);
     keep_pairs("a file's map", m);
     refuses_failures("a file", m);
     is("a file that is open", envy_open_file(m, path, &setup, 0), ENVY_OPEN);
@@ -105,6 +125,7 @@ static void over_regions(envy *m) {
     is("regions that hold nothing", envy_open_regions(m, &setup, flash, sram, erases), ENVY_UNFORMATTED);
     is("regions", envy_format_regions(m, &setup, flash, sram, erases), ENVY_DONE);
     work("regions", m);
+    shows("regions", m);
     keep_pairs("a map in regions", m);
     refuses_failures("regions", m);
     is("their end", envy_close(m), ENVY_DONE);
@@ -121,6 +142,7 @@ static void over_a_simulation(envy *m) {
     envy_setup shape = setup;
     is("a simulation", envy_open_sim(m, &setup, 2), ENVY_DONE);
     work("a simulation", m);
+    shows("a simulation", m);
     keep_pairs("a map in a simulation", m);
     is("a plan for no operation", envy_arm_cut(m, 0, 1), ENVY_ZERO);
     is("a cut", envy_cut_now(m), ENVY_DONE);
