@@ -1,13 +1,9 @@
 #!/usr/bin/env bash
 # The library over any board, tried by a program in C: library/one.c does the same work over a file, over regions and over a
-# board that can be made to fail. It needs gcc and the proved archive: (cd crates/envy_library && rt lib).
+# board that can be made to fail. It needs gcc, and proves and builds the archive before.
 set -eu
 cd "$(dirname "$0")"
-archive=../crates/envy_library/out/libenvy_library.a
-if [ ! -f $archive ]; then
-    echo "one library: $archive isn't there" >&2
-    exit 2
-fi
+library/build.py envy_library
 work=$(mktemp -d "${TMPDIR:-/tmp}/envy-one.XXXXXX")
 trap 'rm -rf "$work"' EXIT
 
