@@ -66,16 +66,22 @@ uint32_t envy_close(envy *m);
 
 /* How a file is opened: the sum of these, or 0. */
 enum envy_open_flag {
-    ENVY_BYTEWISE = 1, /* the program states that file system and disk write byte by byte: then a sync is one of the file */
-    ENVY_READING = 2   /* for reading alone, by any number of processes: nothing is written, made or removed */
+    ENVY_CREATE = 1,   /* if there is no file, one is made, with a memory of zeros */
+    ENVY_BYTEWISE = 2, /* the program states that file system and disk write byte by byte: then a sync is one of the file */
+    ENVY_READING = 4   /* for reading alone, by any number of processes: nothing is written, made or removed */
 };
 
-/* Opens the memory in the file at a path, or makes the file and a memory of zeros in it, and locks it. The file is read
-   whole, replayed and audited; nothing in it is trusted. No descriptor of it is one of a standard stream. Beside it a second
-   file may come to be, at the path and ".envy-new".
-   ENVY_DONE; ENVY_SYSTEM, with errno; ENVY_LOCKED; ENVY_TOO_MANY; or what envy_new and envy_open_port answer. Refused, the
-   place holds none; an empty file that was made stays. */
+/* Opens the memory in the file at a path, and locks it. The file is read whole, replayed and audited; nothing in it is
+   trusted. If the setup is NULL, it is the one that the file was made with. In an empty file a memory of zeros is made. No
+   descriptor of it is one of a standard stream. Beside it a second file may come to be, at the path and ".envy-new".
+   ENVY_DONE; ENVY_SYSTEM, with errno, as ENOENT if there is no file; ENVY_LOCKED; ENVY_TOO_MANY; or what envy_new,
+   envy_file_shape and envy_open_port answer. Refused, the place holds none; an empty file that was made stays. */
 uint32_t envy_open_file(envy *m, const char *path, const envy_setup *setup, uint32_t flags);
+
+/* Writes the setup that the file at a path was made with, by its first bytes. Policy, part, limit and mark become
+   ENVY_GREEDY, 2, 100 and the number of frames. ENVY_DONE; ENVY_SYSTEM, with errno; ENVY_NO_JOURNAL, also of an empty file;
+   ENVY_OTHER_JOURNAL. */
+uint32_t envy_file_shape(const char *path, envy_setup *setup);
 
 /* The errno of the call on the file after which calls answer ENVY_OFF, or 0. */
 int envy_file_error(const envy *m);

@@ -3,6 +3,7 @@
 #include "envy_served.h"
 /* (the same C, under these names) */
 #include "envy_kept_file.c"
+#include "envy_kept_shape.c"
 
 /* Opens the file in the way that the flags say. */
 static uint32_t served(envy_served *f, const char *path, const envy_setup *setup, uint32_t flags) {
@@ -23,11 +24,15 @@ uint32_t envy_open_file(envy *m, const char *path, const envy_setup *setup, uint
     uint32_t code = m->at ? ENVY_DONE : envy_new(m);
     if (code != ENVY_DONE) return code;
     if (envy_powered(m) != ENVY_EMPTY) return ENVY_OPEN;
+    envy_setup found;
+    struct stat about;
+    if (!(flags & (ENVY_CREATE | ENVY_READING)) && stat(path, &about)) return ENVY_SYSTEM;
+    if (!setup && (code = envy_file_shape(path, &found)) != ENVY_DONE) return code;
     envy_served *f = malloc(sizeof *f);
     if (!f) return ENVY_NO_MEMORY;
     *f = (envy_served)ENVY_KEPT_FILE_INIT;
     f->memory.at = m->at;
-    code = served(f, path, setup, flags);
+    code = served(f, path, setup ? setup : &found, flags);
     if (code == ENVY_DONE) m->file = f;
     else forgotten(f);
     return code;

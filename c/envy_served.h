@@ -13,6 +13,7 @@ typedef envy envy_kept;
 #define envy_kept_new envy_new
 #define envy_kept_cut envy_journal_cut
 #define envy_kept_sync envy_sync
+#define envy_kept_size envy_board_size
 #define envy_kept_close envy_proved_close
 
 #define envy_kept_file envy_served
@@ -21,7 +22,7 @@ typedef envy envy_kept;
 #define envy_kept_open_file_reading envy_served_open_reading
 #define envy_kept_leave_file envy_served_leave
 #define envy_kept_close_file envy_served_close
-#define envy_kept_file_shape envy_served_shape
+#define envy_kept_file_shape envy_file_shape
 #define envy_kept_file_new envy_served_new
 #define envy_kept_file_error envy_served_error
 

@@ -100,7 +100,9 @@ static void refuses_failures(const char *over, envy *m) {
 }
 
 static void over_a_file(envy *m, const char *path) {
-    is("a new file", envy_open_file(m, path, &setup, 0), ENVY_DONE);
+    envy_setup shape;
+    is("no file", envy_open_file(m, path, &setup, 0), ENVY_SYSTEM);
+    is("a new file", envy_open_file(m, path, &setup, ENVY_CREATE), ENVY_DONE);
     work("a file", m);
     shows("a file", m);
     keep_pairs("a file's map", m);
@@ -109,7 +111,9 @@ static void over_a_file(envy *m, const char *path) {
     is("another board while a file is open", envy_open_sim(m, &setup, 1), ENVY_OPEN);
     is("a compaction", envy_compact(m), ENVY_DONE);
     is("a file's end", envy_close(m), ENVY_DONE);
-    is("the file again", envy_open_file(m, path, &setup, ENVY_BYTEWISE), ENVY_DONE);
+    is("its shape", envy_file_shape(path, &shape), ENVY_DONE);
+    is("its shape", shape.segments * shape.rows, setup.segments * setup.rows);
+    is("the file again", envy_open_file(m, path, NULL, ENVY_BYTEWISE), ENVY_DONE);
     holds("the file again", m, 5, 8);
     is("its end", envy_close(m), ENVY_DONE);
     is("the file for reading", envy_open_file(m, path, &setup, ENVY_READING), ENVY_DONE);
