@@ -1,7 +1,8 @@
 /* A memory for programs: a plain array of 64-bit words, with transactions and ordered maps. What it stands over is said
    when it is opened, and the calls are the same from then on:
    - a file that outlives the process and the machine: envy_open_file, or envy_open_port over calls of the program's own;
-   - regions of memory that the program gives, as of a file that it maps: envy_format_regions, envy_open_regions;
+   - a file that the process maps: envy_open_mapped;
+   - regions of memory that the program gives: envy_format_regions, envy_open_regions;
    - a board in memory whose power and flash operations can be made to fail: envy_open_sim, envy_restore.
 
    Isolation. There is one array, which is owned by pages of 32 words: addresses 32 k to 32 k + 31. The first put of a
@@ -20,7 +21,7 @@
 
    What the program promises, and nothing checks:
    - It makes a handle with ENVY_INIT and calls envy_new on it at most once. Until that answered ENVY_DONE every other call
-     answers ENVY_EMPTY, except envy_open_file, which calls it by itself. It neither copies nor changes a handle.
+     answers ENVY_EMPTY, except envy_open_file and envy_open_mapped, which call it by themselves. It neither copies nor changes a handle.
    - One call at a time uses a handle. It may use it from any thread if it orders the calls itself.
    - Every pointer is to memory that is there, aligned, of the size that is said, and in no two arguments at once. None is
      NULL, also not that of no words, except `holder`, `done` and `before`, if the program doesn't ask for them.
@@ -48,7 +49,7 @@ extern "C" {
 /* A place for a memory. */
 typedef struct envy {
     void *at;
-    void *file; /* of envy_open_file, else NULL */
+    void *file; /* what is known of a file that was opened by its path, else NULL */
 } envy;
 #define ENVY_INIT {0, 0}
 
@@ -56,8 +57,8 @@ typedef struct envy {
    ends, and serves for any number of memories, one after another, of any kind. */
 uint32_t envy_new(envy *m);
 
-/* Ends the memory and frees what it took from the heap. Of a file that envy_open_file opened it syncs before, and gives up
-   the file and its lock: ENVY_OFF, with errno, if that sync failed. Of a port it makes no call of the disk, so what was done
+/* Ends the memory and frees what it took from the heap. Of a file that was opened by its path it syncs before, and gives up
+   the file and its lock: ENVY_OFF or ENVY_SYSTEM, with errno, if that sync failed. Of a port it makes no call of the disk, so what was done
    since the last sync is lost. Regions are the program's again, and hold the memory still. Else, and on an empty place,
    ENVY_DONE. The place may be opened again. */
 uint32_t envy_close(envy *m);
@@ -71,16 +72,22 @@ enum envy_open_flag {
     ENVY_READING = 4   /* for reading alone, by any number of processes: nothing is written, made or removed */
 };
 
-/* Opens the memory in the file at a path, and locks it. The file is read whole, replayed and audited; nothing in it is
-   trusted. If the setup is NULL, it is the one that the file was made with. In an empty file a memory of zeros is made. No
-   descriptor of it is one of a standard stream. Beside it a second file may come to be, at the path and ".envy-new".
+/* Opens the memory that is kept in the file at a path, and locks it. The file is read whole, replayed and audited; nothing in
+   it is trusted. If the setup is NULL, it is the one that the file was made with. In an empty file a memory of zeros is made.
+   No descriptor of it is one of a standard stream. Beside it a second file may come to be, at the path and ".envy-new".
    ENVY_DONE; ENVY_SYSTEM, with errno, as ENOENT if there is no file; ENVY_LOCKED; ENVY_TOO_MANY; or what envy_new,
    envy_file_shape and envy_open_port answer. Refused, the place holds none; an empty file that was made stays. */
 uint32_t envy_open_file(envy *m, const char *path, const envy_setup *setup, uint32_t flags);
 
-/* Writes the setup that the file at a path was made with, by its first bytes. Policy, part, limit and mark become
-   ENVY_GREEDY, 2, 100 and the number of frames. ENVY_DONE; ENVY_SYSTEM, with errno; ENVY_NO_JOURNAL, also of an empty file;
-   ENVY_OTHER_JOURNAL. */
+/* Opens the memory in the file at a path, which the process maps, and locks it. Its words outlive the process as soon as a
+   call has ended, and the machine from an envy_sync on. Of the flags ENVY_CREATE alone is looked at: a new file is there
+   formatted or not at all. If the setup is NULL, it is the one that the file was made with.
+   ENVY_DONE; ENVY_SYSTEM, with errno; ENVY_LOCKED; or what envy_new, envy_file_shape, envy_format_regions and
+   envy_open_regions answer. Refused, the file is as before, and the place holds none. */
+uint32_t envy_open_mapped(envy *m, const char *path, const envy_setup *setup, uint32_t flags);
+
+/* Writes the setup that the file of either kind at a path was made with. Policy, part, limit and mark become ENVY_GREEDY, 2,
+   100 and the number of frames. ENVY_DONE; ENVY_SYSTEM, with errno; ENVY_OTHER_JOURNAL; ENVY_OLDER; ENVY_UNFORMATTED. */
 uint32_t envy_file_shape(const char *path, envy_setup *setup);
 
 /* The errno of the call on the file after which calls answer ENVY_OFF, or 0. */
@@ -100,8 +107,9 @@ uint64_t envy_journal_cut(const uint8_t *file, size_t n);
 uint32_t envy_board_size(const envy_setup *setup, uint64_t *bytes);
 
 /* Brings all that a memory in a file holds to the disk, with what open transactions put. ENVY_DONE: it is there.
-   ENVY_EMPTY. ENVY_OFF: it may be there or not. Over regions and a board that can be made to fail nothing is left to bring:
-   ENVY_DONE, or ENVY_OFF if power is off. */
+   ENVY_EMPTY. ENVY_OFF: it may be there or not. Of a mapped file it writes all that was changed through to the disk:
+   ENVY_DONE or ENVY_SYSTEM. Over regions and a board that can be made to fail nothing is left to bring: ENVY_DONE, or
+   ENVY_OFF if power is off. */
 uint32_t envy_sync(envy *m);
 
 /* A sync that leaves in the file no more than what the board holds takes. As envy_sync; ENVY_APPENDED if the second file

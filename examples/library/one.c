@@ -1,5 +1,5 @@
-/* One library over each kind of board: the same work and the same answers over a file, over regions and over a board that can
-   be made to fail; what lasts of each; what the other two answer of a call that is for one alone; a place that serves for one
+/* One library over each kind of board: the same work and the same answers over a file, over a mapped file, over regions and
+   over a board that can be made to fail; what lasts of each; what the other two answer of a call that is for one alone; a place that serves for one
    after another; and a handle that has no place.
 
      one FOLDER */
@@ -121,6 +121,21 @@ static void over_a_file(envy *m, const char *path) {
     is("its end", envy_close(m), ENVY_DONE);
 }
 
+static void over_a_mapped_file(envy *m, const char *path) {
+    envy_setup shape;
+    is("no mapped file", envy_open_mapped(m, path, &setup, 0), ENVY_SYSTEM);
+    is("a new mapped file", envy_open_mapped(m, path, &setup, ENVY_CREATE), ENVY_DONE);
+    work("a mapped file", m);
+    keep_pairs("a mapped file's map", m);
+    refuses_failures("a mapped file", m);
+    is("its end", envy_close(m), ENVY_DONE);
+    is("its shape", envy_file_shape(path, &shape), ENVY_DONE);
+    is("a mapped file as a kept one", envy_open_file(m, path, &setup, 0), ENVY_NO_JOURNAL);
+    is("the mapped file again", envy_open_mapped(m, path, NULL, 0), ENVY_DONE);
+    holds("the mapped file again", m, 5, 8);
+    is("its end", envy_close(m), ENVY_DONE);
+}
+
 static void over_regions(envy *m) {
     envy_sizes sizes;
     is("sizes", envy_region_sizes(&setup, &sizes), ENVY_DONE);
@@ -176,6 +191,8 @@ int main(int count, char **words) {
     is("its sync", envy_sync(&none), ENVY_EMPTY);
     is("its end", envy_close(&none), ENVY_DONE);
     over_a_file(&m, path);
+    snprintf(path, sizeof path, "%s/mapped", words[1]);
+    over_a_mapped_file(&m, path);
     over_regions(&m);
     over_a_simulation(&m);
     over_regions(&m);
