@@ -21,7 +21,8 @@
 
    What the program promises, and nothing checks:
    - It makes a handle with ENVY_INIT and calls envy_new on it at most once. Until that answered ENVY_DONE every other call
-     answers ENVY_EMPTY, except envy_open_file and envy_open_mapped, which call it by themselves. It neither copies nor changes a handle.
+     answers ENVY_EMPTY, except envy_open_file and envy_open_mapped, which call it by themselves. It neither copies nor changes
+     a handle.
    - One call at a time uses a handle. It may use it from any thread if it orders the calls itself.
    - Every pointer is to memory that is there, aligned, of the size that is said, and in no two arguments at once. None is
      NULL, also not that of no words, except `holder`, `done` and `before`, if the program doesn't ask for them.
@@ -58,9 +59,9 @@ typedef struct envy {
 uint32_t envy_new(envy *m);
 
 /* Ends the memory and frees what it took from the heap. Of a file that was opened by its path it syncs before, and gives up
-   the file and its lock: ENVY_OFF or ENVY_SYSTEM, with errno, if that sync failed. Of a port it makes no call of the disk, so what was done
-   since the last sync is lost. Regions are the program's again, and hold the memory still. Else, and on an empty place,
-   ENVY_DONE. The place may be opened again. */
+   the file and its lock: ENVY_OFF or ENVY_SYSTEM, with errno, if that sync failed. Of a port it makes no call of the disk,
+   so what was done since the last sync is lost. Regions are the program's again, and hold the memory still. Else, and on an
+   empty place, ENVY_DONE. The place may be opened again. */
 uint32_t envy_close(envy *m);
 
 /* --- Files --- */

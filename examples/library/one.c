@@ -1,6 +1,6 @@
 /* One library over each kind of board: the same work and the same answers over a file, over a mapped file, over regions and
-   over a board that can be made to fail; what lasts of each; what the other two answer of a call that is for one alone; a place that serves for one
-   after another; and a handle that has no place.
+   over a board that can be made to fail; what lasts of each; what the others answer of a call that is for one alone; a place
+   that serves for one after another; and a handle that has no place.
 
      one FOLDER */
 #include "../../c/envy.h"
