@@ -1,5 +1,5 @@
 /* The names of envy_mapped.h and envy_file.h as those of envy.h, so that the C that maps files for the one maps those of the
-   other. It is for envy_mapping.c and envy_opening.c, and isn't installed. */
+   other. It is for envy_mapping.c, envy_opening.c and envy_old.h. */
 #ifndef ENVY_MAPPING_H
 #define ENVY_MAPPING_H
 

@@ -1,5 +1,5 @@
 /* The names of envy_kept.h and envy_kept_file.h as those of envy.h, so that the C that serves files of the one serves those of
-   the other. It is for envy_served.c and envy_opening.c, and isn't installed. */
+   the other. It is for envy_served.c, envy_opening.c and envy_old.h. */
 #ifndef ENVY_SERVED_H
 #define ENVY_SERVED_H
 
