@@ -38,7 +38,7 @@ over kept_ordered "$work/kept-ordered.file" 8000 "${1-1}"
 echo "one library: the tests of the libraries for one board pass over it"
 
 # what it shows are calls of the header, beside what serves files and the heap
-shown=$(nm -g --defined-only "$work/lib/libenvy.a" 2>/dev/null | sed -n 's/.* T //p' |  sort -u)
+shown=$(nm -g --defined-only "$work/lib/libenvy.a" 2>/dev/null | sed -n 's/.* T //p' | sort -u)
 for name in $(sed -n 's/^[a-z].*[ *]\(envy_[a-z0-9_]*\)(.*/\1/p' ../c/envy.h | sort -u); do
     grep -qx "$name" <<<"$shown" || { echo "one library: no $name in the archive" >&2; exit 1; }
 done
